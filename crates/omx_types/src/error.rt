@@ -1,0 +1,137 @@
+ghost use Rattle.std.specs.Prelude.{◌≡◌};
+
+use std::alloc::AllocError;
+use thiserror::Error;
+
+/// The errors of the integration layer (OpenMAX IL 1.1.2, `OMX_ERRORTYPE`), those that this core answers or tells.
+#[derive(Clone, Copy, Debug, PartialEq, Eq, Error)]
+pub enum OmxError {
+    #[error("InsufficientResources")]
+    InsufficientResources,
+    #[error("InvalidComponentName")]
+    InvalidComponentName,
+    #[error("ComponentNotFound")]
+    ComponentNotFound,
+    #[error("InvalidComponent")]
+    InvalidComponent,
+    #[error("BadParameter")]
+    BadParameter,
+    #[error("Hardware")]
+    Hardware,
+    #[error("InvalidState")]
+    InvalidState,
+    #[error("StreamCorrupt")]
+    StreamCorrupt,
+    #[error("PortsNotCompatible")]
+    PortsNotCompatible,
+    #[error("ResourcesLost")]
+    ResourcesLost,
+    #[error("VersionMismatch")]
+    VersionMismatch,
+    #[error("NotReady")]
+    NotReady,
+    #[error("SameState")]
+    SameState,
+    #[error("ResourcesPreempted")]
+    ResourcesPreempted,
+    #[error("IncorrectStateTransition")]
+    IncorrectStateTransition,
+    #[error("IncorrectStateOperation")]
+    IncorrectStateOperation,
+    #[error("UnsupportedSetting")]
+    UnsupportedSetting,
+    #[error("UnsupportedIndex")]
+    UnsupportedIndex,
+    #[error("BadPortIndex")]
+    BadPortIndex,
+    #[error("PortUnpopulated")]
+    PortUnpopulated,
+}
+
+impl OmxError {
+    ghost use Rattle.omx_types.specs.Numbers.{error_number};
+    ghost use Rattle.omx_types.specs.Names.{error_name};
+
+    pub fn number(self) -> u32
+        ensures { result ≡ error_number self }
+    {
+        match self {
+            OmxError::InsufficientResources => 0x8000_1000,
+            OmxError::InvalidComponentName => 0x8000_1002,
+            OmxError::ComponentNotFound => 0x8000_1003,
+            OmxError::InvalidComponent => 0x8000_1004,
+            OmxError::BadParameter => 0x8000_1005,
+            OmxError::Hardware => 0x8000_1009,
+            OmxError::InvalidState => 0x8000_100A,
+            OmxError::StreamCorrupt => 0x8000_100B,
+            OmxError::PortsNotCompatible => 0x8000_100C,
+            OmxError::ResourcesLost => 0x8000_100D,
+            OmxError::VersionMismatch => 0x8000_100F,
+            OmxError::NotReady => 0x8000_1010,
+            OmxError::SameState => 0x8000_1012,
+            OmxError::ResourcesPreempted => 0x8000_1013,
+            OmxError::IncorrectStateTransition => 0x8000_1017,
+            OmxError::IncorrectStateOperation => 0x8000_1018,
+            OmxError::UnsupportedSetting => 0x8000_1019,
+            OmxError::UnsupportedIndex => 0x8000_101A,
+            OmxError::BadPortIndex => 0x8000_101B,
+            OmxError::PortUnpopulated => 0x8000_101C,
+        }
+    }
+
+    pub fn name(self) -> &'static str
+        ensures { result.now ≡ error_name self }
+    {
+        match self {
+            OmxError::InsufficientResources => "InsufficientResources",
+            OmxError::InvalidComponentName => "InvalidComponentName",
+            OmxError::ComponentNotFound => "ComponentNotFound",
+            OmxError::InvalidComponent => "InvalidComponent",
+            OmxError::BadParameter => "BadParameter",
+            OmxError::Hardware => "Hardware",
+            OmxError::InvalidState => "InvalidState",
+            OmxError::StreamCorrupt => "StreamCorrupt",
+            OmxError::PortsNotCompatible => "PortsNotCompatible",
+            OmxError::ResourcesLost => "ResourcesLost",
+            OmxError::VersionMismatch => "VersionMismatch",
+            OmxError::NotReady => "NotReady",
+            OmxError::SameState => "SameState",
+            OmxError::ResourcesPreempted => "ResourcesPreempted",
+            OmxError::IncorrectStateTransition => "IncorrectStateTransition",
+            OmxError::IncorrectStateOperation => "IncorrectStateOperation",
+            OmxError::UnsupportedSetting => "UnsupportedSetting",
+            OmxError::UnsupportedIndex => "UnsupportedIndex",
+            OmxError::BadPortIndex => "BadPortIndex",
+            OmxError::PortUnpopulated => "PortUnpopulated",
+        }
+    }
+}
+
+/// Why a call that may want memory was refused.
+#[derive(Clone, Copy, Debug, PartialEq, Eq, Error)]
+pub enum CallError {
+    #[error(transparent)]
+    Omx(OmxError),
+    #[error("out of memory")]
+    OutOfMemory,
+}
+
+impl From<OmxError> for CallError {
+    ghost use Rattle.omx_types.specs.declared.error.CallError.TheVariants.{Omx};
+
+    ghost from_gives = { λ e c. c ≡ Omx e };
+
+    fn from(error: OmxError) -> CallError {
+        CallError::Omx(error)
+    }
+}
+
+impl From<AllocError> for CallError {
+    ghost use Rattle.omx_types.specs.declared.error.CallError.TheVariants.{OutOfMemory};
+
+    ghost from_gives = { λ _ c. c ≡ OutOfMemory };
+
+    fn from(_error: AllocError) -> CallError {
+        CallError::OutOfMemory
+    }
+}

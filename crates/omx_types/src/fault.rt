@@ -1,0 +1,173 @@
+ghost use Rattle.std.specs.Prelude.{◌≡◌};
+
+use std::fmt;
+use thiserror::Error;
+
+/// Why a file is no WAV file that is read here, or why reading it ended.
+#[derive(Clone, Copy, Debug, PartialEq, Eq, Error)]
+pub enum WavFault {
+    /// The file's size, above the limit of 67,108,864 bytes.
+    #[error("larger than 67108864 bytes")]
+    TooLarge(u64),
+    #[error("not a RIFF WAVE file")]
+    NotRiff,
+    #[error("no format chunk")]
+    NoFormat,
+    #[error("bad format chunk")]
+    BadFormat,
+    #[error("no data chunk")]
+    NoSamples,
+    #[error("format tag {0}")]
+    UnsupportedTag(u32),
+    #[error("read fault")]
+    Read,
+    /// The source gave nothing at `at`, below its `size`.
+    #[error("short at {at} of {size}")]
+    Short { at: u64, size: u64 },
+}
+
+/// Why a step of a part failed.
+#[derive(Clone, Copy, Debug, PartialEq, Eq, Error)]
+pub enum PartFault {
+    #[error("read fault")]
+    Read,
+    #[error("write fault")]
+    Write,
+    /// The source gave nothing at `at`, below its `size`.
+    #[error("short at {at} of {size}")]
+    Short { at: u64, size: u64 },
+}
+
+/// Why a script is refused: by its grammar, or by the plan of its play.
+#[derive(Clone, Copy, Debug, PartialEq, Eq, Error)]
+pub enum ScriptWhy {
+    #[error("too long")]
+    TooLong,
+    #[error("not text")]
+    NotText,
+    #[error("first line")]
+    FirstLine,
+    #[error("bad word")]
+    BadWord,
+    #[error("unknown name")]
+    UnknownName,
+    #[error("name twice")]
+    NameTwice,
+    #[error("too many")]
+    TooMany,
+    #[error("port twice")]
+    PortTwice,
+    #[error("open port")]
+    OpenPort,
+    #[error("too many blocks")]
+    TooManyBlocks,
+    #[error("cycle")]
+    Cycle,
+    #[error("wrong format")]
+    Wrong,
+    #[error("block too small")]
+    Small,
+    #[error("formats differ")]
+    Differ,
+}
+
+/// A file of a command: its script, its log, that of a script line, or the made one of that number from 1.
+#[derive(Clone, Copy, Debug, PartialEq, Eq)]
+pub enum Which {
+    Script,
+    Log,
+    Line(u32),
+    Made(u32),
+}
+
+impl fmt::Display for Which {
+    fn fmt<W: fmt::Write>(&self, f: &mut fmt::Formatter<W>) -> fmt::Result {
+        match self {
+            Which::Script => write!(f, "script"),
+            Which::Log => write!(f, "log"),
+            Which::Line(line) => write!(f, "line {line}"),
+            Which::Made(number) => write!(f, "made {number}"),
+        }
+    }
+}
+
+/// A form of words or of a script that isn't built yet.
+#[derive(Clone, Copy, Debug, PartialEq, Eq, Error)]
+pub enum Unbuilt {
+    #[error("words")]
+    Words,
+    #[error("script")]
+    Script,
+}
+
+/// Why a command of the program wasn't done whole.
+#[derive(Clone, Copy, Debug, PartialEq, Eq, Error)]
+pub enum Fault {
+    #[error("script line {line}: {why}")]
+    Script { line: u32, why: ScriptWhy },
+    #[error("usage")]
+    Usage,
+    #[error("{which}: {fault}")]
+    BadMedia { which: Which, fault: WavFault },
+    #[error("read fault")]
+    ReadFault,
+    #[error("write fault")]
+    WriteFault,
+    #[error("absent: {0}")]
+    Absent(Which),
+    #[error("out of memory")]
+    OutOfMemory,
+    #[error("short: {which} at {at} of {size}")]
+    Short { which: Which, at: u64, size: u64 },
+    #[error("units: have {have} need {need}")]
+    Units { have: u32, need: u32 },
+    #[error("not built: {what}")]
+    NotBuilt { what: Unbuilt },
+}
+
+/// How a command of the program ended.
+#[derive(Clone, Copy, Debug, PartialEq, Eq)]
+pub enum Status {
+    Ok,
+    Fault(Fault),
+}
+
+impl Status {
+    ghost use Rattle.omx_types.specs.Numbers.{status_number};
+
+    /// The exit status of the program.
+    pub fn number(self) -> u8
+        ensures { result ≡ status_number self }
+    {
+        match self {
+            Status::Ok => 0,
+            Status::Fault(fault) => fault.number(),
+        }
+    }
+}
+
+impl Fault {
+    ghost use Rattle.omx_types.specs.Numbers.{fault_number};
+
+    /// The exit status of a program that ends with this fault.
+    pub fn number(self) -> u8
+        ensures { result ≡ fault_number self }
+    {
+        match self {
+            Fault::Script { line: _, why: _ } => 1,
+            Fault::Usage => 2,
+            Fault::BadMedia { which: _, fault: _ } => 3,
+            Fault::ReadFault => 4,
+            Fault::WriteFault => 5,
+            Fault::Absent(_) => 6,
+            Fault::OutOfMemory => 7,
+            Fault::Short {
+                which: _,
+                at: _,
+                size: _,
+            } => 8,
+            Fault::Units { have: _, need: _ } => 9,
+            Fault::NotBuilt { what: _ } => 10,
+        }
+    }
+}
