@@ -1,0 +1,6 @@
+pub mod Chains
+pub mod Closed
+pub mod Failures
+pub mod Filled
+pub mod Known
+pub mod Moved

@@ -1,0 +1,32 @@
+-- What a media tells, and what its calls do to it.
+use Rattle.std.specs.Prelude.{◌≡◌, ◌≢◌, ℕ, ◌≤◌, Bool, List, take, Option, Some}
+
+pub record Outside : Type 0 where
+  -- whether it tells its files
+  pub tells : Bool
+  -- the told content of the file of that name; None where there is no file of that name, or none is told
+  pub file : List ℕ → Option (List ℕ)
+  -- the told place from which on the sources of that name give nothing
+  pub ends : List ℕ → Option ℕ
+  -- whether a sink of that name may be refused
+  pub may_refuse : List ℕ → Bool
+  pub read_faults : ℕ
+  pub write_faults : ℕ
+  pub absences : ℕ
+
+-- what stays the same over each call, and the counts, which never fall
+pub record GoesOn (old new : Outside) : Type 0 where
+  pub tells : new.tells ≡ old.tells
+  pub ends : new.ends ≡ old.ends
+  pub may_refuse : new.may_refuse ≡ old.may_refuse
+  pub read_faults : old.read_faults ≤ new.read_faults
+  pub write_faults : old.write_faults ≤ new.write_faults
+  pub absences : old.absences ≤ new.absences
+
+-- each other name holds what it held
+abbrev pub SameBut : List ℕ → Outside → Outside → Type 0
+SameBut name old new = (other : List ℕ) → other ≢ name → new.file other ≡ old.file other
+
+-- a front of what is told
+abbrev pub IsFrontOf : Option (List ℕ) → List ℕ → Type 0
+IsFrontOf held bytes = (k : ℕ) × (held ≡ Some (take k bytes))

@@ -1,0 +1,10 @@
+pub mod Calls
+pub mod Causes
+pub mod Entries
+pub mod Fails
+pub mod Files
+pub mod Memory
+pub mod MemoryFiles
+pub mod Moves
+pub mod Stops
+pub mod Whole

@@ -1,0 +1,78 @@
+ghost use Rattle.std.specs.Prelude.{◌≡◌, ℕ, ◌<◌, ◌≤◌, List, [], length, Option, Some, None, IfOk, OnOk, OnErr, IsErrOf, IsTrue, IsFalse, IsSome};
+ghost use Rattle.outside_io.specs.Causes.{HasCause, Rose, sum_of_counts};
+ghost use Rattle.outside_io.specs.Files.{Outside, GoesOn, SameBut, IsFrontOf};
+ghost use Rattle.outside_io.specs.Moves.{WhereTold};
+
+use crate::{Failed, Sink, Source};
+use std::alloc::Global;
+
+/// Why a name was not opened.
+#[derive(Clone, Copy, Debug, PartialEq, Eq)]
+pub enum Refused {
+    /// A source's file isn't there, or a sink's file can't be made at that name.
+    Absent,
+    /// The opening failed, and was counted.
+    Failed,
+    OutOfMemory,
+}
+
+/// Named files, of which sources and sinks are opened. A media may tell its files: then each source tells its bytes,
+/// and only the closing of a sink changes a told file, namely that of its name. It may also tell the sink names that it
+/// may refuse, and for each name the place from which on its sources give nothing; both stay the same over all its calls.
+/// Counts never fall, and stay at their last value.
+pub trait Media {
+    type Src: Source + Send;
+
+    type Snk: Sink + Send;
+
+    /// What it tells, and its counts.
+    ghost outside: { Self → Outside };
+
+    fn read_faults(&self) -> u64
+        ensures { result ≡ (outside self.now).read_faults };
+
+    fn write_faults(&self) -> u64
+        ensures { result ≡ (outside self.now).write_faults };
+
+    fn absences(&self) -> u64
+        ensures { result ≡ (outside self.now).absences };
+
+    fn source(&mut self, alloc: Global, name: &str) -> Result<Self::Src, Refused>
+        ensures goes_on { GoesOn (outside self.old) (outside self.new) }
+        ensures files { (outside self.new).file ≡ (outside self.old).file }
+        ensures told { IfOk result (λ src. Self.Src.told src ≡ (outside self.old).file name.now) }
+        ensures there { IsTrue (outside self.old).tells → OnOk result (IsSome ((outside self.old).file name.now)) }
+        ensures size { WhereTold ((outside self.old).file name.now) (λ bytes. IfOk result (λ src. Self.Src.size src ≡ length bytes)) }
+        ensures place { IfOk result (λ src. Self.Src.place src ≡ 0) }
+        ensures ends { IfOk result (λ src. Self.Src.ends src ≡ (outside self.old).ends name.now) }
+        ensures absent { IsErrOf result Refused.Absent → Rose (outside self.old).absences (outside self.new).absences }
+        ensures absent_name { IsErrOf result Refused.Absent → (outside self.old).file name.now ≡ None }
+        ensures absences { IsSome ((outside self.old).file name.now) → (outside self.new).absences ≡ (outside self.old).absences }
+        ensures failed { IsErrOf result Refused.Failed → Rose (outside self.old).read_faults (outside self.new).read_faults };
+
+    fn sink(&mut self, alloc: Global, name: &str) -> Result<Self::Snk, Refused>
+        ensures goes_on { GoesOn (outside self.old) (outside self.new) }
+        ensures files { (outside self.new).file ≡ (outside self.old).file }
+        ensures told { IsTrue (outside self.old).tells → IfOk result (λ snk. Self.Snk.told snk ≡ Some []) }
+        ensures name { IsTrue (outside self.old).tells → IfOk result (λ snk. Self.Snk.name snk ≡ name.now) }
+        ensures absent { IsErrOf result Refused.Absent → Rose (outside self.old).absences (outside self.new).absences }
+        ensures absent_name { IsErrOf result Refused.Absent → IsTrue ((outside self.old).may_refuse name.now) }
+        ensures absences { IsFalse ((outside self.old).may_refuse name.now) → (outside self.new).absences ≡ (outside self.old).absences }
+        ensures failed { IsErrOf result Refused.Failed → Rose (outside self.old).write_faults (outside self.new).write_faults };
+
+    fn close_source(&mut self, src: Self::Src)
+        ensures goes_on { GoesOn (outside self.old) (outside self.new) }
+        ensures files { (outside self.new).file ≡ (outside self.old).file }
+        ensures absences { (outside self.new).absences ≡ (outside self.old).absences }
+        ensures added { (outside self.new).read_faults ≡ sum_of_counts (outside self.old).read_faults (Self.Src.faults src) };
+
+    fn close_sink(&mut self, snk: Self::Snk) -> Result<(), Failed>
+        ensures goes_on { GoesOn (outside self.old) (outside self.new) }
+        ensures others { SameBut (Self.Snk.name snk) (outside self.old) (outside self.new) }
+        ensures held { OnOk result ((outside self.new).file (Self.Snk.name snk) ≡ Self.Snk.told snk) }
+        ensures front { OnErr result (WhereTold (Self.Snk.told snk) (IsFrontOf ((outside self.new).file (Self.Snk.name snk)))) }
+        ensures absences { (outside self.new).absences ≡ (outside self.old).absences }
+        ensures added { sum_of_counts (outside self.old).write_faults (Self.Snk.faults snk) ≤ (outside self.new).write_faults }
+        ensures closed { OnOk result ((outside self.new).write_faults ≡ sum_of_counts (outside self.old).write_faults (Self.Snk.faults snk)) }
+        ensures failed { OnErr result (Rose (sum_of_counts (outside self.old).write_faults (Self.Snk.faults snk)) (outside self.new).write_faults) };
+}

@@ -1,0 +1,147 @@
+ghost use Rattle.std.specs.Io.{ReadsAtMost};
+ghost use Rattle.std.specs.Prelude.{◌≡◌, ◌+◌, ◌<◌, ◌≤◌, max, min, length, take, drop, vec_len, [], Some, IfOk, OnOk};
+ghost use Rattle.outside_io.specs.Causes.{HasCause};
+ghost use Rattle.outside_io.specs.Moves.{WhereTold};
+
+use crate::calls::Calls;
+use crate::fails::FailKind;
+use crate::plans::Planned;
+use crate::{Failed, OutOfMemory, Source};
+use std::alloc::Global;
+
+/// A source over bytes in memory.
+#[derive(Drop)]
+pub struct MemorySource {
+    pub(crate) name: String,
+    bytes: Vec<u8>,
+    place: usize,
+    end: u64,
+    pub(crate) reads: Calls,
+    pub(crate) seeks: Calls,
+    pub(crate) faults: u64,
+    ghost within: { place ≤ vec_len bytes },
+}
+
+impl MemorySource {
+    ghost use Rattle.outside_io.specs.Memory.{source_bytes, source_place, source_ends, source_faults, source_reads, source_seeks};
+    ghost use Rattle.outside_io.specs.MemoryFiles.{IsNewSource};
+
+    /// A source that stands at place 0, never fails and gives all its bytes.
+    pub fn new(bytes: Vec<u8>) -> MemorySource
+        ensures bytes { source_bytes result ≡ bytes.items }
+        ensures place { source_place result ≡ 0 }
+        ensures ends { length bytes.items ≤ source_ends result }
+        ensures faults { source_faults result ≡ 0 }
+        ensures no_read_fails { (source_reads result).due.items ≡ [] }
+        ensures no_seek_fails { (source_seeks result).due.items ≡ [] }
+    {
+        let alloc = *bytes.allocator();
+        MemorySource {
+            name: String::new(alloc),
+            bytes,
+            place: 0,
+            end: u64::MAX,
+            reads: Calls::sound(alloc),
+            seeks: Calls::sound(alloc),
+            faults: 0,
+        }
+    }
+
+    /// A source of the file of that name.
+    pub(crate) fn planned(
+        alloc: Global,
+        name: &str,
+        bytes: &[u8],
+        plans: &[Planned],
+    ) -> Result<MemorySource, OutOfMemory>
+        ensures { IfOk result (IsNewSource name.now bytes.now plans.now) }
+    {
+        Ok(MemorySource {
+            name: String::from_str(alloc, name)?,
+            bytes: bytes.to_vec(alloc)?,
+            place: 0,
+            end: Planned::end(plans, name),
+            reads: Calls::new(Planned::due(alloc, plans, FailKind::Read, name)?),
+            seeks: Calls::new(Planned::due(alloc, plans, FailKind::Seek, name)?),
+            faults: 0,
+        })
+    }
+}
+
+impl Source for MemorySource {
+    ghost use Rattle.outside_io.specs.Memory.{source_bytes, source_place, source_ends, source_faults, Reads, Seeks};
+
+    ghost told = { λ s. Some (source_bytes s) };
+
+    ghost ends = { λ s. Some (source_ends s) };
+
+    ghost size = { λ s. length (source_bytes s) };
+
+    ghost place = { source_place };
+
+    ghost faults = { source_faults };
+
+    fn size(&self) -> u64 {
+        self.bytes.len() as u64
+    }
+
+    fn place(&self) -> u64 {
+        self.place as u64
+    }
+
+    fn faults(&self) -> u64 {
+        self.faults
+    }
+
+    fn read(&mut self, buf: &mut [u8]) -> Result<usize, Failed>
+        requires { 0 < length buf.old }
+        ensures bound { ReadsAtMost result buf.new }
+        ensures told { Some (source_bytes self.new) ≡ Some (source_bytes self.old) }
+        ensures ends { Some (source_ends self.new) ≡ Some (source_ends self.old) }
+        ensures size { length (source_bytes self.new) ≡ length (source_bytes self.old) }
+        ensures place { IfOk result (λ count. source_place self.new ≡ source_place self.old + count) }
+        ensures within { source_place self.new ≤ length (source_bytes self.new) }
+        ensures bytes { WhereTold (Some (source_bytes self.old)) (λ bytes. IfOk result (λ count.
+            take count buf.new ≡ take count (drop (source_place self.old) bytes))) }
+        ensures gives { WhereTold (Some (source_ends self.old)) (λ end. IfOk result (λ count.
+            source_place self.old < min end (length (source_bytes self.old)) → 0 < count)) }
+        ensures stops { WhereTold (Some (source_ends self.old)) (λ end. OnOk result (
+            source_place self.new ≤ max end (source_place self.old))) }
+        ensures cause { HasCause (source_faults self.old) (source_faults self.new) result }
+        ensures exactly { Reads self.old self.new (length buf.old) result }
+    {
+        if self.reads.call() {
+            self.faults = self.faults.saturating_add(1);
+            return Err(Failed);
+        }
+        let mut end = self.bytes.len();
+        if self.end < end as u64 {
+            end = self.end as usize;
+        }
+        if end <= self.place {
+            return Ok(0);
+        }
+        let count = buf.len().min(end - self.place);
+        buf[..count].copy_from_slice(&self.bytes[self.place..self.place + count]);
+        self.place += count;
+        Ok(count)
+    }
+
+    fn seek_to(&mut self, to: u64) -> Result<(), Failed>
+        requires { to ≤ length (source_bytes self.old) }
+        ensures told { Some (source_bytes self.new) ≡ Some (source_bytes self.old) }
+        ensures ends { Some (source_ends self.new) ≡ Some (source_ends self.old) }
+        ensures size { length (source_bytes self.new) ≡ length (source_bytes self.old) }
+        ensures reached { OnOk result (source_place self.new ≡ to) }
+        ensures within { source_place self.new ≤ length (source_bytes self.new) }
+        ensures cause { HasCause (source_faults self.old) (source_faults self.new) result }
+        ensures exactly { Seeks self.old self.new result }
+    {
+        if self.seeks.call() {
+            self.faults = self.faults.saturating_add(1);
+            return Err(Failed);
+        }
+        self.place = to as usize;
+        Ok(())
+    }
+}

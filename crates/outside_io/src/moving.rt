@@ -1,0 +1,115 @@
+ghost use Rattle.std.specs.Prelude.{◌≡◌, ◌+◌, ◌<◌, ◌≤◌, max, length, take, drop, IfErr, OnOk, Err};
+ghost use Rattle.std.specs.Io.KnownBytes.{append_known};
+ghost use Rattle.outside_io.specs.Causes.{HasCause, Rose};
+ghost use Rattle.outside_io.specs.Moves.{AppendsFront, WhereTold};
+ghost use Rattle.outside_io.specs.Stops.{IsShortAt, IsShortOf, IsStopAt, IsStopOf, StopsBefore};
+
+use crate::{Failed, Sink, Source};
+
+/// How many bytes a pump reads at once, at most.
+const PIECE: usize = 4096;
+
+/// Why a piece was not read whole.
+#[derive(Clone, Copy, Debug, PartialEq, Eq)]
+pub enum ReadStop {
+    Failed,
+    /// The source gave nothing at a place below its size.
+    Short { at: u64, size: u64 },
+}
+
+/// Why not all bytes were moved.
+#[derive(Clone, Copy, Debug, PartialEq, Eq)]
+pub enum PumpFault {
+    Read,
+    Write,
+    /// The source gave nothing at a place below its size.
+    Short { at: u64, size: u64 },
+}
+
+/// Writes a whole piece.
+pub fn write_all<K: Sink>(sink: &mut K, piece: &[u8]) -> Result<(), Failed>
+    ensures whole { OnOk result (K.told sink.new ≡ append_known (K.told sink.old) piece.now) }
+    ensures front { AppendsFront (K.told sink.old) (K.told sink.new) piece.now }
+    ensures name { K.name sink.new ≡ K.name sink.old }
+    ensures cause { HasCause (K.faults sink.old) (K.faults sink.new) result }
+{
+    let mut done = 0;
+    while done < piece.len() {
+        let count = sink.write(&piece[done..])?;
+        done += count;
+    }
+    Ok(())
+}
+
+/// Reads the next bytes into the whole of `buf`.
+pub fn read_exact<S: Source>(source: &mut S, buf: &mut [u8]) -> Result<(), ReadStop>
+    requires { S.place source.old + length buf.old ≤ S.size source.old }
+    ensures bytes { WhereTold (S.told source.old) (λ bytes. OnOk result (
+        buf.new ≡ take (length buf.old) (drop (S.place source.old) bytes))) }
+    ensures place { OnOk result (S.place source.new ≡ S.place source.old + length buf.old) }
+    ensures told { S.told source.new ≡ S.told source.old }
+    ensures ends { S.ends source.new ≡ S.ends source.old }
+    ensures size { S.size source.new ≡ S.size source.old }
+    ensures later { S.faults source.old ≤ S.faults source.new }
+    ensures failed { result ≡ Err ReadStop.Failed → Rose (S.faults source.old) (S.faults source.new) }
+    ensures short { IfErr result (IsStopOf (S.size source.old) (S.ends source.old) (S.place source.old)) }
+    ensures reached { WhereTold (S.ends source.old) (λ end. OnOk result (
+        S.place source.new ≤ max end (S.place source.old))) }
+    ensures unfinished { IfErr result (StopsBefore (S.place source.old + length buf.old)) }
+    ensures stopped_at { IfErr result (IsStopAt (S.place source.new)) }
+{
+    let mut done = 0;
+    while done < buf.len() {
+        match source.read(&mut buf[done..]) {
+            Err(_) => return Err(ReadStop::Failed),
+            Ok(0) => {
+                return Err(ReadStop::Short {
+                    at: source.place(),
+                    size: source.size(),
+                });
+            }
+            Ok(count) => {
+                done += count;
+            }
+        }
+    }
+    Ok(())
+}
+
+/// Moves the rest of a source into a sink.
+pub fn pump<S: Source, K: Sink>(source: &mut S, sink: &mut K) -> Result<(), PumpFault>
+    ensures whole { WhereTold (S.told source.old) (λ bytes. OnOk result (
+        K.told sink.new ≡ append_known (K.told sink.old) (drop (S.place source.old) bytes))) }
+    ensures front { WhereTold (S.told source.old) (λ bytes.
+        AppendsFront (K.told sink.old) (K.told sink.new) (drop (S.place source.old) bytes)) }
+    ensures end { OnOk result (S.place source.new ≡ S.size source.old) }
+    ensures told { S.told source.new ≡ S.told source.old }
+    ensures ends { S.ends source.new ≡ S.ends source.old }
+    ensures size { S.size source.new ≡ S.size source.old }
+    ensures name { K.name sink.new ≡ K.name sink.old }
+    ensures read_later { S.faults source.old ≤ S.faults source.new }
+    ensures write_later { K.faults sink.old ≤ K.faults sink.new }
+    ensures read { result ≡ Err PumpFault.Read → Rose (S.faults source.old) (S.faults source.new) }
+    ensures write { result ≡ Err PumpFault.Write → Rose (K.faults sink.old) (K.faults sink.new) }
+    ensures short { IfErr result (IsShortOf (S.size source.old) (S.ends source.old) (S.place source.old)) }
+    ensures reached { IfErr result (IsShortAt (S.place source.new)) }
+{
+    let mut buf = [0u8; PIECE];
+    loop {
+        let at = source.place();
+        let size = source.size();
+        if at == size {
+            return Ok(());
+        }
+        match source.read(&mut buf) {
+            Err(_) => return Err(PumpFault::Read),
+            Ok(0) => return Err(PumpFault::Short { at, size }),
+            Ok(count) => {
+                match write_all(sink, &buf[..count]) {
+                    Ok(()) => {}
+                    Err(_) => return Err(PumpFault::Write),
+                }
+            }
+        }
+    }
+}
