@@ -1,0 +1,39 @@
+-- What the adapters stand over.
+use Rattle.std.specs.Prelude.{◌≡◌, ℕ, List, [], Option, None}
+use Rattle.std.specs.declared.alloc.Global.{Global}
+use Rattle.std.specs.declared.io.buffered.BufReader.{BufReader}
+use Rattle.std.specs.declared.io.buffered.BufWriter.{BufWriter}
+use Rattle.outside_host.specs.declared.host_file.HostFile.{HostFile}
+use Rattle.outside_host.specs.declared.host_media.HostMedia.{HostMedia}
+use Rattle.outside_host.specs.declared.host_sink.HostSink.{HostSink}
+use Rattle.outside_host.specs.declared.host_source.HostSource.{HostSource}
+
+abbrev pub source_reader : {F : Type 0} → HostSource F → BufReader F Global
+source_reader s = s.file
+
+abbrev pub file_writer : {F : Type 0} → HostFile F → BufWriter F Global
+file_writer s = s.file
+
+abbrev pub sink_writer : {W : Type 0} → HostSink W → W
+sink_writer s = s.writer
+
+-- the bytes and the name that no adapter tells
+abbrev pub untold : Option (List ℕ)
+untold = None
+
+abbrev pub unnamed : List ℕ
+unnamed = []
+
+-- the place from which on a source gives nothing, which no adapter tells
+abbrev pub endless : Option ℕ
+endless = None
+
+-- no call on a sink failed
+abbrev pub HasNoFault : {W : Type 0} → HostSink W → Type 0
+HasNoFault s = s.faults ≡ 0
+
+-- no call on a media failed
+pub record HasNoCount {R : Type 0} (m : HostMedia R) : Type 0 where
+  pub read_faults : m.read_faults ≡ 0
+  pub write_faults : m.write_faults ≡ 0
+  pub absences : m.absences ≡ 0

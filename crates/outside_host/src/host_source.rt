@@ -1,0 +1,148 @@
+ghost use Rattle.std.specs.Io.Buffered.{reader_position, reader_remaining};
+ghost use Rattle.std.specs.Io.KnownBytes.{Consumes, IsAtEnd, Keeps};
+ghost use Rattle.std.specs.Io.Seek.{MovesTo};
+ghost use Rattle.std.specs.Io.{ReadsAtMost};
+ghost use Rattle.std.specs.Prelude.{◌≡◌, ◌+◌, ◌<◌, ◌≤◌, min, max, length, take, drop, IfOk, OnOk, OnErr};
+ghost use Rattle.outside_io.specs.Causes.{HasCause};
+ghost use Rattle.outside_io.specs.Moves.{WhereTold};
+
+use crate::retry::{read_some, seek};
+use outside_io::{Failed, Source};
+use std::io::{BufReader, Read, Seek};
+
+/// A file that is read. Its size is that of its opening.
+#[derive(Drop)]
+pub struct HostSource<F> {
+    file: BufReader<F>,
+    size: u64,
+    place: u64,
+    pub(crate) faults: u64,
+    ghost within: { place ≤ size },
+}
+
+impl<F> HostSource<F> {
+    ghost use Rattle.outside_host.specs.Adapters.{source_reader};
+
+    /// A file of this size that stands at its first byte.
+    pub(crate) fn new(file: BufReader<F>, size: u64) -> HostSource<F>
+        ensures file { source_reader result ≡ file }
+        ensures size { result.size ≡ size }
+        ensures place { result.place ≡ 0 }
+        ensures faults { result.faults ≡ 0 }
+    {
+        HostSource {
+            file,
+            size,
+            place: 0,
+            faults: 0,
+        }
+    }
+}
+
+impl<F: Read> HostSource<F> {
+    ghost use Rattle.outside_host.specs.Adapters.{source_reader};
+
+    /// Reads the next bytes of the file, and none behind its size.
+    fn next(&mut self, buf: &mut [u8]) -> Result<usize, Failed>
+        ensures bound { IfOk result (λ count. count ≤ length buf.new) }
+        ensures within { IfOk result (λ count. self.old.place + count ≤ self.old.size) }
+        ensures size { self.new.size ≡ self.old.size }
+        ensures place { self.new.place ≡ self.old.place }
+        ensures faults { self.new.faults ≡ self.old.faults }
+        ensures given { IfOk result (λ count. Consumes (reader_remaining F.remaining (source_reader self.old))
+            (reader_remaining F.remaining (source_reader self.new)) (take count buf.new)) }
+        ensures end { IfOk result (λ count. count ≡ 0 → 0 < length buf.new → self.old.place < self.old.size →
+            IsAtEnd (reader_remaining F.remaining (source_reader self.new))) }
+        ensures kept { OnErr result (Keeps (reader_remaining F.remaining (source_reader self.old))
+            (reader_remaining F.remaining (source_reader self.new))) }
+    {
+        let left = self.size - self.place;
+        let mut most = buf.len();
+        if left < most as u64 {
+            most = left as usize;
+        }
+        read_some(&mut self.file, &mut buf[..most])
+    }
+}
+
+impl<F: Read + Seek> Source for HostSource<F> {
+    ghost use Rattle.outside_host.specs.Adapters.{endless, source_reader, untold};
+
+    ghost told = { λ s. untold };
+
+    ghost ends = { λ s. endless };
+
+    ghost size = { λ s. s.size };
+
+    ghost place = { λ s. s.place };
+
+    ghost faults = { λ s. s.faults };
+
+    fn size(&self) -> u64 {
+        self.size
+    }
+
+    fn place(&self) -> u64 {
+        self.place
+    }
+
+    fn faults(&self) -> u64 {
+        self.faults
+    }
+
+    fn read(&mut self, buf: &mut [u8]) -> Result<usize, Failed>
+        requires { 0 < length buf.old }
+        ensures bound { ReadsAtMost result buf.new }
+        ensures told { untold ≡ untold }
+        ensures ends { endless ≡ endless }
+        ensures size { self.new.size ≡ self.old.size }
+        ensures place { IfOk result (λ count. self.new.place ≡ self.old.place + count) }
+        ensures within { self.new.place ≤ self.new.size }
+        ensures bytes { WhereTold untold (λ bytes. IfOk result (λ count.
+            take count buf.new ≡ take count (drop self.old.place bytes))) }
+        ensures gives { WhereTold endless (λ end. IfOk result (λ count.
+            self.old.place < min end self.old.size → 0 < count)) }
+        ensures stops { WhereTold endless (λ end. OnOk result (self.new.place ≤ max end self.old.place)) }
+        ensures cause { HasCause self.old.faults self.new.faults result }
+        ensures given { IfOk result (λ count. Consumes (reader_remaining F.remaining (source_reader self.old))
+            (reader_remaining F.remaining (source_reader self.new)) (take count buf.new)) }
+        ensures end { IfOk result (λ count. count ≡ 0 → self.old.place < self.old.size →
+            IsAtEnd (reader_remaining F.remaining (source_reader self.new))) }
+        ensures lost { OnErr result (Keeps (reader_remaining F.remaining (source_reader self.old))
+            (reader_remaining F.remaining (source_reader self.new))) }
+    {
+        match self.next(buf) {
+            Ok(count) => {
+                self.place += count as u64;
+                Ok(count)
+            }
+            Err(failed) => {
+                self.faults = self.faults.saturating_add(1);
+                Err(failed)
+            }
+        }
+    }
+
+    fn seek_to(&mut self, to: u64) -> Result<(), Failed>
+        requires { to ≤ self.old.size }
+        ensures told { untold ≡ untold }
+        ensures ends { endless ≡ endless }
+        ensures size { self.new.size ≡ self.old.size }
+        ensures reached { OnOk result (self.new.place ≡ to) }
+        ensures within { self.new.place ≤ self.new.size }
+        ensures cause { HasCause self.old.faults self.new.faults result }
+        ensures moves { MovesTo (reader_position F.stream_position (source_reader self.old))
+            (reader_position F.stream_position (source_reader self.new)) to result }
+    {
+        match seek(&mut self.file, to) {
+            Ok(()) => {
+                self.place = to;
+                Ok(())
+            }
+            Err(failed) => {
+                self.faults = self.faults.saturating_add(1);
+                Err(failed)
+            }
+        }
+    }
+}
