@@ -1,0 +1,91 @@
+use Rattle.std.proofs.Common.{rules, ◌∙◌, ◌+◌, ◌<◌, ◌≤◌, ℕ, length, None, Result, Err, Option, false, inl, ◌⊎◌, sym, subst, arith}
+use Rattle.omx_types.specs.declared.fault.WavFault.{WavFault}
+use Rattle.wav_form.specs.declared.heads.WavHead.{WavHead}
+use Rattle.wav_form.specs.Chunks.{AreChunks}
+use Rattle.wav_form.specs.Search.{AnswersAs, answer_after, view}
+use Rattle.outside_io.specs.Stops.{GaveNothing}
+use Rattle.wav_form.specs.Passing.{IsPassedOver}
+use Rattle.wav_form.specs.Stops.{IfShort}
+use Rattle.wav_form.proofs.ChunkSearch.{StartsFrom, start_behind, answer_after-goes_on, answer_after-samples, answer_after-end, AnswersAs-samples, AnswersAs-end, AnswersAs-stop, Reached, Reached-behind, IfShort-gave, IfShort-reached, passed_behind, passed_from-known, answer_after-faults}
+use Rattle.wav_form.proofs.heads.search.Goals as goal
+
+pub returns-in-Err-clause-answer : goal.returns-in-Err-clause-answer
+returns-in-Err-clause-answer g c = λ x is chunks are.
+    let (rest, left, same, passes) = c.loop-place.invariant.rest x is chunks are in
+    let from = subst (StartsFrom (c.loop-place.place + 8)) (sym same) (start_behind x c.loop-place.known c.loop-place.place rest left) in
+    AnswersAs-stop _ _ c.loop-place.place (c.loop-place.place + 8) c.in-Err.fault (answer_after x None chunks) c.in-Err.ensures.stop from
+
+pub returns-in-Err-clause-short : goal.returns-in-Err-clause-short
+returns-in-Err-clause-short g c =
+    let f = c.in-Err.fault in
+    let place = c.loop-place.place in
+    let gave = IfShort-gave _ _ place (place + 8) f c.in-Err.ensures.stop in
+    IfShort-reached _ _ _ place f c.loop-place.invariant.reached
+    (subst (λ (n : ℕ). IfShort f (GaveNothing n (g.S.Source.ends c.args.src.now) place)) c.loop-place.invariant.size
+    (subst (λ (e : Option ℕ). IfShort f (GaveNothing (g.S.Source.size c.loop-place.src) e place)) c.loop-place.invariant.ends gave))
+
+pub returns-in-Err-known_format-clause-short : goal.returns-in-Err-known_format-clause-short
+returns-in-Err-known_format-clause-short g c =
+    let f = c.in-Err-known_format.fault in
+    let content = c.in-Ok.chunk.content in
+    let size = c.in-Ok.ensures.size ∙ c.loop-place.invariant.size in
+    let ends = c.in-Ok.ensures.ends ∙ c.loop-place.invariant.ends in
+    let reached : Reached (g.S.Source.told c.args.src.now) (g.S.Source.ends c.args.src.now) content =
+    λ end is bytes _ chunks _. inl (omega (arith, c.in-Ok.ensures.content, c.in-Ok.ensures.reached end (c.loop-place.invariant.ends ∙ is))) in
+    IfShort-reached _ _ _ content f reached
+    (subst (λ (n : ℕ). IfShort f (GaveNothing n (g.S.Source.ends c.args.src.now) content)) size
+    (subst (λ (e : Option ℕ). IfShort f (GaveNothing (g.S.Source.size c.read_chunk.new.src) e content)) ends c.in-Err-known_format.ensures.short))
+
+pub returns-then-is_samples-clause-answer : goal.returns-then-is_samples-clause-answer
+returns-then-is_samples-clause-answer g c = λ x is chunks are.
+    let (rest, left, same, passes) = c.loop-place.invariant.rest x is chunks are in
+    let room : c.loop-place.place + 8 ≤ length x = omega (arith, c.requires.whole x is) in
+    let chunk = c.in-Ok.ensures.chunk x (c.loop-place.invariant.told ∙ is) in
+    let result = c.head_of.ensures.answer x (c.requires.whole x is) in
+    subst (λ (r : Result WavHead WavFault). AnswersAs r (answer_after x None chunks)) (sym result)
+    (AnswersAs-samples x c.loop-place.known (view c.in-Ok.chunk) (answer_after x None chunks)
+    (same ∙ answer_after-samples x c.loop-place.known c.loop-place.place (view c.in-Ok.chunk) rest left room chunk (sym c.is_samples.ensures ∙ c.if-is_samples.true)))
+
+pub returns-in-Err-known_format-clause-answer : goal.returns-in-Err-known_format-clause-answer
+returns-in-Err-known_format-clause-answer g c = λ x is chunks are.
+    let (rest, left, same, passes) = c.loop-place.invariant.rest x is chunks are in
+    let room : c.loop-place.place + 8 ≤ length x = omega (arith, c.requires.whole x is) in
+    let chunk = c.in-Ok.ensures.chunk x (c.loop-place.invariant.told ∙ is) in
+    subst (AnswersAs (Err c.in-Err-known_format.fault)) (sym same)
+    (answer_after-faults x c.loop-place.known c.loop-place.place (view c.in-Ok.chunk) rest c.in-Err-known_format.fault left room chunk (sym c.is_samples.ensures ∙ c.if-is_samples.false) (c.in-Err-known_format.ensures.answer x (c.in-Ok.ensures.told ∙ c.loop-place.invariant.told ∙ is)) c.in-Err-known_format.ensures.inside)
+
+pub loop-place-preserved : goal.loop-place-preserved
+loop-place-preserved g c = record {
+  small = omega (arith, c.end-place.ensures.near, c.in-Ok.ensures.content);
+  known = search rules;
+  told = search rules;
+  ends = search rules;
+  size = search rules;
+  later = omega arith;
+  rest = λ x is chunks are.
+      let (rest, left, same, passes) = c.loop-place.invariant.rest x is chunks are in
+      let room : c.loop-place.place + 8 ≤ length x = omega (arith, c.requires.whole x is) in
+      let chunk = c.in-Ok.ensures.chunk x (c.loop-place.invariant.told ∙ is) in
+      let next = answer_after-goes_on x c.loop-place.known c.in-Ok-known_format.format c.loop-place.place (view c.in-Ok.chunk) rest left room chunk (sym c.is_samples.ensures ∙ c.if-is_samples.false) (c.in-Ok-known_format.ensures.answer x (c.in-Ok.ensures.told ∙ c.loop-place.invariant.told ∙ is)) in (
+        next.0,
+        subst (λ (n : ℕ). AreChunks x n next.0) (sym c.end-place.ensures.value) next.1,
+        same ∙ next.2,
+        λ p n passed. passes p n (passed_behind c.loop-place.known c.in-Ok-known_format.format (view c.in-Ok.chunk) rest next.0 p n next.3 (sym c.is_samples.ensures ∙ c.if-is_samples.false) c.in-Ok-known_format.ensures.known passed),
+      );
+  reached = λ end ends x is chunks are.
+      let (rest, left, same, passes) = c.loop-place.invariant.rest x is chunks are in
+      let room : c.loop-place.place + 8 ≤ length x = omega (arith, c.requires.whole x is) in
+      let chunk = c.in-Ok.ensures.chunk x (c.loop-place.invariant.told ∙ is) in
+      let content : c.in-Ok.chunk.content ≤ end = omega (arith, c.in-Ok.ensures.content, c.in-Ok.ensures.reached end (c.loop-place.invariant.ends ∙ ends)) in
+      let fields = c.in-Ok-known_format.ensures.reached end (c.in-Ok.ensures.ends ∙ c.loop-place.invariant.ends ∙ ends) in
+      subst (λ (n : ℕ). (n ≤ end) ⊎ IsPassedOver false chunks end n) (sym c.end-place.ensures.value)
+      (Reached-behind x c.loop-place.known c.loop-place.place end (view c.in-Ok.chunk) chunks rest left room chunk (sym c.is_samples.ensures ∙ c.if-is_samples.false) passes
+      (passed_from-known c.loop-place.known (view c.in-Ok.chunk) end content fields));
+}
+
+pub returns-clause-answer : goal.returns-clause-answer
+returns-clause-answer g c = λ x is chunks are.
+    let (rest, left, same, passes) = c.loop-place.invariant.rest x is chunks are in
+    let short : length x < c.loop-place.place + 8 = omega (arith, c.requires.whole x is) in
+    subst (λ (f : WavFault). AnswersAs (Err f) (answer_after x None chunks)) (sym c.fault_at_end.ensures)
+    (AnswersAs-end c.loop-place.known (answer_after x None chunks) (same ∙ answer_after-end x c.loop-place.known c.loop-place.place rest left short))

@@ -1,0 +1,83 @@
+ghost use Rattle.std.specs.Prelude.{◌≡◌, ◌+◌, ◌<◌, ◌≤◌, ◌^◌, length, take, IfOk, IfErr, OnOk, Err, bytes_eq, codes};
+ghost use Rattle.byteorder.specs.Endian.{little_from};
+ghost use Rattle.outside_io.specs.Causes.{Rose};
+ghost use Rattle.outside_io.specs.Moves.{WhereTold};
+ghost use Rattle.wav_form.specs.Chunks.{chunk_at, end_of};
+ghost use Rattle.wav_form.specs.Search.{view};
+ghost use Rattle.wav_form.specs.Stops.{IsReadStop};
+
+use crate::filling::fill_from;
+use byteorder::{ByteOrder, LittleEndian};
+use omx_types::WavFault;
+use outside_io::Source;
+
+/// The bytes of a chunk's name and length.
+pub(crate) const CHUNK_HEAD: u64 = 8;
+
+/// A chunk that was read: its name, its length, and the place of its content.
+#[derive(Clone, Copy, Debug, PartialEq, Eq)]
+pub(crate) struct ChunkHead {
+    pub(crate) name: [u8; 4],
+    pub(crate) size: u32,
+    pub(crate) content: u64,
+}
+
+/// The chunk whose head begins at `place`.
+pub(crate) fn read_chunk<S: Source>(src: &mut S, place: u64) -> Result<ChunkHead, WavFault>
+    requires there { place + CHUNK_HEAD ≤ S.size src.old }
+    requires small { place < 2 ^ 63 }
+    ensures chunk { WhereTold (S.told src.old) (λ bytes. IfOk result (λ chunk. view chunk ≡ chunk_at bytes place)) }
+    ensures reached { WhereTold (S.ends src.old) (λ end. OnOk result (place + 8 ≤ end)) }
+    ensures content { IfOk result (λ chunk. chunk.content ≡ place + 8) }
+    ensures place { OnOk result (S.place src.new ≡ place + 8) }
+    ensures told { S.told src.new ≡ S.told src.old }
+    ensures ends { S.ends src.new ≡ S.ends src.old }
+    ensures size { S.size src.new ≡ S.size src.old }
+    ensures later { S.faults src.old ≤ S.faults src.new }
+    ensures read { result ≡ Err WavFault.Read → Rose (S.faults src.old) (S.faults src.new) }
+    ensures stop { IfErr result (IsReadStop (S.size src.old) (S.ends src.old) place (place + 8)) }
+{
+    let mut head = [0u8; 8];
+    match fill_from(src, place, &mut head) {
+        Ok(()) => Ok(chunk_from(&head, place)),
+        Err(fault) => Err(fault),
+    }
+}
+
+/// A chunk by the 8 bytes of its head at `place`.
+fn chunk_from(head: &[u8; 8], place: u64) -> ChunkHead
+    requires { place < 2 ^ 63 }
+    ensures name { result.name ≡ take 4 head.now }
+    ensures size { result.size ≡ little_from 4 4 head.now }
+    ensures content { result.content ≡ place + 8 }
+{
+    ChunkHead {
+        name: [head[0], head[1], head[2], head[3]],
+        size: LittleEndian::read_u32(&head[4..]),
+        content: place + CHUNK_HEAD,
+    }
+}
+
+impl ChunkHead {
+    pub(crate) fn is_format(&self) -> bool
+        ensures { result ≡ bytes_eq self.now.name (codes "fmt ") }
+    {
+        self.name == *b"fmt "
+    }
+
+    pub(crate) fn is_samples(&self) -> bool
+        ensures { result ≡ bytes_eq self.now.name (codes "data") }
+    {
+        self.name == *b"data"
+    }
+
+    /// The place behind the content and the pad byte of an odd length.
+    pub(crate) fn end(&self) -> u64
+        requires { self.now.content < 2 ^ 63 }
+        ensures value { result ≡ end_of (view self.now) }
+        ensures near { result ≤ self.now.content + 2 ^ 32 }
+    {
+        let size = u64::from(self.size);
+        self.content + size + size % 2
+    }
+}

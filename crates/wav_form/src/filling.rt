@@ -1,0 +1,52 @@
+ghost use Rattle.std.specs.Prelude.{◌≡◌, ◌+◌, ◌<◌, ◌≤◌, length, take, drop, IfErr, OnOk, OnErr, Err};
+ghost use Rattle.outside_io.specs.Causes.{Rose};
+ghost use Rattle.outside_io.specs.Moves.{WhereTold};
+ghost use Rattle.wav_form.specs.Stops.{IsReadStop};
+
+use omx_types::WavFault;
+use outside_io::{ReadStop, Source, read_exact};
+
+/// Reads the bytes from `place` on into the whole of `buf`.
+pub(crate) fn fill_from<S: Source>(src: &mut S, place: u64, buf: &mut [u8]) -> Result<(), WavFault>
+    requires { place + length buf.old ≤ S.size src.old }
+    ensures bytes { WhereTold (S.told src.old) (λ bytes. OnOk result (
+        buf.new ≡ take (length buf.old) (drop place bytes))) }
+    ensures reached { WhereTold (S.ends src.old) (λ end. OnOk result (0 < length buf.old → place + length buf.old ≤ end)) }
+    ensures place { OnOk result (S.place src.new ≡ place + length buf.old) }
+    ensures told { S.told src.new ≡ S.told src.old }
+    ensures ends { S.ends src.new ≡ S.ends src.old }
+    ensures size { S.size src.new ≡ S.size src.old }
+    ensures later { S.faults src.old ≤ S.faults src.new }
+    ensures read { result ≡ Err WavFault.Read → Rose (S.faults src.old) (S.faults src.new) }
+    ensures stop { IfErr result (IsReadStop (S.size src.old) (S.ends src.old) place (place + length buf.old)) }
+{
+    match go_to(src, place) {
+        Ok(()) => {}
+        Err(fault) => return Err(fault),
+    }
+    match read_exact(src, buf) {
+        Ok(()) => Ok(()),
+        Err(ReadStop::Failed) => Err(WavFault::Read),
+        Err(ReadStop::Short { at, size }) => Err(WavFault::Short { at, size }),
+    }
+}
+
+/// Goes to a place, by a seek only where the source doesn't stand there.
+fn go_to<S: Source>(src: &mut S, place: u64) -> Result<(), WavFault>
+    requires { place ≤ S.size src.old }
+    ensures reached { OnOk result (S.place src.new ≡ place) }
+    ensures told { S.told src.new ≡ S.told src.old }
+    ensures ends { S.ends src.new ≡ S.ends src.old }
+    ensures size { S.size src.new ≡ S.size src.old }
+    ensures later { S.faults src.old ≤ S.faults src.new }
+    ensures read { OnErr result (Rose (S.faults src.old) (S.faults src.new)) }
+    ensures only { IfErr result (λ fault. fault ≡ WavFault.Read) }
+{
+    if src.place() == place {
+        return Ok(());
+    }
+    match src.seek_to(place) {
+        Ok(()) => Ok(()),
+        Err(_) => Err(WavFault::Read),
+    }
+}
