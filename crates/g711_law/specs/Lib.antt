@@ -1,0 +1,4 @@
+pub mod Steps
+pub mod Alaw
+pub mod Mulaw
+pub mod Lines

@@ -1,0 +1,183 @@
+//! Times each slice form of the kernels beside a copy of as many samples. Figures come only with
+//! the word `figures`.
+#![tactic(auto)]
+
+ghost use Rattle.std.specs.Prelude.{◌≡◌, ◌*◌, ◌≤◌, length, All};
+ghost use Rattle.pcm_ops.specs.Samples.{IsSum};
+
+use g711_law::{alaw_decode_all, alaw_encode_all, mulaw_decode_all, mulaw_encode_all};
+use pcm_ops::{bytes_of, clamp_into, copy_into, gain_into, mix_into, samples_of};
+use std::time::{Duration, Instant};
+use std::{env, io};
+
+/// The samples of a piece, and how many pieces make 64 Mi samples.
+const PIECE: usize = 4096;
+
+const PIECES: u32 = 16_384;
+
+fn copies(from: &[u8], to: &mut [u8])
+    requires { length from.now ≡ length to.old }
+{
+    for _ in 0..PIECES {
+        copy_into(from, to);
+    }
+}
+
+fn alaw_encodes(from: &[i16], to: &mut [u8])
+    requires { length from.now ≡ length to.old }
+{
+    for _ in 0..PIECES {
+        alaw_encode_all(from, to);
+    }
+}
+
+fn alaw_decodes(from: &[u8], to: &mut [i16])
+    requires { length from.now ≡ length to.old }
+{
+    for _ in 0..PIECES {
+        alaw_decode_all(from, to);
+    }
+}
+
+fn mulaw_encodes(from: &[i16], to: &mut [u8])
+    requires { length from.now ≡ length to.old }
+{
+    for _ in 0..PIECES {
+        mulaw_encode_all(from, to);
+    }
+}
+
+fn mulaw_decodes(from: &[u8], to: &mut [i16])
+    requires { length from.now ≡ length to.old }
+{
+    for _ in 0..PIECES {
+        mulaw_decode_all(from, to);
+    }
+}
+
+fn gains(from: &[i16], to: &mut [i16])
+    requires { length from.now ≡ length to.old }
+{
+    for _ in 0..PIECES {
+        gain_into(from, 5000, to);
+    }
+}
+
+fn clear(sum: &mut [i32])
+    ensures zero { All IsSum sum.new }
+    ensures len { length sum.new ≡ length sum.old }
+{
+    sum.fill(0);
+}
+
+/// Each mix begins with sums of 0.
+fn mixes(sum: &mut [i32], from: &[i16])
+    requires { length from.now ≡ length sum.old }
+{
+    for _ in 0..PIECES {
+        clear(sum);
+        mix_into(sum, from, 3000);
+    }
+}
+
+fn clamps(sum: &[i32], to: &mut [i16])
+    requires { length sum.now ≡ length to.old }
+{
+    for _ in 0..PIECES {
+        clamp_into(sum, to);
+    }
+}
+
+fn readings(bytes: &[u8], to: &mut [i16])
+    requires { length bytes.now ≡ 2 * length to.old }
+{
+    for _ in 0..PIECES {
+        samples_of(bytes, to);
+    }
+}
+
+fn writings(from: &[i16], to: &mut [u8])
+    requires { length to.old ≡ 2 * length from.now }
+{
+    for _ in 0..PIECES {
+        bytes_of(from, to);
+    }
+}
+
+fn micros(time: Duration) -> u64
+    ensures { 1 ≤ result }
+{
+    u64::try_from(time.as_micros()).unwrap_or(u64::MAX).max(1)
+}
+
+/// A form's millions of samples a second, and its speed in hundredths of the copy's.
+fn report(rt: &HostRuntime, name: &str, copy: Duration, time: Duration) -> io::Result<()> {
+    let samples = PIECES as u64 * PIECE as u64;
+    let speed = samples / micros(time);
+    let ratio = micros(copy).saturating_mul(100) / micros(time);
+    println!(rt; "{name}: {speed} million a second, {ratio} hundredths of the copy")
+}
+
+fn figures(rt: &HostRuntime) -> io::Result<()> {
+    let alloc = rt.alloc();
+    let mut samples = vec![in alloc; 0_i16; PIECE]?;
+    for i in 0..samples.len() {
+        samples[i] = (i as u16).wrapping_mul(40_503).cast_signed();
+    }
+    let mut to = vec![in alloc; 0_i16; PIECE]?;
+    let mut codes = vec![in alloc; 0_u8; PIECE]?;
+    let mut sum = vec![in alloc; 0_i32; PIECE]?;
+    let mut bytes = vec![in alloc; 0_u8; 2 * PIECE]?;
+    let mut copied = vec![in alloc; 0_u8; 2 * PIECE]?;
+
+    let start = Instant::now(rt)?;
+    copies(&bytes, &mut copied);
+    let copy = start.elapsed(rt)?;
+    report(rt, "copy", copy, copy)?;
+
+    let start = Instant::now(rt)?;
+    alaw_encodes(&samples, &mut codes);
+    report(rt, "A-law encode", copy, start.elapsed(rt)?)?;
+    let start = Instant::now(rt)?;
+    alaw_decodes(&codes, &mut to);
+    report(rt, "A-law decode", copy, start.elapsed(rt)?)?;
+    let start = Instant::now(rt)?;
+    mulaw_encodes(&samples, &mut codes);
+    report(rt, "mu-law encode", copy, start.elapsed(rt)?)?;
+    let start = Instant::now(rt)?;
+    mulaw_decodes(&codes, &mut to);
+    report(rt, "mu-law decode", copy, start.elapsed(rt)?)?;
+
+    let start = Instant::now(rt)?;
+    gains(&samples, &mut to);
+    report(rt, "gain", copy, start.elapsed(rt)?)?;
+    let start = Instant::now(rt)?;
+    mixes(&mut sum, &samples);
+    report(rt, "clear and mix", copy, start.elapsed(rt)?)?;
+    let start = Instant::now(rt)?;
+    clamps(&sum, &mut to);
+    report(rt, "clamp", copy, start.elapsed(rt)?)?;
+
+    let start = Instant::now(rt)?;
+    writings(&samples, &mut bytes);
+    report(rt, "bytes of samples", copy, start.elapsed(rt)?)?;
+    let start = Instant::now(rt)?;
+    readings(&bytes, &mut to);
+    report(rt, "samples of bytes", copy, start.elapsed(rt)?)?;
+    let last = (
+        codes[PIECE - 1],
+        sum[PIECE - 1],
+        to[PIECE - 1],
+        copied[PIECE - 1],
+    );
+    println!(rt; "last items: {} {} {} {}", last.0, last.1, last.2, last.3)
+}
+
+fn main(rt: HostRuntime) -> io::Result<()> {
+    let mut words = env::args(&rt)?;
+    let _program = words.next();
+    match words.next() {
+        Some(word) if word.as_str() == "figures" => figures(&rt),
+        _ => println!(rt; "kernel_bench: the word figures asks for the figures"),
+    }
+}

@@ -1,0 +1,6 @@
+pub mod Maps
+pub mod Pieces
+pub mod Scaling
+pub mod Bits
+pub mod Mixing
+pub mod ByteOrder
