@@ -1,0 +1,6 @@
+pub mod Refusals
+pub mod Places
+pub mod Wholes
+pub mod Joined
+pub mod Looking
+pub mod Calm

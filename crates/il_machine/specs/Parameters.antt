@@ -1,0 +1,72 @@
+-- Parameters and configs of a component.
+--
+-- Where more joins: that the component has no file is one more test of the list in `is_format_free`.
+use Rattle.std.specs.Prelude.{Bool, true, false, not, ◌&&◌, nat_eq, [], ◌∷◌, ◌++◌, Option, Result, if◌then◌else◌}
+use Rattle.omx_types.specs.declared.handle.Handle.{Handle}
+use Rattle.omx_types.specs.declared.error.OmxError.{OmxError}
+use Rattle.omx_types.specs.declared.error.OmxError.TheVariants as errors
+use Rattle.omx_types.specs.declared.param.Param.{Param}
+use Rattle.omx_types.specs.declared.param.ParamKey.{ParamKey}
+use Rattle.il_machine.specs.declared.port.Port.{Port}
+use Rattle.il_machine.specs.States.{is_invalid, is_loaded}
+use Rattle.il_machine.specs.Lists.{all_of, any_of, first_of_these, holds_at}
+use Rattle.il_machine.specs.Settings.{get_refusals, set_refusals, value_of, changed_by, refused_or}
+use Rattle.il_machine.specs.World.{Component, World, with_component, port_of}
+use Rattle.il_machine.specs.Headers.{Seen, seen}
+use Rattle.il_machine.specs.Ports.{is_at_rest, is_joined, unmade}
+use Rattle.il_machine.specs.Due.{ClosesTo}
+use Rattle.il_machine.specs.Answers.{plain, Resolving, Answers, component_named, looked}
+
+-- Loaded with nothing pending
+abbrev pub is_settable : Component → Bool
+is_settable c = is_loaded c.state && is_at_rest c
+
+-- the format of a port may change
+abbrev pub is_format_free : Component → Bool
+is_format_free c = all_of (is_settable c ∷ [])
+
+-- The port is joined, or has headers, or is enabled while its component isn't Loaded with nothing pending.
+abbrev pub is_fixed : Seen → Component → Port → Bool
+is_fixed headers c p = any_of
+    (is_joined p
+    ∷ not (unmade headers p)
+    ∷ (p.state.enabled && not (is_settable c))
+    ∷ [])
+
+-- ---- get_parameter and get_config
+
+abbrev pub get_parameter_refusal : Component → ParamKey → Bool → Option OmxError
+get_parameter_refusal c key config = first_of_these ((is_invalid c.state, errors.InvalidState) ∷ get_refusals c.settings key config)
+
+abbrev pub parameter_answer : Handle → ParamKey → Bool → World → Result Param OmxError
+parameter_answer h key config w =
+    looked (component_named h w) (λ c. refused_or (get_parameter_refusal c key config) (value_of c.settings key))
+
+-- ---- set_parameter and set_config
+
+-- the priority is fixed outside Loaded; a port's values are where the port is fixed
+abbrev pub is_wrong_time : Seen → Component → ParamKey → Bool
+is_wrong_time headers c key =
+    if nat_eq key.index 3 then not (is_settable c) else holds_at (port_of c key.port) (is_fixed headers c)
+
+abbrev pub set_parameter_refusal : Seen → Component → ParamKey → Param → Option OmxError
+set_parameter_refusal headers c key value = first_of_these
+    ((is_invalid c.state, errors.InvalidState)
+    ∷ set_refusals c.settings key false value (is_format_free c)
+    ++ (is_wrong_time headers c key, errors.IncorrectStateOperation) ∷ [])
+
+abbrev pub set_config_refusal : Component → ParamKey → Param → Option OmxError
+set_config_refusal c key value = first_of_these
+    ((is_invalid c.state, errors.InvalidState)
+    ∷ set_refusals c.settings key true value (is_format_free c))
+
+abbrev pub with_value : ParamKey → Param → Component → Component
+with_value key value c = record c { settings = changed_by key.port value c.settings }
+
+abbrev pub SetParameter : World → Handle → ParamKey → Param → Result (Unit {0}) OmxError → World → Type 0
+SetParameter w h key value result v = Resolving plain w h result v (λ i c.
+    Answers (set_parameter_refusal (seen w.headers) c key value) result w v (λ _. ClosesTo (with_component i (with_value key value c) w) v))
+
+abbrev pub SetConfig : World → Handle → ParamKey → Param → Result (Unit {0}) OmxError → World → Type 0
+SetConfig w h key value result v = Resolving plain w h result v (λ i c.
+    Answers (set_config_refusal c key value) result w v (λ _. ClosesTo (with_component i (with_value key value c) w) v))

@@ -1,0 +1,55 @@
+-- One step of the machine, and a run of it.
+use Rattle.std.specs.Prelude.{◌≡◌, true, false, List, [], ◌∷◌, MatchOption}
+use Rattle.il_machine.specs.World.{World}
+use Rattle.il_machine.specs.Answers.{Looks, component_named}
+use Rattle.il_machine.specs.Acts.{Act, Reply}
+use Rattle.il_machine.specs.Acts as acts
+use Rattle.il_machine.specs.Components.{GetHandle, FreeHandle, state_answer, view_answer, progress_answer}
+use Rattle.il_machine.specs.Parameters.{SetParameter, SetConfig, parameter_answer}
+use Rattle.il_machine.specs.Tunnels.{SetupTunnel, DropTunnel}
+use Rattle.il_machine.specs.Commands.{SendCommand, RunCommand}
+use Rattle.il_machine.specs.Buffers.{AllocateBuffer, UseBuffer, FreeBuffer, EmptyThisBuffer, FillThisBuffer, IsWithClient, IsHeldByClient}
+use Rattle.il_machine.specs.Notes.{TakeNote, EndNote}
+use Rattle.il_machine.specs.Flow.{Supply, Release, HandOver, HandBack}
+
+-- In the world w the act may be answered so, and then leaves v. A call that looks changes nothing of a closed world.
+abbrev pub Step : World → Act → Reply → World → Type 0
+Step w (acts.GetHandle name) (acts.Got result) v = GetHandle w name result v
+Step w (acts.FreeHandle h) (acts.Plain result) v = FreeHandle w h result v
+Step w (acts.GetState h) (acts.Stated result) v = Looks (state_answer h w) result w v
+Step w (acts.PortView h port) (acts.Viewed result) v = Looks (view_answer h port w) result w v
+Step w (acts.Progress h) (acts.Progressed result) v = Looks (progress_answer h w) result w v
+Step w (acts.GetParameter h key) (acts.Parameter result) v = Looks (parameter_answer h key false w) result w v
+Step w (acts.GetConfig h key) (acts.Parameter result) v = Looks (parameter_answer h key true w) result w v
+Step w (acts.SetParameter h key value) (acts.Plain result) v = SetParameter w h key value result v
+Step w (acts.SetConfig h key value) (acts.Plain result) v = SetConfig w h key value result v
+Step w (acts.SetupTunnel output input) (acts.Joined result) v = SetupTunnel w output input result v
+Step w (acts.DropTunnel output input) (acts.Plain result) v = DropTunnel w output input result v
+Step w (acts.SendCommand h command) (acts.Plain result) v = SendCommand w h command result v
+Step w (acts.RunCommand h) (acts.Acted result) v = RunCommand w h result v
+Step w (acts.AllocateBuffer h port) (acts.Allocated result) v = AllocateBuffer w h port result v
+Step w (acts.UseBuffer h port bytes) (acts.Used result) v = UseBuffer w h port bytes result v
+Step w (acts.FreeBuffer h port header) (acts.Freed result) v = FreeBuffer w h port header result v
+Step w (acts.EmptyThisBuffer h port header) (acts.Plain result) v = EmptyThisBuffer w h port header result v
+Step w (acts.FillThisBuffer h port header) (acts.Plain result) v = FillThisBuffer w h port header result v
+Step w (acts.TakeNote h) (acts.Took result) v = TakeNote w h result v
+Step w (acts.EndNote h) acts.Ended v = EndNote w h v
+Step w (acts.Supply h port) (acts.Supplied result) v = Supply w h port result v
+Step w (acts.Release h port) (acts.Acted result) v = Release w h port result v
+Step w (acts.HandOver h port) (acts.Acted result) v = HandOver w h port result v
+Step w (acts.HandBack h port) (acts.Acted result) v = HandBack w h port result v
+-- no other answer is given
+Step w _ _ v = ⊥
+
+-- What the caller sees to: a header that is handed in is with the client, and the client object that is handed back was out.
+abbrev pub Meets : World → Act → Type 0
+Meets w (acts.FreeBuffer h port header) = IsWithClient header w
+Meets w (acts.EmptyThisBuffer h port header) = IsHeldByClient header w
+Meets w (acts.FillThisBuffer h port header) = IsHeldByClient header w
+Meets w (acts.EndNote h) = MatchOption (component_named h w) ⊥ (λ c. c.client_out ≡ true)
+Meets w _ = Unit {0}
+
+-- The acts, each of which meets its condition, are answered so in their order and lead from w to v.
+abbrev pub Run : World → List (Act × Reply) → World → Type 0
+Run w [] v = v ≡ w
+Run w (x ∷ xs) v = (mid : World) × Meets w x.0 × Step w x.0 x.1 mid × Run mid xs v

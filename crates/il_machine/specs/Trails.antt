@@ -1,0 +1,142 @@
+-- The moves of headers: they are read from each act, its reply and the lists before it.
+--
+-- Where more joins: a claim moves from a port to the work, a finish from the work to a port or a notice.
+use Rattle.std.specs.Prelude.{◌≡◌, ℕ, Bool, true, false, not, ◌&&◌, nat_eq, List, [], ◌∷◌, ◌++◌, filter, Option, Some, None, option_and_then, Ok}
+use Rattle.omx_types.specs.declared.handle.Handle.{Handle}
+use Rattle.il_machine.specs.declared.answer.Acted.TheVariants.{Did}
+use Rattle.il_machine.specs.declared.port.PortKey.{PortKey}
+use Rattle.il_machine.specs.declared.port.Link.{Link}
+use Rattle.il_machine.specs.declared.port.Port.{Port}
+use Rattle.il_machine.specs.declared.header.Home.{Home}
+use Rattle.il_machine.specs.declared.header.Home.TheVariants as homes
+use Rattle.il_machine.specs.declared.header.Owner.{Owner}
+use Rattle.il_machine.specs.declared.header.Owner.TheVariants as owners
+use Rattle.il_machine.specs.World.{World, port_of}
+use Rattle.il_machine.specs.Headers.{seen, is_home_owner}
+use Rattle.il_machine.specs.Answers.{component_named}
+use Rattle.il_machine.specs.Notes.{TakenEmpty, TakenFilled, TookNote}
+use Rattle.il_machine.specs.Flow.{in_port}
+use Rattle.il_machine.specs.Acts.{Act, Reply}
+use Rattle.il_machine.specs.Acts as acts
+use Rattle.il_machine.specs.Run.{Step, Meets}
+
+-- where a move begins or ends: nowhere, for a header that isn't made, or with an owner
+pub data Stop : Type 0 where
+  Unmade : Stop
+  With : (owner : Owner) → Stop
+
+pub record Move : Type 0 where
+  pub header : ℕ
+  pub from : Stop
+  pub to : Stop
+
+-- ---- the moves of one step
+
+abbrev pub key_of : Handle → ℕ → PortKey
+key_of h port = record { component = h.generation; port = port }
+
+abbrev pub port_named : Handle → ℕ → World → Option Port
+port_named h port w = option_and_then (λ c. port_of c port) (component_named h w)
+
+-- the move of the first number of the list
+abbrev pub front_move : Stop → Stop → List ℕ → List Move
+front_move from to [] = []
+front_move from to (number ∷ rest) = record { header = number; from = from; to = to } ∷ []
+
+abbrev pub port_stop : PortKey → Stop
+port_stop key = With (owners.Port key)
+
+abbrev pub client_stop : Stop
+client_stop = With owners.Client
+
+abbrev pub released : World → Option Port → List Move
+released w None = []
+released w (Some p) = front_move (port_stop p.key) Unmade (in_port (seen w.headers) p)
+
+abbrev pub over : World → Port → Option Link → List Move
+over w p None = []
+over w p (Some link) = front_move (port_stop p.key) (port_stop link.peer) ((seen w.headers).done p.key)
+
+abbrev pub handed : World → Option Port → List Move
+handed w None = []
+handed w (Some p) = over w p p.state.link
+
+-- in a tunnel the front of done, or of todo where done is empty, goes to the supplier; on a client port that of todo to a note
+abbrev pub back : World → Port → Option Link → List Move
+back w p None = front_move (port_stop p.key) (With (owners.Notice p.key.component)) ((seen w.headers).todo p.key)
+back w p (Some link) = front_move (port_stop p.key) (port_stop link.peer) ((seen w.headers).done p.key ++ (seen w.headers).todo p.key)
+
+abbrev pub handed_back : World → Option Port → List Move
+handed_back w None = []
+handed_back w (Some p) = back w p p.state.link
+
+abbrev pub moved : ℕ → Stop → Stop → List Move
+moved number from to = record { header = number; from = from; to = to } ∷ []
+
+abbrev pub moves : World → Act → Reply → List Move
+moves w (acts.AllocateBuffer h port) (acts.Allocated (Ok header)) = moved header.number Unmade client_stop
+moves w (acts.UseBuffer h port bytes) (acts.Used (Ok header)) = moved header.number Unmade client_stop
+moves w (acts.FreeBuffer h port header) (acts.Freed (Ok memory)) = moved header client_stop Unmade
+moves w (acts.EmptyThisBuffer h port header) (acts.Plain (Ok done)) = moved header.number client_stop (port_stop (key_of h port))
+moves w (acts.FillThisBuffer h port header) (acts.Plain (Ok done)) = moved header.number client_stop (port_stop (key_of h port))
+moves w (acts.TakeNote h) (acts.Took (Ok (TookNote (TakenEmpty header)))) = moved header.number (With (owners.Notice h.generation)) client_stop
+moves w (acts.TakeNote h) (acts.Took (Ok (TookNote (TakenFilled header)))) = moved header.number (With (owners.Notice h.generation)) client_stop
+moves w (acts.Supply h port) (acts.Supplied (Ok Did)) = moved w.made Unmade (port_stop (key_of h port))
+moves w (acts.Release h port) (acts.Acted (Ok Did)) = released w (port_named h port w)
+moves w (acts.HandOver h port) (acts.Acted (Ok Did)) = handed w (port_named h port w)
+moves w (acts.HandBack h port) (acts.Acted (Ok Did)) = handed_back w (port_named h port w)
+moves w _ _ = []
+
+-- The acts, each of which meets its condition, are answered so and lead from w to v by these moves.
+abbrev pub RunMoves : World → List (Act × Reply) → List Move → World → Type 0
+RunMoves w [] ms v = (v ≡ w) × (ms ≡ [])
+RunMoves w (x ∷ xs) ms v = (mid : World) × (rest : List Move) × Meets w x.0 × Step w x.0 x.1 mid × RunMoves mid xs rest v × (ms ≡ moves w x.0 x.1 ++ rest)
+
+-- ---- trails
+
+abbrev pub is_of : ℕ → Move → Bool
+is_of header m = nat_eq m.header header
+
+-- the header's own moves, in their order
+abbrev pub trail : ℕ → List Move → List Move
+trail header ms = filter (is_of header) ms
+
+abbrev pub home_stop : Home → Stop
+home_stop homes.Client = With owners.Client
+home_stop (homes.Port key) = With (owners.Port key)
+
+-- Each move starts where the one before ended. A move to unmade is the last, and starts at home.
+abbrev pub Follows : Home → Stop → List Move → Type 0
+Follows home at [] = Unit {0}
+Follows home at (m ∷ ms) = (m.from ≡ at) × (m.to ≡ Unmade → (at ≡ home_stop home) × (ms ≡ [])) × Follows home m.to ms
+
+-- The first move is made to home.
+abbrev pub IsLegal : Home → List Move → Type 0
+IsLegal home [] = Unit {0}
+IsLegal home (m ∷ ms) = (m.from ≡ Unmade) × (m.to ≡ home_stop home) × Follows home m.to ms
+
+-- the end of the last move
+abbrev pub owner_after : Stop → List Move → Stop
+owner_after at [] = at
+owner_after at (m ∷ ms) = owner_after m.to ms
+
+-- ---- hand-overs and their returns
+
+-- A notice is read as home. A work is read as the one port of its component that the header was made for.
+abbrev pub is_home_stop : Home → Stop → Bool
+is_home_stop home Unmade = false
+is_home_stop home (With (owners.Notice component)) = true
+is_home_stop (homes.Port key) (With (owners.Work component)) = nat_eq key.component component
+is_home_stop home (With owner) = is_home_owner home owner
+
+abbrev pub is_made : Stop → Bool
+is_made Unmade = false
+is_made (With owner) = true
+
+-- a move from home to another place
+abbrev pub is_hand_over : Home → Move → Bool
+is_hand_over home m = is_home_stop home m.from && is_made m.to && not (is_home_stop home m.to)
+
+-- a move from another place to home
+abbrev pub is_return : Home → Move → Bool
+is_return home m = is_made m.from && not (is_home_stop home m.from) && is_home_stop home m.to
