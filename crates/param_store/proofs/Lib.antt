@@ -1,0 +1,4 @@
+pub mod Runs
+pub mod Weights
+pub mod PortThere
+pub mod GetAfterSet

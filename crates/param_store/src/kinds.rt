@@ -1,0 +1,143 @@
+//! What the table of kinds says of their ports.
+
+ghost use Rattle.std.specs.Prelude.{◌≡◌, ◌+◌, ◌≤◌, ◌^◌, ◌<◌};
+ghost use Rattle.il_machine.specs.Kinds.{inputs_of, outputs_of, ports_in, is_input, is_format_of};
+ghost use Rattle.il_machine.specs.Settings.{default_format, default_setting, IsSized, is_gain, is_mixer, is_splitter};
+
+use il_machine::PortSetting;
+use omx_types::{Format, Kind, PortDefinition, Supplier};
+
+pub fn inputs(kind: Kind) -> u32
+    ensures { result ≡ inputs_of kind }
+{
+    match kind {
+        Kind::Source => 0,
+        Kind::Mixer(inputs) => inputs,
+        Kind::Decoder | Kind::Alaw | Kind::Mulaw | Kind::Gain | Kind::Splitter(_) | Kind::Sink => 1,
+    }
+}
+
+pub fn outputs(kind: Kind) -> u32
+    ensures { result ≡ outputs_of kind }
+{
+    match kind {
+        Kind::Sink => 0,
+        Kind::Splitter(outputs) => outputs,
+        Kind::Source | Kind::Decoder | Kind::Alaw | Kind::Mulaw | Kind::Gain | Kind::Mixer(_) => 1,
+    }
+}
+
+pub fn ports(kind: Kind) -> u32
+    requires { IsSized kind }
+    ensures count { result ≡ ports_in kind }
+    ensures few { result ≤ 9 }
+{
+    inputs(kind) + outputs(kind)
+}
+
+pub fn is_input(kind: Kind, port: u32) -> bool
+    ensures { result ≡ is_input kind port }
+{
+    port < inputs(kind)
+}
+
+pub fn is_gain(kind: Kind) -> bool
+    ensures { result ≡ is_gain kind }
+{
+    matches!(kind, Kind::Gain)
+}
+
+pub fn is_mixer(kind: Kind) -> bool
+    ensures { result ≡ is_mixer kind }
+{
+    matches!(kind, Kind::Mixer(_))
+}
+
+pub fn is_splitter(kind: Kind) -> bool
+    ensures { result ≡ is_splitter kind }
+{
+    matches!(kind, Kind::Splitter(_))
+}
+
+/// Whether the kind's inputs, or else its outputs, may have the format.
+pub fn is_format_of(kind: Kind, input: bool, format: Format) -> bool
+    ensures { result ≡ is_format_of kind input format }
+{
+    match (kind, input) {
+        (Kind::Source, true) | (Kind::Sink, false) => false,
+        (Kind::Source, false) | (Kind::Sink, true) | (Kind::Splitter(_), _) => true,
+        (Kind::Decoder, true) => matches!(
+            format,
+            Format::Alaw {
+                rate: _,
+                channels: _
+            } | Format::Mulaw {
+                rate: _,
+                channels: _
+            }
+        ),
+        (Kind::Alaw, false) => matches!(
+            format,
+            Format::Alaw {
+                rate: _,
+                channels: _
+            }
+        ),
+        (Kind::Mulaw, false) => matches!(
+            format,
+            Format::Mulaw {
+                rate: _,
+                channels: _
+            }
+        ),
+        (Kind::Decoder, false)
+        | (Kind::Alaw, true)
+        | (Kind::Mulaw, true)
+        | (Kind::Gain, _)
+        | (Kind::Mixer(_), _) => matches!(
+            format,
+            Format::Pcm {
+                rate: _,
+                channels: _
+            }
+        ),
+    }
+}
+
+fn default_format(kind: Kind, input: bool) -> Format
+    ensures { result ≡ default_format kind input }
+{
+    let pcm = Format::Pcm {
+        rate: 8000,
+        channels: 1,
+    };
+    let alaw = Format::Alaw {
+        rate: 8000,
+        channels: 1,
+    };
+    let mulaw = Format::Mulaw {
+        rate: 8000,
+        channels: 1,
+    };
+    if is_format_of(kind, input, pcm) {
+        pcm
+    } else if is_format_of(kind, input, alaw) {
+        alaw
+    } else {
+        mulaw
+    }
+}
+
+pub fn default_setting(kind: Kind, input: bool) -> PortSetting
+    ensures { result ≡ default_setting kind input }
+{
+    PortSetting {
+        definition: PortDefinition {
+            input,
+            format: default_format(kind, input),
+            count: 2,
+            size: 4096,
+        },
+        supplier: Supplier::Unspecified,
+    }
+}

@@ -1,0 +1,12 @@
+//! The parameters and configs of one component: the definitions and preferences of its ports, its
+//! priority, and its gain or weights.
+#![tactic(auto)]
+
+mod kinds;
+mod laws;
+mod limits;
+mod params;
+
+pub use kinds::ports;
+pub use laws::{law_of_all_else, law_of_get_after_set};
+pub use params::Params;

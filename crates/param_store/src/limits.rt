@@ -1,0 +1,108 @@
+//! The limits of values.
+
+ghost use Rattle.std.specs.Prelude.{◌≡◌};
+ghost use Rattle.il_machine.specs.Settings.{is_v112, is_within_limits, same_format, same_rate_and_channels, is_definition_of, is_good_value, is_value_of};
+
+use omx_types::{Format, Param, PortDefinition, Version};
+
+pub fn is_v112(version: Version) -> bool
+    ensures { result ≡ is_v112 version }
+{
+    version.major == 1 && version.minor == 1 && version.revision == 2 && version.step == 0
+}
+
+fn is_within_limits(format: Format) -> bool
+    ensures { result ≡ is_within_limits format }
+{
+    let rate = format.rate();
+    let channels = format.channels();
+    1 <= rate && rate <= 768_000 && 1 <= channels && channels <= 8
+}
+
+pub fn is_same_format(a: Format, b: Format) -> bool
+    ensures { result ≡ same_format a b }
+{
+    let same = a.rate() == b.rate() && a.channels() == b.channels();
+    match (a, b) {
+        (
+            Format::Pcm {
+                rate: _,
+                channels: _,
+            },
+            Format::Pcm {
+                rate: _,
+                channels: _,
+            },
+        )
+        | (
+            Format::Alaw {
+                rate: _,
+                channels: _,
+            },
+            Format::Alaw {
+                rate: _,
+                channels: _,
+            },
+        )
+        | (
+            Format::Mulaw {
+                rate: _,
+                channels: _,
+            },
+            Format::Mulaw {
+                rate: _,
+                channels: _,
+            },
+        ) => same,
+        _ => false,
+    }
+}
+
+pub fn has_same_rate_and_channels(a: Format, b: Format) -> bool
+    ensures { result ≡ same_rate_and_channels a b }
+{
+    a.rate() == b.rate() && a.channels() == b.channels()
+}
+
+fn is_definition_of(input: bool, definition: PortDefinition) -> bool
+    ensures { result ≡ is_definition_of input definition }
+{
+    let PortDefinition {
+        input: is_input,
+        format,
+        count,
+        size,
+    } = definition;
+    is_within_limits(format)
+        && 1 <= count
+        && count <= 32
+        && 1 <= size
+        && size <= 4096
+        && format.frame_bytes() <= size
+        && is_input == input
+}
+
+/// Whether the numbers of a value for a port of this direction are in their limits.
+pub fn is_good_value(input: bool, value: Param) -> bool
+    ensures { result ≡ is_good_value input value }
+{
+    match value {
+        Param::Port(definition) => is_definition_of(input, definition),
+        Param::Supplier(_) => true,
+        Param::Priority(priority) => priority <= 255,
+        Param::Gain(factor) | Param::Weight(factor) => factor <= 65535,
+    }
+}
+
+/// Whether the value is of the index's variant.
+pub fn is_value_of(index: u32, value: Param) -> bool
+    ensures { result ≡ is_value_of index value }
+{
+    match value {
+        Param::Port(_) => index == 1,
+        Param::Supplier(_) => index == 2,
+        Param::Priority(_) => index == 3,
+        Param::Gain(_) => index == 4,
+        Param::Weight(_) => index == 5,
+    }
+}
