@@ -1,0 +1,11 @@
+pub mod Causing
+pub mod Falling
+pub mod Fronts
+pub mod Kept
+pub mod Mapped
+pub mod Moving
+pub mod Named
+pub mod Outcomes
+pub mod Pairs
+pub mod Stepping
+pub mod Streaming

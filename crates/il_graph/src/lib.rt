@@ -1,0 +1,15 @@
+//! A graph of audio components: the calls of the integration layer's core, each a step of the machine; and a source and a sink with
+//! headers on their way between them.
+#![tactic(auto)]
+
+mod graph;
+mod pair;
+#[cfg(test)]
+mod tests;
+
+pub use graph::Graph;
+pub use il_machine::{Mode, PortView};
+pub use pair::{Pair, QueueName};
+
+/// Want of memory.
+pub type OutOfMemory = std::alloc::AllocError;
