@@ -1,0 +1,13 @@
+pub mod Asked
+pub mod Copied
+pub mod Faults
+pub mod Making
+pub mod Names
+pub mod Played
+pub mod Reasons
+pub mod Script
+pub mod Sounds
+pub mod Stopped
+pub mod Texts
+pub mod Told
+pub mod Words

@@ -1,0 +1,89 @@
+-- What each fault of a play says of what was told before, and which count rose.
+use Rattle.std.specs.Prelude.{◌≡◌, ◌⊎◌, ℕ, ◌<◌, ◌≤◌, List, length, None, Ok, Err, IsTrue}
+use Rattle.outside_io.specs.Causes.{Rose}
+use Rattle.outside_io.specs.Files.{Outside}
+use Rattle.outside_io.specs.Moves.{WhereTold}
+use Rattle.outside_io.specs.Whole.{IsShort}
+use Rattle.omx_types.specs.declared.fault.Fault.{Fault}
+use Rattle.omx_types.specs.declared.fault.Fault.TheVariants as Faults
+use Rattle.omx_types.specs.declared.fault.Which.TheVariants.{Script, Log, Line, Made}
+use Rattle.omx_types.specs.declared.fault.Unbuilt.TheVariants as Unbuilts
+use Rattle.wav_form.specs.declared.heads.WavHead.{WavHead}
+use Rattle.wav_form.specs.Reading.{Reads}
+use Rattle.omxrun.specs.Script.{IsTunnel, IsNoTunnel}
+
+-- where the script is told, it is the one form, and P of the files that it names
+abbrev pub ForTunnel : List ℕ → List ℕ → Outside → (List ℕ → List ℕ → Type 0) → Type 0
+ForTunnel script log old P = WhereTold (old.file script) (λ text. (source : List ℕ) × (sink : List ℕ) × IsTunnel script log text source sink × P source sink)
+
+-- the count that a fault needs, and what never comes
+abbrev pub IsCaused : Outside → Outside → Fault → Type 0
+IsCaused old new (Faults.Script line why) = ⊥
+IsCaused old new Faults.Usage = ⊥
+IsCaused old new (Faults.BadMedia which fault) = which ≡ Line 2
+IsCaused old new Faults.ReadFault = Rose old.read_faults new.read_faults
+IsCaused old new Faults.WriteFault = Rose old.write_faults new.write_faults
+IsCaused old new (Faults.Absent which) = Rose old.absences new.absences
+IsCaused old new Faults.OutOfMemory = Unit {0}
+IsCaused old new (Faults.Short which at size) = at < size
+IsCaused old new (Faults.Units have need) = ⊥
+IsCaused old new (Faults.NotBuilt what) = what ≡ Unbuilts.Script
+
+-- a fault of the script's own file
+abbrev pub IsOfScript : List ℕ → List ℕ → Outside → Fault → Type 0
+IsOfScript script log old Faults.ReadFault = Unit {0}
+IsOfScript script log old (Faults.Absent Script) = old.file script ≡ None
+IsOfScript script log old Faults.OutOfMemory = Unit {0}
+IsOfScript script log old (Faults.Short Script at size) = IsShort script old at size
+IsOfScript script log old (Faults.NotBuilt what) = WhereTold (old.file script) (IsNoTunnel script log)
+IsOfScript script log old _ = ⊥
+
+-- the source of that name gave nothing at a place below its size, which may lie behind bytes that a head doesn't use
+pub record IsShortSound (name : List ℕ) (old : Outside) (at size : ℕ) : Type 0 where
+  pub below : at < size
+  pub stopped : WhereTold (old.ends name) (λ end. end ≤ at)
+  pub whole : WhereTold (old.file name) (λ bytes. size ≡ length bytes)
+
+-- where it is told, the source's file is valid
+abbrev pub IsValid : List ℕ → Outside → Type 0
+IsValid source old = WhereTold (old.file source) (λ bytes. (head : WavHead) × Reads bytes (Ok head))
+
+-- a fault of the source's file, in line 2, or of the sink's, in line 3, which is opened for a valid source alone
+abbrev pub IsOfEnds : List ℕ → List ℕ → Outside → Fault → Type 0
+IsOfEnds source sink old (Faults.BadMedia which fault) = WhereTold (old.file source) (λ bytes. Reads bytes (Err fault))
+IsOfEnds source sink old Faults.ReadFault = Unit {0}
+IsOfEnds source sink old Faults.WriteFault = IsValid source old
+IsOfEnds source sink old (Faults.Absent (Line line)) =
+    ((line ≡ 2) × (old.file source ≡ None)) ⊎ ((line ≡ 3) × IsTrue (old.may_refuse sink) × IsValid source old)
+IsOfEnds source sink old Faults.OutOfMemory = Unit {0}
+IsOfEnds source sink old (Faults.Short (Line line) at size) = (line ≡ 2) × IsShortSound source old at size
+IsOfEnds source sink old _ = ⊥
+
+-- a fault of the log's file, which is opened for a valid source alone
+abbrev pub IsOfLog : List ℕ → List ℕ → Outside → Fault → Type 0
+IsOfLog source log old Faults.WriteFault = IsValid source old
+IsOfLog source log old (Faults.Absent Log) = IsTrue (old.may_refuse log) × IsValid source old
+IsOfLog source log old Faults.OutOfMemory = Unit {0}
+IsOfLog source log old _ = ⊥
+
+-- why a play was not done whole: a count rose where the fault needs one; and where files are told, the fault is one of the
+-- script's file, or the script is the one form and the fault is one of the files that it names, or of the log
+pub record HasReason (script log : List ℕ) (old new : Outside) (fault : Fault) : Type 0 where
+  pub caused : IsCaused old new fault
+  pub subject : IsTrue old.tells → IsOfScript script log old fault
+      ⊎ ForTunnel script log old (λ source sink. IsOfEnds source sink old fault ⊎ IsOfLog source log old fault)
+
+-- faults that come before the sink is opened
+abbrev pub IsEarly : Fault → Type 0
+IsEarly (Faults.BadMedia which fault) = Unit {0}
+IsEarly (Faults.Absent Script) = Unit {0}
+IsEarly (Faults.Absent (Line line)) = Unit {0}
+IsEarly (Faults.Short Script at size) = Unit {0}
+IsEarly (Faults.NotBuilt what) = Unit {0}
+IsEarly _ = ⊥
+
+-- faults that come before the log is opened
+abbrev pub IsUnlogged : Fault → Type 0
+IsUnlogged Faults.WriteFault = ⊥
+IsUnlogged Faults.OutOfMemory = ⊥
+IsUnlogged _ = Unit {0}

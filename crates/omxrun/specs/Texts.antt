@@ -1,0 +1,73 @@
+-- The texts that the program prints.
+use Rattle.std.specs.Prelude.{ℕ, List, [], ◌∷◌, ◌++◌, codes}
+use Rattle.std.specs.Fmt.{decimal}
+use Rattle.omx_types.specs.declared.fault.Fault.{Fault}
+use Rattle.omx_types.specs.declared.fault.Fault.TheVariants as Faults
+use Rattle.omx_types.specs.declared.fault.Which.{Which}
+use Rattle.omx_types.specs.declared.fault.Which.TheVariants.{Script, Log, Line, Made}
+use Rattle.omx_types.specs.declared.fault.WavFault.{WavFault}
+use Rattle.omx_types.specs.declared.fault.WavFault.TheVariants as WavFaults
+use Rattle.omx_types.specs.declared.fault.ScriptWhy.{ScriptWhy}
+use Rattle.omx_types.specs.declared.fault.ScriptWhy.TheVariants as Whys
+use Rattle.omx_types.specs.declared.fault.Unbuilt.{Unbuilt}
+use Rattle.omx_types.specs.declared.fault.Unbuilt.TheVariants as Unbuilts
+
+abbrev pub which_text : Which → List ℕ
+which_text Script = codes "script"
+which_text Log = codes "log"
+which_text (Line line) = codes "line " ++ decimal line
+which_text (Made number) = codes "made " ++ decimal number
+
+-- what is wrong with a WAV file; a read fault and a short file have texts of their own
+abbrev pub wav_text : WavFault → List ℕ
+wav_text (WavFaults.TooLarge size) = codes "larger than 67108864 bytes"
+wav_text WavFaults.NotRiff = codes "not a RIFF WAVE file"
+wav_text WavFaults.NoFormat = codes "no format chunk"
+wav_text WavFaults.BadFormat = codes "bad format chunk"
+wav_text WavFaults.NoSamples = codes "no data chunk"
+wav_text (WavFaults.UnsupportedTag tag) = codes "format tag " ++ decimal tag
+wav_text WavFaults.Read = []
+wav_text (WavFaults.Short at size) = []
+
+abbrev pub why_text : ScriptWhy → List ℕ
+why_text Whys.TooLong = codes "too long"
+why_text Whys.NotText = codes "not text"
+why_text Whys.FirstLine = codes "first line"
+why_text Whys.BadWord = codes "bad word"
+why_text Whys.UnknownName = codes "unknown name"
+why_text Whys.NameTwice = codes "name twice"
+why_text Whys.TooMany = codes "too many"
+why_text Whys.PortTwice = codes "port twice"
+why_text Whys.OpenPort = codes "open port"
+why_text Whys.TooManyBlocks = codes "too many blocks"
+why_text Whys.Cycle = codes "cycle"
+why_text Whys.Wrong = codes "wrong format"
+why_text Whys.Small = codes "block too small"
+why_text Whys.Differ = codes "formats differ"
+
+abbrev pub unbuilt_text : Unbuilt → List ℕ
+unbuilt_text Unbuilts.Words = codes "words"
+unbuilt_text Unbuilts.Script = codes "script"
+
+-- the line of a fault, without its line feed
+abbrev pub fault_text : Fault → List ℕ
+fault_text (Faults.Script line why) = codes "script line " ++ (decimal line ++ (codes ": " ++ why_text why))
+fault_text Faults.Usage = codes "usage: trace SCRIPT | play SCRIPT WORKERS LOG | make SEED FRAMES DIR"
+fault_text (Faults.BadMedia which fault) = which_text which ++ (codes ": " ++ wav_text fault)
+fault_text Faults.ReadFault = codes "read fault"
+fault_text Faults.WriteFault = codes "write fault"
+fault_text (Faults.Absent which) = codes "absent: " ++ which_text which
+fault_text Faults.OutOfMemory = codes "out of memory"
+fault_text (Faults.Short which at size) =
+    codes "short: " ++ (which_text which ++ (codes " at " ++ (decimal at ++ (codes " of " ++ decimal size))))
+fault_text (Faults.Units have need) = codes "units: have " ++ (decimal have ++ (codes " need " ++ decimal need))
+fault_text (Faults.NotBuilt what) = codes "not built: " ++ unbuilt_text what
+
+-- what is printed after a play of one sink, which the script names `b`
+abbrev pub played_text : ℕ → ℕ → List ℕ
+played_text frames bytes =
+    codes "sink b " ++ (decimal frames ++ (codes " frames " ++ (decimal bytes ++ codes " bytes\nok\n")))
+
+-- what is printed after files were made
+abbrev pub made_text : ℕ → List ℕ
+made_text frames = codes "made " ++ (decimal frames ++ codes " frames\n")

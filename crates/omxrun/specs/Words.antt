@@ -1,0 +1,44 @@
+-- The forms of the program's words.
+use Rattle.std.specs.Prelude.{◌≡◌, ◌≢◌, ℕ, ◌<◌, ◌≤◌, ◌^◌, List, [], ◌∷◌, length, codes}
+use Rattle.std.specs.Fmt.{decimal}
+use Rattle.omxrun.specs.Names.{IsName}
+use Rattle.omxrun.specs.declared.words.Command.{Command}
+use Rattle.omxrun.specs.declared.words.Command.TheVariants.{Trace, Play, Make}
+
+-- what the program is asked to do
+pub data Asked : Type 0 where
+  to_trace : (script : List ℕ) → Asked
+  to_play : (script : List ℕ) (workers : ℕ) (log : List ℕ) → Asked
+  to_make : (seed frames : ℕ) (folder : List ℕ) → Asked
+
+-- the names and the number of workers are those that a play may have
+pub record IsPlay (script : List ℕ) (workers : ℕ) (log : List ℕ) : Type 0 where
+  pub named_script : IsName script
+  pub few_workers : workers ≤ 8
+  pub named_log : IsName log
+  pub apart : log ≢ script
+
+-- the numbers and the folder are those that files may be made of
+pub record IsMake (seed frames : ℕ) (folder : List ℕ) : Type 0 where
+  pub seed_fits : seed < 2 ^ 64
+  pub few_frames : frames ≤ 33000000
+  pub named_folder : IsName folder
+  pub short_folder : length folder ≤ 1016
+
+-- the words ask for it; a number is written in decimal digits
+abbrev pub AreWordsOf : List (List ℕ) → Asked → Type 0
+AreWordsOf words (to_trace script) = (words ≡ codes "trace" ∷ script ∷ []) × IsName script
+AreWordsOf words (to_play script workers log) =
+    (words ≡ codes "play" ∷ script ∷ decimal workers ∷ log ∷ []) × IsPlay script workers log
+AreWordsOf words (to_make seed frames folder) =
+    (words ≡ codes "make" ∷ decimal seed ∷ decimal frames ∷ folder ∷ []) × IsMake seed frames folder
+
+-- the words are none of the forms
+abbrev pub AreNoForm : List (List ℕ) → Type 0
+AreNoForm words = (asked : Asked) → AreWordsOf words asked → ⊥
+
+-- what a command asks
+abbrev pub asked_by : Command → Asked
+asked_by (Trace script) = to_trace script.now
+asked_by (Play script workers log) = to_play script.now workers log.now
+asked_by (Make seed frames folder) = to_make seed frames folder.now

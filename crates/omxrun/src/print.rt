@@ -1,0 +1,48 @@
+ghost use Rattle.std.specs.Prelude.{◌≡◌, ◌≤◌, Result};
+ghost use Rattle.omxrun.specs.Told.{IsTold, outcome_text, status_of as status_of_outcome};
+
+use crate::done::Done;
+use crate::text::Text;
+use crate::texts::{text_of_fault, text_of_make, text_of_play};
+use omx_types::{Fault, Status};
+use outside_io::{Sink, write_all};
+
+/// Prints what a command came to. Where a write to `out` is counted as failed, that is what it came to.
+pub fn tell<O: Sink>(outcome: Result<Done, Fault>, out: &mut O) -> Status
+    ensures later { O.faults out.old ≤ O.faults out.new }
+    ensures told { IsTold outcome (O.told out.old) (O.told out.new) (O.faults out.old) (O.faults out.new) result }
+{
+    let text = text_of(outcome);
+    let before = out.faults();
+    let written = write_all(out, text.as_slice());
+    let now = out.faults();
+    match written {
+        Ok(()) => {
+            if now == before {
+                status_of(outcome)
+            } else {
+                Status::Fault(Fault::WriteFault)
+            }
+        }
+        Err(_) => Status::Fault(Fault::WriteFault),
+    }
+}
+
+fn text_of(outcome: Result<Done, Fault>) -> Text
+    ensures { result ≡ outcome_text outcome }
+{
+    match outcome {
+        Ok(Done::Played { frames, bytes }) => text_of_play(frames, bytes),
+        Ok(Done::Made { frames }) => text_of_make(frames),
+        Err(fault) => text_of_fault(fault),
+    }
+}
+
+fn status_of(outcome: Result<Done, Fault>) -> Status
+    ensures { result ≡ status_of_outcome outcome }
+{
+    match outcome {
+        Ok(_) => Status::Ok,
+        Err(fault) => Status::Fault(fault),
+    }
+}
