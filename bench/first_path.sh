@@ -1,0 +1,37 @@
+#!/usr/bin/env bash
+# Plays a WAV file of 67,108,864 bytes and copies it by `cat`, five times each by turns, and prints the
+# ratio of the best times and the program's peak memory. It stands outside the gate.
+set -eu
+top=$(cd "$(dirname "${BASH_SOURCE[0]}")/.." && pwd)
+work=$(mktemp -d)
+trap 'rm -rf "$work"' EXIT
+cd "$work"
+{
+  printf 'RIFF\xf8\xff\xff\x03WAVEfmt \x10\0\0\0\x01\0\x01\0\x40\x1f\0\0\x80\x3e\0\0\x02\0\x10\0data\xd4\xff\xff\x03'
+  head -c 67108820 /dev/urandom
+} >in.wav
+printf 'omx 1 play\nsource a in.wav\nsink b out.wav\nlink a.0 b.0 2 4096\n' >play.omx
+"$top/omxrun" play play.omx 0 log >/dev/null
+cmp in.wav out.wav
+program=$top/crates/omxrun/out/omxrun
+
+nanoseconds() {
+  local from to
+  from=$(date +%s%N)
+  "$@" >/dev/null
+  to=$(date +%s%N)
+  echo $((to - from))
+}
+best() { if [ "$1" -lt "$2" ]; then echo "$1"; else echo "$2"; fi; }
+
+played=9999999999999
+copied=9999999999999
+for _ in 1 2 3 4 5; do
+  played=$(best "$played" "$(nanoseconds "$program" play play.omx 0 log)")
+  copied=$(best "$copied" "$(nanoseconds sh -c 'cat in.wav >copy.wav')")
+done
+
+peak=$(/usr/bin/time -f %M "$program" play play.omx 0 log 2>&1 >/dev/null)
+
+echo "play takes $((played * 100 / copied)) hundredths of the time of cat"
+echo "peak memory $peak KiB"

@@ -1,0 +1,30 @@
+#!/usr/bin/env bash
+# Makes 33,000,000 frames and copies the two files by `cat`, three times each by turns, and prints the
+# ratio of the best times and the program's peak memory, for few frames and for many. Outside the gate.
+set -eu
+top=$(cd "$(dirname "${BASH_SOURCE[0]}")/.." && pwd)
+work=$(mktemp -d)
+trap 'rm -rf "$work"' EXIT
+cd "$work"
+mkdir made
+"$top/omxrun" make 1 1 made >/dev/null
+program=$top/crates/omxrun/out/omxrun
+
+nanoseconds() {
+  local from to
+  from=$(date +%s%N)
+  "$@" >/dev/null
+  to=$(date +%s%N)
+  echo $((to - from))
+}
+best() { if [ "$1" -lt "$2" ]; then echo "$1"; else echo "$2"; fi; }
+peak() { /usr/bin/time -f %M "$program" "$@" 2>&1 >/dev/null; }
+
+made=9999999999999
+copied=9999999999999
+for _ in 1 2 3; do
+  made=$(best "$made" "$(nanoseconds "$program" make 1 33000000 made)")
+  copied=$(best "$copied" "$(nanoseconds sh -c 'cat made/a.wav >a.copy; cat made/b.wav >b.copy')")
+done
+echo "make takes $((made * 100 / copied)) hundredths of the time of cat"
+echo "peak memory $(peak make 1 1 made) KiB for 1 frame, $(peak make 1 33000000 made) KiB for 33000000"
