@@ -3,6 +3,7 @@
 # ratio of the best times and the program's peak memory. It stands outside the gate.
 set -eu
 top=$(cd "$(dirname "${BASH_SOURCE[0]}")/.." && pwd)
+. "$top/bench/timing.sh"
 work=$(mktemp -d)
 trap 'rm -rf "$work"' EXIT
 cd "$work"
@@ -14,15 +15,6 @@ printf 'omx 1 play\nsource a in.wav\nsink b out.wav\nlink a.0 b.0 2 4096\n' >pla
 "$top/omxrun" play play.omx 0 log >/dev/null
 cmp in.wav out.wav
 program=$top/crates/omxrun/out/omxrun
-
-nanoseconds() {
-  local from to
-  from=$(date +%s%N)
-  "$@" >/dev/null
-  to=$(date +%s%N)
-  echo $((to - from))
-}
-best() { if [ "$1" -lt "$2" ]; then echo "$1"; else echo "$2"; fi; }
 
 played=9999999999999
 copied=9999999999999

@@ -3,6 +3,7 @@
 # ratio of the best times and the program's peak memory, for few frames and for many. Outside the gate.
 set -eu
 top=$(cd "$(dirname "${BASH_SOURCE[0]}")/.." && pwd)
+. "$top/bench/timing.sh"
 work=$(mktemp -d)
 trap 'rm -rf "$work"' EXIT
 cd "$work"
@@ -10,14 +11,6 @@ mkdir made
 "$top/omxrun" make 1 1 made >/dev/null
 program=$top/crates/omxrun/out/omxrun
 
-nanoseconds() {
-  local from to
-  from=$(date +%s%N)
-  "$@" >/dev/null
-  to=$(date +%s%N)
-  echo $((to - from))
-}
-best() { if [ "$1" -lt "$2" ]; then echo "$1"; else echo "$2"; fi; }
 peak() { /usr/bin/time -f %M "$program" "$@" 2>&1 >/dev/null; }
 
 made=9999999999999
