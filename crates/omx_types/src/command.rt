@@ -1,4 +1,4 @@
-use crate::{OmxError, State};
+use crate::{Handle, OmxError, State};
 
 /// One port of a component, or all of its ports.
 #[derive(Clone, Copy, Debug, PartialEq, Eq)]
@@ -11,6 +11,14 @@ pub enum PortSel {
 #[derive(Clone, Copy, Debug, PartialEq, Eq)]
 pub enum Command {
     StateSet(State),
+    Flush(PortSel),
+    PortDisable(PortSel),
+    PortEnable(PortSel),
+    MarkBuffer {
+        port: u32,
+        target: Handle,
+        value: u64,
+    },
 }
 
 /// The command that an event tells the end of. The numbers are those of ports.
