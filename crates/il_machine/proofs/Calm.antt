@@ -18,8 +18,8 @@ steady_mode headers c p Steady h = refl
 steady_mode headers c p Enabling h = absurd cc
 steady_mode headers c p Disabling h = absurd cc
 
-calm_flush : (headers : Seen) (p : Port) → IsCalmPort p.state → is_flush_due headers p ≡ false
-calm_flush headers p C = let q = C.quiet in rw q refl
+calm_flush : (headers : Seen) (c : Component) (p : Port) → IsCalmPort p.state → is_flush_due headers c p ≡ false
+calm_flush headers c p C = let q = C.quiet in rw q refl
 
 calm_mark : (headers : Seen) (p : Port) → IsCalmPort p.state → is_mark_due headers p ≡ false
 calm_mark headers p C = let q = C.unmarked in rw q refl
@@ -31,7 +31,7 @@ calm_things headers c number index (s ∷ ss) (x ∷ ps) C =
     let p : Port = record { key = record { component = number; port = index }; setting = s; state = x } in
     let here : IsCalmPort x = C 0 x (omega arith) in
     let later : All IsCalmPort ps = λ k d h. C (suc k) d (omega arith) in
-    rw (calm_flush headers p here, steady_mode headers c p x.mode here.steady, calm_mark headers p here) (calm_things headers c number (index + 1) ss ps later)
+    rw (calm_flush headers c p here, steady_mode headers c p x.mode here.steady, calm_mark headers p here) (calm_things headers c number (index + 1) ss ps later)
 
 pub calm_due : (headers : Seen) (c : Component) → IsCalm c → due_in headers c ≡ None
 calm_due headers c C = rw C.resting (calm_things headers c _ 0 c.settings.ports c.ports C.ports)

@@ -1,4 +1,4 @@
--- One act is one call with its arguments. A client object isn't named: what moves is its progress.
+-- One act is one call with its arguments. A client object isn't named: what moves is its progress. That of a new component is of no event.
 -- Where more joins: a case of Act, of Reply and of Step for each new call.
 use Rattle.std.specs.Prelude.{ℕ, Bool, List, Option, Result}
 use Rattle.omx_types.specs.declared.state.State.{State}
@@ -36,7 +36,7 @@ pub data Act : Type 0 where
   EmptyThisBuffer : (h : Handle) (port : ℕ) (header : Held) → Act
   FillThisBuffer : (h : Handle) (port : ℕ) (header : Held) → Act
   TakeNote : (h : Handle) → Act
-  EndNote : (h : Handle) → Act
+  EndNote : (h : Handle) (progress : ClientProgress) → Act
   Supply : (h : Handle) (port : ℕ) → Act
   Release : (h : Handle) (port : ℕ) → Act
   HandOver : (h : Handle) (port : ℕ) → Act

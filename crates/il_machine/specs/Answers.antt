@@ -1,5 +1,5 @@
 -- The forms of an answer: a refusal, an answer Idle, want of memory, or the call's own answer.
-use Rattle.std.specs.Prelude.{◌≡◌, ℕ, slice_get, Option, Some, None, option_and_then, Result, Ok, Err, IsOkAnd, MatchOption, MatchResult}
+use Rattle.std.specs.Prelude.{◌≡◌, ℕ, List, slice_get, Option, Some, None, option_and_then, Result, Ok, Err, IsOkAnd, MatchOption, MatchResult}
 use Rattle.omx_types.specs.declared.handle.Handle.{Handle}
 use Rattle.omx_types.specs.declared.error.OmxError.{OmxError}
 use Rattle.omx_types.specs.declared.error.OmxError.TheVariants as errors
@@ -43,8 +43,8 @@ ActsOrMemory None result w after v =
 
 -- ---- a call that looks: its answer is a function of the world
 
-abbrev pub component_named : Handle → World → Option Component
-component_named h w = option_and_then (slice_get w.components) (place_of h w.components)
+abbrev pub component_named : Handle → List Component → Option Component
+component_named h components = option_and_then (slice_get components) (place_of h components)
 
 abbrev pub looked : {T : Type 0} → Option Component → (Component → Result T OmxError) → Result T OmxError
 looked None answer = Err errors.InvalidComponent

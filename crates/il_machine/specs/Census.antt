@@ -6,9 +6,8 @@ use Rattle.omx_types.specs.declared.command.Note.{Note}
 use Rattle.omx_types.specs.declared.command.Note.TheVariants.{Told, EmptyDone, FillDone}
 use Rattle.il_machine.specs.declared.port.Port.{Port}
 use Rattle.il_machine.specs.World.{Component, World, ports_of}
-use Rattle.il_machine.specs.Headers.{Seen, seen, numbers, is_client, weight}
+use Rattle.il_machine.specs.Headers.{Seen, seen, numbers, is_client, weight, Once}
 use Rattle.il_machine.specs.Room.{used}
-use Rattle.il_machine.specs.Whole.{Once}
 
 -- the numbers of the headers in the notes
 abbrev pub note_numbers : List Note → List ℕ
@@ -29,7 +28,7 @@ in_components headers (c ∷ components) = in_ports headers (ports_of c) ++ note
 
 -- the headers in the ports' lists, in queued notes and with the client
 abbrev pub standing : World → List ℕ
-standing w = in_components (seen w.headers) w.components ++ numbers (λ r. is_client r.owner) w.headers
+standing w = in_components (seen w.headers) w.components ++ numbers (λ r. is_client r.state.owner) w.headers
 
 abbrev pub times : ℕ → List ℕ → ℕ
 times number ns = count_by (λ n. nat_eq n number) ns

@@ -21,7 +21,8 @@ use Rattle.il_machine.specs.States.{is_invalid, is_loaded}
 use Rattle.il_machine.specs.Lists.{any_of, first_of_these}
 use Rattle.il_machine.specs.Kinds.{kind_of}
 use Rattle.il_machine.specs.World.{Component, World, Given, number_of, fresh, ports_of, port_of}
-use Rattle.il_machine.specs.Headers.{Seen, seen, is_for}
+use Rattle.il_machine.specs.Headers.{Seen, is_for}
+use Rattle.il_machine.specs.Look.{Look, look}
 use Rattle.il_machine.specs.Ports.{is_joined, unmade}
 use Rattle.il_machine.specs.Due.{ClosesTo, each_port}
 use Rattle.il_machine.specs.Answers.{plain, Resolving, Answers, AnswersOrMemory, component_named, looked}
@@ -38,23 +39,23 @@ name_refusals name =
     ∷ []
 
 -- 32 components live, or no number is left
-abbrev pub is_full : World → Bool
-is_full w = nat_le 32 (length w.components) || nat_eq w.numbered 18446744073709551615
+abbrev pub is_full : Look → Bool
+is_full l = nat_le 32 (length l.components) || nat_eq l.numbered 18446744073709551615
 
-abbrev pub get_handle_refusal : World → List ℕ → Option OmxError
-get_handle_refusal w name = first_of_these (name_refusals name ++ (is_full w, errors.InsufficientResources) ∷ [])
+abbrev pub get_handle_refusal : Look → List ℕ → Option OmxError
+get_handle_refusal l name = first_of_these (name_refusals name ++ (is_full l, errors.InsufficientResources) ∷ [])
 
 -- no component has the slot
-abbrev pub is_vacant : ℕ → World → Bool
-is_vacant slot w = not (list_any (λ c. nat_eq c.handle.slot slot) w.components)
+abbrev pub is_vacant : ℕ → List Component → Bool
+is_vacant slot components = not (list_any (λ c. nat_eq c.handle.slot slot) components)
 
 abbrev pub with_new_component : Handle → Kind → World → World
 with_new_component h kind w = record w { components = w.components ++ fresh h kind ∷ []; numbered = w.numbered + 1 }
 
 -- The handle has the next number and any vacant slot.
 abbrev pub GetHandle : World → List ℕ → Result Handle CallError → World → Type 0
-GetHandle w name result v = AnswersOrMemory (get_handle_refusal w name) result w v (λ h.
-    (h.generation ≡ w.numbered) × (is_vacant h.slot w ≡ true)
+GetHandle w name result v = AnswersOrMemory (get_handle_refusal (look w) name) result w v (λ h.
+    (h.generation ≡ w.numbered) × (is_vacant h.slot w.components ≡ true)
     × MatchOption (kind_of name) ⊥ (λ kind. ClosesTo (with_new_component h kind w) v))
 
 -- ---- free_handle
@@ -82,12 +83,12 @@ without_component i c w = record w { components = remove w.components i; given =
 
 abbrev pub FreeHandle : World → Handle → Result (Unit {0}) OmxError → World → Type 0
 FreeHandle w h result v = Resolving plain w h result v (λ i c.
-    Answers (free_refusal (seen w.headers) c) result w v (λ _. ClosesTo (without_component i c w) v))
+    Answers (free_refusal (look w).headers c) result w v (λ _. ClosesTo (without_component i c w) v))
 
 -- ---- looking
 
-abbrev pub state_answer : Handle → World → Result State OmxError
-state_answer h w = looked (component_named h w) (λ c. Ok c.state)
+abbrev pub state_answer : Handle → Look → Result State OmxError
+state_answer h l = looked (component_named h l.components) (λ c. Ok c.state)
 
 abbrev pub view_of : Seen → Port → PortView
 view_of headers p = record {
@@ -103,12 +104,12 @@ abbrev pub viewed : Seen → Option Port → Result PortView OmxError
 viewed headers None = Err errors.BadPortIndex
 viewed headers (Some p) = Ok (view_of headers p)
 
-abbrev pub view_answer : Handle → ℕ → World → Result PortView OmxError
-view_answer h port w = looked (component_named h w) (λ c. viewed (seen w.headers) (port_of c port))
+abbrev pub view_answer : Handle → ℕ → Look → Result PortView OmxError
+view_answer h port l = looked (component_named h l.components) (λ c. viewed l.headers (port_of c port))
 
 -- the handle of the component at the place, in the order of their numbers
-abbrev pub handle_at : ℕ → World → Option Handle
-handle_at place w = option_map (λ c. c.handle) (slice_get w.components place)
+abbrev pub handle_at : ℕ → Look → Option Handle
+handle_at place l = option_map (λ c. c.handle) (slice_get l.components place)
 
 -- ---- progress
 
@@ -151,4 +152,4 @@ progress_of c w = progress_after (filter (is_given_to (number_of c)) w.given) no
 
 -- nothing where the client object is out
 abbrev pub progress_answer : Handle → World → Result (Option Progress) OmxError
-progress_answer h w = looked (component_named h w) (λ c. Ok (if c.client_out then None else Some (progress_of c w)))
+progress_answer h w = looked (component_named h w.components) (λ c. Ok (if c.client_out then None else Some (progress_of c w)))

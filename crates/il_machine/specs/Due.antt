@@ -2,8 +2,9 @@
 --
 -- Where more joins: each new condition is one more test of the list under its row of `is_due_to` and `is_due_thing`
 -- (as that no work of the component is out, for Idle from Executing or Pause and for a flush);
--- what a transition gives back (units, a waiter's place) joins in `arrived`.
-use Rattle.std.specs.Prelude.{◌≡◌, ℕ, zero, suc, Bool, true, false, not, ◌&&◌, ◌||◌, List, [], ◌∷◌, position, slice_get, Option, Some, None, is_some, is_none, if◌then◌else◌}
+-- what a transition gives back (units, a waiter's place, that an input or a part has ended) joins in `arrived`, and what it takes
+-- of the world (the next waiting number) in `transition_happened`.
+use Rattle.std.specs.Prelude.{◌≡◌, ℕ, zero, suc, Bool, true, false, not, ◌&&◌, ◌||◌, List, [], ◌∷◌, position, slice_get, Option, Some, None, is_some, if◌then◌else◌}
 use Rattle.std.specs.List.{list_all}
 use Rattle.omx_types.specs.declared.state.State.{State}
 use Rattle.omx_types.specs.declared.state.State.TheVariants.{Invalid, Loaded, Idle, Executing, Pause, WaitForResources}
@@ -18,9 +19,10 @@ use Rattle.il_machine.specs.declared.port.Mode.{Mode}
 use Rattle.il_machine.specs.declared.port.Mode.TheVariants.{Steady, Enabling, Disabling}
 use Rattle.il_machine.specs.declared.port.Port.{Port}
 use Rattle.il_machine.specs.States.{is_down}
-use Rattle.il_machine.specs.Lists.{all_of, first_of_these, holds_at}
+use Rattle.il_machine.specs.Lists.{all_of, first_of_these, holds_at, is_empty}
 use Rattle.il_machine.specs.World.{Component, HeaderRecord, World, ports_of, port_of, with_port, with_component, told}
-use Rattle.il_machine.specs.Headers.{Seen, seen, numbers, in_todo, is_owned_by, is_home_of, none_is, changed, reset}
+use Rattle.il_machine.specs.Headers.{Seen, seen, is_owned_by, is_home_of, none_is, changed, reset}
+use Rattle.il_machine.specs.Look.{Look, look}
 use Rattle.il_machine.specs.Ports.{populated, unmade, settled, is_supplier, is_input_port}
 use Rattle.il_machine.specs.Room.{is_by_client}
 
@@ -53,8 +55,8 @@ abbrev pub is_transition_due : Seen → Component → Bool
 is_transition_due headers c = holds_at c.pending (λ p. is_due_to headers c p.target)
 
 -- no header is in the port's lists, unless the port is its home
-abbrev pub is_flush_due : Seen → Port → Bool
-is_flush_due headers p = all_of
+abbrev pub is_flush_due : Seen → Component → Port → Bool
+is_flush_due headers c p = all_of
     (p.state.flushing
     ∷ none_is headers (λ r. is_owned_by p.key r.owner && not (is_home_of p.key r.home))
     ∷ [])
@@ -64,18 +66,15 @@ is_mode_due headers c p Steady = false
 is_mode_due headers c p Disabling = unmade headers p
 is_mode_due headers c p Enabling = populated headers p || is_down c.state
 
-abbrev pub is_unmarked_todo : Port → HeaderRecord → Bool
-is_unmarked_todo p r = in_todo p.key r && is_none r.mark
-
 -- the port's todo has a header without a mark
 abbrev pub is_mark_due : Seen → Port → Bool
-is_mark_due headers p = is_some p.state.waiting_mark && not (none_is headers (is_unmarked_todo p))
+is_mark_due headers p = is_some p.state.waiting_mark && not (is_empty (headers.unmarked p.key))
 
 -- in a port the flush, then disable or enable, then the mark
 abbrev pub things_of : Seen → Component → List Port → List (Bool × Thing)
 things_of headers c [] = []
 things_of headers c (p ∷ ports) =
-    (is_flush_due headers p, Flush p.key.port)
+    (is_flush_due headers c p, Flush p.key.port)
     ∷ (is_mode_due headers c p p.state.mode, PortMode p.key.port)
     ∷ (is_mark_due headers p, WaitingMark p.key.port)
     ∷ things_of headers c ports
@@ -88,8 +87,8 @@ abbrev pub has_due : Seen → Component → Bool
 has_due headers c = is_some (due_in headers c)
 
 -- the place of the first component that has something due
-abbrev pub first_due : World → Option ℕ
-first_due w = position (has_due (seen w.headers)) w.components
+abbrev pub first_due : Look → Option ℕ
+first_due l = position (has_due l.headers) l.components
 
 -- ---- what then happens
 
@@ -160,7 +159,7 @@ mode_happened i c p w =
     with_component i (all_told (mode_completion p.state.mode p.key.port) (with_port p.key.port (record p.state { mode = Steady }) c)) w
 
 abbrev pub marked : Option Mark → HeaderRecord → HeaderRecord
-marked mark r = record r { mark = mark }
+marked mark r = record r { load = record r.load { mark = mark } }
 
 abbrev pub first_marked : List ℕ → Option Mark → List HeaderRecord → List HeaderRecord
 first_marked [] mark headers = headers
@@ -171,7 +170,7 @@ abbrev pub mark_happened : ℕ → Component → Port → World → World
 mark_happened i c p w =
     let unmarked = with_port p.key.port (record p.state { waiting_mark = None }) c in
     record (with_component i (told (CmdComplete (completions.Mark p.key.port)) unmarked) w)
-    { headers = first_marked (numbers (is_unmarked_todo p) w.headers) p.state.waiting_mark w.headers }
+    { headers = first_marked ((seen w.headers).unmarked p.key) p.state.waiting_mark w.headers }
 
 abbrev pub at_port : Option Port → (Port → World → World) → World → World
 at_port None change w = w
@@ -191,9 +190,9 @@ pub record Happens (w v : World) : Type 0 where
   pub place : ℕ
   pub component : Component
   pub thing : Thing
-  pub first : first_due w ≡ Some place
+  pub first : first_due (look w) ≡ Some place
   pub there : slice_get w.components place ≡ Some component
-  pub due : due_in (seen w.headers) component ≡ Some thing
+  pub due : due_in (look w).headers component ≡ Some thing
   pub after : v ≡ happened place component thing w
 
 abbrev pub HappenTimes : ℕ → World → World → Type 0
@@ -201,7 +200,7 @@ HappenTimes zero w v = v ≡ w
 HappenTimes (suc n) w v = (mid : World) × HappenTimes n w mid × Happens mid v
 
 abbrev pub IsClosed : World → Type 0
-IsClosed w = first_due w ≡ None
+IsClosed w = first_due (look w) ≡ None
 
 -- While something is due, the first due thing happens.
 pub record ClosesTo (w v : World) : Type 0 where

@@ -20,9 +20,11 @@ use Rattle.il_machine.specs.declared.header.Place.TheVariants.{Todo, Done}
 use Rattle.il_machine.specs.declared.header.Spot.{Spot}
 use Rattle.il_machine.specs.declared.header.Spot.TheVariants.{TodoBack, DoneBack}
 use Rattle.il_machine.specs.States.{is_executing, is_running}
-use Rattle.il_machine.specs.Lists.{first_of_these}
+use Rattle.il_machine.specs.Lists.{first_of_these, is_empty}
 use Rattle.il_machine.specs.World.{Component, HeaderRecord, World, place_numbered, number_of, with_component, port_of, noted}
-use Rattle.il_machine.specs.Headers.{Seen, seen, changed, put, cleared, unchanged, given_to}
+use Rattle.il_machine.specs.declared.header.HeaderState.{HeaderState}
+use Rattle.il_machine.specs.Headers.{Seen, seen, changed, put, cleared, unchanged, given_to, no_load}
+use Rattle.il_machine.specs.Look.{Look, look}
 use Rattle.il_machine.specs.Ports.{accepting, returning, leaving, is_open, is_at_rest, is_supplier, is_input_port, id_of}
 use Rattle.il_machine.specs.Buffers.{has_no_block, has_no_number, without_header}
 use Rattle.il_machine.specs.Answers.{plain, Resolving, Acts, ActsOrMemory}
@@ -36,14 +38,14 @@ pub record End : Type 0 where
 abbrev pub end_at : ℕ → ℕ → Component → Option End
 end_at index i c = option_map (λ p. record { place = i; component = c; port = p }) (port_of c index)
 
-abbrev pub end_in : World → ℕ → ℕ → Option End
-end_in w index i = option_and_then (end_at index i) (slice_get w.components i)
+abbrev pub end_in : List Component → ℕ → ℕ → Option End
+end_in components index i = option_and_then (end_at index i) (slice_get components i)
 
-abbrev pub end_of : World → PortKey → Option End
-end_of w key = option_and_then (end_in w key.port) (place_numbered key.component w.components)
+abbrev pub end_of : List Component → PortKey → Option End
+end_of components key = option_and_then (end_in components key.port) (place_numbered key.component components)
 
-abbrev pub other_end : World → Port → Option End
-other_end w p = option_and_then (λ link. end_of w link.peer) p.state.link
+abbrev pub other_end : List Component → Port → Option End
+other_end components p = option_and_then (λ link. end_of components link.peer) p.state.link
 
 abbrev pub AtEnd : Option End → (End → Type 0) → Type 0
 AtEnd end Then = MatchOption end ⊥ Then
@@ -60,13 +62,13 @@ OnPort refuse w h port result v Then = Resolving refuse w h result v (λ i c.
 
 -- ---- supply
 
-abbrev pub supply_idle : World → Component → Port → Option Why
-supply_idle w c p = first_of_these
+abbrev pub supply_idle : Look → Component → Port → Option Why
+supply_idle l c p = first_of_these
     ((not (is_supplier p), why.NotSupplier)
-    ∷ (not (accepting (seen w.headers) c p), why.NotAccepting (id_of c p))
-    ∷ at_end (other_end w p) (λ e. (not (accepting (seen w.headers) e.component e.port), why.NotAccepting (id_of e.component e.port)) ∷ [])
-    ++ (has_no_block (seen w.headers), why.NoBlock)
-    ∷ (has_no_number w, why.NoNumber)
+    ∷ (not (accepting l.headers c p), why.NotAccepting (id_of c p))
+    ∷ at_end (other_end l.components p) (λ e. (not (accepting l.headers e.component e.port), why.NotAccepting (id_of e.component e.port)) ∷ [])
+    ++ (has_no_block l.headers, why.NoBlock)
+    ∷ (has_no_number l, why.NoNumber)
     ∷ [])
 
 -- a header of an output waits to be filled, one of an input to be sent
@@ -74,7 +76,7 @@ abbrev pub supplied_place : Bool → Place
 supplied_place true = Done
 supplied_place false = Todo
 
-abbrev pub tunnel_header : ℕ → Port → PortKey → HeaderRecord
+abbrev pub tunnel_header : ℕ → Port → PortKey → HeaderState
 tunnel_header number p peer = record {
   number = number;
   port = p.key;
@@ -83,22 +85,19 @@ tunnel_header number p peer = record {
   owner = owners.Port p.key;
   place = supplied_place (is_input_port p);
   size = p.setting.definition.size;
-  content = [];
-  flags = 0;
-  mark = None;
   client_memory = false;
 }
 
 abbrev pub supplied_by : ℕ → Port → Option Link → List HeaderRecord
 supplied_by number p None = []
-supplied_by number p (Some link) = tunnel_header number p link.peer ∷ []
+supplied_by number p (Some link) = record { state = tunnel_header number p link.peer; load = no_load } ∷ []
 
 -- One header is made for both ports of the tunnel.
 abbrev pub with_supplied : Port → World → World
 with_supplied p w = record w { headers = w.headers ++ supplied_by w.made p p.state.link; made = w.made + 1 }
 
 abbrev pub Supply : World → Handle → ℕ → Result Acted CallError → World → Type 0
-Supply w h port result v = OnPort Omx w h port result v (λ i c p. ActsOrMemory (supply_idle w c p) result w (with_supplied p w) v)
+Supply w h port result v = OnPort Omx w h port result v (λ i c p. ActsOrMemory (supply_idle (look w) c p) result w (with_supplied p w) v)
 
 -- ---- release
 
@@ -106,15 +105,11 @@ Supply w h port result v = OnPort Omx w h port result v (λ i c p. ActsOrMemory 
 abbrev pub in_port : Seen → Port → List ℕ
 in_port headers p = headers.todo p.key ++ headers.done p.key
 
-abbrev pub is_empty : List ℕ → Bool
-is_empty [] = true
-is_empty (number ∷ numbers) = false
-
-abbrev pub release_idle : World → Component → Port → Option Why
-release_idle w c p = first_of_these
+abbrev pub release_idle : Look → Component → Port → Option Why
+release_idle l c p = first_of_these
     ((not (is_supplier p), why.NotSupplier)
     ∷ (not (leaving c p), why.NotLeaving)
-    ∷ (is_empty (in_port (seen w.headers) p), why.NoHeader)
+    ∷ (is_empty (in_port l.headers p), why.NoHeader)
     ∷ [])
 
 abbrev pub front_unmade : List ℕ → World → World
@@ -124,7 +119,7 @@ front_unmade (number ∷ rest) w = without_header number w
 -- The front header is unmade.
 abbrev pub Release : World → Handle → ℕ → Result Acted OmxError → World → Type 0
 Release w h port result v = OnPort plain w h port result v (λ i c p.
-    Acts (release_idle w c p) result w (front_unmade (in_port (seen w.headers) p) w) v)
+    Acts (release_idle (look w) c p) result w (front_unmade (in_port (seen w.headers) p) w) v)
 
 -- ---- hand_over
 
@@ -136,12 +131,12 @@ is_giving c p = is_open p && is_executing c.state && is_at_rest c
 abbrev pub is_receiving : Component → Port → Bool
 is_receiving c p = is_open p && is_running c.state && is_at_rest c
 
-abbrev pub over_idle : World → Component → Port → Option Why
-over_idle w c p = first_of_these
+abbrev pub over_idle : Look → Component → Port → Option Why
+over_idle l c p = first_of_these
     ((not (is_supplier p), why.NotSupplier)
     ∷ (not (is_giving c p), why.NotRunning (id_of c p))
-    ∷ at_end (other_end w p) (λ e. (not (is_receiving e.component e.port), why.NotRunning (id_of e.component e.port)) ∷ [])
-    ++ (is_empty ((seen w.headers).done p.key), why.NoHeader)
+    ∷ at_end (other_end l.components p) (λ e. (not (is_receiving e.component e.port), why.NotRunning (id_of e.component e.port)) ∷ [])
+    ++ (is_empty (l.headers.done p.key), why.NoHeader)
     ∷ [])
 
 abbrev pub front_put : PortKey → Spot → (HeaderRecord → HeaderRecord) → List ℕ → World → World
@@ -160,15 +155,15 @@ abbrev pub handed_over : Port → World → World
 handed_over p w = at_peer p (λ peer. front_put peer TodoBack unchanged ((seen w.headers).done p.key)) w
 
 abbrev pub HandOver : World → Handle → ℕ → Result Acted OmxError → World → Type 0
-HandOver w h port result v = OnPort plain w h port result v (λ i c p. Acts (over_idle w c p) result w (handed_over p w) v)
+HandOver w h port result v = OnPort plain w h port result v (λ i c p. Acts (over_idle (look w) c p) result w (handed_over p w) v)
 
 -- ---- hand_back
 
-abbrev pub back_idle : World → Component → Port → Option Why
-back_idle w c p = first_of_these
+abbrev pub back_idle : Look → Component → Port → Option Why
+back_idle l c p = first_of_these
     ((is_supplier p, why.IsSupplier)
     ∷ (not (returning c p) && not (is_executing c.state), why.NotRunning (id_of c p))
-    ∷ (is_empty ((seen w.headers).done p.key) && (not (returning c p) || is_empty ((seen w.headers).todo p.key)), why.NoHeader)
+    ∷ (is_empty (l.headers.done p.key) && (not (returning c p) || is_empty (l.headers.todo p.key)), why.NoHeader)
     ∷ [])
 
 -- an unused header goes where the supplier keeps those that it made
@@ -197,4 +192,4 @@ handed_back i c p (Some link) w = returned link.peer (is_input_port p) ((seen w.
 handed_back i c p None w = noticed i c p ((seen w.headers).todo p.key) w
 
 abbrev pub HandBack : World → Handle → ℕ → Result Acted OmxError → World → Type 0
-HandBack w h port result v = OnPort plain w h port result v (λ i c p. Acts (back_idle w c p) result w (handed_back i c p p.state.link w) v)
+HandBack w h port result v = OnPort plain w h port result v (λ i c p. Acts (back_idle (look w) c p) result w (handed_back i c p p.state.link w) v)

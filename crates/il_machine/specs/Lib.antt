@@ -5,7 +5,9 @@ pub mod Kinds
 pub mod Settings
 pub mod World
 pub mod Headers
+pub mod Look
 pub mod Ports
+pub mod Stock
 pub mod Room
 pub mod Due
 pub mod Answers
@@ -21,3 +23,6 @@ pub mod Run
 pub mod Whole
 pub mod Trails
 pub mod Census
+pub mod Sound
+pub mod Effect
+pub mod Queued

@@ -27,3 +27,7 @@ same_numbers [] [] = true
 same_numbers (x ∷ xs) (y ∷ ys) = nat_eq x y && same_numbers xs ys
 same_numbers [] (y ∷ ys) = false
 same_numbers (x ∷ xs) [] = false
+
+abbrev pub is_empty : {A : Type 0} → List A → Bool
+is_empty [] = true
+is_empty (x ∷ xs) = false

@@ -12,7 +12,8 @@ use Rattle.il_machine.specs.States.{is_invalid, is_loaded}
 use Rattle.il_machine.specs.Lists.{all_of, any_of, first_of_these, holds_at}
 use Rattle.il_machine.specs.Settings.{get_refusals, set_refusals, value_of, changed_by, refused_or}
 use Rattle.il_machine.specs.World.{Component, World, with_component, port_of}
-use Rattle.il_machine.specs.Headers.{Seen, seen}
+use Rattle.il_machine.specs.Headers.{Seen}
+use Rattle.il_machine.specs.Look.{Look, look}
 use Rattle.il_machine.specs.Ports.{is_at_rest, is_joined, unmade}
 use Rattle.il_machine.specs.Due.{ClosesTo}
 use Rattle.il_machine.specs.Answers.{plain, Resolving, Answers, component_named, looked}
@@ -38,9 +39,9 @@ is_fixed headers c p = any_of
 abbrev pub get_parameter_refusal : Component → ParamKey → Bool → Option OmxError
 get_parameter_refusal c key config = first_of_these ((is_invalid c.state, errors.InvalidState) ∷ get_refusals c.settings key config)
 
-abbrev pub parameter_answer : Handle → ParamKey → Bool → World → Result Param OmxError
-parameter_answer h key config w =
-    looked (component_named h w) (λ c. refused_or (get_parameter_refusal c key config) (value_of c.settings key))
+abbrev pub parameter_answer : Handle → ParamKey → Bool → Look → Result Param OmxError
+parameter_answer h key config l =
+    looked (component_named h l.components) (λ c. refused_or (get_parameter_refusal c key config) (value_of c.settings key))
 
 -- ---- set_parameter and set_config
 
@@ -65,7 +66,7 @@ with_value key value c = record c { settings = changed_by key.port value c.setti
 
 abbrev pub SetParameter : World → Handle → ParamKey → Param → Result (Unit {0}) OmxError → World → Type 0
 SetParameter w h key value result v = Resolving plain w h result v (λ i c.
-    Answers (set_parameter_refusal (seen w.headers) c key value) result w v (λ _. ClosesTo (with_component i (with_value key value c) w) v))
+    Answers (set_parameter_refusal (look w).headers c key value) result w v (λ _. ClosesTo (with_component i (with_value key value c) w) v))
 
 abbrev pub SetConfig : World → Handle → ParamKey → Param → Result (Unit {0}) OmxError → World → Type 0
 SetConfig w h key value result v = Resolving plain w h result v (λ i c.

@@ -12,8 +12,8 @@ use Rattle.il_machine.specs.declared.port.Port.{Port}
 use Rattle.il_machine.specs.declared.port.PortState.{PortState}
 use Rattle.il_machine.specs.States.{same_state, is_invalid, is_down, is_up, is_running}
 use Rattle.il_machine.specs.Lists.{holds_at}
-use Rattle.il_machine.specs.World.{Component, HeaderRecord}
-use Rattle.il_machine.specs.Headers.{Seen, is_for, is_at_home, is_notice, none_is}
+use Rattle.il_machine.specs.World.{Component}
+use Rattle.il_machine.specs.Headers.{Seen, is_for, is_away, none_is}
 
 abbrev pub is_input_port : Port → Bool
 is_input_port p = p.setting.definition.input
@@ -41,10 +41,6 @@ populated headers p = nat_eq (headers.count (is_for p.key)) p.setting.definition
 -- no header is made for the port
 abbrev pub unmade : Seen → Port → Bool
 unmade headers p = none_is headers (is_for p.key)
-
--- the owner is neither the home nor a notice
-abbrev pub is_away : HeaderRecord → Bool
-is_away r = not (is_at_home r || is_notice r.owner)
 
 -- every header made for the port is at home or in a notice
 abbrev pub settled : Seen → Port → Bool

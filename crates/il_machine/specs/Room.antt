@@ -2,10 +2,12 @@
 --
 -- Where more joins: each new reserve is one more number of the list in `reserved`
 -- (as a work that is out reserves the number of its headers plus 2).
-use Rattle.std.specs.Prelude.{ℕ, ◌+◌, ◌-◌, Bool, true, false, ◌&&◌, ◌||◌, not, List, [], ◌∷◌, count_by, sum, sum_by, is_some}
+use Rattle.std.specs.Prelude.{ℕ, ◌+◌, ◌-◌, Bool, true, false, ◌&&◌, ◌||◌, not, List, [], ◌∷◌, count_by, sum, sum_by, length, is_some}
 use Rattle.omx_types.specs.declared.state.State.TheVariants as states
 use Rattle.omx_types.specs.declared.command.Command.{Command}
-use Rattle.omx_types.specs.declared.command.Command.TheVariants.{StateSet}
+use Rattle.omx_types.specs.declared.command.Command.TheVariants as commands
+use Rattle.omx_types.specs.declared.command.PortSel.{PortSel}
+use Rattle.omx_types.specs.declared.command.PortSel.TheVariants as sels
 use Rattle.omx_types.specs.declared.command.Note.{Note}
 use Rattle.omx_types.specs.declared.command.Note.TheVariants.{Told, EmptyDone, FillDone}
 use Rattle.il_machine.specs.declared.answer.Cause.{Cause}
@@ -25,9 +27,17 @@ is_event (FillDone number) = false
 abbrev pub events_in : List Note → ℕ
 events_in notes = count_by is_event notes
 
--- how many places the command reserves in the component's queue
+abbrev pub sel_cost : Component → PortSel → ℕ
+sel_cost c (sels.One port) = 1
+sel_cost c sels.All = length c.ports
+
+-- how many places the command reserves in the component's queue: one, or one for each port
 abbrev pub cost_of : Component → Command → ℕ
-cost_of c (StateSet target) = 1
+cost_of c (commands.StateSet target) = 1
+cost_of c (commands.Flush sel) = sel_cost c sel
+cost_of c (commands.PortDisable sel) = sel_cost c sel
+cost_of c (commands.PortEnable sel) = sel_cost c sel
+cost_of c (commands.MarkBuffer port target value) = 1
 
 abbrev pub is_by_client : Cause → Bool
 is_by_client causes.Client = true

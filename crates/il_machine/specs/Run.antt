@@ -4,7 +4,8 @@ use Rattle.il_machine.specs.World.{World}
 use Rattle.il_machine.specs.Answers.{Looks, component_named}
 use Rattle.il_machine.specs.Acts.{Act, Reply}
 use Rattle.il_machine.specs.Acts as acts
-use Rattle.il_machine.specs.Components.{GetHandle, FreeHandle, state_answer, view_answer, progress_answer}
+use Rattle.il_machine.specs.Look.{look}
+use Rattle.il_machine.specs.Components.{GetHandle, FreeHandle, state_answer, view_answer, progress_answer, progress_of}
 use Rattle.il_machine.specs.Parameters.{SetParameter, SetConfig, parameter_answer}
 use Rattle.il_machine.specs.Tunnels.{SetupTunnel, DropTunnel}
 use Rattle.il_machine.specs.Commands.{SendCommand, RunCommand}
@@ -16,11 +17,11 @@ use Rattle.il_machine.specs.Flow.{Supply, Release, HandOver, HandBack}
 abbrev pub Step : World → Act → Reply → World → Type 0
 Step w (acts.GetHandle name) (acts.Got result) v = GetHandle w name result v
 Step w (acts.FreeHandle h) (acts.Plain result) v = FreeHandle w h result v
-Step w (acts.GetState h) (acts.Stated result) v = Looks (state_answer h w) result w v
-Step w (acts.PortView h port) (acts.Viewed result) v = Looks (view_answer h port w) result w v
+Step w (acts.GetState h) (acts.Stated result) v = Looks (state_answer h (look w)) result w v
+Step w (acts.PortView h port) (acts.Viewed result) v = Looks (view_answer h port (look w)) result w v
 Step w (acts.Progress h) (acts.Progressed result) v = Looks (progress_answer h w) result w v
-Step w (acts.GetParameter h key) (acts.Parameter result) v = Looks (parameter_answer h key false w) result w v
-Step w (acts.GetConfig h key) (acts.Parameter result) v = Looks (parameter_answer h key true w) result w v
+Step w (acts.GetParameter h key) (acts.Parameter result) v = Looks (parameter_answer h key false (look w)) result w v
+Step w (acts.GetConfig h key) (acts.Parameter result) v = Looks (parameter_answer h key true (look w)) result w v
 Step w (acts.SetParameter h key value) (acts.Plain result) v = SetParameter w h key value result v
 Step w (acts.SetConfig h key value) (acts.Plain result) v = SetConfig w h key value result v
 Step w (acts.SetupTunnel output input) (acts.Joined result) v = SetupTunnel w output input result v
@@ -33,7 +34,7 @@ Step w (acts.FreeBuffer h port header) (acts.Freed result) v = FreeBuffer w h po
 Step w (acts.EmptyThisBuffer h port header) (acts.Plain result) v = EmptyThisBuffer w h port header result v
 Step w (acts.FillThisBuffer h port header) (acts.Plain result) v = FillThisBuffer w h port header result v
 Step w (acts.TakeNote h) (acts.Took result) v = TakeNote w h result v
-Step w (acts.EndNote h) acts.Ended v = EndNote w h v
+Step w (acts.EndNote h progress) acts.Ended v = EndNote w h v
 Step w (acts.Supply h port) (acts.Supplied result) v = Supply w h port result v
 Step w (acts.Release h port) (acts.Acted result) v = Release w h port result v
 Step w (acts.HandOver h port) (acts.Acted result) v = HandOver w h port result v
@@ -41,12 +42,13 @@ Step w (acts.HandBack h port) (acts.Acted result) v = HandBack w h port result v
 -- no other answer is given
 Step w _ _ v = ⊥
 
--- What the caller sees to: a header that is handed in is with the client, and the client object that is handed back was out.
+-- What the caller sees to: a header that is handed in is with the client; the client object that is handed back was out, and has been
+-- told all that was given for its component.
 abbrev pub Meets : World → Act → Type 0
-Meets w (acts.FreeBuffer h port header) = IsWithClient header w
-Meets w (acts.EmptyThisBuffer h port header) = IsHeldByClient header w
-Meets w (acts.FillThisBuffer h port header) = IsHeldByClient header w
-Meets w (acts.EndNote h) = MatchOption (component_named h w) ⊥ (λ c. c.client_out ≡ true)
+Meets w (acts.FreeBuffer h port header) = IsWithClient header (look w)
+Meets w (acts.EmptyThisBuffer h port header) = IsHeldByClient header (look w)
+Meets w (acts.FillThisBuffer h port header) = IsHeldByClient header (look w)
+Meets w (acts.EndNote h progress) = MatchOption (component_named h w.components) ⊥ (λ c. (c.client_out ≡ true) × (progress ≡ progress_of c w))
 Meets w _ = Unit {0}
 
 -- The acts, each of which meets its condition, are answered so in their order and lead from w to v.

@@ -1,7 +1,7 @@
 -- The moves of headers: they are read from each act, its reply and the lists before it.
 --
 -- Where more joins: a claim moves from a port to the work, a finish from the work to a port or a notice.
-use Rattle.std.specs.Prelude.{◌≡◌, ℕ, Bool, true, false, not, ◌&&◌, nat_eq, List, [], ◌∷◌, ◌++◌, filter, Option, Some, None, option_and_then, Ok}
+use Rattle.std.specs.Prelude.{◌≡◌, ℕ, ◌+◌, ◌≤◌, Bool, true, false, not, ◌&&◌, nat_eq, List, [], ◌∷◌, ◌++◌, filter, Option, Some, None, option_and_then, Ok}
 use Rattle.omx_types.specs.declared.handle.Handle.{Handle}
 use Rattle.il_machine.specs.declared.answer.Acted.TheVariants.{Did}
 use Rattle.il_machine.specs.declared.port.PortKey.{PortKey}
@@ -12,7 +12,9 @@ use Rattle.il_machine.specs.declared.header.Home.TheVariants as homes
 use Rattle.il_machine.specs.declared.header.Owner.{Owner}
 use Rattle.il_machine.specs.declared.header.Owner.TheVariants as owners
 use Rattle.il_machine.specs.World.{World, port_of}
-use Rattle.il_machine.specs.Headers.{seen, is_home_owner}
+use Rattle.il_machine.specs.declared.header.HeaderState.{HeaderState}
+use Rattle.il_machine.specs.Headers.{seen, is_home_owner, is_away, weight}
+use Rattle.il_machine.specs.Look.{look}
 use Rattle.il_machine.specs.Answers.{component_named}
 use Rattle.il_machine.specs.Notes.{TakenEmpty, TakenFilled, TookNote}
 use Rattle.il_machine.specs.Flow.{in_port}
@@ -36,7 +38,7 @@ abbrev pub key_of : Handle → ℕ → PortKey
 key_of h port = record { component = h.generation; port = port }
 
 abbrev pub port_named : Handle → ℕ → World → Option Port
-port_named h port w = option_and_then (λ c. port_of c port) (component_named h w)
+port_named h port w = option_and_then (λ c. port_of c port) (component_named h w.components)
 
 -- the move of the first number of the list
 abbrev pub front_move : Stop → Stop → List ℕ → List Move
@@ -111,9 +113,9 @@ Follows home at [] = Unit {0}
 Follows home at (m ∷ ms) = (m.from ≡ at) × (m.to ≡ Unmade → (at ≡ home_stop home) × (ms ≡ [])) × Follows home m.to ms
 
 -- The first move is made to home.
-abbrev pub IsLegal : Home → List Move → Type 0
-IsLegal home [] = Unit {0}
-IsLegal home (m ∷ ms) = (m.from ≡ Unmade) × (m.to ≡ home_stop home) × Follows home m.to ms
+abbrev pub IsLegalFor : Home → List Move → Type 0
+IsLegalFor home [] = Unit {0}
+IsLegalFor home (m ∷ ms) = (m.from ≡ Unmade) × (m.to ≡ home_stop home) × Follows home m.to ms
 
 -- the end of the last move
 abbrev pub owner_after : Stop → List Move → Stop
@@ -140,3 +142,36 @@ is_hand_over home m = is_home_stop home m.from && is_made m.to && not (is_home_s
 -- a move from another place to home
 abbrev pub is_return : Home → Move → Bool
 is_return home m = is_made m.from && not (is_home_stop home m.from) && is_home_stop home m.to
+
+abbrev pub hand_overs : Home → List Move → ℕ
+hand_overs home [] = 0
+hand_overs home (m ∷ ms) = weight (is_hand_over home m) + hand_overs home ms
+
+abbrev pub returns : Home → List Move → ℕ
+returns home [] = 0
+returns home (m ∷ ms) = weight (is_return home m) + returns home ms
+
+-- ---- what the trails say of the world that they lead to
+
+-- The trail of a made header is legal for its home, ends with its owner, and has at most one return of each hand-over: as many of both
+-- where it is at home or in a notice, else one return less.
+pub record IsTrailOf (s : HeaderState) (ms : List Move) : Type 0 where
+  pub legal : IsLegalFor s.home ms
+  pub ends : owner_after Unmade ms ≡ With s.owner
+  pub returned : returns s.home ms + weight (is_away s) ≡ hand_overs s.home ms
+
+-- The trail of a number without a header is legal for some home, it is empty or ends unmade, and it has as many returns as hand-overs.
+pub record IsTrailOfNone (ms : List Move) : Type 0 where
+  pub home : Home
+  pub legal : IsLegalFor home ms
+  pub ends : owner_after Unmade ms ≡ Unmade
+  pub returned : returns home ms ≡ hand_overs home ms
+
+abbrev pub HasTrail : Option HeaderState → List Move → Type 0
+HasTrail None ms = IsTrailOfNone ms
+HasTrail (Some s) ms = IsTrailOf s ms
+
+-- the trails of all headers, by number; a number that no header was given yet has none
+pub record HaveTrails (w : World) (ms : List Move) : Type 0 where
+  pub each : (number : ℕ) → HasTrail ((look w).headers.header number) (trail number ms)
+  pub none_yet : (number : ℕ) → w.made ≤ number → trail number ms ≡ []

@@ -11,7 +11,8 @@ use Rattle.il_machine.specs.States.{is_invalid}
 use Rattle.il_machine.specs.Lists.{first_of_these, holds_at}
 use Rattle.il_machine.specs.Settings.{same_format, with_setting}
 use Rattle.il_machine.specs.World.{Component, World, same_handle, with_component, with_port, port_of}
-use Rattle.il_machine.specs.Headers.{Seen, seen, same_key}
+use Rattle.il_machine.specs.Headers.{Seen, same_key}
+use Rattle.il_machine.specs.Look.{look}
 use Rattle.il_machine.specs.Ports.{is_input_port, unmade}
 use Rattle.il_machine.specs.Parameters.{is_fixed}
 use Rattle.il_machine.specs.Due.{ClosesTo}
@@ -76,7 +77,7 @@ abbrev pub SetupTunnel : World → PortId → PortId → Result Supplier OmxErro
 SetupTunnel w output input result v = Resolving plain w output.handle result v (λ i c. Resolving plain w input.handle result v (λ j d.
     let p = port_of c output.index in
     let q = port_of d input.index in
-    Answers (setup_refusal (seen w.headers) c d p q) result w v (λ supplier. BothPorts p q (λ a b.
+    Answers (setup_refusal (look w).headers c d p q) result w v (λ supplier. BothPorts p q (λ a b.
     (supplier ≡ agreed_of a b) × ClosesTo (both_joined supplier i c a j d b w) v))))
 
 -- ---- drop_tunnel
@@ -102,5 +103,5 @@ abbrev pub DropTunnel : World → PortId → PortId → Result (Unit {0}) OmxErr
 DropTunnel w output input result v = Resolving plain w output.handle result v (λ i c. Resolving plain w input.handle result v (λ j d.
     let p = port_of c output.index in
     let q = port_of d input.index in
-    Answers (drop_refusal (seen w.headers) p q) result w v (λ _. BothPorts p q (λ a b.
+    Answers (drop_refusal (look w).headers p q) result w v (λ _. BothPorts p q (λ a b.
     ClosesTo (both_parted i c a j d b w) v))))

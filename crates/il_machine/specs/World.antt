@@ -13,15 +13,12 @@ use Rattle.omx_types.specs.declared.command.Note.{Note}
 use Rattle.omx_types.specs.declared.command.Note.TheVariants.{Told}
 use Rattle.omx_types.specs.declared.kind.Kind.{Kind}
 use Rattle.il_machine.specs.declared.answer.Pending.{Pending}
-use Rattle.il_machine.specs.declared.port.PortKey.{PortKey}
 use Rattle.il_machine.specs.declared.port.Mark.{Mark}
 use Rattle.il_machine.specs.declared.port.Mode.TheVariants.{Steady}
 use Rattle.il_machine.specs.declared.port.PortSetting.{PortSetting}
 use Rattle.il_machine.specs.declared.port.PortState.{PortState}
 use Rattle.il_machine.specs.declared.port.Port.{Port}
-use Rattle.il_machine.specs.declared.header.Home.{Home}
-use Rattle.il_machine.specs.declared.header.Owner.{Owner}
-use Rattle.il_machine.specs.declared.header.Place.{Place}
+use Rattle.il_machine.specs.declared.header.HeaderState.{HeaderState}
 use Rattle.il_machine.specs.Settings.{Settings, default_settings}
 use Rattle.il_machine.specs.Kinds.{ports_in}
 
@@ -38,19 +35,16 @@ pub record Component : Type 0 where
   -- one for each port, in the order of their numbers
   pub ports : List PortState
 
-pub record HeaderRecord : Type 0 where
-  pub number : ℕ
-  -- the port that it was made for, and the other one where that is a tunnel's supplier
-  pub port : PortKey
-  pub peer : Option PortKey
-  pub home : Home
-  pub owner : Owner
-  pub place : Place
-  pub size : ℕ
+-- what a header carries
+pub record Load : Type 0 where
   pub content : List ℕ
   pub flags : ℕ
   pub mark : Option Mark
-  pub client_memory : Bool
+
+-- What is known of a header, and what it carries.
+pub record HeaderRecord : Type 0 where
+  pub state : HeaderState
+  pub load : Load
 
 -- a note that was given to a component's client
 pub record Given : Type 0 where

@@ -31,3 +31,20 @@ pub enum Spot {
     TodoFront,
     DoneBack,
 }
+
+/// What is known of a header beside what it carries (OpenMAX IL 1.1.2, `OMX_BUFFERHEADERTYPE`).
+#[derive(Clone, Copy, Debug, PartialEq, Eq)]
+pub struct HeaderState {
+    pub number: u64,
+    /// The port that it was made for; the supplier's of a tunnel.
+    pub port: PortKey,
+    /// The other port of the tunnel.
+    pub peer: Option<PortKey>,
+    pub home: Home,
+    pub owner: Owner,
+    pub place: Place,
+    /// In bytes.
+    pub size: u32,
+    /// Whether its memory is the client's own.
+    pub client_memory: bool,
+}

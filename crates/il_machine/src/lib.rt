@@ -11,5 +11,5 @@ mod header;
 mod port;
 
 pub use answer::{Acted, Cause, Pending, Progress, Why};
-pub use header::{Home, Owner, Place, Spot};
+pub use header::{HeaderState, Home, Owner, Place, Spot};
 pub use port::{Link, Mark, Mode, Port, PortKey, PortSetting, PortState, PortView};

@@ -1,0 +1,125 @@
+-- What is true of every world that the machine reaches, and is kept by each step.
+--
+-- Where more joins: a header that a work has stands in no list; a component that isn't down holds its units.
+use Rattle.std.specs.Prelude.{◌≡◌, ◌≢◌, ℕ, suc, ◌<◌, ◌≤◌, Bool, true, not, ◌&&◌, ◌||◌, List, [], ◌∷◌, length, All, Option, Some, None, option_map, slice_get, MatchOption}
+use Rattle.omx_types.specs.declared.state.State.TheVariants as states
+use Rattle.omx_types.specs.declared.param.Supplier.TheVariants as suppliers
+use Rattle.il_machine.specs.declared.answer.Pending.{Pending}
+use Rattle.il_machine.specs.declared.port.PortKey.{PortKey}
+use Rattle.il_machine.specs.declared.port.Link.{Link}
+use Rattle.il_machine.specs.declared.port.Port.{Port}
+use Rattle.il_machine.specs.declared.port.PortSetting.{PortSetting}
+use Rattle.il_machine.specs.declared.header.Home.{Home}
+use Rattle.il_machine.specs.declared.header.Home.TheVariants as homes
+use Rattle.il_machine.specs.declared.header.Owner.{Owner}
+use Rattle.il_machine.specs.declared.header.Owner.TheVariants as owners
+use Rattle.il_machine.specs.declared.header.Place.TheVariants.{Out}
+use Rattle.il_machine.specs.declared.header.HeaderState.{HeaderState}
+use Rattle.il_machine.specs.States.{same_state, is_running}
+use Rattle.il_machine.specs.Lists.{holds_at}
+use Rattle.il_machine.specs.Settings.{Settings, IsWhole, is_definition_of, same_format}
+use Rattle.il_machine.specs.Kinds.{ports_in, is_input, is_format_of}
+use Rattle.il_machine.specs.World.{Component, World, number_of, ports_of}
+use Rattle.il_machine.specs.Headers.{Seen, is_for, is_notice_of, Once, weight}
+use Rattle.il_machine.specs.Look.{look}
+use Rattle.il_machine.specs.Ports.{is_input_port, is_supplier, is_going_to}
+use Rattle.il_machine.specs.Room.{is_by_client, used}
+use Rattle.il_machine.specs.Flow.{end_of}
+use Rattle.il_machine.specs.Census.{note_numbers, times}
+
+-- the port of the key
+abbrev pub port_at : PortKey → List Component → Option Port
+port_at key components = option_map (λ e. e.port) (end_of components key)
+
+-- ---- a component by itself
+
+-- each port's definition is one that may be set for it
+abbrev pub IsLawfulSetting : Settings → ℕ → PortSetting → Type 0
+IsLawfulSetting s port setting =
+    (is_definition_of (is_input s.kind port) setting.definition ≡ true) × (is_format_of s.kind (is_input s.kind port) setting.definition.format ≡ true)
+
+-- a transition by loss is one to Idle from Executing or Pause, or one to Loaded
+abbrev pub is_lawful_cause : Component → Pending → Bool
+is_lawful_cause c p = is_by_client p.cause || (same_state p.target states.Idle && is_running c.state) || same_state p.target states.Loaded
+
+pub record IsSound (c : Component) : Type 0 where
+  pub whole : IsWhole c.settings
+  pub ports : length c.ports ≡ ports_in c.settings.kind
+  pub settings : (port : ℕ) (setting : PortSetting) → slice_get c.settings.ports port ≡ Some setting → IsLawfulSetting c.settings port setting
+  pub cause : (p : Pending) → c.pending ≡ Some p → is_lawful_cause c p ≡ true
+  -- the loss mark stands only on the way from Executing or Pause to Idle
+  pub mark : c.loss_mark ≡ true → (is_running c.state && is_going_to states.Idle c) ≡ true
+  pub commands : length c.commands ≤ 32
+  -- no more places for events are taken or reserved than there are
+  pub room : used c ≤ 256
+
+-- numbers rise from component to component, and all are below the next one
+abbrev pub AreRising : ℕ → List Component → ℕ → Type 0
+AreRising from [] next = from ≤ next
+AreRising from (c ∷ components) next = (from ≤ number_of c) × AreRising (suc (number_of c)) components next
+
+-- ---- headers
+
+-- a client's header is at home with the client, a tunnel's at its supplier's port
+abbrev pub home_for : PortKey → Option PortKey → Home
+home_for port None = homes.Client
+home_for port (Some peer) = homes.Port port
+
+-- it was made for a port that is there: a client port, or one that supplies a tunnel to the peer
+abbrev pub IsMadeFor : Option PortKey → Port → Type 0
+IsMadeFor None p = p.state.link ≡ None
+IsMadeFor (Some peer) p = (is_supplier p ≡ true) × MatchOption p.state.link ⊥ (λ link. link.peer ≡ peer)
+
+-- it is in a list exactly where its owner is a port, one that it was made for; only a client's header is with the client or in a note
+abbrev pub IsOwnedSo : HeaderState → Owner → Type 0
+IsOwnedSo s owners.Client = (s.place ≡ Out) × (s.peer ≡ None)
+IsOwnedSo s (owners.Port key) = (is_for key s ≡ true) × (s.place ≢ Out)
+IsOwnedSo s (owners.Notice component) = (s.place ≡ Out) × (s.peer ≡ None) × (s.port.component ≡ component)
+IsOwnedSo s (owners.Work component) = ⊥
+
+pub record IsPlaced (components : List Component) (s : HeaderState) : Type 0 where
+  pub home : s.home ≡ home_for s.port s.peer
+  pub port : MatchOption (port_at s.port components) ⊥ (IsMadeFor s.peer)
+  pub owner : IsOwnedSo s s.owner
+
+abbrev pub is_in_notes_of : ℕ → HeaderState → Bool
+is_in_notes_of component s = is_notice_of component s.owner
+
+-- the component's notes have each header of theirs once, and no other
+abbrev pub AreNoted : Seen → Component → Type 0
+AreNoted headers c = (number : ℕ) → times number (note_numbers c.notes) ≡ weight (holds_at (headers.header number) (is_in_notes_of (number_of c)))
+
+-- ---- tunnels
+
+-- the other end is there, is joined to this one with the same supplier, and has the other direction and the same definition else
+pub record AreJoined (p : Port) (link : Link) (q : Port) : Type 0 where
+  pub back : q.state.link ≡ Some (record { peer = p.key; supplier = link.supplier })
+  pub direction : is_input_port q ≡ not (is_input_port p)
+  pub supplier : link.supplier ≢ suppliers.Unspecified
+  pub count : q.setting.definition.count ≡ p.setting.definition.count
+  pub size : q.setting.definition.size ≡ p.setting.definition.size
+  pub format : same_format q.setting.definition.format p.setting.definition.format ≡ true
+  pub apart : q.key.component ≢ p.key.component
+
+abbrev pub IsJoinedWell : List Component → Port → Option Link → Type 0
+IsJoinedWell components p None = Unit {0}
+IsJoinedWell components p (Some link) = MatchOption (port_at link.peer components) ⊥ (AreJoined p link)
+
+-- no more headers are made for a port than its count
+abbrev pub HasFew : Seen → Port → Type 0
+HasFew headers p = headers.count (is_for p.key) ≤ p.setting.definition.count
+
+pub record IsConnected (w : World) (c : Component) : Type 0 where
+  pub joined : All (λ p. IsJoinedWell w.components p p.state.link) (ports_of c)
+  pub few : All (HasFew (look w).headers) (ports_of c)
+  pub noted : AreNoted (look w).headers c
+
+-- ---- the world
+
+pub record Sound (w : World) : Type 0 where
+  pub rising : AreRising 0 w.components w.numbered
+  pub components : All IsSound w.components
+  pub connected : All (IsConnected w) w.components
+  pub once : Once w.headers
+  pub numbered : All (λ r. r.state.number < w.made) w.headers
+  pub placed : All (λ r. IsPlaced w.components r.state) w.headers

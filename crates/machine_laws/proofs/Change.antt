@@ -1,0 +1,75 @@
+-- One component in place of another of the same handle, with the same settings and links of ports and the same headers in its notes.
+use Rattle.std.proofs.Common.{◌≡◌, inl, inr, ℕ, zero, suc, ◌+◌, List, [], ◌∷◌, map, set, slice_get, Option, Some, refl, ◌∙◌, ap}
+use Rattle.std.proofs.lemmas.Bool.{cases_eq}
+use Rattle.il_machine.specs.declared.port.Link.{Link}
+use Rattle.il_machine.specs.declared.port.PortSetting.{PortSetting}
+use Rattle.il_machine.specs.declared.port.PortState.{PortState}
+use Rattle.il_machine.specs.World.{Component, HeaderRecord, World, number_of, ports_from, port_of, with_component}
+use Rattle.il_machine.specs.Headers.{seen}
+use Rattle.il_machine.specs.Census.{note_numbers}
+use Rattle.il_machine.specs.Sound.{Sound, IsSound, AreNoted, AreRising, port_at}
+use Rattle.machine_laws.proofs.Every.{at_set}
+use Rattle.machine_laws.proofs.Lookups.{rising_set, port_at_is, port_at_set, port_at_set_else}
+use Rattle.machine_laws.proofs.Ties.{Tied}
+use Rattle.machine_laws.proofs.PortChanges.{AreKept, tied_kept, kept_itself}
+use Rattle.machine_laws.proofs.Parts.{Parts, ports_in_list, parts_of, sound_from}
+
+abbrev pub link_of : PortState → Option Link
+link_of p = p.link
+
+pub record IsChange (c d : Component) : Type 0 where
+  pub handle : d.handle ≡ c.handle
+  pub ports : d.settings.ports ≡ c.settings.ports
+  pub links : map link_of d.ports ≡ map link_of c.ports
+  pub notes : note_numbers d.notes ≡ note_numbers c.notes
+
+pub change_none : (c : Component) → IsChange c c
+change_none c = record { handle = refl; ports = refl; links = refl; notes = refl }
+
+pub change_twice : (c d e : Component) → IsChange c d → IsChange d e → IsChange c e
+change_twice c d e C D = record { handle = D.handle ∙ C.handle; ports = D.ports ∙ C.ports; links = D.links ∙ C.links; notes = D.notes ∙ C.notes }
+
+-- ---- the ports
+
+kept_from : (hs : List HeaderRecord) (number index k : ℕ) (ss : List PortSetting) (ps qs : List PortState) → map link_of qs ≡ map link_of ps
+    → AreKept hs (slice_get (ports_from number index ss ps) k) (slice_get (ports_from number index ss qs) k)
+kept_from hs number index k [] ps qs e = tt
+kept_from hs number index k (s ∷ ss) [] [] e = tt
+kept_from hs number index k (s ∷ ss) [] (q ∷ qs) e = absurd cc
+kept_from hs number index k (s ∷ ss) (p ∷ ps) [] e = absurd cc
+kept_from hs number index zero (s ∷ ss) (p ∷ ps) (q ∷ qs) e = record { key = refl; link = cc; definition = inl refl }
+kept_from hs number index (suc k) (s ∷ ss) (p ∷ ps) (q ∷ qs) e = let r : map link_of qs ≡ map link_of ps = cc in kept_from hs number (index + 1) k ss ps qs r
+
+pub kept_by_change : (hs : List HeaderRecord) (c d : Component) → IsChange c d → (k : ℕ) → AreKept hs (port_of c k) (port_of d k)
+kept_by_change hs c d C k = let n : number_of d ≡ number_of c = ap (λ h. h.generation) C.handle in rw (n, C.ports) (kept_from hs (number_of c) 0 k c.settings.ports c.ports d.ports C.links)
+
+-- ---- the world
+
+pub tied_set : (next i : ℕ) (cs : List Component) (hs : List HeaderRecord) (c d : Component) → AreRising 0 cs next → slice_get cs i ≡ Some c → number_of d ≡ number_of c
+    → ((k : ℕ) → AreKept hs (port_of c k) (port_of d k)) → Tied (ports_in_list cs) hs → Tied (ports_in_list (set cs i d)) hs
+tied_set next i cs hs c d R e n K T = tied_kept (ports_in_list cs) (ports_in_list (set cs i d)) hs T (λ key. elim (cases_eq (number_of c) key.component) [
+  | inl a ↦ rw (port_at_is next i key cs c R e a, port_at_set next key i cs c d R e n a) (K key.port)
+  | inr a ↦ rw (port_at_set_else key i cs c d e n a) (kept_itself hs (port_at key cs))
+])
+
+pub each_set : (P : Component → Type 0) (i : ℕ) (cs : List Component) (d : Component) → ((j : ℕ) (x : Component) → slice_get cs j ≡ Some x → P x) → P d
+    → (j : ℕ) (x : Component) → slice_get (set cs i d) j ≡ Some x → P x
+each_set P i cs d h p j x e = elim (at_set cs i j d x e) [ inl s ↦ rw s.1 p | inr s ↦ h j x s.1 ]
+
+pub same_notes : (hs : List HeaderRecord) (c d : Component) → number_of d ≡ number_of c → note_numbers d.notes ≡ note_numbers c.notes → AreNoted (seen hs) c → AreNoted (seen hs) d
+same_notes hs c d n e A = λ number. rw (e, n) (A number)
+
+pub parts_changed : (numbered made i : ℕ) (cs : List Component) (hs : List HeaderRecord) (c d : Component) → Parts cs hs numbered made → slice_get cs i ≡ Some c → IsChange c d → IsSound d → Parts (set cs i d) hs numbered made
+parts_changed numbered made i cs hs c d P e C S =
+    let n : number_of d ≡ number_of c = ap (λ h. h.generation) C.handle in
+    record {
+      rising = rising_set 0 numbered i cs c d P.rising e n;
+      components = each_set IsSound i cs d P.components S;
+      tied = tied_set numbered i cs hs c d P.rising e n (kept_by_change hs c d C) P.tied;
+      noted = each_set (AreNoted (seen hs)) i cs d P.noted (same_notes hs c d n C.notes (P.noted i c e));
+      once = P.once;
+      below = P.below;
+    }
+
+pub sound_component : (w : World) (i : ℕ) (c d : Component) → Sound w → slice_get w.components i ≡ Some c → IsChange c d → IsSound d → Sound (with_component i d w)
+sound_component w i c d S e C I = sound_from (with_component i d w) (parts_changed w.numbered w.made i w.components w.headers c d (parts_of w S) e C I)

@@ -1,0 +1,235 @@
+-- A component whose first command was carried out: the command's places become those of what it begins.
+use Rattle.std.proofs.Common.{◌≡◌, ℕ, suc, ◌+◌, ◌<◌, ◌≤◌, Bool, true, false, ◌&&◌, ◌||◌, nat_eq, List, [], ◌∷◌, length, map, sum_by, Option, Some, None, refl, sym, ◌∙◌, ap, eqb-true, ne_eqb, arith}
+use Rattle.std.proofs.lemmas.List.Sums.{sum_by-cons}
+use Rattle.omx_types.specs.declared.state.State.{State}
+use Rattle.omx_types.specs.declared.state.State.TheVariants as states
+use Rattle.omx_types.specs.declared.handle.Handle.{Handle}
+use Rattle.omx_types.specs.declared.command.Command.{Command}
+use Rattle.omx_types.specs.declared.command.Command.TheVariants as commands
+use Rattle.omx_types.specs.declared.command.PortSel.{PortSel}
+use Rattle.omx_types.specs.declared.command.PortSel.TheVariants as sels
+use Rattle.omx_types.specs.declared.command.Event.TheVariants.{Error}
+use Rattle.omx_types.specs.declared.error.OmxError.{OmxError}
+use Rattle.il_machine.specs.declared.answer.Pending.{Pending}
+use Rattle.il_machine.specs.declared.answer.Cause.TheVariants as causes
+use Rattle.il_machine.specs.declared.port.PortSetting.{PortSetting}
+use Rattle.il_machine.specs.declared.port.PortState.{PortState}
+use Rattle.il_machine.specs.States.{is_running}
+use Rattle.il_machine.specs.Look.{Look}
+use Rattle.il_machine.specs.World.{Component, ports_from, ports_of, number_of, told}
+use Rattle.il_machine.specs.Headers.{weight}
+use Rattle.il_machine.specs.Ports.{is_going_to}
+use Rattle.il_machine.specs.Room.{cost_of, sel_cost, port_places, used}
+use Rattle.il_machine.specs.Commands.{is_selected, busy_port, is_flushing, is_changing, is_waiting, pending_reason, run_reason, run_idle, state_fault, begun, selected_from, with_selected, flushing, disabling, enabling, waiting, carried_out, run_front}
+use Rattle.il_machine.specs.Sound.{IsSound}
+use Rattle.machine_laws.proofs.Finding.{either}
+use Rattle.machine_laws.proofs.Change.{IsChange, change_none, change_twice, link_of}
+use Rattle.machine_laws.proofs.Rooms.{costs, asked, loss, costs_same, used_told, IsLawful, lawful_of, sound_with, lawful_told, change_told}
+
+-- ---- the ports that a command names
+
+length_selected : (index : ℕ) (sel : PortSel) (change : PortState → PortState) (ps : List PortState) → length (selected_from index sel change ps) ≡ length ps
+length_selected index sel change [] = refl
+length_selected index sel change (p ∷ ps) = ap suc (length_selected (index + 1) sel change ps)
+
+-- the change keeps links, and takes a place at most where the test fails
+record IsTaking (test : PortState → Bool) (change : PortState → PortState) : Type 0 where
+  pub link : (s : PortState) → (change s).link ≡ s.link
+  pub place : (s : PortState) → test s ≡ false → port_places (change s) ≤ port_places s + 1
+
+links_selected : (test : PortState → Bool) (index : ℕ) (sel : PortSel) (change : PortState → PortState) (ps : List PortState) → IsTaking test change
+    → map link_of (selected_from index sel change ps) ≡ map link_of ps
+links_selected test index sel change [] T = refl
+links_selected test index sel change (p ∷ ps) T =
+    let i = links_selected test (index + 1) sel change ps T in
+    let l = T.link p in
+    either (is_selected sel index) (λ t. rw t cc) (λ f. rw f cc)
+
+not_busy : (sel : PortSel) (test : PortState → Bool) (number index : ℕ) (s : PortSetting) (ss : List PortSetting) (p : PortState) (ps : List PortState)
+    → busy_port sel test (ports_from number index (s ∷ ss) (p ∷ ps)) ≡ None → ((is_selected sel index && test p) ≡ false) × (busy_port sel test (ports_from number (index + 1) ss ps) ≡ None)
+not_busy sel test number index s ss p ps h = either (is_selected sel index && test p) (λ t. let n = rw t at h in absurd cc) (λ f. (f, rw f at h))
+
+places_all : (test : PortState → Bool) (change : PortState → PortState) (number index : ℕ) (ss : List PortSetting) (ps : List PortState) → IsTaking test change → length ss ≡ length ps
+    → busy_port sels.All test (ports_from number index ss ps) ≡ None → sum_by port_places (selected_from index sels.All change ps) ≤ sum_by port_places ps + length ps
+places_all test change number index [] [] T l h = omega arith
+places_all test change number index [] (p ∷ ps) T l h = absurd (omega arith)
+places_all test change number index (s ∷ ss) [] T l h = absurd (omega arith)
+places_all test change number index (s ∷ ss) (p ∷ ps) T l h =
+    let b = not_busy sels.All test number index s ss p ps h in
+    let i = places_all test change number (index + 1) ss ps T (omega arith) b.1 in
+    let a = T.place p b.0 in
+    let x = sum_by-cons port_places (change p) (selected_from (index + 1) sels.All change ps) in
+    let y = sum_by-cons port_places p ps in
+    omega arith
+
+places_past : (port index : ℕ) (change : PortState → PortState) (ps : List PortState) → port < index → sum_by port_places (selected_from index (sels.One port) change ps) ≡ sum_by port_places ps
+places_past port index change [] l = refl
+places_past port index change (p ∷ ps) l =
+    let f : nat_eq index port ≡ false = ne_eqb index port (λ e. omega arith) in
+    let i = places_past port (index + 1) change ps (omega arith) in
+    let x = sum_by-cons port_places p (selected_from (index + 1) (sels.One port) change ps) in
+    let y = sum_by-cons port_places p ps in
+    rw f (omega arith)
+
+places_one : (port : ℕ) (test : PortState → Bool) (change : PortState → PortState) (number index : ℕ) (ss : List PortSetting) (ps : List PortState) → IsTaking test change → length ss ≡ length ps
+    → busy_port (sels.One port) test (ports_from number index ss ps) ≡ None → sum_by port_places (selected_from index (sels.One port) change ps) ≤ sum_by port_places ps + 1
+places_one port test change number index [] [] T l h = omega arith
+places_one port test change number index [] (p ∷ ps) T l h = absurd (omega arith)
+places_one port test change number index (s ∷ ss) [] T l h = absurd (omega arith)
+places_one port test change number index (s ∷ ss) (p ∷ ps) T l h =
+    let b = not_busy (sels.One port) test number index s ss p ps h in
+    let y = sum_by-cons port_places p ps in
+    either (nat_eq index port)
+    (λ t.
+    let e : index ≡ port = eqb-true index port t in
+    let f : test p ≡ false = rw t at b.0 in
+    let a = T.place p f in
+    let i = places_past port (index + 1) change ps (omega arith) in
+    let x = sum_by-cons port_places (change p) (selected_from (index + 1) (sels.One port) change ps) in
+    rw t (omega arith))
+    (λ f.
+    let i = places_one port test change number (index + 1) ss ps T (omega arith) b.1 in
+    let x = sum_by-cons port_places p (selected_from (index + 1) (sels.One port) change ps) in
+    rw f (omega arith))
+
+places_selected : (sel : PortSel) (test : PortState → Bool) (change : PortState → PortState) (c : Component) → IsTaking test change → IsSound c
+    → busy_port sel test (ports_of c) ≡ None → sum_by port_places (selected_from 0 sel change c.ports) ≤ sum_by port_places c.ports + sel_cost c sel
+places_selected (sels.One port) test change c T S h = places_one port test change (number_of c) 0 c.settings.ports c.ports T (S.whole.ports ∙ sym S.ports) h
+places_selected sels.All test change c T S h = places_all test change (number_of c) 0 c.settings.ports c.ports T (S.whole.ports ∙ sym S.ports) h
+
+-- ---- what a command begins
+
+used_selected : (sel : PortSel) (test : PortState → Bool) (change : PortState → PortState) (c : Component) → IsTaking test change → IsSound c
+    → busy_port sel test (ports_of c) ≡ None → used (with_selected sel change c) ≤ used c + sel_cost c sel
+used_selected sel test change c T S h =
+    let p = places_selected sel test change c T S h in
+    let l : length (selected_from 0 sel change c.ports) ≡ length c.ports = length_selected 0 sel change c.ports in
+    let k : costs (with_selected sel change c) ≡ costs c = costs_same c (with_selected sel change c) c.commands l in
+    omega arith
+
+lawful_selected : (sel : PortSel) (change : PortState → PortState) (c : Component) → IsLawful c → IsLawful (with_selected sel change c)
+lawful_selected sel change c L = record { whole = L.whole; ports = length_selected 0 sel change c.ports ∙ L.ports; settings = L.settings; cause = L.cause; mark = L.mark; commands = L.commands }
+
+change_selected : (sel : PortSel) (test : PortState → Bool) (change : PortState → PortState) (c : Component) → IsTaking test change → IsChange c (with_selected sel change c)
+change_selected sel test change c T = record { handle = refl; ports = refl; links = links_selected test 0 sel change c.ports T; notes = refl }
+
+takes_flush : IsTaking is_flushing flushing
+takes_flush = record { link = λ s. refl; place = λ s f. let w : weight s.flushing ≡ 0 = rw f refl in omega arith }
+
+weight_small : (b : Bool) → weight b ≤ 1
+weight_small true = omega arith
+weight_small false = omega arith
+
+takes_disable : IsTaking is_changing disabling
+takes_disable = record { link = λ s. refl; place = λ s f. omega arith }
+
+takes_enable : IsTaking is_changing enabling
+takes_enable = record { link = λ s. refl; place = λ s f. omega arith }
+
+takes_mark : (target : Handle) (value : ℕ) → IsTaking is_waiting (waiting target value)
+takes_mark target value = record { link = λ s. refl; place = λ s f. omega arith }
+
+-- ---- the command that leaves the queue
+
+abbrev without_front : List Command → Component → Component
+without_front rest c = record c { commands = rest }
+
+used_front : (command : Command) (rest : List Command) (c : Component) → c.commands ≡ command ∷ rest → used (without_front rest c) + cost_of c command ≡ used c
+used_front command rest c e =
+    let k : costs (without_front rest c) ≡ sum_by (cost_of c) rest = costs_same c (without_front rest c) rest refl in
+    let s : sum_by (cost_of c) c.commands ≡ cost_of c command + sum_by (cost_of c) rest = rw e (sum_by-cons (cost_of c) command rest) in
+    omega arith
+
+lawful_front : (command : Command) (rest : List Command) (c : Component) → c.commands ≡ command ∷ rest → IsLawful c → IsLawful (without_front rest c)
+lawful_front command rest c e L =
+    let n : length c.commands ≡ suc (length rest) = ap length e in
+    record { whole = L.whole; ports = L.ports; settings = L.settings; cause = L.cause; mark = L.mark; commands = omega (arith, L.commands) }
+
+change_front : (rest : List Command) (c : Component) → IsChange c (without_front rest c)
+change_front rest c = record { handle = refl; ports = refl; links = refl; notes = refl }
+
+no_such : (b : Bool) → (b && false) ≡ true → ⊥
+no_such true h = cc
+no_such false h = cc
+
+no_loss : (b : Bool) → weight (b && (false || false)) ≡ 0
+no_loss true = refl
+no_loss false = refl
+
+sel_front : (sel : PortSel) (rest : List Command) (c : Component) → sel_cost (without_front rest c) sel ≡ sel_cost c sel
+sel_front (sels.One port) rest c = refl
+sel_front sels.All rest c = refl
+
+no_pending : (o : Option Pending) → pending_reason o ≡ None → o ≡ None
+no_pending None h = refl
+no_pending (Some p) h = absurd cc
+
+sound_begun : (fault : Option OmxError) (target : State) (c : Component) → IsLawful c → c.pending ≡ None → used c + 1 ≤ 256 → IsSound (begun fault target c)
+sound_begun (Some error) target c L e u =
+    let t = used_told (Error error) c in
+    sound_with (told (Error error) c) (lawful_told (Error error) c L) (omega arith)
+sound_begun None target c L e u =
+    let p : Pending = record { target = target; cause = causes.Client } in
+    let d : Component = record c { pending = Some p } in
+    let a : asked c ≡ 0 = rw e refl in
+    let m : c.loss_mark ≡ false = either c.loss_mark (λ t. let g = L.mark t in let z : (is_running c.state && false) ≡ true = rw e at g in absurd (no_such (is_running c.state) z)) (λ f. f) in
+    let l : loss d ≡ 0 = rw m (no_loss (is_going_to states.Idle d)) in
+    let k : costs d ≡ costs c = costs_same c d c.commands refl in
+    sound_with d (record {
+      whole = L.whole;
+      ports = L.ports;
+      settings = L.settings;
+      cause = λ q f. let s : p ≡ q = cc in rw (← s) refl;
+      mark = λ t. absurd cc;
+      commands = L.commands;
+    }) (omega arith)
+
+change_begun : (fault : Option OmxError) (target : State) (c : Component) → IsChange c (begun fault target c)
+change_begun (Some error) target c = change_told (Error error) c
+change_begun None target c = record { handle = refl; ports = refl; links = refl; notes = refl }
+
+sound_taking : (sel : PortSel) (test : PortState → Bool) (change : PortState → PortState) (c : Component) → IsTaking test change → IsSound c
+    → busy_port sel test (ports_of c) ≡ None → used c + sel_cost c sel ≤ 256 → IsSound (with_selected sel change c)
+sound_taking sel test change c T S h u = let v = used_selected sel test change c T S h in sound_with (with_selected sel change c) (lawful_selected sel change c (lawful_of c S)) (omega arith)
+
+sound_carried : (l : Look) (command : Command) (rest : List Command) (c : Component) → IsSound c → c.commands ≡ command ∷ rest → run_reason c command ≡ None → IsSound (carried_out l command (without_front rest c))
+sound_carried l (commands.StateSet target) rest c S e h =
+    let u = used_front (commands.StateSet target) rest c e in
+    sound_begun (state_fault l (without_front rest c) target) target (without_front rest c) (lawful_front (commands.StateSet target) rest c e (lawful_of c S)) (no_pending c.pending h) (omega (arith, S.room))
+sound_carried l (commands.Flush sel) rest c S e h =
+    let u = used_front (commands.Flush sel) rest c e in
+    let F = sound_with (without_front rest c) (lawful_front (commands.Flush sel) rest c e (lawful_of c S)) (omega (arith, S.room)) in
+    sound_taking sel is_flushing flushing (without_front rest c) takes_flush F h (omega (arith, S.room, sel_front sel rest c))
+sound_carried l (commands.PortDisable sel) rest c S e h =
+    let u = used_front (commands.PortDisable sel) rest c e in
+    let F = sound_with (without_front rest c) (lawful_front (commands.PortDisable sel) rest c e (lawful_of c S)) (omega (arith, S.room)) in
+    sound_taking sel is_changing disabling (without_front rest c) takes_disable F h (omega (arith, S.room, sel_front sel rest c))
+sound_carried l (commands.PortEnable sel) rest c S e h =
+    let u = used_front (commands.PortEnable sel) rest c e in
+    let F = sound_with (without_front rest c) (lawful_front (commands.PortEnable sel) rest c e (lawful_of c S)) (omega (arith, S.room)) in
+    sound_taking sel is_changing enabling (without_front rest c) takes_enable F h (omega (arith, S.room, sel_front sel rest c))
+sound_carried l (commands.MarkBuffer port target value) rest c S e h =
+    let u = used_front (commands.MarkBuffer port target value) rest c e in
+    let F = sound_with (without_front rest c) (lawful_front (commands.MarkBuffer port target value) rest c e (lawful_of c S)) (omega (arith, S.room)) in
+    sound_taking (sels.One port) is_waiting (waiting target value) (without_front rest c) (takes_mark target value) F h (omega (arith, S.room))
+
+change_carried : (l : Look) (command : Command) (c : Component) → IsChange c (carried_out l command c)
+change_carried l (commands.StateSet target) c = change_begun (state_fault l c target) target c
+change_carried l (commands.Flush sel) c = change_selected sel is_flushing flushing c takes_flush
+change_carried l (commands.PortDisable sel) c = change_selected sel is_changing disabling c takes_disable
+change_carried l (commands.PortEnable sel) c = change_selected sel is_changing enabling c takes_enable
+change_carried l (commands.MarkBuffer port target value) c = change_selected (sels.One port) is_waiting (waiting target value) c (takes_mark target value)
+
+run_of : (l : Look) (xs : List Command) (c : Component) → IsSound c → c.commands ≡ xs → run_idle c xs ≡ None → IsSound (run_front l xs c)
+run_of l [] c S e h = absurd cc
+run_of l (command ∷ rest) c S e h = sound_carried l command rest c S e h
+
+pub sound_run : (l : Look) (c : Component) → IsSound c → run_idle c c.commands ≡ None → IsSound (run_front l c.commands c)
+sound_run l c S h = run_of l c.commands c S refl h
+
+change_of_run : (l : Look) (xs : List Command) (c : Component) → IsChange c (run_front l xs c)
+change_of_run l [] c = change_none c
+change_of_run l (command ∷ rest) c = change_twice c (without_front rest c) (carried_out l command (without_front rest c)) (change_front rest c) (change_carried l command (without_front rest c))
+
+pub change_run : (l : Look) (c : Component) → IsChange c (run_front l c.commands c)
+change_run l c = change_of_run l c.commands c

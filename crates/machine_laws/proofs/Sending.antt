@@ -1,0 +1,79 @@
+-- A component to which a command was sent.
+use Rattle.std.proofs.Common.{◌≡◌, ◌+◌, ◌<◌, ◌≤◌, false, ◌||◌, nat_eq, nat_le, nat_lt, List, [], ◌∷◌, ◌++◌, length, length-append, map, sum_by, None, refl, ◌∙◌, leb-false, ltb-false, arith}
+use Rattle.std.proofs.lemmas.List.{length-map}
+use Rattle.std.proofs.lemmas.List.Sums.{sum_by_push, sum_by-cons}
+use Rattle.omx_types.specs.declared.command.Command.{Command}
+use Rattle.omx_types.specs.declared.command.Event.TheVariants.{Error}
+use Rattle.omx_types.specs.declared.error.OmxError.TheVariants as errors
+use Rattle.il_machine.specs.declared.port.PortState.{PortState}
+use Rattle.il_machine.specs.States.{is_invalid}
+use Rattle.il_machine.specs.Look.{Look}
+use Rattle.il_machine.specs.World.{Component, told}
+use Rattle.il_machine.specs.Room.{cost_of, port_places, used, room}
+use Rattle.il_machine.specs.Commands.{at_rest, invalidated, is_at_once, lacks_port, lacks_target, lacks_place, send_refusal, sent}
+use Rattle.il_machine.specs.Sound.{IsSound}
+use Rattle.machine_laws.proofs.Finding.{either}
+use Rattle.machine_laws.proofs.Change.{IsChange, change_twice, link_of}
+use Rattle.machine_laws.proofs.Rooms.{costs, places, costs_same, sound_with, sound_told, change_told}
+use Rattle.machine_laws.proofs.Accepting.{passed, not_either}
+
+-- ---- StateSet(Invalid)
+
+rested_places : (ps : List PortState) → sum_by port_places (map at_rest ps) ≡ 0
+rested_places [] = refl
+rested_places (p ∷ ps) = let s = sum_by-cons port_places (at_rest p) (map at_rest ps) in let i = rested_places ps in omega arith
+
+rested_links : (ps : List PortState) → map link_of (map at_rest ps) ≡ map link_of ps
+rested_links [] = refl
+rested_links (p ∷ ps) = let i = rested_links ps in cc
+
+sound_invalidated : (c : Component) → IsSound c → IsSound (invalidated c)
+sound_invalidated c S =
+    let p : places (invalidated c) ≡ 0 = rested_places c.ports in
+    sound_with (invalidated c) (record {
+      whole = S.whole;
+      ports = length-map c.ports at_rest ∙ S.ports;
+      settings = S.settings;
+      cause = λ q e. absurd cc;
+      mark = λ t. absurd cc;
+      commands = omega arith;
+    }) (omega (arith, S.room))
+
+change_invalidated : (c : Component) → IsChange c (invalidated c)
+change_invalidated c = record { handle = refl; ports = refl; links = rested_links c.ports; notes = refl }
+
+-- ---- any other command
+
+sound_queued : (command : Command) (c : Component) → IsSound c → length c.commands < 32 → used c + cost_of c command ≤ 256 → IsSound (record c { commands = c.commands ++ command ∷ [] })
+sound_queued command c S l u =
+    let d : Component = record c { commands = c.commands ++ command ∷ [] } in
+    let k : costs d ≡ sum_by (cost_of c) (c.commands ++ command ∷ []) = costs_same c d (c.commands ++ command ∷ []) refl in
+    let s = sum_by_push (cost_of c) c.commands command in
+    let n : length (c.commands ++ command ∷ []) ≡ length c.commands + 1 = length-append c.commands (command ∷ []) in
+    sound_with d (record { whole = S.whole; ports = S.ports; settings = S.settings; cause = S.cause; mark = S.mark; commands = omega arith }) (omega arith)
+
+-- ---- both
+
+there_is_place : (l : Look) (command : Command) (c : Component) → send_refusal l c command ≡ None → lacks_place c command ≡ false
+there_is_place l command c h =
+    let a = passed (is_invalid c.state) _ _ h in
+    let b = passed (lacks_port c command) _ _ a.1 in
+    let d = passed (lacks_target l command) _ _ b.1 in
+    (passed (lacks_place c command) _ _ d.1).0
+
+pub sound_sent : (l : Look) (command : Command) (c : Component) → IsSound c → send_refusal l c command ≡ None → IsSound (sent command c)
+sound_sent l command c S h =
+    let p = there_is_place l command c h in
+    either (is_at_once command)
+    (λ t. let r : nat_eq (room (invalidated c)) 0 ≡ false = rw t at p in rw t (sound_told (Error errors.InvalidState) (invalidated c) (sound_invalidated c S) r))
+    (λ f.
+    let r : (nat_le 32 (length c.commands) || nat_lt (room c) (cost_of c command)) ≡ false = rw f at p in
+    let q = not_either (nat_le 32 (length c.commands)) (nat_lt (room c) (cost_of c command)) r in
+    let a : length c.commands < 32 = leb-false 32 (length c.commands) q.0 in
+    let b : cost_of c command ≤ room c = ltb-false (room c) (cost_of c command) q.1 in
+    rw f (sound_queued command c S a (omega (arith, S.room))))
+
+pub change_sent : (command : Command) (c : Component) → IsChange c (sent command c)
+change_sent command c = either (is_at_once command)
+    (λ t. rw t (change_twice c (invalidated c) (told (Error errors.InvalidState) (invalidated c)) (change_invalidated c) (change_told (Error errors.InvalidState) (invalidated c))))
+    (λ f. rw f (record { handle = refl; ports = refl; links = refl; notes = refl }))

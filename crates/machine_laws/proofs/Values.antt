@@ -1,0 +1,201 @@
+-- A value of a component is set: a port's definition or preference changes only where the port is loose.
+use Rattle.std.proofs.Common.{◌≡◌, ◌≢◌, ◌⊎◌, inl, inr, ℕ, zero, suc, ◌+◌, Bool, true, false, not, ◌||◌, nat_eq, List, [], ◌∷◌, length-set, set, slice_get, Option, Some, None, refl, sym, ◌∙◌, ap, subst, eqb-true, arith}
+use Rattle.std.proofs.lemmas.Bool.{cases_eq}
+use Rattle.std.proofs.lemmas.Option.{get_or_from_slice_get}
+use Rattle.omx_types.specs.declared.param.Param.{Param}
+use Rattle.omx_types.specs.declared.param.Param.TheVariants as params
+use Rattle.omx_types.specs.declared.param.ParamKey.{ParamKey}
+use Rattle.omx_types.specs.declared.kind.Kind.{Kind}
+use Rattle.il_machine.specs.declared.port.Port.{Port}
+use Rattle.il_machine.specs.declared.port.PortSetting.{PortSetting}
+use Rattle.il_machine.specs.declared.port.PortState.{PortState}
+use Rattle.il_machine.specs.States.{is_invalid}
+use Rattle.il_machine.specs.Lists.{holds_at}
+use Rattle.il_machine.specs.Kinds.{ports_in, is_input, is_format_of}
+use Rattle.il_machine.specs.Settings.{setting_at, with_setting, changed_by, is_v112, is_index_of, is_port_of, is_value_of, is_good_value, is_supported, is_definition_of, same_format}
+use Rattle.il_machine.specs.World.{Component, HeaderRecord, World, number_of, ports_from, port_of, with_component}
+use Rattle.il_machine.specs.Headers.{Seen, seen, count_headers, is_for}
+use Rattle.il_machine.specs.Look.{look}
+use Rattle.il_machine.specs.Ports.{is_joined, unmade}
+use Rattle.il_machine.specs.Parameters.{is_format_free, is_fixed, is_wrong_time, set_parameter_refusal, set_config_refusal, with_value}
+use Rattle.il_machine.specs.Sound.{Sound, IsSound, IsLawfulSetting, AreNoted}
+use Rattle.il_machine.proofs.Wholes.{whole_changed}
+use Rattle.machine_laws.proofs.Every.{at_set_over}
+use Rattle.machine_laws.proofs.Lookups.{rising_set}
+use Rattle.machine_laws.proofs.PortChanges.{IsLoose, AreKept, kept_itself}
+use Rattle.machine_laws.proofs.Parts.{parts_of, sound_from}
+use Rattle.machine_laws.proofs.Change.{tied_set, each_set, sound_component}
+use Rattle.machine_laws.proofs.Accepting.{passed, not_either, not_not, both_of}
+use Rattle.machine_laws.proofs.ClientHeaders.{unlinked}
+use Rattle.machine_laws.proofs.Rooms.{costs, costs_same, sound_with}
+
+-- ---- the refusals
+
+-- what a call that sets a value has passed
+pub record IsSettable (c : Component) (key : ParamKey) (value : Param) : Type 0 where
+  pub variant : is_value_of key.index value ≡ true
+  pub good : is_good_value (is_input c.settings.kind key.port) value ≡ true
+  pub free : Bool
+  pub supported : is_supported c.settings key.port free value ≡ true
+
+pub parameter_passes : (headers : Seen) (c : Component) (key : ParamKey) (value : Param) → set_parameter_refusal headers c key value ≡ None
+    → IsSettable c key value × (is_wrong_time headers c key ≡ false)
+parameter_passes headers c key value h =
+    let s = c.settings in
+    let a = passed (is_invalid c.state) _ _ h in
+    let b = passed (not (is_v112 key.version)) _ _ a.1 in
+    let d = passed (not (is_index_of s.kind false key.index)) _ _ b.1 in
+    let e = passed (not (is_port_of s.kind key)) _ _ d.1 in
+    let f = passed (not (is_value_of key.index value) || not (is_good_value (is_input s.kind key.port) value)) _ _ e.1 in
+    let g = passed (not (is_supported s key.port (is_format_free c) value)) _ _ f.1 in
+    let k = passed (is_wrong_time headers c key) _ _ g.1 in
+    let v = not_either (not (is_value_of key.index value)) (not (is_good_value (is_input s.kind key.port) value)) f.0 in
+    (record { variant = not_not _ v.0; good = not_not _ v.1; free = is_format_free c; supported = not_not _ g.0 }, k.0)
+
+pub config_passes : (c : Component) (key : ParamKey) (value : Param) → set_config_refusal c key value ≡ None
+    → IsSettable c key value × (is_index_of c.settings.kind true key.index ≡ true)
+config_passes c key value h =
+    let s = c.settings in
+    let a = passed (is_invalid c.state) _ _ h in
+    let b = passed (not (is_v112 key.version)) _ _ a.1 in
+    let d = passed (not (is_index_of s.kind true key.index)) _ _ b.1 in
+    let e = passed (not (is_port_of s.kind key)) _ _ d.1 in
+    let f = passed (not (is_value_of key.index value) || not (is_good_value (is_input s.kind key.port) value)) _ _ e.1 in
+    let g = passed (not (is_supported s key.port (is_format_free c) value)) _ _ f.1 in
+    let v = not_either (not (is_value_of key.index value)) (not (is_good_value (is_input s.kind key.port) value)) f.0 in
+    (record { variant = not_not _ v.0; good = not_not _ v.1; free = is_format_free c; supported = not_not _ g.0 }, not_not _ d.0)
+
+-- ---- a port's setting
+
+setting_over : (number index k : ℕ) (ss : List PortSetting) (ps : List PortState) (new : PortSetting) (hs : List HeaderRecord)
+    → ((p : Port) → slice_get (ports_from number index ss ps) k ≡ Some p → IsLoose hs p)
+    → AreKept hs (slice_get (ports_from number index ss ps) k) (slice_get (ports_from number index (set ss k new) ps) k)
+setting_over number index k [] ps new hs L = tt
+setting_over number index zero (s ∷ ss) [] new hs L = tt
+setting_over number index (suc k) (s ∷ ss) [] new hs L = tt
+setting_over number index zero (s ∷ ss) (p ∷ ps) new hs L = record { key = refl; link = refl; definition = inr (L (record { key = record { component = number; port = index }; setting = s; state = p }) refl) }
+setting_over number index (suc k) (s ∷ ss) (p ∷ ps) new hs L = setting_over number (index + 1) k ss ps new hs L
+
+setting_else : (number index j k : ℕ) (ss : List PortSetting) (ps : List PortState) (new : PortSetting) → k ≢ j
+    → slice_get (ports_from number index (set ss j new) ps) k ≡ slice_get (ports_from number index ss ps) k
+setting_else number index j k [] ps new a = refl
+setting_else number index zero zero (s ∷ ss) [] new a = refl
+setting_else number index zero (suc k) (s ∷ ss) [] new a = refl
+setting_else number index (suc j) k (s ∷ ss) [] new a = refl
+setting_else number index zero zero (s ∷ ss) (p ∷ ps) new a = absurd (a refl)
+setting_else number index zero (suc k) (s ∷ ss) (p ∷ ps) new a = refl
+setting_else number index (suc j) zero (s ∷ ss) (p ∷ ps) new a = refl
+setting_else number index (suc j) (suc k) (s ∷ ss) (p ∷ ps) new a = setting_else number (index + 1) j k ss ps new (λ n. a (ap suc n))
+
+abbrev with_setting_at : ℕ → PortSetting → Component → Component
+with_setting_at j new c = record c { settings = with_setting j new c.settings }
+
+kept_setting : (hs : List HeaderRecord) (c : Component) (j : ℕ) (new : PortSetting) → ((p : Port) → port_of c j ≡ Some p → IsLoose hs p)
+    → (k : ℕ) → AreKept hs (port_of c k) (port_of (with_setting_at j new c) k)
+kept_setting hs c j new L k = elim (cases_eq k j) [
+  | inl e ↦ rw e (setting_over (number_of c) 0 j c.settings.ports c.ports new hs L)
+  | inr a ↦ rw (setting_else (number_of c) 0 j k c.settings.ports c.ports new a) (kept_itself hs (port_of c k))
+]
+
+-- one lawful setting for another
+pub sound_setting : (c : Component) (j : ℕ) (new : PortSetting) → IsSound c → ((old : PortSetting) → slice_get c.settings.ports j ≡ Some old → IsLawfulSetting c.settings j new) → IsSound (with_setting_at j new c)
+sound_setting c j new S h =
+    let d : Component = with_setting_at j new c in
+    let k : costs d ≡ costs c = costs_same c d c.commands refl in
+    sound_with d (record {
+      whole = record { sized = S.whole.sized; ports = length-set c.settings.ports j new ∙ S.whole.ports; weights = S.whole.weights };
+      ports = S.ports;
+      settings = λ i z e. elim (at_set_over c.settings.ports j i new z e) [
+        | inl a ↦ rw (a.0, a.1) (h a.2 a.3)
+        | inr a ↦ S.settings i z a.1
+      ];
+      cause = S.cause;
+      mark = S.mark;
+      commands = S.commands;
+    }) (omega (arith, S.room))
+
+sound_with_setting : (w : World) (i : ℕ) (c : Component) (j : ℕ) (new : PortSetting) → Sound w → slice_get w.components i ≡ Some c → ((p : Port) → port_of c j ≡ Some p → IsLoose w.headers p)
+    → ((old : PortSetting) → slice_get c.settings.ports j ≡ Some old → IsLawfulSetting c.settings j new) → Sound (with_component i (with_setting_at j new c) w)
+sound_with_setting w i c j new S t L h =
+    let P = parts_of w S in
+    let cs : List Component = w.components in
+    let d : Component = with_setting_at j new c in
+    sound_from (with_component i d w) (record {
+      rising = rising_set 0 w.numbered i cs c d P.rising t refl;
+      components = each_set IsSound i cs d P.components (sound_setting c j new (P.components i c t) h);
+      tied = tied_set w.numbered i cs w.headers c d P.rising t refl (kept_setting w.headers c j new L) P.tied;
+      noted = each_set (AreNoted (seen w.headers)) i cs d P.noted (P.noted i c t);
+      once = P.once;
+      below = P.below;
+    })
+
+-- ---- the value
+
+pub fixed_loose : (hs : List HeaderRecord) (c : Component) (o : Option Port) (p : Port) → holds_at o (is_fixed (seen hs) c) ≡ false → o ≡ Some p → IsLoose hs p
+fixed_loose hs c None p h e = absurd cc
+fixed_loose hs c (Some q) p h e =
+    let s : q ≡ p = cc in
+    let a = not_either (is_joined q) _ h in
+    let b = not_either (not (unmade (seen hs) q)) _ a.1 in
+    let u : unmade (seen hs) q ≡ true = not_not (unmade (seen hs) q) b.0 in
+    rw (← s) (record { alone = unlinked q a.0; bare = eqb-true (count_headers (is_for q.key) hs) 0 u })
+
+index_loose : (hs : List HeaderRecord) (c : Component) (key : ParamKey) (index : ℕ) (p : Port) → key.index ≡ index → nat_eq index 3 ≡ false → is_wrong_time (seen hs) c key ≡ false → port_of c key.port ≡ Some p → IsLoose hs p
+index_loose hs c key index p e n h f =
+    let a : nat_eq key.index 3 ≡ false = rw e n in
+    let b : holds_at (port_of c key.port) (is_fixed (seen hs) c) ≡ false = rw a at h in
+    fixed_loose hs c (port_of c key.port) p b f
+
+plain_change : (key : ParamKey) (value : Param) (c : Component) → IsSound c → (changed_by key.port value c.settings).ports ≡ c.settings.ports
+    → (changed_by key.port value c.settings).kind ≡ c.settings.kind → IsSound (with_value key value c)
+plain_change key value c S p k =
+    let d : Component = with_value key value c in
+    let q : costs d ≡ costs c = costs_same c d c.commands refl in
+    sound_with d (record {
+      whole = whole_changed key.port value c.settings S.whole;
+      ports = S.ports ∙ ap ports_in (sym k);
+      settings = λ j z e. let f : slice_get c.settings.ports j ≡ Some z = ap (λ (l : List PortSetting). slice_get l j) (sym p) ∙ e in let L = S.settings j z f in
+          subst (λ (x : Kind). (is_definition_of (is_input x j) z.definition ≡ true) × (is_format_of x (is_input x j) z.definition.format ≡ true)) (sym k) L;
+      cause = S.cause;
+      mark = S.mark;
+      commands = S.commands;
+    }) (omega (arith, S.room))
+
+sound_plain : (w : World) (i : ℕ) (c : Component) (key : ParamKey) (value : Param) → Sound w → slice_get w.components i ≡ Some c → (changed_by key.port value c.settings).ports ≡ c.settings.ports
+    → (changed_by key.port value c.settings).kind ≡ c.settings.kind → Sound (with_component i (with_value key value c) w)
+sound_plain w i c key value S t p k = sound_component w i c (with_value key value c) S t (record { handle = refl; ports = p; links = refl; notes = refl }) (plain_change key value c ((parts_of w S).components i c t) p k)
+
+sound_value : (w : World) (i : ℕ) (c : Component) (key : ParamKey) (value : Param) → Sound w → slice_get w.components i ≡ Some c → IsSettable c key value
+    → ((p : Port) → (key.index ≡ 1) ⊎ (key.index ≡ 2) → port_of c key.port ≡ Some p → IsLoose w.headers p)
+    → Sound (with_component i (with_value key value c) w)
+sound_value w i c key (params.Port d) S t G L =
+    let e : key.index ≡ 1 = eqb-true key.index 1 G.variant in
+    let q = both_of (is_format_of c.settings.kind (is_input c.settings.kind key.port) d.format) (G.free || same_format d.format (setting_at c.settings key.port).definition.format) G.supported in
+    sound_with_setting w i c key.port (record (setting_at c.settings key.port) { definition = d }) S t (λ p f. L p (inl e) f) (λ old f. (G.good, q.0))
+sound_value w i c key (params.Supplier x) S t G L =
+    let e : key.index ≡ 2 = eqb-true key.index 2 G.variant in
+    sound_with_setting w i c key.port (record (setting_at c.settings key.port) { supplier = x }) S t (λ p f. L p (inr e) f) (λ old f.
+    let l = ((parts_of w S).components i c t).settings key.port old f in
+    let g : setting_at c.settings key.port ≡ old = get_or_from_slice_get c.settings.ports key.port old _ f in
+    rw g l)
+sound_value w i c key (params.Priority n) S t G L = sound_plain w i c key (params.Priority n) S t refl refl
+sound_value w i c key (params.Gain n) S t G L = sound_plain w i c key (params.Gain n) S t refl refl
+sound_value w i c key (params.Weight n) S t G L = sound_plain w i c key (params.Weight n) S t refl refl
+
+pub sound_set : (w : World) (i : ℕ) (c : Component) (key : ParamKey) (value : Param) → Sound w → slice_get w.components i ≡ Some c → set_parameter_refusal (look w).headers c key value ≡ None
+    → Sound (with_component i (with_value key value c) w)
+sound_set w i c key value S t h =
+    let a = parameter_passes (look w).headers c key value h in
+    sound_value w i c key value S t a.0 (λ p index f. elim index [
+      | inl e ↦ index_loose w.headers c key 1 p e refl a.1 f
+      | inr e ↦ index_loose w.headers c key 2 p e refl a.1 f
+    ])
+
+pub sound_configured : (w : World) (i : ℕ) (c : Component) (key : ParamKey) (value : Param) → Sound w → slice_get w.components i ≡ Some c → set_config_refusal c key value ≡ None
+    → Sound (with_component i (with_value key value c) w)
+sound_configured w i c key value S t h =
+    let a = config_passes c key value h in
+    sound_value w i c key value S t a.0 (λ p index f. elim index [
+      | inl e ↦ let b : is_index_of c.settings.kind true 1 ≡ true = rw e at a.1 in absurd cc
+      | inr e ↦ let b : is_index_of c.settings.kind true 2 ≡ true = rw e at a.1 in absurd cc
+    ])

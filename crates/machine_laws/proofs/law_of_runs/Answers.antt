@@ -1,0 +1,10 @@
+use Rattle.il_machine.specs.World.{no_world}
+use Rattle.machine_laws.proofs.Steps.{sound_run_of, sound_none}
+use Rattle.machine_laws.proofs.Standing.{sound_census}
+use Rattle.machine_laws.proofs.law_of_runs.Goals as goal
+
+pub returns : goal.returns
+returns c = record {
+  sound = λ units xs v run. sound_run_of (no_world units) v xs run (sound_none units);
+  census = λ units xs v run. sound_census v (sound_run_of (no_world units) v xs run (sound_none units));
+}
