@@ -1,0 +1,188 @@
+-- Homes and owners of headers stay as they are while things happen.
+use Rattle.std.proofs.Common.{◌≡◌, ◌≢◌, inl, inr, ℕ, Bool, true, false, List, [], ◌∷◌, Option, Some, None, option_map, refl, sym, ◌∙◌, ap}
+use Rattle.std.proofs.lemmas.Bool.{cases_eq, and_parts}
+use Rattle.omx_types.specs.declared.state.State.{State}
+use Rattle.omx_types.specs.declared.state.State.TheVariants.{Invalid, Loaded, Idle, Executing, Pause, WaitForResources}
+use Rattle.il_machine.specs.declared.header.HeaderState.{HeaderState}
+use Rattle.il_machine.specs.declared.header.Home.{Home}
+use Rattle.il_machine.specs.declared.header.Owner.{Owner}
+use Rattle.il_machine.specs.declared.header.Owner.TheVariants as owners
+use Rattle.il_machine.specs.declared.header.Spot.{Spot}
+use Rattle.il_machine.specs.declared.header.Spot.TheVariants.{TodoBack, DoneBack}
+use Rattle.il_machine.specs.declared.port.Mark.{Mark}
+use Rattle.il_machine.specs.declared.port.Port.{Port}
+use Rattle.il_machine.specs.declared.port.PortKey.{PortKey}
+use Rattle.il_machine.specs.States.{is_down}
+use Rattle.il_machine.specs.World.{Component, HeaderRecord, ports_of}
+use Rattle.il_machine.specs.Headers.{seen, find_header, has_number, numbers, is_state, in_todo, in_done, is_owned_by, is_todo, is_done, Once, changed, put, put_all, cleared_all, cleared, reset, put_at}
+use Rattle.il_machine.specs.Ports.{is_supplier, is_input_port}
+use Rattle.il_machine.specs.Due.{reset_port, reset_ports, reset_on, marked, first_marked}
+use Rattle.machine_laws.proofs.Finding.{either, found_head, found_tail, once_changed}
+use Rattle.machine_laws.proofs.Replacing.{IsReplaced, replaced_put}
+use Rattle.machine_laws.proofs.Keys.{key_is, none_or_some}
+
+-- the ports that a header was made for, its home and its owner
+pub record Stand : Type 0 where
+  pub port : PortKey
+  pub peer : Option PortKey
+  pub home : Home
+  pub owner : Owner
+
+abbrev pub stand_of : HeaderRecord → Stand
+stand_of r = record { port = r.state.port; peer = r.state.peer; home = r.state.home; owner = r.state.owner }
+
+-- how the header of the number stands
+abbrev pub stand : ℕ → List HeaderRecord → Option Stand
+stand n hs = option_map stand_of (find_header n hs)
+
+abbrev pub SameStands : List HeaderRecord → List HeaderRecord → Type 0
+SameStands hs ks = (n : ℕ) → stand n ks ≡ stand n hs
+
+-- the second list has the same headers, each with its ports, its home and its owner
+pub record Settles (hs ks : List HeaderRecord) : Type 0 where
+  pub once : Once ks
+  pub stands : SameStands hs ks
+
+pub settles_not : (hs : List HeaderRecord) → Once hs → Settles hs hs
+settles_not hs o = record { once = o; stands = λ n. refl }
+
+pub settles_on : (hs ks ls : List HeaderRecord) → Settles hs ks → Settles ks ls → Settles hs ls
+settles_on hs ks ls A B = record { once = B.once; stands = λ n. B.stands n ∙ A.stands n }
+
+-- ---- one header
+
+pub stands_replaced : (n : ℕ) (r s : HeaderRecord) (hs ks : List HeaderRecord) → IsReplaced n r s hs ks → stand_of s ≡ stand_of r → Settles hs ks
+stands_replaced n r s hs ks R e = record {
+  once = R.once;
+  stands = λ m. elim (cases_eq m n) [
+    | inl is ↦ rw is (ap (option_map stand_of) R.here ∙ (ap (λ (x : Stand). Some x) e ∙ sym (ap (option_map stand_of) R.was)))
+    | inr a ↦ ap (option_map stand_of) (R.others m a)
+  ];
+}
+
+module _ (change : HeaderRecord → HeaderRecord) (keeps : (r : HeaderRecord) → (change r).state ≡ r.state) where
+  number_kept : (r : HeaderRecord) → (change r).state.number ≡ r.state.number
+  number_kept r = ap (λ (s : HeaderState). s.number) (keeps r)
+
+  stand_changed : (n m : ℕ) (hs : List HeaderRecord) → stand m (changed n change hs) ≡ stand m hs
+  stand_changed n m [] = refl
+  stand_changed n m (x ∷ hs) = either (has_number n x)
+      (λ t. rw t (either (has_number m x)
+      (λ u.
+      let v : has_number m (change x) ≡ true = rw (number_kept x) u in
+      rw (u, v) (ap (λ (s : HeaderState). Some (record { port = s.port; peer = s.peer; home = s.home; owner = s.owner })) (keeps x)))
+      (λ u. let v : has_number m (change x) ≡ false = rw (number_kept x) u in rw (u, v) refl)))
+      (λ f. rw f (either (has_number m x) (λ u. rw u refl) (λ u. rw u (stand_changed n m hs))))
+
+  pub settles_changed : (n : ℕ) (hs : List HeaderRecord) → Once hs → Settles hs (changed n change hs)
+  settles_changed n hs o = record { once = once_changed change number_kept n hs o; stands = λ m. stand_changed n m hs }
+
+-- ---- the headers of a list of a port
+
+-- the header of the number is there, and is the port's
+abbrev pub IsIn : PortKey → ℕ → List HeaderRecord → Type 0
+IsIn key n hs = (r : HeaderRecord) × (find_header n hs ≡ Some r) × (r.state.owner ≡ owners.Port key)
+
+abbrev pub AreIn : PortKey → List ℕ → List HeaderRecord → Type 0
+AreIn key [] hs = Unit {0}
+AreIn key (n ∷ ns) hs = IsIn key n hs × AreIn key ns hs
+
+is_in_stays : (key : PortKey) (n : ℕ) (hs ks : List HeaderRecord) → SameStands hs ks → IsIn key n hs → IsIn key n ks
+is_in_stays key n hs ks S (r, f, o) = elim (none_or_some (find_header n ks)) [
+  | inl none ↦
+      let a : stand n ks ≡ None = ap (option_map stand_of) none in
+      let b : stand n hs ≡ Some (stand_of r) = ap (option_map stand_of) f in
+      let c : None ≡ Some (stand_of r) = sym a ∙ (S n ∙ b) in
+      absurd cc
+  | inr some ↦
+      let a : stand n ks ≡ Some (stand_of some.0) = ap (option_map stand_of) some.1 in
+      let b : stand n hs ≡ Some (stand_of r) = ap (option_map stand_of) f in
+      let c : Some (stand_of some.0) ≡ Some (stand_of r) = sym a ∙ (S n ∙ b) in
+      let d : stand_of some.0 ≡ stand_of r = cc in
+      (some.0, some.1, ap (λ (s : Stand). s.owner) d ∙ o)
+]
+
+are_in_stay : (key : PortKey) (ns : List ℕ) (hs ks : List HeaderRecord) → SameStands hs ks → AreIn key ns hs → AreIn key ns ks
+are_in_stay key [] hs ks S A = tt
+are_in_stay key (n ∷ ns) hs ks S A = (is_in_stays key n hs ks S A.0, are_in_stay key ns hs ks S A.1)
+
+found_further : (n : ℕ) (x r : HeaderRecord) (hs : List HeaderRecord) → find_header x.state.number hs ≡ None → find_header n hs ≡ Some r → find_header n (x ∷ hs) ≡ Some r
+found_further n x r hs none f =
+    let apart : x.state.number ≢ n = λ e. let a : find_header n hs ≡ None = rw e at none in absurd cc in
+    found_tail n x hs apart ∙ f
+
+further : (key : PortKey) (ns : List ℕ) (x : HeaderRecord) (hs : List HeaderRecord) → find_header x.state.number hs ≡ None → AreIn key ns hs → AreIn key ns (x ∷ hs)
+further key [] x hs none A = tt
+further key (n ∷ ns) x hs none A = (((A.0).0, found_further n x (A.0).0 hs none (A.0).1, (A.0).2), further key ns x hs none A.1)
+
+owned_is : (key : PortKey) (o : Owner) → is_owned_by key o ≡ true → o ≡ owners.Port key
+owned_is key owners.Client h = absurd cc
+owned_is key (owners.Port k) h = ap (λ (x : PortKey). owners.Port x) (key_is k key h)
+owned_is key (owners.Work c) h = absurd cc
+owned_is key (owners.Notice c) h = absurd cc
+
+listed : (key : PortKey) (test : HeaderState → Bool) → ((s : HeaderState) → test s ≡ true → s.owner ≡ owners.Port key) → (hs : List HeaderRecord) → Once hs → AreIn key (numbers (is_state test) hs) hs
+listed key test T [] o = tt
+listed key test T (x ∷ hs) o = either (test x.state)
+    (λ t. rw t ((x, found_head x.state.number x hs refl, T x.state t), further key (numbers (is_state test) hs) x hs o.0 (listed key test T hs o.1)))
+    (λ f. rw f (further key (numbers (is_state test) hs) x hs o.0 (listed key test T hs o.1)))
+
+pub in_todo_of : (key : PortKey) (hs : List HeaderRecord) → Once hs → AreIn key ((seen hs).todo key) hs
+in_todo_of key hs o = listed key (in_todo key) (λ s t. owned_is key s.owner (and_parts (is_todo s.place) (is_owned_by key s.owner) t).1) hs o
+
+pub in_done_of : (key : PortKey) (hs : List HeaderRecord) → Once hs → AreIn key ((seen hs).done key) hs
+in_done_of key hs o = listed key (in_done key) (λ s t. owned_is key s.owner (and_parts (is_done s.place) (is_owned_by key s.owner) t).1) hs o
+
+-- ---- the reset
+
+stays_put : (key : PortKey) (spot : Spot) (n : ℕ) (hs : List HeaderRecord) → Once hs → IsIn key n hs → Settles hs (put key spot n cleared hs)
+stays_put key spot n hs o (r, f, w) =
+    let e : owners.Port key ≡ r.state.owner = sym w in
+    stands_replaced n r (put_at key spot (cleared r)) hs (put key spot n cleared hs) (replaced_put key spot cleared (λ x. refl) n hs r o f) (λ i. record { port = r.state.port; peer = r.state.peer; home = r.state.home; owner = e i })
+
+put_each : (key : PortKey) (spot : Spot) (ns : List ℕ) (hs : List HeaderRecord) → Once hs → AreIn key ns hs → Settles hs (put_all key spot ns hs)
+put_each key spot [] hs o A = settles_not hs o
+put_each key spot (n ∷ ns) hs o A =
+    let ks = put key spot n cleared hs in
+    let a = stays_put key spot n hs o A.0 in
+    let b = put_each key spot ns ks a.once (are_in_stay key ns hs ks a.stands A.1) in
+    settles_on hs ks (put_all key spot ns ks) a b
+
+clear_each : (ns : List ℕ) (hs : List HeaderRecord) → Once hs → Settles hs (cleared_all ns hs)
+clear_each [] hs o = settles_not hs o
+clear_each (n ∷ ns) hs o =
+    let ks = changed n cleared hs in
+    let a = settles_changed cleared (λ r. refl) n hs o in
+    settles_on hs ks (cleared_all ns ks) a (clear_each ns ks a.once)
+
+both : (key : PortKey) (spot : Spot) (ns ms : List ℕ) (hs : List HeaderRecord) → Once hs → AreIn key ns hs → Settles hs (put_all key spot ns (cleared_all ms hs))
+both key spot ns ms hs o A =
+    let ks = cleared_all ms hs in
+    let a = clear_each ms hs o in
+    settles_on hs ks (put_all key spot ns ks) a (put_each key spot ns ks a.once (are_in_stay key ns hs ks a.stands A))
+
+reset_settles : (b : Bool) (key : PortKey) (hs : List HeaderRecord) → Once hs → Settles hs (reset b key hs)
+reset_settles true key hs o = both key DoneBack ((seen hs).todo key) ((seen hs).done key) hs o (in_todo_of key hs o)
+reset_settles false key hs o = both key TodoBack ((seen hs).done key) ((seen hs).todo key) hs o (in_done_of key hs o)
+
+pub port_settles : (p : Port) (hs : List HeaderRecord) → Once hs → Settles hs (reset_port p hs)
+port_settles p hs o = either (is_supplier p) (λ t. rw t (reset_settles (is_input_port p) p.key hs o)) (λ f. rw f (settles_not hs o))
+
+ports_settle : (ps : List Port) (hs : List HeaderRecord) → Once hs → Settles hs (reset_ports ps hs)
+ports_settle [] hs o = settles_not hs o
+ports_settle (p ∷ ps) hs o =
+    let ks = reset_port p hs in
+    let a = port_settles p hs o in
+    settles_on hs ks (reset_ports ps ks) a (ports_settle ps ks a.once)
+
+pub arrival_settles : (c : Component) (target : State) (hs : List HeaderRecord) → Once hs → Settles hs (reset_on c target hs)
+arrival_settles c Idle hs o = either (is_down c.state) (λ t. rw t (settles_not hs o)) (λ f. rw f (ports_settle (ports_of c) hs o))
+arrival_settles c Invalid hs o = settles_not hs o
+arrival_settles c Loaded hs o = settles_not hs o
+arrival_settles c Executing hs o = settles_not hs o
+arrival_settles c Pause hs o = settles_not hs o
+arrival_settles c WaitForResources hs o = settles_not hs o
+
+pub mark_settles : (ns : List ℕ) (mark : Option Mark) (hs : List HeaderRecord) → Once hs → Settles hs (first_marked ns mark hs)
+mark_settles [] mark hs o = settles_not hs o
+mark_settles (n ∷ ns) mark hs o = settles_changed (marked mark) (λ r. refl) n hs o

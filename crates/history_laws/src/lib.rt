@@ -1,0 +1,90 @@
+//! What must hold of the machine's steps and runs, stated on functions that do nothing: how queues grow,
+//! which way headers go, that each comes back, and that one act in one world has one result.
+#![tactic(auto)]
+
+ghost use Rattle.std.specs.Prelude.{◌≡◌, ℕ, true, List, All, ◌++◌, [], ◌⊎◌, Some, None, IsSome, Contains};
+ghost use Rattle.omx_types.specs.declared.state.State.TheVariants as states;
+ghost use Rattle.omx_types.specs.declared.command.Completion.{Completion};
+ghost use Rattle.omx_types.specs.declared.command.Completion.TheVariants as completions;
+ghost use Rattle.il_machine.specs.declared.port.Port.{Port};
+ghost use Rattle.il_machine.specs.States.{is_running};
+ghost use Rattle.il_machine.specs.World.{Component, World, no_world, ports_of};
+ghost use Rattle.il_machine.specs.declared.port.PortKey.{PortKey};
+ghost use Rattle.il_machine.specs.declared.header.HeaderState.{HeaderState};
+ghost use Rattle.il_machine.specs.Headers.{seen, is_for};
+ghost use Rattle.il_machine.specs.Look.{look};
+ghost use Rattle.il_machine.specs.Ports.{settled};
+ghost use Rattle.il_machine.specs.Due.{Happens, HappenTimes, ClosesTo, IsClosed};
+ghost use Rattle.il_machine.specs.Acts.{Act, Reply};
+ghost use Rattle.il_machine.specs.Run.{Step, Meets, Run};
+ghost use Rattle.il_machine.specs.Sound.{Sound};
+ghost use Rattle.il_machine.specs.Effect.{effect};
+ghost use Rattle.il_machine.specs.Queued.{component_numbered, queued_for, completions_in, StepQueues, WasDue};
+ghost use Rattle.il_machine.specs.Trails.{Move, moves, HaveTrails, RunMoves};
+ghost use Rattle.history_laws.specs.Runs.{IsUnchanged, RunQueues, WasDueIn};
+ghost use Rattle.history_laws.specs.Settled.{IsReturned, TakesToIdle, ReachesIdle, WasUnmade, IsUnmadeAndBack};
+ghost use Rattle.history_laws.specs.Determined.{AreAlike};
+
+/// What is queued for a client grows at its end alone: the act tells no completion, and each that the close-out
+/// tells was due in it. The close-out begins with the act's effect. For a component that comes nothing is queued.
+pub fn law_of_queues()
+    ensures steps { (w : World) (a : Act) (r : Reply) (v : World)
+        → Sound w → Meets w a → Step w a r v → StepQueues w a r v }
+    ensures effects { (w : World) (a : Act) (r : Reply) (v : World)
+        → Sound w → Meets w a → Step w a r v → IsUnchanged w (effect w a r) v ⊎ ClosesTo (effect w a r) v }
+    ensures new { (units : ℕ) (xs : List (Act × Reply)) (w : World) (a : Act) (r : Reply) (v : World) (number : ℕ)
+        → Run (no_world units) xs w → Meets w a → Step w a r v
+        → component_numbered number w ≡ None → IsSome (component_numbered number v) → queued_for number (effect w a r) ≡ [] }
+    ensures runs { (w v : World) (xs : List (Act × Reply)) (number : ℕ)
+        → Sound w → Run w xs v → IsSome (component_numbered number v) → RunQueues w xs v number }
+    ensures whole { (units : ℕ) (xs : List (Act × Reply)) (v : World) (number : ℕ) (x : Completion)
+        → Run (no_world units) xs v → IsSome (component_numbered number v)
+        → Contains (completions_in (queued_for number v)) x → WasDueIn (no_world units) xs v number x }
+{}
+
+/// Every trail stays legal, ends with the header's owner, and has at most one return of each hand-over.
+pub fn law_of_trails()
+    ensures steps { (w : World) (ms : List Move) (a : Act) (r : Reply) (v : World)
+        → Sound w → HaveTrails w ms → Meets w a → Step w a r v → HaveTrails v (ms ++ moves w a r) }
+    ensures closing { (n : ℕ) (w v : World) (ms : List Move)
+        → Sound w → HappenTimes n w v → HaveTrails w ms → HaveTrails v ms }
+    ensures runs { (units : ℕ) (xs : List (Act × Reply)) (ms : List Move) (v : World)
+        → RunMoves (no_world units) xs ms v → HaveTrails v ms }
+{}
+
+/// At a settled port each hand-over has its return. So it is where a component reaches Idle from Executing
+/// or Pause. A port whose disable is completed has no header; each that had been made for it in some world of
+/// the run is unmade, and has as many returns as hand-overs.
+pub fn law_of_settled()
+    ensures ports { (w : World) (ms : List Move) (p : Port)
+        → HaveTrails w ms → settled (seen w.headers) p ≡ true → IsReturned w ms p }
+    ensures reaching { (w v : World) (ms : List Move) (h : Happens w v)
+        → HaveTrails w ms → TakesToIdle w v h → All (IsReturned w ms) (ports_of h.component) }
+    ensures idle { (w : World) (ms : List Move) (a : Act) (r : Reply) (v : World) (number : ℕ) (c d : Component)
+        → Sound w → HaveTrails w ms → Meets w a → Step w a r v
+        → component_numbered number w ≡ Some c → is_running c.state ≡ true
+        → component_numbered number v ≡ Some d → d.state ≡ states.Idle
+        → ReachesIdle (effect w a r) v (ms ++ moves w a r) number }
+    ensures disabled { (w : World) (ms : List Move) (a : Act) (r : Reply) (v : World) (number port : ℕ)
+        (D : WasDue (effect w a r) v number (completions.Disable port))
+        → Sound w → HaveTrails w ms → Meets w a → Step w a r v
+        → WasUnmade (effect w a r) v (ms ++ moves w a r) number port D }
+    ensures back { (u : World) (old : List Move) (xs : List (Act × Reply)) (ms : List Move)
+        (w : World) (a : Act) (r : Reply) (v : World) (key : PortKey)
+        (D : WasDue (effect w a r) v key.component (completions.Disable key.port)) (number : ℕ) (s : HeaderState)
+        → Sound u → HaveTrails u old → RunMoves u xs ms w → Meets w a → Step w a r v
+        → (look u).headers.header number ≡ Some s → is_for key s ≡ true
+        → IsUnmadeAndBack D.before (old ++ ms ++ moves w a r) number s.home }
+{}
+
+/// Each step of a closed world leaves a closed one, so every world that a run reaches is closed.
+pub fn law_of_closed_runs()
+    ensures steps { (w : World) (a : Act) (r : Reply) (v : World) → IsClosed w → Step w a r v → IsClosed v }
+    ensures runs { (units : ℕ) (xs : List (Act × Reply)) (v : World) → Run (no_world units) xs v → IsClosed v }
+{}
+
+/// One act in one world has one result, but for want of memory and the slot of a new handle.
+pub fn law_of_steps_determined()
+    ensures { (w : World) (a : Act) (r : Reply) (v : World) (s : Reply) (u : World)
+        → Step w a r v → Step w a s u → AreAlike w r v s u }
+{}
