@@ -1,0 +1,11 @@
+use Rattle.stock_laws.proofs.Standing.{give_stands, populate_stands, withdraw_stands}
+use Rattle.stock_laws.proofs.law_of_owners.Goals as goal
+
+pub returns-clause-given : goal.returns-clause-given
+returns-clause-given c = give_stands
+
+pub returns-clause-made : goal.returns-clause-made
+returns-clause-made c = populate_stands
+
+pub returns-clause-unmade : goal.returns-clause-unmade
+returns-clause-unmade c = withdraw_stands

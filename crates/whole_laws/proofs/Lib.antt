@@ -1,0 +1,11 @@
+pub mod Lists
+pub mod Following
+pub mod Seeing
+pub mod Lifting
+pub mod Stocking
+pub mod Elsewhere
+pub mod Noting
+pub mod Making
+pub mod Answering
+pub mod Entries
+pub mod Closing
