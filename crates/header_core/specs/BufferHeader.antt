@@ -1,0 +1,63 @@
+-- A header as contracts see it, and what its calls make of it.
+use Rattle.std.specs.Prelude.{ℕ, ◌≤◌, Bool, true, false, List, [], length, drop, Some, None}
+use Rattle.il_machine.specs.declared.port.Mark.{Mark}
+use Rattle.il_machine.specs.Buffers.{Held}
+use Rattle.header_core.specs.Lists.{overwritten}
+use Rattle.header_core.specs.declared.memory.Store.{Store}
+use Rattle.header_core.specs.declared.memory.Store.TheVariants.{Own, Block}
+
+pub record BufferHeader : Type 0 where
+  -- what its holder sees
+  pub held : Held
+  pub store : Store
+
+-- ---- memory
+
+-- every byte of the memory, whether a header's content has it or not
+abbrev pub bytes_of : Store → List ℕ
+bytes_of (Own bytes) = bytes
+bytes_of (Block bytes) = bytes
+
+abbrev pub is_clients : Store → Bool
+is_clients (Own bytes) = true
+is_clients (Block bytes) = false
+
+abbrev pub with_bytes : List ℕ → Store → Store
+with_bytes bytes (Own old) = Own bytes
+with_bytes bytes (Block old) = Block bytes
+
+-- ---- headers
+
+-- what is true of each header
+pub record IsSized (h : BufferHeader) : Type 0 where
+  pub some : 1 ≤ h.held.size
+  pub limit : h.held.size ≤ 4096
+  pub room : h.held.size ≤ length (bytes_of h.store)
+  pub content : length h.held.content ≤ h.held.size
+
+abbrev pub empty_held : ℕ → ℕ → Held
+empty_held number size = record { number = number; size = size; content = []; flags = 0; mark = None }
+
+abbrev pub fresh : ℕ → Store → ℕ → BufferHeader
+fresh number store size = record { held = empty_held number size; store = store }
+
+abbrev pub with_content : List ℕ → ℕ → Held → Held
+with_content content flags h = record h { content = content; flags = flags }
+
+-- the content and the flags are new, and the content stands at the front of the memory
+abbrev pub filled : List ℕ → ℕ → BufferHeader → BufferHeader
+filled content flags h = record {
+  held = with_content content flags h.held;
+  store = with_bytes (overwritten content (bytes_of h.store)) h.store;
+}
+
+-- without content, flags and mark; the memory is as before
+abbrev pub cleared : BufferHeader → BufferHeader
+cleared h = record h { held = empty_held h.held.number h.held.size }
+
+abbrev pub marked : Mark → BufferHeader → BufferHeader
+marked mark h = record h { held = record h.held { mark = Some mark } }
+
+-- without so many bytes at the front of the content; the memory is as before
+abbrev pub advanced : ℕ → BufferHeader → BufferHeader
+advanced bytes h = record h { held = record h.held { content = drop bytes h.held.content } }

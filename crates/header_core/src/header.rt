@@ -1,0 +1,164 @@
+ghost use Rattle.std.specs.Prelude.{◌≡◌, ◌<◌, ◌≤◌, length, Ok, Err, OnOk, OnErr};
+ghost use Rattle.header_core.specs.BufferHeader.{bytes_of, is_clients, fresh, filled, cleared, marked, advanced, IsSized};
+
+use crate::memory::Store;
+use il_machine::Mark;
+use std::marker::Model;
+
+/// More bytes than the header's size.
+#[derive(Clone, Copy, Debug, PartialEq, Eq)]
+pub struct TooLong {
+    pub size: u32,
+}
+
+/// A buffer's header with its memory (OpenMAX IL 1.1.2, `OMX_BUFFERHEADERTYPE`). It is spent by `into_store`.
+pub struct Header {
+    number: u64,
+    store: Store,
+    size: u32,
+    start: u32,
+    used: u32,
+    flags: u32,
+    mark: Option<Mark>,
+}
+
+impl Model for Header {
+    ghost use Rattle.std.specs.Prelude.{◌≤◌, length, slice_range};
+    ghost use Rattle.header_core.specs.BufferHeader.{BufferHeader, bytes_of};
+
+    ghost Value = { BufferHeader };
+
+    ghost view = { λ h. record {
+      held = record { number = h.number; size = h.size; content = slice_range (bytes_of h.store) h.start h.used; flags = h.flags; mark = h.mark };
+      store = h.store;
+    } };
+
+    ghost invariant = { λ h. (1 ≤ h.size) × (h.size ≤ 4096) × (h.size ≤ length (bytes_of h.store)) × (h.start ≤ h.used) × (h.used ≤ h.size) };
+}
+
+impl Header {
+    /// A header without content, flags and mark.
+    pub fn new(id: u64, store: Store, size: u32) -> Header
+        requires some { 1 ≤ size }
+        requires limit { size ≤ 4096 }
+        requires room { size ≤ length (bytes_of store) }
+        ensures { result ≡ fresh id store size }
+    {
+        Header {
+            number: id,
+            store,
+            size,
+            start: 0,
+            used: 0,
+            flags: 0,
+            mark: None,
+        }
+    }
+
+    /// Its number, which no other header of the graph has.
+    pub fn id(&self) -> u64
+        ensures { result ≡ self.now.held.number }
+    {
+        self.number
+    }
+
+    /// How many bytes it takes, which may be fewer than its memory has.
+    pub fn size(&self) -> u32
+        ensures size { result ≡ self.now.held.size }
+        ensures sized { IsSized self.now }
+    {
+        self.size
+    }
+
+    pub fn flags(&self) -> u32
+        ensures { result ≡ self.now.held.flags }
+    {
+        self.flags
+    }
+
+    pub fn mark(&self) -> Option<Mark>
+        ensures { result ≡ self.now.held.mark }
+    {
+        self.mark
+    }
+
+    /// Whether the memory is the client's own.
+    pub fn is_clients_memory(&self) -> bool
+        ensures { result ≡ is_clients self.now.store }
+    {
+        self.store.is_clients()
+    }
+
+    /// The bytes that count.
+    pub fn content(&self) -> &[u8]
+        ensures content { result.now ≡ self.now.held.content }
+        ensures within { length result.now ≤ self.now.held.size }
+    {
+        &self.store.bytes()[self.start as usize..self.used as usize]
+    }
+
+    /// Takes the bytes as its content, with their flags. A mark stays.
+    pub fn fill(&mut self, bytes: &[u8], flags: u32) -> Result<(), TooLong>
+        ensures filled { OnOk result (self.new ≡ filled bytes.now flags self.old) }
+        ensures fits { length bytes.now ≤ self.old.held.size → result ≡ Ok tt }
+        ensures too_long { self.old.held.size < length bytes.now → result ≡ Err (record { size = self.old.held.size }) }
+        ensures unchanged { OnErr result (self.new ≡ self.old) }
+    {
+        if bytes.len() > self.size as usize {
+            return Err(TooLong { size: self.size });
+        }
+        self.store.overwrite(bytes);
+        self.start = 0;
+        self.used = bytes.len() as u32;
+        self.flags = flags;
+        Ok(())
+    }
+
+    /// Takes content, flags and mark away.
+    pub fn clear(&mut self)
+        ensures { self.new ≡ cleared self.old }
+    {
+        self.start = 0;
+        self.used = 0;
+        self.flags = 0;
+        self.mark = None;
+    }
+
+    /// Sets the mark, in place of one that it may have.
+    pub fn mark_with(&mut self, mark: Mark)
+        ensures { self.new ≡ marked mark self.old }
+    {
+        self.mark = Some(mark);
+    }
+
+    /// Drops so many bytes at the front of the content.
+    pub fn advance(&mut self, bytes: u32)
+        requires { bytes ≤ length self.old.held.content }
+        ensures { self.new ≡ advanced bytes self.old }
+    {
+        self.start += bytes;
+    }
+
+    /// Spends the header and gives its memory back.
+    pub fn into_store(self) -> Store
+        ensures { result ≡ self.store }
+    {
+        let Header {
+            number: _,
+            store,
+            size: _,
+            start: _,
+            used: _,
+            flags: _,
+            mark: _,
+        } = self;
+        store
+    }
+
+    /// Spends the header and lets its memory go.
+    pub fn dispose(self) {
+        match self.into_store() {
+            Store::Own(_memory) | Store::Block(_memory) => {}
+        }
+    }
+}
