@@ -1,0 +1,94 @@
+ghost use Rattle.std.specs.Prelude.{◌≡◌, Bool, false};
+ghost use Rattle.il_machine.specs.declared.answer.Progress.{Progress as Reached};
+ghost use Rattle.il_machine.specs.Components.{moved_by, no_progress, first_error};
+
+use il_machine::Progress;
+use omx_types::{Completion, Event, OmxError};
+use std::marker::Model;
+
+/// An object that is told a component's events, and keeps what they come to.
+pub trait Client {
+    /// Whether clients of this type may be given headers.
+    const HEADERS: bool;
+
+    ghost HEADERS: { Bool };
+
+    /// What the events told so far come to.
+    ghost progress: { Self → Reached };
+
+    fn told(&mut self, event: Event)
+        ensures { progress self.new ≡ moved_by event (progress self.old) };
+
+    fn progress(&self) -> Progress
+        ensures { result ≡ progress self.now };
+}
+
+/// A client that keeps its progress alone, and isn't given headers.
+#[derive(Clone, Copy, Debug, PartialEq, Eq)]
+pub struct ProgressClient {
+    progress: Progress,
+}
+
+impl Model for ProgressClient {
+    ghost use Rattle.il_machine.specs.declared.answer.Progress.{Progress as Reached};
+
+    ghost Value = { Reached };
+
+    ghost view = { λ client. client.progress };
+
+    ghost inverse = { λ progress. record { progress = progress } };
+}
+
+impl ProgressClient {
+    /// A client that was told nothing yet.
+    pub fn new() -> ProgressClient
+        ensures { result ≡ no_progress }
+    {
+        ProgressClient {
+            progress: Progress {
+                state: None,
+                eos: false,
+                error: None,
+            },
+        }
+    }
+}
+
+fn first_error(earlier: Option<OmxError>, error: OmxError) -> Option<OmxError>
+    ensures { result ≡ first_error earlier error }
+{
+    match earlier {
+        Some(first) => Some(first),
+        None => Some(error),
+    }
+}
+
+/// What the progress comes to by one more event.
+fn moved(progress: Progress, event: Event) -> Progress
+    ensures { result ≡ moved_by event progress }
+{
+    let mut next = progress;
+    match event {
+        Event::CmdComplete(Completion::State(state)) => next.state = Some(state),
+        Event::Error(error) => next.error = first_error(progress.error, error),
+        Event::BufferFlag { port: _, flags } => next.eos = progress.eos || flags % 2 == 1,
+        _ => {}
+    }
+    next
+}
+
+impl Client for ProgressClient {
+    const HEADERS: bool = false;
+
+    ghost HEADERS = { false };
+
+    ghost progress = { λ client. client };
+
+    fn told(&mut self, event: Event) {
+        self.progress = moved(self.progress, event);
+    }
+
+    fn progress(&self) -> Progress {
+        self.progress
+    }
+}

@@ -1,0 +1,21 @@
+//! The queues of one component: commands that wait to be run, notes that wait to be taken, and the client
+//! object to which notes are told.
+//!
+//! Each event has a place among 256. A queued command reserves places for its events, and the owner of the
+//! queues holds further ones by `hold_places`; what is left is the room. No call but `new` takes memory.
+#![tactic(auto)]
+
+mod client;
+mod laws;
+mod notes;
+mod taken;
+#[cfg(test)]
+mod tests;
+
+pub use client::{Client, ProgressClient};
+pub use laws::law_of_room;
+pub use notes::Notes;
+pub use taken::{Call, Full, QueuedCommand, Taken, Took};
+
+/// Want of memory.
+pub type OutOfMemory = std::alloc::AllocError;
