@@ -6,7 +6,9 @@ mod kinds;
 mod laws;
 mod limits;
 mod params;
+#[cfg(test)]
+mod tests;
 
-pub use kinds::ports;
+pub use kinds::{inputs, outputs, ports};
 pub use laws::{law_of_all_else, law_of_get_after_set};
 pub use params::Params;

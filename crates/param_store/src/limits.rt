@@ -1,9 +1,12 @@
 //! The limits of values.
 
 ghost use Rattle.std.specs.Prelude.{◌≡◌};
-ghost use Rattle.il_machine.specs.Settings.{is_v112, is_within_limits, same_format, same_rate_and_channels, is_definition_of, is_good_value, is_value_of};
+ghost use Rattle.std.specs.List.{list_all};
+ghost use Rattle.il_machine.specs.Settings.{is_v112, is_within_limits, same_format, same_rate_and_channels, is_definition_of, is_good_value, is_value_of, are_fitting};
 
-use omx_types::{Format, Param, PortDefinition, Version};
+use crate::kinds;
+use il_machine::PortSetting;
+use omx_types::{Format, Kind, Param, PortDefinition, Version};
 
 pub fn is_v112(version: Version) -> bool
     ensures { result ≡ is_v112 version }
@@ -105,4 +108,29 @@ pub fn is_value_of(index: u32, value: Param) -> bool
         Param::Gain(_) => index == 4,
         Param::Weight(_) => index == 5,
     }
+}
+
+fn all_alike(ports: &[PortSetting], format: Format) -> bool
+    ensures { result ≡ list_all (λ p. same_rate_and_channels p.definition.format format) ports.now }
+{
+    ports.iter().all(|port| has_same_rate_and_channels(port.definition.format, format))
+}
+
+fn all_of_format(ports: &[PortSetting], format: Format) -> bool
+    ensures { result ≡ list_all (λ p. same_format p.definition.format format) ports.now }
+{
+    ports
+        .iter()
+        .all(|port| is_same_format(port.definition.format, format))
+}
+
+/// Whether a component of the kind can work with these settings of its ports.
+pub fn are_fitting(kind: Kind, ports: &[PortSetting]) -> bool
+    ensures { result ≡ are_fitting kind ports.now }
+{
+    let [first, rest @ ..] = ports else {
+        return true;
+    };
+    let format = first.definition.format;
+    all_alike(rest, format) && (!kinds::is_splitter(kind) || all_of_format(rest, format))
 }

@@ -88,6 +88,13 @@ impl Params {
         self.ports[port as usize]
     }
 
+    /// Whether the ports' formats fit each other.
+    pub fn fits(&self) -> bool
+        ensures { result ≡ fits self.now }
+    {
+        limits::are_fitting(self.kind, &self.ports[..kinds::ports(self.kind) as usize])
+    }
+
     fn is_index(&self, config: bool, index: u32) -> bool
         ensures { result ≡ is_index_of self.now.kind config index }
     {

@@ -55,6 +55,13 @@ impl<T: Copy> Registry<T> {
         self.slots.len() >= 32 || self.given == u64::MAX
     }
 
+    /// How many handles were given, which is the generation of the next.
+    pub fn given(&self) -> u64
+        ensures { result ≡ self.now.given }
+    {
+        self.given
+    }
+
     /// Gives a handle to the value. Which vacant slot is taken is left open.
     pub fn insert(&mut self, value: T) -> Result<Handle, (Refuse, T)>
         ensures given { IfOk result (λ h. Gives self.old self.new h value) }
