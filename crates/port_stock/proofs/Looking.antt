@@ -1,0 +1,136 @@
+-- What is found and counted among the entries, and headers that change where they stand.
+use Rattle.std.proofs.Common.{◌≡◌, ℕ, zero, suc, ◌+◌, ◌<◌, Bool, true, false, not, ◌&&◌, List, [], ◌∷◌, ◌++◌, length, map, set, get_or, take, drop, position, slice_get, Option, Some, None, is_some, is_none, option_map, count_by, cond, IsSome, refl, sym, ◌∙◌, ap, arith, add-one, append-nil, subst}
+use Rattle.std.proofs.lemmas.Bool.Decides.{nat_tests}
+use Rattle.std.proofs.lemmas.List.{drop_all, length-map, take_all}
+use Rattle.std.proofs.lemmas.List.Recursion.{is_count_by}
+use Rattle.il_machine.specs.declared.port.PortKey.{PortKey}
+use Rattle.il_machine.specs.declared.port.Mark.{Mark}
+use Rattle.il_machine.specs.declared.header.HeaderState.{HeaderState}
+use Rattle.il_machine.specs.World.{HeaderRecord}
+use Rattle.il_machine.specs.Lists.{is_empty}
+use Rattle.il_machine.specs.Headers.{count_headers, find_header, in_todo, in_unmarked, numbers, state_of}
+use Rattle.il_machine.specs.Due.{first_marked, marked}
+use Rattle.il_machine.specs.Places.{first_place}
+use Rattle.il_machine.proofs.Places.{is_first_place}
+use Rattle.stock_laws.specs.Changes.{cleared_where}
+use Rattle.stock_laws.proofs.Leaving.{front_some}
+use Rattle.header_core.specs.BufferHeader.{BufferHeader, marked as marked_header}
+use Rattle.port_stock.specs.declared.entry.Entry.{Entry}
+use Rattle.port_stock.specs.Kept.{is_waiting}
+use Rattle.port_stock.specs.Entries.{Each, IsKept, entry_cleared, headers_of, record_of}
+use Rattle.port_stock.proofs.Places.{Front, Each-at, Each-set, at, is_numbered, nowhere}
+use Rattle.port_stock.proofs.Changing.{at_is, is_kept, todo_waits}
+
+-- ---- counts and look-ups
+
+pub counted : (test : HeaderState → Bool) (es : List Entry) → count_headers test (headers_of es) ≡ count_by (λ e. test e.state) es
+counted test es = is_count_by (λ es. count_headers test (headers_of es)) (λ e. test e.state) refl (λ x xs. grind (arith, nat_tests)) es
+
+some_mapped : (o : Option ℕ) → is_some (option_map suc o) ≡ is_some o
+some_mapped None = refl
+some_mapped (Some k) = refl
+
+some_first : (q : HeaderRecord → Bool) (es : List Entry) → is_some (first_place (λ e. q (record_of e)) es) ≡ not (is_empty (numbers q (headers_of es)))
+some_first q [] = refl
+some_first q (e ∷ es) =
+    let ns = numbers q (headers_of es) in
+    elim (q (record_of e)) as (λ v. is_some (cond v (Some 0) (option_map suc (first_place (λ e. q (record_of e)) es))) ≡ not (is_empty (cond v (e.state.number ∷ ns) ns)))
+    [ true ↦ refl | false ↦ some_mapped (first_place (λ e. q (record_of e)) es) ∙ some_first q es ]
+
+-- some entry passes exactly where the list of the numbers isn't empty
+pub some_is : (q : HeaderRecord → Bool) (es : List Entry) → is_some (position (λ e. q (record_of e)) es) ≡ not (is_empty (numbers q (headers_of es)))
+some_is q es = ap is_some (is_first_place (λ e. q (record_of e)) es) ∙ some_first q es
+
+pub state_nowhere : (n : ℕ) (es : List Entry) → position (is_numbered n) es ≡ None → None ≡ option_map state_of (find_header n (headers_of es))
+state_nowhere n es h = rw (nowhere n es h) refl
+
+pub state_there : (n k : ℕ) (es : List Entry) (e : Entry) → position (is_numbered n) es ≡ Some k → e ≡ get_or es k e → Some e.state ≡ option_map state_of (find_header n (headers_of es))
+state_there n k es e h g =
+    let A = at n k es h in
+    let same : e ≡ A.it = g ∙ at_is es k A.it e A.there in
+    ap (λ (x : Entry). Some x.state) same ∙ rw A.stands.find refl
+
+-- ---- the first header without a mark gets one
+
+mark_record : (mark : Mark) (state : HeaderState) (o : Option BufferHeader) → IsSome o
+    → record_of (record { state = state; kept = option_map (marked_header mark) o }) ≡ marked (Some mark) (record_of (record { state = state; kept = o }))
+mark_record mark state None h = absurd cc
+mark_record mark state (Some header) h = refl
+
+and_left : (a b : Bool) → (a && b) ≡ true → a ≡ true
+and_left true b e = refl
+and_left false b e = absurd cc
+
+unmarked_waits : (key : PortKey) (r : HeaderRecord) → in_unmarked key r ≡ true → is_waiting r.state.place ≡ true
+unmarked_waits key r h = todo_waits key r (and_left (in_todo key r.state) (is_none r.load.mark) h)
+
+mark_kept_fits : (mark : Mark) (state : HeaderState) (o : Option BufferHeader) → IsKept (record { state = state; kept = o }) → IsKept (record { state = state; kept = option_map (marked_header mark) o })
+mark_kept_fits mark state None K = record { there = K.there; header = tt }
+mark_kept_fits mark state (Some header) K = record { there = K.there; header = (K.header.0, record { size = K.header.1.size; memory = K.header.1.memory }) }
+
+pub mark_headers : (key : PortKey) (mark : Mark) (k : ℕ) (es : List Entry) (e : Entry) (kept : Option BufferHeader) (F : Front (in_unmarked key) k es) → Each IsKept es → e ≡ F.it → kept ≡ option_map (marked_header mark) e.kept
+    → headers_of (set es k (record { state = e.state; kept = kept })) ≡ first_marked (numbers (in_unmarked key) (headers_of es)) (Some mark) (headers_of es)
+mark_headers key mark k es e kept F E same m =
+    let some = is_kept F.it (Each-at IsKept es k F.it E F.there) (unmarked_waits key (record_of F.it) F.passes) in
+    let list = front_some (numbers (in_unmarked key) (headers_of es)) F.it.state.number F.first in
+    ap (λ (x : Option BufferHeader). headers_of (set es k (record { state = e.state; kept = x }))) m
+    ∙ (ap (λ (x : Entry). headers_of (set es k (record { state = x.state; kept = option_map (marked_header mark) x.kept }))) same
+    ∙ (F.stands.changed (record { state = F.it.state; kept = option_map (marked_header mark) F.it.kept }) (marked (Some mark)) (mark_record mark F.it.state F.it.kept some)
+    ∙ ap (λ (ns : List ℕ). first_marked ns (Some mark) (headers_of es)) (sym list.1)))
+
+pub mark_each : (mark : Mark) (k : ℕ) (es : List Entry) (e : Entry) (kept : Option BufferHeader) (it : Entry) → Each IsKept es → slice_get es k ≡ Some it → e ≡ it → kept ≡ option_map (marked_header mark) e.kept
+    → Each IsKept (set es k (record { state = e.state; kept = kept }))
+mark_each mark k es e kept it E s same m =
+    let Q : Entry → Type 0 = λ x. Each IsKept (set es k (record { state = x.state; kept = option_map (marked_header mark) x.kept })) in
+    let R : Option BufferHeader → Type 0 = λ x. Each IsKept (set es k (record { state = e.state; kept = x })) in
+    subst R (sym m) (subst Q (sym same) (Each-set IsKept es k (record { state = it.state; kept = option_map (marked_header mark) it.kept }) E (mark_kept_fits mark it.state it.kept (Each-at IsKept es k it E s))))
+
+pub first_none : (q : HeaderRecord → Bool) (es : List Entry) → position (λ e. q (record_of e)) es ≡ None → false ≡ not (is_empty (numbers q (headers_of es)))
+first_none q es h = ap is_some (sym h) ∙ some_is q es
+
+pub first_some : (q : HeaderRecord → Bool) (k : ℕ) (es : List Entry) → position (λ e. q (record_of e)) es ≡ Some k → true ≡ not (is_empty (numbers q (headers_of es)))
+first_some q k es h = ap is_some (sym h) ∙ some_is q es
+
+-- ---- all headers of a list are cleared
+
+pub map_step : {X : Type 0} (f : X → X) (xs : List X) (i : ℕ) (x : X) → i < length xs → x ≡ get_or (map f (take i xs) ++ drop i xs) i x
+    → set (map f (take i xs) ++ drop i xs) i (f x) ≡ map f (take (i + 1) xs) ++ drop (i + 1) xs
+map_step f [] i x l g = absurd (omega arith)
+map_step {X} f (y ∷ xs) zero x l g = ap (λ (v : X). f v ∷ xs) g
+map_step {X} f (y ∷ xs) (suc i) x l g = rw add-one (ap (λ (v : List X). f y ∷ v) (rw add-one at (map_step f xs i x (omega arith) g)))
+
+pub loop_step : {X : Type 0} (f : X → X) (xs now : List X) (i : ℕ) (x y : X) → i < length xs → now ≡ map f (take i xs) ++ drop i xs → y ≡ f (get_or now i x) → x ≡ get_or now i x
+    → set now i y ≡ map f (take (i + 1) xs) ++ drop (i + 1) xs
+loop_step {X} f xs now i x y l n e g =
+    let at : x ≡ get_or (map f (take i xs) ++ drop i xs) i x = g ∙ ap (λ (v : List X). get_or v i x) n in
+    ap (λ (v : X). set now i v) (e ∙ ap f (sym g)) ∙ (ap (λ (v : List X). set v i (f x)) n ∙ map_step f xs i x l at)
+
+record_cleared : (b : Bool) (state : HeaderState) (kept : Option BufferHeader) → record_of (entry_cleared b (record { state = state; kept = kept })) ≡ cleared_where b (record_of (record { state = state; kept = kept }))
+record_cleared true state None = refl
+record_cleared true state (Some header) = refl
+record_cleared false state kept = refl
+
+pub headers_cleared : (test : HeaderState → Bool) (es : List Entry) → headers_of (map (λ e. entry_cleared (test e.state) e) es) ≡ map (λ r. cleared_where (test r.state) r) (headers_of es)
+headers_cleared test [] = refl
+headers_cleared test (e ∷ es) = λ i. record_cleared (test e.state) e.state e.kept i ∷ headers_cleared test es i
+
+kept_cleared : (b : Bool) (state : HeaderState) (kept : Option BufferHeader) → IsKept (record { state = state; kept = kept }) → IsKept (entry_cleared b (record { state = state; kept = kept }))
+kept_cleared true state None K = record { there = K.there; header = tt }
+kept_cleared true state (Some header) K = record { there = K.there; header = (K.header.0, record { size = K.header.1.size; memory = K.header.1.memory }) }
+kept_cleared false state kept K = K
+
+pub each_cleared : (test : HeaderState → Bool) (es : List Entry) → Each IsKept es → Each IsKept (map (λ e. entry_cleared (test e.state) e) es)
+each_cleared test [] E = tt
+each_cleared test (e ∷ es) E = (kept_cleared (test e.state) e.state e.kept E.0, each_cleared test es E.1)
+
+-- what is written over a whole list stands in its place
+pub whole : {X : Type 0} (n : ℕ) (xs ys : List X) → n ≡ length xs → length ys ≡ length xs → take n (ys ++ drop (length ys) xs) ≡ ys
+whole {X} n xs ys a b =
+    let none : drop (length ys) xs ≡ [] = drop_all (length ys) xs (omega arith) in
+    ap (λ (v : List X). take n (ys ++ v)) none ∙ (ap (take n) (append-nil ys) ∙ take_all n ys (omega arith))
+
+-- the entries that were written over are those with every header of the list cleared
+pub rewritten : (test : HeaderState → Bool) (n : ℕ) (es us : List Entry) → n ≡ length es → us ≡ map (λ e. entry_cleared (test e.state) e) es → take n (us ++ drop (length us) es) ≡ map (λ e. entry_cleared (test e.state) e) es
+rewritten test n es us a u =
+    let l : length us ≡ length es = ap length u ∙ simp length-map in
+    whole n es us a l ∙ u

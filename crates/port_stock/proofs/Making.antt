@@ -1,0 +1,59 @@
+-- A header is made: there is a place and a number for it, and the stock is read so.
+use Rattle.std.proofs.Common.{◌≡◌, ℕ, ◌+◌, ◌*◌, ◌<◌, ◌≤◌, true, List, [], ◌∷◌, ◌++◌, length, Option, Some, None, MatchOption, sym, ◌∙◌, ap, arith, subst}
+use Rattle.std.proofs.lemmas.List.{length-map}
+use Rattle.std.proofs.lemmas.Bool.Decides.{nat_tests}
+use Rattle.il_machine.specs.declared.port.PortKey.{PortKey}
+use Rattle.il_machine.specs.declared.header.Place.TheVariants.{Out}
+use Rattle.il_machine.specs.declared.header.HeaderState.{HeaderState}
+use Rattle.il_machine.specs.World.{HeaderRecord}
+use Rattle.il_machine.specs.Headers.{count_headers, find_header, is_for, no_load}
+use Rattle.il_machine.specs.Stock.{populated}
+use Rattle.header_core.specs.BufferHeader.{BufferHeader}
+use Rattle.stock_laws.proofs.Flat.{find-append}
+use Rattle.port_stock.specs.declared.entry.Entry.{Entry}
+use Rattle.port_stock.specs.Kept.{Kept, stocked}
+use Rattle.port_stock.specs.Conditions.{HasFewer, IsHeaderOf, IsOutside, IsPort, has_key, made_in}
+use Rattle.port_stock.specs.Entries.{AreLawful, headers_of}
+use Rattle.port_stock.proofs.Stocking.{kept, reads, stocked-is, populate_read, unnumbered}
+use Rattle.port_stock.proofs.Lawful.{fresh_number, lawful_room, populate_lawful}
+use Rattle.port_stock.proofs.Calls.{Becomes, IsOutFlat, count_read, flat_state}
+
+port_kept : (k : Kept) (key : PortKey) → IsPort key (stocked k) → has_key key k.ports ≡ true
+port_kept k key h = ap (has_key key) (reads k).ports ∙ h
+
+few_kept : (k : Kept) (key : PortKey) → made_in (stocked k) key < 32 → count_headers (is_for key) k.headers < 32
+few_kept k key h = let e = count_read k (is_for key) in omega arith
+
+few_peer : (k : Kept) (peer : Option PortKey) → HasFewer (made_in (stocked k)) peer → HasFewer (λ key. count_headers (is_for key) k.headers) peer
+few_peer k None h = tt
+few_peer k (Some key) h = few_kept k key h
+
+pub room : (k : Kept) (es : List Entry) (key : PortKey) (len places : ℕ) → AreLawful k.ports k.next k.headers → k.headers ≡ headers_of es → len ≡ length es → 32 * length k.ports ≤ places
+    → IsPort key (stocked k) → made_in (stocked k) key < 32 → len < places
+room k es key len places L h n r p m =
+    let a = lawful_room k.ports k.next k.headers key L (port_kept k key p) (few_kept k key m) in
+    let b : length k.headers ≡ length es = ap length h ∙ simp length-map in
+    omega arith
+
+pub populate_becomes : (k : Kept) (hs : List HeaderRecord) (state : HeaderState) → AreLawful k.ports k.next k.headers → state.number ≡ k.next → state.place ≡ Out
+    → IsPort state.port (stocked k) → made_in (stocked k) state.port < 32 → HasFewer (made_in (stocked k)) state.peer
+    → hs ≡ k.headers ++ record { state = state; load = no_load } ∷ [] → Becomes k.ports hs (k.next + 1) (populated state (stocked k))
+populate_becomes k hs state L num o p m q h =
+    let P : List HeaderRecord → Type 0 = AreLawful k.ports (k.next + 1) in
+    record {
+      lawful = subst P (sym h) (populate_lawful k.ports k.next k.headers state num (port_kept k state.port p) (few_kept k state.port m) (few_peer k state.peer q) L);
+      is = stocked-is k.ports hs (k.next + 1) _ (populate_read k hs state L.once (fresh_number k.ports k.next k.headers L) num o h);
+    }
+
+pub new_number : (k : Kept) → AreLawful k.ports k.next k.headers → (stocked k).headers.header (stocked k).next ≡ None
+new_number k L = unnumbered k (fresh_number k.ports k.next k.headers L)
+
+pub made_outside : (k : Kept) (hs : List HeaderRecord) (state : HeaderState) (header : BufferHeader) → AreLawful k.ports k.next k.headers → state.number ≡ k.next → state.place ≡ Out → header.held.number ≡ k.next
+    → IsHeaderOf state header → hs ≡ k.headers ++ record { state = state; load = no_load } ∷ [] → IsOutside header (stocked (kept k.ports hs (k.next + 1)))
+made_outside k hs state header L num o n f h =
+    let x : HeaderRecord = record { state = state; load = no_load } in
+    let gone : find_header state.number k.headers ≡ None = rw num (fresh_number k.ports k.next k.headers L) in
+    let now : find_header header.held.number hs ≡ Some x
+    = ap (find_header header.held.number) h ∙ (find-append header.held.number k.headers x gone ∙ let e : state.number ≡ header.held.number = num ∙ sym n in grind (arith, nat_tests)) in
+    let Q : Option HeaderRecord → Type 0 = λ o. MatchOption o ⊥ (λ r. IsOutFlat header r.state) in
+    flat_state (kept k.ports hs (k.next + 1)) header.held.number (IsOutFlat header) (subst Q (sym now) (o, f))

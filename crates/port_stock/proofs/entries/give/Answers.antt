@@ -1,0 +1,15 @@
+use Rattle.std.proofs.Common.{◌≡◌, None, position, sym, ◌∙◌}
+use Rattle.il_machine.specs.declared.header.Place.TheVariants.{Out}
+use Rattle.port_stock.proofs.Places.{at, is_numbered}
+use Rattle.port_stock.proofs.Changing.{unreached, give_headers}
+use Rattle.port_stock.proofs.entries.give.Goals as goal
+
+pub unreachable-requires : goal.unreachable-requires
+unreachable-requires c =
+    let e : position (is_numbered c.args.number) c.args.entries.now.items ≡ None = rw c.deref.ensures.value at (sym c.number_place.ensures.place ∙ c.in_default.is) in
+    unreached c.args.number c.args.entries.now.items (λ r. r.state.place ≡ Out) e c.requires.outside
+
+pub returns-clause-headers : goal.returns-clause-headers
+returns-clause-headers c =
+    let A = at c.args.number _ _ (rw c.deref.ensures.value at (sym c.number_place.ensures.place ∙ c.in-Some.is)) in
+    give_headers _ _ _ _ _ A c.index_mut-entry.ensures.value c.requires.outside

@@ -1,0 +1,67 @@
+-- The entries of a stock, as a flat list of headers, and what is true of them.
+use Rattle.std.specs.Prelude.{◌≡◌, ℕ, ◌*◌, ◌<◌, ◌≤◌, Bool, true, false, List, [], ◌∷◌, ◌++◌, map, length, Option, Some, None, is_some, option_map, slice_get, MatchOption}
+use Rattle.il_machine.specs.declared.port.PortKey.{PortKey}
+use Rattle.il_machine.specs.declared.header.Spot.{Spot}
+use Rattle.il_machine.specs.declared.header.Spot.TheVariants.{TodoBack, TodoFront, DoneBack}
+use Rattle.il_machine.specs.World.{HeaderRecord, Load}
+use Rattle.il_machine.specs.Headers.{no_load, Once, count_headers, is_for, numbers, find_header, changed, cleared}
+use Rattle.il_machine.specs.Stock.{state_out}
+use Rattle.il_machine.specs.Buffers.{load_in}
+use Rattle.header_core.specs.BufferHeader.{BufferHeader, cleared as emptied_header}
+use Rattle.stock_laws.specs.Changes.{out_of_list}
+use Rattle.port_stock.specs.declared.entry.Entry.{Entry}
+use Rattle.port_stock.specs.Kept.{is_waiting}
+use Rattle.port_stock.specs.Conditions.{has_key, IsHeaderOf}
+
+abbrev pub load_of_kept : Option BufferHeader → Load
+load_of_kept None = no_load
+load_of_kept (Some header) = load_in header.held
+
+abbrev pub record_of : Entry → HeaderRecord
+record_of e = record { state = e.state; load = load_of_kept e.kept }
+
+abbrev pub headers_of : List Entry → List HeaderRecord
+headers_of entries = map record_of entries
+
+-- appended, or prepended where the spot is the front of todo
+abbrev pub entry_at : Spot → Entry → List Entry → List Entry
+entry_at TodoBack e entries = entries ++ e ∷ []
+entry_at TodoFront e entries = e ∷ entries
+entry_at DoneBack e entries = entries ++ e ∷ []
+
+-- the header at the front of the numbers left its list, and was given out with all that was kept of it
+pub record IsTaken (test : HeaderRecord → Bool) (header : BufferHeader) (old new : List HeaderRecord) : Type 0 where
+  pub front : slice_get (numbers test old) 0 ≡ Some header.held.number
+  pub was : MatchOption (find_header header.held.number old) ⊥ (λ r. (test r ≡ true) × (r.load ≡ load_in header.held) × IsHeaderOf r.state header)
+  pub after : new ≡ changed header.held.number (λ r. cleared (out_of_list r)) old
+
+abbrev pub entry_out : Entry → Entry
+entry_out e = record { state = state_out e.state; kept = None }
+
+abbrev pub entry_cleared : Bool → Entry → Entry
+entry_cleared true e = record e { kept = option_map emptied_header e.kept }
+entry_cleared false e = e
+
+-- ---- what is true of the entries
+
+abbrev pub Each : {A : Type 0} → (A → Type 0) → List A → Type 0
+Each P [] = Unit {0}
+Each P (x ∷ xs) = P x × Each P xs
+
+-- An entry has its header exactly where that waits in a list.
+pub record IsKept (e : Entry) : Type 0 where
+  pub there : is_some e.kept ≡ is_waiting e.state.place
+  pub header : MatchOption e.kept (Unit {0}) (λ header. (header.held.number ≡ e.state.number) × IsHeaderOf e.state header)
+
+-- Numbers differ and were given, and no more than 32 headers are made for a port.
+pub record AreLawful (ports : List PortKey) (next : ℕ) (headers : List HeaderRecord) : Type 0 where
+  pub once : Once headers
+  pub numbered : Each (λ r. r.state.number < next) headers
+  pub placed : Each (λ r. has_key r.state.port ports ≡ true) headers
+  pub few : (key : PortKey) → count_headers (is_for key) headers ≤ 32
+
+-- There is a place for each header that can be made.
+pub record IsLawful (ports : List PortKey) (entries : List Entry) (next places : ℕ) : Type 0 where
+  pub headers : AreLawful ports next (headers_of entries)
+  pub kept : Each IsKept entries
+  pub room : 32 * length ports ≤ places

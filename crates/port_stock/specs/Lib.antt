@@ -1,0 +1,4 @@
+pub mod Kept
+pub mod Conditions
+pub mod Entries
+pub mod Example

@@ -1,0 +1,135 @@
+ghost use Rattle.std.specs.Prelude.{◌≡◌, ◌&&◌, not, is_none};
+ghost use Rattle.il_machine.specs.Headers.{in_todo, in_done, is_away, is_at_home, is_for, is_home_of, is_home_owner, is_key, is_notice, is_owned_by, same_key, spot_place, state_at};
+ghost use Rattle.il_machine.specs.Stock.{home_owner};
+
+use header_core::Header;
+use il_machine::{HeaderState, Home, Owner, Place, PortKey, Spot};
+
+/// A header's state, and the header itself while it waits in a list of a port.
+pub struct Entry {
+    pub state: HeaderState,
+    pub kept: Option<Header>,
+}
+
+impl Entry {
+    /// Lets the entry go, with its header where that waits in a list.
+    pub fn dispose(self) {
+        let Entry { state: _, kept } = self;
+        match kept {
+            Some(header) => header.dispose(),
+            None => {}
+        }
+    }
+}
+
+pub fn is_same_key(a: PortKey, b: PortKey) -> bool
+    ensures { result ≡ same_key a b }
+{
+    a.component == b.component && a.port == b.port
+}
+
+fn is_peer(key: PortKey, peer: Option<PortKey>) -> bool
+    ensures { result ≡ is_key key peer }
+{
+    match peer {
+        Some(peer) => is_same_key(peer, key),
+        None => false,
+    }
+}
+
+/// Whether the header was made for the port.
+pub fn is_made_for(key: PortKey, state: &HeaderState) -> bool
+    ensures { result ≡ is_for key state.now }
+{
+    is_same_key(state.port, key) || is_peer(key, state.peer)
+}
+
+fn is_of_port(key: PortKey, owner: Owner) -> bool
+    ensures { result ≡ is_owned_by key owner }
+{
+    match owner {
+        Owner::Port(owner) => is_same_key(owner, key),
+        Owner::Client | Owner::Work(_) | Owner::Notice(_) => false,
+    }
+}
+
+pub fn waits_in_todo(key: PortKey, state: &HeaderState) -> bool
+    ensures { result ≡ in_todo key state.now }
+{
+    matches!(state.place, Place::Todo) && is_of_port(key, state.owner)
+}
+
+pub fn waits_in_done(key: PortKey, state: &HeaderState) -> bool
+    ensures { result ≡ in_done key state.now }
+{
+    matches!(state.place, Place::Done) && is_of_port(key, state.owner)
+}
+
+fn is_owner_home(home: Home, owner: Owner) -> bool
+    ensures { result ≡ is_home_owner home owner }
+{
+    match (home, owner) {
+        (Home::Client, Owner::Client) => true,
+        (Home::Port(home), Owner::Port(owner)) => is_same_key(home, owner),
+        _ => false,
+    }
+}
+
+fn is_in_notice(owner: Owner) -> bool
+    ensures { result ≡ is_notice owner }
+{
+    matches!(owner, Owner::Notice(_))
+}
+
+/// Whether the header was made for the port and its owner is neither its home nor a notice.
+pub fn is_outstanding(key: PortKey, state: &HeaderState) -> bool
+    ensures { result ≡ (is_for key state.now && is_away state.now) }
+{
+    is_made_for(key, state)
+        && !(is_owner_home(state.home, state.owner) || is_in_notice(state.owner))
+}
+
+fn is_home(key: PortKey, home: Home) -> bool
+    ensures { result ≡ is_home_of key home }
+{
+    match home {
+        Home::Port(home) => is_same_key(home, key),
+        Home::Client => false,
+    }
+}
+
+/// Whether the header is in a list of the port, and the port isn't its home.
+pub fn is_foreign(key: PortKey, state: &HeaderState) -> bool
+    ensures { result ≡ (is_owned_by key state.now.owner && not (is_home_of key state.now.home)) }
+{
+    is_of_port(key, state.owner) && !is_home(key, state.home)
+}
+
+fn place_of(spot: Spot) -> Place
+    ensures { result ≡ spot_place spot }
+{
+    match spot {
+        Spot::TodoBack | Spot::TodoFront => Place::Todo,
+        Spot::DoneBack => Place::Done,
+    }
+}
+
+/// The state of a header that is put at the spot of the port.
+pub fn put_state(key: PortKey, spot: Spot, state: HeaderState) -> HeaderState
+    ensures { result ≡ state_at key spot state }
+{
+    HeaderState {
+        owner: Owner::Port(key),
+        place: place_of(spot),
+        ..state
+    }
+}
+
+pub fn owner_at(home: Home) -> Owner
+    ensures { result ≡ home_owner home }
+{
+    match home {
+        Home::Client => Owner::Client,
+        Home::Port(key) => Owner::Port(key),
+    }
+}

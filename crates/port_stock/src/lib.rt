@@ -1,0 +1,21 @@
+//! The ports and headers of one graph: which ports there are, in which list of a port each header waits, who has it,
+//! and the headers themselves while they wait.
+//!
+//! Contracts see a stock by `stocked`, which gives the lists, states and counts of `il_machine`'s `Stocked`. The laws that
+//! tie these to the machine's flat lists of headers are those of `stock_laws`. Headers are kept in one flat list here, whose
+//! order is that of each list of a port; nothing of it shows.
+//!
+//! No call takes memory but `new` and `add_ports`. A stock must be ended by `close`.
+#![tactic(auto)]
+
+mod entries;
+mod entry;
+mod ports;
+mod stock;
+#[cfg(test)]
+mod tests;
+
+pub use stock::Stock;
+
+/// Want of memory.
+pub type OutOfMemory = std::alloc::AllocError;

@@ -1,0 +1,303 @@
+ghost use Rattle.std.specs.Prelude.{◌≡◌, ◌+◌, ◌<◌, ◌≤◌, ◌&&◌, ℕ, length, nat_eq, not, true, false, slice_get, option_map, None, IfOk, IfSome, OnOk, OnErr};
+ghost use Rattle.il_machine.specs.Lists.{is_empty};
+ghost use Rattle.il_machine.specs.Headers.{in_todo, in_done, is_away, is_for, is_home_of, is_owned_by};
+ghost use Rattle.il_machine.specs.Buffers.{is_block, load_in};
+ghost use Rattle.il_machine.specs.Stock.{added, given, made_header, no_stock, populated, pulled, pushed, removed, sent, withdrawn};
+ghost use Rattle.header_core.specs.BufferHeader.{bytes_of, fresh, is_clients};
+ghost use Rattle.stock_laws.specs.Changes.{done_cleared, marked_first, todo_cleared};
+ghost use Rattle.port_stock.specs.Kept.{stocked};
+ghost use Rattle.port_stock.specs.Conditions.{HasFewer, IsFrom, IsMadeFor, IsOut, IsOutside, IsPeer, IsPort, IsUnmade, IsWithoutPorts, is_home_among, is_port, made_in, number_of};
+
+use crate::entry::{Entry, owner_at};
+use crate::{OutOfMemory, entries, ports};
+use header_core::{Header, Store};
+use il_machine::{HeaderState, Home, Mark, Owner, Place, PortKey, Spot};
+use std::alloc::Global;
+use std::marker::Model;
+
+/// The ports and headers of one graph.
+pub struct Stock {
+    ports: Vec<PortKey>,
+    entries: Vec<Entry>,
+    next: u64,
+}
+
+impl Model for Stock {
+    ghost use Rattle.port_stock.specs.Kept.{Kept};
+
+    ghost Value = { Kept };
+
+    ghost use Rattle.std.specs.Prelude.{vec_capacity};
+    ghost use Rattle.port_stock.specs.Entries.{IsLawful, headers_of};
+
+    ghost view = { λ s. record { ports = s.ports.items; headers = headers_of s.entries.items; next = s.next } };
+
+    ghost invariant = { λ s. IsLawful s.ports.items s.entries.items s.next (vec_capacity s.entries) };
+}
+
+impl Stock {
+    /// A stock without ports and headers.
+    pub fn new(alloc: Global) -> Result<Stock, OutOfMemory>
+        ensures { IfOk result (λ s. stocked s ≡ no_stock) }
+    {
+        Ok(Stock {
+            ports: Vec::new(alloc),
+            entries: Vec::new(alloc),
+            next: 0,
+        })
+    }
+
+    /// Adds the ports of a component, numbered from 0: its inputs, then its outputs.
+    pub fn add_ports(
+        &mut self,
+        _alloc: Global,
+        component: u64,
+        inputs: u32,
+        outputs: u32,
+    ) -> Result<(), OutOfMemory>
+        requires without { IsWithoutPorts component (stocked self.old) }
+        requires inputs { inputs ≤ 8 }
+        requires outputs { outputs ≤ 8 }
+        ensures ok { OnOk result (stocked self.new ≡ added component (inputs + outputs) (stocked self.old)) }
+        ensures err { OnErr result (stocked self.new ≡ stocked self.old) }
+    {
+        let count = inputs + outputs;
+        ports::reserve(&mut self.ports, &mut self.entries, count as usize)?;
+        ports::push(&mut self.ports, component, count);
+        Ok(())
+    }
+
+    /// Takes the ports of a component away.
+    pub fn remove_ports(&mut self, component: u64)
+        requires { IsUnmade component (stocked self.old) }
+        ensures { stocked self.new ≡ removed component (stocked self.old) }
+    {
+        ports::remove(&mut self.ports, component);
+    }
+
+    /// Makes a header for the port, and for the other port of its tunnel.
+    pub fn populate(
+        &mut self,
+        port: PortKey,
+        peer: Option<PortKey>,
+        home: Home,
+        store: Store,
+        size: u32,
+    ) -> Header
+        requires port { IsPort port (stocked self.old) }
+        requires peer { IsPeer peer (stocked self.old) }
+        requires home { is_home_among port peer home ≡ true }
+        requires some { 1 ≤ size }
+        requires limit { size ≤ 4096 }
+        requires fits { size ≤ length (bytes_of store) }
+        requires few { made_in (stocked self.old) port < 32 }
+        requires few_of_peer { HasFewer (made_in (stocked self.old)) peer }
+        requires numbers { (stocked self.old).next < 18446744073709551615 }
+        ensures header { result ≡ fresh (stocked self.old).next store size }
+        ensures new_number { (stocked self.old).headers.header (stocked self.old).next ≡ None }
+        ensures outside { IsOutside result (stocked self.new) }
+        ensures stock { stocked self.new
+            ≡ populated (made_header (stocked self.old).next port peer home size (is_clients store)) (stocked self.old) }
+    {
+        let number = self.next;
+        let state = HeaderState {
+            number,
+            port,
+            peer,
+            home,
+            owner: owner_at(home),
+            place: Place::Out,
+            size,
+            client_memory: store.is_clients(),
+        };
+        entries::add(&mut self.entries, state);
+        self.next += 1;
+        Header::new(number, store, size)
+    }
+
+    /// Unmakes a header and gives its memory back.
+    pub fn withdraw(&mut self, header: Header) -> Store
+        requires { IsOutside header (stocked self.old) }
+        ensures store { result ≡ header.store }
+        ensures stock { stocked self.new ≡ withdrawn header.held.number (stocked self.old) }
+    {
+        entries::remove(&mut self.entries, header.id());
+        header.into_store()
+    }
+
+    /// The front of `todo`, which leaves it.
+    pub fn pull_work(&mut self, port: PortKey) -> Option<Header>
+        requires { IsPort port (stocked self.old) }
+        ensures front { option_map number_of result ≡ slice_get ((stocked self.old).headers.todo port) 0 }
+        ensures was { IfSome result (λ header. IsFrom (in_todo port) header (stocked self.old)) }
+        ensures outside { IfSome result (λ header. IsOutside header (stocked self.new)) }
+        ensures stock { stocked self.new ≡ pulled port (stocked self.old) }
+    {
+        entries::pull(&mut self.entries, port)
+    }
+
+    /// The front of `done`, which leaves it.
+    pub fn send_front(&mut self, port: PortKey) -> Option<Header>
+        requires { IsPort port (stocked self.old) }
+        ensures front { option_map number_of result ≡ slice_get ((stocked self.old).headers.done port) 0 }
+        ensures was { IfSome result (λ header. IsFrom (in_done port) header (stocked self.old)) }
+        ensures outside { IfSome result (λ header. IsOutside header (stocked self.new)) }
+        ensures stock { stocked self.new ≡ sent port (stocked self.old) }
+    {
+        entries::send(&mut self.entries, port)
+    }
+
+    /// Puts a header that is in no list at the spot of a port that it was made for.
+    pub fn push_work(&mut self, port: PortKey, header: Header, spot: Spot)
+        requires port { IsPort port (stocked self.old) }
+        requires outside { IsOutside header (stocked self.old) }
+        requires made_for { IsMadeFor port header (stocked self.old) }
+        ensures { stocked self.new ≡ pushed port spot header.held.number (load_in header.held) (stocked self.old) }
+    {
+        entries::put(&mut self.entries, port, header, spot);
+    }
+
+    /// Gives a header that is in no list to an owner that is no port.
+    pub fn set_out(&mut self, id: u64, owner: Owner)
+        requires outside { IsOut id (stocked self.old) }
+        requires owner { is_port owner ≡ false }
+        ensures { stocked self.new ≡ given id owner (stocked self.old) }
+    {
+        entries::give(&mut self.entries, id, owner);
+    }
+
+    /// Clears every header of `todo` where it stands.
+    pub fn clear_todo(&mut self, port: PortKey)
+        requires { IsPort port (stocked self.old) }
+        ensures { stocked self.new ≡ todo_cleared port (stocked self.old) }
+    {
+        entries::clear_todo(&mut self.entries, port);
+    }
+
+    /// Clears every header of `done` where it stands.
+    pub fn clear_done(&mut self, port: PortKey)
+        requires { IsPort port (stocked self.old) }
+        ensures { stocked self.new ≡ done_cleared port (stocked self.old) }
+    {
+        entries::clear_done(&mut self.entries, port);
+    }
+
+    /// Gives the mark to the first header of `todo` without one, and answers whether there was one.
+    pub fn mark_first(&mut self, port: PortKey, mark: Mark) -> bool
+        requires { IsPort port (stocked self.old) }
+        ensures some { result ≡ not (is_empty ((stocked self.old).headers.unmarked port)) }
+        ensures stock { stocked self.new ≡ marked_first port mark (stocked self.old) }
+    {
+        entries::mark_first(&mut self.entries, port, mark)
+    }
+
+    /// What is known of the header of the number: `None` where no such header is made.
+    pub fn state(&self, id: u64) -> Option<HeaderState>
+        ensures { result ≡ (stocked self.now).headers.header id }
+    {
+        entries::state_of(&self.entries, id)
+    }
+
+    /// Who has the header of the number: `None` where no such header is made.
+    pub fn owner(&self, id: u64) -> Option<Owner>
+        ensures { result ≡ option_map (λ h. h.owner) ((stocked self.now).headers.header id) }
+    {
+        let Some(state) = self.state(id) else {
+            return None;
+        };
+        Some(state.owner)
+    }
+
+    /// How many headers are made for the port.
+    pub fn made(&self, port: PortKey) -> u32
+        requires { IsPort port (stocked self.now) }
+        ensures made { result ≡ made_in (stocked self.now) port }
+        ensures few { result ≤ 32 }
+    {
+        entries::made(&self.entries, port) as u32
+    }
+
+    /// How many of those have an owner that is neither their home nor a notice.
+    pub fn outstanding(&self, port: PortKey) -> u32
+        requires { IsPort port (stocked self.now) }
+        ensures { result ≡ (stocked self.now).headers.count (λ h. is_for port h && is_away h) }
+    {
+        entries::outstanding(&self.entries, port) as u32
+    }
+
+    /// How many headers the port has whose home it isn't.
+    pub fn foreign(&self, port: PortKey) -> u64
+        requires { IsPort port (stocked self.now) }
+        ensures { result ≡ (stocked self.now).headers.count (λ h. is_owned_by port h.owner && not (is_home_of port h.home)) }
+    {
+        entries::foreign(&self.entries, port) as u64
+    }
+
+    /// How many headers have a block of the graph.
+    pub fn blocks(&self) -> u64
+        ensures { result ≡ (stocked self.now).headers.count is_block }
+    {
+        entries::blocks(&self.entries) as u64
+    }
+
+    pub fn has_todo(&self, port: PortKey) -> bool
+        requires { IsPort port (stocked self.now) }
+        ensures { result ≡ not (is_empty ((stocked self.now).headers.todo port)) }
+    {
+        entries::has_todo(&self.entries, port)
+    }
+
+    pub fn has_done(&self, port: PortKey) -> bool
+        requires { IsPort port (stocked self.now) }
+        ensures { result ≡ not (is_empty ((stocked self.now).headers.done port)) }
+    {
+        entries::has_done(&self.entries, port)
+    }
+
+    /// Whether `todo` has a header without a mark.
+    pub fn has_unmarked(&self, port: PortKey) -> bool
+        requires { IsPort port (stocked self.now) }
+        ensures { result ≡ not (is_empty ((stocked self.now).headers.unmarked port)) }
+    {
+        entries::has_unmarked(&self.entries, port)
+    }
+
+    /// Whether a header can be numbered: fewer than 2^64 - 1 were.
+    pub fn numbers_left(&self) -> bool
+        ensures { result ≡ not (nat_eq (stocked self.now).next 18446744073709551615) }
+    {
+        self.next != u64::MAX
+    }
+
+    /// The number of the next header.
+    pub fn next_number(&self) -> u64
+        ensures { result ≡ (stocked self.now).next }
+    {
+        self.next
+    }
+
+    /// Ends a stock for which no header is made.
+    pub fn close(self)
+        requires { (number : ℕ) → (stocked self).headers.header number ≡ None }
+    {
+        let Stock {
+            ports: _,
+            entries,
+            next: _,
+        } = self;
+        entries.destroy_empty();
+    }
+
+    /// Ends a stock whatever is made. The headers that wait in its lists go.
+    pub fn dispose(self) {
+        let Stock {
+            ports: _,
+            mut entries,
+            next: _,
+        } = self;
+        while let Some(entry) = entries.pop() {
+            entry.dispose();
+        }
+        entries.destroy_empty();
+    }
+}
