@@ -1,0 +1,45 @@
+-- A command is carried out: what it takes of places, whatever else is looked at.
+use Rattle.std.proofs.Common.{◌≡◌, ◌≤◌, ◌<◌, Option, Some, None, List, [], ◌∷◌, drop, slice_get, refl, ap, subst, arith}
+use Rattle.omx_types.specs.declared.state.State.{State}
+use Rattle.omx_types.specs.declared.error.OmxError.{OmxError}
+use Rattle.omx_types.specs.declared.command.Command.{Command}
+use Rattle.omx_types.specs.declared.command.Command.TheVariants as variants
+use Rattle.omx_types.specs.declared.command.Event.TheVariants.{Error}
+use Rattle.il_machine.specs.World.{Component, no_world}
+use Rattle.il_machine.specs.Look.{Look, look}
+use Rattle.il_machine.specs.Room.{used, room}
+use Rattle.il_machine.specs.Commands.{begun, carried_out, run_front}
+use Rattle.il_component.proofs.Fit.{used-told}
+
+-- some look: a command is carried out alike in each
+pub a_look : Look
+a_look = look (no_world 0)
+
+pub room_to_tell : (fault : Option OmxError) (error : OmxError) (target : State) (c : Component) → fault ≡ Some error → used (begun fault target c) ≤ 256 → 0 < room c
+room_to_tell fault error target c e u =
+    let b : used (begun (Some error) target c) ≤ 256 = subst (λ (f : Option OmxError). used (begun f target c) ≤ 256) e u in
+    let t = used-told (Error error) c in
+    omega arith
+
+pub begun_with : (fault : Option OmxError) (x : Option OmxError) (target : State) (c : Component) → fault ≡ x → begun fault target c ≡ begun x target c
+begun_with fault x target c e = ap (λ (f : Option OmxError). begun f target c) e
+
+pub run_first : (l : Look) (commands : List Command) (command : Command) (c : Component) → Some command ≡ slice_get commands 0 → run_front l commands c ≡ carried_out l command (record c { commands = drop 1 commands })
+run_first l [] command c e = absurd cc
+run_first l (x ∷ commands) command c e = let q : x ≡ command = cc in ap (λ (y : Command). carried_out l y (record c { commands = commands })) q
+
+pub run_none : (l : Look) (commands : List Command) (c : Component) → None ≡ slice_get commands 0 → run_front l commands c ≡ c
+run_none l [] c e = refl
+run_none l (x ∷ commands) c e = absurd cc
+
+-- what is carried out is the same in each look
+pub carried_alike : (l m : Look) (command : Command) (c : Component) → carried_out l command c ≡ carried_out m command c
+carried_alike l m (variants.StateSet target) c = refl
+carried_alike l m (variants.Flush sel) c = refl
+carried_alike l m (variants.PortDisable sel) c = refl
+carried_alike l m (variants.PortEnable sel) c = refl
+carried_alike l m (variants.MarkBuffer port target value) c = refl
+
+pub front_alike : (l m : Look) (commands : List Command) (c : Component) → run_front l commands c ≡ run_front m commands c
+front_alike l m [] c = refl
+front_alike l m (command ∷ commands) c = carried_alike l m command (record c { commands = commands })

@@ -1,0 +1,255 @@
+//! How a component's record changes: its state, its ports, its queue of commands.
+
+ghost use Rattle.std.specs.Prelude.{◌≡◌, ◌<◌, ◌≤◌, ◌+◌, ℕ, length, None, Some, IsSome, MatchOption, slice_set, true, false, [], ◌∷◌, drop, slice_get};
+ghost use Rattle.il_machine.specs.Kinds.{ports_in};
+ghost use Rattle.il_machine.specs.World.{told, port_of, with_port};
+ghost use Rattle.il_machine.specs.Room.{cost_of, room, used, events_in};
+ghost use Rattle.il_machine.specs.Commands.{invalidated, lacks_place, sent, with_selected};
+ghost use Rattle.omx_types.specs.declared.state.State.TheVariants as states;
+ghost use Rattle.omx_types.specs.declared.command.Event.TheVariants as events;
+ghost use Rattle.il_machine.specs.Due.{arrived, lost};
+ghost use Rattle.il_component.specs.Entries.{component_of, KeepsNotices};
+ghost use Rattle.il_component.specs.Places.{places_of, completed_if};
+ghost use Rattle.il_component.specs.PortChanges.{changed_by, flush_ended, mode_ended, mark_ended};
+ghost use Rattle.note_queues.specs.Queues.{holding, costs, notes_of};
+
+use crate::commands::is_at_once;
+use crate::component::Component;
+use crate::port_changes::{PortChange, all_port_places, change_selected, put_at_rest};
+use il_machine::{Cause, Mode, Pending, PortState};
+use note_queues::Notes;
+use omx_types::{Command, Completion, Event, OmxError, PortSel, State};
+
+/// What is reserved beside the costs of commands.
+fn places(pending: Option<Pending>, loss_mark: bool, ports: &[PortState]) -> u32
+    requires { length ports.now ≤ 16 }
+    ensures { result ≡ places_of pending loss_mark ports.now }
+{
+    let Some(pending) = pending else {
+        return all_port_places(ports);
+    };
+    let by_loss = matches!(pending.cause, Cause::Loss);
+    let asked = u32::from(!by_loss);
+    let loses = u32::from(matches!(pending.target, State::Idle) && (loss_mark || by_loss));
+    asked + all_port_places(ports) + loses
+}
+
+/// Reserves what the component's record asks for.
+fn hold<C>(notes: &mut Notes<C>, pending: Option<Pending>, loss_mark: bool, ports: &[PortState])
+    requires few { length ports.now ≤ 16 }
+    requires fits { events_in (notes_of notes.old) + costs notes.old + places_of pending loss_mark ports.now ≤ 256 }
+    ensures { notes.new ≡ holding (places_of pending loss_mark ports.now) notes.old }
+{
+    notes.hold_places(places(pending, loss_mark, ports));
+}
+
+impl<C> Component<C> {
+    /// Another state, and another pending transition.
+    fn settle(&mut self, state: State, pending: Option<Pending>, loss_mark: bool)
+        requires { used (record (component_of self.old) { state = state; pending = pending; loss_mark = loss_mark }) ≤ 256 }
+        ensures component { component_of self.new ≡ record (component_of self.old) { state = state; pending = pending; loss_mark = loss_mark } }
+        ensures kept { KeepsNotices self.old self.new }
+    {
+        self.state = state;
+        self.pending = pending;
+        self.loss_mark = loss_mark;
+        hold(&mut self.notes, pending, loss_mark, &self.ports);
+    }
+
+    /// Another state of the port.
+    pub fn set_port(&mut self, index: u32, port: PortState)
+        requires there { index < ports_in self.old.settings.kind }
+        requires fits { used (with_port index port (component_of self.old)) ≤ 256 }
+        ensures component { component_of self.new ≡ with_port index port (component_of self.old) }
+        ensures kept { KeepsNotices self.old self.new }
+    {
+        self.ports[index as usize] = port;
+        hold(&mut self.notes, self.pending, self.loss_mark, &self.ports);
+    }
+
+    /// Changes the ports that a command names.
+    pub fn change_ports(&mut self, sel: PortSel, change: PortChange)
+        requires { used (with_selected sel (changed_by change) (component_of self.old)) ≤ 256 }
+        ensures component { component_of self.new ≡ with_selected sel (changed_by change) (component_of self.old) }
+        ensures kept { KeepsNotices self.old self.new }
+    {
+        change_selected(&mut self.ports, sel, change);
+        hold(&mut self.notes, self.pending, self.loss_mark, &self.ports);
+    }
+
+    /// Drops all that is pending, and is Invalid.
+    fn invalidate(&mut self)
+        ensures component { component_of self.new ≡ invalidated (component_of self.old) }
+        ensures kept { KeepsNotices self.old self.new }
+    {
+        // The proof learns from it that the events have their places.
+        let _room = self.notes.room();
+        self.state = State::Invalid;
+        self.pending = None;
+        self.loss_mark = false;
+        put_at_rest(&mut self.ports);
+        self.notes.drop_commands();
+        hold(&mut self.notes, None, false, &self.ports);
+    }
+
+    /// How many places the command reserves.
+    fn cost(&self, command: Command) -> u32
+        ensures { result ≡ cost_of (component_of self.now) command }
+    {
+        let sel = match command {
+            Command::StateSet(_) | Command::MarkBuffer { .. } => return 1,
+            Command::Flush(sel) | Command::PortDisable(sel) | Command::PortEnable(sel) => sel,
+        };
+        match sel {
+            PortSel::One(_) => 1,
+            PortSel::All => self.params.ports(),
+        }
+    }
+
+    /// Whether there is no place for the command's event, or none for the command.
+    pub fn lacks_place(&self, command: Command) -> bool
+        ensures { result ≡ lacks_place (component_of self.now) command }
+    {
+        if is_at_once(command) {
+            return self.notes.events() >= 256;
+        }
+        self.notes.queued() >= 32 || self.notes.room() < self.cost(command)
+    }
+
+    /// Takes a command into the queue, or carries StateSet(Invalid) out.
+    pub fn send(&mut self, command: Command)
+        requires { lacks_place (component_of self.old) command ≡ false }
+        ensures component { component_of self.new ≡ sent command (component_of self.old) }
+        ensures kept { KeepsNotices self.old self.new }
+    {
+        if is_at_once(command) {
+            self.invalidate();
+            self.tell(Event::Error(OmxError::InvalidState));
+            return;
+        }
+        let cost = self.cost(command);
+        match self.notes.push_command(command, cost) {
+            Ok(()) => {}
+            Err(_) => unreachable!(),
+        }
+    }
+
+    /// Takes the first command out of the queue.
+    pub fn pop(&mut self) -> Option<Command>
+        ensures command { result ≡ slice_get (component_of self.old).commands 0 }
+        ensures component { component_of self.new ≡ record (component_of self.old) { commands = drop 1 (component_of self.old).commands } }
+        ensures kept { KeepsNotices self.old self.new }
+    {
+        self.notes.pop_command()
+    }
+
+    /// The transition is pending.
+    pub fn begin(&mut self, pending: Pending)
+        requires { used (record (component_of self.old) { pending = Some pending }) ≤ 256 }
+        ensures component { component_of self.new ≡ record (component_of self.old) { pending = Some pending } }
+        ensures kept { KeepsNotices self.old self.new }
+    {
+        self.settle(self.state, Some(pending), self.loss_mark);
+    }
+
+    /// The target is reached, and told where the client is to know it.
+    fn reach(&mut self, target: State, is_told: bool)
+        requires { used (completed_if is_told target (record (component_of self.old) { state = target; pending = None })) ≤ 256 }
+        ensures component { component_of self.new ≡ completed_if is_told target (record (component_of self.old) { state = target; pending = None }) }
+        ensures kept { KeepsNotices self.old self.new }
+    {
+        self.settle(target, None, self.loss_mark);
+        if is_told {
+            self.tell(Event::CmdComplete(Completion::State(target)));
+        }
+    }
+
+    /// Idle is reached, and the resources are lost: Loaded is pending by loss.
+    fn lose(&mut self, is_told: bool)
+        requires { used (lost (completed_if is_told states.Idle (record (component_of self.old) { state = states.Idle; pending = None }))) ≤ 256 }
+        ensures component { component_of self.new ≡ lost (completed_if is_told states.Idle (record (component_of self.old) { state = states.Idle; pending = None })) }
+        ensures kept { KeepsNotices self.old self.new }
+    {
+        let loaded = Pending {
+            target: State::Loaded,
+            cause: Cause::Loss,
+        };
+        self.settle(State::Idle, Some(loaded), false);
+        if is_told {
+            self.tell(Event::CmdComplete(Completion::State(State::Idle)));
+        }
+        self.tell(Event::Error(OmxError::ResourcesLost));
+    }
+
+    /// The pending transition is reached.
+    pub fn arrive(&mut self)
+        requires pending { IsSome self.old.pending }
+        requires fits { MatchOption self.old.pending ⊥ (λ p. used (arrived p (component_of self.old)) ≤ 256) }
+        ensures component { MatchOption self.old.pending ⊥ (λ p. component_of self.new ≡ arrived p (component_of self.old)) }
+        ensures kept { KeepsNotices self.old self.new }
+    {
+        let Some(pending) = self.pending else {
+            unreachable!()
+        };
+        let by_client = matches!(pending.cause, Cause::Client);
+        let was_down = state_rules::is_down(self.state);
+        match pending.target {
+            State::Idle if was_down => self.reach(State::Idle, true),
+            State::Idle if self.loss_mark || !by_client => self.lose(by_client),
+            State::Idle | State::Loaded => self.reach(pending.target, by_client),
+            target => self.reach(target, true),
+        }
+    }
+
+    /// Another state of the port, and the event that tells it.
+    fn end(&mut self, index: u32, port: PortState, completion: Completion)
+        requires there { index < ports_in self.old.settings.kind }
+        requires fits { used (told (events.CmdComplete completion) (with_port index port (component_of self.old))) ≤ 256 }
+        ensures component { component_of self.new ≡ told (events.CmdComplete completion) (with_port index port (component_of self.old)) }
+        ensures kept { KeepsNotices self.old self.new }
+    {
+        self.set_port(index, port);
+        self.tell(Event::CmdComplete(completion));
+    }
+
+    /// The port's flush has ended.
+    pub fn end_flush(&mut self, index: u32)
+        requires there { index < ports_in self.old.settings.kind }
+        requires fits { MatchOption (port_of (component_of self.old) index) ⊥ (λ p. used (flush_ended p (component_of self.old)) ≤ 256) }
+        ensures component { MatchOption (port_of (component_of self.old) index) ⊥ (λ p. component_of self.new ≡ flush_ended p (component_of self.old)) }
+        ensures kept { KeepsNotices self.old self.new }
+    {
+        let mut port = self.ports[index as usize];
+        port.flushing = false;
+        self.end(index, port, Completion::Flush(index));
+    }
+
+    /// The port's disable or enable has ended. A steady port stays as it is.
+    pub fn end_mode(&mut self, index: u32)
+        requires there { index < ports_in self.old.settings.kind }
+        requires fits { MatchOption (port_of (component_of self.old) index) ⊥ (λ p. used (mode_ended p (component_of self.old)) ≤ 256) }
+        ensures component { MatchOption (port_of (component_of self.old) index) ⊥ (λ p. component_of self.new ≡ mode_ended p (component_of self.old)) }
+        ensures kept { KeepsNotices self.old self.new }
+    {
+        let mut port = self.ports[index as usize];
+        let completion = match port.mode {
+            Mode::Steady => return,
+            Mode::Enabling => Completion::Enable(index),
+            Mode::Disabling => Completion::Disable(index),
+        };
+        port.mode = Mode::Steady;
+        self.end(index, port, completion);
+    }
+
+    /// The port's mark is put on a header.
+    pub fn end_mark(&mut self, index: u32)
+        requires there { index < ports_in self.old.settings.kind }
+        requires fits { MatchOption (port_of (component_of self.old) index) ⊥ (λ p. used (mark_ended p (component_of self.old)) ≤ 256) }
+        ensures component { MatchOption (port_of (component_of self.old) index) ⊥ (λ p. component_of self.new ≡ mark_ended p (component_of self.old)) }
+        ensures kept { KeepsNotices self.old self.new }
+    {
+        let mut port = self.ports[index as usize];
+        port.waiting_mark = None;
+        self.end(index, port, Completion::Mark(index));
+    }
+}

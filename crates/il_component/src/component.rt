@@ -1,0 +1,210 @@
+ghost use Rattle.std.specs.Prelude.{◌≡◌, ◌<◌, ◌≤◌, ◌||◌, Some, None, IfOk, IfErr, replicate, is_none, is_some, true, false, IsSome};
+ghost use Rattle.il_machine.specs.Kinds.{ports_in};
+ghost use Rattle.il_machine.specs.Settings.{IsSized, set_refusal, value_of, refused_or};
+ghost use Rattle.il_machine.specs.World.{fresh, fresh_port, port_of, ports_of, told};
+ghost use Rattle.il_machine.specs.Room.{room, used};
+ghost use Rattle.std.specs.List.{list_any};
+ghost use Rattle.il_machine.specs.Ports.{is_joined};
+ghost use Rattle.il_machine.specs.States.{is_invalid, is_loaded};
+ghost use Rattle.il_machine.specs.Parameters.{is_settable, is_format_free, get_parameter_refusal, set_config_refusal, with_value};
+ghost use Rattle.il_component.specs.Entries.{component_of, KeepsNotices};
+ghost use Rattle.il_component.specs.Places.{places_of};
+
+use il_machine::{Cause, Mode, Pending, Port, PortKey, PortState};
+use note_queues::Notes;
+use omx_types::{Event, Handle, Kind, OmxError, Param, ParamKey, State};
+use param_store::Params;
+use std::alloc::{AllocError, Global};
+use std::marker::Model;
+
+/// One component's record, with its queues and its client object where that is in.
+pub struct Component<C> {
+    pub(crate) handle: Handle,
+    pub(crate) params: Params,
+    pub(crate) state: State,
+    pub(crate) pending: Option<Pending>,
+    pub(crate) loss_mark: bool,
+    pub(crate) ports: Vec<PortState>,
+    pub(crate) notes: Notes<C>,
+}
+
+impl<C> Model for Component<C> {
+    ghost use Rattle.il_component.specs.Entries.{Entry, IsFit};
+
+    ghost Value = { Entry C };
+
+    ghost view = { λ c. record {
+      handle = c.handle;
+      settings = c.params;
+      state = c.state;
+      pending = c.pending;
+      loss_mark = c.loss_mark;
+      ports = c.ports.items;
+      queues = c.notes;
+    } };
+
+    ghost invariant = { λ c. IsFit (record {
+      handle = c.handle;
+      settings = c.params;
+      state = c.state;
+      pending = c.pending;
+      loss_mark = c.loss_mark;
+      ports = c.ports.items;
+      queues = c.notes;
+    }) };
+}
+
+/// The states of so many ports that were just made.
+fn fresh_ports(alloc: Global, count: u32) -> Result<Vec<PortState>, AllocError>
+    ensures { IfOk result (λ ports. ports.items ≡ replicate count fresh_port) }
+{
+    let fresh = PortState {
+        enabled: true,
+        mode: Mode::Steady,
+        flushing: false,
+        waiting_mark: None,
+        link: None,
+    };
+    vec![in alloc; fresh; count as usize]
+}
+
+fn has_link(ports: &[PortState]) -> bool
+    ensures { result ≡ list_any (λ p. is_some p.link) ports.now }
+{
+    ports.iter().any(|port| port.link.is_some())
+}
+
+/// How many ports a component of the kind has.
+fn kind_ports(kind: Kind) -> u32
+    requires { IsSized kind }
+    ensures count { result ≡ ports_in kind }
+    ensures few { result ≤ 16 }
+{
+    param_store::ports(kind)
+}
+
+impl<C> Component<C> {
+    /// A component that was just made. All memory that it will need is taken here.
+    pub fn fresh(alloc: Global, handle: Handle, kind: Kind, client: C) -> Result<Component<C>, C>
+        requires sized { IsSized kind }
+        ensures component { IfOk result (λ c. component_of c ≡ fresh handle kind) }
+        ensures client { IfOk result (λ c. c.queues.client ≡ Some client) }
+        ensures handed_back { IfErr result (λ back. back ≡ client) }
+    {
+        let count = kind_ports(kind);
+        let Ok(ports) = fresh_ports(alloc, count) else {
+            return Err(client);
+        };
+        let notes = match Notes::new(alloc, count, client) {
+            Ok(notes) => notes,
+            Err((_, client)) => return Err(client),
+        };
+        Ok(Component {
+            handle,
+            params: Params::new(kind),
+            state: State::Loaded,
+            pending: None,
+            loss_mark: false,
+            ports,
+            notes,
+        })
+    }
+
+    pub fn handle(&self) -> Handle
+        ensures { result ≡ self.now.handle }
+    {
+        self.handle
+    }
+
+    /// Gives the component its handle, where that was to come.
+    pub fn set_handle(&mut self, handle: Handle)
+        ensures component { component_of self.new ≡ record (component_of self.old) { handle = handle } }
+        ensures kept { KeepsNotices self.old self.new }
+    {
+        self.handle = handle;
+    }
+
+    pub fn state(&self) -> State
+        ensures { result ≡ self.now.state }
+    {
+        self.state
+    }
+
+    pub fn pending(&self) -> Option<Pending>
+        ensures { result ≡ self.now.pending }
+    {
+        self.pending
+    }
+
+    pub fn kind(&self) -> Kind
+        ensures { result ≡ self.now.settings.kind }
+    {
+        self.params.kind()
+    }
+
+    /// How many ports it has.
+    pub fn ports(&self) -> u32
+        ensures count { result ≡ ports_in self.now.settings.kind }
+        ensures few { result ≤ 9 }
+    {
+        self.params.ports()
+    }
+
+    pub fn port(&self, index: u32) -> Option<Port>
+        ensures { result ≡ port_of (component_of self.now) index }
+    {
+        if index >= self.params.ports() {
+            return None;
+        }
+        Some(Port {
+            key: PortKey {
+                component: self.handle.generation,
+                port: index,
+            },
+            setting: self.params.setting(index),
+            state: self.ports[index as usize],
+        })
+    }
+
+    pub fn is_invalid(&self) -> bool
+        ensures { result ≡ is_invalid self.now.state }
+    {
+        matches!(self.state, State::Invalid)
+    }
+
+    /// Loaded with nothing pending.
+    pub fn is_settable(&self) -> bool
+        ensures { result ≡ is_settable (component_of self.now) }
+    {
+        matches!(self.state, State::Loaded) && self.pending.is_none()
+    }
+
+    pub fn is_joined(&self) -> bool
+        ensures { result ≡ list_any is_joined (ports_of (component_of self.now)) }
+    {
+        has_link(&self.ports)
+    }
+
+    pub fn is_client_out(&self) -> bool
+        ensures { result ≡ is_none self.now.queues.client }
+    {
+        self.notes.is_client_out()
+    }
+
+    /// The places for events that are neither taken nor reserved.
+    pub fn room(&self) -> u32
+        ensures room { result ≡ room (component_of self.now) }
+        ensures within { used (component_of self.now) ≤ 256 }
+    {
+        self.notes.room()
+    }
+
+    /// Queues an event.
+    pub fn tell(&mut self, event: Event)
+        requires { 0 < room (component_of self.old) }
+        ensures told { component_of self.new ≡ told event (component_of self.old) }
+        ensures kept { KeepsNotices self.old self.new }
+    {
+        self.notes.push_event(event);
+    }
+}

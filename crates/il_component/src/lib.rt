@@ -1,0 +1,14 @@
+//! One component's record: its settings, its state, its ports, its queues and its client object. Each change of it is one of the
+//! machine's, and none takes memory but the making.
+#![tactic(auto)]
+
+mod changes;
+mod client;
+mod commands;
+mod component;
+mod port_changes;
+#[cfg(test)]
+mod tests;
+
+pub use component::Component;
+pub use port_changes::PortChange;

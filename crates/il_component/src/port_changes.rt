@@ -1,0 +1,129 @@
+//! What commands make of a component's ports, and the places for events that ports reserve.
+
+ghost use Rattle.std.specs.Prelude.{◌≡◌, ◌≤◌, ◌*◌, length, map, sum_by};
+ghost use Rattle.il_machine.specs.Room.{port_places};
+ghost use Rattle.il_machine.specs.Commands.{is_selected, selected_from, at_rest};
+ghost use Rattle.il_component.specs.PortChanges.{changed_by, busy_test, busy_among};
+
+use il_machine::{Mark, Mode, PortState, Why};
+use omx_types::PortSel;
+
+/// What a command makes of a port.
+#[derive(Clone, Copy)]
+pub enum PortChange {
+    Flush,
+    Disable,
+    Enable,
+    Wait(Mark),
+}
+
+impl PortChange {
+    fn of(self, port: PortState) -> PortState
+        ensures { result ≡ changed_by self port }
+    {
+        let mut port = port;
+        match self {
+            PortChange::Flush => port.flushing = true,
+            PortChange::Disable => {
+                port.enabled = false;
+                port.mode = Mode::Disabling;
+            }
+            PortChange::Enable => {
+                port.enabled = true;
+                port.mode = Mode::Enabling;
+            }
+            PortChange::Wait(mark) => port.waiting_mark = Some(mark),
+        }
+        port
+    }
+}
+
+/// Whether a command names the port.
+pub fn is_selected(sel: PortSel, index: u32) -> bool
+    ensures { result ≡ is_selected sel index }
+{
+    match sel {
+        PortSel::One(port) => index == port,
+        PortSel::All => true,
+    }
+}
+
+/// Changes each port that the command names.
+pub fn change_selected(ports: &mut [PortState], sel: PortSel, change: PortChange)
+    requires { length ports.old ≤ 16 }
+    ensures { ports.new ≡ selected_from 0 sel (changed_by change) ports.old }
+{
+    for index in 0..ports.len() {
+        if is_selected(sel, index as u32) {
+            ports[index] = change.of(ports[index]);
+        }
+    }
+}
+
+/// Drops all that is pending at the ports.
+pub fn put_at_rest(ports: &mut [PortState])
+    ensures { ports.new ≡ map at_rest ports.old }
+{
+    for port in ports.iter_mut() {
+        port.mode = Mode::Steady;
+        port.flushing = false;
+        port.waiting_mark = None;
+    }
+}
+
+/// The places of one port: for its flush, its mode and its mark.
+fn port_places(port: &PortState) -> u32
+    ensures count { result ≡ port_places port.now }
+    ensures few { result ≤ 3 }
+{
+    let flush = u32::from(port.flushing);
+    let mode = u32::from(!matches!(port.mode, Mode::Steady));
+    let mark = u32::from(port.waiting_mark.is_some());
+    flush + mode + mark
+}
+
+/// The places of all ports.
+pub fn all_port_places(ports: &[PortState]) -> u32
+    requires { length ports.now ≤ 16 }
+    ensures count { result ≡ sum_by port_places ports.now }
+    ensures few { result ≤ 3 * length ports.now }
+{
+    let mut places = 0;
+    for port in ports {
+        places += port_places(port);
+    }
+    places
+}
+
+/// What keeps a command on a port from being carried out.
+#[derive(Clone, Copy)]
+pub enum Busy {
+    Flushing,
+    Changing,
+    Waiting,
+}
+
+impl Busy {
+    fn holds_at(self, port: &PortState) -> bool
+        ensures { result ≡ busy_test self port.now }
+    {
+        match self {
+            Busy::Flushing => port.flushing,
+            Busy::Changing => !matches!(port.mode, Mode::Steady),
+            Busy::Waiting => port.waiting_mark.is_some(),
+        }
+    }
+}
+
+/// The least port that the command names and that is busy so.
+pub fn first_busy(ports: &[PortState], sel: PortSel, busy: Busy) -> Option<Why>
+    requires { length ports.now ≤ 16 }
+    ensures { result ≡ busy_among 0 sel (busy_test busy) ports.now }
+{
+    for index in 0..ports.len() {
+        if is_selected(sel, index as u32) && busy.holds_at(&ports[index]) {
+            return Some(Why::PortBusy(index as u32));
+        }
+    }
+    None
+}
