@@ -7,9 +7,10 @@ use Rattle.il_machine.specs.World.{same_handle}
 use Rattle.il_machine.specs.Places.{first_place}
 use Rattle.il_machine.proofs.Places.{shift, place_removed, once_removed, place_at, passes_at}
 use Rattle.registry.specs.Handles.{Handles, resolved, AllGiven, Removes, Sets}
-use Rattle.graph_core.specs.Entries.{Entry, is_entry_at}
-use Rattle.graph_core.specs.Sound.{Sound, Shifted}
-use Rattle.graph_core.proofs.Standing.{same_symmetric, same_fields}
+use Rattle.il_component.specs.Entries.{Entry}
+use Rattle.graph_core.specs.Entries.{is_entry_at}
+use Rattle.graph_core.specs.Registered.{Registered, Shifted}
+use Rattle.graph_core.proofs.Registering.{same_symmetric, same_fields}
 
 differs : {b : Bool} → b ≡ true → b ≡ false → ⊥
 differs {b} t f = let e : true ≡ false = sym t ∙ f in cc
@@ -35,15 +36,15 @@ removed_length (x ∷ xs) zero b = omega arith
 removed_length (x ∷ xs) (suc i) b = let l = removed_length xs i (omega arith) in omega arith
 
 module _ {C : Type 0} where
-  pub shifted_start : (es : List (Entry C)) (r t : Handles ℕ) (i : ℕ) (e : Entry C) → Sound es r → slice_get es i ≡ Some e → Removes r t e.component.handle → Shifted i (remove es i) t
+  pub shifted_start : (es : List (Entry C)) (r t : Handles ℕ) (i : ℕ) (e : Entry C) → Registered es r → slice_get es i ≡ Some e → Removes r t e.handle → Shifted i (remove es i) t
   shifted_start es r t i e S there R = record {
-    places = λ h. R.resolves h ∙ (rw (S.registered h, same_symmetric h e.component.handle) (sym (place_removed (is_entry_at h) es i e (S.once h) there)));
+    places = λ h. R.resolves h ∙ (rw (S.registered h, same_symmetric h e.handle) (sym (place_removed (is_entry_at h) es i e (S.once h) there)));
     once = λ h. once_removed (is_entry_at h) es i (S.once h);
   }
 
-  pub shifted_there : (es : List (Entry C)) (r : Handles ℕ) (k : ℕ) (e : Entry C) → Shifted k es r → slice_get es k ≡ Some e → resolved r e.component.handle ≡ Some (shift k k)
+  pub shifted_there : (es : List (Entry C)) (r : Handles ℕ) (k : ℕ) (e : Entry C) → Shifted k es r → slice_get es k ≡ Some e → resolved r e.handle ≡ Some (shift k k)
   shifted_there es r k e F there =
-      let h = e.component.handle in
+      let h = e.handle in
       let p : is_entry_at h e ≡ true = grind (arith, nat_tests) in
       F.places h ∙ rw (place_at (is_entry_at h) es k e (F.once h) there p) refl
 
@@ -54,14 +55,14 @@ module _ {C : Type 0} where
       let d : p ≢ k = λ x. let y : slice_get es k ≡ Some s.0 = subst (λ (j : ℕ). slice_get es j ≡ Some s.0) x s.1 in let z : s.0 ≡ e = cc in absurd (differs (subst (λ (w : Entry C). is_entry_at h w ≡ true) z s.2) q) in
       ap Some (shift_other k p d)
 
-  pub shifted_step : (es : List (Entry C)) (r t : Handles ℕ) (k : ℕ) (e : Entry C) → Shifted k es r → slice_get es k ≡ Some e → Sets r t e.component.handle k → Shifted (k + 1) es t
+  pub shifted_step : (es : List (Entry C)) (r t : Handles ℕ) (k : ℕ) (e : Entry C) → Shifted k es r → slice_get es k ≡ Some e → Sets r t e.handle k → Shifted (k + 1) es t
   shifted_step es r t k e F there T = record {
-    places = λ h. T.resolves h ∙ elim (same_handle h e.component.handle) as (λ v. same_handle h e.component.handle ≡ v → cond v (Some k) (resolved r h) ≡ option_map (shift (k + 1)) (first_place (is_entry_at h) es)) [
+    places = λ h. T.resolves h ∙ elim (same_handle h e.handle) as (λ v. same_handle h e.handle ≡ v → cond v (Some k) (resolved r h) ≡ option_map (shift (k + 1)) (first_place (is_entry_at h) es)) [
       | true ↦ λ s.
-          let p : is_entry_at h e ≡ true = same_symmetric e.component.handle h ∙ s in
+          let p : is_entry_at h e ≡ true = same_symmetric e.handle h ∙ s in
           rw (place_at (is_entry_at h) es k e (F.once h) there p, shift_same k) refl
       | false ↦ λ s.
-          let q : is_entry_at h e ≡ false = same_symmetric e.component.handle h ∙ s in
+          let q : is_entry_at h e ≡ false = same_symmetric e.handle h ∙ s in
           F.places h ∙ other_place es h k e there q (first_place (is_entry_at h) es) refl
     ] refl;
     once = F.once;
@@ -74,8 +75,8 @@ module _ {C : Type 0} where
   pub shifted_end : (es : List (Entry C)) (r : Handles ℕ) (k : ℕ) → Shifted k es r → k ≡ length es → (h : Handle) → resolved r h ≡ first_place (is_entry_at h) es
   shifted_end es r k F e h = F.places h ∙ rw e (end_place es h (first_place (is_entry_at h) es) refl)
 
-  pub sound_there : (es : List (Entry C)) (r : Handles ℕ) (k : ℕ) (e : Entry C) → Sound es r → slice_get es k ≡ Some e → resolved r e.component.handle ≡ Some k
+  pub sound_there : (es : List (Entry C)) (r : Handles ℕ) (k : ℕ) (e : Entry C) → Registered es r → slice_get es k ≡ Some e → resolved r e.handle ≡ Some k
   sound_there es r k e S there =
-      let h = e.component.handle in
+      let h = e.handle in
       let p : is_entry_at h e ≡ true = grind (arith, nat_tests) in
       S.registered h ∙ place_at (is_entry_at h) es k e (S.once h) there p

@@ -1,35 +1,48 @@
--- What a contract sees of a graph: a component's record beside its client object, in the order of their numbers.
-use Rattle.std.specs.Prelude.{ℕ, ◌+◌, Bool, List, [], ◌∷◌, ◌++◌, map, remove, position, slice_get, slice_set, Option, Some, option_and_then}
+-- What a contract sees of a graph: its components with their queues, in the order of their numbers, and its ports and headers.
+use Rattle.std.specs.Prelude.{ℕ, Bool, List, [], ◌∷◌, ◌++◌, map, remove, position, slice_get, slice_set, Option, option_and_then, option_map}
 use Rattle.omx_types.specs.declared.handle.Handle.{Handle}
-use Rattle.omx_types.specs.declared.kind.Kind.{Kind}
-use Rattle.omx_types.specs.declared.param.Param.{Param}
-use Rattle.omx_types.specs.declared.param.ParamKey.{ParamKey}
-use Rattle.il_machine.specs.World.{Component, is_at, fresh}
-use Rattle.il_machine.specs.Parameters.{with_value}
-use Rattle.il_machine.specs.Whole.{Kept, no_headers}
-
-pub record Entry (C : Type 0) : Type 0 where
-  pub component : Component
-  pub client : Option C
+use Rattle.il_machine.specs.declared.answer.Progress.{Progress}
+use Rattle.il_machine.specs.World.{Component, is_at}
+use Rattle.il_machine.specs.Look.{Look}
+use Rattle.il_machine.specs.Buffers.{Held}
+use Rattle.il_machine.specs.Whole.{Kept}
+use Rattle.whole_laws.specs.Entries.{all_held}
+use Rattle.il_component.specs.Entries.{Entry, component_of, held_in}
+use Rattle.port_stock.specs.Kept.{Kept as StockKept, stocked}
 
 pub record Entries (C : Type 0) : Type 0 where
   pub entries : List (Entry C)
+  pub stock : StockKept
   pub units : ℕ
   pub numbered : ℕ
 
 module _ {C : Type 0} where
-  abbrev pub component_of : Entry C → Component
-  component_of e = e.component
+  -- ---- as the machine sees it
 
   abbrev pub components_of : List (Entry C) → List Component
   components_of entries = map component_of entries
 
-  -- what is kept, as the machine sees it
-  abbrev pub kept : Entries C → Kept
-  kept g = record { components = components_of g.entries; headers = no_headers; units = g.units; numbered = g.numbered; made = 0 }
+  abbrev pub look_of : Entries C → Look
+  look_of g = record { components = components_of g.entries; headers = (stocked g.stock).headers; units = g.units; numbered = g.numbered; made = (stocked g.stock).next }
+
+  abbrev pub held_by : Entry C → List Held
+  held_by e = held_in e.queues.notes
+
+  -- the headers in the notes of all components
+  abbrev pub noticed_in : List (Entry C) → List Held
+  noticed_in entries = all_held held_by entries
+
+  abbrev pub progress_at : (C → Progress) → Entry C → Option Progress
+  progress_at progress e = option_map progress e.queues.client
+
+  -- what is kept, where the client objects have this progress
+  abbrev pub kept : (C → Progress) → Entries C → Kept
+  kept progress g = record { looks = look_of g; clients = map (progress_at progress) g.entries; loads = (stocked g.stock).loads; noticed = noticed_in g.entries }
+
+  -- ---- the component that a handle names
 
   abbrev pub is_entry_at : Handle → Entry C → Bool
-  is_entry_at h e = is_at h e.component
+  is_entry_at h e = is_at h (component_of e)
 
   abbrev pub entry_place : Handle → List (Entry C) → Option ℕ
   entry_place h entries = position (is_entry_at h) entries
@@ -39,21 +52,14 @@ module _ {C : Type 0} where
 
   -- the client object of the component that the handle names, where it is in
   abbrev pub client_of : Handle → Entries C → Option C
-  client_of h g = option_and_then (λ e. e.client) (entry_named h g)
-
-  -- ---- changes
-
-  abbrev pub fresh_entry : Handle → Kind → C → Entry C
-  fresh_entry h kind client = record { component = fresh h kind; client = Some client }
-
-  abbrev pub added : Handle → Kind → C → Entries C → Entries C
-  added h kind client g = record g { entries = g.entries ++ fresh_entry h kind client ∷ []; numbered = g.numbered + 1 }
+  client_of h g = option_and_then (λ e. e.queues.client) (entry_named h g)
 
   abbrev pub removed : ℕ → Entries C → Entries C
   removed i g = record g { entries = remove g.entries i }
 
-  abbrev pub entry_with : ParamKey → Param → Entry C → Entry C
-  entry_with key value e = record e { component = with_value key value e.component }
-
   abbrev pub changed_at : ℕ → Entry C → Entries C → Entries C
   changed_at i e g = record g { entries = slice_set g.entries i e }
+
+  -- the component at the place, as the machine sees it
+  abbrev pub component_at : ℕ → Entries C → Option Component
+  component_at i g = slice_get (components_of g.entries) i

@@ -1,2 +1,9 @@
 pub mod Entries
-pub mod Sound
+pub mod Registered
+pub mod Standing
+pub mod Changes
+pub mod Making
+pub mod Joining
+pub mod Tests
+pub mod Leading
+pub mod Happened

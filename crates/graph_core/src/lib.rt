@@ -1,8 +1,18 @@
-//! All that a graph of components keeps, and the changes of it that a call is made of.
+//! All that a graph of components keeps, and the changes of it that a call is made of. Each change is one of every world of the
+//! machine that the graph stands for.
 #![tactic(auto)]
 
-mod component;
+mod buffers;
+mod closing;
+mod commanding;
 mod core_graph;
+mod due;
+mod ending;
+mod looking;
+mod making;
+mod noting;
+mod resetting;
+mod terms;
+mod tunnels;
 
-pub use component::Component;
 pub use core_graph::Core;

@@ -1,13 +1,71 @@
-use Rattle.std.proofs.Common.{◌≡◌, ◌<◌, length, slice_get, Some, refl, sym, ◌∙◌, ap, length-set}
+use Rattle.std.proofs.Common.{◌≡◌, ◌<◌, None, length, slice_get, Some, refl, sym, ◌∙◌, ap, subst}
 use Rattle.std.proofs.lemmas.Option.{slice_get-get_or}
-use Rattle.graph_core.proofs.Standing.{set_sound, some_within}
+use Rattle.omx_types.specs.declared.handle.Handle.{Handle}
+use Rattle.il_machine.specs.World.{Component, World, number_of, with_component}
+use Rattle.il_machine.specs.Look.{Look, look}
+use Rattle.il_machine.specs.Headers.{Seen}
+use Rattle.il_machine.specs.Parameters.{with_value}
+use Rattle.il_machine.specs.Sound.{Sound}
+use Rattle.il_component.specs.Entries.{component_of}
+use Rattle.graph_core.specs.Making.{value_refusal}
+use Rattle.graph_core.specs.Entries.{Entries, look_of}
+use Rattle.graph_core.proofs.Clients.{clients_set}
+use Rattle.graph_core.proofs.Replacing.{there, within, returns_changed}
+use Rattle.graph_core.proofs.Swapping.{graph_swapped}
+use Rattle.graph_core.proofs.Setting.{settings_pass, sound_value}
 use Rattle.graph_core.proofs.core_graph.Core.set_value.Goals as goal
+
+pub set_value-requires : goal.set_value-requires
+set_value-requires g c =
+    let i = c.self.inside in
+    let e = c.index_mut-component.result.now in
+    let G : Entries (g.row.C.Denot) = record { entries = i.components.items; stock = i.stock; units = i.units; numbered = i.registry.given } in
+    let asked = rw (← c.self.view_is) at c.requires in
+    let b : c.args.place < length i.components.items = within g.C.Client.progress G c.args.place _ asked in
+    let at : slice_get i.components.items c.args.place ≡ Some e = slice_get-get_or i.components.items c.args.place e b ∙ ap Some (sym c.index_mut-component.ensures.value) in
+    let r = rw (there g.C.Client.progress G c.args.place e at) at asked in
+    settings_pass c.args.config (look_of G).headers (component_of e) c.args.key c.args.value r
 
 pub invariant_of-self : goal.invariant_of-self
 invariant_of-self g c =
     let i = c.self.inside in
     let e = c.index_mut-component.result.now in
-    let b : c.args.place < length i.components.items = rw (← c.self.view_is) at (some_within c.args.self.now.entries c.args.place _ c.requires) in
-    let there : slice_get i.components.items c.args.place ≡ Some e = slice_get-get_or i.components.items c.args.place e b ∙ ap Some (sym c.index_mut-component.ensures.value) in
-    let m : c.set_value.new.self.component.handle ≡ e.component.handle = rw c.set_value.ensures refl in
-    (set_sound i.components.items i.registry c.args.place e c.set_value.new.self c.self.invariant.0 there m, c.self.invariant.1, rw length-set c.self.invariant.2)
+    let G : Entries (g.row.C.Denot) = record { entries = i.components.items; stock = i.stock; units = i.units; numbered = i.registry.given } in
+    let asked = rw (← c.self.view_is) at c.requires in
+    let b : c.args.place < length i.components.items = within g.C.Client.progress G c.args.place _ asked in
+    let at : slice_get i.components.items c.args.place ≡ Some e = slice_get-get_or i.components.items c.args.place e b ∙ ap Some (sym c.index_mut-component.ensures.value) in
+    let r = rw (there g.C.Client.progress G c.args.place e at) at asked in
+    let d = c.set_value.new.self in
+    let q : component_of d ≡ with_value c.args.key c.args.value (component_of e) = c.set_value.ensures.component in
+    graph_swapped g.C.Client.progress i.components.items i.registry i.stock i.units i.components.cap c.args.place e d c.self.invariant at c.set_value.ensures.kept
+    (record { handle = ap (λ (x : Component). x.handle) q; ports = ap (λ (x : Component). length x.ports) q })
+    (λ w l S.
+    let t : slice_get w.components c.args.place ≡ Some (component_of e) = ap (λ (x : Look). slice_get x.components c.args.place) l ∙ there g.C.Client.progress G c.args.place e at in
+    let ok : value_refusal c.args.config (look w).headers (component_of e) c.args.key c.args.value ≡ None = subst (λ (x : Look). value_refusal c.args.config x.headers (component_of e) c.args.key c.args.value ≡ None) (sym l) r in
+    subst (λ (x : Component). Sound (with_component c.args.place x w)) (sym q) (sound_value c.args.config w c.args.place (component_of e) c.args.key c.args.value S t ok))
+
+pub returns-clause-set : goal.returns-clause-set
+returns-clause-set g c =
+    let i = c.self.inside in
+    let e = c.index_mut-component.result.now in
+    let G : Entries (g.row.C.Denot) = record { entries = i.components.items; stock = i.stock; units = i.units; numbered = i.registry.given } in
+    let asked = rw (← c.self.view_is) at c.requires in
+    let b : c.args.place < length i.components.items = within g.C.Client.progress G c.args.place _ asked in
+    let at : slice_get i.components.items c.args.place ≡ Some e = slice_get-get_or i.components.items c.args.place e b ∙ ap Some (sym c.index_mut-component.ensures.value) in
+    let r = rw (there g.C.Client.progress G c.args.place e at) at asked in
+    let d = c.set_value.new.self in
+    let q : component_of d ≡ with_value c.args.key c.args.value (component_of e) = c.set_value.ensures.component in
+    rw (← c.self.view_is) (returns_changed g.C.Client.progress G c.args.place e d (λ w. with_value c.args.key c.args.value) at c.set_value.ensures.kept (ap number_of q) (λ w. q))
+
+pub returns-clause-clients : goal.returns-clause-clients
+returns-clause-clients g c =
+    let i = c.self.inside in
+    let e = c.index_mut-component.result.now in
+    let G : Entries (g.row.C.Denot) = record { entries = i.components.items; stock = i.stock; units = i.units; numbered = i.registry.given } in
+    let asked = rw (← c.self.view_is) at c.requires in
+    let b : c.args.place < length i.components.items = within g.C.Client.progress G c.args.place _ asked in
+    let at : slice_get i.components.items c.args.place ≡ Some e = slice_get-get_or i.components.items c.args.place e b ∙ ap Some (sym c.index_mut-component.ensures.value) in
+    let r = rw (there g.C.Client.progress G c.args.place e at) at asked in
+    let d = c.set_value.new.self in
+    let q : component_of d ≡ with_value c.args.key c.args.value (component_of e) = c.set_value.ensures.component in
+    rw (← c.self.view_is) (clients_set i.components.items c.args.place e d at (ap (λ (x : Component). x.handle) q) c.set_value.ensures.kept.client)

@@ -1,0 +1,14 @@
+use Rattle.std.proofs.Common.{sym, ◌∙◌}
+use Rattle.whole_laws.proofs.Closing.{one_more, all_closed}
+use Rattle.graph_core.specs.Entries.{kept}
+use Rattle.graph_core.proofs.core_graph.Core.close_out.Goals as goal
+
+pub loop-place-preserved : goal.loop-place-preserved
+loop-place-preserved g c =
+    let p = g.C.Client.progress in
+    one_more (kept p c.args.self.now) (kept p c.loop-place.self) (kept p c.happen.new.self) c.loop-place.invariant c.happen.ensures.happens
+
+pub returns-clause-closes : goal.returns-clause-closes
+returns-clause-closes g c =
+    let p = g.C.Client.progress in
+    all_closed (kept p c.args.self.now) (kept p c.loop-place.self) c.loop-place.invariant (sym c.first_due.ensures.place ∙ c.in_default.is)

@@ -1,0 +1,134 @@
+use Rattle.std.proofs.Common.{◌≡◌, ◌<◌, true, false, length, slice_get, Some, sym, ◌∙◌, ap}
+use Rattle.std.proofs.lemmas.Option.{slice_get-get_or}
+use Rattle.il_machine.specs.World.{port_of}
+use Rattle.il_machine.specs.Stock.{Stocked}
+use Rattle.port_stock.specs.Kept.{stocked}
+use Rattle.il_component.specs.Entries.{component_of}
+use Rattle.graph_core.specs.Changes.{IsMakable}
+use Rattle.graph_core.specs.Entries.{Entries, look_of}
+use Rattle.graph_core.proofs.Replacing.{there, within}
+use Rattle.graph_core.proofs.Stepping.{graph_stocked, port_kept}
+use Rattle.graph_core.proofs.Handing.{few_made, least_size, most_size, made_returns, made_worlds}
+use Rattle.graph_core.proofs.core_graph.Core.make_header.Goals as goal
+
+pub populate-requires-clause-port : goal.populate-requires-clause-port
+populate-requires-clause-port g c =
+    let i = c.self.inside in
+    let e = c.index-component.result.now in
+    let p = c.in-Some.port in
+    let G : Entries (g.row.C.Denot) = record { entries = i.components.items; stock = i.stock; units = i.units; numbered = i.registry.given } in
+    let asked = rw (← c.self.view_is) at c.requires in
+    let b : c.args.place < length i.components.items = within g.C.Client.progress G c.args.place _ asked in
+    let at : slice_get i.components.items c.args.place ≡ Some e = slice_get-get_or i.components.items c.args.place e b ∙ ap Some (sym c.index-component.ensures) in
+    let here : port_of (component_of e) c.args.index ≡ Some p = sym c.port.ensures ∙ c.in-Some.is in
+    port_kept g.C.Client.progress i.components.items (stocked i.stock) i.registry.given c.args.place c.args.index e p c.self.invariant.ports at here
+
+pub populate-requires-clause-some : goal.populate-requires-clause-some
+populate-requires-clause-some g c =
+    let i = c.self.inside in
+    let e = c.index-component.result.now in
+    let p = c.in-Some.port in
+    let G : Entries (g.row.C.Denot) = record { entries = i.components.items; stock = i.stock; units = i.units; numbered = i.registry.given } in
+    let asked = rw (← c.self.view_is) at c.requires in
+    let b : c.args.place < length i.components.items = within g.C.Client.progress G c.args.place _ asked in
+    let at : slice_get i.components.items c.args.place ≡ Some e = slice_get-get_or i.components.items c.args.place e b ∙ ap Some (sym c.index-component.ensures) in
+    let here : port_of (component_of e) c.args.index ≡ Some p = sym c.port.ensures ∙ c.in-Some.is in
+    let M : IsMakable (look_of G) (component_of e) p c.args.store = rw (there g.C.Client.progress G c.args.place e at, here) at asked in
+    least_size g.C.Client.progress G c.args.place e c.args.index p c.self.invariant.worlds at here c.args.store M
+
+pub populate-requires-clause-limit : goal.populate-requires-clause-limit
+populate-requires-clause-limit g c =
+    let i = c.self.inside in
+    let e = c.index-component.result.now in
+    let p = c.in-Some.port in
+    let G : Entries (g.row.C.Denot) = record { entries = i.components.items; stock = i.stock; units = i.units; numbered = i.registry.given } in
+    let asked = rw (← c.self.view_is) at c.requires in
+    let b : c.args.place < length i.components.items = within g.C.Client.progress G c.args.place _ asked in
+    let at : slice_get i.components.items c.args.place ≡ Some e = slice_get-get_or i.components.items c.args.place e b ∙ ap Some (sym c.index-component.ensures) in
+    let here : port_of (component_of e) c.args.index ≡ Some p = sym c.port.ensures ∙ c.in-Some.is in
+    let M : IsMakable (look_of G) (component_of e) p c.args.store = rw (there g.C.Client.progress G c.args.place e at, here) at asked in
+    most_size g.C.Client.progress G c.args.place e c.args.index p c.self.invariant.worlds at here c.args.store M
+
+pub populate-requires-clause-fits : goal.populate-requires-clause-fits
+populate-requires-clause-fits g c =
+    let i = c.self.inside in
+    let e = c.index-component.result.now in
+    let p = c.in-Some.port in
+    let G : Entries (g.row.C.Denot) = record { entries = i.components.items; stock = i.stock; units = i.units; numbered = i.registry.given } in
+    let asked = rw (← c.self.view_is) at c.requires in
+    let b : c.args.place < length i.components.items = within g.C.Client.progress G c.args.place _ asked in
+    let at : slice_get i.components.items c.args.place ≡ Some e = slice_get-get_or i.components.items c.args.place e b ∙ ap Some (sym c.index-component.ensures) in
+    let here : port_of (component_of e) c.args.index ≡ Some p = sym c.port.ensures ∙ c.in-Some.is in
+    let M : IsMakable (look_of G) (component_of e) p c.args.store = rw (there g.C.Client.progress G c.args.place e at, here) at asked in
+    M.fits
+
+pub populate-requires-clause-few : goal.populate-requires-clause-few
+populate-requires-clause-few g c =
+    let i = c.self.inside in
+    let e = c.index-component.result.now in
+    let p = c.in-Some.port in
+    let G : Entries (g.row.C.Denot) = record { entries = i.components.items; stock = i.stock; units = i.units; numbered = i.registry.given } in
+    let asked = rw (← c.self.view_is) at c.requires in
+    let b : c.args.place < length i.components.items = within g.C.Client.progress G c.args.place _ asked in
+    let at : slice_get i.components.items c.args.place ≡ Some e = slice_get-get_or i.components.items c.args.place e b ∙ ap Some (sym c.index-component.ensures) in
+    let here : port_of (component_of e) c.args.index ≡ Some p = sym c.port.ensures ∙ c.in-Some.is in
+    let M : IsMakable (look_of G) (component_of e) p c.args.store = rw (there g.C.Client.progress G c.args.place e at, here) at asked in
+    few_made g.C.Client.progress G c.args.place e c.args.index p c.self.invariant.worlds at here c.args.store M
+
+pub invariant_of-self : goal.invariant_of-self
+invariant_of-self g c =
+    let i = c.self.inside in
+    let e = c.index-component.result.now in
+    let p = c.in-Some.port in
+    let G : Entries (g.row.C.Denot) = record { entries = i.components.items; stock = i.stock; units = i.units; numbered = i.registry.given } in
+    let asked = rw (← c.self.view_is) at c.requires in
+    let b : c.args.place < length i.components.items = within g.C.Client.progress G c.args.place _ asked in
+    let at : slice_get i.components.items c.args.place ≡ Some e = slice_get-get_or i.components.items c.args.place e b ∙ ap Some (sym c.index-component.ensures) in
+    let here : port_of (component_of e) c.args.index ≡ Some p = sym c.port.ensures ∙ c.in-Some.is in
+    let M : IsMakable (look_of G) (component_of e) p c.args.store = rw (there g.C.Client.progress G c.args.place e at, here) at asked in
+    graph_stocked g.C.Client.progress i.components.items i.registry i.stock c.populate.new.self i.units i.components.cap c.self.invariant (ap (λ (s : Stocked). s.ports) c.populate.ensures.stock)
+    (made_worlds g.C.Client.progress G c.args.place e c.args.index p c.self.invariant.worlds at here c.args.store M c.populate.ensures.new_number c.populate.new.self c.populate.ensures.stock)
+
+pub returns-clause-header : goal.returns-clause-header
+returns-clause-header g c =
+    let i = c.self.inside in
+    let e = c.index-component.result.now in
+    let p = c.in-Some.port in
+    let G : Entries (g.row.C.Denot) = record { entries = i.components.items; stock = i.stock; units = i.units; numbered = i.registry.given } in
+    let asked = rw (← c.self.view_is) at c.requires in
+    let b : c.args.place < length i.components.items = within g.C.Client.progress G c.args.place _ asked in
+    let at : slice_get i.components.items c.args.place ≡ Some e = slice_get-get_or i.components.items c.args.place e b ∙ ap Some (sym c.index-component.ensures) in
+    let here : port_of (component_of e) c.args.index ≡ Some p = sym c.port.ensures ∙ c.in-Some.is in
+    rw (← c.self.view_is, there g.C.Client.progress G c.args.place e at, here) c.populate.ensures.header
+
+pub returns-clause-change : goal.returns-clause-change
+returns-clause-change g c =
+    let i = c.self.inside in
+    let e = c.index-component.result.now in
+    let p = c.in-Some.port in
+    let G : Entries (g.row.C.Denot) = record { entries = i.components.items; stock = i.stock; units = i.units; numbered = i.registry.given } in
+    let asked = rw (← c.self.view_is) at c.requires in
+    let b : c.args.place < length i.components.items = within g.C.Client.progress G c.args.place _ asked in
+    let at : slice_get i.components.items c.args.place ≡ Some e = slice_get-get_or i.components.items c.args.place e b ∙ ap Some (sym c.index-component.ensures) in
+    let here : port_of (component_of e) c.args.index ≡ Some p = sym c.port.ensures ∙ c.in-Some.is in
+    let M : IsMakable (look_of G) (component_of e) p c.args.store = rw (there g.C.Client.progress G c.args.place e at, here) at asked in
+    rw (← c.self.view_is) (made_returns g.C.Client.progress G c.args.place e c.args.index p c.self.invariant.worlds at here c.args.store M c.populate.ensures.new_number c.populate.new.self c.populate.ensures.stock)
+
+pub unreachable-requires-then-not-has_number : goal.unreachable-requires-then-not-has_number
+unreachable-requires-then-not-has_number g c =
+    let i = c.self.inside in
+    let e = c.index-component.result.now in
+    let p = c.in-Some.port in
+    let G : Entries (g.row.C.Denot) = record { entries = i.components.items; stock = i.stock; units = i.units; numbered = i.registry.given } in
+    let asked = rw (← c.self.view_is) at c.requires in
+    let b : c.args.place < length i.components.items = within g.C.Client.progress G c.args.place _ asked in
+    let at : slice_get i.components.items c.args.place ≡ Some e = slice_get-get_or i.components.items c.args.place e b ∙ ap Some (sym c.index-component.ensures) in
+    let here : port_of (component_of e) c.args.index ≡ Some p = sym c.port.ensures ∙ c.in-Some.is in
+    let M : IsMakable (look_of G) (component_of e) p c.args.store = rw (there g.C.Client.progress G c.args.place e at, here) at asked in
+    let left = c.has_number.ensures.left M.numbers in
+    let none = c.if-not-has_number.true in
+    let z : true ≡ false = sym left ∙ none in
+    cc
+
+pub populate-requires-clause-numbers : goal.populate-requires-clause-numbers
+populate-requires-clause-numbers g c = c.has_number.ensures.below c.if-not-has_number.false

@@ -1,0 +1,8 @@
+use Rattle.std.proofs.Common.{◌≡◌, ◌≤◌, ℕ, [], Some, None, length, refl, sym, ◌∙◌, ap, subst, arith}
+use Rattle.graph_core.proofs.Beginning.{empty_graph}
+use Rattle.graph_core.proofs.core_graph.Core.new.Goals as goal
+
+pub invariant_of-result : goal.invariant_of-result
+invariant_of-result g c =
+    let cap = c.in-Ok.ensures.capacity in
+    rw (c.in-Ok.ensures.items, c.new-2.ensures) (empty_graph g.C.Client.progress c.in_ok-stock.stock c.args.units _ c.in_ok-stock.ensures (omega arith))

@@ -1,0 +1,32 @@
+use Rattle.std.proofs.Common.{◌≡◌, ◌<◌, length, slice_get, Some, option_map, refl, sym, ◌∙◌, ap}
+use Rattle.std.proofs.lemmas.Option.{slice_get-get_or}
+use Rattle.il_machine.specs.Components.{view_of}
+use Rattle.il_machine.specs.World.{port_of}
+use Rattle.il_component.specs.Entries.{component_of}
+use Rattle.port_stock.specs.Kept.{stocked}
+use Rattle.graph_core.specs.Entries.{Entries}
+use Rattle.graph_core.proofs.Replacing.{there}
+use Rattle.graph_core.proofs.Setting.{all_ports}
+use Rattle.graph_core.proofs.Walking.{port_kept}
+use Rattle.graph_core.proofs.core_graph.Core.port_view.Goals as goal
+
+pub made-requires : goal.made-requires
+made-requires g c =
+    let i = c.self.inside in
+    let p = g.C.Client.progress in
+    let e = c.index-component.result.now in
+    let b : c.args.place < length i.components.items = rw (← c.self.view_is) at c.requires in
+    let at : slice_get i.components.items c.args.place ≡ Some e = slice_get-get_or i.components.items c.args.place e b ∙ ap Some (sym c.index-component.ensures) in
+    port_kept (component_of e) (stocked i.stock) c.args.index c.in_ok-port.port
+    (all_ports p i.components.items i.registry i.stock i.units i.components.cap c.args.place e c.self.invariant at) (sym c.in_ok-port.ensures)
+
+pub returns : goal.returns
+returns g c =
+    let i = c.self.inside in
+    let p = g.C.Client.progress in
+    let G : Entries (g.row.C.Denot) = record { entries = i.components.items; stock = i.stock; units = i.units; numbered = i.registry.given } in
+    let e = c.index-component.result.now in
+    let b : c.args.place < length i.components.items = rw (← c.self.view_is) at c.requires in
+    let at : slice_get i.components.items c.args.place ≡ Some e = slice_get-get_or i.components.items c.args.place e b ∙ ap Some (sym c.index-component.ensures) in
+    let n : port_of (component_of e) c.args.index ≡ Some c.in_ok-port.port = sym c.in_ok-port.ensures in
+    rw (← c.self.view_is, there p G c.args.place e at, n, ← c.made.ensures.made) refl

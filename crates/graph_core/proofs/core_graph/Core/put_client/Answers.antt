@@ -1,0 +1,42 @@
+use Rattle.std.proofs.Common.{◌≡◌, ◌<◌, true, length, slice_get, Some, is_none, refl, sym, ◌∙◌, ap}
+use Rattle.std.proofs.lemmas.Option.{slice_get-get_or}
+use Rattle.il_component.specs.Entries.{Entry}
+use Rattle.graph_core.specs.Entries.{Entries}
+use Rattle.graph_core.proofs.Replacing.{there, within}
+use Rattle.graph_core.proofs.Stepping.{graph_with}
+use Rattle.graph_core.proofs.Returning.{back_worlds, back_returns}
+use Rattle.graph_core.proofs.core_graph.Core.put_client.Goals as goal
+
+pub put_client-requires : goal.put_client-requires
+put_client-requires g c =
+    let i = c.self.inside in
+    let e = c.index_mut-component.result.now in
+    let G : Entries (g.row.C.Denot) = record { entries = i.components.items; stock = i.stock; units = i.units; numbered = i.registry.given } in
+    let asked = rw (← c.self.view_is) at c.requires in
+    let b : c.args.place < length i.components.items = within g.C.Client.progress G c.args.place _ asked in
+    let at : slice_get i.components.items c.args.place ≡ Some e = slice_get-get_or i.components.items c.args.place e b ∙ ap Some (sym c.index_mut-component.ensures.value) in
+    rw (there g.C.Client.progress G c.args.place e at) at asked
+
+pub invariant_of-self : goal.invariant_of-self
+invariant_of-self g c =
+    let i = c.self.inside in
+    let e = c.index_mut-component.result.now in
+    let G : Entries (g.row.C.Denot) = record { entries = i.components.items; stock = i.stock; units = i.units; numbered = i.registry.given } in
+    let asked = rw (← c.self.view_is) at c.requires in
+    let b : c.args.place < length i.components.items = within g.C.Client.progress G c.args.place _ asked in
+    let at : slice_get i.components.items c.args.place ≡ Some e = slice_get-get_or i.components.items c.args.place e b ∙ ap Some (sym c.index_mut-component.ensures.value) in
+    let d = c.put_client.new.self in
+    let out : is_none e.queues.client ≡ true = rw (there g.C.Client.progress G c.args.place e at) at asked in
+    graph_with g.C.Client.progress i.components.items i.registry i.stock i.stock i.units i.components.cap c.args.place e d c.self.invariant at
+    (ap (λ (x : Entry (g.row.C.Denot)). x.handle) c.put_client.ensures) (ap (λ (x : Entry (g.row.C.Denot)). x.ports) c.put_client.ensures) refl
+    (back_worlds g.C.Client.progress G c.args.place e c.args.client c.self.invariant.worlds at d c.put_client.ensures out)
+
+pub returns : goal.returns
+returns g c =
+    let i = c.self.inside in
+    let e = c.index_mut-component.result.now in
+    let G : Entries (g.row.C.Denot) = record { entries = i.components.items; stock = i.stock; units = i.units; numbered = i.registry.given } in
+    let asked = rw (← c.self.view_is) at c.requires in
+    let b : c.args.place < length i.components.items = within g.C.Client.progress G c.args.place _ asked in
+    let at : slice_get i.components.items c.args.place ≡ Some e = slice_get-get_or i.components.items c.args.place e b ∙ ap Some (sym c.index_mut-component.ensures.value) in
+    rw (← c.self.view_is) (back_returns g.C.Client.progress G c.args.place e c.args.client c.self.invariant.worlds at c.put_client.new.self c.put_client.ensures)

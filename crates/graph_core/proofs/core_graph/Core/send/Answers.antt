@@ -1,0 +1,52 @@
+use Rattle.std.proofs.Common.{◌≡◌, ◌<◌, ◌≤◌, false, None, length, slice_get, Some, IsSomeAnd, refl, sym, ◌∙◌, ap, subst}
+use Rattle.std.proofs.lemmas.Option.{slice_get-get_or}
+use Rattle.omx_types.specs.declared.handle.Handle.{Handle}
+use Rattle.il_machine.specs.World.{number_of}
+use Rattle.il_machine.specs.Look.{Look, look}
+use Rattle.il_machine.specs.Room.{used}
+use Rattle.il_machine.specs.Commands.{send_refusal, sent, run_idle, run_front}
+use Rattle.il_machine.specs.Sound.{IsSound}
+use Rattle.machine_laws.proofs.Sending.{sound_sent, change_sent}
+use Rattle.machine_laws.proofs.Running.{sound_run, change_run}
+use Rattle.machine_laws.proofs.Change.{IsChange}
+use Rattle.il_component.specs.Entries.{component_of}
+use Rattle.graph_core.specs.Entries.{Entries, look_of}
+use Rattle.graph_core.proofs.Replacing.{there, within, component_sound, graph_changed, returns_changed}
+use Rattle.graph_core.proofs.Accepted.{fits}
+use Rattle.graph_core.proofs.core_graph.Core.send.Goals as goal
+
+pub send-requires : goal.send-requires
+send-requires g c =
+    let i = c.self.inside in
+    let e = c.index_mut-component.result.now in
+    let G : Entries (g.row.C.Denot) = record { entries = i.components.items; stock = i.stock; units = i.units; numbered = i.registry.given } in
+    let asked = rw (← c.self.view_is) at c.requires in
+    let b : c.args.place < length i.components.items = within g.C.Client.progress G c.args.place _ asked in
+    let at : slice_get i.components.items c.args.place ≡ Some e = slice_get-get_or i.components.items c.args.place e b ∙ ap Some (sym c.index_mut-component.ensures.value) in
+    let r = rw (there g.C.Client.progress G c.args.place e at) at asked in
+    fits (look_of G) (component_of e) c.args.command r
+
+pub invariant_of-self : goal.invariant_of-self
+invariant_of-self g c =
+    let i = c.self.inside in
+    let e = c.index_mut-component.result.now in
+    let G : Entries (g.row.C.Denot) = record { entries = i.components.items; stock = i.stock; units = i.units; numbered = i.registry.given } in
+    let asked = rw (← c.self.view_is) at c.requires in
+    let b : c.args.place < length i.components.items = within g.C.Client.progress G c.args.place _ asked in
+    let at : slice_get i.components.items c.args.place ≡ Some e = slice_get-get_or i.components.items c.args.place e b ∙ ap Some (sym c.index_mut-component.ensures.value) in
+    let r = rw (there g.C.Client.progress G c.args.place e at) at asked in
+    let S : IsSound (component_of e) = component_sound g.C.Client.progress G c.args.place (component_of e) c.self.invariant.worlds (there g.C.Client.progress G c.args.place e at) in
+    graph_changed g.C.Client.progress i.components.items i.registry i.stock i.units i.components.cap c.args.place e c.send.new.self c.self.invariant at c.send.ensures.kept
+    (rw c.send.ensures.component (change_sent c.args.command (component_of e))) (rw c.send.ensures.component (sound_sent (look_of G) c.args.command (component_of e) S r))
+
+pub returns : goal.returns
+returns g c =
+    let i = c.self.inside in
+    let e = c.index_mut-component.result.now in
+    let G : Entries (g.row.C.Denot) = record { entries = i.components.items; stock = i.stock; units = i.units; numbered = i.registry.given } in
+    let asked = rw (← c.self.view_is) at c.requires in
+    let b : c.args.place < length i.components.items = within g.C.Client.progress G c.args.place _ asked in
+    let at : slice_get i.components.items c.args.place ≡ Some e = slice_get-get_or i.components.items c.args.place e b ∙ ap Some (sym c.index_mut-component.ensures.value) in
+    let r = rw (there g.C.Client.progress G c.args.place e at) at asked in
+    rw (← c.self.view_is) (returns_changed g.C.Client.progress G c.args.place e c.send.new.self (λ w. sent c.args.command) at c.send.ensures.kept
+    (ap number_of c.send.ensures.component ∙ ap (λ (h : Handle). h.generation) (change_sent c.args.command (component_of e)).handle) (λ w. c.send.ensures.component))

@@ -1,0 +1,80 @@
+use Rattle.std.proofs.Common.{◌≡◌, ◌<◌, length, slice_get, Some, sym, ◌∙◌, ap}
+use Rattle.std.proofs.lemmas.Option.{slice_get-get_or}
+use Rattle.il_machine.specs.World.{port_of}
+use Rattle.il_machine.specs.Stock.{Stocked}
+use Rattle.port_stock.specs.Kept.{stocked}
+use Rattle.il_component.specs.Entries.{component_of}
+use Rattle.graph_core.specs.Changes.{IsHandedIn}
+use Rattle.graph_core.specs.Entries.{Entries, look_of}
+use Rattle.graph_core.proofs.Replacing.{there, within}
+use Rattle.graph_core.proofs.Stepping.{graph_stocked, port_kept}
+use Rattle.graph_core.proofs.Handing.{outside, for_this_port, in_returns, in_worlds}
+use Rattle.graph_core.proofs.core_graph.Core.take_in.Goals as goal
+
+pub push_work-requires-clause-port : goal.push_work-requires-clause-port
+push_work-requires-clause-port g c =
+    let i = c.self.inside in
+    let e = c.index-component.result.now in
+    let p = c.in-Some.port in
+    let G : Entries (g.row.C.Denot) = record { entries = i.components.items; stock = i.stock; units = i.units; numbered = i.registry.given } in
+    let asked = rw (← c.self.view_is) at c.requires.made_for in
+    let b : c.args.place < length i.components.items = within g.C.Client.progress G c.args.place _ asked in
+    let at : slice_get i.components.items c.args.place ≡ Some e = slice_get-get_or i.components.items c.args.place e b ∙ ap Some (sym c.index-component.ensures) in
+    let here : port_of (component_of e) c.args.index ≡ Some p = sym c.port.ensures ∙ c.in-Some.is in
+    port_kept g.C.Client.progress i.components.items (stocked i.stock) i.registry.given c.args.place c.args.index e p c.self.invariant.ports at here
+
+pub push_work-requires-clause-outside : goal.push_work-requires-clause-outside
+push_work-requires-clause-outside g c =
+    let i = c.self.inside in
+    let e = c.index-component.result.now in
+    let p = c.in-Some.port in
+    let G : Entries (g.row.C.Denot) = record { entries = i.components.items; stock = i.stock; units = i.units; numbered = i.registry.given } in
+    let asked = rw (← c.self.view_is) at c.requires.made_for in
+    let b : c.args.place < length i.components.items = within g.C.Client.progress G c.args.place _ asked in
+    let at : slice_get i.components.items c.args.place ≡ Some e = slice_get-get_or i.components.items c.args.place e b ∙ ap Some (sym c.index-component.ensures) in
+    let here : port_of (component_of e) c.args.index ≡ Some p = sym c.port.ensures ∙ c.in-Some.is in
+    let handed : IsHandedIn c.args.header (look_of G) = rw (← c.self.view_is) at c.requires.handed in
+    outside g.C.Client.progress G c.args.place e c.args.index p c.self.invariant.worlds at here c.args.header handed
+
+pub push_work-requires-clause-made_for : goal.push_work-requires-clause-made_for
+push_work-requires-clause-made_for g c =
+    let i = c.self.inside in
+    let e = c.index-component.result.now in
+    let p = c.in-Some.port in
+    let G : Entries (g.row.C.Denot) = record { entries = i.components.items; stock = i.stock; units = i.units; numbered = i.registry.given } in
+    let asked = rw (← c.self.view_is) at c.requires.made_for in
+    let b : c.args.place < length i.components.items = within g.C.Client.progress G c.args.place _ asked in
+    let at : slice_get i.components.items c.args.place ≡ Some e = slice_get-get_or i.components.items c.args.place e b ∙ ap Some (sym c.index-component.ensures) in
+    let here : port_of (component_of e) c.args.index ≡ Some p = sym c.port.ensures ∙ c.in-Some.is in
+    let handed : IsHandedIn c.args.header (look_of G) = rw (← c.self.view_is) at c.requires.handed in
+    let own = rw (there g.C.Client.progress G c.args.place e at, here) at asked in
+    for_this_port g.C.Client.progress G c.args.place e c.args.index p c.self.invariant.worlds at here c.args.header handed own
+
+pub invariant_of-self : goal.invariant_of-self
+invariant_of-self g c =
+    let i = c.self.inside in
+    let e = c.index-component.result.now in
+    let p = c.in-Some.port in
+    let G : Entries (g.row.C.Denot) = record { entries = i.components.items; stock = i.stock; units = i.units; numbered = i.registry.given } in
+    let asked = rw (← c.self.view_is) at c.requires.made_for in
+    let b : c.args.place < length i.components.items = within g.C.Client.progress G c.args.place _ asked in
+    let at : slice_get i.components.items c.args.place ≡ Some e = slice_get-get_or i.components.items c.args.place e b ∙ ap Some (sym c.index-component.ensures) in
+    let here : port_of (component_of e) c.args.index ≡ Some p = sym c.port.ensures ∙ c.in-Some.is in
+    let handed : IsHandedIn c.args.header (look_of G) = rw (← c.self.view_is) at c.requires.handed in
+    let own = rw (there g.C.Client.progress G c.args.place e at, here) at asked in
+    graph_stocked g.C.Client.progress i.components.items i.registry i.stock c.push_work.new.self i.units i.components.cap c.self.invariant (ap (λ (s : Stocked). s.ports) c.push_work.ensures)
+    (in_worlds g.C.Client.progress G c.args.place e c.args.index p c.self.invariant.worlds at here c.args.header handed own c.push_work.new.self c.push_work.ensures)
+
+pub returns : goal.returns
+returns g c =
+    let i = c.self.inside in
+    let e = c.index-component.result.now in
+    let p = c.in-Some.port in
+    let G : Entries (g.row.C.Denot) = record { entries = i.components.items; stock = i.stock; units = i.units; numbered = i.registry.given } in
+    let asked = rw (← c.self.view_is) at c.requires.made_for in
+    let b : c.args.place < length i.components.items = within g.C.Client.progress G c.args.place _ asked in
+    let at : slice_get i.components.items c.args.place ≡ Some e = slice_get-get_or i.components.items c.args.place e b ∙ ap Some (sym c.index-component.ensures) in
+    let here : port_of (component_of e) c.args.index ≡ Some p = sym c.port.ensures ∙ c.in-Some.is in
+    let handed : IsHandedIn c.args.header (look_of G) = rw (← c.self.view_is) at c.requires.handed in
+    let own = rw (there g.C.Client.progress G c.args.place e at, here) at asked in
+    rw (← c.self.view_is) (in_returns g.C.Client.progress G c.args.place e c.args.index p c.self.invariant.worlds at here c.args.header handed own c.push_work.new.self c.push_work.ensures)

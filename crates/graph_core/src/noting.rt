@@ -1,0 +1,61 @@
+//! Notes are given to the client, and headers come back to it.
+
+ghost use Rattle.std.specs.Prelude.{◌≡◌, ◌<◌, length, true, None, Some, MatchOption, IsSomeAnd};
+ghost use Rattle.il_machine.specs.World.{port_of, with_component};
+ghost use Rattle.il_machine.specs.Components.{progress_of};
+ghost use Rattle.il_machine.specs.Notes.{back_in};
+ghost use Rattle.il_machine.specs.Flow.{handed_back};
+ghost use Rattle.il_machine.specs.Whole.{Steps, StepsWhere};
+ghost use Rattle.graph_core.specs.Entries.{kept, component_at};
+ghost use Rattle.graph_core.specs.Changes.{Takes};
+
+use crate::core_graph::Core;
+use il_machine::Owner;
+use note_queues::{Client, Taken, Took};
+
+impl<C: Client> Core<C> {
+    /// Takes the oldest note of the component at the place out, with its client object. A header in it is the client's from then on.
+    pub fn take(&mut self, place: usize) -> Took<C>
+        requires { place < length self.old.entries }
+        ensures { MatchOption (component_at place self.old) ⊥ (λ c. Steps (kept C.progress self.old) (kept C.progress self.new) (λ w v. Takes w place c result v)) }
+    {
+        let component = &mut self.components[place];
+        let took = component.take();
+        if let Took::Call(call) = &took {
+            match &call.taken {
+                Taken::EmptyDone(header) | Taken::FillDone(header) => {
+                    self.stock.set_out(header.id(), Owner::Client);
+                }
+                Taken::Told(_) => {}
+            }
+        }
+        took
+    }
+
+    /// Puts the client object of the component at the place back. It was out, and was told all that was given for the component.
+    pub fn put_client(&mut self, place: usize, client: C)
+        requires { IsSomeAnd (component_at place self.old) (λ c. c.client_out ≡ true) }
+        ensures { MatchOption (component_at place self.old) ⊥ (λ c. StepsWhere (kept C.progress self.old) (kept C.progress self.new) (λ w. C.progress client ≡ progress_of c w) (λ w v. v ≡ with_component place (back_in c) w)) }
+    {
+        let component = &mut self.components[place];
+        component.put_client(client);
+    }
+
+    /// The front of todo of a client port is cleared and queued as a note. Nothing happens where todo is empty.
+    pub fn give_notice(&mut self, place: usize, index: u32)
+        requires { IsSomeAnd (component_at place self.old) (λ c. IsSomeAnd (port_of c index) (λ p. p.state.link ≡ None)) }
+        ensures { MatchOption (component_at place self.old) ⊥ (λ c. MatchOption (port_of c index) ⊥ (λ p. Steps (kept C.progress self.old) (kept C.progress self.new) (λ w v. v ≡ handed_back place c p None w))) }
+    {
+        let component = &mut self.components[place];
+        let Some(port) = component.port(index) else {
+            unreachable!()
+        };
+        let Some(mut header) = self.stock.pull_work(port.key) else {
+            return;
+        };
+        header.clear();
+        self.stock
+            .set_out(header.id(), Owner::Notice(port.key.component));
+        component.put_header(port.setting.definition.input, header);
+    }
+}
