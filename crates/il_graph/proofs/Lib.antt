@@ -2,10 +2,12 @@ pub mod Causing
 pub mod Falling
 pub mod Fronts
 pub mod Kept
-pub mod Mapped
 pub mod Moving
-pub mod Named
-pub mod Outcomes
 pub mod Pairs
-pub mod Stepping
 pub mod Streaming
+pub mod Looking
+pub mod Calling
+pub mod Handing
+pub mod Naming
+pub mod Taking
+pub mod Tunnelling

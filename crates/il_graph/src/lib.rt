@@ -8,7 +8,8 @@ mod pair;
 mod tests;
 
 pub use graph::Graph;
-pub use il_machine::{Mode, PortView};
+pub use il_machine::{Mode, PortView, Progress};
+pub use note_queues::Client;
 pub use pair::{Pair, QueueName};
 
 /// Want of memory.

@@ -1,20 +1,25 @@
-use Rattle.std.proofs.Common.{◌≡◌, Some, None, sym, refl}
-use Rattle.il_machine.specs.World.{port_of}
-use Rattle.il_machine.specs.Headers.{count_headers, is_for}
-use Rattle.il_graph.proofs.Stepping.{named}
+use Rattle.std.proofs.Common.{Ok, Err, refl}
+use Rattle.omx_types.specs.declared.error.OmxError.TheVariants as errors
+use Rattle.il_machine.specs.Components.{view_answer}
+use Rattle.il_graph.proofs.Looking.{alike}
+use Rattle.il_graph.proofs.Calling.{Found, found, not_seen, port_seen, no_port_seen}
 use Rattle.il_graph.proofs.graph.Graph.port_view.Goals as goal
 
 pub returns-in_default : goal.returns-in_default
-returns-in_default g c = rw (← c.self.view_is) (λ w S. rw (named c.self.inside.core c.args.h w None S c.in_default.ensures) refl)
+returns-in_default g c =
+    let p = g.C.Client.progress in
+    rw (← c.self.view_is) (alike p c.self.inside.core (view_answer c.args.h c.args.port) (Err errors.InvalidComponent) (rw (not_seen p c.self.inside.core c.args.h c.in_default.ensures.place) refl))
 
-pub returns-in_default-port : goal.returns-in_default-port
-returns-in_default-port g c =
-    let n : port_of c.in-Some.component.now.component c.args.port ≡ None = sym c.in_default-port.ensures in
-    rw (← c.self.view_is) (λ w S. rw (named c.self.inside.core c.args.h w (Some c.in-Some.component.now) S c.in-Some.ensures, n) refl)
+pub returns-in-Some-port_view : goal.returns-in-Some-port_view
+returns-in-Some-port_view g c =
+    let p = g.C.Client.progress in
+    let G = c.self.inside.core in
+    let F : Found p G c.args.h c.in-Some.place = found p G c.args.h c.in-Some.place c.in-Some.ensures.place c.in-Some.ensures.within in
+    rw (← c.self.view_is) (alike p G (view_answer c.args.h c.args.port) (Ok c.in-Some-port_view.view) (port_seen p G c.args.h c.in-Some.place c.args.port c.in-Some-port_view.view F c.in-Some-port_view.ensures))
 
-pub returns : goal.returns
-returns g c =
-    let n : port_of c.in-Some.component.now.component c.args.port ≡ Some c.in-Some-port.port = sym c.in-Some-port.ensures in
-    rw (← c.self.view_is) (λ w S.
-    let m : 0 ≡ count_headers (is_for c.in-Some-port.port.key) w.headers = S.headers.count (is_for c.in-Some-port.port.key) in
-    rw (named c.self.inside.core c.args.h w (Some c.in-Some.component.now) S c.in-Some.ensures, n, ← m) refl)
+pub returns-in-None : goal.returns-in-None
+returns-in-None g c =
+    let p = g.C.Client.progress in
+    let G = c.self.inside.core in
+    let F : Found p G c.args.h c.in-Some.place = found p G c.args.h c.in-Some.place c.in-Some.ensures.place c.in-Some.ensures.within in
+    rw (← c.self.view_is) (alike p G (view_answer c.args.h c.args.port) (Err errors.BadPortIndex) (no_port_seen p G c.args.h c.in-Some.place c.args.port F c.in-None.ensures))

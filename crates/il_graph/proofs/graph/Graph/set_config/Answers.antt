@@ -1,38 +1,26 @@
-use Rattle.std.proofs.Common.{◌≡◌, slice_get, Some, sym}
-use Rattle.il_graph.proofs.Outcomes.{within_some, calm_settled, calm_changed, changed_settled, config_unresolved, config_refused, config_done}
+use Rattle.std.proofs.Common.{Err}
+use Rattle.omx_types.specs.declared.error.OmxError.TheVariants as errors
+use Rattle.il_machine.specs.World.{Component, with_component}
+use Rattle.il_machine.specs.Look.{Look}
+use Rattle.il_machine.specs.Due.{ClosesTo}
+use Rattle.il_machine.specs.Answers.{Answers}
+use Rattle.il_machine.specs.Parameters.{set_config_refusal, with_value}
+use Rattle.il_graph.proofs.Calling.{Found, found, not_found, refused_at, accepted_at}
 use Rattle.il_graph.proofs.graph.Graph.set_config.Goals as goal
 
 pub returns-in_default-clause-step : goal.returns-in_default-clause-step
-returns-in_default-clause-step g c = rw (← c.self.view_is) (config_unresolved c.self.inside.core c.args.h c.args.key c.args.value (sym c.in_default.ensures.place))
-
-pub returns-in_default-clause-settled : goal.returns-in_default-clause-settled
-returns-in_default-clause-settled g c = rw (← c.self.view_is) (calm_settled c.self.inside.core c.self.invariant)
-
-pub unreachable-requires : goal.unreachable-requires
-unreachable-requires g c = within_some c.self.inside.core.entries c.in-Some.place c.in-Some.ensures.within (sym c.in_default-at.ensures)
+returns-in_default-clause-step g c = rw (← c.self.view_is) (not_found g.C.Client.progress (Unit {0}) c.self.inside.core c.args.h (λ w v i k. Answers (set_config_refusal k c.args.key c.args.value) (Err errors.InvalidComponent) w v (λ _. ClosesTo (with_component i (with_value c.args.key c.args.value k) w) v)) c.in_default.ensures.place)
 
 pub returns-in-Some-set_config_refusal-clause-step : goal.returns-in-Some-set_config_refusal-clause-step
-returns-in-Some-set_config_refusal-clause-step g c = rw (← c.self.view_is) (config_refused c.self.inside.core c.args.h c.in-Some.place c.in-Some-at.component.now c.args.key c.args.value c.in-Some-set_config_refusal.error
-    (sym c.in-Some.ensures.place) (sym c.in-Some-at.ensures) (sym c.in-Some-set_config_refusal.ensures))
-
-pub returns-in-Some-set_config_refusal-clause-settled : goal.returns-in-Some-set_config_refusal-clause-settled
-returns-in-Some-set_config_refusal-clause-settled g c = rw (← c.self.view_is) (calm_settled c.self.inside.core c.self.invariant)
-
-pub invariant_of-self : goal.invariant_of-self
-invariant_of-self g c =
-    let at : slice_get c.self.inside.core.entries c.in-Some.place ≡ Some c.in-Some-at.component.now = sym c.in-Some-at.ensures in
-    let new = rw at at c.set_value.ensures in
-    rw new (calm_changed c.self.inside.core c.in-Some.place c.in-Some-at.component.now c.args.key c.args.value at c.self.invariant)
+returns-in-Some-set_config_refusal-clause-step g c =
+    let p = g.C.Client.progress in
+    let G = c.self.inside.core in
+    let F : Found p G c.args.h c.in-Some.place = found p G c.args.h c.in-Some.place c.in-Some.ensures.place c.in-Some.ensures.within in
+    rw (← c.self.view_is) (refused_at p (λ (l : Look) (k : Component). set_config_refusal k c.args.key c.args.value) G c.args.h c.in-Some.place c.in-Some-set_config_refusal.error (λ w v i k (_ : (Unit {0})). ClosesTo (with_component i (with_value c.args.key c.args.value k) w) v) F c.in-Some-set_config_refusal.ensures)
 
 pub returns-clause-step : goal.returns-clause-step
 returns-clause-step g c =
-    let at : slice_get c.self.inside.core.entries c.in-Some.place ≡ Some c.in-Some-at.component.now = sym c.in-Some-at.ensures in
-    let new = rw at at c.set_value.ensures in
-    rw (← c.self.view_is, new) (config_done c.self.inside.core c.args.h c.in-Some.place c.in-Some-at.component.now c.args.key c.args.value
-    (sym c.in-Some.ensures.place) at (sym c.in_default-set_config_refusal.ensures) c.self.invariant)
-
-pub returns-clause-settled : goal.returns-clause-settled
-returns-clause-settled g c =
-    let at : slice_get c.self.inside.core.entries c.in-Some.place ≡ Some c.in-Some-at.component.now = sym c.in-Some-at.ensures in
-    let new = rw at at c.set_value.ensures in
-    rw new (changed_settled c.self.inside.core c.in-Some.place c.in-Some-at.component.now c.args.key c.args.value at c.self.invariant)
+    let p = g.C.Client.progress in
+    let G = c.self.inside.core in
+    let F : Found p G c.args.h c.in-Some.place = found p G c.args.h c.in-Some.place c.in-Some.ensures.place c.in-Some.ensures.within in
+    rw (← c.self.view_is) (accepted_at p (λ (l : Look) (k : Component). set_config_refusal k c.args.key c.args.value) G c.set_value.new.self c.close_out.new.self c.args.h c.in-Some.place tt (λ i k w. with_component i (with_value c.args.key c.args.value k) w) F c.in_default-set_config_refusal.ensures c.set_value.ensures.set c.close_out.ensures.closes)

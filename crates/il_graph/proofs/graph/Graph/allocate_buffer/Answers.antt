@@ -1,0 +1,45 @@
+use Rattle.std.proofs.Common.{◌≡◌, false, Err}
+use Rattle.omx_types.specs.declared.error.OmxError.TheVariants as errors
+use Rattle.omx_types.specs.declared.error.CallError.TheVariants.{Omx}
+use Rattle.il_machine.specs.World.{Component, port_of}
+use Rattle.il_machine.specs.Headers.{no_load}
+use Rattle.il_machine.specs.Look.{Look, look}
+use Rattle.il_machine.specs.Due.{ClosesTo}
+use Rattle.il_machine.specs.Answers.{AnswersOrMemory}
+use Rattle.il_machine.specs.Buffers.{AtPort, Held, allocate_refusal, client_header, with_header, held_of}
+use Rattle.header_core.specs.declared.memory.Store.TheVariants.{Block}
+use Rattle.il_graph.proofs.Calling.{Found, found}
+use Rattle.il_graph.proofs.Handing.{changed_on, and_said, made_header, not_found_taking, refused_taking, wanting_at, done_taking}
+use Rattle.il_graph.proofs.graph.Graph.allocate_buffer.Goals as goal
+
+pub returns-in_default-clause-step : goal.returns-in_default-clause-step
+returns-in_default-clause-step g c =
+    rw (← c.self.view_is) (not_found_taking g.C.Client.progress Held c.self.inside.core c.args.h
+    (λ w v i k. AnswersOrMemory (allocate_refusal (look w) k (port_of k c.args.port)) (Err (Omx errors.InvalidComponent)) w v (λ x. AtPort (port_of k c.args.port) (λ q. (x ≡ held_of (client_header w.made q false) no_load) × ClosesTo (with_header (client_header w.made q false) w) v))) c.in_default.ensures.place)
+
+pub returns-in-Some-allocate_refusal-clause-step : goal.returns-in-Some-allocate_refusal-clause-step
+returns-in-Some-allocate_refusal-clause-step g c =
+    let p = g.C.Client.progress in
+    let G = c.self.inside.core in
+    let F : Found p G c.args.h c.in-Some.place = found p G c.args.h c.in-Some.place c.in-Some.ensures.place c.in-Some.ensures.within in
+    rw (← c.self.view_is) (refused_taking p (λ (l : Look) (k : Component). allocate_refusal l k (port_of k c.args.port)) G c.args.h c.in-Some.place c.in-Some-allocate_refusal.error
+    (λ w v i k (x : Held). AtPort (port_of k c.args.port) (λ q. (x ≡ held_of (client_header w.made q false) no_load) × ClosesTo (with_header (client_header w.made q false) w) v)) F c.in-Some-allocate_refusal.ensures)
+
+pub returns-in_default-block-clause-step : goal.returns-in_default-block-clause-step
+returns-in_default-block-clause-step g c =
+    let p = g.C.Client.progress in
+    let G = c.self.inside.core in
+    let F : Found p G c.args.h c.in-Some.place = found p G c.args.h c.in-Some.place c.in-Some.ensures.place c.in-Some.ensures.within in
+    rw (← c.self.view_is) (wanting_at p (λ (l : Look) (k : Component). allocate_refusal l k (port_of k c.args.port)) G c.args.h c.in-Some.place
+    (λ w v i k (x : Held). AtPort (port_of k c.args.port) (λ q. (x ≡ held_of (client_header w.made q false) no_load) × ClosesTo (with_header (client_header w.made q false) w) v)) F c.in_default-allocate_refusal.ensures)
+
+pub returns-clause-step : goal.returns-clause-step
+returns-clause-step g c =
+    let p = g.C.Client.progress in
+    let G = c.self.inside.core in
+    let F : Found p G c.args.h c.in-Some.place = found p G c.args.h c.in-Some.place c.in-Some.ensures.place c.in-Some.ensures.within in
+    let step = changed_on p G c.make_header-header.new.self c.close_out.new.self c.args.h c.in-Some.place c.args.port (λ k q w. with_header (client_header w.made q false) w) F c.make_header-header.ensures.change c.close_out.ensures.closes in
+    let said = and_said p G c.close_out.new.self (port_of F.component c.args.port) (λ w q. c.make_header-header.result.held ≡ held_of (client_header w.made q false) no_load) (λ w v q. ClosesTo (with_header (client_header w.made q false) w) v)
+    (made_header p G c.args.h c.in-Some.place c.args.port c.make_header-header.result (Block c.new.result) false F c.make_header-header.ensures.header) step in
+    rw (← c.self.view_is) (done_taking p (λ (l : Look) (k : Component). allocate_refusal l k (port_of k c.args.port)) G c.close_out.new.self c.args.h c.in-Some.place c.make_header-header.result.held
+    (λ w v i k (x : Held). AtPort (port_of k c.args.port) (λ q. (x ≡ held_of (client_header w.made q false) no_load) × ClosesTo (with_header (client_header w.made q false) w) v)) F c.in_default-allocate_refusal.ensures said)

@@ -1,0 +1,27 @@
+use Rattle.std.proofs.Common.{Err}
+use Rattle.omx_types.specs.declared.error.OmxError.TheVariants as errors
+use Rattle.il_machine.specs.declared.answer.Acted.{Acted}
+use Rattle.il_machine.specs.World.{Component, with_component}
+use Rattle.il_machine.specs.Look.{look}
+use Rattle.il_machine.specs.Answers.{Acts}
+use Rattle.il_machine.specs.Commands.{run_idle, run_front}
+use Rattle.il_graph.proofs.Calling.{Found, found, not_found, idle_at, did_at}
+use Rattle.il_graph.proofs.graph.Graph.run_command.Goals as goal
+
+pub returns-in_default-clause-step : goal.returns-in_default-clause-step
+returns-in_default-clause-step g c = rw (← c.self.view_is) (not_found g.C.Client.progress Acted c.self.inside.core c.args.h
+    (λ w v i k. Acts (run_idle k k.commands) (Err errors.InvalidComponent) w (with_component i (run_front (look w) k.commands k) w) v) c.in_default.ensures.place)
+
+pub returns-in-Some-run_idle-clause-step : goal.returns-in-Some-run_idle-clause-step
+returns-in-Some-run_idle-clause-step g c =
+    let p = g.C.Client.progress in
+    let G = c.self.inside.core in
+    let F : Found p G c.args.h c.in-Some.place = found p G c.args.h c.in-Some.place c.in-Some.ensures.place c.in-Some.ensures.within in
+    rw (← c.self.view_is) (idle_at p (λ (k : Component). run_idle k k.commands) G c.args.h c.in-Some.place c.in-Some-run_idle.reason (λ i k w. with_component i (run_front (look w) k.commands k) w) F c.in-Some-run_idle.ensures)
+
+pub returns-clause-step : goal.returns-clause-step
+returns-clause-step g c =
+    let p = g.C.Client.progress in
+    let G = c.self.inside.core in
+    let F : Found p G c.args.h c.in-Some.place = found p G c.args.h c.in-Some.place c.in-Some.ensures.place c.in-Some.ensures.within in
+    rw (← c.self.view_is) (did_at p (λ (k : Component). run_idle k k.commands) G c.run.new.self c.close_out.new.self c.args.h c.in-Some.place (λ i k w. with_component i (run_front (look w) k.commands k) w) F c.in_default-run_idle.ensures c.run.ensures c.close_out.ensures.closes)

@@ -1,0 +1,26 @@
+use Rattle.std.proofs.Common.{Err}
+use Rattle.omx_types.specs.declared.error.OmxError.TheVariants as errors
+use Rattle.il_machine.specs.World.{Component, with_component}
+use Rattle.il_machine.specs.Look.{Look, look}
+use Rattle.il_machine.specs.Due.{ClosesTo}
+use Rattle.il_machine.specs.Answers.{Answers}
+use Rattle.il_machine.specs.Commands.{send_refusal, sent}
+use Rattle.il_graph.proofs.Calling.{Found, found, not_found, refused_at, accepted_at}
+use Rattle.il_graph.proofs.graph.Graph.send_command.Goals as goal
+
+pub returns-in_default-clause-step : goal.returns-in_default-clause-step
+returns-in_default-clause-step g c = rw (← c.self.view_is) (not_found g.C.Client.progress (Unit {0}) c.self.inside.core c.args.h (λ w v i k. Answers (send_refusal (look w) k c.args.command) (Err errors.InvalidComponent) w v (λ _. ClosesTo (with_component i (sent c.args.command k) w) v)) c.in_default.ensures.place)
+
+pub returns-in-Some-send_refusal-clause-step : goal.returns-in-Some-send_refusal-clause-step
+returns-in-Some-send_refusal-clause-step g c =
+    let p = g.C.Client.progress in
+    let G = c.self.inside.core in
+    let F : Found p G c.args.h c.in-Some.place = found p G c.args.h c.in-Some.place c.in-Some.ensures.place c.in-Some.ensures.within in
+    rw (← c.self.view_is) (refused_at p (λ (l : Look) (k : Component). send_refusal l k c.args.command) G c.args.h c.in-Some.place c.in-Some-send_refusal.error (λ w v i k (_ : (Unit {0})). ClosesTo (with_component i (sent c.args.command k) w) v) F c.in-Some-send_refusal.ensures)
+
+pub returns-clause-step : goal.returns-clause-step
+returns-clause-step g c =
+    let p = g.C.Client.progress in
+    let G = c.self.inside.core in
+    let F : Found p G c.args.h c.in-Some.place = found p G c.args.h c.in-Some.place c.in-Some.ensures.place c.in-Some.ensures.within in
+    rw (← c.self.view_is) (accepted_at p (λ (l : Look) (k : Component). send_refusal l k c.args.command) G c.send.new.self c.close_out.new.self c.args.h c.in-Some.place tt (λ i k w. with_component i (sent c.args.command k) w) F c.in_default-send_refusal.ensures c.send.ensures c.close_out.ensures.closes)

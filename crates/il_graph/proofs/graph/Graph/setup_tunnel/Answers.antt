@@ -1,0 +1,63 @@
+use Rattle.std.proofs.Common.{◌≡◌, ℕ, Option, Err}
+use Rattle.omx_types.specs.declared.error.OmxError.{OmxError}
+use Rattle.omx_types.specs.declared.error.OmxError.TheVariants as errors
+use Rattle.omx_types.specs.declared.param.Supplier.{Supplier}
+use Rattle.il_machine.specs.World.{Component, World, port_of}
+use Rattle.il_machine.specs.Look.{Look, look}
+use Rattle.il_machine.specs.Due.{ClosesTo}
+use Rattle.il_machine.specs.Answers.{plain, Resolving, Answers}
+use Rattle.il_machine.specs.Tunnels.{setup_refusal, both_joined, agreed_of, BothPorts}
+use Rattle.il_machine.specs.Whole.{Steps}
+use Rattle.graph_core.specs.Entries.{kept}
+use Rattle.il_graph.proofs.Calling.{Found, found, not_found}
+use Rattle.il_graph.proofs.Tunnelling.{both_close, at_both, other_not_found, refused_at_both, accepted_at_both}
+use Rattle.il_graph.proofs.graph.Graph.setup_tunnel.Goals as goal
+
+-- why the output of the first component isn't joined to the input of the second
+abbrev refusal : ℕ → ℕ → Look → Component → Component → Option OmxError
+refusal output input l k d = setup_refusal l.headers k d (port_of k output) (port_of d input)
+
+-- what the accepted call answers and does
+abbrev Joined : ℕ → ℕ → World → World → ℕ → Component → ℕ → Component → Supplier → Type 0
+Joined output input w v i k j d supplier = BothPorts (port_of k output) (port_of d input) (λ a b. (supplier ≡ agreed_of a b) × ClosesTo (both_joined supplier i k a j d b w) v)
+
+pub returns-in_default-clause-step : goal.returns-in_default-clause-step
+returns-in_default-clause-step g c =
+    rw (← c.self.view_is) (not_found g.C.Client.progress Supplier c.self.inside.core c.args.output.handle
+    (λ w v i k. Resolving plain w c.args.input.handle (Err errors.InvalidComponent) v (λ j d. Answers (refusal c.args.output.index c.args.input.index (look w) k d) (Err errors.InvalidComponent) w v (Joined c.args.output.index c.args.input.index w v i k j d)))
+    c.in_default.ensures.place)
+
+pub returns-in_default-place_of-clause-step : goal.returns-in_default-place_of-clause-step
+returns-in_default-place_of-clause-step g c =
+    let p = g.C.Client.progress in
+    let G = c.self.inside.core in
+    let R = refusal c.args.output.index c.args.input.index in
+    let Y = Joined c.args.output.index c.args.input.index in
+    let F : Found p G c.args.output.handle c.in-Some.giver = found p G c.args.output.handle c.in-Some.giver c.in-Some.ensures.place c.in-Some.ensures.within in
+    rw (← c.self.view_is) (other_not_found p Supplier G c.args.output.handle c.args.input.handle c.in-Some.giver
+    (λ w v i k j d. Answers (R (look w) k d) (Err errors.InvalidComponent) w v (Y w v i k j d)) F c.in_default-place_of.ensures.place)
+
+pub returns-in-Some-setup_refusal-clause-step : goal.returns-in-Some-setup_refusal-clause-step
+returns-in-Some-setup_refusal-clause-step g c =
+    let p = g.C.Client.progress in
+    let G = c.self.inside.core in
+    let R = refusal c.args.output.index c.args.input.index in
+    let Y = Joined c.args.output.index c.args.input.index in
+    let F : Found p G c.args.output.handle c.in-Some.giver = found p G c.args.output.handle c.in-Some.giver c.in-Some.ensures.place c.in-Some.ensures.within in
+    let F' : Found p G c.args.input.handle c.in-Some-place_of.taker = found p G c.args.input.handle c.in-Some-place_of.taker c.in-Some-place_of.ensures.place c.in-Some-place_of.ensures.within in
+    rw (← c.self.view_is) (refused_at_both p R G c.args.output.handle c.args.input.handle c.in-Some.giver c.in-Some-place_of.taker c.in-Some-setup_refusal.error Y F F' c.in-Some-setup_refusal.ensures)
+
+pub returns-clause-step : goal.returns-clause-step
+returns-clause-step g c =
+    let p = g.C.Client.progress in
+    let G = c.self.inside.core in
+    let R = refusal c.args.output.index c.args.input.index in
+    let Y = Joined c.args.output.index c.args.input.index in
+    let F : Found p G c.args.output.handle c.in-Some.giver = found p G c.args.output.handle c.in-Some.giver c.in-Some.ensures.place c.in-Some.ensures.within in
+    let F' : Found p G c.args.input.handle c.in-Some-place_of.taker = found p G c.args.input.handle c.in-Some-place_of.taker c.in-Some-place_of.ensures.place c.in-Some-place_of.ensures.within in
+    let joined = at_both p G c.args.output.handle c.args.input.handle c.in-Some.giver c.in-Some-place_of.taker
+    (λ k d. BothPorts (port_of k c.args.output.index) (port_of d c.args.input.index) (λ a b. (c.join-supplier.result ≡ agreed_of a b) × Steps (kept p G) (kept p c.join-supplier.new.self) (λ w v. v ≡ both_joined c.join-supplier.result c.in-Some.giver k a c.in-Some-place_of.taker d b w)))
+    F F' c.join-supplier.ensures in
+    let s = both_close (kept p G) (kept p c.join-supplier.new.self) (kept p c.close_out.new.self) (port_of F.component c.args.output.index) (port_of F'.component c.args.input.index)
+    (λ a b. c.join-supplier.result ≡ agreed_of a b) (λ a b w. both_joined c.join-supplier.result c.in-Some.giver F.component a c.in-Some-place_of.taker F'.component b w) joined c.close_out.ensures.closes in
+    rw (← c.self.view_is) (accepted_at_both p R G c.close_out.new.self c.args.output.handle c.args.input.handle c.in-Some.giver c.in-Some-place_of.taker c.join-supplier.result Y F F' c.in_default-setup_refusal.ensures s)

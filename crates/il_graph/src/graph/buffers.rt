@@ -1,0 +1,160 @@
+//! Headers of client ports (OpenMAX IL 1.1.2, `OMX_AllocateBuffer`, `OMX_UseBuffer`, `OMX_FreeBuffer`, `OMX_EmptyThisBuffer`,
+//! `OMX_FillThisBuffer`).
+
+ghost use Rattle.std.specs.Prelude.{◌≡◌, OnErr, IfOk, IfErr, false, length, option_map};
+ghost use Rattle.il_machine.specs.Buffers.{AllocateBuffer, UseBuffer, FreeBuffer, EmptyThisBuffer, FillThisBuffer};
+ghost use Rattle.il_machine.specs.Whole.{Steps};
+ghost use Rattle.header_core.specs.declared.memory.Store.TheVariants.{Own};
+ghost use Rattle.header_core.specs.BufferHeader.{is_clients};
+ghost use Rattle.graph_core.specs.Entries.{kept, look_of};
+ghost use Rattle.graph_core.specs.Changes.{IsHandedIn};
+ghost use Rattle.il_graph.specs.Stood.{plainly, heldly, memory_back, own_memory};
+
+use crate::graph::Graph;
+use header_core::{Header, Memory, Store};
+use note_queues::Client;
+use omx_types::{CallError, Handle, OmxError};
+use std::alloc::{AllocError, Global};
+
+/// A block of so many bytes.
+fn block(alloc: Global, size: u32) -> Result<Vec<u8>, AllocError>
+    ensures { IfOk result (λ bytes. length bytes.items ≡ size) }
+{
+    vec![in alloc; 0; size as usize]
+}
+
+/// The client's own memory goes back to it, and a block is let go.
+fn given_back(store: Store) -> Option<Vec<u8>>
+    ensures { option_map (λ bytes. bytes.items) result ≡ own_memory store }
+{
+    match store {
+        Store::Own(memory) => Some(memory.into_bytes()),
+        Store::Block(_memory) => None,
+    }
+}
+
+impl<C: Client> Graph<C> {
+    /// A header with a block of the graph's for a client port.
+    pub fn allocate_buffer(
+        &mut self,
+        alloc: Global,
+        h: Handle,
+        port: u32,
+    ) -> Result<Header, CallError>
+        ensures step { Steps (kept C.progress self.old) (kept C.progress self.new) (λ w v. AllocateBuffer w h port (heldly result) v) }
+        ensures memory { IfOk result (λ header. is_clients header.store ≡ false) }
+        ensures unchanged { OnErr result (self.new ≡ self.old) }
+    {
+        let Some(place) = self.core.place_of(h) else {
+            return Err(CallError::Omx(OmxError::InvalidComponent));
+        };
+        if let Some(error) = self.core.allocate_refusal(place, port) {
+            return Err(CallError::Omx(error));
+        }
+        let size = self.core.port_size(place, port);
+        let Ok(bytes) = block(alloc, size) else {
+            return Err(CallError::OutOfMemory);
+        };
+        let header = self
+            .core
+            .make_header(place, port, Store::Block(Memory::new(bytes)));
+        self.core.close_out();
+        Ok(header)
+    }
+
+    /// A header over the client's own memory, which is of the port's size at least.
+    pub fn use_buffer(
+        &mut self,
+        h: Handle,
+        port: u32,
+        bytes: Vec<u8>,
+    ) -> Result<Header, (OmxError, Vec<u8>)>
+        ensures step { Steps (kept C.progress self.old) (kept C.progress self.new) (λ w v. UseBuffer w h port bytes.items (heldly (plainly result)) v) }
+        ensures memory { IfOk result (λ header. header.store ≡ Own bytes.items) }
+        ensures handed_back { IfErr result (λ e. e.1 ≡ bytes) }
+        ensures unchanged { OnErr result (self.new ≡ self.old) }
+    {
+        let Some(place) = self.core.place_of(h) else {
+            return Err((OmxError::InvalidComponent, bytes));
+        };
+        if let Some(error) = self.core.use_refusal(place, port, bytes.len()) {
+            return Err((error, bytes));
+        }
+        let header = self
+            .core
+            .make_header(place, port, Store::Own(Memory::new(bytes)));
+        self.core.close_out();
+        Ok(header)
+    }
+
+    /// Unmakes a header of the port, and answers the client's memory if the header had it.
+    pub fn free_buffer(
+        &mut self,
+        h: Handle,
+        port: u32,
+        header: Header,
+    ) -> Result<Option<Vec<u8>>, (OmxError, Header)>
+        requires handed { IsHandedIn header (look_of self.old) }
+        ensures step { Steps (kept C.progress self.old) (kept C.progress self.new) (λ w v. FreeBuffer w h port header.held.number (memory_back (plainly result)) v) }
+        ensures memory { IfOk result (λ bytes. option_map (λ b. b.items) bytes ≡ own_memory header.store) }
+        ensures handed_back { IfErr result (λ e. e.1 ≡ header) }
+        ensures unchanged { OnErr result (self.new ≡ self.old) }
+    {
+        let Some(place) = self.core.place_of(h) else {
+            return Err((OmxError::InvalidComponent, header));
+        };
+        if let Some(error) = self.core.free_buffer_refusal(place, port, header.id()) {
+            return Err((error, header));
+        }
+        let store = self.core.unmake_header(place, port, header);
+        self.core.close_out();
+        Ok(given_back(store))
+    }
+
+    /// The header goes to the back of the input port's todo.
+    pub fn empty_this_buffer(
+        &mut self,
+        h: Handle,
+        port: u32,
+        header: Header,
+    ) -> Result<(), (OmxError, Header)>
+        requires handed { IsHandedIn header (look_of self.old) }
+        ensures step { Steps (kept C.progress self.old) (kept C.progress self.new) (λ w v. EmptyThisBuffer w h port header.held (plainly result) v) }
+        ensures handed_back { IfErr result (λ e. e.1 ≡ header) }
+        ensures unchanged { OnErr result (self.new ≡ self.old) }
+    {
+        let Some(place) = self.core.place_of(h) else {
+            return Err((OmxError::InvalidComponent, header));
+        };
+        if let Some(error) = self.core.empty_refusal(place, port, &header) {
+            return Err((error, header));
+        }
+        self.core.take_in(place, port, header);
+        self.core.close_out();
+        Ok(())
+    }
+
+    /// The header is cleared, and goes to the back of the output port's todo.
+    pub fn fill_this_buffer(
+        &mut self,
+        h: Handle,
+        port: u32,
+        mut header: Header,
+    ) -> Result<(), (OmxError, Header)>
+        requires handed { IsHandedIn header (look_of self.old) }
+        ensures step { Steps (kept C.progress self.old) (kept C.progress self.new) (λ w v. FillThisBuffer w h port header.held (plainly result) v) }
+        ensures handed_back { IfErr result (λ e. e.1 ≡ header) }
+        ensures unchanged { OnErr result (self.new ≡ self.old) }
+    {
+        let Some(place) = self.core.place_of(h) else {
+            return Err((OmxError::InvalidComponent, header));
+        };
+        if let Some(error) = self.core.fill_refusal(place, port, &header) {
+            return Err((error, header));
+        }
+        header.clear();
+        self.core.take_in(place, port, header);
+        self.core.close_out();
+        Ok(())
+    }
+}

@@ -1,0 +1,45 @@
+//! Commands (OpenMAX IL 1.1.2, `OMX_SendCommand`).
+
+ghost use Rattle.std.specs.Prelude.{◌≡◌, OnErr};
+ghost use Rattle.il_machine.specs.Commands.{SendCommand, RunCommand};
+ghost use Rattle.il_machine.specs.Whole.{Steps};
+ghost use Rattle.graph_core.specs.Entries.{kept};
+
+use crate::graph::Graph;
+use il_machine::{Acted, Why};
+use note_queues::Client;
+use omx_types::{Command, Handle, OmxError};
+
+impl<C: Client> Graph<C> {
+    /// Queues a command. StateSet(Invalid) is carried out at once.
+    pub fn send_command(&mut self, h: Handle, command: Command) -> Result<(), OmxError>
+        ensures step { Steps (kept C.progress self.old) (kept C.progress self.new) (λ w v. SendCommand w h command result v) }
+        ensures unchanged { OnErr result (self.new ≡ self.old) }
+    {
+        let Some(place) = self.core.place_of(h) else {
+            return Err(OmxError::InvalidComponent);
+        };
+        if let Some(error) = self.core.send_refusal(place, command) {
+            return Err(error);
+        }
+        self.core.send(place, command);
+        self.core.close_out();
+        Ok(())
+    }
+
+    /// Carries out the component's first command.
+    pub fn run_command(&mut self, h: Handle) -> Result<Acted, OmxError>
+        ensures step { Steps (kept C.progress self.old) (kept C.progress self.new) (λ w v. RunCommand w h result v) }
+        ensures unchanged { OnErr result (self.new ≡ self.old) }
+    {
+        let Some(place) = self.core.place_of(h) else {
+            return Err(OmxError::InvalidComponent);
+        };
+        if let Some(reason) = self.core.run_idle(place) {
+            return Ok(Acted::Idle(reason));
+        }
+        self.core.run(place);
+        self.core.close_out();
+        Ok(Acted::Did)
+    }
+}

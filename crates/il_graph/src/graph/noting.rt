@@ -1,0 +1,38 @@
+//! Notes go to the client, and its object comes back.
+
+ghost use Rattle.std.specs.Prelude.{◌≡◌, OnErr};
+ghost use Rattle.il_machine.specs.Notes.{TakeNote, EndNote};
+ghost use Rattle.il_machine.specs.Whole.{Steps, StepsWhere};
+ghost use Rattle.graph_core.specs.Entries.{kept, look_of};
+ghost use Rattle.il_graph.specs.Stood.{tookly, IsOut, WasTold};
+
+use crate::graph::Graph;
+use note_queues::{Client, Took};
+use omx_types::{Handle, OmxError};
+
+impl<C: Client> Graph<C> {
+    /// Takes the component's oldest note, with its client object. A header in it is the client's from then on.
+    pub fn take_note(&mut self, h: Handle) -> Result<Took<C>, OmxError>
+        ensures step { Steps (kept C.progress self.old) (kept C.progress self.new) (λ w v. TakeNote w h (tookly result) v) }
+        ensures unchanged { OnErr result (self.new ≡ self.old) }
+    {
+        let Some(place) = self.core.place_of(h) else {
+            return Err(OmxError::InvalidComponent);
+        };
+        let took = self.core.take(place);
+        self.core.close_out();
+        Ok(took)
+    }
+
+    /// The component's client object, which was out, is in again. It was told all events that were taken for the component.
+    pub fn end_note(&mut self, h: Handle, client: C)
+        requires { IsOut h (look_of self.old) }
+        ensures { StepsWhere (kept C.progress self.old) (kept C.progress self.new) (WasTold h (C.progress client)) (λ w v. EndNote w h v) }
+    {
+        let Some(place) = self.core.place_of(h) else {
+            unreachable!()
+        };
+        self.core.put_client(place, client);
+        self.core.close_out();
+    }
+}

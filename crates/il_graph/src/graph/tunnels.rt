@@ -1,0 +1,56 @@
+//! Tunnels: an output and an input are joined and parted (OpenMAX IL 1.1.2, `OMX_SetupTunnel`).
+
+ghost use Rattle.std.specs.Prelude.{◌≡◌, OnErr};
+ghost use Rattle.il_machine.specs.Tunnels.{SetupTunnel, DropTunnel};
+ghost use Rattle.il_machine.specs.Whole.{Steps};
+ghost use Rattle.graph_core.specs.Entries.{kept};
+
+use crate::graph::Graph;
+use note_queues::Client;
+use omx_types::{OmxError, PortId, Supplier};
+
+impl<C: Client> Graph<C> {
+    /// Joins an output to an input, and answers which end makes the headers.
+    pub fn setup_tunnel(&mut self, output: PortId, input: PortId) -> Result<Supplier, OmxError>
+        ensures step { Steps (kept C.progress self.old) (kept C.progress self.new) (λ w v. SetupTunnel w output input result v) }
+        ensures unchanged { OnErr result (self.new ≡ self.old) }
+    {
+        let Some(giver) = self.core.place_of(output.handle) else {
+            return Err(OmxError::InvalidComponent);
+        };
+        let Some(taker) = self.core.place_of(input.handle) else {
+            return Err(OmxError::InvalidComponent);
+        };
+        if let Some(error) = self
+            .core
+            .setup_refusal(giver, output.index, taker, input.index)
+        {
+            return Err(error);
+        }
+        let supplier = self.core.join(giver, output.index, taker, input.index);
+        self.core.close_out();
+        Ok(supplier)
+    }
+
+    /// Parts an output from the input that it is joined to.
+    pub fn drop_tunnel(&mut self, output: PortId, input: PortId) -> Result<(), OmxError>
+        ensures step { Steps (kept C.progress self.old) (kept C.progress self.new) (λ w v. DropTunnel w output input result v) }
+        ensures unchanged { OnErr result (self.new ≡ self.old) }
+    {
+        let Some(giver) = self.core.place_of(output.handle) else {
+            return Err(OmxError::InvalidComponent);
+        };
+        let Some(taker) = self.core.place_of(input.handle) else {
+            return Err(OmxError::InvalidComponent);
+        };
+        if let Some(error) = self
+            .core
+            .drop_refusal(giver, output.index, taker, input.index)
+        {
+            return Err(error);
+        }
+        self.core.part(giver, output.index, taker, input.index);
+        self.core.close_out();
+        Ok(())
+    }
+}
