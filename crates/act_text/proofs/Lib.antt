@@ -1,0 +1,11 @@
+pub mod ActsAgain
+pub mod Dots
+pub mod NameBytes
+pub mod Numerals
+pub mod Plain
+pub mod PlainWords
+pub mod RepliesAgain
+pub mod SomeWords
+pub mod SpacedAgain
+pub mod Spaces
+pub mod TextsAgain

@@ -1,0 +1,10 @@
+pub mod Acts
+pub mod Names
+pub mod Padded
+pub mod Ports
+pub mod ReadActs
+pub mod ReadReplies
+pub mod Reading
+pub mod Replies
+pub mod Texts
+pub mod Words

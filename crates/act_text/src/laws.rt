@@ -1,0 +1,203 @@
+ghost use Rattle.std.specs.Prelude.{◌≡◌};
+ghost use Rattle.act_text.specs.Acts.{IsAct, IsFormat, ArePorts, FitsWord};
+ghost use Rattle.act_text.specs.Names.{IsName};
+ghost use Rattle.act_text.specs.Ports.{IsPortName};
+ghost use Rattle.act_text.specs.Replies.{IsReply, IsWhy, IsEvent};
+ghost use Rattle.act_text.specs.Texts.{IsActText};
+
+use crate::{ActText, Name, PortName, TextAct, TextReply, TextWhy};
+use omx_types::{Completion, Event, Format, PortSel};
+
+/// Each act and reply that a program holds is one of those that texts say. So what `put_act` wrote is read back.
+pub fn law_of_texts(text: &ActText)
+    ensures { IsActText text.now }
+{
+    law_of_acts(&text.act);
+    law_of_replies(&text.reply);
+}
+
+fn is_name(name: &Name)
+    ensures { IsName name.now }
+{
+    let _ = name.as_bytes();
+}
+
+fn fits(number: u32)
+    ensures { FitsWord number }
+{
+    let _any = number;
+}
+
+fn is_port(port: &PortName)
+    ensures { IsPortName port.now }
+{
+    is_name(&port.component);
+    fits(port.index);
+}
+
+fn is_format(format: &Format)
+    ensures { IsFormat format.now }
+{
+    let _ = format.rate();
+    let _ = format.channels();
+}
+
+fn are_ports(ports: PortSel)
+    ensures { ArePorts ports }
+{
+    match ports {
+        PortSel::One(_) => {}
+        PortSel::All => {}
+    }
+}
+
+fn law_of_acts(act: &TextAct)
+    ensures { IsAct act.now }
+{
+    match act {
+        TextAct::Free(component) => is_name(component),
+        TextAct::State(component) => is_name(component),
+        TextAct::Port(port) => is_port(port),
+        TextAct::SetPort {
+            port,
+            format,
+            count,
+            size,
+        } => {
+            is_port(port);
+            is_format(format);
+            fits(*count);
+            fits(*size);
+        }
+        TextAct::SetSupplier { port, supplier: _ } => is_port(port),
+        TextAct::SetPriority {
+            component,
+            priority,
+        } => {
+            is_name(component);
+            fits(*priority);
+        }
+        TextAct::Gain { component, gain } => {
+            is_name(component);
+            fits(*gain);
+        }
+        TextAct::Weight { port, weight } => {
+            is_port(port);
+            fits(*weight);
+        }
+        TextAct::Tunnel { first, second } => {
+            is_port(first);
+            is_port(second);
+        }
+        TextAct::DropTunnel { first, second } => {
+            is_port(first);
+            is_port(second);
+        }
+        TextAct::SendState {
+            component,
+            state: _,
+        } => is_name(component),
+        TextAct::SendFlush { component, ports } => {
+            is_name(component);
+            are_ports(*ports);
+        }
+        TextAct::SendDisable { component, ports } => {
+            is_name(component);
+            are_ports(*ports);
+        }
+        TextAct::SendEnable { component, ports } => {
+            is_name(component);
+            are_ports(*ports);
+        }
+        TextAct::SendMark {
+            component,
+            port,
+            target,
+            value,
+        } => {
+            is_name(component);
+            fits(*port);
+            is_name(target);
+            let _any = *value;
+        }
+        TextAct::Run(component) => is_name(component),
+        TextAct::Supply(port) => is_port(port),
+        TextAct::Release(port) => is_port(port),
+        TextAct::Over(port) => is_port(port),
+        TextAct::Back(port) => is_port(port),
+        TextAct::Take(component) => is_name(component),
+        TextAct::End(component) => is_name(component),
+    }
+}
+
+fn law_of_replies(reply: &TextReply)
+    ensures { IsReply reply.now }
+{
+    match reply {
+        TextReply::Port(view) => {
+            fits(view.made);
+            fits(view.count);
+        }
+        TextReply::Idle(why) => law_of_whys(why),
+        TextReply::Event(event) => law_of_events(*event),
+        TextReply::Done => {}
+        TextReply::Error(_) => {}
+        TextReply::State(_) => {}
+        TextReply::Supplier { input: _ } => {}
+        TextReply::Did => {}
+        TextReply::NoNote => {}
+        TextReply::Busy => {}
+        TextReply::NotHeld => {}
+        TextReply::TooLong => {}
+        TextReply::NotOut => {}
+    }
+}
+
+fn law_of_whys(why: &TextWhy)
+    ensures { IsWhy why.now }
+{
+    match why {
+        TextWhy::NotAccepting(port) => is_port(port),
+        TextWhy::NotRunning(port) => is_port(port),
+        TextWhy::PortBusy(port) => fits(*port),
+        TextWhy::Short { have, need } => {
+            fits(*have);
+            fits(*need);
+        }
+        TextWhy::Enough { have, need } => {
+            fits(*have);
+            fits(*need);
+        }
+        TextWhy::Events { room, need } => {
+            fits(*room);
+            fits(*need);
+        }
+        TextWhy::NoCommand => {}
+        TextWhy::Pending(_) => {}
+        TextWhy::NotSupplier => {}
+        TextWhy::IsSupplier => {}
+        TextWhy::NoBlock => {}
+        TextWhy::NoNumber => {}
+        TextWhy::NotLeaving => {}
+        TextWhy::NoHeader => {}
+        TextWhy::NoWaiter => {}
+        TextWhy::NoVictim => {}
+    }
+}
+
+fn law_of_events(event: Event)
+    ensures { IsEvent event }
+{
+    match event {
+        Event::CmdComplete(Completion::State(_)) => {}
+        Event::CmdComplete(Completion::Flush(_)) => {}
+        Event::CmdComplete(Completion::Disable(_)) => {}
+        Event::CmdComplete(Completion::Enable(_)) => {}
+        Event::CmdComplete(Completion::Mark(_)) => {}
+        Event::Error(_) => {}
+        Event::Mark(_) => {}
+        Event::PortSettingsChanged(_) => {}
+        Event::BufferFlag { port: _, flags: _ } => {}
+        Event::ResourcesAcquired => {}
+    }
+}

@@ -1,0 +1,165 @@
+ghost use Rattle.std.specs.Prelude.{◌≡◌, ◌∷◌, [], ℕ, List, IfSome, length, codes};
+ghost use Rattle.std.specs.Fmt.{decimal};
+ghost use Rattle.act_text.specs.Reading.{small_number};
+ghost use Rattle.act_text.specs.Replies.{why_words, IsWhy};
+ghost use Rattle.act_text.specs.ReadReplies.{nothing_of, why_of_two, numbers_why, port_why, why_of_three, why_of};
+ghost use Rattle.act_text.specs.Words.{texts};
+
+use crate::TextWhy;
+use crate::parts::{port_in, small_number_in};
+use crate::read_acts::state_in;
+
+/// What there is none of.
+fn nothing_in(what: &[u8]) -> Option<TextWhy>
+    ensures some { IfSome result (λ why. codes "no" ∷ what.now ∷ [] ≡ why_words why) }
+    ensures why { IfSome result IsWhy }
+    ensures is { result ≡ nothing_of what.now }
+{
+    if what == b"command".as_slice() {
+        Some(TextWhy::NoCommand)
+    } else if what == b"block".as_slice() {
+        Some(TextWhy::NoBlock)
+    } else if what == b"number".as_slice() {
+        Some(TextWhy::NoNumber)
+    } else if what == b"header".as_slice() {
+        Some(TextWhy::NoHeader)
+    } else if what == b"waiter".as_slice() {
+        Some(TextWhy::NoWaiter)
+    } else if what == b"victim".as_slice() {
+        Some(TextWhy::NoVictim)
+    } else {
+        None
+    }
+}
+
+fn why_of_two(one: &[u8], two: &[u8]) -> Option<TextWhy>
+    ensures some { IfSome result (λ why. one.now ∷ two.now ∷ [] ≡ why_words why) }
+    ensures why { IfSome result IsWhy }
+    ensures is { result ≡ why_of_two one.now two.now }
+{
+    if one == b"no".as_slice() {
+        nothing_in(two)
+    } else if one == b"pending".as_slice() {
+        let Some(state) = state_in(two) else {
+            return None;
+        };
+        Some(TextWhy::Pending(state))
+    } else if one == b"not".as_slice() {
+        if two == b"supplier".as_slice() {
+            Some(TextWhy::NotSupplier)
+        } else if two == b"leaving".as_slice() {
+            Some(TextWhy::NotLeaving)
+        } else {
+            None
+        }
+    } else {
+        None
+    }
+}
+
+/// A why of two numbers.
+fn numbers_why(what: &[u8], first: u32, second: u32) -> Option<TextWhy>
+    ensures some { IfSome result (λ why. what.now ∷ decimal first ∷ decimal second ∷ [] ≡ why_words why) }
+    ensures why { IfSome result IsWhy }
+    ensures is { result ≡ numbers_why what.now first second }
+{
+    if what == b"short".as_slice() {
+        Some(TextWhy::Short {
+            have: first,
+            need: second,
+        })
+    } else if what == b"enough".as_slice() {
+        Some(TextWhy::Enough {
+            have: first,
+            need: second,
+        })
+    } else if what == b"events".as_slice() {
+        Some(TextWhy::Events {
+            room: first,
+            need: second,
+        })
+    } else {
+        None
+    }
+}
+
+/// Why a port was not fit.
+fn port_why(what: &[u8], port: &[u8]) -> Option<TextWhy>
+    ensures some { IfSome result (λ why. codes "not" ∷ what.now ∷ port.now ∷ [] ≡ why_words why) }
+    ensures why { IfSome result IsWhy }
+    ensures is { result ≡ port_why what.now port.now }
+{
+    if what == b"accepting".as_slice() {
+        let Some(port) = port_in(port) else {
+            return None;
+        };
+        Some(TextWhy::NotAccepting(port))
+    } else if what == b"running".as_slice() {
+        let Some(port) = port_in(port) else {
+            return None;
+        };
+        Some(TextWhy::NotRunning(port))
+    } else {
+        None
+    }
+}
+
+fn busy_why(busy: &[u8], port: &[u8]) -> Option<TextWhy>
+    ensures some { IfSome result (λ why. codes "port" ∷ busy.now ∷ port.now ∷ [] ≡ why_words why) }
+    ensures why { IfSome result IsWhy }
+    ensures is { result ≡ why_of_three (codes "port") busy.now port.now }
+{
+    if busy != b"busy".as_slice() {
+        return None;
+    }
+    let Some(port) = small_number_in(port) else {
+        return None;
+    };
+    Some(TextWhy::PortBusy(port))
+}
+
+fn why_of_three(one: &[u8], two: &[u8], three: &[u8]) -> Option<TextWhy>
+    ensures some { IfSome result (λ why. one.now ∷ two.now ∷ three.now ∷ [] ≡ why_words why) }
+    ensures why { IfSome result IsWhy }
+    ensures is { result ≡ why_of_three one.now two.now three.now }
+{
+    if one == b"not".as_slice() {
+        return port_why(two, three);
+    }
+    if one == b"port".as_slice() {
+        return busy_why(two, three);
+    }
+    let Some(first) = small_number_in(two) else {
+        return None;
+    };
+    let Some(second) = small_number_in(three) else {
+        return None;
+    };
+    numbers_why(one, first, second)
+}
+
+fn lone_why(one: &[u8]) -> Option<TextWhy>
+    ensures some { IfSome result (λ why. one.now ∷ [] ≡ why_words why) }
+    ensures why { IfSome result IsWhy }
+    ensures is { result ≡ why_of (one.now ∷ []) }
+{
+    if one == b"supplier".as_slice() {
+        Some(TextWhy::IsSupplier)
+    } else {
+        None
+    }
+}
+
+/// The why of the words after `idle`.
+pub fn why_in(words: &[&[u8]]) -> Option<TextWhy>
+    ensures some { IfSome result (λ why. texts words.now ≡ why_words why) }
+    ensures why { IfSome result IsWhy }
+    ensures is { result ≡ why_of (texts words.now) }
+{
+    match words {
+        [one] => lone_why(one),
+        [one, two] => why_of_two(one, two),
+        [one, two, three] => why_of_three(one, two, three),
+        _ => None,
+    }
+}

@@ -1,0 +1,50 @@
+use crate::PortName;
+use il_machine::PortView;
+use omx_types::{Event, OmxError, State};
+
+/// Why an act changed nothing, with ports by name.
+#[derive(Clone, Copy, Debug, PartialEq, Eq)]
+pub enum TextWhy {
+    NoCommand,
+    Pending(State),
+    PortBusy(u32),
+    NotSupplier,
+    IsSupplier,
+    NotAccepting(PortName),
+    NoBlock,
+    NoNumber,
+    NotLeaving,
+    NoHeader,
+    NotRunning(PortName),
+    NoWaiter,
+    Short { have: u32, need: u32 },
+    Enough { have: u32, need: u32 },
+    NoVictim,
+    Events { room: u32, need: u32 },
+}
+
+/// A reply that names no header.
+#[derive(Clone, Copy, Debug, PartialEq, Eq)]
+pub enum TextReply {
+    /// A call that has no reply of its own was done.
+    Done,
+    Error(OmxError),
+    State(State),
+    Port(PortView),
+    /// Which end of a tunnel makes its headers.
+    Supplier { input: bool },
+    /// A component did something.
+    Did,
+    Idle(TextWhy),
+    /// No note waits.
+    NoNote,
+    /// The client holds a note already.
+    Busy,
+    Event(Event),
+    /// The header isn't with the client.
+    NotHeld,
+    /// The bytes are more than the header's size.
+    TooLong,
+    /// No work is held.
+    NotOut,
+}

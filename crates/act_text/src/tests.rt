@@ -1,0 +1,73 @@
+use super::*;
+use line_text::BadWord;
+use omx_types::{Completion, Event};
+use std::test::Fail;
+
+fn component() -> Option<Name> {
+    Name::of(b"a")
+}
+
+#[test]
+fn a_run_that_did(rt: HostRuntime) -> Result<(), Fail> {
+    let component = component().ok_or("name")?;
+    let text = ActText {
+        act: TextAct::Run(component),
+        reply: TextReply::Did,
+    };
+    let mut out = Vec::new(rt.alloc());
+    put_act(&text, &mut out)?;
+    assert_eq!(rt; out.as_slice(), b"run a = did".as_slice());
+    assert_eq!(rt; read_act(b"run a = did"), Ok(text));
+    Ok(())
+}
+
+#[test]
+fn a_mark_that_was_told(rt: HostRuntime) -> Result<(), Fail> {
+    let component = component().ok_or("name")?;
+    let text = ActText {
+        act: TextAct::Take(component),
+        reply: TextReply::Event(Event::CmdComplete(Completion::Mark(0))),
+    };
+    let mut out = Vec::new(rt.alloc());
+    put_act(&text, &mut out)?;
+    assert_eq!(rt; out.as_slice(), b"take a = event mark 0".as_slice());
+    assert_eq!(rt; read_act(b"take a = event mark 0"), Ok(text));
+    Ok(())
+}
+
+#[test]
+fn a_command_of_a_mark(rt: HostRuntime) -> Result<(), Fail> {
+    let component = component().ok_or("name")?;
+    let act = TextAct::SendMark {
+        component,
+        port: 0,
+        target: component,
+        value: 7,
+    };
+    let text = ActText {
+        act,
+        reply: TextReply::Done,
+    };
+    let mut out = Vec::new(rt.alloc());
+    put_act(&text, &mut out)?;
+    assert_eq!(rt; out.as_slice(), b"send a mark 0 a 7 = ok".as_slice());
+    assert_eq!(rt; read_act(b"send a mark 0 a 7 = ok"), Ok(text));
+    Ok(())
+}
+
+#[test]
+fn texts_that_are_none(rt: HostRuntime) {
+    let bad = Err(BadWord { place: 0 });
+    assert_eq!(rt; read_act(b"run  a = did"), bad);
+    assert_eq!(rt; read_act(b"back a.00 = did"), bad);
+    assert_eq!(rt; read_act(b"end a"), bad);
+    assert_eq!(rt; read_act(b"run a = did "), bad);
+}
+
+#[test]
+fn a_reply_by_itself(rt: HostRuntime) -> Result<(), Fail> {
+    let mut out = Vec::new(rt.alloc());
+    put_reply(&TextReply::NotHeld, &mut out)?;
+    assert_eq!(rt; out.as_slice(), b"not held".as_slice());
+    Ok(())
+}
