@@ -1,0 +1,4 @@
+pub mod FormsAgain
+pub mod HexWords
+pub mod LineSteps
+pub mod Sayings

@@ -1,0 +1,72 @@
+-- What a line says, and what it comes to.
+use Rattle.std.proofs.Common.{◌≡◌, ◌≢◌, ℕ, ◌+◌, ◌<◌, ◌≤◌, ◌&&◌, Bool, true, false, IsTrue, IsFalse, List, [], ◌∷◌, length, refl, sym, ap, ◌∙◌, subst, arith, rules, Option, Some, None, IfNone, Result, Ok, Err, codes, inl, inr, IsUtf8}
+use Rattle.std.specs.Fmt.{decimal}
+use Rattle.std.specs.Str.{bytes_eq}
+use Rattle.std.proofs.lemmas.Slice.Eq.{bytes_eq-Decides}
+use Rattle.std.proofs.lemmas.Grind.{common_steps}
+use Rattle.line_text.specs.Words.{words_of}
+use Rattle.omx_types.specs.declared.fault.ScriptWhy.{ScriptWhy}
+use Rattle.script_lang.specs.Forms.{form_words, IsForm}
+use Rattle.script_lang.specs.ReadForms.{form_of}
+use Rattle.script_lang.specs.Scripts.{Before, Says, GoOn, ComeTo, GoesOn, IsUnits, IsFormOf, AreNoForm, units_of, with_units, with_act, fault_at, first_words, are_first}
+use Rattle.script_lang.specs.declared.form.TraceForm.{TraceForm}
+use Rattle.script_lang.specs.declared.saying.Said.{Said}
+use Rattle.script_lang.specs.declared.saying.Said.TheVariants.{Nothing, Units, Act, Fault}
+use Rattle.script_lang.specs.declared.script.ScriptFault.{ScriptFault}
+use Rattle.script_lang.proofs.FormsAgain.{form-again, form-short, units-again}
+
+abbrev IsNothing : {T : Type 0} → Option T → Type 0
+IsNothing None = Unit {0}
+IsNothing (Some _) = ⊥
+
+none-some : {T : Type 0} (x : T) → None ≡ Some x → ⊥
+none-some {T} x e = subst (λ (o : Option T). IsNothing o) e tt
+
+pub units-none : (before : Before) (words : List (List ℕ)) (r : Option ℕ) → r ≡ units_of words → IfNone r ((n : ℕ) → IsUnits before words n → ⊥)
+units-none before words (Some n) is = tt
+units-none before words None is = λ n units. none-some n (is ∙ ap units_of units.spelled ∙ units-again n units.few)
+
+pub no-form : (before : Before) (words : List (List ℕ)) → None ≡ form_of words → ((n : ℕ) → IsUnits before words n → ⊥) → AreNoForm before words
+no-form before words none no_units = record {
+  units = no_units;
+  form = λ form is. none-some form (none ∙ ap form_of is.spelled ∙ form-again form is.is);
+}
+
+pub long-no-form : (before : Before) (words : List (List ℕ)) → 16 < length words → AreNoForm before words
+long-no-form before words long = record {
+  units = λ n is. two long (ap length is.spelled);
+  form = λ form is. eight long (ap length is.spelled) (form-short form);
+}
+  where
+    two : 16 < length words → length words ≡ 2 → ⊥
+    two long is = omega arith
+
+    eight : {n : ℕ} → 16 < length words → length words ≡ n → n ≤ 8 → ⊥
+    eight long is short = omega arith
+
+pub said-nothing : (before : Before) (number : ℕ) (line : List ℕ) → Says before line Nothing → GoesOn before number line before
+said-nothing before number line says = λ lines outcome come. (Nothing, says, come)
+
+pub said-units : (before : Before) (number : ℕ) (line : List ℕ) (n : ℕ) → Says before line (Units n) → GoesOn before number line (with_units before n)
+said-units before number line n says = λ lines outcome come. (Units n, says, come)
+
+pub said-act : (before : Before) (number : ℕ) (line : List ℕ) (form : TraceForm) → Says before line (Act form) → GoesOn before number line (with_act before number line form)
+said-act before number line form says = λ lines outcome come. (Act form, says, come)
+
+pub said-fault : (before : Before) (number : ℕ) (line : List ℕ) (why : ScriptWhy) → Says before line (Fault why) → (lines : List (List ℕ)) → ComeTo before number (line ∷ lines) (Err (fault_at number why))
+said-fault before number line why says lines = (Fault why, says, refl)
+
+pub first-are : (words : List (List ℕ)) → are_first words ≡ true → words ≡ first_words
+first-are (one ∷ two ∷ three ∷ []) is =
+    let tests : (bytes_eq one (codes "omx") ≡ true) × (bytes_eq two (codes "1") ≡ true) × (bytes_eq three (codes "trace") ≡ true) = (Prim.grind (arith, common_steps), Prim.grind (arith, common_steps), Prim.grind (arith, common_steps)) in
+    let a = (bytes_eq-Decides one (codes "omx")).0 tests.0 in
+    let b = (bytes_eq-Decides two (codes "1")).0 tests.1 in
+    let d = (bytes_eq-Decides three (codes "trace")).0 tests.2 in
+    ap (λ (w : List ℕ). w ∷ two ∷ three ∷ []) a ∙ ap (λ (w : List ℕ). codes "omx" ∷ w ∷ three ∷ []) b ∙ ap (λ (w : List ℕ). codes "omx" ∷ codes "1" ∷ w ∷ []) d
+first-are [] is = absurd (search (rules, is))
+first-are (_ ∷ []) is = absurd (search (rules, is))
+first-are (_ ∷ _ ∷ []) is = absurd (search (rules, is))
+first-are (_ ∷ _ ∷ _ ∷ _ ∷ _) is = absurd (search (rules, is))
+
+pub first-not : (words : List (List ℕ)) → are_first words ≡ false → words ≡ first_words → ⊥
+first-not words other is = search (rules, sym other ∙ ap are_first is)

@@ -1,0 +1,136 @@
+ghost use Rattle.std.specs.Prelude.{◌≡◌, ◌∷◌, ◌≤◌, ◌++◌, [], ℕ, List, drop, codes, IsTrue, IsFalse, IfOk, IfSome, IfNone};
+ghost use Rattle.std.specs.Fmt.{decimal};
+ghost use Rattle.line_text.specs.Words.{words_of};
+ghost use Rattle.act_text.specs.Words.{texts, spaced, after_spaces};
+ghost use Rattle.script_lang.specs.Scripts.{Says, WordsSay, IsUnits, units_of, seen, is_skipped};
+
+use crate::known::{is_known, is_new};
+use crate::read_forms::form_in;
+use crate::{OutOfMemory, Text, TraceForm, TraceLine};
+use act_text::{LineWords, small_number_in};
+use line_text::next_word;
+use omx_types::ScriptWhy;
+use std::alloc::Global;
+use std::str;
+
+/// What a line says after the earlier ones.
+#[derive(Drop)]
+pub enum Said {
+    Nothing,
+    Units(u32),
+    Act(TraceForm),
+    Fault(ScriptWhy),
+}
+
+/// What the earlier lines said.
+#[derive(Drop)]
+pub struct Reading {
+    pub units: Option<u32>,
+    pub lines: Vec<TraceLine>,
+}
+
+/// What a line says.
+pub fn says(alloc: Global, before: &Reading, line: &[u8]) -> Result<Said, OutOfMemory>
+    ensures { IfOk result (Says (seen before.now) line.now) }
+{
+    match str::from_utf8(line) {
+        Ok(_) => text_says(alloc, before, line),
+        Err(_) => Ok(Said::Fault(ScriptWhy::NotText)),
+    }
+}
+
+fn text_says(alloc: Global, before: &Reading, line: &[u8]) -> Result<Said, OutOfMemory>
+    ensures { IfOk result (WordsSay (seen before.now) (words_of line.now)) }
+{
+    if is_skipped(line) {
+        return Ok(Said::Nothing);
+    }
+    let Some(words) = LineWords::of(line) else {
+        return Ok(Said::Fault(ScriptWhy::BadWord));
+    };
+    words_say(alloc, before, words.as_slice())
+}
+
+/// Whether a line has no words, or is a comment.
+fn is_skipped(line: &[u8]) -> bool
+    ensures { result ≡ is_skipped (words_of line.now) }
+{
+    match next_word(line, 0) {
+        Ok((start, _)) => line[start] == b'#',
+        Err(_) => true,
+    }
+}
+
+fn words_say(alloc: Global, before: &Reading, words: &[&[u8]]) -> Result<Said, OutOfMemory>
+    requires { IsFalse (is_skipped (texts words.now)) }
+    ensures { IfOk result (WordsSay (seen before.now) (texts words.now)) }
+{
+    if let Some(units) = units_at(before, words) {
+        return Ok(Said::Units(units));
+    }
+    let Some(form) = form_in(alloc, words)? else {
+        return Ok(Said::Fault(ScriptWhy::BadWord));
+    };
+    if !is_known(before.lines.as_slice(), &form) {
+        return Ok(Said::Fault(ScriptWhy::UnknownName));
+    }
+    if !is_new(before.lines.as_slice(), &form) {
+        return Ok(Said::Fault(ScriptWhy::NameTwice));
+    }
+    Ok(Said::Act(form))
+}
+
+/// The units that words say, where they may stand.
+fn units_at(before: &Reading, words: &[&[u8]]) -> Option<u32>
+    ensures some { IfSome result (IsUnits (seen before.now) (texts words.now)) }
+    ensures none { IfNone result ((n : ℕ) → IsUnits (seen before.now) (texts words.now) n → ⊥) }
+{
+    if before.units.is_some() {
+        return None;
+    }
+    if !before.lines.is_empty() {
+        return None;
+    }
+    units_in(words)
+}
+
+fn units_in(words: &[&[u8]]) -> Option<u32>
+    ensures spelled { IfSome result (λ n. texts words.now ≡ codes "units" ∷ decimal n ∷ []) }
+    ensures few { IfSome result (λ n. n ≤ 1000) }
+    ensures is { result ≡ units_of (texts words.now) }
+{
+    match words {
+        [first, number] => units_of(first, number),
+        _ => None,
+    }
+}
+
+fn units_of(first: &[u8], number: &[u8]) -> Option<u32>
+    ensures spelled { IfSome result (λ n. first.now ∷ number.now ∷ [] ≡ codes "units" ∷ decimal n ∷ []) }
+    ensures few { IfSome result (λ n. n ≤ 1000) }
+    ensures is { result ≡ units_of (first.now ∷ number.now ∷ []) }
+{
+    if first != b"units".as_slice() {
+        return None;
+    }
+    let Some(n) = small_number_in(number) else {
+        return None;
+    };
+    if n <= 1000 { Some(n) } else { None }
+}
+
+/// The words of a line, parted by one space.
+pub fn spaced_text(alloc: Global, line: &[u8]) -> Result<Text, OutOfMemory>
+    ensures { IfOk result (λ text. text ≡ spaced (words_of line.now)) }
+{
+    let mut bytes = Vec::new(alloc);
+    let mut place = 0;
+    while let Ok((start, end)) = next_word(line, place) {
+        bytes.push(b' ')?;
+        bytes.extend_from_slice(&line[start..end])?;
+        place = end;
+    }
+    let first = bytes.len().min(1);
+    let (_, text) = bytes.as_slice().split_at(first);
+    Text::of(alloc, text)
+}
