@@ -18,7 +18,7 @@ use Rattle.il_machine.specs.Headers.{is_for, find_header, put_at, cleared, loade
 use Rattle.il_machine.specs.Look.{look}
 use Rattle.il_machine.specs.Due.{ClosesTo}
 use Rattle.il_machine.specs.Answers.{plain}
-use Rattle.il_machine.specs.Buffers.{Held, held, held_of, load_in, IsWithClient, IsHeldByClient, AtPort, AllocateBuffer, UseBuffer, FreeBuffer, EmptyThisBuffer, FillThisBuffer, allocate_refusal, use_refusal, free_buffer_refusal, empty_refusal, fill_refusal, client_header, with_header, unpopulated, is_unpopulating, without_header, with_todo}
+use Rattle.il_machine.specs.Buffers.{Held, held, held_of, load_in, IsWithClient, AtPort, AllocateBuffer, UseBuffer, FreeBuffer, EmptyThisBuffer, FillThisBuffer, allocate_refusal, use_refusal, free_buffer_refusal, empty_refusal, fill_refusal, client_header, with_header, unpopulated, is_unpopulating, without_header, with_todo}
 use Rattle.il_machine.specs.Notes.{Took, TakeNote, TakeFrom, first_taken, with_given, with_client}
 use Rattle.il_machine.specs.Census.{note_numbers}
 use Rattle.il_machine.specs.Acts as acts
@@ -81,9 +81,6 @@ clients w number s e o = let r = found_state number w s e in record { was = r.0;
 with_client_is : (w : World) (number : ℕ) → IsWithClient number (look w) → IsClients w number
 with_client_is w number M = let s = there_is ((look w).headers.header number) _ M in clients w number s.0 s.1 s.2
 
-held_is : (w : World) (header : Held) → IsHeldByClient header (look w) → IsClients w header.number
-held_is w header M = let s = there_is ((look w).headers.header header.number) _ M in clients w header.number s.0 s.1 (s.2).0
-
 -- ---- free_buffer
 
 unpopulated_grows : (p : Port) (c : Component) → Grows Silent c (unpopulated p c)
@@ -145,7 +142,7 @@ handed_in w v after h port key number change keeps S k H C is =
       });
     })
 
-pub empty_this_buffer : (w : World) (h : Handle) (port : ℕ) (header : Held) (result : Result (Unit {0}) OmxError) (v : World) → Sound w → IsHeldByClient header (look w) → EmptyThisBuffer w h port header result v
+pub empty_this_buffer : (w : World) (h : Handle) (port : ℕ) (header : Held) (result : Result (Unit {0}) OmxError) (v : World) → Sound w → IsWithClient header.number (look w) → EmptyThisBuffer w h port header result v
     → Outcome w (turn w (acts.EmptyThisBuffer h port header) (acts.Plain result)) v
 empty_this_buffer w h port header result v S M a =
     let ms : Result (Unit {0}) OmxError → Turn = λ r. turn w (acts.EmptyThisBuffer h port header) (acts.Plain r) in
@@ -155,10 +152,10 @@ empty_this_buffer w h port header result v S M a =
     (λ _. AtPort (port_of c port) (λ p. ClosesTo (with_todo p.key header.number (loaded (load_in header)) w) v)) (λ e. refl) s.2
     (λ n x e y.
     let p = there_is (port_of c port) _ y in
-    handed_in w v _ h port (p.0).key header.number (loaded (load_in header)) (λ r. refl) S (named_key w h i c port p.0 named p.1) (held_is w header M) p.2
+    handed_in w v _ h port (p.0).key header.number (loaded (load_in header)) (λ r. refl) S (named_key w h i c port p.0 named p.1) (with_client_is w header.number M) p.2
     (named_port_is w h i c port p.0 (λ i c p. with_todo p.key header.number (loaded (load_in header)) w) named p.1)))
 
-pub fill_this_buffer : (w : World) (h : Handle) (port : ℕ) (header : Held) (result : Result (Unit {0}) OmxError) (v : World) → Sound w → IsHeldByClient header (look w) → FillThisBuffer w h port header result v
+pub fill_this_buffer : (w : World) (h : Handle) (port : ℕ) (header : Held) (result : Result (Unit {0}) OmxError) (v : World) → Sound w → IsWithClient header.number (look w) → FillThisBuffer w h port header result v
     → Outcome w (turn w (acts.FillThisBuffer h port header) (acts.Plain result)) v
 fill_this_buffer w h port header result v S M a =
     let ms : Result (Unit {0}) OmxError → Turn = λ r. turn w (acts.FillThisBuffer h port header) (acts.Plain r) in
@@ -168,7 +165,7 @@ fill_this_buffer w h port header result v S M a =
     (λ _. AtPort (port_of c port) (λ p. ClosesTo (with_todo p.key header.number cleared w) v)) (λ e. refl) s.2
     (λ n x e y.
     let p = there_is (port_of c port) _ y in
-    handed_in w v _ h port (p.0).key header.number cleared (λ r. refl) S (named_key w h i c port p.0 named p.1) (held_is w header M) p.2
+    handed_in w v _ h port (p.0).key header.number cleared (λ r. refl) S (named_key w h i c port p.0 named p.1) (with_client_is w header.number M) p.2
     (named_port_is w h i c port p.0 (λ i c p. with_todo p.key header.number cleared w) named p.1)))
 
 -- ---- take_note
@@ -204,10 +201,10 @@ taken_header w v h i c make number rest r S N e n f C =
       });
     })
 
-empty_first : (notes : List Note) (number : ℕ) → slice_get notes 0 ≡ Some (EmptyDone number) → note_numbers notes ≡ number ∷ note_numbers (drop 1 notes)
+pub empty_first : (notes : List Note) (number : ℕ) → slice_get notes 0 ≡ Some (EmptyDone number) → note_numbers notes ≡ number ∷ note_numbers (drop 1 notes)
 empty_first notes number e = ap note_numbers (first_note notes (EmptyDone number) e)
 
-filled_first : (notes : List Note) (number : ℕ) → slice_get notes 0 ≡ Some (FillDone number) → note_numbers notes ≡ number ∷ note_numbers (drop 1 notes)
+pub filled_first : (notes : List Note) (number : ℕ) → slice_get notes 0 ≡ Some (FillDone number) → note_numbers notes ≡ number ∷ note_numbers (drop 1 notes)
 filled_first notes number e = ap note_numbers (first_note notes (FillDone number) e)
 
 take_from : (w v : World) (h : Handle) (i : ℕ) (c : Component) (b : Bool) (o : Option Note) (result : Result Took OmxError) → Sound w → IsNamed w h i c → slice_get c.notes 0 ≡ o → TakeFrom w i c b o result v

@@ -27,3 +27,5 @@ pub mod NewHandles
 pub mod CallsTwice
 pub mod DeterminedLaw
 pub mod RunLaw
+pub mod ClientHeaders
+pub mod GivenHeaders

@@ -21,15 +21,20 @@ use Rattle.machine_laws.proofs.Finding.{either, found_head, found_tail, once_cha
 use Rattle.machine_laws.proofs.Replacing.{IsReplaced, replaced_put}
 use Rattle.machine_laws.proofs.Keys.{key_is, none_or_some}
 
--- the ports that a header was made for, its home and its owner
+-- what is known of a header but its number and its place
 pub record Stand : Type 0 where
   pub port : PortKey
   pub peer : Option PortKey
   pub home : Home
   pub owner : Owner
+  pub size : ℕ
+  pub client_memory : Bool
+
+abbrev pub stand_in : HeaderState → Stand
+stand_in s = record { port = s.port; peer = s.peer; home = s.home; owner = s.owner; size = s.size; client_memory = s.client_memory }
 
 abbrev pub stand_of : HeaderRecord → Stand
-stand_of r = record { port = r.state.port; peer = r.state.peer; home = r.state.home; owner = r.state.owner }
+stand_of r = stand_in r.state
 
 -- how the header of the number stands
 abbrev pub stand : ℕ → List HeaderRecord → Option Stand
@@ -38,7 +43,7 @@ stand n hs = option_map stand_of (find_header n hs)
 abbrev pub SameStands : List HeaderRecord → List HeaderRecord → Type 0
 SameStands hs ks = (n : ℕ) → stand n ks ≡ stand n hs
 
--- the second list has the same headers, each with its ports, its home and its owner
+-- the second list has the same headers, each as it stands
 pub record Settles (hs ks : List HeaderRecord) : Type 0 where
   pub once : Once ks
   pub stands : SameStands hs ks
@@ -70,7 +75,7 @@ module _ (change : HeaderRecord → HeaderRecord) (keeps : (r : HeaderRecord) �
       (λ t. rw t (either (has_number m x)
       (λ u.
       let v : has_number m (change x) ≡ true = rw (number_kept x) u in
-      rw (u, v) (ap (λ (s : HeaderState). Some (record { port = s.port; peer = s.peer; home = s.home; owner = s.owner })) (keeps x)))
+      rw (u, v) (ap (λ (s : HeaderState). Some (stand_in s)) (keeps x)))
       (λ u. let v : has_number m (change x) ≡ false = rw (number_kept x) u in rw (u, v) refl)))
       (λ f. rw f (either (has_number m x) (λ u. rw u refl) (λ u. rw u (stand_changed n m hs))))
 
@@ -138,7 +143,7 @@ in_done_of key hs o = listed key (in_done key) (λ s t. owned_is key s.owner (an
 stays_put : (key : PortKey) (spot : Spot) (n : ℕ) (hs : List HeaderRecord) → Once hs → IsIn key n hs → Settles hs (put key spot n cleared hs)
 stays_put key spot n hs o (r, f, w) =
     let e : owners.Port key ≡ r.state.owner = sym w in
-    stands_replaced n r (put_at key spot (cleared r)) hs (put key spot n cleared hs) (replaced_put key spot cleared (λ x. refl) n hs r o f) (λ i. record { port = r.state.port; peer = r.state.peer; home = r.state.home; owner = e i })
+    stands_replaced n r (put_at key spot (cleared r)) hs (put key spot n cleared hs) (replaced_put key spot cleared (λ x. refl) n hs r o f) (λ i. record (stand_of r) { owner = e i })
 
 put_each : (key : PortKey) (spot : Spot) (ns : List ℕ) (hs : List HeaderRecord) → Once hs → AreIn key ns hs → Settles hs (put_all key spot ns hs)
 put_each key spot [] hs o A = settles_not hs o

@@ -2,7 +2,7 @@
 //! which way headers go, that each comes back, and that one act in one world has one result.
 #![tactic(auto)]
 
-ghost use Rattle.std.specs.Prelude.{◌≡◌, ℕ, true, List, All, ◌++◌, [], ◌⊎◌, Some, None, IsSome, Contains};
+ghost use Rattle.std.specs.Prelude.{◌≡◌, ◌≢◌, ℕ, true, List, All, ◌++◌, [], ◌⊎◌, Some, None, IsSome, Contains};
 ghost use Rattle.omx_types.specs.declared.state.State.TheVariants as states;
 ghost use Rattle.omx_types.specs.declared.command.Completion.{Completion};
 ghost use Rattle.omx_types.specs.declared.command.Completion.TheVariants as completions;
@@ -14,6 +14,7 @@ ghost use Rattle.il_machine.specs.declared.header.HeaderState.{HeaderState};
 ghost use Rattle.il_machine.specs.Headers.{seen, is_for};
 ghost use Rattle.il_machine.specs.Look.{look};
 ghost use Rattle.il_machine.specs.Ports.{settled};
+ghost use Rattle.il_machine.specs.Buffers.{Held};
 ghost use Rattle.il_machine.specs.Due.{Happens, HappenTimes, ClosesTo, IsClosed};
 ghost use Rattle.il_machine.specs.Acts.{Act, Reply};
 ghost use Rattle.il_machine.specs.Run.{Step, Meets, Run};
@@ -24,6 +25,7 @@ ghost use Rattle.il_machine.specs.Trails.{Move, moves, HaveTrails, RunMoves};
 ghost use Rattle.history_laws.specs.Runs.{IsUnchanged, RunQueues, WasDueIn};
 ghost use Rattle.history_laws.specs.Settled.{IsReturned, TakesToIdle, ReachesIdle, WasUnmade, IsUnmadeAndBack};
 ghost use Rattle.history_laws.specs.Determined.{AreAlike};
+ghost use Rattle.history_laws.specs.ClientHeaders.{IsClients, taken_in, given_out, IsGiven};
 
 /// What is queued for a client grows at its end alone: the act tells no completion, and each that the close-out
 /// tells was due in it. The close-out begins with the act's effect. For a component that comes nothing is queued.
@@ -87,4 +89,17 @@ pub fn law_of_closed_runs()
 pub fn law_of_steps_determined()
     ensures { (w : World) (a : Act) (r : Reply) (v : World) (s : Reply) (u : World)
         → Step w a r v → Step w a s u → AreAlike w r v s u }
+{}
+
+/// A header that is with the client stays so, as it is, unless an act takes it in, and the close-out takes none.
+/// A header that an act gives is with the client.
+pub fn law_of_client_headers()
+    ensures stays { (w : World) (a : Act) (r : Reply) (v : World) (number : ℕ) (s : HeaderState)
+        → Sound w → Meets w a → Step w a r v → IsClients (look w) number s → taken_in a r ≢ Some number → IsClients (look v) number s }
+    ensures closing { (w v : World) (number : ℕ) (s : HeaderState)
+        → Sound w → ClosesTo w v → IsClients (look w) number s → IsClients (look v) number s }
+    ensures given { (w : World) (a : Act) (r : Reply) (v : World) (header : Held)
+        → Sound w → Meets w a → Step w a r v → given_out a r ≡ Some header → IsGiven w a v header }
+    ensures runs { (w v : World) (xs : List (Act × Reply)) (number : ℕ) (s : HeaderState)
+        → Sound w → Run w xs v → IsClients (look w) number s → All (λ x. taken_in x.0 x.1 ≢ Some number) xs → IsClients (look v) number s }
 {}

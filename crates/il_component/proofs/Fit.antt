@@ -18,7 +18,7 @@ use Rattle.note_queues.specs.declared.taken.Taken.TheVariants.{Told, EmptyDone, 
 use Rattle.note_queues.specs.Queues.{Queues, command_of, notes_of, costs, holding}
 use Rattle.note_queues.specs.Queues as queues
 use Rattle.il_component.specs.Places.{places_of}
-use Rattle.il_component.specs.Entries.{Entry, component_of, HasCost, IsFit, held_in}
+use Rattle.il_component.specs.Entries.{Entry, component_of, HasCost, IsFit, noticed_of, held_in}
 
 -- ---- the costs of commands
 
@@ -56,8 +56,8 @@ used-told event c = omega (arith, sum_by_push (λ n. cond (is_event n) 1 0) c.no
 pub held_in-told : (ts : List Taken) (event : Event) → held_in (ts ++ Told event ∷ []) ≡ held_in ts
 held_in-told [] event = refl
 held_in-told (Told x ∷ ts) event = held_in-told ts event
-held_in-told (EmptyDone header ∷ ts) event = ap (λ hs. header.held ∷ hs) (held_in-told ts event)
-held_in-told (FillDone header ∷ ts) event = ap (λ hs. header.held ∷ hs) (held_in-told ts event)
+held_in-told (EmptyDone header ∷ ts) event = ap (λ hs. noticed_of header ∷ hs) (held_in-told ts event)
+held_in-told (FillDone header ∷ ts) event = ap (λ hs. noticed_of header ∷ hs) (held_in-told ts event)
 
 -- ---- records that fit
 

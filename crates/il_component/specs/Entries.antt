@@ -8,7 +8,8 @@ use Rattle.il_machine.specs.Settings.{Settings, IsWhole}
 use Rattle.il_machine.specs.Kinds.{ports_in}
 use Rattle.il_machine.specs.World.{Component}
 use Rattle.il_machine.specs.Room.{cost_of}
-use Rattle.il_machine.specs.Buffers.{Held}
+use Rattle.il_machine.specs.Whole.{Noticed}
+use Rattle.header_core.specs.BufferHeader.{BufferHeader, is_clients}
 use Rattle.note_queues.specs.declared.taken.QueuedCommand.{QueuedCommand}
 use Rattle.note_queues.specs.declared.taken.Taken.{Taken}
 use Rattle.note_queues.specs.declared.taken.Taken.TheVariants.{Told, EmptyDone, FillDone}
@@ -24,12 +25,15 @@ pub record Entry (C : Type 0) : Type 0 where
   pub ports : List PortState
   pub queues : Queues C
 
+abbrev pub noticed_of : BufferHeader → Noticed
+noticed_of header = record { held = header.held; client_memory = is_clients header.store }
+
 -- the headers in the notes
-abbrev pub held_in : List Taken → List Held
+abbrev pub held_in : List Taken → List Noticed
 held_in [] = []
 held_in (Told event ∷ notes) = held_in notes
-held_in (EmptyDone header ∷ notes) = header.held ∷ held_in notes
-held_in (FillDone header ∷ notes) = header.held ∷ held_in notes
+held_in (EmptyDone header ∷ notes) = noticed_of header ∷ held_in notes
+held_in (FillDone header ∷ notes) = noticed_of header ∷ held_in notes
 
 -- the command's places are those that the machine reserves for it
 abbrev pub HasCost : Component → QueuedCommand → Type 0

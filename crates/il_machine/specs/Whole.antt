@@ -2,13 +2,18 @@
 -- are with the client aren't kept. So a graph stands for many worlds, and each call's clause speaks of every world that it stood for.
 --
 -- Where more joins: what a graph keeps more is one more field of Look, or of Kept and of Stands.
-use Rattle.std.specs.Prelude.{◌≡◌, ◌<◌, ℕ, true, false, List, [], slice_get, All, Option, Some, None}
+use Rattle.std.specs.Prelude.{◌≡◌, ◌<◌, ℕ, Bool, true, false, List, [], slice_get, All, Option, Some, None}
 use Rattle.il_machine.specs.declared.answer.Progress.{Progress}
 use Rattle.il_machine.specs.World.{Component, Load, World}
 use Rattle.il_machine.specs.Headers.{Seen, seen, is_notice, load_at, Once}
 use Rattle.il_machine.specs.Look.{Look, look}
 use Rattle.il_machine.specs.Buffers.{Held, held, AtHeader}
 use Rattle.il_machine.specs.Components.{progress_of}
+
+-- a header in a queued note, and whether its memory is the client's own
+pub record Noticed : Type 0 where
+  pub held : Held
+  pub client_memory : Bool
 
 -- what a graph keeps
 pub record Kept : Type 0 where
@@ -18,15 +23,15 @@ pub record Kept : Type 0 where
   -- what the headers in the ports' lists carry
   pub loads : ℕ → Option Load
   -- the headers in queued notes
-  pub noticed : List Held
+  pub noticed : List Noticed
 
 -- Each client object that is in has the progress of the notes that were given to it.
 abbrev pub HasProgress : List (Option Progress) → World → Type 0
 HasProgress clients w = (i : ℕ) (c : Component) → slice_get w.components i ≡ Some c → c.client_out ≡ false → slice_get clients i ≡ Some (Some (progress_of c w))
 
--- The header in a queued note is one of the world's, which a notice has.
-abbrev pub IsNoticed : World → Held → Type 0
-IsNoticed w h = AtHeader h.number w (λ r. (held r ≡ h) × (is_notice r.state.owner ≡ true))
+-- The header in a queued note is one of the world's, which a notice has, with the memory that is known of it.
+abbrev pub IsNoticed : World → Noticed → Type 0
+IsNoticed w h = AtHeader h.held.number w (λ r. (held r ≡ h.held) × (is_notice r.state.owner ≡ true) × (r.state.client_memory ≡ h.client_memory))
 
 -- All that is kept is the world's.
 pub record Stands (kept : Kept) (w : World) : Type 0 where

@@ -1,5 +1,5 @@
 -- Each step keeps a world sound.
-use Rattle.std.proofs.Common.{◌≡◌, ℕ, ◌≤◌, Bool, true, false, List, [], ◌∷◌, length, slice_get, Option, Some, None, Result, refl, subst, arith}
+use Rattle.std.proofs.Common.{◌≡◌, ℕ, ◌≤◌, Bool, true, false, List, [], ◌∷◌, length, slice_get, Option, Some, None, MatchOption, Result, refl, subst, arith}
 use Rattle.std.proofs.lemmas.List.Elements.{All-nil}
 use Rattle.omx_types.specs.declared.handle.Handle.{Handle}
 use Rattle.omx_types.specs.declared.handle.PortId.{PortId}
@@ -27,7 +27,7 @@ use Rattle.il_machine.specs.Components.{GetHandle, FreeHandle, get_handle_refusa
 use Rattle.il_machine.specs.Parameters.{SetParameter, SetConfig, set_parameter_refusal, set_config_refusal, with_value, parameter_answer}
 use Rattle.il_machine.specs.Tunnels.{SetupTunnel, DropTunnel, setup_refusal, drop_refusal, both_joined, both_parted, agreed_of}
 use Rattle.il_machine.specs.Commands.{SendCommand, RunCommand, send_refusal, sent, run_idle, run_front}
-use Rattle.il_machine.specs.Buffers.{AllocateBuffer, UseBuffer, FreeBuffer, EmptyThisBuffer, FillThisBuffer, Held, held_of, load_in, AtState, IsWithClient, IsHeldByClient, allocate_refusal, use_refusal, client_header, with_header, free_buffer_refusal, unpopulated, without_header, empty_refusal, fill_refusal, with_todo}
+use Rattle.il_machine.specs.Buffers.{AllocateBuffer, UseBuffer, FreeBuffer, EmptyThisBuffer, FillThisBuffer, Held, held_of, load_in, AtState, IsWithClient, allocate_refusal, use_refusal, client_header, with_header, free_buffer_refusal, unpopulated, without_header, empty_refusal, fill_refusal, with_todo}
 use Rattle.il_machine.specs.Notes.{TakeNote, EndNote, TakeFrom, TakesHeader, Taken, TakenEmpty, TakenFilled, Took, with_given, with_client, back_in}
 use Rattle.il_machine.specs.Flow.{Supply, Release, HandOver, HandBack, supply_idle, with_supplied, release_idle, in_port, front_unmade, over_idle, handed_over, back_idle, handed_back}
 use Rattle.il_machine.specs.Acts.{Act, Reply}
@@ -103,21 +103,21 @@ unmake_keeps w v h port number result M r S = resolving_keeps plain w v h result
     let p = there_is (port_of c port) (λ p. (x ≡ (s.0).client_memory) × ClosesTo (without_header number (with_component i (unpopulated p c) w)) v) b in
     sound_closes (without_header number (with_component i (unpopulated p.0 c) w)) v (p.2).1 (sound_freed w i c port p.0 s.0 number S t p.1 s.1 o n)))
 
-empty_keeps : (w v : World) (h : Handle) (port : ℕ) (header : Held) (result : Result (Unit {0}) OmxError) → IsHeldByClient header (look w) → EmptyThisBuffer w h port header result v → Sound w → Sound v
+empty_keeps : (w v : World) (h : Handle) (port : ℕ) (header : Held) (result : Result (Unit {0}) OmxError) → IsWithClient header.number (look w) → EmptyThisBuffer w h port header result v → Sound w → Sound v
 empty_keeps w v h port header result M r S = resolving_keeps plain w v h result _ S r (λ i c t a.
     let s = there_is ((seen w.headers).header header.number) _ a in
-    let o = held_by_client header.number w s.0 (λ x. (x.owner ≡ owners.Client) × (header.size ≡ x.size) × (length header.content ≤ x.size)) s.1 M in
+    let o = held_by_client header.number w s.0 (λ x. x.owner ≡ owners.Client) s.1 M in
     answers_keep (empty_refusal c (port_of c port) s.0 header.content) result w v _ s.2 S (λ x n b.
     let p = there_is (port_of c port) (λ p. ClosesTo (with_todo p.key header.number (loaded (load_in header)) w) v) b in
-    sound_closes (with_todo (p.0).key header.number (loaded (load_in header)) w) v p.2 (sound_emptied w c port p.0 s.0 header S p.1 s.1 o.0 n)))
+    sound_closes (with_todo (p.0).key header.number (loaded (load_in header)) w) v p.2 (sound_emptied w c port p.0 s.0 header S p.1 s.1 o n)))
 
-fill_keeps : (w v : World) (h : Handle) (port : ℕ) (header : Held) (result : Result (Unit {0}) OmxError) → IsHeldByClient header (look w) → FillThisBuffer w h port header result v → Sound w → Sound v
+fill_keeps : (w v : World) (h : Handle) (port : ℕ) (header : Held) (result : Result (Unit {0}) OmxError) → IsWithClient header.number (look w) → FillThisBuffer w h port header result v → Sound w → Sound v
 fill_keeps w v h port header result M r S = resolving_keeps plain w v h result _ S r (λ i c t a.
     let s = there_is ((seen w.headers).header header.number) _ a in
-    let o = held_by_client header.number w s.0 (λ x. (x.owner ≡ owners.Client) × (header.size ≡ x.size) × (length header.content ≤ x.size)) s.1 M in
+    let o = held_by_client header.number w s.0 (λ x. x.owner ≡ owners.Client) s.1 M in
     answers_keep (fill_refusal c (port_of c port) s.0) result w v _ s.2 S (λ x n b.
     let p = there_is (port_of c port) (λ p. ClosesTo (with_todo p.key header.number cleared w) v) b in
-    sound_closes (with_todo (p.0).key header.number cleared w) v p.2 (sound_filled w c port p.0 s.0 header S p.1 s.1 o.0 n)))
+    sound_closes (with_todo (p.0).key header.number cleared w) v p.2 (sound_filled w c port p.0 s.0 header S p.1 s.1 o n)))
 
 -- ---- tunnels
 
@@ -181,32 +181,52 @@ back_keeps w v h port result r S = on_port_keeps plain w v h result port _ S r (
 
 -- ---- all
 
+-- The header that is handed in is with the client: all that a sound world asks of the caller.
+abbrev pub HandsIn : World → Act → Type 0
+HandsIn w (acts.FreeBuffer h port header) = IsWithClient header (look w)
+HandsIn w (acts.EmptyThisBuffer h port header) = IsWithClient header.number (look w)
+HandsIn w (acts.FillThisBuffer h port header) = IsWithClient header.number (look w)
+HandsIn w _ = Unit {0}
+
+held_with : (o : Option HeaderState) (header : Held) → MatchOption o ⊥ (λ s. (s.owner ≡ owners.Client) × (header.size ≡ s.size) × (length header.content ≤ s.size)) → MatchOption o ⊥ (λ s. s.owner ≡ owners.Client)
+held_with None header h = h
+held_with (Some s) header h = h.0
+
+pub hands_in : (w : World) (a : Act) → Meets w a → HandsIn w a
+hands_in w (acts.FreeBuffer h port header) M = M
+hands_in w (acts.EmptyThisBuffer h port header) M = held_with ((look w).headers.header header.number) header M
+hands_in w (acts.FillThisBuffer h port header) M = held_with ((look w).headers.header header.number) header M
+hands_in w _ M = tt
+
+pub sound_after : (w v : World) (a : Act) (r : Reply) → HandsIn w a → Step w a r v → Sound w → Sound v
+sound_after w v (acts.GetHandle name) (acts.Got result) M s S = get_keeps w v name result s S
+sound_after w v (acts.FreeHandle h) (acts.Plain result) M s S = free_keeps w v h result s S
+sound_after w v (acts.GetState h) (acts.Stated result) M s S = looks_keep (state_answer h (look w)) result w v s S
+sound_after w v (acts.PortView h port) (acts.Viewed result) M s S = looks_keep (view_answer h port (look w)) result w v s S
+sound_after w v (acts.Progress h) (acts.Progressed result) M s S = looks_keep (progress_answer h w) result w v s S
+sound_after w v (acts.GetParameter h key) (acts.Parameter result) M s S = looks_keep (parameter_answer h key false (look w)) result w v s S
+sound_after w v (acts.GetConfig h key) (acts.Parameter result) M s S = looks_keep (parameter_answer h key true (look w)) result w v s S
+sound_after w v (acts.SetParameter h key value) (acts.Plain result) M s S = set_keeps w v h key value result s S
+sound_after w v (acts.SetConfig h key value) (acts.Plain result) M s S = configure_keeps w v h key value result s S
+sound_after w v (acts.SetupTunnel output input) (acts.Joined result) M s S = setup_keeps w v output input result s S
+sound_after w v (acts.DropTunnel output input) (acts.Plain result) M s S = drop_keeps w v output input result s S
+sound_after w v (acts.SendCommand h command) (acts.Plain result) M s S = send_keeps w v h command result s S
+sound_after w v (acts.RunCommand h) (acts.Acted result) M s S = run_keeps w v h result s S
+sound_after w v (acts.AllocateBuffer h port) (acts.Allocated result) M s S = allocate_keeps w v h port result s S
+sound_after w v (acts.UseBuffer h port bytes) (acts.Used result) M s S = use_keeps w v h port bytes result s S
+sound_after w v (acts.FreeBuffer h port header) (acts.Freed result) M s S = unmake_keeps w v h port header result M s S
+sound_after w v (acts.EmptyThisBuffer h port header) (acts.Plain result) M s S = empty_keeps w v h port header result M s S
+sound_after w v (acts.FillThisBuffer h port header) (acts.Plain result) M s S = fill_keeps w v h port header result M s S
+sound_after w v (acts.TakeNote h) (acts.Took result) M s S = take_keeps w v h result s S
+sound_after w v (acts.EndNote h progress) acts.Ended M s S = end_keeps w v h s S
+sound_after w v (acts.Supply h port) (acts.Supplied result) M s S = supply_keeps w v h port result s S
+sound_after w v (acts.Release h port) (acts.Acted result) M s S = release_keeps w v h port result s S
+sound_after w v (acts.HandOver h port) (acts.Acted result) M s S = over_keeps w v h port result s S
+sound_after w v (acts.HandBack h port) (acts.Acted result) M s S = back_keeps w v h port result s S
+sound_after w v _ _ M s S = absurd s
+
 pub sound_step : (w v : World) (a : Act) (r : Reply) → Meets w a → Step w a r v → Sound w → Sound v
-sound_step w v (acts.GetHandle name) (acts.Got result) M s S = get_keeps w v name result s S
-sound_step w v (acts.FreeHandle h) (acts.Plain result) M s S = free_keeps w v h result s S
-sound_step w v (acts.GetState h) (acts.Stated result) M s S = looks_keep (state_answer h (look w)) result w v s S
-sound_step w v (acts.PortView h port) (acts.Viewed result) M s S = looks_keep (view_answer h port (look w)) result w v s S
-sound_step w v (acts.Progress h) (acts.Progressed result) M s S = looks_keep (progress_answer h w) result w v s S
-sound_step w v (acts.GetParameter h key) (acts.Parameter result) M s S = looks_keep (parameter_answer h key false (look w)) result w v s S
-sound_step w v (acts.GetConfig h key) (acts.Parameter result) M s S = looks_keep (parameter_answer h key true (look w)) result w v s S
-sound_step w v (acts.SetParameter h key value) (acts.Plain result) M s S = set_keeps w v h key value result s S
-sound_step w v (acts.SetConfig h key value) (acts.Plain result) M s S = configure_keeps w v h key value result s S
-sound_step w v (acts.SetupTunnel output input) (acts.Joined result) M s S = setup_keeps w v output input result s S
-sound_step w v (acts.DropTunnel output input) (acts.Plain result) M s S = drop_keeps w v output input result s S
-sound_step w v (acts.SendCommand h command) (acts.Plain result) M s S = send_keeps w v h command result s S
-sound_step w v (acts.RunCommand h) (acts.Acted result) M s S = run_keeps w v h result s S
-sound_step w v (acts.AllocateBuffer h port) (acts.Allocated result) M s S = allocate_keeps w v h port result s S
-sound_step w v (acts.UseBuffer h port bytes) (acts.Used result) M s S = use_keeps w v h port bytes result s S
-sound_step w v (acts.FreeBuffer h port header) (acts.Freed result) M s S = unmake_keeps w v h port header result M s S
-sound_step w v (acts.EmptyThisBuffer h port header) (acts.Plain result) M s S = empty_keeps w v h port header result M s S
-sound_step w v (acts.FillThisBuffer h port header) (acts.Plain result) M s S = fill_keeps w v h port header result M s S
-sound_step w v (acts.TakeNote h) (acts.Took result) M s S = take_keeps w v h result s S
-sound_step w v (acts.EndNote h progress) acts.Ended M s S = end_keeps w v h s S
-sound_step w v (acts.Supply h port) (acts.Supplied result) M s S = supply_keeps w v h port result s S
-sound_step w v (acts.Release h port) (acts.Acted result) M s S = release_keeps w v h port result s S
-sound_step w v (acts.HandOver h port) (acts.Acted result) M s S = over_keeps w v h port result s S
-sound_step w v (acts.HandBack h port) (acts.Acted result) M s S = back_keeps w v h port result s S
-sound_step w v _ _ M s S = absurd s
+sound_step w v a r M s S = sound_after w v a r (hands_in w a M) s S
 
 pub sound_run_of : (w v : World) (xs : List (Act × Reply)) → Run w xs v → Sound w → Sound v
 sound_run_of w v [] h S = stays_sound w v h S

@@ -1,7 +1,7 @@
 -- One entry of a list is replaced, added or taken out.
 use Rattle.std.proofs.Common.{◌≡◌, ℕ, zero, suc, ◌<◌, List, [], ◌∷◌, ◌++◌, length, set, remove, Some, slice_get, All, get_or, refl, sym, ◌∙◌, ap, subst, arith}
 use Rattle.std.proofs.lemmas.List.Elements.{All-append}
-use Rattle.il_machine.specs.Buffers.{Held}
+use Rattle.il_machine.specs.Whole.{Noticed}
 use Rattle.whole_laws.specs.Entries.{all_held}
 
 module _ {X : Type 0} where
@@ -19,14 +19,14 @@ module _ {X : Type 0} where
   all_right P [] ys h = h
   all_right P (x ∷ xs) ys h = all_right P xs ys (λ j e q. h (suc j) e (omega arith))
 
-module _ {E : Type 0} (held : E → List Held) where
+module _ {E : Type 0} (held : E → List Noticed) where
   pub held_same : (es : List E) (i : ℕ) (e d : E) → slice_get es i ≡ Some e → held d ≡ held e → all_held held (set es i d) ≡ all_held held es
   held_same [] i e d h s = refl
-  held_same (a ∷ es) zero e d h s = let q : a ≡ e = cc in ap (λ (x : List Held). x ++ all_held held es) (s ∙ ap held (sym q))
-  held_same (a ∷ es) (suc i) e d h s = ap (λ (x : List Held). held a ++ x) (held_same es i e d h s)
+  held_same (a ∷ es) zero e d h s = let q : a ≡ e = cc in ap (λ (x : List Noticed). x ++ all_held held es) (s ∙ ap held (sym q))
+  held_same (a ∷ es) (suc i) e d h s = ap (λ (x : List Noticed). held a ++ x) (held_same es i e d h s)
 
   -- what holds of all headers in notes, and of those that the new entry has, holds of all then
-  pub held_set : (P : Held → Type 0) (es : List E) (i : ℕ) (e d : E) → slice_get es i ≡ Some e → (All P (held e) → All P (held d)) → All P (all_held held es) → All P (all_held held (set es i d))
+  pub held_set : (P : Noticed → Type 0) (es : List E) (i : ℕ) (e d : E) → slice_get es i ≡ Some e → (All P (held e) → All P (held d)) → All P (all_held held es) → All P (all_held held (set es i d))
   held_set P [] i e d h s A = A
   held_set P (a ∷ es) zero e d h s A =
       let q : a ≡ e = cc in
@@ -34,7 +34,7 @@ module _ {E : Type 0} (held : E → List Held) where
   held_set P (a ∷ es) (suc i) e d h s A =
       All-append P (held a) (all_held held (set es i d)) (all_left P (held a) (all_held held es) A) (held_set P es i e d h s (all_right P (held a) (all_held held es) A))
 
-  pub held_removed : (P : Held → Type 0) (es : List E) (i : ℕ) → All P (all_held held es) → All P (all_held held (remove es i))
+  pub held_removed : (P : Noticed → Type 0) (es : List E) (i : ℕ) → All P (all_held held es) → All P (all_held held (remove es i))
   held_removed P [] zero A = A
   held_removed P [] (suc i) A = A
   held_removed P (a ∷ es) zero A = all_right P (held a) (all_held held es) A
@@ -43,10 +43,10 @@ module _ {E : Type 0} (held : E → List Held) where
 
   pub held_added : (es : List E) (d : E) → held d ≡ [] → all_held held (es ++ d ∷ []) ≡ all_held held es
   held_added [] d s = rw s refl
-  held_added (a ∷ es) d s = ap (λ (x : List Held). held a ++ x) (held_added es d s)
+  held_added (a ∷ es) d s = ap (λ (x : List Noticed). held a ++ x) (held_added es d s)
 
   -- what holds of all headers in notes holds of those of one entry
-  pub held_at : (P : Held → Type 0) (es : List E) (i : ℕ) (e : E) → slice_get es i ≡ Some e → All P (all_held held es) → All P (held e)
+  pub held_at : (P : Noticed → Type 0) (es : List E) (i : ℕ) (e : E) → slice_get es i ≡ Some e → All P (all_held held es) → All P (held e)
   held_at P [] i e h A = absurd cc
   held_at P (a ∷ es) zero e h A = let q : a ≡ e = cc in subst (λ (x : E). All P (held x)) q (all_left P (held a) (all_held held es) A)
   held_at P (a ∷ es) (suc i) e h A = held_at P es i e h (all_right P (held a) (all_held held es) A)

@@ -5,9 +5,8 @@ use Rattle.std.proofs.lemmas.List.Elements.{All-filter}
 use Rattle.il_machine.specs.declared.answer.Progress.{Progress}
 use Rattle.il_machine.specs.World.{Component, Given, World, number_of}
 use Rattle.il_machine.specs.Look.{Look}
-use Rattle.il_machine.specs.Buffers.{Held}
 use Rattle.il_machine.specs.Components.{progress_of, progress_after, is_given_to, no_progress, without_component}
-use Rattle.il_machine.specs.Whole.{Kept, Steps, HasProgress, IsNoticed}
+use Rattle.il_machine.specs.Whole.{Kept, Noticed, Steps, HasProgress, IsNoticed}
 use Rattle.whole_laws.proofs.Lists.{get_last, get_before_last, get_at_last, get_removed}
 use Rattle.whole_laws.proofs.Noting.{IsOnly}
 
@@ -54,7 +53,7 @@ lift_made k c n l = λ w S.
     )
 
 -- what is kept, without the component of the place
-abbrev pub with_removed : ℕ → List Held → Kept → Kept
+abbrev pub with_removed : ℕ → List Noticed → Kept → Kept
 with_removed i noticed k = record k { looks = record k.looks { components = remove k.looks.components i }; clients = remove k.clients i; noticed = noticed }
 
 others_given : (n m : ℕ) (gs : List Given) → n ≢ m → filter (is_given_to n) (filter (λ g. not (is_given_to m g)) gs) ≡ filter (is_given_to n) gs
@@ -75,7 +74,7 @@ removed_progress clients w i c only P = λ j d h out.
 less_given : (n : ℕ) (test : Given → Bool) (gs : List Given) → All (λ g. g.component < n) gs → All (λ g. g.component < n) (filter test gs)
 less_given n test gs h = All-filter test (λ g. g.component < n) gs h
 
-pub lift_removed : (k : Kept) (i : ℕ) (c : Component) (noticed : List Held) → IsOnly i c k.looks.components → ((P : Held → Type 0) → All P k.noticed → All P noticed)
+pub lift_removed : (k : Kept) (i : ℕ) (c : Component) (noticed : List Noticed) → IsOnly i c k.looks.components → ((P : Noticed → Type 0) → All P k.noticed → All P noticed)
     → Steps k (with_removed i noticed k) (λ w v. v ≡ without_component i c w)
 lift_removed k i c noticed only less = λ w S.
     let cs : w.components ≡ k.looks.components = ap (λ (x : Look). x.components) S.looks in (

@@ -7,20 +7,19 @@ use Rattle.omx_types.specs.declared.command.Note.{Note}
 use Rattle.il_machine.specs.declared.answer.Progress.{Progress}
 use Rattle.il_machine.specs.World.{Component, Given, World, number_of, with_component}
 use Rattle.il_machine.specs.Look.{Look}
-use Rattle.il_machine.specs.Buffers.{Held}
 use Rattle.il_machine.specs.Components.{progress_of, progress_after, is_given_to, no_progress}
 use Rattle.il_machine.specs.Notes.{first_taken, with_given, back_in}
-use Rattle.il_machine.specs.Whole.{Kept, Stands, Steps, StepsWhere, IsNoticed, HasProgress}
+use Rattle.il_machine.specs.Whole.{Kept, Noticed, Stands, Steps, StepsWhere, IsNoticed, HasProgress}
 use Rattle.whole_laws.proofs.Lists.{get_set_same, get_set_other}
 use Rattle.whole_laws.proofs.Lifting.{with_look, progress_number}
 
 -- ---- the queued notes have another header
 
 -- what is kept, with other headers in queued notes
-abbrev pub with_noticed : List Held → Kept → Kept
+abbrev pub with_noticed : List Noticed → Kept → Kept
 with_noticed hs k = record k { noticed = hs }
 
-pub renoticed : (k : Kept) (hs : List Held) (w : World) → Stands k w → All (IsNoticed w) hs → Stands (with_noticed hs k) w
+pub renoticed : (k : Kept) (hs : List Noticed) (w : World) → Stands k w → All (IsNoticed w) hs → Stands (with_noticed hs k) w
 renoticed k hs w S N = record { looks = S.looks; loads = S.loads; noticed = N; progress = S.progress; once = S.once; given = S.given }
 
 -- ---- a note is taken

@@ -4,8 +4,8 @@ use Rattle.il_machine.specs.World.{HeaderRecord, Load, World}
 use Rattle.il_machine.specs.Headers.{Seen, seen, find_header, is_notice, state_of}
 use Rattle.il_machine.specs.Look.{Look}
 use Rattle.il_machine.specs.Stock.{Stocked, StandsFor}
-use Rattle.il_machine.specs.Buffers.{Held, held}
-use Rattle.il_machine.specs.Whole.{Kept, Stands, Steps, IsNoticed}
+use Rattle.il_machine.specs.Buffers.{held}
+use Rattle.il_machine.specs.Whole.{Kept, Noticed, Stands, Steps, IsNoticed}
 
 -- what is kept, with another stock
 abbrev pub with_stock : Stocked → Kept → Kept
@@ -34,24 +34,24 @@ IsUnnoticed n hs = MatchOption (find_header n hs) (Unit {0}) (λ r. is_notice r.
 
 -- the headers in queued notes are as before
 abbrev pub KeepsNoticed : World → List HeaderRecord → Type 0
-KeepsNoticed w ks = (h : Held) → IsNoticed w h → find_header h.number ks ≡ find_header h.number w.headers
+KeepsNoticed w ks = (h : Noticed) → IsNoticed w h → find_header h.held.number ks ≡ find_header h.held.number w.headers
 
-clash : (o : Option HeaderRecord) (h : Held) → MatchOption o (Unit {0}) (λ r. is_notice r.state.owner ≡ false) → MatchOption o ⊥ (λ r. (held r ≡ h) × (is_notice r.state.owner ≡ true)) → ⊥
+clash : (o : Option HeaderRecord) (h : Noticed) → MatchOption o (Unit {0}) (λ r. is_notice r.state.owner ≡ false) → MatchOption o ⊥ (λ r. (held r ≡ h.held) × (is_notice r.state.owner ≡ true) × (r.state.client_memory ≡ h.client_memory)) → ⊥
 clash None h u n = n
 clash (Some r) h u n = let x = n.1 in absurd cc
 
-differs : (n : ℕ) (w : World) (h : Held) → IsUnnoticed n w.headers → IsNoticed w h → h.number ≢ n
-differs n w h U N e = clash (find_header n w.headers) h U (subst (λ (m : ℕ). MatchOption (find_header m w.headers) ⊥ (λ r. (held r ≡ h) × (is_notice r.state.owner ≡ true))) e N)
+differs : (n : ℕ) (w : World) (h : Noticed) → IsUnnoticed n w.headers → IsNoticed w h → h.held.number ≢ n
+differs n w h U N e = clash (find_header n w.headers) h U (subst (λ (m : ℕ). MatchOption (find_header m w.headers) ⊥ (λ r. (held r ≡ h.held) × (is_notice r.state.owner ≡ true) × (r.state.client_memory ≡ h.client_memory))) e N)
 
 pub keeps_noticed : (n : ℕ) (w : World) (ks : List HeaderRecord) → IsUnnoticed n w.headers → Elsewhere n w.headers ks → KeepsNoticed w ks
-keeps_noticed n w ks U E h N = E h.number (differs n w h U N)
+keeps_noticed n w ks U E h N = E h.held.number (differs n w h U N)
 
 abbrev pub with_headers : List HeaderRecord → ℕ → World → World
 with_headers hs made w = record w { headers = hs; made = made }
 
 pub lift_stock : (k : Kept) (t : Stocked) (f : World → List HeaderRecord)
     → ((w : World) → Stands k w → StandsFor t (f w))
-    → ((w : World) → Stands k w → All (λ h. find_header h.number (f w) ≡ find_header h.number w.headers) k.noticed)
+    → ((w : World) → Stands k w → All (λ h. find_header h.held.number (f w) ≡ find_header h.held.number w.headers) k.noticed)
     → Steps k (with_stock t k) (λ w v. v ≡ with_headers (f w) t.next w)
 lift_stock k t f law kept = λ w S.
     let T = law w S in (
@@ -89,7 +89,7 @@ lift_one k s t n f I free law apart = lift_stock k t (λ w. f w.headers)
     λ i d b. keeps_noticed n w (f w.headers) (unnoticed (find_header n w.headers) u) (apart w.headers P) _ (S.noticed i d b))
 
 -- a header goes to another owner than the notice that had it, in each world: the queued notes have it no longer
-pub lift_taken : (k : Kept) (s t : Stocked) (n : ℕ) (f : List HeaderRecord → List HeaderRecord) → IsStock s k → All (λ h. h.number ≢ n) k.noticed
+pub lift_taken : (k : Kept) (s t : Stocked) (n : ℕ) (f : List HeaderRecord → List HeaderRecord) → IsStock s k → All (λ h. h.held.number ≢ n) k.noticed
     → ((hs : List HeaderRecord) → StandsFor s hs → StandsFor t (f hs))
     → ((hs : List HeaderRecord) → StandsFor s hs → Elsewhere n hs (f hs))
     → Steps k (with_stock t k) (λ w v. v ≡ with_headers (f w.headers) t.next w)
