@@ -26,6 +26,12 @@ HasReadReason name most old new (TooLong size) = (most < size) × WhereTold (old
 HasReadReason name most old new (Short at size) = IsShort name old at size
 HasReadReason name most old new OutOfMemory = Unit {0}
 
+-- it was opened, and so it was there
+abbrev pub WasOpened : Unread → Type 0
+WasOpened (TooLong size) = Unit {0}
+WasOpened (Short at size) = Unit {0}
+WasOpened other = ⊥
+
 -- why a file was not written whole: unless a write or the closing failed, each file is as before
 abbrev pub HasWriteReason : List ℕ → Outside → Outside → Refused → Type 0
 HasWriteReason name old new NotMade = Rose old.absences new.absences × IsTrue (old.may_refuse name) × (new.file ≡ old.file)

@@ -1,7 +1,7 @@
 ghost use Rattle.std.specs.Prelude.{◌≡◌, ◌≤◌, length, IfOk, IfErr, OnOk, OnErr, IsSome, IsFalse, IsTrue, Some};
 ghost use Rattle.outside_io.specs.Files.{GoesOn, SameBut};
 ghost use Rattle.outside_io.specs.Moves.{WhereTold};
-ghost use Rattle.outside_io.specs.Whole.{HasRestReason, HasReadReason, HasWriteReason, IsKeptOrFrontOf};
+ghost use Rattle.outside_io.specs.Whole.{HasRestReason, HasReadReason, HasWriteReason, IsKeptOrFrontOf, WasOpened};
 
 use crate::{Media, ReadStop, Refused, Source, read_exact, write_all};
 use std::alloc::Global;
@@ -31,6 +31,7 @@ pub fn read_whole<M: Media>(
     ensures bytes { IsTrue (M.outside media.old).tells → IfOk result (λ bytes. (M.outside media.old).file name.now ≡ Some bytes.items) }
     ensures fits { IfOk result (λ bytes. length bytes.items ≤ most) }
     ensures reason { IfErr result (HasReadReason name.now most (M.outside media.old) (M.outside media.new)) }
+    ensures there { IsTrue (M.outside media.old).tells → IfErr result (λ unread. WasOpened unread → IsSome ((M.outside media.old).file name.now)) }
     ensures absences { IsSome ((M.outside media.old).file name.now) → (M.outside media.new).absences ≡ (M.outside media.old).absences }
 {
     let mut source = match media.source(alloc, name) {
