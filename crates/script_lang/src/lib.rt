@@ -6,6 +6,7 @@ use std::alloc::AllocError;
 mod form;
 mod hex;
 mod known;
+mod laws;
 mod lines;
 mod read_forms;
 mod saying;
@@ -13,6 +14,7 @@ mod script;
 mod text;
 
 pub use form::{TraceForm, TraceLine, TraceLines};
+pub use laws::one_outcome;
 pub use script::{Script, ScriptError, ScriptFault, read_script};
 pub use text::Text;
 
