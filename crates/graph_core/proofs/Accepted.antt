@@ -1,10 +1,9 @@
 -- What an accepted command tells.
-use Rattle.std.proofs.Common.{◌≡◌, Bool, true, false, None, refl, arith}
+use Rattle.std.proofs.Common.{◌≡◌, false, None, arith}
 use Rattle.omx_types.specs.declared.command.Command.{Command}
 use Rattle.il_machine.specs.World.{Component}
 use Rattle.il_machine.specs.Look.{Look}
-use Rattle.il_machine.specs.States.{is_invalid}
-use Rattle.il_machine.specs.Commands.{send_refusal, lacks_port, lacks_target, lacks_place}
+use Rattle.il_machine.specs.Commands.{send_refusal, lacks_place}
 
 pub fits : (l : Look) (c : Component) (command : Command) → send_refusal l c command ≡ None → lacks_place c command ≡ false
 fits l c command h = grind arith

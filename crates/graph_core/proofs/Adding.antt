@@ -1,7 +1,6 @@
 -- A component is added to a graph: what is kept then, and what stays true of it.
-use Rattle.std.proofs.Common.{◌≡◌, ◌≢◌, inl, inr, ℕ, zero, suc, ◌+◌, ◌<◌, ◌≤◌, Bool, true, false, not, ◌||◌, nat_eq, List, [], ◌∷◌, ◌++◌, length, map, filter, replicate, Option, Some, None, IsSome, IfOk, slice_get, option_map, All, get_or, append-nil, refl, sym, ◌∙◌, ap, subst, arith, length-append}
+use Rattle.std.proofs.Common.{◌≡◌, inl, inr, ℕ, zero, suc, ◌+◌, ◌<◌, ◌≤◌, true, false, not, ◌||◌, nat_eq, List, [], ◌∷◌, ◌++◌, length, map, filter, Option, Some, None, slice_get, option_map, All, get_or, append-nil, refl, sym, ◌∙◌, ap, subst, arith}
 use Rattle.std.proofs.lemmas.Bool.Decides.{nat_tests}
-use Rattle.std.proofs.lemmas.Option.{slice_get_within}
 use Rattle.std.proofs.lemmas.List.Elements.{All-append, filter-append}
 use Rattle.std.proofs.lemmas.List.{map-append, length-map, length-replicate}
 use Rattle.std.specs.List.{list_any}
@@ -13,15 +12,14 @@ use Rattle.il_machine.specs.declared.port.Port.{Port}
 use Rattle.il_machine.specs.Kinds.{ports_in}
 use Rattle.il_machine.specs.Settings.{IsSized}
 use Rattle.il_machine.specs.World.{Component, World, number_of, fresh, fresh_port}
-use Rattle.il_machine.specs.Look.{Look, look}
+use Rattle.il_machine.specs.Look.{Look}
 use Rattle.il_machine.specs.Headers.{Seen, seen, is_for, count_headers, same_key}
 use Rattle.il_machine.specs.Stock.{Stocked, added, removed, keys_from}
-use Rattle.il_machine.specs.Buffers.{Held}
 use Rattle.il_machine.specs.Components.{no_progress, is_vacant, with_new_component}
-use Rattle.il_machine.specs.Whole.{Kept, Stands, Steps}
+use Rattle.il_machine.specs.Whole.{Kept, Steps}
 use Rattle.il_machine.specs.Sound.{Sound, port_at}
 use Rattle.machine_laws.proofs.Coming.{sound_new}
-use Rattle.machine_laws.proofs.Keys.{key_is, key_same, none_or_some}
+use Rattle.machine_laws.proofs.Keys.{key_is}
 use Rattle.machine_laws.proofs.Lookups.{rises_at, has_port}
 use Rattle.machine_laws.proofs.Parts.{parts_of, ports_in_list}
 use Rattle.machine_laws.proofs.PortChanges.{none_for}
@@ -29,14 +27,14 @@ use Rattle.whole_laws.proofs.Lists.{get_last}
 use Rattle.whole_laws.proofs.Entries.{held_added}
 use Rattle.whole_laws.proofs.Making.{with_component_made, lift_made}
 use Rattle.note_queues.specs.declared.taken.Taken.{Taken}
-use Rattle.note_queues.specs.Queues.{notes_of, note_of}
-use Rattle.registry.specs.Handles.{Handles, entry_at, resolved, Gives}
+use Rattle.note_queues.specs.Queues.{note_of}
+use Rattle.registry.specs.Handles.{Handles, entry_at, resolved}
 use Rattle.port_stock.specs.Kept.{Kept as StockKept, stocked}
-use Rattle.port_stock.specs.Conditions.{IsPort, IsWithoutPorts, IsUnmade, has_key}
+use Rattle.port_stock.specs.Conditions.{IsWithoutPorts, IsUnmade, has_key}
 use Rattle.il_component.specs.Entries.{Entry, component_of, held_in}
 use Rattle.graph_core.specs.Registered.{Registered}
 use Rattle.graph_core.specs.Standing.{HasPorts, IsGraph, SoundWorld}
-use Rattle.graph_core.specs.Entries.{Entries, components_of, held_by, noticed_in, progress_at, kept, look_of}
+use Rattle.graph_core.specs.Entries.{Entries, components_of, held_by, noticed_in, progress_at, kept}
 use Rattle.graph_core.proofs.Renumbered.{sound_there}
 use Rattle.graph_core.proofs.Replacing.{next_world}
 

@@ -1,16 +1,15 @@
 -- A graph without components.
-use Rattle.std.proofs.Common.{◌≡◌, ◌<◌, ◌≤◌, ℕ, zero, suc, List, [], Option, Some, None, All, length, slice_get, refl, sym, ◌∙◌, ap, subst, arith}
+use Rattle.std.proofs.Common.{◌≡◌, ◌<◌, ◌≤◌, ℕ, [], All, refl, sym, ◌∙◌, ap, subst, arith}
 use Rattle.il_machine.specs.declared.answer.Progress.{Progress}
-use Rattle.il_machine.specs.World.{World, no_world}
-use Rattle.il_machine.specs.Look.{Look, look}
+use Rattle.il_machine.specs.World.{no_world}
+use Rattle.il_machine.specs.Look.{look}
 use Rattle.il_machine.specs.Stock.{Stocked, no_stock}
 use Rattle.il_machine.specs.Whole.{Stands}
 use Rattle.il_machine.specs.Sound.{Sound}
 use Rattle.port_stock.specs.Kept.{Kept as StockKept, stocked}
 use Rattle.registry.specs.Handles.{no_handles}
-use Rattle.graph_core.specs.Entries.{Entries, kept}
-use Rattle.graph_core.specs.Registered.{Registered}
-use Rattle.graph_core.specs.Standing.{IsGraph, HasPorts, SoundWorld}
+use Rattle.graph_core.specs.Entries.{kept}
+use Rattle.graph_core.specs.Standing.{IsGraph}
 
 nothing : {X : Type 0} (P : X → Type 0) → All P []
 nothing P = λ k d b. absurd (omega arith)

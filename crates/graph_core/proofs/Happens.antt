@@ -31,9 +31,9 @@ use Rattle.port_stock.specs.Kept.{Kept as StockKept, stocked}
 use Rattle.port_stock.specs.Conditions.{has_key}
 use Rattle.graph_core.specs.Entries.{Entries, components_of, look_of, kept}
 use Rattle.graph_core.specs.Standing.{SoundWorld, HasPorts, IsGraph}
-use Rattle.graph_core.specs.Leading.{AreOwn}
-use Rattle.graph_core.specs.Tests.{HasAllPorts}
-use Rattle.graph_core.specs.Happened.{Happened, IsSettled}
+use Rattle.port_rules.specs.Leading.{AreOwn}
+use Rattle.port_rules.specs.Tests.{HasAllPorts}
+use Rattle.port_rules.specs.Happened.{Happened, IsSettled}
 use Rattle.graph_core.proofs.Replacing.{there, component_sound, kept_changed, graph_changed, next_world}
 
 -- ---- the first that passes a test

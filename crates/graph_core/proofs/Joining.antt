@@ -1,5 +1,5 @@
 -- Two components of a graph are replaced at once: a tunnel joins or leaves two of their ports.
-use Rattle.std.proofs.Common.{◌≡◌, ◌≢◌, inl, inr, ℕ, ◌<◌, ◌≤◌, Bool, true, false, not, ◌||◌, List, length, set, Option, Some, None, MatchOption, slice_get, get_or, refl, sym, ◌∙◌, ap, subst, arith, length-set}
+use Rattle.std.proofs.Common.{◌≡◌, ◌≢◌, ℕ, ◌<◌, ◌≤◌, Bool, true, false, not, ◌||◌, List, set, Option, Some, None, slice_get, get_or, refl, sym, ◌∙◌, ap, subst, arith, length-set}
 use Rattle.std.proofs.lemmas.Option.{slice_get_within, get_or_from_slice_get}
 use Rattle.omx_types.specs.declared.handle.Handle.{Handle}
 use Rattle.omx_types.specs.declared.param.Supplier.{Supplier}
@@ -8,9 +8,9 @@ use Rattle.il_machine.specs.declared.port.Link.{Link}
 use Rattle.il_machine.specs.declared.port.Port.{Port}
 use Rattle.il_machine.specs.declared.port.PortState.{PortState}
 use Rattle.il_machine.specs.World.{Component, World, number_of, same_handle, ports_of, port_of, with_component}
-use Rattle.il_machine.specs.Look.{Look, look}
+use Rattle.il_machine.specs.Look.{look}
 use Rattle.il_machine.specs.Tunnels.{joined_to, parted, widened, setup_refusal, drop_refusal, holds_of_both, are_output_and_input, is_joined_with}
-use Rattle.il_machine.specs.Whole.{Kept, Stands, Steps}
+use Rattle.il_machine.specs.Whole.{Steps}
 use Rattle.il_machine.specs.Sound.{Sound}
 use Rattle.std.proofs.lemmas.Bool.Decides.{nat_tests}
 use Rattle.il_machine.specs.Kinds.{ports_in}
@@ -18,7 +18,6 @@ use Rattle.il_machine.specs.Lists.{holds_at}
 use Rattle.il_machine.specs.States.{is_invalid}
 use Rattle.il_machine.specs.Headers.{Seen, same_key}
 use Rattle.il_machine.specs.Stock.{Stocked}
-use Rattle.il_machine.specs.Flow.{End}
 use Rattle.machine_laws.proofs.Accepting.{passed, not_not}
 use Rattle.machine_laws.proofs.Facts.{peer_there}
 use Rattle.machine_laws.proofs.Keys.{key_is}
@@ -31,7 +30,7 @@ use Rattle.il_component.specs.Entries.{Entry, component_of, KeepsNotices}
 use Rattle.il_component.specs.PortChanges.{linked, unlinked, at_port, with_link}
 use Rattle.il_component.proofs.Named.{at_port_set}
 use Rattle.graph_core.specs.Standing.{IsGraph, SoundWorld}
-use Rattle.graph_core.specs.Tests.{HasAllPorts}
+use Rattle.port_rules.specs.Tests.{HasAllPorts}
 use Rattle.graph_core.specs.Entries.{Entries, look_of, kept, changed_at}
 use Rattle.graph_core.proofs.Registering.{set_sound}
 use Rattle.graph_core.proofs.Replacing.{next_world, steps_changed}

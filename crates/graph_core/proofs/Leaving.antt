@@ -1,6 +1,5 @@
 -- A component leaves a graph: what is kept then, and what stays true of it.
-use Rattle.std.proofs.Common.{◌≡◌, ◌≢◌, inl, inr, ℕ, zero, suc, ◌+◌, ◌<◌, ◌≤◌, Bool, true, false, not, ◌||◌, nat_eq, List, [], ◌∷◌, ◌++◌, length, map, filter, remove, Option, Some, None, IsSome, is_none, is_some, slice_get, option_map, All, refl, sym, ◌∙◌, ap, subst, arith, eqb-true}
-use Rattle.std.proofs.lemmas.Bool.Decides.{nat_tests}
+use Rattle.std.proofs.Common.{◌≡◌, ◌≢◌, ℕ, ◌<◌, true, false, not, ◌||◌, nat_eq, List, [], ◌∷◌, map, filter, remove, Option, Some, None, IsSome, is_none, is_some, slice_get, refl, sym, ◌∙◌, ap, subst, eqb-true}
 use Rattle.std.proofs.lemmas.List.Elements.{All-filter}
 use Rattle.std.specs.List.{list_any}
 use Rattle.omx_types.specs.declared.error.OmxError.TheVariants as errors
@@ -14,11 +13,9 @@ use Rattle.il_machine.specs.Headers.{Seen, seen, is_for, same_key}
 use Rattle.il_machine.specs.Ports.{is_joined, unmade}
 use Rattle.il_machine.specs.Due.{each_port}
 use Rattle.il_machine.specs.Stock.{Stocked, removed}
-use Rattle.il_machine.specs.Buffers.{Held}
-use Rattle.il_machine.specs.Census.{note_numbers}
 use Rattle.il_machine.specs.Components.{free_refusal, without_component}
-use Rattle.il_machine.specs.Whole.{Kept, Stands, Steps}
-use Rattle.il_machine.specs.Sound.{Sound, AreRising, port_at}
+use Rattle.il_machine.specs.Whole.{Kept, Steps}
+use Rattle.il_machine.specs.Sound.{Sound}
 use Rattle.machine_laws.proofs.Accepting.{passed, not_either}
 use Rattle.machine_laws.proofs.Coming.{free_handle_passes, sound_removed}
 use Rattle.machine_laws.proofs.Every.{all_pass, at_remove}
@@ -32,7 +29,7 @@ use Rattle.whole_laws.proofs.Noting.{IsOnly}
 use Rattle.whole_laws.proofs.Making.{with_removed, lift_removed}
 use Rattle.note_queues.specs.Queues.{header_notes}
 use Rattle.port_stock.specs.Kept.{Kept as StockKept, stocked}
-use Rattle.port_stock.specs.Conditions.{IsPort, IsUnmade, has_key}
+use Rattle.port_stock.specs.Conditions.{IsUnmade, has_key}
 use Rattle.il_component.specs.Entries.{Entry, component_of}
 use Rattle.graph_core.specs.Standing.{HasPorts, SoundWorld}
 use Rattle.graph_core.specs.Entries.{Entries, components_of, held_by, noticed_in, progress_at, kept, look_of}

@@ -15,10 +15,10 @@ use Rattle.il_machine.specs.Kinds.{ports_in}
 use Rattle.il_machine.specs.World.{Component, HeaderRecord, World, number_of, port_of, with_component}
 use Rattle.il_machine.specs.World as machine
 use Rattle.il_machine.specs.Headers.{Seen, seen, find_header, changed, cleared, given_to, is_notice}
-use Rattle.il_machine.specs.Buffers.{Held, held}
+use Rattle.il_machine.specs.Buffers.{held}
 use Rattle.il_machine.specs.Flow.{done_note, noticed, handed_back}
 use Rattle.il_machine.specs.Stock.{Stocked, given, pulled, pulled_front, state_out}
-use Rattle.il_machine.specs.Whole.{Kept, Stands, Steps, IsNoticed}
+use Rattle.il_machine.specs.Whole.{Kept, Noticed, Stands, Steps, IsNoticed}
 use Rattle.il_machine.specs.Sound.{Sound}
 use Rattle.machine_laws.proofs.Facts.{notes_fewer}
 use Rattle.machine_laws.proofs.Finding.{changed_else, changed_same, found_number}
@@ -32,11 +32,11 @@ use Rattle.whole_laws.proofs.Lifting.{with_look, lift_component}
 use Rattle.whole_laws.proofs.Lists.{map_set}
 use Rattle.whole_laws.proofs.Noting.{with_noticed, renoticed}
 use Rattle.whole_laws.proofs.Stocking.{with_stock, lift_one, with_headers, stands_for, IsFree}
-use Rattle.header_core.specs.BufferHeader.{BufferHeader, cleared as emptied_header, empty_held}
+use Rattle.header_core.specs.BufferHeader.{BufferHeader, is_clients, cleared as emptied_header, empty_held}
 use Rattle.note_queues.specs.declared.taken.Taken.{Taken as Queued}
 use Rattle.note_queues.specs.declared.taken.Taken.TheVariants.{Told, EmptyDone, FillDone}
 use Rattle.note_queues.specs.Queues.{note_of, header_note, header_notes, noted}
-use Rattle.il_component.specs.Entries.{Entry, component_of, held_in}
+use Rattle.il_component.specs.Entries.{Entry, component_of, noticed_of, held_in}
 use Rattle.port_stock.specs.Kept.{Kept as StockKept, stocked}
 use Rattle.port_stock.specs.Conditions.{IsOut, IsOutside, IsHeaderOf}
 use Rattle.graph_core.specs.Standing.{SoundWorld}
@@ -57,14 +57,14 @@ no_number (m ∷ ns) h = absurd cc
 held_append : (xs ys : List Queued) → held_in (xs ++ ys) ≡ held_in xs ++ held_in ys
 held_append [] ys = refl
 held_append (Told event ∷ xs) ys = held_append xs ys
-held_append (EmptyDone header ∷ xs) ys = ap (λ (hs : List Held). header.held ∷ hs) (held_append xs ys)
-held_append (FillDone header ∷ xs) ys = ap (λ (hs : List Held). header.held ∷ hs) (held_append xs ys)
+held_append (EmptyDone header ∷ xs) ys = ap (λ (hs : List Noticed). noticed_of header ∷ hs) (held_append xs ys)
+held_append (FillDone header ∷ xs) ys = ap (λ (hs : List Noticed). noticed_of header ∷ hs) (held_append xs ys)
 
 note_is : (b : Bool) (h : BufferHeader) → note_of (header_note b h) ≡ done_note b h.held.number
 note_is true h = refl
 note_is false h = refl
 
-held_is : (b : Bool) (h : BufferHeader) → held_in (header_note b h ∷ []) ≡ h.held ∷ []
+held_is : (b : Bool) (h : BufferHeader) → held_in (header_note b h ∷ []) ≡ noticed_of h ∷ []
 held_is true h = refl
 held_is false h = refl
 
@@ -86,6 +86,10 @@ out_of s header x = outside_out (s.headers.header header.held.number) header x
 outside_size : (o : Option HeaderState) (s : HeaderState) (header : BufferHeader) → o ≡ Some s → MatchOption o ⊥ (λ h. (h.place ≡ Out) × IsHeaderOf h header) → header.held.size ≡ s.size
 outside_size None s header e x = absurd x
 outside_size (Some h) s header e x = let q : h ≡ s = cc in x.1.size ∙ ap (λ (y : HeaderState). y.size) q
+
+outside_memory : (o : Option HeaderState) (s : HeaderState) (header : BufferHeader) → o ≡ Some s → MatchOption o ⊥ (λ h. (h.place ≡ Out) × IsHeaderOf h header) → is_clients header.store ≡ s.client_memory
+outside_memory None s header e x = absurd x
+outside_memory (Some h) s header e x = let q : h ≡ s = cc in x.1.memory ∙ ap (λ (y : HeaderState). y.client_memory) q
 
 module _ {C : Type 0} (progress : C → Progress) (g : Entries C) (i : ℕ) (e : Entry C) (index : ℕ) (p : Port) (W : SoundWorld (kept progress g)) (at : slice_get g.entries i ≡ Some e) (port : port_of (component_of e) index ≡ Some p) (client : p.state.link ≡ None) where
   abbrev c : Component
@@ -199,7 +203,7 @@ module _ {C : Type 0} (progress : C → Progress) (g : Entries C) (i : ℕ) (e :
         }
 
     -- the header of the note is the world's
-    header_noticed : (w v : World) → Stands (kept progress g) w → v.headers ≡ changed n moved w.headers → IsNoticed v (emptied_header header).held
+    header_noticed : (w v : World) → Stands (kept progress g) w → v.headers ≡ changed n moved w.headers → IsNoticed v (noticed_of (emptied_header header))
     header_noticed w v S q =
         let T = pull_taken s w.headers p.key n rest (stands_for s (kept progress g) w (stock_of progress g) S) todo_is in
         let r = T.found.it in
@@ -207,7 +211,9 @@ module _ {C : Type 0} (progress : C → Progress) (g : Entries C) (i : ℕ) (e :
         let m : r.state.number ≡ n = found_number n w.headers r T.found.is in
         let z : r.state.size ≡ header.held.size = ap (λ (x : HeaderState). x.size) T.found.state ∙ sym (outside_size ((pulled p.key s).headers.header n) (state_out T.state) header T.shown outside) in
         let h : held (moved r) ≡ empty_held n header.held.size = λ j. record { number = m j; size = z j; content = []; flags = 0; mark = None } in
-        rw f (h, refl)
+        let o : r.state.client_memory ≡ is_clients header.store =
+        ap (λ (x : HeaderState). x.client_memory) T.found.state ∙ sym (outside_memory ((pulled p.key s).headers.header n) (state_out T.state) header T.shown outside) in
+        rw f (h, refl, o)
 
     steps_noted : (after_stock : StockKept) → stocked after_stock ≡ after_pull → Steps (kept progress g) (kept progress (after after_stock)) (λ w v. v ≡ noticed i c p (n ∷ rest) w)
     steps_noted after_stock now = λ w S.
@@ -215,10 +221,10 @@ module _ {C : Type 0} (progress : C → Progress) (g : Entries C) (i : ℕ) (e :
         let y = lift_component (with_stock after_pull (kept progress g)) i c (machine.noted note c) (there progress g i e at) refl refl x.0 x.1 in
         let is : y.0 ≡ noticed i c p (n ∷ rest) w =
         y.2 ∙ ap (with_component i (machine.noted note c)) (x.2 ∙ (ap (λ (k : ℕ). with_headers (changed n moved w.headers) k w) next_is ∙ made_is progress w (changed n moved w.headers) s.next (made_of progress g w S))) in
-        let own : IsNoticed y.0 (emptied_header header).held = header_noticed w y.0 S (ap (λ (u : World). u.headers) is) in
+        let own : IsNoticed y.0 (noticed_of (emptied_header header)) = header_noticed w y.0 S (ap (λ (u : World). u.headers) is) in
         let more : All (IsNoticed y.0) (held_by e) → All (IsNoticed y.0) (held_by with_note) = λ A.
-        let q : held_by with_note ≡ held_in e.queues.notes ++ (emptied_header header).held ∷ [] = held_append e.queues.notes (queued ∷ []) ∙ ap (λ (hs : List Held). held_in e.queues.notes ++ hs) (held_is p.setting.definition.input (emptied_header header)) in
-        subst (λ (hs : List Held). All (IsNoticed y.0) hs) (sym q) (All-push (IsNoticed y.0) (held_in e.queues.notes) (emptied_header header).held A own) in
+        let q : held_by with_note ≡ held_in e.queues.notes ++ noticed_of (emptied_header header) ∷ [] = held_append e.queues.notes (queued ∷ []) ∙ ap (λ (hs : List Noticed). held_in e.queues.notes ++ hs) (held_is p.setting.definition.input (emptied_header header)) in
+        subst (λ (hs : List Noticed). All (IsNoticed y.0) hs) (sym q) (All-push (IsNoticed y.0) (held_in e.queues.notes) (noticed_of (emptied_header header)) A own) in
         let N : All (IsNoticed y.0) (noticed_in (set g.entries i with_note)) = held_set held_by (IsNoticed y.0) g.entries i e with_note at more y.1.noticed in
         (y.0, subst (λ (z : Kept). Stands z y.0) (sym (kept_noted after_stock now)) (renoticed middle (noticed_in (set g.entries i with_note)) y.0 y.1 N), is)
 

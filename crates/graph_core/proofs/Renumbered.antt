@@ -8,9 +8,9 @@ use Rattle.il_machine.specs.Places.{first_place}
 use Rattle.il_machine.proofs.Places.{shift, place_removed, once_removed, place_at, passes_at}
 use Rattle.registry.specs.Handles.{Handles, resolved, AllGiven, Removes, Sets}
 use Rattle.il_component.specs.Entries.{Entry}
-use Rattle.graph_core.specs.Entries.{is_entry_at}
+use Rattle.graph_core.specs.Entries.{entry_place, is_entry_at}
 use Rattle.graph_core.specs.Registered.{Registered, Shifted}
-use Rattle.graph_core.proofs.Registering.{same_symmetric, same_fields}
+use Rattle.graph_core.proofs.Registering.{same_symmetric, same_fields, place_is}
 
 differs : {b : Bool} → b ≡ true → b ≡ false → ⊥
 differs {b} t f = let e : true ≡ false = sym t ∙ f in cc
@@ -80,3 +80,7 @@ module _ {C : Type 0} where
       let h = e.handle in
       let p : is_entry_at h e ≡ true = grind (arith, nat_tests) in
       S.registered h ∙ place_at (is_entry_at h) es k e (S.once h) there p
+
+  -- the handle of the component at a place names that place
+  pub own_place : (es : List (Entry C)) (r : Handles ℕ) (k : ℕ) (e : Entry C) → Registered es r → slice_get es k ≡ Some e → entry_place e.handle es ≡ Some k
+  own_place es r k e S there = sym (place_is es r e.handle S) ∙ sound_there es r k e S there

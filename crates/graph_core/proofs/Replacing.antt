@@ -1,5 +1,5 @@
 -- One component of a graph is replaced: what is kept then, and the worlds that it stands for.
-use Rattle.std.proofs.Common.{◌≡◌, ◌≢◌, inl, inr, MatchOption, IsSomeAnd, ℕ, Bool, ◌<◌, ◌≤◌, List, [], ◌∷◌, length, set, map, Option, Some, None, option_map, slice_get, is_none, refl, sym, ◌∙◌, ap, subst, length-set}
+use Rattle.std.proofs.Common.{◌≡◌, ◌≢◌, inl, inr, MatchOption, IsSomeAnd, ℕ, Bool, ◌<◌, ◌≤◌, List, [], ◌∷◌, length, set, map, Option, Some, option_map, slice_get, is_none, refl, sym, ◌∙◌, ap, subst, length-set}
 use Rattle.std.proofs.lemmas.Option.{slice_get-map, slice_get_within, get_or_from_slice_get}
 use Rattle.std.proofs.lemmas.List.{length-map}
 use Rattle.std.proofs.lemmas.Bool.Decides.{eqb_tells}
@@ -15,13 +15,11 @@ use Rattle.il_machine.specs.World.{Component, World, number_of, with_component, 
 use Rattle.il_machine.specs.Places.{first_place}
 use Rattle.il_machine.proofs.Places.{is_first_place}
 use Rattle.il_machine.specs.Look.{Look}
-use Rattle.il_machine.specs.Buffers.{Held}
 use Rattle.il_machine.specs.Whole.{Kept, Stands, Steps}
 use Rattle.il_machine.specs.Sound.{Sound, IsSound}
 use Rattle.whole_laws.proofs.Lists.{map_set, get_set_same, get_set_other}
 use Rattle.whole_laws.proofs.Entries.{set_same, held_same}
 use Rattle.whole_laws.proofs.Lifting.{with_look, lift_component}
-use Rattle.whole_laws.proofs.Seeing.{sound_world}
 use Rattle.il_component.specs.Entries.{Entry, component_of, KeepsNotices}
 use Rattle.graph_core.specs.Standing.{SoundWorld, HasPorts, IsGraph}
 use Rattle.graph_core.proofs.Registering.{set_sound, some_within}
@@ -115,7 +113,7 @@ module _ {C : Type 0} (progress : C → Progress) where
 
 -- ---- the machine finds the component that a handle names at the same place
 
-first_mapped : {X Y : Type 0} (f : X → Y) (p : Y → Bool) (xs : List X) → first_place p (map f xs) ≡ first_place (λ x. p (f x)) xs
+pub first_mapped : {X Y : Type 0} (f : X → Y) (p : Y → Bool) (xs : List X) → first_place p (map f xs) ≡ first_place (λ x. p (f x)) xs
 first_mapped f p [] = refl
 first_mapped f p (x ∷ xs) = rw (first_mapped f p xs) refl
 

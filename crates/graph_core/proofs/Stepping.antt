@@ -11,9 +11,8 @@ use Rattle.il_machine.specs.declared.port.Port.{Port}
 use Rattle.il_machine.specs.World.{Component, HeaderRecord, World, number_of, port_of}
 use Rattle.il_machine.specs.Headers.{seen}
 use Rattle.il_machine.specs.Look.{Look}
-use Rattle.il_machine.specs.Buffers.{Held}
 use Rattle.il_machine.specs.Stock.{Stocked}
-use Rattle.il_machine.specs.Whole.{Stands, Steps}
+use Rattle.il_machine.specs.Whole.{Noticed, Stands, Steps}
 use Rattle.machine_laws.proofs.Lookups.{rises_at, port_parts}
 use Rattle.machine_laws.proofs.Pairs.{apart_numbers}
 use Rattle.machine_laws.proofs.Parts.{parts_of}
@@ -41,7 +40,7 @@ module _ {X : Type 0} (P : X → Type 0) where
   all_right [] ys h = h
   all_right (x ∷ xs) ys h = all_right xs ys (All-tail P x (xs ++ ys) h)
 
-module _ {E : Type 0} (held : E → List Held) (P : Held → Type 0) where
+module _ {E : Type 0} (held : E → List Noticed) (P : Noticed → Type 0) where
   pub held_there : (es : List E) (i : ℕ) (e : E) → slice_get es i ≡ Some e → All P (all_held held es) → All P (held e)
   held_there [] i e at A = absurd cc
   held_there (a ∷ es) zero e at A = let q : a ≡ e = cc in subst (λ (x : E). All P (held x)) q (all_left P (held a) (all_held held es) A)

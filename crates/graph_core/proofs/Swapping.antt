@@ -1,10 +1,10 @@
 -- A component of a graph is replaced by one of the same handle with as many ports, so that each sound world stays sound.
-use Rattle.std.proofs.Common.{◌≡◌, ◌≢◌, inl, inr, ℕ, ◌<◌, ◌≤◌, List, length, set, Option, Some, slice_get, refl, sym, ◌∙◌, ap, subst, length-set}
+use Rattle.std.proofs.Common.{◌≡◌, ◌≢◌, inl, inr, ℕ, ◌<◌, ◌≤◌, List, length, set, Some, slice_get, sym, ◌∙◌, ap, subst, length-set}
 use Rattle.std.proofs.lemmas.Bool.Decides.{eqb_tells}
 use Rattle.omx_types.specs.declared.handle.Handle.{Handle}
 use Rattle.il_machine.specs.declared.answer.Progress.{Progress}
-use Rattle.il_machine.specs.World.{Component, World, number_of, with_component}
-use Rattle.il_machine.specs.Look.{Look, look}
+use Rattle.il_machine.specs.World.{World, number_of, with_component}
+use Rattle.il_machine.specs.Look.{look}
 use Rattle.il_machine.specs.Stock.{Stocked}
 use Rattle.il_machine.specs.Sound.{Sound}
 use Rattle.registry.specs.Handles.{Handles}
@@ -15,7 +15,7 @@ use Rattle.il_component.specs.Entries.{Entry, component_of, KeepsNotices}
 use Rattle.graph_core.specs.Standing.{HasPorts, IsGraph}
 use Rattle.graph_core.specs.Entries.{Entries, look_of, kept, changed_at}
 use Rattle.graph_core.proofs.Registering.{set_sound}
-use Rattle.graph_core.proofs.Replacing.{next_world, steps_changed, there}
+use Rattle.graph_core.proofs.Replacing.{next_world, steps_changed}
 
 module _ {C : Type 0} where
   -- the same handle, and as many ports

@@ -10,12 +10,12 @@ use Rattle.il_machine.specs.declared.header.Owner.TheVariants as owners
 use Rattle.il_machine.specs.declared.header.Place.TheVariants.{Out}
 use Rattle.il_machine.specs.World.{Component, HeaderRecord, World, number_of}
 use Rattle.il_machine.specs.Headers.{Seen, seen, find_header, changed, given_to, is_notice, is_notice_of, weight}
-use Rattle.il_machine.specs.Buffers.{Held, held, AtHeader}
+use Rattle.il_machine.specs.Buffers.{held, AtHeader}
 use Rattle.il_machine.specs.Census.{note_numbers, times}
 use Rattle.il_machine.specs.Lists.{holds_at}
 use Rattle.il_machine.specs.Notes.{first_taken, with_given, with_client}
 use Rattle.il_machine.specs.Stock.{given}
-use Rattle.il_machine.specs.Whole.{Kept, Stands, Steps, IsNoticed}
+use Rattle.il_machine.specs.Whole.{Kept, Noticed, Stands, Steps, IsNoticed}
 use Rattle.il_machine.specs.Sound.{Sound}
 use Rattle.machine_laws.proofs.Facts as facts
 use Rattle.machine_laws.proofs.Facts.{noticed_there}
@@ -30,14 +30,14 @@ use Rattle.whole_laws.proofs.Lifting.{with_look}
 use Rattle.whole_laws.proofs.Lists.{map_set, get_set_same, get_set_other}
 use Rattle.whole_laws.proofs.Noting.{lift_given, with_client_out, with_noticed, renoticed}
 use Rattle.whole_laws.proofs.Stocking.{lift_taken, with_headers}
-use Rattle.header_core.specs.BufferHeader.{BufferHeader}
+use Rattle.header_core.specs.BufferHeader.{BufferHeader, is_clients}
 use Rattle.note_queues.specs.declared.taken.Taken.{Taken}
 use Rattle.note_queues.specs.declared.taken.Taken.TheVariants.{Told, EmptyDone, FillDone}
 use Rattle.note_queues.specs.declared.taken.Call.{Call}
 use Rattle.note_queues.specs.declared.taken.Took.{Took}
 use Rattle.note_queues.specs.declared.taken.Took.TheVariants as tooks
 use Rattle.note_queues.specs.Queues.{Queues, note_of, notes_of, took, took_from, after_taking}
-use Rattle.il_component.specs.Entries.{Entry, component_of, held_in}
+use Rattle.il_component.specs.Entries.{Entry, component_of, noticed_of, held_in}
 use Rattle.port_stock.specs.Kept.{Kept as StockKept, stocked}
 use Rattle.port_stock.specs.Conditions.{IsOut}
 use Rattle.graph_core.specs.Standing.{SoundWorld}
@@ -73,12 +73,12 @@ module _ {C : Type 0} where
       let x = was_taken e.queues call h in
       rw h (ap (λ (ns : List Taken). left e (drop 1 ns)) x.notes)
 
-  took_none : (o : Option C) (ns : List Taken) → took_from o ns ≡ tooks.None → (is_none o ≡ false) × (slice_get (map note_of ns) 0 ≡ None)
+  pub took_none : (o : Option C) (ns : List Taken) → took_from o ns ≡ tooks.None → (is_none o ≡ false) × (slice_get (map note_of ns) 0 ≡ None)
   took_none None ns h = absurd cc
   took_none (Some client) [] h = (refl, refl)
   took_none (Some client) (taken ∷ rest) h = absurd cc
 
-  took_busy : (o : Option C) (ns : List Taken) → took_from o ns ≡ tooks.Busy → is_none o ≡ true
+  pub took_busy : (o : Option C) (ns : List Taken) → took_from o ns ≡ tooks.Busy → is_none o ≡ true
   took_busy None ns h = refl
   took_busy (Some client) [] h = absurd cc
   took_busy (Some client) (taken ∷ rest) h = absurd cc
@@ -109,12 +109,12 @@ module _ {C : Type 0} (progress : C → Progress) (g : Entries C) (i : ℕ) (e :
         noticed = noticed_in after.entries;
       }
 
-  less : (P : Held → Type 0) (u : Taken) → All P (held_in (u ∷ rest)) → All P (held_in rest)
+  less : (P : Noticed → Type 0) (u : Taken) → All P (held_in (u ∷ rest)) → All P (held_in rest)
   less P (Told event) A = A
-  less P (EmptyDone header) A = All-tail P header.held (held_in rest) A
-  less P (FillDone header) A = All-tail P header.held (held_in rest) A
+  less P (EmptyDone header) A = All-tail P (noticed_of header) (held_in rest) A
+  less P (FillDone header) A = All-tail P (noticed_of header) (held_in rest) A
 
-  held_less : (P : Held → Type 0) → All P (held_by e) → All P (held_by (left e rest))
+  held_less : (P : Noticed → Type 0) → All P (held_by e) → All P (held_by (left e rest))
   held_less P A = less P t (subst (λ (ns : List Taken). All P (held_in ns)) was A)
 
   -- the note is given
@@ -153,17 +153,17 @@ module _ {C : Type 0} (progress : C → Progress) (g : Entries C) (i : ℕ) (e :
     pub is_out : IsOut n (stocked g.stock)
     is_out = rw shown out_now
 
-    none_held : (ns : List Taken) → times n (note_numbers (map note_of ns)) ≡ 0 → All (λ h. h.number ≢ n) (held_in ns)
-    none_held [] z = All-nil (λ h. h.number ≢ n)
+    none_held : (ns : List Taken) → times n (note_numbers (map note_of ns)) ≡ 0 → All (λ h. h.held.number ≢ n) (held_in ns)
+    none_held [] z = All-nil (λ h. h.held.number ≢ n)
     none_held (Told event ∷ ns) z = none_held ns z
     none_held (EmptyDone header ∷ ns) z =
         let m = times_cons n header.held.number (note_numbers (map note_of ns)) in
         let apart : header.held.number ≢ n = λ q. let y = times_self n (note_numbers (map note_of ns)) in let x : times n (n ∷ note_numbers (map note_of ns)) ≡ 0 = rw q at z in absurd (omega arith) in
-        All-cons (λ h. h.number ≢ n) header.held (held_in ns) apart (none_held ns (omega arith))
+        All-cons (λ h. h.held.number ≢ n) (noticed_of header) (held_in ns) apart (none_held ns (omega arith))
     none_held (FillDone header ∷ ns) z =
         let m = times_cons n header.held.number (note_numbers (map note_of ns)) in
         let apart : header.held.number ≢ n = λ q. let y = times_self n (note_numbers (map note_of ns)) in let x : times n (n ∷ note_numbers (map note_of ns)) ≡ 0 = rw q at z in absurd (omega arith) in
-        All-cons (λ h. h.number ≢ n) header.held (held_in ns) apart (none_held ns (omega arith))
+        All-cons (λ h. h.held.number ≢ n) (noticed_of header) (held_in ns) apart (none_held ns (omega arith))
 
     rest_none : times n (note_numbers (map note_of rest)) ≡ 0
     rest_none =
@@ -180,12 +180,12 @@ module _ {C : Type 0} (progress : C → Progress) (g : Entries C) (i : ℕ) (e :
         let f : holds_at ((seen W.world.headers).header n) (λ s. is_notice_of (number_of (component_of x)) s.owner) ≡ false = rw (found_header.found, found_header.owner) (grind (arith, nat_tests)) in
         a ∙ ap weight f
 
-    others : All (λ h. h.number ≢ n) (noticed_in after.entries)
-    others = held_each held_by (λ h. h.number ≢ n) after.entries (λ j x h. elim (eqb_tells j i) [
+    others : All (λ h. h.held.number ≢ n) (noticed_in after.entries)
+    others = held_each held_by (λ h. h.held.number ≢ n) after.entries (λ j x h. elim (eqb_tells j i) [
       | inl q ↦
           let z : Some x ≡ Some (left e rest) = sym h ∙ rw q.1 (get_set_same g.entries i e (left e rest) at) in
           let y : x ≡ left e rest = cc in
-          subst (λ (u : Entry C). All (λ h. h.number ≢ n) (held_by u)) (sym y) (none_held rest rest_none)
+          subst (λ (u : Entry C). All (λ h. h.held.number ≢ n) (held_by u)) (sym y) (none_held rest rest_none)
       | inr q ↦ none_held x.queues.notes (other_none j x (sym (get_set_other g.entries i j (left e rest) q.1) ∙ h) q.1)
     ])
 
@@ -210,21 +210,21 @@ module _ {C : Type 0} (progress : C → Progress) (g : Entries C) (i : ℕ) (e :
     header_worlds after_stock now = next_world (kept progress g) (kept progress (after_header after_stock)) (λ w v. v ≡ with_client n (with_given i c (note_of t) w)) W (steps_header after_stock now)
         (λ w v S f sound. subst Sound (sym f) (sound_taken w i c (note_of t) n sound (at_world progress g i e w S at) first_note noted))
 
-  held_found : (h : Held) (o : Option HeaderRecord) → MatchOption o ⊥ (λ r. (held r ≡ h) × (is_notice r.state.owner ≡ true)) → MatchOption o ⊥ (λ r. held r ≡ h)
+  held_found : (h : Noticed) (o : Option HeaderRecord) → MatchOption o ⊥ (λ r. (held r ≡ h.held) × (is_notice r.state.owner ≡ true) × (r.state.client_memory ≡ h.client_memory)) → MatchOption o ⊥ (λ r. (held r ≡ h.held) × (r.state.client_memory ≡ h.client_memory))
   held_found h None x = x
-  held_found h (Some r) x = x.0
+  held_found h (Some r) x = (x.0, x.2)
 
-  noticed_first : (u : Taken) (header : BufferHeader) → ((u ≡ EmptyDone header) ⊎ (u ≡ FillDone header)) → (P : Held → Type 0) → All P (held_in (u ∷ rest)) → P header.held
+  noticed_first : (u : Taken) (header : BufferHeader) → ((u ≡ EmptyDone header) ⊎ (u ≡ FillDone header)) → (P : Noticed → Type 0) → All P (held_in (u ∷ rest)) → P (noticed_of header)
   noticed_first u header k P A = elim k [
-    | inl q ↦ All-head P header.held (held_in rest) (subst (λ (v : Taken). All P (held_in (v ∷ rest))) q A)
-    | inr q ↦ All-head P header.held (held_in rest) (subst (λ (v : Taken). All P (held_in (v ∷ rest))) q A)
+    | inl q ↦ All-head P (noticed_of header) (held_in rest) (subst (λ (v : Taken). All P (held_in (v ∷ rest))) q A)
+    | inr q ↦ All-head P (noticed_of header) (held_in rest) (subst (λ (v : Taken). All P (held_in (v ∷ rest))) q A)
   ]
 
   -- the header in the note is the world's
-  pub header_held : (header : BufferHeader) → ((t ≡ EmptyDone header) ⊎ (t ≡ FillDone header)) → (w : World) → Stands (kept progress g) w → AtHeader header.held.number w (λ r. held r ≡ header.held)
+  pub header_held : (header : BufferHeader) → ((t ≡ EmptyDone header) ⊎ (t ≡ FillDone header)) → (w : World) → Stands (kept progress g) w → AtHeader header.held.number w (λ r. (held r ≡ header.held) × (r.state.client_memory ≡ is_clients header.store))
   header_held header k w S =
       let A : All (IsNoticed w) (held_by e) = held_there held_by (IsNoticed w) g.entries i e at S.noticed in
-      held_found header.held (find_header header.held.number w.headers) (noticed_first t header k (IsNoticed w) (subst (λ (ns : List Taken). All (IsNoticed w) (held_in ns)) was A))
+      held_found (noticed_of header) (find_header header.held.number w.headers) (noticed_first t header k (IsNoticed w) (subst (λ (ns : List Taken). All (IsNoticed w) (held_in ns)) was A))
 
   pub note_number : (header : BufferHeader) → ((t ≡ EmptyDone header) ⊎ (t ≡ FillDone header)) → IsNoteOf (note_of t) header.held.number
   note_number header k = elim k [

@@ -9,7 +9,7 @@ use Rattle.header_core.specs.declared.memory.Store.{Store}
 use Rattle.il_machine.specs.Buffers.{AtHeader, AtState, held, has_no_number}
 use Rattle.il_machine.specs.declared.header.Owner.TheVariants as owners
 use Rattle.il_machine.specs.Notes.{with_given, with_client}
-use Rattle.header_core.specs.BufferHeader.{BufferHeader, bytes_of}
+use Rattle.header_core.specs.BufferHeader.{BufferHeader, bytes_of, is_clients}
 use Rattle.note_queues.specs.declared.taken.Taken.{Taken}
 use Rattle.note_queues.specs.declared.taken.Taken.TheVariants.{Told, EmptyDone, FillDone}
 use Rattle.note_queues.specs.declared.taken.Took.{Took}
@@ -32,10 +32,10 @@ abbrev pub TakesNote : World → ℕ → Component → Taken → World → Type 
 TakesNote w i c (Told event) v = (slice_get c.notes 0 ≡ Some (notes.Told event)) × (v ≡ with_given i c (notes.Told event) w)
 TakesNote w i c (EmptyDone header) v =
     let note = notes.EmptyDone header.held.number in
-    (slice_get c.notes 0 ≡ Some note) × AtHeader header.held.number w (λ r. held r ≡ header.held) × (v ≡ with_client header.held.number (with_given i c note w))
+    (slice_get c.notes 0 ≡ Some note) × AtHeader header.held.number w (λ r. (held r ≡ header.held) × (r.state.client_memory ≡ is_clients header.store)) × (v ≡ with_client header.held.number (with_given i c note w))
 TakesNote w i c (FillDone header) v =
     let note = notes.FillDone header.held.number in
-    (slice_get c.notes 0 ≡ Some note) × AtHeader header.held.number w (λ r. held r ≡ header.held) × (v ≡ with_client header.held.number (with_given i c note w))
+    (slice_get c.notes 0 ≡ Some note) × AtHeader header.held.number w (λ r. (held r ≡ header.held) × (r.state.client_memory ≡ is_clients header.store)) × (v ≡ with_client header.held.number (with_given i c note w))
 
 abbrev pub Takes : {C : Type 0} → World → ℕ → Component → Took C → World → Type 0
 Takes w i c tooks.Busy v = (c.client_out ≡ true) × (v ≡ w)

@@ -1,11 +1,10 @@
 -- What a contract sees of a graph: its components with their queues, in the order of their numbers, and its ports and headers.
-use Rattle.std.specs.Prelude.{ℕ, Bool, List, [], ◌∷◌, ◌++◌, map, remove, position, slice_get, slice_set, Option, option_and_then, option_map}
+use Rattle.std.specs.Prelude.{ℕ, Bool, List, map, remove, position, slice_get, slice_set, Option, option_and_then, option_map}
 use Rattle.omx_types.specs.declared.handle.Handle.{Handle}
 use Rattle.il_machine.specs.declared.answer.Progress.{Progress}
 use Rattle.il_machine.specs.World.{Component, is_at}
 use Rattle.il_machine.specs.Look.{Look}
-use Rattle.il_machine.specs.Buffers.{Held}
-use Rattle.il_machine.specs.Whole.{Kept}
+use Rattle.il_machine.specs.Whole.{Kept, Noticed}
 use Rattle.whole_laws.specs.Entries.{all_held}
 use Rattle.il_component.specs.Entries.{Entry, component_of, held_in}
 use Rattle.port_stock.specs.Kept.{Kept as StockKept, stocked}
@@ -25,11 +24,11 @@ module _ {C : Type 0} where
   abbrev pub look_of : Entries C → Look
   look_of g = record { components = components_of g.entries; headers = (stocked g.stock).headers; units = g.units; numbered = g.numbered; made = (stocked g.stock).next }
 
-  abbrev pub held_by : Entry C → List Held
+  abbrev pub held_by : Entry C → List Noticed
   held_by e = held_in e.queues.notes
 
   -- the headers in the notes of all components
-  abbrev pub noticed_in : List (Entry C) → List Held
+  abbrev pub noticed_in : List (Entry C) → List Noticed
   noticed_in entries = all_held held_by entries
 
   abbrev pub progress_at : (C → Progress) → Entry C → Option Progress
@@ -50,9 +49,13 @@ module _ {C : Type 0} where
   abbrev pub entry_named : Handle → Entries C → Option (Entry C)
   entry_named h g = option_and_then (slice_get g.entries) (entry_place h g.entries)
 
+  -- the client object of the component that the handle names, or None where that object is out
+  abbrev pub client_named : Handle → Entries C → Option (Option C)
+  client_named h g = option_map (λ e. e.queues.client) (entry_named h g)
+
   -- the client object of the component that the handle names, where it is in
   abbrev pub client_of : Handle → Entries C → Option C
-  client_of h g = option_and_then (λ e. e.queues.client) (entry_named h g)
+  client_of h g = option_and_then (λ client. client) (client_named h g)
 
   abbrev pub removed : ℕ → Entries C → Entries C
   removed i g = record g { entries = remove g.entries i }

@@ -2,8 +2,8 @@ pub mod Entries
 pub mod Registered
 pub mod Standing
 pub mod Changes
+pub mod Clients
 pub mod Making
-pub mod Joining
-pub mod Tests
-pub mod Leading
-pub mod Happened
+pub mod OtherEnd
+pub mod Moving
+pub mod Supplying

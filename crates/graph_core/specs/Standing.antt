@@ -1,17 +1,17 @@
 -- What is true of all that a graph keeps: it stands for a sound world, the registry gives each live handle's place, and each port is
 -- one of the stock's.
-use Rattle.std.specs.Prelude.{◌≡◌, ◌<◌, ◌≤◌, ℕ, true, List, length, All, slice_get, Some}
+use Rattle.std.specs.Prelude.{◌≡◌, ◌<◌, ◌≤◌, ℕ, List, length, All, slice_get, Some}
 use Rattle.il_machine.specs.declared.answer.Progress.{Progress}
-use Rattle.il_machine.specs.World.{Component, World, number_of}
+use Rattle.il_machine.specs.World.{World}
 use Rattle.il_machine.specs.Whole.{Stands}
 use Rattle.il_machine.specs.Whole as machine
 use Rattle.il_machine.specs.Sound.{Sound}
 use Rattle.il_machine.specs.Stock.{Stocked}
 use Rattle.il_component.specs.Entries.{Entry, component_of}
 use Rattle.port_stock.specs.Kept.{Kept, stocked}
-use Rattle.port_stock.specs.Conditions.{IsPort}
+use Rattle.port_rules.specs.Tests.{HasPortsOf}
 use Rattle.registry.specs.Handles.{Handles}
-use Rattle.graph_core.specs.Entries.{Entries, kept}
+use Rattle.graph_core.specs.Entries.{kept}
 use Rattle.graph_core.specs.Registered.{Registered}
 
 -- a sound world that what is kept stands for
@@ -19,10 +19,6 @@ pub record SoundWorld (k : machine.Kept) : Type 0 where
   pub world : World
   pub stands : Stands k world
   pub sound : Sound world
-
--- the component's ports are the stock's
-abbrev pub HasPortsOf : Component → Stocked → Type 0
-HasPortsOf c s = (port : ℕ) → port < length c.ports → IsPort (record { component = number_of c; port = port }) s
 
 module _ {C : Type 0} where
   -- the ports of each component are the stock's, and the stock has none of a component that wasn't numbered

@@ -6,6 +6,7 @@ ghost use Rattle.il_machine.specs.Look.{look};
 ghost use Rattle.il_machine.specs.Commands.{send_refusal, lacks_target, sent, run_idle, run_front};
 ghost use Rattle.il_machine.specs.Whole.{Steps};
 ghost use Rattle.graph_core.specs.Entries.{kept, look_of, component_at};
+ghost use Rattle.graph_core.specs.Clients.{KeepsAllClients};
 
 use crate::core_graph::Core;
 use il_machine::Why;
@@ -45,7 +46,8 @@ impl<C: Client> Core<C> {
     /// The component at the place takes the command.
     pub fn send(&mut self, place: usize, command: Command)
         requires { IsSomeAnd (component_at place self.old) (λ c. send_refusal (look_of self.old) c command ≡ None) }
-        ensures { MatchOption (component_at place self.old) ⊥ (λ c. Steps (kept C.progress self.old) (kept C.progress self.new) (λ w v. v ≡ with_component place (sent command c) w)) }
+        ensures change { MatchOption (component_at place self.old) ⊥ (λ c. Steps (kept C.progress self.old) (kept C.progress self.new) (λ w v. v ≡ with_component place (sent command c) w)) }
+        ensures clients { KeepsAllClients self.old self.new }
     {
         let component = &mut self.components[place];
         component.send(command);
@@ -63,7 +65,8 @@ impl<C: Client> Core<C> {
     /// The component at the place carries out its first command.
     pub fn run(&mut self, place: usize)
         requires { IsSomeAnd (component_at place self.old) (λ c. run_idle c c.commands ≡ None) }
-        ensures { MatchOption (component_at place self.old) ⊥ (λ c. Steps (kept C.progress self.old) (kept C.progress self.new) (λ w v. v ≡ with_component place (run_front (look w) c.commands c) w)) }
+        ensures change { MatchOption (component_at place self.old) ⊥ (λ c. Steps (kept C.progress self.old) (kept C.progress self.new) (λ w v. v ≡ with_component place (run_front (look w) c.commands c) w)) }
+        ensures clients { KeepsAllClients self.old self.new }
     {
         let component = &mut self.components[place];
         component.run();

@@ -6,13 +6,14 @@ mod buffers;
 mod closing;
 mod commanding;
 mod core_graph;
-mod due;
 mod ending;
+mod laws;
 mod looking;
 mod making;
 mod noting;
-mod resetting;
-mod terms;
+mod other_end;
+mod passing;
+mod supplying;
 mod tunnels;
 
 pub use core_graph::Core;

@@ -6,91 +6,27 @@ ghost use Rattle.il_machine.specs.Kinds.{ports_in, inputs_of, outputs_of};
 ghost use Rattle.il_machine.specs.Settings.{IsSized};
 ghost use Rattle.il_machine.specs.World.{fresh, with_component};
 ghost use Rattle.il_machine.specs.Components.{is_full, is_vacant, no_progress, with_new_component, without_component, free_refusal};
-ghost use Rattle.il_machine.specs.Parameters.{is_fixed, is_wrong_time, set_parameter_refusal, set_config_refusal, with_value};
+ghost use Rattle.il_machine.specs.Parameters.{set_parameter_refusal, set_config_refusal, with_value};
 ghost use Rattle.il_machine.specs.Places.{first_place};
 ghost use Rattle.il_machine.specs.Stock.{added};
 ghost use Rattle.il_machine.specs.Whole.{Steps};
 ghost use Rattle.registry.specs.Handles.{resolved, live, AllGiven};
 ghost use Rattle.il_component.specs.Entries.{component_of};
 ghost use Rattle.port_stock.specs.Kept.{stocked};
-ghost use Rattle.port_stock.specs.Conditions.{IsPort, IsWithoutPorts};
+ghost use Rattle.port_stock.specs.Conditions.{IsWithoutPorts};
 ghost use Rattle.graph_core.specs.Registered.{Shifted};
-ghost use Rattle.graph_core.specs.Entries.{is_entry_at, client_of, component_at, components_of, kept, look_of};
-ghost use Rattle.graph_core.specs.Tests.{HasAllPorts};
-ghost use Rattle.graph_core.specs.Making.{value_refusal, KeepsClients};
+ghost use Rattle.graph_core.specs.Entries.{is_entry_at, client_named, client_of, component_at, components_of, kept, look_of};
+ghost use Rattle.graph_core.specs.Making.{value_refusal};
+ghost use Rattle.graph_core.specs.Clients.{KeepsClients, KeepsAllClients};
 
 use crate::core_graph::Core;
-use crate::terms::{PortTest, each_port, is_joined, is_unmade};
 use il_component::Component;
-use il_machine::Port;
 use note_queues::Client;
-use omx_types::{Handle, Kind, OmxError, Param, ParamKey, State};
+use omx_types::{Handle, Kind, OmxError, Param, ParamKey};
+use port_rules::{free_fault, parameter_fault};
 use port_stock::Stock;
 use registry::Registry;
 use std::alloc::Global;
-
-/// Whether the port is joined, or has headers, or is enabled while its component isn't Loaded with nothing pending.
-pub fn is_fixed<C>(stock: &Stock, component: &Component<C>, port: Port) -> bool
-    requires { IsPort port.key (stocked stock.now) }
-    ensures { result ≡ is_fixed (stocked stock.now).headers (component_of component.now) port }
-{
-    is_joined(port) || !is_unmade(stock, port) || (port.state.enabled && !component.is_settable())
-}
-
-/// Whether the value of the key can't be set now, though it can at another time.
-fn is_wrong_time<C>(stock: &Stock, component: &Component<C>, key: ParamKey) -> bool
-    requires { HasAllPorts (component_of component.now) (stocked stock.now) }
-    ensures { result ≡ is_wrong_time (stocked stock.now).headers (component_of component.now) key }
-{
-    if key.index == 3 {
-        return !component.is_settable();
-    }
-    let Some(port) = component.port(key.port) else {
-        return false;
-    };
-    is_fixed(stock, component, port)
-}
-
-/// Why a parameter of the component isn't set.
-fn parameter_fault<C>(
-    stock: &Stock,
-    component: &Component<C>,
-    key: ParamKey,
-    value: Param,
-) -> Option<OmxError>
-    requires { HasAllPorts (component_of component.now) (stocked stock.now) }
-    ensures { result ≡ set_parameter_refusal (stocked stock.now).headers (component_of component.now) key value }
-{
-    if component.is_invalid() {
-        return Some(OmxError::InvalidState);
-    }
-    let fault = component.settings_refusal(key, false, value);
-    if fault.is_some() {
-        return fault;
-    }
-    if is_wrong_time(stock, component, key) {
-        Some(OmxError::IncorrectStateOperation)
-    } else {
-        None
-    }
-}
-
-/// Why the component isn't freed.
-fn free_fault<C>(stock: &Stock, component: &Component<C>) -> Option<OmxError>
-    requires { HasAllPorts (component_of component.now) (stocked stock.now) }
-    ensures { result ≡ free_refusal (stocked stock.now).headers (component_of component.now) }
-{
-    let in_use = !matches!(component.state(), State::Loaded | State::Invalid)
-        || component.pending().is_some()
-        || !each_port(stock, component, PortTest::Unmade)
-        || component.is_joined()
-        || component.is_client_out();
-    if in_use {
-        Some(OmxError::IncorrectStateOperation)
-    } else {
-        None
-    }
-}
 
 /// How many ports a component of the kind has: inputs and outputs.
 fn sides(kind: Kind) -> (u32, u32)
@@ -212,6 +148,7 @@ impl<C: Client> Core<C> {
         requires { IsSomeAnd (component_at place self.old) (λ c. free_refusal (look_of self.old).headers c ≡ None) }
         ensures freed { MatchOption (component_at place self.old) ⊥ (λ c. Steps (kept C.progress self.old) (kept C.progress self.new) (λ w v. v ≡ without_component place c w)) }
         ensures client { MatchOption (slice_get self.old.entries place) ⊥ (λ e. e.queues.client ≡ Some result) }
+        ensures gone { MatchOption (component_at place self.old) ⊥ (λ c. client_named c.handle self.new ≡ None) }
         ensures clients { MatchOption (component_at place self.old) ⊥ (λ c. KeepsClients c.handle self.old self.new) }
     {
         let component = &self.components[place];
@@ -253,7 +190,7 @@ impl<C: Client> Core<C> {
     pub fn set_value(&mut self, place: usize, key: ParamKey, config: bool, value: Param)
         requires { IsSomeAnd (component_at place self.old) (λ c. value_refusal config (look_of self.old).headers c key value ≡ None) }
         ensures set { MatchOption (component_at place self.old) ⊥ (λ c. Steps (kept C.progress self.old) (kept C.progress self.new) (λ w v. v ≡ with_component place (with_value key value c) w)) }
-        ensures clients { (k : Named) → client_of k self.new ≡ client_of k self.old }
+        ensures clients { KeepsAllClients self.old self.new }
     {
         let component = &mut self.components[place];
         component.set_value(key, config, value);

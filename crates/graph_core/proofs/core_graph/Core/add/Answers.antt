@@ -1,16 +1,14 @@
-use Rattle.std.proofs.Common.{◌≡◌, ◌<◌, ◌≤◌, ◌+◌, ℕ, List, [], ◌∷◌, ◌++◌, length, Some, None, refl, sym, ◌∙◌, ap, subst, arith, length-append}
-use Rattle.omx_types.specs.declared.handle.Handle.{Handle}
+use Rattle.std.proofs.Common.{◌≡◌, ℕ, [], ◌∷◌, length, Some, refl, sym, ◌∙◌, ap, subst, arith, length-append}
 use Rattle.il_machine.specs.Kinds.{ports_in}
 use Rattle.il_machine.specs.World.{Component, fresh}
 use Rattle.il_machine.specs.Stock.{Stocked, added, removed}
 use Rattle.registry.specs.Handles.{Handles, Gives}
 use Rattle.il_component.specs.Entries.{component_of}
 use Rattle.port_stock.specs.Kept.{stocked}
-use Rattle.port_stock.specs.Conditions.{IsUnmade}
 use Rattle.graph_core.specs.Standing.{IsGraph}
 use Rattle.graph_core.specs.Entries.{Entries}
 use Rattle.graph_core.proofs.Registering.{added_sound, vacant_place, few_live}
-use Rattle.graph_core.proofs.Clients.{client_added, clients_added}
+use Rattle.graph_core.proofs.Clients.{client_added, clients_added, in_now}
 use Rattle.graph_core.proofs.Adding.{IsNew, without_ports, unnumbered_unmade, restored, graph_restocked, steps_added, worlds_added, ports_added, vacant_slot}
 use Rattle.graph_core.proofs.core_graph.Core.add.Goals as goal
 
@@ -120,7 +118,7 @@ returns-in-Ok-insert-clause-client g c =
     let N : IsNew p h c.args.kind e = record { component = q; told = rw (cl, c.requires.new) refl } in
     let st : stocked c.make.new.stock ≡ added n (ports_in c.args.kind) (stocked i.stock) = subst (λ (k : ℕ). stocked c.make.new.stock ≡ added k (ports_in c.args.kind) (stocked i.stock)) c.given-number.ensures c.in-Ok.ensures.ports in
     let m : e.handle ≡ h = ap (λ (x : Component). x.handle) q in
-    rw (c.put_last.ensures.items) (client_added es e h m (vacant_place es r c.insert.new.self h c.self.invariant.registered G h refl) ∙ cl)
+    rw (c.put_last.ensures.items) (ap in_now (client_added es e h m (vacant_place es r c.insert.new.self h c.self.invariant.registered G h refl)) ∙ cl)
 
 pub returns-in-Ok-insert-clause-clients : goal.returns-in-Ok-insert-clause-clients
 returns-in-Ok-insert-clause-clients g c =

@@ -6,9 +6,12 @@ use Rattle.graph_core.proofs.core_graph.Core.close_out.Goals as goal
 pub loop-place-preserved : goal.loop-place-preserved
 loop-place-preserved g c =
     let p = g.C.Client.progress in
-    one_more (kept p c.args.self.now) (kept p c.loop-place.self) (kept p c.happen.new.self) c.loop-place.invariant c.happen.ensures.happens
+    (one_more (kept p c.args.self.now) (kept p c.loop-place.self) (kept p c.happen.new.self) c.loop-place.invariant.0 c.happen.ensures.happens, λ k. c.happen.ensures.clients k ∙ c.loop-place.invariant.1 k)
 
 pub returns-clause-closes : goal.returns-clause-closes
 returns-clause-closes g c =
     let p = g.C.Client.progress in
-    all_closed (kept p c.args.self.now) (kept p c.loop-place.self) c.loop-place.invariant (sym c.first_due.ensures.place ∙ c.in_default.is)
+    all_closed (kept p c.args.self.now) (kept p c.loop-place.self) c.loop-place.invariant.0 (sym c.first_due.ensures.place ∙ c.in_default.is)
+
+pub returns-clause-clients : goal.returns-clause-clients
+returns-clause-clients g c = c.loop-place.invariant.1

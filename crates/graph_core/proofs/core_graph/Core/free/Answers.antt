@@ -1,7 +1,7 @@
-use Rattle.std.proofs.Common.{◌≡◌, ◌<◌, ◌≤◌, ◌+◌, ℕ, List, length, remove, slice_get, Some, None, MatchOption, refl, sym, ◌∙◌, ap, subst, arith}
+use Rattle.std.proofs.Common.{◌≡◌, ◌<◌, List, length, slice_get, Some, None, sym, ◌∙◌, ap, subst, arith}
 use Rattle.std.proofs.lemmas.Option.{slice_get-get_or}
 use Rattle.omx_types.specs.declared.handle.Handle.{Handle}
-use Rattle.il_machine.specs.World.{World, Component, number_of}
+use Rattle.il_machine.specs.World.{number_of}
 use Rattle.il_machine.specs.Stock.{removed}
 use Rattle.il_machine.specs.Components.{free_refusal}
 use Rattle.il_machine.specs.Places.{first_place}
@@ -12,7 +12,7 @@ use Rattle.port_stock.specs.Kept.{stocked}
 use Rattle.graph_core.specs.Entries.{Entries, is_entry_at, look_of}
 use Rattle.graph_core.proofs.Renumbered.{sound_there, shifted_start, removed_length}
 use Rattle.graph_core.proofs.Replacing.{there, within}
-use Rattle.graph_core.proofs.Clients.{clients_removed}
+use Rattle.graph_core.proofs.Clients.{client_removed, clients_removed}
 use Rattle.graph_core.proofs.Leaving.{leaves_no_header, leaves_no_note, client_in, some_client, steps_left, worlds_left, ports_left}
 use Rattle.graph_core.proofs.core_graph.Core.free.Goals as goal
 
@@ -168,3 +168,14 @@ returns-clause-clients g c =
     let b : c.args.place < length i.components.items = within p G c.args.place _ asked in
     let at : slice_get i.components.items c.args.place ≡ Some e = slice_get-get_or i.components.items c.args.place e b ∙ ap Some (sym c.remove-component.ensures.value) in
     rw (← c.self.view_is, there p G c.args.place e at, c.remove-component.ensures.items) (λ k d. clients_removed i.components.items c.args.place e k (c.self.invariant.registered.once k) at d)
+
+pub returns-clause-gone : goal.returns-clause-gone
+returns-clause-gone g c =
+    let i = c.self.inside in
+    let p = g.C.Client.progress in
+    let G : Entries (g.row.C.Denot) = record { entries = i.components.items; stock = i.stock; units = i.units; numbered = i.registry.given } in
+    let e = c.remove-component.result in
+    let asked = rw (← c.self.view_is) at c.requires in
+    let b : c.args.place < length i.components.items = within p G c.args.place _ asked in
+    let at : slice_get i.components.items c.args.place ≡ Some e = slice_get-get_or i.components.items c.args.place e b ∙ ap Some (sym c.remove-component.ensures.value) in
+    rw (← c.self.view_is, there p G c.args.place e at, c.remove-component.ensures.items) (client_removed i.components.items c.args.place e (c.self.invariant.registered.once e.handle) at)

@@ -1,4 +1,4 @@
-use Rattle.std.proofs.Common.{◌≡◌, ℕ, ◌<◌, List, length, set, slice_get, Some, None, option_map, sym, ◌∙◌, ap, subst}
+use Rattle.std.proofs.Common.{◌≡◌, ℕ, ◌<◌, List, length, set, slice_get, Some, None, option_map, refl, sym, ◌∙◌, ap, subst}
 use Rattle.std.proofs.lemmas.Option.{slice_get-get_or}
 use Rattle.il_machine.specs.declared.header.Owner.TheVariants as owners
 use Rattle.il_machine.specs.World.{port_of}
@@ -10,6 +10,7 @@ use Rattle.port_stock.specs.Kept.{stocked}
 use Rattle.port_stock.specs.Conditions.{IsOutside, number_of}
 use Rattle.il_component.specs.Entries.{Entry, component_of}
 use Rattle.graph_core.specs.Entries.{Entries}
+use Rattle.graph_core.proofs.Clients.{clients_set}
 use Rattle.graph_core.proofs.Replacing.{there, within}
 use Rattle.graph_core.proofs.Stepping.{graph_with, graph_stocked, port_kept, with_stocked}
 use Rattle.graph_core.proofs.Noticing.{Clause, nothing_returns, nothing_worlds, fewer_notes, given_returns, given_worlds, pulled_ports}
@@ -44,8 +45,8 @@ invariant_of-self g c =
     (ap (λ (s : Stocked). s.ports) c.pull_work.ensures.stock ∙ pulled_ports p.key ((stocked i.stock).headers.todo p.key) (stocked i.stock))
     (nothing_worlds g.C.Client.progress G c.args.place e c.args.index p c.self.invariant.worlds at here client c.pull_work.new.self c.pull_work.ensures.stock none))
 
-pub returns-in_default-pull_work : goal.returns-in_default-pull_work
-returns-in_default-pull_work g c =
+pub returns-in_default-pull_work-clause-change : goal.returns-in_default-pull_work-clause-change
+returns-in_default-pull_work-clause-change g c =
     let i = c.self.inside in
     let e = c.index_mut-component.result.now in
     let p = c.in-Some.port in
@@ -106,8 +107,8 @@ invariant_of-self-2 g c =
     (ap (λ (s : Stocked). s.ports) now ∙ pulled_ports p.key ((stocked i.stock).headers.todo p.key) (stocked i.stock))
     (given_worlds g.C.Client.progress G c.args.place e c.args.index p c.self.invariant.worlds at here client h front outside c.put_header.new.self c.set_out.new.self left now)
 
-pub returns : goal.returns
-returns g c =
+pub returns-clause-change : goal.returns-clause-change
+returns-clause-change g c =
     let i = c.self.inside in
     let e = c.index_mut-component.result.now in
     let p = c.in-Some.port in
@@ -128,3 +129,27 @@ returns g c =
     let left : c.put_header.new.self ≡ record e { queues = noted (header_note p.setting.definition.input (cleared h)) e.queues } =
     c.put_header.ensures ∙ ap (λ (x : BufferHeader). record e { queues = noted (header_note p.setting.definition.input x) e.queues }) c.clear.ensures in
     rw (← c.self.view_is) (given_returns g.C.Client.progress G c.args.place e c.args.index p c.self.invariant.worlds at here client h front outside c.put_header.new.self c.set_out.new.self left now)
+
+pub returns-in_default-pull_work-clause-clients : goal.returns-in_default-pull_work-clause-clients
+returns-in_default-pull_work-clause-clients g c =
+    let i = c.self.inside in
+    let e = c.index_mut-component.result.now in
+    let G : Entries (g.row.C.Denot) = record { entries = i.components.items; stock = i.stock; units = i.units; numbered = i.registry.given } in
+    let asked = rw (← c.self.view_is) at c.requires in
+    let b : c.args.place < length i.components.items = within g.C.Client.progress G c.args.place _ asked in
+    let at : slice_get i.components.items c.args.place ≡ Some e = slice_get-get_or i.components.items c.args.place e b ∙ ap Some (sym c.index_mut-component.ensures.value) in
+    rw (← c.self.view_is, set_same i.components.items c.args.place e at) (λ k. refl)
+
+pub returns-clause-clients : goal.returns-clause-clients
+returns-clause-clients g c =
+    let i = c.self.inside in
+    let e = c.index_mut-component.result.now in
+    let G : Entries (g.row.C.Denot) = record { entries = i.components.items; stock = i.stock; units = i.units; numbered = i.registry.given } in
+    let asked = rw (← c.self.view_is) at c.requires in
+    let b : c.args.place < length i.components.items = within g.C.Client.progress G c.args.place _ asked in
+    let at : slice_get i.components.items c.args.place ≡ Some e = slice_get-get_or i.components.items c.args.place e b ∙ ap Some (sym c.index_mut-component.ensures.value) in
+    let p = c.in-Some.port in
+    let h = c.in-Some-pull_work.header in
+    let left : c.put_header.new.self ≡ record e { queues = noted (header_note p.setting.definition.input (cleared h)) e.queues } =
+    c.put_header.ensures ∙ ap (λ (x : BufferHeader). record e { queues = noted (header_note p.setting.definition.input x) e.queues }) c.clear.ensures in
+    rw (← c.self.view_is) (clients_set i.components.items c.args.place e c.put_header.new.self at (ap (λ (x : Entry (g.row.C.Denot)). x.handle) left) (ap (λ (x : Entry (g.row.C.Denot)). x.queues.client) left))

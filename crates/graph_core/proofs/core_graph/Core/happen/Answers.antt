@@ -4,8 +4,9 @@ use Rattle.il_machine.specs.Due.{Thing, due_in, first_due}
 use Rattle.il_component.specs.Entries.{component_of}
 use Rattle.port_stock.specs.Kept.{stocked}
 use Rattle.graph_core.specs.Entries.{Entries, look_of}
-use Rattle.graph_core.specs.Happened.{Happened}
-use Rattle.graph_core.proofs.Happenings.{of_match}
+use Rattle.port_rules.specs.Happened.{Happened}
+use Rattle.port_rules.proofs.Happenings.{of_match}
+use Rattle.graph_core.proofs.Clients.{clients_set}
 use Rattle.graph_core.proofs.Happens.{settled_there, due_first, graph_after, happens_after, fewer_after, after}
 use Rattle.graph_core.proofs.core_graph.Core.happen.Goals as goal
 
@@ -51,4 +52,5 @@ returns g c =
     record {
       happens = rw (← c.self.view_is) F;
       fewer = rw (← c.self.view_is) (fewer_after g.C.Client.progress G (after g.C.Client.progress G c.args.place d c.happen_in.new.stock) c.self.invariant.worlds F);
+      clients = rw (← c.self.view_is) (clients_set i.components.items c.args.place e d at H.component.handle c.happen_in.ensures.kept.client);
     }

@@ -1,6 +1,4 @@
-use Rattle.std.proofs.Common.{◌≡◌, ℕ, Option, Some, None, not, is_some, is_none, Bool, refl, sym, ◌∙◌, ap, arith}
-use Rattle.il_machine.specs.World.{place_of}
-use Rattle.graph_core.specs.Entries.{components_of}
+use Rattle.std.proofs.Common.{◌≡◌, ℕ, Option, Some, None, not, is_some, is_none, Bool, sym, ◌∙◌, ap, arith}
 use Rattle.graph_core.proofs.Replacing.{entry_place_is}
 use Rattle.graph_core.proofs.core_graph.Core.lacks_target.Goals as goal
 

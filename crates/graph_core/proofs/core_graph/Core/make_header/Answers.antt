@@ -1,4 +1,4 @@
-use Rattle.std.proofs.Common.{◌≡◌, ◌<◌, true, false, length, slice_get, Some, sym, ◌∙◌, ap}
+use Rattle.std.proofs.Common.{◌≡◌, ◌<◌, true, false, length, slice_get, Some, refl, sym, ◌∙◌, ap}
 use Rattle.std.proofs.lemmas.Option.{slice_get-get_or}
 use Rattle.il_machine.specs.World.{port_of}
 use Rattle.il_machine.specs.Stock.{Stocked}
@@ -132,3 +132,6 @@ unreachable-requires-then-not-has_number g c =
 
 pub populate-requires-clause-numbers : goal.populate-requires-clause-numbers
 populate-requires-clause-numbers g c = c.has_number.ensures.below c.if-not-has_number.false
+
+pub returns-clause-clients : goal.returns-clause-clients
+returns-clause-clients g c = rw (← c.self.view_is) (λ k. refl)

@@ -1,4 +1,4 @@
-use Rattle.std.proofs.Common.{◌≡◌, ◌≤◌, ℕ, [], Some, None, length, refl, sym, ◌∙◌, ap, subst, arith}
+use Rattle.std.proofs.Common.{arith}
 use Rattle.graph_core.proofs.Beginning.{empty_graph}
 use Rattle.graph_core.proofs.core_graph.Core.new.Goals as goal
 

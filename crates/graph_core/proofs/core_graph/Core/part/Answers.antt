@@ -1,18 +1,17 @@
-use Rattle.std.proofs.Common.{◌≡◌, ◌<◌, None, length, set, slice_get, get_or, Some, refl, sym, ◌∙◌, ap, subst, arith, length-set}
+use Rattle.std.proofs.Common.{◌≡◌, ◌<◌, None, length, set, slice_get, get_or, Some, sym, ◌∙◌, ap, subst, arith, length-set}
 use Rattle.std.proofs.lemmas.Option.{slice_get-get_or}
-use Rattle.il_machine.specs.declared.port.Port.{Port}
-use Rattle.il_machine.specs.World.{Component, World, port_of, with_component}
+use Rattle.il_machine.specs.World.{Component, port_of}
 use Rattle.il_machine.specs.Look.{Look, look}
-use Rattle.il_machine.specs.Sound.{Sound}
-use Rattle.il_machine.specs.Tunnels.{setup_refusal, drop_refusal, joined_to, parted, agreed_of}
-use Rattle.machine_laws.proofs.Tunnels.{sound_joined, sound_parted}
+use Rattle.il_machine.specs.Tunnels.{drop_refusal, parted}
+use Rattle.machine_laws.proofs.Tunnels.{sound_parted}
 use Rattle.whole_laws.proofs.Lists.{get_set_other}
 use Rattle.port_stock.specs.Kept.{stocked}
 use Rattle.il_component.specs.Entries.{Entry, component_of}
 use Rattle.graph_core.specs.Entries.{Entries, look_of}
+use Rattle.graph_core.proofs.Clients.{clients_set}
 use Rattle.graph_core.proofs.Replacing.{there, within}
 use Rattle.graph_core.proofs.Setting.{all_ports}
-use Rattle.graph_core.proofs.Joining.{AreEnds, AreReplaced, join_ends, part_ends, port_below, linked_is, unlinked_is, graph_both, both_changed}
+use Rattle.graph_core.proofs.Joining.{AreEnds, AreReplaced, part_ends, port_below, unlinked_is, graph_both, both_changed}
 use Rattle.graph_core.proofs.core_graph.Core.part.Goals as goal
 
 pub part-requires : goal.part-requires
@@ -120,8 +119,8 @@ invariant_of-self g c =
     let r : drop_refusal (look w).headers (port_of (component_of e) c.args.output) (port_of (component_of d) c.args.input) ≡ None = subst (λ (x : Look). drop_refusal x.headers (port_of (component_of e) c.args.output) (port_of (component_of d) c.args.input) ≡ None) (sym l) ok-d in
     rw (q-e, q-d) (sound_parted w c.args.giver (component_of e) c.args.output E.first c.args.taker (component_of d) c.args.input E.second S t E.out u inp r))
 
-pub returns : goal.returns
-returns g c =
+pub returns-clause-change : goal.returns-clause-change
+returns-clause-change g c =
     let i = c.self.inside in
     let p = g.C.Client.progress in
     let es = i.components.items in
@@ -156,3 +155,22 @@ returns g c =
       second_alike = record { handle = ap (λ (x : Component). x.handle) q-d; ports = ap (λ (x : Component). length x.ports) q-d ∙ length-set d.ports (E.second).key.port _ };
     } in
     rw (← c.self.view_is, there p G c.args.giver e at, there p G c.args.taker d at-d, E.out, inp) (both_changed p G c.args.giver c.args.taker e d e' d' (parted E.first (component_of e)) (parted E.second (component_of d)) R q-e q-d)
+
+pub returns-clause-clients : goal.returns-clause-clients
+returns-clause-clients g c =
+    let i = c.self.inside in
+    let p = g.C.Client.progress in
+    let es = i.components.items in
+    let G : Entries (g.row.C.Denot) = record { entries = es; stock = i.stock; units = i.units; numbered = i.registry.given } in
+    let e = c.index_mut.result.now in
+    let asked = rw (← c.self.view_is) at c.requires in
+    let b : c.args.giver < length es = within p G c.args.giver _ asked in
+    let at : slice_get es c.args.giver ≡ Some e = slice_get-get_or es c.args.giver e b ∙ ap Some (sym c.index_mut.ensures.value) in
+    let asked-2 = rw (there p G c.args.giver e at) at asked in
+    let e' = c.part.new.self in
+    let d = c.index_mut-2.result.now in
+    let b-2 : c.args.taker < length (set es c.args.giver e') = rw (length-set es c.args.giver e') (within p G c.args.taker _ asked-2) in
+    let at-2 : slice_get (set es c.args.giver e') c.args.taker ≡ Some d = slice_get-get_or (set es c.args.giver e') c.args.taker d b-2 ∙ ap Some (sym c.index_mut-2.ensures.value) in
+    let first = clients_set es c.args.giver e e' at (ap (λ (x : Component). x.handle) c.part.ensures.component) c.part.ensures.kept.client in
+    let second = clients_set (set es c.args.giver e') c.args.taker d c.part-2.new.self at-2 (ap (λ (x : Component). x.handle) c.part-2.ensures.component) c.part-2.ensures.kept.client in
+    rw (← c.self.view_is) (λ k. second k ∙ first k)

@@ -1,13 +1,12 @@
-use Rattle.std.proofs.Common.{◌≡◌, ◌<◌, length, slice_get, Some, option_map, refl, sym, ◌∙◌, ap}
+use Rattle.std.proofs.Common.{◌≡◌, ◌<◌, length, slice_get, Some, refl, sym, ◌∙◌, ap}
 use Rattle.std.proofs.lemmas.Option.{slice_get-get_or}
-use Rattle.il_machine.specs.Components.{view_of}
 use Rattle.il_machine.specs.World.{port_of}
 use Rattle.il_component.specs.Entries.{component_of}
 use Rattle.port_stock.specs.Kept.{stocked}
 use Rattle.graph_core.specs.Entries.{Entries}
 use Rattle.graph_core.proofs.Replacing.{there}
 use Rattle.graph_core.proofs.Setting.{all_ports}
-use Rattle.graph_core.proofs.Walking.{port_kept}
+use Rattle.port_rules.proofs.Walking.{port_kept}
 use Rattle.graph_core.proofs.core_graph.Core.port_view.Goals as goal
 
 pub made-requires : goal.made-requires

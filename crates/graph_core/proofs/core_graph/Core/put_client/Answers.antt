@@ -2,6 +2,8 @@ use Rattle.std.proofs.Common.{◌≡◌, ◌<◌, true, length, slice_get, Some,
 use Rattle.std.proofs.lemmas.Option.{slice_get-get_or}
 use Rattle.il_component.specs.Entries.{Entry}
 use Rattle.graph_core.specs.Entries.{Entries}
+use Rattle.graph_core.proofs.Clients.{others_set, client_set, in_now}
+use Rattle.graph_core.proofs.Renumbered.{own_place}
 use Rattle.graph_core.proofs.Replacing.{there, within}
 use Rattle.graph_core.proofs.Stepping.{graph_with}
 use Rattle.graph_core.proofs.Returning.{back_worlds, back_returns}
@@ -31,8 +33,8 @@ invariant_of-self g c =
     (ap (λ (x : Entry (g.row.C.Denot)). x.handle) c.put_client.ensures) (ap (λ (x : Entry (g.row.C.Denot)). x.ports) c.put_client.ensures) refl
     (back_worlds g.C.Client.progress G c.args.place e c.args.client c.self.invariant.worlds at d c.put_client.ensures out)
 
-pub returns : goal.returns
-returns g c =
+pub returns-clause-change : goal.returns-clause-change
+returns-clause-change g c =
     let i = c.self.inside in
     let e = c.index_mut-component.result.now in
     let G : Entries (g.row.C.Denot) = record { entries = i.components.items; stock = i.stock; units = i.units; numbered = i.registry.given } in
@@ -40,3 +42,27 @@ returns g c =
     let b : c.args.place < length i.components.items = within g.C.Client.progress G c.args.place _ asked in
     let at : slice_get i.components.items c.args.place ≡ Some e = slice_get-get_or i.components.items c.args.place e b ∙ ap Some (sym c.index_mut-component.ensures.value) in
     rw (← c.self.view_is) (back_returns g.C.Client.progress G c.args.place e c.args.client c.self.invariant.worlds at c.put_client.new.self c.put_client.ensures)
+
+pub returns-clause-client : goal.returns-clause-client
+returns-clause-client g c =
+    let i = c.self.inside in
+    let e = c.index_mut-component.result.now in
+    let G : Entries (g.row.C.Denot) = record { entries = i.components.items; stock = i.stock; units = i.units; numbered = i.registry.given } in
+    let asked = rw (← c.self.view_is) at c.requires in
+    let b : c.args.place < length i.components.items = within g.C.Client.progress G c.args.place _ asked in
+    let at : slice_get i.components.items c.args.place ≡ Some e = slice_get-get_or i.components.items c.args.place e b ∙ ap Some (sym c.index_mut-component.ensures.value) in
+    let m = ap (λ (x : Entry (g.row.C.Denot)). x.handle) c.put_client.ensures in
+    let own = own_place i.components.items i.registry c.args.place e c.self.invariant.registered at in
+    rw (← c.self.view_is, there g.C.Client.progress G c.args.place e at)
+    (ap in_now (client_set i.components.items c.args.place e c.put_client.new.self e.handle own at m) ∙ ap (λ (x : Entry (g.row.C.Denot)). x.queues.client) c.put_client.ensures)
+
+pub returns-clause-clients : goal.returns-clause-clients
+returns-clause-clients g c =
+    let i = c.self.inside in
+    let e = c.index_mut-component.result.now in
+    let G : Entries (g.row.C.Denot) = record { entries = i.components.items; stock = i.stock; units = i.units; numbered = i.registry.given } in
+    let asked = rw (← c.self.view_is) at c.requires in
+    let b : c.args.place < length i.components.items = within g.C.Client.progress G c.args.place _ asked in
+    let at : slice_get i.components.items c.args.place ≡ Some e = slice_get-get_or i.components.items c.args.place e b ∙ ap Some (sym c.index_mut-component.ensures.value) in
+    let m = ap (λ (x : Entry (g.row.C.Denot)). x.handle) c.put_client.ensures in
+    rw (← c.self.view_is, there g.C.Client.progress G c.args.place e at) (others_set i.components.items c.args.place e c.put_client.new.self at m)

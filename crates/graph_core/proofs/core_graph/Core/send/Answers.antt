@@ -1,16 +1,13 @@
-use Rattle.std.proofs.Common.{◌≡◌, ◌<◌, ◌≤◌, false, None, length, slice_get, Some, IsSomeAnd, refl, sym, ◌∙◌, ap, subst}
+use Rattle.std.proofs.Common.{◌≡◌, ◌<◌, length, slice_get, Some, sym, ◌∙◌, ap}
 use Rattle.std.proofs.lemmas.Option.{slice_get-get_or}
 use Rattle.omx_types.specs.declared.handle.Handle.{Handle}
-use Rattle.il_machine.specs.World.{number_of}
-use Rattle.il_machine.specs.Look.{Look, look}
-use Rattle.il_machine.specs.Room.{used}
-use Rattle.il_machine.specs.Commands.{send_refusal, sent, run_idle, run_front}
+use Rattle.il_machine.specs.World.{Component, number_of}
+use Rattle.il_machine.specs.Commands.{sent}
 use Rattle.il_machine.specs.Sound.{IsSound}
 use Rattle.machine_laws.proofs.Sending.{sound_sent, change_sent}
-use Rattle.machine_laws.proofs.Running.{sound_run, change_run}
-use Rattle.machine_laws.proofs.Change.{IsChange}
 use Rattle.il_component.specs.Entries.{component_of}
 use Rattle.graph_core.specs.Entries.{Entries, look_of}
+use Rattle.graph_core.proofs.Clients.{clients_set}
 use Rattle.graph_core.proofs.Replacing.{there, within, component_sound, graph_changed, returns_changed}
 use Rattle.graph_core.proofs.Accepted.{fits}
 use Rattle.graph_core.proofs.core_graph.Core.send.Goals as goal
@@ -39,8 +36,8 @@ invariant_of-self g c =
     graph_changed g.C.Client.progress i.components.items i.registry i.stock i.units i.components.cap c.args.place e c.send.new.self c.self.invariant at c.send.ensures.kept
     (rw c.send.ensures.component (change_sent c.args.command (component_of e))) (rw c.send.ensures.component (sound_sent (look_of G) c.args.command (component_of e) S r))
 
-pub returns : goal.returns
-returns g c =
+pub returns-clause-change : goal.returns-clause-change
+returns-clause-change g c =
     let i = c.self.inside in
     let e = c.index_mut-component.result.now in
     let G : Entries (g.row.C.Denot) = record { entries = i.components.items; stock = i.stock; units = i.units; numbered = i.registry.given } in
@@ -50,3 +47,14 @@ returns g c =
     let r = rw (there g.C.Client.progress G c.args.place e at) at asked in
     rw (← c.self.view_is) (returns_changed g.C.Client.progress G c.args.place e c.send.new.self (λ w. sent c.args.command) at c.send.ensures.kept
     (ap number_of c.send.ensures.component ∙ ap (λ (h : Handle). h.generation) (change_sent c.args.command (component_of e)).handle) (λ w. c.send.ensures.component))
+
+pub returns-clause-clients : goal.returns-clause-clients
+returns-clause-clients g c =
+    let i = c.self.inside in
+    let e = c.index_mut-component.result.now in
+    let G : Entries (g.row.C.Denot) = record { entries = i.components.items; stock = i.stock; units = i.units; numbered = i.registry.given } in
+    let asked = rw (← c.self.view_is) at c.requires in
+    let b : c.args.place < length i.components.items = within g.C.Client.progress G c.args.place _ asked in
+    let at : slice_get i.components.items c.args.place ≡ Some e = slice_get-get_or i.components.items c.args.place e b ∙ ap Some (sym c.index_mut-component.ensures.value) in
+    rw (← c.self.view_is) (clients_set i.components.items c.args.place e c.send.new.self at
+    (ap (λ (x : Component). x.handle) c.send.ensures.component ∙ (change_sent c.args.command (component_of e)).handle) c.send.ensures.kept.client)

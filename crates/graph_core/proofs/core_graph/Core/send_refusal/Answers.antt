@@ -3,7 +3,7 @@ use Rattle.std.proofs.lemmas.Option.{slice_get-get_or}
 use Rattle.il_machine.specs.States.{is_invalid}
 use Rattle.il_machine.specs.Commands.{lacks_port, lacks_target, lacks_place}
 use Rattle.il_component.specs.Entries.{component_of}
-use Rattle.graph_core.specs.Entries.{Entries, look_of}
+use Rattle.graph_core.specs.Entries.{look_of}
 use Rattle.graph_core.proofs.Replacing.{there}
 use Rattle.graph_core.proofs.core_graph.Core.send_refusal.Goals as goal
 

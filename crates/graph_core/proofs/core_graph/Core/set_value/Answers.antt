@@ -1,9 +1,7 @@
-use Rattle.std.proofs.Common.{◌≡◌, ◌<◌, None, length, slice_get, Some, refl, sym, ◌∙◌, ap, subst}
+use Rattle.std.proofs.Common.{◌≡◌, ◌<◌, None, length, slice_get, Some, sym, ◌∙◌, ap, subst}
 use Rattle.std.proofs.lemmas.Option.{slice_get-get_or}
-use Rattle.omx_types.specs.declared.handle.Handle.{Handle}
-use Rattle.il_machine.specs.World.{Component, World, number_of, with_component}
+use Rattle.il_machine.specs.World.{Component, number_of, with_component}
 use Rattle.il_machine.specs.Look.{Look, look}
-use Rattle.il_machine.specs.Headers.{Seen}
 use Rattle.il_machine.specs.Parameters.{with_value}
 use Rattle.il_machine.specs.Sound.{Sound}
 use Rattle.il_component.specs.Entries.{component_of}

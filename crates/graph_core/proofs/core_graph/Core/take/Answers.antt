@@ -8,6 +8,10 @@ use Rattle.note_queues.specs.declared.taken.Took.TheVariants as tooks
 use Rattle.port_stock.specs.Kept.{stocked}
 use Rattle.il_component.specs.Entries.{Entry}
 use Rattle.graph_core.specs.Entries.{Entries}
+use Rattle.graph_core.proofs.Clients.{others_set}
+use Rattle.graph_core.proofs.Renumbered.{own_place}
+use Rattle.graph_core.proofs.Replacing.{there}
+use Rattle.graph_core.proofs.TakenClients.{call_client, no_call_client}
 use Rattle.graph_core.proofs.Stepping.{graph_with}
 use Rattle.graph_core.proofs.Taking.{call_worlds, done_worlds, done_out, call_returns, done_returns, none_returns, none_entries}
 use Rattle.graph_core.proofs.core_graph.Core.take.Goals as goal
@@ -62,8 +66,8 @@ invariant_of-self-in_default g c =
     let k = not_call c.take-took.result c.in_default.not-Call in
     rw (none_entries g.C.Client.progress G c.args.place e c.self.invariant.worlds at c.take-took.result d (sym c.take-took.ensures.took) k c.take-took.ensures.left) c.self.invariant
 
-pub returns-in-Told : goal.returns-in-Told
-returns-in-Told g c =
+pub returns-in-Told-clause-change : goal.returns-in-Told-clause-change
+returns-in-Told-clause-change g c =
     let i = c.self.inside in
     let e = c.index_mut-component.result.now in
     let G : Entries (g.row.C.Denot) = record { entries = i.components.items; stock = i.stock; units = i.units; numbered = i.registry.given } in
@@ -72,8 +76,8 @@ returns-in-Told g c =
     let d = c.take-took.new.self in
     rw (← c.self.view_is, c.in-Call.is) (call_returns g.C.Client.progress G c.args.place e c.self.invariant.worlds at c.in-Call.call c.in-Told.field-0 d (sym c.take-took.ensures.took ∙ c.in-Call.is) c.take-took.ensures.left c.in-Told.is)
 
-pub returns-in-EmptyDone : goal.returns-in-EmptyDone
-returns-in-EmptyDone g c =
+pub returns-in-EmptyDone-clause-change : goal.returns-in-EmptyDone-clause-change
+returns-in-EmptyDone-clause-change g c =
     let i = c.self.inside in
     let e = c.index_mut-component.result.now in
     let G : Entries (g.row.C.Denot) = record { entries = i.components.items; stock = i.stock; units = i.units; numbered = i.registry.given } in
@@ -83,8 +87,8 @@ returns-in-EmptyDone g c =
     let now = c.set_out.ensures ∙ ap (λ (n : ℕ). given n owners.Client (stocked i.stock)) c.id.ensures in
     rw (← c.self.view_is, c.in-Call.is) (done_returns g.C.Client.progress G c.args.place e c.self.invariant.worlds at c.in-Call.call c.in-EmptyDone.header d c.set_out.new.self (sym c.take-took.ensures.took ∙ c.in-Call.is) c.take-took.ensures.left c.in-EmptyDone.is now)
 
-pub returns-in_default : goal.returns-in_default
-returns-in_default g c =
+pub returns-in_default-clause-change : goal.returns-in_default-clause-change
+returns-in_default-clause-change g c =
     let i = c.self.inside in
     let e = c.index_mut-component.result.now in
     let G : Entries (g.row.C.Denot) = record { entries = i.components.items; stock = i.stock; units = i.units; numbered = i.registry.given } in
@@ -93,3 +97,70 @@ returns-in_default g c =
     let d = c.take-took.new.self in
     let k = not_call c.take-took.result c.in_default.not-Call in
     rw (← c.self.view_is) (none_returns g.C.Client.progress G c.args.place e c.self.invariant.worlds at c.take-took.result d (sym c.take-took.ensures.took) k c.take-took.ensures.left)
+
+pub returns-in-Told-clause-client : goal.returns-in-Told-clause-client
+returns-in-Told-clause-client g c =
+    let i = c.self.inside in
+    let e = c.index_mut-component.result.now in
+    let G : Entries (g.row.C.Denot) = record { entries = i.components.items; stock = i.stock; units = i.units; numbered = i.registry.given } in
+    let b : c.args.place < length i.components.items = rw (← c.self.view_is) at c.requires in
+    let at : slice_get i.components.items c.args.place ≡ Some e = slice_get-get_or i.components.items c.args.place e b ∙ ap Some (sym c.index_mut-component.ensures.value) in
+    let d = c.take-took.new.self in
+    let own = own_place i.components.items i.registry c.args.place e c.self.invariant.registered at in
+    rw (← c.self.view_is, c.in-Call.is, there g.C.Client.progress G c.args.place e at) (call_client G c.args.place e d c.take-took.ensures.left own at c.in-Call.call (sym c.take-took.ensures.took ∙ c.in-Call.is))
+
+pub returns-in-Told-clause-clients : goal.returns-in-Told-clause-clients
+returns-in-Told-clause-clients g c =
+    let i = c.self.inside in
+    let e = c.index_mut-component.result.now in
+    let G : Entries (g.row.C.Denot) = record { entries = i.components.items; stock = i.stock; units = i.units; numbered = i.registry.given } in
+    let b : c.args.place < length i.components.items = rw (← c.self.view_is) at c.requires in
+    let at : slice_get i.components.items c.args.place ≡ Some e = slice_get-get_or i.components.items c.args.place e b ∙ ap Some (sym c.index_mut-component.ensures.value) in
+    let d = c.take-took.new.self in
+    let own = own_place i.components.items i.registry c.args.place e c.self.invariant.registered at in
+    rw (← c.self.view_is, there g.C.Client.progress G c.args.place e at) (others_set i.components.items c.args.place e d at (ap (λ (x : Entry (g.row.C.Denot)). x.handle) c.take-took.ensures.left))
+
+pub returns-in-EmptyDone-clause-client : goal.returns-in-EmptyDone-clause-client
+returns-in-EmptyDone-clause-client g c =
+    let i = c.self.inside in
+    let e = c.index_mut-component.result.now in
+    let G : Entries (g.row.C.Denot) = record { entries = i.components.items; stock = i.stock; units = i.units; numbered = i.registry.given } in
+    let b : c.args.place < length i.components.items = rw (← c.self.view_is) at c.requires in
+    let at : slice_get i.components.items c.args.place ≡ Some e = slice_get-get_or i.components.items c.args.place e b ∙ ap Some (sym c.index_mut-component.ensures.value) in
+    let d = c.take-took.new.self in
+    let own = own_place i.components.items i.registry c.args.place e c.self.invariant.registered at in
+    rw (← c.self.view_is, c.in-Call.is, there g.C.Client.progress G c.args.place e at) (call_client G c.args.place e d c.take-took.ensures.left own at c.in-Call.call (sym c.take-took.ensures.took ∙ c.in-Call.is))
+
+pub returns-in-EmptyDone-clause-clients : goal.returns-in-EmptyDone-clause-clients
+returns-in-EmptyDone-clause-clients g c =
+    let i = c.self.inside in
+    let e = c.index_mut-component.result.now in
+    let G : Entries (g.row.C.Denot) = record { entries = i.components.items; stock = i.stock; units = i.units; numbered = i.registry.given } in
+    let b : c.args.place < length i.components.items = rw (← c.self.view_is) at c.requires in
+    let at : slice_get i.components.items c.args.place ≡ Some e = slice_get-get_or i.components.items c.args.place e b ∙ ap Some (sym c.index_mut-component.ensures.value) in
+    let d = c.take-took.new.self in
+    let own = own_place i.components.items i.registry c.args.place e c.self.invariant.registered at in
+    rw (← c.self.view_is, there g.C.Client.progress G c.args.place e at) (others_set i.components.items c.args.place e d at (ap (λ (x : Entry (g.row.C.Denot)). x.handle) c.take-took.ensures.left))
+
+pub returns-in_default-clause-client : goal.returns-in_default-clause-client
+returns-in_default-clause-client g c =
+    let i = c.self.inside in
+    let e = c.index_mut-component.result.now in
+    let G : Entries (g.row.C.Denot) = record { entries = i.components.items; stock = i.stock; units = i.units; numbered = i.registry.given } in
+    let b : c.args.place < length i.components.items = rw (← c.self.view_is) at c.requires in
+    let at : slice_get i.components.items c.args.place ≡ Some e = slice_get-get_or i.components.items c.args.place e b ∙ ap Some (sym c.index_mut-component.ensures.value) in
+    let d = c.take-took.new.self in
+    let own = own_place i.components.items i.registry c.args.place e c.self.invariant.registered at in
+    let k = not_call c.take-took.result c.in_default.not-Call in
+    rw (← c.self.view_is, there g.C.Client.progress G c.args.place e at) (no_call_client G c.args.place e d c.take-took.ensures.left own at c.take-took.result (sym c.take-took.ensures.took) k)
+
+pub returns-in_default-clause-clients : goal.returns-in_default-clause-clients
+returns-in_default-clause-clients g c =
+    let i = c.self.inside in
+    let e = c.index_mut-component.result.now in
+    let G : Entries (g.row.C.Denot) = record { entries = i.components.items; stock = i.stock; units = i.units; numbered = i.registry.given } in
+    let b : c.args.place < length i.components.items = rw (← c.self.view_is) at c.requires in
+    let at : slice_get i.components.items c.args.place ≡ Some e = slice_get-get_or i.components.items c.args.place e b ∙ ap Some (sym c.index_mut-component.ensures.value) in
+    let d = c.take-took.new.self in
+    let own = own_place i.components.items i.registry c.args.place e c.self.invariant.registered at in
+    rw (← c.self.view_is, there g.C.Client.progress G c.args.place e at) (others_set i.components.items c.args.place e d at (ap (λ (x : Entry (g.row.C.Denot)). x.handle) c.take-took.ensures.left))

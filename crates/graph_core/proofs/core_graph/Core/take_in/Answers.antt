@@ -1,4 +1,4 @@
-use Rattle.std.proofs.Common.{◌≡◌, ◌<◌, length, slice_get, Some, sym, ◌∙◌, ap}
+use Rattle.std.proofs.Common.{◌≡◌, ◌<◌, length, slice_get, Some, refl, sym, ◌∙◌, ap}
 use Rattle.std.proofs.lemmas.Option.{slice_get-get_or}
 use Rattle.il_machine.specs.World.{port_of}
 use Rattle.il_machine.specs.Stock.{Stocked}
@@ -65,8 +65,8 @@ invariant_of-self g c =
     graph_stocked g.C.Client.progress i.components.items i.registry i.stock c.push_work.new.self i.units i.components.cap c.self.invariant (ap (λ (s : Stocked). s.ports) c.push_work.ensures)
     (in_worlds g.C.Client.progress G c.args.place e c.args.index p c.self.invariant.worlds at here c.args.header handed own c.push_work.new.self c.push_work.ensures)
 
-pub returns : goal.returns
-returns g c =
+pub returns-clause-change : goal.returns-clause-change
+returns-clause-change g c =
     let i = c.self.inside in
     let e = c.index-component.result.now in
     let p = c.in-Some.port in
@@ -78,3 +78,6 @@ returns g c =
     let handed : IsHandedIn c.args.header (look_of G) = rw (← c.self.view_is) at c.requires.handed in
     let own = rw (there g.C.Client.progress G c.args.place e at, here) at asked in
     rw (← c.self.view_is) (in_returns g.C.Client.progress G c.args.place e c.args.index p c.self.invariant.worlds at here c.args.header handed own c.push_work.new.self c.push_work.ensures)
+
+pub returns-clause-clients : goal.returns-clause-clients
+returns-clause-clients g c = rw (← c.self.view_is) (λ k. refl)

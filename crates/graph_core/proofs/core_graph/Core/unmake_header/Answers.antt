@@ -5,6 +5,7 @@ use Rattle.il_machine.specs.Stock.{Stocked}
 use Rattle.il_component.specs.Entries.{component_of}
 use Rattle.graph_core.specs.Changes.{IsHandedIn}
 use Rattle.graph_core.specs.Entries.{Entries, look_of}
+use Rattle.graph_core.proofs.Clients.{clients_set}
 use Rattle.graph_core.proofs.Replacing.{there, within}
 use Rattle.graph_core.proofs.Stepping.{graph_with}
 use Rattle.graph_core.proofs.Handing.{outside, port_needed, allowed_at, room_there, unpopulated_handle, unpopulated_ports, freed_returns, freed_worlds}
@@ -80,3 +81,14 @@ unreachable-requires g c =
     let none : port_of (component_of e) c.args.index ≡ None = sym c.port.ensures ∙ c.in_default.is in
     let handed : IsHandedIn c.args.header (look_of G) = rw (← c.self.view_is) at c.requires.handed in
     port_needed g.C.Client.progress G c.args.place e c.self.invariant.worlds at c.args.header handed (rw (there g.C.Client.progress G c.args.place e at, none) at asked)
+
+pub returns-clause-clients : goal.returns-clause-clients
+returns-clause-clients g c =
+    let i = c.self.inside in
+    let e = c.index_mut-component.result.now in
+    let G : Entries (g.row.C.Denot) = record { entries = i.components.items; stock = i.stock; units = i.units; numbered = i.registry.given } in
+    let asked = rw (← c.self.view_is) at c.requires.free in
+    let b : c.args.place < length i.components.items = within g.C.Client.progress G c.args.place _ asked in
+    let at : slice_get i.components.items c.args.place ≡ Some e = slice_get-get_or i.components.items c.args.place e b ∙ ap Some (sym c.index_mut-component.ensures.value) in
+    let p = c.in-Some.port in
+    rw (← c.self.view_is) (clients_set i.components.items c.args.place e c.unpopulate.new.component at (ap (λ x. x.handle) c.unpopulate.ensures.component ∙ unpopulated_handle p (component_of e)) c.unpopulate.ensures.kept.client)

@@ -1,0 +1,144 @@
+-- Headers move from one end of a tunnel to the other: what the stock stands for then.
+use Rattle.std.proofs.Common.{◌≡◌, ℕ, Bool, true, List, [], ◌∷◌, drop, slice_get, Some, None, refl, sym, ◌∙◌, ap, subst}
+use Rattle.std.proofs.lemmas.Bool.{and_parts}
+use Rattle.il_machine.specs.declared.port.PortKey.{PortKey}
+use Rattle.il_machine.specs.declared.header.Spot.{Spot}
+use Rattle.il_machine.specs.declared.header.Spot.TheVariants.{TodoBack}
+use Rattle.il_machine.specs.World.{HeaderRecord, World}
+use Rattle.il_machine.specs.Lists.{holds_at}
+use Rattle.il_machine.specs.Headers.{Seen, seen, find_header, is_for, in_todo, in_done, no_load, put, cleared, unchanged, Once}
+use Rattle.il_machine.specs.Buffers.{load_in}
+use Rattle.il_machine.specs.Flow.{front_put, returned, unused_spot}
+use Rattle.il_machine.specs.Stock.{Stocked, StandsFor, pushed, pulled, pulled_front, sent, sent_front}
+use Rattle.machine_laws.proofs.Replacing.{replaced_put}
+use Rattle.machine_laws.proofs.Listed.{AreIn}
+use Rattle.stock_laws.proofs.Composed.{pull_put_cleared, send_put_back}
+use Rattle.header_core.specs.BufferHeader.{BufferHeader}
+use Rattle.port_stock.specs.Conditions.{IsFrom}
+use Rattle.graph_core.specs.Moving.{AreShared, Moves}
+use Rattle.port_rules.proofs.Noticed.{IsNoted, another}
+use Rattle.port_rules.proofs.ResetSteps.{front_is, no_front, made_out, pulled_is, sent_is}
+
+-- ---- the change is one of headers alone, and leaves those in notices as they are
+
+pub put_alone : (key : PortKey) (spot : Spot) (change : HeaderRecord → HeaderRecord) (ns : List ℕ) (w : World) → front_put key spot change ns w ≡ record w { headers = (front_put key spot change ns w).headers }
+put_alone key spot change [] w = refl
+put_alone key spot change (n ∷ ns) w = refl
+
+pub returned_alone : (supplier : PortKey) (input : Bool) (done todo : List ℕ) (w : World) → returned supplier input done todo w ≡ record w { headers = (returned supplier input done todo w).headers }
+returned_alone supplier input [] todo w = put_alone supplier (unused_spot input) cleared todo w
+returned_alone supplier input (n ∷ ns) todo w = refl
+
+pub put_keeps : (key peer : PortKey) (spot : Spot) (change : HeaderRecord → HeaderRecord) (ns : List ℕ) (w : World) (m : ℕ) → ((r : HeaderRecord) → (change r).state ≡ r.state) → Once w.headers → AreIn key w.headers ns → IsNoted w.headers m
+    → find_header m (front_put peer spot change ns w).headers ≡ find_header m w.headers
+put_keeps key peer spot change [] w m keeps o A N = refl
+put_keeps key peer spot change (n ∷ ns) w m keeps o A N =
+    let I = A.0 in
+    (replaced_put peer spot change (λ r. ap (λ s. s.number) (keeps r)) n w.headers I.header o I.found).others m (another key w.headers m n N I)
+
+pub returned_keeps : (key supplier : PortKey) (input : Bool) (done todo : List ℕ) (w : World) (m : ℕ) → Once w.headers → AreIn key w.headers done → AreIn key w.headers todo → IsNoted w.headers m
+    → find_header m (returned supplier input done todo w).headers ≡ find_header m w.headers
+returned_keeps key supplier input [] todo w m o A B N = put_keeps key supplier (unused_spot input) cleared todo w m (λ r. refl) o B N
+returned_keeps key supplier input (n ∷ ns) todo w m o A B N = put_keeps key supplier TodoBack unchanged (n ∷ ns) w m (λ r. refl) o A N
+
+-- ---- nothing moves
+
+pub stays : (change : World → World) (s t : Stocked) → t ≡ s → ((w : World) → StandsFor s w.headers → change w ≡ w) → Moves change s t
+stays change s t q same = subst (λ (x : Stocked). Moves change s x) (sym q) (record {
+  stands = λ w S. subst (λ (v : World). StandsFor s v.headers) (sym (same w S)) S;
+  ports = refl;
+  next = refl;
+})
+
+pub none_sent : (s : Stocked) (key : PortKey) → s.headers.done key ≡ [] → sent key s ≡ s
+none_sent s key e = ap (λ (ns : List ℕ). sent_front key ns s) e
+
+pub none_on : (s t : Stocked) (key peer : PortKey) → t ≡ sent key s → None ≡ slice_get (s.headers.done key) 0 → Moves (λ w. front_put peer TodoBack unchanged ((seen w.headers).done key) w) s t
+none_on s t key peer q front =
+    let e : s.headers.done key ≡ [] = no_front (s.headers.done key) front in
+    stays (λ w. front_put peer TodoBack unchanged ((seen w.headers).done key) w) s t (q ∙ none_sent s key e)
+    (λ w S. ap (λ (ns : List ℕ). front_put peer TodoBack unchanged ns w) (ap (λ (x : Seen). x.done key) S.looks ∙ e))
+
+-- ---- the front of done goes to the other port as it is
+
+module _ (s : Stocked) (key peer : PortKey) (B : AreShared key peer s) (header : BufferHeader) (front : Some header.held.number ≡ slice_get (s.headers.done key) 0) (was : IsFrom (in_done key) header s) where
+  abbrev n : ℕ
+  n = header.held.number
+
+  abbrev rest : List ℕ
+  rest = drop 1 (s.headers.done key)
+
+  done_is : s.headers.done key ≡ n ∷ rest
+  done_is = front_is (s.headers.done key) n front
+
+  world_done : (w : World) → StandsFor s w.headers → (seen w.headers).done key ≡ n ∷ rest
+  world_done w S = ap (λ (x : Seen). x.done key) S.looks ∙ done_is
+
+  pub sent_for_peer : holds_at ((sent key s).headers.header n) (is_for peer) ≡ true
+  sent_for_peer = rw (sent_is s key n rest done_is) (made_out n peer (s.headers.header n) (in_done key) s.headers.header (λ h x y. B n h x (and_parts _ _ y).1) was.0)
+
+  abbrev after_sent : Stocked
+  after_sent = pushed peer TodoBack n (load_in header.held) (sent key s)
+
+  stands_sent : (w : World) → StandsFor s w.headers → StandsFor after_sent (put peer TodoBack n unchanged w.headers)
+  stands_sent w S = send_put_back s w.headers key peer TodoBack n rest (load_in header.held) S done_is was.1
+
+  sent_as : (F : List ℕ → World → World) → ((w : World) → F (n ∷ rest) w ≡ record w { headers = put peer TodoBack n unchanged w.headers }) → (t : Stocked) → t ≡ after_sent → Moves (λ w. F ((seen w.headers).done key) w) s t
+  sent_as F f t q = subst (λ (x : Stocked). Moves (λ w. F ((seen w.headers).done key) w) s x) (sym q) (record {
+    stands = λ w S. subst (λ (v : World). StandsFor after_sent v.headers) (sym (ap (λ (ns : List ℕ). F ns w) (world_done w S) ∙ f w)) (stands_sent w S);
+    ports = ap (λ (x : Stocked). x.ports) (sent_is s key n rest done_is);
+    next = ap (λ (x : Stocked). x.next) (sent_is s key n rest done_is);
+  })
+
+  pub passed_on : (t : Stocked) → t ≡ after_sent → Moves (λ w. front_put peer TodoBack unchanged ((seen w.headers).done key) w) s t
+  passed_on t q = sent_as (front_put peer TodoBack unchanged) (λ w. refl) t q
+
+  pub sent_back : (input : Bool) (t : Stocked) → t ≡ after_sent → Moves (λ w. returned peer input ((seen w.headers).done key) ((seen w.headers).todo key) w) s t
+  sent_back input t q = sent_as (λ ns w. returned peer input ns ((seen w.headers).todo key) w) (λ w. refl) t q
+
+-- ---- where done is empty the front of todo goes to the supplier, cleared
+
+module _ (s : Stocked) (key supplier : PortKey) (input : Bool) (none : s.headers.done key ≡ []) where
+  abbrev back : World → World
+  back w = returned supplier input ((seen w.headers).done key) ((seen w.headers).todo key) w
+
+  unsent : (w : World) → StandsFor s w.headers → back w ≡ front_put supplier (unused_spot input) cleared ((seen w.headers).todo key) w
+  unsent w S = ap (λ (ns : List ℕ). returned supplier input ns ((seen w.headers).todo key) w) (ap (λ (x : Seen). x.done key) S.looks ∙ none)
+
+  pub none_back : (t : Stocked) → t ≡ pulled key s → None ≡ slice_get (s.headers.todo key) 0 → Moves back s t
+  none_back t q front =
+      let e : s.headers.todo key ≡ [] = no_front (s.headers.todo key) front in
+      stays back s t (q ∙ ap (λ (ns : List ℕ). pulled_front key ns s) e)
+      (λ w S. unsent w S ∙ ap (λ (ns : List ℕ). front_put supplier (unused_spot input) cleared ns w) (ap (λ (x : Seen). x.todo key) S.looks ∙ e))
+
+  module _ (B : AreShared key supplier s) (header : BufferHeader) (front : Some header.held.number ≡ slice_get (s.headers.todo key) 0) (was : IsFrom (in_todo key) header s) where
+    abbrev m : ℕ
+    m = header.held.number
+
+    abbrev left : List ℕ
+    left = drop 1 (s.headers.todo key)
+
+    todo_is : s.headers.todo key ≡ m ∷ left
+    todo_is = front_is (s.headers.todo key) m front
+
+    pub pulled_for_supplier : holds_at ((pulled key s).headers.header m) (is_for supplier) ≡ true
+    pulled_for_supplier = rw (pulled_is s key m left todo_is) (made_out m supplier (s.headers.header m) (in_todo key) s.headers.header (λ h x y. B m h x (and_parts _ _ y).1) was.0)
+
+    abbrev after_pull : Stocked
+    after_pull = pushed supplier (unused_spot input) m no_load (pulled key s)
+
+    pushed_ports : (spot : Spot) → (pushed supplier spot m no_load (pulled key s)).ports ≡ s.ports
+    pushed_ports spot = ap (λ (x : Stocked). x.ports) (pulled_is s key m left todo_is)
+
+    pushed_next : (spot : Spot) → (pushed supplier spot m no_load (pulled key s)).next ≡ s.next
+    pushed_next spot = ap (λ (x : Stocked). x.next) (pulled_is s key m left todo_is)
+
+    pub unused_back : (t : Stocked) → t ≡ after_pull → Moves back s t
+    unused_back t q = subst (λ (x : Stocked). Moves back s x) (sym q) (record {
+      stands = λ w S.
+          let e : (seen w.headers).todo key ≡ m ∷ left = ap (λ (x : Seen). x.todo key) S.looks ∙ todo_is in
+          subst (λ (v : World). StandsFor after_pull v.headers) (sym (unsent w S ∙ ap (λ (ns : List ℕ). front_put supplier (unused_spot input) cleared ns w) e))
+          (pull_put_cleared s w.headers key supplier (unused_spot input) m left S todo_is);
+      ports = pushed_ports (unused_spot input);
+      next = pushed_next (unused_spot input);
+    })

@@ -1,0 +1,36 @@
+use Rattle.std.proofs.Common.{◌≡◌, ◌<◌, length, slice_get, Some, MatchOption, refl, sym, ◌∙◌, ap, subst}
+use Rattle.std.proofs.lemmas.Option.{slice_get-get_or}
+use Rattle.il_machine.specs.World.{port_of}
+use Rattle.il_machine.specs.Flow.{over_idle}
+use Rattle.port_stock.specs.Kept.{stocked}
+use Rattle.il_component.specs.Entries.{component_of}
+use Rattle.graph_core.specs.Entries.{Entries, component_at, components_of, look_of}
+use Rattle.graph_core.proofs.Replacing.{there, within}
+use Rattle.graph_core.proofs.Stepping.{port_kept}
+use Rattle.graph_core.proofs.core_graph.Core.over_idle.Goals as goal
+
+pub over_idle-requires : goal.over_idle-requires
+over_idle-requires g c =
+    let i = c.self.inside in
+    let e = c.index-component.result.now in
+    let p = c.in-Some.port in
+    let G : Entries (g.row.C.Denot) = record { entries = i.components.items; stock = i.stock; units = i.units; numbered = i.registry.given } in
+    let asked = rw (← c.self.view_is) at c.requires in
+    let b : c.args.place < length i.components.items = within g.C.Client.progress G c.args.place _ asked in
+    let at : slice_get i.components.items c.args.place ≡ Some e = slice_get-get_or i.components.items c.args.place e b ∙ ap Some (sym c.index-component.ensures) in
+    let here : port_of (component_of e) c.args.index ≡ Some p = sym c.port.ensures ∙ c.in-Some.is in
+    port_kept g.C.Client.progress i.components.items (stocked i.stock) i.registry.given c.args.place c.args.index e p c.self.invariant.ports at here
+
+pub returns : goal.returns
+returns g c =
+    let i = c.self.inside in
+    let e = c.index-component.result.now in
+    let p = c.in-Some.port in
+    let G : Entries (g.row.C.Denot) = record { entries = i.components.items; stock = i.stock; units = i.units; numbered = i.registry.given } in
+    let asked = rw (← c.self.view_is) at c.requires in
+    let b : c.args.place < length i.components.items = within g.C.Client.progress G c.args.place _ asked in
+    let at : slice_get i.components.items c.args.place ≡ Some e = slice_get-get_or i.components.items c.args.place e b ∙ ap Some (sym c.index-component.ensures) in
+    let here : port_of (component_of e) c.args.index ≡ Some p = sym c.port.ensures ∙ c.in-Some.is in
+    let Says : Entries (g.row.C.Denot) → Type 0 = λ x. MatchOption (component_at c.args.place x) ⊥ (λ k. MatchOption (port_of k c.args.index) ⊥ (λ q. c.over_idle.result ≡ over_idle (look_of x) k q)) in
+    let there_it_says : Says G = rw (there g.C.Client.progress G c.args.place e at, here) (c.over_idle.ensures (look_of G) refl (ap components_of (sym c.deref.ensures.value))) in
+    subst Says c.self.view_is there_it_says

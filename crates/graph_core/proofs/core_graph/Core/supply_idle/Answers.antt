@@ -1,0 +1,69 @@
+use Rattle.std.proofs.Common.{◌≡◌, ◌<◌, true, List, length, slice_get, Some, sym, ◌∙◌, ap, subst}
+use Rattle.std.proofs.lemmas.Option.{slice_get-get_or}
+use Rattle.il_machine.specs.World.{port_of}
+use Rattle.il_machine.specs.Ports.{is_supplier}
+use Rattle.port_stock.specs.Kept.{stocked}
+use Rattle.il_component.specs.Entries.{Entry, component_of}
+use Rattle.graph_core.specs.Entries.{Entries, look_of}
+use Rattle.graph_core.proofs.Replacing.{within}
+use Rattle.graph_core.proofs.Stepping.{port_kept}
+use Rattle.graph_core.proofs.Setting.{all_ports}
+use Rattle.graph_core.proofs.SupplyTests.{closed_here, closed_there, Says, said, short}
+use Rattle.graph_core.proofs.core_graph.Core.supply_idle.Goals as goal
+
+pub closed_port-closed_here-requires : goal.closed_port-closed_here-requires
+closed_port-closed_here-requires g c =
+    let i = c.self.inside in
+    let e = c.index-component.result.now in
+    let p = c.in-Some.port in
+    let G : Entries (g.row.C.Denot) = record { entries = i.components.items; stock = i.stock; units = i.units; numbered = i.registry.given } in
+    let asked = rw (← c.self.view_is) at c.requires in
+    let b : c.args.place < length i.components.items = within g.C.Client.progress G c.args.place _ asked in
+    let at : slice_get i.components.items c.args.place ≡ Some e = slice_get-get_or i.components.items c.args.place e b ∙ ap Some (sym c.index-component.ensures) in
+    let here : port_of (component_of e) c.args.index ≡ Some p = sym c.port.ensures ∙ c.in-Some.is in
+    port_kept g.C.Client.progress i.components.items (stocked i.stock) i.registry.given c.args.place c.args.index e p c.self.invariant.ports at here
+
+pub returns-then-is_some : goal.returns-then-is_some
+returns-then-is_some g c =
+    let i = c.self.inside in
+    let e = c.index-component.result.now in
+    let p = c.in-Some.port in
+    let G : Entries (g.row.C.Denot) = record { entries = i.components.items; stock = i.stock; units = i.units; numbered = i.registry.given } in
+    let asked = rw (← c.self.view_is) at c.requires in
+    let b : c.args.place < length i.components.items = within g.C.Client.progress G c.args.place _ asked in
+    let at : slice_get i.components.items c.args.place ≡ Some e = slice_get-get_or i.components.items c.args.place e b ∙ ap Some (sym c.index-component.ensures) in
+    let here : port_of (component_of e) c.args.index ≡ Some p = sym c.port.ensures ∙ c.in-Some.is in
+    let s : is_supplier p ≡ true = sym c.is_supplier.ensures ∙ c.if-not-is_supplier.false in
+    subst (Says c.closed_port-closed_here.result c.args.place c.args.index) c.self.view_is (said g.C.Client.progress G c.args.place e c.args.index p c.closed_port-closed_here.result at here (closed_here (look_of G) (component_of e) p c.closed_port-closed_here.result s c.closed_port-closed_here.ensures (sym c.is_some.ensures ∙ c.if-is_some.true)))
+
+pub closed_peer-closed_there-requires : goal.closed_peer-closed_there-requires
+closed_peer-closed_there-requires g c = λ k e at.
+    let i = c.self.inside in
+    let there : slice_get i.components.items k ≡ Some e = subst (λ (es : List (Entry (g.row.C.Denot))). slice_get es k ≡ Some e) c.deref.ensures.value at in
+    all_ports g.C.Client.progress i.components.items i.registry i.stock i.units i.components.cap k e c.self.invariant there
+
+pub returns-then-is_some-2 : goal.returns-then-is_some-2
+returns-then-is_some-2 g c =
+    let i = c.self.inside in
+    let e = c.index-component.result.now in
+    let p = c.in-Some.port in
+    let G : Entries (g.row.C.Denot) = record { entries = i.components.items; stock = i.stock; units = i.units; numbered = i.registry.given } in
+    let asked = rw (← c.self.view_is) at c.requires in
+    let b : c.args.place < length i.components.items = within g.C.Client.progress G c.args.place _ asked in
+    let at : slice_get i.components.items c.args.place ≡ Some e = slice_get-get_or i.components.items c.args.place e b ∙ ap Some (sym c.index-component.ensures) in
+    let here : port_of (component_of e) c.args.index ≡ Some p = sym c.port.ensures ∙ c.in-Some.is in
+    let s : is_supplier p ≡ true = sym c.is_supplier.ensures ∙ c.if-not-is_supplier.false in
+    subst (Says c.closed_peer-closed_there.result c.args.place c.args.index) c.self.view_is (said g.C.Client.progress G c.args.place e c.args.index p c.closed_peer-closed_there.result at here (closed_there (look_of G) (component_of e) p c.closed_port-closed_here.result c.closed_peer-closed_there.result s c.closed_port-closed_here.ensures (sym c.is_some.ensures ∙ c.if-is_some.false) (rw c.deref.ensures.value at c.closed_peer-closed_there.ensures) (sym c.is_some-2.ensures ∙ c.if-is_some-2.true)))
+
+pub returns : goal.returns
+returns g c =
+    let i = c.self.inside in
+    let e = c.index-component.result.now in
+    let p = c.in-Some.port in
+    let G : Entries (g.row.C.Denot) = record { entries = i.components.items; stock = i.stock; units = i.units; numbered = i.registry.given } in
+    let asked = rw (← c.self.view_is) at c.requires in
+    let b : c.args.place < length i.components.items = within g.C.Client.progress G c.args.place _ asked in
+    let at : slice_get i.components.items c.args.place ≡ Some e = slice_get-get_or i.components.items c.args.place e b ∙ ap Some (sym c.index-component.ensures) in
+    let here : port_of (component_of e) c.args.index ≡ Some p = sym c.port.ensures ∙ c.in-Some.is in
+    let s : is_supplier p ≡ true = sym c.is_supplier.ensures ∙ c.if-not-is_supplier.false in
+    subst (Says c.shortage.result c.args.place c.args.index) c.self.view_is (said g.C.Client.progress G c.args.place e c.args.index p c.shortage.result at here (short (look_of G) (component_of e) p c.closed_port-closed_here.result c.closed_peer-closed_there.result c.shortage.result s c.closed_port-closed_here.ensures (sym c.is_some.ensures ∙ c.if-is_some.false) (rw c.deref.ensures.value at c.closed_peer-closed_there.ensures) (sym c.is_some-2.ensures ∙ c.if-is_some-2.false) c.shortage.ensures))

@@ -1,0 +1,184 @@
+-- What each due thing makes of a component, and of the ports and headers.
+use Rattle.std.proofs.Common.{◌≡◌, inl, inr, ℕ, ◌<◌, Bool, true, false, is_some, List, [], ◌∷◌, Option, Some, None, IsSome, IsSomeAnd, MatchOption, refl, sym, ◌∙◌, ap, subst}
+use Rattle.std.proofs.lemmas.Bool.{and_parts}
+use Rattle.std.proofs.lemmas.Option.{slice_get_within}
+use Rattle.omx_types.specs.declared.command.Event.TheVariants.{CmdComplete}
+use Rattle.omx_types.specs.declared.command.Completion.TheVariants as completions
+use Rattle.il_machine.specs.declared.answer.Pending.{Pending}
+use Rattle.il_machine.specs.declared.port.Mark.{Mark}
+use Rattle.il_machine.specs.declared.port.Mode.{Mode}
+use Rattle.il_machine.specs.declared.port.Mode.TheVariants.{Steady, Enabling, Disabling}
+use Rattle.il_machine.specs.declared.port.Port.{Port}
+use Rattle.il_machine.specs.declared.port.PortKey.{PortKey}
+use Rattle.il_machine.specs.Kinds.{ports_in}
+use Rattle.il_machine.specs.Lists.{holds_at}
+use Rattle.il_machine.specs.World.{Component, ports_of, port_of, with_port, with_component}
+use Rattle.il_machine.specs.Headers.{Seen, seen}
+use Rattle.il_machine.specs.Ports.{is_steady}
+use Rattle.il_machine.specs.Stock.{Stocked, StandsFor}
+use Rattle.il_machine.specs.Sound.{IsSound}
+use Rattle.il_machine.specs.Due.{Transition, Flush, PortMode, WaitingMark, due_in, is_due_to, arrived, transition_happened, flush_happened, mode_happened, mark_happened, mode_completion, all_told, first_marked, reset_port, reset_on, at_port}
+use Rattle.stock_laws.specs.Changes.{front_marked, marked_first}
+use Rattle.stock_laws.proofs.Clearing.{mark_stands}
+use Rattle.machine_laws.proofs.Change.{IsChange}
+use Rattle.machine_laws.proofs.Lookups.{port_parts}
+use Rattle.machine_laws.proofs.Arriving.{sound_arrived, change_arrived, state_there, sound_let_go, change_let_go, flushed_places, steady_places, marked_places}
+use Rattle.machine_laws.proofs.Happening.{due_where, due_changes}
+use Rattle.il_component.specs.PortChanges.{flush_ended, mode_ended, mark_ended}
+use Rattle.port_rules.specs.Leading.{AreOwn, Leads}
+use Rattle.port_rules.specs.Happened.{Happened, IsSettled}
+use Rattle.port_rules.proofs.ResetSteps.{unchanged}
+use Rattle.port_rules.proofs.Noticed.{keeps_reset_port, keeps_reset_on, keeps_marked}
+
+module _ {A : Type 0} where
+  pub some_there : (o : Option A) (P : A → Type 0) → IsSomeAnd o P → (x : A) × (o ≡ Some x) × P x
+  some_there None P h = absurd h
+  some_there (Some x) P h = (x, refl, h)
+
+  pub of_match : (o : Option A) (P : A → Type 0) (x : A) → o ≡ Some x → MatchOption o ⊥ P → P x
+  of_match o P x e h = subst (λ (y : Option A). MatchOption y ⊥ P) e h
+
+  pub to_match : (o : Option A) (P : A → Type 0) (x : A) → o ≡ Some x → P x → MatchOption o ⊥ P
+  to_match o P x e h = subst (λ (y : Option A). MatchOption y ⊥ P) (sym e) h
+
+  pub of_some : (o : Option A) (P : A → Type 0) (x : A) → o ≡ Some x → IsSomeAnd o P → P x
+  of_some o P x e h = subst (λ (y : Option A). IsSomeAnd y P) e h
+
+  to_some : (o : Option A) (P : A → Type 0) (x : A) → o ≡ Some x → P x → IsSomeAnd o P
+  to_some o P x e h = subst (λ (y : Option A). IsSomeAnd y P) (sym e) h
+
+pub index_within : (c : Component) (s : Stocked) (n : ℕ) (p : Port) → IsSettled c s → port_of c n ≡ Some p → n < ports_in c.settings.kind
+index_within c s n p I e = subst (λ (k : ℕ). n < k) (I.ports).many (slice_get_within (ports_of c) n p e)
+
+-- ---- the transition
+
+pub transition_happens : (c d : Component) (s t : Stocked) (p : Pending) → IsSettled c s → c.pending ≡ Some p → d ≡ arrived p c → Leads (reset_on c p.target) s t → Happened Transition c d s t
+transition_happens c d s t p I e q L = record {
+  change = reset_on c p.target;
+  after = λ i w. ap (λ (o : Option Pending). transition_happened i c o w) e ∙ ap (λ (x : Component). record (with_component i x w) { headers = reset_on c p.target w.headers }) (sym q);
+  stock = L;
+  notices = keeps_reset_on c p.target;
+  component = subst (IsChange c) (sym q) (change_arrived p c);
+  sound = subst IsSound (sym q) (sound_arrived p c I.sound e);
+}
+
+-- ---- a flush
+
+pub flush_sound : (c : Component) (n : ℕ) (p : Port) → IsSound c → port_of c n ≡ Some p → p.state.flushing ≡ true → IsSound (flush_ended p c)
+flush_sound c n p S e f = sound_let_go (CmdComplete (completions.Flush p.key.port)) p.key.port (record p.state { flushing = false }) p.state c S (state_there c n p e) (flushed_places p.state f)
+
+pub flush_happens : (c d : Component) (s t : Stocked) (n : ℕ) (p : Port) → IsSettled c s → port_of c n ≡ Some p → p.state.flushing ≡ true → d ≡ flush_ended p c → Leads (reset_port p) s t → Happened (Flush n) c d s t
+flush_happens c d s t n p I e f q L = record {
+  change = reset_port p;
+  after = λ i w. ap (λ (o : Option Port). at_port o (flush_happened i c) w) e ∙ ap (λ (x : Component). record (with_component i x w) { headers = reset_port p w.headers }) (sym q);
+  stock = L;
+  notices = keeps_reset_port p;
+  component = subst (IsChange c) (sym q) (change_let_go (CmdComplete (completions.Flush p.key.port)) p.key.port (record p.state { flushing = false }) p.state c (state_there c n p e) refl);
+  sound = subst IsSound (sym q) (flush_sound c n p I.sound e f);
+}
+
+-- ---- a disable or an enable
+
+mode_parts : (c : Component) (n : ℕ) (p : Port) (m : Mode) → IsSound c → port_of c n ≡ Some p → p.state.mode ≡ m → is_steady m ≡ false
+    → IsSound (all_told (mode_completion m p.key.port) (with_port p.key.port (record p.state { mode = Steady }) c)) × IsChange c (all_told (mode_completion m p.key.port) (with_port p.key.port (record p.state { mode = Steady }) c))
+mode_parts c n p Steady S e q z = absurd cc
+mode_parts c n p Enabling S e q z =
+    let at = state_there c n p e in
+    let y : is_steady p.state.mode ≡ false = rw q refl in (
+      sound_let_go (CmdComplete (completions.Enable p.key.port)) p.key.port (record p.state { mode = Steady }) p.state c S at (steady_places p.state y),
+      change_let_go (CmdComplete (completions.Enable p.key.port)) p.key.port (record p.state { mode = Steady }) p.state c at refl,
+    )
+mode_parts c n p Disabling S e q z =
+    let at = state_there c n p e in
+    let y : is_steady p.state.mode ≡ false = rw q refl in (
+      sound_let_go (CmdComplete (completions.Disable p.key.port)) p.key.port (record p.state { mode = Steady }) p.state c S at (steady_places p.state y),
+      change_let_go (CmdComplete (completions.Disable p.key.port)) p.key.port (record p.state { mode = Steady }) p.state c at refl,
+    )
+
+pub mode_sound : (c : Component) (n : ℕ) (p : Port) → IsSound c → port_of c n ≡ Some p → is_steady p.state.mode ≡ false → IsSound (mode_ended p c)
+mode_sound c n p S e z = (mode_parts c n p p.state.mode S e refl z).0
+
+pub mode_happens : (c d : Component) (s : Stocked) (n : ℕ) (p : Port) → IsSettled c s → port_of c n ≡ Some p → is_steady p.state.mode ≡ false → d ≡ mode_ended p c → Happened (PortMode n) c d s s
+mode_happens c d s n p I e z q = record {
+  change = λ hs. hs;
+  after = λ i w. ap (λ (o : Option Port). at_port o (mode_happened i c) w) e ∙ ap (λ (x : Component). with_component i x w) (sym q);
+  stock = unchanged s I.own;
+  notices = λ hs m r o f y. refl;
+  component = subst (IsChange c) (sym q) (mode_parts c n p p.state.mode I.sound e refl z).1;
+  sound = subst IsSound (sym q) (mode_sound c n p I.sound e z);
+}
+
+-- ---- a mark
+
+front_ports : (key : PortKey) (mark : Mark) (ns : List ℕ) (s : Stocked) → (front_marked key mark ns s).ports ≡ s.ports
+front_ports key mark [] s = refl
+front_ports key mark (n ∷ ns) s = refl
+
+front_next : (key : PortKey) (mark : Mark) (ns : List ℕ) (s : Stocked) → (front_marked key mark ns s).next ≡ s.next
+front_next key mark [] s = refl
+front_next key mark (n ∷ ns) s = refl
+
+front_own : (key : PortKey) (mark : Mark) (ns : List ℕ) (s : Stocked) → AreOwn s → AreOwn (front_marked key mark ns s)
+front_own key mark [] s A = A
+front_own key mark (n ∷ ns) s A = A
+
+marked_leads : (s t : Stocked) (key : PortKey) (mark : Mark) → AreOwn s → t ≡ marked_first key mark s → Leads (λ hs. first_marked ((seen hs).unmarked key) (Some mark) hs) s t
+marked_leads s t key mark A q = subst (Leads (λ hs. first_marked ((seen hs).unmarked key) (Some mark) hs) s) (sym q) (record {
+  stands = λ hs S. subst (StandsFor (marked_first key mark s)) (ap (λ (v : Seen). first_marked (v.unmarked key) (Some mark) hs) (sym S.looks)) (mark_stands s hs key mark S);
+  ports = front_ports key mark (s.headers.unmarked key) s;
+  next = front_next key mark (s.headers.unmarked key) s;
+  own = front_own key mark (s.headers.unmarked key) s A;
+})
+
+pub mark_sound : (c : Component) (n : ℕ) (p : Port) → IsSound c → port_of c n ≡ Some p → is_some p.state.waiting_mark ≡ true → IsSound (mark_ended p c)
+mark_sound c n p S e m = sound_let_go (CmdComplete (completions.Mark p.key.port)) p.key.port (record p.state { waiting_mark = None }) p.state c S (state_there c n p e) (marked_places p.state m)
+
+pub mark_happens : (c d : Component) (s t : Stocked) (n : ℕ) (p : Port) (mark : Mark) → IsSettled c s → port_of c n ≡ Some p → p.state.waiting_mark ≡ Some mark → d ≡ mark_ended p c → t ≡ marked_first p.key mark s → Happened (WaitingMark n) c d s t
+mark_happens c d s t n p mark I e m q r =
+    let y : is_some p.state.waiting_mark ≡ true = rw m refl in
+    record {
+      change = λ hs. first_marked ((seen hs).unmarked p.key) (Some mark) hs;
+      after = λ i w. ap (λ (o : Option Port). at_port o (mark_happened i c) w) e
+          ∙ (ap (λ (o : Option Mark). record (with_component i (mark_ended p c) w) { headers = first_marked ((seen w.headers).unmarked p.key) o w.headers }) m
+          ∙ ap (λ (x : Component). record (with_component i x w) { headers = first_marked ((seen w.headers).unmarked p.key) (Some mark) w.headers }) (sym q));
+      stock = marked_leads s t p.key mark I.own r;
+      notices = keeps_marked p.key mark;
+      component = subst (IsChange c) (sym q) (change_let_go (CmdComplete (completions.Mark p.key.port)) p.key.port (record p.state { waiting_mark = None }) p.state c (state_there c n p e) refl);
+      sound = subst IsSound (sym q) (mark_sound c n p I.sound e y);
+    }
+
+-- ---- what is due
+
+pending_there : (o : Option Pending) (test : Pending → Bool) → holds_at o test ≡ true → IsSome o
+pending_there None test h = absurd cc
+pending_there (Some p) test h = refl
+
+pub due_transition : (headers : Seen) (c : Component) → due_in headers c ≡ Some Transition → IsSome c.pending
+due_transition headers c h = elim (due_where headers c Transition h) [
+  | inl a ↦ pending_there c.pending (λ p. is_due_to headers c p.target) a.1
+  | inr d ↦ absurd d.due
+]
+
+pub due_flush : (headers : Seen) (c : Component) (n : ℕ) → due_in headers c ≡ Some (Flush n) → IsSomeAnd (port_of c n) (λ p. p.state.flushing ≡ true)
+due_flush headers c n h = elim (due_where headers c (Flush n) h) [
+  | inl a ↦ absurd (let b = a.0 in cc)
+  | inr d ↦
+      let k : d.place ≡ n = sym (d.due.0 ∙ ap (λ (x : PortKey). x.port) (port_parts c d.place d.port d.there).key) in
+      to_some (port_of c n) (λ p. p.state.flushing ≡ true) d.port (ap (port_of c) (sym k) ∙ d.there) (and_parts d.port.state.flushing _ d.due.1).0
+]
+
+pub due_mode : (headers : Seen) (c : Component) (n : ℕ) → due_in headers c ≡ Some (PortMode n) → IsSomeAnd (port_of c n) (λ p. is_steady p.state.mode ≡ false)
+due_mode headers c n h = elim (due_where headers c (PortMode n) h) [
+  | inl a ↦ absurd (let b = a.0 in cc)
+  | inr d ↦
+      let k : d.place ≡ n = sym (d.due.0 ∙ ap (λ (x : PortKey). x.port) (port_parts c d.place d.port d.there).key) in
+      to_some (port_of c n) (λ p. is_steady p.state.mode ≡ false) d.port (ap (port_of c) (sym k) ∙ d.there) (due_changes headers c d.port d.port.state.mode d.due.1)
+]
+
+pub due_mark : (headers : Seen) (c : Component) (n : ℕ) → due_in headers c ≡ Some (WaitingMark n) → IsSomeAnd (port_of c n) (λ p. is_some p.state.waiting_mark ≡ true)
+due_mark headers c n h = elim (due_where headers c (WaitingMark n) h) [
+  | inl a ↦ absurd (let b = a.0 in cc)
+  | inr d ↦
+      let k : d.place ≡ n = sym (d.due.0 ∙ ap (λ (x : PortKey). x.port) (port_parts c d.place d.port d.there).key) in
+      to_some (port_of c n) (λ p. is_some p.state.waiting_mark ≡ true) d.port (ap (port_of c) (sym k) ∙ d.there) (and_parts (is_some d.port.state.waiting_mark) _ d.due.1).0
+]

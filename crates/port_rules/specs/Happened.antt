@@ -1,0 +1,30 @@
+-- What one due thing makes of a component, and of the ports and headers.
+use Rattle.std.specs.Prelude.{◌≡◌, ℕ, true, List, Some}
+use Rattle.il_machine.specs.World.{Component, HeaderRecord, World, with_component}
+use Rattle.il_machine.specs.Headers.{find_header, is_notice, Once}
+use Rattle.il_machine.specs.Due.{Thing, happened}
+use Rattle.il_machine.specs.Sound.{IsSound}
+use Rattle.il_machine.specs.Stock.{Stocked}
+use Rattle.machine_laws.proofs.Change.{IsChange}
+use Rattle.port_rules.specs.Leading.{AreOwn, Leads}
+use Rattle.port_rules.specs.Tests.{HasAllPorts}
+
+-- the change leaves headers in notices as they are
+abbrev pub KeepsNotices : (List HeaderRecord → List HeaderRecord) → Type 0
+KeepsNotices change = (headers : List HeaderRecord) (number : ℕ) (r : HeaderRecord) → Once headers → find_header number headers ≡ Some r → is_notice r.state.owner ≡ true
+    → find_header number (change headers) ≡ find_header number headers
+
+-- The thing made the component d of c, and the stock t of s.
+pub record Happened (thing : Thing) (c d : Component) (s t : Stocked) : Type 0 where
+  pub change : List HeaderRecord → List HeaderRecord
+  pub after : (place : ℕ) (w : World) → happened place c thing w ≡ record (with_component place d w) { headers = change w.headers }
+  pub stock : Leads change s t
+  pub notices : KeepsNotices change
+  pub component : IsChange c d
+  pub sound : IsSound d
+
+-- the component is sound, its ports are the stock's, and each header that a port has was made for it
+pub record IsSettled (c : Component) (s : Stocked) : Type 0 where
+  pub sound : IsSound c
+  pub ports : HasAllPorts c s
+  pub own : AreOwn s

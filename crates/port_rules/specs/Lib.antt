@@ -1,0 +1,5 @@
+pub mod Tests
+pub mod Leading
+pub mod Happened
+pub mod Joining
+pub mod Looking
