@@ -7,7 +7,10 @@ pub mod Pairs
 pub mod Streaming
 pub mod Looking
 pub mod Calling
+pub mod Clients
 pub mod Handing
 pub mod Naming
 pub mod Taking
 pub mod Tunnelling
+pub mod Acting
+pub mod HandedIn

@@ -16,6 +16,7 @@ use Rattle.il_machine.specs.Notes.{Taken, Took as Answer, TakenEmpty, TakenFille
 use Rattle.il_machine.specs.Whole.{Steps, StepsWhere}
 use Rattle.machine_laws.proofs.Closing.{closed_closes}
 use Rattle.whole_laws.proofs.Answering.{resolved}
+use Rattle.header_core.specs.BufferHeader.{BufferHeader, is_clients}
 use Rattle.note_queues.specs.declared.taken.Taken.{Taken as Given}
 use Rattle.note_queues.specs.declared.taken.Taken.TheVariants.{Told, EmptyDone, FillDone}
 use Rattle.note_queues.specs.declared.taken.Took.{Took}
@@ -23,8 +24,8 @@ use Rattle.note_queues.specs.declared.taken.Took.TheVariants as tooks
 use Rattle.note_queues.specs.Queues.{taken_of, took_of}
 use Rattle.graph_core.specs.Entries.{Entries, look_of, kept, component_at, entry_place}
 use Rattle.graph_core.specs.Changes.{Takes, TakesNote}
+use Rattle.graph_core.specs.Clients.{IsOut, WasTold}
 use Rattle.graph_core.proofs.Replacing.{entry_place_is}
-use Rattle.il_graph.specs.Stood.{IsOut, WasTold}
 use Rattle.il_graph.proofs.Calling.{Found}
 
 mapped : {A : Type 0} (P Q : A → Type 0) (o : Option A) → ((x : A) → P x → Q x) → MatchOption o ⊥ P → MatchOption o ⊥ Q
@@ -40,10 +41,14 @@ header_taken w x v i c note number h taken a e z =
     mapped (λ r. held r ≡ h) (Answered (Ok (TookNote (taken h))) w v i c note number taken) (find_header number w.headers)
     (λ r s. (ap (λ (k : Held). Ok (TookNote (taken k))) (sym s), subst (λ (y : World). ClosesTo y v) e z)) a
 
+-- the header in the note, without its memory
+header_there : (w : World) (header : BufferHeader) → AtHeader header.held.number w (λ r. (held r ≡ header.held) × (r.state.client_memory ≡ is_clients header.store)) → AtHeader header.held.number w (λ r. held r ≡ header.held)
+header_there w header a = mapped (λ r. (held r ≡ header.held) × (r.state.client_memory ≡ is_clients header.store)) (λ r. held r ≡ header.held) (find_header header.held.number w.headers) (λ r s. s.0) a
+
 note_taken : (w x v : World) (i : ℕ) (c : Component) (taken : Given) → c.client_out ≡ false → TakesNote w i c taken x → ClosesTo x v → TakeFrom w i c c.client_out (slice_get c.notes 0) (Ok (TookNote (taken_of taken))) v
 note_taken w x v i c (Told event) o (n, e) z = rw (o, n) (refl, subst (λ (y : World). ClosesTo y v) e z)
-note_taken w x v i c (EmptyDone header) o (n, a, e) z = rw (o, n) (header_taken w x v i c (notes.EmptyDone header.held.number) header.held.number header.held TakenEmpty a e z)
-note_taken w x v i c (FillDone header) o (n, a, e) z = rw (o, n) (header_taken w x v i c (notes.FillDone header.held.number) header.held.number header.held TakenFilled a e z)
+note_taken w x v i c (EmptyDone header) o (n, a, e) z = rw (o, n) (header_taken w x v i c (notes.EmptyDone header.held.number) header.held.number header.held TakenEmpty (header_there w header a) e z)
+note_taken w x v i c (FillDone header) o (n, a, e) z = rw (o, n) (header_taken w x v i c (notes.FillDone header.held.number) header.held.number header.held TakenFilled (header_there w header a) e z)
 
 ends_some : (w v : World) (h : Handle) (i : ℕ) (c : Component) → place_of h w.components ≡ Some i → slice_get w.components i ≡ Some c → ClosesTo (with_component i (back_in c) w) v → EndNote w h v
 ends_some w v h i c e f z = rw (e, f) z

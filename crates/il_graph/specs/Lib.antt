@@ -6,3 +6,4 @@ pub mod SinkSteps
 pub mod SourceSteps
 pub mod Stood
 pub mod Streams
+pub mod HandedIn

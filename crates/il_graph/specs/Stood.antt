@@ -1,14 +1,10 @@
 -- The worlds that a graph stands for, and what its clauses say of a result that hands something back.
-use Rattle.std.specs.Prelude.{◌≡◌, ℕ, Bool, true, List, None, Some, Option, is_some, Result, Ok, Err, IsSomeAnd, MatchOption}
+use Rattle.std.specs.Prelude.{◌≡◌, ℕ, Bool, List, None, Some, Option, is_some, Result, Ok, Err}
 use Rattle.il_machine.specs.Buffers.{Held}
 use Rattle.il_machine.specs.Due.{first_due}
 use Rattle.il_machine.specs.Notes.{Took}
-use Rattle.il_machine.specs.declared.answer.Progress.{Progress}
-use Rattle.il_machine.specs.World.{World}
-use Rattle.il_machine.specs.Look.{Look}
-use Rattle.il_machine.specs.Answers.{component_named}
-use Rattle.il_machine.specs.Components.{progress_of}
-use Rattle.omx_types.specs.declared.handle.Handle.{Handle}
+use Rattle.il_machine.specs.declared.answer.Acted.{Acted}
+use Rattle.il_machine.specs.declared.answer.Acted.TheVariants.{Did, Idle}
 use Rattle.header_core.specs.declared.memory.Store.{Store}
 use Rattle.header_core.specs.declared.memory.Store.TheVariants.{Own, Block}
 use Rattle.header_core.specs.BufferHeader.{BufferHeader}
@@ -41,6 +37,12 @@ abbrev pub own_memory : Store → Option (List ℕ)
 own_memory (Own bytes) = Some bytes
 own_memory (Block bytes) = None
 
+-- the act was answered Idle
+abbrev pub OnIdle : {E : Type 0} → Result Acted E → Type 0 → Type 0
+OnIdle (Ok (Idle why)) P = P
+OnIdle (Ok Did) P = Unit {0}
+OnIdle (Err e) P = Unit {0}
+
 -- between two calls nothing pending is due
 abbrev pub IsSettled : {C : Type 0} → Entries C → Type 0
 IsSettled g = first_due (look_of g) ≡ None
@@ -49,11 +51,3 @@ IsSettled g = first_due (look_of g) ≡ None
 abbrev pub tookly : {C E : Type 0} → Result (Given C) E → Result Took E
 tookly (Ok took) = Ok (took_of took)
 tookly (Err e) = Err e
-
--- the client object of the component is out
-abbrev pub IsOut : Handle → Look → Type 0
-IsOut h l = IsSomeAnd (component_named h l.components) (λ c. c.client_out ≡ true)
-
--- a client object of this progress was told all events that were given for the component
-abbrev pub WasTold : Handle → Progress → World → Type 0
-WasTold h told w = MatchOption (component_named h w.components) ⊥ (λ c. told ≡ progress_of c w)

@@ -1,8 +1,11 @@
 mod buffers;
 mod commands;
+mod handing;
 mod handles;
+mod laws;
 mod noting;
 mod parameters;
+mod supplying;
 mod tunnels;
 
 ghost use Rattle.std.specs.Prelude.{◌≡◌, None, IfOk};

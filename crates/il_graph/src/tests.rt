@@ -1,9 +1,10 @@
 use crate::Graph;
-use il_machine::Acted;
-use note_queues::ProgressClient;
+use header_core::Store;
+use il_machine::{Acted, Progress};
+use note_queues::{Call, Client, ProgressClient, Taken, Took};
 use omx_types::{
-    CallError, Command, Format, Handle, OmxError, Param, ParamKey, PortDefinition, PortSel, State,
-    Version,
+    CallError, Command, Completion, Event, Format, Handle, OmxError, Param, ParamKey,
+    PortDefinition, PortSel, State, Version,
 };
 use std::alloc::Global;
 use std::process::Abort;
@@ -31,6 +32,28 @@ fn refused(rt: &impl Abort, alloc: Global, graph: &mut Plain, name: &str) -> Cal
         Ok(_) => panic!(rt; "a component is made"),
         Err((error, _)) => error,
     }
+}
+
+/// The event of the component's oldest note, which its client object was told. That is in again.
+fn told(rt: &impl Abort, graph: &mut Plain, h: Handle) -> Option<Event> {
+    let call = match graph.take_note(h) {
+        Ok(Took::Call(call)) => call,
+        Ok(Took::None) => return None,
+        Ok(Took::Busy) | Err(_) => panic!(rt; "no client object"),
+    };
+    let Call { mut client, taken } = call;
+    let event = match taken {
+        Taken::Told(event) => event,
+        Taken::EmptyDone(header) | Taken::FillDone(header) => {
+            match header.into_store() {
+                Store::Own(_) | Store::Block(_) => panic!(rt; "a header"),
+            }
+        }
+    };
+    client.told(event);
+    graph.law_of_worlds();
+    graph.end_note(h, client);
+    Some(event)
 }
 
 #[test]
@@ -135,6 +158,34 @@ fn idle_without_ports(rt: HostRuntime) -> Result<(), Fail> {
     assert_eq!(rt; graph.get_state(gain), Ok(State::Loaded));
     assert_eq!(rt; graph.run_command(gain), Ok(Acted::Did));
     assert_eq!(rt; graph.get_state(gain), Ok(State::Idle));
+    graph.close();
+    Ok(())
+}
+
+/// The client object goes out with each note, and comes back.
+#[test]
+fn notes_told(rt: HostRuntime) -> Result<(), Fail> {
+    let mut graph = Plain::new(rt.alloc(), 8)?;
+    let gain = made(&rt, rt.alloc(), &mut graph, "OMX.lab.gain");
+    let disable = Command::PortDisable(PortSel::All);
+    assert_eq!(rt; graph.send_command(gain, disable), Ok(()));
+    assert_eq!(rt; told(&rt, &mut graph, gain), None);
+    assert_eq!(rt; graph.run_command(gain), Ok(Acted::Did));
+    for port in 0..2 {
+        let disabled = Event::CmdComplete(Completion::Disable(port));
+        assert_eq!(rt; told(&rt, &mut graph, gain), Some(disabled));
+    }
+    let idle = Command::StateSet(State::Idle);
+    assert_eq!(rt; graph.send_command(gain, idle), Ok(()));
+    assert_eq!(rt; graph.run_command(gain), Ok(Acted::Did));
+    let reached = Event::CmdComplete(Completion::State(State::Idle));
+    assert_eq!(rt; told(&rt, &mut graph, gain), Some(reached));
+    let progress = Progress {
+        state: Some(State::Idle),
+        eos: false,
+        error: None,
+    };
+    assert_eq!(rt; graph.progress(gain), Ok(Some(progress)));
     graph.close();
     Ok(())
 }

@@ -8,6 +8,8 @@ ghost use Rattle.header_core.specs.declared.memory.Store.TheVariants.{Own};
 ghost use Rattle.header_core.specs.BufferHeader.{is_clients};
 ghost use Rattle.graph_core.specs.Entries.{kept, look_of};
 ghost use Rattle.graph_core.specs.Changes.{IsHandedIn};
+ghost use Rattle.graph_core.specs.Clients.{KeepsAllClients};
+ghost use Rattle.il_graph.specs.HandedIn.{KeepsHandedIn, KeepsOthersHandedIn, IsHandedOut};
 ghost use Rattle.il_graph.specs.Stood.{plainly, heldly, memory_back, own_memory};
 
 use crate::graph::Graph;
@@ -17,7 +19,7 @@ use omx_types::{CallError, Handle, OmxError};
 use std::alloc::{AllocError, Global};
 
 /// A block of so many bytes.
-fn block(alloc: Global, size: u32) -> Result<Vec<u8>, AllocError>
+pub fn block(alloc: Global, size: u32) -> Result<Vec<u8>, AllocError>
     ensures { IfOk result (λ bytes. length bytes.items ≡ size) }
 {
     vec![in alloc; 0; size as usize]
@@ -42,9 +44,13 @@ impl<C: Client> Graph<C> {
         port: u32,
     ) -> Result<Header, CallError>
         ensures step { Steps (kept C.progress self.old) (kept C.progress self.new) (λ w v. AllocateBuffer w h port (heldly result) v) }
+        ensures held { KeepsHandedIn (look_of self.old) (look_of self.new) }
+        ensures handed { IfOk result (λ header. IsHandedOut (look_of self.old) (look_of self.new) header) }
         ensures memory { IfOk result (λ header. is_clients header.store ≡ false) }
         ensures unchanged { OnErr result (self.new ≡ self.old) }
+        ensures clients { KeepsAllClients self.old self.new }
     {
+        self.core.law_of_worlds();
         let Some(place) = self.core.place_of(h) else {
             return Err(CallError::Omx(OmxError::InvalidComponent));
         };
@@ -70,10 +76,14 @@ impl<C: Client> Graph<C> {
         bytes: Vec<u8>,
     ) -> Result<Header, (OmxError, Vec<u8>)>
         ensures step { Steps (kept C.progress self.old) (kept C.progress self.new) (λ w v. UseBuffer w h port bytes.items (heldly (plainly result)) v) }
+        ensures held { KeepsHandedIn (look_of self.old) (look_of self.new) }
+        ensures handed { IfOk result (λ header. IsHandedOut (look_of self.old) (look_of self.new) header) }
         ensures memory { IfOk result (λ header. header.store ≡ Own bytes.items) }
         ensures handed_back { IfErr result (λ e. e.1 ≡ bytes) }
         ensures unchanged { OnErr result (self.new ≡ self.old) }
+        ensures clients { KeepsAllClients self.old self.new }
     {
+        self.core.law_of_worlds();
         let Some(place) = self.core.place_of(h) else {
             return Err((OmxError::InvalidComponent, bytes));
         };
@@ -96,10 +106,13 @@ impl<C: Client> Graph<C> {
     ) -> Result<Option<Vec<u8>>, (OmxError, Header)>
         requires handed { IsHandedIn header (look_of self.old) }
         ensures step { Steps (kept C.progress self.old) (kept C.progress self.new) (λ w v. FreeBuffer w h port header.held.number (memory_back (plainly result)) v) }
+        ensures held { KeepsOthersHandedIn header (look_of self.old) (look_of self.new) }
         ensures memory { IfOk result (λ bytes. option_map (λ b. b.items) bytes ≡ own_memory header.store) }
         ensures handed_back { IfErr result (λ e. e.1 ≡ header) }
         ensures unchanged { OnErr result (self.new ≡ self.old) }
+        ensures clients { KeepsAllClients self.old self.new }
     {
+        self.core.law_of_worlds();
         let Some(place) = self.core.place_of(h) else {
             return Err((OmxError::InvalidComponent, header));
         };
@@ -120,9 +133,12 @@ impl<C: Client> Graph<C> {
     ) -> Result<(), (OmxError, Header)>
         requires handed { IsHandedIn header (look_of self.old) }
         ensures step { Steps (kept C.progress self.old) (kept C.progress self.new) (λ w v. EmptyThisBuffer w h port header.held (plainly result) v) }
+        ensures held { KeepsOthersHandedIn header (look_of self.old) (look_of self.new) }
         ensures handed_back { IfErr result (λ e. e.1 ≡ header) }
         ensures unchanged { OnErr result (self.new ≡ self.old) }
+        ensures clients { KeepsAllClients self.old self.new }
     {
+        self.core.law_of_worlds();
         let Some(place) = self.core.place_of(h) else {
             return Err((OmxError::InvalidComponent, header));
         };
@@ -143,9 +159,12 @@ impl<C: Client> Graph<C> {
     ) -> Result<(), (OmxError, Header)>
         requires handed { IsHandedIn header (look_of self.old) }
         ensures step { Steps (kept C.progress self.old) (kept C.progress self.new) (λ w v. FillThisBuffer w h port header.held (plainly result) v) }
+        ensures held { KeepsOthersHandedIn header (look_of self.old) (look_of self.new) }
         ensures handed_back { IfErr result (λ e. e.1 ≡ header) }
         ensures unchanged { OnErr result (self.new ≡ self.old) }
+        ensures clients { KeepsAllClients self.old self.new }
     {
+        self.core.law_of_worlds();
         let Some(place) = self.core.place_of(h) else {
             return Err((OmxError::InvalidComponent, header));
         };

@@ -3,7 +3,9 @@
 ghost use Rattle.std.specs.Prelude.{◌≡◌, OnErr};
 ghost use Rattle.il_machine.specs.Commands.{SendCommand, RunCommand};
 ghost use Rattle.il_machine.specs.Whole.{Steps};
-ghost use Rattle.graph_core.specs.Entries.{kept};
+ghost use Rattle.graph_core.specs.Entries.{kept, look_of};
+ghost use Rattle.graph_core.specs.Clients.{KeepsAllClients};
+ghost use Rattle.il_graph.specs.HandedIn.{KeepsHandedIn};
 
 use crate::graph::Graph;
 use il_machine::{Acted, Why};
@@ -14,8 +16,11 @@ impl<C: Client> Graph<C> {
     /// Queues a command. StateSet(Invalid) is carried out at once.
     pub fn send_command(&mut self, h: Handle, command: Command) -> Result<(), OmxError>
         ensures step { Steps (kept C.progress self.old) (kept C.progress self.new) (λ w v. SendCommand w h command result v) }
+        ensures held { KeepsHandedIn (look_of self.old) (look_of self.new) }
         ensures unchanged { OnErr result (self.new ≡ self.old) }
+        ensures clients { KeepsAllClients self.old self.new }
     {
+        self.core.law_of_worlds();
         let Some(place) = self.core.place_of(h) else {
             return Err(OmxError::InvalidComponent);
         };
@@ -30,8 +35,11 @@ impl<C: Client> Graph<C> {
     /// Carries out the component's first command.
     pub fn run_command(&mut self, h: Handle) -> Result<Acted, OmxError>
         ensures step { Steps (kept C.progress self.old) (kept C.progress self.new) (λ w v. RunCommand w h result v) }
+        ensures held { KeepsHandedIn (look_of self.old) (look_of self.new) }
         ensures unchanged { OnErr result (self.new ≡ self.old) }
+        ensures clients { KeepsAllClients self.old self.new }
     {
+        self.core.law_of_worlds();
         let Some(place) = self.core.place_of(h) else {
             return Err(OmxError::InvalidComponent);
         };

@@ -1,10 +1,11 @@
 //! Components are made and freed (OpenMAX IL 1.1.2, `OMX_GetHandle`, `OMX_FreeHandle`).
 
-ghost use Rattle.std.specs.Prelude.{◌≡◌, Some, IfOk, IfErr, OnErr};
-ghost use Rattle.omx_types.specs.declared.handle.Handle.{Handle as Named};
+ghost use Rattle.std.specs.Prelude.{◌≡◌, Some, None, IfOk, IfErr, OnOk, OnErr};
 ghost use Rattle.il_machine.specs.Components.{GetHandle, FreeHandle, no_progress};
 ghost use Rattle.il_machine.specs.Whole.{Steps};
-ghost use Rattle.graph_core.specs.Entries.{kept, client_of};
+ghost use Rattle.graph_core.specs.Entries.{kept, client_named, client_of, look_of};
+ghost use Rattle.graph_core.specs.Clients.{KeepsClients, KeepsAllClients};
+ghost use Rattle.il_graph.specs.HandedIn.{KeepsHandedIn};
 ghost use Rattle.il_graph.specs.Stood.{plainly, wordless};
 
 use crate::graph::Graph;
@@ -22,9 +23,14 @@ impl<C: Client> Graph<C> {
     ) -> Result<Handle, (CallError, C)>
         requires { C.progress client ≡ no_progress }
         ensures step { Steps (kept C.progress self.old) (kept C.progress self.new) (λ w v. GetHandle w name.now (plainly result) v) }
+        ensures client { IfOk result (λ h. client_of h self.new ≡ Some client) }
+        ensures clients { IfOk result (λ h. KeepsClients h self.old self.new) }
+        ensures held { KeepsHandedIn (look_of self.old) (look_of self.new) }
         ensures handed_back { IfErr result (λ e. e.1 ≡ client) }
         ensures unchanged { OnErr result (kept C.progress self.new ≡ kept C.progress self.old) }
+        ensures clients_unchanged { OnErr result (KeepsAllClients self.old self.new) }
     {
+        self.core.law_of_worlds();
         let kind = match registry::find(name) {
             Ok(kind) => kind,
             Err(error) => return Err((CallError::Omx(error), client)),
@@ -43,9 +49,13 @@ impl<C: Client> Graph<C> {
     /// Frees a component, and answers its client object.
     pub fn free_handle(&mut self, h: Handle) -> Result<C, OmxError>
         ensures step { Steps (kept C.progress self.old) (kept C.progress self.new) (λ w v. FreeHandle w h (wordless result) v) }
+        ensures held { KeepsHandedIn (look_of self.old) (look_of self.new) }
         ensures client { IfOk result (λ client. client_of h self.old ≡ Some client) }
+        ensures gone { OnOk result (client_named h self.new ≡ None) }
+        ensures clients { KeepsClients h self.old self.new }
         ensures unchanged { OnErr result (self.new ≡ self.old) }
     {
+        self.core.law_of_worlds();
         let Some(place) = self.core.place_of(h) else {
             return Err(OmxError::InvalidComponent);
         };

@@ -1,10 +1,12 @@
 //! Notes go to the client, and its object comes back.
 
-ghost use Rattle.std.specs.Prelude.{◌≡◌, OnErr};
+ghost use Rattle.std.specs.Prelude.{◌≡◌, Some, IfOk, OnErr};
 ghost use Rattle.il_machine.specs.Notes.{TakeNote, EndNote};
 ghost use Rattle.il_machine.specs.Whole.{Steps, StepsWhere};
-ghost use Rattle.graph_core.specs.Entries.{kept, look_of};
-ghost use Rattle.il_graph.specs.Stood.{tookly, IsOut, WasTold};
+ghost use Rattle.graph_core.specs.Entries.{kept, client_of, look_of};
+ghost use Rattle.graph_core.specs.Clients.{KeepsClients, TakesClient, IsOut, WasTold};
+ghost use Rattle.il_graph.specs.Stood.{tookly};
+ghost use Rattle.il_graph.specs.HandedIn.{KeepsHandedIn, IsTookHandedOut};
 
 use crate::graph::Graph;
 use note_queues::{Client, Took};
@@ -14,8 +16,13 @@ impl<C: Client> Graph<C> {
     /// Takes the component's oldest note, with its client object. A header in it is the client's from then on.
     pub fn take_note(&mut self, h: Handle) -> Result<Took<C>, OmxError>
         ensures step { Steps (kept C.progress self.old) (kept C.progress self.new) (λ w v. TakeNote w h (tookly result) v) }
+        ensures client { IfOk result (λ took. TakesClient h self.old took self.new) }
+        ensures clients { KeepsClients h self.old self.new }
+        ensures held { KeepsHandedIn (look_of self.old) (look_of self.new) }
+        ensures handed { IfOk result (λ took. IsTookHandedOut (look_of self.old) (look_of self.new) took) }
         ensures unchanged { OnErr result (self.new ≡ self.old) }
     {
+        self.core.law_of_worlds();
         let Some(place) = self.core.place_of(h) else {
             return Err(OmxError::InvalidComponent);
         };
@@ -27,12 +34,16 @@ impl<C: Client> Graph<C> {
     /// The component's client object, which was out, is in again. It was told all events that were taken for the component.
     pub fn end_note(&mut self, h: Handle, client: C)
         requires { IsOut h (look_of self.old) }
-        ensures { StepsWhere (kept C.progress self.old) (kept C.progress self.new) (WasTold h (C.progress client)) (λ w v. EndNote w h v) }
+        ensures step { StepsWhere (kept C.progress self.old) (kept C.progress self.new) (WasTold h (C.progress client)) (λ w v. EndNote w h v) }
+        ensures client { client_of h self.new ≡ Some client }
+        ensures clients { KeepsClients h self.old self.new }
+        ensures held { KeepsHandedIn (look_of self.old) (look_of self.new) }
     {
         let Some(place) = self.core.place_of(h) else {
             unreachable!()
         };
         self.core.put_client(place, client);
+        self.core.law_of_worlds();
         self.core.close_out();
     }
 }

@@ -4,7 +4,9 @@ ghost use Rattle.std.specs.Prelude.{◌≡◌, true, false, OnErr};
 ghost use Rattle.il_machine.specs.Look.{look};
 ghost use Rattle.il_machine.specs.Parameters.{SetParameter, SetConfig, parameter_answer};
 ghost use Rattle.il_machine.specs.Whole.{Always, Steps};
-ghost use Rattle.graph_core.specs.Entries.{kept};
+ghost use Rattle.graph_core.specs.Entries.{kept, look_of};
+ghost use Rattle.graph_core.specs.Clients.{KeepsAllClients};
+ghost use Rattle.il_graph.specs.HandedIn.{KeepsHandedIn};
 
 use crate::graph::Graph;
 use note_queues::Client;
@@ -34,8 +36,11 @@ impl<C: Client> Graph<C> {
     /// Sets a parameter of a component.
     pub fn set_parameter(&mut self, h: Handle, key: ParamKey, value: Param) -> Result<(), OmxError>
         ensures step { Steps (kept C.progress self.old) (kept C.progress self.new) (λ w v. SetParameter w h key value result v) }
+        ensures held { KeepsHandedIn (look_of self.old) (look_of self.new) }
         ensures unchanged { OnErr result (self.new ≡ self.old) }
+        ensures clients { KeepsAllClients self.old self.new }
     {
+        self.core.law_of_worlds();
         let Some(place) = self.core.place_of(h) else {
             return Err(OmxError::InvalidComponent);
         };
@@ -50,8 +55,11 @@ impl<C: Client> Graph<C> {
     /// Sets a config of a component.
     pub fn set_config(&mut self, h: Handle, key: ParamKey, value: Param) -> Result<(), OmxError>
         ensures step { Steps (kept C.progress self.old) (kept C.progress self.new) (λ w v. SetConfig w h key value result v) }
+        ensures held { KeepsHandedIn (look_of self.old) (look_of self.new) }
         ensures unchanged { OnErr result (self.new ≡ self.old) }
+        ensures clients { KeepsAllClients self.old self.new }
     {
+        self.core.law_of_worlds();
         let Some(place) = self.core.place_of(h) else {
             return Err(OmxError::InvalidComponent);
         };

@@ -3,7 +3,9 @@
 ghost use Rattle.std.specs.Prelude.{◌≡◌, OnErr};
 ghost use Rattle.il_machine.specs.Tunnels.{SetupTunnel, DropTunnel};
 ghost use Rattle.il_machine.specs.Whole.{Steps};
-ghost use Rattle.graph_core.specs.Entries.{kept};
+ghost use Rattle.graph_core.specs.Entries.{kept, look_of};
+ghost use Rattle.graph_core.specs.Clients.{KeepsAllClients};
+ghost use Rattle.il_graph.specs.HandedIn.{KeepsHandedIn};
 
 use crate::graph::Graph;
 use note_queues::Client;
@@ -13,8 +15,11 @@ impl<C: Client> Graph<C> {
     /// Joins an output to an input, and answers which end makes the headers.
     pub fn setup_tunnel(&mut self, output: PortId, input: PortId) -> Result<Supplier, OmxError>
         ensures step { Steps (kept C.progress self.old) (kept C.progress self.new) (λ w v. SetupTunnel w output input result v) }
+        ensures held { KeepsHandedIn (look_of self.old) (look_of self.new) }
         ensures unchanged { OnErr result (self.new ≡ self.old) }
+        ensures clients { KeepsAllClients self.old self.new }
     {
+        self.core.law_of_worlds();
         let Some(giver) = self.core.place_of(output.handle) else {
             return Err(OmxError::InvalidComponent);
         };
@@ -35,8 +40,11 @@ impl<C: Client> Graph<C> {
     /// Parts an output from the input that it is joined to.
     pub fn drop_tunnel(&mut self, output: PortId, input: PortId) -> Result<(), OmxError>
         ensures step { Steps (kept C.progress self.old) (kept C.progress self.new) (λ w v. DropTunnel w output input result v) }
+        ensures held { KeepsHandedIn (look_of self.old) (look_of self.new) }
         ensures unchanged { OnErr result (self.new ≡ self.old) }
+        ensures clients { KeepsAllClients self.old self.new }
     {
+        self.core.law_of_worlds();
         let Some(giver) = self.core.place_of(output.handle) else {
             return Err(OmxError::InvalidComponent);
         };

@@ -1,4 +1,4 @@
-use Rattle.std.proofs.Common.{◌≡◌, ℕ, Option, Err}
+use Rattle.std.proofs.Common.{◌≡◌, ℕ, Option, Err, ◌∙◌, Ok, refl}
 use Rattle.omx_types.specs.declared.error.OmxError.{OmxError}
 use Rattle.omx_types.specs.declared.error.OmxError.TheVariants as errors
 use Rattle.il_machine.specs.World.{Component, World, port_of}
@@ -10,6 +10,8 @@ use Rattle.il_machine.specs.Whole.{Steps}
 use Rattle.graph_core.specs.Entries.{kept}
 use Rattle.il_graph.proofs.Calling.{Found, found, not_found}
 use Rattle.il_graph.proofs.Tunnelling.{both_end, at_both, other_not_found, refused_at_both, accepted_at_both}
+use Rattle.il_machine.specs.Acts as acts
+use Rattle.il_graph.proofs.HandedIn.{keeps_over, keeps_same}
 use Rattle.il_graph.proofs.graph.Graph.drop_tunnel.Goals as goal
 
 -- why the output of the first component isn't parted from the input of the second
@@ -56,7 +58,24 @@ returns-clause-step g c =
     let F' : Found p G c.args.input.handle c.in-Some-place_of.taker = found p G c.args.input.handle c.in-Some-place_of.taker c.in-Some-place_of.ensures.place c.in-Some-place_of.ensures.within in
     let parted = at_both p G c.args.output.handle c.args.input.handle c.in-Some.giver c.in-Some-place_of.taker
     (λ k d. BothPorts (port_of k c.args.output.index) (port_of d c.args.input.index) (λ a b. Steps (kept p G) (kept p c.part.new.self) (λ w v. v ≡ both_parted c.in-Some.giver k a c.in-Some-place_of.taker d b w)))
-    F F' c.part.ensures in
+    F F' c.part.ensures.change in
     let s = both_end (kept p G) (kept p c.part.new.self) (kept p c.close_out.new.self) (port_of F.component c.args.output.index) (port_of F'.component c.args.input.index)
     (λ a b w. both_parted c.in-Some.giver F.component a c.in-Some-place_of.taker F'.component b w) parted c.close_out.ensures.closes in
     rw (← c.self.view_is) (accepted_at_both p R G c.close_out.new.self c.args.output.handle c.args.input.handle c.in-Some.giver c.in-Some-place_of.taker tt Y F F' c.in_default-drop_refusal.ensures s)
+
+pub returns-clause-clients : goal.returns-clause-clients
+returns-clause-clients g c = rw (← c.self.view_is) (λ k. c.close_out.ensures.clients k ∙ c.part.ensures.clients k)
+
+pub returns-in_default-clause-held : goal.returns-in_default-clause-held
+returns-in_default-clause-held g c = rw (← c.self.view_is) (keeps_same g.C.Client.progress c.self.inside.core)
+
+pub returns-in_default-place_of-clause-held : goal.returns-in_default-place_of-clause-held
+returns-in_default-place_of-clause-held g c = rw (← c.self.view_is) (keeps_same g.C.Client.progress c.self.inside.core)
+
+pub returns-in-Some-drop_refusal-clause-held : goal.returns-in-Some-drop_refusal-clause-held
+returns-in-Some-drop_refusal-clause-held g c = rw (← c.self.view_is) (keeps_same g.C.Client.progress c.self.inside.core)
+
+pub returns-clause-held : goal.returns-clause-held
+returns-clause-held g c =
+    let G = c.self.inside.core in
+    rw (← c.self.view_is) (keeps_over g.C.Client.progress G c.close_out.new.self (acts.DropTunnel c.args.output c.args.input) (acts.Plain (Ok tt)) refl (λ w. tt) c.law_of_worlds.ensures.one (rw (← c.self.view_is) at (returns-clause-step g c)))

@@ -1,4 +1,4 @@
-use Rattle.std.proofs.Common.{Err}
+use Rattle.std.proofs.Common.{Err, ◌∙◌, Ok}
 use Rattle.omx_types.specs.declared.error.OmxError.TheVariants as errors
 use Rattle.il_machine.specs.declared.header.HeaderState.{HeaderState}
 use Rattle.il_machine.specs.World.{Component, port_of}
@@ -11,6 +11,7 @@ use Rattle.graph_core.specs.Changes.{IsHandedIn}
 use Rattle.graph_core.specs.Entries.{look_of}
 use Rattle.il_graph.proofs.Calling.{Found, found, not_found}
 use Rattle.il_graph.proofs.Handing.{there_is_one, changed_on, refused_with, done_with}
+use Rattle.il_graph.proofs.HandedIn.{emptied_over, others_same}
 use Rattle.il_graph.proofs.graph.Graph.empty_this_buffer.Goals as goal
 
 pub returns-in_default-clause-step : goal.returns-in_default-clause-step
@@ -38,6 +39,21 @@ returns-clause-step g c =
     let F : Found p G c.args.h c.in-Some.place = found p G c.args.h c.in-Some.place c.in-Some.ensures.place c.in-Some.ensures.within in
     let handed : IsHandedIn c.args.header (look_of G) = rw (← c.self.view_is) at c.requires.handed in
     let x = there_is_one _ ((look_of G).headers.header n.number) handed in
-    let step = changed_on p G c.take_in.new.self c.close_out.new.self c.args.h c.in-Some.place c.args.port (λ k q w. with_todo q.key n.number (loaded (load_in n)) w) F c.take_in.ensures c.close_out.ensures.closes in
+    let step = changed_on p G c.take_in.new.self c.close_out.new.self c.args.h c.in-Some.place c.args.port (λ k q w. with_todo q.key n.number (loaded (load_in n)) w) F c.take_in.ensures.change c.close_out.ensures.closes in
     rw (← c.self.view_is) (done_with p (λ (k : Component) (s : HeaderState). empty_refusal k (port_of k c.args.port) s n.content) G c.close_out.new.self c.args.h c.in-Some.place n.number x.0 tt
     (λ w v i k s (_ : Unit {0}). AtPort (port_of k c.args.port) (λ p. ClosesTo (with_todo p.key n.number (loaded (load_in n)) w) v)) F x.1 c.in_default-empty_refusal.ensures step)
+
+pub returns-clause-clients : goal.returns-clause-clients
+returns-clause-clients g c = rw (← c.self.view_is) (λ k. c.close_out.ensures.clients k ∙ c.take_in.ensures.clients k)
+
+pub returns-in_default-clause-held : goal.returns-in_default-clause-held
+returns-in_default-clause-held g c = rw (← c.self.view_is) (others_same g.C.Client.progress c.self.inside.core c.args.header)
+
+pub returns-in-Some-empty_refusal-clause-held : goal.returns-in-Some-empty_refusal-clause-held
+returns-in-Some-empty_refusal-clause-held g c = rw (← c.self.view_is) (others_same g.C.Client.progress c.self.inside.core c.args.header)
+
+pub returns-clause-held : goal.returns-clause-held
+returns-clause-held g c =
+    let G = c.self.inside.core in
+    let handed : IsHandedIn c.args.header (look_of G) = rw (← c.self.view_is) at c.requires.handed in
+    rw (← c.self.view_is) (emptied_over g.C.Client.progress G c.close_out.new.self c.args.h c.args.port c.args.header (Ok tt) handed c.law_of_worlds.ensures.one (rw (← c.self.view_is) at (returns-clause-step g c)))

@@ -1,4 +1,4 @@
-use Rattle.std.proofs.Common.{◌≡◌, ℕ, Bool, Some, None, is_some, Err, MatchOption, ◌∙◌, ap, subst}
+use Rattle.std.proofs.Common.{◌≡◌, ℕ, Bool, Some, None, is_some, Ok, Err, MatchOption, ◌∙◌, ap, subst}
 use Rattle.omx_types.specs.declared.error.OmxError.TheVariants as errors
 use Rattle.il_machine.specs.declared.header.HeaderState.{HeaderState}
 use Rattle.il_machine.specs.World.{Component, port_of, with_component}
@@ -11,6 +11,7 @@ use Rattle.graph_core.specs.Changes.{IsHandedIn}
 use Rattle.graph_core.specs.Entries.{look_of, component_at}
 use Rattle.il_graph.proofs.Calling.{Found, found, not_found}
 use Rattle.il_graph.proofs.Handing.{there_is_one, goes_back, and_true, changed_on, refused_with, done_with}
+use Rattle.il_graph.proofs.HandedIn.{freed_over, others_same}
 use Rattle.il_graph.proofs.graph.Graph.free_buffer.Goals as goal
 
 pub returns-in_default-clause-step : goal.returns-in_default-clause-step
@@ -45,3 +46,18 @@ returns-clause-step g c =
     let said = and_true p G c.close_out.new.self (port_of F.component c.args.port) (is_some c.given_back.result ≡ x.0.client_memory) (λ w v q. ClosesTo (without_header n.number (with_component c.in-Some.place (unpopulated q F.component) w)) v) back step in
     rw (← c.self.view_is) (done_with p (λ (k : Component) (s : HeaderState). free_buffer_refusal k (port_of k c.args.port) s) G c.close_out.new.self c.args.h c.in-Some.place n.number x.0 (is_some c.given_back.result)
     (λ w v i k s (b : Bool). AtPort (port_of k c.args.port) (λ p. (b ≡ s.client_memory) × ClosesTo (without_header n.number (with_component i (unpopulated p k) w)) v)) F x.1 allowed said)
+
+pub returns-clause-clients : goal.returns-clause-clients
+returns-clause-clients g c = rw (← c.self.view_is) (λ k. c.close_out.ensures.clients k ∙ c.unmake_header-store.ensures.clients k)
+
+pub returns-in_default-clause-held : goal.returns-in_default-clause-held
+returns-in_default-clause-held g c = rw (← c.self.view_is) (others_same g.C.Client.progress c.self.inside.core c.args.header)
+
+pub returns-in-Some-free_buffer_refusal-clause-held : goal.returns-in-Some-free_buffer_refusal-clause-held
+returns-in-Some-free_buffer_refusal-clause-held g c = rw (← c.self.view_is) (others_same g.C.Client.progress c.self.inside.core c.args.header)
+
+pub returns-clause-held : goal.returns-clause-held
+returns-clause-held g c =
+    let G = c.self.inside.core in
+    let handed : IsHandedIn c.args.header (look_of G) = rw (← c.self.view_is) at c.requires.handed in
+    rw (← c.self.view_is) (freed_over g.C.Client.progress G c.close_out.new.self c.args.h c.args.port c.args.header (Ok (is_some c.given_back.result)) handed c.law_of_worlds.ensures.one (rw (← c.self.view_is) at (returns-clause-step g c)))

@@ -1,4 +1,4 @@
-use Rattle.std.proofs.Common.{Err}
+use Rattle.std.proofs.Common.{Err, ◌∙◌, Ok, refl}
 use Rattle.omx_types.specs.declared.error.OmxError.TheVariants as errors
 use Rattle.il_machine.specs.declared.answer.Acted.{Acted}
 use Rattle.il_machine.specs.World.{Component, with_component}
@@ -6,6 +6,9 @@ use Rattle.il_machine.specs.Look.{look}
 use Rattle.il_machine.specs.Answers.{Acts}
 use Rattle.il_machine.specs.Commands.{run_idle, run_front}
 use Rattle.il_graph.proofs.Calling.{Found, found, not_found, idle_at, did_at}
+use Rattle.il_machine.specs.Acts as acts
+use Rattle.il_graph.proofs.HandedIn.{keeps_over, keeps_same}
+use Rattle.il_machine.specs.declared.answer.Acted.TheVariants as acted
 use Rattle.il_graph.proofs.graph.Graph.run_command.Goals as goal
 
 pub returns-in_default-clause-step : goal.returns-in_default-clause-step
@@ -24,4 +27,18 @@ returns-clause-step g c =
     let p = g.C.Client.progress in
     let G = c.self.inside.core in
     let F : Found p G c.args.h c.in-Some.place = found p G c.args.h c.in-Some.place c.in-Some.ensures.place c.in-Some.ensures.within in
-    rw (← c.self.view_is) (did_at p (λ (k : Component). run_idle k k.commands) G c.run.new.self c.close_out.new.self c.args.h c.in-Some.place (λ i k w. with_component i (run_front (look w) k.commands k) w) F c.in_default-run_idle.ensures c.run.ensures c.close_out.ensures.closes)
+    rw (← c.self.view_is) (did_at p (λ (k : Component). run_idle k k.commands) G c.run.new.self c.close_out.new.self c.args.h c.in-Some.place (λ i k w. with_component i (run_front (look w) k.commands k) w) F c.in_default-run_idle.ensures c.run.ensures.change c.close_out.ensures.closes)
+
+pub returns-clause-clients : goal.returns-clause-clients
+returns-clause-clients g c = rw (← c.self.view_is) (λ k. c.close_out.ensures.clients k ∙ c.run.ensures.clients k)
+
+pub returns-in_default-clause-held : goal.returns-in_default-clause-held
+returns-in_default-clause-held g c = rw (← c.self.view_is) (keeps_same g.C.Client.progress c.self.inside.core)
+
+pub returns-in-Some-run_idle-clause-held : goal.returns-in-Some-run_idle-clause-held
+returns-in-Some-run_idle-clause-held g c = rw (← c.self.view_is) (keeps_same g.C.Client.progress c.self.inside.core)
+
+pub returns-clause-held : goal.returns-clause-held
+returns-clause-held g c =
+    let G = c.self.inside.core in
+    rw (← c.self.view_is) (keeps_over g.C.Client.progress G c.close_out.new.self (acts.RunCommand c.args.h) (acts.Acted (Ok acted.Did)) refl (λ w. tt) c.law_of_worlds.ensures.one (rw (← c.self.view_is) at (returns-clause-step g c)))

@@ -1,4 +1,4 @@
-use Rattle.std.proofs.Common.{Err}
+use Rattle.std.proofs.Common.{Err, ◌∙◌, Ok, refl}
 use Rattle.omx_types.specs.declared.error.OmxError.TheVariants as errors
 use Rattle.il_machine.specs.World.{Component, with_component}
 use Rattle.il_machine.specs.Look.{Look}
@@ -6,6 +6,8 @@ use Rattle.il_machine.specs.Due.{ClosesTo}
 use Rattle.il_machine.specs.Answers.{Answers}
 use Rattle.il_machine.specs.Parameters.{set_config_refusal, with_value}
 use Rattle.il_graph.proofs.Calling.{Found, found, not_found, refused_at, accepted_at}
+use Rattle.il_machine.specs.Acts as acts
+use Rattle.il_graph.proofs.HandedIn.{keeps_over, keeps_same}
 use Rattle.il_graph.proofs.graph.Graph.set_config.Goals as goal
 
 pub returns-in_default-clause-step : goal.returns-in_default-clause-step
@@ -24,3 +26,17 @@ returns-clause-step g c =
     let G = c.self.inside.core in
     let F : Found p G c.args.h c.in-Some.place = found p G c.args.h c.in-Some.place c.in-Some.ensures.place c.in-Some.ensures.within in
     rw (← c.self.view_is) (accepted_at p (λ (l : Look) (k : Component). set_config_refusal k c.args.key c.args.value) G c.set_value.new.self c.close_out.new.self c.args.h c.in-Some.place tt (λ i k w. with_component i (with_value c.args.key c.args.value k) w) F c.in_default-set_config_refusal.ensures c.set_value.ensures.set c.close_out.ensures.closes)
+
+pub returns-clause-clients : goal.returns-clause-clients
+returns-clause-clients g c = rw (← c.self.view_is) (λ k. c.close_out.ensures.clients k ∙ c.set_value.ensures.clients k)
+
+pub returns-in_default-clause-held : goal.returns-in_default-clause-held
+returns-in_default-clause-held g c = rw (← c.self.view_is) (keeps_same g.C.Client.progress c.self.inside.core)
+
+pub returns-in-Some-set_config_refusal-clause-held : goal.returns-in-Some-set_config_refusal-clause-held
+returns-in-Some-set_config_refusal-clause-held g c = rw (← c.self.view_is) (keeps_same g.C.Client.progress c.self.inside.core)
+
+pub returns-clause-held : goal.returns-clause-held
+returns-clause-held g c =
+    let G = c.self.inside.core in
+    rw (← c.self.view_is) (keeps_over g.C.Client.progress G c.close_out.new.self (acts.SetConfig c.args.h c.args.key c.args.value) (acts.Plain (Ok tt)) refl (λ w. tt) c.law_of_worlds.ensures.one (rw (← c.self.view_is) at (returns-clause-step g c)))

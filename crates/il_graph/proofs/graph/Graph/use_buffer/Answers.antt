@@ -1,4 +1,4 @@
-use Rattle.std.proofs.Common.{◌≡◌, ℕ, ◌∙◌, subst, length, true, Some, None, Err, MatchOption}
+use Rattle.std.proofs.Common.{◌≡◌, ℕ, ◌∙◌, subst, length, true, Some, None, Ok, Err, MatchOption, ap, refl}
 use Rattle.omx_types.specs.declared.error.OmxError.TheVariants as errors
 use Rattle.il_machine.specs.World.{Component, port_of}
 use Rattle.il_machine.specs.Headers.{no_load}
@@ -7,9 +7,12 @@ use Rattle.il_machine.specs.Due.{ClosesTo}
 use Rattle.il_machine.specs.Answers.{Answers}
 use Rattle.il_machine.specs.Buffers.{AtPort, Held, use_refusal, client_header, with_header, held_of}
 use Rattle.header_core.specs.declared.memory.Store.TheVariants.{Own}
+use Rattle.header_core.specs.BufferHeader.{is_clients}
 use Rattle.graph_core.specs.Entries.{look_of, component_at}
 use Rattle.il_graph.proofs.Calling.{Found, found, not_found, refused_at}
 use Rattle.il_graph.proofs.Handing.{changed_on, and_said, made_header, done_at}
+use Rattle.il_machine.specs.Acts as acts
+use Rattle.il_graph.proofs.HandedIn.{keeps_over, keeps_same, made_store, used_out}
 use Rattle.il_graph.proofs.graph.Graph.use_buffer.Goals as goal
 
 pub returns-in_default-clause-step : goal.returns-in_default-clause-step
@@ -39,3 +42,25 @@ returns-clause-step g c =
     (made_header p G c.args.h c.in-Some.place c.args.port c.make_header-header.result (Own c.new.result) true F c.make_header-header.ensures.header) step in
     rw (← c.self.view_is) (done_at p (λ (l : Look) (k : Component). use_refusal l k (port_of k c.args.port) (length c.args.bytes.items)) G c.close_out.new.self c.args.h c.in-Some.place c.make_header-header.result.held
     (λ w v i k (x : Held). AtPort (port_of k c.args.port) (λ q. (x ≡ held_of (client_header w.made q true) no_load) × ClosesTo (with_header (client_header w.made q true) w) v)) F allowed said)
+
+pub returns-clause-clients : goal.returns-clause-clients
+returns-clause-clients g c = rw (← c.self.view_is) (λ k. c.close_out.ensures.clients k ∙ c.make_header-header.ensures.clients k)
+
+pub returns-in_default-clause-held : goal.returns-in_default-clause-held
+returns-in_default-clause-held g c = rw (← c.self.view_is) (keeps_same g.C.Client.progress c.self.inside.core)
+
+pub returns-in-Some-use_refusal-clause-held : goal.returns-in-Some-use_refusal-clause-held
+returns-in-Some-use_refusal-clause-held g c = rw (← c.self.view_is) (keeps_same g.C.Client.progress c.self.inside.core)
+
+pub returns-clause-held : goal.returns-clause-held
+returns-clause-held g c =
+    let G = c.self.inside.core in
+    rw (← c.self.view_is) (keeps_over g.C.Client.progress G c.close_out.new.self (acts.UseBuffer c.args.h c.args.port c.args.bytes.items) (acts.Used (Ok c.make_header-header.result.held)) refl (λ w. tt) c.law_of_worlds.ensures.one (rw (← c.self.view_is) at (returns-clause-step g c)))
+
+pub returns-clause-handed : goal.returns-clause-handed
+returns-clause-handed g c =
+    let p = g.C.Client.progress in
+    let G = c.self.inside.core in
+    let F : Found p G c.args.h c.in-Some.place = found p G c.args.h c.in-Some.place c.in-Some.ensures.place c.in-Some.ensures.within in
+    let memory = ap is_clients (made_store p G c.args.h c.in-Some.place c.args.port c.make_header-header.result (Own c.new.result) F c.make_header-header.ensures.header) in
+    rw (← c.self.view_is) (used_out p G c.close_out.new.self c.args.h c.args.port c.args.bytes.items c.make_header-header.result memory c.law_of_worlds.ensures.one (rw (← c.self.view_is) at (returns-clause-step g c)))

@@ -1,0 +1,76 @@
+use Rattle.std.proofs.Common.{Err, Ok, refl, ◌∙◌}
+use Rattle.omx_types.specs.declared.error.OmxError.{OmxError}
+use Rattle.omx_types.specs.declared.error.OmxError.TheVariants as errors
+use Rattle.il_machine.specs.declared.answer.Acted.{Acted}
+use Rattle.il_machine.specs.Headers.{seen}
+use Rattle.il_machine.specs.Look.{look}
+use Rattle.il_machine.specs.Answers.{plain, Acts}
+use Rattle.il_machine.specs.Flow.{front_unmade, in_port, release_idle}
+use Rattle.il_graph.proofs.Calling.{Found, found}
+use Rattle.il_graph.proofs.Acting.{HasPort, unnamed, without_port, with_port, port_there, may_act, idle_on, did_on}
+use Rattle.il_machine.specs.Acts as acts
+use Rattle.il_machine.specs.declared.answer.Acted.TheVariants as acted
+use Rattle.il_graph.proofs.HandedIn.{keeps_over, keeps_same}
+use Rattle.il_graph.proofs.graph.Graph.release.Goals as goal
+
+pub returns-in_default-clause-step : goal.returns-in_default-clause-step
+returns-in_default-clause-step g c =
+    rw (← c.self.view_is) (unnamed g.C.Client.progress c.self.inside.core c.args.h c.args.port Acted OmxError plain
+    (λ w v i k q. Acts (release_idle (look w) k q) (Err errors.InvalidComponent) w (front_unmade (in_port (seen w.headers) q) w) v) c.in_default.ensures.place)
+
+pub returns-then-not-has_port-clause-step : goal.returns-then-not-has_port-clause-step
+returns-then-not-has_port-clause-step g c =
+    let p = g.C.Client.progress in
+    let G = c.self.inside.core in
+    let F : Found p G c.args.h c.in-Some.place = found p G c.args.h c.in-Some.place c.in-Some.ensures.place c.in-Some.ensures.within in
+    rw (← c.self.view_is) (without_port p G c.args.h c.args.port c.in-Some.place F Acted OmxError plain
+    (λ w v i k q. Acts (release_idle (look w) k q) (Err errors.BadPortIndex) w (front_unmade (in_port (seen w.headers) q) w) v) (rw c.if-not-has_port.true at c.has_port.ensures))
+
+pub release_idle-requires : goal.release_idle-requires
+release_idle-requires g c =
+    let p = g.C.Client.progress in
+    let G = c.self.inside.core in
+    let F : Found p G c.args.h c.in-Some.place = found p G c.args.h c.in-Some.place c.in-Some.ensures.place c.in-Some.ensures.within in
+    let H : HasPort p G c.args.h c.args.port c.in-Some.place F = with_port p G c.args.h c.args.port c.in-Some.place F (rw c.if-not-has_port.false at c.has_port.ensures) in
+    port_there p G c.args.h c.args.port c.in-Some.place F H
+
+pub returns-in-Some-release_idle-clause-step : goal.returns-in-Some-release_idle-clause-step
+returns-in-Some-release_idle-clause-step g c =
+    let p = g.C.Client.progress in
+    let G = c.self.inside.core in
+    let F : Found p G c.args.h c.in-Some.place = found p G c.args.h c.in-Some.place c.in-Some.ensures.place c.in-Some.ensures.within in
+    let H : HasPort p G c.args.h c.args.port c.in-Some.place F = with_port p G c.args.h c.args.port c.in-Some.place F (rw c.if-not-has_port.false at c.has_port.ensures) in
+    rw (← c.self.view_is) (idle_on p G c.args.h c.args.port c.in-Some.place F H (λ l k q. release_idle l k q) (λ i k q w. front_unmade (in_port (seen w.headers) q) w) c.in-Some-release_idle.reason c.in-Some-release_idle.ensures)
+
+pub release_front-requires : goal.release_front-requires
+release_front-requires g c =
+    let p = g.C.Client.progress in
+    let G = c.self.inside.core in
+    let F : Found p G c.args.h c.in-Some.place = found p G c.args.h c.in-Some.place c.in-Some.ensures.place c.in-Some.ensures.within in
+    let H : HasPort p G c.args.h c.args.port c.in-Some.place F = with_port p G c.args.h c.args.port c.in-Some.place F (rw c.if-not-has_port.false at c.has_port.ensures) in
+    may_act p G c.args.h c.args.port c.in-Some.place F H (λ l k q. release_idle l k q) (λ i k q w. front_unmade (in_port (seen w.headers) q) w) c.in_default-release_idle.ensures
+
+pub returns-clause-step : goal.returns-clause-step
+returns-clause-step g c =
+    let p = g.C.Client.progress in
+    let G = c.self.inside.core in
+    let F : Found p G c.args.h c.in-Some.place = found p G c.args.h c.in-Some.place c.in-Some.ensures.place c.in-Some.ensures.within in
+    let H : HasPort p G c.args.h c.args.port c.in-Some.place F = with_port p G c.args.h c.args.port c.in-Some.place F (rw c.if-not-has_port.false at c.has_port.ensures) in
+    rw (← c.self.view_is) (did_on p G c.args.h c.args.port c.in-Some.place F H (λ l k q. release_idle l k q) (λ i k q w. front_unmade (in_port (seen w.headers) q) w) c.release_front.new.self c.close_out.new.self c.in_default-release_idle.ensures c.release_front.ensures.change c.close_out.ensures.closes)
+
+pub returns-in_default-clause-held : goal.returns-in_default-clause-held
+returns-in_default-clause-held g c = rw (← c.self.view_is) (keeps_same g.C.Client.progress c.self.inside.core)
+
+pub returns-then-not-has_port-clause-held : goal.returns-then-not-has_port-clause-held
+returns-then-not-has_port-clause-held g c = rw (← c.self.view_is) (keeps_same g.C.Client.progress c.self.inside.core)
+
+pub returns-in-Some-release_idle-clause-held : goal.returns-in-Some-release_idle-clause-held
+returns-in-Some-release_idle-clause-held g c = rw (← c.self.view_is) (keeps_same g.C.Client.progress c.self.inside.core)
+
+pub returns-clause-held : goal.returns-clause-held
+returns-clause-held g c =
+    let G = c.self.inside.core in
+    rw (← c.self.view_is) (keeps_over g.C.Client.progress G c.close_out.new.self (acts.Release c.args.h c.args.port) (acts.Acted (Ok acted.Did)) refl (λ w. tt) c.law_of_worlds.ensures.one (rw (← c.self.view_is) at (returns-clause-step g c)))
+
+pub returns-clause-clients : goal.returns-clause-clients
+returns-clause-clients g c = rw (← c.self.view_is) (λ k. c.close_out.ensures.clients k ∙ c.release_front.ensures.clients k)
