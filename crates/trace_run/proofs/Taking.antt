@@ -1,0 +1,268 @@
+-- A note is taken and the client object goes back: so the moment leads to the next one.
+use Rattle.std.proofs.Common.{◌≡◌, ℕ, List, [], ◌∷◌, set, position, slice_get, Option, Some, option_map, Result, Ok, refl, sym, ◌∙◌, ap, subst, eqb-true}
+use Rattle.std.specs.Prelude.{IsSomeAnd}
+use Rattle.omx_types.specs.declared.handle.Handle.{Handle}
+use Rattle.omx_types.specs.declared.command.Event.{Event}
+use Rattle.omx_types.specs.declared.command.Note.{Note}
+use Rattle.omx_types.specs.declared.error.OmxError.{OmxError}
+use Rattle.il_machine.specs.declared.answer.Progress.{Progress}
+use Rattle.il_machine.specs.World.{World, number_of}
+use Rattle.il_machine.specs.Look.{look}
+use Rattle.il_machine.specs.Answers.{component_named}
+use Rattle.il_machine.specs.Components.{noted_by, progress_of, has_eos, no_progress}
+use Rattle.il_machine.specs.Notes.{Took, TookNote, TakeNote, EndNote}
+use Rattle.il_machine.specs.Acts as acts
+use Rattle.il_machine.specs.Run.{Meets}
+use Rattle.il_machine.specs.Whole.{Kept, Stands, Steps, StepsWhere}
+use Rattle.il_machine.proofs.Places.{is_first_place, passes_at}
+use Rattle.machine_laws.proofs.Every.{set_there}
+use Rattle.machine_laws.proofs.Keys.{there_is, is_there, at_there}
+use Rattle.header_core.specs.BufferHeader.{BufferHeader}
+use Rattle.note_queues.specs.declared.taken.Taken.{Taken}
+use Rattle.note_queues.specs.declared.taken.Taken.TheVariants as notes
+use Rattle.note_queues.specs.Queues.{taken_of}
+use Rattle.graph_core.specs.Changes.{IsHandedIn}
+use Rattle.graph_core.specs.Clients.{IsOut, WasTold}
+use Rattle.il_graph.specs.HandedIn.{IsNoteHandedOut}
+use Rattle.trace_run.proofs.Made.{IsHome}
+use Rattle.act_text.specs.declared.reply.TextReply.{TextReply}
+use Rattle.act_text.specs.declared.reply.TextReply.TheVariants as texts
+use Rattle.trace_run.specs.declared.names.NamedComponent.{NamedComponent}
+use Rattle.trace_run.specs.declared.reply.LineAnswer.{LineAnswer}
+use Rattle.trace_run.specs.declared.reply.LineAnswer.TheVariants as answers
+use Rattle.trace_run.specs.declared.slots.Slot.{Slot}
+use Rattle.trace_run.specs.Naming.{Moment, Names, NamedHeader, is_numbered, name_of, header_name, with_hand, with_taken, after_taking}
+use Rattle.trace_run.specs.Replying.{LineReply, Plain, Emptied, Filled, printed, filled_reply}
+use Rattle.trace_run.specs.Lines.{taking}
+use Rattle.trace_run.specs.Standing.{Parts, names_in, slot_numbered, holding, machine_note, KeptSo, HasSlotFor, HaveSlots, HasStood, Stood, TakenSo, TakeLeads}
+use Rattle.trace_run.proofs.SlotLists.{first_passes, first_changes, hands_with}
+use Rattle.trace_run.proofs.Standing.{stood_after, known_set, known_home}
+use Rattle.trace_run.proofs.Taken.{note_of, AtHeaderIn, WasTaken, was_taken, named_before, IsOutNow, out_now, progress_now, taken_home}
+
+some_and : {A : Type 0} (o : Option A) (P : A → Type 0) (x : A) → o ≡ Some x → P x → IsSomeAnd o P
+some_and o P x e p = rw e p
+
+-- ---- a header comes into the hand of its slot
+
+same_number : (slots : List Slot) (number place : ℕ) (slot : Slot) → position (slot_numbered number) slots ≡ Some place → slice_get slots place ≡ Some slot → slot.number ≡ number
+same_number slots number place slot p at =
+    let x = passes_at (slot_numbered number) slots place (sym (is_first_place (slot_numbered number) slots) ∙ p) in
+    let s : Some x.0 ≡ Some slot = sym x.1 ∙ at in
+    let is : x.0 ≡ slot = cc in
+    ap (λ (y : Slot). y.number) (sym is) ∙ eqb-true _ _ x.2
+
+pub handed_stood : (old : Parts) (at : Moment) (place : ℕ) (slot : Slot) (header : BufferHeader) → Stood old at → position (slot_numbered header.held.number) old.slots ≡ Some place → slice_get old.slots place ≡ Some slot
+    → IsHandedIn header (old.graph).looks → Stood (record old { slots = set old.slots place (holding (Some header) slot) }) (record at { names = with_hand (is_numbered header.held.number) (Some header.held) at.names })
+handed_stood old at place slot header S p there h =
+    let number = header.held.number in
+    let changed = first_changes (is_numbered number) (Some header) old.slots place slot p there in
+    record {
+      world = S.world;
+      rests = S.rests;
+      names = ap (with_hand (is_numbered number) (Some header.held)) S.names ∙ (λ i. record { components = old.components; headers = sym changed i });
+      sound = S.sound;
+      named = S.named;
+      known = known_set old.slots (look at.world) place slot (Some header) there S.known;
+      hands = hands_with old.slots (old.graph).looks place slot header there (sym (same_number old.slots number place slot p there)) h S.hands;
+    }
+
+-- ---- a note was there
+
+note_same : (taken : Taken) → note_of (taken_of taken) ≡ machine_note taken
+note_same (notes.Told event) = refl
+note_same (notes.EmptyDone header) = refl
+note_same (notes.FillDone header) = refl
+
+module _ (components : List NamedComponent) (slots : List Slot) (old mid new : Kept) (h : Handle) (client : Progress) (taken : Taken) where
+  abbrev before : Parts
+  before = record { graph = old; components = components; slots = slots }
+
+  abbrev taken_result : Result Took OmxError
+  taken_result = Ok (TookNote (taken_of taken))
+
+  abbrev now_told : Progress
+  now_told = noted_by (machine_note taken) client
+
+  told_now : (w : World) (v : World) (T : WasTaken w h (taken_of taken) v) → WasTold h client w → (d : IsOutNow h v (number_of T.component)) → now_told ≡ progress_of d.component v
+  told_now w v T told d =
+      let e : client ≡ progress_of T.component w = at_there (component_named h w.components) _ T.component (named_before w h (taken_of taken) v T) told in
+      ap (noted_by (machine_note taken)) e
+      ∙ (ap (λ (n : Note). noted_by n (progress_of T.component w)) (sym (note_same taken)) ∙ sym (progress_now w h (taken_of taken) v T d.component d.number_is))
+
+  module _ (step : Steps old mid (λ w v. TakeNote w h taken_result v)) (told : (w : World) → Stands old w → WasTold h client w) where
+    -- the world with the client object out
+    pub record IsMiddle (at : Moment) : Type 0 where
+      pub world : World
+      pub stands : Stands mid world
+      pub takes : TakeNote at.world h taken_result world
+      pub meets : Meets world (acts.EndNote h now_told)
+      pub knows : WasTold h now_told world
+      pub stood : Stood (record before { graph = mid }) (record at { world = world })
+
+    pub middle : (at : Moment) → Stood before at → IsMiddle at
+    middle at S =
+        let w = at.world in
+        let x = step w S.world in
+        let v = x.0 in
+        let T = was_taken w h (taken_of taken) v x.2 in
+        let O = out_now w h (taken_of taken) v T in
+        let p = told_now w v T (told w S.world) O in
+        record {
+          world = v;
+          stands = x.1;
+          takes = x.2;
+          meets = is_there (component_named h v.components) _ O.component O.named (O.out, p);
+          knows = is_there (component_named h v.components) _ O.component O.named p;
+          stood = stood_after before at mid (acts.TakeNote h) (acts.Took taken_result) v S tt x.2 x.1 tt refl refl;
+        }
+
+    module _ (ended : StepsWhere mid new (WasTold h now_told) (λ w v. EndNote w h v)) (news : List Slot) (reply : LineReply) where
+      abbrev after : Parts
+      after = record { graph = new; components = components; slots = news }
+
+      -- the names after the note
+      abbrev with_note : Moment → Moment
+      with_note at = record at { names = with_taken (taken_of taken) at.names }
+
+      finish : (at : Moment) (M : IsMiddle at) → Stood (record { graph = mid; components = components; slots = news }) (with_note (record at { world = M.world })) → printed at.names (acts.Took taken_result) ≡ Some reply
+          → (next : Moment) × Stood after next × TakenSo at h reply next
+      finish at M S says =
+          let y = ended M.world M.stands M.knows in
+          let u = y.0 in (
+            with_note (record at { world = u }),
+            stood_after (record { graph = mid; components = components; slots = news }) (with_note (record at { world = M.world })) new (acts.EndNote h now_told) acts.Ended u S M.meets y.2 y.1 tt refl refl,
+            record {
+              result = taken_result;
+              progress = now_told;
+              entries = taking h taken_result now_told;
+              takes = record { both = refl; says = says };
+              names = refl;
+              run = (M.world, tt, M.takes, (u, M.meets, y.2, refl));
+            },
+          )
+
+-- ---- what is kept of the note
+
+printed_header : (names : Names) (components : List NamedComponent) (slots : List Slot) (number place : ℕ) (slot : Slot) → names ≡ names_in components slots → position (slot_numbered number) slots ≡ Some place → slice_get slots place ≡ Some slot
+    → header_name names number ≡ Some slot.name
+printed_header names components slots number place slot e p there =
+    ap (λ (n : Names). header_name n number) e
+    ∙ ap (λ (o : Option NamedHeader). option_map name_of o) (first_passes (is_numbered number) slots place slot p there)
+
+module _ (components : List NamedComponent) (slots news : List Slot) (old mid new : Kept) (h : Handle) (client : Progress) where
+  abbrev start : Parts
+  start = record { graph = old; components = components; slots = slots }
+
+  abbrev end : Parts
+  end = record { graph = new; components = components; slots = news }
+
+  abbrev Taking : Taken → Type 0
+  Taking taken = Steps old mid (λ w v. TakeNote w h (Ok (TookNote (taken_of taken))) v)
+
+  abbrev Ending : Taken → Type 0
+  Ending taken = StepsWhere mid new (WasTold h (noted_by (machine_note taken) client)) (λ w v. EndNote w h v)
+
+  event_taken : (event : Event) (answer : LineAnswer) → Taking (notes.Told event) → ((w : World) → Stands old w → WasTold h client w) → Ending (notes.Told event) → KeptSo (notes.Told event) slots news answer → TakeLeads start end h answer
+  event_taken event answer step told ended K =
+      let taken = notes.Told event in
+      let reply = Plain (texts.Event event) in (
+        reply,
+        (rw K.1 refl),
+        λ at S.
+            let M = middle components slots old mid new h client taken step told at S in
+            finish components slots old mid new h client taken step told ended news reply at M
+            (subst (λ (l : List Slot). Stood (record { graph = mid; components = components; slots = l }) (record at { world = M.world })) (sym K.0) M.stood) refl,
+      )
+
+  emptied_taken : (header : BufferHeader) (answer : LineAnswer) → Taking (notes.EmptyDone header) → ((w : World) → Stands old w → WasTold h client w) → IsHandedIn header mid.looks → Ending (notes.EmptyDone header)
+      → KeptSo (notes.EmptyDone header) slots news answer → TakeLeads start end h answer
+  emptied_taken header answer step told handed ended (place, kept, e) =
+      let taken = notes.EmptyDone header in
+      let x = there_is (slice_get slots place) _ kept.1 in
+      let slot = x.0 in
+      let now = holding (Some header) slot in
+      let reply = Emptied slot.name in
+      let there : slice_get news place ≡ Some now = ap (λ (l : List Slot). slice_get l place) x.2 ∙ set_there slots place slot now x.1 in (
+        reply,
+        (rw e (some_and (slice_get news place) _ now there refl)),
+        λ at S.
+            let M = middle components slots old mid new h client taken step told at S in
+            let T = handed_stood (record { graph = mid; components = components; slots = slots }) (record at { world = M.world }) place slot header M.stood kept.0 x.1 handed in
+            finish components slots old mid new h client taken step told ended news reply at M
+            (subst (λ (l : List Slot). Stood (record { graph = mid; components = components; slots = l }) (record at { world = M.world; names = with_hand (is_numbered header.held.number) (Some header.held) at.names })) (sym x.2) T)
+            (ap (option_map Emptied) (printed_header at.names components slots header.held.number place slot S.names kept.0 x.1)),
+      )
+
+  filled_taken : (header : BufferHeader) (answer : LineAnswer) → Taking (notes.FillDone header) → ((w : World) → Stands old w → WasTold h client w) → IsHandedIn header mid.looks → Ending (notes.FillDone header)
+      → KeptSo (notes.FillDone header) slots news answer → TakeLeads start end h answer
+  filled_taken header answer step told handed ended (place, kept, e) =
+      let taken = notes.FillDone header in
+      let x = there_is (slice_get slots place) _ kept.1 in
+      let slot = x.0 in
+      let now = holding (Some header) slot in
+      let reply = Filled slot.name header.held.content (has_eos header.held.flags) in
+      let there : slice_get news place ≡ Some now = ap (λ (l : List Slot). slice_get l place) x.2 ∙ set_there slots place slot now x.1 in (
+        reply,
+        (rw e (some_and (slice_get news place) _ now there refl)),
+        λ at S.
+            let M = middle components slots old mid new h client taken step told at S in
+            let T = handed_stood (record { graph = mid; components = components; slots = slots }) (record at { world = M.world }) place slot header M.stood kept.0 x.1 handed in
+            finish components slots old mid new h client taken step told ended news reply at M
+            (subst (λ (l : List Slot). Stood (record { graph = mid; components = components; slots = l }) (record at { world = M.world; names = with_hand (is_numbered header.held.number) (Some header.held) at.names })) (sym x.2) T)
+            (ap (option_map (filled_reply header.held.content header.held.flags)) (printed_header at.names components slots header.held.number place slot S.names kept.0 x.1)),
+      )
+
+pub call_taken : (components : List NamedComponent) (slots news : List Slot) (old mid new : Kept) (h : Handle) (client : Progress) (taken : Taken) (answer : LineAnswer) → Steps old mid (λ w v. TakeNote w h (Ok (TookNote (taken_of taken))) v)
+    → ((w : World) → Stands old w → WasTold h client w) → IsNoteHandedOut old.looks mid.looks taken → StepsWhere mid new (WasTold h (noted_by (machine_note taken) client)) (λ w v. EndNote w h v) → KeptSo taken slots news answer
+    → TakeLeads (record { graph = old; components = components; slots = slots }) (record { graph = new; components = components; slots = news }) h answer
+call_taken components slots news old mid new h client (notes.Told event) answer step told handed ended K = event_taken components slots news old mid new h client event answer step told ended K
+call_taken components slots news old mid new h client (notes.EmptyDone header) answer step told handed ended K = emptied_taken components slots news old mid new h client header answer step told handed.handed ended K
+call_taken components slots news old mid new h client (notes.FillDone header) answer step told handed ended K = filled_taken components slots news old mid new h client header answer step told handed.handed ended K
+
+-- ---- what the end of a note asks for
+
+slot_for : (slots : List Slot) (w : World) (taken : Taken) → HaveSlots slots (look w) → AtHeaderIn (taken_of taken) (λ number. IsHome number w.headers) → HasSlotFor slots taken
+slot_for slots w (notes.Told event) K H = tt
+slot_for slots w (notes.EmptyDone header) K H = known_home slots w header.held.number K H
+slot_for slots w (notes.FillDone header) K H = known_home slots w header.held.number K H
+
+module _ (slots : List Slot) (old mid : Kept) (h : Handle) (taken : Taken) (has : HasStood old slots) (step : Steps old mid (λ w v. TakeNote w h (Ok (TookNote (taken_of taken))) v)) where
+  abbrev here : World
+  here = (has.1).at.world
+
+  abbrev reached : (v : World) × Stands mid v × TakeNote here h (Ok (TookNote (taken_of taken))) v
+  reached = step here (has.1).stood.world
+
+  abbrev it : WasTaken here h (taken_of taken) reached.0
+  it = was_taken here h (taken_of taken) reached.0 reached.2
+
+  pub has_slot : HasSlotFor slots taken
+  has_slot = slot_for slots here taken (has.1).stood.known (taken_home here h (taken_of taken) reached.0 (has.1).stood.sound it)
+
+  pub is_out : IsOut h mid.looks
+  is_out =
+      let O = out_now here h (taken_of taken) reached.0 it in
+      subst (IsOut h) (reached.1).looks (some_and (component_named h (reached.0).components) _ O.component O.named O.out)
+
+-- ---- no note was there, or the call was refused
+
+pub nothing_taken : (components : List NamedComponent) (slots : List Slot) (old new : Kept) (h : Handle) (result : Result Took OmxError) (reply : TextReply) → taking h result no_progress ≡ (acts.TakeNote h, acts.Took result) ∷ []
+    → ((names : Names) → after_taking result names ≡ names) → ((names : Names) → printed names (acts.Took result) ≡ Some (Plain reply)) → Steps old new (λ w v. TakeNote w h result v)
+    → TakeLeads (record { graph = old; components = components; slots = slots }) (record { graph = new; components = components; slots = slots }) h (answers.Plain reply)
+nothing_taken components slots old new h result reply one names says step = (
+  Plain reply,
+  refl,
+  λ at S.
+      let x = step at.world S.world in (
+        record at { world = x.0 },
+        stood_after (record { graph = old; components = components; slots = slots }) at new (acts.TakeNote h) (acts.Took result) x.0 S tt x.2 x.1 tt refl refl,
+        record {
+          result = result;
+          progress = no_progress;
+          entries = (acts.TakeNote h, acts.Took result) ∷ [];
+          takes = record { both = sym one; says = says at.names };
+          names = sym (names at.names);
+          run = (x.0, tt, x.2, refl);
+        },
+      ),
+)

@@ -1,0 +1,172 @@
+-- The lines of a trace, written one after the other.
+use Rattle.std.proofs.Common.{◌≡◌, ◌≤◌, ◌<◌, ◌+◌, inl, inr, ℕ, List, [], ◌∷◌, ◌++◌, take, refl, subst, append_assoc, append-nil, ap, ◌∙◌, sym, arith, Option, Result, Ok, Err, length, get_or}
+use Rattle.std.specs.Prelude.{codes, OnOk, IfErr}
+use Rattle.std.proofs.lemmas.List.{take_more}
+use Rattle.std.specs.Io.KnownBytes.{append_known}
+use Rattle.omx_types.specs.declared.fault.Fault.{Fault}
+use Rattle.omx_types.specs.declared.fault.Fault.TheVariants.{Script as ScriptFault, Usage, BadMedia, ReadFault, WriteFault, Absent, OutOfMemory, Short, Units, NotBuilt}
+use Rattle.outside_io.specs.Causes.{Rose}
+use Rattle.outside_io.specs.Moves.{AppendsFront}
+use Rattle.outside_io.proofs.Known.{append_known-twice, append_known-nil}
+use Rattle.il_graph.proofs.Fronts.{front-after}
+use Rattle.script_lang.specs.declared.form.TraceLine.{TraceLine}
+use Rattle.script_lang.specs.declared.script.Script.TheVariants.{Trace}
+use Rattle.trace_run.specs.Naming.{Moment}
+use Rattle.trace_run.specs.Replying.{LineReply}
+use Rattle.trace_run.specs.Lines.{Answered}
+use Rattle.trace_run.specs.Standing.{Parts, Stood}
+use Rattle.trace_run.specs.Traced.{line_text, Lead, beginning, GotTrace, GotFront, GotLines, IsStopped}
+use Rattle.trace_run.specs.Writing.{PrintsLine, GotBody, IsBroken, FromEach}
+
+-- ---- one line after others
+
+lead_then : (number : ℕ) (at : Moment) (lines : List TraceLine) (text : List ℕ) (last : Moment) (line : TraceLine) (reply : LineReply) (next : Moment) → Lead number at lines text last → Answered last line.form reply next
+    → Lead number at (lines ++ line ∷ []) (text ++ line_text (number + length lines) line reply) next
+lead_then number at [] text last line reply next (none, same) answered =
+    let zero : number + length {A = TraceLine} [] ≡ number = omega arith in (
+      reply,
+      next,
+      [],
+      subst (λ (m : Moment). Answered m line.form reply next) same answered,
+      (refl, refl),
+      ap (λ t. t ++ line_text (number + length {A = TraceLine} []) line reply) none ∙ ap (λ k. line_text k line reply) zero ∙ sym (append-nil (line_text number line reply)),
+    )
+lead_then number at (first ∷ lines) text last line reply next (said, then, rest, answered, more, is) ends =
+    let one : number + length (first ∷ lines) ≡ (number + 1) + length lines = omega arith in (
+      said,
+      then,
+      rest ++ line_text ((number + 1) + length lines) line reply,
+      answered,
+      lead_then (number + 1) then lines rest last line reply next more ends,
+      ap (λ t. t ++ line_text (number + length (first ∷ lines)) line reply) is
+          ∙ append_assoc (line_text number first said) rest (line_text (number + length (first ∷ lines)) line reply)
+          ∙ ap (λ k. line_text number first said ++ (rest ++ line_text k line reply)) one,
+    )
+
+-- From each moment that was stood for the lines lead to one that is stood for now, and their text was written.
+abbrev pub Carries : Parts → Parts → List TraceLine → Option (List ℕ) → Option (List ℕ) → Type 0
+Carries from now lines old new = (at : Moment) → Stood from at → (text : List ℕ) × (last : Moment) × Stood now last × Lead 1 at lines text last × (new ≡ append_known old text)
+
+pub carries_none : (from : Parts) (lines : List TraceLine) (old : Option (List ℕ)) → Carries from from (take 0 lines) old old
+carries_none from [] old at S = ([], at, S, (refl, refl), sym (append_known-nil old))
+carries_none from (line ∷ lines) old at S = ([], at, S, (refl, refl), sym (append_known-nil old))
+
+-- a line's text behind those of the lines before
+pub record Prints (now next : Parts) (lines : List TraceLine) (line : TraceLine) (piece : List ℕ) (at : Moment) (text : List ℕ) : Type 0 where
+  pub last : Moment
+  pub stood : Stood next last
+  pub lead : Lead 1 at (lines ++ line ∷ []) (text ++ piece) last
+
+prints_more : (now next : Parts) (lines : List TraceLine) (number : ℕ) (line : TraceLine) (before piece : List ℕ) (at : Moment) (text : List ℕ) (last : Moment) → Stood now last → Lead 1 at lines text last
+    → number ≡ length lines + 1 → before ≡ [] → PrintsLine now next number line before piece → Prints now next lines line piece at text
+prints_more now next lines number line before piece at text last S lead count empty (reply, leads, is) =
+    let x = leads last S in
+    let one : 1 + length lines ≡ number = omega (arith, count) in
+    let same : line_text (1 + length lines) line reply ≡ piece = ap (λ k. line_text k line reply) one ∙ sym (is ∙ ap (λ b. b ++ line_text number line reply) empty) in
+    record {
+      last = x.0;
+      stood = x.1;
+      lead = subst (λ (p : List ℕ). Lead 1 at (lines ++ line ∷ []) (text ++ p) x.0) same (lead_then 1 at lines text last line reply x.0 lead x.2);
+    }
+
+pub carries_more : (from now next : Parts) (lines : List TraceLine) (number : ℕ) (line : TraceLine) (before piece : List ℕ) (old mid new : Option (List ℕ)) → Carries from now lines old mid
+    → number ≡ length lines + 1 → before ≡ [] → PrintsLine now next number line before piece → new ≡ append_known mid piece → Carries from next (lines ++ line ∷ []) old new
+carries_more from now next lines number line before piece old mid new carries count empty prints is at S =
+    let c = carries at S in
+    let text = c.0 in
+    let last = c.1 in
+    let T = c.2 in
+    let lead = c.3 in
+    let got = c.4 in
+    let x = prints_more now next lines number line before piece at text last T lead count empty prints in
+    (text ++ piece, x.last, x.stood, x.lead, is ∙ ap (λ t. append_known t piece) got ∙ append_known-twice old text piece)
+
+-- a line more
+pub next_line : (lines : List TraceLine) (place : ℕ) (line : TraceLine) → place < length lines → line ≡ get_or lines place line → take place lines ++ line ∷ [] ≡ take (place + 1) lines
+next_line lines place line below is = ap (λ (l : TraceLine). take place lines ++ l ∷ []) is ∙ sym (take_more lines place line below)
+
+pub err_then : {T E : Type 0} (P Q : E → Type 0) (r : Result T E) → IfErr r P → ((e : E) → P e → Q e) → IfErr r Q
+err_then P Q (Ok x) h f = tt
+err_then P Q (Err error) h f = f error h
+
+pub ok_so : {T E P Q : Type 0} (r : Result T E) → OnOk r P → (P → Q) → OnOk r Q
+ok_so (Ok x) h f = f h
+ok_so (Err error) h f = tt
+
+-- ---- the end of the lines
+
+pub carried_all : (from now : Parts) (lines all : List TraceLine) (old new : Option (List ℕ)) → Carries from now lines old new → lines ≡ all → FromEach from (λ at. GotBody at all old new)
+carried_all from now lines all old new carries same at S =
+    let c = carries at S in
+    let text = c.0 in
+    let last = c.1 in
+    let T = c.2 in
+    let lead = c.3 in
+    let got = c.4 in
+    (text, last, subst (λ (l : List TraceLine). Lead 1 at l text last) same lead, got)
+
+-- memory was wanting for the next line
+pub carried_some : (from now : Parts) (all : List TraceLine) (place : ℕ) (old new : Option (List ℕ)) (before after : ℕ) → Carries from now (take place all) old new → FromEach from (λ at. IsBroken at all old new before after OutOfMemory)
+carried_some from now all place old new before after carries at S =
+    let c = carries at S in
+    let text = c.0 in
+    let last = c.1 in
+    let T = c.2 in
+    let lead = c.3 in
+    let got = c.4 in
+    (place, (text, last, lead, got))
+
+-- a front of the next line's text was written
+pub carried_front : (from now next : Parts) (all : List TraceLine) (place number : ℕ) (line : TraceLine) (cleared piece : List ℕ) (old mid new : Option (List ℕ)) (before after : ℕ) (fault : Fault)
+    → Carries from now (take place all) old mid → number ≡ length (take place all) + 1 → cleared ≡ [] → take place all ++ line ∷ [] ≡ take (place + 1) all → PrintsLine now next number line cleared piece → AppendsFront mid new piece
+    → Rose before after → fault ≡ WriteFault → FromEach from (λ at. IsBroken at all old new before after fault)
+carried_front from now next all place number line cleared piece old mid new before after fault carries count empty more prints front rose is at S =
+    let c = carries at S in
+    let text = c.0 in
+    let last = c.1 in
+    let T = c.2 in
+    let lead = c.3 in
+    let got = c.4 in
+    let x = prints_more now next (take place all) number line cleared piece at text last T lead count empty prints in
+    subst (λ (f : Fault). IsBroken at all old new before after f) (sym is)
+    (rose, (place + 1, text ++ piece, x.last, subst (λ (l : List TraceLine). Lead 1 at l (text ++ piece) x.last) more x.lead, front-after old mid new text piece got front))
+
+-- ---- the whole trace
+
+pub rose_later : (before mid after : ℕ) → before ≤ mid → Rose mid after → Rose before after
+rose_later before mid after later rose = grind arith
+
+pub rose_before : (before mid after : ℕ) → mid ≤ after → Rose before mid → Rose before after
+rose_before before mid after later rose = grind arith
+
+-- no line was written
+pub none_got : (units : ℕ) (lines : List TraceLine) (old new : Option (List ℕ)) → new ≡ old → GotLines (Trace units lines) old new
+none_got units [] old new same = (0, [], (beginning units, (refl, refl)), same ∙ sym (append_known-nil old))
+none_got units (line ∷ lines) old new same = (0, [], (beginning units, (refl, refl)), same ∙ sym (append_known-nil old))
+
+pub got_trace : (units : ℕ) (lines : List TraceLine) (old mid new : Option (List ℕ)) → GotBody (beginning units) lines old mid → new ≡ append_known mid (codes "end\n") → GotTrace (Trace units lines) old new
+got_trace units lines old mid new (body, last, lead, got) is =
+    (body ++ codes "end\n", (body, last, lead, refl), is ∙ ap (λ t. append_known t (codes "end\n")) got ∙ append_known-twice old body (codes "end\n"))
+
+-- the write of the end failed
+pub end_broken : (units : ℕ) (lines : List TraceLine) (old mid new : Option (List ℕ)) (before between after : ℕ) (fault : Fault) → GotBody (beginning units) lines old mid → AppendsFront mid new (codes "end\n")
+    → before ≤ between → Rose between after → fault ≡ WriteFault → IsStopped (Trace units lines) old new before after fault
+end_broken units lines old mid new before between after fault (body, last, lead, got) front later rose is =
+    subst (λ (f : Fault). IsStopped (Trace units lines) old new before after f) (sym is)
+    (rose_later before between after later rose, (body ++ codes "end\n", inl (body, last, lead, refl), front-after old mid new body (codes "end\n") got front))
+
+-- the lines broke off
+front_written : (units : ℕ) (lines : List TraceLine) (old new : Option (List ℕ)) → (count : ℕ) × (text : List ℕ) × (last : Moment) × Lead 1 (beginning units) (take count lines) text last × AppendsFront old new text → GotFront (Trace units lines) old new
+front_written units lines old new x = (x.1, inr (x.0, (x.2, x.3)), x.4)
+
+pub lines_broken : (units : ℕ) (lines : List TraceLine) (old new : Option (List ℕ)) (before after : ℕ) (fault : Fault) → IsBroken (beginning units) lines old new before after fault → IsStopped (Trace units lines) old new before after fault
+lines_broken units lines old new before after WriteFault (rose, rest) = (rose, front_written units lines old new rest)
+lines_broken units lines old new before after OutOfMemory (count, (text, last, lead, got)) = (count, text, (last, lead), got)
+lines_broken units lines old new before after (ScriptFault line why) broken = absurd broken
+lines_broken units lines old new before after Usage broken = absurd broken
+lines_broken units lines old new before after (BadMedia which why) broken = absurd broken
+lines_broken units lines old new before after ReadFault broken = absurd broken
+lines_broken units lines old new before after (Absent which) broken = absurd broken
+lines_broken units lines old new before after (Short which at size) broken = absurd broken
+lines_broken units lines old new before after (Units line count) broken = absurd broken
+lines_broken units lines old new before after (NotBuilt line) broken = absurd broken

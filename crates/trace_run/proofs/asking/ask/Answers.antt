@@ -1,0 +1,58 @@
+-- The act of each line is the one that it asks for, by what its names stand for.
+use Rattle.std.proofs.Common.{List}
+use Rattle.il_machine.specs.Acts as acts
+use Rattle.il_machine.specs.Whole.{Steps}
+use Rattle.trace_run.specs.Naming.{NamedHeader, handle_in, port_in}
+use Rattle.trace_run.specs.Standing.{graph_kept, AskReplied}
+use Rattle.trace_run.proofs.Replying.{at_name, at_ports, as_asked, ok_then}
+use Rattle.trace_run.proofs.asking.ask.Goals as goal
+
+pub returns-in-Free-clause-replied : goal.returns-in-Free-clause-replied
+returns-in-Free-clause-replied c headers = as_asked c.args.components.now headers c.free.result (graph_kept c.args.graph.now) (graph_kept c.free.new.graph) c.args.act.now _ c.in-Free.is
+    (at_name c.args.components.now (λ w x. acts.FreeHandle x) c.free.result (graph_kept c.args.graph.now) (graph_kept c.free.new.graph) c.handle_of.result (handle_in c.args.components.now c.in-Free.component) c.handle_of.ensures
+    (c.free.ensures c.args.components.now))
+
+pub returns-in-State-clause-replied : goal.returns-in-State-clause-replied
+returns-in-State-clause-replied c headers = as_asked c.args.components.now headers c.state.result (graph_kept c.args.graph.now) (graph_kept c.args.graph.now) c.args.act.now _ c.in-State.is
+    (at_name c.args.components.now (λ w x. acts.GetState x) c.state.result (graph_kept c.args.graph.now) (graph_kept c.args.graph.now) c.handle_of-in-State.result (handle_in c.args.components.now c.in-State.component) c.handle_of-in-State.ensures
+    (c.state.ensures c.args.components.now))
+
+pub returns-in-Port-clause-replied : goal.returns-in-Port-clause-replied
+returns-in-Port-clause-replied c headers = as_asked c.args.components.now headers c.port.result (graph_kept c.args.graph.now) (graph_kept c.args.graph.now) c.args.act.now _ c.in-Port.is
+    (at_name c.args.components.now (λ w x. acts.PortView x c.in-Port.at.index) c.port.result (graph_kept c.args.graph.now) (graph_kept c.args.graph.now) c.handle_of-in-Port.result (handle_in c.args.components.now c.in-Port.at.component) c.handle_of-in-Port.ensures
+    (c.port.ensures c.args.components.now))
+
+pub returns-in-Tunnel-clause-replied : goal.returns-in-Tunnel-clause-replied
+returns-in-Tunnel-clause-replied c headers = as_asked c.args.components.now headers c.tunnel.result (graph_kept c.args.graph.now) (graph_kept c.tunnel.new.graph) c.args.act.now _ c.in-Tunnel.is
+    (at_ports c.args.components.now acts.SetupTunnel c.tunnel.result (graph_kept c.args.graph.now) (graph_kept c.tunnel.new.graph) c.port_id.result c.port_id-in-Tunnel.result (port_in c.args.components.now c.in-Tunnel.first) (port_in c.args.components.now c.in-Tunnel.second) c.port_id.ensures c.port_id-in-Tunnel.ensures
+    (c.tunnel.ensures c.args.components.now))
+
+pub returns-in-DropTunnel-clause-replied : goal.returns-in-DropTunnel-clause-replied
+returns-in-DropTunnel-clause-replied c headers = as_asked c.args.components.now headers c.drop_tunnel.result (graph_kept c.args.graph.now) (graph_kept c.drop_tunnel.new.graph) c.args.act.now _ c.in-DropTunnel.is
+    (at_ports c.args.components.now acts.DropTunnel c.drop_tunnel.result (graph_kept c.args.graph.now) (graph_kept c.drop_tunnel.new.graph) c.port_id-in-DropTunnel.result c.port_id-in-DropTunnel-2.result (port_in c.args.components.now c.in-DropTunnel.first) (port_in c.args.components.now c.in-DropTunnel.second) c.port_id-in-DropTunnel.ensures c.port_id-in-DropTunnel-2.ensures
+    (c.drop_tunnel.ensures c.args.components.now))
+
+pub returns-in-Run-clause-replied : goal.returns-in-Run-clause-replied
+returns-in-Run-clause-replied c headers = as_asked c.args.components.now headers c.run.result (graph_kept c.args.graph.now) (graph_kept c.run.new.graph) c.args.act.now _ c.in-Run.is
+    (at_name c.args.components.now (λ w x. acts.RunCommand x) c.run.result (graph_kept c.args.graph.now) (graph_kept c.run.new.graph) c.handle_of-in-Run.result (handle_in c.args.components.now c.in-Run.component) c.handle_of-in-Run.ensures
+    c.run.ensures)
+
+pub returns-in-Supply-clause-replied : goal.returns-in-Supply-clause-replied
+returns-in-Supply-clause-replied c = ok_then _ (λ reply. (headers : List NamedHeader) → Steps (graph_kept c.args.graph.now) (graph_kept c.supply.new.graph) (AskReplied c.args.components.now headers c.args.act.now reply)) c.supply.result c.supply.ensures.replied (λ reply said headers.
+    as_asked c.args.components.now headers reply (graph_kept c.args.graph.now) (graph_kept c.supply.new.graph) c.args.act.now _ c.in-Supply.is
+    (at_name c.args.components.now (λ w x. acts.Supply x.handle x.index) reply (graph_kept c.args.graph.now) (graph_kept c.supply.new.graph) c.port_id-in-Supply.result (port_in c.args.components.now c.in-Supply.at) c.port_id-in-Supply.ensures said))
+
+pub returns-in-Release-clause-replied : goal.returns-in-Release-clause-replied
+returns-in-Release-clause-replied c headers = as_asked c.args.components.now headers c.release.result (graph_kept c.args.graph.now) (graph_kept c.release.new.graph) c.args.act.now _ c.in-Release.is
+    (at_name c.args.components.now (λ w x. acts.Release x.handle x.index) c.release.result (graph_kept c.args.graph.now) (graph_kept c.release.new.graph) c.port_id-in-Release.result (port_in c.args.components.now c.in-Release.at) c.port_id-in-Release.ensures
+    c.release.ensures)
+
+pub returns-in-Over-clause-replied : goal.returns-in-Over-clause-replied
+returns-in-Over-clause-replied c headers = as_asked c.args.components.now headers c.over.result (graph_kept c.args.graph.now) (graph_kept c.over.new.graph) c.args.act.now _ c.in-Over.is
+    (at_name c.args.components.now (λ w x. acts.HandOver x.handle x.index) c.over.result (graph_kept c.args.graph.now) (graph_kept c.over.new.graph) c.port_id-in-Over.result (port_in c.args.components.now c.in-Over.at) c.port_id-in-Over.ensures
+    c.over.ensures)
+
+pub returns-in-Back-clause-replied : goal.returns-in-Back-clause-replied
+returns-in-Back-clause-replied c headers = as_asked c.args.components.now headers c.back.result (graph_kept c.args.graph.now) (graph_kept c.back.new.graph) c.args.act.now _ c.in-Back.is
+    (at_name c.args.components.now (λ w x. acts.HandBack x.handle x.index) c.back.result (graph_kept c.args.graph.now) (graph_kept c.back.new.graph) c.port_id-in-Back.result (port_in c.args.components.now c.in-Back.at) c.port_id-in-Back.ensures
+    c.back.ensures)

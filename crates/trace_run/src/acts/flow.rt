@@ -1,0 +1,57 @@
+//! The acts of a component on one of its ports.
+
+ghost use Rattle.std.specs.Prelude.{◌≡◌, IfOk, OnErr};
+ghost use Rattle.il_machine.specs.Acts as acts;
+ghost use Rattle.il_machine.specs.Whole.{Steps};
+ghost use Rattle.trace_run.specs.Standing.{graph_kept, Replied, IsNamedGraph};
+
+use crate::OutOfMemory;
+use crate::acts::replies::{acted_reply, answer_reply};
+use crate::client::TraceClient;
+use crate::names::NamedComponent;
+use act_text::TextReply;
+use il_graph::Graph;
+use omx_types::{CallError, PortId};
+use std::alloc::{AllocError, Global};
+
+pub fn supply(
+    graph: &mut Graph<TraceClient>,
+    components: &[NamedComponent],
+    alloc: Global,
+    at: PortId,
+) -> Result<TextReply, OutOfMemory>
+    requires { IsNamedGraph (graph_kept graph.old) components.now }
+    ensures replied { IfOk result (λ reply. Steps (graph_kept graph.old) (graph_kept graph.new) (λ w v. Replied components.now (acts.Supply at.handle at.index) reply w v)) }
+    ensures unchanged { OnErr result (graph_kept graph.new ≡ graph_kept graph.old) }
+{
+    match graph.supply(alloc, at.handle, at.index) {
+        Ok(acted) => Ok(acted_reply(components, acted)),
+        Err(CallError::Omx(error)) => Ok(TextReply::Error(error)),
+        Err(CallError::OutOfMemory) => Err(AllocError),
+    }
+}
+
+pub fn release(
+    graph: &mut Graph<TraceClient>,
+    components: &[NamedComponent],
+    at: PortId,
+) -> TextReply
+    requires { IsNamedGraph (graph_kept graph.old) components.now }
+    ensures { Steps (graph_kept graph.old) (graph_kept graph.new) (λ w v. Replied components.now (acts.Release at.handle at.index) result w v) }
+{
+    answer_reply(components, graph.release(at.handle, at.index))
+}
+
+pub fn over(graph: &mut Graph<TraceClient>, components: &[NamedComponent], at: PortId) -> TextReply
+    requires { IsNamedGraph (graph_kept graph.old) components.now }
+    ensures { Steps (graph_kept graph.old) (graph_kept graph.new) (λ w v. Replied components.now (acts.HandOver at.handle at.index) result w v) }
+{
+    answer_reply(components, graph.hand_over(at.handle, at.index))
+}
+
+pub fn back(graph: &mut Graph<TraceClient>, components: &[NamedComponent], at: PortId) -> TextReply
+    requires { IsNamedGraph (graph_kept graph.old) components.now }
+    ensures { Steps (graph_kept graph.old) (graph_kept graph.new) (λ w v. Replied components.now (acts.HandBack at.handle at.index) result w v) }
+{
+    answer_reply(components, graph.hand_back(at.handle, at.index))
+}

@@ -1,0 +1,156 @@
+//! The lines that name neither a header nor the kind of a component.
+
+ghost use Rattle.std.specs.Prelude.{◌≡◌, List, IfOk, OnErr};
+ghost use Rattle.il_machine.specs.Whole.{Steps};
+ghost use Rattle.il_machine.specs.Acts as acts;
+ghost use Rattle.omx_types.specs.declared.command.Command.TheVariants.{MarkBuffer};
+ghost use Rattle.trace_run.specs.Naming.{NamedHeader, handle_in};
+ghost use Rattle.trace_run.specs.Standing.{graph_kept, AskReplied, IsNamedGraph, IsPlain, IsSetting, IsSending, Replied};
+
+use crate::OutOfMemory;
+use crate::acts::{
+    back, drop_tunnel, free, over, port, release, run, send, set_config, set_definition,
+    set_parameter, state, supply, tunnel,
+};
+use crate::client::TraceClient;
+use crate::names::{NamedComponent, handle_of, port_id};
+use act_text::{Name, TextAct, TextReply};
+use il_graph::Graph;
+use omx_types::{Command, Param};
+use std::alloc::Global;
+
+/// Makes the act of a line that isn't `take`.
+pub fn ask(
+    graph: &mut Graph<TraceClient>,
+    components: &[NamedComponent],
+    alloc: Global,
+    act: &TextAct,
+) -> Result<TextReply, OutOfMemory>
+    requires plain { IsPlain act.now }
+    requires named { IsNamedGraph (graph_kept graph.old) components.now }
+    ensures replied { IfOk result (λ reply. (headers : List NamedHeader) → Steps (graph_kept graph.old) (graph_kept graph.new) (AskReplied components.now headers act.now reply)) }
+    ensures unchanged { OnErr result (graph_kept graph.new ≡ graph_kept graph.old) }
+{
+    match act {
+        TextAct::Free(component) => Ok(free(graph, handle_of(components, component))),
+        TextAct::State(component) => Ok(state(graph, handle_of(components, component))),
+        TextAct::Port(at) => Ok(port(graph, handle_of(components, &at.component), at.index)),
+        TextAct::SetPort { .. }
+        | TextAct::SetSupplier { .. }
+        | TextAct::SetPriority { .. }
+        | TextAct::Gain { .. }
+        | TextAct::Weight { .. } => Ok(set(graph, components, act)),
+        TextAct::Tunnel { first, second } => Ok(tunnel(
+            graph,
+            port_id(components, first),
+            port_id(components, second),
+        )),
+        TextAct::DropTunnel { first, second } => Ok(drop_tunnel(
+            graph,
+            port_id(components, first),
+            port_id(components, second),
+        )),
+        TextAct::SendState { .. }
+        | TextAct::SendFlush { .. }
+        | TextAct::SendDisable { .. }
+        | TextAct::SendEnable { .. }
+        | TextAct::SendMark { .. } => Ok(command(graph, components, act)),
+        TextAct::Run(component) => Ok(run(graph, components, handle_of(components, component))),
+        TextAct::Supply(at) => supply(graph, components, alloc, port_id(components, at)),
+        TextAct::Release(at) => Ok(release(graph, components, port_id(components, at))),
+        TextAct::Over(at) => Ok(over(graph, components, port_id(components, at))),
+        TextAct::Back(at) => Ok(back(graph, components, port_id(components, at))),
+        TextAct::Take(_) | TextAct::End(_) => Ok(TextReply::NotOut),
+    }
+}
+
+/// Sets what the line says.
+fn set(graph: &mut Graph<TraceClient>, components: &[NamedComponent], act: &TextAct) -> TextReply
+    requires { IsSetting act.now }
+    ensures { (headers : List NamedHeader) → Steps (graph_kept graph.old) (graph_kept graph.new) (AskReplied components.now headers act.now result) }
+{
+    match act {
+        TextAct::SetPort {
+            port,
+            format,
+            count,
+            size,
+        } => set_definition(graph, port_id(components, port), *format, *count, *size),
+        TextAct::SetSupplier { port, supplier } => {
+            let at = port_id(components, port);
+            set_parameter(graph, at.handle, 2, at.index, Param::Supplier(*supplier))
+        }
+        TextAct::SetPriority {
+            component,
+            priority,
+        } => {
+            let h = handle_of(components, component);
+            set_parameter(graph, h, 3, 0, Param::Priority(*priority))
+        }
+        TextAct::Gain { component, gain } => {
+            let h = handle_of(components, component);
+            set_config(graph, h, 4, 0, Param::Gain(*gain))
+        }
+        TextAct::Weight { port, weight } => {
+            let at = port_id(components, port);
+            set_config(graph, at.handle, 5, at.index, Param::Weight(*weight))
+        }
+        _ => unreachable!(),
+    }
+}
+
+/// Sends the command that the line says.
+fn command(
+    graph: &mut Graph<TraceClient>,
+    components: &[NamedComponent],
+    act: &TextAct,
+) -> TextReply
+    requires { IsSending act.now }
+    ensures { (headers : List NamedHeader) → Steps (graph_kept graph.old) (graph_kept graph.new) (AskReplied components.now headers act.now result) }
+{
+    match act {
+        TextAct::SendState { component, state } => {
+            let h = handle_of(components, component);
+            send(graph, h, Command::StateSet(*state))
+        }
+        TextAct::SendFlush { component, ports } => {
+            let h = handle_of(components, component);
+            send(graph, h, Command::Flush(*ports))
+        }
+        TextAct::SendDisable { component, ports } => {
+            let h = handle_of(components, component);
+            send(graph, h, Command::PortDisable(*ports))
+        }
+        TextAct::SendEnable { component, ports } => {
+            let h = handle_of(components, component);
+            send(graph, h, Command::PortEnable(*ports))
+        }
+        TextAct::SendMark {
+            component,
+            port,
+            target,
+            value,
+        } => send_mark(graph, components, component, *port, target, *value),
+        _ => unreachable!(),
+    }
+}
+
+fn send_mark(
+    graph: &mut Graph<TraceClient>,
+    components: &[NamedComponent],
+    component: &Name,
+    port: u32,
+    target: &Name,
+    value: u64,
+) -> TextReply
+    ensures { Steps (graph_kept graph.old) (graph_kept graph.new) (λ w v. Replied components.now
+        (acts.SendCommand (handle_in components.now component.now) (MarkBuffer port (handle_in components.now target.now) value)) result w v) }
+{
+    let target = handle_of(components, target);
+    let mark = Command::MarkBuffer {
+        port,
+        target,
+        value,
+    };
+    send(graph, handle_of(components, component), mark)
+}

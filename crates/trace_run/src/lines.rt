@@ -1,0 +1,142 @@
+//! One line of a trace: its acts, and its answer.
+
+ghost use Rattle.std.specs.Prelude.{◌≡◌, IfOk, OnOk, OnErr};
+ghost use Rattle.script_lang.specs.declared.form.TraceForm.TheVariants as forms;
+ghost use Rattle.trace_run.specs.Standing.{parts, IsStood, LeadsTo, NamesHeader};
+ghost use Rattle.trace_run.specs.Writing.{PrintsLine};
+
+use crate::OutOfMemory;
+use crate::asking::ask;
+use crate::client::TraceClient;
+use crate::desk::Desk;
+use crate::headers::{allocate, empty, fill, free, get, use_bytes};
+use crate::names::{NamedComponent, handle_of};
+use crate::notes::take;
+use crate::printing::{put_end, put_head};
+use crate::reply::LineAnswer;
+use crate::slots::Slot;
+use act_text::{TextAct, TextReply};
+use il_graph::Graph;
+use script_lang::{TraceForm, TraceLine};
+use std::alloc::Global;
+
+/// Makes the acts of a line, and appends its text.
+pub fn put_line(
+    desk: &mut Desk,
+    alloc: Global,
+    number: u64,
+    line: &TraceLine,
+    text: &mut Vec<u8>,
+) -> Result<(), OutOfMemory>
+    requires { IsStood (parts desk.old.graph desk.old.components.items desk.old.slots.items) }
+    ensures prints { OnOk result (PrintsLine
+        (parts desk.old.graph desk.old.components.items desk.old.slots.items)
+        (parts desk.new.graph desk.new.components.items desk.new.slots.items)
+        number line.now text.old.items text.new.items) }
+    ensures stood { IsStood (parts desk.new.graph desk.new.components.items desk.new.slots.items) }
+{
+    put_head(number, line.text.as_bytes(), text)?;
+    match answer(desk, alloc, &line.form) {
+        Ok(answer) => put_end(answer, desk, text),
+        Err(error) => Err(error),
+    }
+}
+
+/// Makes the acts of a line.
+fn answer(desk: &mut Desk, alloc: Global, form: &TraceForm) -> Result<LineAnswer, OutOfMemory>
+    requires { IsStood (parts desk.old.graph desk.old.components.items desk.old.slots.items) }
+    ensures leads { IfOk result (LeadsTo (parts desk.old.graph desk.old.components.items desk.old.slots.items) (parts desk.new.graph desk.new.components.items desk.new.slots.items) form.now) }
+    ensures unchanged { OnErr result (parts desk.new.graph desk.new.components.items desk.new.slots.items ≡ parts desk.old.graph desk.old.components.items desk.old.slots.items) }
+{
+    match form {
+        TraceForm::Act(act) => act_answer(
+            &mut desk.graph,
+            desk.components.as_slice(),
+            &mut desk.slots,
+            alloc,
+            act,
+        ),
+        TraceForm::Get { component, kind } => Ok(LineAnswer::Plain(get(
+            &mut desk.graph,
+            &mut desk.components,
+            desk.slots.as_slice(),
+            alloc,
+            component,
+            kind.as_bytes(),
+        )?)),
+        _ => header_answer(
+            &mut desk.graph,
+            desk.components.as_slice(),
+            &mut desk.slots,
+            alloc,
+            form,
+        ),
+    }
+}
+
+/// Makes the acts of a line that names no header and no kind.
+fn act_answer(
+    graph: &mut Graph<TraceClient>,
+    components: &[NamedComponent],
+    slots: &mut Vec<Slot>,
+    alloc: Global,
+    act: &TextAct,
+) -> Result<LineAnswer, OutOfMemory>
+    requires { IsStood (parts graph.old components.now slots.old.items) }
+    ensures leads { IfOk result (LeadsTo (parts graph.old components.now slots.old.items) (parts graph.new components.now slots.new.items) (forms.Act act.now)) }
+    ensures unchanged { OnErr result (parts graph.new components.now slots.new.items ≡ parts graph.old components.now slots.old.items) }
+{
+    match act {
+        TextAct::Take(component) => Ok(take(graph, slots, handle_of(components, component))),
+        TextAct::End(_) => Ok(LineAnswer::Plain(TextReply::NotOut)),
+        _ => Ok(LineAnswer::Plain(ask(graph, components, alloc, act)?)),
+    }
+}
+
+/// Makes the act of a line that names a header.
+fn header_answer(
+    graph: &mut Graph<TraceClient>,
+    components: &[NamedComponent],
+    slots: &mut Vec<Slot>,
+    alloc: Global,
+    form: &TraceForm,
+) -> Result<LineAnswer, OutOfMemory>
+    requires form { NamesHeader form.now }
+    requires stood { IsStood (parts graph.old components.now slots.old.items) }
+    ensures leads { IfOk result (LeadsTo (parts graph.old components.now slots.old.items) (parts graph.new components.now slots.new.items) form.now) }
+    ensures unchanged { OnErr result (parts graph.new components.now slots.new.items ≡ parts graph.old components.now slots.old.items) }
+{
+    match form {
+        TraceForm::Alloc { header, port } => {
+            let reply = allocate(graph, components, slots, alloc, header, port)?;
+            Ok(LineAnswer::Plain(reply))
+        }
+        TraceForm::UseBuf {
+            header,
+            port,
+            length,
+        } => {
+            let reply = use_bytes(graph, components, slots, alloc, header, port, *length)?;
+            Ok(LineAnswer::Plain(reply))
+        }
+        TraceForm::FreeBuf { header, port } => {
+            let reply = free(graph, components, slots, header, port);
+            Ok(LineAnswer::Plain(reply))
+        }
+        TraceForm::Etb {
+            header,
+            port,
+            bytes,
+            eos,
+        } => {
+            let bytes = bytes.as_bytes();
+            let reply = empty(graph, components, slots, header, port, bytes, *eos);
+            Ok(LineAnswer::Plain(reply))
+        }
+        TraceForm::Ftb { header, port } => {
+            let reply = fill(graph, components, slots, header, port);
+            Ok(LineAnswer::Plain(reply))
+        }
+        _ => unreachable!(),
+    }
+}

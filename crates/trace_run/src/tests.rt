@@ -1,0 +1,183 @@
+use crate::trace;
+use outside_io::MemorySink;
+use script_lang::{Script, ScriptError, read_script};
+use std::alloc::Global;
+use std::process::Abort;
+use std::test::Fail;
+
+/// What a script prints.
+fn printed(rt: &impl Abort, alloc: Global, text: &[u8]) -> Vec<u8> {
+    let Ok(script) = read_script(alloc, text, false, "", "") else {
+        panic!(rt; "no script")
+    };
+    let Ok(mut sink) = MemorySink::new(alloc, 65536) else {
+        panic!(rt; "no memory")
+    };
+    let done = trace(alloc, &script, &mut sink);
+    assert!(rt; done.is_ok());
+    sink.into_bytes()
+}
+
+#[test]
+fn a_sink_to_idle(rt: HostRuntime) -> Result<(), Fail> {
+    let script = b"omx 1 trace
+get a OMX.lab.sink.wav
+send a state Idle
+run a
+take a
+alloc x a.0
+take a
+alloc y a.0
+take a
+state a
+";
+    let text = b"1: get a OMX.lab.sink.wav = ok
+2: send a state Idle = ok
+3: run a = did
+4: take a = none
+5: alloc x a.0 = ok
+6: take a = none
+7: alloc y a.0 = ok
+8: take a = event state Idle
+9: state a = Idle
+end
+";
+    let out = printed(&rt, rt.alloc(), script);
+    assert_eq!(rt; out.as_slice(), text.as_slice());
+    Ok(())
+}
+
+#[test]
+fn wrong_and_same_transition(rt: HostRuntime) -> Result<(), Fail> {
+    let script = b"omx 1 trace
+get a OMX.lab.gain
+send a state Executing
+run a
+take a
+send a state Loaded
+run a
+take a
+state a
+";
+    let text = b"1: get a OMX.lab.gain = ok
+2: send a state Executing = ok
+3: run a = did
+4: take a = event error IncorrectStateTransition
+5: send a state Loaded = ok
+6: run a = did
+7: take a = event error SameState
+8: state a = Loaded
+end
+";
+    let out = printed(&rt, rt.alloc(), script);
+    assert_eq!(rt; out.as_slice(), text.as_slice());
+    Ok(())
+}
+
+#[test]
+fn port_unpopulated(rt: HostRuntime) -> Result<(), Fail> {
+    let script = b"omx 1 trace
+get a OMX.lab.sink.wav
+send a state Idle
+run a
+alloc x a.0
+alloc y a.0
+send a state Executing
+take a
+run a
+take a
+freebuf x a.0
+take a
+port a.0
+";
+    let text = b"1: get a OMX.lab.sink.wav = ok
+2: send a state Idle = ok
+3: run a = did
+4: alloc x a.0 = ok
+5: alloc y a.0 = ok
+6: send a state Executing = ok
+7: take a = event state Idle
+8: run a = did
+9: take a = event state Executing
+10: freebuf x a.0 = ok
+11: take a = event error PortUnpopulated
+12: port a.0 = input enabled steady 1 of 2
+end
+";
+    let out = printed(&rt, rt.alloc(), script);
+    assert_eq!(rt; out.as_slice(), text.as_slice());
+    Ok(())
+}
+
+#[test]
+fn header_comes_back_before_idle(rt: HostRuntime) -> Result<(), Fail> {
+    let script = b"omx 1 trace
+get a OMX.lab.sink.wav
+send a state Idle
+run a
+alloc x a.0
+alloc y a.0
+take a
+send a state Executing
+run a
+take a
+etb x a.0 0100 -
+etb x a.0 0100 -
+send a state Idle
+run a
+take a
+back a.0
+take a
+take a
+";
+    let text = b"1: get a OMX.lab.sink.wav = ok
+2: send a state Idle = ok
+3: run a = did
+4: alloc x a.0 = ok
+5: alloc y a.0 = ok
+6: take a = event state Idle
+7: send a state Executing = ok
+8: run a = did
+9: take a = event state Executing
+10: etb x a.0 0100 - = ok
+11: etb x a.0 0100 - = not held
+12: send a state Idle = ok
+13: run a = did
+14: take a = none
+15: back a.0 = did
+16: take a = empty x
+17: take a = event state Idle
+end
+";
+    let out = printed(&rt, rt.alloc(), script);
+    assert_eq!(rt; out.as_slice(), text.as_slice());
+    Ok(())
+}
+
+#[test]
+fn a_name_that_stands_for_nothing(rt: HostRuntime) -> Result<(), Fail> {
+    let script = b"omx 1 trace
+get a OMX.lab.nothing
+state a
+alloc x a.0
+freebuf x a.0
+take a
+";
+    let text = b"1: get a OMX.lab.nothing = error ComponentNotFound
+2: state a = error InvalidComponent
+3: alloc x a.0 = error InvalidComponent
+4: freebuf x a.0 = not held
+5: take a = error InvalidComponent
+end
+";
+    let out = printed(&rt, rt.alloc(), script);
+    assert_eq!(rt; out.as_slice(), text.as_slice());
+    Ok(())
+}
+
+#[test]
+fn empty_trace(rt: HostRuntime) -> Result<(), Fail> {
+    let out = printed(&rt, rt.alloc(), b"omx 1 trace\n");
+    assert_eq!(rt; out.as_slice(), b"end\n".as_slice());
+    Ok(())
+}

@@ -1,0 +1,91 @@
+ghost use Rattle.std.specs.Prelude.{◌≡◌, ◌≤◌, ◌<◌, ◌^◌, length, OnOk, IfErr};
+ghost use Rattle.std.specs.Io.KnownBytes.{append_known};
+ghost use Rattle.omx_types.specs.declared.fault.Fault.TheVariants.{WriteFault};
+ghost use Rattle.outside_io.specs.Causes.{Rose};
+ghost use Rattle.outside_io.specs.Moves.{AppendsFront};
+ghost use Rattle.script_lang.specs.declared.script.Script.TheVariants.{Trace};
+ghost use Rattle.trace_run.specs.Traced.{GotTrace, IsStopped};
+ghost use Rattle.trace_run.specs.Standing.{parts, IsStood};
+ghost use Rattle.trace_run.specs.Writing.{GotBody, IsBroken, FromEach};
+
+use crate::desk::Desk;
+use crate::lines::put_line;
+use omx_types::Fault;
+use outside_io::{Sink, write_all};
+use script_lang::{Script, TraceLine};
+use std::alloc::Global;
+
+/// Runs a trace script, and writes each line with its answer, and then `end`.
+pub fn trace<O: Sink>(alloc: Global, script: &Script, out: &mut O) -> Result<(), Fault>
+    ensures traced { OnOk result (GotTrace script.now (O.told out.old) (O.told out.new)) }
+    ensures stopped { IfErr result (IsStopped script.now (O.told out.old) (O.told out.new) (O.faults out.old) (O.faults out.new)) }
+    ensures later { O.faults out.old ≤ O.faults out.new }
+    ensures name { O.name out.new ≡ O.name out.old }
+{
+    match script {
+        Script::Trace { units, lines } => trace_lines(alloc, *units, lines.as_slice(), out),
+    }
+}
+
+fn trace_lines<O: Sink>(
+    alloc: Global,
+    units: u32,
+    lines: &[TraceLine],
+    out: &mut O,
+) -> Result<(), Fault>
+    ensures traced { OnOk result (GotTrace (Trace units lines.now) (O.told out.old) (O.told out.new)) }
+    ensures stopped { IfErr result (IsStopped (Trace units lines.now) (O.told out.old) (O.told out.new) (O.faults out.old) (O.faults out.new)) }
+    ensures later { O.faults out.old ≤ O.faults out.new }
+    ensures name { O.name out.new ≡ O.name out.old }
+{
+    let Ok(mut desk) = Desk::new(alloc, units) else {
+        return Err(Fault::OutOfMemory);
+    };
+    let written = write_lines(&mut desk, alloc, lines, out);
+    desk.close();
+    match written {
+        Ok(()) => write(out, b"end\n"),
+        Err(fault) => Err(fault),
+    }
+}
+
+/// Writes a whole text.
+fn write<O: Sink>(out: &mut O, text: &[u8]) -> Result<(), Fault>
+    ensures whole { OnOk result (O.told out.new ≡ append_known (O.told out.old) text.now) }
+    ensures front { AppendsFront (O.told out.old) (O.told out.new) text.now }
+    ensures fault { IfErr result (λ fault. (fault ≡ WriteFault) × Rose (O.faults out.old) (O.faults out.new)) }
+    ensures later { O.faults out.old ≤ O.faults out.new }
+    ensures name { O.name out.new ≡ O.name out.old }
+{
+    match write_all(out, text) {
+        Ok(()) => Ok(()),
+        Err(_) => Err(Fault::WriteFault),
+    }
+}
+
+/// Writes the lines with their answers.
+fn write_lines<O: Sink>(
+    desk: &mut Desk,
+    alloc: Global,
+    lines: &[TraceLine],
+    out: &mut O,
+) -> Result<(), Fault>
+    requires { IsStood (parts desk.old.graph desk.old.components.items desk.old.slots.items) }
+    ensures whole { OnOk result (FromEach (parts desk.old.graph desk.old.components.items desk.old.slots.items) (λ at.
+        GotBody at lines.now (O.told out.old) (O.told out.new))) }
+    ensures broken { IfErr result (λ fault. FromEach (parts desk.old.graph desk.old.components.items desk.old.slots.items) (λ at.
+        IsBroken at lines.now (O.told out.old) (O.told out.new) (O.faults out.old) (O.faults out.new) fault)) }
+    ensures stood { IsStood (parts desk.new.graph desk.new.components.items desk.new.slots.items) }
+    ensures later { O.faults out.old ≤ O.faults out.new }
+    ensures name { O.name out.new ≡ O.name out.old }
+{
+    let mut text = Vec::new(alloc);
+    for (place, line) in lines.iter().enumerate() {
+        text.clear();
+        if put_line(desk, alloc, place as u64 + 1, line, &mut text).is_err() {
+            return Err(Fault::OutOfMemory);
+        }
+        write(out, text.as_slice())?;
+    }
+    Ok(())
+}
