@@ -1,5 +1,5 @@
 -- Where all is told and no count rises, what a play comes to.
-use Rattle.std.proofs.Common.{◌≡◌, ◌⊎◌, inl, inr, ℕ, ◌<◌, ◌≤◌, List, length, Option, Some, None, Result, Ok, Err, IsTrue, IsFalse, Bool, true, false, ap, sym, subst, refl, ◌∙◌, arith}
+use Rattle.std.proofs.Common.{◌≡◌, ◌⊎◌, inl, inr, ℕ, List, Option, Some, None, Result, Ok, Err, IsTrue, IsFalse, Bool, true, false, ap, sym, subst, refl, ◌∙◌, arith}
 use Rattle.outside_io.specs.Causes.{Rose}
 use Rattle.outside_io.specs.Files.{Outside}
 use Rattle.omx_types.specs.declared.fault.Fault.{Fault}
@@ -11,11 +11,11 @@ use Rattle.omx_types.specs.declared.fault.Status.TheVariants as Statuses
 use Rattle.omx_types.specs.declared.fault.WavFault.{WavFault}
 use Rattle.wav_form.specs.declared.heads.WavHead.{WavHead}
 use Rattle.wav_form.specs.Reading.{Reads}
-use Rattle.omxrun.specs.Asked.{IsGiven, IsUnplayed, IsReadable, IsFaulty, CanPlay, IsFaultless, IsOrMemory}
+use Rattle.omxrun.specs.Asked.{IsUnplayed, IsReadable, IsFaulty, CanPlay, IsFaultless, IsOrMemory}
 use Rattle.omxrun.specs.Played.{IsPlayed, HasEndsPlayed, IsOutcome}
 use Rattle.omxrun.specs.Reasons.{ForTunnel, HasReason, IsCaused, IsOfScript, IsOfEnds, IsOfLog}
-use Rattle.omxrun.specs.Script.{IsTunnel, IsNoTunnel}
-use Rattle.omxrun.specs.Told.{IsTold, status_of}
+use Rattle.omxrun.specs.Script.{IsTunnel}
+use Rattle.omxrun.specs.Told.{IsPrinted, IsTold, status_of, outcome_text}
 use Rattle.omxrun.specs.declared.done.Done.{Done}
 use Rattle.omxrun.specs.declared.done.Done.TheVariants.{Played, Made}
 use Rattle.omxrun.proofs.Outcomes.{same-text}
@@ -26,9 +26,12 @@ abbrev pub ReadsOnce : Type 0
 ReadsOnce = (bytes : List ℕ) (one other : Result WavHead WavFault) → Reads bytes one → Reads bytes other → one ≡ other
 
 -- the faults that are left where no count rose: a file that is short, and what the files ask for
+pub printed-status : (wanted : Status) (text : List ℕ) (old new : Option (List ℕ)) (before now : ℕ) (status : Status) → (Rose before now → ⊥) → IsPrinted wanted text old new before now status → status ≡ wanted
+printed-status wanted text old new before now status print (inl (is, _, _)) = is
+printed-status wanted text old new before now status print (inr (_, rose, _)) = absurd (print rose)
+
 pub told-status : (outcome : Result Done Fault) (old new : Option (List ℕ)) (before now : ℕ) (status : Status) → (Rose before now → ⊥) → IsTold outcome old new before now status → status ≡ status_of outcome
-told-status outcome old new before now status print (inl (is, _, _)) = is
-told-status outcome old new before now status print (inr (_, rose, _)) = absurd (print rose)
+told-status outcome old new before now status print told = printed-status (status_of outcome) (outcome_text outcome) old new before now status print told
 
 -- the files of a script that is told are those of the tunnel
 at-tunnel : (script log : List ℕ) (old : Outside) (source sink bytes : List ℕ) (P : List ℕ → List ℕ → Type 0) → IsReadable script log old source sink bytes → ForTunnel script log old P → P source sink
@@ -45,7 +48,7 @@ IsLast sink log old bytes (Faults.Absent (Files.Line line)) = IsTrue (old.may_re
 IsLast sink log old bytes (Faults.Absent Files.Log) = IsTrue (old.may_refuse log) × ((head : WavHead) × Reads bytes (Ok head))
 IsLast sink log old bytes _ = ⊥
 
-none-some : {A : Type 0} (a : A) (held : Option A) → held ≡ None → held ≡ Some a → ⊥
+pub none-some : {A : Type 0} (a : A) (held : Option A) → held ≡ None → held ≡ Some a → ⊥
 none-some a held p q = let e : None ≡ Some a = sym p ∙ q in cc
 
 last-of_script : (script log : List ℕ) (old new : Outside) (source sink bytes : List ℕ) (fault : Fault) → IsReadable script log old source sink bytes → (Rose old.read_faults new.read_faults → ⊥) → IsCaused old new fault → IsOfScript script log old fault → IsLast sink log old bytes fault

@@ -1,10 +1,9 @@
 -- Words that ask for one thing ask for no other.
-use Rattle.std.proofs.Common.{◌≡◌, ℕ, ◌<◌, ◌≤◌, ◌^◌, List, [], ◌∷◌, codes, ap, sym, refl, ◌∙◌, subst, arith}
+use Rattle.std.proofs.Common.{◌≡◌, ℕ, ◌<◌, ◌^◌, List, [], ◌∷◌, codes, ap, sym, refl, ◌∙◌, subst, arith}
 use Rattle.std.specs.Fmt.{decimal}
 use Rattle.std.specs.Str.Parse.{digits_value}
 use Rattle.std.proofs.lemmas.Fmt.{decimal_is_IsNumeral}
-use Rattle.omxrun.specs.Asked.{IsUnbuilt}
-use Rattle.omxrun.specs.Words.{Asked, to_trace, to_play, to_make, AreWordsOf, AreNoForm, IsPlay, IsMake}
+use Rattle.omxrun.specs.Words.{Asked, to_trace, to_play, to_make, AreWordsOf, AreNoForm, IsAllowed, words_for, IsPlay, IsMake}
 
 -- the first byte of the first word
 abbrev first_byte : List (List ℕ) → ℕ
@@ -43,57 +42,42 @@ no_make seed frames folder fits_seed fits_frames none (to_make s f d) (same, is)
     none (subst (λ (n : ℕ). IsMake n frames folder) seed_is (subst (λ (n : ℕ). IsMake s n folder) frames_is (subst (λ (x : List ℕ). IsMake s f x) folder_is is)))
 
 -- the words of one thing are those of no other
-trace-other : (a b : ℕ) → a ≡ 116 → b ≡ 112 → a ≡ b → ⊥
-trace-other a b t p same = omega arith
+trace-play : (a b : ℕ) → a ≡ 116 → b ≡ 112 → a ≡ b → ⊥
+trace-play a b t p same = omega arith
 
-pub play-once : (words : List (List ℕ)) (script other_script : List ℕ) (workers other : ℕ) (log other_log : List ℕ) → AreWordsOf words (to_play script workers log) → AreWordsOf words (to_play other_script other other_log) → other ≡ workers
-play-once words script other_script workers other log other_log (one, is) (two, other_is) =
-    let same : codes "play" ∷ other_script ∷ decimal other ∷ other_log ∷ [] ≡ codes "play" ∷ script ∷ decimal workers ∷ log ∷ [] = sym two ∙ one in
-    let numeral : decimal other ≡ decimal workers = cc in
-    decimal-injective other workers (let h : other < 2 ^ 64 = omega (arith, other_is.few_workers) in h) (let h : workers < 2 ^ 64 = omega (arith, is.few_workers) in h) numeral
+trace-make : (a b : ℕ) → a ≡ 116 → b ≡ 109 → a ≡ b → ⊥
+trace-make a b t m same = omega arith
 
-pub play-names : (words : List (List ℕ)) (script other_script : List ℕ) (workers other : ℕ) (log other_log : List ℕ) → AreWordsOf words (to_play script workers log) → AreWordsOf words (to_play other_script other other_log) → (other_script ≡ script) × (other_log ≡ log)
-play-names words script other_script workers other log other_log (one, is) (two, other_is) =
-    let same : codes "play" ∷ other_script ∷ decimal other ∷ other_log ∷ [] ≡ codes "play" ∷ script ∷ decimal workers ∷ log ∷ [] = sym two ∙ one in
-    (let e : other_script ≡ script = cc in e, let e : other_log ≡ log = cc in e)
+one-trace : (script other : List ℕ) → words_for (to_trace script) ≡ words_for (to_trace other) → to_trace script ≡ to_trace other
+one-trace script other same = ap to_trace (let e : script ≡ other = cc in e)
 
-pub play-trace : (words : List (List ℕ)) (script : List ℕ) (workers : ℕ) (log other : List ℕ) → AreWordsOf words (to_play script workers log) → AreWordsOf words (to_trace other) → ⊥
-play-trace words script workers log other (one, _) (two, _) =
-    trace-other _ _ refl refl (ap first_byte (sym two ∙ one))
+one-play : (script other : List ℕ) (workers count : ℕ) (log more : List ℕ) → IsPlay script workers log → IsPlay other count more → words_for (to_play script workers log) ≡ words_for (to_play other count more) → to_play script workers log ≡ to_play other count more
+one-play script other workers count log more is also same =
+    let script_is : script ≡ other = cc in
+    let numeral : decimal workers ≡ decimal count = cc in
+    let log_is : log ≡ more = cc in
+    let workers_are = decimal-injective workers count (let h : workers < 2 ^ 64 = omega (arith, is.few_workers) in h) (let h : count < 2 ^ 64 = omega (arith, also.few_workers) in h) numeral in
+    ap (λ (s : List ℕ). to_play s workers log) script_is ∙ ap (λ (n : ℕ). to_play other n log) workers_are ∙ ap (to_play other count) log_is
 
-pub play-not_make : (words : List (List ℕ)) (script : List ℕ) (workers : ℕ) (log : List ℕ) (seed frames : ℕ) (folder : List ℕ) → AreWordsOf words (to_play script workers log) → AreWordsOf words (to_make seed frames folder) → ⊥
-play-not_make words script workers log seed frames folder (one, _) (two, _) =
-    play-make _ _ refl refl (ap first_byte (sym one ∙ two))
+one-make : (seed frames other_seed other_frames : ℕ) (folder other : List ℕ) → IsMake seed frames folder → IsMake other_seed other_frames other → words_for (to_make seed frames folder) ≡ words_for (to_make other_seed other_frames other) → to_make seed frames folder ≡ to_make other_seed other_frames other
+one-make seed frames other_seed other_frames folder other is also same =
+    let seed_numeral : decimal seed ≡ decimal other_seed = cc in
+    let frames_numeral : decimal frames ≡ decimal other_frames = cc in
+    let folder_is : folder ≡ other = cc in
+    let seed_is = decimal-injective seed other_seed is.seed_fits also.seed_fits seed_numeral in
+    let frames_are = decimal-injective frames other_frames (let h : frames < 2 ^ 64 = omega (arith, is.few_frames) in h) (let h : other_frames < 2 ^ 64 = omega (arith, also.few_frames) in h) frames_numeral in
+    ap (λ (n : ℕ). to_make n frames folder) seed_is ∙ ap (λ (n : ℕ). to_make other_seed n folder) frames_are ∙ ap (to_make other_seed other_frames) folder_is
 
--- a play with no workers is built
-pub built-play : (words : List (List ℕ)) (script : List ℕ) (workers : ℕ) (log : List ℕ) (asked : Asked) → AreWordsOf words (to_play script workers log) → workers ≡ 0 → AreWordsOf words asked → IsUnbuilt asked → ⊥
-built-play words script workers log (to_trace other) one none two unbuilt = play-trace words script workers log other one two
-built-play words script workers log (to_play other count more) one none two unbuilt =
-    let same = play-once words script other workers count log more one two in
-    omega (arith, same, none, unbuilt)
-built-play words script workers log (to_make seed frames folder) one none two unbuilt = play-not_make words script workers log seed frames folder one two
+same-words : (one other : Asked) → IsAllowed one → IsAllowed other → words_for one ≡ words_for other → one ≡ other
+same-words (to_trace script) (to_trace other) is also same = one-trace script other same
+same-words (to_play script workers log) (to_play other count more) is also same = one-play script other workers count log more is also same
+same-words (to_make seed frames folder) (to_make other_seed other_frames other) is also same = one-make seed frames other_seed other_frames folder other is also same
+same-words (to_trace script) (to_play other count more) is also same = absurd (trace-play _ _ refl refl (ap first_byte same))
+same-words (to_trace script) (to_make seed frames folder) is also same = absurd (trace-make _ _ refl refl (ap first_byte same))
+same-words (to_play script workers log) (to_trace other) is also same = absurd (trace-play _ _ refl refl (sym (ap first_byte same)))
+same-words (to_play script workers log) (to_make seed frames folder) is also same = absurd (play-make _ _ refl refl (ap first_byte same))
+same-words (to_make seed frames folder) (to_trace other) is also same = absurd (trace-make _ _ refl refl (sym (ap first_byte same)))
+same-words (to_make seed frames folder) (to_play other count more) is also same = absurd (play-make _ _ refl refl (sym (ap first_byte same)))
 
-make-trace : (a b : ℕ) → a ≡ 116 → b ≡ 109 → a ≡ b → ⊥
-make-trace a b t m same = omega arith
-
-pub make-not_trace : (words : List (List ℕ)) (seed frames : ℕ) (folder other : List ℕ) → AreWordsOf words (to_make seed frames folder) → AreWordsOf words (to_trace other) → ⊥
-make-not_trace words seed frames folder other (one, _) (two, _) =
-    make-trace _ _ refl refl (ap first_byte (sym two ∙ one))
-
--- the same numbers and the same folder
-pub record SameMake (seed frames : ℕ) (folder : List ℕ) (other_seed other_frames : ℕ) (other_folder : List ℕ) : Type 0 where
-  pub seeds : other_seed ≡ seed
-  pub counts : other_frames ≡ frames
-  pub folders : other_folder ≡ folder
-
-pub make-once : (words : List (List ℕ)) (seed frames other_seed other_frames : ℕ) (folder other_folder : List ℕ) → AreWordsOf words (to_make seed frames folder) → AreWordsOf words (to_make other_seed other_frames other_folder) → SameMake seed frames folder other_seed other_frames other_folder
-make-once words seed frames other_seed other_frames folder other_folder (one, is) (two, other) =
-    let same : codes "make" ∷ decimal other_seed ∷ decimal other_frames ∷ other_folder ∷ [] ≡ codes "make" ∷ decimal seed ∷ decimal frames ∷ folder ∷ [] = sym two ∙ one in
-    let seed_numeral : decimal other_seed ≡ decimal seed = cc in
-    let frames_numeral : decimal other_frames ≡ decimal frames = cc in
-    let folder_is : other_folder ≡ folder = cc in
-    record {
-      seeds = decimal-injective other_seed seed other.seed_fits is.seed_fits seed_numeral;
-      counts = decimal-injective other_frames frames (let h : other_frames < 2 ^ 64 = omega (arith, other.few_frames) in h) (let h : frames < 2 ^ 64 = omega (arith, is.few_frames) in h) frames_numeral;
-      folders = folder_is;
-    }
+pub one-asked : (words : List (List ℕ)) (one other : Asked) → AreWordsOf words one → AreWordsOf words other → one ≡ other
+one-asked words one other (is, allowed) (also, other_allowed) = same-words one other allowed other_allowed (sym is ∙ also)

@@ -1,10 +1,10 @@
 -- Where a text begins with a name and a line feed.
-use Rattle.std.proofs.Common.{◌≡◌, ◌⊎◌, inl, inr, ℕ, ◌+◌, ◌-◌, ◌<◌, ◌≤◌, List, [], ◌∷◌, ◌++◌, length, take, drop, slice_index, ap, subst, sym, ◌∙◌, refl, arith}
+use Rattle.std.proofs.Common.{◌≡◌, inl, inr, ℕ, ◌<◌, ◌≤◌, List, ◌∷◌, ◌++◌, length, take, drop, slice_index, ap, subst, sym, ◌∙◌, arith}
 use Rattle.std.specs.Prelude.{All}
 use Rattle.std.proofs.lemmas.Bool.{cases_lt}
 use Rattle.std.proofs.lemmas.List.{get_or_append_left, length-append}
 use Rattle.std.proofs.Math.Seq.{get_or-append_seam, take-append_seam, drop-append_seam}
-use Rattle.omxrun.specs.Names.{IsName, IsFileName}
+use Rattle.omxrun.specs.Names.{IsFileName}
 
 plain-in_name : (name rest : List ℕ) (len : ℕ) → All (λ byte. 32 < byte) name → len < length name → slice_index (name ++ (10 ∷ rest)) len ≤ 32 → ⊥
 plain-in_name name rest len plain below low =

@@ -1,3 +1,4 @@
+pub mod Commands
 pub mod Complete
 pub mod Forms
 pub mod Fronts
@@ -5,4 +6,5 @@ pub mod Makes
 pub mod Outcomes
 pub mod Runs
 pub mod Sounds
+pub mod Traces
 pub mod Tunnels

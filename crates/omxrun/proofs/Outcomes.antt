@@ -2,8 +2,7 @@
 use Rattle.std.proofs.Common.{◌≡◌, ◌⊎◌, inl, inr, ℕ, ◌<◌, ◌≤◌, List, length, take, Some, None, Result, Ok, Err, IsTrue, IfOk, IfErr, OnErr, ap, sym, subst, refl, ◌∙◌, arith}
 use Rattle.std.proofs.Math.Seq.{take-length}
 use Rattle.outside_io.specs.Causes.{Rose}
-use Rattle.outside_io.specs.Files.{Outside, GoesOn, SameBut, IsFrontOf}
-use Rattle.outside_io.specs.Moves.{WhereTold}
+use Rattle.outside_io.specs.Files.{Outside, GoesOn, SameBut}
 use Rattle.outside_io.specs.Whole.{HasReadReason, HasWriteReason, IsKeptOrFrontOf}
 use Rattle.outside_io.specs.declared.media.Refused.{Refused}
 use Rattle.outside_io.specs.declared.media.Refused.TheVariants as Refusals
@@ -16,8 +15,8 @@ use Rattle.omx_types.specs.declared.fault.Unbuilt.TheVariants as Unbuilts
 use Rattle.wav_form.specs.declared.heads.WavHead.{WavHead}
 use Rattle.omxrun.specs.Copied.{IsTextOf, IsCopied, HasCopied, IsKeptOrFront}
 use Rattle.omxrun.specs.Faults.{fault_of_script, fault_of_log}
-use Rattle.omxrun.specs.Played.{EndsPlayed, HasEndsPlayed, EndsLeft, IsPlayed, IsLeft, IsOutcome, IsEndsOutcome, SameButTwo, log_text}
-use Rattle.omxrun.specs.Reasons.{ForTunnel, HasReason, IsCaused, IsOfScript, IsOfEnds, IsOfLog, IsShortSound, IsValid, IsEarly, IsUnlogged}
+use Rattle.omxrun.specs.Played.{HasEndsPlayed, EndsLeft, IsOutcome, IsEndsOutcome, log_text}
+use Rattle.omxrun.specs.Reasons.{ForTunnel, IsCaused, IsOfScript, IsOfEnds, IsOfLog, IsValid}
 use Rattle.omxrun.specs.Script.{IsTunnel, IsNoTunnel}
 use Rattle.omxrun.specs.declared.done.Done.{Done}
 use Rattle.omxrun.specs.declared.done.Done.TheVariants.{Played, Made}

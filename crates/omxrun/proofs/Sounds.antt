@@ -1,14 +1,12 @@
 -- What the play of an opened source leaves, from its parts.
-use Rattle.std.proofs.Common.{◌≡◌, ◌⊎◌, inl, inr, ℕ, ◌+◌, ◌-◌, ◌*◌, ◌/◌, ◌%◌, ◌<◌, ◌≤◌, min, max, List, [], ◌∷◌, ◌++◌, take, drop, length, Option, Some, None, Result, Ok, Err, IsOk, OnOk, OnErr, IfOk, IfErr, IsSome, IsTrue, Bool, true, false, ap, sym, subst, refl, ◌∙◌, arith, length-drop}
+use Rattle.std.proofs.Common.{◌≡◌, inl, inr, ℕ, ◌+◌, ◌*◌, ◌/◌, ◌%◌, ◌<◌, List, [], ◌∷◌, ◌++◌, drop, length, Option, Some, Result, Ok, Err, OnOk, OnErr, IfOk, IfErr, IsTrue, Bool, ap, sym, subst, refl, ◌∙◌, arith, length-drop}
 use Rattle.std.proofs.lemmas.Bool.{cond_both, eqb-true, eqb-false}
 use Rattle.std.proofs.lemmas.List.{length-append, length-take}
 use Rattle.std.specs.Prelude.{if◌then◌else◌, ◌==◌}
 use Rattle.std.proofs.Math.Seq.{take-length}
-use Rattle.std.specs.Io.KnownBytes.{append_known}
 use Rattle.outside_io.specs.Files.{Outside, IsFrontOf}
 use Rattle.outside_io.specs.Moves.{AppendsFront, WhereTold}
-use Rattle.outside_io.specs.Stops.{GaveNothing}
-use Rattle.outside_io.proofs.Closed.{closed-front, told_value}
+use Rattle.outside_io.proofs.Closed.{closed-front}
 use Rattle.outside_io.specs.declared.source.Failed.{Failed}
 use Rattle.omx_types.specs.Formats.{frame_bytes_of}
 use Rattle.omx_types.specs.declared.format.Format.{Format}
@@ -22,8 +20,8 @@ use Rattle.wav_form.specs.declared.heads.WavHead.{WavHead}
 use Rattle.wav_form.specs.Reading.{Reads, FitsFile}
 use Rattle.wav_form.specs.Stops.{UnlessStopped, IfShort, StoppedShort}
 use Rattle.wav_form.specs.Writing.{written, head_of, head_len, pad_of}
-use Rattle.omxrun.specs.Copied.{samples_in, text_of, IsTextOf, IsCopied, HasCopied, IsKeptOrFront}
-use Rattle.omxrun.specs.Reasons.{IsOfEnds, IsShortSound, IsValid}
+use Rattle.omxrun.specs.Copied.{samples_in, text_of, HasCopied, IsKeptOrFront}
+use Rattle.omxrun.specs.Reasons.{IsOfEnds, IsValid}
 use Rattle.omxrun.specs.Sounds.{written_size, HoldsText, HoldsFront, IsOfRun, ended, fault_of_head}
 use Rattle.omxrun.specs.declared.done.Done.{Done}
 use Rattle.omxrun.specs.declared.done.Done.TheVariants.{Played, Made}

@@ -1,8 +1,8 @@
 -- A script names one pair of files, and is short.
-use Rattle.std.proofs.Common.{◌≡◌, ℕ, ◌+◌, ◌<◌, ◌≤◌, List, [], ◌∷◌, ◌++◌, length, codes, ap, sym, ◌∙◌, arith}
+use Rattle.std.proofs.Common.{◌≡◌, ℕ, ◌≤◌, List, ◌∷◌, ◌++◌, length, codes, ap, sym, ◌∙◌, arith}
 use Rattle.std.proofs.lemmas.List.{append_cancel_left, length-append}
-use Rattle.omxrun.specs.Script.{IsTunnel, sink_lines, tunnel_script}
-use Rattle.omxrun.proofs.Fronts.{AreOne, names-once}
+use Rattle.omxrun.specs.Script.{IsTunnel, sink_lines}
+use Rattle.omxrun.proofs.Fronts.{names-once}
 
 pub record SameEnds (source sink other_source other_sink : List ℕ) : Type 0 where
   pub sources : source ≡ other_source

@@ -1,20 +1,23 @@
 -- When a command comes to its end, and which fault it must tell.
-use Rattle.std.specs.Prelude.{◌≡◌, ◌⊎◌, ℕ, ◌≤◌, ◌<◌, List, length, Some, IsFalse, IsTrue, Result, Ok, Err}
+use Rattle.std.specs.Prelude.{◌≡◌, ◌⊎◌, ℕ, ◌≤◌, List, length, Some, IsFalse, IsTrue, Ok, Err}
 use Rattle.outside_io.specs.Causes.{Rose}
 use Rattle.outside_io.specs.Files.{Outside}
 use Rattle.omx_types.specs.declared.fault.Fault.TheVariants.{OutOfMemory}
 use Rattle.omx_types.specs.declared.fault.WavFault.{WavFault}
 use Rattle.omx_types.specs.declared.fault.Status.{Status}
 use Rattle.omx_types.specs.declared.fault.Status.TheVariants.{Fault}
+use Rattle.omx_types.specs.declared.fault.ScriptWhy.{ScriptWhy}
 use Rattle.load_gen.specs.Script.{first_name, second_name, script_name}
+use Rattle.script_lang.specs.Scripts.{IsScript, ReadsAs, fault_at}
+use Rattle.script_lang.specs.declared.script.Script.{Script}
 use Rattle.wav_form.specs.declared.heads.WavHead.{WavHead}
 use Rattle.wav_form.specs.Reading.{Reads}
 use Rattle.omxrun.specs.Script.{IsTunnel, IsNoTunnel}
 use Rattle.omxrun.specs.Words.{Asked, to_trace, to_play, to_make}
 
--- forms of words that aren't built yet
+-- the forms of words that aren't built yet: a play by workers
 abbrev pub IsUnbuilt : Asked → Type 0
-IsUnbuilt (to_trace script) = Unit {0}
+IsUnbuilt (to_trace script) = ⊥
 IsUnbuilt (to_play script workers log) = 1 ≤ workers
 IsUnbuilt (to_make seed frames folder) = ⊥
 
@@ -58,6 +61,21 @@ pub record CanPlay (script log : List ℕ) (old : Outside) : Type 0 where
   pub reads : Reads bytes (Ok head)
   pub sink_let_in : IsFalse (old.may_refuse sink)
   pub log_let_in : IsFalse (old.may_refuse log)
+
+-- the script is told and given whole, and is one
+pub record CanTrace (script : List ℕ) (old : Outside) : Type 0 where
+  pub tells : IsTrue old.tells
+  pub bytes : List ℕ
+  pub given : IsGiven old script bytes
+  pub read : Script
+  pub is : IsScript bytes read
+
+-- the script is told and given whole, and is none, by this fault
+pub record IsUntraced (script : List ℕ) (old : Outside) (line : ℕ) (why : ScriptWhy) : Type 0 where
+  pub tells : IsTrue old.tells
+  pub bytes : List ℕ
+  pub given : IsGiven old script bytes
+  pub refused : ReadsAs bytes (Err (fault_at line why))
 
 -- none of the three made names is refused
 pub record CanMake (folder : List ℕ) (old : Outside) : Type 0 where

@@ -1,4 +1,5 @@
 pub mod Asked
+pub mod Commands
 pub mod Copied
 pub mod Faults
 pub mod Making
@@ -10,4 +11,5 @@ pub mod Sounds
 pub mod Stopped
 pub mod Texts
 pub mod Told
+pub mod Traced
 pub mod Words

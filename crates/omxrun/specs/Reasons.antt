@@ -6,7 +6,7 @@ use Rattle.outside_io.specs.Moves.{WhereTold}
 use Rattle.outside_io.specs.Whole.{IsShort}
 use Rattle.omx_types.specs.declared.fault.Fault.{Fault}
 use Rattle.omx_types.specs.declared.fault.Fault.TheVariants as Faults
-use Rattle.omx_types.specs.declared.fault.Which.TheVariants.{Script, Log, Line, Made}
+use Rattle.omx_types.specs.declared.fault.Which.TheVariants.{Script, Log, Line}
 use Rattle.omx_types.specs.declared.fault.Unbuilt.TheVariants as Unbuilts
 use Rattle.wav_form.specs.declared.heads.WavHead.{WavHead}
 use Rattle.wav_form.specs.Reading.{Reads}

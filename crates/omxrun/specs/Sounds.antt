@@ -1,5 +1,5 @@
 -- What the play of an opened source leaves, and what its faults say.
-use Rattle.std.specs.Prelude.{◌≡◌, ◌⊎◌, ℕ, ◌+◌, ◌*◌, ◌%◌, List, length, take, drop, Option, Some, Result, Ok, Err, is_err, Bool, if◌then◌else◌, IsTrue}
+use Rattle.std.specs.Prelude.{◌≡◌, ◌⊎◌, ℕ, ◌+◌, ◌*◌, ◌%◌, List, length, Option, Some, Result, Ok, Err, is_err, Bool, if◌then◌else◌, IsTrue}
 use Rattle.outside_io.specs.Files.{Outside, IsFrontOf}
 use Rattle.outside_io.specs.Stops.{GaveNothing}
 use Rattle.omx_types.specs.Formats.{frame_bytes_of}

@@ -1,5 +1,5 @@
 -- The texts that the program prints.
-use Rattle.std.specs.Prelude.{ℕ, List, [], ◌∷◌, ◌++◌, codes}
+use Rattle.std.specs.Prelude.{ℕ, List, [], ◌++◌, codes}
 use Rattle.std.specs.Fmt.{decimal}
 use Rattle.omx_types.specs.declared.fault.Fault.{Fault}
 use Rattle.omx_types.specs.declared.fault.Fault.TheVariants as Faults
@@ -62,6 +62,9 @@ fault_text (Faults.Short which at size) =
     codes "short: " ++ (which_text which ++ (codes " at " ++ (decimal at ++ (codes " of " ++ decimal size))))
 fault_text (Faults.Units have need) = codes "units: have " ++ (decimal have ++ (codes " need " ++ decimal need))
 fault_text (Faults.NotBuilt what) = codes "not built: " ++ unbuilt_text what
+
+abbrev pub fault_line : Fault → List ℕ
+fault_line fault = fault_text fault ++ codes "\n"
 
 -- what is printed after a play of one sink, which the script names `b`
 abbrev pub played_text : ℕ → ℕ → List ℕ

@@ -25,13 +25,20 @@ pub record IsMake (seed frames : ℕ) (folder : List ℕ) : Type 0 where
   pub named_folder : IsName folder
   pub short_folder : length folder ≤ 1016
 
--- the words ask for it; a number is written in decimal digits
+-- its names and numbers are within their limits
+abbrev pub IsAllowed : Asked → Type 0
+IsAllowed (to_trace script) = IsName script
+IsAllowed (to_play script workers log) = IsPlay script workers log
+IsAllowed (to_make seed frames folder) = IsMake seed frames folder
+
+-- the words that ask for it; a number is written in decimal digits
+abbrev pub words_for : Asked → List (List ℕ)
+words_for (to_trace script) = codes "trace" ∷ script ∷ []
+words_for (to_play script workers log) = codes "play" ∷ script ∷ decimal workers ∷ log ∷ []
+words_for (to_make seed frames folder) = codes "make" ∷ decimal seed ∷ decimal frames ∷ folder ∷ []
+
 abbrev pub AreWordsOf : List (List ℕ) → Asked → Type 0
-AreWordsOf words (to_trace script) = (words ≡ codes "trace" ∷ script ∷ []) × IsName script
-AreWordsOf words (to_play script workers log) =
-    (words ≡ codes "play" ∷ script ∷ decimal workers ∷ log ∷ []) × IsPlay script workers log
-AreWordsOf words (to_make seed frames folder) =
-    (words ≡ codes "make" ∷ decimal seed ∷ decimal frames ∷ folder ∷ []) × IsMake seed frames folder
+AreWordsOf words asked = (words ≡ words_for asked) × IsAllowed asked
 
 -- the words are none of the forms
 abbrev pub AreNoForm : List (List ℕ) → Type 0

@@ -13,6 +13,7 @@ mod script;
 mod tests;
 mod text;
 mod texts;
+mod trace;
 mod words;
 
 use omx_types::{Fault, Status};

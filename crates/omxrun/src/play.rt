@@ -7,13 +7,10 @@ ghost use Rattle.omxrun.specs.Script.{AreApart};
 
 use crate::done::Done;
 use crate::files::play_files;
-use crate::script::ends_of;
+use crate::script::{SCRIPT_BYTES, ends_of};
 use omx_types::{Fault, Unbuilt, Which};
 use outside_io::{Media, Refused, Unread, read_whole, write_whole};
 use std::alloc::Global;
-
-/// The longest script, in bytes.
-const SCRIPT_BYTES: u64 = 65_536;
 
 /// The log of a play.
 const LOG_TEXT: &[u8] = b"end\n";

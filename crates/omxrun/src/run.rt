@@ -2,21 +2,26 @@ ghost use Rattle.std.specs.Prelude.{◌≡◌, ◌≤◌, ℕ, List, map, string
 ghost use Rattle.outside_io.specs.Files.{GoesOn};
 ghost use Rattle.omx_types.specs.declared.fault.Fault.TheVariants as Faults;
 ghost use Rattle.omx_types.specs.declared.fault.Which.TheVariants.{Line};
+ghost use Rattle.omx_types.specs.declared.fault.ScriptWhy.{ScriptWhy};
 ghost use Rattle.omx_types.specs.declared.fault.WavFault.{WavFault};
 ghost use Rattle.omxrun.specs.declared.done.Done.{Done};
-ghost use Rattle.omxrun.specs.Asked.{IsUnbuilt, IsUnplayed, IsFaulty, CanPlay, CanMake, IsFaultless, IsOrMemory};
+ghost use Rattle.omxrun.specs.Asked.{IsUnbuilt, IsUntraced, CanTrace, IsUnplayed, IsFaulty, CanPlay, CanMake, IsFaultless, IsOrMemory};
+ghost use Rattle.omxrun.specs.Commands.{HasRun};
 ghost use Rattle.omxrun.specs.Making.{IsMakeOutcome};
 ghost use Rattle.omxrun.specs.Played.{IsOutcome};
-ghost use Rattle.omxrun.specs.Told.{IsTold};
-ghost use Rattle.omxrun.specs.Words.{Asked, to_play, to_make, AreWordsOf, AreNoForm};
+ghost use Rattle.omxrun.specs.Told.{IsPrinted, IsTold, status_of};
+ghost use Rattle.omxrun.specs.Traced.{IsTraceOutcome};
+ghost use Rattle.omxrun.specs.Words.{Asked, to_trace, to_play, to_make, AreWordsOf, AreNoForm, IsAllowed, asked_by};
 
 use crate::done::Done;
 use crate::making::make_files;
 use crate::play::play;
 use crate::print::tell;
+use crate::trace::trace_file;
 use crate::words::{Command, command_of};
 use omx_types::{Fault, Status, Unbuilt};
 use outside_io::{Media, Sink};
+use script_lang::one_outcome;
 use std::alloc::Global;
 use std::sync::Wait;
 use std::thread::Threads;
@@ -39,6 +44,11 @@ pub fn run_words<R: Threads + Wait + Sync, M: Media, O: Sink>(
     ensures unbuilt { (asked : Asked) → AreWordsOf (map string_bytes words.now) asked → IsUnbuilt asked → (M.outside media.new ≡ M.outside media.old)
         × IsTold (Err (Fault.NotBuilt Unbuilt.Words)) (O.told out.old) (O.told out.new) (O.faults out.old) (O.faults out.new) result }
 
+    // A trace: what it came to and the text that this asks for, and that the text is printed.
+    ensures trace { (script : List ℕ) → AreWordsOf (map string_bytes words.now) (to_trace script) → (outcome : Result (Unit {0}) Fault) × (text : List ℕ)
+        × IsTraceOutcome script (M.outside media.old) (M.outside media.new) outcome text
+        × IsPrinted (status_of outcome) text (O.told out.old) (O.told out.new) (O.faults out.old) (O.faults out.new) result }
+
     // A play: what it came to, and what is printed of that.
     ensures play { (script log : List ℕ) → AreWordsOf (map string_bytes words.now) (to_play script 0 log) → (outcome : Result Done Fault)
         × IsOutcome script log (M.outside media.old) (M.outside media.new) outcome
@@ -50,6 +60,12 @@ pub fn run_words<R: Threads + Wait + Sync, M: Media, O: Sink>(
         × IsTold outcome (O.told out.old) (O.told out.new) (O.faults out.old) (O.faults out.new) result }
 
     // Where all is told and no count of faults rises, the status is the one that the files ask for, or memory was wanting.
+    ensures untraced { (script : List ℕ) (line : ℕ) (why : ScriptWhy) → AreWordsOf (map string_bytes words.now) (to_trace script) →
+        IsFaultless (M.outside media.old) (M.outside media.new) (O.faults out.old) (O.faults out.new) →
+        IsUntraced script (M.outside media.old) line why → IsOrMemory result (Status.Fault (Fault.Script line why)) }
+    ensures complete_trace { (script : List ℕ) → AreWordsOf (map string_bytes words.now) (to_trace script) →
+        IsFaultless (M.outside media.old) (M.outside media.new) (O.faults out.old) (O.faults out.new) →
+        CanTrace script (M.outside media.old) → IsOrMemory result Status.Ok }
     ensures unplayed { (script log : List ℕ) → AreWordsOf (map string_bytes words.now) (to_play script 0 log) →
         IsFaultless (M.outside media.old) (M.outside media.new) (O.faults out.old) (O.faults out.new) →
         IsUnplayed script log (M.outside media.old) → IsOrMemory result (Status.Fault (Fault.NotBuilt Unbuilt.Script)) }
@@ -64,45 +80,63 @@ pub fn run_words<R: Threads + Wait + Sync, M: Media, O: Sink>(
         CanMake folder (M.outside media.old) → IsOrMemory result Status.Ok }
 {
     one_answer();
-    let outcome = act(alloc, words, media);
-    tell(outcome, out)
+    one_outcome();
+    match command_of(words) {
+        Some(command) => run_command(alloc, command, media, out),
+        None => tell(Err(Fault::Usage), out),
+    }
 }
 
-/// Does what the words ask for.
-fn act<M: Media>(alloc: Global, words: &[String], media: &mut M) -> Result<Done, Fault>
+/// Does what a command asks for, and prints what it came to.
+fn run_command<M: Media, O: Sink>(
+    alloc: Global,
+    command: Command<'_>,
+    media: &mut M,
+    out: &mut O,
+) -> Status
+    requires { IsAllowed (asked_by command) }
     ensures goes_on { GoesOn (M.outside media.old) (M.outside media.new) }
-    ensures usage { AreNoForm (map string_bytes words.now) → (M.outside media.new ≡ M.outside media.old) × (result ≡ Err Fault.Usage) }
-    ensures unbuilt { (asked : Asked) → AreWordsOf (map string_bytes words.now) asked → IsUnbuilt asked →
-        (M.outside media.new ≡ M.outside media.old) × (result ≡ Err (Fault.NotBuilt Unbuilt.Words)) }
-    ensures play { (script log : List ℕ) → AreWordsOf (map string_bytes words.now) (to_play script 0 log) →
-        IsOutcome script log (M.outside media.old) (M.outside media.new) result }
-    ensures make { (seed frames : ℕ) (folder : List ℕ) → AreWordsOf (map string_bytes words.now) (to_make seed frames folder) →
-        IsMakeOutcome seed frames folder (M.outside media.old) (M.outside media.new) result }
+    ensures later { O.faults out.old ≤ O.faults out.new }
+    ensures run { HasRun (asked_by command.entry) (M.outside media.old) (M.outside media.new) (O.told out.old) (O.told out.new) (O.faults out.old) (O.faults out.new) result }
 {
-    match command_of(words) {
-        None => Err(Fault::Usage),
-        Some(command) => match command {
-            Command::Play {
-                script,
-                workers,
-                log,
-            } => {
-                if workers == 0 {
-                    play(alloc, media, script, log)
-                } else {
-                    Err(Fault::NotBuilt {
-                        what: Unbuilt::Words,
-                    })
-                }
-            }
-            Command::Make {
-                seed,
-                frames,
-                folder,
-            } => make_files(alloc, media, seed, frames, folder),
-            Command::Trace { script: _ } => Err(Fault::NotBuilt {
-                what: Unbuilt::Words,
-            }),
-        },
+    match command {
+        Command::Trace { script } => trace_file(alloc, media, script, out),
+        Command::Play {
+            script,
+            workers,
+            log,
+        } => {
+            let outcome = play_with(alloc, media, script, workers, log);
+            tell(outcome, out)
+        }
+        Command::Make {
+            seed,
+            frames,
+            folder,
+        } => {
+            let outcome = make_files(alloc, media, seed, frames, folder);
+            tell(outcome, out)
+        }
+    }
+}
+
+/// A play without workers is the one that is built.
+fn play_with<M: Media>(
+    alloc: Global,
+    media: &mut M,
+    script: &str,
+    workers: u64,
+    log: &str,
+) -> Result<Done, Fault>
+    ensures goes_on { GoesOn (M.outside media.old) (M.outside media.new) }
+    ensures played { workers ≡ 0 → IsOutcome script.now log.now (M.outside media.old) (M.outside media.new) result }
+    ensures unbuilt { 1 ≤ workers → (M.outside media.new ≡ M.outside media.old) × (result ≡ Err (Fault.NotBuilt Unbuilt.Words)) }
+{
+    if workers == 0 {
+        play(alloc, media, script, log)
+    } else {
+        Err(Fault::NotBuilt {
+            what: Unbuilt::Words,
+        })
     }
 }

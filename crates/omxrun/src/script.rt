@@ -5,6 +5,9 @@ ghost use Rattle.omxrun.specs.Script.{AreApart, IsTunnel, IsNoTunnel, sink_lines
 use crate::words::is_name;
 use std::str;
 
+/// The longest script, in bytes.
+pub const SCRIPT_BYTES: u64 = 65_536;
+
 /// The files that a script's source and sink name.
 #[derive(Clone, Copy)]
 pub struct Ends<'a> {

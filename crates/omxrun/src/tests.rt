@@ -33,6 +33,12 @@ const DONE: &[u8] = b"sink b 3 frames 50 bytes\nok\n";
 
 const PLAY: [&str; 4] = ["play", "s.omx", "0", "log"];
 
+const TRACE: [&str; 2] = ["trace", "s.omx"];
+
+const TRACED: &[u8] = b"omx 1 trace\nget a OMX.lab.gain\nstate a\n";
+
+const TRACE_TEXT: &[u8] = b"1: get a OMX.lab.gain = ok\n2: state a = Loaded\nend\n";
+
 const ROOM: usize = 4_194_304;
 
 /// What a run came to.
@@ -183,7 +189,7 @@ fn words_and_scripts(rt: HostRuntime) -> Result<(), Failure> {
     )?;
     check_words(
         &rt,
-        &["trace", "x"],
+        &["play", "s.omx", "1", "log"],
         SCRIPT,
         THREE_SAMPLES,
         b"not built: words\n",
@@ -296,5 +302,83 @@ fn long_file_comes_back(rt: HostRuntime) -> Result<(), Failure> {
         b"sink b 100000 frames 200044 bytes\nok\n",
         &input,
     )?;
+    Ok(())
+}
+
+/// Traces a script, which comes to this text and status.
+fn check_trace<R: Threads + Wait + Sync + Alloc<A = Global> + Abort>(
+    rt: &R,
+    script: &[u8],
+    printed: &[u8],
+    status: u8,
+) -> Result<(), AllocError> {
+    check_words(rt, &TRACE, script, THREE_SAMPLES, printed, status)
+}
+
+#[test]
+fn traces(rt: HostRuntime) -> Result<(), Failure> {
+    check_trace(&rt, b"omx 1 trace", b"end\n", 0)?;
+    check_trace(&rt, TRACED, TRACE_TEXT, 0)?;
+    check_trace(
+        &rt,
+        b"omx 1 trace\nstate a\n",
+        b"script line 2: unknown name\n",
+        1,
+    )?;
+    check_words(
+        &rt,
+        &["trace", "x"],
+        TRACED,
+        THREE_SAMPLES,
+        b"absent: script\n",
+        6,
+    )?;
+    Ok(())
+}
+
+/// Traces where a read of the script fails, or ends early.
+fn check_unread<R: Threads + Wait + Sync + Alloc<A = Global> + Abort>(
+    rt: &R,
+    fail: (&str, FailKind, u64),
+    printed: &[u8],
+    status: u8,
+) -> Result<(), AllocError> {
+    let media = media_of(rt.alloc(), TRACED, THREE_SAMPLES, &[fail])?;
+    let ran = run(rt, media, &TRACE, ROOM)?;
+    assert_eq!(rt; ran.printed.as_slice(), printed);
+    assert_eq!(rt; ran.status.number(), status);
+    Ok(())
+}
+
+#[test]
+fn unread_scripts(rt: HostRuntime) -> Result<(), Failure> {
+    check_unread(&rt, ("s.omx", FailKind::Read, 1), b"read fault\n", 4)?;
+    check_unread(
+        &rt,
+        ("s.omx", FailKind::EndAt, 7),
+        b"short: script at 7 of 39\n",
+        8,
+    )?;
+    Ok(())
+}
+
+/// Traces into the room of this text, which is too little: it is printed, and nothing behind it.
+fn check_full<R: Threads + Wait + Sync + Alloc<A = Global> + Abort>(
+    rt: &R,
+    printed: &[u8],
+) -> Result<(), AllocError> {
+    let media = media_of(rt.alloc(), TRACED, THREE_SAMPLES, &[])?;
+    let ran = run(rt, media, &TRACE, printed.len())?;
+    assert_eq!(rt; ran.printed.as_slice(), printed);
+    assert_eq!(rt; ran.status, Status::Fault(Fault::WriteFault));
+    Ok(())
+}
+
+#[test]
+fn full_output(rt: HostRuntime) -> Result<(), Failure> {
+    check_full(&rt, b"")?;
+    check_full(&rt, b"1: get a OMX.lab.gain = ok\n")?;
+    check_full(&rt, b"1: get a OMX.lab.gain = ok\n2: ")?;
+    check_full(&rt, b"1: get a OMX.lab.gain = ok\n2: state a = Loaded\nend")?;
     Ok(())
 }

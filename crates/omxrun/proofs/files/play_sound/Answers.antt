@@ -1,9 +1,9 @@
-use Rattle.std.proofs.Common.{◌≡◌, ℕ, List, Option, Some, Ok, OnOk, OnErr, IfOk, Result, subst, sym, ap, ◌∙◌}
+use Rattle.std.proofs.Common.{◌≡◌, ℕ, List, Option, OnOk, OnErr, IfOk, Result, subst, sym, ◌∙◌}
 use Rattle.std.specs.Io.KnownBytes.{append_known}
 use Rattle.outside_io.specs.Moves.{AppendsFront}
 use Rattle.omx_types.specs.declared.fault.Fault.{Fault}
 use Rattle.omxrun.specs.Copied.{text_of}
-use Rattle.omxrun.specs.Sounds.{HoldsText, ended}
+use Rattle.omxrun.specs.Sounds.{HoldsText}
 use Rattle.omxrun.specs.declared.done.Done.{Done}
 use Rattle.omxrun.proofs.Sounds.{sound-holds, sound-front, text-size}
 use Rattle.omxrun.proofs.files.play_sound.Goals as goal

@@ -1,4 +1,4 @@
-use Rattle.std.proofs.Common.{◌≡◌, List, ℕ, Result, Err, subst, sym}
+use Rattle.std.proofs.Common.{List, ℕ, Err, subst, sym}
 use Rattle.omx_types.specs.declared.fault.Fault.{Fault}
 use Rattle.omxrun.specs.Played.{IsOutcome}
 use Rattle.omxrun.specs.Script.{IsTunnel, IsNoTunnel}

@@ -1,4 +1,4 @@
-use Rattle.std.proofs.Common.{◌≡◌, Result, Err, subst, sym}
+use Rattle.std.proofs.Common.{Err, subst, sym}
 use Rattle.omx_types.specs.declared.fault.Fault.{Fault}
 use Rattle.omxrun.specs.Played.{IsEndsOutcome}
 use Rattle.omxrun.proofs.Outcomes.{log-outcome, played-outcome}

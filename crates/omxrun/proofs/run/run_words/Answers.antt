@@ -1,26 +1,91 @@
-use Rattle.std.proofs.Common.{◌≡◌}
+use Rattle.std.proofs.Common.{map, string_bytes, refl}
+use Rattle.omxrun.specs.Words.{to_trace, to_play, to_make, asked_by}
+use Rattle.omxrun.proofs.Commands.{run-asked, unbuilt-run}
 use Rattle.omxrun.proofs.Complete.{complete, faulty, unplayed}
 use Rattle.omxrun.proofs.Makes.{complete_make}
+use Rattle.omxrun.proofs.Traces.{complete_trace, untraced}
 use Rattle.omxrun.proofs.run.run_words.Goals as goal
 
-pub returns-clause-play : goal.returns-clause-play
-returns-clause-play g c = λ script log words. (c.act-outcome.result, c.act-outcome.ensures.play script log words, c.tell.ensures.told)
+-- ---- words that are none of the forms
 
-pub returns-clause-unplayed : goal.returns-clause-unplayed
-returns-clause-unplayed g c = λ script log words none has.
-    unplayed script log (g.M.Media.outside c.args.media.now) (g.M.Media.outside c.act-outcome.new.media) _ _ _ _ c.act-outcome.result _ (c.act-outcome.ensures.play script log words) c.tell.ensures.told none has
+pub returns-in-None-clause-unbuilt : goal.returns-in-None-clause-unbuilt
+returns-in-None-clause-unbuilt g c = λ asked words unbuilt. absurd (c.in-None.ensures.none asked words)
 
-pub returns-clause-faulty : goal.returns-clause-faulty
-returns-clause-faulty g c = λ script log fault words none has.
-    faulty script log (g.M.Media.outside c.args.media.now) (g.M.Media.outside c.act-outcome.new.media) _ _ _ _ c.act-outcome.result _ fault c.one_answer.ensures.same (c.act-outcome.ensures.play script log words) c.tell.ensures.told none has
+pub returns-in-None-clause-trace : goal.returns-in-None-clause-trace
+returns-in-None-clause-trace g c = λ script words. absurd (c.in-None.ensures.none (to_trace script) words)
 
-pub returns-clause-complete : goal.returns-clause-complete
-returns-clause-complete g c = λ script log words none can.
-    complete script log (g.M.Media.outside c.args.media.now) (g.M.Media.outside c.act-outcome.new.media) _ _ _ _ c.act-outcome.result _ c.one_answer.ensures.same (c.act-outcome.ensures.play script log words) c.tell.ensures.told none can
+pub returns-in-None-clause-play : goal.returns-in-None-clause-play
+returns-in-None-clause-play g c = λ script log words. absurd (c.in-None.ensures.none (to_play script 0 log) words)
 
-pub returns-clause-make : goal.returns-clause-make
-returns-clause-make g c = λ seed frames folder words. (c.act-outcome.result, c.act-outcome.ensures.make seed frames folder words, c.tell.ensures.told)
+pub returns-in-None-clause-make : goal.returns-in-None-clause-make
+returns-in-None-clause-make g c = λ seed frames folder words. absurd (c.in-None.ensures.none (to_make seed frames folder) words)
 
-pub returns-clause-complete_make : goal.returns-clause-complete_make
-returns-clause-complete_make g c = λ seed frames folder words none can.
-    complete_make seed frames folder (g.M.Media.outside c.args.media.now) (g.M.Media.outside c.act-outcome.new.media) _ _ _ _ c.act-outcome.result _ (c.act-outcome.ensures.make seed frames folder words) c.tell.ensures.told none can
+pub returns-in-None-clause-untraced : goal.returns-in-None-clause-untraced
+returns-in-None-clause-untraced g c = λ script line why words none has. absurd (c.in-None.ensures.none (to_trace script) words)
+
+pub returns-in-None-clause-complete_trace : goal.returns-in-None-clause-complete_trace
+returns-in-None-clause-complete_trace g c = λ script words none can. absurd (c.in-None.ensures.none (to_trace script) words)
+
+pub returns-in-None-clause-unplayed : goal.returns-in-None-clause-unplayed
+returns-in-None-clause-unplayed g c = λ script log words none has. absurd (c.in-None.ensures.none (to_play script 0 log) words)
+
+pub returns-in-None-clause-faulty : goal.returns-in-None-clause-faulty
+returns-in-None-clause-faulty g c = λ script log fault words none has. absurd (c.in-None.ensures.none (to_play script 0 log) words)
+
+pub returns-in-None-clause-complete : goal.returns-in-None-clause-complete
+returns-in-None-clause-complete g c = λ script log words none can. absurd (c.in-None.ensures.none (to_play script 0 log) words)
+
+pub returns-in-None-clause-complete_make : goal.returns-in-None-clause-complete_make
+returns-in-None-clause-complete_make g c = λ seed frames folder words none can. absurd (c.in-None.ensures.none (to_make seed frames folder) words)
+
+-- ---- a command
+
+pub returns-in-Some-clause-usage : goal.returns-in-Some-clause-usage
+returns-in-Some-clause-usage g c = λ none. absurd (none (asked_by c.in-Some.command) c.in-Some.ensures.some)
+
+pub returns-in-Some-clause-unbuilt : goal.returns-in-Some-clause-unbuilt
+returns-in-Some-clause-unbuilt g c = λ asked words unbuilt.
+    unbuilt-run asked (g.M.Media.outside c.args.media.now) (g.M.Media.outside c.run_command.new.media) (g.O.Sink.told c.args.out.now) (g.O.Sink.told c.run_command.new.out) (g.O.Sink.faults c.args.out.now) (g.O.Sink.faults c.run_command.new.out) c.run_command.result unbuilt
+    (run-asked (map string_bytes c.args.words.now) asked (g.M.Media.outside c.args.media.now) (g.M.Media.outside c.run_command.new.media) (g.O.Sink.told c.args.out.now) (g.O.Sink.told c.run_command.new.out) (g.O.Sink.faults c.args.out.now) (g.O.Sink.faults c.run_command.new.out) c.run_command.result (asked_by c.in-Some.command) c.in-Some.ensures.some c.run_command.ensures.run words)
+
+pub returns-in-Some-clause-trace : goal.returns-in-Some-clause-trace
+returns-in-Some-clause-trace g c = λ script words.
+    run-asked (map string_bytes c.args.words.now) (to_trace script) (g.M.Media.outside c.args.media.now) (g.M.Media.outside c.run_command.new.media) (g.O.Sink.told c.args.out.now) (g.O.Sink.told c.run_command.new.out) (g.O.Sink.faults c.args.out.now) (g.O.Sink.faults c.run_command.new.out) c.run_command.result (asked_by c.in-Some.command) c.in-Some.ensures.some c.run_command.ensures.run words
+
+pub returns-in-Some-clause-play : goal.returns-in-Some-clause-play
+returns-in-Some-clause-play g c = λ script log words.
+    (run-asked (map string_bytes c.args.words.now) (to_play script 0 log) (g.M.Media.outside c.args.media.now) (g.M.Media.outside c.run_command.new.media) (g.O.Sink.told c.args.out.now) (g.O.Sink.told c.run_command.new.out) (g.O.Sink.faults c.args.out.now) (g.O.Sink.faults c.run_command.new.out) c.run_command.result (asked_by c.in-Some.command) c.in-Some.ensures.some c.run_command.ensures.run words).0 refl
+
+pub returns-in-Some-clause-make : goal.returns-in-Some-clause-make
+returns-in-Some-clause-make g c = λ seed frames folder words.
+    run-asked (map string_bytes c.args.words.now) (to_make seed frames folder) (g.M.Media.outside c.args.media.now) (g.M.Media.outside c.run_command.new.media) (g.O.Sink.told c.args.out.now) (g.O.Sink.told c.run_command.new.out) (g.O.Sink.faults c.args.out.now) (g.O.Sink.faults c.run_command.new.out) c.run_command.result (asked_by c.in-Some.command) c.in-Some.ensures.some c.run_command.ensures.run words
+
+pub returns-in-Some-clause-untraced : goal.returns-in-Some-clause-untraced
+returns-in-Some-clause-untraced g c = λ script line why words none has.
+    untraced script (g.M.Media.outside c.args.media.now) (g.M.Media.outside c.run_command.new.media) (g.O.Sink.told c.args.out.now) (g.O.Sink.told c.run_command.new.out) (g.O.Sink.faults c.args.out.now) (g.O.Sink.faults c.run_command.new.out) line why c.run_command.result c.one_outcome.ensures.same
+    (run-asked (map string_bytes c.args.words.now) (to_trace script) (g.M.Media.outside c.args.media.now) (g.M.Media.outside c.run_command.new.media) (g.O.Sink.told c.args.out.now) (g.O.Sink.told c.run_command.new.out) (g.O.Sink.faults c.args.out.now) (g.O.Sink.faults c.run_command.new.out) c.run_command.result (asked_by c.in-Some.command) c.in-Some.ensures.some c.run_command.ensures.run words) none has
+
+pub returns-in-Some-clause-complete_trace : goal.returns-in-Some-clause-complete_trace
+returns-in-Some-clause-complete_trace g c = λ script words none can.
+    complete_trace script (g.M.Media.outside c.args.media.now) (g.M.Media.outside c.run_command.new.media) (g.O.Sink.told c.args.out.now) (g.O.Sink.told c.run_command.new.out) (g.O.Sink.faults c.args.out.now) (g.O.Sink.faults c.run_command.new.out) c.run_command.result c.one_outcome.ensures.same
+    (run-asked (map string_bytes c.args.words.now) (to_trace script) (g.M.Media.outside c.args.media.now) (g.M.Media.outside c.run_command.new.media) (g.O.Sink.told c.args.out.now) (g.O.Sink.told c.run_command.new.out) (g.O.Sink.faults c.args.out.now) (g.O.Sink.faults c.run_command.new.out) c.run_command.result (asked_by c.in-Some.command) c.in-Some.ensures.some c.run_command.ensures.run words) none can
+
+pub returns-in-Some-clause-unplayed : goal.returns-in-Some-clause-unplayed
+returns-in-Some-clause-unplayed g c = λ script log words none has.
+    let played = (run-asked (map string_bytes c.args.words.now) (to_play script 0 log) (g.M.Media.outside c.args.media.now) (g.M.Media.outside c.run_command.new.media) (g.O.Sink.told c.args.out.now) (g.O.Sink.told c.run_command.new.out) (g.O.Sink.faults c.args.out.now) (g.O.Sink.faults c.run_command.new.out) c.run_command.result (asked_by c.in-Some.command) c.in-Some.ensures.some c.run_command.ensures.run words).0 refl in
+    unplayed script log (g.M.Media.outside c.args.media.now) (g.M.Media.outside c.run_command.new.media) (g.O.Sink.faults c.args.out.now) (g.O.Sink.faults c.run_command.new.out) (g.O.Sink.told c.args.out.now) (g.O.Sink.told c.run_command.new.out) played.0 c.run_command.result played.1 played.2 none has
+
+pub returns-in-Some-clause-faulty : goal.returns-in-Some-clause-faulty
+returns-in-Some-clause-faulty g c = λ script log fault words none has.
+    let played = (run-asked (map string_bytes c.args.words.now) (to_play script 0 log) (g.M.Media.outside c.args.media.now) (g.M.Media.outside c.run_command.new.media) (g.O.Sink.told c.args.out.now) (g.O.Sink.told c.run_command.new.out) (g.O.Sink.faults c.args.out.now) (g.O.Sink.faults c.run_command.new.out) c.run_command.result (asked_by c.in-Some.command) c.in-Some.ensures.some c.run_command.ensures.run words).0 refl in
+    faulty script log (g.M.Media.outside c.args.media.now) (g.M.Media.outside c.run_command.new.media) (g.O.Sink.faults c.args.out.now) (g.O.Sink.faults c.run_command.new.out) (g.O.Sink.told c.args.out.now) (g.O.Sink.told c.run_command.new.out) played.0 c.run_command.result fault c.one_answer.ensures.same played.1 played.2 none has
+
+pub returns-in-Some-clause-complete : goal.returns-in-Some-clause-complete
+returns-in-Some-clause-complete g c = λ script log words none can.
+    let played = (run-asked (map string_bytes c.args.words.now) (to_play script 0 log) (g.M.Media.outside c.args.media.now) (g.M.Media.outside c.run_command.new.media) (g.O.Sink.told c.args.out.now) (g.O.Sink.told c.run_command.new.out) (g.O.Sink.faults c.args.out.now) (g.O.Sink.faults c.run_command.new.out) c.run_command.result (asked_by c.in-Some.command) c.in-Some.ensures.some c.run_command.ensures.run words).0 refl in
+    complete script log (g.M.Media.outside c.args.media.now) (g.M.Media.outside c.run_command.new.media) (g.O.Sink.faults c.args.out.now) (g.O.Sink.faults c.run_command.new.out) (g.O.Sink.told c.args.out.now) (g.O.Sink.told c.run_command.new.out) played.0 c.run_command.result c.one_answer.ensures.same played.1 played.2 none can
+
+pub returns-in-Some-clause-complete_make : goal.returns-in-Some-clause-complete_make
+returns-in-Some-clause-complete_make g c = λ seed frames folder words none can.
+    let made = run-asked (map string_bytes c.args.words.now) (to_make seed frames folder) (g.M.Media.outside c.args.media.now) (g.M.Media.outside c.run_command.new.media) (g.O.Sink.told c.args.out.now) (g.O.Sink.told c.run_command.new.out) (g.O.Sink.faults c.args.out.now) (g.O.Sink.faults c.run_command.new.out) c.run_command.result (asked_by c.in-Some.command) c.in-Some.ensures.some c.run_command.ensures.run words in
+    complete_make seed frames folder (g.M.Media.outside c.args.media.now) (g.M.Media.outside c.run_command.new.media) (g.O.Sink.faults c.args.out.now) (g.O.Sink.faults c.run_command.new.out) (g.O.Sink.told c.args.out.now) (g.O.Sink.told c.run_command.new.out) made.0 c.run_command.result made.1 made.2 none can

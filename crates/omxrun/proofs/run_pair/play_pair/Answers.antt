@@ -1,4 +1,4 @@
-use Rattle.std.proofs.Common.{◌≡◌, Result, OnErr, subst, sym, refl, ap}
+use Rattle.std.proofs.Common.{Result, OnErr, subst, sym}
 use Rattle.il_graph.specs.Playing.{sink_of, due}
 use Rattle.outside_io.specs.Moves.{AppendsFront}
 use Rattle.omxrun.specs.declared.run_pair.Stop.{Stop}

@@ -1,5 +1,5 @@
-use Rattle.std.proofs.Common.{◌≡◌, ◌∙◌, ap}
-use Rattle.il_graph.specs.Playing.{sink_of, source_of, due}
+use Rattle.std.proofs.Common.{◌∙◌, ap}
+use Rattle.il_graph.specs.Playing.{due}
 use Rattle.omxrun.specs.Copied.{text_of}
 use Rattle.omxrun.proofs.Runs.{text-due, ran-whole, ran-front, front-none}
 use Rattle.omxrun.proofs.run_pair.run_pair.Goals as goal

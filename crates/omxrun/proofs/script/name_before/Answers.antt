@@ -1,4 +1,4 @@
-use Rattle.std.proofs.Common.{◌≡◌, List, ℕ, ◌++◌, take, length, ap, subst, ◌∙◌, sym, rules}
+use Rattle.std.proofs.Common.{List, ℕ, subst, ◌∙◌, sym, rules}
 use Rattle.std.specs.Str.{IsUtf8}
 use Rattle.omxrun.specs.Names.{IsName}
 use Rattle.omxrun.proofs.Fronts.{splits-name}

@@ -1,4 +1,4 @@
-use Rattle.std.proofs.Common.{◌≡◌, ◌<◌, ◌^◌, ℕ, List, [], ◌∷◌, codes, sym, subst, arith, rules}
+use Rattle.std.proofs.Common.{ℕ, List, [], ◌∷◌, codes, sym, subst, rules}
 use Rattle.std.specs.Fmt.{decimal}
 use Rattle.omxrun.specs.Words.{AreNoForm, IsMake}
 use Rattle.omxrun.proofs.Forms.{no_make}

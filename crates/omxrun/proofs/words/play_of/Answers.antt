@@ -1,4 +1,4 @@
-use Rattle.std.proofs.Common.{◌≡◌, ◌<◌, ◌^◌, ℕ, List, [], ◌∷◌, codes, sym, subst, arith, rules}
+use Rattle.std.proofs.Common.{◌<◌, ◌^◌, ℕ, List, [], ◌∷◌, codes, sym, subst, arith, rules}
 use Rattle.omxrun.specs.Words.{AreNoForm, IsPlay}
 use Rattle.omxrun.proofs.Forms.{no_play}
 use Rattle.omxrun.proofs.words.play_of.Goals as goal
