@@ -1,12 +1,7 @@
 #!/usr/bin/env bash
 # Plays a WAV file of 67,108,864 bytes and copies it by `cat`, five times each by turns, and prints the
 # ratio of the best times and the program's peak memory. It stands outside the gate.
-set -eu
-top=$(cd "$(dirname "${BASH_SOURCE[0]}")/.." && pwd)
-. "$top/bench/timing.sh"
-work=$(mktemp -d)
-trap 'rm -rf "$work"' EXIT
-cd "$work"
+. "$(dirname "${BASH_SOURCE[0]}")/timing.sh"
 {
   printf 'RIFF\xf8\xff\xff\x03WAVEfmt \x10\0\0\0\x01\0\x01\0\x40\x1f\0\0\x80\x3e\0\0\x02\0\x10\0data\xd4\xff\xff\x03'
   head -c 67108820 /dev/urandom
@@ -14,7 +9,6 @@ cd "$work"
 printf 'omx 1 play\nsource a in.wav\nsink b out.wav\nlink a.0 b.0 2 4096\n' >play.omx
 "$top/omxrun" play play.omx 0 log >/dev/null
 cmp in.wav out.wav
-program=$top/crates/omxrun/out/omxrun
 
 played=9999999999999
 copied=9999999999999

@@ -1,15 +1,9 @@
 #!/usr/bin/env bash
 # Makes 33,000,000 frames and copies the two files by `cat`, three times each by turns, and prints the
 # ratio of the best times and the program's peak memory, for few frames and for many. Outside the gate.
-set -eu
-top=$(cd "$(dirname "${BASH_SOURCE[0]}")/.." && pwd)
-. "$top/bench/timing.sh"
-work=$(mktemp -d)
-trap 'rm -rf "$work"' EXIT
-cd "$work"
+. "$(dirname "${BASH_SOURCE[0]}")/timing.sh"
 mkdir made
 "$top/omxrun" make 1 1 made >/dev/null
-program=$top/crates/omxrun/out/omxrun
 
 peak() { /usr/bin/time -f %M "$program" "$@" 2>&1 >/dev/null; }
 

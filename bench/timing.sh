@@ -1,4 +1,10 @@
-# Sourced by the benchmarks that time a program beside `cat`.
+# Sourced by the benchmarks that time the program beside another one. They go on in a folder of their own.
+set -eu
+top=$(cd "$(dirname "${BASH_SOURCE[0]}")/.." && pwd)
+program=$top/crates/omxrun/out/omxrun
+work=$(mktemp -d)
+trap 'rm -rf "$work"' EXIT
+cd "$work"
 
 # The nanoseconds that a command takes.
 nanoseconds() {

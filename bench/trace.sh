@@ -1,18 +1,12 @@
 #!/usr/bin/env bash
 # Traces a script of 65,000 bytes and counts its lines by `wc`, five times each by turns, and prints the ratio of the
 # best times. It stands outside the gate.
-set -eu
-top=$(cd "$(dirname "${BASH_SOURCE[0]}")/.." && pwd)
-. "$top/bench/timing.sh"
-work=$(mktemp -d)
-trap 'rm -rf "$work"' EXIT
-cd "$work"
+. "$(dirname "${BASH_SOURCE[0]}")/timing.sh"
 {
   printf 'omx 1 trace\nget a OMX.lab.gain\n'
   for _ in $(seq 1900); do printf 'send a flush 0\nrun a\ntake a\nstate a\n'; done
 } | head -c 64990 | sed '$d' >trace.omx
 "$top/omxrun" trace trace.omx >/dev/null
-program=$top/crates/omxrun/out/omxrun
 
 traced=9999999999999
 counted=9999999999999
