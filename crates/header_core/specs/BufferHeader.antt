@@ -7,6 +7,8 @@ use Rattle.header_core.specs.declared.memory.Store.{Store}
 use Rattle.header_core.specs.declared.memory.Store.TheVariants.{Own, Block}
 
 pub record BufferHeader : Type 0 where
+  -- the headers of one graph have one, and those of two aren't known to have the same
+  pub key : ℕ
   -- what its holder sees
   pub held : Held
   pub store : Store
@@ -38,15 +40,15 @@ pub record IsSized (h : BufferHeader) : Type 0 where
 abbrev pub empty_held : ℕ → ℕ → Held
 empty_held number size = record { number = number; size = size; content = []; flags = 0; mark = None }
 
-abbrev pub fresh : ℕ → Store → ℕ → BufferHeader
-fresh number store size = record { held = empty_held number size; store = store }
+abbrev pub fresh : ℕ → ℕ → Store → ℕ → BufferHeader
+fresh key number store size = record { key = key; held = empty_held number size; store = store }
 
 abbrev pub with_content : List ℕ → ℕ → Held → Held
 with_content content flags h = record h { content = content; flags = flags }
 
 -- the content and the flags are new, and the content stands at the front of the memory
 abbrev pub filled : List ℕ → ℕ → BufferHeader → BufferHeader
-filled content flags h = record {
+filled content flags h = record h {
   held = with_content content flags h.held;
   store = with_bytes (overwritten content (bytes_of h.store)) h.store;
 }

@@ -1,6 +1,7 @@
 ghost use Rattle.std.specs.Prelude.{◌≡◌, ◌<◌, ◌≤◌, length, Ok, Err, OnOk, OnErr};
 ghost use Rattle.header_core.specs.BufferHeader.{bytes_of, is_clients, fresh, filled, cleared, marked, advanced, IsSized};
 
+use crate::key::Key;
 use crate::memory::Store;
 use il_machine::Mark;
 use std::marker::Model;
@@ -11,8 +12,9 @@ pub struct TooLong {
     pub size: u32,
 }
 
-/// A buffer's header with its memory (OpenMAX IL 1.1.2, `OMX_BUFFERHEADERTYPE`). It is spent by `into_store`.
+/// A buffer's header with its memory (OpenMAX IL 1.1.2, `OMX_BUFFERHEADERTYPE`). It is spent by `into_store`, or by `dispose`.
 pub struct Header {
+    key: Key,
     number: u64,
     store: Store,
     size: u32,
@@ -29,6 +31,7 @@ impl Model for Header {
     ghost Value = { BufferHeader };
 
     ghost view = { λ h. record {
+      key = h.key;
       held = record { number = h.number; size = h.size; content = slice_range (bytes_of h.store) h.start h.used; flags = h.flags; mark = h.mark };
       store = h.store;
     } };
@@ -38,13 +41,14 @@ impl Model for Header {
 
 impl Header {
     /// A header without content, flags and mark.
-    pub fn new(id: u64, store: Store, size: u32) -> Header
+    pub fn new(key: Key, id: u64, store: Store, size: u32) -> Header
         requires some { 1 ≤ size }
         requires limit { size ≤ 4096 }
         requires room { size ≤ length (bytes_of store) }
-        ensures { result ≡ fresh id store size }
+        ensures { result ≡ fresh key id store size }
     {
         Header {
+            key,
             number: id,
             store,
             size,
@@ -97,7 +101,8 @@ impl Header {
         &self.store.bytes()[self.start as usize..self.used as usize]
     }
 
-    /// Takes the bytes as its content, with their flags. A mark stays.
+    /// Takes the bytes as its content, with their flags, whose lowest bit is the end of the stream. A mark stays. More bytes than
+    /// its size are refused, and then it stays as it was.
     pub fn fill(&mut self, bytes: &[u8], flags: u32) -> Result<(), TooLong>
         ensures filled { OnOk result (self.new ≡ filled bytes.now flags self.old) }
         ensures fits { length bytes.now ≤ self.old.held.size → result ≡ Ok tt }
@@ -144,6 +149,7 @@ impl Header {
         ensures { result ≡ self.store }
     {
         let Header {
+            key: _,
             number: _,
             store,
             size: _,

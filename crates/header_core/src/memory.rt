@@ -52,7 +52,7 @@ fn overwrite_front(bytes: &mut [u8], front: &[u8])
     bytes[..front.len()].copy_from_slice(front);
 }
 
-/// A header's memory: the client's own, or a block of the graph. It must be given back to its owner.
+/// A header's memory: the client's own, or a block of the graph. It isn't dropped by itself: who has one takes it apart.
 pub enum Store {
     Own(Memory),
     Block(Memory),

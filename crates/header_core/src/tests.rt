@@ -1,7 +1,7 @@
 ghost use Rattle.std.specs.Prelude.{◌≡◌, ◌<◌, ◌≤◌, [], ◌∷◌, ◌++◌, length, vec_len, vec_capacity, IfOk};
 ghost use Rattle.header_core.specs.BufferHeader.{bytes_of, fresh};
 
-use crate::{Header, Memory, Store, TooLong};
+use crate::{Header, Key, Memory, Store, TooLong};
 use il_machine::Mark;
 use omx_types::Handle;
 use std::alloc::{AllocError, Global};
@@ -23,11 +23,11 @@ fn eight(alloc: Global) -> Result<Vec<u8>, AllocError>
 }
 
 /// A header of six bytes over the client's own memory.
-fn header_over(id: u64, bytes: Vec<u8>) -> Header
+fn header_over(key: Key, id: u64, bytes: Vec<u8>) -> Header
     requires { length bytes.items ≡ 8 }
-    ensures { result ≡ fresh id (Store.Own bytes.items) 6 }
+    ensures { result ≡ fresh key id (Store.Own bytes.items) 6 }
 {
-    Header::new(id, Store::Own(Memory::new(bytes)), 6)
+    Header::new(key, id, Store::Own(Memory::new(bytes)), 6)
 }
 
 /// Spends the header and gives back the bytes of its memory.
@@ -60,7 +60,7 @@ fn spend_all(mut headers: Vec<Header>) {
 
 #[test]
 fn fills_and_spends(rt: HostRuntime) -> Result<(), Fail> {
-    let mut header = header_over(4, eight(rt.alloc())?);
+    let mut header = header_over(Key::new(), 4, eight(rt.alloc())?);
     let filled = header.fill(&[1, 2, 3], 1);
     header.mark_with(MARK);
     header.advance(1);
@@ -86,9 +86,10 @@ fn keeps_three(rt: HostRuntime) -> Result<(), Fail> {
     let alloc = rt.alloc();
     let (first, second, third) = (eight(alloc)?, eight(alloc)?, eight(alloc)?);
     let mut headers = Vec::with_capacity(alloc, 3)?;
-    keep(&mut headers, header_over(0, first));
-    keep(&mut headers, header_over(1, second));
-    keep(&mut headers, header_over(2, third));
+    let key = Key::new();
+    keep(&mut headers, header_over(key, 0, first));
+    keep(&mut headers, header_over(key, 1, second));
+    keep(&mut headers, header_over(key, 2, third));
     let middle = headers.remove(1);
     let number = middle.id();
     let memory = spend(middle);

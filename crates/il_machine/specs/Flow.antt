@@ -47,9 +47,6 @@ end_of components key = option_and_then (end_in components key.port) (place_numb
 abbrev pub other_end : List Component → Port → Option End
 other_end components p = option_and_then (λ link. end_of components link.peer) p.state.link
 
-abbrev pub AtEnd : Option End → (End → Type 0) → Type 0
-AtEnd end Then = MatchOption end ⊥ Then
-
 -- the tests that look at the other end
 abbrev pub at_end : {E : Type 0} → Option End → (End → List (Bool × E)) → List (Bool × E)
 at_end None tests = []

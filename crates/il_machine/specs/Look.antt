@@ -6,6 +6,7 @@ use Rattle.il_machine.specs.World.{Component, World}
 use Rattle.il_machine.specs.Headers.{Seen, seen}
 
 pub record Look : Type 0 where
+  pub key : ℕ
   pub components : List Component
   pub headers : Seen
   pub units : ℕ
@@ -13,4 +14,4 @@ pub record Look : Type 0 where
   pub made : ℕ
 
 abbrev pub look : World → Look
-look w = record { components = w.components; headers = seen w.headers; units = w.units; numbered = w.numbered; made = w.made }
+look w = record { key = w.key; components = w.components; headers = seen w.headers; units = w.units; numbered = w.numbered; made = w.made }

@@ -1,5 +1,5 @@
 -- What a contract sees of the ports and headers that are kept: the ports, what calls see of the headers, what those in the ports' lists
--- carry, and the next number. How it changes, and which flat lists it stands for.
+-- carry, the next number, and the key of all headers. How it changes, and which flat lists it stands for.
 use Rattle.std.specs.Prelude.{◌≡◌, ℕ, zero, suc, ◌+◌, ◌-◌, Bool, true, false, not, nat_eq, List, [], ◌∷◌, ◌++◌, filter, is_none, Option, Some, None, option_map, if◌then◌else◌}
 use Rattle.il_machine.specs.declared.port.PortKey.{PortKey}
 use Rattle.il_machine.specs.declared.header.Home.{Home}
@@ -14,6 +14,8 @@ use Rattle.il_machine.specs.World.{HeaderRecord, Load}
 use Rattle.il_machine.specs.Headers.{Seen, seen, load_at, Once, same_key, weight, state_at, state_given}
 
 pub record Stocked : Type 0 where
+  -- what its headers have, and those of another stock aren't known to have
+  pub key : ℕ
   -- those that were added and not removed
   pub ports : List PortKey
   pub headers : Seen
@@ -28,8 +30,8 @@ pub record StandsFor (s : Stocked) (headers : List HeaderRecord) : Type 0 where
   pub loads : (number : ℕ) (load : Load) → s.loads number ≡ Some load → load_at number headers ≡ Some load
   pub once : Once headers
 
-abbrev pub no_stock : Stocked
-no_stock = record { ports = []; headers = seen []; loads = λ number. None; next = 0 }
+abbrev pub no_stock : ℕ → Stocked
+no_stock key = record { key = key; ports = []; headers = seen []; loads = λ number. None; next = 0 }
 
 -- ---- one value of many
 

@@ -10,8 +10,9 @@ use Rattle.il_machine.specs.Look.{Look, look}
 use Rattle.il_machine.specs.Buffers.{Held, held, AtHeader}
 use Rattle.il_machine.specs.Components.{progress_of}
 
--- a header in a queued note, and whether its memory is the client's own
+-- a header in a queued note, its key, and whether its memory is the client's own
 pub record Noticed : Type 0 where
+  pub key : ℕ
   pub held : Held
   pub client_memory : Bool
 
@@ -29,9 +30,9 @@ pub record Kept : Type 0 where
 abbrev pub HasProgress : List (Option Progress) → World → Type 0
 HasProgress clients w = (i : ℕ) (c : Component) → slice_get w.components i ≡ Some c → c.client_out ≡ false → slice_get clients i ≡ Some (Some (progress_of c w))
 
--- The header in a queued note is one of the world's, which a notice has, with the memory that is known of it.
+-- The header in a queued note has the world's key, and is one of the world's, which a notice has, with the memory that is known of it.
 abbrev pub IsNoticed : World → Noticed → Type 0
-IsNoticed w h = AtHeader h.held.number w (λ r. (held r ≡ h.held) × (is_notice r.state.owner ≡ true) × (r.state.client_memory ≡ h.client_memory))
+IsNoticed w h = (h.key ≡ w.key) × AtHeader h.held.number w (λ r. (held r ≡ h.held) × (is_notice r.state.owner ≡ true) × (r.state.client_memory ≡ h.client_memory))
 
 -- All that is kept is the world's.
 pub record Stands (kept : Kept) (w : World) : Type 0 where
@@ -60,9 +61,9 @@ abbrev pub no_headers : Seen
 no_headers = seen []
 
 -- what is kept of a graph that was just made
-abbrev pub no_kept : ℕ → Kept
-no_kept units = record {
-  looks = record { components = []; headers = no_headers; units = units; numbered = 0; made = 0 };
+abbrev pub no_kept : ℕ → ℕ → Kept
+no_kept key units = record {
+  looks = record { key = key; components = []; headers = no_headers; units = units; numbered = 0; made = 0 };
   clients = [];
   loads = λ number. None;
   noticed = [];

@@ -52,6 +52,8 @@ pub record Given : Type 0 where
   pub note : Note
 
 pub record World : Type 0 where
+  -- what all its headers have; nothing is known of it, and it stays
+  pub key : ℕ
   -- in the order of their numbers
   pub components : List Component
   -- the order of this list is the order of each queue of headers
@@ -63,8 +65,8 @@ pub record World : Type 0 where
   pub numbered : ℕ
   pub made : ℕ
 
-abbrev pub no_world : ℕ → World
-no_world units = record { components = []; headers = []; given = []; units = units; numbered = 0; made = 0 }
+abbrev pub no_world : ℕ → ℕ → World
+no_world key units = record { key = key; components = []; headers = []; given = []; units = units; numbered = 0; made = 0 }
 
 -- ---- components
 

@@ -233,8 +233,8 @@ sound_run_of w v [] h S = stays_sound w v h S
 sound_run_of w v (x ∷ xs) (mid, meets, step, rest) S = sound_run_of mid v xs rest (sound_step w mid x.0 x.1 meets step S)
 
 -- the world in which nothing was made is sound
-pub sound_none : (units : ℕ) → Sound (no_world units)
-sound_none units = record {
+pub sound_none : (key units : ℕ) → Sound (no_world key units)
+sound_none key units = record {
   rising = omega arith;
   components = All-nil _;
   connected = All-nil _;

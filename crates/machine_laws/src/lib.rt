@@ -40,6 +40,6 @@ pub fn law_of_census()
 
 /// Each run from the world in which nothing was made leads to a sound world, with its census and its room.
 pub fn law_of_runs()
-    ensures sound { (units : ℕ) (xs : List (Act × Reply)) (v : World) → Run (no_world units) xs v → Sound v }
-    ensures census { (units : ℕ) (xs : List (Act × Reply)) (v : World) → Run (no_world units) xs v → Census v × HasRoom v }
+    ensures sound { (key units : ℕ) (xs : List (Act × Reply)) (v : World) → Run (no_world key units) xs v → Sound v }
+    ensures census { (key units : ℕ) (xs : List (Act × Reply)) (v : World) → Run (no_world key units) xs v → Census v × HasRoom v }
 {}

@@ -167,8 +167,8 @@ withdraw_stands s hs n h S e o =
       once = once-without n hs S.once;
     }
 
-pub start_stands : StandsFor no_stock []
-start_stands = record { looks = refl; loads = λ m l k. absurd cc; once = tt }
+pub start_stands : (key : ℕ) → StandsFor (no_stock key) []
+start_stands key = record { looks = refl; loads = λ m l k. absurd cc; once = tt }
 
 pub added_stands : (s : Stocked) (hs : List HeaderRecord) (component count : ℕ) → StandsFor s hs → StandsFor (added component count s) hs
 added_stands s hs component count S = record { looks = S.looks; loads = S.loads; once = S.once }

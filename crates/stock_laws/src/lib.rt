@@ -19,7 +19,7 @@ ghost use Rattle.stock_laws.specs.Seeing.{Implies, Shows};
 
 /// No ports and no headers stand for the empty list.
 pub fn law_of_start()
-    ensures { StandsFor no_stock [] }
+    ensures { (key : ℕ) → StandsFor (no_stock key) [] }
 {}
 
 /// Which ports there are doesn't matter to the headers.

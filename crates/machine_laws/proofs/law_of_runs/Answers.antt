@@ -5,6 +5,6 @@ use Rattle.machine_laws.proofs.law_of_runs.Goals as goal
 
 pub returns : goal.returns
 returns c = record {
-  sound = λ units xs v run. sound_run_of (no_world units) v xs run (sound_none units);
-  census = λ units xs v run. sound_census v (sound_run_of (no_world units) v xs run (sound_none units));
+  sound = λ key units xs v run. sound_run_of (no_world key units) v xs run (sound_none key units);
+  census = λ key units xs v run. sound_census v (sound_run_of (no_world key units) v xs run (sound_none key units));
 }

@@ -12,6 +12,7 @@ returns c =
     let some : n ≤ i.used - i.start = omega (arith, c.requires, same, length-take (i.used - i.start) (drop i.start (bytes_of i.store))) in
     let within : i.start + n ≤ i.used = omega (arith, c.self.invariant.3) in
     let with : List ℕ → BufferHeader = λ bytes. record {
+      key = i.key;
       held = record { number = i.number; size = i.size; content = bytes; flags = i.flags; mark = i.mark };
       store = i.store;
     } in
