@@ -33,7 +33,7 @@ use Rattle.history_laws.proofs.Steps.{comes_after}
 
 -- ---- the moves of an act that takes a header from the client
 
-first_move : (m n : Move) → (m ∷ []) ≡ (n ∷ []) → m ≡ n
+pub first_move : (m n : Move) → (m ∷ []) ≡ (n ∷ []) → m ≡ n
 first_move m n e = cc
 
 not_moved : (number : ℕ) (from to end : Stop) (ns : List ℕ) → from ≢ client_stop → front_move from to ns ≢ moved number client_stop end
@@ -112,7 +112,7 @@ carried_found w v ms number r B (Moved M) f o n = elim (cases_eq number M.number
   | inr a ↦ M.replaced.others number a ∙ f
 ]
 
-carried_once : (w v : World) (ms : List Move) → Once w.headers → AreBelow w → Carried w ms v → Once v.headers
+pub carried_once : (w v : World) (ms : List Move) → Once w.headers → AreBelow w → Carried w ms v → Once v.headers
 carried_once w v ms o B (Still S) = subst Once (sym S.headers) o
 carried_once w v ms o B (Made M) = subst Once (sym M.headers) (once_push w.headers _ o (ap (λ (k : ℕ). find_header k w.headers) M.number ∙ none_made w B))
 carried_once w v ms o B (Gone M) = subst Once (sym M.headers) (once_without M.number w.headers o)
@@ -121,17 +121,17 @@ carried_once w v ms o B (Moved M) = M.replaced.once
 -- ---- and over the close-out
 
 -- a header of a sound world that is with the client is in no list
-client_out : (w : World) (number : ℕ) (r : HeaderRecord) → Sound w → find_header number w.headers ≡ Some r → r.state.owner ≡ owners.Client → r.state.place ≡ Out
+pub client_out : (w : World) (number : ℕ) (r : HeaderRecord) → Sound w → find_header number w.headers ≡ Some r → r.state.owner ≡ owners.Client → r.state.place ≡ Out
 client_out w number r S f o =
     let own : IsOwnedSo r.state owners.Client = subst (λ (x : Owner). IsOwnedSo r.state x) o (set_in w number r S f).owner in
     own.0
 
-settled_found : (number : ℕ) (r : HeaderRecord) (o : Option HeaderRecord) → option_map stand_of o ≡ Some (stand_of r) → (s : HeaderRecord) × (o ≡ Some s) × (stand_of s ≡ stand_of r)
+pub settled_found : (number : ℕ) (r : HeaderRecord) (o : Option HeaderRecord) → option_map stand_of o ≡ Some (stand_of r) → (s : HeaderRecord) × (o ≡ Some s) × (stand_of s ≡ stand_of r)
 settled_found number r None e = absurd cc
 settled_found number r (Some s) e = let q : stand_of s ≡ stand_of r = cc in (s, refl, q)
 
 -- the same number, the same place, and all else
-same_state : (s t : HeaderState) → s.number ≡ t.number → s.place ≡ t.place → stand_in s ≡ stand_in t → s ≡ t
+pub same_state : (s t : HeaderState) → s.number ≡ t.number → s.place ≡ t.place → stand_in s ≡ stand_in t → s ≡ t
 same_state s t n p e = λ i. record {
   number = n i;
   port = (e i).port;

@@ -144,5 +144,5 @@ closed_from : (w v : World) (xs : List (Act × Reply)) → IsClosed w → Run w 
 closed_from w v [] C e = stays w v e C
 closed_from w v (x ∷ xs) C (mid, M, s, more) = closed_from mid v xs (step_closed w x.0 x.1 mid C s) more
 
-pub runs_closed : (units : ℕ) (xs : List (Act × Reply)) (v : World) → Run (no_world units) xs v → IsClosed v
-runs_closed units xs v h = closed_from (no_world units) v xs refl h
+pub runs_closed : (key units : ℕ) (xs : List (Act × Reply)) (v : World) → Run (no_world key units) xs v → IsClosed v
+runs_closed key units xs v h = closed_from (no_world key units) v xs refl h

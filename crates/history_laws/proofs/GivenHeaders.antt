@@ -53,7 +53,7 @@ accepted_or_memory None x w v Accepted a = a
 
 -- ---- a header that is made
 
-made_clients : (w v : World) (p : Port) (client_memory : Bool) (header : Held) → Sound w → Sound v → header ≡ held_of (client_header w.made p client_memory) no_load → ClosesTo (with_header (client_header w.made p client_memory) w) v
+pub made_clients : (w v : World) (p : Port) (client_memory : Bool) (header : Held) → Sound w → Sound v → header ≡ held_of (client_header w.made p client_memory) no_load → ClosesTo (with_header (client_header w.made p client_memory) w) v
     → IsClients (look v) header.number (client_header w.made p client_memory)
 made_clients w v p client_memory header S Z e C =
     let s = client_header w.made p client_memory in

@@ -28,4 +28,10 @@ pub mod CallsTwice
 pub mod DeterminedLaw
 pub mod RunLaw
 pub mod ClientHeaders
+pub mod ComingHeaders
+pub mod Cores
+pub mod MadeFor
+pub mod StillClosed
+pub mod Calm
 pub mod GivenHeaders
+pub mod KeyLaw

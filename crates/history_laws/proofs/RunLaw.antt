@@ -111,9 +111,9 @@ pub queues_of_runs : (w v : World) (xs : List (Act × Reply)) (number : ℕ) →
 queues_of_runs w v xs number S h there = let d = some_named number v there in (lives w v xs number d.0 S h d.1).queues
 
 -- from the world in which nothing was made
-pub all_were_due : (units : ℕ) (xs : List (Act × Reply)) (v : World) (number : ℕ) (x : Completion) → Run (no_world units) xs v → IsSome (component_numbered number v) → Contains (completions_in (queued_for number v)) x → WasDueIn (no_world units) xs v number x
-all_were_due units xs v number x h there c =
-    let q = queues_of_runs (no_world units) v xs number (sound_none units) h there in
+pub all_were_due : (key units : ℕ) (xs : List (Act × Reply)) (v : World) (number : ℕ) (x : Completion) → Run (no_world key units) xs v → IsSome (component_numbered number v) → Contains (completions_in (queued_for number v)) x → WasDueIn (no_world key units) xs v number x
+all_were_due key units xs v number x h there c =
+    let q = queues_of_runs (no_world key units) v xs number (sound_none key units) h there in
     let e : queued_for number v ≡ q.added = q.grows in
     q.due x (subst (λ (l : List Note). Contains (completions_in l) x) e c)
 
@@ -137,10 +137,10 @@ outcome_empty w v t number d N (Done C E) none is =
     let b = ((E.silent).births).born number m.0 m.1 none in
     b.1 ∙ (none_queued number w none ∙ N number b.0)
 
-pub comes_empty : (units : ℕ) (xs : List (Act × Reply)) (w : World) (a : Act) (r : Reply) (v : World) (number : ℕ) → Run (no_world units) xs w → Meets w a → Step w a r v
+pub comes_empty : (key units : ℕ) (xs : List (Act × Reply)) (w : World) (a : Act) (r : Reply) (v : World) (number : ℕ) → Run (no_world key units) xs w → Meets w a → Step w a r v
     → component_numbered number w ≡ None → IsSome (component_numbered number v) → queued_for number (effect w a r) ≡ []
-comes_empty units xs w a r v number R M h none there =
-    let S = sound_run_of (no_world units) w xs R (sound_none units) in
-    let N = none_given (no_world units) w xs (sound_none units) (λ k l. refl) R in
+comes_empty key units xs w a r v number R M h none there =
+    let S = sound_run_of (no_world key units) w xs R (sound_none key units) in
+    let N = none_given (no_world key units) w xs (sound_none key units) (λ k l. refl) R in
     let d = some_named number v there in
     outcome_empty w v (turn w a r) number d.0 N (step_comes w a r v S M h) (sym (is_named number w) ∙ none) d.1

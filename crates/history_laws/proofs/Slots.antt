@@ -79,7 +79,7 @@ module _ (h : Handle) (slot : ℕ) where
   transition_same i c (Some p) w =
       let a = put_same w.components i (arrived p (reseated h slot c)) (arrived p c) (arrived_same p.target p c) in
       let b = reset_same p.target c w.headers in
-      λ j. record { components = a j; headers = b j; given = w.given; units = w.units; numbered = w.numbered; made = w.made }
+      λ j. record { key = w.key; components = a j; headers = b j; given = w.given; units = w.units; numbered = w.numbered; made = w.made }
 
   flush_same : (i : ℕ) (c : Component) (o : Option Port) (w : World) → at_port o (flush_happened i (reseated h slot c)) (with_slot h slot w) ≡ with_slot h slot (at_port o (flush_happened i c) w)
   flush_same i c None w = refl

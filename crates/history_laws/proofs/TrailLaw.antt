@@ -58,8 +58,8 @@ trails_from w v (x ∷ xs) old ms S T (mid, rest, M, h, more, e) =
     let b = trails_from mid v xs (old ++ moves w x.0 x.1) rest (sound_step w mid x.0 x.1 M h S) a more in
     rw (e, ← append_assoc old (moves w x.0 x.1) rest) b
 
-trails_at_first : (units : ℕ) → HaveTrails (no_world units) []
-trails_at_first units = record { each = λ n. record { home = homes.Client; legal = tt; ends = refl; returned = refl }; none_yet = λ n l. refl }
+trails_at_first : (key units : ℕ) → HaveTrails (no_world key units) []
+trails_at_first key units = record { each = λ n. record { home = homes.Client; legal = tt; ends = refl; returned = refl }; none_yet = λ n l. refl }
 
-pub trails_of_runs : (units : ℕ) (xs : List (Act × Reply)) (ms : List Move) (v : World) → RunMoves (no_world units) xs ms v → HaveTrails v ms
-trails_of_runs units xs ms v h = trails_from (no_world units) v xs [] ms (sound_none units) (trails_at_first units) h
+pub trails_of_runs : (key units : ℕ) (xs : List (Act × Reply)) (ms : List Move) (v : World) → RunMoves (no_world key units) xs ms v → HaveTrails v ms
+trails_of_runs key units xs ms v h = trails_from (no_world key units) v xs [] ms (sound_none key units) (trails_at_first key units) h

@@ -1,5 +1,5 @@
 -- Headers that are with the client: which of them an act takes in, and which header it gives.
-use Rattle.std.specs.Prelude.{◌≡◌, ℕ, true, false, Option, Some, None, Ok}
+use Rattle.std.specs.Prelude.{◌≡◌, ℕ, true, false, Option, Some, None, option_map, Ok}
 use Rattle.il_machine.specs.declared.header.HeaderState.{HeaderState}
 use Rattle.il_machine.specs.declared.header.Owner.TheVariants as owners
 use Rattle.il_machine.specs.World.{World}
@@ -32,6 +32,9 @@ given_out (acts.AllocateBuffer h port) (acts.Allocated (Ok header)) = Some heade
 given_out (acts.UseBuffer h port bytes) (acts.Used (Ok header)) = Some header
 given_out (acts.TakeNote h) (acts.Took (Ok (TookNote taken))) = header_in taken
 given_out _ _ = None
+
+abbrev pub number_out : Act → Reply → Option ℕ
+number_out a r = option_map (λ header. header.number) (given_out a r)
 
 -- A header that is made has a block of the graph's or the client's own memory. One in a note is as it was, but for its owner.
 abbrev pub IsMadeBy : World → Act → ℕ → HeaderState → Type 0

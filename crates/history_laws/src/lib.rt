@@ -25,7 +25,7 @@ ghost use Rattle.il_machine.specs.Trails.{Move, moves, HaveTrails, RunMoves};
 ghost use Rattle.history_laws.specs.Runs.{IsUnchanged, RunQueues, WasDueIn};
 ghost use Rattle.history_laws.specs.Settled.{IsReturned, TakesToIdle, ReachesIdle, WasUnmade, IsUnmadeAndBack};
 ghost use Rattle.history_laws.specs.Determined.{AreAlike};
-ghost use Rattle.history_laws.specs.ClientHeaders.{IsClients, taken_in, given_out, IsGiven};
+ghost use Rattle.history_laws.specs.ClientHeaders.{IsClients, taken_in, given_out, number_out, IsGiven};
 
 /// What is queued for a client grows at its end alone: the act tells no completion, and each that the close-out
 /// tells was due in it. The close-out begins with the act's effect. For a component that comes nothing is queued.
@@ -34,14 +34,14 @@ pub fn law_of_queues()
         → Sound w → Meets w a → Step w a r v → StepQueues w a r v }
     ensures effects { (w : World) (a : Act) (r : Reply) (v : World)
         → Sound w → Meets w a → Step w a r v → IsUnchanged w (effect w a r) v ⊎ ClosesTo (effect w a r) v }
-    ensures new { (units : ℕ) (xs : List (Act × Reply)) (w : World) (a : Act) (r : Reply) (v : World) (number : ℕ)
-        → Run (no_world units) xs w → Meets w a → Step w a r v
+    ensures new { (key units : ℕ) (xs : List (Act × Reply)) (w : World) (a : Act) (r : Reply) (v : World) (number : ℕ)
+        → Run (no_world key units) xs w → Meets w a → Step w a r v
         → component_numbered number w ≡ None → IsSome (component_numbered number v) → queued_for number (effect w a r) ≡ [] }
     ensures runs { (w v : World) (xs : List (Act × Reply)) (number : ℕ)
         → Sound w → Run w xs v → IsSome (component_numbered number v) → RunQueues w xs v number }
-    ensures whole { (units : ℕ) (xs : List (Act × Reply)) (v : World) (number : ℕ) (x : Completion)
-        → Run (no_world units) xs v → IsSome (component_numbered number v)
-        → Contains (completions_in (queued_for number v)) x → WasDueIn (no_world units) xs v number x }
+    ensures whole { (key units : ℕ) (xs : List (Act × Reply)) (v : World) (number : ℕ) (x : Completion)
+        → Run (no_world key units) xs v → IsSome (component_numbered number v)
+        → Contains (completions_in (queued_for number v)) x → WasDueIn (no_world key units) xs v number x }
 {}
 
 /// Every trail stays legal, ends with the header's owner, and has at most one return of each hand-over.
@@ -50,8 +50,8 @@ pub fn law_of_trails()
         → Sound w → HaveTrails w ms → Meets w a → Step w a r v → HaveTrails v (ms ++ moves w a r) }
     ensures closing { (n : ℕ) (w v : World) (ms : List Move)
         → Sound w → HappenTimes n w v → HaveTrails w ms → HaveTrails v ms }
-    ensures runs { (units : ℕ) (xs : List (Act × Reply)) (ms : List Move) (v : World)
-        → RunMoves (no_world units) xs ms v → HaveTrails v ms }
+    ensures runs { (key units : ℕ) (xs : List (Act × Reply)) (ms : List Move) (v : World)
+        → RunMoves (no_world key units) xs ms v → HaveTrails v ms }
 {}
 
 /// At a settled port each hand-over has its return. So it is where a component reaches Idle from Executing
@@ -82,7 +82,7 @@ pub fn law_of_settled()
 /// Each step of a closed world leaves a closed one, so every world that a run reaches is closed.
 pub fn law_of_closed_runs()
     ensures steps { (w : World) (a : Act) (r : Reply) (v : World) → IsClosed w → Step w a r v → IsClosed v }
-    ensures runs { (units : ℕ) (xs : List (Act × Reply)) (v : World) → Run (no_world units) xs v → IsClosed v }
+    ensures runs { (key units : ℕ) (xs : List (Act × Reply)) (v : World) → Run (no_world key units) xs v → IsClosed v }
 {}
 
 /// One act in one world has one result, but for want of memory and the slot of a new handle.
@@ -91,15 +91,31 @@ pub fn law_of_steps_determined()
         → Step w a r v → Step w a s u → AreAlike w r v s u }
 {}
 
-/// A header that is with the client stays so, as it is, unless an act takes it in, and the close-out takes none.
-/// A header that an act gives is with the client.
+/// A header that is with the client stays so, as it is, unless an act takes it in, and then it isn't. A header that an
+/// act gives is with the client, and no other one comes to it. The close-out takes none and gives none.
 pub fn law_of_client_headers()
     ensures stays { (w : World) (a : Act) (r : Reply) (v : World) (number : ℕ) (s : HeaderState)
         → Sound w → Meets w a → Step w a r v → IsClients (look w) number s → taken_in a r ≢ Some number → IsClients (look v) number s }
+    ensures taken { (w : World) (a : Act) (r : Reply) (v : World) (number : ℕ) (s : HeaderState)
+        → Sound w → Meets w a → Step w a r v → taken_in a r ≡ Some number → ¬ (IsClients (look v) number s) }
+    ensures comes { (w : World) (a : Act) (r : Reply) (v : World) (number : ℕ) (s : HeaderState)
+        → Sound w → Meets w a → Step w a r v → IsClients (look v) number s → number_out a r ≢ Some number → IsClients (look w) number s }
     ensures closing { (w v : World) (number : ℕ) (s : HeaderState)
         → Sound w → ClosesTo w v → IsClients (look w) number s → IsClients (look v) number s }
+    ensures closing_back { (w v : World) (number : ℕ) (s : HeaderState)
+        → Sound w → ClosesTo w v → IsClients (look v) number s → IsClients (look w) number s }
     ensures given { (w : World) (a : Act) (r : Reply) (v : World) (header : Held)
         → Sound w → Meets w a → Step w a r v → given_out a r ≡ Some header → IsGiven w a v header }
     ensures runs { (w v : World) (xs : List (Act × Reply)) (number : ℕ) (s : HeaderState)
         → Sound w → Run w xs v → IsClients (look w) number s → All (λ x. taken_in x.0 x.1 ≢ Some number) xs → IsClients (look v) number s }
+    ensures runs_back { (w v : World) (xs : List (Act × Reply)) (number : ℕ) (s : HeaderState)
+        → Sound w → Run w xs v → IsClients (look v) number s → All (λ x. number_out x.0 x.1 ≢ Some number) xs → IsClients (look w) number s }
+{}
+
+/// The key of all headers stays.
+pub fn law_of_keys()
+    ensures steps { (w : World) (a : Act) (r : Reply) (v : World)
+        → Sound w → Meets w a → Step w a r v → v.key ≡ w.key }
+    ensures closing { (w v : World) → ClosesTo w v → v.key ≡ w.key }
+    ensures runs { (w v : World) (xs : List (Act × Reply)) → Sound w → Run w xs v → v.key ≡ w.key }
 {}

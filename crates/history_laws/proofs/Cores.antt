@@ -1,0 +1,188 @@
+-- What acts and the close-out leave of each component's handle, client object, state and pending transition.
+use Rattle.std.proofs.Common.{◌≡◌, ◌⊎◌, inl, inr, ℕ, zero, suc, Bool, true, not, ◌||◌, List, [], ◌∷◌, set, remove, slice_get, Option, Some, None, All, Ok, refl, sym, ◌∙◌, ap, subst}
+use Rattle.omx_types.specs.declared.state.State.{State}
+use Rattle.omx_types.specs.declared.handle.Handle.{Handle}
+use Rattle.omx_types.specs.declared.command.Command.{Command}
+use Rattle.omx_types.specs.declared.command.Event.{Event}
+use Rattle.il_machine.specs.declared.answer.Acted.TheVariants.{Did}
+use Rattle.il_machine.specs.declared.answer.Pending.{Pending}
+use Rattle.il_machine.specs.declared.port.Link.{Link}
+use Rattle.il_machine.specs.declared.port.Mode.TheVariants.{Steady}
+use Rattle.il_machine.specs.declared.port.Port.{Port}
+use Rattle.il_machine.specs.declared.port.PortKey.{PortKey}
+use Rattle.il_machine.specs.declared.header.Spot.{Spot}
+use Rattle.il_machine.specs.declared.header.Spot.TheVariants.{TodoBack}
+use Rattle.il_machine.specs.World.{Component, HeaderRecord, World, place_of, port_of, with_port}
+use Rattle.il_machine.specs.Headers.{seen, unchanged, cleared}
+use Rattle.il_machine.specs.Look.{Look, look}
+use Rattle.il_machine.specs.Ports.{is_input_port}
+use Rattle.il_machine.specs.Due.{Thing, Transition, Flush, PortMode, WaitingMark, arrived, mode_completion, all_told, transition_happened, at_port, flush_happened, mode_happened, mark_happened, happened, Happens, HappenTimes, ClosesTo}
+use Rattle.il_machine.specs.Commands.{is_at_once, invalidated, sent, run_front}
+use Rattle.il_machine.specs.Buffers.{is_unpopulating, unpopulated}
+use Rattle.il_machine.specs.Notes.{TakenEvent, TakenEmpty, TakenFilled, TookNote, first_taken, back_in}
+use Rattle.il_machine.specs.Flow.{in_port, front_unmade, front_put, handed_over, at_link, handed_back, returned, unused_spot, noticed}
+use Rattle.il_machine.specs.Acts.{Act, Reply}
+use Rattle.il_machine.specs.Acts as acts
+use Rattle.il_machine.specs.Effect.{changed_at, at_named, at_named_port, at_both, effect}
+use Rattle.machine_laws.proofs.Finding.{either}
+use Rattle.machine_laws.proofs.Every.{at_place, from_places, at_set, at_remove}
+use Rattle.history_laws.proofs.Outcome.{turn, Outcome, Nothing, Done}
+
+pub record Core : Type 0 where
+  pub handle : Handle
+  pub out : Bool
+  pub state : State
+  pub pending : Option Pending
+
+abbrev pub core : Component → Core
+core c = record { handle = c.handle; out = c.client_out; state = c.state; pending = c.pending }
+
+-- no component is made
+abbrev pub NoneGot : Act → Reply → Type 0
+NoneGot (acts.GetHandle name) (acts.Got (Ok h)) = ⊥
+NoneGot a r = Unit {0}
+
+-- no note is taken
+abbrev pub NoneTaken : Act → Reply → Type 0
+NoneTaken (acts.TakeNote h) (acts.Took (Ok (TookNote taken))) = ⊥
+NoneTaken a r = Unit {0}
+
+module _ (P : Core → Type 0) where
+  -- it stays true of a component that changes
+  pub record IsLasting : Type 0 where
+    pub arrives : (p : Pending) (c : Component) → c.pending ≡ Some p → P (core c) → P (core (arrived p c))
+    pub runs : (l : Look) (commands : List Command) (c : Component) → P (core c) → P (core (run_front l commands c))
+    pub drops : (c : Component) → P (core c) → P (core (invalidated c))
+    pub ends : (c : Component) → P (core c) → P (core (back_in c))
+
+  -- it is true of each component
+  abbrev pub Each : World → Type 0
+  Each w = All (λ (c : Component). P (core c)) w.components
+
+  pub each_set : (cs : List Component) (i : ℕ) (d : Component) → All (λ (c : Component). P (core c)) cs → P (core d) → All (λ (c : Component). P (core c)) (set cs i d)
+  each_set cs i d A p = from_places (λ (c : Component). P (core c)) (set cs i d) (λ j x e. elim (at_set cs i j d x e) [
+    | inl here ↦ subst (λ (y : Component). P (core y)) (sym here.1) p
+    | inr else ↦ at_place (λ (c : Component). P (core c)) cs j x A else.1
+  ])
+
+  each_removed : (cs : List Component) (i : ℕ) → All (λ (c : Component). P (core c)) cs → All (λ (c : Component). P (core c)) (remove cs i)
+  each_removed cs i A = from_places (λ (c : Component). P (core c)) (remove cs i) (λ j x e. let k = at_remove cs i j x e in at_place (λ (c : Component). P (core c)) cs k.0 x A k.2)
+
+  module _ (L : IsLasting) where
+    -- ---- what happens
+
+    told_core : (events : List Event) (c : Component) → P (core c) → P (core (all_told events c))
+    told_core [] c p = p
+    told_core (event ∷ events) c p = told_core events _ p
+
+    at_port_each : (o : Option Port) (change : Port → World → World) (w : World) → Each w → ((p : Port) → Each (change p w)) → Each (at_port o change w)
+    at_port_each None change w E k = E
+    at_port_each (Some p) change w E k = k p
+
+    transition_each : (i : ℕ) (c : Component) (o : Option Pending) (w : World) → c.pending ≡ o → P (core c) → Each w → Each (transition_happened i c o w)
+    transition_each i c None w e p E = E
+    transition_each i c (Some pending) w e p E = each_set w.components i (arrived pending c) E (L.arrives pending c e p)
+
+    happened_each : (i : ℕ) (c : Component) (thing : Thing) (w : World) → slice_get w.components i ≡ Some c → Each w → Each (happened i c thing w)
+    happened_each i c thing w at E = let p = at_place (λ (d : Component). P (core d)) w.components i c E at in by_thing i c thing w p E
+      where
+        by_thing : (i : ℕ) (c : Component) (thing : Thing) (w : World) → P (core c) → Each w → Each (happened i c thing w)
+        by_thing i c Transition w p E = transition_each i c c.pending w refl p E
+        by_thing i c (Flush port) w p E = at_port_each (port_of c port) (flush_happened i c) w E (λ q. each_set w.components i _ E p)
+        by_thing i c (PortMode port) w p E = at_port_each (port_of c port) (mode_happened i c) w E (λ q.
+            each_set w.components i _ E (told_core (mode_completion q.state.mode q.key.port) (with_port q.key.port (record q.state { mode = Steady }) c) p))
+        by_thing i c (WaitingMark port) w p E = at_port_each (port_of c port) (mark_happened i c) w E (λ q. each_set w.components i _ E p)
+
+    happens_each : (w v : World) → Happens w v → Each w → Each v
+    happens_each w v H E = subst Each (sym H.after) (happened_each H.place H.component H.thing w H.there E)
+
+    times_each : (n : ℕ) (w v : World) → HappenTimes n w v → Each w → Each v
+    times_each zero w v e E = subst Each (sym e) E
+    times_each (suc n) w v (mid, before, last) E = happens_each mid v last (times_each n w mid before E)
+
+    pub closes_each : (w v : World) → ClosesTo w v → Each w → Each v
+    closes_each w v C E = times_each C.steps w v C.by_steps E
+
+    -- ---- what acts do
+
+    changed_each : {T : Type 0} (o : Option T) (w : World) (change : T → World) → Each w → ((x : T) → o ≡ Some x → Each (change x)) → Each (changed_at o w change)
+    changed_each None w change E k = E
+    changed_each (Some x) w change E k = k x refl
+
+    named_each : (h : Handle) (w : World) (change : ℕ → Component → World) → Each w → ((i : ℕ) (c : Component) → P (core c) → Each (change i c)) → Each (at_named h w change)
+    named_each h w change E k = changed_each (place_of h w.components) w _ E (λ i p.
+        changed_each (slice_get w.components i) w _ E (λ c at. k i c (at_place (λ (d : Component). P (core d)) w.components i c E at)))
+
+    port_each : (h : Handle) (port : ℕ) (w : World) (change : ℕ → Component → Port → World) → Each w → ((i : ℕ) (c : Component) (p : Port) → P (core c) → Each (change i c p)) → Each (at_named_port h port w change)
+    port_each h port w change E k = named_each h w _ E (λ i c p. changed_each (port_of c port) w _ E (λ q e. k i c q p))
+
+    both_each : (p q : Option Port) (w : World) (change : Port → Port → World) → Each w → ((a b : Port) → Each (change a b)) → Each (at_both p q w change)
+    both_each p q w change E k = changed_each p w _ E (λ a e. changed_each q w _ E (λ b f. k a b))
+
+    unmade_each : (ns : List ℕ) (w : World) → Each w → Each (front_unmade ns w)
+    unmade_each [] w E = E
+    unmade_each (n ∷ ns) w E = E
+
+    put_each : (key : PortKey) (spot : Spot) (change : HeaderRecord → HeaderRecord) (ns : List ℕ) (w : World) → Each w → Each (front_put key spot change ns w)
+    put_each key spot change [] w E = E
+    put_each key spot change (n ∷ ns) w E = E
+
+    over_each : (p : Port) (o : Option Link) (w : World) → Each w → Each (at_link o (λ peer. front_put peer TodoBack unchanged ((seen w.headers).done p.key)) w)
+    over_each p None w E = E
+    over_each p (Some link) w E = put_each link.peer TodoBack unchanged ((seen w.headers).done p.key) w E
+
+    returned_each : (key : PortKey) (input : Bool) (done todo : List ℕ) (w : World) → Each w → Each (returned key input done todo w)
+    returned_each key input [] todo w E = put_each key (unused_spot input) cleared todo w E
+    returned_each key input (n ∷ ns) todo w E = E
+
+    noticed_each : (i : ℕ) (c : Component) (p : Port) (todo : List ℕ) (w : World) → P (core c) → Each w → Each (noticed i c p todo w)
+    noticed_each i c p [] w k E = E
+    noticed_each i c p (n ∷ ns) w k E = each_set w.components i _ E k
+
+    back_each : (i : ℕ) (c : Component) (p : Port) (o : Option Link) (w : World) → P (core c) → Each w → Each (handed_back i c p o w)
+    back_each i c p None w k E = noticed_each i c p ((seen w.headers).todo p.key) w k E
+    back_each i c p (Some link) w k E = returned_each link.peer (is_input_port p) ((seen w.headers).done p.key) ((seen w.headers).todo p.key) w E
+
+    sent_core : (command : Command) (c : Component) → P (core c) → P (core (sent command c))
+    sent_core command c p = either (is_at_once command) (λ t. rw t (L.drops c p)) (λ f. rw f p)
+
+    unpopulated_core : (q : Port) (c : Component) → P (core c) → P (core (unpopulated q c))
+    unpopulated_core q c p = either (is_unpopulating c q) (λ t. rw t p) (λ f. rw f p)
+
+    module _ (w : World) (E : Each w) where
+      noted_each : (i : ℕ) (c : Component) → P (core (first_taken c)) → Each (record w { components = set w.components i (first_taken c) })
+      noted_each i c p = each_set w.components i (first_taken c) E p
+
+      -- an act that takes no note, or one that it outlasts
+      pub effect_each : (a : Act) (r : Reply) → NoneGot a r → (NoneTaken a r ⊎ ((c : Component) → P (core c) → P (core (first_taken c)))) → Each (effect w a r)
+      effect_each (acts.GetHandle name) (acts.Got (Ok h)) n t = absurd n
+      effect_each (acts.FreeHandle h) (acts.Plain (Ok done)) n t = named_each h w _ E (λ i c p. each_removed w.components i E)
+      effect_each (acts.SetParameter h key value) (acts.Plain (Ok done)) n t = named_each h w _ E (λ i c p. each_set w.components i _ E p)
+      effect_each (acts.SetConfig h key value) (acts.Plain (Ok done)) n t = named_each h w _ E (λ i c p. each_set w.components i _ E p)
+      effect_each (acts.SetupTunnel output input) (acts.Joined (Ok supplier)) n t =
+          named_each output.handle w _ E (λ i c p. named_each input.handle w _ E (λ j d q. both_each (port_of c output.index) (port_of d input.index) w _ E (λ x y.
+          each_set (set w.components i _) j _ (each_set w.components i _ E p) q)))
+      effect_each (acts.DropTunnel output input) (acts.Plain (Ok done)) n t =
+          named_each output.handle w _ E (λ i c p. named_each input.handle w _ E (λ j d q. both_each (port_of c output.index) (port_of d input.index) w _ E (λ x y.
+          each_set (set w.components i _) j _ (each_set w.components i _ E p) q)))
+      effect_each (acts.SendCommand h command) (acts.Plain (Ok done)) n t = named_each h w _ E (λ i c p. each_set w.components i _ E (sent_core command c p))
+      effect_each (acts.RunCommand h) (acts.Acted (Ok Did)) n t = named_each h w _ E (λ i c p. each_set w.components i _ E (L.runs (look w) c.commands c p))
+      effect_each (acts.AllocateBuffer h port) (acts.Allocated (Ok header)) n t = port_each h port w _ E (λ i c q p. E)
+      effect_each (acts.UseBuffer h port bytes) (acts.Used (Ok header)) n t = port_each h port w _ E (λ i c q p. E)
+      effect_each (acts.FreeBuffer h port header) (acts.Freed (Ok memory)) n t = port_each h port w _ E (λ i c q p. each_set w.components i _ E (unpopulated_core q c p))
+      effect_each (acts.EmptyThisBuffer h port header) (acts.Plain (Ok done)) n t = port_each h port w _ E (λ i c q p. E)
+      effect_each (acts.FillThisBuffer h port header) (acts.Plain (Ok done)) n t = port_each h port w _ E (λ i c q p. E)
+      effect_each (acts.TakeNote h) (acts.Took (Ok (TookNote (TakenEvent event)))) n (inr f) = named_each h w _ E (λ i c p. each_set w.components i _ E (f c p))
+      effect_each (acts.TakeNote h) (acts.Took (Ok (TookNote (TakenEmpty header)))) n (inr f) = named_each h w _ E (λ i c p. each_set w.components i _ E (f c p))
+      effect_each (acts.TakeNote h) (acts.Took (Ok (TookNote (TakenFilled header)))) n (inr f) = named_each h w _ E (λ i c p. each_set w.components i _ E (f c p))
+      effect_each (acts.TakeNote h) (acts.Took (Ok (TookNote taken))) n (inl t) = absurd t
+      effect_each (acts.EndNote h progress) acts.Ended n t = named_each h w _ E (λ i c p. each_set w.components i _ E (L.ends c p))
+      effect_each (acts.Supply h port) (acts.Supplied (Ok Did)) n t = port_each h port w _ E (λ i c q p. E)
+      effect_each (acts.Release h port) (acts.Acted (Ok Did)) n t = port_each h port w _ E (λ i c q p. unmade_each (in_port (seen w.headers) q) w E)
+      effect_each (acts.HandOver h port) (acts.Acted (Ok Did)) n t = port_each h port w _ E (λ i c q p. over_each q q.state.link w E)
+      effect_each (acts.HandBack h port) (acts.Acted (Ok Did)) n t = port_each h port w _ E (λ i c q p. back_each i c q q.state.link w p E)
+      effect_each _ _ n t = E
+
+    pub outcome_each : (w : World) (a : Act) (r : Reply) (v : World) → NoneGot a r → (NoneTaken a r ⊎ ((c : Component) → P (core c) → P (core (first_taken c)))) → Outcome w (turn w a r) v → Each w → Each v
+    outcome_each w a r v n t (Nothing e m) E = subst Each (sym e) E
+    outcome_each w a r v n t (Done C F) E = closes_each (effect w a r) v C (effect_each w E a r n t)
