@@ -23,10 +23,10 @@ use Rattle.port_stock.proofs.Changing.{todo_waits, done_waits}
 use Rattle.port_stock.proofs.Stocking.{kept, reads, stocked-is, push_read, give_read, withdraw_read, pull_read, pull_none, send_read, send_none, clear_todo_read, clear_done_read, mark_read, todo_read, done_read}
 use Rattle.port_stock.proofs.Lawful.{put_lawful, without_lawful, out_lawful, give_lawful, mark_lawful, clear_lawful}
 
--- The flat list, with the ports and the next number, is lawful, and is read as the value.
-pub record Becomes (keys : List PortKey) (hs : List HeaderRecord) (last : ℕ) (s : Stocked) : Type 0 where
+-- The flat list, with the key, the ports and the next number, is lawful, and is read as the value.
+pub record Becomes (own : ℕ) (keys : List PortKey) (hs : List HeaderRecord) (last : ℕ) (s : Stocked) : Type 0 where
   pub lawful : AreLawful keys last hs
-  pub is : stocked (kept keys hs last) ≡ s
+  pub is : stocked (kept own keys hs last) ≡ s
 
 -- ---- a header of the stock
 
@@ -68,7 +68,7 @@ abbrev pub IsOutFlat : BufferHeader → HeaderState → Type 0
 IsOutFlat header h = (h.place ≡ Out) × IsHeaderOf h header
 
 pub outside_flat : (k : Kept) (header : BufferHeader) → IsOutside header (stocked k) → MatchOption (find_header header.held.number k.headers) ⊥ (λ r. (r.state.place ≡ Out) × IsHeaderOf r.state header)
-outside_flat k header h = state_flat k header.held.number (IsOutFlat header) h
+outside_flat k header h = state_flat k header.held.number (IsOutFlat header) h.1
 
 pub out_flat : (k : Kept) (n : ℕ) → IsOut n (stocked k) → MatchOption (find_header n k.headers) ⊥ (λ r. r.state.place ≡ Out)
 out_flat k n h = state_flat k n (λ s. s.place ≡ Out) h
@@ -83,7 +83,7 @@ outside_out k header h = weaken (λ r. IsOutFlat header r.state) (λ r. r.state.
 -- ---- calls on one header
 
 pub push_becomes : (k : Kept) (hs : List HeaderRecord) (key : PortKey) (spot : Spot) (header : BufferHeader) → AreLawful k.ports k.next k.headers → IsOutside header (stocked k)
-    → hs ≡ put key spot header.held.number (loaded (load_in header.held)) k.headers → Becomes k.ports hs k.next (pushed key spot header.held.number (load_in header.held) (stocked k))
+    → hs ≡ put key spot header.held.number (loaded (load_in header.held)) k.headers → Becomes k.key k.ports hs k.next (pushed key spot header.held.number (load_in header.held) (stocked k))
 push_becomes k hs key spot header L o h =
     let n = header.held.number in
     let load = load_in header.held in
@@ -91,28 +91,28 @@ push_becomes k hs key spot header L o h =
     let P : List HeaderRecord → Type 0 = AreLawful k.ports k.next in
     record {
       lawful = subst P (sym h) (put_lawful k.ports k.next k.headers key spot n load T.it T.is L);
-      is = stocked-is k.ports hs k.next _ (push_read k hs key spot n load T.it L.once T.is T.holds.0 h);
+      is = stocked-is k.key k.ports hs k.next _ (push_read k hs key spot n load T.it L.once T.is T.holds.0 h);
     }
 
 pub withdraw_becomes : (k : Kept) (hs : List HeaderRecord) (header : BufferHeader) → AreLawful k.ports k.next k.headers → IsOutside header (stocked k)
-    → hs ≡ without header.held.number k.headers → Becomes k.ports hs k.next (withdrawn header.held.number (stocked k))
+    → hs ≡ without header.held.number k.headers → Becomes k.key k.ports hs k.next (withdrawn header.held.number (stocked k))
 withdraw_becomes k hs header L o h =
     let n = header.held.number in
     let T = there (λ r. r.state.place ≡ Out) (find_header n k.headers) (outside_out k header o) in
     let P : List HeaderRecord → Type 0 = AreLawful k.ports k.next in
     record {
       lawful = subst P (sym h) (without_lawful k.ports k.next k.headers n T.it T.is L);
-      is = stocked-is k.ports hs k.next _ (withdraw_read k hs n T.it L.once T.is T.holds h);
+      is = stocked-is k.key k.ports hs k.next _ (withdraw_read k hs n T.it L.once T.is T.holds h);
     }
 
 pub give_becomes : (k : Kept) (hs : List HeaderRecord) (n : ℕ) (owner : Owner) → AreLawful k.ports k.next k.headers → IsOut n (stocked k)
-    → hs ≡ changed n (given_to owner) k.headers → Becomes k.ports hs k.next (given n owner (stocked k))
+    → hs ≡ changed n (given_to owner) k.headers → Becomes k.key k.ports hs k.next (given n owner (stocked k))
 give_becomes k hs n owner L o h =
     let T = there (λ r. r.state.place ≡ Out) (find_header n k.headers) (out_flat k n o) in
     let P : List HeaderRecord → Type 0 = AreLawful k.ports k.next in
     record {
       lawful = subst P (sym h) (give_lawful k.ports k.next k.headers n owner L);
-      is = stocked-is k.ports hs k.next _ (give_read k hs n owner T.it L.once T.is T.holds h);
+      is = stocked-is k.key k.ports hs k.next _ (give_read k hs n owner T.it L.once T.is T.holds h);
     }
 
 -- ---- the front of a list leaves it
@@ -139,90 +139,90 @@ taken_from test k header w h =
       sym ((reads k).loads n) ∙ (ap kept_load T.is ∙ waits_load T.it (load_in header.held) (w T.it T.holds.0) T.holds.1),
     )
 
-taken_outside : (test : HeaderState → Bool) (k : Kept) (hs : List HeaderRecord) (header : BufferHeader) → MatchOption (find_header header.held.number k.headers) ⊥ (WasFlat test header)
-    → hs ≡ changed header.held.number (λ r. cleared (out_of_list r)) k.headers → IsOutside header (stocked (kept k.ports hs k.next))
-taken_outside test k hs header h e =
+taken_outside : (test : HeaderState → Bool) (k : Kept) (hs : List HeaderRecord) (header : BufferHeader) → header.key ≡ k.key → MatchOption (find_header header.held.number k.headers) ⊥ (WasFlat test header)
+    → hs ≡ changed header.held.number (λ r. cleared (out_of_list r)) k.headers → IsOutside header (stocked (kept k.key k.ports hs k.next))
+taken_outside test k hs header own h e =
     let n = header.held.number in
     let T = there (WasFlat test header) (find_header n k.headers) h in
     let f : HeaderRecord → HeaderRecord = λ r. cleared (out_of_list r) in
     let now : find_header n hs ≡ Some (f T.it) = ap (find_header n) e ∙ (find-changed n n f k.headers T.it T.is refl ∙ grind (arith, nat_tests)) in
     let fits : IsHeaderOf (f T.it).state header = record { size = T.holds.2.size; memory = T.holds.2.memory } in
     let Q : Option HeaderRecord → Type 0 = λ o. MatchOption o ⊥ (λ r. IsOutFlat header r.state) in
-    flat_state (kept k.ports hs k.next) n (IsOutFlat header) (subst Q (sym now) (refl, fits))
+    (own ∙ (reads (kept k.key k.ports hs k.next)).key, flat_state (kept k.key k.ports hs k.next) n (IsOutFlat header) (subst Q (sym now) (refl, fits)))
 
 pub pull_becomes : (k : Kept) (hs : List HeaderRecord) (key : PortKey) (o : Option BufferHeader) → AreLawful k.ports k.next k.headers
     → MatchOption o ((numbers (is_state (in_todo key)) k.headers ≡ []) × (hs ≡ k.headers)) (λ header. IsTaken (is_state (in_todo key)) header k.headers hs)
-    → Becomes k.ports hs k.next (pulled key (stocked k))
+    → Becomes k.key k.ports hs k.next (pulled key (stocked k))
 pull_becomes k hs key None L h =
-    let same : kept k.ports hs k.next ≡ k = λ i. record { ports = k.ports; headers = h.1 i; next = k.next } in
+    let same : kept k.key k.ports hs k.next ≡ k = λ i. record { key = k.key; ports = k.ports; headers = h.1 i; next = k.next } in
     let P : List HeaderRecord → Type 0 = AreLawful k.ports k.next in
     record { lawful = subst P (sym h.1) L; is = ap stocked same ∙ pull_none k key h.0 }
 pull_becomes k hs key (Some header) L h =
     let P : List HeaderRecord → Type 0 = AreLawful k.ports k.next in
     record {
       lawful = subst P (sym h.after) (out_lawful k.ports k.next k.headers header.held.number L);
-      is = stocked-is k.ports hs k.next _ (pull_read k hs key header.held.number L.once h.front h.after);
+      is = stocked-is k.key k.ports hs k.next _ (pull_read k hs key header.held.number L.once h.front h.after);
     }
 
-pub pull_takes : (k : Kept) (hs : List HeaderRecord) (key : PortKey) (o : Option BufferHeader)
+pub pull_takes : (k : Kept) (hs : List HeaderRecord) (key : PortKey) (o : Option BufferHeader) → IfSome o (λ header. header.key ≡ k.key)
     → MatchOption o ((numbers (is_state (in_todo key)) k.headers ≡ []) × (hs ≡ k.headers)) (λ header. IsTaken (is_state (in_todo key)) header k.headers hs)
-    → TakesFront (in_todo key) ((stocked k).headers.todo key) (stocked k) (stocked (kept k.ports hs k.next)) o
-pull_takes k hs key None h = record { front = sym (ap (λ (ns : List ℕ). slice_get ns 0) (sym (todo_read k key) ∙ h.0)); was = tt; outside = tt }
-pull_takes k hs key (Some header) h = record {
+    → TakesFront (in_todo key) ((stocked k).headers.todo key) (stocked k) (stocked (kept k.key k.ports hs k.next)) o
+pull_takes k hs key None own h = record { front = sym (ap (λ (ns : List ℕ). slice_get ns 0) (sym (todo_read k key) ∙ h.0)); was = tt; outside = tt }
+pull_takes k hs key (Some header) own h = record {
   front = sym h.front ∙ ap (λ (ns : List ℕ). slice_get ns 0) (todo_read k key);
   was = taken_from (in_todo key) k header (todo_waits key) h.was;
-  outside = taken_outside (in_todo key) k hs header h.was h.after;
+  outside = taken_outside (in_todo key) k hs header own h.was h.after;
 }
 
 pub send_becomes : (k : Kept) (hs : List HeaderRecord) (key : PortKey) (o : Option BufferHeader) → AreLawful k.ports k.next k.headers
     → MatchOption o ((numbers (is_state (in_done key)) k.headers ≡ []) × (hs ≡ k.headers)) (λ header. IsTaken (is_state (in_done key)) header k.headers hs)
-    → Becomes k.ports hs k.next (sent key (stocked k))
+    → Becomes k.key k.ports hs k.next (sent key (stocked k))
 send_becomes k hs key None L h =
-    let same : kept k.ports hs k.next ≡ k = λ i. record { ports = k.ports; headers = h.1 i; next = k.next } in
+    let same : kept k.key k.ports hs k.next ≡ k = λ i. record { key = k.key; ports = k.ports; headers = h.1 i; next = k.next } in
     let P : List HeaderRecord → Type 0 = AreLawful k.ports k.next in
     record { lawful = subst P (sym h.1) L; is = ap stocked same ∙ send_none k key h.0 }
 send_becomes k hs key (Some header) L h =
     let P : List HeaderRecord → Type 0 = AreLawful k.ports k.next in
     record {
       lawful = subst P (sym h.after) (out_lawful k.ports k.next k.headers header.held.number L);
-      is = stocked-is k.ports hs k.next _ (send_read k hs key header.held.number L.once h.front h.after);
+      is = stocked-is k.key k.ports hs k.next _ (send_read k hs key header.held.number L.once h.front h.after);
     }
 
-pub send_takes : (k : Kept) (hs : List HeaderRecord) (key : PortKey) (o : Option BufferHeader)
+pub send_takes : (k : Kept) (hs : List HeaderRecord) (key : PortKey) (o : Option BufferHeader) → IfSome o (λ header. header.key ≡ k.key)
     → MatchOption o ((numbers (is_state (in_done key)) k.headers ≡ []) × (hs ≡ k.headers)) (λ header. IsTaken (is_state (in_done key)) header k.headers hs)
-    → TakesFront (in_done key) ((stocked k).headers.done key) (stocked k) (stocked (kept k.ports hs k.next)) o
-send_takes k hs key None h = record { front = sym (ap (λ (ns : List ℕ). slice_get ns 0) (sym (done_read k key) ∙ h.0)); was = tt; outside = tt }
-send_takes k hs key (Some header) h = record {
+    → TakesFront (in_done key) ((stocked k).headers.done key) (stocked k) (stocked (kept k.key k.ports hs k.next)) o
+send_takes k hs key None own h = record { front = sym (ap (λ (ns : List ℕ). slice_get ns 0) (sym (done_read k key) ∙ h.0)); was = tt; outside = tt }
+send_takes k hs key (Some header) own h = record {
   front = sym h.front ∙ ap (λ (ns : List ℕ). slice_get ns 0) (done_read k key);
   was = taken_from (in_done key) k header (done_waits key) h.was;
-  outside = taken_outside (in_done key) k hs header h.was h.after;
+  outside = taken_outside (in_done key) k hs header own h.was h.after;
 }
 
 -- ---- headers change where they stand
 
 pub clear_todo_becomes : (k : Kept) (hs : List HeaderRecord) (key : PortKey) → AreLawful k.ports k.next k.headers → hs ≡ map (λ r. cleared_where (in_todo key r.state) r) k.headers
-    → Becomes k.ports hs k.next (todo_cleared key (stocked k))
+    → Becomes k.key k.ports hs k.next (todo_cleared key (stocked k))
 clear_todo_becomes k hs key L h =
     let P : List HeaderRecord → Type 0 = AreLawful k.ports k.next in
     record {
       lawful = subst P (sym h) (clear_lawful k.ports k.next k.headers (is_state (in_todo key)) L);
-      is = stocked-is k.ports hs k.next _ (clear_todo_read k hs key L.once h);
+      is = stocked-is k.key k.ports hs k.next _ (clear_todo_read k hs key L.once h);
     }
 
 pub clear_done_becomes : (k : Kept) (hs : List HeaderRecord) (key : PortKey) → AreLawful k.ports k.next k.headers → hs ≡ map (λ r. cleared_where (in_done key r.state) r) k.headers
-    → Becomes k.ports hs k.next (done_cleared key (stocked k))
+    → Becomes k.key k.ports hs k.next (done_cleared key (stocked k))
 clear_done_becomes k hs key L h =
     let P : List HeaderRecord → Type 0 = AreLawful k.ports k.next in
     record {
       lawful = subst P (sym h) (clear_lawful k.ports k.next k.headers (is_state (in_done key)) L);
-      is = stocked-is k.ports hs k.next _ (clear_done_read k hs key L.once h);
+      is = stocked-is k.key k.ports hs k.next _ (clear_done_read k hs key L.once h);
     }
 
 pub mark_becomes : (k : Kept) (hs : List HeaderRecord) (key : PortKey) (mark : Mark) → AreLawful k.ports k.next k.headers → hs ≡ first_marked (numbers (in_unmarked key) k.headers) (Some mark) k.headers
-    → Becomes k.ports hs k.next (marked_first key mark (stocked k))
+    → Becomes k.key k.ports hs k.next (marked_first key mark (stocked k))
 mark_becomes k hs key mark L h =
     let P : List HeaderRecord → Type 0 = AreLawful k.ports k.next in
     record {
       lawful = subst P (sym h) (mark_lawful k.ports k.next k.headers (numbers (in_unmarked key) k.headers) mark L);
-      is = stocked-is k.ports hs k.next _ (mark_read k hs key mark L.once h);
+      is = stocked-is k.key k.ports hs k.next _ (mark_read k hs key mark L.once h);
     }

@@ -16,7 +16,7 @@ use Rattle.header_core.specs.BufferHeader.{BufferHeader}
 use Rattle.port_stock.specs.declared.entry.Entry.{Entry}
 use Rattle.port_stock.specs.Kept.{is_waiting}
 use Rattle.port_stock.specs.Conditions.{IsHeaderOf}
-use Rattle.port_stock.specs.Entries.{Each, IsKept, IsTaken, entry_at, entry_out, headers_of, load_of_kept, record_of}
+use Rattle.port_stock.specs.Entries.{AreOf, Each, HasKey, IsKept, IsTaken, KeepsKeys, entry_at, entry_out, headers_of, load_of_kept, record_of}
 use Rattle.port_stock.proofs.Places.{At, Front, is_numbered, nowhere, Each-at, Each-set, Each-remove, Each-entry_at, headers-entry_at}
 
 -- ---- facts of one option
@@ -100,6 +100,11 @@ put_kept es vs n k key spot header P num h E =
     let Q : List Entry → Type 0 = Each IsKept in
     subst Q (sym P.items) (Each-entry_at IsKept spot e (remove es k) (Each-remove IsKept es k E) K)
 
+pub put_keys : (es vs : List Entry) (n k : ℕ) (key : PortKey) (spot : Spot) (header : BufferHeader) → Puts es vs n k key spot header → AreOf header.key es → AreOf header.key vs
+put_keys es vs n k key spot header P E =
+    let e : Entry = record { state = state_at key spot P.at.it.state; kept = Some header } in
+    subst (AreOf header.key) (sym P.items) (Each-entry_at (HasKey header.key) spot e (remove es k) (Each-remove (HasKey header.key) es k E) refl)
+
 -- ---- a header gets an owner
 
 pub at_is : {X : Type 0} (xs : List X) (k : ℕ) (x y : X) → slice_get xs k ≡ Some x → get_or xs k y ≡ x
@@ -175,3 +180,11 @@ pub leaves_kept : (es vs : List Entry) (k : ℕ) (it : Entry) (header : BufferHe
 leaves_kept es vs k it header E L =
     let Q : List Entry → Type 0 = Each IsKept in
     subst Q (sym L.items) (Each-set IsKept es k (entry_out it) E (record { there = refl; header = tt }))
+
+pub leaves_keys : (es vs : List Entry) (k : ℕ) (it : Entry) (header : BufferHeader) → Leaves es vs k it header → KeepsKeys es vs
+leaves_keys es vs k it header L key E = subst (AreOf key) (sym L.items) (Each-set (HasKey key) es k (entry_out it) E tt)
+
+pub leaves_own : (es vs : List Entry) (k : ℕ) (it : Entry) (header : BufferHeader) → slice_get es k ≡ Some it → Leaves es vs k it header → (key : ℕ) → AreOf key es → header.key ≡ key
+leaves_own es vs k it header at L key E =
+    let P : Option BufferHeader → Type 0 = λ o. MatchOption o (Unit {0}) (λ header. header.key ≡ key) in
+    subst P L.was_kept (Each-at (HasKey key) es k it E at)

@@ -40,13 +40,13 @@ placed_more ports more [] E = tt
 placed_more ports more (r ∷ hs) E = (has_more r.state.port ports more E.0, placed_more ports more hs E.1)
 
 pub add_becomes : (k : Kept) (ports : List PortKey) (component count : ℕ) → AreLawful k.ports k.next k.headers → ports ≡ k.ports ++ keys_from component 0 count
-    → Becomes ports k.headers k.next (added component count (stocked k))
+    → Becomes k.key ports k.headers k.next (added component count (stocked k))
 add_becomes k ports component count L h =
     let R = reads k in
     let P : List PortKey → Type 0 = λ v. AreLawful v k.next k.headers in
     record {
       lawful = subst P (sym h) (record { once = L.once; numbered = L.numbered; placed = placed_more k.ports (keys_from component 0 count) k.headers L.placed; few = L.few });
-      is = stocked-is ports k.headers k.next _ (record { ports = h ∙ ap (λ (v : List PortKey). v ++ keys_from component 0 count) R.ports; looks = R.looks; loads = R.loads; next = R.next });
+      is = stocked-is k.key ports k.headers k.next _ (record { key = R.key; ports = h ∙ ap (λ (v : List PortKey). v ++ keys_from component 0 count) R.ports; looks = R.looks; loads = R.loads; next = R.next });
     }
 
 pub keys_length : (component index count : ℕ) → length (keys_from component index count) ≡ count
@@ -114,13 +114,13 @@ left_lawful component k U L =
     }
 
 pub remove_becomes : (k : Kept) (ports : List PortKey) (component : ℕ) → AreLawful k.ports k.next k.headers → IsUnmade component (stocked k) → ports ≡ filter (is_left component) k.ports
-    → Becomes ports k.headers k.next (removed component (stocked k))
+    → Becomes k.key ports k.headers k.next (removed component (stocked k))
 remove_becomes k ports component L U h =
     let R = reads k in
     let P : List PortKey → Type 0 = λ v. AreLawful v k.next k.headers in
     record {
       lawful = subst P (sym h) (left_lawful component k U L);
-      is = stocked-is ports k.headers k.next _ (record { ports = h ∙ ap (filter (is_left component)) R.ports; looks = R.looks; loads = R.loads; next = R.next });
+      is = stocked-is k.key ports k.headers k.next _ (record { key = R.key; ports = h ∙ ap (filter (is_left component)) R.ports; looks = R.looks; loads = R.loads; next = R.next });
     }
 
 pub left_room : (component places : ℕ) (old new : List PortKey) → new ≡ filter (is_left component) old → 32 * length old ≤ places → 32 * length new ≤ places
@@ -131,8 +131,8 @@ left_room component places old new h r =
 
 -- ---- a stock begins and ends
 
-pub begins : stocked (kept [] [] 0) ≡ no_stock
-begins = stocked-is [] [] 0 no_stock (record { ports = refl; looks = refl; loads = λ n. refl; next = refl })
+pub begins : (key : ℕ) → stocked (kept key [] [] 0) ≡ no_stock (stocked (kept key [] [] 0)).key
+begins key = stocked-is key [] [] 0 (no_stock key) (record { key = refl; ports = refl; looks = refl; loads = λ n. refl; next = refl }) ∙ ap no_stock (reads (kept key [] [] 0)).key
 
 none_left : (hs : List HeaderRecord) → ((n : ℕ) → option_map state_of (find_header n hs) ≡ None) → hs ≡ []
 none_left [] h = refl

@@ -17,7 +17,7 @@ use Rattle.stock_laws.proofs.Leaving.{front_some}
 use Rattle.header_core.specs.BufferHeader.{BufferHeader, marked as marked_header}
 use Rattle.port_stock.specs.declared.entry.Entry.{Entry}
 use Rattle.port_stock.specs.Kept.{is_waiting}
-use Rattle.port_stock.specs.Entries.{Each, IsKept, entry_cleared, headers_of, record_of}
+use Rattle.port_stock.specs.Entries.{AreOf, Each, HasKey, IsKept, KeepsKeys, entry_cleared, headers_of, record_of}
 use Rattle.port_stock.proofs.Places.{Front, Each-at, Each-set, at, is_numbered, nowhere}
 use Rattle.port_stock.proofs.Changing.{at_is, is_kept, todo_waits}
 
@@ -85,6 +85,16 @@ mark_each mark k es e kept it E s same m =
     let R : Option BufferHeader → Type 0 = λ x. Each IsKept (set es k (record { state = e.state; kept = x })) in
     subst R (sym m) (subst Q (sym same) (Each-set IsKept es k (record { state = it.state; kept = option_map (marked_header mark) it.kept }) E (mark_kept_fits mark it.state it.kept (Each-at IsKept es k it E s))))
 
+mark_key : (key : ℕ) (mark : Mark) (state : HeaderState) (o : Option BufferHeader) → HasKey key (record { state = state; kept = o }) → HasKey key (record { state = state; kept = option_map (marked_header mark) o })
+mark_key key mark state None K = tt
+mark_key key mark state (Some header) K = K
+
+pub mark_keys : (mark : Mark) (k : ℕ) (es : List Entry) (e : Entry) (kept : Option BufferHeader) → slice_get es k ≡ Some e → kept ≡ option_map (marked_header mark) e.kept
+    → KeepsKeys es (set es k (record { state = e.state; kept = kept }))
+mark_keys mark k es e kept at m key E =
+    subst (λ (x : Option BufferHeader). AreOf key (set es k (record { state = e.state; kept = x }))) (sym m)
+    (Each-set (HasKey key) es k (record { state = e.state; kept = option_map (marked_header mark) e.kept }) E (mark_key key mark e.state e.kept (Each-at (HasKey key) es k e E at)))
+
 pub first_none : (q : HeaderRecord → Bool) (es : List Entry) → position (λ e. q (record_of e)) es ≡ None → false ≡ not (is_empty (numbers q (headers_of es)))
 first_none q es h = ap is_some (sym h) ∙ some_is q es
 
@@ -122,6 +132,15 @@ kept_cleared false state kept K = K
 pub each_cleared : (test : HeaderState → Bool) (es : List Entry) → Each IsKept es → Each IsKept (map (λ e. entry_cleared (test e.state) e) es)
 each_cleared test [] E = tt
 each_cleared test (e ∷ es) E = (kept_cleared (test e.state) e.state e.kept E.0, each_cleared test es E.1)
+
+key_cleared : (key : ℕ) (b : Bool) (state : HeaderState) (kept : Option BufferHeader) → HasKey key (record { state = state; kept = kept }) → HasKey key (entry_cleared b (record { state = state; kept = kept }))
+key_cleared key true state None K = tt
+key_cleared key true state (Some header) K = K
+key_cleared key false state kept K = K
+
+pub keys_cleared : (test : HeaderState → Bool) (es : List Entry) → KeepsKeys es (map (λ e. entry_cleared (test e.state) e) es)
+keys_cleared test [] key E = tt
+keys_cleared test (e ∷ es) key E = (key_cleared key (test e.state) e.state e.kept E.0, keys_cleared test es key E.1)
 
 -- what is written over a whole list stands in its place
 pub whole : {X : Type 0} (n : ℕ) (xs ys : List X) → n ≡ length xs → length ys ≡ length xs → take n (ys ++ drop (length ys) xs) ≡ ys

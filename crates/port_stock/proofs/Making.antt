@@ -37,23 +37,23 @@ room k es key len places L h n r p m =
 
 pub populate_becomes : (k : Kept) (hs : List HeaderRecord) (state : HeaderState) → AreLawful k.ports k.next k.headers → state.number ≡ k.next → state.place ≡ Out
     → IsPort state.port (stocked k) → made_in (stocked k) state.port < 32 → HasFewer (made_in (stocked k)) state.peer
-    → hs ≡ k.headers ++ record { state = state; load = no_load } ∷ [] → Becomes k.ports hs (k.next + 1) (populated state (stocked k))
+    → hs ≡ k.headers ++ record { state = state; load = no_load } ∷ [] → Becomes k.key k.ports hs (k.next + 1) (populated state (stocked k))
 populate_becomes k hs state L num o p m q h =
     let P : List HeaderRecord → Type 0 = AreLawful k.ports (k.next + 1) in
     record {
       lawful = subst P (sym h) (populate_lawful k.ports k.next k.headers state num (port_kept k state.port p) (few_kept k state.port m) (few_peer k state.peer q) L);
-      is = stocked-is k.ports hs (k.next + 1) _ (populate_read k hs state L.once (fresh_number k.ports k.next k.headers L) num o h);
+      is = stocked-is k.key k.ports hs (k.next + 1) _ (populate_read k hs state L.once (fresh_number k.ports k.next k.headers L) num o h);
     }
 
 pub new_number : (k : Kept) → AreLawful k.ports k.next k.headers → (stocked k).headers.header (stocked k).next ≡ None
 new_number k L = unnumbered k (fresh_number k.ports k.next k.headers L)
 
 pub made_outside : (k : Kept) (hs : List HeaderRecord) (state : HeaderState) (header : BufferHeader) → AreLawful k.ports k.next k.headers → state.number ≡ k.next → state.place ≡ Out → header.held.number ≡ k.next
-    → IsHeaderOf state header → hs ≡ k.headers ++ record { state = state; load = no_load } ∷ [] → IsOutside header (stocked (kept k.ports hs (k.next + 1)))
-made_outside k hs state header L num o n f h =
+    → header.key ≡ k.key → IsHeaderOf state header → hs ≡ k.headers ++ record { state = state; load = no_load } ∷ [] → IsOutside header (stocked (kept k.key k.ports hs (k.next + 1)))
+made_outside k hs state header L num o n own f h =
     let x : HeaderRecord = record { state = state; load = no_load } in
     let gone : find_header state.number k.headers ≡ None = rw num (fresh_number k.ports k.next k.headers L) in
     let now : find_header header.held.number hs ≡ Some x
     = ap (find_header header.held.number) h ∙ (find-append header.held.number k.headers x gone ∙ let e : state.number ≡ header.held.number = num ∙ sym n in grind (arith, nat_tests)) in
     let Q : Option HeaderRecord → Type 0 = λ o. MatchOption o ⊥ (λ r. IsOutFlat header r.state) in
-    flat_state (kept k.ports hs (k.next + 1)) header.held.number (IsOutFlat header) (subst Q (sym now) (o, f))
+    (own ∙ (reads (kept k.key k.ports hs (k.next + 1))).key, flat_state (kept k.key k.ports hs (k.next + 1)) header.held.number (IsOutFlat header) (subst Q (sym now) (o, f)))

@@ -22,8 +22,8 @@ use Rattle.stock_laws.proofs.Clearing.{all_cleared_where, clear_done_stands, cle
 use Rattle.port_stock.specs.Kept.{Kept, is_waiting, kept_load, stocked}
 use Rattle.port_stock.proofs.Changing.{todo_waits, done_waits}
 
-abbrev pub kept : List PortKey → List HeaderRecord → ℕ → Kept
-kept ports headers next = record { ports = ports; headers = headers; next = next }
+abbrev pub kept : ℕ → List PortKey → List HeaderRecord → ℕ → Kept
+kept key ports headers next = record { key = key; ports = ports; headers = headers; next = next }
 
 -- ---- what is read
 
@@ -36,23 +36,24 @@ pub stocked-stands : (k : Kept) → Once k.headers → StandsFor (stocked k) k.h
 unfolding stocked
 stocked-stands k o = record { looks = refl; loads = λ n l h. kept_carries (find_header n k.headers) l h; once = o }
 
--- The flat list, with the ports and the next number, is read as the value.
-pub record ReadAs (keys : List PortKey) (hs : List HeaderRecord) (last : ℕ) (s : Stocked) : Type 0 where
+-- The flat list, with the key, the ports and the next number, is read as the value.
+pub record ReadAs (own : ℕ) (keys : List PortKey) (hs : List HeaderRecord) (last : ℕ) (s : Stocked) : Type 0 where
+  pub key : own ≡ s.key
   pub ports : keys ≡ s.ports
   pub looks : seen hs ≡ s.headers
   pub loads : (n : ℕ) → kept_load (find_header n hs) ≡ s.loads n
   pub next : last ≡ s.next
 
-pub stocked-is : (ports : List PortKey) (headers : List HeaderRecord) (next : ℕ) (s : Stocked) → ReadAs ports headers next s → stocked (kept ports headers next) ≡ s
+pub stocked-is : (key : ℕ) (ports : List PortKey) (headers : List HeaderRecord) (next : ℕ) (s : Stocked) → ReadAs key ports headers next s → stocked (kept key ports headers next) ≡ s
 unfolding stocked
-stocked-is ports headers next s R =
+stocked-is key ports headers next s R =
     let l : (λ n. kept_load (find_header n headers)) ≡ s.loads = fun_ext R.loads in
-    λ i. record { ports = R.ports i; headers = R.looks i; loads = l i; next = R.next i }
+    λ i. record { key = R.key i; ports = R.ports i; headers = R.looks i; loads = l i; next = R.next i }
 
 -- reading the value back
-pub reads : (k : Kept) → ReadAs k.ports k.headers k.next (stocked k)
+pub reads : (k : Kept) → ReadAs k.key k.ports k.headers k.next (stocked k)
 unfolding stocked
-reads k = record { ports = refl; looks = refl; loads = λ n. refl; next = refl }
+reads k = record { key = refl; ports = refl; looks = refl; loads = λ n. refl; next = refl }
 
 shown : (k : Kept) (n : ℕ) (r : HeaderRecord) → find_header n k.headers ≡ Some r → (stocked k).headers.header n ≡ Some r.state
 shown k n r e = sym (ap (λ (v : Seen). v.header n) (reads k).looks) ∙ ap (option_map state_of) e
@@ -76,12 +77,13 @@ put_loads hs key spot n load r once e m =
     ])
 
 pub push_read : (k : Kept) (hs : List HeaderRecord) (key : PortKey) (spot : Spot) (n : ℕ) (load : Load) (r : HeaderRecord) → Once k.headers → find_header n k.headers ≡ Some r → r.state.place ≡ Out
-    → hs ≡ put key spot n (loaded load) k.headers → ReadAs k.ports hs k.next (pushed key spot n load (stocked k))
+    → hs ≡ put key spot n (loaded load) k.headers → ReadAs k.key k.ports hs k.next (pushed key spot n load (stocked k))
 push_read k hs key spot n load r once e o h =
     let R = reads k in
     let T = push_stands (stocked k) k.headers key spot n load r.state (stocked-stands k once) (shown k n r e) o in
     let l : (λ m. kept_load (find_header m k.headers)) ≡ (stocked k).loads = fun_ext R.loads in
     record {
+      key = R.key;
       ports = R.ports;
       looks = ap seen h ∙ T.looks;
       loads = λ m. ap (λ (v : List HeaderRecord). kept_load (find_header m v)) h ∙ (put_loads k.headers key spot n load r once e m ∙ ap (λ (f : ℕ → Option Load). at_number n (Some load) f m) l);
@@ -96,11 +98,12 @@ give_loads hs n owner r e o m = ap kept_load (find-changed m n (given_to owner) 
 ]
 
 pub give_read : (k : Kept) (hs : List HeaderRecord) (n : ℕ) (owner : Owner) (r : HeaderRecord) → Once k.headers → find_header n k.headers ≡ Some r → r.state.place ≡ Out
-    → hs ≡ changed n (given_to owner) k.headers → ReadAs k.ports hs k.next (given n owner (stocked k))
+    → hs ≡ changed n (given_to owner) k.headers → ReadAs k.key k.ports hs k.next (given n owner (stocked k))
 give_read k hs n owner r once e o h =
     let R = reads k in
     let T = give_stands (stocked k) k.headers n owner r.state (stocked-stands k once) (shown k n r e) o in
     record {
+      key = R.key;
       ports = R.ports;
       looks = ap seen h ∙ T.looks;
       loads = λ m. ap (λ (v : List HeaderRecord). kept_load (find_header m v)) h ∙ (give_loads k.headers n owner r e o m ∙ R.loads m);
@@ -123,13 +126,14 @@ made_loads hs x gone o m = ap kept_load (find-append m hs x gone) ∙ elim (eqb_
 ]
 
 pub populate_read : (k : Kept) (hs : List HeaderRecord) (state : HeaderState) → Once k.headers → find_header k.next k.headers ≡ None → state.number ≡ k.next → state.place ≡ Out
-    → hs ≡ k.headers ++ record { state = state; load = no_load } ∷ [] → ReadAs k.ports hs (k.next + 1) (populated state (stocked k))
+    → hs ≡ k.headers ++ record { state = state; load = no_load } ∷ [] → ReadAs k.key k.ports hs (k.next + 1) (populated state (stocked k))
 populate_read k hs state once gone num o h =
     let R = reads k in
     let x : HeaderRecord = record { state = state; load = no_load } in
     let g : find_header state.number k.headers ≡ None = rw num gone in
     let T = populate_stands (stocked k) k.headers state no_load (stocked-stands k once) (unnumbered k gone) (num ∙ R.next) o in
     record {
+      key = R.key;
       ports = R.ports;
       looks = ap seen h ∙ T.looks;
       loads = λ m. ap (λ (v : List HeaderRecord). kept_load (find_header m v)) h ∙ (made_loads k.headers x g o m ∙ R.loads m);
@@ -137,11 +141,12 @@ populate_read k hs state once gone num o h =
     }
 
 pub withdraw_read : (k : Kept) (hs : List HeaderRecord) (n : ℕ) (r : HeaderRecord) → Once k.headers → find_header n k.headers ≡ Some r → r.state.place ≡ Out
-    → hs ≡ without n k.headers → ReadAs k.ports hs k.next (withdrawn n (stocked k))
+    → hs ≡ without n k.headers → ReadAs k.key k.ports hs k.next (withdrawn n (stocked k))
 withdraw_read k hs n r once e o h =
     let R = reads k in
     let T = withdraw_stands (stocked k) k.headers n r.state (stocked-stands k once) (shown k n r e) o in
     record {
+      key = R.key;
       ports = R.ports;
       looks = ap seen h ∙ T.looks;
       loads = λ m. ap (λ (v : List HeaderRecord). kept_load (find_header m v)) h ∙ elim (eqb_tells m n) [
@@ -176,11 +181,14 @@ pulled_loads key n ns s e = ap (λ (v : List ℕ). (pulled_front key v s).loads)
 pulled_ports : (key : PortKey) (n : ℕ) (ns : List ℕ) (s : Stocked) → s.headers.todo key ≡ n ∷ ns → (pulled key s).ports ≡ s.ports
 pulled_ports key n ns s e = ap (λ (v : List ℕ). (pulled_front key v s).ports) e
 
+pulled_key : (key : PortKey) (n : ℕ) (ns : List ℕ) (s : Stocked) → s.headers.todo key ≡ n ∷ ns → (pulled key s).key ≡ s.key
+pulled_key key n ns s e = ap (λ (v : List ℕ). (pulled_front key v s).key) e
+
 pulled_next : (key : PortKey) (n : ℕ) (ns : List ℕ) (s : Stocked) → s.headers.todo key ≡ n ∷ ns → (pulled key s).next ≡ s.next
 pulled_next key n ns s e = ap (λ (v : List ℕ). (pulled_front key v s).next) e
 
 pub pull_read : (k : Kept) (hs : List HeaderRecord) (key : PortKey) (n : ℕ) → Once k.headers → slice_get (numbers (is_state (in_todo key)) k.headers) 0 ≡ Some n
-    → hs ≡ changed n (λ x. cleared (out_of_list x)) k.headers → ReadAs k.ports hs k.next (pulled key (stocked k))
+    → hs ≡ changed n (λ x. cleared (out_of_list x)) k.headers → ReadAs k.key k.ports hs k.next (pulled key (stocked k))
 pull_read k hs key n once f h =
     let R = reads k in
     let list = front_some (numbers (is_state (in_todo key)) k.headers) n f in
@@ -188,6 +196,7 @@ pull_read k hs key n once f h =
     let T = pull_taken (stocked k) k.headers key n list.0 (stocked-stands k once) e in
     let l : (λ m. kept_load (find_header m k.headers)) ≡ (stocked k).loads = fun_ext R.loads in
     record {
+      key = R.key ∙ sym (pulled_key key n list.0 (stocked k) e);
       ports = R.ports ∙ sym (pulled_ports key n list.0 (stocked k) e);
       looks = ap seen h ∙ out_looks (pulled key (stocked k)) k.headers n T;
       loads = λ m. ap (λ (v : List HeaderRecord). kept_load (find_header m v)) h
@@ -208,11 +217,14 @@ sent_loads key n ns s e = ap (λ (v : List ℕ). (sent_front key v s).loads) e
 sent_ports : (key : PortKey) (n : ℕ) (ns : List ℕ) (s : Stocked) → s.headers.done key ≡ n ∷ ns → (sent key s).ports ≡ s.ports
 sent_ports key n ns s e = ap (λ (v : List ℕ). (sent_front key v s).ports) e
 
+sent_key : (key : PortKey) (n : ℕ) (ns : List ℕ) (s : Stocked) → s.headers.done key ≡ n ∷ ns → (sent key s).key ≡ s.key
+sent_key key n ns s e = ap (λ (v : List ℕ). (sent_front key v s).key) e
+
 sent_next : (key : PortKey) (n : ℕ) (ns : List ℕ) (s : Stocked) → s.headers.done key ≡ n ∷ ns → (sent key s).next ≡ s.next
 sent_next key n ns s e = ap (λ (v : List ℕ). (sent_front key v s).next) e
 
 pub send_read : (k : Kept) (hs : List HeaderRecord) (key : PortKey) (n : ℕ) → Once k.headers → slice_get (numbers (is_state (in_done key)) k.headers) 0 ≡ Some n
-    → hs ≡ changed n (λ x. cleared (out_of_list x)) k.headers → ReadAs k.ports hs k.next (sent key (stocked k))
+    → hs ≡ changed n (λ x. cleared (out_of_list x)) k.headers → ReadAs k.key k.ports hs k.next (sent key (stocked k))
 send_read k hs key n once f h =
     let R = reads k in
     let list = front_some (numbers (is_state (in_done key)) k.headers) n f in
@@ -220,6 +232,7 @@ send_read k hs key n once f h =
     let T = send_taken (stocked k) k.headers key n list.0 (stocked-stands k once) e in
     let l : (λ m. kept_load (find_header m k.headers)) ≡ (stocked k).loads = fun_ext R.loads in
     record {
+      key = R.key ∙ sym (sent_key key n list.0 (stocked k) e);
       ports = R.ports ∙ sym (sent_ports key n list.0 (stocked k) e);
       looks = ap seen h ∙ out_looks (sent key (stocked k)) k.headers n T;
       loads = λ m. ap (λ (v : List HeaderRecord). kept_load (find_header m v)) h
@@ -257,7 +270,7 @@ cleared_loads q hs f once w g m =
     ∙ (ap (λ (o : Option Load). if is_in m (numbers q hs) then Some no_load else o) (g m)
     ∙ sym (emptied-is (numbers q hs) f m)))
 
-pub clear_todo_read : (k : Kept) (hs : List HeaderRecord) (key : PortKey) → Once k.headers → hs ≡ map (λ r. cleared_where (in_todo key r.state) r) k.headers → ReadAs k.ports hs k.next (todo_cleared key (stocked k))
+pub clear_todo_read : (k : Kept) (hs : List HeaderRecord) (key : PortKey) → Once k.headers → hs ≡ map (λ r. cleared_where (in_todo key r.state) r) k.headers → ReadAs k.key k.ports hs k.next (todo_cleared key (stocked k))
 clear_todo_read k hs key once h =
     let R = reads k in
     let e = todo_read k key in
@@ -265,6 +278,7 @@ clear_todo_read k hs key once h =
     let same : hs ≡ cleared_all ((stocked k).headers.todo key) k.headers
     = h ∙ (sym (all_cleared_where (is_state (in_todo key)) k.headers once) ∙ ap (λ (ns : List ℕ). cleared_all ns k.headers) e) in
     record {
+      key = R.key;
       ports = R.ports;
       looks = ap seen same ∙ T.looks;
       loads = λ m. ap (λ (v : List HeaderRecord). kept_load (find_header m v)) h
@@ -273,7 +287,7 @@ clear_todo_read k hs key once h =
       next = R.next;
     }
 
-pub clear_done_read : (k : Kept) (hs : List HeaderRecord) (key : PortKey) → Once k.headers → hs ≡ map (λ r. cleared_where (in_done key r.state) r) k.headers → ReadAs k.ports hs k.next (done_cleared key (stocked k))
+pub clear_done_read : (k : Kept) (hs : List HeaderRecord) (key : PortKey) → Once k.headers → hs ≡ map (λ r. cleared_where (in_done key r.state) r) k.headers → ReadAs k.key k.ports hs k.next (done_cleared key (stocked k))
 clear_done_read k hs key once h =
     let R = reads k in
     let e = done_read k key in
@@ -281,6 +295,7 @@ clear_done_read k hs key once h =
     let same : hs ≡ cleared_all ((stocked k).headers.done key) k.headers
     = h ∙ (sym (all_cleared_where (is_state (in_done key)) k.headers once) ∙ ap (λ (ns : List ℕ). cleared_all ns k.headers) e) in
     record {
+      key = R.key;
       ports = R.ports;
       looks = ap seen same ∙ T.looks;
       loads = λ m. ap (λ (v : List HeaderRecord). kept_load (find_header m v)) h
@@ -315,6 +330,10 @@ front_marked-ports : (key : PortKey) (mark : Mark) (ns : List ℕ) (s : Stocked)
 front_marked-ports key mark [] s = refl
 front_marked-ports key mark (n ∷ ns) s = refl
 
+front_marked-key : (key : PortKey) (mark : Mark) (ns : List ℕ) (s : Stocked) → (front_marked key mark ns s).key ≡ s.key
+front_marked-key key mark [] s = refl
+front_marked-key key mark (n ∷ ns) s = refl
+
 front_marked-next : (key : PortKey) (mark : Mark) (ns : List ℕ) (s : Stocked) → (front_marked key mark ns s).next ≡ s.next
 front_marked-next key mark [] s = refl
 front_marked-next key mark (n ∷ ns) s = refl
@@ -325,13 +344,14 @@ mark_front_loads key mark hs s [] once e g m = g m
 mark_front_loads key mark hs s (n ∷ ns) once e g m = mark_loads key mark hs n ns s.loads once e g m
 
 pub mark_read : (k : Kept) (hs : List HeaderRecord) (key : PortKey) (mark : Mark) → Once k.headers → hs ≡ first_marked (numbers (in_unmarked key) k.headers) (Some mark) k.headers
-    → ReadAs k.ports hs k.next (marked_first key mark (stocked k))
+    → ReadAs k.key k.ports hs k.next (marked_first key mark (stocked k))
 mark_read k hs key mark once h =
     let R = reads k in
     let e = unmarked_read k key in
     let T = mark_stands (stocked k) k.headers key mark (stocked-stands k once) in
     let same : hs ≡ first_marked ((stocked k).headers.unmarked key) (Some mark) k.headers = h ∙ ap (λ (ns : List ℕ). first_marked ns (Some mark) k.headers) e in
     record {
+      key = R.key ∙ sym (front_marked-key key mark ((stocked k).headers.unmarked key) (stocked k));
       ports = R.ports ∙ sym (front_marked-ports key mark ((stocked k).headers.unmarked key) (stocked k));
       looks = ap seen same ∙ T.looks;
       loads = λ m. ap (λ (v : List HeaderRecord). kept_load (find_header m v)) same ∙ mark_front_loads key mark k.headers (stocked k) ((stocked k).headers.unmarked key) once e R.loads m;

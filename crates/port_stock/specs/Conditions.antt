@@ -61,7 +61,7 @@ pub record IsHeaderOf (h : HeaderState) (header : BufferHeader) : Type 0 where
 
 -- the header is one of the stock's, and in no list
 abbrev pub IsOutside : BufferHeader → Stocked → Type 0
-IsOutside header s = MatchOption (s.headers.header header.held.number) ⊥ (λ h. (h.place ≡ Out) × IsHeaderOf h header)
+IsOutside header s = (header.key ≡ s.key) × MatchOption (s.headers.header header.held.number) ⊥ (λ h. (h.place ≡ Out) × IsHeaderOf h header)
 
 abbrev pub number_of : BufferHeader → ℕ
 number_of header = header.held.number

@@ -53,6 +53,17 @@ pub record IsKept (e : Entry) : Type 0 where
   pub there : is_some e.kept ≡ is_waiting e.state.place
   pub header : MatchOption e.kept (Unit {0}) (λ header. (header.held.number ≡ e.state.number) × IsHeaderOf e.state header)
 
+-- the header of an entry has the key, where it is there
+abbrev pub HasKey : ℕ → Entry → Type 0
+HasKey key e = MatchOption e.kept (Unit {0}) (λ header. header.key ≡ key)
+
+abbrev pub AreOf : ℕ → List Entry → Type 0
+AreOf key entries = Each (HasKey key) entries
+
+-- a key that all headers had they have still
+abbrev pub KeepsKeys : List Entry → List Entry → Type 0
+KeepsKeys old new = (key : ℕ) → AreOf key old → AreOf key new
+
 -- Numbers differ and were given, and no more than 32 headers are made for a port.
 pub record AreLawful (ports : List PortKey) (next : ℕ) (headers : List HeaderRecord) : Type 0 where
   pub once : Once headers
@@ -61,7 +72,8 @@ pub record AreLawful (ports : List PortKey) (next : ℕ) (headers : List HeaderR
   pub few : (key : PortKey) → count_headers (is_for key) headers ≤ 32
 
 -- There is a place for each header that can be made.
-pub record IsLawful (ports : List PortKey) (entries : List Entry) (next places : ℕ) : Type 0 where
+pub record IsLawful (key : ℕ) (ports : List PortKey) (entries : List Entry) (next places : ℕ) : Type 0 where
   pub headers : AreLawful ports next (headers_of entries)
   pub kept : Each IsKept entries
+  pub keys : AreOf key entries
   pub room : 32 * length ports ≤ places

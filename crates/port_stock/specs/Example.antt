@@ -8,14 +8,14 @@ use Rattle.il_machine.specs.Stock.{Stocked, added, made_header, no_stock, popula
 abbrev pub input : PortKey
 input = record { component = 3; port = 0 }
 
-abbrev pub two_ports : Stocked
-two_ports = added 3 2 no_stock
+abbrev pub two_ports : ℕ → Stocked
+two_ports key = added 3 2 (no_stock key)
 
-abbrev pub one_header : Stocked
-one_header = populated (made_header 0 input None Client 6 true) two_ports
+abbrev pub one_header : ℕ → Stocked
+one_header key = populated (made_header 0 input None Client 6 true) (two_ports key)
 
 -- no header but the first is made
 pub record IsLeft (s : Stocked) : Type 0 where
-  pub ports : s.ports ≡ two_ports.ports
+  pub ports : s.ports ≡ (two_ports s.key).ports
   pub others : (number : ℕ) → number ≢ 0 → s.headers.header number ≡ None
   pub counted : (test : HeaderState → Bool) → s.headers.count test ≡ times_passed test (s.headers.header 0)

@@ -8,6 +8,7 @@ use Rattle.il_machine.specs.Headers.{seen, find_header}
 use Rattle.il_machine.specs.Stock.{Stocked}
 
 pub record Kept : Type 0 where
+  pub key : ℕ
   pub ports : List PortKey
   -- their order is that of each list of a port; a header that is in no list has no load here
   pub headers : List HeaderRecord
@@ -24,6 +25,7 @@ kept_load (Some r) = if is_waiting r.state.place then Some r.load else None
 
 unfoldable pub stocked : Kept → Stocked
 stocked k = record {
+  key = k.key;
   ports = k.ports;
   headers = seen k.headers;
   loads = λ number. kept_load (find_header number k.headers);

@@ -1,6 +1,6 @@
 //! The flat list of entries. The order of the list is that of each list of a port.
 
-ghost use Rattle.std.specs.Prelude.{◌≡◌, ◌<◌, ◌+◌, ◌∷◌, ◌++◌, [], length, map, option_map, nat_eq, position, slice_get, slice_set, slice_index_or, remove, Some, None, IfSome, IsSome, MatchOption, is_none, not, ◌&&◌, vec_len, vec_capacity};
+ghost use Rattle.std.specs.Prelude.{◌≡◌, ℕ, ◌<◌, ◌+◌, ◌∷◌, ◌++◌, [], length, map, option_map, nat_eq, position, slice_get, slice_set, slice_index_or, remove, Some, None, IfSome, IsSome, MatchOption, is_none, not, ◌&&◌, vec_len, vec_capacity};
 ghost use Rattle.il_machine.specs.declared.header.Place.TheVariants.{Out};
 ghost use Rattle.il_machine.specs.Headers.{Once, changed, count_headers, find_header, given_to, in_todo, in_done, in_unmarked, is_away, is_for, is_home_of, is_owned_by, is_state, state_of, loaded, no_load, numbers, put, without};
 ghost use Rattle.il_machine.specs.Lists.{is_empty};
@@ -9,7 +9,7 @@ ghost use Rattle.il_machine.specs.Due.{first_marked};
 ghost use Rattle.header_core.specs.BufferHeader.{cleared as emptied_header, marked as marked_header};
 ghost use Rattle.stock_laws.specs.Changes.{cleared_where};
 ghost use Rattle.port_stock.specs.Conditions.{IsHeaderOf};
-ghost use Rattle.port_stock.specs.Entries.{Each, IsKept, IsTaken, entry_at, entry_cleared, entry_out, headers_of, load_of_kept, record_of};
+ghost use Rattle.port_stock.specs.Entries.{AreOf, Each, IsKept, IsTaken, KeepsKeys, entry_at, entry_cleared, entry_out, headers_of, load_of_kept, record_of};
 
 use crate::entry::{
     Entry, is_foreign, is_made_for, is_outstanding, put_state, waits_in_done, waits_in_todo,
@@ -89,6 +89,7 @@ pub fn put(entries: &mut Vec<Entry>, key: PortKey, header: Header, spot: Spot)
     ensures headers { headers_of entries.new.items
         ≡ put key spot header.held.number (loaded (load_in header.held)) (headers_of entries.old.items) }
     ensures kept { Each IsKept entries.new.items }
+    ensures keys { AreOf header.key entries.old.items → AreOf header.key entries.new.items }
     ensures capacity { vec_capacity entries.new ≡ vec_capacity entries.old }
 {
     let Some(place) = number_place(entries, header.id()) else {
@@ -110,6 +111,8 @@ pub fn pull(entries: &mut Vec<Entry>, key: PortKey) -> Option<Header>
         ((numbers (is_state (in_todo key)) (headers_of entries.old.items) ≡ []) × (headers_of entries.new.items ≡ headers_of entries.old.items))
         (λ header. IsTaken (is_state (in_todo key)) header (headers_of entries.old.items) (headers_of entries.new.items)) }
     ensures kept { Each IsKept entries.new.items }
+    ensures keys { KeepsKeys entries.old.items entries.new.items }
+    ensures own { (key : ℕ) → AreOf key entries.old.items → IfSome result (λ header. header.key ≡ key) }
     ensures capacity { vec_capacity entries.new ≡ vec_capacity entries.old }
 {
     let Some(place) = todo_place(entries, key) else {
@@ -126,6 +129,8 @@ pub fn send(entries: &mut Vec<Entry>, key: PortKey) -> Option<Header>
         ((numbers (is_state (in_done key)) (headers_of entries.old.items) ≡ []) × (headers_of entries.new.items ≡ headers_of entries.old.items))
         (λ header. IsTaken (is_state (in_done key)) header (headers_of entries.old.items) (headers_of entries.new.items)) }
     ensures kept { Each IsKept entries.new.items }
+    ensures keys { KeepsKeys entries.old.items entries.new.items }
+    ensures own { (key : ℕ) → AreOf key entries.old.items → IfSome result (λ header. header.key ≡ key) }
     ensures capacity { vec_capacity entries.new ≡ vec_capacity entries.old }
 {
     let Some(place) = done_place(entries, key) else {
@@ -142,6 +147,7 @@ pub fn add(entries: &mut Vec<Entry>, state: HeaderState)
     ensures headers { headers_of entries.new.items
         ≡ headers_of entries.old.items ++ record { state = state; load = no_load } ∷ [] }
     ensures kept { Each IsKept entries.new.items }
+    ensures keys { KeepsKeys entries.old.items entries.new.items }
     ensures capacity { vec_capacity entries.new ≡ vec_capacity entries.old }
 {
     entries.push_reserved(Entry { state, kept: None });
@@ -153,6 +159,7 @@ pub fn remove(entries: &mut Vec<Entry>, number: u64)
     requires kept { Each IsKept entries.old.items }
     ensures headers { headers_of entries.new.items ≡ without number (headers_of entries.old.items) }
     ensures kept { Each IsKept entries.new.items }
+    ensures keys { KeepsKeys entries.old.items entries.new.items }
     ensures capacity { vec_capacity entries.new ≡ vec_capacity entries.old }
 {
     let Some(place) = number_place(entries, number) else {
@@ -167,6 +174,7 @@ pub fn give(entries: &mut Vec<Entry>, number: u64, owner: Owner)
     requires kept { Each IsKept entries.old.items }
     ensures headers { headers_of entries.new.items ≡ changed number (given_to owner) (headers_of entries.old.items) }
     ensures kept { Each IsKept entries.new.items }
+    ensures keys { KeepsKeys entries.old.items entries.new.items }
     ensures capacity { vec_capacity entries.new ≡ vec_capacity entries.old }
 {
     let Some(place) = number_place(entries, number) else {
@@ -214,6 +222,7 @@ pub fn clear_todo(entries: &mut Vec<Entry>, key: PortKey)
     ensures headers { headers_of entries.new.items
         ≡ map (λ r. cleared_where (in_todo key r.state) r) (headers_of entries.old.items) }
     ensures kept { Each IsKept entries.new.items }
+    ensures keys { KeepsKeys entries.old.items entries.new.items }
     ensures capacity { vec_capacity entries.new ≡ vec_capacity entries.old }
 {
     clear_todo_entries(entries, key);
@@ -233,6 +242,7 @@ pub fn clear_done(entries: &mut Vec<Entry>, key: PortKey)
     ensures headers { headers_of entries.new.items
         ≡ map (λ r. cleared_where (in_done key r.state) r) (headers_of entries.old.items) }
     ensures kept { Each IsKept entries.new.items }
+    ensures keys { KeepsKeys entries.old.items entries.new.items }
     ensures capacity { vec_capacity entries.new ≡ vec_capacity entries.old }
 {
     clear_done_entries(entries, key);
@@ -276,6 +286,7 @@ pub fn mark_first(entries: &mut Vec<Entry>, key: PortKey, mark: Mark) -> bool
     ensures headers { headers_of entries.new.items
         ≡ first_marked (numbers (in_unmarked key) (headers_of entries.old.items)) (Some mark) (headers_of entries.old.items) }
     ensures kept { Each IsKept entries.new.items }
+    ensures keys { KeepsKeys entries.old.items entries.new.items }
     ensures capacity { vec_capacity entries.new ≡ vec_capacity entries.old }
 {
     let Some(place) = unmarked_place(entries, key) else {

@@ -22,17 +22,11 @@ impl Entry {
     }
 }
 
-pub fn is_same_key(a: PortKey, b: PortKey) -> bool
-    ensures { result ≡ same_key a b }
-{
-    a.component == b.component && a.port == b.port
-}
-
 fn is_peer(key: PortKey, peer: Option<PortKey>) -> bool
     ensures { result ≡ is_key key peer }
 {
     match peer {
-        Some(peer) => is_same_key(peer, key),
+        Some(peer) => peer == key,
         None => false,
     }
 }
@@ -41,14 +35,14 @@ fn is_peer(key: PortKey, peer: Option<PortKey>) -> bool
 pub fn is_made_for(key: PortKey, state: &HeaderState) -> bool
     ensures { result ≡ is_for key state.now }
 {
-    is_same_key(state.port, key) || is_peer(key, state.peer)
+    state.port == key || is_peer(key, state.peer)
 }
 
 fn is_of_port(key: PortKey, owner: Owner) -> bool
     ensures { result ≡ is_owned_by key owner }
 {
     match owner {
-        Owner::Port(owner) => is_same_key(owner, key),
+        Owner::Port(owner) => owner == key,
         Owner::Client | Owner::Work(_) | Owner::Notice(_) => false,
     }
 }
@@ -70,7 +64,7 @@ fn is_owner_home(home: Home, owner: Owner) -> bool
 {
     match (home, owner) {
         (Home::Client, Owner::Client) => true,
-        (Home::Port(home), Owner::Port(owner)) => is_same_key(home, owner),
+        (Home::Port(home), Owner::Port(owner)) => home == owner,
         _ => false,
     }
 }
@@ -93,7 +87,7 @@ fn is_home(key: PortKey, home: Home) -> bool
     ensures { result ≡ is_home_of key home }
 {
     match home {
-        Home::Port(home) => is_same_key(home, key),
+        Home::Port(home) => home == key,
         Home::Client => false,
     }
 }

@@ -5,7 +5,8 @@
 //! tie these to the machine's flat lists of headers are those of `stock_laws`. Headers are kept in one flat list here, whose
 //! order is that of each list of a port; nothing of it shows.
 //!
-//! No call takes memory but `new` and `add_ports`. A stock must be ended by `close`.
+//! No call takes memory but `new` and `add_ports`. A stock must be ended: by `close` where no header is made, by `dispose` whatever
+//! is made.
 #![tactic(auto)]
 
 mod entries;
@@ -15,6 +16,7 @@ mod stock;
 #[cfg(test)]
 mod tests;
 
+pub use entry::is_made_for;
 pub use stock::Stock;
 
 /// Want of memory.

@@ -10,13 +10,14 @@ ghost use Rattle.port_stock.specs.Conditions.{HasFewer, IsFrom, IsMadeFor, IsOut
 
 use crate::entry::{Entry, owner_at};
 use crate::{OutOfMemory, entries, ports};
-use header_core::{Header, Store};
+use header_core::{Header, Key, Store};
 use il_machine::{HeaderState, Home, Mark, Owner, Place, PortKey, Spot};
 use std::alloc::Global;
 use std::marker::Model;
 
 /// The ports and headers of one graph.
 pub struct Stock {
+    key: Key,
     ports: Vec<PortKey>,
     entries: Vec<Entry>,
     next: u64,
@@ -30,17 +31,26 @@ impl Model for Stock {
     ghost use Rattle.std.specs.Prelude.{vec_capacity};
     ghost use Rattle.port_stock.specs.Entries.{IsLawful, headers_of};
 
-    ghost view = { λ s. record { ports = s.ports.items; headers = headers_of s.entries.items; next = s.next } };
+    ghost view = { λ s. record { key = s.key; ports = s.ports.items; headers = headers_of s.entries.items; next = s.next } };
 
-    ghost invariant = { λ s. IsLawful s.ports.items s.entries.items s.next (vec_capacity s.entries) };
+    ghost invariant = { λ s. IsLawful s.key s.ports.items s.entries.items s.next (vec_capacity s.entries) };
+}
+
+/// Whether a header gets the number: the last one is never given.
+fn is_given(number: u64) -> bool
+    ensures left { result ≡ not (nat_eq number 18446744073709551615) }
+    ensures below { result ≡ true → number < 18446744073709551615 }
+{
+    number != u64::MAX
 }
 
 impl Stock {
     /// A stock without ports and headers.
     pub fn new(alloc: Global) -> Result<Stock, OutOfMemory>
-        ensures { IfOk result (λ s. stocked s ≡ no_stock) }
+        ensures { IfOk result (λ s. stocked s ≡ no_stock (stocked s).key) }
     {
         Ok(Stock {
+            key: Key::new(),
             ports: Vec::new(alloc),
             entries: Vec::new(alloc),
             next: 0,
@@ -93,7 +103,7 @@ impl Stock {
         requires few { made_in (stocked self.old) port < 32 }
         requires few_of_peer { HasFewer (made_in (stocked self.old)) peer }
         requires numbers { (stocked self.old).next < 18446744073709551615 }
-        ensures header { result ≡ fresh (stocked self.old).next store size }
+        ensures header { result ≡ fresh (stocked self.old).key (stocked self.old).next store size }
         ensures new_number { (stocked self.old).headers.header (stocked self.old).next ≡ None }
         ensures outside { IsOutside result (stocked self.new) }
         ensures stock { stocked self.new
@@ -112,7 +122,7 @@ impl Stock {
         };
         entries::add(&mut self.entries, state);
         self.next += 1;
-        Header::new(number, store, size)
+        Header::new(self.key, number, store, size)
     }
 
     /// Unmakes a header and gives its memory back.
@@ -264,16 +274,10 @@ impl Stock {
 
     /// Whether a header can be numbered: fewer than 2^64 - 1 were.
     pub fn numbers_left(&self) -> bool
-        ensures { result ≡ not (nat_eq (stocked self.now).next 18446744073709551615) }
+        ensures left { result ≡ not (nat_eq (stocked self.now).next 18446744073709551615) }
+        ensures below { result ≡ true → (stocked self.now).next < 18446744073709551615 }
     {
-        self.next != u64::MAX
-    }
-
-    /// The number of the next header.
-    pub fn next_number(&self) -> u64
-        ensures { result ≡ (stocked self.now).next }
-    {
-        self.next
+        is_given(self.next)
     }
 
     /// Ends a stock for which no header is made.
@@ -281,6 +285,7 @@ impl Stock {
         requires { (number : ℕ) → (stocked self).headers.header number ≡ None }
     {
         let Stock {
+            key: _,
             ports: _,
             entries,
             next: _,
@@ -291,6 +296,7 @@ impl Stock {
     /// Ends a stock whatever is made. The headers that wait in its lists go.
     pub fn dispose(self) {
         let Stock {
+            key: _,
             ports: _,
             mut entries,
             next: _,

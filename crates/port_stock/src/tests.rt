@@ -32,7 +32,7 @@ fn eight(alloc: Global) -> Result<Vec<u8>, AllocError>
 
 /// A stock with an input and an output of component 3.
 fn begin(alloc: Global) -> Result<Stock, OutOfMemory>
-    ensures { IfOk result (λ s. stocked s ≡ two_ports) }
+    ensures { IfOk result (λ s. stocked s ≡ two_ports (stocked s).key) }
 {
     let mut stock = Stock::new(alloc)?;
     match stock.add_ports(alloc, 3, 1, 1) {
@@ -46,19 +46,19 @@ fn begin(alloc: Global) -> Result<Stock, OutOfMemory>
 
 /// A header of six of the client's bytes.
 fn make(stock: &mut Stock, bytes: Vec<u8>) -> Header
-    requires begun { stocked stock.old ≡ two_ports }
+    requires begun { stocked stock.old ≡ two_ports (stocked stock.old).key }
     requires bytes { length bytes.items ≡ 8 }
     ensures outside { IsOutside result (stocked stock.new) }
     ensures number { result.held.number ≡ 0 }
     ensures mark { result.held.mark ≡ None }
-    ensures stock { stocked stock.new ≡ one_header }
+    ensures stock { stocked stock.new ≡ one_header (stocked stock.old).key }
 {
     stock.populate(INPUT, None, Home::Client, Store::Own(Memory::new(bytes)), 6)
 }
 
 /// The header waits in `todo`, is marked there, and leaves it.
 fn pass_todo(stock: &mut Stock, header: Header) -> (Header, bool)
-    requires stock { stocked stock.old ≡ one_header }
+    requires stock { stocked stock.old ≡ one_header (stocked stock.old).key }
     requires outside { IsOutside header (stocked stock.old) }
     requires number { header.held.number ≡ 0 }
     requires mark { header.held.mark ≡ None }
@@ -76,7 +76,7 @@ fn pass_todo(stock: &mut Stock, header: Header) -> (Header, bool)
 
 /// The header waits in `done`, is cleared there, leaves it, and goes to the client.
 fn pass_done(stock: &mut Stock, header: Header) -> (Header, bool)
-    requires stock { stocked stock.old ≡ one_header }
+    requires stock { stocked stock.old ≡ one_header (stocked stock.old).key }
     requires outside { IsOutside header (stocked stock.old) }
     requires number { header.held.number ≡ 0 }
     ensures outside { IsOutside result.0 (stocked stock.new) }
@@ -95,8 +95,8 @@ fn pass_done(stock: &mut Stock, header: Header) -> (Header, bool)
 
 /// Whether nothing waits in the input, and who has the first header.
 fn look(stock: &mut Stock) -> (bool, u64, Option<Owner>)
-    requires { stocked stock.old ≡ two_ports }
-    ensures { stocked stock.new ≡ two_ports }
+    requires { stocked stock.old ≡ two_ports (stocked stock.old).key }
+    ensures { stocked stock.new ≡ two_ports (stocked stock.old).key }
 {
     stock.clear_todo(INPUT);
     let waits = stock.has_todo(INPUT) || stock.has_unmarked(INPUT);

@@ -4,7 +4,7 @@ use Rattle.il_machine.specs.Due.{first_marked}
 use Rattle.port_stock.specs.Entries.{headers_of}
 use Rattle.port_stock.proofs.Places.{Front, front, numbers_none}
 use Rattle.port_stock.proofs.Changing.{at_is}
-use Rattle.port_stock.proofs.Looking.{mark_headers, mark_each, first_none, first_some}
+use Rattle.port_stock.proofs.Looking.{mark_headers, mark_each, mark_keys, first_none, first_some}
 use Rattle.port_stock.proofs.entries.mark_first.Goals as goal
 
 pub returns-in_default-clause-some : goal.returns-in_default-clause-some
@@ -29,3 +29,6 @@ returns-clause-headers c = mark_headers c.args.key c.args.mark c.in-Some.place c
 
 pub returns-clause-kept : goal.returns-clause-kept
 returns-clause-kept c = mark_each c.args.mark c.in-Some.place c.args.entries.now.items _ _ _ c.requires.kept (first c).there (same c) c.mark_kept.ensures
+
+pub returns-clause-keys : goal.returns-clause-keys
+returns-clause-keys c = mark_keys c.args.mark c.in-Some.place c.args.entries.now.items _ _ ((first c).there ∙ ap Some (sym (same c))) c.mark_kept.ensures

@@ -2,7 +2,7 @@ use Rattle.std.proofs.Common.{◌≡◌, None, position, refl, sym, ◌∙◌}
 use Rattle.il_machine.specs.declared.header.Place.TheVariants.{Out}
 use Rattle.port_stock.specs.Conditions.{IsHeaderOf}
 use Rattle.port_stock.proofs.Places.{At, at, is_numbered}
-use Rattle.port_stock.proofs.Changing.{Puts, puts, unreached, unkept_at, put_headers, put_kept}
+use Rattle.port_stock.proofs.Changing.{Puts, puts, unreached, unkept_at, put_headers, put_kept, put_keys}
 use Rattle.port_stock.proofs.entries.put.Goals as goal
 
 pub unreachable-requires : goal.unreachable-requires
@@ -26,3 +26,6 @@ returns-clause-headers c = put_headers _ _ _ _ _ _ _ (put c)
 
 pub returns-clause-kept : goal.returns-clause-kept
 returns-clause-kept c = put_kept _ _ _ _ _ _ _ (put c) refl c.requires.outside c.requires.kept
+
+pub returns-clause-keys : goal.returns-clause-keys
+returns-clause-keys c = put_keys _ _ _ _ _ _ _ (put c)

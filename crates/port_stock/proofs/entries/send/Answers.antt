@@ -1,7 +1,7 @@
 use Rattle.std.proofs.Common.{refl, sym, ◌∙◌}
 use Rattle.il_machine.specs.Headers.{in_done, is_state}
 use Rattle.port_stock.proofs.Places.{Front, front, numbers_none}
-use Rattle.port_stock.proofs.Changing.{Leaves, leaves, leaves_kept, front_kept, taken_by, done_waits}
+use Rattle.port_stock.proofs.Changing.{Leaves, leaves, leaves_kept, leaves_keys, leaves_own, front_kept, taken_by, done_waits}
 use Rattle.port_stock.proofs.entries.send.Goals as goal
 
 pub returns-in_default-clause-taken : goal.returns-in_default-clause-taken
@@ -26,3 +26,9 @@ returns-clause-taken c = taken_by _ _ _ _ _ (first c) (left c)
 
 pub returns-clause-kept : goal.returns-clause-kept
 returns-clause-kept c = leaves_kept _ _ _ _ _ c.requires.kept (left c)
+
+pub returns-clause-keys : goal.returns-clause-keys
+returns-clause-keys c = leaves_keys _ _ _ _ _ (left c)
+
+pub returns-clause-own : goal.returns-clause-own
+returns-clause-own c = leaves_own _ _ _ _ _ (first c).there (left c)

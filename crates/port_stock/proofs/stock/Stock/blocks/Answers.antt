@@ -6,4 +6,4 @@ use Rattle.port_stock.proofs.Calls.{count_read}
 use Rattle.port_stock.proofs.stock.Stock.blocks.Goals as goal
 
 pub returns : goal.returns
-returns c = rw (← c.self.view_is) ((rw c.deref.ensures.value at c.blocks-2.ensures) ∙ count_read (kept c.self.inside.ports.items (headers_of c.self.inside.entries.items) c.self.inside.next) (is_block))
+returns c = rw (← c.self.view_is) ((rw c.deref.ensures.value at c.blocks-2.ensures) ∙ count_read (kept c.self.inside.key c.self.inside.ports.items (headers_of c.self.inside.entries.items) c.self.inside.next) (is_block))

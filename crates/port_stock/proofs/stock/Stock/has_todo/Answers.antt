@@ -6,4 +6,4 @@ use Rattle.port_stock.proofs.Stocking.{todo_read}
 use Rattle.port_stock.proofs.stock.Stock.has_todo.Goals as goal
 
 pub returns : goal.returns
-returns c = rw (← c.self.view_is) ((rw c.deref.ensures.value at c.has_todo.ensures) ∙ ap (λ ns. not (is_empty ns)) (todo_read (kept c.self.inside.ports.items (headers_of c.self.inside.entries.items) c.self.inside.next) c.args.port))
+returns c = rw (← c.self.view_is) ((rw c.deref.ensures.value at c.has_todo.ensures) ∙ ap (λ ns. not (is_empty ns)) (todo_read (kept c.self.inside.key c.self.inside.ports.items (headers_of c.self.inside.entries.items) c.self.inside.next) c.args.port))

@@ -6,4 +6,4 @@ use Rattle.port_stock.proofs.Stocking.{unmarked_read}
 use Rattle.port_stock.proofs.stock.Stock.has_unmarked.Goals as goal
 
 pub returns : goal.returns
-returns c = rw (← c.self.view_is) ((rw c.deref.ensures.value at c.has_unmarked.ensures) ∙ ap (λ ns. not (is_empty ns)) (unmarked_read (kept c.self.inside.ports.items (headers_of c.self.inside.entries.items) c.self.inside.next) c.args.port))
+returns c = rw (← c.self.view_is) ((rw c.deref.ensures.value at c.has_unmarked.ensures) ∙ ap (λ ns. not (is_empty ns)) (unmarked_read (kept c.self.inside.key c.self.inside.ports.items (headers_of c.self.inside.entries.items) c.self.inside.next) c.args.port))

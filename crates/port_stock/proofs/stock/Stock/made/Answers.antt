@@ -6,4 +6,4 @@ use Rattle.port_stock.proofs.Calls.{count_read}
 use Rattle.port_stock.proofs.stock.Stock.made.Goals as goal
 
 pub returns-clause-made : goal.returns-clause-made
-returns-clause-made c = rw (← c.self.view_is) ((rw c.deref.ensures.value at c.made.ensures) ∙ count_read (kept c.self.inside.ports.items (headers_of c.self.inside.entries.items) c.self.inside.next) (is_for c.args.port))
+returns-clause-made c = rw (← c.self.view_is) ((rw c.deref.ensures.value at c.made.ensures) ∙ count_read (kept c.self.inside.key c.self.inside.ports.items (headers_of c.self.inside.entries.items) c.self.inside.next) (is_for c.args.port))

@@ -9,7 +9,7 @@ use Rattle.port_stock.proofs.Lawful.{count_and}
 use Rattle.port_stock.proofs.stock.Stock.outstanding.Goals as goal
 
 pub returns : goal.returns
-returns c = rw (← c.self.view_is) ((rw c.deref.ensures.value at c.outstanding.ensures) ∙ count_read (kept c.self.inside.ports.items (headers_of c.self.inside.entries.items) c.self.inside.next) (λ h. is_for c.args.port h && is_away h))
+returns c = rw (← c.self.view_is) ((rw c.deref.ensures.value at c.outstanding.ensures) ∙ count_read (kept c.self.inside.key c.self.inside.ports.items (headers_of c.self.inside.entries.items) c.self.inside.next) (λ h. is_for c.args.port h && is_away h))
 
 pub overflow_cast-result : goal.overflow_cast-result
 overflow_cast-result c =

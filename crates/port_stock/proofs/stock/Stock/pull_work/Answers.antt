@@ -6,14 +6,14 @@ use Rattle.il_machine.specs.Stock.{pulled}
 use Rattle.port_stock.proofs.Calls.{Becomes, TakesFront, pull_becomes, pull_takes}
 use Rattle.port_stock.proofs.stock.Stock.pull_work.Goals as goal
 
-becomes : (c : goal.After-pull) → Becomes c.self.inside.ports.items (headers_of c.pull.new.entries.items) c.self.inside.next (pulled c.args.port (stocked (kept c.self.inside.ports.items (headers_of c.self.inside.entries.items) c.self.inside.next)))
-becomes c = pull_becomes (kept c.self.inside.ports.items (headers_of c.self.inside.entries.items) c.self.inside.next) _ c.args.port c.pull.result c.self.invariant.headers c.pull.ensures.taken
+becomes : (c : goal.After-pull) → Becomes c.self.inside.key c.self.inside.ports.items (headers_of c.pull.new.entries.items) c.self.inside.next (pulled c.args.port (stocked (kept c.self.inside.key c.self.inside.ports.items (headers_of c.self.inside.entries.items) c.self.inside.next)))
+becomes c = pull_becomes (kept c.self.inside.key c.self.inside.ports.items (headers_of c.self.inside.entries.items) c.self.inside.next) _ c.args.port c.pull.result c.self.invariant.headers c.pull.ensures.taken
 
-takes : (c : goal.After-pull) → TakesFront (in_todo c.args.port) ((stocked (kept c.self.inside.ports.items (headers_of c.self.inside.entries.items) c.self.inside.next)).headers.todo c.args.port) (stocked (kept c.self.inside.ports.items (headers_of c.self.inside.entries.items) c.self.inside.next)) (stocked (kept c.self.inside.ports.items (headers_of c.pull.new.entries.items) c.self.inside.next)) c.pull.result
-takes c = pull_takes (kept c.self.inside.ports.items (headers_of c.self.inside.entries.items) c.self.inside.next) _ c.args.port c.pull.result c.pull.ensures.taken
+takes : (c : goal.After-pull) → TakesFront (in_todo c.args.port) ((stocked (kept c.self.inside.key c.self.inside.ports.items (headers_of c.self.inside.entries.items) c.self.inside.next)).headers.todo c.args.port) (stocked (kept c.self.inside.key c.self.inside.ports.items (headers_of c.self.inside.entries.items) c.self.inside.next)) (stocked (kept c.self.inside.key c.self.inside.ports.items (headers_of c.pull.new.entries.items) c.self.inside.next)) c.pull.result
+takes c = pull_takes (kept c.self.inside.key c.self.inside.ports.items (headers_of c.self.inside.entries.items) c.self.inside.next) _ c.args.port c.pull.result (c.pull.ensures.own c.self.inside.key c.self.invariant.keys) c.pull.ensures.taken
 
 pub invariant_of-self : goal.invariant_of-self
-invariant_of-self c = record { headers = (becomes c).lawful; kept = c.pull.ensures.kept; room = rw c.pull.ensures.capacity c.self.invariant.room }
+invariant_of-self c = record { headers = (becomes c).lawful; kept = c.pull.ensures.kept; keys = c.pull.ensures.keys c.self.inside.key c.self.invariant.keys; room = rw c.pull.ensures.capacity c.self.invariant.room }
 
 pub returns-clause-front : goal.returns-clause-front
 returns-clause-front c = rw (← c.self.view_is) (takes c).front
