@@ -5,3 +5,4 @@ pub mod Named
 pub mod Queueing
 pub mod Running
 pub mod Joining
+pub mod Calm

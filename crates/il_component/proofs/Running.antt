@@ -13,7 +13,7 @@ use Rattle.il_component.proofs.Fit.{used-told}
 
 -- some look: a command is carried out alike in each
 pub a_look : Look
-a_look = look (no_world 0)
+a_look = look (no_world 0 0)
 
 pub room_to_tell : (fault : Option OmxError) (error : OmxError) (target : State) (c : Component) → fault ≡ Some error → used (begun fault target c) ≤ 256 → 0 < room c
 room_to_tell fault error target c e u =

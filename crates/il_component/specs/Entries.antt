@@ -26,7 +26,7 @@ pub record Entry (C : Type 0) : Type 0 where
   pub queues : Queues C
 
 abbrev pub noticed_of : BufferHeader → Noticed
-noticed_of header = record { held = header.held; client_memory = is_clients header.store }
+noticed_of header = record { key = header.key; held = header.held; client_memory = is_clients header.store }
 
 -- the headers in the notes
 abbrev pub held_in : List Taken → List Noticed

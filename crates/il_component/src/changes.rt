@@ -57,7 +57,7 @@ impl<C> Component<C> {
     }
 
     /// Another state of the port.
-    pub fn set_port(&mut self, index: u32, port: PortState)
+    fn set_port(&mut self, index: u32, port: PortState)
         requires there { index < ports_in self.old.settings.kind }
         requires fits { used (with_port index port (component_of self.old)) ≤ 256 }
         ensures component { component_of self.new ≡ with_port index port (component_of self.old) }
@@ -68,7 +68,7 @@ impl<C> Component<C> {
     }
 
     /// Changes the ports that a command names.
-    pub fn change_ports(&mut self, sel: PortSel, change: PortChange)
+    pub(crate) fn change_ports(&mut self, sel: PortSel, change: PortChange)
         requires { used (with_selected sel (changed_by change) (component_of self.old)) ≤ 256 }
         ensures component { component_of self.new ≡ with_selected sel (changed_by change) (component_of self.old) }
         ensures kept { KeepsNotices self.old self.new }
@@ -144,7 +144,7 @@ impl<C> Component<C> {
     }
 
     /// The transition is pending.
-    pub fn begin(&mut self, pending: Pending)
+    pub(crate) fn begin(&mut self, pending: Pending)
         requires { used (record (component_of self.old) { pending = Some pending }) ≤ 256 }
         ensures component { component_of self.new ≡ record (component_of self.old) { pending = Some pending } }
         ensures kept { KeepsNotices self.old self.new }

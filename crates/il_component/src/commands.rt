@@ -68,7 +68,7 @@ impl<C> Component<C> {
     }
 
     /// Why a transition to the state can't begin.
-    pub fn state_fault(&self, target: State) -> Option<OmxError>
+    fn state_fault(&self, target: State) -> Option<OmxError>
         ensures { (l : Look) → result ≡ state_fault l (component_of self.now) target }
     {
         if self.state == target {
@@ -81,6 +81,7 @@ impl<C> Component<C> {
             None
         }
     }
+
     /// Begins the transition to the state, or tells why it can't begin.
     fn begin_or_tell(&mut self, target: State)
         requires { (l : Look) → used (begun (state_fault l (component_of self.old) target) target (component_of self.old)) ≤ 256 }
@@ -97,7 +98,7 @@ impl<C> Component<C> {
     }
 
     /// Carries out a command that is queued no longer.
-    pub fn carry_out(&mut self, command: Command)
+    fn carry_out(&mut self, command: Command)
         requires { (l : Look) → used (carried_out l command (component_of self.old)) ≤ 256 }
         ensures component { (l : Look) → component_of self.new ≡ carried_out l command (component_of self.old) }
         ensures kept { KeepsNotices self.old self.new }

@@ -1,10 +1,10 @@
-ghost use Rattle.std.specs.Prelude.{◌≡◌, ◌<◌, ◌≤◌, ◌||◌, Some, None, IfOk, IfErr, replicate, is_none, is_some, true, false, IsSome};
+ghost use Rattle.std.specs.Prelude.{◌≡◌, ◌<◌, ◌≤◌, ◌||◌, ◌↔◌, IsTrue, Some, None, IfOk, IfErr, replicate, is_none, is_some, true, false, IsSome};
 ghost use Rattle.il_machine.specs.Kinds.{ports_in};
 ghost use Rattle.il_machine.specs.Settings.{IsSized, set_refusal, value_of, refused_or};
 ghost use Rattle.il_machine.specs.World.{fresh, fresh_port, port_of, ports_of, told};
 ghost use Rattle.il_machine.specs.Room.{room, used};
 ghost use Rattle.std.specs.List.{list_any};
-ghost use Rattle.il_machine.specs.Ports.{is_joined};
+ghost use Rattle.il_machine.specs.Ports.{IsCalm, is_joined};
 ghost use Rattle.il_machine.specs.States.{is_invalid, is_loaded};
 ghost use Rattle.il_machine.specs.Parameters.{is_settable, is_format_free, get_parameter_refusal, set_config_refusal, with_value};
 ghost use Rattle.il_component.specs.Entries.{component_of, KeepsNotices};
@@ -189,6 +189,13 @@ impl<C> Component<C> {
         ensures { result ≡ is_none self.now.queues.client }
     {
         self.notes.is_client_out()
+    }
+
+    /// Whether nothing is pending, neither a transition nor anything at a port. No port is looked at: what is pending holds places.
+    pub fn is_calm(&self) -> bool
+        ensures { IsTrue result ↔ IsCalm (component_of self.now) }
+    {
+        self.pending.is_none() && self.notes.held_places() == 0
     }
 
     /// The places for events that are neither taken nor reserved.

@@ -11,4 +11,3 @@ mod port_changes;
 mod tests;
 
 pub use component::Component;
-pub use port_changes::PortChange;

@@ -8,7 +8,8 @@ use std::marker::Model;
 
 /// An object that is told a component's events, and keeps what they come to.
 pub trait Client {
-    /// Whether clients of this type may be given headers.
+    /// Whether clients of this type may be given headers. No call of this crate or of a graph asks it: a header in a note goes to who
+    /// takes the note, whatever the client's type is. It is for those who share a graph.
     const HEADERS: bool;
 
     ghost HEADERS: { Bool };
@@ -16,14 +17,16 @@ pub trait Client {
     /// What the events told so far come to.
     ghost progress: { Self → Reached };
 
+    /// Tells it an event, which moves its progress.
     fn told(&mut self, event: Event)
         ensures { progress self.new ≡ moved_by event (progress self.old) };
 
+    /// The last state that was reached, whether the end of a stream was told, and the first error.
     fn progress(&self) -> Progress
         ensures { result ≡ progress self.now };
 }
 
-/// A client that keeps its progress alone, and isn't given headers.
+/// A client that keeps its progress alone. Who takes a note with a header keeps that beside it.
 #[derive(Clone, Copy, Debug, PartialEq, Eq)]
 pub struct ProgressClient {
     progress: Progress,

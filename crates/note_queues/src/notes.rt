@@ -191,6 +191,13 @@ impl<C> Notes<C> {
         self.cost_sum = 0;
     }
 
+    /// How many places are reserved beside those of the queued commands.
+    pub fn held_places(&self) -> u32
+        ensures { result ≡ self.now.places }
+    {
+        self.places
+    }
+
     /// Reserves so many places beside those of the queued commands, in place of what was held before.
     pub fn hold_places(&mut self, places: u32)
         requires { events_in (notes_of self.old) + costs self.old + places ≤ 256 }

@@ -28,7 +28,7 @@ pub struct Call<C> {
     pub taken: Taken,
 }
 
-/// What `take_call` answers.
+/// What taking a note answers.
 pub enum Took<C> {
     Call(Call<C>),
     /// No note is queued.

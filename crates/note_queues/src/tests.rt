@@ -3,7 +3,7 @@ ghost use Rattle.il_machine.specs.Components.{moved_by, no_progress};
 ghost use Rattle.note_queues.specs.Queues.{no_notes};
 
 use crate::{Call, Client, Full, Notes, OutOfMemory, ProgressClient, Taken, Took};
-use header_core::{Header, Memory, Store};
+use header_core::{Header, Key, Memory, Store};
 use il_machine::Progress;
 use omx_types::{Command, Completion, Event, OmxError, State};
 use std::alloc::Global;
@@ -116,7 +116,10 @@ fn give_oldest(notes: &mut Notes<ProgressClient>) -> Option<Result<Event, u64>>
 fn gives_the_oldest_note_first(rt: HostRuntime) -> Result<(), Fail> {
     let bytes = vec![in rt.alloc(); 9; 8]?;
     let mut notes = one_port(rt.alloc())?;
-    notes.push_header(false, Header::new(7, Store::Own(Memory::new(bytes)), 8));
+    notes.push_header(
+        false,
+        Header::new(Key::new(), 7, Store::Own(Memory::new(bytes)), 8),
+    );
     notes.push_event(IDLE);
     let first = give_oldest(&mut notes);
     let second = give_oldest(&mut notes);

@@ -25,9 +25,9 @@ use Rattle.machine_laws.proofs.Lookups.{port_parts}
 use Rattle.machine_laws.proofs.Arriving.{sound_arrived, change_arrived, state_there, sound_let_go, change_let_go, flushed_places, steady_places, marked_places}
 use Rattle.machine_laws.proofs.Happening.{due_where, due_changes}
 use Rattle.il_component.specs.PortChanges.{flush_ended, mode_ended, mark_ended}
-use Rattle.port_rules.specs.Leading.{AreOwn, Leads}
-use Rattle.port_rules.specs.Happened.{Happened, IsSettled}
-use Rattle.port_rules.proofs.ResetSteps.{unchanged}
+use Rattle.flush_mark.specs.Leading.{AreOwn, Leads}
+use Rattle.port_rules.specs.Happened.{Happened, IsInOrder}
+use Rattle.flush_mark.proofs.ResetSteps.{unchanged}
 use Rattle.port_rules.proofs.Noticed.{keeps_reset_port, keeps_reset_on, keeps_marked}
 
 module _ {A : Type 0} where
@@ -44,15 +44,15 @@ module _ {A : Type 0} where
   pub of_some : (o : Option A) (P : A → Type 0) (x : A) → o ≡ Some x → IsSomeAnd o P → P x
   of_some o P x e h = subst (λ (y : Option A). IsSomeAnd y P) e h
 
-  to_some : (o : Option A) (P : A → Type 0) (x : A) → o ≡ Some x → P x → IsSomeAnd o P
+  pub to_some : (o : Option A) (P : A → Type 0) (x : A) → o ≡ Some x → P x → IsSomeAnd o P
   to_some o P x e h = subst (λ (y : Option A). IsSomeAnd y P) (sym e) h
 
-pub index_within : (c : Component) (s : Stocked) (n : ℕ) (p : Port) → IsSettled c s → port_of c n ≡ Some p → n < ports_in c.settings.kind
+pub index_within : (c : Component) (s : Stocked) (n : ℕ) (p : Port) → IsInOrder c s → port_of c n ≡ Some p → n < ports_in c.settings.kind
 index_within c s n p I e = subst (λ (k : ℕ). n < k) (I.ports).many (slice_get_within (ports_of c) n p e)
 
 -- ---- the transition
 
-pub transition_happens : (c d : Component) (s t : Stocked) (p : Pending) → IsSettled c s → c.pending ≡ Some p → d ≡ arrived p c → Leads (reset_on c p.target) s t → Happened Transition c d s t
+pub transition_happens : (c d : Component) (s t : Stocked) (p : Pending) → IsInOrder c s → c.pending ≡ Some p → d ≡ arrived p c → Leads (reset_on c p.target) s t → Happened Transition c d s t
 transition_happens c d s t p I e q L = record {
   change = reset_on c p.target;
   after = λ i w. ap (λ (o : Option Pending). transition_happened i c o w) e ∙ ap (λ (x : Component). record (with_component i x w) { headers = reset_on c p.target w.headers }) (sym q);
@@ -67,7 +67,7 @@ transition_happens c d s t p I e q L = record {
 pub flush_sound : (c : Component) (n : ℕ) (p : Port) → IsSound c → port_of c n ≡ Some p → p.state.flushing ≡ true → IsSound (flush_ended p c)
 flush_sound c n p S e f = sound_let_go (CmdComplete (completions.Flush p.key.port)) p.key.port (record p.state { flushing = false }) p.state c S (state_there c n p e) (flushed_places p.state f)
 
-pub flush_happens : (c d : Component) (s t : Stocked) (n : ℕ) (p : Port) → IsSettled c s → port_of c n ≡ Some p → p.state.flushing ≡ true → d ≡ flush_ended p c → Leads (reset_port p) s t → Happened (Flush n) c d s t
+pub flush_happens : (c d : Component) (s t : Stocked) (n : ℕ) (p : Port) → IsInOrder c s → port_of c n ≡ Some p → p.state.flushing ≡ true → d ≡ flush_ended p c → Leads (reset_port p) s t → Happened (Flush n) c d s t
 flush_happens c d s t n p I e f q L = record {
   change = reset_port p;
   after = λ i w. ap (λ (o : Option Port). at_port o (flush_happened i c) w) e ∙ ap (λ (x : Component). record (with_component i x w) { headers = reset_port p w.headers }) (sym q);
@@ -98,7 +98,7 @@ mode_parts c n p Disabling S e q z =
 pub mode_sound : (c : Component) (n : ℕ) (p : Port) → IsSound c → port_of c n ≡ Some p → is_steady p.state.mode ≡ false → IsSound (mode_ended p c)
 mode_sound c n p S e z = (mode_parts c n p p.state.mode S e refl z).0
 
-pub mode_happens : (c d : Component) (s : Stocked) (n : ℕ) (p : Port) → IsSettled c s → port_of c n ≡ Some p → is_steady p.state.mode ≡ false → d ≡ mode_ended p c → Happened (PortMode n) c d s s
+pub mode_happens : (c d : Component) (s : Stocked) (n : ℕ) (p : Port) → IsInOrder c s → port_of c n ≡ Some p → is_steady p.state.mode ≡ false → d ≡ mode_ended p c → Happened (PortMode n) c d s s
 mode_happens c d s n p I e z q = record {
   change = λ hs. hs;
   after = λ i w. ap (λ (o : Option Port). at_port o (mode_happened i c) w) e ∙ ap (λ (x : Component). with_component i x w) (sym q);
@@ -114,6 +114,10 @@ front_ports : (key : PortKey) (mark : Mark) (ns : List ℕ) (s : Stocked) → (f
 front_ports key mark [] s = refl
 front_ports key mark (n ∷ ns) s = refl
 
+front_key : (key : PortKey) (mark : Mark) (ns : List ℕ) (s : Stocked) → (front_marked key mark ns s).key ≡ s.key
+front_key key mark [] s = refl
+front_key key mark (n ∷ ns) s = refl
+
 front_next : (key : PortKey) (mark : Mark) (ns : List ℕ) (s : Stocked) → (front_marked key mark ns s).next ≡ s.next
 front_next key mark [] s = refl
 front_next key mark (n ∷ ns) s = refl
@@ -125,6 +129,7 @@ front_own key mark (n ∷ ns) s A = A
 marked_leads : (s t : Stocked) (key : PortKey) (mark : Mark) → AreOwn s → t ≡ marked_first key mark s → Leads (λ hs. first_marked ((seen hs).unmarked key) (Some mark) hs) s t
 marked_leads s t key mark A q = subst (Leads (λ hs. first_marked ((seen hs).unmarked key) (Some mark) hs) s) (sym q) (record {
   stands = λ hs S. subst (StandsFor (marked_first key mark s)) (ap (λ (v : Seen). first_marked (v.unmarked key) (Some mark) hs) (sym S.looks)) (mark_stands s hs key mark S);
+  key = front_key key mark (s.headers.unmarked key) s;
   ports = front_ports key mark (s.headers.unmarked key) s;
   next = front_next key mark (s.headers.unmarked key) s;
   own = front_own key mark (s.headers.unmarked key) s A;
@@ -133,7 +138,7 @@ marked_leads s t key mark A q = subst (Leads (λ hs. first_marked ((seen hs).unm
 pub mark_sound : (c : Component) (n : ℕ) (p : Port) → IsSound c → port_of c n ≡ Some p → is_some p.state.waiting_mark ≡ true → IsSound (mark_ended p c)
 mark_sound c n p S e m = sound_let_go (CmdComplete (completions.Mark p.key.port)) p.key.port (record p.state { waiting_mark = None }) p.state c S (state_there c n p e) (marked_places p.state m)
 
-pub mark_happens : (c d : Component) (s t : Stocked) (n : ℕ) (p : Port) (mark : Mark) → IsSettled c s → port_of c n ≡ Some p → p.state.waiting_mark ≡ Some mark → d ≡ mark_ended p c → t ≡ marked_first p.key mark s → Happened (WaitingMark n) c d s t
+pub mark_happens : (c d : Component) (s t : Stocked) (n : ℕ) (p : Port) (mark : Mark) → IsInOrder c s → port_of c n ≡ Some p → p.state.waiting_mark ≡ Some mark → d ≡ mark_ended p c → t ≡ marked_first p.key mark s → Happened (WaitingMark n) c d s t
 mark_happens c d s t n p mark I e m q r =
     let y : is_some p.state.waiting_mark ≡ true = rw m refl in
     record {

@@ -1,6 +1,6 @@
 pub mod Walking
 pub mod Passing
-pub mod ResetSteps
+pub mod Resetting
 pub mod Noticed
 pub mod Happenings
 pub mod Refusing

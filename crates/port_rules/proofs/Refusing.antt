@@ -1,5 +1,6 @@
 -- What calls on buffers are refused for, test by test.
-use Rattle.std.proofs.Common.{◌≡◌, ℕ, ◌≤◌, Bool, true, false, not, ◌&&◌, ◌||◌, nat_eq, [], ◌∷◌, Option, Some, refl, arith}
+use Rattle.std.proofs.Common.{◌≡◌, ℕ, ◌≤◌, Bool, true, false, not, ◌&&◌, ◌||◌, nat_eq, [], ◌∷◌, Option, Some, refl, sym, arith}
+use Rattle.std.proofs.Math.Bool.{not-not}
 use Rattle.std.proofs.lemmas.Bool.Decides.{nat_tests}
 use Rattle.omx_types.specs.declared.error.OmxError.TheVariants as errors
 use Rattle.omx_types.specs.declared.format.Format.{Format}
@@ -18,6 +19,10 @@ use Rattle.il_machine.specs.States.{is_invalid}
 use Rattle.il_machine.specs.World.{Component, port_of}
 use Rattle.il_machine.specs.Buffers.{allocate_refusal, use_refusal, free_buffer_refusal, is_unpopulating, has_no_block, has_no_number, is_bad_length}
 use Rattle.machine_laws.proofs.Facts.{port_limits}
+
+-- no number is left where the test for one fails
+pub numberless : (l : Look) (left : Bool) → left ≡ not (has_no_number l) → has_no_number l ≡ not left
+numberless l left e = rw e (sym (not-not (has_no_number l)))
 
 pub allocate_at : (l : Look) (c : Component) (o : Option Port) (p : Port) (b d f : Bool) → is_invalid c.state ≡ false → o ≡ Some p → is_joined p ≡ b → accepting l.headers c p ≡ d → (has_no_block l.headers || has_no_number l) ≡ f
     → allocate_refusal l c o ≡ first_of_these ((b, errors.BadParameter) ∷ (not d, errors.IncorrectStateOperation) ∷ (f, errors.InsufficientResources) ∷ [])

@@ -1,5 +1,4 @@
 pub mod Tests
-pub mod Leading
 pub mod Happened
 pub mod Joining
 pub mod Looking

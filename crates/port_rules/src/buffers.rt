@@ -1,6 +1,6 @@
 //! Why calls on buffers are refused: what a port takes in, and what its component loses with a header.
 
-ghost use Rattle.std.specs.Prelude.{◌≡◌, ◌≤◌, ◌<◌, ◌&&◌, ◌||◌, nat_eq, true, false};
+ghost use Rattle.std.specs.Prelude.{◌≡◌, ◌≤◌, ◌<◌, ◌&&◌, ◌||◌, nat_eq, true};
 ghost use Rattle.omx_types.specs.Formats.{frame_bytes_of};
 ghost use Rattle.il_machine.specs.World.{port_of};
 ghost use Rattle.il_machine.specs.Headers.{is_for};
@@ -13,12 +13,12 @@ ghost use Rattle.port_stock.specs.Kept.{stocked};
 ghost use Rattle.port_rules.specs.Tests.{HasAllPorts};
 ghost use Rattle.port_rules.specs.Looking.{look_of_stock};
 
-use crate::terms::{is_accepting, is_joined, is_open, is_same_key};
+use crate::terms::{is_accepting, is_going_to, is_joined, is_open};
 use header_core::Header;
 use il_component::Component;
-use il_machine::{HeaderState, Port, PortKey};
+use il_machine::{HeaderState, Port};
 use omx_types::{Event, OmxError, State};
-use port_stock::Stock;
+use port_stock::{Stock, is_made_for};
 
 /// How many blocks a graph has.
 const BLOCKS: u64 = 1024;
@@ -26,30 +26,17 @@ const BLOCKS: u64 = 1024;
 /// The most bytes of a header.
 const MOST_BYTES: usize = 4096;
 
-/// Whether the header was made for the port.
-fn is_made_for(key: PortKey, state: HeaderState) -> bool
-    ensures { result ≡ is_for key state }
-{
-    let for_peer = match state.peer {
-        Some(peer) => is_same_key(peer, key),
-        None => false,
-    };
-    is_same_key(state.port, key) || for_peer
-}
-
 /// Whether the port loses a header that it needs.
 fn is_unpopulating<C>(component: &Component<C>, port: Port) -> bool
     ensures { result ≡ is_unpopulating (component_of component.now) port }
 {
-    let goes_down = component.pending().is_some_and(|pending| state_rules::is_same(
-        pending.target,
-        State::Loaded,
-    ));
-    port.state.enabled && state_rules::is_up(component.state()) && !goes_down
+    port.state.enabled
+        && state_rules::is_up(component.state())
+        && !is_going_to(component, State::Loaded)
 }
 
 /// Whether the component works, and the port is open.
-fn is_taking<C>(component: &Component<C>, port: Port) -> bool
+pub fn is_taking<C>(component: &Component<C>, port: Port) -> bool
     ensures { result ≡ is_taking (component_of component.now) port }
 {
     state_rules::is_running(component.state()) && component.pending().is_none() && is_open(port)
@@ -71,7 +58,7 @@ fn is_content_for(port: Port, state: HeaderState, header: &Header) -> bool
     requires few { frame_bytes_of port.setting.definition.format ≤ 4096 }
     ensures { result ≡ (is_for port.key state && is_whole_frames port.setting.definition.format header.now.held.content) }
 {
-    is_made_for(port.key, state) && has_whole_frames(port, header)
+    is_made_for(port.key, &state) && has_whole_frames(port, header)
 }
 
 /// Whether the component has no room to tell that the port loses a header.
@@ -79,21 +66,6 @@ fn lacks_room<C>(component: &Component<C>, port: Port) -> bool
     ensures { result ≡ (is_unpopulating (component_of component.now) port && nat_eq (room (component_of component.now)) 0) }
 {
     is_unpopulating(component, port) && component.room() == 0
-}
-
-/// Whether no number is left for a header.
-pub fn lacks_number(stock: &Stock) -> bool
-    ensures { result ≡ nat_eq (stocked stock.now).next 18446744073709551615 }
-{
-    !stock.numbers_left()
-}
-
-/// Whether fewer than 2^64 - 1 headers were numbered.
-pub fn has_number(stock: &Stock) -> bool
-    ensures below { result ≡ true → (stocked stock.now).next < 18446744073709551615 }
-    ensures left { nat_eq (stocked stock.now).next 18446744073709551615 ≡ false → result ≡ true }
-{
-    stock.next_number() < u64::MAX
 }
 
 /// Whether all blocks are out.
@@ -107,7 +79,7 @@ pub fn has_no_block(stock: &Stock) -> bool
 fn lacks_block(stock: &Stock) -> bool
     ensures { result ≡ (has_no_block (stocked stock.now).headers || nat_eq (stocked stock.now).next 18446744073709551615) }
 {
-    has_no_block(stock) || lacks_number(stock)
+    has_no_block(stock) || !stock.numbers_left()
 }
 
 /// Whether memory of so many bytes isn't the port's to take.
@@ -170,7 +142,7 @@ pub fn use_fault<C>(
         Some(OmxError::BadParameter)
     } else if !is_accepting(stock, component, port) {
         Some(OmxError::IncorrectStateOperation)
-    } else if lacks_number(stock) {
+    } else if !stock.numbers_left() {
         Some(OmxError::InsufficientResources)
     } else {
         None
@@ -188,7 +160,7 @@ pub fn free_buffer_fault<C>(
     let Some(port) = component.port(index) else {
         return Some(OmxError::BadPortIndex);
     };
-    if !is_made_for(port.key, state) {
+    if !is_made_for(port.key, &state) {
         Some(OmxError::BadParameter)
     } else if lacks_room(component, port) {
         Some(OmxError::NotReady)
@@ -236,7 +208,7 @@ pub fn fill_fault<C>(component: &Component<C>, index: u32, state: HeaderState) -
     };
     if port.setting.definition.input {
         Some(OmxError::BadPortIndex)
-    } else if !is_made_for(port.key, state) {
+    } else if !is_made_for(port.key, &state) {
         Some(OmxError::BadParameter)
     } else if !is_taking(component, port) {
         Some(OmxError::IncorrectStateOperation)

@@ -1,13 +1,14 @@
 //! What is due at a component.
 
 ghost use Rattle.std.specs.Prelude.{◌≡◌, option_map, true, false};
-ghost use Rattle.il_machine.specs.Due.{due_in, is_transition_due, is_flush_due, is_mode_due, is_mark_due, has_due, is_due_to};
+ghost use Rattle.il_machine.specs.Due.{due_in, is_transition_due, is_flush_due, is_mode_due, is_mark_due, is_due_to};
 ghost use Rattle.il_component.specs.Entries.{component_of};
 ghost use Rattle.port_stock.specs.Kept.{stocked};
 ghost use Rattle.port_stock.specs.Conditions.{IsPort};
 ghost use Rattle.port_rules.specs.Tests.{HasAllPorts, thing_of, port_due};
 
 use crate::terms::{PortTest, each_port, is_populated, is_unmade};
+use flush_mark::flush_settled;
 use il_component::Component;
 use il_machine::{Mode, Port};
 use omx_types::State;
@@ -56,7 +57,7 @@ fn is_flush_due<C>(stock: &Stock, component: &Component<C>, port: Port) -> bool
     requires { IsPort port.key (stocked stock.now) }
     ensures { result ≡ is_flush_due (stocked stock.now).headers (component_of component.now) port }
 {
-    port.state.flushing && stock.foreign(port.key) == 0
+    port.state.flushing && flush_settled(stock, port.key)
 }
 
 fn is_mode_due<C>(stock: &Stock, component: &Component<C>, port: Port) -> bool
@@ -98,6 +99,9 @@ pub fn due_in<C>(stock: &Stock, component: &Component<C>) -> Option<Due>
     requires { HasAllPorts (component_of component.now) (stocked stock.now) }
     ensures { option_map thing_of result ≡ due_in (stocked stock.now).headers (component_of component.now) }
 {
+    if component.is_calm() {
+        return None;
+    }
     if is_transition_due(stock, component) {
         return Some(Due::Transition);
     }
@@ -111,12 +115,4 @@ pub fn due_in<C>(stock: &Stock, component: &Component<C>) -> Option<Due>
         }
     }
     None
-}
-
-/// Whether something is due at the component.
-pub fn has_due<C>(stock: &Stock, component: &Component<C>) -> bool
-    requires { HasAllPorts (component_of component.now) (stocked stock.now) }
-    ensures { result ≡ has_due (stocked stock.now).headers (component_of component.now) }
-{
-    due_in(stock, component).is_some()
 }

@@ -1,20 +1,34 @@
 //! The first due thing of a component happens.
 
-ghost use Rattle.std.specs.Prelude.{◌≡◌, true, false, IsSome, IsSomeAnd, MatchOption, is_some};
-ghost use Rattle.il_machine.specs.World.{port_of};
+ghost use Rattle.std.specs.Prelude.{◌≡◌, true, false, IsSome, IsSomeAnd, Some, is_some};
+ghost use Rattle.il_machine.specs.World.{port_of, ports_of};
 ghost use Rattle.il_machine.specs.Ports.{is_steady};
-ghost use Rattle.il_machine.specs.Due.{reset_on, due_in, Transition, Flush, PortMode, WaitingMark};
+ghost use Rattle.il_machine.specs.Due.{reset_on, reset_ports, due_in, Transition, Flush, PortMode, WaitingMark};
 ghost use Rattle.il_component.specs.Entries.{component_of, KeepsNotices};
 ghost use Rattle.port_stock.specs.Kept.{stocked};
-ghost use Rattle.port_rules.specs.Leading.{AreOwn, Leads};
-ghost use Rattle.port_rules.specs.Tests.{HasAllPorts};
-ghost use Rattle.port_rules.specs.Happened.{Happened, IsSettled};
+ghost use Rattle.flush_mark.specs.Leading.{AreOwn, Leads};
+ghost use Rattle.port_rules.specs.Tests.{HasAllPorts, thing_of};
+ghost use Rattle.port_rules.specs.Happened.{Happened, IsInOrder};
 
-use crate::due::{Due, due_in};
-use crate::resetting::{reset_port, reset_ports};
+use crate::due::Due;
+use flush_mark::{attach_mark, reset_home};
 use il_component::Component;
 use omx_types::State;
 use port_stock::Stock;
+
+/// The headers at home in each port of the component are reset.
+fn reset_ports<C>(stock: &mut Stock, component: &Component<C>)
+    requires ports { HasAllPorts (component_of component.now) (stocked stock.old) }
+    requires own { AreOwn (stocked stock.old) }
+    ensures { Leads (reset_ports (ports_of (component_of component.now))) (stocked stock.old) (stocked stock.new) }
+{
+    for index in 0..component.ports() {
+        let Some(port) = component.port(index) else {
+            unreachable!()
+        };
+        reset_home(stock, port);
+    }
+}
 
 /// The headers at home are reset where the component comes to Idle from above.
 fn reset_on<C>(stock: &mut Stock, component: &Component<C>, target: State)
@@ -29,7 +43,7 @@ fn reset_on<C>(stock: &mut Stock, component: &Component<C>, target: State)
 
 /// The pending transition is reached.
 fn reach<C>(stock: &mut Stock, component: &mut Component<C>)
-    requires settled { IsSettled (component_of component.old) (stocked stock.old) }
+    requires in_order { IsInOrder (component_of component.old) (stocked stock.old) }
     requires pending { IsSome component.old.pending }
     ensures happened { Happened Transition (component_of component.old) (component_of component.new) (stocked stock.old) (stocked stock.new) }
     ensures kept { KeepsNotices component.old component.new }
@@ -43,7 +57,7 @@ fn reach<C>(stock: &mut Stock, component: &mut Component<C>)
 
 /// The flush of the port has ended.
 fn end_flush<C>(stock: &mut Stock, component: &mut Component<C>, index: u32)
-    requires settled { IsSettled (component_of component.old) (stocked stock.old) }
+    requires in_order { IsInOrder (component_of component.old) (stocked stock.old) }
     requires due { IsSomeAnd (port_of (component_of component.old) index) (λ p. p.state.flushing ≡ true) }
     ensures happened { Happened (Flush index) (component_of component.old) (component_of component.new) (stocked stock.old) (stocked stock.new) }
     ensures kept { KeepsNotices component.old component.new }
@@ -51,13 +65,13 @@ fn end_flush<C>(stock: &mut Stock, component: &mut Component<C>, index: u32)
     let Some(port) = component.port(index) else {
         unreachable!()
     };
-    reset_port(stock, port);
+    reset_home(stock, port);
     component.end_flush(index);
 }
 
 /// The disable or enable of the port has ended.
 fn end_mode<C>(stock: &mut Stock, component: &mut Component<C>, index: u32)
-    requires settled { IsSettled (component_of component.old) (stocked stock.old) }
+    requires in_order { IsInOrder (component_of component.old) (stocked stock.old) }
     requires due { IsSomeAnd (port_of (component_of component.old) index) (λ p. is_steady p.state.mode ≡ false) }
     ensures happened { Happened (PortMode index) (component_of component.old) (component_of component.new) (stocked stock.old) (stocked stock.new) }
     ensures kept { KeepsNotices component.old component.new }
@@ -67,7 +81,7 @@ fn end_mode<C>(stock: &mut Stock, component: &mut Component<C>, index: u32)
 
 /// The mark of the port is put on a header.
 fn end_mark<C>(stock: &mut Stock, component: &mut Component<C>, index: u32)
-    requires settled { IsSettled (component_of component.old) (stocked stock.old) }
+    requires in_order { IsInOrder (component_of component.old) (stocked stock.old) }
     requires due { IsSomeAnd (port_of (component_of component.old) index) (λ p. is_some p.state.waiting_mark ≡ true) }
     ensures happened { Happened (WaitingMark index) (component_of component.old) (component_of component.new) (stocked stock.old) (stocked stock.new) }
     ensures kept { KeepsNotices component.old component.new }
@@ -78,20 +92,17 @@ fn end_mark<C>(stock: &mut Stock, component: &mut Component<C>, index: u32)
     let Some(mark) = port.state.waiting_mark else {
         unreachable!()
     };
-    stock.mark_first(port.key, mark);
+    attach_mark(stock, port.key, mark);
     component.end_mark(index);
 }
 
-/// The first due thing of the component happens.
-pub fn happen_in<C>(stock: &mut Stock, component: &mut Component<C>)
-    requires settled { IsSettled (component_of component.old) (stocked stock.old) }
-    requires due { IsSome (due_in (stocked stock.old).headers (component_of component.old)) }
-    ensures happened { MatchOption (due_in (stocked stock.old).headers (component_of component.old)) ⊥ (λ thing. Happened thing (component_of component.old) (component_of component.new) (stocked stock.old) (stocked stock.new)) }
+/// What is due first at the component happens.
+pub fn happen_in<C>(stock: &mut Stock, component: &mut Component<C>, due: Due)
+    requires in_order { IsInOrder (component_of component.old) (stocked stock.old) }
+    requires first { due_in (stocked stock.old).headers (component_of component.old) ≡ Some (thing_of due) }
+    ensures happened { Happened (thing_of due) (component_of component.old) (component_of component.new) (stocked stock.old) (stocked stock.new) }
     ensures kept { KeepsNotices component.old component.new }
 {
-    let Some(due) = due_in(stock, component) else {
-        unreachable!()
-    };
     match due {
         Due::Transition => reach(stock, component),
         Due::Flush(index) => end_flush(stock, component, index),

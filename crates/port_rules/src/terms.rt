@@ -1,8 +1,7 @@
-//! The terms of ports: populated, settled, accepting, returning, leaving, open, supplying.
+//! The terms of ports: populated, settled, accepting, returning, leaving, open.
 
 ghost use Rattle.std.specs.Prelude.{◌≡◌, ◌||◌};
-ghost use Rattle.il_machine.specs.Ports.{accepting, is_joined, is_open, is_supplier, leaving, populated, returning, settled, unmade, is_going_to};
-ghost use Rattle.il_machine.specs.Headers.{same_key};
+ghost use Rattle.il_machine.specs.Ports.{accepting, is_joined, is_open, leaving, populated, returning, settled, unmade, is_going_to};
 ghost use Rattle.il_machine.specs.Due.{each_port};
 ghost use Rattle.il_component.specs.Entries.{component_of};
 ghost use Rattle.port_stock.specs.Kept.{stocked};
@@ -10,8 +9,8 @@ ghost use Rattle.port_stock.specs.Conditions.{IsPort};
 ghost use Rattle.port_rules.specs.Tests.{HasAllPorts, port_test};
 
 use il_component::Component;
-use il_machine::{Mode, Port, PortKey};
-use omx_types::{State, Supplier};
+use il_machine::{Mode, Port};
+use omx_types::State;
 use port_stock::Stock;
 
 /// A test of a port's headers.
@@ -78,7 +77,7 @@ pub fn each_port<C>(stock: &Stock, component: &Component<C>, test: PortTest) -> 
 }
 
 /// Whether a transition to the state is pending.
-fn is_going_to<C>(component: &Component<C>, target: State) -> bool
+pub fn is_going_to<C>(component: &Component<C>, target: State) -> bool
     ensures { result ≡ is_going_to target (component_of component.now) }
 {
     component
@@ -97,7 +96,7 @@ pub fn is_accepting<C>(stock: &Stock, component: &Component<C>, port: Port) -> b
     port.state.enabled && !is_populated(stock, port) && (comes_up || is_up)
 }
 
-/// Whether the headers of the port go back to their suppliers.
+/// Whether the headers of the port go back to where they are at home.
 pub fn is_returning<C>(component: &Component<C>, port: Port) -> bool
     ensures { result ≡ returning (component_of component.now) port }
 {
@@ -128,25 +127,4 @@ pub fn is_joined(port: Port) -> bool
     ensures { result ≡ is_joined port }
 {
     port.state.link.is_some()
-}
-
-/// Whether the port makes the headers of its tunnel.
-pub fn is_supplier(port: Port) -> bool
-    ensures { result ≡ is_supplier port }
-{
-    let Some(link) = port.state.link else {
-        return false;
-    };
-    if port.setting.definition.input {
-        matches!(link.supplier, Supplier::Input)
-    } else {
-        matches!(link.supplier, Supplier::Output)
-    }
-}
-
-/// Whether the two keys name one port.
-pub fn is_same_key(a: PortKey, b: PortKey) -> bool
-    ensures { result ≡ same_key a b }
-{
-    a.component == b.component && a.port == b.port
 }

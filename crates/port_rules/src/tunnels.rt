@@ -10,7 +10,7 @@ ghost use Rattle.port_rules.specs.Joining.{ports_refusal};
 ghost use Rattle.port_rules.specs.Tests.{HasAllPorts};
 
 use crate::making::is_fixed;
-use crate::terms::{is_same_key, is_unmade};
+use crate::terms::is_unmade;
 use il_component::Component;
 use il_machine::{Port, PortSetting};
 use omx_types::{Handle, OmxError};
@@ -32,7 +32,7 @@ fn is_joined_with(output: Port, input: Port) -> bool
     ensures { result ≡ is_joined_with output input }
 {
     match output.state.link {
-        Some(link) => is_same_key(link.peer, input.key),
+        Some(link) => link.peer == input.key,
         None => false,
     }
 }

@@ -2,7 +2,7 @@
 #![tactic(auto)]
 
 ghost use Rattle.std.specs.Prelude.{◌≡◌, ◌↔◌, IsTrue, IfSome, None};
-ghost use Rattle.il_machine.specs.States.{is_lawful, is_down, is_up, is_running, same_state};
+ghost use Rattle.il_machine.specs.States.{is_executing, is_lawful, is_down, is_up, is_running, same_state};
 ghost use Rattle.state_rules.specs.Asked.{asked};
 
 use omx_types::State;
@@ -59,7 +59,7 @@ pub fn is_same(a: State, b: State) -> bool
     a == b
 }
 
-/// Loaded or WaitForResources: the component has no headers yet.
+/// Loaded or WaitForResources.
 pub fn is_down(state: State) -> bool
     ensures { result ≡ is_down state }
 {
@@ -71,6 +71,12 @@ pub fn is_up(state: State) -> bool
     ensures { result ≡ is_up state }
 {
     matches!(state, State::Idle | State::Executing | State::Pause)
+}
+
+pub fn is_executing(state: State) -> bool
+    ensures { result ≡ is_executing state }
+{
+    matches!(state, State::Executing)
 }
 
 /// Executing or Pause.

@@ -1,4 +1,4 @@
-use crate::{Asked, ask, is_down, is_lawful, is_running, is_same, is_up};
+use crate::{Asked, ask, is_down, is_executing, is_lawful, is_running, is_same, is_up};
 use omx_types::State::{self, Executing, Idle, Invalid, Loaded, Pause, WaitForResources};
 
 const STATES: [State; 6] = [Invalid, Loaded, Idle, Executing, Pause, WaitForResources];
@@ -32,5 +32,6 @@ fn sorts_states(rt: HostRuntime) {
     assert!(rt; is_down(WaitForResources) && !is_down(Idle));
     assert!(rt; is_up(Idle) && !is_up(Loaded));
     assert!(rt; is_running(Pause) && !is_running(Idle));
+    assert!(rt; is_executing(Executing) && !is_executing(Pause));
     assert!(rt; is_same(Pause, Pause) && !is_same(Pause, Executing));
 }

@@ -1,11 +1,11 @@
-use Rattle.std.proofs.Common.{◌≡◌, true, false, Some, refl, sym, ◌∙◌}
+use Rattle.std.proofs.Common.{◌≡◌, Bool, true, false, not, Some, refl, sym, ◌∙◌, ap}
 use Rattle.il_machine.specs.States.{is_invalid}
 use Rattle.il_machine.specs.World.{port_of}
 use Rattle.port_stock.specs.Kept.{stocked}
 use Rattle.il_component.specs.Entries.{component_of}
 use Rattle.port_rules.specs.Looking.{look_of_stock}
 use Rattle.port_rules.proofs.Walking.{port_kept}
-use Rattle.port_rules.proofs.Refusing.{use_at}
+use Rattle.port_rules.proofs.Refusing.{numberless, use_at}
 use Rattle.port_rules.proofs.buffers.use_fault.Goals as goal
 
 pub is_accepting-requires : goal.is_accepting-requires
@@ -27,16 +27,16 @@ returns-then-not-is_accepting g c =
     let iv : is_invalid k.state ≡ false = sym c.is_invalid.ensures ∙ c.if-is_invalid.false in
     sym (use_at (look_of_stock (stocked c.args.stock.now)) k (port_of k c.args.index) c.args.bytes c.in-Some.port false false _ iv here (sym c.is_bad_memory.ensures ∙ c.if-is_bad_memory.false) (sym c.is_accepting.ensures ∙ c.if-not-is_accepting.true) refl)
 
-pub returns-then-lacks_number : goal.returns-then-lacks_number
-returns-then-lacks_number g c =
+pub returns-then-not-numbers_left : goal.returns-then-not-numbers_left
+returns-then-not-numbers_left g c =
     let k = component_of c.args.component.now in
     let here : port_of k c.args.index ≡ Some c.in-Some.port = sym c.port.ensures ∙ c.in-Some.is in
     let iv : is_invalid k.state ≡ false = sym c.is_invalid.ensures ∙ c.if-is_invalid.false in
-    sym (use_at (look_of_stock (stocked c.args.stock.now)) k (port_of k c.args.index) c.args.bytes c.in-Some.port false true true iv here (sym c.is_bad_memory.ensures ∙ c.if-is_bad_memory.false) (sym c.is_accepting.ensures ∙ c.if-not-is_accepting.false) (sym c.lacks_number.ensures ∙ c.if-lacks_number.true))
+    sym (use_at (look_of_stock (stocked c.args.stock.now)) k (port_of k c.args.index) c.args.bytes c.in-Some.port false true true iv here (sym c.is_bad_memory.ensures ∙ c.if-is_bad_memory.false) (sym c.is_accepting.ensures ∙ c.if-not-is_accepting.false) (numberless (look_of_stock (stocked c.args.stock.now)) _ c.numbers_left.ensures.left ∙ ap (λ (b : Bool). not b) c.if-not-numbers_left.true))
 
-pub returns-else-lacks_number : goal.returns-else-lacks_number
-returns-else-lacks_number g c =
+pub returns-else-not-numbers_left : goal.returns-else-not-numbers_left
+returns-else-not-numbers_left g c =
     let k = component_of c.args.component.now in
     let here : port_of k c.args.index ≡ Some c.in-Some.port = sym c.port.ensures ∙ c.in-Some.is in
     let iv : is_invalid k.state ≡ false = sym c.is_invalid.ensures ∙ c.if-is_invalid.false in
-    sym (use_at (look_of_stock (stocked c.args.stock.now)) k (port_of k c.args.index) c.args.bytes c.in-Some.port false true false iv here (sym c.is_bad_memory.ensures ∙ c.if-is_bad_memory.false) (sym c.is_accepting.ensures ∙ c.if-not-is_accepting.false) (sym c.lacks_number.ensures ∙ c.if-lacks_number.false))
+    sym (use_at (look_of_stock (stocked c.args.stock.now)) k (port_of k c.args.index) c.args.bytes c.in-Some.port false true false iv here (sym c.is_bad_memory.ensures ∙ c.if-is_bad_memory.false) (sym c.is_accepting.ensures ∙ c.if-not-is_accepting.false) (numberless (look_of_stock (stocked c.args.stock.now)) _ c.numbers_left.ensures.left ∙ ap (λ (b : Bool). not b) c.if-not-numbers_left.false))

@@ -1,9 +1,13 @@
 use Rattle.std.proofs.Common.{sym, ◌∙◌}
 use Rattle.il_machine.specs.World.{ports_of}
+use Rattle.il_machine.proofs.Calm.{calm_due}
 use Rattle.il_component.specs.Entries.{component_of}
 use Rattle.port_stock.specs.Kept.{stocked}
 use Rattle.port_rules.proofs.Walking.{port_within, port_kept, due_found, due_passed}
 use Rattle.port_rules.proofs.due.due_in.Goals as goal
+
+pub returns-then-is_calm : goal.returns-then-is_calm
+returns-then-is_calm g c = sym (calm_due (stocked c.args.stock.now).headers (component_of c.args.component.now) (c.is_calm.ensures.0 c.if-is_calm.true))
 
 pub unreachable-requires : goal.unreachable-requires
 unreachable-requires g c =

@@ -8,13 +8,13 @@ use Rattle.port_rules.proofs.Walking.{port_kept}
 use Rattle.port_rules.proofs.Happenings.{of_some, of_match, to_match, index_within, flush_sound, flush_happens}
 use Rattle.port_rules.proofs.happening.end_flush.Goals as goal
 
-pub reset_port-requires-clause-port : goal.reset_port-requires-clause-port
-reset_port-requires-clause-port g c =
-    port_kept (component_of c.args.component.now) (stocked c.args.stock.now) c.args.index c.in-Some.port c.requires.settled.ports (sym c.port.ensures ∙ c.in-Some.is)
+pub reset_home-requires-clause-port : goal.reset_home-requires-clause-port
+reset_home-requires-clause-port g c =
+    port_kept (component_of c.args.component.now) (stocked c.args.stock.now) c.args.index c.in-Some.port c.requires.in_order.ports (sym c.port.ensures ∙ c.in-Some.is)
 
 pub end_flush-requires-clause-there : goal.end_flush-requires-clause-there
 end_flush-requires-clause-there g c =
-    index_within (component_of c.args.component.now) (stocked c.args.stock.now) c.args.index c.in-Some.port c.requires.settled (sym c.port.ensures ∙ c.in-Some.is)
+    index_within (component_of c.args.component.now) (stocked c.args.stock.now) c.args.index c.in-Some.port c.requires.in_order (sym c.port.ensures ∙ c.in-Some.is)
 
 pub end_flush-requires-clause-fits : goal.end_flush-requires-clause-fits
 end_flush-requires-clause-fits g c =
@@ -22,7 +22,7 @@ end_flush-requires-clause-fits g c =
     let p = c.in-Some.port in
     let e : port_of k c.args.index ≡ _ = sym c.port.ensures ∙ c.in-Some.is in
     let f = of_some (port_of k c.args.index) (λ p. p.state.flushing ≡ true) p e c.requires.due in
-    to_match (port_of k c.args.index) (λ p. used (flush_ended p k) ≤ 256) p e (flush_sound k c.args.index p c.requires.settled.sound e f).room
+    to_match (port_of k c.args.index) (λ p. used (flush_ended p k) ≤ 256) p e (flush_sound k c.args.index p c.requires.in_order.sound e f).room
 
 pub returns-clause-happened : goal.returns-clause-happened
 returns-clause-happened g c =
@@ -31,5 +31,5 @@ returns-clause-happened g c =
     let p = c.in-Some.port in
     let e : port_of k c.args.index ≡ _ = sym c.port.ensures ∙ c.in-Some.is in
     let f = of_some (port_of k c.args.index) (λ p. p.state.flushing ≡ true) p e c.requires.due in
-    flush_happens k d (stocked c.args.stock.now) (stocked c.reset_port.new.stock) c.args.index p c.requires.settled e f
-    (of_match (port_of k c.args.index) (λ p. d ≡ flush_ended p k) p e c.end_flush.ensures.component) c.reset_port.ensures
+    flush_happens k d (stocked c.args.stock.now) (stocked c.reset_home.new.stock) c.args.index p c.requires.in_order e f
+    (of_match (port_of k c.args.index) (λ p. d ≡ flush_ended p k) p e c.end_flush.ensures.component) c.reset_home.ensures

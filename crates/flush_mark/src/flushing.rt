@@ -1,19 +1,24 @@
-//! The headers at home in ports that supply their tunnels are reset.
+//! The end of a flush: whether it is due, and the reset of the headers at home.
 
-ghost use Rattle.std.specs.Prelude.{true, false};
-ghost use Rattle.il_machine.specs.World.{ports_of};
+ghost use Rattle.std.specs.Prelude.{◌≡◌, true, false};
 ghost use Rattle.il_machine.specs.Headers.{reset};
-ghost use Rattle.il_machine.specs.Due.{reset_port, reset_ports};
-ghost use Rattle.il_component.specs.Entries.{component_of};
+ghost use Rattle.il_machine.specs.Due.{reset_port};
 ghost use Rattle.port_stock.specs.Kept.{stocked};
 ghost use Rattle.port_stock.specs.Conditions.{IsPort};
-ghost use Rattle.port_rules.specs.Tests.{HasAllPorts};
-ghost use Rattle.port_rules.specs.Leading.{AreOwn, Leads};
+ghost use Rattle.flush_mark.specs.Flushing.{is_flushed};
+ghost use Rattle.flush_mark.specs.Leading.{AreOwn, Leads};
 
-use crate::terms::is_supplier;
-use il_component::Component;
 use il_machine::{Port, PortKey, Spot};
 use port_stock::Stock;
+use tunnel_rules::is_supplier;
+
+/// Whether the port has no header in its lists but those that are at home there.
+pub fn flush_settled(stock: &Stock, port: PortKey) -> bool
+    requires { IsPort port (stocked stock.now) }
+    ensures { result ≡ is_flushed (stocked stock.now).headers port }
+{
+    stock.foreign(port) == 0
+}
 
 /// The headers of `todo` go in order to the back of `done`, and all are cleared.
 fn todo_to_done(stock: &mut Stock, key: PortKey)
@@ -35,14 +40,15 @@ fn done_to_todo(stock: &mut Stock, key: PortKey)
     ensures { Leads (reset false key) (stocked stock.old) (stocked stock.new) }
 {
     stock.clear_todo(key);
-    while let Some(mut header) = stock.send_front(key) {
-        header.clear();
-        stock.push_work(key, header, Spot::TodoBack);
+    while let Some(mut sent) = stock.send_front(key) {
+        sent.clear();
+        stock.push_work(key, sent, Spot::TodoBack);
     }
 }
 
-/// The headers at home in the port are reset: only one that supplies its tunnel has any.
-pub fn reset_port(stock: &mut Stock, port: Port)
+/// Resets the headers in the lists of the port, where it supplies its tunnel. By the time that a flush ends or Idle is reached only
+/// those at home are there, which the call doesn't ask.
+pub fn reset_home(stock: &mut Stock, port: Port)
     requires port { IsPort port.key (stocked stock.old) }
     requires own { AreOwn (stocked stock.old) }
     ensures { Leads (reset_port port) (stocked stock.old) (stocked stock.new) }
@@ -54,19 +60,5 @@ pub fn reset_port(stock: &mut Stock, port: Port)
         todo_to_done(stock, port.key);
     } else {
         done_to_todo(stock, port.key);
-    }
-}
-
-/// The same of each port of the component.
-pub fn reset_ports<C>(stock: &mut Stock, component: &Component<C>)
-    requires ports { HasAllPorts (component_of component.now) (stocked stock.old) }
-    requires own { AreOwn (stocked stock.old) }
-    ensures { Leads (reset_ports (ports_of (component_of component.now))) (stocked stock.old) (stocked stock.new) }
-{
-    for index in 0..component.ports() {
-        let Some(port) = component.port(index) else {
-            unreachable!()
-        };
-        reset_port(stock, port);
     }
 }

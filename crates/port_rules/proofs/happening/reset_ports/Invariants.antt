@@ -3,8 +3,8 @@ use Rattle.il_machine.specs.Due.{reset_ports}
 use Rattle.il_machine.specs.World.{ports_of}
 use Rattle.il_component.specs.Entries.{component_of}
 use Rattle.port_stock.specs.Kept.{stocked}
-use Rattle.port_rules.proofs.ResetSteps.{Begun}
-use Rattle.port_rules.proofs.resetting.reset_ports.Given as goal
+use Rattle.flush_mark.proofs.ResetSteps.{Begun}
+use Rattle.port_rules.proofs.happening.reset_ports.Given as goal
 
 abbrev pub invariant-loop-index : goal.invariant-loop-index
 invariant-loop-index g l =

@@ -1,8 +1,7 @@
 -- The reset of a port's headers, one header after the other.
-use Rattle.std.proofs.Common.{◌≡◌, ℕ, ◌+◌, Bool, true, false, nat_eq, List, [], ◌∷◌, drop, slice_get, Option, Some, None, option_map, MatchOption, refl, sym, ◌∙◌, ap, subst, arith}
+use Rattle.std.proofs.Common.{◌≡◌, ℕ, Bool, true, false, nat_eq, List, [], ◌∷◌, drop, slice_get, Option, Some, None, option_map, MatchOption, refl, sym, ◌∙◌, ap, subst, arith}
 use Rattle.std.proofs.lemmas.Bool.Decides.{nat_tests}
 use Rattle.std.proofs.lemmas.Bool.{and_parts}
-use Rattle.il_machine.specs.declared.port.Port.{Port}
 use Rattle.il_machine.specs.declared.port.PortKey.{PortKey}
 use Rattle.il_machine.specs.declared.header.HeaderState.{HeaderState}
 use Rattle.il_machine.specs.declared.header.Spot.{Spot}
@@ -20,13 +19,11 @@ use Rattle.machine_laws.proofs.Keys.{key_is, key_same}
 use Rattle.header_core.specs.BufferHeader.{BufferHeader}
 use Rattle.header_core.specs.BufferHeader as headers
 use Rattle.port_stock.specs.Conditions.{IsOutside, IsHeaderOf}
-use Rattle.il_machine.specs.Due.{reset_port, reset_ports}
-use Rattle.port_rules.specs.Leading.{AreOwn, Leads}
-use Rattle.port_rules.proofs.Walking.{drop_at}
+use Rattle.flush_mark.specs.Leading.{AreOwn, Leads}
 
 -- ---- each header that a port has was made for that port, as headers leave lists and go to others
 
-at_number_is : (n m : ℕ) (x : Option HeaderState) (f : ℕ → Option HeaderState) (h : HeaderState) → at_number n x f m ≡ Some h → (P : Type 0) → (m ≡ n → x ≡ Some h → P) → (f m ≡ Some h → P) → P
+pub at_number_is : (n m : ℕ) (x : Option HeaderState) (f : ℕ → Option HeaderState) (h : HeaderState) → at_number n x f m ≡ Some h → (P : Type 0) → (m ≡ n → x ≡ Some h → P) → (f m ≡ Some h → P) → P
 at_number_is n m x f h e P a b = either (nat_eq m n)
     (λ t. let q : m ≡ n = grind (arith, nat_tests) in a q (rw t at e))
     (λ t. b (rw t at e))
@@ -79,6 +76,7 @@ pub record Stage (rest : List HeaderRecord → List HeaderRecord) (now : Stocked
 
 pub record Begun (change rest : List HeaderRecord → List HeaderRecord) (old now : Stocked) : Type 0 where
   pub stands : (headers : List HeaderRecord) → StandsFor old headers → Stage rest now (change headers)
+  pub key : now.key ≡ old.key
   pub ports : now.ports ≡ old.ports
   pub next : now.next ≡ old.next
   pub own : AreOwn now
@@ -86,16 +84,17 @@ pub record Begun (change rest : List HeaderRecord → List HeaderRecord) (old no
 pub finished : (change rest : List HeaderRecord → List HeaderRecord) (old now : Stocked) → ((hs : List HeaderRecord) → rest hs ≡ hs) → Begun change rest old now → Leads change old now
 finished change rest old now r B = record {
   stands = λ hs S. let x = B.stands hs S in subst (StandsFor now) (sym (r x.headers) ∙ x.ends) x.stands;
+  key = B.key;
   ports = B.ports;
   next = B.next;
   own = B.own;
 }
 
 pub not_begun : (change : List HeaderRecord → List HeaderRecord) (s : Stocked) → AreOwn s → Begun change change s s
-not_begun change s A = record { stands = λ hs S. record { headers = hs; stands = S; ends = refl }; ports = refl; next = refl; own = A }
+not_begun change s A = record { stands = λ hs S. record { headers = hs; stands = S; ends = refl }; key = refl; ports = refl; next = refl; own = A }
 
 pub unchanged : (s : Stocked) → AreOwn s → Leads (λ hs. hs) s s
-unchanged s A = record { stands = λ hs S. S; ports = refl; next = refl; own = A }
+unchanged s A = record { stands = λ hs S. S; key = refl; ports = refl; next = refl; own = A }
 
 -- ---- the front of a list
 
@@ -116,6 +115,7 @@ begun_todo s key A = record {
     stands = clear_done_stands s hs key S;
     ends = ap (λ (v : Seen). put_all key DoneBack (v.todo key) (cleared_all (v.done key) hs)) (sym S.looks);
   };
+  key = refl;
   ports = refl;
   next = refl;
   own = A;
@@ -139,6 +139,7 @@ todo_step change old s key n ns e f B = record {
         ends = ap (λ (xs : List ℕ). put_all key DoneBack xs (put key DoneBack n cleared x.headers)) (todo_left s key n ns e)
             ∙ (ap (λ (xs : List ℕ). put_all key DoneBack xs x.headers) (sym e) ∙ x.ends);
       };
+  key = ap (λ (t : Stocked). t.key) (pulled_is s key n ns e) ∙ B.key;
   ports = ap (λ (t : Stocked). t.ports) (pulled_is s key n ns e) ∙ B.ports;
   next = ap (λ (t : Stocked). t.next) (pulled_is s key n ns e) ∙ B.next;
   own = own_pushed (pulled key s) key DoneBack n no_load (own_pulled s key B.own) f;
@@ -153,6 +154,7 @@ begun_done s key A = record {
     stands = clear_todo_stands s hs key S;
     ends = ap (λ (v : Seen). put_all key TodoBack (v.done key) (cleared_all (v.todo key) hs)) (sym S.looks);
   };
+  key = refl;
   ports = refl;
   next = refl;
   own = A;
@@ -176,6 +178,7 @@ done_step change old s key n ns e f B = record {
         ends = ap (λ (xs : List ℕ). put_all key TodoBack xs (put key TodoBack n cleared x.headers)) (done_left s key n ns e)
             ∙ (ap (λ (xs : List ℕ). put_all key TodoBack xs x.headers) (sym e) ∙ x.ends);
       };
+  key = ap (λ (t : Stocked). t.key) (sent_is s key n ns e) ∙ B.key;
   ports = ap (λ (t : Stocked). t.ports) (sent_is s key n ns e) ∙ B.ports;
   next = ap (λ (t : Stocked). t.next) (sent_is s key n ns e) ∙ B.next;
   own = own_pushed (sent key s) key TodoBack n no_load (own_sent s key B.own) f;
@@ -201,21 +204,4 @@ outside_match None header x = x
 outside_match (Some h) header x = (x.0, record { size = (x.1).size; memory = (x.1).memory })
 
 pub outside_cleared : (s : Stocked) (header : BufferHeader) → IsOutside header s → IsOutside (headers.cleared header) s
-outside_cleared s header x = outside_match (s.headers.header header.held.number) header x
-
--- ---- one port after the other
-
-pub port_step : (change : List HeaderRecord → List HeaderRecord) (old s t : Stocked) (ps : List Port) (i : ℕ) (p : Port) → slice_get ps i ≡ Some p → Begun change (reset_ports (drop i ps)) old s → Leads (reset_port p) s t
-    → Begun change (reset_ports (drop (i + 1) ps)) old t
-port_step change old s t ps i p e B R = record {
-  stands = λ hs S.
-      let x = B.stands hs S in
-      record {
-        headers = reset_port p x.headers;
-        stands = R.stands x.headers x.stands;
-        ends = ap (λ (qs : List Port). reset_ports qs x.headers) (sym (drop_at ps i p e)) ∙ x.ends;
-      };
-  ports = R.ports ∙ B.ports;
-  next = R.next ∙ B.next;
-  own = R.own;
-}
+outside_cleared s header x = (x.0, outside_match (s.headers.header header.held.number) header x.1)

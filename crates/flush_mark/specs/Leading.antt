@@ -10,9 +10,10 @@ use Rattle.il_machine.specs.Stock.{Stocked, StandsFor}
 abbrev pub AreOwn : Stocked → Type 0
 AreOwn s = (key : PortKey) (number : ℕ) (h : HeaderState) → s.headers.header number ≡ Some h → is_owned_by key h.owner ≡ true → is_for key h ≡ true
 
--- The stock stands for what the change makes of each list that it stood for. Its ports and its next number stay.
+-- The stock stands for what the change makes of each list that it stood for. Its key, its ports and its next number stay.
 pub record Leads (change : List HeaderRecord → List HeaderRecord) (old new : Stocked) : Type 0 where
   pub stands : (headers : List HeaderRecord) → StandsFor old headers → StandsFor new (change headers)
+  pub key : new.key ≡ old.key
   pub ports : new.ports ≡ old.ports
   pub next : new.next ≡ old.next
   pub own : AreOwn new

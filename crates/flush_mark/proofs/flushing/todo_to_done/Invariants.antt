@@ -2,8 +2,8 @@ use Rattle.std.proofs.Common.{true, length}
 use Rattle.il_machine.specs.declared.header.Spot.TheVariants.{DoneBack}
 use Rattle.il_machine.specs.Headers.{put_all, reset}
 use Rattle.port_stock.specs.Kept.{stocked}
-use Rattle.port_rules.proofs.ResetSteps.{Begun}
-use Rattle.port_rules.proofs.resetting.todo_to_done.Given as goal
+use Rattle.flush_mark.proofs.ResetSteps.{Begun}
+use Rattle.flush_mark.proofs.flushing.todo_to_done.Given as goal
 
 abbrev pub invariant-loop-header : goal.invariant-loop-header
 invariant-loop-header l = Begun (reset true l.key) (put_all l.key DoneBack ((stocked l.stock).headers.todo l.key)) (stocked l.fn.stock) (stocked l.stock)

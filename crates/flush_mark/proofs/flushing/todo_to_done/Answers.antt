@@ -5,8 +5,8 @@ use Rattle.il_machine.specs.Buffers.{load_in}
 use Rattle.il_machine.specs.Stock.{Stocked, pushed, pulled}
 use Rattle.header_core.specs.BufferHeader.{BufferHeader}
 use Rattle.port_stock.specs.Kept.{stocked}
-use Rattle.port_rules.proofs.ResetSteps.{Begun, begun_todo, front_is, pulled_for, todo_step}
-use Rattle.port_rules.proofs.resetting.todo_to_done.Goals as goal
+use Rattle.flush_mark.proofs.ResetSteps.{Begun, begun_todo, front_is, pulled_for, todo_step}
+use Rattle.flush_mark.proofs.flushing.todo_to_done.Goals as goal
 
 pub loop-header-init : goal.loop-header-init
 loop-header-init c =

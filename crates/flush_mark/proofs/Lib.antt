@@ -1,0 +1,2 @@
+pub mod ResetSteps
+pub mod Tunnels
