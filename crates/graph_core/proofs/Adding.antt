@@ -126,7 +126,7 @@ module _ {C : Type 0} (progress : C → Progress) where
   kept_restocked : (es : List (Entry C)) (s t : StockKept) (units numbered : ℕ) → stocked t ≡ stocked s → kept progress (record { entries = es; stock = t; units = units; numbered = numbered }) ≡ kept progress (record { entries = es; stock = s; units = units; numbered = numbered })
   kept_restocked es s t units numbered q =
       ap (λ (x : Stocked). record {
-        looks = record { components = components_of es; headers = x.headers; units = units; numbered = numbered; made = x.next };
+        looks = record { key = x.key; components = components_of es; headers = x.headers; units = units; numbered = numbered; made = x.next };
         clients = map (progress_at progress) es;
         loads = x.loads;
         noticed = noticed_in es;
@@ -153,19 +153,20 @@ pub record IsNew {C : Type 0} (progress : C → Progress) (h : Handle) (kind : K
   pub told : option_map progress e.queues.client ≡ Some no_progress
 
 module _ {C : Type 0} (progress : C → Progress) (h : Handle) (kind : Kind) (e : Entry C) (N : IsNew progress h kind e) where
-  kept_added : (es : List (Entry C)) (s t : StockKept) (units numbered : ℕ) (stock : Stocked) → stocked t ≡ stock → stock.headers ≡ (stocked s).headers → stock.loads ≡ (stocked s).loads → stock.next ≡ (stocked s).next
+  kept_added : (es : List (Entry C)) (s t : StockKept) (units numbered : ℕ) (stock : Stocked) → stocked t ≡ stock → stock.key ≡ (stocked s).key → stock.headers ≡ (stocked s).headers → stock.loads ≡ (stocked s).loads → stock.next ≡ (stocked s).next
       → kept progress (record { entries = es ++ e ∷ []; stock = t; units = units; numbered = numbered + 1 })
       ≡ with_component_made (fresh h kind) (kept progress (record { entries = es; stock = s; units = units; numbered = numbered }))
-  kept_added es s t units numbered stock q hs ls ns =
+  kept_added es s t units numbered stock q ks hs ls ns =
       let cs : components_of (es ++ e ∷ []) ≡ components_of es ++ fresh h kind ∷ [] = map-append component_of es (e ∷ []) ∙ ap (λ (x : Component). components_of es ++ x ∷ []) N.component in
       let cl : map (progress_at progress) (es ++ e ∷ []) ≡ map (progress_at progress) es ++ Some no_progress ∷ [] = map-append (progress_at progress) es (e ∷ []) ∙ ap (λ (x : Option Progress). map (progress_at progress) es ++ x ∷ []) N.told in
       let hd : held_by e ≡ [] = no_notes_held e.queues.notes (ap (λ (x : Component). x.notes) N.component) in
       let nt : noticed_in (es ++ e ∷ []) ≡ noticed_in es = held_added held_by es e hd in
+      let K : (stocked t).key ≡ (stocked s).key = ap (λ (x : Stocked). x.key) q ∙ ks in
       let H : (stocked t).headers ≡ (stocked s).headers = ap (λ (x : Stocked). x.headers) q ∙ hs in
       let L : (stocked t).loads ≡ (stocked s).loads = ap (λ (x : Stocked). x.loads) q ∙ ls in
       let M : (stocked t).next ≡ (stocked s).next = ap (λ (x : Stocked). x.next) q ∙ ns in
       λ j. record {
-        looks = record { components = cs j; headers = H j; units = units; numbered = numbered + 1; made = M j };
+        looks = record { key = K j; components = cs j; headers = H j; units = units; numbered = numbered + 1; made = M j };
         clients = cl j;
         loads = L j;
         noticed = nt j;
@@ -175,7 +176,7 @@ module _ {C : Type 0} (progress : C → Progress) (h : Handle) (kind : Kind) (e 
       → Steps (kept progress (record { entries = es; stock = s; units = units; numbered = numbered })) (kept progress (record { entries = es ++ e ∷ []; stock = t; units = units; numbered = numbered + 1 })) (λ w v. v ≡ with_new_component h kind w)
   steps_added es s t units numbered count q n =
       let k = kept progress (record { entries = es; stock = s; units = units; numbered = numbered }) in
-      subst (λ (x : Kept). Steps k x (λ w v. v ≡ with_new_component h kind w)) (sym (kept_added es s t units numbered (added numbered count (stocked s)) q refl refl refl))
+      subst (λ (x : Kept). Steps k x (λ w v. v ≡ with_new_component h kind w)) (sym (kept_added es s t units numbered (added numbered count (stocked s)) q refl refl refl refl))
       (lift_made k (fresh h kind) n (length-map es (progress_at progress) ∙ sym (length-map es component_of)))
 
   pub worlds_added : (es : List (Entry C)) (s t : StockKept) (units numbered count : ℕ) → IsSized kind → stocked t ≡ added numbered count (stocked s) → h.generation ≡ numbered

@@ -65,4 +65,4 @@ still_own None h x = x
 still_own (Some s) h x = (x.0, record { size = x.1.size; memory = x.1.memory })
 
 pub cleared_handed : (h : BufferHeader) (l : Look) → IsHandedIn h l → IsHandedIn (emptied_header h) l
-cleared_handed h l x = still_own (l.headers.header h.held.number) h x
+cleared_handed h l x = (x.0, still_own (l.headers.header h.held.number) h x.1)

@@ -61,7 +61,7 @@ needs_port (Some h) c Own x y = absurd cc
 -- a header is unmade of a port that is there
 pub port_needed : {C : Type 0} (progress : C → Progress) (g : Entries C) (i : ℕ) (e : Entry C) → SoundWorld (kept progress g) → slice_get g.entries i ≡ Some e → (header : BufferHeader) → IsHandedIn header (look_of g)
     → MatchOption ((look_of g).headers.header header.held.number) ⊥ (λ h. free_buffer_refusal (component_of e) None h ≡ None) → ⊥
-port_needed progress g i e W at header handed x = needs_port ((look_of g).headers.header header.held.number) (component_of e) (λ h. (h.owner ≡ owners.Client) × IsHeaderOf h header) handed x
+port_needed progress g i e W at header handed x = needs_port ((look_of g).headers.header header.held.number) (component_of e) (λ h. (h.owner ≡ owners.Client) × IsHeaderOf h header) handed.1 x
 
 module _ {C : Type 0} (progress : C → Progress) (g : Entries C) (i : ℕ) (e : Entry C) (index : ℕ) (p : Port) (W : SoundWorld (kept progress g)) (at : slice_get g.entries i ≡ Some e) (port : port_of (component_of e) index ≡ Some p) where
   abbrev c : Component
@@ -114,7 +114,7 @@ module _ {C : Type 0} (progress : C → Progress) (g : Entries C) (i : ℕ) (e :
       steps_made = stock_steps progress g after_stock (populated made s) (λ w v. v ≡ with_header (client_header w.made p (is_clients store)) w) now
           (λ w S.
           let free : IsFree s.next s = rw new tt in
-          let x = lift_one (kept progress g) s (populated made s) s.next (λ hs. hs ++ record_made ∷ []) (stock_of progress g) free
+          let x = lift_one (kept progress g) s (populated made s) s.next (λ hs. hs ++ record_made ∷ []) (stock_of progress g) refl free
           (λ hs T. populate_stands s hs made no_load T new refl refl)
           (λ hs T. λ m d. push_else m hs record_made (λ q. d (sym q))) w S in
           let m : w.made ≡ s.next = made_of progress g w S in
@@ -137,7 +137,7 @@ module _ {C : Type 0} (progress : C → Progress) (g : Entries C) (i : ℕ) (e :
     Own h = (h.owner ≡ owners.Client) × IsHeaderOf h header
 
     abbrev is_there : (h : HeaderState) × (s.headers.header n ≡ Some h) × Own h
-    is_there = there_is (s.headers.header n) Own handed
+    is_there = there_is (s.headers.header n) Own handed.1
 
     abbrev pub state : HeaderState
     state = is_there.0
@@ -159,7 +159,7 @@ module _ {C : Type 0} (progress : C → Progress) (g : Entries C) (i : ℕ) (e :
         (owned_by state owners.Client with_client z).0
 
     pub outside : IsOutside header s
-    outside = rw shown (place_out, is_there.2.1)
+    outside = (handed.0, rw shown (place_out, is_there.2.1))
 
     free : IsFree n s
     free = let z : is_notice state.owner ≡ false = rw with_client refl in rw shown z
@@ -187,7 +187,7 @@ module _ {C : Type 0} (progress : C → Progress) (g : Entries C) (i : ℕ) (e :
       steps_in : Steps (kept progress g) (kept progress (with_stocked progress after_stock g)) (λ w v. v ≡ with_todo p.key n (loaded (load_in header.held)) w)
       steps_in = stock_steps progress g after_stock (pushed p.key TodoBack n (load_in header.held) s) (λ w v. v ≡ with_todo p.key n (loaded (load_in header.held)) w) now
           (λ w S.
-          let x = lift_one (kept progress g) s (pushed p.key TodoBack n (load_in header.held) s) n (put p.key TodoBack n (loaded (load_in header.held))) (stock_of progress g) free
+          let x = lift_one (kept progress g) s (pushed p.key TodoBack n (load_in header.held) s) n (put p.key TodoBack n (loaded (load_in header.held))) (stock_of progress g) refl free
           (λ hs T. push_stands s hs p.key TodoBack n (load_in header.held) state T shown place_out)
           (λ hs T. let F = found s hs n state T shown in (replaced_put p.key TodoBack (loaded (load_in header.held)) (λ r. refl) n hs F.it T.once F.is).others) w S in
           (x.0, x.1, x.2 ∙ made_is progress w (put p.key TodoBack n (loaded (load_in header.held)) w.headers) s.next (made_of progress g w S)))
@@ -216,7 +216,7 @@ module _ {C : Type 0} (progress : C → Progress) (g : Entries C) (i : ℕ) (e :
       steps_freed = λ w S.
           let x = steps_changed progress g i e d at keeps same_number w S in
           let f = stock_steps progress (changed_at i d g) after_stock (withdrawn n s) (λ w v. v ≡ with_headers (without n w.headers) s.next w) now
-          (lift_one (kept progress (changed_at i d g)) s (withdrawn n s) n (without n) (stock_of progress (changed_at i d g)) free
+          (lift_one (kept progress (changed_at i d g)) s (withdrawn n s) n (without n) (stock_of progress (changed_at i d g)) refl free
           (λ hs T. withdraw_stands s hs n state T shown place_out)
           (λ hs T. λ m q. without_else n m hs q)) in
           let y = f x.0 x.1 in

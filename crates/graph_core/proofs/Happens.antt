@@ -1,5 +1,5 @@
 -- The first due thing of a graph happens.
-use Rattle.std.proofs.Common.{◌≡◌, inl, inr, ℕ, zero, suc, ◌+◌, ◌<◌, Bool, true, false, is_some, is_none, List, [], ◌∷◌, length, set, map, position, slice_get, Option, Some, None, All, option_map, refl, sym, ◌∙◌, ap, subst, arith}
+use Rattle.std.proofs.Common.{◌≡◌, inl, inr, ℕ, zero, suc, ◌+◌, ◌<◌, Bool, true, false, is_none, List, [], ◌∷◌, length, set, map, position, slice_get, Option, Some, None, All, option_map, refl, sym, ◌∙◌, ap, subst, arith}
 use Rattle.std.proofs.lemmas.Bool.Decides.{eqb_tells}
 use Rattle.il_machine.specs.declared.answer.Progress.{Progress}
 use Rattle.omx_types.specs.declared.handle.Handle.{Handle}
@@ -7,8 +7,8 @@ use Rattle.il_machine.specs.declared.port.PortKey.{PortKey}
 use Rattle.il_machine.specs.declared.header.Owner.TheVariants as owners
 use Rattle.il_machine.specs.declared.header.HeaderState.{HeaderState}
 use Rattle.il_machine.specs.Places.{first_place}
-use Rattle.il_machine.proofs.Places.{is_first_place, passes_at}
-use Rattle.il_machine.specs.World.{Component, HeaderRecord, World, number_of, with_component}
+use Rattle.il_machine.proofs.Places.{is_first_place}
+use Rattle.il_machine.specs.World.{HeaderRecord, World, number_of, with_component}
 use Rattle.il_machine.specs.Look.{Look}
 use Rattle.il_machine.specs.Headers.{Seen, find_header, is_for, is_owned_by, state_of}
 use Rattle.il_machine.specs.Stock.{Stocked}
@@ -31,9 +31,9 @@ use Rattle.port_stock.specs.Kept.{Kept as StockKept, stocked}
 use Rattle.port_stock.specs.Conditions.{has_key}
 use Rattle.graph_core.specs.Entries.{Entries, components_of, look_of, kept}
 use Rattle.graph_core.specs.Standing.{SoundWorld, HasPorts, IsGraph}
-use Rattle.port_rules.specs.Leading.{AreOwn}
+use Rattle.flush_mark.specs.Leading.{AreOwn}
 use Rattle.port_rules.specs.Tests.{HasAllPorts}
-use Rattle.port_rules.specs.Happened.{Happened, IsSettled}
+use Rattle.port_rules.specs.Happened.{Happened, IsInOrder}
 use Rattle.graph_core.proofs.Replacing.{there, component_sound, kept_changed, graph_changed, next_world}
 
 -- ---- the first that passes a test
@@ -81,10 +81,6 @@ module _ {C : Type 0} (headers : Seen) (es : List (Entry C)) where
     | inr q ↦ f k x (let n = q.1 in omega arith) s
   ]
 
-due_there : (o : Option Thing) → is_some o ≡ true → (t : Thing) × (o ≡ Some t)
-due_there None h = absurd cc
-due_there (Some t) h = (t, refl)
-
 -- ---- what is true of a graph's components
 
 header_found : (o : Option HeaderRecord) (h : HeaderState) → option_map state_of o ≡ Some h → (r : HeaderRecord) × (o ≡ Some r) × (r.state ≡ h)
@@ -125,9 +121,9 @@ module _ {C : Type 0} (progress : C → Progress) where
       let t = stocked st in
       let f : World → List HeaderRecord = λ w. H.change w.headers in
       let I : IsStock s k = record { headers = refl; made = refl; loads = refl } in
-      let A : Steps k (with_stock t k) (λ w v. v ≡ with_headers (f w) t.next w) = lift_stock k t f
+      let A : Steps k (with_stock t k) (λ w v. v ≡ with_headers (f w) t.next w) = lift_stock k t f H.stock.key
       (λ w S. H.stock.stands w.headers (stands_for s k w I S))
-      (λ w S. λ j h b. let x = there_is (find_header _ w.headers) _ (S.noticed j h b) in H.notices w.headers _ x.0 S.once x.1 x.2.1) in
+      (λ w S. λ j h b. let x = there_is (find_header _ w.headers) _ (S.noticed j h b).1 in H.notices w.headers _ x.0 S.once x.1 x.2.1) in
       let B : Steps (with_stock t k) (with_look i (component_of d) (with_stock t k)) (λ w v. v ≡ with_component i (component_of d) w) = lift_component (with_stock t k) i (component_of e) (component_of d) (there progress g i e at)
       (ap (λ (h : Handle). h.generation) H.component.handle) (ap (λ (x : Option C). is_none x) N.client) in
       let D = follow k (with_stock t k) (with_look i (component_of d) (with_stock t k)) (λ w v. v ≡ with_headers (f w) t.next w) (λ w v. v ≡ with_component i (component_of d) w) A B in
@@ -179,16 +175,8 @@ module _ {C : Type 0} (progress : C → Progress) where
       let b : x.0.components ≡ components_of h.entries = ap (λ (l : Look). l.components) x.1.looks in
       rw (← a, ← b) l
 
-  -- what is due at the first place that has something due
-  pub due_first : (g : Entries C) (i : ℕ) (e : Entry C) → first_due (look_of g) ≡ Some i → slice_get g.entries i ≡ Some e → (t : Thing) × (due_in (stocked g.stock).headers (component_of e) ≡ Some t)
-  due_first g i e first at =
-      let x = passes_at (has_due (look_of g).headers) (look_of g).components i (sym (is_first_place (has_due (look_of g).headers) (look_of g).components) ∙ first) in
-      let m : Some x.0 ≡ Some (component_of e) = sym x.1 ∙ there progress g i e at in
-      let q : x.0 ≡ component_of e = cc in
-      due_there (due_in (stocked g.stock).headers (component_of e)) (subst (λ (c : Component). has_due (look_of g).headers c ≡ true) q x.2)
-
-  pub settled_there : (es : List (Entry C)) (registry : Handles ℕ) (stock : StockKept) (units capacity i : ℕ) (e : Entry C) → IsGraph progress es registry stock units capacity → slice_get es i ≡ Some e → IsSettled (component_of e) (stocked stock)
-  settled_there es registry stock units capacity i e G at =
+  pub in_order_there : (es : List (Entry C)) (registry : Handles ℕ) (stock : StockKept) (units capacity i : ℕ) (e : Entry C) → IsGraph progress es registry stock units capacity → slice_get es i ≡ Some e → IsInOrder (component_of e) (stocked stock)
+  in_order_there es registry stock units capacity i e G at =
       let g : Entries C = record { entries = es; stock = stock; units = units; numbered = registry.given } in
       record {
         sound = component_sound progress g i (component_of e) G.worlds (there progress g i e at);

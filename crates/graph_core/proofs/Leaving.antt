@@ -102,7 +102,7 @@ module _ {C : Type 0} (progress : C → Progress) (g : Entries C) (i : ℕ) (e :
       let cs : components_of (remove g.entries i) ≡ remove (components_of g.entries) i = map_remove component_of g.entries i in
       let cl : map (progress_at progress) (remove g.entries i) ≡ remove (map (progress_at progress) g.entries) i = map_remove (progress_at progress) g.entries i in
       λ j. record {
-        looks = record { components = cs j; headers = (q j).headers; units = g.units; numbered = g.numbered; made = (q j).next };
+        looks = record { key = (q j).key; components = cs j; headers = (q j).headers; units = g.units; numbered = g.numbered; made = (q j).next };
         clients = cl j;
         loads = (q j).loads;
         noticed = noticed_in (remove g.entries i);

@@ -1,5 +1,5 @@
 -- Headers move from one end of a tunnel to the other: what the stock stands for then.
-use Rattle.std.proofs.Common.{◌≡◌, ℕ, Bool, true, List, [], ◌∷◌, drop, slice_get, Some, None, refl, sym, ◌∙◌, ap, subst}
+use Rattle.std.proofs.Common.{◌≡◌, ℕ, Bool, true, false, not, List, [], ◌∷◌, drop, slice_get, Some, None, refl, sym, ◌∙◌, ap, subst}
 use Rattle.std.proofs.lemmas.Bool.{and_parts}
 use Rattle.il_machine.specs.declared.port.PortKey.{PortKey}
 use Rattle.il_machine.specs.declared.header.Spot.{Spot}
@@ -16,8 +16,9 @@ use Rattle.stock_laws.proofs.Composed.{pull_put_cleared, send_put_back}
 use Rattle.header_core.specs.BufferHeader.{BufferHeader}
 use Rattle.port_stock.specs.Conditions.{IsFrom}
 use Rattle.graph_core.specs.Moving.{AreShared, Moves}
+use Rattle.graph_core.specs.Supplying.{supplied_spot}
 use Rattle.port_rules.proofs.Noticed.{IsNoted, another}
-use Rattle.port_rules.proofs.ResetSteps.{front_is, no_front, made_out, pulled_is, sent_is}
+use Rattle.flush_mark.proofs.ResetSteps.{front_is, no_front, made_out, pulled_is, sent_is}
 
 -- ---- the change is one of headers alone, and leaves those in notices as they are
 
@@ -46,6 +47,7 @@ returned_keeps key supplier input (n ∷ ns) todo w m o A B N = put_keeps key su
 pub stays : (change : World → World) (s t : Stocked) → t ≡ s → ((w : World) → StandsFor s w.headers → change w ≡ w) → Moves change s t
 stays change s t q same = subst (λ (x : Stocked). Moves change s x) (sym q) (record {
   stands = λ w S. subst (λ (v : World). StandsFor s v.headers) (sym (same w S)) S;
+  key = refl;
   ports = refl;
   next = refl;
 })
@@ -86,6 +88,7 @@ module _ (s : Stocked) (key peer : PortKey) (B : AreShared key peer s) (header :
   sent_as : (F : List ℕ → World → World) → ((w : World) → F (n ∷ rest) w ≡ record w { headers = put peer TodoBack n unchanged w.headers }) → (t : Stocked) → t ≡ after_sent → Moves (λ w. F ((seen w.headers).done key) w) s t
   sent_as F f t q = subst (λ (x : Stocked). Moves (λ w. F ((seen w.headers).done key) w) s x) (sym q) (record {
     stands = λ w S. subst (λ (v : World). StandsFor after_sent v.headers) (sym (ap (λ (ns : List ℕ). F ns w) (world_done w S) ∙ f w)) (stands_sent w S);
+    key = ap (λ (x : Stocked). x.key) (sent_is s key n rest done_is);
     ports = ap (λ (x : Stocked). x.ports) (sent_is s key n rest done_is);
     next = ap (λ (x : Stocked). x.next) (sent_is s key n rest done_is);
   })
@@ -97,6 +100,11 @@ module _ (s : Stocked) (key peer : PortKey) (B : AreShared key peer s) (header :
   sent_back input t q = sent_as (λ ns w. returned peer input ns ((seen w.headers).todo key) w) (λ w. refl) t q
 
 -- ---- where done is empty the front of todo goes to the supplier, cleared
+
+-- the supplier is the port's other end
+pub unused_is_supplied : (input : Bool) → supplied_spot (not input) ≡ unused_spot input
+unused_is_supplied true = refl
+unused_is_supplied false = refl
 
 module _ (s : Stocked) (key supplier : PortKey) (input : Bool) (none : s.headers.done key ≡ []) where
   abbrev back : World → World
@@ -127,6 +135,9 @@ module _ (s : Stocked) (key supplier : PortKey) (input : Bool) (none : s.headers
     abbrev after_pull : Stocked
     after_pull = pushed supplier (unused_spot input) m no_load (pulled key s)
 
+    pushed_key : (spot : Spot) → (pushed supplier spot m no_load (pulled key s)).key ≡ s.key
+    pushed_key spot = ap (λ (x : Stocked). x.key) (pulled_is s key m left todo_is)
+
     pushed_ports : (spot : Spot) → (pushed supplier spot m no_load (pulled key s)).ports ≡ s.ports
     pushed_ports spot = ap (λ (x : Stocked). x.ports) (pulled_is s key m left todo_is)
 
@@ -139,6 +150,7 @@ module _ (s : Stocked) (key supplier : PortKey) (input : Bool) (none : s.headers
           let e : (seen w.headers).todo key ≡ m ∷ left = ap (λ (x : Seen). x.todo key) S.looks ∙ todo_is in
           subst (λ (v : World). StandsFor after_pull v.headers) (sym (unsent w S ∙ ap (λ (ns : List ℕ). front_put supplier (unused_spot input) cleared ns w) e))
           (pull_put_cleared s w.headers key supplier (unused_spot input) m left S todo_is);
+      key = pushed_key (unused_spot input);
       ports = pushed_ports (unused_spot input);
       next = pushed_next (unused_spot input);
     })

@@ -37,9 +37,9 @@ module _ {C : Type 0} (progress : C → Progress) (g : Entries C) (after : Stock
     (keeps : (w : World) (m : ℕ) → Once w.headers → IsNoted w.headers m → find_header m (change w).headers ≡ find_header m w.headers) where
   pub moved_steps : Steps (kept progress g) (kept progress (with_stocked progress after g)) (λ w v. v ≡ change w)
   moved_steps = λ w S.
-      let x = lift_stock (kept progress g) (stocked after) (λ w. (change w).headers)
+      let x = lift_stock (kept progress g) (stocked after) (λ w. (change w).headers) M.key
       (λ w S. M.stands w (stands_for (stocked g.stock) (kept progress g) w (stock_of progress g) S))
-      (λ w S. λ j h b. let r = there_is (find_header _ w.headers) _ (S.noticed j h b) in keeps w _ S.once (record { header = r.0; found = r.1; notice = r.2.1 })) w S in
+      (λ w S. λ j h b. let r = there_is (find_header _ w.headers) _ (S.noticed j h b).1 in keeps w _ S.once (record { header = r.0; found = r.1; notice = r.2.1 })) w S in
       (x.0, x.1, x.2 ∙ (ap (λ (n : ℕ). with_headers (change w).headers n w) M.next ∙ (same_made progress g w (change w).headers S ∙ sym (alone w))))
 
   pub moved_worlds : SoundWorld (kept progress g) → ((w : World) → Stands (kept progress g) w → Sound w → Sound (change w)) → SoundWorld (kept progress (with_stocked progress after g))

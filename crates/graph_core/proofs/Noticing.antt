@@ -14,6 +14,7 @@ use Rattle.il_machine.specs.declared.header.Place.TheVariants.{Out}
 use Rattle.il_machine.specs.Kinds.{ports_in}
 use Rattle.il_machine.specs.World.{Component, HeaderRecord, World, number_of, port_of, with_component}
 use Rattle.il_machine.specs.World as machine
+use Rattle.il_machine.specs.Look.{Look}
 use Rattle.il_machine.specs.Headers.{Seen, seen, find_header, changed, cleared, given_to, is_notice}
 use Rattle.il_machine.specs.Buffers.{held}
 use Rattle.il_machine.specs.Flow.{done_note, noticed, handed_back}
@@ -72,6 +73,10 @@ pub pulled_ports : (key : PortKey) (ns : List ℕ) (s : Stocked) → (pulled_fro
 pulled_ports key [] s = refl
 pulled_ports key (n ∷ ns) s = refl
 
+pulled_key : (key : PortKey) (ns : List ℕ) (s : Stocked) → (pulled_front key ns s).key ≡ s.key
+pulled_key key [] s = refl
+pulled_key key (n ∷ ns) s = refl
+
 pulled_next : (key : PortKey) (ns : List ℕ) (s : Stocked) → (pulled_front key ns s).next ≡ s.next
 pulled_next key [] s = refl
 pulled_next key (n ∷ ns) s = refl
@@ -81,7 +86,7 @@ outside_out None header x = x
 outside_out (Some h) header x = x.0
 
 pub out_of : (s : Stocked) (header : BufferHeader) → IsOutside header s → IsOut header.held.number s
-out_of s header x = outside_out (s.headers.header header.held.number) header x
+out_of s header x = outside_out (s.headers.header header.held.number) header x.1
 
 outside_size : (o : Option HeaderState) (s : HeaderState) (header : BufferHeader) → o ≡ Some s → MatchOption o ⊥ (λ h. (h.place ≡ Out) × IsHeaderOf h header) → header.held.size ≡ s.size
 outside_size None s header e x = absurd x
@@ -164,8 +169,11 @@ module _ {C : Type 0} (progress : C → Progress) (g : Entries C) (i : ℕ) (e :
     next_is : after_pull.next ≡ s.next
     next_is = pulled_next p.key (s.headers.todo p.key) s
 
+    key_is : after_pull.key ≡ s.key
+    key_is = pulled_key p.key (s.headers.todo p.key) s
+
     steps_stock : Steps (kept progress g) (with_stock after_pull (kept progress g)) (λ w v. v ≡ with_headers (changed n moved w.headers) after_pull.next w)
-    steps_stock = lift_one (kept progress g) s after_pull n (changed n moved) (stock_of progress g) free
+    steps_stock = lift_one (kept progress g) s after_pull n (changed n moved) (stock_of progress g) key_is free
         (λ hs S. pull_give s hs p.key owner n rest S todo_is)
         (λ hs S. λ m d. changed_else moved (λ r. refl) n m hs d)
 
@@ -196,24 +204,25 @@ module _ {C : Type 0} (progress : C → Progress) (g : Entries C) (i : ℕ) (e :
         let cl : map (progress_at progress) (set g.entries i with_note) ≡ map (progress_at progress) g.entries =
         map_set (progress_at progress) g.entries i with_note ∙ set_same (map (progress_at progress) g.entries) i (progress_at progress e) (slice_get-map (progress_at progress) g.entries i ∙ ap (option_map (progress_at progress)) at) in
         λ j. record {
-          looks = record (look_of g) { components = cs j; headers = (now j).headers; made = (now j).next };
+          looks = record (look_of g) { key = (now j).key; components = cs j; headers = (now j).headers; made = (now j).next };
           clients = cl j;
           loads = (now j).loads;
           noticed = noticed_in (set g.entries i with_note);
         }
 
     -- the header of the note is the world's
-    header_noticed : (w v : World) → Stands (kept progress g) w → v.headers ≡ changed n moved w.headers → IsNoticed v (noticed_of (emptied_header header))
-    header_noticed w v S q =
+    header_noticed : (w v : World) → Stands (kept progress g) w → v.key ≡ w.key → v.headers ≡ changed n moved w.headers → IsNoticed v (noticed_of (emptied_header header))
+    header_noticed w v S own q =
         let T = pull_taken s w.headers p.key n rest (stands_for s (kept progress g) w (stock_of progress g) S) todo_is in
         let r = T.found.it in
         let f : find_header n v.headers ≡ Some (moved r) = ap (find_header n) q ∙ changed_same moved (λ r. refl) n w.headers r T.found.is in
         let m : r.state.number ≡ n = found_number n w.headers r T.found.is in
-        let z : r.state.size ≡ header.held.size = ap (λ (x : HeaderState). x.size) T.found.state ∙ sym (outside_size ((pulled p.key s).headers.header n) (state_out T.state) header T.shown outside) in
+        let z : r.state.size ≡ header.held.size = ap (λ (x : HeaderState). x.size) T.found.state ∙ sym (outside_size ((pulled p.key s).headers.header n) (state_out T.state) header T.shown outside.1) in
         let h : held (moved r) ≡ empty_held n header.held.size = λ j. record { number = m j; size = z j; content = []; flags = 0; mark = None } in
         let o : r.state.client_memory ≡ is_clients header.store =
-        ap (λ (x : HeaderState). x.client_memory) T.found.state ∙ sym (outside_memory ((pulled p.key s).headers.header n) (state_out T.state) header T.shown outside) in
-        rw f (h, refl, o)
+        ap (λ (x : HeaderState). x.client_memory) T.found.state ∙ sym (outside_memory ((pulled p.key s).headers.header n) (state_out T.state) header T.shown outside.1) in
+        let k : header.key ≡ v.key = outside.0 ∙ (pulled_key p.key (s.headers.todo p.key) s ∙ sym (own ∙ ap (λ (l : Look). l.key) S.looks)) in
+        (k, rw f (h, refl, o))
 
     steps_noted : (after_stock : StockKept) → stocked after_stock ≡ after_pull → Steps (kept progress g) (kept progress (after after_stock)) (λ w v. v ≡ noticed i c p (n ∷ rest) w)
     steps_noted after_stock now = λ w S.
@@ -221,7 +230,7 @@ module _ {C : Type 0} (progress : C → Progress) (g : Entries C) (i : ℕ) (e :
         let y = lift_component (with_stock after_pull (kept progress g)) i c (machine.noted note c) (there progress g i e at) refl refl x.0 x.1 in
         let is : y.0 ≡ noticed i c p (n ∷ rest) w =
         y.2 ∙ ap (with_component i (machine.noted note c)) (x.2 ∙ (ap (λ (k : ℕ). with_headers (changed n moved w.headers) k w) next_is ∙ made_is progress w (changed n moved w.headers) s.next (made_of progress g w S))) in
-        let own : IsNoticed y.0 (noticed_of (emptied_header header)) = header_noticed w y.0 S (ap (λ (u : World). u.headers) is) in
+        let own : IsNoticed y.0 (noticed_of (emptied_header header)) = header_noticed w y.0 S (ap (λ (u : World). u.key) is) (ap (λ (u : World). u.headers) is) in
         let more : All (IsNoticed y.0) (held_by e) → All (IsNoticed y.0) (held_by with_note) = λ A.
         let q : held_by with_note ≡ held_in e.queues.notes ++ noticed_of (emptied_header header) ∷ [] = held_append e.queues.notes (queued ∷ []) ∙ ap (λ (hs : List Noticed). held_in e.queues.notes ++ hs) (held_is p.setting.definition.input (emptied_header header)) in
         subst (λ (hs : List Noticed). All (IsNoticed y.0) hs) (sym q) (All-push (IsNoticed y.0) (held_in e.queues.notes) (noticed_of (emptied_header header)) A own) in

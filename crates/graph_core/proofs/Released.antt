@@ -50,6 +50,11 @@ left_next key [] [] s e = rw e refl
 left_next key [] (d ∷ ds) s e = rw e refl
 left_next key (t ∷ ts) ds s e = elim (s.headers.todo key) as (λ ns. s.headers.todo key ≡ ns → (left_from key (t ∷ ts) s).next ≡ s.next) [ [] ↦ λ q. rw q refl | m ∷ ms ↦ λ q. rw q refl ] refl
 
+left_key : (key : PortKey) (ts ds : List ℕ) (s : Stocked) → s.headers.done key ≡ ds → (left_from key ts s).key ≡ s.key
+left_key key [] [] s e = rw e refl
+left_key key [] (d ∷ ds) s e = rw e refl
+left_key key (t ∷ ts) ds s e = elim (s.headers.todo key) as (λ ns. s.headers.todo key ≡ ns → (left_from key (t ∷ ts) s).key ≡ s.key) [ [] ↦ λ q. rw q refl | m ∷ ms ↦ λ q. rw q refl ] refl
+
 pub front_left_ports : (key : PortKey) (s : Stocked) → (front_left key s).ports ≡ s.ports
 front_left_ports key s = left_ports key (s.headers.todo key) (s.headers.done key) s refl
 
@@ -87,7 +92,7 @@ module _ {C : Type 0} (progress : C → Progress) (g : Entries C) (i : ℕ) (e :
     released_steps : Steps (kept progress g) (kept progress (with_stocked progress after_stock g)) Change
     released_steps = stock_steps progress g after_stock (withdrawn n (front_left p.key s)) Change now
         (λ w S.
-        let x = lift_one (kept progress g) s (withdrawn n (front_left p.key s)) n (without n) (stock_of progress g) free
+        let x = lift_one (kept progress g) s (withdrawn n (front_left p.key s)) n (without n) (stock_of progress g) (left_key p.key (s.headers.todo p.key) (s.headers.done p.key) s refl) free
         (λ hs T. unmade_stands s hs p.key n (s.headers.todo p.key) T refl front)
         (λ hs T. λ m q. without_else n m hs q) w S in
         let k : (withdrawn n (front_left p.key s)).next ≡ s.next = left_next p.key (s.headers.todo p.key) (s.headers.done p.key) s refl in

@@ -160,7 +160,7 @@ module _ {C : Type 0} (progress : C → Progress) (g : Entries C) (i : ℕ) (e :
     supplied_steps = stock_steps progress g after_stock (with_supply p peer s) Change now
         (λ w S.
         let free : IsFree s.next s = rw new tt in
-        let x = lift_one (kept progress g) s (with_supply p peer s) s.next (λ hs. hs ++ record_of s.next ∷ []) (stock_of progress g) free
+        let x = lift_one (kept progress g) s (with_supply p peer s) s.next (λ hs. hs ++ record_of s.next ∷ []) (stock_of progress g) refl free
         (λ hs T. subst (λ (ks : List HeaderRecord). StandsFor (with_supply p peer s) ks) (placed hs) (populate_put s hs made p.key (supplied_spot (is_input_port p)) no_load T new refl refl))
         (λ hs T. λ m d. push_else m hs (record_of s.next) (λ q. d (sym q))) w S in
         (x.0, x.1, x.2 ∙ supplied_is w (made_of progress g w S)))

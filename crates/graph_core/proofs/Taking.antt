@@ -41,7 +41,7 @@ use Rattle.il_component.specs.Entries.{Entry, component_of, noticed_of, held_in}
 use Rattle.port_stock.specs.Kept.{Kept as StockKept, stocked}
 use Rattle.port_stock.specs.Conditions.{IsOut}
 use Rattle.graph_core.specs.Standing.{SoundWorld}
-use Rattle.graph_core.specs.Changes.{Takes, TakesNote}
+use Rattle.graph_core.specs.Changes.{OnNoNote, Takes, TakesNote}
 use Rattle.graph_core.specs.Entries.{Entries, components_of, look_of, noticed_in, held_by, progress_at, kept, changed_at, component_at}
 use Rattle.graph_core.proofs.Replacing.{there, next_world}
 use Rattle.graph_core.proofs.Stepping.{at_world, only, numbered_before, with_stocked, stock_of, stock_steps, made_is, made_of, seen_of, held_there, held_each}
@@ -194,7 +194,7 @@ module _ {C : Type 0} (progress : C → Progress) (g : Entries C) (i : ℕ) (e :
 
     steps_out : (after_stock : StockKept) → stocked after_stock ≡ given n owners.Client (stocked g.stock) → Steps (kept progress after) (kept progress (after_header after_stock)) (λ w v. v ≡ with_headers (changed n (given_to owners.Client) w.headers) (stocked g.stock).next w)
     steps_out after_stock now = stock_steps progress after after_stock (given n owners.Client (stocked g.stock)) (λ w v. v ≡ with_headers (changed n (given_to owners.Client) w.headers) (stocked g.stock).next w) now
-        (lift_taken (kept progress after) (stocked g.stock) (given n owners.Client (stocked g.stock)) n (changed n (given_to owners.Client)) (stock_of progress after) others
+        (lift_taken (kept progress after) (stocked g.stock) (given n owners.Client (stocked g.stock)) n (changed n (given_to owners.Client)) (stock_of progress after) refl others
         (λ hs S. give_stands (stocked g.stock) hs n owners.Client (found_header.header).state S shown out_now)
         (λ hs S. λ m d. changed_else (given_to owners.Client) (λ r. refl) n m hs d))
 
@@ -220,11 +220,14 @@ module _ {C : Type 0} (progress : C → Progress) (g : Entries C) (i : ℕ) (e :
     | inr q ↦ All-head P (noticed_of header) (held_in rest) (subst (λ (v : Taken). All P (held_in (v ∷ rest))) q A)
   ]
 
+  first_noticed : (header : BufferHeader) → ((t ≡ EmptyDone header) ⊎ (t ≡ FillDone header)) → (w : World) → Stands (kept progress g) w → IsNoticed w (noticed_of header)
+  first_noticed header k w S =
+      let A : All (IsNoticed w) (held_by e) = held_there held_by (IsNoticed w) g.entries i e at S.noticed in
+      noticed_first t header k (IsNoticed w) (subst (λ (ns : List Taken). All (IsNoticed w) (held_in ns)) was A)
+
   -- the header in the note is the world's
   pub header_held : (header : BufferHeader) → ((t ≡ EmptyDone header) ⊎ (t ≡ FillDone header)) → (w : World) → Stands (kept progress g) w → AtHeader header.held.number w (λ r. (held r ≡ header.held) × (r.state.client_memory ≡ is_clients header.store))
-  header_held header k w S =
-      let A : All (IsNoticed w) (held_by e) = held_there held_by (IsNoticed w) g.entries i e at S.noticed in
-      held_found (noticed_of header) (find_header header.held.number w.headers) (noticed_first t header k (IsNoticed w) (subst (λ (ns : List Taken). All (IsNoticed w) (held_in ns)) was A))
+  header_held header k w S = held_found (noticed_of header) (find_header header.held.number w.headers) (first_noticed header k w S).1
 
   pub note_number : (header : BufferHeader) → ((t ≡ EmptyDone header) ⊎ (t ≡ FillDone header)) → IsNoteOf (note_of t) header.held.number
   note_number header k = elim k [
@@ -235,9 +238,10 @@ module _ {C : Type 0} (progress : C → Progress) (g : Entries C) (i : ℕ) (e :
   header_clause : (header : BufferHeader) → ((t ≡ EmptyDone header) ⊎ (t ≡ FillDone header)) → (w v : World) → Stands (kept progress g) w → v ≡ with_client header.held.number (with_given i c (note_of t) w) → TakesNote w i c t v
   header_clause header k w v S f =
       let h = header_held header k w S in
+      let own : header.key ≡ w.key = (first_noticed header k w S).0 in
       elim k [
-        | inl q ↦ rw q (rw q at first_note, h, rw q at f)
-        | inr q ↦ rw q (rw q at first_note, h, rw q at f)
+        | inl q ↦ rw q (rw q at first_note, h, rw q at f, own)
+        | inr q ↦ rw q (rw q at first_note, h, rw q at f, own)
       ]
 
 -- ---- the clause
@@ -306,14 +310,23 @@ module _ {C : Type 0} (progress : C → Progress) (g : Entries C) (i : ℕ) (e :
     | inr q ↦ l ∙ rw (h ∙ q) refl
   ]
 
+  pub none_entries : (r : Took C) (d : Entry C) → took e.queues ≡ r → (r ≡ tooks.None) ⊎ (r ≡ tooks.Busy) → d ≡ record e { queues = after_taking e.queues } → set g.entries i d ≡ g.entries
+  none_entries r d h k l = ap (λ (x : Entry C). set g.entries i x) (nothing_left r d h k l) ∙ set_same g.entries i e at
+
+  none_changed : (r : Took C) (d : Entry C) → took e.queues ≡ r → (r ≡ tooks.None) ⊎ (r ≡ tooks.Busy) → d ≡ record e { queues = after_taking e.queues } → changed_at i d g ≡ g
+  none_changed r d h k l = ap (λ (es : List (Entry C)). record g { entries = es }) (none_entries r d h k l)
+
+  pub none_unchanged : (r : Took C) (d : Entry C) → took e.queues ≡ r → (r ≡ tooks.None) ⊎ (r ≡ tooks.Busy) → d ≡ record e { queues = after_taking e.queues } → OnNoNote r (changed_at i d g ≡ g)
+  none_unchanged r d h k l =
+      let same = none_changed r d h k l in
+      elim k [
+        | inl y ↦ rw y same
+        | inr y ↦ rw y same
+      ]
+
   pub none_returns : (r : Took C) (d : Entry C) → took e.queues ≡ r → (r ≡ tooks.None) ⊎ (r ≡ tooks.Busy) → d ≡ record e { queues = after_taking e.queues } → Clause (changed_at i d g) r
   none_returns r d h k l =
-      let q : d ≡ e = nothing_left r d h k l in
-      let z : changed_at i d g ≡ g = ap (λ (es : List (Entry C)). record g { entries = es }) (ap (λ (x : Entry C). set g.entries i x) q ∙ set_same g.entries i e at) in
-      stays (changed_at i d g) r z (λ w. elim k [
+      stays (changed_at i d g) r (none_changed r d h k l) (λ w. elim k [
         | inl y ↦ let x = took_none e.queues.client e.queues.notes (h ∙ y) in rw y (x.0, x.1, refl)
         | inr y ↦ rw y (took_busy e.queues.client e.queues.notes (h ∙ y), refl)
       ])
-
-  pub none_entries : (r : Took C) (d : Entry C) → took e.queues ≡ r → (r ≡ tooks.None) ⊎ (r ≡ tooks.Busy) → d ≡ record e { queues = after_taking e.queues } → set g.entries i d ≡ g.entries
-  none_entries r d h k l = ap (λ (x : Entry C). set g.entries i x) (nothing_left r d h k l) ∙ set_same g.entries i e at

@@ -16,9 +16,9 @@ use Rattle.note_queues.specs.declared.taken.Took.{Took}
 use Rattle.note_queues.specs.declared.taken.Took.TheVariants as tooks
 use Rattle.port_stock.specs.Conditions.{IsHeaderOf}
 
--- The header is one of the client's, with its own size and memory: the condition of each call that is given it.
+-- The header has the graph's key, and is one of the client's, with its own size and memory: the condition of each call that is given it.
 abbrev pub IsHandedIn : BufferHeader → Look → Type 0
-IsHandedIn header l = AtState header.held.number l (λ s. (s.owner ≡ owners.Client) × IsHeaderOf s header)
+IsHandedIn header l = (header.key ≡ l.key) × AtState header.held.number l (λ s. (s.owner ≡ owners.Client) × IsHeaderOf s header)
 
 -- A header of the memory may be made for the client port: what `allocate_refusal` and `use_refusal` leave.
 pub record IsMakable (l : Look) (c : Component) (p : Port) (store : Store) : Type 0 where
@@ -27,17 +27,23 @@ pub record IsMakable (l : Look) (c : Component) (p : Port) (store : Store) : Typ
   pub numbers : has_no_number l ≡ false
   pub fits : p.setting.definition.size ≤ length (bytes_of store)
 
--- the note was the oldest one, and what it takes along is the world's
+-- the note was the oldest one, and what it takes along is the world's, with the world's key
 abbrev pub TakesNote : World → ℕ → Component → Taken → World → Type 0
 TakesNote w i c (Told event) v = (slice_get c.notes 0 ≡ Some (notes.Told event)) × (v ≡ with_given i c (notes.Told event) w)
 TakesNote w i c (EmptyDone header) v =
     let note = notes.EmptyDone header.held.number in
-    (slice_get c.notes 0 ≡ Some note) × AtHeader header.held.number w (λ r. (held r ≡ header.held) × (r.state.client_memory ≡ is_clients header.store)) × (v ≡ with_client header.held.number (with_given i c note w))
+    (slice_get c.notes 0 ≡ Some note) × AtHeader header.held.number w (λ r. (held r ≡ header.held) × (r.state.client_memory ≡ is_clients header.store)) × (v ≡ with_client header.held.number (with_given i c note w)) × (header.key ≡ w.key)
 TakesNote w i c (FillDone header) v =
     let note = notes.FillDone header.held.number in
-    (slice_get c.notes 0 ≡ Some note) × AtHeader header.held.number w (λ r. (held r ≡ header.held) × (r.state.client_memory ≡ is_clients header.store)) × (v ≡ with_client header.held.number (with_given i c note w))
+    (slice_get c.notes 0 ≡ Some note) × AtHeader header.held.number w (λ r. (held r ≡ header.held) × (r.state.client_memory ≡ is_clients header.store)) × (v ≡ with_client header.held.number (with_given i c note w)) × (header.key ≡ w.key)
 
 abbrev pub Takes : {C : Type 0} → World → ℕ → Component → Took C → World → Type 0
 Takes w i c tooks.Busy v = (c.client_out ≡ true) × (v ≡ w)
 Takes w i c tooks.None v = (c.client_out ≡ false) × (slice_get c.notes 0 ≡ None) × (v ≡ w)
 Takes w i c (tooks.Call call) v = (c.client_out ≡ false) × TakesNote w i c call.taken v
+
+-- no note was taken
+abbrev pub OnNoNote : {C : Type 0} → Took C → Type 0 → Type 0
+OnNoNote (tooks.Call call) P = Unit {0}
+OnNoNote tooks.None P = P
+OnNoNote tooks.Busy P = P

@@ -28,10 +28,10 @@ TakesClient h old tooks.Busy new = (client_named h old ≡ Some None) × (client
 abbrev pub IsOut : Handle → Look → Type 0
 IsOut h l = IsSomeAnd (component_named h l.components) (λ c. c.client_out ≡ true)
 
--- a client object of this progress was told all events that were given for the component
+-- the progress is that of all events that were given for the component
 abbrev pub WasTold : Handle → Progress → World → Type 0
 WasTold h told w = MatchOption (component_named h w.components) ⊥ (λ c. told ≡ progress_of c w)
 
--- each client object that is in was told all events that were given for its component
+-- each client object that is in has the progress of all events that were given for its component
 abbrev pub AreTold : {C : Type 0} → (C → Progress) → Entries C → World → Type 0
 AreTold {C} progress g w = (h : Handle) (client : C) → client_of h g ≡ Some client → WasTold h (progress client) w

@@ -22,7 +22,7 @@ module _ {C : Type 0} where
   components_of entries = map component_of entries
 
   abbrev pub look_of : Entries C → Look
-  look_of g = record { components = components_of g.entries; headers = (stocked g.stock).headers; units = g.units; numbered = g.numbered; made = (stocked g.stock).next }
+  look_of g = record { key = (stocked g.stock).key; components = components_of g.entries; headers = (stocked g.stock).headers; units = g.units; numbered = g.numbered; made = (stocked g.stock).next }
 
   abbrev pub held_by : Entry C → List Noticed
   held_by e = held_in e.queues.notes

@@ -7,3 +7,4 @@ pub mod Making
 pub mod OtherEnd
 pub mod Moving
 pub mod Supplying
+pub mod Closing

@@ -16,7 +16,7 @@ use il_machine::{Home, Spot};
 use note_queues::Client;
 use omx_types::OmxError;
 use port_rules::{
-    allocate_fault, empty_fault, fill_fault, free_buffer_fault, has_number, unpopulate, use_fault,
+    allocate_fault, empty_fault, fill_fault, free_buffer_fault, unpopulate, use_fault,
 };
 
 impl<C: Client> Core<C> {
@@ -92,7 +92,7 @@ impl<C: Client> Core<C> {
     /// Makes a header of the memory for the port.
     pub fn make_header(&mut self, place: usize, index: u32, store: Store) -> Header
         requires { IsSomeAnd (component_at place self.old) (λ c. IsSomeAnd (port_of c index) (λ p. IsMakable (look_of self.old) c p store)) }
-        ensures header { MatchOption (component_at place self.old) ⊥ (λ c. MatchOption (port_of c index) ⊥ (λ p. result ≡ fresh_header (look_of self.old).made store p.setting.definition.size)) }
+        ensures header { MatchOption (component_at place self.old) ⊥ (λ c. MatchOption (port_of c index) ⊥ (λ p. result ≡ fresh_header (look_of self.old).key (look_of self.old).made store p.setting.definition.size)) }
         ensures change { MatchOption (component_at place self.old) ⊥ (λ c. MatchOption (port_of c index) ⊥ (λ p. Steps (kept C.progress self.old) (kept C.progress self.new) (λ w v. v ≡ with_header (client_header w.made p (is_clients store)) w))) }
         ensures clients { KeepsAllClients self.old self.new }
     {
@@ -100,7 +100,7 @@ impl<C: Client> Core<C> {
         let Some(port) = component.port(index) else {
             unreachable!()
         };
-        if !has_number(&self.stock) {
+        if !self.stock.numbers_left() {
             unreachable!()
         }
         self.stock.populate(

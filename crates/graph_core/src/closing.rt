@@ -1,6 +1,6 @@
 //! While something is due, the first due thing happens.
 
-ghost use Rattle.std.specs.Prelude.{◌≡◌, ◌<◌, ℕ, length, slice_get, position, None, Some, IfSome};
+ghost use Rattle.std.specs.Prelude.{◌≡◌, ◌<◌, ℕ, length, slice_get, position, option_map, None, Some, IfSome};
 ghost use Rattle.il_machine.specs.Due.{has_due, first_due, Happens, ClosesTo};
 ghost use Rattle.il_machine.specs.Whole.{Steps};
 ghost use Rattle.machine_laws.proofs.Ending.{pending_in};
@@ -9,46 +9,50 @@ ghost use Rattle.port_stock.specs.Kept.{stocked};
 ghost use Rattle.port_rules.specs.Tests.{HasAllPorts};
 ghost use Rattle.graph_core.specs.Entries.{components_of, look_of, kept};
 ghost use Rattle.graph_core.specs.Clients.{KeepsAllClients};
+ghost use Rattle.graph_core.specs.Closing.{IsDueAt};
 
 use crate::core_graph::Core;
 use il_component::Component;
 use note_queues::Client;
-use port_rules::{happen_in, has_due};
+use port_rules::{Due, due_in, happen_in};
 use port_stock::Stock;
 
-/// The place of the first component that has something due.
-fn first_due_place<C>(stock: &Stock, components: &[Component<C>]) -> Option<usize>
+/// The place of the first component that has something due, and what is due first there.
+fn first_due_of<C>(stock: &Stock, components: &[Component<C>]) -> Option<(usize, Due)>
     requires { (i : ℕ) (e : Entry C) → slice_get components.now i ≡ Some e → HasAllPorts (component_of e) (stocked stock.now) }
-    ensures place { result ≡ position (has_due (stocked stock.now).headers) (components_of components.now) }
-    ensures within { IfSome result (λ i. i < length components.now) }
+    ensures place { option_map (λ first. first.0) result ≡ position (has_due (stocked stock.now).headers) (components_of components.now) }
+    ensures due { IfSome result (λ first. IsDueAt (stocked stock.now).headers components.now first.0 first.1) }
+    ensures within { IfSome result (λ first. first.0 < length components.now) }
 {
     for place in 0..components.len() {
-        if has_due(stock, &components[place]) {
-            return Some(place);
+        if let Some(due) = due_in(stock, &components[place]) {
+            return Some((place, due));
         }
     }
     None
 }
 
 impl<C: Client> Core<C> {
-    /// The place of the first component that has something due.
-    fn first_due(&self) -> Option<usize>
-        ensures place { result ≡ first_due (look_of self.now) }
-        ensures within { IfSome result (λ i. i < length self.now.entries) }
+    /// The place of the first component that has something due, and what is due first there.
+    fn first_due(&self) -> Option<(usize, Due)>
+        ensures place { option_map (λ first. first.0) result ≡ first_due (look_of self.now) }
+        ensures due { IfSome result (λ first. IsDueAt (look_of self.now).headers self.now.entries first.0 first.1) }
+        ensures within { IfSome result (λ first. first.0 < length self.now.entries) }
     {
-        first_due_place(&self.stock, &self.components)
+        first_due_of(&self.stock, &self.components)
     }
 
-    /// The first due thing of the component at the place happens.
-    fn happen(&mut self, place: usize)
+    /// What is due first at the component of the place happens.
+    fn happen(&mut self, place: usize, due: Due)
         requires first { first_due (look_of self.old) ≡ Some place }
+        requires due { IsDueAt (look_of self.old).headers self.old.entries place due }
         requires within { place < length self.old.entries }
         ensures happens { Steps (kept C.progress self.old) (kept C.progress self.new) Happens }
         ensures fewer { pending_in (components_of self.new.entries) < pending_in (components_of self.old.entries) }
         ensures clients { KeepsAllClients self.old self.new }
     {
         let component = &mut self.components[place];
-        happen_in(&mut self.stock, component);
+        happen_in(&mut self.stock, component, due);
     }
 
     /// While something is due, the first due thing happens.
@@ -57,8 +61,8 @@ impl<C: Client> Core<C> {
         ensures settled { first_due (look_of self.new) ≡ None }
         ensures clients { KeepsAllClients self.old self.new }
     {
-        while let Some(place) = self.first_due() {
-            self.happen(place);
+        while let Some((place, due)) = self.first_due() {
+            self.happen(place, due);
         }
     }
 }

@@ -35,7 +35,7 @@ impl<C: Client> Model for Core<C> {
 impl<C: Client> Core<C> {
     /// A graph with no component, and so many free units.
     pub fn new(alloc: Global, units: u32) -> Result<Core<C>, AllocError>
-        ensures { IfOk result (λ g. (g.entries ≡ []) × (stocked g.stock ≡ no_stock) × (g.units ≡ units) × (g.numbered ≡ 0)) }
+        ensures { IfOk result (λ g. (g.entries ≡ []) × (stocked g.stock ≡ no_stock (stocked g.stock).key) × (g.units ≡ units) × (g.numbered ≡ 0)) }
     {
         let stock = Stock::new(alloc)?;
         let components = match Vec::with_capacity(alloc, 32) {
@@ -74,13 +74,6 @@ impl<C: Client> Core<C> {
         ensures { option_copied result ≡ slice_get self.now.entries place }
     {
         self.components.get(place)
-    }
-
-    /// The ports and headers.
-    pub fn stock(&self) -> &Stock
-        ensures { result.now ≡ self.now.stock }
-    {
-        &self.stock
     }
 
     /// Whether no further handle can be given.

@@ -13,8 +13,8 @@ fn end_all<C: Drop>(mut components: Vec<Component<C>>) {
 }
 
 impl<C: Client + Drop> Core<C> {
-    /// Ends all components, ports and headers, with the client objects.
-    pub fn close(self) {
+    /// Ends all components, ports and headers, with the client objects, whatever there is.
+    pub fn dispose(self) {
         let Core {
             registry: _,
             components,

@@ -13,8 +13,8 @@ use crate::core_graph::Core;
 use note_queues::Client;
 
 impl<C: Client> Core<C> {
-    /// There is a world that the graph stands for. Each is sound, has its census and its room, and each client object that is in was told all events
-    /// that were given for its component.
+    /// There is a world that the graph stands for. Each is sound, has its census and its room, and each client object that is in has the progress
+    /// of all events that were given for its component.
     pub fn law_of_worlds(&self)
         ensures one { SoundWorld (kept C.progress self.now) }
         ensures sound { Always (kept C.progress self.now) Sound }

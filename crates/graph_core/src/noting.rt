@@ -7,7 +7,7 @@ ghost use Rattle.il_machine.specs.Notes.{back_in};
 ghost use Rattle.il_machine.specs.Flow.{handed_back};
 ghost use Rattle.il_machine.specs.Whole.{Steps, StepsWhere};
 ghost use Rattle.graph_core.specs.Entries.{kept, client_of, component_at};
-ghost use Rattle.graph_core.specs.Changes.{Takes};
+ghost use Rattle.graph_core.specs.Changes.{OnNoNote, Takes};
 ghost use Rattle.graph_core.specs.Clients.{KeepsClients, KeepsAllClients, TakesClient};
 
 use crate::core_graph::Core;
@@ -19,6 +19,7 @@ impl<C: Client> Core<C> {
     pub fn take(&mut self, place: usize) -> Took<C>
         requires { place < length self.old.entries }
         ensures change { MatchOption (component_at place self.old) ⊥ (λ c. Steps (kept C.progress self.old) (kept C.progress self.new) (λ w v. Takes w place c result v)) }
+        ensures unchanged { OnNoNote result (self.new ≡ self.old) }
         ensures client { MatchOption (component_at place self.old) ⊥ (λ c. TakesClient c.handle self.old result self.new) }
         ensures clients { MatchOption (component_at place self.old) ⊥ (λ c. KeepsClients c.handle self.old self.new) }
     {

@@ -5,9 +5,8 @@ ghost use Rattle.il_machine.specs.Headers.{seen, unchanged};
 ghost use Rattle.il_machine.specs.Lists.{first_of_these, is_empty};
 ghost use Rattle.il_machine.specs.Look.{Look};
 ghost use Rattle.il_machine.specs.Ports.{id_of, is_input_port};
-ghost use Rattle.il_machine.specs.States.{is_executing};
 ghost use Rattle.il_machine.specs.World.{port_of};
-ghost use Rattle.il_machine.specs.Flow.{at_end, back_idle, front_put, handed_back, handed_over, is_giving, is_receiving, other_end, over_idle, returned, unused_spot};
+ghost use Rattle.il_machine.specs.Flow.{at_end, back_idle, front_put, handed_back, handed_over, is_giving, is_receiving, other_end, over_idle, returned};
 ghost use Rattle.il_machine.specs.Whole.{Steps};
 ghost use Rattle.il_machine.specs.declared.answer.Why.TheVariants as why;
 ghost use Rattle.il_machine.specs.declared.header.Spot.TheVariants.{TodoBack};
@@ -20,26 +19,24 @@ ghost use Rattle.graph_core.specs.Moving.{AreShared, Moves};
 
 use crate::core_graph::Core;
 use crate::other_end::other_end;
-use crate::supplying::port_id;
+use crate::supplying::{has_none, port_id, supplied_spot};
 use il_component::Component;
 use il_machine::{Port, PortKey, Spot, Why};
 use note_queues::Client;
-use omx_types::State;
-use port_rules::{is_open, is_returning, is_supplier};
+use port_rules::{is_open, is_returning, is_taking};
 use port_stock::Stock;
-
-fn is_executing(state: State) -> bool
-    ensures { result ≡ is_executing state }
-{
-    matches!(state, State::Executing)
-}
+use tunnel_rules::is_supplier;
 
 /// Whether the port has no header to hand back: an unused one only goes back where the port returns.
-fn lacks_header(stock: &Stock, key: PortKey, returning: bool) -> bool
-    requires { IsPort key (stocked stock.now) }
-    ensures { result ≡ (is_empty ((stocked stock.now).headers.done key) && (not returning || is_empty ((stocked stock.now).headers.todo key))) }
+fn lacks_header(stock: &Stock, port: Port, returning: bool) -> bool
+    requires { IsPort port.key (stocked stock.now) }
+    ensures { result ≡ (is_empty ((stocked stock.now).headers.done port.key) && (not returning || is_empty ((stocked stock.now).headers.todo port.key))) }
 {
-    !stock.has_done(key) && (!returning || !stock.has_todo(key))
+    if returning {
+        has_none(stock, port)
+    } else {
+        !stock.has_done(port.key)
+    }
 }
 
 /// Why the port hands no header back.
@@ -50,9 +47,9 @@ fn back_idle<C>(stock: &Stock, component: &Component<C>, port: Port) -> Option<W
     let returning = is_returning(component, port);
     if is_supplier(port) {
         Some(Why::IsSupplier)
-    } else if !returning && !is_executing(component.state()) {
+    } else if !returning && !state_rules::is_executing(component.state()) {
         Some(Why::NotRunning(port_id(component, port)))
-    } else if lacks_header(stock, port.key, returning) {
+    } else if lacks_header(stock, port, returning) {
         Some(Why::NoHeader)
     } else {
         None
@@ -63,14 +60,7 @@ fn back_idle<C>(stock: &Stock, component: &Component<C>, port: Port) -> Option<W
 fn is_giving<C>(component: &Component<C>, port: Port) -> bool
     ensures { result ≡ is_giving (component_of component.now) port }
 {
-    is_open(port) && is_executing(component.state()) && component.pending().is_none()
-}
-
-/// Whether the component takes what is sent to the port.
-fn is_receiving<C>(component: &Component<C>, port: Port) -> bool
-    ensures { result ≡ is_receiving (component_of component.now) port }
-{
-    is_open(port) && state_rules::is_running(component.state()) && component.pending().is_none()
+    is_open(port) && state_rules::is_executing(component.state()) && component.pending().is_none()
 }
 
 /// Why the other end of the port's tunnel takes no header, if it doesn't.
@@ -79,7 +69,7 @@ fn peer_idle<C>(components: &[Component<C>], port: Port) -> Option<Why>
 {
     let end = other_end(components, port)?;
     let component = &components[end.place];
-    if is_receiving(component, end.port) {
+    if is_taking(component, end.port) {
         None
     } else {
         Some(Why::NotRunning(port_id(component, end.port)))
@@ -113,17 +103,6 @@ fn over_idle<C>(
     }
 }
 
-/// Where an unused header goes that the port gives back: an output that supplies a tunnel keeps them in `todo`, an input in `done`.
-fn unused_spot(port: Port) -> Spot
-    ensures { result ≡ unused_spot (is_input_port port) }
-{
-    if port.setting.definition.input {
-        Spot::TodoBack
-    } else {
-        Spot::DoneBack
-    }
-}
-
 /// The front of `done` goes to the back of the other end's `todo`.
 fn pass_on(stock: &mut Stock, key: PortKey, peer: PortKey)
     requires port { IsPort key (stocked stock.old) }
@@ -152,7 +131,11 @@ fn give_back(stock: &mut Stock, port: Port, supplier: PortKey)
         return;
     };
     header.clear();
-    stock.push_work(supplier, header, unused_spot(port));
+    stock.push_work(
+        supplier,
+        header,
+        supplied_spot(!port.setting.definition.input),
+    );
 }
 
 impl<C: Client> Core<C> {

@@ -5,7 +5,7 @@ ghost use Rattle.il_machine.specs.declared.answer.Why.TheVariants.{NotAccepting,
 ghost use Rattle.il_machine.specs.Lists.{first_of_these, is_empty};
 ghost use Rattle.il_machine.specs.World.{port_of};
 ghost use Rattle.il_machine.specs.Headers.{seen};
-ghost use Rattle.il_machine.specs.Ports.{accepting, id_of, is_input_port};
+ghost use Rattle.il_machine.specs.Ports.{accepting, id_of};
 ghost use Rattle.il_machine.specs.Buffers.{has_no_block};
 ghost use Rattle.il_machine.specs.Flow.{at_end, front_unmade, in_port, other_end, release_idle, supply_idle, with_supplied};
 ghost use Rattle.il_machine.specs.Whole.{Steps};
@@ -24,8 +24,9 @@ use il_component::Component;
 use il_machine::{Home, Port, PortKey, Spot, Why};
 use note_queues::Client;
 use omx_types::PortId;
-use port_rules::{has_no_block, has_number, is_accepting, is_leaving, is_supplier, lacks_number};
+use port_rules::{has_no_block, is_accepting, is_leaving};
 use port_stock::Stock;
+use tunnel_rules::is_supplier;
 
 /// The port as a caller names it.
 pub fn port_id<C>(component: &Component<C>, port: Port) -> PortId
@@ -64,7 +65,7 @@ fn shortage(stock: &Stock) -> Option<Why>
 {
     if has_no_block(stock) {
         Some(Why::NoBlock)
-    } else if lacks_number(stock) {
+    } else if !stock.numbers_left() {
         Some(Why::NoNumber)
     } else {
         None
@@ -72,18 +73,18 @@ fn shortage(stock: &Stock) -> Option<Why>
 }
 
 /// Whether neither list of the port has a header.
-fn has_none(stock: &Stock, port: Port) -> bool
+pub fn has_none(stock: &Stock, port: Port) -> bool
     requires { IsPort port.key (stocked stock.now) }
     ensures { result ≡ is_empty (in_port (stocked stock.now).headers port) }
 {
     !stock.has_todo(port.key) && !stock.has_done(port.key)
 }
 
-/// Where a header goes that was just made for the port.
-fn supplied_spot(port: Port) -> Spot
-    ensures { result ≡ supplied_spot (is_input_port port) }
+/// Where an end that supplies a tunnel keeps the headers that aren't used: an output in `todo`, an input in `done`.
+pub fn supplied_spot(input: bool) -> Spot
+    ensures { result ≡ supplied_spot input }
 {
-    if port.setting.definition.input {
+    if input {
         Spot::DoneBack
     } else {
         Spot::TodoBack
@@ -104,7 +105,11 @@ fn make_for_both(stock: &mut Stock, port: Port, peer: PortKey, memory: Memory)
         Store::Block(memory),
         port.setting.definition.size,
     );
-    stock.push_work(port.key, header, supplied_spot(port));
+    stock.push_work(
+        port.key,
+        header,
+        supplied_spot(port.setting.definition.input),
+    );
 }
 
 /// The front of `todo`, or, where that is empty, the front of `done`. It leaves its list.
@@ -164,7 +169,7 @@ impl<C: Client> Core<C> {
         let Some(link) = port.state.link else {
             unreachable!()
         };
-        if !has_number(&self.stock) {
+        if !self.stock.numbers_left() {
             unreachable!()
         }
         make_for_both(&mut self.stock, port, link.peer, memory);

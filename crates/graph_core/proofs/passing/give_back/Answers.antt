@@ -10,8 +10,8 @@ use Rattle.il_machine.specs.Flow.{returned, unused_spot}
 use Rattle.header_core.specs.BufferHeader.{BufferHeader}
 use Rattle.port_stock.specs.Kept.{stocked}
 use Rattle.graph_core.specs.Moving.{AreShared, Moves}
-use Rattle.port_rules.proofs.ResetSteps.{no_front}
-use Rattle.graph_core.proofs.Moving.{none_sent, sent_back, sent_for_peer, pulled_for_supplier, unused_back, none_back}
+use Rattle.flush_mark.proofs.ResetSteps.{no_front}
+use Rattle.graph_core.proofs.Moving.{none_sent, sent_back, sent_for_peer, pulled_for_supplier, unused_back, none_back, unused_is_supplied}
 use Rattle.graph_core.proofs.passing.give_back.Goals as goal
 
 pub push_work-requires-clause-made_for : goal.push_work-requires-clause-made_for
@@ -64,7 +64,7 @@ returns c =
     let B : AreShared key c.args.supplier t = subst (λ (x : Stocked). AreShared key c.args.supplier x) (sym same) c.requires.shared in
     let N : t.headers.done key ≡ [] = subst (λ (x : Stocked). x.headers.done key ≡ []) (sym same) none in
     let p : stocked c.push_work-2.new.self ≡ pushed c.args.supplier spot h.held.number no_load (stocked c.pull_work.new.self) = c.push_work-2.ensures
-    ∙ (ap (λ (x : Spot). pushed c.args.supplier x c.clear.new.self.held.number (load_in c.clear.new.self.held) (stocked c.pull_work.new.self)) c.unused_spot.ensures
+    ∙ (ap (λ (x : Spot). pushed c.args.supplier x c.clear.new.self.held.number (load_in c.clear.new.self.held) (stocked c.pull_work.new.self)) (c.supplied_spot.ensures ∙ unused_is_supplied (is_input_port c.args.port))
     ∙ ap (λ (x : BufferHeader). pushed c.args.supplier spot x.held.number (load_in x.held) (stocked c.pull_work.new.self)) c.clear.ensures) in
     subst (λ (x : Stocked). Moves (λ w. returned c.args.supplier (is_input_port c.args.port) ((seen w.headers).done key) ((seen w.headers).todo key) w) x (stocked c.push_work-2.new.self)) same
     (unused_back t key c.args.supplier (is_input_port c.args.port) N B h c.in-Some-pull_work.ensures.front c.in-Some-pull_work.ensures.was (stocked c.push_work-2.new.self)

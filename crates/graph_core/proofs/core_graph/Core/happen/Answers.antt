@@ -1,13 +1,13 @@
-use Rattle.std.proofs.Common.{◌≡◌, ◌<◌, length, slice_get, Option, Some, IsSome, refl, sym, ◌∙◌, ap, subst}
+use Rattle.std.proofs.Common.{◌≡◌, ◌<◌, length, slice_get, Some, sym, ◌∙◌, ap, subst}
 use Rattle.std.proofs.lemmas.Option.{slice_get-get_or}
-use Rattle.il_machine.specs.Due.{Thing, due_in, first_due}
-use Rattle.il_component.specs.Entries.{component_of}
-use Rattle.port_stock.specs.Kept.{stocked}
+use Rattle.il_machine.specs.Due.{due_in, first_due}
+use Rattle.il_component.specs.Entries.{Entry, component_of}
+use Rattle.graph_core.specs.Closing.{IsDueAt}
 use Rattle.graph_core.specs.Entries.{Entries, look_of}
-use Rattle.port_rules.specs.Happened.{Happened}
-use Rattle.port_rules.proofs.Happenings.{of_match}
+use Rattle.port_rules.specs.Tests.{thing_of}
+use Rattle.port_rules.proofs.Happenings.{of_some}
 use Rattle.graph_core.proofs.Clients.{clients_set}
-use Rattle.graph_core.proofs.Happens.{settled_there, due_first, graph_after, happens_after, fewer_after, after}
+use Rattle.graph_core.proofs.Happens.{in_order_there, graph_after, happens_after, fewer_after, after}
 use Rattle.graph_core.proofs.core_graph.Core.happen.Goals as goal
 
 pub happen_in-requires : goal.happen_in-requires
@@ -17,11 +17,10 @@ happen_in-requires g c =
     let G : Entries (g.row.C.Denot) = record { entries = i.components.items; stock = i.stock; units = i.units; numbered = i.registry.given } in
     let b : c.args.place < length i.components.items = rw (← c.self.view_is) at c.requires.within in
     let at : slice_get i.components.items c.args.place ≡ Some e = slice_get-get_or i.components.items c.args.place e b ∙ ap Some (sym c.index_mut-component.ensures.value) in
-    let first : first_due (look_of G) ≡ Some c.args.place = subst (λ (x : Entries (g.row.C.Denot)). first_due (look_of x) ≡ Some c.args.place) (sym c.self.view_is) c.requires.first in
-    let t = due_first g.C.Client.progress G c.args.place e first at in
+    let asked = subst (λ (x : Entries (g.row.C.Denot)). IsDueAt (look_of x).headers x.entries c.args.place c.args.due) (sym c.self.view_is) c.requires.due in
     record {
-      settled = settled_there g.C.Client.progress i.components.items i.registry i.stock i.units i.components.cap c.args.place e c.self.invariant at;
-      due = subst (λ (o : Option Thing). IsSome o) (sym t.1) refl;
+      in_order = in_order_there g.C.Client.progress i.components.items i.registry i.stock i.units i.components.cap c.args.place e c.self.invariant at;
+      first = of_some (slice_get i.components.items c.args.place) (λ (x : Entry (g.row.C.Denot)). due_in (look_of G).headers (component_of x) ≡ Some (thing_of c.args.due)) e at asked;
     }
 
 pub invariant_of-self : goal.invariant_of-self
@@ -32,10 +31,9 @@ invariant_of-self g c =
     let G : Entries (g.row.C.Denot) = record { entries = i.components.items; stock = i.stock; units = i.units; numbered = i.registry.given } in
     let b : c.args.place < length i.components.items = rw (← c.self.view_is) at c.requires.within in
     let at : slice_get i.components.items c.args.place ≡ Some e = slice_get-get_or i.components.items c.args.place e b ∙ ap Some (sym c.index_mut-component.ensures.value) in
-    let first : first_due (look_of G) ≡ Some c.args.place = subst (λ (x : Entries (g.row.C.Denot)). first_due (look_of x) ≡ Some c.args.place) (sym c.self.view_is) c.requires.first in
-    let t = due_first g.C.Client.progress G c.args.place e first at in
-    let H = of_match (due_in (stocked i.stock).headers (component_of e)) (λ thing. Happened thing (component_of e) (component_of d) (stocked i.stock) (stocked c.happen_in.new.stock)) t.0 t.1 c.happen_in.ensures.happened in
-    graph_after g.C.Client.progress i.components.items i.registry i.stock c.happen_in.new.stock i.units i.components.cap c.args.place e d t.0 c.self.invariant at c.happen_in.ensures.kept H t.1
+    let asked = subst (λ (x : Entries (g.row.C.Denot)). IsDueAt (look_of x).headers x.entries c.args.place c.args.due) (sym c.self.view_is) c.requires.due in
+    let due = of_some (slice_get i.components.items c.args.place) (λ (x : Entry (g.row.C.Denot)). due_in (look_of G).headers (component_of x) ≡ Some (thing_of c.args.due)) e at asked in
+    graph_after g.C.Client.progress i.components.items i.registry i.stock c.happen_in.new.stock i.units i.components.cap c.args.place e d (thing_of c.args.due) c.self.invariant at c.happen_in.ensures.kept c.happen_in.ensures.happened due
 
 pub returns : goal.returns
 returns g c =
@@ -46,9 +44,10 @@ returns g c =
     let b : c.args.place < length i.components.items = rw (← c.self.view_is) at c.requires.within in
     let at : slice_get i.components.items c.args.place ≡ Some e = slice_get-get_or i.components.items c.args.place e b ∙ ap Some (sym c.index_mut-component.ensures.value) in
     let first : first_due (look_of G) ≡ Some c.args.place = subst (λ (x : Entries (g.row.C.Denot)). first_due (look_of x) ≡ Some c.args.place) (sym c.self.view_is) c.requires.first in
-    let t = due_first g.C.Client.progress G c.args.place e first at in
-    let H = of_match (due_in (stocked i.stock).headers (component_of e)) (λ thing. Happened thing (component_of e) (component_of d) (stocked i.stock) (stocked c.happen_in.new.stock)) t.0 t.1 c.happen_in.ensures.happened in
-    let F = happens_after g.C.Client.progress G c.args.place e d c.happen_in.new.stock t.0 at c.happen_in.ensures.kept H first t.1 in
+    let asked = subst (λ (x : Entries (g.row.C.Denot)). IsDueAt (look_of x).headers x.entries c.args.place c.args.due) (sym c.self.view_is) c.requires.due in
+    let due = of_some (slice_get i.components.items c.args.place) (λ (x : Entry (g.row.C.Denot)). due_in (look_of G).headers (component_of x) ≡ Some (thing_of c.args.due)) e at asked in
+    let H = c.happen_in.ensures.happened in
+    let F = happens_after g.C.Client.progress G c.args.place e d c.happen_in.new.stock (thing_of c.args.due) at c.happen_in.ensures.kept H first due in
     record {
       happens = rw (← c.self.view_is) F;
       fewer = rw (← c.self.view_is) (fewer_after g.C.Client.progress G (after g.C.Client.progress G c.args.place d c.happen_in.new.stock) c.self.invariant.worlds F);

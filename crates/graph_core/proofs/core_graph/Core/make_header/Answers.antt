@@ -1,4 +1,4 @@
-use Rattle.std.proofs.Common.{◌≡◌, ◌<◌, true, false, length, slice_get, Some, refl, sym, ◌∙◌, ap}
+use Rattle.std.proofs.Common.{◌≡◌, ◌<◌, Bool, true, false, not, length, slice_get, Some, refl, sym, ◌∙◌, ap}
 use Rattle.std.proofs.lemmas.Option.{slice_get-get_or}
 use Rattle.il_machine.specs.World.{port_of}
 use Rattle.il_machine.specs.Stock.{Stocked}
@@ -114,8 +114,8 @@ returns-clause-change g c =
     let M : IsMakable (look_of G) (component_of e) p c.args.store = rw (there g.C.Client.progress G c.args.place e at, here) at asked in
     rw (← c.self.view_is) (made_returns g.C.Client.progress G c.args.place e c.args.index p c.self.invariant.worlds at here c.args.store M c.populate.ensures.new_number c.populate.new.self c.populate.ensures.stock)
 
-pub unreachable-requires-then-not-has_number : goal.unreachable-requires-then-not-has_number
-unreachable-requires-then-not-has_number g c =
+pub unreachable-requires-then-not-numbers_left : goal.unreachable-requires-then-not-numbers_left
+unreachable-requires-then-not-numbers_left g c =
     let i = c.self.inside in
     let e = c.index-component.result.now in
     let p = c.in-Some.port in
@@ -125,13 +125,13 @@ unreachable-requires-then-not-has_number g c =
     let at : slice_get i.components.items c.args.place ≡ Some e = slice_get-get_or i.components.items c.args.place e b ∙ ap Some (sym c.index-component.ensures) in
     let here : port_of (component_of e) c.args.index ≡ Some p = sym c.port.ensures ∙ c.in-Some.is in
     let M : IsMakable (look_of G) (component_of e) p c.args.store = rw (there g.C.Client.progress G c.args.place e at, here) at asked in
-    let left = c.has_number.ensures.left M.numbers in
-    let none = c.if-not-has_number.true in
+    let left = c.numbers_left.ensures.left ∙ ap (λ (b : Bool). not b) M.numbers in
+    let none = c.if-not-numbers_left.true in
     let z : true ≡ false = sym left ∙ none in
     cc
 
 pub populate-requires-clause-numbers : goal.populate-requires-clause-numbers
-populate-requires-clause-numbers g c = c.has_number.ensures.below c.if-not-has_number.false
+populate-requires-clause-numbers g c = c.numbers_left.ensures.below c.if-not-numbers_left.false
 
 pub returns-clause-clients : goal.returns-clause-clients
 returns-clause-clients g c = rw (← c.self.view_is) (λ k. refl)

@@ -1,4 +1,4 @@
-use Rattle.std.proofs.Common.{◌≡◌, ◌<◌, true, false, length, slice_get, Some, sym, ◌∙◌, ap, refl}
+use Rattle.std.proofs.Common.{◌≡◌, ◌<◌, Bool, true, false, not, length, slice_get, Some, sym, ◌∙◌, ap, refl}
 use Rattle.std.proofs.lemmas.Option.{slice_get-get_or}
 use Rattle.il_machine.specs.World.{port_of}
 use Rattle.il_machine.specs.Stock.{Stocked}
@@ -23,8 +23,8 @@ unreachable-requires-in_default-link g c =
     let M : IsSuppliable (look_of G) (component_of e) p c.args.memory = rw (there g.C.Client.progress G c.args.place e at, here) at asked in
     supplies_joined (look_of G) (component_of e) p M.may c.in_default-link.is
 
-pub unreachable-requires-then-not-has_number : goal.unreachable-requires-then-not-has_number
-unreachable-requires-then-not-has_number g c =
+pub unreachable-requires-then-not-numbers_left : goal.unreachable-requires-then-not-numbers_left
+unreachable-requires-then-not-numbers_left g c =
     let i = c.self.inside in
     let e = c.index-component.result.now in
     let p = c.in-Some.port in
@@ -34,8 +34,8 @@ unreachable-requires-then-not-has_number g c =
     let at : slice_get i.components.items c.args.place ≡ Some e = slice_get-get_or i.components.items c.args.place e b ∙ ap Some (sym c.index-component.ensures) in
     let here : port_of (component_of e) c.args.index ≡ Some p = sym c.port.ensures ∙ c.in-Some.is in
     let M : IsSuppliable (look_of G) (component_of e) p c.args.memory = rw (there g.C.Client.progress G c.args.place e at, here) at asked in
-    let left = c.has_number.ensures.left (numbers_left g.C.Client.progress G c.args.place e c.args.index p c.in-Some-link.link c.args.memory c.self.invariant.worlds at here c.in-Some-link.is M) in
-    let none = c.if-not-has_number.true in
+    let left = c.numbers_left.ensures.left ∙ ap (λ (b : Bool). not b) (numbers_left g.C.Client.progress G c.args.place e c.args.index p c.in-Some-link.link c.args.memory c.self.invariant.worlds at here c.in-Some-link.is M) in
+    let none = c.if-not-numbers_left.true in
     let z : true ≡ false = sym left ∙ none in
     cc
 

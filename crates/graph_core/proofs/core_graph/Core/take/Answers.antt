@@ -13,7 +13,7 @@ use Rattle.graph_core.proofs.Renumbered.{own_place}
 use Rattle.graph_core.proofs.Replacing.{there}
 use Rattle.graph_core.proofs.TakenClients.{call_client, no_call_client}
 use Rattle.graph_core.proofs.Stepping.{graph_with}
-use Rattle.graph_core.proofs.Taking.{call_worlds, done_worlds, done_out, call_returns, done_returns, none_returns, none_entries}
+use Rattle.graph_core.proofs.Taking.{call_worlds, done_worlds, done_out, call_returns, done_returns, none_returns, none_entries, none_unchanged}
 use Rattle.graph_core.proofs.core_graph.Core.take.Goals as goal
 
 pub set_out-requires-clause-outside : goal.set_out-requires-clause-outside
@@ -97,6 +97,23 @@ returns-in_default-clause-change g c =
     let d = c.take-took.new.self in
     let k = not_call c.take-took.result c.in_default.not-Call in
     rw (← c.self.view_is) (none_returns g.C.Client.progress G c.args.place e c.self.invariant.worlds at c.take-took.result d (sym c.take-took.ensures.took) k c.take-took.ensures.left)
+
+pub returns-in-Told-clause-unchanged : goal.returns-in-Told-clause-unchanged
+returns-in-Told-clause-unchanged g c = rw (c.in-Call.is) tt
+
+pub returns-in-EmptyDone-clause-unchanged : goal.returns-in-EmptyDone-clause-unchanged
+returns-in-EmptyDone-clause-unchanged g c = rw (c.in-Call.is) tt
+
+pub returns-in_default-clause-unchanged : goal.returns-in_default-clause-unchanged
+returns-in_default-clause-unchanged g c =
+    let i = c.self.inside in
+    let e = c.index_mut-component.result.now in
+    let G : Entries (g.row.C.Denot) = record { entries = i.components.items; stock = i.stock; units = i.units; numbered = i.registry.given } in
+    let b : c.args.place < length i.components.items = rw (← c.self.view_is) at c.requires in
+    let at : slice_get i.components.items c.args.place ≡ Some e = slice_get-get_or i.components.items c.args.place e b ∙ ap Some (sym c.index_mut-component.ensures.value) in
+    let d = c.take-took.new.self in
+    let k = not_call c.take-took.result c.in_default.not-Call in
+    rw (← c.self.view_is) (none_unchanged g.C.Client.progress G c.args.place e c.self.invariant.worlds at c.take-took.result d (sym c.take-took.ensures.took) k c.take-took.ensures.left)
 
 pub returns-in-Told-clause-client : goal.returns-in-Told-clause-client
 returns-in-Told-clause-client g c =
