@@ -106,7 +106,7 @@ fn make_all(
 fn run_components(alloc: Global, name: &str, others: u32, order: Order) -> Result<(), Stopped> {
     let mut graph = Components::new(alloc, 128)?;
     let outcome = make_all(alloc, &mut graph, name, others, order);
-    graph.close();
+    graph.dispose();
     outcome?;
     Ok(())
 }

@@ -96,16 +96,16 @@ module _ {C : Type 0} (progress : C → Progress) where
 
   -- ---- calls that make a header
 
-  made_at : (g : Entries C) (o : Option Port) (header : BufferHeader) (store : Store) (b : Bool) → MatchOption o ⊥ (λ p. header ≡ fresh (look_of g).made store p.setting.definition.size)
+  made_at : (g : Entries C) (o : Option Port) (header : BufferHeader) (store : Store) (b : Bool) → MatchOption o ⊥ (λ p. header ≡ fresh (look_of g).key (look_of g).made store p.setting.definition.size)
       → (w : World) → Stands (kept progress g) w → MatchOption o ⊥ (λ p. header.held ≡ held_of (client_header w.made p b) no_load)
   made_at g None header store b m = λ w S. absurd m
   made_at g (Some p) header store b m = λ w S. ap (λ x. x.held) m ∙ ap (λ n. empty_held n p.setting.definition.size) (sym (ap (λ (l : Look). l.made) S.looks))
 
   pub made_header : (g : Entries C) (h : Handle) (i port : ℕ) (header : BufferHeader) (store : Store) (b : Bool) (F : Found progress g h i)
-      → MatchOption (component_at i g) ⊥ (λ c. MatchOption (port_of c port) ⊥ (λ p. header ≡ fresh (look_of g).made store p.setting.definition.size))
+      → MatchOption (component_at i g) ⊥ (λ c. MatchOption (port_of c port) ⊥ (λ p. header ≡ fresh (look_of g).key (look_of g).made store p.setting.definition.size))
       → (w : World) → Stands (kept progress g) w → MatchOption (port_of F.component port) ⊥ (λ p. header.held ≡ held_of (client_header w.made p b) no_load)
   made_header g h i port header store b F m = made_at g (port_of F.component port) header store b
-      (at_some (λ c. MatchOption (port_of c port) ⊥ (λ p. header ≡ fresh (look_of g).made store p.setting.definition.size)) (component_at i g) F.component F.at m)
+      (at_some (λ c. MatchOption (port_of c port) ⊥ (λ p. header ≡ fresh (look_of g).key (look_of g).made store p.setting.definition.size)) (component_at i g) F.component F.at m)
 
   module _ {T : Type 0} (R : Look → Component → Option OmxError) where
     pub done_at : (g k : Entries C) (h : Handle) (i : ℕ) (x : T) (Y : World → World → ℕ → Component → T → Type 0) (F : Found progress g h i)

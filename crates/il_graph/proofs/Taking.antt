@@ -8,22 +8,22 @@ use Rattle.il_machine.specs.declared.answer.Progress.{Progress}
 use Rattle.il_machine.specs.World.{Component, HeaderRecord, World, place_of, with_component}
 use Rattle.il_machine.specs.Headers.{find_header}
 use Rattle.il_machine.specs.Look.{Look}
-use Rattle.il_machine.specs.Due.{ClosesTo, IsClosed, first_due}
+use Rattle.il_machine.specs.Due.{ClosesTo}
 use Rattle.il_machine.specs.Answers.{plain, Resolving, component_named}
 use Rattle.il_machine.specs.Buffers.{Held, held, AtHeader}
 use Rattle.il_machine.specs.Components.{progress_of}
 use Rattle.il_machine.specs.Notes.{Taken, Took as Answer, TakenEmpty, TakenFilled, TookNote, TakeFrom, TakesHeader, EndNote, with_given, with_client, back_in}
 use Rattle.il_machine.specs.Whole.{Steps, StepsWhere}
-use Rattle.machine_laws.proofs.Closing.{closed_closes}
 use Rattle.whole_laws.proofs.Answering.{resolved}
 use Rattle.header_core.specs.BufferHeader.{BufferHeader, is_clients}
 use Rattle.note_queues.specs.declared.taken.Taken.{Taken as Given}
 use Rattle.note_queues.specs.declared.taken.Taken.TheVariants.{Told, EmptyDone, FillDone}
+use Rattle.note_queues.specs.declared.taken.Call.{Call}
 use Rattle.note_queues.specs.declared.taken.Took.{Took}
 use Rattle.note_queues.specs.declared.taken.Took.TheVariants as tooks
 use Rattle.note_queues.specs.Queues.{taken_of, took_of}
 use Rattle.graph_core.specs.Entries.{Entries, look_of, kept, component_at, entry_place}
-use Rattle.graph_core.specs.Changes.{Takes, TakesNote}
+use Rattle.graph_core.specs.Changes.{OnNoNote, Takes, TakesNote}
 use Rattle.graph_core.specs.Clients.{IsOut, WasTold}
 use Rattle.graph_core.proofs.Replacing.{entry_place_is}
 use Rattle.il_graph.proofs.Calling.{Found}
@@ -47,8 +47,8 @@ header_there w header a = mapped (λ r. (held r ≡ header.held) × (r.state.cli
 
 note_taken : (w x v : World) (i : ℕ) (c : Component) (taken : Given) → c.client_out ≡ false → TakesNote w i c taken x → ClosesTo x v → TakeFrom w i c c.client_out (slice_get c.notes 0) (Ok (TookNote (taken_of taken))) v
 note_taken w x v i c (Told event) o (n, e) z = rw (o, n) (refl, subst (λ (y : World). ClosesTo y v) e z)
-note_taken w x v i c (EmptyDone header) o (n, a, e) z = rw (o, n) (header_taken w x v i c (notes.EmptyDone header.held.number) header.held.number header.held TakenEmpty (header_there w header a) e z)
-note_taken w x v i c (FillDone header) o (n, a, e) z = rw (o, n) (header_taken w x v i c (notes.FillDone header.held.number) header.held.number header.held TakenFilled (header_there w header a) e z)
+note_taken w x v i c (EmptyDone header) o (n, a, e, own) z = rw (o, n) (header_taken w x v i c (notes.EmptyDone header.held.number) header.held.number header.held TakenEmpty (header_there w header a) e z)
+note_taken w x v i c (FillDone header) o (n, a, e, own) z = rw (o, n) (header_taken w x v i c (notes.FillDone header.held.number) header.held.number header.held TakenFilled (header_there w header a) e z)
 
 ends_some : (w v : World) (h : Handle) (i : ℕ) (c : Component) → place_of h w.components ≡ Some i → slice_get w.components i ≡ Some c → ClosesTo (with_component i (back_in c) w) v → EndNote w h v
 ends_some w v h i c e f z = rw (e, f) z
@@ -57,23 +57,39 @@ named_some : (w : World) (h : Handle) (c : Component) (told : Progress) → comp
 named_some w h c told e q = rw e at q
 
 module _ {C : Type 0} where
-  takes_from : (w x v : World) (i : ℕ) (c : Component) (took : Took C) → IsClosed w → Takes w i c took x → ClosesTo x v → TakeFrom w i c c.client_out (slice_get c.notes 0) (Ok (took_of took)) v
-  takes_from w x v i c tooks.Busy k (o, e) z = rw o (refl, closed_closes w v k (subst (λ (y : World). ClosesTo y v) e z))
-  takes_from w x v i c tooks.None k (o, n, e) z = rw (o, n) (refl, closed_closes w v k (subst (λ (y : World). ClosesTo y v) e z))
-  takes_from w x v i c (tooks.Call call) k (o, t) z = note_taken w x v i c call.taken o t z
+  stays_from : (w v : World) (i : ℕ) (c : Component) (took : Took C) → Takes w i c took v → OnNoNote took (TakeFrom w i c c.client_out (slice_get c.notes 0) (Ok (took_of took)) v)
+  stays_from w v i c tooks.Busy (o, e) = rw o (refl, e)
+  stays_from w v i c tooks.None (o, n, e) = rw (o, n) (refl, e)
+  stays_from w v i c (tooks.Call call) t = tt
 
   module _ (progress : C → Progress) where
-    pub taken_at : (g m k : Entries C) (h : Handle) (i : ℕ) (took : Took C) (F : Found progress g h i) → first_due (look_of g) ≡ None
-        → MatchOption (component_at i g) ⊥ (λ c. Steps (kept progress g) (kept progress m) (λ w v. Takes w i c took v))
+    abbrev Taking : Handle → Took C → World → World → Type 0
+    Taking h took w v = Resolving plain w h (Ok (took_of took)) v (λ j c. TakeFrom w j c c.client_out (slice_get c.notes 0) (Ok (took_of took)) v)
+
+    abbrev Took_at : ℕ → Took C → Entries C → Entries C → Type 0
+    Took_at i took g m = MatchOption (component_at i g) ⊥ (λ c. Steps (kept progress g) (kept progress m) (λ w v. Takes w i c took v))
+
+    pub taken_at : (g m k : Entries C) (h : Handle) (i : ℕ) (call : Call C) (F : Found progress g h i) → Took_at i (tooks.Call call) g m
         → Steps (kept progress m) (kept progress k) ClosesTo
-        → Steps (kept progress g) (kept progress k) (λ w v. Resolving plain w h (Ok (took_of took)) v (λ j c. TakeFrom w j c c.client_out (slice_get c.notes 0) (Ok (took_of took)) v))
-    taken_at g m k h i took F closed s closes =
+        → Steps (kept progress g) (kept progress k) (Taking h (tooks.Call call))
+    taken_at g m k h i call F s closes =
+        let took = tooks.Call call in
         let t : Steps (kept progress g) (kept progress m) (λ w v. Takes w i F.component took v) = rw F.at at s in
         resolved plain (kept progress g) (kept progress k) h i F.component (Ok (took_of took)) (λ w v j c. TakeFrom w j c c.client_out (slice_get c.notes 0) (Ok (took_of took)) v) F.place F.at
         (λ w S.
         let x = t w S in
         let y = closes x.0 x.1 in
-        (y.0, y.1, takes_from w x.0 y.0 i F.component took (ap first_due S.looks ∙ closed) x.2 y.2))
+        (y.0, y.1, note_taken w x.0 y.0 i F.component call.taken x.2.0 x.2.1 y.2))
+
+    -- without a note the world stays, and so does all that was due: nothing
+    pub none_taken_at : (g m : Entries C) (h : Handle) (i : ℕ) (took : Took C) (F : Found progress g h i) → ((P : Type 0) → OnNoNote took P → P) → Took_at i took g m
+        → Steps (kept progress g) (kept progress m) (Taking h took)
+    none_taken_at g m h i took F none s =
+        let t : Steps (kept progress g) (kept progress m) (λ w v. Takes w i F.component took v) = rw F.at at s in
+        resolved plain (kept progress g) (kept progress m) h i F.component (Ok (took_of took)) (λ w v j c. TakeFrom w j c c.client_out (slice_get c.notes 0) (Ok (took_of took)) v) F.place F.at
+        (λ w S.
+        let x = t w S in
+        (x.0, x.1, none _ (stays_from w x.0 i F.component took x.2)))
 
     -- ---- the client object comes back
 

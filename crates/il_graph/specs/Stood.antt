@@ -1,7 +1,8 @@
 -- The worlds that a graph stands for, and what its clauses say of a result that hands something back.
 use Rattle.std.specs.Prelude.{◌≡◌, ℕ, Bool, List, None, Some, Option, is_some, Result, Ok, Err}
+use Rattle.omx_types.specs.declared.error.CallError.{CallError}
+use Rattle.omx_types.specs.declared.error.CallError.TheVariants.{Omx, OutOfMemory}
 use Rattle.il_machine.specs.Buffers.{Held}
-use Rattle.il_machine.specs.Due.{first_due}
 use Rattle.il_machine.specs.Notes.{Took}
 use Rattle.il_machine.specs.declared.answer.Acted.{Acted}
 use Rattle.il_machine.specs.declared.answer.Acted.TheVariants.{Did, Idle}
@@ -10,7 +11,6 @@ use Rattle.header_core.specs.declared.memory.Store.TheVariants.{Own, Block}
 use Rattle.header_core.specs.BufferHeader.{BufferHeader}
 use Rattle.note_queues.specs.Queues.{took_of}
 use Rattle.note_queues.specs.declared.taken.Took.{Took as Given}
-use Rattle.graph_core.specs.Entries.{Entries, look_of}
 
 -- the answer without what it hands back
 abbrev pub plainly : {T E X : Type 0} → Result T (E × X) → Result T E
@@ -43,9 +43,10 @@ OnIdle (Ok (Idle why)) P = P
 OnIdle (Ok Did) P = Unit {0}
 OnIdle (Err e) P = Unit {0}
 
--- between two calls nothing pending is due
-abbrev pub IsSettled : {C : Type 0} → Entries C → Type 0
-IsSettled g = first_due (look_of g) ≡ None
+-- the answer was a refusal, and not want of memory
+abbrev pub OnRefusal : CallError → Type 0 → Type 0
+OnRefusal (Omx error) P = P
+OnRefusal OutOfMemory P = Unit {0}
 
 -- a note as the machine tells it
 abbrev pub tookly : {C E : Type 0} → Result (Given C) E → Result Took E

@@ -8,11 +8,13 @@ mod parameters;
 mod supplying;
 mod tunnels;
 
-ghost use Rattle.std.specs.Prelude.{◌≡◌, None, IfOk};
+ghost use Rattle.std.specs.Prelude.{◌≡◌, ◌≢◌, ℕ, Some, None, IfOk};
+ghost use Rattle.omx_types.specs.declared.handle.Handle.{Handle as Named};
+ghost use Rattle.il_machine.specs.Buffers.{IsWithClient};
 ghost use Rattle.il_machine.specs.Components.{state_answer, view_answer, progress_answer, handle_at};
 ghost use Rattle.il_machine.specs.Look.{look};
 ghost use Rattle.il_machine.specs.Whole.{Always, no_kept};
-ghost use Rattle.graph_core.specs.Entries.{kept};
+ghost use Rattle.graph_core.specs.Entries.{client_named, kept, look_of};
 
 use graph_core::Core;
 use il_machine::{PortView, Progress};
@@ -21,7 +23,7 @@ use omx_types::{Handle, OmxError, State};
 use std::alloc::{AllocError, Global};
 use std::marker::Model;
 
-/// A graph of components, each with a client object of the type `C`. It is ended by `close`.
+/// A graph of components, each with a client object of the type `C`. It is ended by `close`, or by `dispose` where it stops in the middle.
 pub struct Graph<C: Client> {
     pub(crate) core: Core<C>,
 }
@@ -39,9 +41,9 @@ impl<C: Client> Model for Graph<C> {
 }
 
 impl<C: Client> Graph<C> {
-    /// A graph with no component, and so many free units.
+    /// A graph with no component, and so many free units. No call takes or gives back units yet.
     pub fn new(alloc: Global, units: u32) -> Result<Graph<C>, AllocError>
-        ensures { IfOk result (λ g. kept C.progress g ≡ no_kept units) }
+        ensures { IfOk result (λ g. kept C.progress g ≡ no_kept (look_of g).key units) }
     {
         Ok(Graph {
             core: Core::new(alloc, units)?,
@@ -91,9 +93,18 @@ impl<C: Client> Graph<C> {
 }
 
 impl<C: Client + Drop> Graph<C> {
-    /// Ends all components, ports and headers, with the client objects.
-    pub fn close(self) {
+    /// Ends all components and ports, the headers that are with them, and the client objects. Nothing is out: the client has no
+    /// header, and each client object is in.
+    pub fn close(self)
+        requires headers { (number : ℕ) → ¬ (IsWithClient number (look_of self)) }
+        requires clients { (h : Named) → client_named h self ≢ Some None }
+    {
+        self.dispose();
+    }
+
+    /// Ends a graph in the middle, whatever it holds. Headers that the client has can't be handed in any more.
+    pub fn dispose(self) {
         let Graph { core } = self;
-        core.close();
+        core.dispose();
     }
 }

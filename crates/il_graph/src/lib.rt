@@ -1,5 +1,8 @@
 //! A graph of audio components: the calls of the integration layer's core, each a step of the machine; and a source and a sink with
 //! headers on their way between them.
+//!
+//! What each call of `Graph` refuses, and in which order, stands in its clause `step`, by the definitions of `il_machine`;
+//! `docs/MACHINE.md` tells it in words.
 #![tactic(auto)]
 
 mod graph;

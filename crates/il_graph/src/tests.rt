@@ -1,9 +1,16 @@
+mod buffers;
+mod handles;
+mod tunnels;
+
+ghost use Rattle.graph_core.specs.Entries.{look_of};
+ghost use Rattle.il_graph.specs.HandedIn.{StayHandedIn, IsHandedOut};
+
 use crate::Graph;
-use header_core::Store;
+use header_core::Header;
 use il_machine::{Acted, Progress};
 use note_queues::{Call, Client, ProgressClient, Taken, Took};
 use omx_types::{
-    CallError, Command, Completion, Event, Format, Handle, OmxError, Param, ParamKey,
+    CallError, Command, Completion, Event, Format, Handle, Note, OmxError, Param, ParamKey,
     PortDefinition, PortSel, State, Version,
 };
 use std::alloc::Global;
@@ -34,26 +41,81 @@ fn refused(rt: &impl Abort, alloc: Global, graph: &mut Plain, name: &str) -> Cal
     }
 }
 
-/// The event of the component's oldest note, which its client object was told. That is in again.
-fn told(rt: &impl Abort, graph: &mut Plain, h: Handle) -> Option<Event> {
+/// The component's oldest note. Its client object, which was told it, is in again, and a header in it is let go.
+fn noted(rt: &impl Abort, graph: &mut Plain, h: Handle) -> Option<Note>
+    ensures { StayHandedIn (look_of graph.old) (look_of graph.new) }
+{
     let call = match graph.take_note(h) {
         Ok(Took::Call(call)) => call,
         Ok(Took::None) => return None,
         Ok(Took::Busy) | Err(_) => panic!(rt; "no client object"),
     };
     let Call { mut client, taken } = call;
-    let event = match taken {
-        Taken::Told(event) => event,
-        Taken::EmptyDone(header) | Taken::FillDone(header) => {
-            match header.into_store() {
-                Store::Own(_) | Store::Block(_) => panic!(rt; "a header"),
-            }
+    let note = match taken {
+        Taken::Told(event) => {
+            client.told(event);
+            Note::Told(event)
         }
+        Taken::EmptyDone(header) => Note::EmptyDone(spent(header)),
+        Taken::FillDone(header) => Note::FillDone(spent(header)),
     };
-    client.told(event);
     graph.law_of_worlds();
     graph.end_note(h, client);
-    Some(event)
+    Some(note)
+}
+
+/// Whether the client object is out as a note is taken, which is let go with it.
+fn is_busy(graph: &mut Plain, h: Handle) -> Result<bool, OmxError> {
+    let call = match graph.take_note(h) {
+        Ok(Took::Call(call)) => call,
+        Ok(Took::None) => return Ok(false),
+        Ok(Took::Busy) => return Ok(true),
+        Err(error) => return Err(error),
+    };
+    let Call { client: _, taken } = call;
+    match taken {
+        Taken::Told(_) => {}
+        Taken::EmptyDone(header) | Taken::FillDone(header) => header.dispose(),
+    }
+    Ok(false)
+}
+
+/// The number of a header, which is let go.
+fn spent(header: Header) -> u64 {
+    let id = header.id();
+    header.dispose();
+    id
+}
+
+fn told(completion: Completion) -> Option<Note> {
+    Some(Note::Told(Event::CmdComplete(completion)))
+}
+
+/// Sends a command, and runs it.
+fn order(rt: &impl Abort, graph: &mut Plain, h: Handle, command: Command)
+    ensures { StayHandedIn (look_of graph.old) (look_of graph.new) }
+{
+    assert_eq!(rt; graph.send_command(h, command), Ok(()));
+    assert_eq!(rt; graph.run_command(h), Ok(Acted::Did));
+}
+
+/// Orders a state that is reached at once.
+fn reach(rt: &impl Abort, graph: &mut Plain, h: Handle, state: State)
+    ensures { StayHandedIn (look_of graph.old) (look_of graph.new) }
+{
+    order(rt, graph, h, Command::StateSet(state));
+    assert_eq!(rt; noted(rt, graph, h), told(Completion::State(state)));
+}
+
+/// A header of the port.
+fn allocated(rt: &impl Abort, alloc: Global, graph: &mut Plain, h: Handle, port: u32) -> Header
+    ensures held { StayHandedIn (look_of graph.old) (look_of graph.new) }
+    ensures handed { IsHandedOut (look_of graph.old) (look_of graph.new) result }
+{
+    match graph.allocate_buffer(alloc, h, port) {
+        Ok(header) => header,
+        Err(_) => panic!(rt; "no header"),
+    }
 }
 
 #[test]
@@ -70,7 +132,7 @@ fn stale_handle(rt: HostRuntime) -> Result<(), Fail> {
     );
     assert_eq!(rt; graph.handle_at(0), Some(b));
     assert_eq!(rt; graph.handle_at(1), None);
-    graph.close();
+    graph.dispose();
     Ok(())
 }
 
@@ -81,7 +143,7 @@ fn names_refused(rt: HostRuntime) -> Result<(), Fail> {
     assert_eq!(rt; empty, CallError::Omx(OmxError::InvalidComponentName));
     let nine = refused(&rt, rt.alloc(), &mut graph, "OMX.lab.mixer.9");
     assert_eq!(rt; nine, CallError::Omx(OmxError::ComponentNotFound));
-    graph.close();
+    graph.dispose();
     Ok(())
 }
 
@@ -102,7 +164,7 @@ fn thirty_two_components(rt: HostRuntime) -> Result<(), Fail> {
     assert_eq!(rt; again.generation, 32);
     assert_eq!(rt; graph.handle_at(31), Some(again));
     assert_eq!(rt; graph.get_state(third), Err(OmxError::InvalidComponent));
-    graph.close();
+    graph.dispose();
     Ok(())
 }
 
@@ -137,7 +199,7 @@ fn parameters_refused(rt: HostRuntime) -> Result<(), Fail> {
         Ok(())
     );
     assert_eq!(rt; graph.get_config(gain, key(4, 0)), Ok(Param::Gain(2048)));
-    graph.close();
+    graph.dispose();
     Ok(())
 }
 
@@ -158,7 +220,7 @@ fn idle_without_ports(rt: HostRuntime) -> Result<(), Fail> {
     assert_eq!(rt; graph.get_state(gain), Ok(State::Loaded));
     assert_eq!(rt; graph.run_command(gain), Ok(Acted::Did));
     assert_eq!(rt; graph.get_state(gain), Ok(State::Idle));
-    graph.close();
+    graph.dispose();
     Ok(())
 }
 
@@ -169,23 +231,54 @@ fn notes_told(rt: HostRuntime) -> Result<(), Fail> {
     let gain = made(&rt, rt.alloc(), &mut graph, "OMX.lab.gain");
     let disable = Command::PortDisable(PortSel::All);
     assert_eq!(rt; graph.send_command(gain, disable), Ok(()));
-    assert_eq!(rt; told(&rt, &mut graph, gain), None);
+    assert_eq!(rt; noted(&rt, &mut graph, gain), None);
     assert_eq!(rt; graph.run_command(gain), Ok(Acted::Did));
     for port in 0..2 {
-        let disabled = Event::CmdComplete(Completion::Disable(port));
-        assert_eq!(rt; told(&rt, &mut graph, gain), Some(disabled));
+        assert_eq!(rt;
+            noted(&rt, &mut graph, gain),
+            told(Completion::Disable(port))
+        );
     }
-    let idle = Command::StateSet(State::Idle);
-    assert_eq!(rt; graph.send_command(gain, idle), Ok(()));
-    assert_eq!(rt; graph.run_command(gain), Ok(Acted::Did));
-    let reached = Event::CmdComplete(Completion::State(State::Idle));
-    assert_eq!(rt; told(&rt, &mut graph, gain), Some(reached));
+    reach(&rt, &mut graph, gain, State::Idle);
     let progress = Progress {
         state: Some(State::Idle),
         eos: false,
         error: None,
     };
     assert_eq!(rt; graph.progress(gain), Ok(Some(progress)));
-    graph.close();
+    graph.dispose();
+    Ok(())
+}
+
+/// A note is taken once, and none comes while the client object is out.
+#[test]
+fn busy_until_the_end(rt: HostRuntime) -> Result<(), Fail> {
+    let mut graph = Plain::new(rt.alloc(), 8)?;
+    let gain = made(&rt, rt.alloc(), &mut graph, "OMX.lab.gain");
+    order(&rt, &mut graph, gain, Command::Flush(PortSel::All));
+    assert_eq!(rt; is_busy(&mut graph, gain), Ok(false));
+    assert_eq!(rt; is_busy(&mut graph, gain), Ok(true));
+    assert_eq!(rt; graph.progress(gain), Ok(None));
+    graph.dispose();
+    Ok(())
+}
+
+/// Each command but StateSet(Invalid) reserves its places, and 32 are the most that wait.
+#[test]
+fn command_queue_full(rt: HostRuntime) -> Result<(), Fail> {
+    let mut graph = Plain::new(rt.alloc(), 8)?;
+    let gain = made(&rt, rt.alloc(), &mut graph, "OMX.lab.gain");
+    let flush = Command::Flush(PortSel::One(0));
+    for _ in 0..32 {
+        assert_eq!(rt; graph.send_command(gain, flush), Ok(()));
+    }
+    assert_eq!(rt;
+        graph.send_command(gain, flush),
+        Err(OmxError::InsufficientResources)
+    );
+    assert_eq!(rt; graph.run_command(gain), Ok(Acted::Did));
+    assert_eq!(rt; noted(&rt, &mut graph, gain), told(Completion::Flush(0)));
+    assert_eq!(rt; graph.send_command(gain, flush), Ok(()));
+    graph.dispose();
     Ok(())
 }

@@ -166,7 +166,7 @@ fn time_case(rt: &HostRuntime, sinks: u32, headers: u32) -> io::Result<Result<u1
         Err(error) => return Ok(Err(Stopped::from(error))),
     };
     let timed = time_acts(rt, &mut graph, sinks, headers);
-    graph.close();
+    graph.dispose();
     timed
 }
 

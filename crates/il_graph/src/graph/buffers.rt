@@ -1,7 +1,7 @@
 //! Headers of client ports (OpenMAX IL 1.1.2, `OMX_AllocateBuffer`, `OMX_UseBuffer`, `OMX_FreeBuffer`, `OMX_EmptyThisBuffer`,
 //! `OMX_FillThisBuffer`).
 
-ghost use Rattle.std.specs.Prelude.{◌≡◌, OnErr, IfOk, IfErr, false, length, option_map};
+ghost use Rattle.std.specs.Prelude.{◌≡◌, OnOk, OnErr, IfOk, IfErr, false, length, option_map};
 ghost use Rattle.il_machine.specs.Buffers.{AllocateBuffer, UseBuffer, FreeBuffer, EmptyThisBuffer, FillThisBuffer};
 ghost use Rattle.il_machine.specs.Whole.{Steps};
 ghost use Rattle.header_core.specs.declared.memory.Store.TheVariants.{Own};
@@ -9,7 +9,7 @@ ghost use Rattle.header_core.specs.BufferHeader.{is_clients};
 ghost use Rattle.graph_core.specs.Entries.{kept, look_of};
 ghost use Rattle.graph_core.specs.Changes.{IsHandedIn};
 ghost use Rattle.graph_core.specs.Clients.{KeepsAllClients};
-ghost use Rattle.il_graph.specs.HandedIn.{KeepsHandedIn, KeepsOthersHandedIn, IsHandedOut};
+ghost use Rattle.il_graph.specs.HandedIn.{StayHandedIn, KeepsOthersHandedIn, IsTakenIn, IsHandedOut};
 ghost use Rattle.il_graph.specs.Stood.{plainly, heldly, memory_back, own_memory};
 
 use crate::graph::Graph;
@@ -44,7 +44,7 @@ impl<C: Client> Graph<C> {
         port: u32,
     ) -> Result<Header, CallError>
         ensures step { Steps (kept C.progress self.old) (kept C.progress self.new) (λ w v. AllocateBuffer w h port (heldly result) v) }
-        ensures held { KeepsHandedIn (look_of self.old) (look_of self.new) }
+        ensures held { StayHandedIn (look_of self.old) (look_of self.new) }
         ensures handed { IfOk result (λ header. IsHandedOut (look_of self.old) (look_of self.new) header) }
         ensures memory { IfOk result (λ header. is_clients header.store ≡ false) }
         ensures unchanged { OnErr result (self.new ≡ self.old) }
@@ -68,7 +68,7 @@ impl<C: Client> Graph<C> {
         Ok(header)
     }
 
-    /// A header over the client's own memory, which is of the port's size at least.
+    /// A header over the client's own memory, which has the port's size at least and 4,096 bytes at most.
     pub fn use_buffer(
         &mut self,
         h: Handle,
@@ -76,7 +76,7 @@ impl<C: Client> Graph<C> {
         bytes: Vec<u8>,
     ) -> Result<Header, (OmxError, Vec<u8>)>
         ensures step { Steps (kept C.progress self.old) (kept C.progress self.new) (λ w v. UseBuffer w h port bytes.items (heldly (plainly result)) v) }
-        ensures held { KeepsHandedIn (look_of self.old) (look_of self.new) }
+        ensures held { StayHandedIn (look_of self.old) (look_of self.new) }
         ensures handed { IfOk result (λ header. IsHandedOut (look_of self.old) (look_of self.new) header) }
         ensures memory { IfOk result (λ header. header.store ≡ Own bytes.items) }
         ensures handed_back { IfErr result (λ e. e.1 ≡ bytes) }
@@ -107,6 +107,7 @@ impl<C: Client> Graph<C> {
         requires handed { IsHandedIn header (look_of self.old) }
         ensures step { Steps (kept C.progress self.old) (kept C.progress self.new) (λ w v. FreeBuffer w h port header.held.number (memory_back (plainly result)) v) }
         ensures held { KeepsOthersHandedIn header (look_of self.old) (look_of self.new) }
+        ensures taken { OnOk result (IsTakenIn header (look_of self.new)) }
         ensures memory { IfOk result (λ bytes. option_map (λ b. b.items) bytes ≡ own_memory header.store) }
         ensures handed_back { IfErr result (λ e. e.1 ≡ header) }
         ensures unchanged { OnErr result (self.new ≡ self.old) }
@@ -124,7 +125,7 @@ impl<C: Client> Graph<C> {
         Ok(given_back(store))
     }
 
-    /// The header goes to the back of the input port's todo.
+    /// The header goes to the back of the input port's todo. Its content is of whole frames of the port's format, else it is refused.
     pub fn empty_this_buffer(
         &mut self,
         h: Handle,
@@ -134,6 +135,7 @@ impl<C: Client> Graph<C> {
         requires handed { IsHandedIn header (look_of self.old) }
         ensures step { Steps (kept C.progress self.old) (kept C.progress self.new) (λ w v. EmptyThisBuffer w h port header.held (plainly result) v) }
         ensures held { KeepsOthersHandedIn header (look_of self.old) (look_of self.new) }
+        ensures taken { OnOk result (IsTakenIn header (look_of self.new)) }
         ensures handed_back { IfErr result (λ e. e.1 ≡ header) }
         ensures unchanged { OnErr result (self.new ≡ self.old) }
         ensures clients { KeepsAllClients self.old self.new }
@@ -160,6 +162,7 @@ impl<C: Client> Graph<C> {
         requires handed { IsHandedIn header (look_of self.old) }
         ensures step { Steps (kept C.progress self.old) (kept C.progress self.new) (λ w v. FillThisBuffer w h port header.held (plainly result) v) }
         ensures held { KeepsOthersHandedIn header (look_of self.old) (look_of self.new) }
+        ensures taken { OnOk result (IsTakenIn header (look_of self.new)) }
         ensures handed_back { IfErr result (λ e. e.1 ≡ header) }
         ensures unchanged { OnErr result (self.new ≡ self.old) }
         ensures clients { KeepsAllClients self.old self.new }

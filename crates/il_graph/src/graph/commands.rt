@@ -6,6 +6,7 @@ ghost use Rattle.il_machine.specs.Whole.{Steps};
 ghost use Rattle.graph_core.specs.Entries.{kept, look_of};
 ghost use Rattle.graph_core.specs.Clients.{KeepsAllClients};
 ghost use Rattle.il_graph.specs.HandedIn.{KeepsHandedIn};
+ghost use Rattle.il_graph.specs.Stood.{OnIdle};
 
 use crate::graph::Graph;
 use il_machine::{Acted, Why};
@@ -37,6 +38,7 @@ impl<C: Client> Graph<C> {
         ensures step { Steps (kept C.progress self.old) (kept C.progress self.new) (λ w v. RunCommand w h result v) }
         ensures held { KeepsHandedIn (look_of self.old) (look_of self.new) }
         ensures unchanged { OnErr result (self.new ≡ self.old) }
+        ensures idle { OnIdle result (self.new ≡ self.old) }
         ensures clients { KeepsAllClients self.old self.new }
     {
         self.core.law_of_worlds();

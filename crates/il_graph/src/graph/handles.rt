@@ -6,7 +6,7 @@ ghost use Rattle.il_machine.specs.Whole.{Steps};
 ghost use Rattle.graph_core.specs.Entries.{kept, client_named, client_of, look_of};
 ghost use Rattle.graph_core.specs.Clients.{KeepsClients, KeepsAllClients};
 ghost use Rattle.il_graph.specs.HandedIn.{KeepsHandedIn};
-ghost use Rattle.il_graph.specs.Stood.{plainly, wordless};
+ghost use Rattle.il_graph.specs.Stood.{plainly, wordless, OnRefusal};
 
 use crate::graph::Graph;
 use note_queues::Client;
@@ -27,6 +27,7 @@ impl<C: Client> Graph<C> {
         ensures clients { IfOk result (λ h. KeepsClients h self.old self.new) }
         ensures held { KeepsHandedIn (look_of self.old) (look_of self.new) }
         ensures handed_back { IfErr result (λ e. e.1 ≡ client) }
+        ensures refused { IfErr result (λ e. OnRefusal e.0 (self.new ≡ self.old)) }
         ensures unchanged { OnErr result (kept C.progress self.new ≡ kept C.progress self.old) }
         ensures clients_unchanged { OnErr result (KeepsAllClients self.old self.new) }
     {

@@ -16,7 +16,7 @@ use note_queues::Client;
 
 impl<C: Client> Graph<C> {
     /// There is a world that the graph stands for. Each is sound, has its census and its room, and has nothing due; and each client object that is
-    /// in was told all events that were given for its component.
+    /// in has the progress of all events that were given for its component.
     pub fn law_of_worlds(&self)
         ensures one { SoundWorld (kept C.progress self.now) }
         ensures sound { Always (kept C.progress self.now) Sound }

@@ -12,7 +12,7 @@ use Rattle.header_core.specs.BufferHeader.{is_clients}
 use Rattle.il_graph.proofs.Calling.{Found, found}
 use Rattle.il_graph.proofs.Handing.{changed_on, and_said, made_header, not_found_taking, refused_taking, wanting_at, done_taking}
 use Rattle.il_machine.specs.Acts as acts
-use Rattle.il_graph.proofs.HandedIn.{keeps_over, keeps_same, made_store, allocated_out}
+use Rattle.il_graph.proofs.HandedIn.{stays_over, stays_same, made_key, made_store, allocated_out}
 use Rattle.il_graph.proofs.graph.Graph.allocate_buffer.Goals as goal
 
 pub returns-in_default-clause-step : goal.returns-in_default-clause-step
@@ -51,18 +51,18 @@ pub returns-clause-clients : goal.returns-clause-clients
 returns-clause-clients g c = rw (← c.self.view_is) (λ k. c.close_out.ensures.clients k ∙ c.make_header-header.ensures.clients k)
 
 pub returns-in_default-clause-held : goal.returns-in_default-clause-held
-returns-in_default-clause-held g c = rw (← c.self.view_is) (keeps_same g.C.Client.progress c.self.inside.core)
+returns-in_default-clause-held g c = rw (← c.self.view_is) (stays_same g.C.Client.progress c.self.inside.core)
 
 pub returns-in-Some-allocate_refusal-clause-held : goal.returns-in-Some-allocate_refusal-clause-held
-returns-in-Some-allocate_refusal-clause-held g c = rw (← c.self.view_is) (keeps_same g.C.Client.progress c.self.inside.core)
+returns-in-Some-allocate_refusal-clause-held g c = rw (← c.self.view_is) (stays_same g.C.Client.progress c.self.inside.core)
 
 pub returns-in_default-block-clause-held : goal.returns-in_default-block-clause-held
-returns-in_default-block-clause-held g c = rw (← c.self.view_is) (keeps_same g.C.Client.progress c.self.inside.core)
+returns-in_default-block-clause-held g c = rw (← c.self.view_is) (stays_same g.C.Client.progress c.self.inside.core)
 
 pub returns-clause-held : goal.returns-clause-held
 returns-clause-held g c =
     let G = c.self.inside.core in
-    rw (← c.self.view_is) (keeps_over g.C.Client.progress G c.close_out.new.self (acts.AllocateBuffer c.args.h c.args.port) (acts.Allocated (Ok c.make_header-header.result.held)) refl (λ w. tt) c.law_of_worlds.ensures.one (rw (← c.self.view_is) at (returns-clause-step g c)))
+    rw (← c.self.view_is) (stays_over g.C.Client.progress G c.close_out.new.self (acts.AllocateBuffer c.args.h c.args.port) (acts.Allocated (Ok c.make_header-header.result.held)) refl (λ w. tt) c.law_of_worlds.ensures.one (rw (← c.self.view_is) at (returns-clause-step g c)))
 
 pub returns-clause-handed : goal.returns-clause-handed
 returns-clause-handed g c =
@@ -70,4 +70,5 @@ returns-clause-handed g c =
     let G = c.self.inside.core in
     let F : Found p G c.args.h c.in-Some.place = found p G c.args.h c.in-Some.place c.in-Some.ensures.place c.in-Some.ensures.within in
     let memory = ap is_clients (made_store p G c.args.h c.in-Some.place c.args.port c.make_header-header.result (Block c.new.result) F c.make_header-header.ensures.header) in
-    rw (← c.self.view_is) (allocated_out p G c.close_out.new.self c.args.h c.args.port c.make_header-header.result memory c.law_of_worlds.ensures.one (rw (← c.self.view_is) at (returns-clause-step g c)))
+    let own = made_key p G c.args.h c.in-Some.place c.args.port c.make_header-header.result (Block c.new.result) F c.make_header-header.ensures.header in
+    rw (← c.self.view_is) (allocated_out p G c.close_out.new.self c.args.h c.args.port c.make_header-header.result own memory c.law_of_worlds.ensures.one (rw (← c.self.view_is) at (returns-clause-step g c)))

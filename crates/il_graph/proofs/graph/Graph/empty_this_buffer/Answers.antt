@@ -11,7 +11,7 @@ use Rattle.graph_core.specs.Changes.{IsHandedIn}
 use Rattle.graph_core.specs.Entries.{look_of}
 use Rattle.il_graph.proofs.Calling.{Found, found, not_found}
 use Rattle.il_graph.proofs.Handing.{there_is_one, changed_on, refused_with, done_with}
-use Rattle.il_graph.proofs.HandedIn.{emptied_over, others_same}
+use Rattle.il_graph.proofs.HandedIn.{emptied_in, emptied_over, others_same}
 use Rattle.il_graph.proofs.graph.Graph.empty_this_buffer.Goals as goal
 
 pub returns-in_default-clause-step : goal.returns-in_default-clause-step
@@ -27,7 +27,7 @@ returns-in-Some-empty_refusal-clause-step g c =
     let n = c.args.header.held in
     let F : Found p G c.args.h c.in-Some.place = found p G c.args.h c.in-Some.place c.in-Some.ensures.place c.in-Some.ensures.within in
     let handed : IsHandedIn c.args.header (look_of G) = rw (← c.self.view_is) at c.requires.handed in
-    let x = there_is_one _ ((look_of G).headers.header n.number) handed in
+    let x = there_is_one _ ((look_of G).headers.header n.number) handed.1 in
     rw (← c.self.view_is) (refused_with p (λ (k : Component) (s : HeaderState). empty_refusal k (port_of k c.args.port) s n.content) G c.args.h c.in-Some.place n.number x.0 c.in-Some-empty_refusal.error
     (λ w v i k s (_ : Unit {0}). AtPort (port_of k c.args.port) (λ p. ClosesTo (with_todo p.key n.number (loaded (load_in n)) w) v)) F x.1 c.in-Some-empty_refusal.ensures)
 
@@ -38,7 +38,7 @@ returns-clause-step g c =
     let n = c.args.header.held in
     let F : Found p G c.args.h c.in-Some.place = found p G c.args.h c.in-Some.place c.in-Some.ensures.place c.in-Some.ensures.within in
     let handed : IsHandedIn c.args.header (look_of G) = rw (← c.self.view_is) at c.requires.handed in
-    let x = there_is_one _ ((look_of G).headers.header n.number) handed in
+    let x = there_is_one _ ((look_of G).headers.header n.number) handed.1 in
     let step = changed_on p G c.take_in.new.self c.close_out.new.self c.args.h c.in-Some.place c.args.port (λ k q w. with_todo q.key n.number (loaded (load_in n)) w) F c.take_in.ensures.change c.close_out.ensures.closes in
     rw (← c.self.view_is) (done_with p (λ (k : Component) (s : HeaderState). empty_refusal k (port_of k c.args.port) s n.content) G c.close_out.new.self c.args.h c.in-Some.place n.number x.0 tt
     (λ w v i k s (_ : Unit {0}). AtPort (port_of k c.args.port) (λ p. ClosesTo (with_todo p.key n.number (loaded (load_in n)) w) v)) F x.1 c.in_default-empty_refusal.ensures step)
@@ -57,3 +57,9 @@ returns-clause-held g c =
     let G = c.self.inside.core in
     let handed : IsHandedIn c.args.header (look_of G) = rw (← c.self.view_is) at c.requires.handed in
     rw (← c.self.view_is) (emptied_over g.C.Client.progress G c.close_out.new.self c.args.h c.args.port c.args.header (Ok tt) handed c.law_of_worlds.ensures.one (rw (← c.self.view_is) at (returns-clause-step g c)))
+
+pub returns-clause-taken : goal.returns-clause-taken
+returns-clause-taken g c =
+    let G = c.self.inside.core in
+    let handed : IsHandedIn c.args.header (look_of G) = rw (← c.self.view_is) at c.requires.handed in
+    emptied_in g.C.Client.progress G c.close_out.new.self c.args.h c.args.port c.args.header handed c.law_of_worlds.ensures.one (rw (← c.self.view_is) at (returns-clause-step g c))

@@ -11,7 +11,7 @@ use Rattle.graph_core.specs.Changes.{IsHandedIn}
 use Rattle.graph_core.specs.Entries.{look_of, component_at}
 use Rattle.il_graph.proofs.Calling.{Found, found, not_found}
 use Rattle.il_graph.proofs.Handing.{there_is_one, goes_back, and_true, changed_on, refused_with, done_with}
-use Rattle.il_graph.proofs.HandedIn.{freed_over, others_same}
+use Rattle.il_graph.proofs.HandedIn.{freed_in, freed_over, others_same}
 use Rattle.il_graph.proofs.graph.Graph.free_buffer.Goals as goal
 
 pub returns-in_default-clause-step : goal.returns-in_default-clause-step
@@ -27,7 +27,7 @@ returns-in-Some-free_buffer_refusal-clause-step g c =
     let n = c.args.header.held in
     let F : Found p G c.args.h c.in-Some.place = found p G c.args.h c.in-Some.place c.in-Some.ensures.place c.in-Some.ensures.within in
     let handed : IsHandedIn c.args.header (look_of G) = rw (← c.self.view_is) at c.requires.handed in
-    let x = there_is_one _ ((look_of G).headers.header n.number) handed in
+    let x = there_is_one _ ((look_of G).headers.header n.number) handed.1 in
     let refused = subst (λ (m : ℕ). MatchOption (component_at c.in-Some.place G) ⊥ (λ k. AtState m (look_of G) (λ s. Some c.in-Some-free_buffer_refusal.error ≡ free_buffer_refusal k (port_of k c.args.port) s))) c.id.ensures c.in-Some-free_buffer_refusal.ensures in
     rw (← c.self.view_is) (refused_with p (λ (k : Component) (s : HeaderState). free_buffer_refusal k (port_of k c.args.port) s) G c.args.h c.in-Some.place n.number x.0 c.in-Some-free_buffer_refusal.error
     (λ w v i k s (b : Bool). AtPort (port_of k c.args.port) (λ p. (b ≡ s.client_memory) × ClosesTo (without_header n.number (with_component i (unpopulated p k) w)) v)) F x.1 refused)
@@ -39,7 +39,7 @@ returns-clause-step g c =
     let n = c.args.header.held in
     let F : Found p G c.args.h c.in-Some.place = found p G c.args.h c.in-Some.place c.in-Some.ensures.place c.in-Some.ensures.within in
     let handed : IsHandedIn c.args.header (look_of G) = rw (← c.self.view_is) at c.requires.handed in
-    let x = there_is_one _ ((look_of G).headers.header n.number) handed in
+    let x = there_is_one _ ((look_of G).headers.header n.number) handed.1 in
     let allowed = subst (λ (m : ℕ). MatchOption (component_at c.in-Some.place G) ⊥ (λ k. AtState m (look_of G) (λ s. None ≡ free_buffer_refusal k (port_of k c.args.port) s))) c.id.ensures c.in_default-free_buffer_refusal.ensures in
     let step = changed_on p G c.unmake_header-store.new.self c.close_out.new.self c.args.h c.in-Some.place c.args.port (λ k q w. without_header n.number (with_component c.in-Some.place (unpopulated q k) w)) F c.unmake_header-store.ensures.change c.close_out.ensures.closes in
     let back : is_some c.given_back.result ≡ x.0.client_memory = goes_back (λ b. b.items) c.given_back.result c.unmake_header-store.result x.0.client_memory c.given_back.ensures (ap is_clients c.unmake_header-store.ensures.store ∙ x.2.1.memory) in
@@ -61,3 +61,9 @@ returns-clause-held g c =
     let G = c.self.inside.core in
     let handed : IsHandedIn c.args.header (look_of G) = rw (← c.self.view_is) at c.requires.handed in
     rw (← c.self.view_is) (freed_over g.C.Client.progress G c.close_out.new.self c.args.h c.args.port c.args.header (Ok (is_some c.given_back.result)) handed c.law_of_worlds.ensures.one (rw (← c.self.view_is) at (returns-clause-step g c)))
+
+pub returns-clause-taken : goal.returns-clause-taken
+returns-clause-taken g c =
+    let G = c.self.inside.core in
+    let handed : IsHandedIn c.args.header (look_of G) = rw (← c.self.view_is) at c.requires.handed in
+    freed_in g.C.Client.progress G c.close_out.new.self c.args.h c.args.port c.args.header (is_some c.given_back.result) handed c.law_of_worlds.ensures.one (rw (← c.self.view_is) at (returns-clause-step g c))

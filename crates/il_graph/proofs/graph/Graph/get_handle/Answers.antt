@@ -55,4 +55,4 @@ returns-in-Err-add-clause-held g c = rw (← c.self.view_is) (keeps_alike g.C.Cl
 pub returns-clause-held : goal.returns-clause-held
 returns-clause-held g c =
     let G = c.self.inside.core in
-    rw (← c.self.view_is) (keeps_over g.C.Client.progress G c.close_out.new.self (acts.GetHandle c.args.name.now) (acts.Got (Ok c.in-Ok-add.h)) refl (λ w. tt) c.law_of_worlds.ensures.one (rw (← c.self.view_is) at (returns-clause-step g c)))
+    rw (← c.self.view_is) (keeps_over g.C.Client.progress G c.close_out.new.self (acts.GetHandle c.args.name.now) (acts.Got (Ok c.in-Ok-add.h)) refl refl (λ w. tt) c.law_of_worlds.ensures.one (rw (← c.self.view_is) at (returns-clause-step g c)))

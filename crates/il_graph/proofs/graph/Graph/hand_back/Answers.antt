@@ -76,7 +76,7 @@ returns-in-Some-back_idle-clause-held g c = rw (← c.self.view_is) (keeps_same 
 pub returns-clause-held : goal.returns-clause-held
 returns-clause-held g c =
     let G = c.self.inside.core in
-    rw (← c.self.view_is) (keeps_over g.C.Client.progress G c.close_out.new.self (acts.HandBack c.args.h c.args.port) (acts.Acted (Ok acted.Did)) refl (λ w. tt) c.law_of_worlds.ensures.one (rw (← c.self.view_is) at (returns-clause-step g c)))
+    rw (← c.self.view_is) (keeps_over g.C.Client.progress G c.close_out.new.self (acts.HandBack c.args.h c.args.port) (acts.Acted (Ok acted.Did)) refl refl (λ w. tt) c.law_of_worlds.ensures.one (rw (← c.self.view_is) at (returns-clause-step g c)))
 
 pub returns-clause-clients : goal.returns-clause-clients
 returns-clause-clients g c = rw (← c.self.view_is) (λ k. c.close_out.ensures.clients k ∙ c.hand_back.ensures.clients k)

@@ -39,4 +39,4 @@ returns-in-Some-set_config_refusal-clause-held g c = rw (← c.self.view_is) (ke
 pub returns-clause-held : goal.returns-clause-held
 returns-clause-held g c =
     let G = c.self.inside.core in
-    rw (← c.self.view_is) (keeps_over g.C.Client.progress G c.close_out.new.self (acts.SetConfig c.args.h c.args.key c.args.value) (acts.Plain (Ok tt)) refl (λ w. tt) c.law_of_worlds.ensures.one (rw (← c.self.view_is) at (returns-clause-step g c)))
+    rw (← c.self.view_is) (keeps_over g.C.Client.progress G c.close_out.new.self (acts.SetConfig c.args.h c.args.key c.args.value) (acts.Plain (Ok tt)) refl refl (λ w. tt) c.law_of_worlds.ensures.one (rw (← c.self.view_is) at (returns-clause-step g c)))

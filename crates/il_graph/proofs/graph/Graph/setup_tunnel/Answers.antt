@@ -79,4 +79,4 @@ returns-in-Some-setup_refusal-clause-held g c = rw (← c.self.view_is) (keeps_s
 pub returns-clause-held : goal.returns-clause-held
 returns-clause-held g c =
     let G = c.self.inside.core in
-    rw (← c.self.view_is) (keeps_over g.C.Client.progress G c.close_out.new.self (acts.SetupTunnel c.args.output c.args.input) (acts.Joined (Ok c.join-supplier.result)) refl (λ w. tt) c.law_of_worlds.ensures.one (rw (← c.self.view_is) at (returns-clause-step g c)))
+    rw (← c.self.view_is) (keeps_over g.C.Client.progress G c.close_out.new.self (acts.SetupTunnel c.args.output c.args.input) (acts.Joined (Ok c.join-supplier.result)) refl refl (λ w. tt) c.law_of_worlds.ensures.one (rw (← c.self.view_is) at (returns-clause-step g c)))

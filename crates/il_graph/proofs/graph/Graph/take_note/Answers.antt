@@ -1,50 +1,80 @@
-use Rattle.std.proofs.Common.{Ok, Err, slice_get, refl}
+use Rattle.std.proofs.Common.{Ok, Err, slice_get, refl, sym, ap, subst}
 use Rattle.omx_types.specs.declared.error.OmxError.TheVariants as errors
 use Rattle.il_machine.specs.Notes.{Took, TakeFrom}
-use Rattle.il_graph.proofs.Calling.{Found, found, not_found}
-use Rattle.il_graph.proofs.Taking.{taken_at}
-use Rattle.il_graph.proofs.Clients.{client_taken, others_kept}
-use Rattle.note_queues.specs.Queues.{took_of}
-use Rattle.il_graph.proofs.HandedIn.{keeps_over, keeps_same, took_out}
 use Rattle.il_machine.specs.Acts as acts
+use Rattle.note_queues.specs.Queues.{took_of}
+use Rattle.note_queues.specs.declared.taken.Took.TheVariants as tooks
+use Rattle.graph_core.specs.Entries.{Entries}
+use Rattle.il_graph.proofs.Calling.{Found, found, not_found}
+use Rattle.il_graph.proofs.Taking.{taken_at, none_taken_at}
+use Rattle.il_graph.proofs.Clients.{client_taken, others_kept}
+use Rattle.il_graph.proofs.HandedIn.{stays_over, stays_same, took_out}
 use Rattle.il_graph.proofs.graph.Graph.take_note.Goals as goal
 
 pub returns-in_default-clause-step : goal.returns-in_default-clause-step
 returns-in_default-clause-step g c = rw (← c.self.view_is) (not_found g.C.Client.progress Took c.self.inside.core c.args.h
     (λ w v i k. TakeFrom w i k k.client_out (slice_get k.notes 0) (Err errors.InvalidComponent) v) c.in_default.ensures.place)
 
-pub returns-clause-step : goal.returns-clause-step
-returns-clause-step g c =
-    let p = g.C.Client.progress in
-    let G = c.self.inside.core in
-    let F : Found p G c.args.h c.in-Some.place = found p G c.args.h c.in-Some.place c.in-Some.ensures.place c.in-Some.ensures.within in
-    rw (← c.self.view_is) (taken_at p G c.take-took.new.self c.close_out.new.self c.args.h c.in-Some.place c.take-took.result F c.self.invariant c.take-took.ensures.change c.close_out.ensures.closes)
-
-pub returns-clause-client : goal.returns-clause-client
-returns-clause-client g c =
-    let p = g.C.Client.progress in
-    let G = c.self.inside.core in
-    let F : Found p G c.args.h c.in-Some.place = found p G c.args.h c.in-Some.place c.in-Some.ensures.place c.in-Some.ensures.within in
-    rw (← c.self.view_is) (client_taken p G c.take-took.new.self c.close_out.new.self c.args.h c.in-Some.place F c.close_out.ensures.clients c.take-took.result c.take-took.ensures.client)
-
-pub returns-clause-clients : goal.returns-clause-clients
-returns-clause-clients g c =
-    let p = g.C.Client.progress in
-    let G = c.self.inside.core in
-    let F : Found p G c.args.h c.in-Some.place = found p G c.args.h c.in-Some.place c.in-Some.ensures.place c.in-Some.ensures.within in
-    rw (← c.self.view_is) (others_kept p G c.take-took.new.self c.close_out.new.self c.args.h c.in-Some.place F c.close_out.ensures.clients c.take-took.ensures.clients)
-
 pub returns-in_default-clause-held : goal.returns-in_default-clause-held
-returns-in_default-clause-held g c = rw (← c.self.view_is) (keeps_same g.C.Client.progress c.self.inside.core)
+returns-in_default-clause-held g c = rw (← c.self.view_is) (stays_same g.C.Client.progress c.self.inside.core)
 
-pub returns-clause-held : goal.returns-clause-held
-returns-clause-held g c =
-    let G = c.self.inside.core in
-    rw (← c.self.view_is) (keeps_over g.C.Client.progress G c.close_out.new.self (acts.TakeNote c.args.h) (acts.Took (Ok (took_of c.take-took.result))) refl (λ w. tt) c.law_of_worlds.ensures.one (rw (← c.self.view_is) at (returns-clause-step g c)))
-
-pub returns-clause-handed : goal.returns-clause-handed
-returns-clause-handed g c =
+pub returns-in-Call-clause-step : goal.returns-in-Call-clause-step
+returns-in-Call-clause-step g c =
     let p = g.C.Client.progress in
     let G = c.self.inside.core in
     let F : Found p G c.args.h c.in-Some.place = found p G c.args.h c.in-Some.place c.in-Some.ensures.place c.in-Some.ensures.within in
-    rw (← c.self.view_is) (took_out p G c.take-took.new.self c.close_out.new.self c.args.h c.in-Some.place c.take-took.result F c.take-took.ensures.change c.law_of_worlds.ensures.one (rw (← c.self.view_is) at (returns-clause-step g c)))
+    rw (← c.self.view_is) (taken_at p G c.take.new.self c.close_out.new.self c.args.h c.in-Some.place c.in-Call.call F (rw c.in-Call.is at c.take.ensures.change) c.close_out.ensures.closes)
+
+pub returns-in-Call-clause-client : goal.returns-in-Call-clause-client
+returns-in-Call-clause-client g c =
+    let p = g.C.Client.progress in
+    let G = c.self.inside.core in
+    let F : Found p G c.args.h c.in-Some.place = found p G c.args.h c.in-Some.place c.in-Some.ensures.place c.in-Some.ensures.within in
+    rw (← c.self.view_is) (client_taken p G c.take.new.self c.close_out.new.self c.args.h c.in-Some.place F c.close_out.ensures.clients (tooks.Call c.in-Call.call) (rw c.in-Call.is at c.take.ensures.client))
+
+pub returns-in-Call-clause-clients : goal.returns-in-Call-clause-clients
+returns-in-Call-clause-clients g c =
+    let p = g.C.Client.progress in
+    let G = c.self.inside.core in
+    let F : Found p G c.args.h c.in-Some.place = found p G c.args.h c.in-Some.place c.in-Some.ensures.place c.in-Some.ensures.within in
+    rw (← c.self.view_is) (others_kept p G c.take.new.self c.close_out.new.self c.args.h c.in-Some.place F c.close_out.ensures.clients c.take.ensures.clients)
+
+pub returns-in-Call-clause-held : goal.returns-in-Call-clause-held
+returns-in-Call-clause-held g c =
+    let G = c.self.inside.core in
+    rw (← c.self.view_is) (stays_over g.C.Client.progress G c.close_out.new.self (acts.TakeNote c.args.h) (acts.Took (Ok (took_of (tooks.Call c.in-Call.call)))) refl (λ w. tt) c.law_of_worlds.ensures.one (rw (← c.self.view_is) at (returns-in-Call-clause-step g c)))
+
+pub returns-in-Call-clause-handed : goal.returns-in-Call-clause-handed
+returns-in-Call-clause-handed g c =
+    let p = g.C.Client.progress in
+    let G = c.self.inside.core in
+    let F : Found p G c.args.h c.in-Some.place = found p G c.args.h c.in-Some.place c.in-Some.ensures.place c.in-Some.ensures.within in
+    rw (← c.self.view_is) (took_out p G c.take.new.self c.close_out.new.self c.args.h c.in-Some.place (tooks.Call c.in-Call.call) F (rw c.in-Call.is at c.take.ensures.change) c.law_of_worlds.ensures.one (rw (← c.self.view_is) at (returns-in-Call-clause-step g c)))
+
+pub returns-in-None-clause-step : goal.returns-in-None-clause-step
+returns-in-None-clause-step g c =
+    let p = g.C.Client.progress in
+    let G = c.self.inside.core in
+    let F : Found p G c.args.h c.in-Some.place = found p G c.args.h c.in-Some.place c.in-Some.ensures.place c.in-Some.ensures.within in
+    rw (← c.self.view_is) (none_taken_at p G c.take.new.self c.args.h c.in-Some.place tooks.None F (λ P x. x) (rw c.in-None.is at c.take.ensures.change))
+
+pub returns-in-None-clause-client : goal.returns-in-None-clause-client
+returns-in-None-clause-client g c =
+    let p = g.C.Client.progress in
+    let G = c.self.inside.core in
+    let F : Found p G c.args.h c.in-Some.place = found p G c.args.h c.in-Some.place c.in-Some.ensures.place c.in-Some.ensures.within in
+    rw (← c.self.view_is) (client_taken p G c.take.new.self c.take.new.self c.args.h c.in-Some.place F (λ k. refl) tooks.None (rw c.in-None.is at c.take.ensures.client))
+
+pub returns-in-Busy-clause-step : goal.returns-in-Busy-clause-step
+returns-in-Busy-clause-step g c =
+    let p = g.C.Client.progress in
+    let G = c.self.inside.core in
+    let F : Found p G c.args.h c.in-Some.place = found p G c.args.h c.in-Some.place c.in-Some.ensures.place c.in-Some.ensures.within in
+    rw (← c.self.view_is) (none_taken_at p G c.take.new.self c.args.h c.in-Some.place tooks.Busy F (λ P x. x) (rw c.in-Busy.is at c.take.ensures.change))
+
+pub returns-in-Busy-clause-client : goal.returns-in-Busy-clause-client
+returns-in-Busy-clause-client g c =
+    let p = g.C.Client.progress in
+    let G = c.self.inside.core in
+    let F : Found p G c.args.h c.in-Some.place = found p G c.args.h c.in-Some.place c.in-Some.ensures.place c.in-Some.ensures.within in
+    rw (← c.self.view_is) (client_taken p G c.take.new.self c.take.new.self c.args.h c.in-Some.place F (λ k. refl) tooks.Busy (rw c.in-Busy.is at c.take.ensures.client))
