@@ -1,26 +1,24 @@
 -- The words of an act say that act.
-use Rattle.std.proofs.Common.{◌≡◌, ℕ, ◌^◌, ◌<◌, ◌&&◌, Bool, true, false, List, [], ◌∷◌, ◌++◌, length, get_or, refl, sym, ap, IsFalse, codes, ◌∙◌, subst, arith, rules, Option, Some, None}
+use Rattle.std.proofs.Common.{◌≡◌, ℕ, ◌^◌, ◌<◌, Bool, true, false, List, [], ◌∷◌, ◌++◌, length, get_or, refl, sym, ap, IsFalse, codes, arith, rules, Some, None}
 use Rattle.std.specs.Borrow.{Bor}
 use Rattle.std.specs.Fmt.{decimal}
 use Rattle.std.specs.List.{list_all}
 use Rattle.std.specs.Str.{bytes_eq}
-use Rattle.std.proofs.lemmas.List.Folds.{list_all-append}
 use Rattle.std.proofs.lemmas.Slice.Eq.{bytes_eq-Decides}
 use Rattle.std.proofs.lemmas.Grind.{common_steps}
 use Rattle.omx_types.specs.declared.command.PortSel.{PortSel}
 use Rattle.omx_types.specs.declared.command.PortSel.TheVariants.{One, All}
-use Rattle.omx_types.specs.declared.format.Format.{Format}
 use Rattle.omx_types.specs.declared.format.Format.TheVariants.{Pcm, Alaw, Mulaw}
 use Rattle.omx_types.specs.declared.param.Supplier.{Supplier}
 use Rattle.omx_types.specs.declared.param.Supplier.TheVariants.{Unspecified, Input, Output}
 use Rattle.omx_types.specs.declared.state.State.{State as StateType}
 use Rattle.omx_types.specs.declared.state.State.TheVariants as states
 use Rattle.omx_types.specs.Names.{state_name}
-use Rattle.act_text.specs.Names.{is_name, is_name_byte, IsName}
+use Rattle.act_text.specs.Names.{is_name, is_name_byte}
 use Rattle.act_text.specs.Words.{texts}
-use Rattle.act_text.specs.Ports.{IsPortName, port_word}
+use Rattle.act_text.specs.Ports.{port_word}
 use Rattle.act_text.specs.Acts.{act_words, ports_word, supplier_word, IsAct, ArePorts, FitsWord}
-use Rattle.act_text.specs.Reading.{name_of, number_below, small_number, port_of}
+use Rattle.act_text.specs.Reading.{name_of, small_number}
 use Rattle.act_text.specs.ReadActs.{act_of, state_of, supplier_of, ports_of}
 use Rattle.act_text.specs.declared.name.PortName.{PortName}
 use Rattle.act_text.specs.declared.act.TextAct.{TextAct}

@@ -1,12 +1,12 @@
 -- The parts of a word around its first dot.
-use Rattle.std.proofs.Common.{◌≡◌, ℕ, zero, suc, ◌+◌, ◌-◌, ◌≤◌, ◌<◌, ◌^◌, ◌==◌, ◌&&◌, Bool, true, false, IsTrue, IsFalse, IfSome, IfNone, List, [], ◌∷◌, ◌++◌, length, get_or, take, drop, refl, sym, ap, ◌∙◌, subst, arith, Option, Some, None, rules}
+use Rattle.std.proofs.Common.{◌≡◌, ℕ, zero, suc, ◌+◌, ◌≤◌, ◌<◌, ◌^◌, ◌==◌, true, false, IsFalse, IfSome, IfNone, List, [], ◌∷◌, ◌++◌, length, get_or, take, drop, refl, sym, ap, ◌∙◌, subst, arith, Option, Some, None, rules}
 use Rattle.std.specs.Fmt.{decimal}
 use Rattle.std.specs.List.{list_all}
 use Rattle.std.proofs.lemmas.Grind.{common_steps}
 use Rattle.act_text.specs.Names.{is_name, is_name_byte, IsName}
 use Rattle.act_text.specs.Ports.{IsPortName, port_word}
 use Rattle.act_text.specs.declared.name.PortName.{PortName}
-use Rattle.act_text.specs.Reading.{both, small_number, name_of, number_below, port_of, before_dot, after_dot, port_name}
+use Rattle.act_text.specs.Reading.{both, small_number, name_of, port_of, before_dot, after_dot, port_name}
 use Rattle.act_text.proofs.Numerals.{number_below-decimal}
 
 no_dot : (b : ℕ) → (b ≡ 46 → ⊥) → (b == 46) ≡ false

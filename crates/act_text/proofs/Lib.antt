@@ -5,7 +5,7 @@ pub mod Numerals
 pub mod Plain
 pub mod PlainWords
 pub mod RepliesAgain
-pub mod SomeWords
 pub mod SpacedAgain
 pub mod Spaces
 pub mod TextsAgain
+pub mod WordCounts

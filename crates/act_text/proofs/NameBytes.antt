@@ -1,5 +1,5 @@
 -- A name that is put in front of sixteen zero bytes.
-use Rattle.std.proofs.Common.{◌≡◌, ℕ, ◌-◌, ◌≤◌, List, [], ◌∷◌, ◌++◌, length, take, drop, replicate, refl, sym, ap, ◌∙◌, subst, arith, IsTrue, true}
+use Rattle.std.proofs.Common.{◌≡◌, ℕ, ◌-◌, ◌≤◌, List, [], ◌∷◌, ◌++◌, length, take, drop, replicate, sym, ◌∙◌, subst, arith, IsTrue, true}
 use Rattle.std.proofs.lemmas.Grind.{common_steps}
 use Rattle.std.proofs.lemmas.List.{drop-replicate, length-append, length-drop}
 use Rattle.std.proofs.Math.Seq.{drop-append_seam, take-append_seam}

@@ -1,5 +1,5 @@
 -- The words of acts and replies are plain.
-use Rattle.std.proofs.Common.{◌≡◌, ℕ, ◌^◌, ◌<◌, ◌≤◌, Bool, true, false, List, [], ◌∷◌, length, refl, arith, codes}
+use Rattle.std.proofs.Common.{◌≡◌, ℕ, Bool, true, false, refl, arith}
 use Rattle.std.specs.Fmt.{decimal}
 use Rattle.std.specs.List.{list_all}
 use Rattle.il_machine.specs.declared.port.Mode.{Mode}
@@ -12,14 +12,13 @@ use Rattle.omx_types.specs.declared.command.PortSel.{PortSel}
 use Rattle.omx_types.specs.declared.command.PortSel.TheVariants.{One, All}
 use Rattle.omx_types.specs.declared.error.OmxError.{OmxError}
 use Rattle.omx_types.specs.declared.error.OmxError.TheVariants as errors
-use Rattle.omx_types.specs.declared.format.Format.{Format}
 use Rattle.omx_types.specs.declared.format.Format.TheVariants.{Pcm, Alaw, Mulaw}
 use Rattle.omx_types.specs.declared.param.Supplier.{Supplier as SupplierType}
 use Rattle.omx_types.specs.declared.param.Supplier.TheVariants.{Unspecified, Input, Output}
 use Rattle.omx_types.specs.declared.state.State.{State as StateType}
 use Rattle.omx_types.specs.declared.state.State.TheVariants as states
 use Rattle.omx_types.specs.Names.{state_name, error_name}
-use Rattle.act_text.specs.Acts.{act_words, ports_word, supplier_word, format_word, IsAct, ArePorts, FitsWord}
+use Rattle.act_text.specs.Acts.{act_words, ports_word, supplier_word, IsAct, ArePorts, FitsWord}
 use Rattle.act_text.specs.Replies.{reply_words, event_words, why_words, view_words, side_word, enabled_word, mode_word, IsReply, IsEvent, IsWhy}
 use Rattle.act_text.specs.declared.act.TextAct.{TextAct}
 use Rattle.act_text.specs.declared.act.TextAct.TheVariants as acts
@@ -158,77 +157,3 @@ reply-plain (replies.Event event) is = event-plain event is
 reply-plain replies.NotHeld is = refl
 reply-plain replies.TooLong is = refl
 reply-plain replies.NotOut is = refl
-
--- no act has more than eight words, no reply more than seven
-pub act-short : (act : TextAct) → length (act_words act) ≤ 8
-act-short (acts.Free _) = omega arith
-act-short (acts.State _) = omega arith
-act-short (acts.Run _) = omega arith
-act-short (acts.Take _) = omega arith
-act-short (acts.End _) = omega arith
-act-short (acts.Port _) = omega arith
-act-short (acts.Supply _) = omega arith
-act-short (acts.Release _) = omega arith
-act-short (acts.Over _) = omega arith
-act-short (acts.Back _) = omega arith
-act-short (acts.SetPort _ _ _ _) = omega arith
-act-short (acts.SetSupplier _ _) = omega arith
-act-short (acts.SetPriority _ _) = omega arith
-act-short (acts.Gain _ _) = omega arith
-act-short (acts.Weight _ _) = omega arith
-act-short (acts.Tunnel _ _) = omega arith
-act-short (acts.DropTunnel _ _) = omega arith
-act-short (acts.SendState _ _) = omega arith
-act-short (acts.SendFlush _ _) = omega arith
-act-short (acts.SendDisable _ _) = omega arith
-act-short (acts.SendEnable _ _) = omega arith
-act-short (acts.SendMark _ _ _ _) = omega arith
-
-event-short : (event : EventType) → length (event_words event) ≤ 6
-event-short (events.CmdComplete (completions.State _)) = omega arith
-event-short (events.CmdComplete (completions.Flush _)) = omega arith
-event-short (events.CmdComplete (completions.Disable _)) = omega arith
-event-short (events.CmdComplete (completions.Enable _)) = omega arith
-event-short (events.CmdComplete (completions.Mark _)) = omega arith
-event-short (events.Error _) = omega arith
-event-short (events.Mark _) = omega arith
-event-short (events.PortSettingsChanged _) = omega arith
-event-short (events.BufferFlag _ _) = omega arith
-event-short events.ResourcesAcquired = omega arith
-
-why-short : (why : TextWhy) → length (why_words why) ≤ 6
-why-short whys.NoCommand = omega arith
-why-short (whys.Pending _) = omega arith
-why-short (whys.PortBusy _) = omega arith
-why-short whys.NotSupplier = omega arith
-why-short whys.IsSupplier = omega arith
-why-short (whys.NotAccepting _) = omega arith
-why-short whys.NoBlock = omega arith
-why-short whys.NoNumber = omega arith
-why-short whys.NotLeaving = omega arith
-why-short whys.NoHeader = omega arith
-why-short (whys.NotRunning _) = omega arith
-why-short whys.NoWaiter = omega arith
-why-short (whys.Short _ _) = omega arith
-why-short (whys.Enough _ _) = omega arith
-why-short whys.NoVictim = omega arith
-why-short (whys.Events _ _) = omega arith
-
-view-short : (view : PortView) → (flushing : Bool) → view.flushing ≡ flushing → length (view_words view) ≤ 7
-view-short view true is = rw is (omega arith)
-view-short view false is = rw is (omega arith)
-
-pub reply-short : (reply : TextReply) → length (reply_words reply) ≤ 7
-reply-short replies.Done = omega arith
-reply-short (replies.Error _) = omega arith
-reply-short (replies.State _) = omega arith
-reply-short (replies.Port view) = view-short view view.flushing refl
-reply-short (replies.Supplier _) = omega arith
-reply-short replies.Did = omega arith
-reply-short (replies.Idle why) = omega (arith, why-short why)
-reply-short replies.NoNote = omega arith
-reply-short replies.Busy = omega arith
-reply-short (replies.Event event) = omega (arith, event-short event)
-reply-short replies.NotHeld = omega arith
-reply-short replies.TooLong = omega arith
-reply-short replies.NotOut = omega arith

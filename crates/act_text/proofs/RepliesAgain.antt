@@ -1,11 +1,8 @@
 -- The words of a reply say that reply.
-use Rattle.std.proofs.Common.{◌≡◌, ℕ, ◌^◌, ◌<◌, Bool, true, false, List, [], ◌∷◌, ◌++◌, length, refl, sym, ap, ◌∙◌, arith, Option, Some, None, codes}
-use Rattle.std.specs.Fmt.{decimal}
-use Rattle.std.specs.Str.{bytes_eq}
+use Rattle.std.proofs.Common.{◌≡◌, ℕ, ◌^◌, ◌<◌, Bool, true, false, [], ◌∷◌, refl, Some, codes}
 use Rattle.il_machine.specs.declared.port.Mode.{Mode}
 use Rattle.il_machine.specs.declared.port.Mode.TheVariants.{Steady, Enabling, Disabling}
 use Rattle.il_machine.specs.declared.port.PortView.{PortView}
-use Rattle.omx_types.specs.declared.command.Completion.{Completion}
 use Rattle.omx_types.specs.declared.command.Completion.TheVariants as completions
 use Rattle.omx_types.specs.declared.command.Event.{Event as EventType}
 use Rattle.omx_types.specs.declared.command.Event.TheVariants as events
@@ -14,10 +11,8 @@ use Rattle.omx_types.specs.declared.error.OmxError.TheVariants as errors
 use Rattle.omx_types.specs.declared.state.State.{State as StateType}
 use Rattle.omx_types.specs.declared.state.State.TheVariants as states
 use Rattle.omx_types.specs.Names.{state_name, error_name}
-use Rattle.act_text.specs.Reading.{number_below, small_number, port_of}
-use Rattle.act_text.specs.ReadActs.{state_of}
-use Rattle.act_text.specs.ReadReplies.{reply_of, event_of, why_of, error_of, side_of, enabled_of, mode_of, other_reply_of}
-use Rattle.act_text.specs.Replies.{reply_words, event_words, why_words, view_words, side_word, enabled_word, mode_word, IsReply, IsEvent, IsWhy}
+use Rattle.act_text.specs.ReadReplies.{reply_of, error_of}
+use Rattle.act_text.specs.Replies.{reply_words, event_words, why_words, view_words, IsReply, IsEvent, IsWhy}
 use Rattle.act_text.specs.declared.reply.TextReply.{TextReply}
 use Rattle.act_text.specs.declared.reply.TextReply.TheVariants.{Done, Error, State, Port, Supplier, Did, Idle, NoNote, Busy, Event, NotHeld, TooLong, NotOut}
 use Rattle.act_text.specs.declared.reply.TextWhy.{TextWhy}

@@ -1,7 +1,7 @@
 -- Words that are parted by one space are the words of their line.
-use Rattle.std.proofs.Common.{◌≡◌, ℕ, zero, suc, ◌+◌, ◌<◌, ◌≤◌, List, [], ◌∷◌, ◌++◌, length, get_or, take, drop, refl, sym, ap, ◌∙◌, subst, inl, inr, arith, length-append}
+use Rattle.std.proofs.Common.{◌≡◌, ℕ, ◌<◌, ◌≤◌, List, [], ◌∷◌, ◌++◌, length, get_or, drop, refl, ap, ◌∙◌, subst, inl, inr, arith, length-append}
 use Rattle.std.proofs.Math.Seq.{take-append_seam, drop-append_seam}
-use Rattle.std.proofs.lemmas.List.{get_or_append_left, append-nil}
+use Rattle.std.proofs.lemmas.List.{get_or_append_left}
 use Rattle.std.specs.List.{AllByRecursion}
 use Rattle.line_text.specs.Words.{words_of, IsBlank}
 use Rattle.line_text.proofs.LineWords.{words_of-run}

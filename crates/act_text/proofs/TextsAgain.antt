@@ -1,5 +1,5 @@
 -- The text of an act and its reply says them, and is the text of nothing else.
-use Rattle.std.proofs.Common.{◌≡◌, ℕ, zero, suc, get_or, ◌+◌, ◌<◌, ◌≤◌, ◌&&◌, Bool, true, false, List, [], ◌∷◌, ◌++◌, length, take, drop, refl, sym, ap, ◌∙◌, subst, arith, codes, Option, Some, None, IfSome, Result, Ok, Err, OnOk, length-append}
+use Rattle.std.proofs.Common.{◌≡◌, ℕ, zero, suc, get_or, ◌+◌, ◌<◌, ◌≤◌, true, false, List, [], ◌∷◌, ◌++◌, length, take, drop, refl, sym, ap, ◌∙◌, arith, codes, Option, Some, None, IfSome, Result, Ok, Err, OnOk, length-append}
 use Rattle.std.specs.Borrow.{Bor}
 use Rattle.std.proofs.lemmas.List.{append_assoc}
 use Rattle.std.specs.List.{list_all, AllByRecursion}
@@ -7,11 +7,11 @@ use Rattle.std.specs.Str.{bytes_eq}
 use Rattle.std.proofs.lemmas.Slice.Eq.{bytes_eq-Decides}
 use Rattle.std.proofs.lemmas.Grind.{common_steps, flat_map-append}
 use Rattle.line_text.specs.Words.{words_of}
-use Rattle.act_text.specs.Acts.{act_words, IsAct}
+use Rattle.act_text.specs.Acts.{act_words}
 use Rattle.act_text.specs.Reading.{both}
 use Rattle.act_text.specs.ReadActs.{act_of}
 use Rattle.act_text.specs.ReadReplies.{reply_of}
-use Rattle.act_text.specs.Replies.{reply_words, IsReply}
+use Rattle.act_text.specs.Replies.{reply_words}
 use Rattle.act_text.specs.Texts.{text_words, act_text, IsActText, before_equals, after_equals, text_of, text_with}
 use Rattle.act_text.specs.Words.{spaced, after_spaces, texts}
 use Rattle.act_text.specs.declared.act.TextAct.{TextAct}
@@ -20,8 +20,8 @@ use Rattle.act_text.specs.declared.text.ActText.{ActText}
 use Rattle.act_text.proofs.ActsAgain.{act-again}
 use Rattle.act_text.proofs.RepliesAgain.{reply-again}
 use Rattle.act_text.proofs.Plain.{plain, plain-solid, plain-equals, IsSolid}
-use Rattle.act_text.proofs.PlainWords.{act-plain, reply-plain, act-short, reply-short}
-use Rattle.act_text.proofs.SomeWords.{act-some, reply-some}
+use Rattle.act_text.proofs.PlainWords.{act-plain, reply-plain}
+use Rattle.act_text.proofs.WordCounts.{act-some, act-short, reply-some, reply-short}
 use Rattle.act_text.proofs.SpacedAgain.{words_of-spaced}
 
 head-plain : (word : List ℕ) (words : List (List ℕ)) → list_all plain (word ∷ words) ≡ true → plain word ≡ true

@@ -3,8 +3,6 @@ use Rattle.std.specs.Prelude.{ℕ, ◌^◌, Bool, true, false, List, [], ◌∷�
 use Rattle.std.specs.Str.{bytes_eq}
 use Rattle.il_machine.specs.declared.port.Mode.{Mode}
 use Rattle.il_machine.specs.declared.port.Mode.TheVariants.{Steady, Enabling, Disabling}
-use Rattle.il_machine.specs.declared.port.PortView.{PortView}
-use Rattle.omx_types.specs.declared.command.Completion.{Completion}
 use Rattle.omx_types.specs.declared.command.Completion.TheVariants as completions
 use Rattle.omx_types.specs.declared.command.Event.{Event as EventType}
 use Rattle.omx_types.specs.declared.command.Event.TheVariants as events

@@ -1,4 +1,4 @@
-ghost use Rattle.std.specs.Prelude.{◌≡◌};
+ghost use Rattle.std.specs.Prelude.{◌≡◌, ◌<◌, ◌^◌};
 ghost use Rattle.act_text.specs.Acts.{IsAct, IsFormat, ArePorts, FitsWord};
 ghost use Rattle.act_text.specs.Names.{IsName};
 ghost use Rattle.act_text.specs.Ports.{IsPortName};
@@ -51,82 +51,102 @@ fn are_ports(ports: PortSel)
     }
 }
 
+fn is_definition(port: &PortName, format: &Format, count: u32, size: u32)
+    ensures port { IsPortName port.now }
+    ensures format { IsFormat format.now }
+    ensures count { FitsWord count }
+    ensures size { FitsWord size }
+{
+    is_port(port);
+    is_format(format);
+    fits(count);
+    fits(size);
+}
+
+fn is_number_of(component: &Name, number: u32)
+    ensures component { IsName component.now }
+    ensures number { FitsWord number }
+{
+    is_name(component);
+    fits(number);
+}
+
+fn is_number_at(port: &PortName, number: u32)
+    ensures port { IsPortName port.now }
+    ensures number { FitsWord number }
+{
+    is_port(port);
+    fits(number);
+}
+
+fn are_ends(first: &PortName, second: &PortName)
+    ensures first { IsPortName first.now }
+    ensures second { IsPortName second.now }
+{
+    is_port(first);
+    is_port(second);
+}
+
+fn is_command(component: &Name, ports: PortSel)
+    ensures component { IsName component.now }
+    ensures ports { ArePorts ports }
+{
+    is_name(component);
+    are_ports(ports);
+}
+
+fn is_mark(component: &Name, port: u32, target: &Name, value: u64)
+    ensures component { IsName component.now }
+    ensures port { FitsWord port }
+    ensures target { IsName target.now }
+    ensures value { value < 2 ^ 64 }
+{
+    is_name(component);
+    fits(port);
+    is_name(target);
+    let _any = value;
+}
+
 fn law_of_acts(act: &TextAct)
     ensures { IsAct act.now }
 {
     match act {
-        TextAct::Free(component) => is_name(component),
-        TextAct::State(component) => is_name(component),
-        TextAct::Port(port) => is_port(port),
+        TextAct::Free(component)
+        | TextAct::State(component)
+        | TextAct::Run(component)
+        | TextAct::Take(component)
+        | TextAct::End(component)
+        | TextAct::SendState { component, .. } => is_name(component),
+        TextAct::Port(port)
+        | TextAct::SetSupplier { port, .. }
+        | TextAct::Supply(port)
+        | TextAct::Release(port)
+        | TextAct::Over(port)
+        | TextAct::Back(port) => is_port(port),
         TextAct::SetPort {
             port,
             format,
             count,
             size,
-        } => {
-            is_port(port);
-            is_format(format);
-            fits(*count);
-            fits(*size);
-        }
-        TextAct::SetSupplier { port, supplier: _ } => is_port(port),
+        } => is_definition(port, format, *count, *size),
         TextAct::SetPriority {
             component,
             priority,
-        } => {
-            is_name(component);
-            fits(*priority);
+        } => is_number_of(component, *priority),
+        TextAct::Gain { component, gain } => is_number_of(component, *gain),
+        TextAct::Weight { port, weight } => is_number_at(port, *weight),
+        TextAct::Tunnel { first, second } | TextAct::DropTunnel { first, second } => {
+            are_ends(first, second)
         }
-        TextAct::Gain { component, gain } => {
-            is_name(component);
-            fits(*gain);
-        }
-        TextAct::Weight { port, weight } => {
-            is_port(port);
-            fits(*weight);
-        }
-        TextAct::Tunnel { first, second } => {
-            is_port(first);
-            is_port(second);
-        }
-        TextAct::DropTunnel { first, second } => {
-            is_port(first);
-            is_port(second);
-        }
-        TextAct::SendState {
-            component,
-            state: _,
-        } => is_name(component),
-        TextAct::SendFlush { component, ports } => {
-            is_name(component);
-            are_ports(*ports);
-        }
-        TextAct::SendDisable { component, ports } => {
-            is_name(component);
-            are_ports(*ports);
-        }
-        TextAct::SendEnable { component, ports } => {
-            is_name(component);
-            are_ports(*ports);
-        }
+        TextAct::SendFlush { component, ports }
+        | TextAct::SendDisable { component, ports }
+        | TextAct::SendEnable { component, ports } => is_command(component, *ports),
         TextAct::SendMark {
             component,
             port,
             target,
             value,
-        } => {
-            is_name(component);
-            fits(*port);
-            is_name(target);
-            let _any = *value;
-        }
-        TextAct::Run(component) => is_name(component),
-        TextAct::Supply(port) => is_port(port),
-        TextAct::Release(port) => is_port(port),
-        TextAct::Over(port) => is_port(port),
-        TextAct::Back(port) => is_port(port),
-        TextAct::Take(component) => is_name(component),
-        TextAct::End(component) => is_name(component),
+        } => is_mark(component, *port, target, *value),
     }
 }
 

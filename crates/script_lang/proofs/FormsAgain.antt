@@ -1,20 +1,20 @@
 -- The words of a form are of that form.
-use Rattle.std.proofs.Common.{◌≡◌, ℕ, ◌+◌, ◌*◌, ◌/◌, ◌%◌, ◌^◌, ◌<◌, ◌≤◌, ◌&&◌, Bool, true, false, nat_le, List, [], ◌∷◌, length, refl, sym, ap, ◌∙◌, subst, arith, rules, Option, Some, None, codes}
+use Rattle.std.proofs.Common.{◌≡◌, ℕ, ◌+◌, ◌*◌, ◌/◌, ◌%◌, ◌^◌, ◌<◌, ◌≤◌, true, false, nat_le, List, [], ◌∷◌, length, refl, arith, rules, Option, Some, None, codes}
 use Rattle.std.specs.Fmt.{decimal}
 use Rattle.std.specs.Str.{bytes_eq}
 use Rattle.std.proofs.lemmas.Grind.{common_steps}
 use Rattle.line_text.specs.Numbers.{hex_digit, hex_of}
-use Rattle.act_text.specs.Acts.{act_words, IsAct}
-use Rattle.act_text.specs.Reading.{name_of, port_of, small_number}
+use Rattle.act_text.specs.Acts.{act_words}
+use Rattle.act_text.specs.Reading.{name_of, port_of}
 use Rattle.act_text.specs.declared.name.PortName.{PortName}
 use Rattle.act_text.specs.declared.act.TextAct.{TextAct}
 use Rattle.act_text.specs.declared.act.TextAct.TheVariants as acts
 use Rattle.act_text.proofs.ActsAgain.{act-again, small-again}
 use Rattle.act_text.proofs.Dots.{name_of-name, port_of-port}
-use Rattle.act_text.proofs.PlainWords.{act-short}
-use Rattle.script_lang.specs.Forms.{form_words, IsForm, is_end, flag_word}
-use Rattle.script_lang.specs.Hex.{AreBytes, bytes_word, byte_with, pairs_of, bytes_of, is_hex, hex_value}
-use Rattle.script_lang.specs.ReadForms.{form_of, other_form_of, at_port_of, act_form}
+use Rattle.act_text.proofs.WordCounts.{act-short}
+use Rattle.script_lang.specs.Forms.{form_words, IsForm, is_end}
+use Rattle.script_lang.specs.Hex.{AreBytes, bytes_word, byte_with, pairs_of, bytes_of}
+use Rattle.script_lang.specs.ReadForms.{form_of, other_form_of, at_port_of}
 use Rattle.script_lang.specs.Scripts.{units_of}
 use Rattle.script_lang.specs.declared.form.TraceForm.{TraceForm}
 use Rattle.script_lang.specs.declared.form.TraceForm.TheVariants.{Act, Get, Alloc, UseBuf, FreeBuf, Etb, Ftb}

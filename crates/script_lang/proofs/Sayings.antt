@@ -1,18 +1,13 @@
 -- What a line says, and what it comes to.
-use Rattle.std.proofs.Common.{◌≡◌, ◌≢◌, ℕ, ◌+◌, ◌<◌, ◌≤◌, ◌&&◌, Bool, true, false, IsTrue, IsFalse, List, [], ◌∷◌, length, refl, sym, ap, ◌∙◌, subst, arith, rules, Option, Some, None, IfNone, Result, Ok, Err, codes, inl, inr, IsUtf8}
-use Rattle.std.specs.Fmt.{decimal}
+use Rattle.std.proofs.Common.{◌≡◌, ℕ, ◌<◌, ◌≤◌, true, false, List, [], ◌∷◌, length, refl, sym, ap, ◌∙◌, subst, arith, rules, Option, Some, None, IfNone, Err, codes}
 use Rattle.std.specs.Str.{bytes_eq}
 use Rattle.std.proofs.lemmas.Slice.Eq.{bytes_eq-Decides}
 use Rattle.std.proofs.lemmas.Grind.{common_steps}
-use Rattle.line_text.specs.Words.{words_of}
 use Rattle.omx_types.specs.declared.fault.ScriptWhy.{ScriptWhy}
-use Rattle.script_lang.specs.Forms.{form_words, IsForm}
 use Rattle.script_lang.specs.ReadForms.{form_of}
-use Rattle.script_lang.specs.Scripts.{Before, Says, GoOn, ComeTo, GoesOn, IsUnits, IsFormOf, AreNoForm, units_of, with_units, with_act, fault_at, first_words, are_first}
+use Rattle.script_lang.specs.Scripts.{Before, Says, ComeTo, GoesOn, IsUnits, AreNoForm, units_of, with_units, with_act, fault_at, first_words, are_first}
 use Rattle.script_lang.specs.declared.form.TraceForm.{TraceForm}
-use Rattle.script_lang.specs.declared.saying.Said.{Said}
 use Rattle.script_lang.specs.declared.saying.Said.TheVariants.{Nothing, Units, Act, Fault}
-use Rattle.script_lang.specs.declared.script.ScriptFault.{ScriptFault}
 use Rattle.script_lang.proofs.FormsAgain.{form-again, form-short, units-again}
 
 abbrev IsNothing : {T : Type 0} → Option T → Type 0

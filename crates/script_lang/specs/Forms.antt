@@ -1,5 +1,5 @@
 -- The forms of a trace script's lines: a table with a row for each form.
-use Rattle.std.specs.Prelude.{ℕ, ◌^◌, ◌<◌, ◌≤◌, Bool, true, false, IsFalse, if◌then◌else◌, List, [], ◌∷◌, ◌++◌, codes}
+use Rattle.std.specs.Prelude.{ℕ, ◌≤◌, Bool, true, false, IsFalse, if◌then◌else◌, List, [], ◌∷◌, codes}
 use Rattle.std.specs.Fmt.{decimal}
 use Rattle.act_text.specs.Acts.{act_words, IsAct}
 use Rattle.act_text.specs.Names.{IsName}

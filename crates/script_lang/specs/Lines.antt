@@ -1,5 +1,5 @@
 -- The lines of a text. A line is ended by a line feed, the last one may lack it, and a carriage return before it is dropped.
-use Rattle.std.specs.Prelude.{ℕ, Bool, true, false, ◌==◌, if◌then◌else◌, List, [], ◌∷◌}
+use Rattle.std.specs.Prelude.{ℕ, ◌==◌, if◌then◌else◌, List, [], ◌∷◌}
 
 -- a byte before the first piece
 abbrev pub before_first_piece : ℕ → List (List ℕ) → List (List ℕ)

@@ -1,4 +1,4 @@
-ghost use Rattle.std.specs.Prelude.{◌≡◌, ◌<◌, ◌+◌, ◌*◌, ℕ, List, All, IfOk, IfSome, IfNone, IsTrue, Some};
+ghost use Rattle.std.specs.Prelude.{◌≡◌, ◌<◌, ◌+◌, ◌*◌, IfOk, IfSome, IsTrue, Some};
 ghost use Rattle.script_lang.specs.Hex.{AreBytes, bytes_of, bytes_word, pairs_of, byte_with, is_hex, hex_value};
 
 use crate::{OutOfMemory, Text};

@@ -1,4 +1,4 @@
-ghost use Rattle.std.specs.Prelude.{◌≡◌, ℕ, List};
+ghost use Rattle.std.specs.Prelude.{◌≡◌};
 ghost use Rattle.script_lang.specs.Known.{makes_component, makes_header, has_component, has_header, has_components, act_components, is_known, is_new};
 
 use crate::{TraceForm, TraceLine};
@@ -44,55 +44,33 @@ fn is_known_act(before: &[TraceLine], act: &TextAct) -> bool
     ensures { result ≡ has_components before.now (act_components act.now) }
 {
     match act {
-        TextAct::Free(component) => has_component(before, component),
-        TextAct::State(component) => has_component(before, component),
-        TextAct::Port(port) => has_component(before, &port.component),
-        TextAct::SetPort {
-            port,
-            format: _,
-            count: _,
-            size: _,
-        } => has_component(before, &port.component),
-        TextAct::SetSupplier { port, supplier: _ } => has_component(before, &port.component),
-        TextAct::SetPriority {
-            component,
-            priority: _,
-        } => has_component(before, component),
-        TextAct::Gain { component, gain: _ } => has_component(before, component),
-        TextAct::Weight { port, weight: _ } => has_component(before, &port.component),
-        TextAct::Tunnel { first, second } => has_component(before, &first.component)
-            && has_component(before, &second.component),
-        TextAct::DropTunnel { first, second } => has_component(before, &first.component)
-            && has_component(before, &second.component),
-        TextAct::SendState {
-            component,
-            state: _,
-        } => has_component(before, component),
-        TextAct::SendFlush {
-            component,
-            ports: _,
-        } => has_component(before, component),
-        TextAct::SendDisable {
-            component,
-            ports: _,
-        } => has_component(before, component),
-        TextAct::SendEnable {
-            component,
-            ports: _,
-        } => has_component(before, component),
+        TextAct::Free(component)
+        | TextAct::State(component)
+        | TextAct::SetPriority { component, .. }
+        | TextAct::Gain { component, .. }
+        | TextAct::SendState { component, .. }
+        | TextAct::SendFlush { component, .. }
+        | TextAct::SendDisable { component, .. }
+        | TextAct::SendEnable { component, .. }
+        | TextAct::Run(component)
+        | TextAct::Take(component)
+        | TextAct::End(component) => has_component(before, component),
+        TextAct::Port(port)
+        | TextAct::SetPort { port, .. }
+        | TextAct::SetSupplier { port, .. }
+        | TextAct::Weight { port, .. }
+        | TextAct::Supply(port)
+        | TextAct::Release(port)
+        | TextAct::Over(port)
+        | TextAct::Back(port) => has_component(before, &port.component),
+        TextAct::Tunnel { first, second } | TextAct::DropTunnel { first, second } => {
+            has_component(before, &first.component) && has_component(before, &second.component)
+        }
         TextAct::SendMark {
             component,
-            port: _,
             target,
-            value: _,
+            ..
         } => has_component(before, component) && has_component(before, target),
-        TextAct::Run(component) => has_component(before, component),
-        TextAct::Supply(port) => has_component(before, &port.component),
-        TextAct::Release(port) => has_component(before, &port.component),
-        TextAct::Over(port) => has_component(before, &port.component),
-        TextAct::Back(port) => has_component(before, &port.component),
-        TextAct::Take(component) => has_component(before, component),
-        TextAct::End(component) => has_component(before, component),
     }
 }
 

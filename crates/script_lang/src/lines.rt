@@ -1,4 +1,4 @@
-ghost use Rattle.std.specs.Prelude.{◌≡◌, ◌∷◌, ◌<◌, ◌≤◌, ◌+◌, [], ℕ, List, length, slice_index, take, drop, IfSome, IfNone};
+ghost use Rattle.std.specs.Prelude.{◌≡◌, ◌∷◌, ◌<◌, ◌≤◌, ◌+◌, [], ℕ, length, slice_index, IfSome, IfNone};
 ghost use Rattle.script_lang.specs.Lines.{lines_of, without_return as line_of};
 
 /// The first line of a text, and the text behind it.

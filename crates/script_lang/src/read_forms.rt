@@ -1,12 +1,9 @@
-ghost use Rattle.std.specs.Prelude.{◌≡◌, ◌∷◌, [], ℕ, List, IfOk, IfSome, IfNone, Some, option_map, length, IsTrue};
-ghost use Rattle.act_text.specs.Names.{IsName};
-ghost use Rattle.act_text.specs.Ports.{IsPortName};
-ghost use Rattle.act_text.specs.Reading.{name_of, port_of, small_number};
+ghost use Rattle.std.specs.Prelude.{◌≡◌, ◌∷◌, [], IfOk, IfSome, Some, length};
+ghost use Rattle.act_text.specs.Reading.{name_of, port_of};
 ghost use Rattle.act_text.specs.ReadActs.{act_of};
 ghost use Rattle.act_text.specs.Words.{texts};
 ghost use Rattle.script_lang.specs.Forms.{form_words, flag_word, is_end, IsForm};
-ghost use Rattle.script_lang.specs.Hex.{bytes_of};
-ghost use Rattle.script_lang.specs.ReadForms.{form_of, other_form_of, form_of_three, at_port_of, usebuf_of, etb_of, flag_of, act_form};
+ghost use Rattle.script_lang.specs.ReadForms.{form_of, other_form_of, form_of_three, at_port_of, flag_of, act_form};
 
 use crate::hex::bytes_in;
 use crate::{OutOfMemory, Text, TraceForm};

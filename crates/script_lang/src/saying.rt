@@ -1,7 +1,7 @@
-ghost use Rattle.std.specs.Prelude.{◌≡◌, ◌∷◌, ◌≤◌, ◌++◌, [], ℕ, List, drop, codes, IsTrue, IsFalse, IfOk, IfSome, IfNone};
+ghost use Rattle.std.specs.Prelude.{◌≡◌, ◌∷◌, ◌≤◌, [], ℕ, codes, IsFalse, IfOk, IfSome, IfNone};
 ghost use Rattle.std.specs.Fmt.{decimal};
 ghost use Rattle.line_text.specs.Words.{words_of};
-ghost use Rattle.act_text.specs.Words.{texts, spaced, after_spaces};
+ghost use Rattle.act_text.specs.Words.{texts, spaced};
 ghost use Rattle.script_lang.specs.Scripts.{Says, WordsSay, IsUnits, units_of, seen, is_skipped};
 
 use crate::known::{is_known, is_new};
@@ -124,13 +124,15 @@ pub fn spaced_text(alloc: Global, line: &[u8]) -> Result<Text, OutOfMemory>
     ensures { IfOk result (λ text. text ≡ spaced (words_of line.now)) }
 {
     let mut bytes = Vec::new(alloc);
-    let mut place = 0;
+    let Ok((start, end)) = next_word(line, 0) else {
+        return Ok(Text::from_vec(bytes));
+    };
+    bytes.extend_from_slice(&line[start..end])?;
+    let mut place = end;
     while let Ok((start, end)) = next_word(line, place) {
         bytes.push(b' ')?;
         bytes.extend_from_slice(&line[start..end])?;
         place = end;
     }
-    let first = bytes.len().min(1);
-    let (_, text) = bytes.as_slice().split_at(first);
-    Text::of(alloc, text)
+    Ok(Text::from_vec(bytes))
 }

@@ -1,4 +1,4 @@
-ghost use Rattle.std.specs.Prelude.{◌≡◌, ◌≢◌, ◌<◌, ◌∷◌, ◌++◌, [], ℕ, List, length, Ok, Err, IsUtf8, IsTrue, IsFalse, OnOk, IfOk, IfErr};
+ghost use Rattle.std.specs.Prelude.{◌≡◌, ◌<◌, ◌∷◌, ◌++◌, [], length, Ok, Err, IsUtf8, IsFalse, OnOk, IfOk, IfErr};
 ghost use Rattle.line_text.specs.Words.{words_of};
 ghost use Rattle.act_text.specs.Words.{texts};
 ghost use Rattle.script_lang.specs.Lines.{lines_of};

@@ -1,6 +1,4 @@
-use Rattle.std.proofs.Common.{◌≡◌, ◌<◌, ◌^◌, ℕ, Option, Result, sym, ap, ◌∙◌, arith, refl}
-use Rattle.std.specs.Option.{SomeIff}
-use Rattle.std.specs.Result.{OkIff, result_ok}
+use Rattle.std.proofs.Common.{◌^◌, sym, arith}
 use Rattle.act_text.proofs.Numerals.{below-iff, number_below-read, number_below-fault}
 use Rattle.act_text.proofs.parts.small_number_in.Goals as goal
 

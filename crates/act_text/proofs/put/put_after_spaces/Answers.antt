@@ -1,5 +1,3 @@
-use Rattle.std.proofs.Common.{◌++◌, ◌∙◌, ap, [], ◌∷◌, ℕ, List, take}
-use Rattle.act_text.specs.Words.{after_spaces, put_words}
 use Rattle.act_text.proofs.Spaces.{grown, on_err}
 use Rattle.act_text.proofs.put.put_after_spaces.Goals as goal
 

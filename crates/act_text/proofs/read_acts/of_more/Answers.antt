@@ -1,4 +1,4 @@
-use Rattle.std.proofs.Common.{◌≡◌, ℕ, length, sym, arith}
+use Rattle.std.proofs.Common.{sym, arith}
 use Rattle.std.proofs.lemmas.Grind.{common_steps}
 use Rattle.act_text.proofs.ActsAgain.{act_of-other}
 use Rattle.act_text.proofs.read_acts.of_more.Goals as goal

@@ -1,4 +1,4 @@
-use Rattle.std.proofs.Common.{◌≡◌, ◌<◌, ℕ, List, [], length, sym, arith}
+use Rattle.std.proofs.Common.{ℕ, List, [], length, sym, arith}
 use Rattle.std.specs.Borrow.{Bor}
 use Rattle.act_text.proofs.TextsAgain.{equals-place, equals-between}
 use Rattle.act_text.proofs.text.equals_in.Goals as goal

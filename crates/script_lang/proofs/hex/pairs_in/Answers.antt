@@ -1,5 +1,5 @@
-use Rattle.std.proofs.Common.{◌≡◌, arith}
-use Rattle.script_lang.proofs.HexWords.{bytes-more, bytes-none}
+use Rattle.std.proofs.Common.{arith}
+use Rattle.script_lang.proofs.HexWords.{bytes-more}
 use Rattle.script_lang.proofs.hex.pairs_in.Goals as goal
 
 pub loop-rest-preserved : goal.loop-rest-preserved

@@ -1,4 +1,4 @@
-use Rattle.std.proofs.Common.{◌≡◌, length, List, ℕ, ◌++◌, option_map}
+use Rattle.std.proofs.Common.{◌≡◌, length, ◌++◌, option_map}
 use Rattle.script_lang.specs.Hex.{pairs_of}
 use Rattle.script_lang.proofs.hex.pairs_in.Given as goal
 

@@ -1,6 +1,4 @@
-use Rattle.std.proofs.Common.{◌≡◌, ℕ, List, [], ◌∷◌, ◌++◌, ◌==◌, Bool, true, false, if◌then◌else◌, sym, ap, ◌∙◌, arith}
-use Rattle.std.proofs.lemmas.Grind.{common_steps}
-use Rattle.script_lang.specs.Lines.{without_return}
+use Rattle.std.proofs.Common.{true, false, if◌then◌else◌}
 use Rattle.script_lang.proofs.LineSteps.{return-dropped, no-return}
 use Rattle.script_lang.proofs.lines.without_return.Goals as goal
 
