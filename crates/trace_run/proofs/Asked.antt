@@ -17,7 +17,7 @@ use Rattle.trace_run.specs.Replying.{LineReply, Plain, printed}
 use Rattle.trace_run.specs.Lines.{ActLine, Takes, Answered}
 use Rattle.trace_run.specs.Standing.{Parts, as_header, moment_of, AskReplied, IsPlain, Stood, Leads, LeadsTo, TakeLeads}
 use Rattle.trace_run.proofs.Made.{made_by}
-use Rattle.trace_run.proofs.Numbered.{NoneGot}
+use Rattle.history_laws.proofs.Cores.{NoneGot, NoneTaken}
 use Rattle.trace_run.proofs.Standing.{stood_after, run_of_one}
 
 -- the act asks nothing of the caller, and makes nothing
@@ -26,28 +26,29 @@ pub record MakesNothing (w : World) (a : Act) (r : Reply) : Type 0 where
   pub got : NoneGot a r
   pub made : made_by a r ≡ None
   pub taken : taken_in a r ≡ None
+  pub notes : NoneTaken a r
 
 makes_nothing : (at : Moment) (act : TextAct) (r : Reply) → IsPlain act → MakesNothing at.world (asked at act) r
-makes_nothing at (lines.Free component) r P = record { meets = tt; got = tt; made = refl; taken = refl }
-makes_nothing at (lines.State component) r P = record { meets = tt; got = tt; made = refl; taken = refl }
-makes_nothing at (lines.Port port) r P = record { meets = tt; got = tt; made = refl; taken = refl }
-makes_nothing at (lines.SetPort port format count size) r P = record { meets = tt; got = tt; made = refl; taken = refl }
-makes_nothing at (lines.SetSupplier port supplier) r P = record { meets = tt; got = tt; made = refl; taken = refl }
-makes_nothing at (lines.SetPriority component priority) r P = record { meets = tt; got = tt; made = refl; taken = refl }
-makes_nothing at (lines.Gain component gain) r P = record { meets = tt; got = tt; made = refl; taken = refl }
-makes_nothing at (lines.Weight port weight) r P = record { meets = tt; got = tt; made = refl; taken = refl }
-makes_nothing at (lines.Tunnel first second) r P = record { meets = tt; got = tt; made = refl; taken = refl }
-makes_nothing at (lines.DropTunnel first second) r P = record { meets = tt; got = tt; made = refl; taken = refl }
-makes_nothing at (lines.SendState component state) r P = record { meets = tt; got = tt; made = refl; taken = refl }
-makes_nothing at (lines.SendFlush component ports) r P = record { meets = tt; got = tt; made = refl; taken = refl }
-makes_nothing at (lines.SendDisable component ports) r P = record { meets = tt; got = tt; made = refl; taken = refl }
-makes_nothing at (lines.SendEnable component ports) r P = record { meets = tt; got = tt; made = refl; taken = refl }
-makes_nothing at (lines.SendMark component port target value) r P = record { meets = tt; got = tt; made = refl; taken = refl }
-makes_nothing at (lines.Run component) r P = record { meets = tt; got = tt; made = refl; taken = refl }
-makes_nothing at (lines.Supply port) r P = record { meets = tt; got = tt; made = refl; taken = refl }
-makes_nothing at (lines.Release port) r P = record { meets = tt; got = tt; made = refl; taken = refl }
-makes_nothing at (lines.Over port) r P = record { meets = tt; got = tt; made = refl; taken = refl }
-makes_nothing at (lines.Back port) r P = record { meets = tt; got = tt; made = refl; taken = refl }
+makes_nothing at (lines.Free component) r P = record { meets = tt; got = tt; made = refl; taken = refl; notes = tt }
+makes_nothing at (lines.State component) r P = record { meets = tt; got = tt; made = refl; taken = refl; notes = tt }
+makes_nothing at (lines.Port port) r P = record { meets = tt; got = tt; made = refl; taken = refl; notes = tt }
+makes_nothing at (lines.SetPort port format count size) r P = record { meets = tt; got = tt; made = refl; taken = refl; notes = tt }
+makes_nothing at (lines.SetSupplier port supplier) r P = record { meets = tt; got = tt; made = refl; taken = refl; notes = tt }
+makes_nothing at (lines.SetPriority component priority) r P = record { meets = tt; got = tt; made = refl; taken = refl; notes = tt }
+makes_nothing at (lines.Gain component gain) r P = record { meets = tt; got = tt; made = refl; taken = refl; notes = tt }
+makes_nothing at (lines.Weight port weight) r P = record { meets = tt; got = tt; made = refl; taken = refl; notes = tt }
+makes_nothing at (lines.Tunnel first second) r P = record { meets = tt; got = tt; made = refl; taken = refl; notes = tt }
+makes_nothing at (lines.DropTunnel first second) r P = record { meets = tt; got = tt; made = refl; taken = refl; notes = tt }
+makes_nothing at (lines.SendState component state) r P = record { meets = tt; got = tt; made = refl; taken = refl; notes = tt }
+makes_nothing at (lines.SendFlush component ports) r P = record { meets = tt; got = tt; made = refl; taken = refl; notes = tt }
+makes_nothing at (lines.SendDisable component ports) r P = record { meets = tt; got = tt; made = refl; taken = refl; notes = tt }
+makes_nothing at (lines.SendEnable component ports) r P = record { meets = tt; got = tt; made = refl; taken = refl; notes = tt }
+makes_nothing at (lines.SendMark component port target value) r P = record { meets = tt; got = tt; made = refl; taken = refl; notes = tt }
+makes_nothing at (lines.Run component) r P = record { meets = tt; got = tt; made = refl; taken = refl; notes = tt }
+makes_nothing at (lines.Supply port) r P = record { meets = tt; got = tt; made = refl; taken = refl; notes = tt }
+makes_nothing at (lines.Release port) r P = record { meets = tt; got = tt; made = refl; taken = refl; notes = tt }
+makes_nothing at (lines.Over port) r P = record { meets = tt; got = tt; made = refl; taken = refl; notes = tt }
+makes_nothing at (lines.Back port) r P = record { meets = tt; got = tt; made = refl; taken = refl; notes = tt }
 makes_nothing at (lines.Take component) r P = absurd P
 makes_nothing at (lines.End component) r P = absurd P
 
@@ -94,7 +95,7 @@ module _ (old : Parts) (graph : Kept) (act : TextAct) (reply : TextReply) (P : I
       let N = makes_nothing at act r P in
       let says : printed at.names r ≡ Some (Plain reply) = ap (λ (n : Names). printed n r) S.names ∙ R.prints headers in (
         record at { world = v },
-        stood_after old at graph (asked at act) r v S N.meets step x.1 N.got N.made N.taken,
+        stood_after old at graph (asked at act) r v S N.meets step x.1 N.got N.made N.taken N.notes,
         record {
           entries = (asked at act, r) ∷ [];
           says = act_line at act r (Plain reply) P says;

@@ -18,14 +18,15 @@ use Rattle.act_text.specs.declared.name.PortName.{PortName}
 use Rattle.act_text.specs.declared.reply.TextReply.TheVariants as texts
 use Rattle.script_lang.specs.declared.form.TraceForm.{TraceForm}
 use Rattle.script_lang.specs.declared.form.TraceForm.TheVariants as forms
-use Rattle.trace_run.specs.declared.names.NamedComponent.{NamedComponent}
 use Rattle.trace_run.specs.declared.slots.Slot.{Slot}
 use Rattle.trace_run.specs.Naming.{Moment, Names, NamedHeader, hand_of, in_hand, is_named, with_hand}
 use Rattle.trace_run.specs.Replying.{LineReply, Plain}
 use Rattle.trace_run.specs.Lines.{InHand, Line}
-use Rattle.trace_run.specs.Standing.{Parts, held_as, holding, names_in, slot_named, Rehanded, Hands, Stood, IsStood, Leads}
+use Rattle.trace_run.specs.InHand.{IsTakenOut, HasNone}
+use Rattle.trace_run.specs.Standing.{Parts, held_as, holding, names_in, slot_named, HasEmptyHand, Rehanded, Hands, Stood, IsStood, Leads}
+use Rattle.trace_run.proofs.Ends.{none_out, ports_emptied, ports_holding, ends_with}
 use Rattle.trace_run.proofs.Made.{made_by}
-use Rattle.trace_run.proofs.Numbered.{NoneGot}
+use Rattle.history_laws.proofs.Cores.{NoneGot, NoneTaken}
 use Rattle.trace_run.proofs.SlotLists.{first_changes, first_passes, none_passes, hands_kept, hands_with, hands_without}
 use Rattle.trace_run.proofs.Standing.{keeps_all, keeps_others, known_kept, known_set, looks_grow, named_kept, rests_after, run_of_one}
 
@@ -46,13 +47,6 @@ set_twice (z ∷ xs) zero x y = refl
 set_twice (z ∷ xs) (suc i) x y = ap (λ (l : List _). z ∷ l) (set_twice xs i x y)
 
 -- what was in the hand of the first slot of the name was taken out
-pub record IsTakenOut (slots : List Slot) (name : List ℕ) (place : ℕ) (hand : Option BufferHeader) (without : List Slot) : Type 0 where
-  pub slot : Slot
-  pub first : position (slot_named name) slots ≡ Some place
-  pub there : slice_get slots place ≡ Some slot
-  pub hand_is : slot.hand ≡ hand
-  pub taken : without ≡ set slots place (holding None slot)
-
 pub taken_out : (slots : List Slot) (name : List ℕ) (place : ℕ) (hand o : Option BufferHeader) (without : List Slot) → Some place ≡ position (slot_named name) slots → MatchOption (slice_get slots place) ⊥ (λ slot. hand ≡ slot.hand) → hand ≡ o
     → Rehanded place None slots without → IsTakenOut slots name place o without
 taken_out slots name place hand o without p h e R =
@@ -74,12 +68,17 @@ pub same_back : (place : ℕ) (back header : BufferHeader) (without now : List S
 same_back place back header without now e R = subst (λ (h : BufferHeader). Rehanded place (Some h) without now) e R
 
 module _ (slots : List Slot) (name : List ℕ) (place : ℕ) (hand : Option BufferHeader) (without : List Slot) (T : IsTakenOut slots name place hand without) where
+  cleared : slice_get without place ≡ Some (holding None T.slot)
+  cleared = ap (λ (l : List Slot). slice_get l place) T.taken ∙ set_there slots place T.slot (holding None T.slot) T.there
+
+  pub hand_empty : HasEmptyHand place without
+  hand_empty = rw cleared refl
+
   -- that is in its hand in its place
   pub put_back : (other : Option BufferHeader) (now : List Slot) → Rehanded place other without now → now ≡ set slots place (holding other T.slot)
   put_back other now R =
       let s = T.slot in
-      let there : slice_get without place ≡ Some (holding None s) = ap (λ (l : List Slot). slice_get l place) T.taken ∙ set_there slots place s (holding None s) T.there in
-      let e : now ≡ set without place (holding other s) = at_there (slice_get without place) (λ slot. now ≡ set without place (holding other slot)) (holding None s) there R in
+      let e : now ≡ set without place (holding other s) = at_there (slice_get without place) (λ slot. now ≡ set without place (holding other slot)) (holding None s) cleared R in
       e ∙ (ap (λ (l : List Slot). set l place (holding other s)) T.taken ∙ set_twice slots place (holding None s) (holding other s))
 
   same_hand : set slots place (holding hand T.slot) ≡ slots
@@ -88,13 +87,14 @@ module _ (slots : List Slot) (name : List ℕ) (place : ℕ) (hand : Option Buff
   pub put_back_same : (now : List Slot) → Rehanded place hand without now → now ≡ slots
   put_back_same now R = put_back hand now R ∙ same_hand
 
-  pub hand_named : (at : Moment) (components : List NamedComponent) → at.names ≡ names_in components slots → in_hand at.names name ≡ option_map held_as hand
-  hand_named at components e =
-      ap (λ (names : Names). in_hand names name) e
-      ∙ (ap (option_and_then hand_of) (first_passes (is_named name) slots place T.slot T.first T.there) ∙ ap (option_map held_as) T.hand_is)
+  pub hand_named : in_hand (names_in [] slots) name ≡ option_map held_as hand
+  hand_named = ap (option_and_then hand_of) (first_passes (is_named name) slots place T.slot T.first T.there) ∙ ap (option_map held_as) T.hand_is
 
-pub none_taken : (slots : List Slot) (name : List ℕ) (place : ℕ) (without : List Slot) → IsTakenOut slots name place None without → without ≡ slots
-none_taken slots name place without T = T.taken ∙ same_hand slots name place None without T
+pub none_taken : (slots : List Slot) (name : List ℕ) (place : ℕ) (without : List Slot) → IsTakenOut slots name place None without → HasNone slots name × (without ≡ slots)
+none_taken slots name place without T = (hand_named slots name place None without T, T.taken ∙ same_hand slots name place None without T)
+
+pub none_named : (slots : List Slot) (name : List ℕ) → None ≡ position (slot_named name) slots → HasNone slots name
+none_named slots name p = ap (option_and_then hand_of) (none_passes (is_named name) slots (sym p))
 
 -- ---- lines that make no act
 
@@ -102,35 +102,27 @@ pub stays : (old : Parts) (slots : List Slot) (form : TraceForm) (reply : LineRe
 stays old slots form reply e l =
     subst (λ (ss : List Slot). Leads old (record old { slots = ss }) form reply) (sym e) (λ at S. (at, S, record { entries = []; says = l at S; run = refl }))
 
--- the header of the name isn't in hand
-abbrev pub NoneInHand : Parts → List ℕ → Type 0
-NoneInHand old name = (at : Moment) → Stood old at → in_hand at.names name ≡ None
-
-pub none_named : (old : Parts) (name : List ℕ) → None ≡ position (slot_named name) old.slots → NoneInHand old name
-none_named old name p at S =
-    ap (λ (names : Names). in_hand names name) S.names ∙ ap (option_and_then hand_of) (none_passes (is_named name) old.slots (sym p))
-
-pub none_in_hand : (old : Parts) (name : List ℕ) (place : ℕ) (without : List Slot) → IsTakenOut old.slots name place None without → NoneInHand old name
-none_in_hand old name place without T at S = hand_named old.slots name place None without T at old.components S.names
+in_hand_now : (old : Parts) (name : List ℕ) (hand : Option Held) → in_hand (names_in [] old.slots) name ≡ hand → (at : Moment) → Stood old at → in_hand at.names name ≡ hand
+in_hand_now old name hand h at S = ap (λ (names : Names). in_hand names name) S.names ∙ h
 
 none_held : (at : Moment) (name : List ℕ) (Then : Held → Type 0) → in_hand at.names name ≡ None → InHand at name [] (Plain texts.NotHeld) at.names Then
 none_held at name Then e = when_none (in_hand at.names name) _ Then e (record { none = refl; says = refl; same = refl })
 
-pub not_freed : (old : Parts) (name : List ℕ) (port : PortName) (slots : List Slot) → slots ≡ old.slots → NoneInHand old name → Leads old (record old { slots = slots }) (forms.FreeBuf name port) (Plain texts.NotHeld)
-not_freed old name port slots e n = stays old slots (forms.FreeBuf name port) (Plain texts.NotHeld) e (λ at S. none_held at name _ (n at S))
+pub not_freed : (old : Parts) (name : List ℕ) (port : PortName) (slots : List Slot) → slots ≡ old.slots → HasNone old.slots name → Leads old (record old { slots = slots }) (forms.FreeBuf name port) (Plain texts.NotHeld)
+not_freed old name port slots e n = stays old slots (forms.FreeBuf name port) (Plain texts.NotHeld) e (λ at S. none_held at name _ (in_hand_now old name None n at S))
 
-pub not_emptied : (old : Parts) (name : List ℕ) (port : PortName) (bytes : List ℕ) (eos : Bool) (slots : List Slot) → slots ≡ old.slots → NoneInHand old name
+pub not_emptied : (old : Parts) (name : List ℕ) (port : PortName) (bytes : List ℕ) (eos : Bool) (slots : List Slot) → slots ≡ old.slots → HasNone old.slots name
     → Leads old (record old { slots = slots }) (forms.Etb name port bytes eos) (Plain texts.NotHeld)
-not_emptied old name port bytes eos slots e n = stays old slots (forms.Etb name port bytes eos) (Plain texts.NotHeld) e (λ at S. none_held at name _ (n at S))
+not_emptied old name port bytes eos slots e n = stays old slots (forms.Etb name port bytes eos) (Plain texts.NotHeld) e (λ at S. none_held at name _ (in_hand_now old name None n at S))
 
-pub not_filled : (old : Parts) (name : List ℕ) (port : PortName) (slots : List Slot) → slots ≡ old.slots → NoneInHand old name → Leads old (record old { slots = slots }) (forms.Ftb name port) (Plain texts.NotHeld)
-not_filled old name port slots e n = stays old slots (forms.Ftb name port) (Plain texts.NotHeld) e (λ at S. none_held at name _ (n at S))
+pub not_filled : (old : Parts) (name : List ℕ) (port : PortName) (slots : List Slot) → slots ≡ old.slots → HasNone old.slots name → Leads old (record old { slots = slots }) (forms.Ftb name port) (Plain texts.NotHeld)
+not_filled old name port slots e n = stays old slots (forms.Ftb name port) (Plain texts.NotHeld) e (λ at S. none_held at name _ (in_hand_now old name None n at S))
 
 -- ---- the header in hand
 
 module _ (old : Parts) (name : List ℕ) (place : ℕ) (header : BufferHeader) (without : List Slot) (T : IsTakenOut old.slots name place (Some header) without) where
   pub in_hand_of : (at : Moment) → Stood old at → in_hand at.names name ≡ Some header.held
-  in_hand_of at S = hand_named old.slots name place (Some header) without T at old.components S.names
+  in_hand_of at S = in_hand_now old name (Some header.held) (hand_named old.slots name place (Some header) without T) at S
 
   pub is_hand : Hands old.slots (old.graph).looks → (header.held.number ≡ (T.slot).number) × IsHandedIn header (old.graph).looks
   is_hand H = if_some (T.slot).hand (λ h. (h.held.number ≡ (T.slot).number) × IsHandedIn h (old.graph).looks) header T.hand_is (H.each place T.slot T.there)
@@ -143,7 +135,7 @@ module _ (old : Parts) (name : List ℕ) (place : ℕ) (header : BufferHeader) (
     pub number : given.held.number ≡ header.held.number
     pub handed : IsHandedIn given (old.graph).looks
 
-  module _ (graph : Kept) (form : TraceForm) (a : Act) (r : Reply) (reply : LineReply) (given : BufferHeader) (G : (at : Moment) → Stood old at → IsSameHeader given) (M : (w : World) → Stands old.graph w → Meets w a) (n : NoneGot a r) (m : made_by a r ≡ None)
+  module _ (graph : Kept) (form : TraceForm) (a : Act) (r : Reply) (reply : LineReply) (given : BufferHeader) (G : (at : Moment) → Stood old at → IsSameHeader given) (M : (w : World) → Stands old.graph w → Meets w a) (n : NoneGot a r) (m : made_by a r ≡ None) (q : NoneTaken a r)
       (steps : Steps old.graph graph (λ w v. Step w a r v)) where
     numbered : (at : Moment) → Stood old at → given.held.number ≡ (T.slot).number
     numbered at S = (G at S).number ∙ (is_hand S.hands).0
@@ -170,6 +162,8 @@ module _ (old : Parts) (name : List ℕ) (place : ℕ) (header : BufferHeader) (
             named = named_kept old.components w a r v S.sound meets x.2 n S.named;
             known = known_set old.slots (look v) place T.slot None T.there (known_kept old.slots w a r v S.sound meets x.2 m S.known);
             hands = hands_without old.slots (old.graph).looks graph.looks place T.slot given T.there (numbered at S) (keeps_others old.graph graph w a r v given S.world x.1 S.sound meets x.2 t) (looks_grow old.graph graph w a r v S.world x.1 S.sound meets x.2) S.hands;
+            ends = ends_with old graph w a r v S.world x.1 S.sound meets x.2 n q S.ends (set old.slots place (holding None T.slot))
+                (ports_emptied old.graph graph w a r v S.world x.1 S.sound meets x.2 old.components old.slots S.hands S.ends.slots place T.slot given.held.number T.there (numbered at S) t (none_out a r m q));
           },
           record { entries = (a, r) ∷ []; says = l at S; run = run_of_one w a r v meets x.2 },
         )
@@ -193,6 +187,8 @@ module _ (old : Parts) (name : List ℕ) (place : ℕ) (header : BufferHeader) (
             known = known_set old.slots (look v) place T.slot (Some given) T.there (known_kept old.slots w a r v S.sound meets x.2 m S.known);
             hands = hands_with old.slots graph.looks place T.slot given T.there (numbered at S) (K given (G at S).handed)
                 (hands_kept old.slots (old.graph).looks graph.looks K (looks_grow old.graph graph w a r v S.world x.1 S.sound meets x.2) S.hands);
+            ends = ends_with old graph w a r v S.world x.1 S.sound meets x.2 n q S.ends (set old.slots place (holding (Some given) T.slot))
+                (ports_holding old.graph graph w a r v S.world x.1 S.sound meets x.2 old.components old.slots S.hands S.ends.slots place T.slot given T.there (none_out a r m q));
           },
           record { entries = (a, r) ∷ []; says = l at S; run = run_of_one w a r v meets x.2 },
         )

@@ -7,7 +7,7 @@ use Rattle.il_machine.specs.declared.header.HeaderState.{HeaderState}
 use Rattle.il_machine.specs.Look.{Look, look}
 use Rattle.il_machine.specs.World.{World}
 use Rattle.il_machine.specs.Buffers.{Held, IsWithClient, IsHeldByClient, FreeBuffer, EmptyThisBuffer, FillThisBuffer}
-use Rattle.il_machine.specs.Acts.{Act, Reply}
+use Rattle.il_machine.specs.Acts.{Act}
 use Rattle.il_machine.specs.Acts as acts
 use Rattle.il_machine.specs.Whole.{Kept, Stands, Steps}
 use Rattle.machine_laws.proofs.Finding.{either}
@@ -24,15 +24,16 @@ use Rattle.trace_run.specs.declared.slots.Slot.{Slot}
 use Rattle.trace_run.specs.Naming.{Moment, Names, handle_in, handle_of, port_in}
 use Rattle.trace_run.specs.Replying.{LineReply, Plain}
 use Rattle.trace_run.specs.Lines.{Entry, EtbLine, is_too_long, line_flags}
+use Rattle.trace_run.specs.InHand.{IsTakenOut}
 use Rattle.trace_run.specs.Standing.{Parts, holding, Rehanded, Stood, IsStood, Leads}
-use Rattle.trace_run.proofs.Handed.{IsTakenOut, IsSameHeader, in_hand_of, may_be_handed, put_back, stays, went_in, came_back, when_some}
+use Rattle.trace_run.proofs.Handed.{IsSameHeader, in_hand_of, may_be_handed, put_back, stays, went_in, came_back, when_some}
 use Rattle.trace_run.proofs.HandedOut.{by_names, with_slots}
 
 -- ---- what the caller sees to
 
 with_client : (header : BufferHeader) (k : Kept) (w : World) → Stands k w → IsHandedIn header k.looks → IsWithClient header.held.number (look w)
 with_client header k w S h =
-    let x = there_is ((k.looks).headers.header header.held.number) _ h in
+    let x = there_is ((k.looks).headers.header header.held.number) _ h.1 in
     is_there ((look w).headers.header header.held.number) _ x.0 (ap (λ (l : Look). l.headers.header header.held.number) S.looks ∙ x.1) x.2.0
 
 within : (n s t : ℕ) → s ≡ t → n ≤ s → n ≤ t
@@ -40,7 +41,7 @@ within n s t e h = omega (arith, e, h)
 
 held_by_client : (header : BufferHeader) (k : Kept) (w : World) → Stands k w → length header.held.content ≤ header.held.size → IsHandedIn header k.looks → IsHeldByClient header.held (look w)
 held_by_client header k w S l h =
-    let x = there_is ((k.looks).headers.header header.held.number) _ h in
+    let x = there_is ((k.looks).headers.header header.held.number) _ h.1 in
     let H = x.2.1 in
     is_there ((look w).headers.header header.held.number) _ x.0 (ap (λ (l : Look). l.headers.header header.held.number) S.looks ∙ x.1) (x.2.0, H.size, within (length header.held.content) header.held.size (x.0).size H.size l)
 
@@ -51,8 +52,8 @@ filled_of s bytes flags header H (Block block) e = record { size = H.size; memor
 
 filled_in : (header : BufferHeader) (bytes : List ℕ) (flags : ℕ) (l : Look) → IsHandedIn header l → IsHandedIn (filled bytes flags header) l
 filled_in header bytes flags l h =
-    let x = there_is (l.headers.header header.held.number) _ h in
-    is_there (l.headers.header header.held.number) _ x.0 x.1 (x.2.0, filled_of x.0 bytes flags header x.2.1 header.store refl)
+    let x = there_is (l.headers.header header.held.number) _ h.1 in
+    (h.0, is_there (l.headers.header header.held.number) _ x.0 x.1 (x.2.0, filled_of x.0 bytes flags header x.2.1 header.store refl))
 
 pub flag_of : (eos : Bool) → from_bool eos ≡ line_flags eos
 flag_of true = refl
@@ -90,7 +91,7 @@ module _ (old : Parts) (graph : Kept) (name : List ℕ) (place : ℕ) (header : 
       let r = acts.Freed (Ok memory) in
       with_slots old graph form (Plain texts.Done) (set old.slots place (holding None T.slot)) without T.taken
       (went_in old name place header without T graph form (acts.FreeBuffer (handle_in old.components port.component) port.index header.held.number) r (Plain texts.Done) header same
-      (λ w s. with_client header old.graph w s handed) tt refl (subst (λ (k : PortId). Steps old.graph graph (λ w v. FreeBuffer w k.handle k.index header.held.number (Ok memory) v)) is steps) refl
+      (λ w s. with_client header old.graph w s handed) tt refl tt (subst (λ (k : PortId). Steps old.graph graph (λ w v. FreeBuffer w k.handle k.index header.held.number (Ok memory) v)) is steps) refl
       (λ at s. when_some _ _ _ header.held (in_hand_of old name place header without T at s) (Ok memory, record { one = by_names old at (λ names. (act names, r) ∷ []) s; says = refl }, refl)))
 
   pub free_refused : (error : OmxError) (slots : List Slot) → Rehanded place (Some header) without slots → Steps old.graph graph (λ w v. FreeBuffer w id.handle id.index header.held.number (Err error) v)
@@ -101,7 +102,7 @@ module _ (old : Parts) (graph : Kept) (name : List ℕ) (place : ℕ) (header : 
       let r = acts.Freed (Err error) in
       with_slots old graph form (Plain (texts.Error error)) (set old.slots place (holding (Some header) T.slot)) slots (put_back old.slots name place (Some header) without T (Some header) slots R)
       (came_back old name place header without T graph form (acts.FreeBuffer (handle_in old.components port.component) port.index header.held.number) r (Plain (texts.Error error)) header same
-      (λ w s. with_client header old.graph w s handed) tt refl (subst (λ (k : PortId). Steps old.graph graph (λ w v. FreeBuffer w k.handle k.index header.held.number (Err error) v)) is steps) refl
+      (λ w s. with_client header old.graph w s handed) tt refl tt (subst (λ (k : PortId). Steps old.graph graph (λ w v. FreeBuffer w k.handle k.index header.held.number (Err error) v)) is steps) refl
       (λ at s. when_some _ _ _ header.held (in_hand_of old name place header without T at s) (Err error, record { one = by_names old at (λ names. (act names, r) ∷ []) s; says = refl }, refl)))
 
   module _ (sized : length header.held.content ≤ header.held.size) where
@@ -112,7 +113,7 @@ module _ (old : Parts) (graph : Kept) (name : List ℕ) (place : ℕ) (header : 
         let r = acts.Plain (Ok tt) in
         with_slots old graph form (Plain texts.Done) (set old.slots place (holding None T.slot)) without T.taken
         (went_in old name place header without T graph form (acts.FillThisBuffer (handle_in old.components port.component) port.index header.held) r (Plain texts.Done) header same
-        (λ w s. held_by_client header old.graph w s sized handed) tt refl (subst (λ (k : PortId). Steps old.graph graph (λ w v. FillThisBuffer w k.handle k.index header.held (Ok tt) v)) is steps) refl
+        (λ w s. held_by_client header old.graph w s sized handed) tt refl tt (subst (λ (k : PortId). Steps old.graph graph (λ w v. FillThisBuffer w k.handle k.index header.held (Ok tt) v)) is steps) refl
         (λ at s. when_some _ _ _ header.held (in_hand_of old name place header without T at s) (Ok tt, record { one = by_names old at (λ names. (act names, r) ∷ []) s; says = refl }, refl)))
 
     pub fill_refused : (error : OmxError) (slots : List Slot) → Rehanded place (Some header) without slots → Steps old.graph graph (λ w v. FillThisBuffer w id.handle id.index header.held (Err error) v)
@@ -123,7 +124,7 @@ module _ (old : Parts) (graph : Kept) (name : List ℕ) (place : ℕ) (header : 
         let r = acts.Plain (Err error) in
         with_slots old graph form (Plain (texts.Error error)) (set old.slots place (holding (Some header) T.slot)) slots (put_back old.slots name place (Some header) without T (Some header) slots R)
         (came_back old name place header without T graph form (acts.FillThisBuffer (handle_in old.components port.component) port.index header.held) r (Plain (texts.Error error)) header same
-        (λ w s. held_by_client header old.graph w s sized handed) tt refl (subst (λ (k : PortId). Steps old.graph graph (λ w v. FillThisBuffer w k.handle k.index header.held (Err error) v)) is steps) refl
+        (λ w s. held_by_client header old.graph w s sized handed) tt refl tt (subst (λ (k : PortId). Steps old.graph graph (λ w v. FillThisBuffer w k.handle k.index header.held (Err error) v)) is steps) refl
         (λ at s. when_some _ _ _ header.held (in_hand_of old name place header without T at s) (Err error, record { one = by_names old at (λ names. (act names, r) ∷ []) s; says = refl }, refl)))
 
   -- with the line's bytes and flag
@@ -154,7 +155,7 @@ module _ (old : Parts) (graph : Kept) (name : List ℕ) (place : ℕ) (header : 
           let r = acts.Plain result in
           with_slots old graph form (Plain texts.Done) (set old.slots place (holding None T.slot)) without T.taken
           (went_in old name place header without T graph form (acts.EmptyThisBuffer (handle_in old.components port.component) port.index full.held) r (Plain texts.Done) full same_full
-          (λ w s. held_by_client full old.graph w s fits full_handed) tt refl
+          (λ w s. held_by_client full old.graph w s fits full_handed) tt refl tt
           (subst (λ (k : PortId). Steps old.graph graph (λ w v. EmptyThisBuffer w k.handle k.index full.held result v)) is (subst (λ (g : BufferHeader). Steps old.graph graph (λ w v. EmptyThisBuffer w id.handle id.index g.held result v)) by steps)) refl
           (λ at s. when_some _ _ _ header.held (in_hand_of old name place header without T at s)
           (etb_by (is_too_long full.held) false at name port full.held _ (Plain texts.Done) _ (le-ltb header.held.size (length bytes) fits) (result, record { one = by_names old at (λ names. (act names, r) ∷ []) s; says = refl }, refl))))
@@ -169,7 +170,7 @@ module _ (old : Parts) (graph : Kept) (name : List ℕ) (place : ℕ) (header : 
           with_slots old graph form (Plain (texts.Error error)) (set old.slots place (holding (Some full) T.slot)) slots
           (put_back old.slots name place (Some header) without T (Some full) slots (subst (λ (g : BufferHeader). Rehanded place (Some g) without slots) by R))
           (came_back old name place header without T graph form (acts.EmptyThisBuffer (handle_in old.components port.component) port.index full.held) r (Plain (texts.Error error)) full same_full
-          (λ w s. held_by_client full old.graph w s fits full_handed) tt refl
+          (λ w s. held_by_client full old.graph w s fits full_handed) tt refl tt
           (subst (λ (k : PortId). Steps old.graph graph (λ w v. EmptyThisBuffer w k.handle k.index full.held result v)) is (subst (λ (g : BufferHeader). Steps old.graph graph (λ w v. EmptyThisBuffer w id.handle id.index g.held result v)) by steps)) refl
           (λ at s. when_some _ _ _ header.held (in_hand_of old name place header without T at s)
           (etb_by (is_too_long full.held) false at name port full.held _ (Plain (texts.Error error)) _ (le-ltb header.held.size (length bytes) fits) (result, record { one = by_names old at (λ names. (act names, r) ∷ []) s; says = refl }, refl))))

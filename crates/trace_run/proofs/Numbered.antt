@@ -2,6 +2,7 @@
 use Rattle.std.proofs.Common.{◌≡◌, ℕ, ◌+◌, Bool, true, List, [], ◌∷◌, Option, Some, None, MatchOption, Ok, refl, ◌∙◌, ap}
 use Rattle.omx_types.specs.declared.error.OmxError.{OmxError}
 use Rattle.omx_types.specs.declared.handle.Handle.{Handle}
+use Rattle.omx_types.specs.declared.kind.Kind.{Kind}
 use Rattle.il_machine.specs.declared.answer.Acted.TheVariants.{Did}
 use Rattle.il_machine.specs.declared.port.Link.{Link}
 use Rattle.il_machine.specs.declared.port.Port.{Port}
@@ -24,6 +25,7 @@ use Rattle.il_machine.specs.Acts.{Act, Reply}
 use Rattle.il_machine.specs.Acts as acts
 use Rattle.il_machine.specs.Run.{Step, Meets}
 use Rattle.il_machine.specs.Sound.{Sound}
+use Rattle.history_laws.proofs.Cores.{NoneGot}
 use Rattle.history_laws.proofs.Outcome.{turn, Outcome, Nothing, Done}
 use Rattle.history_laws.proofs.Steps.{step_comes}
 use Rattle.trace_run.proofs.Closed.{closing_kept}
@@ -71,11 +73,6 @@ back_same : (i : ℕ) (c : Component) (p : Port) (o : Option Link) (w : World) �
 back_same i c p None w = noticed_same i c p ((seen w.headers).todo p.key) w
 back_same i c p (Some link) w = returned_same link.peer (is_input_port p) ((seen w.headers).done p.key) ((seen w.headers).todo p.key) w
 
--- no component is made
-abbrev pub NoneGot : Act → Reply → Type 0
-NoneGot (acts.GetHandle name) (acts.Got (Ok h)) = ⊥
-NoneGot a r = Unit {0}
-
 effect_same : (w : World) (a : Act) (r : Reply) → NoneGot a r → Same w (effect w a r)
 effect_same w (acts.GetHandle name) (acts.Got (Ok h)) n = absurd n
 effect_same w (acts.FreeHandle h) (acts.Plain (Ok done)) n = named_same h w _ (λ i c. refl)
@@ -114,13 +111,15 @@ numbered_step w a r v S M h n = outcome_same w a r v n (step_comes w a r v S M h
 pub record IsNumbered (w : World) (h : Handle) (v : World) : Type 0 where
   pub number : h.generation ≡ w.numbered
   pub next : v.numbered ≡ w.numbered + 1
+  pub kind : Kind
+  pub closes : ClosesTo (with_new_component h kind w) v
 
 got : (o : Option OmxError) (name : List ℕ) (w : World) (h : Handle) (v : World) → AnswersOrMemory o (Ok h) w v (λ h. (h.generation ≡ w.numbered) × (is_vacant h.slot w.components ≡ true)
     × MatchOption (kind_of name) ⊥ (λ kind. ClosesTo (with_new_component h kind w) v)) → IsNumbered w h v
 got (Some error) name w h v a = absurd cc
 got None name w h v a =
     let k = there_is (kind_of name) _ a.2 in
-    record { number = a.0; next = (closing_kept (with_new_component h k.0 w) v k.2).numbered }
+    record { number = a.0; next = (closing_kept (with_new_component h k.0 w) v k.2).numbered; kind = k.0; closes = k.2 }
 
 pub numbered_get : (w : World) (name : List ℕ) (h : Handle) (v : World) → GetHandle w name (Ok h) v → IsNumbered w h v
 numbered_get w name h v a = got (get_handle_refusal (look w) name) name w h v a

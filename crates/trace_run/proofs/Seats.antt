@@ -9,7 +9,7 @@ use Rattle.il_machine.proofs.Places.{is_first_place}
 use Rattle.machine_laws.proofs.Finding.{either}
 use Rattle.trace_run.proofs.Closed.{Seat, seat}
 
-pub found : Handle → List Component → Option Component
+unfoldable pub found : Handle → List Component → Option Component
 found h [] = None
 found h (c ∷ cs) = cond (is_at h c) (Some c) (found h cs)
 

@@ -99,6 +99,23 @@ rising_at from next i [] s R at = absurd cc
 rising_at from next zero (x ∷ xs) s R at = let is : x ≡ s = cc in rw (← is) R.0
 rising_at from next (suc i) (x ∷ xs) s R at = let l = rising_at (suc x.number) next i xs s R.1 at in let m = R.0 in omega (arith, l, m)
 
+rising_least : (from next : ℕ) (slots : List Slot) → AreRising from slots next → from ≤ next
+rising_least from next [] R = R
+rising_least from next (s ∷ ss) R = let l = rising_least (suc s.number) next ss R.1 in let m = R.0 in omega (arith, l, m)
+
+pub rising_below : (from next i : ℕ) (slots : List Slot) (s : Slot) → AreRising from slots next → slice_get slots i ≡ Some s → s.number < next
+rising_below from next i [] s R at = absurd cc
+rising_below from next zero (x ∷ xs) s R at =
+    let is : x ≡ s = cc in
+    let k : x.number ≡ s.number = ap (λ (y : Slot). y.number) is in
+    let l = rising_least (suc x.number) next xs R.1 in
+    omega (arith, k, l)
+rising_below from next (suc i) (x ∷ xs) s R at = rising_below (suc x.number) next i xs s R.1 at
+
+pub rising_front : (from next : ℕ) (slots : List Slot) (s : Slot) → AreRising from (slots ++ s ∷ []) next → AreRising from slots s.number
+rising_front from next [] s R = R.0
+rising_front from next (x ∷ xs) s R = (R.0, rising_front (suc x.number) next xs s R.1)
+
 pub rising_apart : (from next i j : ℕ) (slots : List Slot) (s t : Slot) → AreRising from slots next → slice_get slots i ≡ Some s → slice_get slots j ≡ Some t → j ≢ i → t.number ≢ s.number
 rising_apart from next i j [] s t R a b n e = absurd cc
 rising_apart from next zero zero (x ∷ xs) s t R a b n e = n refl

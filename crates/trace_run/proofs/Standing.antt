@@ -22,14 +22,17 @@ use Rattle.header_core.specs.BufferHeader.{BufferHeader}
 use Rattle.trace_run.specs.declared.names.NamedComponent.{NamedComponent}
 use Rattle.trace_run.specs.declared.slots.Slot.{Slot}
 use Rattle.trace_run.specs.Naming.{Moment, has_number}
-use Rattle.trace_run.specs.Standing.{Parts, slot_numbered, holding, AreNamed, HaveSlots, IsAtRest, Stood}
+use Rattle.trace_run.specs.Standing.{Parts, names_in, slot_numbered, holding, Hands, AreNamed, HaveSlots, IsAtRest, CanEnd, Stood}
 use Rattle.trace_run.proofs.Made.{IsHome, made_by, made_step, made_grows}
-use Rattle.trace_run.proofs.Numbered.{NoneGot, numbered_step}
+use Rattle.history_laws.proofs.Cores.{NoneGot, NoneTaken}
+use Rattle.trace_run.proofs.Numbered.{numbered_step}
 use Rattle.history_laws.specs.ClientHeaders.{IsClients, taken_in}
 use Rattle.history_laws.proofs.ClientHeaders.{steps_clients}
+use Rattle.history_laws.proofs.KeyLaw.{steps_key}
 use Rattle.graph_core.specs.Changes.{IsHandedIn}
 use Rattle.port_stock.specs.Conditions.{IsHeaderOf}
 use Rattle.trace_run.proofs.SlotLists.{Keeps, KeepsOthers, hands_kept}
+use Rattle.trace_run.proofs.Ends.{ends_kept}
 
 -- ---- slots of the client's headers
 
@@ -118,17 +121,19 @@ rests_after k m w a r v A B h R = sym (ap first_due B.looks) ∙ step_closed w a
 
 handed_there : (k : Kept) (w : World) (header : BufferHeader) → Stands k w → IsHandedIn header k.looks → (s : HeaderState) × IsClients (look w) header.held.number s × IsHeaderOf s header
 handed_there k w header S h =
-    let x = there_is ((k.looks).headers.header header.held.number) _ h in
+    let x = there_is ((k.looks).headers.header header.held.number) _ h.1 in
     (x.0, (ap (λ (l : Look). l.headers.header header.held.number) S.looks ∙ x.1, x.2.0), x.2.1)
 
-handed_here : (k : Kept) (w : World) (header : BufferHeader) (s : HeaderState) → Stands k w → IsClients (look w) header.held.number s → IsHeaderOf s header → IsHandedIn header k.looks
-handed_here k w header s S c h = is_there ((k.looks).headers.header header.held.number) _ s (sym (ap (λ (l : Look). l.headers.header header.held.number) S.looks) ∙ c.0) (c.1, h)
+handed_here : (k : Kept) (w : World) (header : BufferHeader) (s : HeaderState) → Stands k w → header.key ≡ w.key → IsClients (look w) header.held.number s → IsHeaderOf s header → IsHandedIn header k.looks
+handed_here k w header s S own c h =
+    (own ∙ ap (λ (l : Look). l.key) S.looks, is_there ((k.looks).headers.header header.held.number) _ s (sym (ap (λ (l : Look). l.headers.header header.held.number) S.looks) ∙ c.0) (c.1, h))
 
 -- the act took in no header of that number
 pub handed_after : (k m : Kept) (w : World) (a : Act) (r : Reply) (v : World) (header : BufferHeader) → Stands k w → Stands m v → Sound w → Meets w a → Step w a r v → taken_in a r ≢ Some header.held.number → IsHandedIn header k.looks → IsHandedIn header m.looks
 handed_after k m w a r v header A B S M h n t =
     let x = handed_there k w header A t in
-    handed_here m v header x.0 B (steps_clients w a r v header.held.number x.0 S M h x.1 n) x.2
+    let own : header.key ≡ v.key = t.0 ∙ sym (steps_key w a r v S M h ∙ ap (λ (l : Look). l.key) A.looks) in
+    handed_here m v header x.0 B own (steps_clients w a r v header.held.number x.0 S M h x.1 n) x.2
 
 pub keeps_all : (k m : Kept) (w : World) (a : Act) (r : Reply) (v : World) → Stands k w → Stands m v → Sound w → Meets w a → Step w a r v → taken_in a r ≡ None → Keeps k.looks m.looks
 keeps_all k m w a r v A B S M h none header t =
@@ -138,10 +143,26 @@ pub keeps_others : (k m : Kept) (w : World) (a : Act) (r : Reply) (v : World) (g
 keeps_others k m w a r v given A B S M h taken header apart t =
     handed_after k m w a r v header A B S M h (λ e. let x : Some given.held.number ≡ Some header.held.number = sym taken ∙ e in let y : given.held.number ≡ header.held.number = cc in apart (sym y)) t
 
+-- what is stood for, but for what the end of a trace needs
+pub record Between (kept : Parts) (at : Moment) : Type 0 where
+  pub world : Stands kept.graph at.world
+  pub rests : IsAtRest kept.graph
+  pub names : at.names ≡ names_in kept.components kept.slots
+  pub sound : Sound at.world
+  pub named : AreNamed kept.components at.world.numbered
+  pub known : HaveSlots kept.slots (look at.world)
+  pub hands : Hands kept.slots kept.graph.looks
+
+pub between_of : (kept : Parts) (at : Moment) → Stood kept at → Between kept at
+between_of kept at S = record { world = S.world; rests = S.rests; names = S.names; sound = S.sound; named = S.named; known = S.known; hands = S.hands }
+
+pub stood_with : (kept : Parts) (at : Moment) → Between kept at → CanEnd kept → Stood kept at
+stood_with kept at S E = record { world = S.world; rests = S.rests; names = S.names; sound = S.sound; named = S.named; known = S.known; hands = S.hands; ends = E }
+
 -- the names stay, and nothing was made or taken in
-pub stood_after : (old : Parts) (at : Moment) (graph : Kept) (a : Act) (r : Reply) (v : World) → Stood old at → Meets at.world a → Step at.world a r v → Stands graph v → NoneGot a r → made_by a r ≡ None → taken_in a r ≡ None
-    → Stood (record old { graph = graph }) (record at { world = v })
-stood_after old at graph a r v S M h B n m t =
+pub between_after : (old : Parts) (at : Moment) (graph : Kept) (a : Act) (r : Reply) (v : World) → Between old at → Meets at.world a → Step at.world a r v → Stands graph v → NoneGot a r → made_by a r ≡ None → taken_in a r ≡ None
+    → Between (record old { graph = graph }) (record at { world = v })
+between_after old at graph a r v S M h B n m t =
     let w = at.world in
     record {
       world = B;
@@ -152,6 +173,13 @@ stood_after old at graph a r v S M h B n m t =
       known = known_kept old.slots w a r v S.sound M h m S.known;
       hands = hands_kept old.slots (old.graph).looks graph.looks (keeps_all old.graph graph w a r v S.world B S.sound M h t) (looks_grow old.graph graph w a r v S.world B S.sound M h) S.hands;
     }
+
+-- nor was a note taken
+pub stood_after : (old : Parts) (at : Moment) (graph : Kept) (a : Act) (r : Reply) (v : World) → Stood old at → Meets at.world a → Step at.world a r v → Stands graph v → NoneGot a r → made_by a r ≡ None → taken_in a r ≡ None → NoneTaken a r
+    → Stood (record old { graph = graph }) (record at { world = v })
+stood_after old at graph a r v S M h B n m t q =
+    stood_with (record old { graph = graph }) (record at { world = v }) (between_after old at graph a r v (between_of old at S) M h B n m t)
+    (ends_kept old graph at.world a r v S.world B S.sound M h n q S.ends m S.hands)
 
 -- one act is a run
 pub run_of_one : (w : World) (a : Act) (r : Reply) (v : World) → Meets w a → Step w a r v → Run w ((a, r) ∷ []) v

@@ -141,32 +141,32 @@ rose_before before mid after later rose = grind arith
 
 -- no line was written
 pub none_got : (units : ℕ) (lines : List TraceLine) (old new : Option (List ℕ)) → new ≡ old → GotLines (Trace units lines) old new
-none_got units [] old new same = (0, [], (beginning units, (refl, refl)), same ∙ sym (append_known-nil old))
-none_got units (line ∷ lines) old new same = (0, [], (beginning units, (refl, refl)), same ∙ sym (append_known-nil old))
+none_got units [] old new same = (0, [], (0, beginning 0 units, (refl, refl)), same ∙ sym (append_known-nil old))
+none_got units (line ∷ lines) old new same = (0, [], (0, beginning 0 units, (refl, refl)), same ∙ sym (append_known-nil old))
 
-pub got_trace : (units : ℕ) (lines : List TraceLine) (old mid new : Option (List ℕ)) → GotBody (beginning units) lines old mid → new ≡ append_known mid (codes "end\n") → GotTrace (Trace units lines) old new
-got_trace units lines old mid new (body, last, lead, got) is =
-    (body ++ codes "end\n", (body, last, lead, refl), is ∙ ap (λ t. append_known t (codes "end\n")) got ∙ append_known-twice old body (codes "end\n"))
+pub got_trace : (key units : ℕ) (lines : List TraceLine) (old mid new : Option (List ℕ)) → GotBody (beginning key units) lines old mid → new ≡ append_known mid (codes "end\n") → GotTrace (Trace units lines) old new
+got_trace key units lines old mid new (body, last, lead, got) is =
+    (body ++ codes "end\n", (key, body, last, lead, refl), is ∙ ap (λ t. append_known t (codes "end\n")) got ∙ append_known-twice old body (codes "end\n"))
 
 -- the write of the end failed
-pub end_broken : (units : ℕ) (lines : List TraceLine) (old mid new : Option (List ℕ)) (before between after : ℕ) (fault : Fault) → GotBody (beginning units) lines old mid → AppendsFront mid new (codes "end\n")
+pub end_broken : (key units : ℕ) (lines : List TraceLine) (old mid new : Option (List ℕ)) (before between after : ℕ) (fault : Fault) → GotBody (beginning key units) lines old mid → AppendsFront mid new (codes "end\n")
     → before ≤ between → Rose between after → fault ≡ WriteFault → IsStopped (Trace units lines) old new before after fault
-end_broken units lines old mid new before between after fault (body, last, lead, got) front later rose is =
+end_broken key units lines old mid new before between after fault (body, last, lead, got) front later rose is =
     subst (λ (f : Fault). IsStopped (Trace units lines) old new before after f) (sym is)
-    (rose_later before between after later rose, (body ++ codes "end\n", inl (body, last, lead, refl), front-after old mid new body (codes "end\n") got front))
+    (rose_later before between after later rose, (body ++ codes "end\n", inl (key, body, last, lead, refl), front-after old mid new body (codes "end\n") got front))
 
 -- the lines broke off
-front_written : (units : ℕ) (lines : List TraceLine) (old new : Option (List ℕ)) → (count : ℕ) × (text : List ℕ) × (last : Moment) × Lead 1 (beginning units) (take count lines) text last × AppendsFront old new text → GotFront (Trace units lines) old new
-front_written units lines old new x = (x.1, inr (x.0, (x.2, x.3)), x.4)
+front_written : (key units : ℕ) (lines : List TraceLine) (old new : Option (List ℕ)) → (count : ℕ) × (text : List ℕ) × (last : Moment) × Lead 1 (beginning key units) (take count lines) text last × AppendsFront old new text → GotFront (Trace units lines) old new
+front_written key units lines old new x = (x.1, inr (x.0, (key, x.2, x.3)), x.4)
 
-pub lines_broken : (units : ℕ) (lines : List TraceLine) (old new : Option (List ℕ)) (before after : ℕ) (fault : Fault) → IsBroken (beginning units) lines old new before after fault → IsStopped (Trace units lines) old new before after fault
-lines_broken units lines old new before after WriteFault (rose, rest) = (rose, front_written units lines old new rest)
-lines_broken units lines old new before after OutOfMemory (count, (text, last, lead, got)) = (count, text, (last, lead), got)
-lines_broken units lines old new before after (ScriptFault line why) broken = absurd broken
-lines_broken units lines old new before after Usage broken = absurd broken
-lines_broken units lines old new before after (BadMedia which why) broken = absurd broken
-lines_broken units lines old new before after ReadFault broken = absurd broken
-lines_broken units lines old new before after (Absent which) broken = absurd broken
-lines_broken units lines old new before after (Short which at size) broken = absurd broken
-lines_broken units lines old new before after (Units line count) broken = absurd broken
-lines_broken units lines old new before after (NotBuilt line) broken = absurd broken
+pub lines_broken : (key units : ℕ) (lines : List TraceLine) (old new : Option (List ℕ)) (before after : ℕ) (fault : Fault) → IsBroken (beginning key units) lines old new before after fault → IsStopped (Trace units lines) old new before after fault
+lines_broken key units lines old new before after WriteFault (rose, rest) = (rose, front_written key units lines old new rest)
+lines_broken key units lines old new before after OutOfMemory (count, (text, last, lead, got)) = (count, text, (key, last, lead), got)
+lines_broken key units lines old new before after (ScriptFault line why) broken = absurd broken
+lines_broken key units lines old new before after Usage broken = absurd broken
+lines_broken key units lines old new before after (BadMedia which why) broken = absurd broken
+lines_broken key units lines old new before after ReadFault broken = absurd broken
+lines_broken key units lines old new before after (Absent which) broken = absurd broken
+lines_broken key units lines old new before after (Short which at size) broken = absurd broken
+lines_broken key units lines old new before after (Units line count) broken = absurd broken
+lines_broken key units lines old new before after (NotBuilt line) broken = absurd broken

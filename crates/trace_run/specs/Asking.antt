@@ -26,7 +26,7 @@ input_side (Err error) = false
 abbrev pub is_input : Moment → PortName → Bool
 is_input at port = input_side (view_answer (handle_of at.names port.component) port.index (look at.world))
 
--- `take` asks for the oldest note. `end` is no line of a trace.
+-- `take` asks for the oldest note. `end` is no line of a trace, so its row is never asked.
 abbrev pub asked : Moment → TextAct → Act
 asked at (lines.Free component) = acts.FreeHandle (handle_of at.names component)
 asked at (lines.State component) = acts.GetState (handle_of at.names component)

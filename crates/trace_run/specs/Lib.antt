@@ -4,5 +4,6 @@ pub mod Replying
 pub mod Lines
 pub mod Traced
 pub mod Standing
+pub mod InHand
 pub mod Writing
 pub mod Closing

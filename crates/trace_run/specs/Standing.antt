@@ -1,6 +1,7 @@
 -- What is kept of a trace stands for a moment, and each line leads from there to the next.
-use Rattle.std.specs.Prelude.{◌≡◌, ℕ, Bool, suc, ◌<◌, ◌≤◌, List, [], ◌∷◌, map, position, slice_get, slice_set, Option, Some, None, option_map, IfSome, IsSome, IsSomeAnd, MatchOption, Result}
+use Rattle.std.specs.Prelude.{◌≡◌, ℕ, Bool, true, false, suc, ◌<◌, ◌≤◌, All, List, [], ◌∷◌, map, position, slice_get, slice_set, Option, Some, None, option_map, IfSome, IsSome, IsSomeAnd, MatchOption, Result}
 use Rattle.omx_types.specs.declared.handle.Handle.{Handle}
+use Rattle.omx_types.specs.declared.state.State.TheVariants as states
 use Rattle.omx_types.specs.declared.error.OmxError.{OmxError}
 use Rattle.omx_types.specs.declared.command.Note.{Note}
 use Rattle.omx_types.specs.declared.command.Note.TheVariants.{Told, EmptyDone, FillDone}
@@ -11,8 +12,10 @@ use Rattle.il_machine.specs.declared.answer.Acted.TheVariants as acted
 use Rattle.il_machine.specs.declared.answer.Progress.{Progress}
 use Rattle.il_machine.specs.declared.header.Home.TheVariants as homes
 use Rattle.il_machine.specs.declared.header.HeaderState.{HeaderState}
-use Rattle.il_machine.specs.World.{World}
-use Rattle.il_machine.specs.Buffers.{Held}
+use Rattle.il_machine.specs.World.{Component, World}
+use Rattle.il_machine.specs.Headers.{is_for}
+use Rattle.il_machine.specs.Buffers.{Held, IsWithClient}
+use Rattle.il_machine.specs.Trails.{key_of}
 use Rattle.il_machine.specs.Look.{Look, look}
 use Rattle.il_machine.specs.Sound.{Sound}
 use Rattle.il_machine.specs.Due.{first_due}
@@ -79,6 +82,10 @@ holding hand slot = record slot { hand = hand }
 abbrev pub Rehanded : ℕ → Option BufferHeader → List Slot → List Slot → Type 0
 Rehanded place hand old new = MatchOption (slice_get old place) ⊥ (λ slot. new ≡ slice_set old place (holding hand slot))
 
+-- the slot at the place has nothing in its hand
+abbrev pub HasEmptyHand : ℕ → List Slot → Type 0
+HasEmptyHand place slots = IfSome (slice_get slots place) (λ slot. slot.hand ≡ None)
+
 -- the headers' numbers rise, and all are below the next one
 abbrev pub AreRising : ℕ → List Slot → ℕ → Type 0
 AreRising from [] next = from ≤ next
@@ -106,6 +113,36 @@ HaveSlots slots l = (number : ℕ) (s : HeaderState) → l.headers.header number
 abbrev pub IsAtRest : Kept → Type 0
 IsAtRest graph = first_due graph.looks ≡ None
 
+-- ---- what the end of a trace needs
+
+-- a line was given the handle
+abbrev pub IsNamed : List NamedComponent → Handle → Type 0
+IsNamed components h = (place : ℕ) × IsSomeAnd (slice_get components place) (λ entry. entry.handle ≡ h)
+
+-- Its client object is in, a line was given its handle, and where it is Invalid nothing is pending.
+abbrev pub IsSeated : List NamedComponent → Component → Type 0
+IsSeated components c = ((c.client_out ≡ false) × IsNamed components c.handle) × (c.state ≡ states.Invalid → c.pending ≡ None)
+
+-- the handles that lines were given have numbers of their own, below the next one
+pub record AreApart (components : List NamedComponent) (numbered : ℕ) : Type 0 where
+  pub below : (place : ℕ) (entry : NamedComponent) → slice_get components place ≡ Some entry → entry.handle.generation < numbered
+  pub one : (i j : ℕ) (a b : NamedComponent) → slice_get components i ≡ Some a → slice_get components j ≡ Some b → a.handle.generation ≡ b.handle.generation → a.handle ≡ b.handle
+
+-- The header of the slot was made for its port. Where it isn't in hand the client doesn't have it.
+pub record IsOfPort (components : List NamedComponent) (l : Look) (slot : Slot) : Type 0 where
+  pub named : IsNamed components slot.port.handle
+  pub made_for : (s : HeaderState) → l.headers.header slot.number ≡ Some s → is_for (key_of slot.port.handle slot.port.index) s ≡ true
+  pub away : slot.hand ≡ None → ¬ (IsWithClient slot.number l)
+
+abbrev pub AreOfPorts : List NamedComponent → Look → List Slot → Type 0
+AreOfPorts components l slots = (place : ℕ) (slot : Slot) → slice_get slots place ≡ Some slot → IsOfPort components l slot
+
+-- each component is seated, and each slot's header was made for its port
+pub record CanEnd (kept : Parts) : Type 0 where
+  pub seated : All (IsSeated kept.components) kept.graph.looks.components
+  pub apart : AreApart kept.components kept.graph.looks.numbered
+  pub slots : AreOfPorts kept.components kept.graph.looks kept.slots
+
 pub record Stood (kept : Parts) (at : Moment) : Type 0 where
   pub world : Stands kept.graph at.world
   pub rests : IsAtRest kept.graph
@@ -114,6 +151,7 @@ pub record Stood (kept : Parts) (at : Moment) : Type 0 where
   pub named : AreNamed kept.components at.world.numbered
   pub known : HaveSlots kept.slots (look at.world)
   pub hands : Hands kept.slots kept.graph.looks
+  pub ends : CanEnd kept
 
 -- some moment is stood for
 pub record IsStood (kept : Parts) : Type 0 where
@@ -156,11 +194,15 @@ machine_note (notes.Told event) = Told event
 machine_note (notes.EmptyDone header) = EmptyDone header.held.number
 machine_note (notes.FillDone header) = FillDone header.held.number
 
--- the header in the note has a slot
+-- the header of the number has a slot, with nothing in its hand
+abbrev pub HasEmptySlot : ℕ → List Slot → Type 0
+HasEmptySlot number slots = IsSomeAnd (position (slot_numbered number) slots) (λ place. HasEmptyHand place slots)
+
+-- the header in the note has one
 abbrev pub HasSlotFor : List Slot → Taken → Type 0
 HasSlotFor slots (notes.Told event) = Unit {0}
-HasSlotFor slots (notes.EmptyDone header) = IsSome (position (slot_numbered header.held.number) slots)
-HasSlotFor slots (notes.FillDone header) = IsSome (position (slot_numbered header.held.number) slots)
+HasSlotFor slots (notes.EmptyDone header) = HasEmptySlot header.held.number slots
+HasSlotFor slots (notes.FillDone header) = HasEmptySlot header.held.number slots
 
 -- The header that came back is in the hand of its slot, at the place.
 abbrev pub KeptAt : BufferHeader → ℕ → List Slot → List Slot → Type 0
@@ -180,6 +222,13 @@ abbrev pub NamesHeader : TraceForm → Type 0
 NamesHeader (forms.Act act) = ⊥
 NamesHeader (forms.Get component kind) = ⊥
 NamesHeader other = Unit {0}
+
+-- the line takes a header out of the client's hand
+abbrev pub TakesHeader : TraceForm → Type 0
+TakesHeader (forms.FreeBuf header port) = Unit {0}
+TakesHeader (forms.Etb header port bytes eos) = Unit {0}
+TakesHeader (forms.Ftb header port) = Unit {0}
+TakesHeader other = ⊥
 
 -- ---- an act that makes nothing and hands nothing in
 
@@ -223,6 +272,12 @@ IsSetting (lines.SetPriority component priority) = Unit {0}
 IsSetting (lines.Gain component gain) = Unit {0}
 IsSetting (lines.Weight port weight) = Unit {0}
 IsSetting other = ⊥
+
+-- the line makes or drops a tunnel
+abbrev pub IsTunneling : TextAct → Type 0
+IsTunneling (lines.Tunnel first second) = Unit {0}
+IsTunneling (lines.DropTunnel first second) = Unit {0}
+IsTunneling other = ⊥
 
 -- the line sends a command
 abbrev pub IsSending : TextAct → Type 0

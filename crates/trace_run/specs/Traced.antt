@@ -26,17 +26,17 @@ Lead number at (line ∷ lines) text last =
     (reply : LineReply) × (next : Moment) × (rest : List ℕ)
     × Answered at line.form reply next × Lead (number + 1) next lines rest last × (text ≡ line_text number line reply ++ rest)
 
--- the world without components, and no name stands for anything
-abbrev pub beginning : ℕ → Moment
-beginning units = record { world = no_world units; names = no_names }
+-- the world without components, whose headers will have the key, and no name stands for anything
+abbrev pub beginning : ℕ → ℕ → Moment
+beginning key units = record { world = no_world key units; names = no_names }
 
 -- the text of the first lines of a script
 abbrev pub IsTracedTo : ℕ → Script → List ℕ → Type 0
-IsTracedTo count (Trace units lines) text = (last : Moment) × Lead 1 (beginning units) (take count lines) text last
+IsTracedTo count (Trace units lines) text = (key : ℕ) × (last : Moment) × Lead 1 (beginning key units) (take count lines) text last
 
 -- the text of all its lines, and then `end`
 abbrev pub IsTraced : Script → List ℕ → Type 0
-IsTraced (Trace units lines) text = (body : List ℕ) × (last : Moment) × Lead 1 (beginning units) lines body last × (text ≡ body ++ codes "end\n")
+IsTraced (Trace units lines) text = (key : ℕ) × (body : List ℕ) × (last : Moment) × Lead 1 (beginning key units) lines body last × (text ≡ body ++ codes "end\n")
 
 -- ---- what a sink got of it
 

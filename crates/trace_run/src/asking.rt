@@ -5,7 +5,7 @@ ghost use Rattle.il_machine.specs.Whole.{Steps};
 ghost use Rattle.il_machine.specs.Acts as acts;
 ghost use Rattle.omx_types.specs.declared.command.Command.TheVariants.{MarkBuffer};
 ghost use Rattle.trace_run.specs.Naming.{NamedHeader, handle_in};
-ghost use Rattle.trace_run.specs.Standing.{graph_kept, AskReplied, IsNamedGraph, IsPlain, IsSetting, IsSending, Replied};
+ghost use Rattle.trace_run.specs.Standing.{graph_kept, AskReplied, IsNamedGraph, IsPlain, IsSetting, IsTunneling, IsSending, Replied};
 
 use crate::OutOfMemory;
 use crate::acts::{
@@ -40,16 +40,7 @@ pub fn ask(
         | TextAct::SetPriority { .. }
         | TextAct::Gain { .. }
         | TextAct::Weight { .. } => Ok(set(graph, components, act)),
-        TextAct::Tunnel { first, second } => Ok(tunnel(
-            graph,
-            port_id(components, first),
-            port_id(components, second),
-        )),
-        TextAct::DropTunnel { first, second } => Ok(drop_tunnel(
-            graph,
-            port_id(components, first),
-            port_id(components, second),
-        )),
+        TextAct::Tunnel { .. } | TextAct::DropTunnel { .. } => Ok(join(graph, components, act)),
         TextAct::SendState { .. }
         | TextAct::SendFlush { .. }
         | TextAct::SendDisable { .. }
@@ -95,6 +86,26 @@ fn set(graph: &mut Graph<TraceClient>, components: &[NamedComponent], act: &Text
             let at = port_id(components, port);
             set_config(graph, at.handle, 5, at.index, Param::Weight(*weight))
         }
+        _ => unreachable!(),
+    }
+}
+
+/// Makes or drops the tunnel that the line says.
+fn join(graph: &mut Graph<TraceClient>, components: &[NamedComponent], act: &TextAct) -> TextReply
+    requires { IsTunneling act.now }
+    ensures { (headers : List NamedHeader) → Steps (graph_kept graph.old) (graph_kept graph.new) (AskReplied components.now headers act.now result) }
+{
+    match act {
+        TextAct::Tunnel { first, second } => tunnel(
+            graph,
+            port_id(components, first),
+            port_id(components, second),
+        ),
+        TextAct::DropTunnel { first, second } => drop_tunnel(
+            graph,
+            port_id(components, first),
+            port_id(components, second),
+        ),
         _ => unreachable!(),
     }
 }

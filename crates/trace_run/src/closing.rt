@@ -1,13 +1,11 @@
 //! The end of a trace: everything goes back, by acts that aren't printed.
 
-ghost use Rattle.std.specs.Prelude.{◌≡◌, ◌≢◌, IfSome};
-ghost use Rattle.header_core.specs.BufferHeader.{BufferHeader};
+ghost use Rattle.std.specs.Prelude.{◌≡◌, ◌<◌, IsTrue, IsFalse};
+ghost use Rattle.il_machine.specs.States.{is_invalid};
 ghost use Rattle.graph_core.specs.Entries.{look_of};
-ghost use Rattle.graph_core.specs.Changes.{IsHandedIn};
 ghost use Rattle.trace_run.specs.Standing.{parts, graph_kept, HasStood, IsStood};
-ghost use Rattle.trace_run.specs.Closing.{IsHandedInSlot, AreHandedIn, KeepsOtherSlots};
+ghost use Rattle.trace_run.specs.Closing.{StayStood, StayEnded, IsEnded, IsMadeInvalid, IsFreeable, IsFreed, CanFree, IsOver, is_note, notes_left};
 
-use crate::acts::send;
 use crate::client::TraceClient;
 use crate::desk::Desk;
 use crate::names::NamedComponent;
@@ -18,11 +16,9 @@ use act_text::TextReply;
 use il_graph::Graph;
 use omx_types::{Command, Handle, State};
 
-/// The most notes that one component has: 256 events, and 32 headers of each of 16 ports.
-const MOST_NOTES: u32 = 768;
-
 impl Desk {
-    /// Takes the notes, makes each component Invalid, takes the notes again, frees the headers, and ends the graph.
+    /// Takes the notes, makes each component Invalid, takes the notes again, frees the headers, and closes the graph. None of these
+    /// acts is refused, so the client has no header then, and each client object is in.
     pub fn close(self)
         requires { IsStood (parts self.graph self.components.items self.slots.items) }
     {
@@ -35,13 +31,81 @@ impl Desk {
             end_component(&mut graph, &mut slots, entry.handle);
         }
         free_slots(&mut graph, slots);
+        graph.law_of_worlds();
         graph.close();
     }
 }
 
+/// Takes the notes, makes the component Invalid, and takes the notes again.
+fn end_component(graph: &mut Graph<TraceClient>, slots: &mut Vec<Slot>, h: Handle)
+    requires { HasStood (graph_kept graph.old) slots.old.items }
+    ensures stood { StayStood (graph_kept graph.old) slots.old.items (graph_kept graph.new) slots.new.items }
+    ensures stay { StayEnded (look_of graph.old) (look_of graph.new) }
+    ensures ended { IsEnded h (look_of graph.new) }
+{
+    take_notes(graph, slots, h);
+    make_invalid(graph, h);
+    take_notes(graph, slots, h);
+}
+
+fn take_notes(graph: &mut Graph<TraceClient>, slots: &mut Vec<Slot>, h: Handle)
+    requires { HasStood (graph_kept graph.old) slots.old.items }
+    ensures stood { StayStood (graph_kept graph.old) slots.old.items (graph_kept graph.new) slots.new.items }
+    ensures stay { StayEnded (look_of graph.old) (look_of graph.new) }
+    ensures none { notes_left h (look_of graph.new) ≡ 0 }
+{
+    while take_next(graph, slots, h) {}
+}
+
+/// Takes the oldest note, and answers whether there was one.
+fn take_next(graph: &mut Graph<TraceClient>, slots: &mut Vec<Slot>, h: Handle) -> bool
+    requires { HasStood (graph_kept graph.old) slots.old.items }
+    ensures stood { StayStood (graph_kept graph.old) slots.old.items (graph_kept graph.new) slots.new.items }
+    ensures stay { StayEnded (look_of graph.old) (look_of graph.new) }
+    ensures fewer { IsTrue result → notes_left h (look_of graph.new) < notes_left h (look_of graph.old) }
+    ensures none { IsFalse result → notes_left h (look_of graph.new) ≡ 0 }
+{
+    is_note(take(graph, slots, h))
+}
+
+fn is_note(answer: LineAnswer) -> bool
+    ensures { result ≡ is_note answer }
+{
+    match answer {
+        LineAnswer::Plain(TextReply::Event(_)) => true,
+        LineAnswer::Plain(_) => false,
+        LineAnswer::Emptied { place: _ } => true,
+        LineAnswer::Filled { place: _ } => true,
+    }
+}
+
+/// Sends StateSet(Invalid) to the component, unless it is Invalid already or was freed. With no note queued there is room for it.
+fn make_invalid(graph: &mut Graph<TraceClient>, h: Handle)
+    requires { notes_left h (look_of graph.old) ≡ 0 }
+    ensures { IsMadeInvalid h (graph_kept graph.old) (graph_kept graph.new) }
+{
+    graph.law_of_worlds();
+    let Ok(state) = graph.get_state(h) else {
+        return;
+    };
+    if is_invalid(state) {
+        return;
+    }
+    let Ok(()) = graph.send_command(h, Command::StateSet(State::Invalid)) else {
+        unreachable!()
+    };
+}
+
+fn is_invalid(state: State) -> bool
+    ensures { result ≡ is_invalid state }
+{
+    matches!(state, State::Invalid)
+}
+
 /// Frees the headers that the client has.
 fn free_slots(graph: &mut Graph<TraceClient>, slots: Vec<Slot>)
-    requires { AreHandedIn slots.items (look_of graph.old) }
+    requires { CanFree (graph_kept graph.old) slots.items }
+    ensures { IsOver (look_of graph.new) }
 {
     let mut rest = slots;
     while let Some(slot) = rest.pop() {
@@ -50,33 +114,10 @@ fn free_slots(graph: &mut Graph<TraceClient>, slots: Vec<Slot>)
     rest.destroy_empty();
 }
 
-fn end_component(graph: &mut Graph<TraceClient>, slots: &mut Vec<Slot>, h: Handle)
-    requires { HasStood (graph_kept graph.old) slots.old.items }
-    ensures { HasStood (graph_kept graph.new) slots.new.items }
-{
-    take_notes(graph, slots, h);
-    let _ = send(graph, h, Command::StateSet(State::Invalid));
-    take_notes(graph, slots, h);
-}
-
-fn take_notes(graph: &mut Graph<TraceClient>, slots: &mut Vec<Slot>, h: Handle)
-    requires { HasStood (graph_kept graph.old) slots.old.items }
-    ensures { HasStood (graph_kept graph.new) slots.new.items }
-{
-    for _ in 0..MOST_NOTES {
-        match take(graph, slots, h) {
-            LineAnswer::Plain(TextReply::Event(_)) => {}
-            LineAnswer::Plain(_) => return,
-            LineAnswer::Emptied { place: _ } => {}
-            LineAnswer::Filled { place: _ } => {}
-        }
-    }
-}
-
-/// Unmakes the header that the client has. One that is refused is let go.
+/// Unmakes the header that the client has. Its component is Invalid, so there is no event that would want room.
 fn free_slot(graph: &mut Graph<TraceClient>, slot: Slot)
-    requires { IsHandedInSlot slot (look_of graph.old) }
-    ensures { KeepsOtherSlots slot.number (look_of graph.old) (look_of graph.new) }
+    requires { IsFreeable slot (look_of graph.old) }
+    ensures { IsFreed slot (graph_kept graph.old) (graph_kept graph.new) }
 {
     let Slot {
         name: _,
@@ -87,8 +128,9 @@ fn free_slot(graph: &mut Graph<TraceClient>, slot: Slot)
     let Some(header) = hand else {
         return;
     };
+    graph.law_of_worlds();
     match graph.free_buffer(port.handle, port.index, header) {
         Ok(_memory) => {}
-        Err((_error, header)) => header.dispose(),
+        Err((_error, _header)) => unreachable!(),
     }
 }

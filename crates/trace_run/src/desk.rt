@@ -1,4 +1,5 @@
 ghost use Rattle.std.specs.Prelude.{◌≡◌, IfOk};
+ghost use Rattle.graph_core.specs.Entries.{look_of};
 ghost use Rattle.trace_run.specs.Traced.{beginning};
 ghost use Rattle.trace_run.specs.Standing.{parts, Stood};
 
@@ -19,7 +20,7 @@ pub struct Desk {
 impl Desk {
     /// A graph of so many units, in which nothing is made.
     pub fn new(alloc: Global, units: u32) -> Result<Desk, OutOfMemory>
-        ensures { IfOk result (λ desk. Stood (parts desk.graph desk.components.items desk.slots.items) (beginning units)) }
+        ensures { IfOk result (λ desk. Stood (parts desk.graph desk.components.items desk.slots.items) (beginning (look_of desk.graph).key units)) }
     {
         Ok(Desk {
             graph: Graph::new(alloc, units)?,

@@ -1,17 +1,18 @@
 //! The lines that make a component or a header, and those that hand a header in.
 
-ghost use Rattle.std.specs.Prelude.{◌≡◌, IsUtf8, Some, Err, IfOk, OnErr};
+ghost use Rattle.std.specs.Prelude.{◌≡◌, List, IsUtf8, Some, Err, IfOk, OnErr};
 ghost use Rattle.omx_types.specs.declared.error.CallError.TheVariants.{Omx};
 ghost use Rattle.il_machine.specs.World.{World};
 ghost use Rattle.il_machine.specs.Components.{GetHandle};
 ghost use Rattle.script_lang.specs.declared.form.TraceForm.TheVariants as forms;
+ghost use Rattle.trace_run.specs.declared.slots.Slot.{Slot as HeaderSlot};
 ghost use Rattle.trace_run.specs.Replying.{Plain};
 ghost use Rattle.trace_run.specs.Standing.{parts, IsStood, Leads};
 
 use crate::OutOfMemory;
 use crate::client::TraceClient;
 use crate::names::{NamedComponent, port_id};
-use crate::slots::{Slot, new_slot, place_named, put_hand, take_hand};
+use crate::slots::{Slot, new_slot, put_hand, take_named};
 use act_text::{Name, PortName, TextReply};
 use il_graph::Graph;
 use omx_types::{CallError, OmxError};
@@ -33,16 +34,14 @@ fn no_such_kind(kind: &[u8]) -> OmxError
 pub fn get(
     graph: &mut Graph<TraceClient>,
     components: &mut Vec<NamedComponent>,
-    slots: &[Slot],
     alloc: Global,
     name: &Name,
     kind: &[u8],
 ) -> Result<TextReply, OutOfMemory>
-    ensures leads { IfOk result (λ reply. Leads (parts graph.old components.old.items slots.now) (parts graph.new components.new.items slots.now) (forms.Get name.now kind.now) (Plain reply)) }
-    ensures unchanged { OnErr result (parts graph.new components.new.items slots.now ≡ parts graph.old components.old.items slots.now) }
+    ensures leads { IfOk result (λ reply. (slots : List HeaderSlot) → Leads (parts graph.old components.old.items slots) (parts graph.new components.new.items slots) (forms.Get name.now kind.now) (Plain reply)) }
+    ensures unchanged { OnErr result ((slots : List HeaderSlot) → parts graph.new components.new.items slots ≡ parts graph.old components.old.items slots) }
 {
     components.reserve(1)?;
-    let _unseen = slots.len();
     let Ok(kind_name) = str::from_utf8(kind) else {
         return Ok(TextReply::Error(no_such_kind(kind)));
     };
@@ -118,10 +117,7 @@ pub fn free(
     ensures { Leads (parts graph.old components.now slots.old.items) (parts graph.new components.now slots.new.items) (forms.FreeBuf name.now port.now) (Plain result) }
 {
     let port = port_id(components, port);
-    let Some(place) = place_named(slots.as_slice(), name) else {
-        return TextReply::NotHeld;
-    };
-    let Some(header) = take_hand(slots, place) else {
+    let Some((place, header)) = take_named(slots, name) else {
         return TextReply::NotHeld;
     };
     match graph.free_buffer(port.handle, port.index, header) {
@@ -147,10 +143,7 @@ pub fn empty(
     ensures { Leads (parts graph.old components.now slots.old.items) (parts graph.new components.now slots.new.items) (forms.Etb name.now port.now bytes.now eos) (Plain result) }
 {
     let port = port_id(components, port);
-    let Some(place) = place_named(slots.as_slice(), name) else {
-        return TextReply::NotHeld;
-    };
-    let Some(mut header) = take_hand(slots, place) else {
+    let Some((place, mut header)) = take_named(slots, name) else {
         return TextReply::NotHeld;
     };
     let Ok(()) = header.fill(bytes, u32::from(eos)) else {
@@ -178,13 +171,10 @@ pub fn fill(
     ensures { Leads (parts graph.old components.now slots.old.items) (parts graph.new components.now slots.new.items) (forms.Ftb name.now port.now) (Plain result) }
 {
     let port = port_id(components, port);
-    let Some(place) = place_named(slots.as_slice(), name) else {
+    let Some((place, header)) = take_named(slots, name) else {
         return TextReply::NotHeld;
     };
-    let Some(header) = take_hand(slots, place) else {
-        return TextReply::NotHeld;
-    };
-    // its content is within its size, which a header tells
+    // read for the fact that it tells: the content, which is handed in, is within the size
     let _size = header.size();
     match graph.fill_this_buffer(port.handle, port.index, header) {
         Ok(()) => TextReply::Done,

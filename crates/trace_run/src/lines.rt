@@ -2,7 +2,8 @@
 
 ghost use Rattle.std.specs.Prelude.{◌≡◌, IfOk, OnOk, OnErr};
 ghost use Rattle.script_lang.specs.declared.form.TraceForm.TheVariants as forms;
-ghost use Rattle.trace_run.specs.Standing.{parts, IsStood, LeadsTo, NamesHeader};
+ghost use Rattle.trace_run.specs.Standing.{parts, IsStood, Leads, LeadsTo, NamesHeader, TakesHeader};
+ghost use Rattle.trace_run.specs.Replying.{Plain};
 ghost use Rattle.trace_run.specs.Writing.{PrintsLine};
 
 use crate::OutOfMemory;
@@ -59,7 +60,6 @@ fn answer(desk: &mut Desk, alloc: Global, form: &TraceForm) -> Result<LineAnswer
         TraceForm::Get { component, kind } => Ok(LineAnswer::Plain(get(
             &mut desk.graph,
             &mut desk.components,
-            desk.slots.as_slice(),
             alloc,
             component,
             kind.as_bytes(),
@@ -119,10 +119,27 @@ fn header_answer(
             let reply = use_bytes(graph, components, slots, alloc, header, port, *length)?;
             Ok(LineAnswer::Plain(reply))
         }
-        TraceForm::FreeBuf { header, port } => {
-            let reply = free(graph, components, slots, header, port);
+        TraceForm::FreeBuf { .. } | TraceForm::Etb { .. } | TraceForm::Ftb { .. } => {
+            let reply = hand_reply(graph, components, slots, form);
             Ok(LineAnswer::Plain(reply))
         }
+        _ => unreachable!(),
+    }
+}
+
+/// Makes the act of a line that takes a header out of the client's hand.
+fn hand_reply(
+    graph: &mut Graph<TraceClient>,
+    components: &[NamedComponent],
+    slots: &mut Vec<Slot>,
+    form: &TraceForm,
+) -> TextReply
+    requires form { TakesHeader form.now }
+    requires stood { IsStood (parts graph.old components.now slots.old.items) }
+    ensures { Leads (parts graph.old components.now slots.old.items) (parts graph.new components.now slots.new.items) form.now (Plain result) }
+{
+    match form {
+        TraceForm::FreeBuf { header, port } => free(graph, components, slots, header, port),
         TraceForm::Etb {
             header,
             port,
@@ -130,13 +147,9 @@ fn header_answer(
             eos,
         } => {
             let bytes = bytes.as_bytes();
-            let reply = empty(graph, components, slots, header, port, bytes, *eos);
-            Ok(LineAnswer::Plain(reply))
+            empty(graph, components, slots, header, port, bytes, *eos)
         }
-        TraceForm::Ftb { header, port } => {
-            let reply = fill(graph, components, slots, header, port);
-            Ok(LineAnswer::Plain(reply))
-        }
+        TraceForm::Ftb { header, port } => fill(graph, components, slots, header, port),
         _ => unreachable!(),
     }
 }

@@ -1,13 +1,13 @@
 //! A note is taken, and the client object goes back at once.
 
-ghost use Rattle.std.specs.Prelude.{◌≡◌, List, Some, IsSome, position};
+ghost use Rattle.std.specs.Prelude.{◌≡◌, List, Some, position};
 ghost use Rattle.il_machine.specs.Components.{noted_by};
 ghost use Rattle.il_machine.specs.Notes.{EndNote};
 ghost use Rattle.il_machine.specs.Whole.{StepsWhere};
 ghost use Rattle.graph_core.specs.Entries.{look_of};
 ghost use Rattle.graph_core.specs.Clients.{IsOut, WasTold};
 ghost use Rattle.trace_run.specs.declared.names.NamedComponent.{NamedComponent as Named};
-ghost use Rattle.trace_run.specs.Standing.{parts, graph_kept, slot_numbered, machine_note, Rehanded, HasSlotFor, KeptSo, HasStood, TakeLeads};
+ghost use Rattle.trace_run.specs.Standing.{parts, graph_kept, slot_numbered, machine_note, Rehanded, HasEmptySlot, HasSlotFor, KeptSo, HasStood, TakeLeads};
 
 use crate::client::TraceClient;
 use crate::reply::LineAnswer;
@@ -73,7 +73,7 @@ fn told_of(client: TraceClient, taken: &Taken) -> TraceClient
 
 /// Puts a header that came back into its slot, and answers the place.
 fn keep(slots: &mut Vec<Slot>, header: Header) -> usize
-    requires { IsSome (position (slot_numbered header.held.number) slots.old.items) }
+    requires { HasEmptySlot header.held.number slots.old.items }
     ensures place { position (slot_numbered header.held.number) slots.old.items ≡ Some result }
     ensures slots { Rehanded result (Some header) slots.old.items slots.new.items }
 {

@@ -94,6 +94,7 @@ fn put_bytes(bytes: &[u8], out: &mut Vec<u8>) -> Result<(), OutOfMemory>
 fn put_digits(bytes: &[u8], out: &mut Vec<u8>) -> Result<(), OutOfMemory>
     ensures { OnOk result (out.new.items ≡ out.old.items ++ hex_of bytes.now) }
 {
+    out.reserve(2 * bytes.len())?;
     for byte in bytes {
         put_byte(*byte, out)?;
     }

@@ -18,6 +18,12 @@ fn printed(rt: &impl Abort, alloc: Global, text: &[u8]) -> Vec<u8> {
     sink.into_bytes()
 }
 
+/// Traces a script, which comes to this text.
+fn check_trace<R: Alloc<A = Global> + Abort>(rt: &R, script: &[u8], text: &[u8]) {
+    let out = printed(rt, rt.alloc(), script);
+    assert_eq!(rt; out.as_slice(), text);
+}
+
 #[test]
 fn a_sink_to_idle(rt: HostRuntime) -> Result<(), Fail> {
     let script = b"omx 1 trace
@@ -42,8 +48,7 @@ state a
 9: state a = Idle
 end
 ";
-    let out = printed(&rt, rt.alloc(), script);
-    assert_eq!(rt; out.as_slice(), text.as_slice());
+    check_trace(&rt, script, text);
     Ok(())
 }
 
@@ -69,8 +74,7 @@ state a
 8: state a = Loaded
 end
 ";
-    let out = printed(&rt, rt.alloc(), script);
-    assert_eq!(rt; out.as_slice(), text.as_slice());
+    check_trace(&rt, script, text);
     Ok(())
 }
 
@@ -104,14 +108,11 @@ port a.0
 12: port a.0 = input enabled steady 1 of 2
 end
 ";
-    let out = printed(&rt, rt.alloc(), script);
-    assert_eq!(rt; out.as_slice(), text.as_slice());
+    check_trace(&rt, script, text);
     Ok(())
 }
 
-#[test]
-fn header_comes_back_before_idle(rt: HostRuntime) -> Result<(), Fail> {
-    let script = b"omx 1 trace
+const HANDED_IN: &[u8] = b"omx 1 trace
 get a OMX.lab.sink.wav
 send a state Idle
 run a
@@ -130,7 +131,8 @@ back a.0
 take a
 take a
 ";
-    let text = b"1: get a OMX.lab.sink.wav = ok
+
+const HANDED_IN_TEXT: &[u8] = b"1: get a OMX.lab.sink.wav = ok
 2: send a state Idle = ok
 3: run a = did
 4: alloc x a.0 = ok
@@ -149,8 +151,10 @@ take a
 17: take a = event state Idle
 end
 ";
-    let out = printed(&rt, rt.alloc(), script);
-    assert_eq!(rt; out.as_slice(), text.as_slice());
+
+#[test]
+fn header_comes_back_before_idle(rt: HostRuntime) -> Result<(), Fail> {
+    check_trace(&rt, HANDED_IN, HANDED_IN_TEXT);
     Ok(())
 }
 
@@ -170,14 +174,12 @@ take a
 5: take a = error InvalidComponent
 end
 ";
-    let out = printed(&rt, rt.alloc(), script);
-    assert_eq!(rt; out.as_slice(), text.as_slice());
+    check_trace(&rt, script, text);
     Ok(())
 }
 
 #[test]
 fn empty_trace(rt: HostRuntime) -> Result<(), Fail> {
-    let out = printed(&rt, rt.alloc(), b"omx 1 trace\n");
-    assert_eq!(rt; out.as_slice(), b"end\n".as_slice());
+    check_trace(&rt, b"omx 1 trace\n", b"end\n");
     Ok(())
 }

@@ -15,7 +15,8 @@ use outside_io::{Sink, write_all};
 use script_lang::{Script, TraceLine};
 use std::alloc::Global;
 
-/// Runs a trace script, and writes each line with its answer, and then `end`.
+/// Runs a trace script, and writes each line with its answer, and then `end`. Before that everything is given back by acts that
+/// aren't printed, so that the graph is closed with no header at the client and no client object out.
 pub fn trace<O: Sink>(alloc: Global, script: &Script, out: &mut O) -> Result<(), Fault>
     ensures traced { OnOk result (GotTrace script.now (O.told out.old) (O.told out.new)) }
     ensures stopped { IfErr result (IsStopped script.now (O.told out.old) (O.told out.new) (O.faults out.old) (O.faults out.new)) }

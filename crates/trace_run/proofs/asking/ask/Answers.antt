@@ -4,7 +4,7 @@ use Rattle.il_machine.specs.Acts as acts
 use Rattle.il_machine.specs.Whole.{Steps}
 use Rattle.trace_run.specs.Naming.{NamedHeader, handle_in, port_in}
 use Rattle.trace_run.specs.Standing.{graph_kept, AskReplied}
-use Rattle.trace_run.proofs.Replying.{at_name, at_ports, as_asked, ok_then}
+use Rattle.trace_run.proofs.Replying.{at_name, as_asked, ok_then}
 use Rattle.trace_run.proofs.asking.ask.Goals as goal
 
 pub returns-in-Free-clause-replied : goal.returns-in-Free-clause-replied
@@ -22,16 +22,6 @@ returns-in-Port-clause-replied c headers = as_asked c.args.components.now header
     (at_name c.args.components.now (λ w x. acts.PortView x c.in-Port.at.index) c.port.result (graph_kept c.args.graph.now) (graph_kept c.args.graph.now) c.handle_of-in-Port.result (handle_in c.args.components.now c.in-Port.at.component) c.handle_of-in-Port.ensures
     (c.port.ensures c.args.components.now))
 
-pub returns-in-Tunnel-clause-replied : goal.returns-in-Tunnel-clause-replied
-returns-in-Tunnel-clause-replied c headers = as_asked c.args.components.now headers c.tunnel.result (graph_kept c.args.graph.now) (graph_kept c.tunnel.new.graph) c.args.act.now _ c.in-Tunnel.is
-    (at_ports c.args.components.now acts.SetupTunnel c.tunnel.result (graph_kept c.args.graph.now) (graph_kept c.tunnel.new.graph) c.port_id.result c.port_id-in-Tunnel.result (port_in c.args.components.now c.in-Tunnel.first) (port_in c.args.components.now c.in-Tunnel.second) c.port_id.ensures c.port_id-in-Tunnel.ensures
-    (c.tunnel.ensures c.args.components.now))
-
-pub returns-in-DropTunnel-clause-replied : goal.returns-in-DropTunnel-clause-replied
-returns-in-DropTunnel-clause-replied c headers = as_asked c.args.components.now headers c.drop_tunnel.result (graph_kept c.args.graph.now) (graph_kept c.drop_tunnel.new.graph) c.args.act.now _ c.in-DropTunnel.is
-    (at_ports c.args.components.now acts.DropTunnel c.drop_tunnel.result (graph_kept c.args.graph.now) (graph_kept c.drop_tunnel.new.graph) c.port_id-in-DropTunnel.result c.port_id-in-DropTunnel-2.result (port_in c.args.components.now c.in-DropTunnel.first) (port_in c.args.components.now c.in-DropTunnel.second) c.port_id-in-DropTunnel.ensures c.port_id-in-DropTunnel-2.ensures
-    (c.drop_tunnel.ensures c.args.components.now))
-
 pub returns-in-Run-clause-replied : goal.returns-in-Run-clause-replied
 returns-in-Run-clause-replied c headers = as_asked c.args.components.now headers c.run.result (graph_kept c.args.graph.now) (graph_kept c.run.new.graph) c.args.act.now _ c.in-Run.is
     (at_name c.args.components.now (λ w x. acts.RunCommand x) c.run.result (graph_kept c.args.graph.now) (graph_kept c.run.new.graph) c.handle_of-in-Run.result (handle_in c.args.components.now c.in-Run.component) c.handle_of-in-Run.ensures
@@ -40,7 +30,7 @@ returns-in-Run-clause-replied c headers = as_asked c.args.components.now headers
 pub returns-in-Supply-clause-replied : goal.returns-in-Supply-clause-replied
 returns-in-Supply-clause-replied c = ok_then _ (λ reply. (headers : List NamedHeader) → Steps (graph_kept c.args.graph.now) (graph_kept c.supply.new.graph) (AskReplied c.args.components.now headers c.args.act.now reply)) c.supply.result c.supply.ensures.replied (λ reply said headers.
     as_asked c.args.components.now headers reply (graph_kept c.args.graph.now) (graph_kept c.supply.new.graph) c.args.act.now _ c.in-Supply.is
-    (at_name c.args.components.now (λ w x. acts.Supply x.handle x.index) reply (graph_kept c.args.graph.now) (graph_kept c.supply.new.graph) c.port_id-in-Supply.result (port_in c.args.components.now c.in-Supply.at) c.port_id-in-Supply.ensures said))
+    (at_name c.args.components.now (λ w x. acts.Supply x.handle x.index) reply (graph_kept c.args.graph.now) (graph_kept c.supply.new.graph) c.port_id.result (port_in c.args.components.now c.in-Supply.at) c.port_id.ensures said))
 
 pub returns-in-Release-clause-replied : goal.returns-in-Release-clause-replied
 returns-in-Release-clause-replied c headers = as_asked c.args.components.now headers c.release.result (graph_kept c.args.graph.now) (graph_kept c.release.new.graph) c.args.act.now _ c.in-Release.is

@@ -1,9 +1,12 @@
 use Rattle.trace_run.specs.Standing.{graph_kept}
-use Rattle.trace_run.proofs.Ending.{stood_taken}
+use Rattle.trace_run.proofs.Emptying.{stood_on, has_then}
 use Rattle.trace_run.proofs.closing.take_notes.Goals as goal
 
-pub returns-in-Plain : goal.returns-in-Plain
-returns-in-Plain c = stood_taken (graph_kept c.loop.graph) (graph_kept c.take.new.graph) c.loop.slots.items c.take.new.slots.items _ _ c.loop.invariant c.take.ensures
+pub take_next-requires : goal.take_next-requires
+take_next-requires c = has_then (graph_kept c.args.graph.now) (graph_kept c.loop-h.graph) c.args.slots.now.items c.loop-h.slots.items c.loop-h.invariant.stood c.requires
 
-pub loop-preserved : goal.loop-preserved
-loop-preserved c = stood_taken (graph_kept c.loop.graph) (graph_kept c.take.new.graph) c.loop.slots.items c.take.new.slots.items _ _ c.loop.invariant c.take.ensures
+pub loop-h-preserved : goal.loop-h-preserved
+loop-h-preserved c = record {
+  stood = stood_on (graph_kept c.args.graph.now) (graph_kept c.loop-h.graph) (graph_kept c.take_next.new.graph) c.args.slots.now.items c.loop-h.slots.items c.take_next.new.slots.items c.loop-h.invariant.stood c.take_next.ensures.stood;
+  stay = λ k e. c.take_next.ensures.stay k (c.loop-h.invariant.stay k e);
+}

@@ -1,5 +1,13 @@
-use Rattle.trace_run.specs.Standing.{graph_kept, HasStood}
+use Rattle.graph_core.specs.Entries.{look_of}
+use Rattle.trace_run.specs.Standing.{graph_kept}
+use Rattle.trace_run.specs.Closing.{StayStood, StayEnded, notes_left}
 use Rattle.trace_run.proofs.closing.take_notes.Given as goal
 
-abbrev pub invariant-loop : goal.invariant-loop
-invariant-loop l = HasStood (graph_kept l.graph) l.slots.items
+abbrev pub invariant-loop-h : goal.invariant-loop-h
+invariant-loop-h l = record {
+  stood : StayStood (graph_kept l.fn.graph) l.fn.slots.items (graph_kept l.graph) l.slots.items;
+  stay : StayEnded (look_of l.fn.graph) (look_of l.graph);
+}
+
+abbrev pub decreases-loop-h : goal.decreases-loop-h
+decreases-loop-h l = notes_left l.h (look_of l.graph)

@@ -23,7 +23,8 @@ end-requires-clause-slot c =
     let old = graph_kept c.args.graph.now in
     let mid = graph_kept c.take_note.new.self in
     let step = subst (λ (t : Took Progress). Steps old mid (λ w v. TakeNote w c.args.h (Ok (took_of t)) v)) c.in-Ok-Call.field-0-is c.in-Ok-Call.ensures.step in
-    has_slot c.args.slots.now.items old mid c.args.h c.in-Ok-Call.call.taken c.requires step
+    let handed = subst (λ (t : Took Progress). IsTookHandedOut old.looks mid.looks t) c.in-Ok-Call.field-0-is c.in-Ok-Call.ensures.handed in
+    has_slot c.args.slots.now.items old mid c.args.h c.in-Ok-Call.call.taken c.requires step handed
 
 pub returns-in-Ok-Call : goal.returns-in-Ok-Call
 returns-in-Ok-Call c components =

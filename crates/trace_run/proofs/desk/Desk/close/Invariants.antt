@@ -1,5 +1,12 @@
-use Rattle.trace_run.specs.Standing.{graph_kept, HasStood}
+use Rattle.std.specs.Prelude.{◌<◌, ◌≡◌, ℕ, Some, slice_get}
+use Rattle.graph_core.specs.Entries.{look_of}
+use Rattle.trace_run.specs.declared.names.NamedComponent.{NamedComponent}
+use Rattle.trace_run.specs.Standing.{parts, IsStood}
+use Rattle.trace_run.specs.Closing.{IsEnded}
 use Rattle.trace_run.proofs.desk.Desk.close.Given as goal
 
 abbrev pub invariant-loop-entry : goal.invariant-loop-entry
-invariant-loop-entry l = HasStood (graph_kept l.graph) l.slots.items
+invariant-loop-entry l = record {
+  stood : IsStood (parts l.graph l.entry-items l.slots.items);
+  ended : (i : ℕ) (entry : NamedComponent) → i < l.entry-index → slice_get l.entry-items i ≡ Some entry → IsEnded entry.handle (look_of l.graph);
+}
