@@ -160,33 +160,20 @@ fn files_come_back(rt: HostRuntime) -> Result<(), Failure> {
     Ok(())
 }
 
+/// Runs words that are none of the forms.
+fn check_usage<R: Threads + Wait + Sync + Alloc<A = Global> + Abort>(
+    rt: &R,
+    words: &[&str],
+) -> Result<(), AllocError> {
+    let usage = b"usage: trace SCRIPT | play SCRIPT WORKERS LOG | make SEED FRAMES DIR\n";
+    check_words(rt, words, SCRIPT, THREE_SAMPLES, usage, 2)
+}
+
 #[test]
 fn words_and_scripts(rt: HostRuntime) -> Result<(), Failure> {
-    let usage = b"usage: trace SCRIPT | play SCRIPT WORKERS LOG | make SEED FRAMES DIR\n";
-    check_words(
-        &rt,
-        &["play", "s.omx", "9", "log"],
-        SCRIPT,
-        THREE_SAMPLES,
-        usage,
-        2,
-    )?;
-    check_words(
-        &rt,
-        &["play", "s.omx", "0", "s.omx"],
-        SCRIPT,
-        THREE_SAMPLES,
-        usage,
-        2,
-    )?;
-    check_words(
-        &rt,
-        &["play", "s.omx", "00", "log"],
-        SCRIPT,
-        THREE_SAMPLES,
-        usage,
-        2,
-    )?;
+    check_usage(&rt, &["play", "s.omx", "9", "log"])?;
+    check_usage(&rt, &["play", "s.omx", "0", "s.omx"])?;
+    check_usage(&rt, &["play", "s.omx", "00", "log"])?;
     check_words(
         &rt,
         &["play", "s.omx", "1", "log"],
