@@ -1,0 +1,10 @@
+//! What a part of a component does in one step: `begin`, a `take` for each input with frames, `step`,
+//! and a `put` for each output.
+#![tactic(auto)]
+
+mod laws;
+mod part;
+
+pub use laws::law_of_pieces;
+pub use omx_types::PartFault;
+pub use part::Part;
