@@ -1,0 +1,5 @@
+use Rattle.audio_parts.proofs.Joins.{decoded_joined}
+use Rattle.audio_parts.proofs.coder.DecodingEffect.joins.Goals as goal
+
+pub returns : goal.returns
+returns c = λ frames first second whole. decoded_joined c.args.self.now.law first second

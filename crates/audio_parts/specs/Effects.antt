@@ -1,0 +1,27 @@
+-- The plain functions of parts with one input, on the bytes of frames.
+use Rattle.std.specs.Prelude.{ℕ, List, map, ℤ}
+use Rattle.pcm_ops.specs.Samples.{samples, bytes, gained}
+use Rattle.g711_law.specs.Alaw.{alaw_code, alaw_value}
+use Rattle.g711_law.specs.Mulaw.{mulaw_code, mulaw_value}
+use Rattle.audio_parts.specs.declared.coder.Law.{Law}
+use Rattle.audio_parts.specs.declared.coder.Law.TheVariants.{ALaw, MuLaw}
+
+-- each sample times the gain in 4096ths, rounded down and clamped
+unfoldable pub gained_bytes : ℕ → List ℕ → List ℕ
+gained_bytes gain input = bytes (map (gained gain) (samples input))
+
+abbrev pub value_of : Law → ℕ → ℤ
+value_of ALaw = alaw_value
+value_of MuLaw = mulaw_value
+
+abbrev pub code_of : Law → ℤ → ℕ
+code_of ALaw = alaw_code
+code_of MuLaw = mulaw_code
+
+-- code by code
+unfoldable pub decoded : Law → List ℕ → List ℕ
+decoded law input = bytes (map (value_of law) input)
+
+-- sample by sample
+unfoldable pub encoded : Law → List ℕ → List ℕ
+encoded law input = map (code_of law) (samples input)

@@ -1,0 +1,163 @@
+// The two laws of G.711, code by code.
+ghost use Rattle.std.specs.Prelude.{◌≡◌, ◌*◌, ◌≤◌, length, map, vec_len, IfOk};
+ghost use Rattle.audio_parts.specs.Effects.{decoded, encoded, value_of, code_of};
+
+use crate::OutOfMemory;
+use crate::effect::Effect;
+use crate::one_input::OneInput;
+use g711_law::{alaw_decode_all, alaw_encode_all, mulaw_decode_all, mulaw_encode_all};
+use pcm_ops::{bytes_of, samples_of};
+use std::alloc::Global;
+
+/// A law of G.711.
+#[derive(Clone, Copy, Debug, PartialEq, Eq)]
+pub enum Law {
+    ALaw,
+    MuLaw,
+}
+
+impl Law {
+    fn decode(self, from: &[u8], to: &mut [i16])
+        requires { length from.now ≡ length to.old }
+        ensures { to.new ≡ map (value_of self) from.now }
+    {
+        match self {
+            Law::ALaw => alaw_decode_all(from, to),
+            Law::MuLaw => mulaw_decode_all(from, to),
+        }
+    }
+
+    fn encode(self, from: &[i16], to: &mut [u8])
+        requires { length from.now ≡ length to.old }
+        ensures { to.new ≡ map (code_of self) from.now }
+    {
+        match self {
+            Law::ALaw => alaw_encode_all(from, to),
+            Law::MuLaw => mulaw_encode_all(from, to),
+        }
+    }
+}
+
+/// The part of a decoder.
+pub type G711Decoder = OneInput<Decoding>;
+
+/// The part of an encoder.
+pub type G711Encoder = OneInput<Encoding>;
+
+/// The sample that each code stands for.
+#[derive(Drop)]
+pub struct Decoding {
+    law: Law,
+    channels: u32,
+    samples: Vec<i16>,
+    ghost room: { vec_len samples ≡ 4096 },
+}
+
+/// The code of each sample.
+#[derive(Drop)]
+pub struct Encoding {
+    law: Law,
+    channels: u32,
+    samples: Vec<i16>,
+    ghost room: { vec_len samples ≡ 4096 },
+}
+
+impl Decoding {
+    pub fn new(alloc: Global, law: Law, channels: u32) -> Result<Decoding, OutOfMemory>
+        ensures law { IfOk result (λ it. it.law ≡ law) }
+        ensures channels { IfOk result (λ it. it.channels ≡ channels) }
+    {
+        Ok(Decoding {
+            law,
+            channels,
+            samples: vec![in alloc; 0; 4096]?,
+        })
+    }
+}
+
+impl Encoding {
+    pub fn new(alloc: Global, law: Law, channels: u32) -> Result<Encoding, OutOfMemory>
+        ensures law { IfOk result (λ it. it.law ≡ law) }
+        ensures channels { IfOk result (λ it. it.channels ≡ channels) }
+    {
+        Ok(Encoding {
+            law,
+            channels,
+            samples: vec![in alloc; 0; 4096]?,
+        })
+    }
+}
+
+fn decode_bytes(law: Law, from: &[u8], samples: &mut [i16], to: &mut [u8])
+    requires from { length from.now ≡ length samples.old }
+    requires to { length to.old ≡ 2 * length samples.old }
+    ensures { to.new ≡ decoded law from.now }
+{
+    law.decode(from, samples);
+    bytes_of(samples, to);
+}
+
+fn encode_bytes(law: Law, from: &[u8], samples: &mut [i16], to: &mut [u8])
+    requires from { length from.now ≡ 2 * length samples.old }
+    requires to { length to.old ≡ length samples.old }
+    ensures { to.new ≡ encoded law from.now }
+{
+    samples_of(from, samples);
+    law.encode(samples, to);
+}
+
+/// `decode_bytes` with the front of the register.
+fn decode_front(law: Law, from: &[u8], samples: &mut [i16], count: usize, to: &mut [u8])
+    requires from { length from.now ≡ count }
+    requires samples { count ≤ length samples.old }
+    requires to { length to.old ≡ count * 2 }
+    ensures { to.new ≡ decoded law from.now }
+{
+    decode_bytes(law, from, &mut samples[..count], to);
+}
+
+/// `encode_bytes` with the front of the register.
+fn encode_front(law: Law, from: &[u8], samples: &mut [i16], count: usize, to: &mut [u8])
+    requires from { length from.now ≡ count * 2 }
+    requires samples { count ≤ length samples.old }
+    requires to { length to.old ≡ count }
+    ensures { to.new ≡ encoded law from.now }
+{
+    encode_bytes(law, from, &mut samples[..count], to);
+}
+
+impl Effect for Decoding {
+    ghost manner = { λ it. record { outputs = 1; channels = it.channels; input_width = 1; output_width = 2; effect = decoded it.law } };
+
+    fn channels(&self) -> u32 {
+        self.channels
+    }
+
+    fn input_width(&self) -> usize {
+        1
+    }
+
+    fn apply(&mut self, count: usize, from: &[u8], to: &mut [u8]) {
+        decode_front(self.law, from, &mut self.samples, count, to);
+    }
+
+    fn joins(&self) {}
+}
+
+impl Effect for Encoding {
+    ghost manner = { λ it. record { outputs = 1; channels = it.channels; input_width = 2; output_width = 1; effect = encoded it.law } };
+
+    fn channels(&self) -> u32 {
+        self.channels
+    }
+
+    fn input_width(&self) -> usize {
+        2
+    }
+
+    fn apply(&mut self, count: usize, from: &[u8], to: &mut [u8]) {
+        encode_front(self.law, from, &mut self.samples, count, to);
+    }
+
+    fn joins(&self) {}
+}

@@ -1,0 +1,160 @@
+ghost use Rattle.std.specs.Prelude.{◌≡◌, ℕ, ◌+◌, ◌*◌, ◌<◌, ◌≤◌, Bool, true, false, List, [], All, length, take, map, replicate, vec_len, unsigned_abs, count_by, slice_index_or, IfOk, None, pos};
+ghost use Rattle.std.specs.Simd.Lanes.{zip2};
+ghost use Rattle.pcm_ops.specs.Samples.{samples, bytes, mixed, clamped, IsSum};
+ghost use Rattle.audio_parts.specs.Mixing.{mixing, Carries};
+
+use crate::OutOfMemory;
+use omx_types::PartFault;
+use part_api::Part;
+use pcm_ops::{bytes_of, clamp_into, mix_into, samples_of};
+use std::alloc::Global;
+
+/// The weighted sum of its inputs, clamped.
+#[derive(Drop)]
+pub struct Mixer {
+    channels: u32,
+    /// One for each input.
+    weights: Vec<u32>,
+    /// Which inputs were taken in this step.
+    taken: Vec<bool>,
+    sums: Vec<i32>,
+    samples: Vec<i16>,
+    /// The samples of the step.
+    count: usize,
+    ghost flags: { vec_len taken ≡ vec_len weights },
+    ghost some: { 1 ≤ vec_len weights },
+    ghost inputs: { vec_len weights ≤ 8 },
+    ghost small: { All (λ weight. weight ≤ 65535) weights.items },
+    ghost sums_room: { vec_len sums ≡ 4096 },
+    ghost samples_room: { vec_len samples ≡ 4096 },
+    ghost few: { count ≤ 4096 },
+    ghost bounded: { All (λ sum. unsigned_abs sum ≤ 524280 * count_by (λ is_taken. is_taken) taken.items) (take count sums.items) },
+}
+
+/// Adds the weighted samples of a piece to the sums.
+fn mix_piece(sums: &mut [i32], piece: &[u8], weight: u32, scratch: &mut [i16])
+    requires small { weight ≤ 65535 }
+    requires piece { length piece.now ≡ 2 * length scratch.old }
+    requires same_length { length scratch.old ≡ length sums.old }
+    requires room { All IsSum sums.old }
+    ensures value { sums.new ≡ zip2 (mixed weight) sums.old (samples piece.now) }
+    ensures grows { (b : ℕ) → All (λ s. unsigned_abs s ≤ b) sums.old → All (λ s. unsigned_abs s ≤ b + 524280) sums.new }
+{
+    samples_of(piece, scratch);
+    mix_into(sums, scratch, weight);
+}
+
+/// The same for the sums and samples of a step.
+fn mix_front(sums: &mut [i32], piece: &[u8], weight: u32, scratch: &mut [i16], count: usize)
+    requires small { weight ≤ 65535 }
+    requires piece { length piece.now ≡ count * 2 }
+    requires sums { count ≤ length sums.old }
+    requires scratch { count ≤ length scratch.old }
+    requires room { All IsSum (take count sums.old) }
+    ensures value { take count sums.new ≡ zip2 (mixed weight) (take count sums.old) (samples piece.now) }
+    ensures grows { (b : ℕ) → All (λ s. unsigned_abs s ≤ b) (take count sums.old) → All (λ s. unsigned_abs s ≤ b + 524280) (take count sums.new) }
+{
+    mix_piece(&mut sums[..count], piece, weight, &mut scratch[..count]);
+}
+
+/// The bytes of the clamped sums.
+fn put_sums(sums: &[i32], scratch: &mut [i16], piece: &mut [u8])
+    requires same_length { length sums.now ≡ length scratch.old }
+    requires piece { length piece.old ≡ 2 * length scratch.old }
+    ensures { piece.new ≡ bytes (map clamped sums.now) }
+{
+    clamp_into(sums, scratch);
+    bytes_of(scratch, piece);
+}
+
+/// The same for the sums of a step.
+fn put_front(sums: &[i32], scratch: &mut [i16], count: usize, piece: &mut [u8])
+    requires sums { count ≤ length sums.now }
+    requires scratch { count ≤ length scratch.old }
+    requires piece { length piece.old ≡ count * 2 }
+    ensures { piece.new ≡ bytes (map clamped (take count sums.now)) }
+{
+    put_sums(&sums[..count], &mut scratch[..count], piece);
+}
+
+fn clear_sums(sums: &mut [i32], count: usize)
+    requires { count ≤ length sums.old }
+    ensures { take count sums.new ≡ replicate count (pos 0) }
+{
+    sums[..count].fill(0);
+}
+
+impl Mixer {
+    /// A mixer with a weight for each input.
+    pub fn new(alloc: Global, channels: u32, weights: Vec<u32>) -> Result<Mixer, OutOfMemory>
+        requires some { 1 ≤ vec_len weights }
+        requires inputs { vec_len weights ≤ 8 }
+        requires small { All (λ weight. weight ≤ 65535) weights.items }
+        ensures weights { IfOk result (λ mixer. mixer.weights.items ≡ weights.items) }
+        ensures channels { IfOk result (λ mixer. mixer.channels ≡ channels) }
+    {
+        let taken = vec![in alloc; false; weights.len()]?;
+        Ok(Mixer {
+            channels,
+            weights,
+            taken,
+            sums: vec![in alloc; 0; 4096]?,
+            samples: vec![in alloc; 0; 4096]?,
+            count: 0,
+        })
+    }
+}
+
+impl Part for Mixer {
+    ghost shape = { λ mixer. mixing mixer.channels mixer.weights.items };
+
+    ghost sizes = { λ mixer. record { input = mixer.count * 2; output = mixer.count * 2 } };
+
+    ghost carries = { λ mixer incoming. Carries mixer.weights.items mixer.taken.items mixer.count (take mixer.count mixer.sums.items) incoming };
+
+    ghost can_begin = { λ mixer frames. Unit {0} };
+
+    ghost can_take = { λ mixer input. (input < length mixer.weights.items) × (slice_index_or mixer.taken.items input true ≡ false) };
+
+    ghost can_put = { λ mixer output. output < 1 };
+
+    ghost can_step = { λ part. Unit {0} };
+
+    ghost rest = { λ part. None };
+
+    ghost left = { λ part. None };
+
+    ghost kept = { λ mixer. None };
+
+    ghost writes = { λ mixer incoming. [] };
+
+    ghost has_cause = { λ old new fault. ⊥ };
+
+    fn begin(&mut self, frames: u32) {
+        self.count = (frames * self.channels) as usize;
+        self.taken.fill(false);
+        clear_sums(&mut self.sums, self.count);
+    }
+
+    fn take(&mut self, input: u32, piece: &[u8]) {
+        let at = input as usize;
+        self.taken[at] = true;
+        mix_front(
+            &mut self.sums,
+            piece,
+            self.weights[at],
+            &mut self.samples,
+            self.count,
+        );
+    }
+
+    fn step(&mut self) -> Option<PartFault> {
+        None
+    }
+
+    fn put(&mut self, _output: u32, piece: &mut [u8]) {
+        put_front(&self.sums, &mut self.samples, self.count, piece);
+    }
+
+    fn joins(&self) {}
+}

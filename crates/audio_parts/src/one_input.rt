@@ -1,0 +1,83 @@
+ghost use Rattle.std.specs.Prelude.{◌≡◌, ℕ, ◌*◌, ◌<◌, ◌≤◌, take, vec_len, IfOk, None, []};
+ghost use Rattle.audio_parts.specs.Manners.{through};
+
+use crate::OutOfMemory;
+use crate::effect::Effect;
+use crate::register::{clear_front, set_front};
+use omx_types::PartFault;
+use part_api::Part;
+use std::alloc::Global;
+
+/// A part with one input, whose every output is an effect of it.
+#[derive(Drop)]
+pub struct OneInput<E> {
+    effect: E,
+    register: Vec<u8>,
+    /// The samples of the step.
+    count: usize,
+    ghost room: { vec_len register ≡ 8192 },
+    ghost few: { count ≤ 4096 },
+}
+
+impl<E: Effect> OneInput<E> {
+    pub fn new(alloc: Global, effect: E) -> Result<OneInput<E>, OutOfMemory>
+        ensures { IfOk result (λ part. part.effect ≡ effect) }
+    {
+        Ok(OneInput {
+            effect,
+            register: vec![in alloc; 0; 8192]?,
+            count: 0,
+        })
+    }
+}
+
+impl<E: Effect> Part for OneInput<E> {
+    ghost shape = { λ part. through (E.manner part.effect) };
+
+    ghost sizes = { λ part. record { input = part.count * (E.manner part.effect).input_width; output = part.count * (E.manner part.effect).output_width } };
+
+    ghost carries = { λ part incoming. take (part.count * (E.manner part.effect).input_width) part.register.items ≡ incoming.input 0 };
+
+    ghost can_begin = { λ part frames. Unit {0} };
+
+    ghost can_take = { λ part input. input < 1 };
+
+    ghost can_put = { λ part output. output < (E.manner part.effect).outputs };
+
+    ghost can_step = { λ part. Unit {0} };
+
+    ghost rest = { λ part. None };
+
+    ghost left = { λ part. None };
+
+    ghost kept = { λ part. None };
+
+    ghost writes = { λ part incoming. [] };
+
+    ghost has_cause = { λ old new fault. ⊥ };
+
+    fn begin(&mut self, frames: u32) {
+        self.count = (frames * self.effect.channels()) as usize;
+        let length = self.count * self.effect.input_width();
+        clear_front(&mut self.register, length);
+    }
+
+    fn take(&mut self, _input: u32, piece: &[u8]) {
+        let length = self.count * self.effect.input_width();
+        set_front(&mut self.register, piece, length);
+    }
+
+    fn step(&mut self) -> Option<PartFault> {
+        None
+    }
+
+    fn put(&mut self, _output: u32, piece: &mut [u8]) {
+        let length = self.count * self.effect.input_width();
+        self.effect
+            .apply(self.count, &self.register[..length], piece);
+    }
+
+    fn joins(&self) {
+        self.effect.joins();
+    }
+}
