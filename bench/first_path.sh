@@ -10,14 +10,8 @@ printf 'omx 1 play\nsource a in.wav\nsink b out.wav\nlink a.0 b.0 2 4096\n' >pla
 "$top/omxrun" play play.omx 0 log >/dev/null
 cmp in.wav out.wav
 
-played=9999999999999
-copied=9999999999999
-for _ in 1 2 3 4 5; do
-  played=$(best "$played" "$(nanoseconds "$program" play play.omx 0 log)")
-  copied=$(best "$copied" "$(nanoseconds sh -c 'cat in.wav >copy.wav')")
-done
+ours() { "$program" play play.omx 0 log; }
+theirs() { cat in.wav >copy.wav; }
 
-peak=$(/usr/bin/time -f %M "$program" play play.omx 0 log 2>&1 >/dev/null)
-
-echo "play takes $((played * 100 / copied)) hundredths of the time of cat"
-echo "peak memory $peak KiB"
+echo "play takes $(hundredths 5) hundredths of the time of cat"
+echo "peak memory $(/usr/bin/time -f %M "$program" play play.omx 0 log 2>&1 >/dev/null) KiB"

@@ -17,3 +17,13 @@ nanoseconds() {
 
 # The lesser of two numbers.
 best() { if [ "$1" -lt "$2" ]; then echo "$1"; else echo "$2"; fi; }
+
+# What the function `ours` takes in hundredths of the time of `theirs`: the best of so many times each, by turns.
+hundredths() {
+  local ours_best=9999999999999 theirs_best=9999999999999
+  for _ in $(seq "$1"); do
+    ours_best=$(best "$ours_best" "$(nanoseconds ours)")
+    theirs_best=$(best "$theirs_best" "$(nanoseconds theirs)")
+  done
+  echo $((ours_best * 100 / theirs_best))
+}

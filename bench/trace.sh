@@ -8,11 +8,7 @@
 } | head -c 64990 | sed '$d' >trace.omx
 "$top/omxrun" trace trace.omx >/dev/null
 
-traced=9999999999999
-counted=9999999999999
-for _ in 1 2 3 4 5; do
-  traced=$(best "$traced" "$(nanoseconds "$program" trace trace.omx)")
-  counted=$(best "$counted" "$(nanoseconds wc trace.omx)")
-done
+ours() { "$program" trace trace.omx; }
+theirs() { wc trace.omx; }
 
-echo "$(stat -c %s trace.omx) bytes, $(wc -l <trace.omx) lines: a trace takes $((traced * 100 / counted)) hundredths of the time of wc"
+echo "$(stat -c %s trace.omx) bytes, $(wc -l <trace.omx) lines: a trace takes $(hundredths 5) hundredths of the time of wc"
