@@ -1,7 +1,7 @@
 -- Headers of client ports: they are made, unmade, and handed in.
 --
 -- Where more joins: each new condition is one more test of the list of the call's refusals.
-use Rattle.std.specs.Prelude.{◌≡◌, ℕ, ◌+◌, ◌%◌, ◌≤◌, Bool, true, false, not, ◌&&◌, ◌||◌, nat_eq, nat_lt, nat_le, List, [], ◌∷◌, ◌++◌, length, Option, None, is_none, Result, MatchOption, if◌then◌else◌}
+use Rattle.std.specs.Prelude.{◌≡◌, ℕ, ◌+◌, ◌%◌, ◌≤◌, Bool, true, false, not, ◌&&◌, ◌||◌, nat_eq, nat_lt, nat_le, List, [], ◌∷◌, ◌++◌, length, Option, Some, None, is_none, Result, MatchOption, if◌then◌else◌}
 use Rattle.omx_types.specs.declared.state.State.TheVariants as states
 use Rattle.omx_types.specs.declared.handle.Handle.{Handle}
 use Rattle.omx_types.specs.declared.format.Format.{Format}
@@ -22,7 +22,7 @@ use Rattle.il_machine.specs.States.{is_invalid, is_up, is_running}
 use Rattle.il_machine.specs.Lists.{first_of_these, holds_at}
 use Rattle.il_machine.specs.declared.header.HeaderState.{HeaderState}
 use Rattle.il_machine.specs.World.{Component, HeaderRecord, Load, World, with_component, port_of, told}
-use Rattle.il_machine.specs.Headers.{Seen, is_for, find_header, without, put, cleared, loaded, no_load}
+use Rattle.il_machine.specs.Headers.{Seen, is_for, find_header, without, put, loaded, empty_load, unloaded}
 use Rattle.il_machine.specs.Look.{Look, look}
 use Rattle.il_machine.specs.Ports.{accepting, is_joined, is_input_port, is_open, is_at_rest, is_going_to}
 use Rattle.il_machine.specs.Room.{room}
@@ -36,16 +36,18 @@ pub record Held : Type 0 where
   pub content : List ℕ
   pub flags : ℕ
   pub mark : Option Mark
+  -- every byte of the client's own memory, where it has that
+  pub memory : Option (List ℕ)
 
 abbrev pub held_of : HeaderState → Load → Held
-held_of s load = record { number = s.number; size = s.size; content = load.content; flags = load.flags; mark = load.mark }
+held_of s load = record { number = s.number; size = s.size; content = load.content; flags = load.flags; mark = load.mark; memory = load.memory }
 
 abbrev pub held : HeaderRecord → Held
 held r = held_of r.state r.load
 
 -- what the header that is handed in carries
 abbrev pub load_in : Held → Load
-load_in header = record { content = header.content; flags = header.flags; mark = header.mark }
+load_in header = record { content = header.content; flags = header.flags; mark = header.mark; memory = header.memory }
 
 -- the header of the number, which is there
 abbrev pub AtHeader : ℕ → World → (HeaderRecord → Type 0) → Type 0
@@ -114,20 +116,20 @@ client_header number p client_memory = record {
 }
 
 -- the header is the last, and it has the next number
-abbrev pub with_header : HeaderState → World → World
-with_header s w = record w { headers = w.headers ++ record { state = s; load = no_load } ∷ []; made = w.made + 1 }
+abbrev pub with_header : HeaderState → Option (List ℕ) → World → World
+with_header s memory w = record w { headers = w.headers ++ record { state = s; load = empty_load memory } ∷ []; made = w.made + 1 }
 
 abbrev pub AllocateBuffer : World → Handle → ℕ → Result Held CallError → World → Type 0
 AllocateBuffer w h port result v = Resolving Omx w h result v (λ i c.
     AnswersOrMemory (allocate_refusal (look w) c (port_of c port)) result w v (λ header. AtPort (port_of c port) (λ p.
     let s = client_header w.made p false in
-    (header ≡ held_of s no_load) × ClosesTo (with_header s w) v)))
+    (header ≡ held_of s (empty_load None)) × ClosesTo (with_header s None w) v)))
 
 abbrev pub UseBuffer : World → Handle → ℕ → List ℕ → Result Held OmxError → World → Type 0
 UseBuffer w h port bytes result v = Resolving plain w h result v (λ i c.
     Answers (use_refusal (look w) c (port_of c port) (length bytes)) result w v (λ header. AtPort (port_of c port) (λ p.
     let s = client_header w.made p true in
-    (header ≡ held_of s no_load) × ClosesTo (with_header s w) v)))
+    (header ≡ held_of s (empty_load (Some bytes))) × ClosesTo (with_header s (Some bytes) w) v)))
 
 -- ---- free_buffer
 
@@ -159,7 +161,7 @@ FreeBuffer w h port number result v = Resolving plain w h result v (λ i c. AtSt
 abbrev pub is_whole_frames : Format → List ℕ → Bool
 is_whole_frames format content = nat_eq (length content % frame_bytes_of format) 0
 
--- the component works, and the port is open
+-- the component is Executing or Pause with nothing pending, and the port is open
 abbrev pub is_taking : Component → Port → Bool
 is_taking c p = is_running c.state && is_at_rest c && is_open p
 
@@ -188,8 +190,8 @@ EmptyThisBuffer w h port header result v = Resolving plain w h result v (λ i c.
     Answers (empty_refusal c (port_of c port) s header.content) result w v (λ _. AtPort (port_of c port) (λ p.
     ClosesTo (with_todo p.key header.number (loaded (load_in header)) w) v))))
 
--- The header is cleared, and goes to the back of todo.
+-- The record gets the memory of the header that is handed in, without content, and goes to the back of todo.
 abbrev pub FillThisBuffer : World → Handle → ℕ → Held → Result (Unit {0}) OmxError → World → Type 0
 FillThisBuffer w h port header result v = Resolving plain w h result v (λ i c. AtState header.number (look w) (λ s.
     Answers (fill_refusal c (port_of c port) s) result w v (λ _. AtPort (port_of c port) (λ p.
-    ClosesTo (with_todo p.key header.number cleared w) v))))
+    ClosesTo (with_todo p.key header.number (loaded (unloaded (load_in header))) w) v))))

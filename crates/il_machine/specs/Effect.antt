@@ -7,7 +7,7 @@ use Rattle.omx_types.specs.declared.command.Note.TheVariants.{Told, EmptyDone, F
 use Rattle.il_machine.specs.declared.answer.Acted.TheVariants.{Did}
 use Rattle.il_machine.specs.declared.port.Port.{Port}
 use Rattle.il_machine.specs.World.{Component, World, place_of, with_component, port_of}
-use Rattle.il_machine.specs.Headers.{seen, cleared, loaded}
+use Rattle.il_machine.specs.Headers.{seen, loaded, unloaded}
 use Rattle.il_machine.specs.Look.{look}
 use Rattle.il_machine.specs.Kinds.{kind_of}
 use Rattle.il_machine.specs.Components.{with_new_component, without_component}
@@ -49,13 +49,14 @@ effect w (acts.DropTunnel output input) (acts.Plain (Ok done)) =
     at_both (port_of c output.index) (port_of d input.index) w (λ p q. both_parted i c p j d q w)))
 effect w (acts.SendCommand h command) (acts.Plain (Ok done)) = at_named h w (λ i c. with_component i (sent command c) w)
 effect w (acts.RunCommand h) (acts.Acted (Ok Did)) = at_named h w (λ i c. with_component i (run_front (look w) c.commands c) w)
-effect w (acts.AllocateBuffer h port) (acts.Allocated (Ok header)) = at_named_port h port w (λ i c p. with_header (client_header w.made p false) w)
-effect w (acts.UseBuffer h port bytes) (acts.Used (Ok header)) = at_named_port h port w (λ i c p. with_header (client_header w.made p true) w)
+effect w (acts.AllocateBuffer h port) (acts.Allocated (Ok header)) = at_named_port h port w (λ i c p. with_header (client_header w.made p false) None w)
+effect w (acts.UseBuffer h port bytes) (acts.Used (Ok header)) = at_named_port h port w (λ i c p. with_header (client_header w.made p true) (Some bytes) w)
 effect w (acts.FreeBuffer h port header) (acts.Freed (Ok is_clients)) =
     at_named_port h port w (λ i c p. without_header header (with_component i (unpopulated p c) w))
 effect w (acts.EmptyThisBuffer h port header) (acts.Plain (Ok done)) =
     at_named_port h port w (λ i c p. with_todo p.key header.number (loaded (load_in header)) w)
-effect w (acts.FillThisBuffer h port header) (acts.Plain (Ok done)) = at_named_port h port w (λ i c p. with_todo p.key header.number cleared w)
+effect w (acts.FillThisBuffer h port header) (acts.Plain (Ok done)) =
+    at_named_port h port w (λ i c p. with_todo p.key header.number (loaded (unloaded (load_in header))) w)
 effect w (acts.TakeNote h) (acts.Took (Ok (TookNote (TakenEvent event)))) = at_named h w (λ i c. with_given i c (Told event) w)
 effect w (acts.TakeNote h) (acts.Took (Ok (TookNote (TakenEmpty header)))) =
     at_named h w (λ i c. with_client header.number (with_given i c (EmptyDone header.number) w))

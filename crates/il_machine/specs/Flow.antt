@@ -19,14 +19,14 @@ use Rattle.il_machine.specs.declared.header.Place.{Place}
 use Rattle.il_machine.specs.declared.header.Place.TheVariants.{Todo, Done}
 use Rattle.il_machine.specs.declared.header.Spot.{Spot}
 use Rattle.il_machine.specs.declared.header.Spot.TheVariants.{TodoBack, DoneBack}
-use Rattle.il_machine.specs.States.{is_executing, is_running}
+use Rattle.il_machine.specs.States.{is_executing}
 use Rattle.il_machine.specs.Lists.{first_of_these, is_empty}
 use Rattle.il_machine.specs.World.{Component, HeaderRecord, World, place_numbered, number_of, with_component, port_of, noted}
 use Rattle.il_machine.specs.declared.header.HeaderState.{HeaderState}
-use Rattle.il_machine.specs.Headers.{Seen, seen, changed, put, cleared, unchanged, given_to, no_load}
+use Rattle.il_machine.specs.Headers.{Seen, seen, changed, put, cleared, unchanged, given_to, empty_load}
 use Rattle.il_machine.specs.Look.{Look, look}
 use Rattle.il_machine.specs.Ports.{accepting, returning, leaving, is_open, is_at_rest, is_supplier, is_input_port, id_of}
-use Rattle.il_machine.specs.Buffers.{has_no_block, has_no_number, without_header}
+use Rattle.il_machine.specs.Buffers.{has_no_block, has_no_number, is_taking, without_header}
 use Rattle.il_machine.specs.Answers.{plain, Resolving, Acts, ActsOrMemory}
 
 -- the other end of a tunnel: the component's place, the component, the port
@@ -87,7 +87,7 @@ tunnel_header number p peer = record {
 
 abbrev pub supplied_by : ℕ → Port → Option Link → List HeaderRecord
 supplied_by number p None = []
-supplied_by number p (Some link) = record { state = tunnel_header number p link.peer; load = no_load } ∷ []
+supplied_by number p (Some link) = record { state = tunnel_header number p link.peer; load = empty_load None } ∷ []
 
 -- One header is made for both ports of the tunnel.
 abbrev pub with_supplied : Port → World → World
@@ -124,15 +124,11 @@ Release w h port result v = OnPort plain w h port result v (λ i c p.
 abbrev pub is_giving : Component → Port → Bool
 is_giving c p = is_open p && is_executing c.state && is_at_rest c
 
--- the peer takes: its port is open, and it is Executing or Pause with nothing pending
-abbrev pub is_receiving : Component → Port → Bool
-is_receiving c p = is_open p && is_running c.state && is_at_rest c
-
 abbrev pub over_idle : Look → Component → Port → Option Why
 over_idle l c p = first_of_these
     ((not (is_supplier p), why.NotSupplier)
     ∷ (not (is_giving c p), why.NotRunning (id_of c p))
-    ∷ at_end (other_end l.components p) (λ e. (not (is_receiving e.component e.port), why.NotRunning (id_of e.component e.port)) ∷ [])
+    ∷ at_end (other_end l.components p) (λ e. (not (is_taking e.component e.port), why.NotRunning (id_of e.component e.port)) ∷ [])
     ++ (is_empty (l.headers.done p.key), why.NoHeader)
     ∷ [])
 

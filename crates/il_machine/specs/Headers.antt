@@ -145,12 +145,16 @@ none_is headers test = nat_eq (headers.count test) 0
 
 -- ---- how one header changes
 
-abbrev pub no_load : Load
-no_load = record { content = []; flags = 0; mark = None }
+-- nothing but the memory
+abbrev pub empty_load : Option (List ℕ) → Load
+empty_load memory = record { content = []; flags = 0; mark = None; memory = memory }
 
--- without content, flags and mark
+-- without content, flags and mark; the memory is as before
+abbrev pub unloaded : Load → Load
+unloaded load = empty_load load.memory
+
 abbrev pub cleared : HeaderRecord → HeaderRecord
-cleared r = record r { load = no_load }
+cleared r = record r { load = unloaded r.load }
 
 abbrev pub loaded : Load → HeaderRecord → HeaderRecord
 loaded load r = record r { load = load }

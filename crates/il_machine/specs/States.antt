@@ -33,7 +33,7 @@ abbrev pub is_executing : State → Bool
 is_executing Executing = true
 is_executing _ = false
 
--- a component that has no headers yet: Loaded or WaitForResources
+-- Loaded or WaitForResources
 abbrev pub is_down : State → Bool
 is_down Loaded = true
 is_down WaitForResources = true

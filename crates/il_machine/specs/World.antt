@@ -40,6 +40,8 @@ pub record Load : Type 0 where
   pub content : List ℕ
   pub flags : ℕ
   pub mark : Option Mark
+  -- every byte of the client's own memory, where the header has that
+  pub memory : Option (List ℕ)
 
 -- What is known of a header, and what it carries.
 pub record HeaderRecord : Type 0 where

@@ -1,5 +1,5 @@
 -- Headers of client ports are made, unmade and handed in.
-use Rattle.std.proofs.Common.{◌≡◌, inl, inr, ℕ, ◌<◌, ◌≤◌, Bool, true, false, not, ◌&&◌, ◌||◌, nat_eq, List, set, slice_get, Option, Some, None, is_some, refl, sym, ◌∙◌, ap, subst, arith}
+use Rattle.std.proofs.Common.{◌≡◌, inl, inr, ℕ, ◌<◌, ◌≤◌, Bool, true, false, not, ◌&&◌, ◌||◌, nat_eq, List, length, set, slice_get, Option, Some, None, is_some, refl, sym, ◌∙◌, ap, subst, arith}
 use Rattle.std.proofs.lemmas.Bool.{eqb-false}
 use Rattle.omx_types.specs.declared.state.State.TheVariants.{Idle}
 use Rattle.omx_types.specs.declared.command.Event.TheVariants.{Error}
@@ -11,7 +11,7 @@ use Rattle.il_machine.specs.declared.header.Owner.TheVariants as owners
 use Rattle.il_machine.specs.declared.header.Spot.TheVariants.{TodoBack}
 use Rattle.il_machine.specs.States.{is_invalid, is_down, is_up}
 use Rattle.il_machine.specs.World.{Component, HeaderRecord, World, port_of, with_component}
-use Rattle.il_machine.specs.Headers.{seen, find_header, count_headers, is_for, is_notice, cleared, loaded, no_load}
+use Rattle.il_machine.specs.Headers.{seen, find_header, count_headers, is_for, is_notice, loaded, empty_load, unloaded}
 use Rattle.il_machine.specs.Look.{Look, look}
 use Rattle.il_machine.specs.Ports.{is_input_port, accepting, populated, is_joined, is_going_to, is_at_rest}
 use Rattle.il_machine.specs.Room.{room}
@@ -45,15 +45,15 @@ none_of (Some x) h = absurd cc
 pub unlinked : (p : Port) → is_joined p ≡ false → p.state.link ≡ None
 unlinked p h = none_of p.state.link h
 
-pub sound_made : (w : World) (i : ℕ) (c : Component) (index : ℕ) (p : Port) (client_memory : Bool) → Sound w → slice_get w.components i ≡ Some c → port_of c index ≡ Some p
-    → accepting (look w).headers c p ≡ true → p.state.link ≡ None → Sound (with_header (client_header w.made p client_memory) w)
-sound_made w i c index p client_memory S t e a l =
+pub sound_made : (w : World) (i : ℕ) (c : Component) (index : ℕ) (p : Port) (client_memory : Bool) (memory : Option (List ℕ)) → Sound w → slice_get w.components i ≡ Some c → port_of c index ≡ Some p
+    → accepting (look w).headers c p ≡ true → p.state.link ≡ None → Sound (with_header (client_header w.made p client_memory) memory w)
+sound_made w i c index p client_memory memory S t e a l =
     let P = parts_of w S in
     let s : HeaderState = client_header w.made p client_memory in
-    let r : HeaderRecord = record { state = s; load = no_load } in
+    let r : HeaderRecord = record { state = s; load = empty_load memory } in
     let at = port_there_at w.numbered i w.components c index p P.rising t e in
     let few = accepts_fewer w c p a (P.tied.few p.key p at) in
-    sound_from (with_header s w) (parts_push w.components r w.headers w.numbered w.made P refl refl
+    sound_from (with_header s memory w) (parts_push w.components r w.headers w.numbered w.made P refl refl
     (record { home = refl; port = is_there (port_at p.key w.components) (λ q. q.state.link ≡ None) p at l; owner = (refl, refl) })
     (λ key q k f. elim (for_which key s f) [
       | inl h ↦
@@ -78,12 +78,12 @@ use_passes l c p bytes h =
     (not_not (accepting l.headers c p) d.0, unlinked p (not_either (is_joined p) (is_bad_length bytes p) b.0).0)
 
 pub sound_allocated : (w : World) (i : ℕ) (c : Component) (index : ℕ) (p : Port) → Sound w → slice_get w.components i ≡ Some c → port_of c index ≡ Some p
-    → allocate_refusal (look w) c (port_of c index) ≡ None → Sound (with_header (client_header w.made p false) w)
-sound_allocated w i c index p S t e h = let a = allocate_passes (look w) c p (rw e at h) in sound_made w i c index p false S t e a.0 a.1
+    → allocate_refusal (look w) c (port_of c index) ≡ None → Sound (with_header (client_header w.made p false) None w)
+sound_allocated w i c index p S t e h = let a = allocate_passes (look w) c p (rw e at h) in sound_made w i c index p false None S t e a.0 a.1
 
-pub sound_used : (w : World) (i : ℕ) (c : Component) (index : ℕ) (p : Port) (bytes : ℕ) → Sound w → slice_get w.components i ≡ Some c → port_of c index ≡ Some p
-    → use_refusal (look w) c (port_of c index) bytes ≡ None → Sound (with_header (client_header w.made p true) w)
-sound_used w i c index p bytes S t e h = let a = use_passes (look w) c p bytes (rw e at h) in sound_made w i c index p true S t e a.0 a.1
+pub sound_used : (w : World) (i : ℕ) (c : Component) (index : ℕ) (p : Port) (bytes : List ℕ) → Sound w → slice_get w.components i ≡ Some c → port_of c index ≡ Some p
+    → use_refusal (look w) c (port_of c index) (length bytes) ≡ None → Sound (with_header (client_header w.made p true) (Some bytes) w)
+sound_used w i c index p bytes S t e h = let a = use_passes (look w) c p (length bytes) (rw e at h) in sound_made w i c index p true (Some bytes) S t e a.0 a.1
 
 -- ---- handed in
 
@@ -118,13 +118,13 @@ sound_emptied w c index p s header S e f o h =
 
 pub sound_filled : (w : World) (c : Component) (index : ℕ) (p : Port) (s : HeaderState) (header : Held) → Sound w → port_of c index ≡ Some p
     → (seen w.headers).header header.number ≡ Some s → s.owner ≡ owners.Client → fill_refusal c (port_of c index) s ≡ None
-    → Sound (with_todo p.key header.number cleared w)
+    → Sound (with_todo p.key header.number (loaded (unloaded (load_in header))) w)
 sound_filled w c index p s header S e f o h =
     let r = header_there (find_header header.number w.headers) (λ x. x ≡ s) (rw f refl) in
     let b = fill_passes c p s (rw e at h) in
     let k : is_for p.key (r.0).state ≡ true = rw r.2 b in
     let n : is_notice (r.0).state.owner ≡ false = rw (r.2, o) refl in
-    sound_put w p.key header.number cleared r.0 (λ x. refl) S r.1 n k
+    sound_put w p.key header.number (loaded (unloaded (load_in header))) r.0 (λ x. refl) S r.1 n k
 
 -- ---- unmade
 

@@ -9,7 +9,7 @@ use Rattle.il_machine.specs.declared.header.Place.TheVariants.{Out}
 use Rattle.il_machine.specs.declared.header.Spot.{Spot}
 use Rattle.il_machine.specs.declared.header.Spot.TheVariants.{TodoBack}
 use Rattle.il_machine.specs.World.{Component, HeaderRecord, World, port_of}
-use Rattle.il_machine.specs.Headers.{seen, count_headers, is_for, is_notice, unchanged, cleared, no_load}
+use Rattle.il_machine.specs.Headers.{seen, count_headers, is_for, is_notice, unchanged, cleared, empty_load}
 use Rattle.il_machine.specs.Look.{look}
 use Rattle.il_machine.specs.Ports.{accepting, is_supplier, is_input_port}
 use Rattle.il_machine.specs.Buffers.{without_header}
@@ -54,11 +54,11 @@ supply_passes w c p link e l f h =
 
 sound_tunnel_header : (w : World) (i : ℕ) (c : Component) (index : ℕ) (p : Port) (link : Link) → Sound w → slice_get w.components i ≡ Some c → port_of c index ≡ Some p → p.state.link ≡ Some link
     → supply_idle (look w) c p ≡ None
-    → Parts w.components (w.headers ++ record { state = tunnel_header w.made p link.peer; load = no_load } ∷ []) w.numbered (w.made + 1)
+    → Parts w.components (w.headers ++ record { state = tunnel_header w.made p link.peer; load = empty_load None } ∷ []) w.numbered (w.made + 1)
 sound_tunnel_header w i c index p link S t e l h =
     let P = parts_of w S in
     let s : HeaderState = tunnel_header w.made p link.peer in
-    let r : HeaderRecord = record { state = s; load = no_load } in
+    let r : HeaderRecord = record { state = s; load = empty_load None } in
     let at = port_there_at w.numbered i w.components c index p P.rising t e in
     let q = other_side (ports_in_list w.components) w.headers p.key p link P.tied at l in
     let x = end_there (end_of w.components link.peer) q.0 q.1 in
@@ -95,7 +95,7 @@ sound_supplied w i c index p S t e h = elim (none_or_some p.state.link) [
       let b = not_not (is_supplier p) (passed (not (is_supplier p)) _ _ h).0 in
       absurd cc
   | inr link ↦
-      let f : supplied_by w.made p p.state.link ≡ record { state = tunnel_header w.made p (link.0).peer; load = no_load } ∷ [] = rw link.1 refl in
+      let f : supplied_by w.made p p.state.link ≡ record { state = tunnel_header w.made p (link.0).peer; load = empty_load None } ∷ [] = rw link.1 refl in
       sound_from (with_supplied p w) (rw f (sound_tunnel_header w i c index p link.0 S t e link.1 h))
 ]
 

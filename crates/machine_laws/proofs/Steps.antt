@@ -18,7 +18,7 @@ use Rattle.il_machine.specs.declared.port.Port.{Port}
 use Rattle.il_machine.specs.declared.header.HeaderState.{HeaderState}
 use Rattle.il_machine.specs.declared.header.Owner.TheVariants as owners
 use Rattle.il_machine.specs.World.{Component, World, no_world, place_of, port_of, with_component}
-use Rattle.il_machine.specs.Headers.{seen, find_header, cleared, loaded, no_load}
+use Rattle.il_machine.specs.Headers.{seen, find_header, loaded, empty_load, unloaded}
 use Rattle.il_machine.specs.Look.{look}
 use Rattle.il_machine.specs.Answers.{plain}
 use Rattle.il_machine.specs.Kinds.{kind_of}
@@ -83,13 +83,13 @@ run_keeps w v h result r S = resolving_keeps plain w v h result _ S r (λ i c t 
 
 allocate_keeps : (w v : World) (h : Handle) (port : ℕ) (result : Result Held CallError) → AllocateBuffer w h port result v → Sound w → Sound v
 allocate_keeps w v h port result r S = resolving_keeps Omx w v h result _ S r (λ i c t a. answers_or_memory_keep (allocate_refusal (look w) c (port_of c port)) result w v _ a S (λ x n b.
-    let p = there_is (port_of c port) (λ p. let s = client_header w.made p false in (x ≡ held_of s no_load) × ClosesTo (with_header s w) v) b in
-    sound_closes (with_header (client_header w.made p.0 false) w) v (p.2).1 (sound_allocated w i c port p.0 S t p.1 n)))
+    let p = there_is (port_of c port) (λ p. let s = client_header w.made p false in (x ≡ held_of s (empty_load None)) × ClosesTo (with_header s None w) v) b in
+    sound_closes (with_header (client_header w.made p.0 false) None w) v (p.2).1 (sound_allocated w i c port p.0 S t p.1 n)))
 
 use_keeps : (w v : World) (h : Handle) (port : ℕ) (bytes : List ℕ) (result : Result Held OmxError) → UseBuffer w h port bytes result v → Sound w → Sound v
 use_keeps w v h port bytes result r S = resolving_keeps plain w v h result _ S r (λ i c t a. answers_keep (use_refusal (look w) c (port_of c port) (length bytes)) result w v _ a S (λ x n b.
-    let p = there_is (port_of c port) (λ p. let s = client_header w.made p true in (x ≡ held_of s no_load) × ClosesTo (with_header s w) v) b in
-    sound_closes (with_header (client_header w.made p.0 true) w) v (p.2).1 (sound_used w i c port p.0 (length bytes) S t p.1 n)))
+    let p = there_is (port_of c port) (λ p. let s = client_header w.made p true in (x ≡ held_of s (empty_load (Some bytes))) × ClosesTo (with_header s (Some bytes) w) v) b in
+    sound_closes (with_header (client_header w.made p.0 true) (Some bytes) w) v (p.2).1 (sound_used w i c port p.0 bytes S t p.1 n)))
 
 -- the owner of a header that the caller was to hold
 held_by_client : (number : ℕ) (w : World) (s : HeaderState) (P : HeaderState → Type 0) → (seen w.headers).header number ≡ Some s → AtState number (look w) P → P s
@@ -116,8 +116,8 @@ fill_keeps w v h port header result M r S = resolving_keeps plain w v h result _
     let s = there_is ((seen w.headers).header header.number) _ a in
     let o = held_by_client header.number w s.0 (λ x. x.owner ≡ owners.Client) s.1 M in
     answers_keep (fill_refusal c (port_of c port) s.0) result w v _ s.2 S (λ x n b.
-    let p = there_is (port_of c port) (λ p. ClosesTo (with_todo p.key header.number cleared w) v) b in
-    sound_closes (with_todo (p.0).key header.number cleared w) v p.2 (sound_filled w c port p.0 s.0 header S p.1 s.1 o n)))
+    let p = there_is (port_of c port) (λ p. ClosesTo (with_todo p.key header.number (loaded (unloaded (load_in header))) w) v) b in
+    sound_closes (with_todo (p.0).key header.number (loaded (unloaded (load_in header))) w) v p.2 (sound_filled w c port p.0 s.0 header S p.1 s.1 o n)))
 
 -- ---- tunnels
 
