@@ -1,5 +1,5 @@
 -- What comes of the calls on headers of client ports, and of taking a note.
-use Rattle.std.proofs.Common.{◌≡◌, inl, ℕ, Bool, true, false, List, ◌∷◌, drop, slice_get, Option, Some, None, Result, refl, ◌∙◌, ap}
+use Rattle.std.proofs.Common.{◌≡◌, inl, inr, ℕ, Bool, true, false, List, ◌∷◌, drop, slice_get, Option, Some, None, Result, refl, ◌∙◌, ap}
 use Rattle.std.specs.Prelude.{length}
 use Rattle.omx_types.specs.declared.handle.Handle.{Handle}
 use Rattle.omx_types.specs.declared.command.Note.{Note}
@@ -14,7 +14,7 @@ use Rattle.il_machine.specs.declared.header.HeaderState.{HeaderState}
 use Rattle.il_machine.specs.declared.header.Owner.TheVariants as owners
 use Rattle.il_machine.specs.declared.header.Spot.TheVariants.{TodoBack}
 use Rattle.il_machine.specs.World.{Component, HeaderRecord, World, with_component, port_of}
-use Rattle.il_machine.specs.Headers.{is_for, find_header, put_at, cleared, loaded, given_to, no_load}
+use Rattle.il_machine.specs.Headers.{is_for, find_header, put_at, loaded, given_to, empty_load, unloaded}
 use Rattle.il_machine.specs.Look.{look}
 use Rattle.il_machine.specs.Due.{ClosesTo}
 use Rattle.il_machine.specs.Answers.{plain}
@@ -43,12 +43,13 @@ named_port_is w h i c port p change N e = let a = N.place in let b = N.there in 
 
 -- ---- a header is made for a client port
 
-made_for : (w v after : World) (p : Port) (b : Bool) (header : Held) → after ≡ with_header (client_header w.made p b) w → header ≡ held_of (client_header w.made p b) no_load → ClosesTo (with_header (client_header w.made p b) w) v → Outcome w (record { moves = moved header.number Unmade client_stop; after = after }) v
-made_for w v after p b header is e C =
-    let mid = with_header (client_header w.made p b) w in
+made_for : (w v after : World) (p : Port) (b : Bool) (memory : Option (List ℕ)) (header : Held) → after ≡ with_header (client_header w.made p b) memory w → header ≡ held_of (client_header w.made p b) (empty_load memory)
+    → ClosesTo (with_header (client_header w.made p b) memory w) v → Outcome w (record { moves = moved header.number Unmade client_stop; after = after }) v
+made_for w v after p b memory header is e C =
+    let mid = with_header (client_header w.made p b) memory w in
     done w v _ mid is C (record {
       silent = silent_same w mid refl refl refl;
-      carried = Made (record { state = client_header w.made p b; number = refl; headers = refl; made = refl; home = refl; moves = ap (λ (x : Held). moved x.number Unmade client_stop) e });
+      carried = Made (record { state = client_header w.made p b; memory = memory; number = refl; headers = refl; made = refl; home = refl; moves = ap (λ (x : Held). moved x.number Unmade client_stop) e });
     })
 
 pub allocate_buffer : (w : World) (h : Handle) (port : ℕ) (result : Result Held CallError) (v : World) → AllocateBuffer w h port result v → Outcome w (turn w (acts.AllocateBuffer h port) (acts.Allocated result)) v
@@ -56,16 +57,16 @@ allocate_buffer w h port result v a =
     let ms : Result Held CallError → Turn = λ r. turn w (acts.AllocateBuffer h port) (acts.Allocated r) in
     resolving Omx w h result v _ a ms (λ e. refl) (λ i c named b.
     answers_or_memory (allocate_refusal (look w) c (port_of c port)) result w v ms
-    (λ header. AtPort (port_of c port) (λ p. (header ≡ held_of (client_header w.made p false) no_load) × ClosesTo (with_header (client_header w.made p false) w) v)) (λ e. refl) b
-    (λ n header e x. let p = there_is (port_of c port) _ x in made_for w v _ p.0 false header (named_port_is w h i c port p.0 (λ i c p. with_header (client_header w.made p false) w) named p.1) (p.2).0 (p.2).1))
+    (λ header. AtPort (port_of c port) (λ p. (header ≡ held_of (client_header w.made p false) (empty_load None)) × ClosesTo (with_header (client_header w.made p false) None w) v)) (λ e. refl) b
+    (λ n header e x. let p = there_is (port_of c port) _ x in made_for w v _ p.0 false None header (named_port_is w h i c port p.0 (λ i c p. with_header (client_header w.made p false) None w) named p.1) (p.2).0 (p.2).1))
 
 pub use_buffer : (w : World) (h : Handle) (port : ℕ) (bytes : List ℕ) (result : Result Held OmxError) (v : World) → UseBuffer w h port bytes result v → Outcome w (turn w (acts.UseBuffer h port bytes) (acts.Used result)) v
 use_buffer w h port bytes result v a =
     let ms : Result Held OmxError → Turn = λ r. turn w (acts.UseBuffer h port bytes) (acts.Used r) in
     resolving plain w h result v _ a ms (λ e. refl) (λ i c named b.
     answers (use_refusal (look w) c (port_of c port) (length bytes)) result w v ms
-    (λ header. AtPort (port_of c port) (λ p. (header ≡ held_of (client_header w.made p true) no_load) × ClosesTo (with_header (client_header w.made p true) w) v)) (λ e. refl) b
-    (λ n header e x. let p = there_is (port_of c port) _ x in made_for w v _ p.0 true header (named_port_is w h i c port p.0 (λ i c p. with_header (client_header w.made p true) w) named p.1) (p.2).0 (p.2).1))
+    (λ header. AtPort (port_of c port) (λ p. (header ≡ held_of (client_header w.made p true) (empty_load (Some bytes))) × ClosesTo (with_header (client_header w.made p true) (Some bytes) w) v)) (λ e. refl) b
+    (λ n header e x. let p = there_is (port_of c port) _ x in made_for w v _ p.0 true (Some bytes) header (named_port_is w h i c port p.0 (λ i c p. with_header (client_header w.made p true) (Some bytes) w) named p.1) (p.2).0 (p.2).1))
 
 -- ---- a header of the client's
 
@@ -137,6 +138,7 @@ handed_in w v after h port key number change keeps S k H C is =
         home = ap (λ (s : HeaderState). s.home) (keeps r);
         made_for = λ k. ap (is_for k) (keeps r);
         from = no_work w number r S H.found;
+        memory = inl H.owner;
         to = tt;
         moves = rw (own, k) refl;
       });
@@ -162,11 +164,11 @@ fill_this_buffer w h port header result v S M a =
     resolving plain w h result v _ a ms (λ e. refl) (λ i c named b.
     let s = there_is ((look w).headers.header header.number) _ b in
     answers (fill_refusal c (port_of c port) s.0) result w v ms
-    (λ _. AtPort (port_of c port) (λ p. ClosesTo (with_todo p.key header.number cleared w) v)) (λ e. refl) s.2
+    (λ _. AtPort (port_of c port) (λ p. ClosesTo (with_todo p.key header.number (loaded (unloaded (load_in header))) w) v)) (λ e. refl) s.2
     (λ n x e y.
     let p = there_is (port_of c port) _ y in
-    handed_in w v _ h port (p.0).key header.number cleared (λ r. refl) S (named_key w h i c port p.0 named p.1) (with_client_is w header.number M) p.2
-    (named_port_is w h i c port p.0 (λ i c p. with_todo p.key header.number cleared w) named p.1)))
+    handed_in w v _ h port (p.0).key header.number (loaded (unloaded (load_in header))) (λ r. refl) S (named_key w h i c port p.0 named p.1) (with_client_is w header.number M) p.2
+    (named_port_is w h i c port p.0 (λ i c p. with_todo p.key header.number (loaded (unloaded (load_in header))) w) named p.1)))
 
 -- ---- take_note
 
@@ -196,6 +198,7 @@ taken_header w v h i c make number rest r S N e n f C =
         home = refl;
         made_for = λ k. refl;
         from = no_work w number r S f;
+        memory = inr refl;
         to = tt;
         moves = rw (own, is) refl;
       });

@@ -14,7 +14,7 @@ use Rattle.omx_types.specs.declared.param.ParamKey.{ParamKey}
 use Rattle.omx_types.specs.declared.param.Supplier.{Supplier}
 use Rattle.il_machine.specs.declared.answer.Acted.{Acted}
 use Rattle.il_machine.specs.World.{Component, World, place_of, with_component, port_of}
-use Rattle.il_machine.specs.Headers.{seen, find_header, cleared, loaded, no_load}
+use Rattle.il_machine.specs.Headers.{seen, find_header, loaded, empty_load, unloaded}
 use Rattle.il_machine.specs.Look.{look}
 use Rattle.il_machine.specs.Answers.{plain}
 use Rattle.il_machine.specs.Components.{FreeHandle, free_refusal, without_component}
@@ -88,14 +88,14 @@ allocate_buffer_twice w h port x y v u a b =
     (λ e s. SecondWants (rw e tt) s)
     (λ k l e f m n. both_there (port_of c port) _ _ m n (λ g at hm hn.
     let s = client_header w.made g false in
-    same (closed_twice (with_header s w) (Ok (held_of s no_load)) x y v u (e ∙ rw hm.0 refl) hm.1 (f ∙ rw hn.0 refl) hn.1))))
+    same (closed_twice (with_header s None w) (Ok (held_of s (empty_load None))) x y v u (e ∙ rw hm.0 refl) hm.1 (f ∙ rw hn.0 refl) hn.1))))
 
 pub use_buffer_twice : (w : World) (h : Handle) (port : ℕ) (bytes : List ℕ) (x y : Result Held OmxError) (v u : World) → UseBuffer w h port bytes x v → UseBuffer w h port bytes y u → IsSame x y v u
 use_buffer_twice w h port bytes x y v u a b = resolving_twice plain w h x y v u _ _ (IsSame x y v u) a b (λ s. s) (λ i c p q.
     answers_twice (use_refusal (look w) c (port_of c port) (length bytes)) w x y v u _ _ (IsSame x y v u) p q (λ s. s) (λ k l e f m n.
     both_there (port_of c port) _ _ m n (λ g at hm hn.
     let s = client_header w.made g true in
-    closed_twice (with_header s w) (Ok (held_of s no_load)) x y v u (e ∙ rw hm.0 refl) hm.1 (f ∙ rw hn.0 refl) hn.1)))
+    closed_twice (with_header s (Some bytes) w) (Ok (held_of s (empty_load (Some bytes)))) x y v u (e ∙ rw hm.0 refl) hm.1 (f ∙ rw hn.0 refl) hn.1)))
 
 pub free_buffer_twice : (w : World) (h : Handle) (port number : ℕ) (x y : Result Bool OmxError) (v u : World) → FreeBuffer w h port number x v → FreeBuffer w h port number y u → IsSame x y v u
 free_buffer_twice w h port number x y v u a b = resolving_twice plain w h x y v u _ _ (IsSame x y v u) a b (λ s. s) (λ i c p q.
@@ -116,7 +116,7 @@ fill_this_buffer_twice w h port header x y v u a b = resolving_twice plain w h x
     both_there ((look w).headers.header header.number) _ _ p q (λ s at r t.
     answers_twice (fill_refusal c (port_of c port) s) w x y v u _ _ (IsSame x y v u) r t (λ z. z) (λ k l e f m n.
     both_there (port_of c port) _ _ m n (λ g bt C D.
-    closed_twice (with_todo g.key header.number cleared w) (Ok tt) x y v u e C f D))))
+    closed_twice (with_todo g.key header.number (loaded (unloaded (load_in header))) w) (Ok tt) x y v u e C f D))))
 
 take_from_twice : (w v u : World) (i : ℕ) (c : Component) (b : Bool) (o : Option Note) (x y : Result Took OmxError) → TakeFrom w i c b o x v → TakeFrom w i c b o y u → IsSame x y v u
 take_from_twice w v u i c true o x y p q = nothing_twice w (Ok TookBusy) x y v u p.0 p.1 q.0 q.1

@@ -1,5 +1,5 @@
 -- An Invalid component has nothing pending, and stays Invalid.
-use Rattle.std.proofs.Common.{◌≡◌, ℕ, Bool, true, false, not, ◌||◌, List, [], ◌∷◌, Option, Some, None, refl, sym, ◌∙◌, ap}
+use Rattle.std.proofs.Common.{◌≡◌, Bool, true, false, not, ◌||◌, List, [], ◌∷◌, Option, Some, None, refl, sym, ◌∙◌, ap}
 use Rattle.std.specs.Prelude.{is_some}
 use Rattle.omx_types.specs.declared.state.State.{State}
 use Rattle.omx_types.specs.declared.state.State.TheVariants.{Invalid, Loaded, Idle, Executing, Pause, WaitForResources}
@@ -12,10 +12,10 @@ use Rattle.il_machine.specs.States.{is_down, same_state}
 use Rattle.il_machine.specs.Room.{is_by_client}
 use Rattle.il_machine.specs.World.{Component}
 use Rattle.il_machine.specs.Look.{Look}
-use Rattle.il_machine.specs.Due.{reached, completed_for, lost, lost_by, arrived_at, arrived}
+use Rattle.il_machine.specs.Due.{reached, completed_for, lost_by, arrived_at}
 use Rattle.il_machine.specs.Commands.{begun, state_fault, carried_out, run_front}
 use Rattle.machine_laws.proofs.Finding.{either}
-use Rattle.history_laws.proofs.Cores.{Core, core, IsLasting}
+use Rattle.history_laws.proofs.Cores.{Core, IsLasting}
 
 -- a transition happened, or a command was begun: the handle and the client object are as they were
 record KeepsSeat (c d : Component) : Type 0 where

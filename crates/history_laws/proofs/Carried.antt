@@ -1,16 +1,18 @@
 -- The trails of all headers, as the headers of a world change by one step.
-use Rattle.std.proofs.Common.{◌≡◌, ◌≢◌, inl, inr, ℕ, ◌+◌, ◌≤◌, ◌<◌, List, [], ◌∷◌, ◌++◌, Option, Some, None, option_map, refl, sym, ◌∙◌, ap, subst, arith}
+use Rattle.std.proofs.Common.{◌≡◌, ◌≢◌, ◌⊎◌, inl, inr, ℕ, ◌+◌, ◌≤◌, ◌<◌, List, [], ◌∷◌, ◌++◌, Option, Some, None, option_map, refl, sym, ◌∙◌, ap, subst, arith}
 use Rattle.std.proofs.lemmas.Bool.{cases_eq}
 use Rattle.std.proofs.lemmas.List.{append-nil}
 use Rattle.il_machine.specs.declared.header.HeaderState.{HeaderState}
+use Rattle.il_machine.specs.declared.header.Owner.TheVariants as owners
 use Rattle.il_machine.specs.declared.port.PortKey.{PortKey}
 use Rattle.il_machine.specs.World.{HeaderRecord, World}
-use Rattle.il_machine.specs.Headers.{is_for, find_header, without, no_load, state_of, Once}
+use Rattle.il_machine.specs.Headers.{is_for, find_header, without, empty_load, state_of, Once}
 use Rattle.il_machine.specs.Look.{look}
 use Rattle.il_machine.specs.Trails.{Unmade, With, Move, moved, trail, home_stop, HasTrail, HaveTrails}
 use Rattle.machine_laws.proofs.Finding.{push_last, push_else, once_push, without_else, without_same, once_without}
 use Rattle.machine_laws.proofs.Replacing.{IsReplaced}
 use Rattle.machine_laws.proofs.Keys.{none_or_some}
+use Rattle.history_laws.specs.Memory.{memory_of}
 use Rattle.history_laws.proofs.Owners.{Settles}
 use Rattle.history_laws.proofs.Trails.{NoWork, trail_more, trail_own, trail_other, trail_begins, trail_on, trail_ends, has_same}
 
@@ -23,8 +25,9 @@ pub record IsStill (w : World) (ms : List Move) (v : World) : Type 0 where
 -- a header is made, to home
 pub record IsMade (w : World) (ms : List Move) (v : World) : Type 0 where
   pub state : HeaderState
+  pub memory : Option (List ℕ)
   pub number : state.number ≡ w.made
-  pub headers : v.headers ≡ w.headers ++ record { state = state; load = no_load } ∷ []
+  pub headers : v.headers ≡ w.headers ++ record { state = state; load = empty_load memory } ∷ []
   pub made : v.made ≡ w.made + 1
   pub home : With state.owner ≡ home_stop state.home
   pub moves : ms ≡ moved w.made Unmade (With state.owner)
@@ -50,6 +53,8 @@ pub record IsMoved (w : World) (ms : List Move) (v : World) : Type 0 where
   pub made_for : (key : PortKey) → is_for key now.state ≡ is_for key was.state
   pub from : NoWork (was.state).owner
   pub to : NoWork (now.state).owner
+  -- it comes from the client, or its memory stays
+  pub memory : ((was.state).owner ≡ owners.Client) ⊎ (memory_of now ≡ memory_of was)
   pub moves : ms ≡ moved number (With (was.state).owner) (With (now.state).owner)
 
 pub data Carried (w : World) (ms : List Move) (v : World) : Type 0 where
@@ -88,7 +93,7 @@ left n w v ms m T a f = has_trail n v (find_header n w.headers) (trail n (ms ++ 
 
 made_trails : (w v : World) (old ms : List Move) → Once w.headers → AreBelow w → HaveTrails w old → IsMade w ms v → HaveTrails v (old ++ ms) × Once v.headers
 made_trails w v old ms o B T M =
-    let r : HeaderRecord = record { state = M.state; load = no_load } in
+    let r : HeaderRecord = record { state = M.state; load = empty_load M.memory } in
     let m : Move = record { header = w.made; from = Unmade; to = With (M.state).owner } in
     let fresh : find_header r.state.number w.headers ≡ None = rw M.number (none_made w B) in
     let e = M.moves in

@@ -72,7 +72,7 @@ taken number n to end e =
 not_from : (number n : ℕ) (from to end : Stop) → from ≢ client_stop → moved n from to ≢ moved number client_stop end
 not_from number n from to end a e = not_moved number from to end (n ∷ []) a e
 
-takes : (w : World) (a : Act) (r : Reply) (number : ℕ) (end : Stop) → moves w a r ≡ moved number client_stop end → taken_in a r ≡ Some number
+pub takes : (w : World) (a : Act) (r : Reply) (number : ℕ) (end : Stop) → moves w a r ≡ moved number client_stop end → taken_in a r ≡ Some number
 takes w (acts.AllocateBuffer h port) (acts.Allocated (Ok header)) number end e = absurd (not_from number header.number Unmade client_stop end (λ k. absurd cc) e)
 takes w (acts.UseBuffer h port bytes) (acts.Used (Ok header)) number end e = absurd (not_from number header.number Unmade client_stop end (λ k. absurd cc) e)
 takes w (acts.FreeBuffer h port header) (acts.Freed (Ok memory)) number end e = taken number header Unmade end e

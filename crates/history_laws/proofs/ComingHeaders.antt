@@ -1,5 +1,5 @@
 -- No header comes to the client but the one that an act gives, and one that was taken in isn't with it.
-use Rattle.std.proofs.Common.{◌≡◌, ◌≢◌, inl, inr, ℕ, List, [], ◌∷◌, ◌++◌, Option, Some, None, Ok, All, option_map, refl, sym, ◌∙◌, ap, subst}
+use Rattle.std.proofs.Common.{◌≡◌, ◌≢◌, inl, inr, ℕ, List, [], ◌∷◌, ◌++◌, Option, Some, None, Ok, All, option_map, sym, ◌∙◌, ap, subst}
 use Rattle.std.proofs.lemmas.Bool.{cases_eq}
 use Rattle.std.proofs.lemmas.List.Elements.{All-head, All-tail}
 use Rattle.il_machine.specs.declared.header.HeaderState.{HeaderState}
@@ -9,7 +9,7 @@ use Rattle.il_machine.specs.declared.header.Place.TheVariants.{Out}
 use Rattle.il_machine.specs.declared.port.Link.{Link}
 use Rattle.il_machine.specs.declared.port.Port.{Port}
 use Rattle.il_machine.specs.World.{HeaderRecord, World}
-use Rattle.il_machine.specs.Headers.{find_header, state_of, without, no_load, Once}
+use Rattle.il_machine.specs.Headers.{find_header, state_of, without, empty_load, Once}
 use Rattle.il_machine.specs.Look.{look}
 use Rattle.il_machine.specs.Due.{ClosesTo}
 use Rattle.il_machine.specs.Notes.{TakenEmpty, TakenFilled, TookNote}
@@ -109,7 +109,7 @@ module _ (w v : World) (ms : List Move) (number : ℕ) (r : HeaderRecord) (f : f
   carried_back : Once w.headers → AreBelow w → Carried w ms v → ((start : Stop) → ms ≢ moved number start client_stop) → find_header number w.headers ≡ Some r
   carried_back once B (Still S) n = ap (find_header number) (sym S.headers) ∙ f
   carried_back once B (Made M) n =
-      let x : HeaderRecord = record { state = M.state; load = no_load } in
+      let x : HeaderRecord = record { state = M.state; load = empty_load M.memory } in
       let none : find_header (M.state).number w.headers ≡ None = ap (λ (k : ℕ). find_header k w.headers) M.number ∙ none_made w B in
       elim (cases_eq number (M.state).number) [
         | inl is ↦

@@ -47,7 +47,7 @@ found_is : {T : Type 0} (o : Option T) (x : T) (w : World) (change : T → World
 found_is o x w change e = rw e refl
 
 -- what the handle names, for the effect of an act
-named_is : (w : World) (h : Handle) (i : ℕ) (c : Component) (change : ℕ → Component → World) → place_of h w.components ≡ Some i → slice_get w.components i ≡ Some c → at_named h w change ≡ change i c
+pub named_is : (w : World) (h : Handle) (i : ℕ) (c : Component) (change : ℕ → Component → World) → place_of h w.components ≡ Some i → slice_get w.components i ≡ Some c → at_named h w change ≡ change i c
 named_is w h i c change p t = rw (p, t) refl
 
 still : (w v : World) → v.headers ≡ w.headers → v.made ≡ w.made → Carried w [] v

@@ -1,5 +1,5 @@
 -- What acts and the close-out leave of each component's handle, client object, state and pending transition.
-use Rattle.std.proofs.Common.{◌≡◌, ◌⊎◌, inl, inr, ℕ, zero, suc, Bool, true, not, ◌||◌, List, [], ◌∷◌, set, remove, slice_get, Option, Some, None, All, Ok, refl, sym, ◌∙◌, ap, subst}
+use Rattle.std.proofs.Common.{◌≡◌, ◌⊎◌, inl, inr, ℕ, zero, suc, Bool, List, [], ◌∷◌, set, remove, slice_get, Option, Some, None, All, Ok, refl, sym, subst}
 use Rattle.omx_types.specs.declared.state.State.{State}
 use Rattle.omx_types.specs.declared.handle.Handle.{Handle}
 use Rattle.omx_types.specs.declared.command.Command.{Command}
@@ -20,7 +20,7 @@ use Rattle.il_machine.specs.Due.{Thing, Transition, Flush, PortMode, WaitingMark
 use Rattle.il_machine.specs.Commands.{is_at_once, invalidated, sent, run_front}
 use Rattle.il_machine.specs.Buffers.{is_unpopulating, unpopulated}
 use Rattle.il_machine.specs.Notes.{TakenEvent, TakenEmpty, TakenFilled, TookNote, first_taken, back_in}
-use Rattle.il_machine.specs.Flow.{in_port, front_unmade, front_put, handed_over, at_link, handed_back, returned, unused_spot, noticed}
+use Rattle.il_machine.specs.Flow.{in_port, front_unmade, front_put, at_link, handed_back, returned, unused_spot, noticed}
 use Rattle.il_machine.specs.Acts.{Act, Reply}
 use Rattle.il_machine.specs.Acts as acts
 use Rattle.il_machine.specs.Effect.{changed_at, at_named, at_named_port, at_both, effect}

@@ -50,6 +50,7 @@ supply w h port result v a =
       silent = silent_same w mid refl refl refl;
       carried = Made (record {
         state = tunnel_header w.made p (link.0).peer;
+        memory = None;
         number = refl;
         headers = ap (λ (o : Option Link). w.headers ++ supplied_by w.made p o) is;
         made = refl;

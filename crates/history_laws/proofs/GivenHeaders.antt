@@ -11,7 +11,7 @@ use Rattle.il_machine.specs.declared.header.HeaderState.{HeaderState}
 use Rattle.il_machine.specs.declared.header.Owner.TheVariants as owners
 use Rattle.il_machine.specs.declared.port.Port.{Port}
 use Rattle.il_machine.specs.World.{Component, HeaderRecord, World, number_of, place_of, port_of}
-use Rattle.il_machine.specs.Headers.{find_header, state_of, state_given, given_to, no_load}
+use Rattle.il_machine.specs.Headers.{find_header, state_of, state_given, given_to, empty_load, Once}
 use Rattle.il_machine.specs.Look.{look}
 use Rattle.il_machine.specs.Due.{ClosesTo}
 use Rattle.il_machine.specs.Answers.{plain, Resolving, Answers, AnswersOrMemory}
@@ -27,23 +27,28 @@ use Rattle.machine_laws.proofs.Keys.{there_is, is_there}
 use Rattle.machine_laws.proofs.Parts.{parts_of}
 use Rattle.machine_laws.proofs.Steps.{HandsIn, hands_in, sound_after}
 use Rattle.history_laws.specs.ClientHeaders.{IsClients, header_in, given_out, IsGiven}
+use Rattle.history_laws.specs.Memory.{memory_of, HasMemory}
 use Rattle.history_laws.proofs.Closing.{times_settle}
 use Rattle.history_laws.proofs.Carried.{none_made}
 use Rattle.history_laws.proofs.Homes.{noted_owner}
+use Rattle.history_laws.proofs.Outcome.{IsNamed, same_number}
 use Rattle.history_laws.proofs.BufferSteps.{empty_first, filled_first}
 use Rattle.history_laws.proofs.ClientHeaders.{settled_clients}
 
 -- ---- an answer Ok
 
 module _ {T E : Type 0} (refuse : OmxError → E) (w v : World) (h : Handle) (x : T) where
-  at_place : (o : Option ℕ) (Then : ℕ → Component → Type 0) → MatchOption o ((Ok x ≡ Err (refuse errors.InvalidComponent)) × (v ≡ w)) (λ i. MatchOption (slice_get w.components i) ⊥ (λ c. Then i c)) → (i : ℕ) × (c : Component) × (slice_get w.components i ≡ Some c) × Then i c
-  at_place None Then a = let e = a.0 in absurd cc
-  at_place (Some i) Then a = let c = there_is (slice_get w.components i) (λ c. Then i c) a in (i, c.0, c.1, c.2)
+  at_place : (o : Option ℕ) (Then : ℕ → Component → Type 0) → place_of h w.components ≡ o → MatchOption o ((Ok x ≡ Err (refuse errors.InvalidComponent)) × (v ≡ w)) (λ i. MatchOption (slice_get w.components i) ⊥ (λ c. Then i c))
+      → (i : ℕ) × (c : Component) × IsNamed w h i c × Then i c
+  at_place None Then p a = let e = a.0 in absurd cc
+  at_place (Some i) Then p a =
+      let c = there_is (slice_get w.components i) (λ c. Then i c) a in
+      (i, c.0, record { place = p; there = c.1; number = same_number w h i c.0 p c.1 }, c.2)
 
-  resolved : (Then : ℕ → Component → Type 0) → Resolving refuse w h (Ok x) v Then → (i : ℕ) × (c : Component) × (slice_get w.components i ≡ Some c) × Then i c
-  resolved Then a = at_place (place_of h w.components) Then a
+  pub resolved : (Then : ℕ → Component → Type 0) → Resolving refuse w h (Ok x) v Then → (i : ℕ) × (c : Component) × IsNamed w h i c × Then i c
+  resolved Then a = at_place (place_of h w.components) Then refl a
 
-accepted : {T : Type 0} (o : Option OmxError) (x : T) (w v : World) (Accepted : T → Type 0) → Answers o (Ok x) w v Accepted → Accepted x
+pub accepted : {T : Type 0} (o : Option OmxError) (x : T) (w v : World) (Accepted : T → Type 0) → Answers o (Ok x) w v Accepted → Accepted x
 accepted (Some error) x w v Accepted a = let e = a.0 in absurd cc
 accepted None x w v Accepted a = a
 
@@ -51,22 +56,36 @@ accepted_or_memory : {T : Type 0} (o : Option OmxError) (x : T) (w v : World) (A
 accepted_or_memory (Some error) x w v Accepted a = let e = a.0 in absurd cc
 accepted_or_memory None x w v Accepted a = a
 
+-- the close-out leaves each header its memory
+pub closed_memory : (w v : World) (number : ℕ) (memory : Option (List ℕ)) → Once w.headers → ClosesTo w v → HasMemory w number memory → HasMemory v number memory
+closed_memory w v number memory o C H = (times_settle C.steps w v C.by_steps o).memories number ∙ H
+
 -- ---- a header that is made
 
-pub made_clients : (w v : World) (p : Port) (client_memory : Bool) (header : Held) → Sound w → Sound v → header ≡ held_of (client_header w.made p client_memory) no_load → ClosesTo (with_header (client_header w.made p client_memory) w) v
+pub made_clients : (w v : World) (p : Port) (client_memory : Bool) (memory : Option (List ℕ)) (header : Held) → Sound w → Sound v → header ≡ held_of (client_header w.made p client_memory) (empty_load memory) → ClosesTo (with_header (client_header w.made p client_memory) memory w) v
     → IsClients (look v) header.number (client_header w.made p client_memory)
-made_clients w v p client_memory header S Z e C =
+made_clients w v p client_memory memory header S Z e C =
     let s = client_header w.made p client_memory in
-    let mid = with_header s w in
-    let r : HeaderRecord = record { state = s; load = no_load } in
+    let mid = with_header s memory w in
+    let r : HeaderRecord = record { state = s; load = empty_load memory } in
     let none : find_header r.state.number w.headers ≡ None = none_made w (parts_of w S).below in
     let n : header.number ≡ w.made = ap (λ (x : Held). x.number) e in
     let once = once_push w.headers r S.once none in
     subst (λ (k : ℕ). IsClients (look v) k s) (sym n) (settled_clients mid v w.made r Z (times_settle C.steps mid v C.by_steps once) (push_last w.headers r none) refl refl)
 
+made_memory : (w v : World) (p : Port) (client_memory : Bool) (memory : Option (List ℕ)) (header : Held) → Sound w → header ≡ held_of (client_header w.made p client_memory) (empty_load memory)
+    → ClosesTo (with_header (client_header w.made p client_memory) memory w) v → HasMemory v header.number header.memory
+made_memory w v p client_memory memory header S e C =
+    let s = client_header w.made p client_memory in
+    let mid = with_header s memory w in
+    let r : HeaderRecord = record { state = s; load = empty_load memory } in
+    let none : find_header r.state.number w.headers ≡ None = none_made w (parts_of w S).below in
+    subst (λ (h : Held). HasMemory v h.number h.memory) (sym e)
+    (closed_memory mid v w.made memory (once_push w.headers r S.once none) C (ap (option_map memory_of) (push_last w.headers r none)))
+
 -- no header had its number
-none_before : (w : World) (p : Port) (client_memory : Bool) (header : Held) → Sound w → header ≡ held_of (client_header w.made p client_memory) no_load → (was : HeaderState) → ¬ (IsClients (look w) header.number was)
-none_before w p client_memory header S e was H =
+none_before : (w : World) (p : Port) (client_memory : Bool) (memory : Option (List ℕ)) (header : Held) → Sound w → header ≡ held_of (client_header w.made p client_memory) (empty_load memory) → (was : HeaderState) → ¬ (IsClients (look w) header.number was)
+none_before w p client_memory memory header S e was H =
     let n : header.number ≡ w.made = ap (λ (x : Held). x.number) e in
     let none : find_header header.number w.headers ≡ None = ap (λ (k : ℕ). find_header k w.headers) n ∙ none_made w (parts_of w S).below in
     let a : None ≡ Some was = sym (ap (option_map state_of) none) ∙ H.0 in
@@ -79,9 +98,10 @@ allocated w h port header v S Z a =
     let p = there_is (port_of x.1 port) _ y in
     record {
       state = client_header w.made p.0 false;
-      clients = made_clients w v p.0 false header S Z p.2.0 p.2.1;
-      new = none_before w p.0 false header S p.2.0;
+      clients = made_clients w v p.0 false None header S Z p.2.0 p.2.1;
+      new = none_before w p.0 false None header S p.2.0;
       size = ap (λ (k : Held). k.size) p.2.0;
+      memory = made_memory w v p.0 false None header S p.2.0 p.2.1;
       made = refl;
     }
 
@@ -92,9 +112,10 @@ used w h port bytes header v S Z a =
     let p = there_is (port_of x.1 port) _ y in
     record {
       state = client_header w.made p.0 true;
-      clients = made_clients w v p.0 true header S Z p.2.0 p.2.1;
-      new = none_before w p.0 true header S p.2.0;
+      clients = made_clients w v p.0 true (Some bytes) header S Z p.2.0 p.2.1;
+      new = none_before w p.0 true (Some bytes) header S p.2.0;
       size = ap (λ (k : Held). k.size) p.2.0;
+      memory = made_memory w v p.0 true (Some bytes) header S p.2.0 p.2.1;
       made = refl;
     }
 
@@ -173,6 +194,8 @@ note_given w v h header S Z N =
       clients = subst (λ (k : ℕ). IsClients (look v) k s) (sym n) (settled_clients mid v N.number (given_to owners.Client N.was) Z (times_settle C.steps mid v C.by_steps once) f refl refl);
       new = not_clients w v header N n;
       size = ap (λ (x : Held). x.size) (sym N.is);
+      memory = subst (λ (k : ℕ). HasMemory v k header.memory) (sym n)
+          (closed_memory mid v N.number header.memory once C (ap (option_map memory_of) f ∙ ap (λ (x : Held). Some x.memory) N.is));
       made = subst (λ (k : ℕ). AtState k (look w) (λ was. s ≡ state_given owners.Client was)) (sym n)
           (is_there ((look w).headers.header N.number) (λ was. s ≡ state_given owners.Client was) (N.was).state known refl);
     }
@@ -180,7 +203,7 @@ note_given w v h header S Z N =
 took : (w : World) (h : Handle) (taken : Taken) (header : Held) (v : World) → Sound w → Sound v → Step w (acts.TakeNote h) (acts.Took (Ok (TookNote taken))) v → header_in taken ≡ Some header → IsGiven w (acts.TakeNote h) v header
 took w h taken header v S Z a e =
     let x = resolved plain w v h (TookNote taken) _ a in
-    note_given w v h header S Z (in_note w v x.0 x.1 x.1.client_out (slice_get x.1.notes 0) taken header S x.2 refl x.3 e)
+    note_given w v h header S Z (in_note w v x.0 x.1 x.1.client_out (slice_get x.1.notes 0) taken header S (x.2).there refl x.3 e)
 
 -- ---- all
 

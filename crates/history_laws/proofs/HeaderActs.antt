@@ -1,5 +1,5 @@
 -- The acts that move headers: none of them tells a completion or changes a state, and each moves one header at most.
-use Rattle.std.proofs.Common.{◌≡◌, inl, ℕ, Bool, true, false, List, [], ◌∷◌, ◌++◌, slice_get, Option, Some, None, refl, sym, ◌∙◌, ap, subst}
+use Rattle.std.proofs.Common.{◌≡◌, inl, inr, ℕ, Bool, true, false, List, [], ◌∷◌, ◌++◌, slice_get, Option, Some, None, refl, sym, ◌∙◌, ap, subst}
 use Rattle.std.specs.Prelude.{Contains}
 use Rattle.omx_types.specs.declared.handle.Handle.{Handle}
 use Rattle.omx_types.specs.declared.command.Completion.{Completion}
@@ -19,6 +19,7 @@ use Rattle.il_machine.specs.Flow.{front_put, at_link, in_port, front_unmade, don
 use Rattle.il_machine.specs.Trails.{Unmade, With, front_move, port_stop, home_stop, key_of, port_named, over, back}
 use Rattle.machine_laws.proofs.Replacing.{replaced_changed, replaced_put}
 use Rattle.machine_laws.proofs.Lookups.{port_parts}
+use Rattle.history_laws.specs.Memory.{memory_of}
 use Rattle.history_laws.proofs.Growth.{grows_by, none_in}
 use Rattle.history_laws.proofs.Quiet.{Nothing as Silent}
 use Rattle.history_laws.proofs.Births.{TellsNothing, silent_same, silent_set}
@@ -33,10 +34,10 @@ work_of_port : (key : PortKey) (o : Owner) → o ≡ owners.Port key → NoWork 
 work_of_port key o e = subst NoWork (sym e) tt
 
 -- it is put into a list of another port
-pub front_moves : (w : World) (key peer : PortKey) (spot : Spot) (change : HeaderRecord → HeaderRecord) (ns : List ℕ) → ((r : HeaderRecord) → (change r).state ≡ r.state) → Once w.headers → AreIn key ns w.headers
-    → Carried w (front_move (port_stop key) (port_stop peer) ns) (front_put peer spot change ns w)
-front_moves w key peer spot change [] keeps o A = Still (record { headers = refl; made = refl; moves = refl })
-front_moves w key peer spot change (n ∷ ns) keeps o A =
+pub front_moves : (w : World) (key peer : PortKey) (spot : Spot) (change : HeaderRecord → HeaderRecord) (ns : List ℕ) → ((r : HeaderRecord) → (change r).state ≡ r.state) → ((r : HeaderRecord) → memory_of (change r) ≡ memory_of r)
+    → Once w.headers → AreIn key ns w.headers → Carried w (front_move (port_stop key) (port_stop peer) ns) (front_put peer spot change ns w)
+front_moves w key peer spot change [] keeps remembers o A = Still (record { headers = refl; made = refl; moves = refl })
+front_moves w key peer spot change (n ∷ ns) keeps remembers o A =
     let r = (A.0).0 in
     let f = (A.0).1 in
     let own = (A.0).2 in
@@ -50,6 +51,7 @@ front_moves w key peer spot change (n ∷ ns) keeps o A =
       made_for = λ k. ap (is_for k) (keeps r);
       from = work_of_port key r.state.owner own;
       to = tt;
+      memory = inr (remembers r);
       moves = rw own refl;
     })
 
@@ -71,6 +73,7 @@ noted_header i c p w (n ∷ ns) o A k =
       made_for = λ k. refl;
       from = work_of_port p.key r.state.owner own;
       to = tt;
+      memory = inr refl;
       moves = rw (own, k) refl;
     })
 
@@ -96,12 +99,12 @@ front_ends w key (n ∷ ns) A h =
 
 pub over_moves : (w : World) (p : Port) (link : Option Link) → Once w.headers → Carried w (over w p link) (at_link link (λ peer. front_put peer TodoBack unchanged ((seen w.headers).done p.key)) w)
 over_moves w p None o = Still (record { headers = refl; made = refl; moves = refl })
-over_moves w p (Some link) o = front_moves w p.key link.peer TodoBack unchanged ((seen w.headers).done p.key) (λ r. refl) o (in_done_of p.key w.headers o)
+over_moves w p (Some link) o = front_moves w p.key link.peer TodoBack unchanged ((seen w.headers).done p.key) (λ r. refl) (λ r. refl) o (in_done_of p.key w.headers o)
 
 returned_moves : (w : World) (key peer : PortKey) (b : Bool) (done todo : List ℕ) → Once w.headers → AreIn key done w.headers → AreIn key todo w.headers
     → Carried w (front_move (port_stop key) (port_stop peer) (done ++ todo)) (returned peer b done todo w)
-returned_moves w key peer b [] todo o A B = front_moves w key peer _ cleared todo (λ r. refl) o B
-returned_moves w key peer b (n ∷ done) todo o A B = front_moves w key peer TodoBack unchanged (n ∷ done) (λ r. refl) o A
+returned_moves w key peer b [] todo o A B = front_moves w key peer _ cleared todo (λ r. refl) (λ r. refl) o B
+returned_moves w key peer b (n ∷ done) todo o A B = front_moves w key peer TodoBack unchanged (n ∷ done) (λ r. refl) (λ r. refl) o A
 
 pub back_moves : (i : ℕ) (c : Component) (p : Port) (w : World) (link : Option Link) → Once w.headers → p.key.component ≡ number_of c → Carried w (back w p link) (put_back i c p link w)
 back_moves i c p w None o k = noted_header i c p w ((seen w.headers).todo p.key) o (in_todo_of p.key w.headers o) k

@@ -1,4 +1,4 @@
--- The key of a world's headers stays in each step.
+-- The key of a world's headers stays in each step, and what was given stays in each act but two.
 use Rattle.std.proofs.Common.{◌≡◌, ℕ, zero, suc, Bool, List, [], ◌∷◌, Option, Some, None, Ok, refl, sym, ◌∙◌, ap, subst}
 use Rattle.omx_types.specs.declared.handle.Handle.{Handle}
 use Rattle.il_machine.specs.declared.answer.Acted.TheVariants.{Did}
@@ -55,75 +55,95 @@ closing_key w v C = times_key C.steps w v C.by_steps
 
 -- ---- what an act makes of a world
 
-at_key : {T : Type 0} (o : Option T) (w : World) (change : T → World) → ((x : T) → HasKeyOf w (change x)) → HasKeyOf w (changed_at o w change)
-at_key None w change k = refl
-at_key (Some x) w change k = k x
+-- the key stays, and all that was given
+abbrev Stays : World → World → Type 0
+Stays w v = HasKeyOf w v × (v.given ≡ w.given)
 
-named_key : (h : Handle) (w : World) (change : ℕ → Component → World) → ((i : ℕ) (c : Component) → HasKeyOf w (change i c)) → HasKeyOf w (at_named h w change)
-named_key h w change k = at_key (place_of h w.components) w _ (λ i. at_key _ w (λ c. change i c) (λ c. k i c))
+-- all that was given stays; nothing is said of an act that gives a note or frees a component
+abbrev pub LeavesGiven : Act → Reply → World → World → Type 0
+LeavesGiven (acts.FreeHandle h) (acts.Plain (Ok done)) w v = Unit {0}
+LeavesGiven (acts.TakeNote h) (acts.Took (Ok (TookNote taken))) w v = Unit {0}
+LeavesGiven _ _ w v = v.given ≡ w.given
 
-on_port_key : (h : Handle) (port : ℕ) (w : World) (change : ℕ → Component → Port → World) → ((i : ℕ) (c : Component) (p : Port) → HasKeyOf w (change i c p)) → HasKeyOf w (at_named_port h port w change)
-on_port_key h port w change k = named_key h w _ (λ i c. at_key (port_of c port) w (λ p. change i c p) (λ p. k i c p))
+module _ (R : World → World → Type 0) (same : (w : World) → R w w) where
+  at_there : {T : Type 0} (o : Option T) (w : World) (change : T → World) → ((x : T) → R w (change x)) → R w (changed_at o w change)
+  at_there None w change k = same w
+  at_there (Some x) w change k = k x
 
-both_key : (p q : Option Port) (w : World) (change : Port → Port → World) → ((a b : Port) → HasKeyOf w (change a b)) → HasKeyOf w (at_both p q w change)
-both_key p q w change k = at_key p w _ (λ a. at_key q w (λ b. change a b) (λ b. k a b))
+  on_named : (h : Handle) (w : World) (change : ℕ → Component → World) → ((i : ℕ) (c : Component) → R w (change i c)) → R w (at_named h w change)
+  on_named h w change k = at_there (place_of h w.components) w _ (λ i. at_there _ w (λ c. change i c) (λ c. k i c))
 
-unmade_key : (ns : List ℕ) (w : World) → HasKeyOf w (front_unmade ns w)
-unmade_key [] w = refl
-unmade_key (n ∷ ns) w = refl
+stays : (w : World) → Stays w w
+stays w = (refl, refl)
 
-link_key : (o : Option Link) (change : PortKey → World → World) (w : World) → ((k : PortKey) → HasKeyOf w (change k w)) → HasKeyOf w (at_link o change w)
-link_key None change w k = refl
-link_key (Some link) change w k = k link.peer
+key_named : (h : Handle) (w : World) (change : ℕ → Component → World) → ((i : ℕ) (c : Component) → HasKeyOf w (change i c)) → HasKeyOf w (at_named h w change)
+key_named h w change k = on_named HasKeyOf (λ w. refl) h w change k
 
-put_key : (key : PortKey) (spot : Spot) (change : HeaderRecord → HeaderRecord) (ns : List ℕ) (w : World) → HasKeyOf w (front_put key spot change ns w)
-put_key key spot change [] w = refl
-put_key key spot change (n ∷ ns) w = refl
+named_stays : (h : Handle) (w : World) (change : ℕ → Component → World) → ((i : ℕ) (c : Component) → Stays w (change i c)) → Stays w (at_named h w change)
+named_stays h w change k = on_named Stays stays h w change k
 
-over_key : (p : Port) (w : World) → HasKeyOf w (handed_over p w)
-over_key p w = link_key p.state.link _ w (λ k. put_key k TodoBack unchanged ((seen w.headers).done p.key) w)
+port_stays : (h : Handle) (port : ℕ) (w : World) (change : ℕ → Component → Port → World) → ((i : ℕ) (c : Component) (p : Port) → Stays w (change i c p)) → Stays w (at_named_port h port w change)
+port_stays h port w change k = named_stays h w _ (λ i c. at_there Stays stays (port_of c port) w (λ p. change i c p) (λ p. k i c p))
 
-returned_key : (key : PortKey) (input : Bool) (done todo : List ℕ) (w : World) → HasKeyOf w (returned key input done todo w)
-returned_key key input [] todo w = put_key key (unused_spot input) cleared todo w
-returned_key key input (n ∷ ns) todo w = refl
+both_stay : (p q : Option Port) (w : World) (change : Port → Port → World) → ((a b : Port) → Stays w (change a b)) → Stays w (at_both p q w change)
+both_stay p q w change k = at_there Stays stays p w _ (λ a. at_there Stays stays q w (λ b. change a b) (λ b. k a b))
 
-noticed_key : (i : ℕ) (c : Component) (p : Port) (todo : List ℕ) (w : World) → HasKeyOf w (noticed i c p todo w)
-noticed_key i c p [] w = refl
-noticed_key i c p (n ∷ ns) w = refl
+unmade_stays : (ns : List ℕ) (w : World) → Stays w (front_unmade ns w)
+unmade_stays [] w = stays w
+unmade_stays (n ∷ ns) w = (refl, refl)
 
-back_key : (i : ℕ) (c : Component) (p : Port) (o : Option Link) (w : World) → HasKeyOf w (handed_back i c p o w)
-back_key i c p None w = noticed_key i c p ((seen w.headers).todo p.key) w
-back_key i c p (Some link) w = returned_key link.peer (is_input_port p) ((seen w.headers).done p.key) ((seen w.headers).todo p.key) w
+link_stays : (o : Option Link) (change : PortKey → World → World) (w : World) → ((k : PortKey) → Stays w (change k w)) → Stays w (at_link o change w)
+link_stays None change w k = stays w
+link_stays (Some link) change w k = k link.peer
 
-effect_key : (w : World) (a : Act) (r : Reply) → HasKeyOf w (effect w a r)
-effect_key w (acts.GetHandle name) (acts.Got (Ok h)) = at_key (kind_of name) w _ (λ kind. refl)
-effect_key w (acts.FreeHandle h) (acts.Plain (Ok done)) = named_key h w _ (λ i c. refl)
-effect_key w (acts.SetParameter h key value) (acts.Plain (Ok done)) = named_key h w _ (λ i c. refl)
-effect_key w (acts.SetConfig h key value) (acts.Plain (Ok done)) = named_key h w _ (λ i c. refl)
-effect_key w (acts.SetupTunnel output input) (acts.Joined (Ok supplier)) =
-    named_key output.handle w _ (λ i c. named_key input.handle w _ (λ j d. both_key (port_of c output.index) (port_of d input.index) w _ (λ p q. refl)))
-effect_key w (acts.DropTunnel output input) (acts.Plain (Ok done)) =
-    named_key output.handle w _ (λ i c. named_key input.handle w _ (λ j d. both_key (port_of c output.index) (port_of d input.index) w _ (λ p q. refl)))
-effect_key w (acts.SendCommand h command) (acts.Plain (Ok done)) = named_key h w _ (λ i c. refl)
-effect_key w (acts.RunCommand h) (acts.Acted (Ok Did)) = named_key h w _ (λ i c. refl)
-effect_key w (acts.AllocateBuffer h port) (acts.Allocated (Ok header)) = on_port_key h port w _ (λ i c p. refl)
-effect_key w (acts.UseBuffer h port bytes) (acts.Used (Ok header)) = on_port_key h port w _ (λ i c p. refl)
-effect_key w (acts.FreeBuffer h port header) (acts.Freed (Ok memory)) = on_port_key h port w _ (λ i c p. refl)
-effect_key w (acts.EmptyThisBuffer h port header) (acts.Plain (Ok done)) = on_port_key h port w _ (λ i c p. refl)
-effect_key w (acts.FillThisBuffer h port header) (acts.Plain (Ok done)) = on_port_key h port w _ (λ i c p. refl)
-effect_key w (acts.TakeNote h) (acts.Took (Ok (TookNote (TakenEvent event)))) = named_key h w _ (λ i c. refl)
-effect_key w (acts.TakeNote h) (acts.Took (Ok (TookNote (TakenEmpty header)))) = named_key h w _ (λ i c. refl)
-effect_key w (acts.TakeNote h) (acts.Took (Ok (TookNote (TakenFilled header)))) = named_key h w _ (λ i c. refl)
-effect_key w (acts.EndNote h progress) acts.Ended = named_key h w _ (λ i c. refl)
-effect_key w (acts.Supply h port) (acts.Supplied (Ok Did)) = on_port_key h port w _ (λ i c p. refl)
-effect_key w (acts.Release h port) (acts.Acted (Ok Did)) = on_port_key h port w _ (λ i c p. unmade_key (in_port (seen w.headers) p) w)
-effect_key w (acts.HandOver h port) (acts.Acted (Ok Did)) = on_port_key h port w _ (λ i c p. over_key p w)
-effect_key w (acts.HandBack h port) (acts.Acted (Ok Did)) = on_port_key h port w _ (λ i c p. back_key i c p p.state.link w)
-effect_key w _ _ = refl
+put_stays : (key : PortKey) (spot : Spot) (change : HeaderRecord → HeaderRecord) (ns : List ℕ) (w : World) → Stays w (front_put key spot change ns w)
+put_stays key spot change [] w = stays w
+put_stays key spot change (n ∷ ns) w = (refl, refl)
+
+over_stays : (p : Port) (w : World) → Stays w (handed_over p w)
+over_stays p w = link_stays p.state.link _ w (λ k. put_stays k TodoBack unchanged ((seen w.headers).done p.key) w)
+
+returned_stays : (key : PortKey) (input : Bool) (done todo : List ℕ) (w : World) → Stays w (returned key input done todo w)
+returned_stays key input [] todo w = put_stays key (unused_spot input) cleared todo w
+returned_stays key input (n ∷ ns) todo w = (refl, refl)
+
+noticed_stays : (i : ℕ) (c : Component) (p : Port) (todo : List ℕ) (w : World) → Stays w (noticed i c p todo w)
+noticed_stays i c p [] w = stays w
+noticed_stays i c p (n ∷ ns) w = (refl, refl)
+
+back_stays : (i : ℕ) (c : Component) (p : Port) (o : Option Link) (w : World) → Stays w (handed_back i c p o w)
+back_stays i c p None w = noticed_stays i c p ((seen w.headers).todo p.key) w
+back_stays i c p (Some link) w = returned_stays link.peer (is_input_port p) ((seen w.headers).done p.key) ((seen w.headers).todo p.key) w
+
+pub effect_leaves : (w : World) (a : Act) (r : Reply) → HasKeyOf w (effect w a r) × LeavesGiven a r w (effect w a r)
+effect_leaves w (acts.GetHandle name) (acts.Got (Ok h)) = at_there Stays stays (kind_of name) w _ (λ kind. (refl, refl))
+effect_leaves w (acts.FreeHandle h) (acts.Plain (Ok done)) = (key_named h w _ (λ i c. refl), tt)
+effect_leaves w (acts.SetParameter h key value) (acts.Plain (Ok done)) = named_stays h w _ (λ i c. (refl, refl))
+effect_leaves w (acts.SetConfig h key value) (acts.Plain (Ok done)) = named_stays h w _ (λ i c. (refl, refl))
+effect_leaves w (acts.SetupTunnel output input) (acts.Joined (Ok supplier)) =
+    named_stays output.handle w _ (λ i c. named_stays input.handle w _ (λ j d. both_stay (port_of c output.index) (port_of d input.index) w _ (λ p q. (refl, refl))))
+effect_leaves w (acts.DropTunnel output input) (acts.Plain (Ok done)) =
+    named_stays output.handle w _ (λ i c. named_stays input.handle w _ (λ j d. both_stay (port_of c output.index) (port_of d input.index) w _ (λ p q. (refl, refl))))
+effect_leaves w (acts.SendCommand h command) (acts.Plain (Ok done)) = named_stays h w _ (λ i c. (refl, refl))
+effect_leaves w (acts.RunCommand h) (acts.Acted (Ok Did)) = named_stays h w _ (λ i c. (refl, refl))
+effect_leaves w (acts.AllocateBuffer h port) (acts.Allocated (Ok header)) = port_stays h port w _ (λ i c p. (refl, refl))
+effect_leaves w (acts.UseBuffer h port bytes) (acts.Used (Ok header)) = port_stays h port w _ (λ i c p. (refl, refl))
+effect_leaves w (acts.FreeBuffer h port header) (acts.Freed (Ok memory)) = port_stays h port w _ (λ i c p. (refl, refl))
+effect_leaves w (acts.EmptyThisBuffer h port header) (acts.Plain (Ok done)) = port_stays h port w _ (λ i c p. (refl, refl))
+effect_leaves w (acts.FillThisBuffer h port header) (acts.Plain (Ok done)) = port_stays h port w _ (λ i c p. (refl, refl))
+effect_leaves w (acts.TakeNote h) (acts.Took (Ok (TookNote (TakenEvent event)))) = (key_named h w _ (λ i c. refl), tt)
+effect_leaves w (acts.TakeNote h) (acts.Took (Ok (TookNote (TakenEmpty header)))) = (key_named h w _ (λ i c. refl), tt)
+effect_leaves w (acts.TakeNote h) (acts.Took (Ok (TookNote (TakenFilled header)))) = (key_named h w _ (λ i c. refl), tt)
+effect_leaves w (acts.EndNote h progress) acts.Ended = named_stays h w _ (λ i c. (refl, refl))
+effect_leaves w (acts.Supply h port) (acts.Supplied (Ok Did)) = port_stays h port w _ (λ i c p. (refl, refl))
+effect_leaves w (acts.Release h port) (acts.Acted (Ok Did)) = port_stays h port w _ (λ i c p. unmade_stays (in_port (seen w.headers) p) w)
+effect_leaves w (acts.HandOver h port) (acts.Acted (Ok Did)) = port_stays h port w _ (λ i c p. over_stays p w)
+effect_leaves w (acts.HandBack h port) (acts.Acted (Ok Did)) = port_stays h port w _ (λ i c p. back_stays i c p p.state.link w)
+effect_leaves w _ _ = (refl, refl)
 
 outcome_key : (w : World) (a : Act) (r : Reply) (v : World) → Outcome w (turn w a r) v → HasKeyOf w v
 outcome_key w a r v (Nothing e m) = ap (λ (x : World). x.key) e
-outcome_key w a r v (Done C E) = closing_key (effect w a r) v C ∙ effect_key w a r
+outcome_key w a r v (Done C E) = closing_key (effect w a r) v C ∙ (effect_leaves w a r).0
 
 pub key_after : (w : World) (a : Act) (r : Reply) (v : World) → Sound w → HandsIn w a → Step w a r v → v.key ≡ w.key
 key_after w a r v S M h = outcome_key w a r v (comes_after w a r v S M h)

@@ -11,7 +11,7 @@ use Rattle.il_machine.specs.declared.header.Home.{Home}
 use Rattle.il_machine.specs.declared.header.Home.TheVariants as homes
 use Rattle.il_machine.specs.declared.header.Owner.TheVariants as owners
 use Rattle.il_machine.specs.World.{HeaderRecord, World, port_of}
-use Rattle.il_machine.specs.Headers.{find_header, is_for, same_key, is_key, no_load, Once}
+use Rattle.il_machine.specs.Headers.{find_header, is_for, same_key, is_key, empty_load, Once}
 use Rattle.il_machine.specs.Look.{look}
 use Rattle.il_machine.specs.Acts.{Act, Reply}
 use Rattle.il_machine.specs.Run.{Step, Meets}
@@ -54,7 +54,7 @@ carried_lasts key number w v ms o (Made M) L =
     let g = L.given in
     let m = M.made in
     let k = M.number in
-    let r : HeaderRecord = record { state = M.state; load = no_load } in
+    let r : HeaderRecord = record { state = M.state; load = empty_load M.memory } in
     let a : (M.state).number ≢ number = λ e. omega arith in
     as_found key number w v (ap (find_header number) M.headers ∙ push_else number w.headers r a) (omega arith) L
 carried_lasts key number w v ms o (Gone M) L = elim (cases_eq number M.number) [

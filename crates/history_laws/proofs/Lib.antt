@@ -35,3 +35,5 @@ pub mod StillClosed
 pub mod Calm
 pub mod GivenHeaders
 pub mod KeyLaw
+pub mod Memories
+pub mod GivenNotes

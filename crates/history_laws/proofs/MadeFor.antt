@@ -1,10 +1,10 @@
 -- What a header was made for stays so as long as it is made.
-use Rattle.std.proofs.Common.{◌≡◌, ◌≢◌, inl, inr, ℕ, Bool, ◌||◌, List, Option, Some, None, option_map, refl, sym, ◌∙◌, ap, subst}
+use Rattle.std.proofs.Common.{◌≡◌, ◌≢◌, inl, inr, ℕ, ◌≤◌, Bool, ◌||◌, List, Some, None, option_map, refl, sym, ◌∙◌, ap, arith}
 use Rattle.std.proofs.lemmas.Bool.{cases_eq}
 use Rattle.il_machine.specs.declared.header.HeaderState.{HeaderState}
 use Rattle.il_machine.specs.declared.port.PortKey.{PortKey}
 use Rattle.il_machine.specs.World.{HeaderRecord, World}
-use Rattle.il_machine.specs.Headers.{find_header, is_for, is_key, same_key, state_of, without, no_load, Once}
+use Rattle.il_machine.specs.Headers.{find_header, is_for, is_key, same_key, state_of, without, empty_load, Once}
 use Rattle.il_machine.specs.Look.{look}
 use Rattle.il_machine.specs.Acts.{Act, Reply}
 use Rattle.il_machine.specs.Run.{Step, Meets}
@@ -13,11 +13,11 @@ use Rattle.il_machine.specs.Trails.{Move}
 use Rattle.machine_laws.proofs.Finding.{push_else, without_else, without_same}
 use Rattle.machine_laws.proofs.Parts.{parts_of}
 use Rattle.history_laws.proofs.Owners.{Settles, Stand, stand_of}
-use Rattle.history_laws.proofs.Closing.{times_settle}
+use Rattle.history_laws.proofs.Closing.{times_settle, times_made}
 use Rattle.history_laws.proofs.Carried.{Carried, Still, Made, Gone, Moved}
 use Rattle.history_laws.proofs.ClientHeaders.{settled_found, carried_once}
 use Rattle.history_laws.proofs.Homes.{found_state}
-use Rattle.history_laws.proofs.Outcome.{turn, Outcome, Nothing, Done}
+use Rattle.history_laws.proofs.Outcome.{Turn, turn, Outcome, Nothing, Done}
 use Rattle.history_laws.proofs.Steps.{step_comes}
 
 -- the header of the number was made for the same ports
@@ -37,7 +37,7 @@ is_for_stand key s = same_key s.port key || is_key key s.peer
 carried_made : (w v : World) (ms : List Move) (number : ℕ) (r : HeaderRecord) → Once w.headers → number ≢ w.made → Carried w ms v → find_header number v.headers ≡ Some r → WasMade w.headers number r
 carried_made w v ms number r once n (Still S) f = was_itself w.headers number r (ap (find_header number) (sym S.headers) ∙ f)
 carried_made w v ms number r once n (Made M) f =
-    was_itself w.headers number r (sym (ap (find_header number) M.headers ∙ push_else number w.headers (record { state = M.state; load = no_load }) (λ k. n (sym k ∙ M.number))) ∙ f)
+    was_itself w.headers number r (sym (ap (find_header number) M.headers ∙ push_else number w.headers (record { state = M.state; load = empty_load M.memory }) (λ k. n (sym k ∙ M.number))) ∙ f)
 carried_made w v ms number r once n (Gone M) f = elim (cases_eq number M.number) [
   | inl is ↦
       let none : find_header number v.headers ≡ None = ap (find_header number) M.headers ∙ (ap (λ (k : ℕ). find_header k (without M.number w.headers)) is ∙ without_same M.number w.headers once) in
@@ -90,3 +90,21 @@ made_for_step w a r v number s S M h n e =
       there = ap (option_map state_of) B.found;
       same = λ key. ap (is_for key) (sym x.2) ∙ B.same key;
     }
+
+-- ---- no number of a header comes twice
+
+carried_grows : (w v : World) (ms : List Move) → Carried w ms v → w.made ≤ v.made
+carried_grows w v ms (Still S) = let e = S.made in omega (arith, e)
+carried_grows w v ms (Made M) = let e = M.made in omega (arith, e)
+carried_grows w v ms (Gone M) = let e = M.made in omega (arith, e)
+carried_grows w v ms (Moved M) = let e = M.made in omega (arith, e)
+
+outcome_grows : (w v : World) (t : Turn) → Outcome w t v → w.made ≤ v.made
+outcome_grows w v t (Nothing e m) = let k : v.made ≡ w.made = ap (λ (x : World). x.made) e in omega (arith, k)
+outcome_grows w v t (Done C E) =
+    let k = times_made C.steps t.after v C.by_steps in
+    let l = carried_grows w t.after t.moves E.carried in
+    omega (arith, k, l)
+
+pub made_grows : (w : World) (a : Act) (r : Reply) (v : World) → Sound w → Meets w a → Step w a r v → w.made ≤ v.made
+made_grows w a r v S M h = outcome_grows w v (turn w a r) (step_comes w a r v S M h)

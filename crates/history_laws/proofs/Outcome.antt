@@ -105,7 +105,7 @@ pub record IsNamed (w : World) (h : Handle) (i : ℕ) (c : Component) : Type 0 w
   pub there : slice_get w.components i ≡ Some c
   pub number : number_of c ≡ h.generation
 
-same_number : (w : World) (h : Handle) (i : ℕ) (c : Component) → place_of h w.components ≡ Some i → slice_get w.components i ≡ Some c → number_of c ≡ h.generation
+pub same_number : (w : World) (h : Handle) (i : ℕ) (c : Component) → place_of h w.components ≡ Some i → slice_get w.components i ≡ Some c → number_of c ≡ h.generation
 same_number w h i c p e =
     let x = passes_at (is_at h) w.components i (sym (is_first_place (is_at h) w.components) ∙ p) in
     let s : Some x.0 ≡ Some c = sym x.1 ∙ e in

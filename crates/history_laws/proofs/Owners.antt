@@ -1,4 +1,4 @@
--- Homes and owners of headers stay as they are while things happen.
+-- Homes, owners and memories of headers stay as they are while things happen.
 use Rattle.std.proofs.Common.{◌≡◌, ◌≢◌, inl, inr, ℕ, Bool, true, false, List, [], ◌∷◌, Option, Some, None, option_map, refl, sym, ◌∙◌, ap}
 use Rattle.std.proofs.lemmas.Bool.{cases_eq, and_parts}
 use Rattle.omx_types.specs.declared.state.State.{State}
@@ -20,6 +20,7 @@ use Rattle.il_machine.specs.Due.{reset_port, reset_ports, reset_on, marked, firs
 use Rattle.machine_laws.proofs.Finding.{either, found_head, found_tail, once_changed}
 use Rattle.machine_laws.proofs.Replacing.{IsReplaced, replaced_put}
 use Rattle.machine_laws.proofs.Keys.{key_is, none_or_some}
+use Rattle.history_laws.specs.Memory.{memory_of, memory_at}
 
 -- what is known of a header but its number and its place
 pub record Stand : Type 0 where
@@ -43,44 +44,52 @@ stand n hs = option_map stand_of (find_header n hs)
 abbrev pub SameStands : List HeaderRecord → List HeaderRecord → Type 0
 SameStands hs ks = (n : ℕ) → stand n ks ≡ stand n hs
 
--- the second list has the same headers, each as it stands
+-- the second list has the same headers, each as it stands and with its memory
 pub record Settles (hs ks : List HeaderRecord) : Type 0 where
   pub once : Once ks
   pub stands : SameStands hs ks
+  pub memories : (n : ℕ) → memory_at n ks ≡ memory_at n hs
 
 pub settles_not : (hs : List HeaderRecord) → Once hs → Settles hs hs
-settles_not hs o = record { once = o; stands = λ n. refl }
+settles_not hs o = record { once = o; stands = λ n. refl; memories = λ n. refl }
 
 pub settles_on : (hs ks ls : List HeaderRecord) → Settles hs ks → Settles ks ls → Settles hs ls
-settles_on hs ks ls A B = record { once = B.once; stands = λ n. B.stands n ∙ A.stands n }
+settles_on hs ks ls A B = record { once = B.once; stands = λ n. B.stands n ∙ A.stands n; memories = λ n. B.memories n ∙ A.memories n }
 
 -- ---- one header
 
-pub stands_replaced : (n : ℕ) (r s : HeaderRecord) (hs ks : List HeaderRecord) → IsReplaced n r s hs ks → stand_of s ≡ stand_of r → Settles hs ks
-stands_replaced n r s hs ks R e = record {
-  once = R.once;
-  stands = λ m. elim (cases_eq m n) [
-    | inl is ↦ rw is (ap (option_map stand_of) R.here ∙ (ap (λ (x : Stand). Some x) e ∙ sym (ap (option_map stand_of) R.was)))
-    | inr a ↦ ap (option_map stand_of) (R.others m a)
-  ];
-}
+-- what both have in common is found as before
+common_replaced : {T : Type 0} (part : HeaderRecord → T) (n : ℕ) (r s : HeaderRecord) (hs ks : List HeaderRecord) → IsReplaced n r s hs ks → part s ≡ part r
+    → (m : ℕ) → option_map part (find_header m ks) ≡ option_map part (find_header m hs)
+common_replaced {T} part n r s hs ks R e m = elim (cases_eq m n) [
+  | inl is ↦ rw is (ap (option_map part) R.here ∙ (ap (λ (x : T). Some x) e ∙ sym (ap (option_map part) R.was)))
+  | inr a ↦ ap (option_map part) (R.others m a)
+]
 
-module _ (change : HeaderRecord → HeaderRecord) (keeps : (r : HeaderRecord) → (change r).state ≡ r.state) where
+stands_replaced : (n : ℕ) (r s : HeaderRecord) (hs ks : List HeaderRecord) → IsReplaced n r s hs ks → stand_of s ≡ stand_of r → memory_of s ≡ memory_of r → Settles hs ks
+stands_replaced n r s hs ks R e f = record { once = R.once; stands = common_replaced stand_of n r s hs ks R e; memories = common_replaced memory_of n r s hs ks R f }
+
+module _ (change : HeaderRecord → HeaderRecord) (keeps : (r : HeaderRecord) → (change r).state ≡ r.state) (remembers : (r : HeaderRecord) → memory_of (change r) ≡ memory_of r) where
   number_kept : (r : HeaderRecord) → (change r).state.number ≡ r.state.number
   number_kept r = ap (λ (s : HeaderState). s.number) (keeps r)
 
-  stand_changed : (n m : ℕ) (hs : List HeaderRecord) → stand m (changed n change hs) ≡ stand m hs
-  stand_changed n m [] = refl
-  stand_changed n m (x ∷ hs) = either (has_number n x)
+  common_changed : {T : Type 0} (part : HeaderRecord → T) → ((r : HeaderRecord) → part (change r) ≡ part r) → (n m : ℕ) (hs : List HeaderRecord)
+      → option_map part (find_header m (changed n change hs)) ≡ option_map part (find_header m hs)
+  common_changed part same n m [] = refl
+  common_changed {T} part same n m (x ∷ hs) = either (has_number n x)
       (λ t. rw t (either (has_number m x)
       (λ u.
       let v : has_number m (change x) ≡ true = rw (number_kept x) u in
-      rw (u, v) (ap (λ (s : HeaderState). Some (stand_in s)) (keeps x)))
+      rw (u, v) (ap (λ (y : T). Some y) (same x)))
       (λ u. let v : has_number m (change x) ≡ false = rw (number_kept x) u in rw (u, v) refl)))
-      (λ f. rw f (either (has_number m x) (λ u. rw u refl) (λ u. rw u (stand_changed n m hs))))
+      (λ f. rw f (either (has_number m x) (λ u. rw u refl) (λ u. rw u (common_changed part same n m hs))))
 
-  pub settles_changed : (n : ℕ) (hs : List HeaderRecord) → Once hs → Settles hs (changed n change hs)
-  settles_changed n hs o = record { once = once_changed change number_kept n hs o; stands = λ m. stand_changed n m hs }
+  settles_changed : (n : ℕ) (hs : List HeaderRecord) → Once hs → Settles hs (changed n change hs)
+  settles_changed n hs o = record {
+    once = once_changed change number_kept n hs o;
+    stands = λ m. common_changed stand_of (λ r. ap stand_in (keeps r)) n m hs;
+    memories = λ m. common_changed memory_of remembers n m hs;
+  }
 
 -- ---- the headers of a list of a port
 
@@ -143,7 +152,7 @@ in_done_of key hs o = listed key (in_done key) (λ s t. owned_is key s.owner (an
 stays_put : (key : PortKey) (spot : Spot) (n : ℕ) (hs : List HeaderRecord) → Once hs → IsIn key n hs → Settles hs (put key spot n cleared hs)
 stays_put key spot n hs o (r, f, w) =
     let e : owners.Port key ≡ r.state.owner = sym w in
-    stands_replaced n r (put_at key spot (cleared r)) hs (put key spot n cleared hs) (replaced_put key spot cleared (λ x. refl) n hs r o f) (λ i. record (stand_of r) { owner = e i })
+    stands_replaced n r (put_at key spot (cleared r)) hs (put key spot n cleared hs) (replaced_put key spot cleared (λ x. refl) n hs r o f) (λ i. record (stand_of r) { owner = e i }) refl
 
 put_each : (key : PortKey) (spot : Spot) (ns : List ℕ) (hs : List HeaderRecord) → Once hs → AreIn key ns hs → Settles hs (put_all key spot ns hs)
 put_each key spot [] hs o A = settles_not hs o
@@ -157,7 +166,7 @@ clear_each : (ns : List ℕ) (hs : List HeaderRecord) → Once hs → Settles hs
 clear_each [] hs o = settles_not hs o
 clear_each (n ∷ ns) hs o =
     let ks = changed n cleared hs in
-    let a = settles_changed cleared (λ r. refl) n hs o in
+    let a = settles_changed cleared (λ r. refl) (λ r. refl) n hs o in
     settles_on hs ks (cleared_all ns ks) a (clear_each ns ks a.once)
 
 both : (key : PortKey) (spot : Spot) (ns ms : List ℕ) (hs : List HeaderRecord) → Once hs → AreIn key ns hs → Settles hs (put_all key spot ns (cleared_all ms hs))
@@ -190,4 +199,4 @@ arrival_settles c WaitForResources hs o = settles_not hs o
 
 pub mark_settles : (ns : List ℕ) (mark : Option Mark) (hs : List HeaderRecord) → Once hs → Settles hs (first_marked ns mark hs)
 mark_settles [] mark hs o = settles_not hs o
-mark_settles (n ∷ ns) mark hs o = settles_changed (marked mark) (λ r. refl) n hs o
+mark_settles (n ∷ ns) mark hs o = settles_changed (marked mark) (λ r. refl) (λ r. refl) n hs o

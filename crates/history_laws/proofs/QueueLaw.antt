@@ -109,7 +109,7 @@ times_numbered : (n : ℕ) (w v : World) → HappenTimes n w v → v.numbered �
 times_numbered zero w v e = ap (λ (x : World). x.numbered) e
 times_numbered (suc n) w v (mid, before, last) = (happening_of mid v last).numbered ∙ times_numbered n w mid before
 
-times_given : (n : ℕ) (w v : World) → HappenTimes n w v → v.given ≡ w.given
+pub times_given : (n : ℕ) (w v : World) → HappenTimes n w v → v.given ≡ w.given
 times_given zero w v e = ap (λ (x : World). x.given) e
 times_given (suc n) w v (mid, before, last) = (happening_of mid v last).given ∙ times_given n w mid before
 

@@ -120,17 +120,17 @@ all_were_due key units xs v number x h there c =
 -- ---- a component that comes
 
 -- nothing is given to a client of a number that isn't given yet
-abbrev NoneGiven : World → Type 0
+abbrev pub NoneGiven : World → Type 0
 NoneGiven w = (number : ℕ) → w.numbered ≤ number → notes_given number w ≡ []
 
-none_given : (w v : World) (xs : List (Act × Reply)) → Sound w → NoneGiven w → Run w xs v → NoneGiven v
+pub none_given : (w v : World) (xs : List (Act × Reply)) → Sound w → NoneGiven w → Run w xs v → NoneGiven v
 none_given w v [] S N e = rw e N
 none_given w v (x ∷ xs) S N (mid, M, h, more) =
     none_given mid v xs (sound_step w mid x.0 x.1 M h S) (λ number l.
     let g = given_late w mid (turn w x.0 x.1) number (step_comes w x.0 x.1 mid S M h) l in
     g.1 ∙ N number g.0) more
 
-outcome_empty : (w v : World) (t : Turn) (number : ℕ) (d : Component) → NoneGiven w → Outcome w t v → named number w.components ≡ None → named number v.components ≡ Some d → queued_for number t.after ≡ []
+pub outcome_empty : (w v : World) (t : Turn) (number : ℕ) (d : Component) → NoneGiven w → Outcome w t v → named number w.components ≡ None → named number v.components ≡ Some d → queued_for number t.after ≡ []
 outcome_empty w v t number d N (Nothing e m) none is = let a : named number w.components ≡ Some d = rw e at is in absurd cc
 outcome_empty w v t number d N (Done C E) none is =
     let m = was_there C.steps number t.after v d C.by_steps is in

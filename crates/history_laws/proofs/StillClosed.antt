@@ -5,22 +5,17 @@ use Rattle.omx_types.specs.declared.state.State.{State}
 use Rattle.omx_types.specs.declared.state.State.TheVariants.{Invalid, Loaded, Idle, Executing, Pause, WaitForResources}
 use Rattle.il_machine.specs.declared.answer.Pending.{Pending}
 use Rattle.il_machine.specs.declared.header.HeaderState.{HeaderState}
-use Rattle.il_machine.specs.declared.header.Home.{Home}
 use Rattle.il_machine.specs.declared.header.Home.TheVariants as homes
-use Rattle.il_machine.specs.declared.header.Owner.{Owner}
 use Rattle.il_machine.specs.declared.header.Owner.TheVariants as owners
-use Rattle.il_machine.specs.declared.header.Place.{Place}
-use Rattle.il_machine.specs.declared.header.Place.TheVariants.{Out}
 use Rattle.il_machine.specs.declared.port.Mode.{Mode}
 use Rattle.il_machine.specs.declared.port.Mode.TheVariants.{Steady, Enabling, Disabling}
 use Rattle.il_machine.specs.declared.port.Port.{Port}
 use Rattle.il_machine.specs.declared.port.PortKey.{PortKey}
 use Rattle.il_machine.specs.States.{is_down}
-use Rattle.il_machine.specs.Lists.{all_of, first_of_these, holds_at, is_empty}
+use Rattle.il_machine.specs.Lists.{all_of, holds_at, is_empty}
 use Rattle.il_machine.specs.World.{Component, HeaderRecord, ports_of}
-use Rattle.il_machine.specs.Headers.{Seen, seen, is_for, is_away, is_home_owner, is_notice, is_owned_by, is_home_of, in_unmarked, is_todo, has_number, is_state, none_is, find_header, count_headers, numbers, changed, given_to, state_given, weight}
-use Rattle.il_machine.specs.Due.{Thing, Transition, each_port, is_due_to, is_transition_due, is_flush_due, is_mode_due, is_mark_due, things_of, due_in, has_due}
-use Rattle.il_machine.specs.Ports.{populated}
+use Rattle.il_machine.specs.Headers.{Seen, seen, is_for, is_away, is_home_owner, is_owned_by, is_home_of, in_unmarked, is_todo, has_number, find_header, count_headers, numbers, changed, given_to, weight}
+use Rattle.il_machine.specs.Due.{each_port, is_due_to, is_transition_due, is_flush_due, is_mode_due, is_mark_due, things_of, has_due}
 use Rattle.il_machine.specs.Places.{first_place}
 use Rattle.il_machine.proofs.Places.{is_first_place, place_set}
 use Rattle.machine_laws.proofs.Finding.{either}

@@ -9,6 +9,7 @@ use Rattle.il_machine.specs.Buffers.{Held, AtState}
 use Rattle.il_machine.specs.Notes.{Taken, TakenEvent, TakenEmpty, TakenFilled, TookNote}
 use Rattle.il_machine.specs.Acts.{Act, Reply}
 use Rattle.il_machine.specs.Acts as acts
+use Rattle.history_laws.specs.Memory.{HasMemory}
 
 -- the header of the number is with the client, and this is known of it
 abbrev pub IsClients : Look → ℕ → HeaderState → Type 0
@@ -42,10 +43,11 @@ IsMadeBy w (acts.AllocateBuffer h port) number s = s.client_memory ≡ false
 IsMadeBy w (acts.UseBuffer h port bytes) number s = s.client_memory ≡ true
 IsMadeBy w _ number s = AtState number (look w) (λ was. s ≡ state_given owners.Client was)
 
--- In v the header is the client's, with its own size, since the act was done in w. There no header of its number was the client's.
+-- In v the header is the client's, with its own size and memory, since the act was done in w. There no header of its number was the client's.
 pub record IsGiven (w : World) (a : Act) (v : World) (header : Held) : Type 0 where
   pub state : HeaderState
   pub clients : IsClients (look v) header.number state
   pub new : (was : HeaderState) → ¬ (IsClients (look w) header.number was)
   pub size : header.size ≡ state.size
+  pub memory : HasMemory v header.number header.memory
   pub made : IsMadeBy w a header.number state

@@ -2,3 +2,5 @@ pub mod Runs
 pub mod Settled
 pub mod Determined
 pub mod ClientHeaders
+pub mod Memory
+pub mod Given

@@ -1,11 +1,13 @@
-//! What must hold of the machine's steps and runs, stated on functions that do nothing: how queues grow,
-//! which way headers go, that each comes back, and that one act in one world has one result.
+//! What must hold of the machine's steps and runs, stated on functions that do nothing: how queues grow, that what a client
+//! was given stays, which way headers go, that each comes back with its memory, and that one act in one world has one result.
 #![tactic(auto)]
 
-ghost use Rattle.std.specs.Prelude.{◌≡◌, ◌≢◌, ℕ, true, List, All, ◌++◌, [], ◌⊎◌, Some, None, IsSome, Contains};
+ghost use Rattle.std.specs.Prelude.{◌≡◌, ◌≢◌, ℕ, true, List, All, ◌++◌, ◌∷◌, [], ◌⊎◌, Option, Some, None, IsSome, Contains};
+ghost use Rattle.omx_types.specs.declared.handle.Handle.{Handle};
 ghost use Rattle.omx_types.specs.declared.state.State.TheVariants as states;
 ghost use Rattle.omx_types.specs.declared.command.Completion.{Completion};
 ghost use Rattle.omx_types.specs.declared.command.Completion.TheVariants as completions;
+ghost use Rattle.omx_types.specs.declared.command.Note.{Note};
 ghost use Rattle.il_machine.specs.declared.port.Port.{Port};
 ghost use Rattle.il_machine.specs.States.{is_running};
 ghost use Rattle.il_machine.specs.World.{Component, World, no_world, ports_of};
@@ -13,6 +15,8 @@ ghost use Rattle.il_machine.specs.declared.port.PortKey.{PortKey};
 ghost use Rattle.il_machine.specs.declared.header.HeaderState.{HeaderState};
 ghost use Rattle.il_machine.specs.Headers.{seen, is_for};
 ghost use Rattle.il_machine.specs.Look.{look};
+ghost use Rattle.il_machine.specs.Answers.{component_named};
+ghost use Rattle.il_machine.specs.Components.{noted_by, progress_of};
 ghost use Rattle.il_machine.specs.Ports.{settled};
 ghost use Rattle.il_machine.specs.Buffers.{Held};
 ghost use Rattle.il_machine.specs.Due.{Happens, HappenTimes, ClosesTo, IsClosed};
@@ -20,12 +24,14 @@ ghost use Rattle.il_machine.specs.Acts.{Act, Reply};
 ghost use Rattle.il_machine.specs.Run.{Step, Meets, Run};
 ghost use Rattle.il_machine.specs.Sound.{Sound};
 ghost use Rattle.il_machine.specs.Effect.{effect};
-ghost use Rattle.il_machine.specs.Queued.{component_numbered, queued_for, completions_in, StepQueues, WasDue};
+ghost use Rattle.il_machine.specs.Queued.{component_numbered, notes_given, queued_for, completions_in, StepQueues, WasDue};
 ghost use Rattle.il_machine.specs.Trails.{Move, moves, HaveTrails, RunMoves};
 ghost use Rattle.history_laws.specs.Runs.{IsUnchanged, RunQueues, WasDueIn};
+ghost use Rattle.history_laws.specs.Given.{IsGivenToNumbered, LeavesNotes, note_for, is_freed_by};
 ghost use Rattle.history_laws.specs.Settled.{IsReturned, TakesToIdle, ReachesIdle, WasUnmade, IsUnmadeAndBack};
 ghost use Rattle.history_laws.specs.Determined.{AreAlike};
 ghost use Rattle.history_laws.specs.ClientHeaders.{IsClients, taken_in, given_out, number_out, IsGiven};
+ghost use Rattle.history_laws.specs.Memory.{HasMemory, handed_in, number_in};
 
 /// What is queued for a client grows at its end alone: the act tells no completion, and each that the close-out
 /// tells was due in it. The close-out begins with the act's effect. For a component that comes nothing is queued.
@@ -42,6 +48,33 @@ pub fn law_of_queues()
     ensures whole { (key units : ℕ) (xs : List (Act × Reply)) (v : World) (number : ℕ) (x : Completion)
         → Run (no_world key units) xs v → IsSome (component_numbered number v)
         → Contains (completions_in (queued_for number v)) x → WasDueIn (no_world key units) xs v number x }
+{}
+
+/// The notes that were given for a component stay: an act that gives it a note adds just this one, at the end, and the act that
+/// frees it removes all. A component that comes has none. So the progress of its client object is moved by such a note alone,
+/// and stays until the next one.
+pub fn law_of_given()
+    ensures stays { (w : World) (a : Act) (r : Reply) (v : World) (number : ℕ)
+        → Sound w → Meets w a → Step w a r v → LeavesNotes number a r → notes_given number v ≡ notes_given number w }
+    ensures adds { (w : World) (a : Act) (r : Reply) (v : World) (number : ℕ) (note : Note)
+        → Sound w → Meets w a → Step w a r v → note_for number a r ≡ Some note → notes_given number v ≡ notes_given number w ++ note ∷ [] }
+    ensures frees { (w : World) (a : Act) (r : Reply) (v : World) (number : ℕ)
+        → Sound w → Meets w a → Step w a r v → is_freed_by number a r ≡ true → notes_given number v ≡ [] }
+    ensures new { (w : World) (a : Act) (r : Reply) (v : World) (number : ℕ)
+        → Sound w → IsGivenToNumbered w → Meets w a → Step w a r v
+        → component_numbered number w ≡ None → IsSome (component_numbered number v) → notes_given number v ≡ [] }
+    ensures numbered { (key units : ℕ) (xs : List (Act × Reply)) (v : World) → Run (no_world key units) xs v → IsGivenToNumbered v }
+    ensures closing { (w v : World) → ClosesTo w v → v.given ≡ w.given }
+    ensures told { (w : World) (a : Act) (r : Reply) (v : World) (h : Handle) (note : Note) (c d : Component)
+        → Sound w → Meets w a → Step w a r v → note_for h.generation a r ≡ Some note
+        → component_named h w.components ≡ Some c → component_named h v.components ≡ Some d
+        → progress_of d v ≡ noted_by note (progress_of c w) }
+    ensures runs { (w v : World) (xs : List (Act × Reply)) (number : ℕ)
+        → Sound w → Run w xs v → All (λ x. LeavesNotes number x.0 x.1) xs → notes_given number v ≡ notes_given number w }
+    ensures progress { (w v : World) (xs : List (Act × Reply)) (h : Handle) (c d : Component)
+        → Sound w → Run w xs v → All (λ x. LeavesNotes h.generation x.0 x.1) xs
+        → component_named h w.components ≡ Some c → component_named h v.components ≡ Some d
+        → progress_of d v ≡ progress_of c w }
 {}
 
 /// Every trail stays legal, ends with the header's owner, and has at most one return of each hand-over.
@@ -110,6 +143,26 @@ pub fn law_of_client_headers()
         → Sound w → Run w xs v → IsClients (look w) number s → All (λ x. taken_in x.0 x.1 ≢ Some number) xs → IsClients (look v) number s }
     ensures runs_back { (w v : World) (xs : List (Act × Reply)) (number : ℕ) (s : HeaderState)
         → Sound w → Run w xs v → IsClients (look v) number s → All (λ x. number_out x.0 x.1 ≢ Some number) xs → IsClients (look w) number s }
+{}
+
+/// A header's memory stays in each step that doesn't hand this very header in; one that is handed in has the memory that
+/// it was handed in with, until it comes back. So no two headers swap their memories.
+pub fn law_of_memory()
+    ensures stays { (w : World) (a : Act) (r : Reply) (v : World) (number : ℕ) (before after : Option (List ℕ))
+        → Sound w → Meets w a → Step w a r v → HasMemory w number before → HasMemory v number after
+        → number_in a r ≢ Some number → after ≡ before }
+    ensures handed { (w : World) (a : Act) (r : Reply) (v : World) (header : Held)
+        → Sound w → Step w a r v → handed_in a r ≡ Some header → HasMemory v header.number header.memory }
+    ensures closing { (w v : World) (number : ℕ) (memory : Option (List ℕ))
+        → Sound w → ClosesTo w v → HasMemory w number memory → HasMemory v number memory }
+    ensures runs { (w v : World) (xs : List (Act × Reply)) (number : ℕ) (before after : Option (List ℕ))
+        → Sound w → Run w xs v → HasMemory w number before → HasMemory v number after
+        → All (λ x. number_in x.0 x.1 ≢ Some number) xs → after ≡ before }
+    ensures back { (u : World) (a : Act) (r : Reply) (w : World) (xs : List (Act × Reply))
+        (v : World) (b : Act) (s : Reply) (z : World) (header back : Held)
+        → Sound u → Meets u a → Step u a r w → handed_in a r ≡ Some header
+        → Run w xs v → All (λ x. number_in x.0 x.1 ≢ Some header.number) xs
+        → Meets v b → Step v b s z → given_out b s ≡ Some back → back.number ≡ header.number → back.memory ≡ header.memory }
 {}
 
 /// The key of all headers stays.
