@@ -1,5 +1,5 @@
 -- A header as contracts see it, and what its calls make of it.
-use Rattle.std.specs.Prelude.{ℕ, ◌≤◌, Bool, true, false, List, [], length, drop, Some, None}
+use Rattle.std.specs.Prelude.{◌≡◌, ℕ, ◌≤◌, Bool, true, false, List, [], length, drop, Option, Some, None, option_map}
 use Rattle.il_machine.specs.declared.port.Mark.{Mark}
 use Rattle.il_machine.specs.Buffers.{Held}
 use Rattle.header_core.specs.Lists.{overwritten}
@@ -24,6 +24,11 @@ abbrev pub is_clients : Store → Bool
 is_clients (Own bytes) = true
 is_clients (Block bytes) = false
 
+-- the bytes where the memory is the client's own
+abbrev pub own_memory : Store → Option (List ℕ)
+own_memory (Own bytes) = Some bytes
+own_memory (Block bytes) = None
+
 abbrev pub with_bytes : List ℕ → Store → Store
 with_bytes bytes (Own old) = Own bytes
 with_bytes bytes (Block old) = Block bytes
@@ -36,17 +41,18 @@ pub record IsSized (h : BufferHeader) : Type 0 where
   pub limit : h.held.size ≤ 4096
   pub room : h.held.size ≤ length (bytes_of h.store)
   pub content : length h.held.content ≤ h.held.size
+  pub memory : h.held.memory ≡ own_memory h.store
 
-abbrev pub empty_held : ℕ → ℕ → Held
-empty_held number size = record { number = number; size = size; content = []; flags = 0; mark = None }
+abbrev pub empty_held : ℕ → ℕ → Option (List ℕ) → Held
+empty_held number size memory = record { number = number; size = size; content = []; flags = 0; mark = None; memory = memory }
 
 abbrev pub fresh : ℕ → ℕ → Store → ℕ → BufferHeader
-fresh key number store size = record { key = key; held = empty_held number size; store = store }
-
-abbrev pub with_content : List ℕ → ℕ → Held → Held
-with_content content flags h = record h { content = content; flags = flags }
+fresh key number store size = record { key = key; held = empty_held number size (own_memory store); store = store }
 
 -- the content and the flags are new, and the content stands at the front of the memory
+abbrev pub with_content : List ℕ → ℕ → Held → Held
+with_content content flags h = record h { content = content; flags = flags; memory = option_map (overwritten content) h.memory }
+
 abbrev pub filled : List ℕ → ℕ → BufferHeader → BufferHeader
 filled content flags h = record h {
   held = with_content content flags h.held;
@@ -55,7 +61,7 @@ filled content flags h = record h {
 
 -- without content, flags and mark; the memory is as before
 abbrev pub cleared : BufferHeader → BufferHeader
-cleared h = record h { held = empty_held h.held.number h.held.size }
+cleared h = record h { held = empty_held h.held.number h.held.size h.held.memory }
 
 abbrev pub marked : Mark → BufferHeader → BufferHeader
 marked mark h = record h { held = record h.held { mark = Some mark } }

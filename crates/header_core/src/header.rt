@@ -1,5 +1,5 @@
 ghost use Rattle.std.specs.Prelude.{◌≡◌, ◌<◌, ◌≤◌, length, Ok, Err, OnOk, OnErr};
-ghost use Rattle.header_core.specs.BufferHeader.{bytes_of, is_clients, fresh, filled, cleared, marked, advanced, IsSized};
+ghost use Rattle.header_core.specs.BufferHeader.{bytes_of, is_clients, own_memory, fresh, filled, cleared, marked, advanced, IsSized};
 
 use crate::key::Key;
 use crate::memory::Store;
@@ -26,13 +26,13 @@ pub struct Header {
 
 impl Model for Header {
     ghost use Rattle.std.specs.Prelude.{◌≤◌, length, slice_range};
-    ghost use Rattle.header_core.specs.BufferHeader.{BufferHeader, bytes_of};
+    ghost use Rattle.header_core.specs.BufferHeader.{BufferHeader, bytes_of, own_memory};
 
     ghost Value = { BufferHeader };
 
     ghost view = { λ h. record {
       key = h.key;
-      held = record { number = h.number; size = h.size; content = slice_range (bytes_of h.store) h.start h.used; flags = h.flags; mark = h.mark };
+      held = record { number = h.number; size = h.size; content = slice_range (bytes_of h.store) h.start h.used; flags = h.flags; mark = h.mark; memory = own_memory h.store };
       store = h.store;
     } };
 
@@ -146,7 +146,8 @@ impl Header {
 
     /// Spends the header and gives its memory back.
     pub fn into_store(self) -> Store
-        ensures { result ≡ self.store }
+        ensures store { result ≡ self.store }
+        ensures memory { own_memory result ≡ self.held.memory }
     {
         let Header {
             key: _,

@@ -1,5 +1,5 @@
 -- What each call makes of a stock: what is true of it stays true, and it is read as the value that the call says.
-use Rattle.std.proofs.Common.{◌≡◌, ℕ, Bool, true, List, [], map, slice_get, Option, Some, None, option_map, IfSome, MatchOption, refl, sym, ◌∙◌, ap, arith, subst}
+use Rattle.std.proofs.Common.{◌≡◌, ℕ, Bool, true, false, List, [], map, slice_get, Option, Some, None, option_map, IfSome, MatchOption, refl, sym, ◌∙◌, ap, arith, subst}
 use Rattle.std.proofs.lemmas.Bool.Decides.{nat_tests}
 use Rattle.il_machine.specs.declared.port.PortKey.{PortKey}
 use Rattle.il_machine.specs.declared.port.Mark.{Mark}
@@ -9,19 +9,19 @@ use Rattle.il_machine.specs.declared.header.Spot.{Spot}
 use Rattle.il_machine.specs.declared.header.HeaderState.{HeaderState}
 use Rattle.il_machine.specs.World.{HeaderRecord, Load}
 use Rattle.il_machine.specs.Lists.{holds_at}
-use Rattle.il_machine.specs.Headers.{Seen, changed, cleared, count_headers, find_header, given_to, in_todo, in_done, in_unmarked, is_state, loaded, numbers, put, state_of, without}
+use Rattle.il_machine.specs.Headers.{Seen, changed, count_headers, find_header, given_to, in_todo, in_done, in_unmarked, is_for, is_state, loaded, numbers, put, state_of, without}
 use Rattle.il_machine.specs.Buffers.{load_in}
 use Rattle.il_machine.specs.Due.{first_marked}
 use Rattle.il_machine.specs.Stock.{Stocked, given, pulled, pushed, sent, withdrawn}
 use Rattle.header_core.specs.BufferHeader.{BufferHeader}
-use Rattle.stock_laws.specs.Changes.{cleared_where, done_cleared, marked_first, out_of_list, todo_cleared}
+use Rattle.stock_laws.specs.Changes.{cleared_where, done_cleared, marked_first, todo_cleared}
 use Rattle.stock_laws.proofs.Flat.{find-changed}
 use Rattle.port_stock.specs.Kept.{Kept, kept_load, is_waiting, stocked}
-use Rattle.port_stock.specs.Conditions.{IsFrom, IsHeaderOf, IsOut, IsOutside, number_of}
-use Rattle.port_stock.specs.Entries.{AreLawful, IsTaken}
+use Rattle.port_stock.specs.Conditions.{AreMadeForOwners, IsFrom, IsHeaderOf, IsMadeFor, IsOut, IsOutside, is_port, number_of}
+use Rattle.port_stock.specs.Entries.{AreLawful, IsTaken, record_out}
 use Rattle.port_stock.proofs.Changing.{todo_waits, done_waits}
 use Rattle.port_stock.proofs.Stocking.{kept, reads, stocked-is, push_read, give_read, withdraw_read, pull_read, pull_none, send_read, send_none, clear_todo_read, clear_done_read, mark_read, todo_read, done_read}
-use Rattle.port_stock.proofs.Lawful.{put_lawful, without_lawful, out_lawful, give_lawful, mark_lawful, clear_lawful}
+use Rattle.port_stock.proofs.Lawful.{put_lawful, without_lawful, out_lawful, give_lawful, mark_lawful, clear_lawful, lawful_owner}
 
 -- The flat list, with the key, the ports and the next number, is lawful, and is read as the value.
 pub record Becomes (own : ℕ) (keys : List PortKey) (hs : List HeaderRecord) (last : ℕ) (s : Stocked) : Type 0 where
@@ -80,17 +80,24 @@ weaken P Q (Some x) k h = k x h
 pub outside_out : (k : Kept) (header : BufferHeader) → IsOutside header (stocked k) → MatchOption (find_header header.held.number k.headers) ⊥ (λ r. r.state.place ≡ Out)
 outside_out k header h = weaken (λ r. IsOutFlat header r.state) (λ r. r.state.place ≡ Out) (find_header header.held.number k.headers) (λ r p. p.0) (outside_flat k header h)
 
+-- ---- the owners of headers
+
+pub owners_read : (k : Kept) → AreLawful k.ports k.next k.headers → AreMadeForOwners (stocked k)
+owners_read k L n h e = lawful_owner k.ports k.next k.headers n h L (header_read k n ∙ e)
+
 -- ---- calls on one header
 
-pub push_becomes : (k : Kept) (hs : List HeaderRecord) (key : PortKey) (spot : Spot) (header : BufferHeader) → AreLawful k.ports k.next k.headers → IsOutside header (stocked k)
+pub push_becomes : (k : Kept) (hs : List HeaderRecord) (key : PortKey) (spot : Spot) (header : BufferHeader) → AreLawful k.ports k.next k.headers → IsOutside header (stocked k) → IsMadeFor key header (stocked k)
     → hs ≡ put key spot header.held.number (loaded (load_in header.held)) k.headers → Becomes k.key k.ports hs k.next (pushed key spot header.held.number (load_in header.held) (stocked k))
-push_becomes k hs key spot header L o h =
+push_becomes k hs key spot header L o f h =
     let n = header.held.number in
     let load = load_in header.held in
     let T = there (λ r. (r.state.place ≡ Out) × IsHeaderOf r.state header) (find_header n k.headers) (outside_flat k header o) in
+    let shown : (stocked k).headers.header n ≡ Some T.it.state = sym (header_read k n) ∙ ap (option_map state_of) T.is in
+    let for : is_for key T.it.state ≡ true = sym (ap (λ (s : Option HeaderState). holds_at s (is_for key)) shown) ∙ f in
     let P : List HeaderRecord → Type 0 = AreLawful k.ports k.next in
     record {
-      lawful = subst P (sym h) (put_lawful k.ports k.next k.headers key spot n load T.it T.is L);
+      lawful = subst P (sym h) (put_lawful k.ports k.next k.headers key spot n load T.it T.is for L);
       is = stocked-is k.key k.ports hs k.next _ (push_read k hs key spot n load T.it L.once T.is T.holds.0 h);
     }
 
@@ -105,13 +112,13 @@ withdraw_becomes k hs header L o h =
       is = stocked-is k.key k.ports hs k.next _ (withdraw_read k hs n T.it L.once T.is T.holds h);
     }
 
-pub give_becomes : (k : Kept) (hs : List HeaderRecord) (n : ℕ) (owner : Owner) → AreLawful k.ports k.next k.headers → IsOut n (stocked k)
+pub give_becomes : (k : Kept) (hs : List HeaderRecord) (n : ℕ) (owner : Owner) → AreLawful k.ports k.next k.headers → IsOut n (stocked k) → is_port owner ≡ false
     → hs ≡ changed n (given_to owner) k.headers → Becomes k.key k.ports hs k.next (given n owner (stocked k))
-give_becomes k hs n owner L o h =
+give_becomes k hs n owner L o free h =
     let T = there (λ r. r.state.place ≡ Out) (find_header n k.headers) (out_flat k n o) in
     let P : List HeaderRecord → Type 0 = AreLawful k.ports k.next in
     record {
-      lawful = subst P (sym h) (give_lawful k.ports k.next k.headers n owner L);
+      lawful = subst P (sym h) (give_lawful k.ports k.next k.headers n owner free L);
       is = stocked-is k.key k.ports hs k.next _ (give_read k hs n owner T.it L.once T.is T.holds h);
     }
 
@@ -140,13 +147,12 @@ taken_from test k header w h =
     )
 
 taken_outside : (test : HeaderState → Bool) (k : Kept) (hs : List HeaderRecord) (header : BufferHeader) → header.key ≡ k.key → MatchOption (find_header header.held.number k.headers) ⊥ (WasFlat test header)
-    → hs ≡ changed header.held.number (λ r. cleared (out_of_list r)) k.headers → IsOutside header (stocked (kept k.key k.ports hs k.next))
+    → hs ≡ changed header.held.number record_out k.headers → IsOutside header (stocked (kept k.key k.ports hs k.next))
 taken_outside test k hs header own h e =
     let n = header.held.number in
     let T = there (WasFlat test header) (find_header n k.headers) h in
-    let f : HeaderRecord → HeaderRecord = λ r. cleared (out_of_list r) in
-    let now : find_header n hs ≡ Some (f T.it) = ap (find_header n) e ∙ (find-changed n n f k.headers T.it T.is refl ∙ grind (arith, nat_tests)) in
-    let fits : IsHeaderOf (f T.it).state header = record { size = T.holds.2.size; memory = T.holds.2.memory } in
+    let now : find_header n hs ≡ Some (record_out T.it) = ap (find_header n) e ∙ (find-changed n n record_out k.headers T.it T.is refl ∙ grind (arith, nat_tests)) in
+    let fits : IsHeaderOf (record_out T.it).state header = record { size = T.holds.2.size; memory = T.holds.2.memory } in
     let Q : Option HeaderRecord → Type 0 = λ o. MatchOption o ⊥ (λ r. IsOutFlat header r.state) in
     (own ∙ (reads (kept k.key k.ports hs k.next)).key, flat_state (kept k.key k.ports hs k.next) n (IsOutFlat header) (subst Q (sym now) (refl, fits)))
 

@@ -8,15 +8,14 @@ use Rattle.il_machine.specs.declared.header.Spot.{Spot}
 use Rattle.il_machine.specs.declared.header.Spot.TheVariants.{TodoBack, TodoFront, DoneBack}
 use Rattle.il_machine.specs.declared.header.HeaderState.{HeaderState}
 use Rattle.il_machine.specs.World.{HeaderRecord}
-use Rattle.il_machine.specs.Headers.{changed, cleared, find_header, given_to, in_todo, in_done, is_todo, is_done, is_owned_by, is_state, loaded, put, spot_place, state_at, state_given}
+use Rattle.il_machine.specs.Headers.{changed, find_header, given_to, in_todo, in_done, is_todo, is_done, is_owned_by, is_state, loaded, put, spot_place, state_at, state_given}
 use Rattle.il_machine.specs.Buffers.{load_in}
-use Rattle.stock_laws.specs.Changes.{out_of_list}
 use Rattle.stock_laws.proofs.Flat.{find_number}
 use Rattle.header_core.specs.BufferHeader.{BufferHeader}
 use Rattle.port_stock.specs.declared.entry.Entry.{Entry}
 use Rattle.port_stock.specs.Kept.{is_waiting}
 use Rattle.port_stock.specs.Conditions.{IsHeaderOf}
-use Rattle.port_stock.specs.Entries.{AreOf, Each, HasKey, IsKept, IsTaken, KeepsKeys, entry_at, entry_out, headers_of, load_of_kept, record_of}
+use Rattle.port_stock.specs.Entries.{AreOf, Each, HasKey, IsKept, IsTaken, KeepsKeys, entry_at, entry_out, headers_of, load_of_kept, record_of, record_out}
 use Rattle.port_stock.proofs.Places.{At, Front, is_numbered, nowhere, Each-at, Each-set, Each-remove, Each-entry_at, headers-entry_at}
 
 -- ---- facts of one option
@@ -166,14 +165,13 @@ leaves es vs k it header s E h i =
 
 pub taken_by : (q : HeaderRecord → Bool) (es vs : List Entry) (k : ℕ) (header : BufferHeader) (F : Front q k es) → Leaves es vs k F.it header → IsTaken q header (headers_of es) (headers_of vs)
 taken_by q es vs k header F L =
-    let out : HeaderRecord → HeaderRecord = λ r. cleared (out_of_list r) in
     let load : load_of_kept F.it.kept ≡ load_in header.held = ap load_of_kept L.was_kept in
     let was : MatchOption (find_header F.it.state.number (headers_of es)) ⊥ (λ r. (q r ≡ true) × (r.load ≡ load_in header.held) × IsHeaderOf r.state header) = rw F.stands.find (F.passes, load, L.fits) in
     let W : ℕ → Type 0 = λ n. MatchOption (find_header n (headers_of es)) ⊥ (λ r. (q r ≡ true) × (r.load ≡ load_in header.held) × IsHeaderOf r.state header) in
     record {
       front = F.first ∙ ap (λ (n : ℕ). Some n) (sym L.number);
       was = subst W (sym L.number) was;
-      after = ap headers_of L.items ∙ (F.stands.changed (entry_out F.it) out refl ∙ ap (λ (n : ℕ). changed n out (headers_of es)) (sym L.number));
+      after = ap headers_of L.items ∙ (F.stands.changed (entry_out F.it) record_out refl ∙ ap (λ (n : ℕ). changed n record_out (headers_of es)) (sym L.number));
     }
 
 pub leaves_kept : (es vs : List Entry) (k : ℕ) (it : Entry) (header : BufferHeader) → Each IsKept es → Leaves es vs k it header → Each IsKept vs

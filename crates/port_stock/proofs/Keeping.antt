@@ -45,7 +45,7 @@ add_becomes k ports component count L h =
     let R = reads k in
     let P : List PortKey → Type 0 = λ v. AreLawful v k.next k.headers in
     record {
-      lawful = subst P (sym h) (record { once = L.once; numbered = L.numbered; placed = placed_more k.ports (keys_from component 0 count) k.headers L.placed; few = L.few });
+      lawful = subst P (sym h) (record { once = L.once; numbered = L.numbered; placed = placed_more k.ports (keys_from component 0 count) k.headers L.placed; few = L.few; owned = L.owned });
       is = stocked-is k.key ports k.headers k.next _ (record { key = R.key; ports = h ∙ ap (λ (v : List PortKey). v ++ keys_from component 0 count) R.ports; looks = R.looks; loads = R.loads; next = R.next });
     }
 
@@ -111,6 +111,7 @@ left_lawful component k U L =
           (λ r p. has_left component r.state.port k.ports (left_by component k r U p.0 p.1) p.0)
           (each_with H M k.headers L.placed (each_found M k.headers L.once (made_for_port k.headers)));
       few = L.few;
+      owned = L.owned;
     }
 
 pub remove_becomes : (k : Kept) (ports : List PortKey) (component : ℕ) → AreLawful k.ports k.next k.headers → IsUnmade component (stocked k) → ports ≡ filter (is_left component) k.ports

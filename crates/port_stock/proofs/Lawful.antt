@@ -1,22 +1,26 @@
 -- What is true of the flat list of headers stays true in each change, and why there is room for each header.
-use Rattle.std.proofs.Common.{◌≡◌, ℕ, ◌+◌, ◌*◌, ◌<◌, ◌≤◌, Bool, true, false, ◌&&◌, ◌||◌, List, [], ◌∷◌, ◌++◌, length, map, Option, Some, None, if◌then◌else◌, refl, ap, arith, inl, inr, subst}
+use Rattle.std.proofs.Common.{◌≡◌, ℕ, ◌+◌, ◌*◌, ◌<◌, ◌≤◌, Bool, true, false, ◌&&◌, ◌||◌, List, [], ◌∷◌, ◌++◌, length, map, Option, Some, None, option_map, if◌then◌else◌, refl, sym, ◌∙◌, ap, arith, inl, inr, subst}
 use Rattle.std.proofs.lemmas.Bool.Decides.{nat_tests}
 use Rattle.il_machine.specs.declared.port.PortKey.{PortKey}
 use Rattle.il_machine.specs.declared.port.Mark.{Mark}
+use Rattle.il_machine.specs.declared.header.Home.{Home}
+use Rattle.il_machine.specs.declared.header.Home.TheVariants as homes
 use Rattle.il_machine.specs.declared.header.Owner.{Owner}
+use Rattle.il_machine.specs.declared.header.Owner.TheVariants as owners
 use Rattle.il_machine.specs.declared.header.Spot.{Spot}
 use Rattle.il_machine.specs.declared.header.Spot.TheVariants.{TodoBack, TodoFront, DoneBack}
 use Rattle.il_machine.specs.declared.header.HeaderState.{HeaderState}
 use Rattle.il_machine.specs.World.{HeaderRecord, Load}
-use Rattle.il_machine.specs.Headers.{at_spot, changed, cleared, count_headers, find_header, given_to, has_number, is_for, is_key, loaded, no_load, put, put_at, same_key, weight, without, Once}
+use Rattle.il_machine.specs.Headers.{at_spot, changed, count_headers, empty_load, find_header, given_to, has_number, is_for, is_key, is_owned_by, loaded, put, put_at, same_key, state_at, state_of, weight, without, Once}
+use Rattle.il_machine.specs.Stock.{home_owner}
 use Rattle.il_machine.specs.Due.{first_marked, marked}
-use Rattle.stock_laws.specs.Changes.{cleared_where, out_of_list}
+use Rattle.stock_laws.specs.Changes.{cleared_where}
 use Rattle.stock_laws.proofs.Flat.{count-append, count-without, find_number, find-without_same, once-append, once-changed, once-without}
-use Rattle.stock_laws.proofs.Keys.{key_tells}
+use Rattle.stock_laws.proofs.Keys.{key_tells, same_key-sym}
 use Rattle.stock_laws.proofs.Seeing.{count-at_spot}
 use Rattle.stock_laws.proofs.Standing.{once-at_spot}
-use Rattle.port_stock.specs.Conditions.{HasFewer, has_key}
-use Rattle.port_stock.specs.Entries.{AreLawful, Each}
+use Rattle.port_stock.specs.Conditions.{HasFewer, IsMadeForOwner, has_key, is_home_among, is_port}
+use Rattle.port_stock.specs.Entries.{AreLawful, Each, record_out}
 use Rattle.port_stock.proofs.Places.{Each-append}
 
 -- ---- of each header
@@ -50,6 +54,36 @@ IsNumbered next r = r.state.number < next
 abbrev IsPlaced : List PortKey → HeaderRecord → Type 0
 IsPlaced ports r = has_key r.state.port ports ≡ true
 
+abbrev IsOwned : HeaderRecord → Type 0
+IsOwned r = IsMadeForOwner r.state
+
+-- ---- a header goes to an owner
+
+-- to a port that it was made for
+put_owned : (key : PortKey) (spot : Spot) (h : HeaderState) → is_for key h ≡ true → IsMadeForOwner (state_at key spot h)
+put_owned key spot h f k o = elim (key_tells key k) [
+  | inl x ↦ subst (λ (q : PortKey). is_for q h ≡ true) x.1 f
+  | inr x ↦ absurd (let z : false ≡ true = sym x.0 ∙ o in cc)
+]
+
+-- to one that is no port
+no_port_owns : (key : PortKey) (owner : Owner) → is_port owner ≡ false → is_owned_by key owner ≡ true → ⊥
+no_port_owns key (owners.Port p) f o = absurd cc
+no_port_owns key owners.Client f o = absurd cc
+no_port_owns key (owners.Work u) f o = absurd cc
+no_port_owns key (owners.Notice c) f o = absurd cc
+
+-- to its home
+home_for : (h : HeaderState) (key : PortKey) (home : Home) → is_home_among h.port h.peer home ≡ true → is_owned_by key (home_owner home) ≡ true → is_for key h ≡ true
+home_for h key homes.Client m o = absurd cc
+home_for h key (homes.Port p) m o = elim (key_tells p key) [
+  | inl x ↦ ap (λ (b : Bool). b || is_key key h.peer) (same_key-sym h.port key) ∙ subst (λ (q : PortKey). (same_key q h.port || is_key q h.peer) ≡ true) x.1 m
+  | inr x ↦ absurd (let z : false ≡ true = sym x.0 ∙ o in cc)
+]
+
+home_owned : (h : HeaderState) → is_home_among h.port h.peer h.home ≡ true → h.owner ≡ home_owner h.home → IsMadeForOwner h
+home_owned h m e key o = home_for h key h.home m (sym (ap (is_owned_by key) e) ∙ o)
+
 -- ---- a header is put, made and unmade
 
 count_found : (test : HeaderState → Bool) (n : ℕ) (f : HeaderRecord → HeaderRecord) (hs : List HeaderRecord) → test ≡ test → ((r : HeaderRecord) → test (f r).state ≡ test r.state) → count_headers test (changed n f hs) ≡ count_headers test hs
@@ -58,8 +92,8 @@ count_found test n f (x ∷ hs) t k = elim (has_number n x) as (λ v. count_head
     [ true ↦ rw (k x) refl | false ↦ ap (λ c. weight (test x.state) + c) (count_found test n f hs t k) ]
 
 pub put_lawful : (ports : List PortKey) (next : ℕ) (hs : List HeaderRecord) (key : PortKey) (spot : Spot) (n : ℕ) (load : Load) (r : HeaderRecord) → find_header n hs ≡ Some r
-    → AreLawful ports next hs → AreLawful ports next (put key spot n (loaded load) hs)
-put_lawful ports next hs key spot n load r e L =
+    → is_for key r.state ≡ true → AreLawful ports next hs → AreLawful ports next (put key spot n (loaded load) hs)
+put_lawful ports next hs key spot n load r e f L =
     let y = put_at key spot (loaded load r) in
     let num : y.state.number ≡ n = find_number n hs r e in
     let gone : find_header y.state.number (without n hs) ≡ None = rw num (find-without_same n hs L.once) in
@@ -72,6 +106,7 @@ put_lawful ports next hs key spot n load r e L =
           let b = count-without (is_for k) n hs r e in
           let c = L.few k in
           omega arith;
+      owned = Each-at_spot IsOwned spot y (without n hs) (Each-without IsOwned n hs L.owned) (put_owned key spot r.state f);
     } in
     rw e T
 
@@ -81,13 +116,15 @@ without_lawful ports next hs n r e L = record {
   numbered = Each-without (IsNumbered next) n hs L.numbered;
   placed = Each-without (IsPlaced ports) n hs L.placed;
   few = λ k. let b = count-without (is_for k) n hs r e in let c = L.few k in omega arith;
+  owned = Each-without IsOwned n hs L.owned;
 }
 
--- the change keeps number and ports
+-- the change keeps number and ports, and gives no port a header that wasn't made for it
 pub record KeepsPorts (f : HeaderRecord → HeaderRecord) : Type 0 where
   pub number : (r : HeaderRecord) → (f r).state.number ≡ r.state.number
   pub port : (r : HeaderRecord) → (f r).state.port ≡ r.state.port
   pub peer : (r : HeaderRecord) → (f r).state.peer ≡ r.state.peer
+  pub owned : (r : HeaderRecord) → IsOwned r → IsOwned (f r)
 
 keeps_for : (f : HeaderRecord → HeaderRecord) (k : PortKey) (r : HeaderRecord) → KeepsPorts f → is_for k (f r).state ≡ is_for k r.state
 keeps_for f k r K = rw (K.port r, K.peer r) refl
@@ -98,20 +135,21 @@ changed_lawful ports next hs n f K L = record {
   numbered = Each-changed (IsNumbered next) n f hs (λ r p. rw (K.number r) p) L.numbered;
   placed = Each-changed (IsPlaced ports) n f hs (λ r p. rw (K.port r) p) L.placed;
   few = λ k. rw (count_found (is_for k) n f hs refl (λ r. keeps_for f k r K)) (L.few k);
+  owned = Each-changed IsOwned n f hs K.owned L.owned;
 }
 
-out_keeps : KeepsPorts (λ x. cleared (out_of_list x))
-out_keeps = record { number = λ r. refl; port = λ r. refl; peer = λ r. refl }
+out_keeps : KeepsPorts record_out
+out_keeps = record { number = λ r. refl; port = λ r. refl; peer = λ r. refl; owned = λ r p. p }
 
-pub out_lawful : (ports : List PortKey) (next : ℕ) (hs : List HeaderRecord) (n : ℕ) → AreLawful ports next hs → AreLawful ports next (changed n (λ x. cleared (out_of_list x)) hs)
-out_lawful ports next hs n L = changed_lawful ports next hs n (λ x. cleared (out_of_list x)) out_keeps L
+pub out_lawful : (ports : List PortKey) (next : ℕ) (hs : List HeaderRecord) (n : ℕ) → AreLawful ports next hs → AreLawful ports next (changed n record_out hs)
+out_lawful ports next hs n L = changed_lawful ports next hs n record_out out_keeps L
 
-pub give_lawful : (ports : List PortKey) (next : ℕ) (hs : List HeaderRecord) (n : ℕ) (owner : Owner) → AreLawful ports next hs → AreLawful ports next (changed n (given_to owner) hs)
-give_lawful ports next hs n owner L = changed_lawful ports next hs n (given_to owner) (record { number = λ r. refl; port = λ r. refl; peer = λ r. refl }) L
+pub give_lawful : (ports : List PortKey) (next : ℕ) (hs : List HeaderRecord) (n : ℕ) (owner : Owner) → is_port owner ≡ false → AreLawful ports next hs → AreLawful ports next (changed n (given_to owner) hs)
+give_lawful ports next hs n owner free L = changed_lawful ports next hs n (given_to owner) (record { number = λ r. refl; port = λ r. refl; peer = λ r. refl; owned = λ r p key o. absurd (no_port_owns key owner free o) }) L
 
 pub mark_lawful : (ports : List PortKey) (next : ℕ) (hs : List HeaderRecord) (ns : List ℕ) (mark : Mark) → AreLawful ports next hs → AreLawful ports next (first_marked ns (Some mark) hs)
 mark_lawful ports next hs [] mark L = L
-mark_lawful ports next hs (n ∷ ns) mark L = changed_lawful ports next hs n (marked (Some mark)) (record { number = λ r. refl; port = λ r. refl; peer = λ r. refl }) L
+mark_lawful ports next hs (n ∷ ns) mark L = changed_lawful ports next hs n (marked (Some mark)) (record { number = λ r. refl; port = λ r. refl; peer = λ r. refl; owned = λ r p. p }) L
 
 -- ---- headers are cleared where they stand
 
@@ -138,6 +176,7 @@ clear_lawful ports next hs q L = record {
   numbered = Each-map (IsNumbered next) (λ r. cleared_where (q r) r) hs (λ r p. rw (where_number (q r) r) p) L.numbered;
   placed = Each-map (IsPlaced ports) (λ r. cleared_where (q r) r) hs (λ r p. rw (where_number (q r) r) p) L.placed;
   few = λ k. rw (count_where q (is_for k) hs) (L.few k);
+  owned = Each-map IsOwned (λ r. cleared_where (q r) r) hs (λ r p. subst IsMadeForOwner (sym (where_number (q r) r)) p) L.owned;
 }
 
 -- ---- a header is made
@@ -172,16 +211,27 @@ few_made hs state k l a b = elim (key_tells state.port k) [
 ]
 
 pub populate_lawful : (ports : List PortKey) (next : ℕ) (hs : List HeaderRecord) (state : HeaderState) → state.number ≡ next → has_key state.port ports ≡ true
-    → count_headers (is_for state.port) hs < 32 → HasFewer (λ key. count_headers (is_for key) hs) state.peer → AreLawful ports next hs → AreLawful ports (next + 1) (hs ++ record { state = state; load = no_load } ∷ [])
-populate_lawful ports next hs state num there a b L =
-    let x : HeaderRecord = record { state = state; load = no_load } in
+    → is_home_among state.port state.peer state.home ≡ true → state.owner ≡ home_owner state.home
+    → count_headers (is_for state.port) hs < 32 → HasFewer (λ key. count_headers (is_for key) hs) state.peer → AreLawful ports next hs → AreLawful ports (next + 1) (hs ++ record { state = state; load = empty_load None } ∷ [])
+populate_lawful ports next hs state num there home owner a b L =
+    let x : HeaderRecord = record { state = state; load = empty_load None } in
     let gone : find_header x.state.number hs ≡ None = rw num (fresh_number ports next hs L) in
     record {
       once = once-append hs x L.once gone;
       numbered = Each-append (IsNumbered (next + 1)) hs x (numbered_more next hs L.numbered) (omega (arith, num));
       placed = Each-append (IsPlaced ports) hs x L.placed there;
       few = λ k. rw (count-append (is_for k) hs x) (few_made hs state k (L.few k) a b);
+      owned = Each-append IsOwned hs x L.owned (home_owned state home owner);
     }
+
+-- ---- each header that a port has was made for that port
+
+owned_state : (o : Option HeaderRecord) (h : HeaderState) → ((r : HeaderRecord) → o ≡ Some r → IsOwned r) → option_map state_of o ≡ Some h → IsMadeForOwner h
+owned_state None h k e = absurd cc
+owned_state (Some r) h k e = let q : r.state ≡ h = cc in subst IsMadeForOwner q (k r refl)
+
+pub lawful_owner : (ports : List PortKey) (next : ℕ) (hs : List HeaderRecord) (n : ℕ) (h : HeaderState) → AreLawful ports next hs → option_map state_of (find_header n hs) ≡ Some h → IsMadeForOwner h
+lawful_owner ports next hs n h L e = owned_state (find_header n hs) h (λ r x. Each-find IsOwned n hs r x L.owned) e
 
 -- ---- room
 

@@ -6,13 +6,13 @@ use Rattle.il_machine.specs.declared.port.PortKey.{PortKey}
 use Rattle.il_machine.specs.declared.header.Place.TheVariants.{Out}
 use Rattle.il_machine.specs.declared.header.HeaderState.{HeaderState}
 use Rattle.il_machine.specs.World.{HeaderRecord}
-use Rattle.il_machine.specs.Headers.{count_headers, find_header, is_for, no_load}
-use Rattle.il_machine.specs.Stock.{populated}
+use Rattle.il_machine.specs.Headers.{count_headers, empty_load, find_header, is_for}
+use Rattle.il_machine.specs.Stock.{home_owner, populated}
 use Rattle.header_core.specs.BufferHeader.{BufferHeader}
 use Rattle.stock_laws.proofs.Flat.{find-append}
 use Rattle.port_stock.specs.declared.entry.Entry.{Entry}
 use Rattle.port_stock.specs.Kept.{Kept, stocked}
-use Rattle.port_stock.specs.Conditions.{HasFewer, IsHeaderOf, IsOutside, IsPort, has_key, made_in}
+use Rattle.port_stock.specs.Conditions.{HasFewer, IsHeaderOf, IsOutside, IsPort, has_key, is_home_among, made_in}
 use Rattle.port_stock.specs.Entries.{AreLawful, headers_of}
 use Rattle.port_stock.proofs.Stocking.{kept, reads, stocked-is, populate_read, unnumbered}
 use Rattle.port_stock.proofs.Lawful.{fresh_number, lawful_room, populate_lawful}
@@ -36,12 +36,12 @@ room k es key len places L h n r p m =
     omega arith
 
 pub populate_becomes : (k : Kept) (hs : List HeaderRecord) (state : HeaderState) → AreLawful k.ports k.next k.headers → state.number ≡ k.next → state.place ≡ Out
-    → IsPort state.port (stocked k) → made_in (stocked k) state.port < 32 → HasFewer (made_in (stocked k)) state.peer
-    → hs ≡ k.headers ++ record { state = state; load = no_load } ∷ [] → Becomes k.key k.ports hs (k.next + 1) (populated state (stocked k))
-populate_becomes k hs state L num o p m q h =
+    → IsPort state.port (stocked k) → is_home_among state.port state.peer state.home ≡ true → state.owner ≡ home_owner state.home → made_in (stocked k) state.port < 32 → HasFewer (made_in (stocked k)) state.peer
+    → hs ≡ k.headers ++ record { state = state; load = empty_load None } ∷ [] → Becomes k.key k.ports hs (k.next + 1) (populated state (stocked k))
+populate_becomes k hs state L num o p home owner m q h =
     let P : List HeaderRecord → Type 0 = AreLawful k.ports (k.next + 1) in
     record {
-      lawful = subst P (sym h) (populate_lawful k.ports k.next k.headers state num (port_kept k state.port p) (few_kept k state.port m) (few_peer k state.peer q) L);
+      lawful = subst P (sym h) (populate_lawful k.ports k.next k.headers state num (port_kept k state.port p) home owner (few_kept k state.port m) (few_peer k state.peer q) L);
       is = stocked-is k.key k.ports hs (k.next + 1) _ (populate_read k hs state L.once (fresh_number k.ports k.next k.headers L) num o h);
     }
 
@@ -49,9 +49,9 @@ pub new_number : (k : Kept) → AreLawful k.ports k.next k.headers → (stocked 
 new_number k L = unnumbered k (fresh_number k.ports k.next k.headers L)
 
 pub made_outside : (k : Kept) (hs : List HeaderRecord) (state : HeaderState) (header : BufferHeader) → AreLawful k.ports k.next k.headers → state.number ≡ k.next → state.place ≡ Out → header.held.number ≡ k.next
-    → header.key ≡ k.key → IsHeaderOf state header → hs ≡ k.headers ++ record { state = state; load = no_load } ∷ [] → IsOutside header (stocked (kept k.key k.ports hs (k.next + 1)))
+    → header.key ≡ k.key → IsHeaderOf state header → hs ≡ k.headers ++ record { state = state; load = empty_load None } ∷ [] → IsOutside header (stocked (kept k.key k.ports hs (k.next + 1)))
 made_outside k hs state header L num o n own f h =
-    let x : HeaderRecord = record { state = state; load = no_load } in
+    let x : HeaderRecord = record { state = state; load = empty_load None } in
     let gone : find_header state.number k.headers ≡ None = rw num (fresh_number k.ports k.next k.headers L) in
     let now : find_header header.held.number hs ≡ Some x
     = ap (find_header header.held.number) h ∙ (find-append header.held.number k.headers x gone ∙ let e : state.number ≡ header.held.number = num ∙ sym n in grind (arith, nat_tests)) in

@@ -10,7 +10,7 @@ use Rattle.il_machine.specs.declared.header.Spot.{Spot}
 use Rattle.il_machine.specs.declared.header.Spot.TheVariants.{TodoBack, TodoFront, DoneBack}
 use Rattle.il_machine.specs.declared.header.HeaderState.{HeaderState}
 use Rattle.il_machine.specs.World.{HeaderRecord, Load}
-use Rattle.il_machine.specs.Headers.{Seen, seen, changed, cleared, cleared_all, find_header, given_to, in_todo, in_done, in_unmarked, is_state, load_of, loaded, no_load, numbers, put, put_at, spot_place, state_of, without, Once}
+use Rattle.il_machine.specs.Headers.{Seen, seen, changed, cleared_all, empty_load, find_header, given_to, in_todo, in_done, in_unmarked, is_state, load_of, loaded, numbers, put, put_at, spot_place, state_of, unloaded, without, Once}
 use Rattle.il_machine.specs.Due.{first_marked, marked}
 use Rattle.il_machine.specs.Stock.{Stocked, StandsFor, at_number, given, populated, pulled, pulled_front, pushed, sent, sent_front, state_out, withdrawn}
 use Rattle.stock_laws.specs.Changes.{cleared_where, done_cleared, emptied, front_marked, load_marked, marked_first, out_of_list, todo_cleared}
@@ -20,6 +20,7 @@ use Rattle.stock_laws.proofs.Leaving.{fronts, front_some}
 use Rattle.stock_laws.proofs.Composed.{Taken, pull_taken, send_taken}
 use Rattle.stock_laws.proofs.Clearing.{all_cleared_where, clear_done_stands, clear_todo_stands, emptied-is, find-map, is_in, is_in_none, is_in_passes, mark_stands}
 use Rattle.port_stock.specs.Kept.{Kept, is_waiting, kept_load, stocked}
+use Rattle.port_stock.specs.Entries.{record_out}
 use Rattle.port_stock.proofs.Changing.{todo_waits, done_waits}
 
 abbrev pub kept : ℕ → List PortKey → List HeaderRecord → ℕ → Kept
@@ -126,12 +127,12 @@ made_loads hs x gone o m = ap kept_load (find-append m hs x gone) ∙ elim (eqb_
 ]
 
 pub populate_read : (k : Kept) (hs : List HeaderRecord) (state : HeaderState) → Once k.headers → find_header k.next k.headers ≡ None → state.number ≡ k.next → state.place ≡ Out
-    → hs ≡ k.headers ++ record { state = state; load = no_load } ∷ [] → ReadAs k.key k.ports hs (k.next + 1) (populated state (stocked k))
+    → hs ≡ k.headers ++ record { state = state; load = empty_load None } ∷ [] → ReadAs k.key k.ports hs (k.next + 1) (populated state (stocked k))
 populate_read k hs state once gone num o h =
     let R = reads k in
-    let x : HeaderRecord = record { state = state; load = no_load } in
+    let x : HeaderRecord = record { state = state; load = empty_load None } in
     let g : find_header state.number k.headers ≡ None = rw num gone in
-    let T = populate_stands (stocked k) k.headers state no_load (stocked-stands k once) (unnumbered k gone) (num ∙ R.next) o in
+    let T = populate_stands (stocked k) k.headers state (empty_load None) (stocked-stands k once) (unnumbered k gone) (num ∙ R.next) o in
     record {
       key = R.key;
       ports = R.ports;
@@ -159,15 +160,15 @@ withdraw_read k hs n r once e o h =
 -- ---- the front of a list leaves it
 
 out_loads : (hs : List HeaderRecord) (n : ℕ) (r : HeaderRecord) → find_header n hs ≡ Some r → (m : ℕ)
-    → kept_load (find_header m (changed n (λ x. cleared (out_of_list x)) hs)) ≡ at_number n None (λ k. kept_load (find_header k hs)) m
-out_loads hs n r e m = ap kept_load (find-changed m n (λ x. cleared (out_of_list x)) hs r e refl) ∙ elim (nat_eq m n) as (λ v. kept_load (if v then Some (cleared (out_of_list r)) else find_header m hs) ≡ (if v then None else kept_load (find_header m hs))) [ true ↦ refl | false ↦ refl ]
+    → kept_load (find_header m (changed n record_out hs)) ≡ at_number n None (λ k. kept_load (find_header k hs)) m
+out_loads hs n r e m = ap kept_load (find-changed m n record_out hs r e refl) ∙ elim (nat_eq m n) as (λ v. kept_load (if v then Some (record_out r) else find_header m hs) ≡ (if v then None else kept_load (find_header m hs))) [ true ↦ refl | false ↦ refl ]
 
 -- the value whose header of the number is out of its list is read of the list where it carries nothing
-out_looks : (t : Stocked) (hs : List HeaderRecord) (n : ℕ) → Taken t n hs → seen (changed n (λ x. cleared (out_of_list x)) hs) ≡ t.headers
+out_looks : (t : Stocked) (hs : List HeaderRecord) (n : ℕ) → Taken t n hs → seen (changed n record_out hs) ≡ t.headers
 out_looks t hs n T =
-    let F = load_free t (changed n out_of_list hs) n no_load (state_out T.state) T.stands T.shown refl T.unkept in
+    let F = load_free t (changed n out_of_list hs) n (empty_load None) (state_out T.state) T.stands T.shown refl T.unkept in
     let Q : List HeaderRecord → Type 0 = λ v. seen v ≡ t.headers in
-    subst Q (changed-changed n out_of_list (loaded no_load) hs (λ _. refl)) F.looks
+    subst Q (changed-changed n out_of_list (loaded (empty_load None)) hs (λ _. refl)) F.looks
 
 pub todo_read : (k : Kept) (key : PortKey) → numbers (is_state (in_todo key)) k.headers ≡ (stocked k).headers.todo key
 todo_read k key = ap (λ (v : Seen). v.todo key) (reads k).looks
@@ -188,7 +189,7 @@ pulled_next : (key : PortKey) (n : ℕ) (ns : List ℕ) (s : Stocked) → s.head
 pulled_next key n ns s e = ap (λ (v : List ℕ). (pulled_front key v s).next) e
 
 pub pull_read : (k : Kept) (hs : List HeaderRecord) (key : PortKey) (n : ℕ) → Once k.headers → slice_get (numbers (is_state (in_todo key)) k.headers) 0 ≡ Some n
-    → hs ≡ changed n (λ x. cleared (out_of_list x)) k.headers → ReadAs k.key k.ports hs k.next (pulled key (stocked k))
+    → hs ≡ changed n record_out k.headers → ReadAs k.key k.ports hs k.next (pulled key (stocked k))
 pull_read k hs key n once f h =
     let R = reads k in
     let list = front_some (numbers (is_state (in_todo key)) k.headers) n f in
@@ -224,7 +225,7 @@ sent_next : (key : PortKey) (n : ℕ) (ns : List ℕ) (s : Stocked) → s.header
 sent_next key n ns s e = ap (λ (v : List ℕ). (sent_front key v s).next) e
 
 pub send_read : (k : Kept) (hs : List HeaderRecord) (key : PortKey) (n : ℕ) → Once k.headers → slice_get (numbers (is_state (in_done key)) k.headers) 0 ≡ Some n
-    → hs ≡ changed n (λ x. cleared (out_of_list x)) k.headers → ReadAs k.key k.ports hs k.next (sent key (stocked k))
+    → hs ≡ changed n record_out k.headers → ReadAs k.key k.ports hs k.next (sent key (stocked k))
 send_read k hs key n once f h =
     let R = reads k in
     let list = front_some (numbers (is_state (in_done key)) k.headers) n f in
@@ -250,12 +251,12 @@ send_none k key e =
 -- ---- headers are cleared where they stand, and the first without a mark gets one
 
 where_loads : (q : HeaderRecord → Bool) (hs : List HeaderRecord) (m : ℕ) → Once hs → ((r : HeaderRecord) → q r ≡ true → is_waiting r.state.place ≡ true) → (o : Option HeaderRecord) → find_header m hs ≡ o
-    → kept_load (option_map (λ r. cleared_where (q r) r) o) ≡ (if is_in m (numbers q hs) then Some no_load else kept_load o)
+    → kept_load (option_map (λ r. cleared_where (q r) r) o) ≡ (if is_in m (numbers q hs) then option_map unloaded (kept_load o) else kept_load o)
 where_loads q hs m once w None e = rw (is_in_none q m hs e) refl
 where_loads q hs m once w (Some r) e =
     let num = find_number m hs r e in
     let t : is_in m (numbers q hs) ≡ q r = ap (λ (k : ℕ). is_in k (numbers q hs)) (sym num) ∙ is_in_passes q m hs r once e in
-    rw t (elim (q r) as (λ v. q r ≡ v → kept_load (Some (cleared_where v r)) ≡ (if v then Some no_load else kept_load (Some r)))
+    rw t (elim (q r) as (λ v. q r ≡ v → kept_load (Some (cleared_where v r)) ≡ (if v then option_map unloaded (kept_load (Some r)) else kept_load (Some r)))
     [ true ↦ λ h. rw (w r h) refl | false ↦ λ h. refl ] refl)
 
 where_state : (b : Bool) (r : HeaderRecord) → (cleared_where b r).state ≡ r.state
@@ -267,7 +268,7 @@ cleared_loads : (q : HeaderRecord → Bool) (hs : List HeaderRecord) (f : ℕ �
 cleared_loads q hs f once w g m =
     ap kept_load (find-map (λ r. cleared_where (q r) r) (λ r. where_state (q r) r) m hs)
     ∙ (where_loads q hs m once w (find_header m hs) refl
-    ∙ (ap (λ (o : Option Load). if is_in m (numbers q hs) then Some no_load else o) (g m)
+    ∙ (ap (λ (o : Option Load). if is_in m (numbers q hs) then option_map unloaded o else o) (g m)
     ∙ sym (emptied-is (numbers q hs) f m)))
 
 pub clear_todo_read : (k : Kept) (hs : List HeaderRecord) (key : PortKey) → Once k.headers → hs ≡ map (λ r. cleared_where (in_todo key r.state) r) k.headers → ReadAs k.key k.ports hs k.next (todo_cleared key (stocked k))

@@ -8,7 +8,7 @@ use Rattle.il_machine.specs.declared.header.Owner.TheVariants as owners
 use Rattle.il_machine.specs.declared.header.Place.TheVariants.{Out}
 use Rattle.il_machine.specs.declared.header.HeaderState.{HeaderState}
 use Rattle.il_machine.specs.Lists.{holds_at}
-use Rattle.il_machine.specs.Headers.{is_for, is_key, same_key}
+use Rattle.il_machine.specs.Headers.{is_for, is_key, is_owned_by, same_key}
 use Rattle.il_machine.specs.Buffers.{load_in}
 use Rattle.il_machine.specs.Stock.{Stocked}
 use Rattle.header_core.specs.BufferHeader.{BufferHeader, is_clients}
@@ -68,6 +68,14 @@ number_of header = header.held.number
 
 abbrev pub IsMadeFor : PortKey → BufferHeader → Stocked → Type 0
 IsMadeFor key header s = holds_at (s.headers.header header.held.number) (is_for key) ≡ true
+
+-- where a port has the header, it was made for that port
+abbrev pub IsMadeForOwner : HeaderState → Type 0
+IsMadeForOwner h = (key : PortKey) → is_owned_by key h.owner ≡ true → is_for key h ≡ true
+
+-- each header that a port has was made for that port
+abbrev pub AreMadeForOwners : Stocked → Type 0
+AreMadeForOwners s = (number : ℕ) (h : HeaderState) → s.headers.header number ≡ Some h → IsMadeForOwner h
 
 -- the header of the number is made, and in no list
 abbrev pub IsOut : ℕ → Stocked → Type 0

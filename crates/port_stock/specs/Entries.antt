@@ -4,17 +4,17 @@ use Rattle.il_machine.specs.declared.port.PortKey.{PortKey}
 use Rattle.il_machine.specs.declared.header.Spot.{Spot}
 use Rattle.il_machine.specs.declared.header.Spot.TheVariants.{TodoBack, TodoFront, DoneBack}
 use Rattle.il_machine.specs.World.{HeaderRecord, Load}
-use Rattle.il_machine.specs.Headers.{no_load, Once, count_headers, is_for, numbers, find_header, changed, cleared}
+use Rattle.il_machine.specs.Headers.{empty_load, Once, count_headers, is_for, loaded, numbers, find_header, changed}
 use Rattle.il_machine.specs.Stock.{state_out}
 use Rattle.il_machine.specs.Buffers.{load_in}
 use Rattle.header_core.specs.BufferHeader.{BufferHeader, cleared as emptied_header}
 use Rattle.stock_laws.specs.Changes.{out_of_list}
 use Rattle.port_stock.specs.declared.entry.Entry.{Entry}
 use Rattle.port_stock.specs.Kept.{is_waiting}
-use Rattle.port_stock.specs.Conditions.{has_key, IsHeaderOf}
+use Rattle.port_stock.specs.Conditions.{has_key, IsHeaderOf, IsMadeForOwner}
 
 abbrev pub load_of_kept : Option BufferHeader → Load
-load_of_kept None = no_load
+load_of_kept None = empty_load None
 load_of_kept (Some header) = load_in header.held
 
 abbrev pub record_of : Entry → HeaderRecord
@@ -29,11 +29,15 @@ entry_at TodoBack e entries = entries ++ e ∷ []
 entry_at TodoFront e entries = e ∷ entries
 entry_at DoneBack e entries = entries ++ e ∷ []
 
+-- the header is no longer kept, with all that it carries
+abbrev pub record_out : HeaderRecord → HeaderRecord
+record_out r = loaded (empty_load None) (out_of_list r)
+
 -- the header at the front of the numbers left its list, and was given out with all that was kept of it
 pub record IsTaken (test : HeaderRecord → Bool) (header : BufferHeader) (old new : List HeaderRecord) : Type 0 where
   pub front : slice_get (numbers test old) 0 ≡ Some header.held.number
   pub was : MatchOption (find_header header.held.number old) ⊥ (λ r. (test r ≡ true) × (r.load ≡ load_in header.held) × IsHeaderOf r.state header)
-  pub after : new ≡ changed header.held.number (λ r. cleared (out_of_list r)) old
+  pub after : new ≡ changed header.held.number record_out old
 
 abbrev pub entry_out : Entry → Entry
 entry_out e = record { state = state_out e.state; kept = None }
@@ -64,12 +68,13 @@ AreOf key entries = Each (HasKey key) entries
 abbrev pub KeepsKeys : List Entry → List Entry → Type 0
 KeepsKeys old new = (key : ℕ) → AreOf key old → AreOf key new
 
--- Numbers differ and were given, and no more than 32 headers are made for a port.
+-- Numbers differ and were given, no more than 32 headers are made for a port, and a port has only headers that were made for it.
 pub record AreLawful (ports : List PortKey) (next : ℕ) (headers : List HeaderRecord) : Type 0 where
   pub once : Once headers
   pub numbered : Each (λ r. r.state.number < next) headers
   pub placed : Each (λ r. has_key r.state.port ports ≡ true) headers
   pub few : (key : PortKey) → count_headers (is_for key) headers ≤ 32
+  pub owned : Each (λ r. IsMadeForOwner r.state) headers
 
 -- There is a place for each header that can be made.
 pub record IsLawful (key : ℕ) (ports : List PortKey) (entries : List Entry) (next places : ℕ) : Type 0 where

@@ -2,7 +2,7 @@
 
 ghost use Rattle.std.specs.Prelude.{◌≡◌, ℕ, ◌<◌, ◌+◌, ◌∷◌, ◌++◌, [], length, map, option_map, nat_eq, position, slice_get, slice_set, slice_index_or, remove, Some, None, IfSome, IsSome, MatchOption, is_none, not, ◌&&◌, vec_len, vec_capacity};
 ghost use Rattle.il_machine.specs.declared.header.Place.TheVariants.{Out};
-ghost use Rattle.il_machine.specs.Headers.{Once, changed, count_headers, find_header, given_to, in_todo, in_done, in_unmarked, is_away, is_for, is_home_of, is_owned_by, is_state, state_of, loaded, no_load, numbers, put, without};
+ghost use Rattle.il_machine.specs.Headers.{Once, changed, count_headers, find_header, given_to, in_todo, in_done, in_unmarked, is_away, is_for, is_home_of, is_owned_by, is_state, state_of, empty_load, loaded, numbers, put, without};
 ghost use Rattle.il_machine.specs.Lists.{is_empty};
 ghost use Rattle.il_machine.specs.Buffers.{is_block, load_in};
 ghost use Rattle.il_machine.specs.Due.{first_marked};
@@ -145,7 +145,7 @@ pub fn add(entries: &mut Vec<Entry>, state: HeaderState)
     requires kept { Each IsKept entries.old.items }
     requires out { state.place ≡ Out }
     ensures headers { headers_of entries.new.items
-        ≡ headers_of entries.old.items ++ record { state = state; load = no_load } ∷ [] }
+        ≡ headers_of entries.old.items ++ record { state = state; load = empty_load None } ∷ [] }
     ensures kept { Each IsKept entries.new.items }
     ensures keys { KeepsKeys entries.old.items entries.new.items }
     ensures capacity { vec_capacity entries.new ≡ vec_capacity entries.old }

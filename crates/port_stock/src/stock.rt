@@ -3,10 +3,10 @@ ghost use Rattle.il_machine.specs.Lists.{is_empty};
 ghost use Rattle.il_machine.specs.Headers.{in_todo, in_done, is_away, is_for, is_home_of, is_owned_by};
 ghost use Rattle.il_machine.specs.Buffers.{is_block, load_in};
 ghost use Rattle.il_machine.specs.Stock.{added, given, made_header, no_stock, populated, pulled, pushed, removed, sent, withdrawn};
-ghost use Rattle.header_core.specs.BufferHeader.{bytes_of, fresh, is_clients};
+ghost use Rattle.header_core.specs.BufferHeader.{bytes_of, fresh, is_clients, own_memory};
 ghost use Rattle.stock_laws.specs.Changes.{done_cleared, marked_first, todo_cleared};
 ghost use Rattle.port_stock.specs.Kept.{stocked};
-ghost use Rattle.port_stock.specs.Conditions.{HasFewer, IsFrom, IsMadeFor, IsOut, IsOutside, IsPeer, IsPort, IsUnmade, IsWithoutPorts, is_home_among, is_port, made_in, number_of};
+ghost use Rattle.port_stock.specs.Conditions.{AreMadeForOwners, HasFewer, IsFrom, IsMadeFor, IsOut, IsOutside, IsPeer, IsPort, IsUnmade, IsWithoutPorts, is_home_among, is_port, made_in, number_of};
 
 use crate::entry::{Entry, owner_at};
 use crate::{OutOfMemory, entries, ports};
@@ -129,6 +129,7 @@ impl Stock {
     pub fn withdraw(&mut self, header: Header) -> Store
         requires { IsOutside header (stocked self.old) }
         ensures store { result ≡ header.store }
+        ensures memory { own_memory result ≡ header.held.memory }
         ensures stock { stocked self.new ≡ withdrawn header.held.number (stocked self.old) }
     {
         entries::remove(&mut self.entries, header.id());
@@ -278,6 +279,13 @@ impl Stock {
         ensures below { result ≡ true → (stocked self.now).next < 18446744073709551615 }
     {
         is_given(self.next)
+    }
+
+    /// Each header that a port has was made for that port.
+    pub fn law_of_owners(&self)
+        ensures { AreMadeForOwners (stocked self.now) }
+    {
+        let _ = &self.entries;
     }
 
     /// Ends a stock for which no header is made.

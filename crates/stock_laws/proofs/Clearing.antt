@@ -5,7 +5,7 @@ use Rattle.il_machine.specs.declared.port.PortKey.{PortKey}
 use Rattle.il_machine.specs.declared.port.Mark.{Mark}
 use Rattle.il_machine.specs.declared.header.HeaderState.{HeaderState}
 use Rattle.il_machine.specs.World.{HeaderRecord, Load}
-use Rattle.il_machine.specs.Headers.{Seen, seen, numbers, find_header, load_at, load_of, changed, cleared, cleared_all, no_load, has_number, Once, count_headers, state_of, is_state, in_todo, in_done, in_unmarked, same_key}
+use Rattle.il_machine.specs.Headers.{Seen, seen, numbers, find_header, load_at, load_of, changed, cleared, cleared_all, empty_load, unloaded, has_number, Once, count_headers, state_of, is_state, in_todo, in_done, in_unmarked, same_key}
 use Rattle.il_machine.specs.Due.{marked, first_marked}
 use Rattle.il_machine.specs.Stock.{Stocked, StandsFor, at_key, at_number}
 use Rattle.il_machine.proofs.Looking.{same_seen}
@@ -56,14 +56,15 @@ in_state : (ns : List ℕ) (r : HeaderRecord) → (cleared_in ns r).state ≡ r.
 in_state [] r = refl
 in_state (n ∷ ns) r = in_state ns (cleared_where (has_number n r) r) ∙ where_state (has_number n r) r
 
-cleared_stays : (ns : List ℕ) (r : HeaderRecord) → r.load ≡ no_load → (cleared_in ns r).load ≡ no_load
-cleared_stays [] r e = e
-cleared_stays (n ∷ ns) r e = cleared_stays ns (cleared_where (has_number n r) r) (elim (has_number n r) as (λ v. (cleared_where v r).load ≡ no_load) [ true ↦ refl | false ↦ e ])
+cleared_stays : (ns : List ℕ) (r : HeaderRecord) (memory : Option (List ℕ)) → r.load ≡ empty_load memory → (cleared_in ns r).load ≡ empty_load memory
+cleared_stays [] r memory e = e
+cleared_stays (n ∷ ns) r memory e = cleared_stays ns (cleared_where (has_number n r) r) memory
+    (elim (has_number n r) as (λ v. (cleared_where v r).load ≡ empty_load memory) [ true ↦ ap unloaded e | false ↦ e ])
 
-in_load : (ns : List ℕ) (r : HeaderRecord) → is_in r.state.number ns ≡ true → (cleared_in ns r).load ≡ no_load
+in_load : (ns : List ℕ) (r : HeaderRecord) → is_in r.state.number ns ≡ true → (cleared_in ns r).load ≡ unloaded r.load
 in_load [] r h = absurd cc
-in_load (n ∷ ns) r h = elim (nat_eq r.state.number n) as (λ v. (v || is_in r.state.number ns) ≡ true → (cleared_in ns (cleared_where v r)).load ≡ no_load)
-    [ true ↦ λ e. cleared_stays ns (cleared r) refl | false ↦ λ e. in_load ns r e ] h
+in_load (n ∷ ns) r h = elim (nat_eq r.state.number n) as (λ v. (v || is_in r.state.number ns) ≡ true → (cleared_in ns (cleared_where v r)).load ≡ unloaded r.load)
+    [ true ↦ λ e. cleared_stays ns (cleared r) r.load.memory refl | false ↦ λ e. in_load ns r e ] h
 
 out_same : (ns : List ℕ) (r : HeaderRecord) → is_in r.state.number ns ≡ false → cleared_in ns r ≡ r
 out_same [] r h = refl
@@ -126,20 +127,29 @@ module _ (f : HeaderRecord → HeaderRecord) (same : (r : HeaderRecord) → (f r
 
 -- ---- every header of a list is cleared
 
-pub emptied-is : (ns : List ℕ) (f : ℕ → Option Load) (m : ℕ) → emptied ns f m ≡ (if is_in m ns then Some no_load else f m)
-emptied-is [] f m = refl
-emptied-is (n ∷ ns) f m =
-    emptied-is ns (at_number n (Some no_load) f) m
-    ∙ elim (nat_eq m n) as (λ v. (if is_in m ns then Some no_load else (if v then Some no_load else f m)) ≡ (if v || is_in m ns then Some no_load else f m))
-    [ true ↦ elim (is_in m ns) as (λ v. (if v then Some no_load else Some no_load) ≡ Some no_load) [ true ↦ refl | false ↦ refl ] | false ↦ refl ]
+abbrev unloaded_where : Bool → Option Load → Option Load
+unloaded_where b o = if b then option_map unloaded o else o
 
-in_carries : (q : HeaderRecord → Bool) (hs : List HeaderRecord) (m : ℕ) → is_in m (numbers q hs) ≡ true → load_at m (map (cleared_in (numbers q hs)) hs) ≡ Some no_load
+unloaded_again : (b : Bool) (o : Option Load) → unloaded_where b (option_map unloaded o) ≡ option_map unloaded o
+unloaded_again true None = refl
+unloaded_again true (Some load) = refl
+unloaded_again false o = refl
+
+pub emptied-is : (ns : List ℕ) (f : ℕ → Option Load) (m : ℕ) → emptied ns f m ≡ (if is_in m ns then option_map unloaded (f m) else f m)
+emptied-is [] f m = refl
+emptied-is (n ∷ ns) f m = emptied-is ns (at_number n (option_map unloaded (f n)) f) m ∙ elim (eqb_tells m n) [
+  | inl x ↦ rw x.0 (unloaded_again (is_in m ns) (f n) ∙ ap (λ k. option_map unloaded (f k)) (sym x.1))
+  | inr x ↦ rw x.0 refl
+]
+
+in_carries : (q : HeaderRecord → Bool) (hs : List HeaderRecord) (m : ℕ) → is_in m (numbers q hs) ≡ true → load_at m (map (cleared_in (numbers q hs)) hs) ≡ option_map unloaded (load_at m hs)
 in_carries q hs m h =
     let ns = numbers q hs in
     let F = found_in q m hs (find_header m hs) refl h in
     let num : F.0.state.number ≡ m = find_number m hs F.0 F.1 in
     let inside : is_in F.0.state.number ns ≡ true = rw num h in
     ap (option_map load_of) (find-map (cleared_in ns) (in_state ns) m hs ∙ ap (option_map (cleared_in ns)) F.1) ∙ ap (λ (z : Load). Some z) (in_load ns F.0 inside)
+    ∙ ap (λ (z : Option HeaderRecord). option_map unloaded (option_map load_of z)) (sym F.1)
 
 out_by : (ns : List ℕ) (hs : List HeaderRecord) (m : ℕ) (o : Option HeaderRecord) → find_header m hs ≡ o → is_in m ns ≡ false → option_map (cleared_in ns) o ≡ o
 out_by ns hs m None e h = refl
@@ -151,12 +161,16 @@ out_by ns hs m (Some r) e h =
 out_carries_on : (ns : List ℕ) (hs : List HeaderRecord) (m : ℕ) → is_in m ns ≡ false → load_at m (map (cleared_in ns) hs) ≡ load_at m hs
 out_carries_on ns hs m h = ap (option_map load_of) (find-map (cleared_in ns) (in_state ns) m hs ∙ out_by ns hs m (find_header m hs) refl h)
 
+unloaded_carries : (o x : Option Load) → ((l : Load) → o ≡ Some l → x ≡ Some l) → (l : Load) → option_map unloaded o ≡ Some l → option_map unloaded x ≡ Some l
+unloaded_carries None x k l h = absurd cc
+unloaded_carries (Some load) x k l h = ap (option_map unloaded) (k load refl) ∙ h
+
 cleared_carries : (q : HeaderRecord → Bool) (hs : List HeaderRecord) (f : ℕ → Option Load) → ((k : ℕ) (l : Load) → f k ≡ Some l → load_at k hs ≡ Some l)
     → (m : ℕ) (l : Load) → emptied (numbers q hs) f m ≡ Some l → load_at m (map (cleared_in (numbers q hs)) hs) ≡ Some l
 cleared_carries q hs f k m l h =
     let ns = numbers q hs in
-    elim (is_in m ns) as (λ v. is_in m ns ≡ v → (if v then Some no_load else f m) ≡ Some l → load_at m (map (cleared_in ns) hs) ≡ Some l)
-    [ true ↦ λ e g. in_carries q hs m e ∙ g | false ↦ λ e g. out_carries_on ns hs m e ∙ k m l g ] refl (sym (emptied-is ns f m) ∙ h)
+    elim (is_in m ns) as (λ v. is_in m ns ≡ v → (if v then option_map unloaded (f m) else f m) ≡ Some l → load_at m (map (cleared_in ns) hs) ≡ Some l)
+    [ true ↦ λ e g. in_carries q hs m e ∙ unloaded_carries (f m) (load_at m hs) (k m) l g | false ↦ λ e g. out_carries_on ns hs m e ∙ k m l g ] refl (sym (emptied-is ns f m) ∙ h)
 
 cleared_once : (ns : List ℕ) (hs : List HeaderRecord) → Once hs → Once (cleared_all ns hs)
 cleared_once [] hs o = o
@@ -195,7 +209,7 @@ all_unmarked key hs once =
     let ns = numbers q hs in
     numbers-map (cleared_in ns) (in_state ns) (in_unmarked key) q hs (each_found (λ r. in_unmarked key (cleared_in ns r) ≡ q r) hs once (λ n r e.
     elim (q r) as (λ v. q r ≡ v → in_unmarked key (cleared_in ns r) ≡ v) [
-      | true ↦ λ t. let l : (cleared_in ns r).load ≡ no_load = in_load ns r (is_in_passes q n hs r once e ∙ t) in rw (in_state ns r, l, t) refl
+      | true ↦ λ t. let l : (cleared_in ns r).load ≡ unloaded r.load = in_load ns r (is_in_passes q n hs r once e ∙ t) in rw (in_state ns r, l, t) refl
       | false ↦ λ t. rw (in_state ns r, t) refl
     ] refl))
 

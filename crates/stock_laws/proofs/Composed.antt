@@ -7,10 +7,10 @@ use Rattle.il_machine.specs.declared.header.Place.TheVariants.{Out}
 use Rattle.il_machine.specs.declared.header.Spot.{Spot}
 use Rattle.il_machine.specs.declared.header.HeaderState.{HeaderState}
 use Rattle.il_machine.specs.World.{HeaderRecord, Load}
-use Rattle.il_machine.specs.Headers.{find_header, load_at, load_of, without, changed, at_spot, put, put_at, loaded, cleared, unchanged, no_load, given_to}
+use Rattle.il_machine.specs.Headers.{find_header, load_at, load_of, without, changed, at_spot, put, put_at, loaded, cleared, unchanged, unloaded, given_to}
 use Rattle.il_machine.specs.Stock.{Stocked, StandsFor, pushed, pulled, pulled_front, sent, sent_front, given, populated, withdrawn, state_out}
 use Rattle.stock_laws.specs.Changes.{out_of_list, front_out}
-use Rattle.stock_laws.proofs.Flat.{find_number, find-changed, find-append, without-changed, without-append, changed-changed}
+use Rattle.stock_laws.proofs.Flat.{find_number, find-changed, find-append, without-changed, without-append, changed-changed, changed-as}
 use Rattle.stock_laws.proofs.Keys.{at_number-same}
 use Rattle.stock_laws.proofs.Standing.{Found, found, missing, load_free, push_stands, give_stands, populate_stands, withdraw_stands}
 use Rattle.stock_laws.proofs.Leaving.{front_of_todo, front_of_done, pull_stands, send_stands}
@@ -56,17 +56,28 @@ taken_put t hs n key spot load T =
     let Q : List HeaderRecord → Type 0 = λ v. StandsFor (pushed key spot n load t) v in
     subst Q (put_out key spot n load hs T.found.it T.found.is) (push_stands t (changed n out_of_list hs) key spot n load (state_out T.state) T.stands T.shown refl)
 
+load_is : (n : ℕ) (load : Load) (hs : List HeaderRecord) (r : HeaderRecord) → find_header n hs ≡ Some r → load_at n hs ≡ Some load → r.load ≡ load
+load_is n load hs r e l = let same : Some r.load ≡ Some load = ap (option_map load_of) (sym e) ∙ l in cc
+
 -- with what it carried it is put unchanged
 put_same : (key : PortKey) (spot : Spot) (n : ℕ) (load : Load) (hs : List HeaderRecord) (r : HeaderRecord) → find_header n hs ≡ Some r → load_at n hs ≡ Some load → put key spot n (loaded load) hs ≡ put key spot n unchanged hs
-put_same key spot n load hs r e l =
-    let same : Some r.load ≡ Some load = ap (option_map load_of) (sym e) ∙ l in
-    let it : r.load ≡ load = cc in
-    rw (e, ← it) refl
+put_same key spot n load hs r e l = rw (e, ← load_is n load hs r e l) refl
+
+-- with nothing but the memory that it carried it is put cleared
+put_unloaded : (key : PortKey) (spot : Spot) (n : ℕ) (load : Load) (hs : List HeaderRecord) (r : HeaderRecord) → find_header n hs ≡ Some r → load_at n hs ≡ Some load
+    → put key spot n (loaded (unloaded load)) hs ≡ put key spot n cleared hs
+put_unloaded key spot n load hs r e l = rw (e, ← load_is n load hs r e l) refl
 
 pub taken_put_back : (t : Stocked) (hs : List HeaderRecord) (n : ℕ) (key : PortKey) (spot : Spot) (load : Load) → Taken t n hs → load_at n hs ≡ Some load → StandsFor (pushed key spot n load t) (put key spot n unchanged hs)
 taken_put_back t hs n key spot load T l =
     let Q : List HeaderRecord → Type 0 = λ v. StandsFor (pushed key spot n load t) v in
     subst Q (put_same key spot n load hs T.found.it T.found.is l) (taken_put t hs n key spot load T)
+
+pub taken_put_cleared : (t : Stocked) (hs : List HeaderRecord) (n : ℕ) (key : PortKey) (spot : Spot) (load : Load) → Taken t n hs → load_at n hs ≡ Some load
+    → StandsFor (pushed key spot n (unloaded load) t) (put key spot n cleared hs)
+taken_put_cleared t hs n key spot load T l =
+    let Q : List HeaderRecord → Type 0 = λ v. StandsFor (pushed key spot n (unloaded load) t) v in
+    subst Q (put_unloaded key spot n load hs T.found.it T.found.is l) (taken_put t hs n key spot (unloaded load) T)
 
 -- ---- then it is given to an owner, or unmade
 
@@ -79,6 +90,13 @@ taken_given t hs n owner load T =
     = changed-changed n (loaded load) (given_to owner) vs (λ _. refl) ∙ changed-changed n out_of_list (λ r. given_to owner (loaded load r)) hs (λ _. refl) in
     let Q : List HeaderRecord → Type 0 = λ v. StandsFor (given n owner t) v in
     subst Q e (give_stands t us n owner (state_out T.state) U T.shown refl)
+
+-- it keeps the memory that it has
+pub taken_given_cleared : (t : Stocked) (hs : List HeaderRecord) (n : ℕ) (owner : Owner) → Taken t n hs → StandsFor (given n owner t) (changed n (λ r. given_to owner (cleared r)) hs)
+taken_given_cleared t hs n owner T =
+    let load = unloaded T.found.it.load in
+    let Q : List HeaderRecord → Type 0 = λ v. StandsFor (given n owner t) v in
+    subst Q (changed-as n (λ r. given_to owner (loaded load r)) (λ r. given_to owner (cleared r)) hs T.found.it T.found.is refl) (taken_given t hs n owner load T)
 
 pub taken_unmade : (t : Stocked) (hs : List HeaderRecord) (n : ℕ) → Taken t n hs → StandsFor (withdrawn n t) (without n hs)
 taken_unmade t hs n T =
@@ -113,13 +131,13 @@ pub pull_put_back : (s : Stocked) (hs : List HeaderRecord) (key peer : PortKey) 
     → StandsFor (pushed peer spot n load (pulled key s)) (put peer spot n unchanged hs)
 pull_put_back s hs key peer spot n ns load S e l = taken_put_back (pulled key s) hs n peer spot load (pull_taken s hs key n ns S e) (S.loads n load l)
 
-pub pull_put_cleared : (s : Stocked) (hs : List HeaderRecord) (key peer : PortKey) (spot : Spot) (n : ℕ) (ns : List ℕ) → StandsFor s hs → s.headers.todo key ≡ n ∷ ns
-    → StandsFor (pushed peer spot n no_load (pulled key s)) (put peer spot n cleared hs)
-pull_put_cleared s hs key peer spot n ns S e = taken_put (pulled key s) hs n peer spot no_load (pull_taken s hs key n ns S e)
+pub pull_put_cleared : (s : Stocked) (hs : List HeaderRecord) (key peer : PortKey) (spot : Spot) (n : ℕ) (ns : List ℕ) (load : Load) → StandsFor s hs → s.headers.todo key ≡ n ∷ ns → s.loads n ≡ Some load
+    → StandsFor (pushed peer spot n (unloaded load) (pulled key s)) (put peer spot n cleared hs)
+pull_put_cleared s hs key peer spot n ns load S e l = taken_put_cleared (pulled key s) hs n peer spot load (pull_taken s hs key n ns S e) (S.loads n load l)
 
 pub pull_give : (s : Stocked) (hs : List HeaderRecord) (key : PortKey) (owner : Owner) (n : ℕ) (ns : List ℕ) → StandsFor s hs → s.headers.todo key ≡ n ∷ ns
     → StandsFor (given n owner (pulled key s)) (changed n (λ r. given_to owner (cleared r)) hs)
-pull_give s hs key owner n ns S e = taken_given (pulled key s) hs n owner no_load (pull_taken s hs key n ns S e)
+pull_give s hs key owner n ns S e = taken_given_cleared (pulled key s) hs n owner (pull_taken s hs key n ns S e)
 
 pub pull_unmade : (s : Stocked) (hs : List HeaderRecord) (key : PortKey) (n : ℕ) (ns : List ℕ) → StandsFor s hs → s.headers.todo key ≡ n ∷ ns
     → StandsFor (withdrawn n (pulled key s)) (without n hs)
@@ -133,13 +151,13 @@ pub send_put_back : (s : Stocked) (hs : List HeaderRecord) (key peer : PortKey) 
     → StandsFor (pushed peer spot n load (sent key s)) (put peer spot n unchanged hs)
 send_put_back s hs key peer spot n ns load S e l = taken_put_back (sent key s) hs n peer spot load (send_taken s hs key n ns S e) (S.loads n load l)
 
-pub send_put_cleared : (s : Stocked) (hs : List HeaderRecord) (key peer : PortKey) (spot : Spot) (n : ℕ) (ns : List ℕ) → StandsFor s hs → s.headers.done key ≡ n ∷ ns
-    → StandsFor (pushed peer spot n no_load (sent key s)) (put peer spot n cleared hs)
-send_put_cleared s hs key peer spot n ns S e = taken_put (sent key s) hs n peer spot no_load (send_taken s hs key n ns S e)
+pub send_put_cleared : (s : Stocked) (hs : List HeaderRecord) (key peer : PortKey) (spot : Spot) (n : ℕ) (ns : List ℕ) (load : Load) → StandsFor s hs → s.headers.done key ≡ n ∷ ns → s.loads n ≡ Some load
+    → StandsFor (pushed peer spot n (unloaded load) (sent key s)) (put peer spot n cleared hs)
+send_put_cleared s hs key peer spot n ns load S e l = taken_put_cleared (sent key s) hs n peer spot load (send_taken s hs key n ns S e) (S.loads n load l)
 
 pub send_give : (s : Stocked) (hs : List HeaderRecord) (key : PortKey) (owner : Owner) (n : ℕ) (ns : List ℕ) → StandsFor s hs → s.headers.done key ≡ n ∷ ns
     → StandsFor (given n owner (sent key s)) (changed n (λ r. given_to owner (cleared r)) hs)
-send_give s hs key owner n ns S e = taken_given (sent key s) hs n owner no_load (send_taken s hs key n ns S e)
+send_give s hs key owner n ns S e = taken_given_cleared (sent key s) hs n owner (send_taken s hs key n ns S e)
 
 pub send_unmade : (s : Stocked) (hs : List HeaderRecord) (key : PortKey) (n : ℕ) (ns : List ℕ) → StandsFor s hs → s.headers.done key ≡ n ∷ ns
     → StandsFor (withdrawn n (sent key s)) (without n hs)

@@ -100,6 +100,11 @@ pub changed-changed : (n : ℕ) (f g : HeaderRecord → HeaderRecord) (hs : List
 changed-changed n f g [] k = refl
 changed-changed n f g (x ∷ hs) k = grind (arith, nat_tests, k x, changed-changed n f g hs k)
 
+-- a change does to the header of the number what another does
+pub changed-as : (n : ℕ) (f g : HeaderRecord → HeaderRecord) (hs : List HeaderRecord) (r : HeaderRecord) → find_header n hs ≡ Some r → f r ≡ g r → changed n f hs ≡ changed n g hs
+changed-as n f g [] r e k = refl
+changed-as n f g (x ∷ hs) r e k = grind (arith, nat_tests, changed-as n f g hs r)
+
 pub without-append : (n : ℕ) (hs : List HeaderRecord) (r : HeaderRecord) → find_header n hs ≡ None → r.state.number ≡ n → without n (hs ++ r ∷ []) ≡ hs
 without-append n [] r h e = grind (arith, nat_tests)
 without-append n (x ∷ hs) r h e = grind (arith, nat_tests, without-append n hs r)

@@ -3,7 +3,7 @@ use Rattle.std.specs.Prelude.{ℕ, Bool, true, false, List, [], ◌∷◌, Optio
 use Rattle.il_machine.specs.declared.port.PortKey.{PortKey}
 use Rattle.il_machine.specs.declared.port.Mark.{Mark}
 use Rattle.il_machine.specs.World.{HeaderRecord, Load}
-use Rattle.il_machine.specs.Headers.{changed, cleared, no_load}
+use Rattle.il_machine.specs.Headers.{changed, cleared, unloaded}
 use Rattle.il_machine.specs.Stock.{Stocked, state_out, at_key, at_number}
 
 -- ---- flat lists
@@ -25,7 +25,7 @@ cleared_where false r = r
 
 abbrev pub emptied : List ℕ → (ℕ → Option Load) → ℕ → Option Load
 emptied [] loads = loads
-emptied (number ∷ rest) loads = emptied rest (at_number number (Some no_load) loads)
+emptied (number ∷ rest) loads = emptied rest (at_number number (option_map unloaded (loads number)) loads)
 
 -- every header of todo is cleared where it stands
 abbrev pub todo_cleared : PortKey → Stocked → Stocked

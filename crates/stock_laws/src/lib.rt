@@ -11,7 +11,7 @@ ghost use Rattle.il_machine.specs.declared.header.Place.TheVariants.{Out};
 ghost use Rattle.il_machine.specs.declared.header.Spot.{Spot};
 ghost use Rattle.il_machine.specs.declared.header.HeaderState.{HeaderState};
 ghost use Rattle.il_machine.specs.World.{HeaderRecord, Load};
-ghost use Rattle.il_machine.specs.Headers.{at_spot, changed, cleared, cleared_all, given_to, in_done, in_todo, loaded, no_load, put, put_at, unchanged, weight, without};
+ghost use Rattle.il_machine.specs.Headers.{at_spot, changed, cleared, cleared_all, given_to, in_done, in_todo, loaded, put, put_at, unchanged, unloaded, weight, without};
 ghost use Rattle.il_machine.specs.Due.{first_marked};
 ghost use Rattle.il_machine.specs.Stock.{StandsFor, Stocked, added, given, no_stock, populated, pulled, pushed, removed, sent, withdrawn};
 ghost use Rattle.stock_laws.specs.Changes.{done_cleared, front_out, marked_first, todo_cleared};
@@ -66,9 +66,9 @@ pub fn law_of_todo()
     ensures unchanged { (s : Stocked) (hs : List HeaderRecord) (key peer : PortKey) (spot : Spot) (n : ℕ) (ns : List ℕ) (load : Load) →
         StandsFor s hs → s.headers.todo key ≡ n ∷ ns → s.loads n ≡ Some load →
         StandsFor (pushed peer spot n load (pulled key s)) (put peer spot n unchanged hs) }
-    ensures cleared { (s : Stocked) (hs : List HeaderRecord) (key peer : PortKey) (spot : Spot) (n : ℕ) (ns : List ℕ) →
-        StandsFor s hs → s.headers.todo key ≡ n ∷ ns →
-        StandsFor (pushed peer spot n no_load (pulled key s)) (put peer spot n cleared hs) }
+    ensures cleared { (s : Stocked) (hs : List HeaderRecord) (key peer : PortKey) (spot : Spot) (n : ℕ) (ns : List ℕ) (load : Load) →
+        StandsFor s hs → s.headers.todo key ≡ n ∷ ns → s.loads n ≡ Some load →
+        StandsFor (pushed peer spot n (unloaded load) (pulled key s)) (put peer spot n cleared hs) }
     ensures given { (s : Stocked) (hs : List HeaderRecord) (key : PortKey) (owner : Owner) (n : ℕ) (ns : List ℕ) →
         StandsFor s hs → s.headers.todo key ≡ n ∷ ns →
         StandsFor (given n owner (pulled key s)) (changed n (λ r. given_to owner (cleared r)) hs) }
@@ -85,9 +85,9 @@ pub fn law_of_done()
     ensures unchanged { (s : Stocked) (hs : List HeaderRecord) (key peer : PortKey) (spot : Spot) (n : ℕ) (ns : List ℕ) (load : Load) →
         StandsFor s hs → s.headers.done key ≡ n ∷ ns → s.loads n ≡ Some load →
         StandsFor (pushed peer spot n load (sent key s)) (put peer spot n unchanged hs) }
-    ensures cleared { (s : Stocked) (hs : List HeaderRecord) (key peer : PortKey) (spot : Spot) (n : ℕ) (ns : List ℕ) →
-        StandsFor s hs → s.headers.done key ≡ n ∷ ns →
-        StandsFor (pushed peer spot n no_load (sent key s)) (put peer spot n cleared hs) }
+    ensures cleared { (s : Stocked) (hs : List HeaderRecord) (key peer : PortKey) (spot : Spot) (n : ℕ) (ns : List ℕ) (load : Load) →
+        StandsFor s hs → s.headers.done key ≡ n ∷ ns → s.loads n ≡ Some load →
+        StandsFor (pushed peer spot n (unloaded load) (sent key s)) (put peer spot n cleared hs) }
     ensures given { (s : Stocked) (hs : List HeaderRecord) (key : PortKey) (owner : Owner) (n : ℕ) (ns : List ℕ) →
         StandsFor s hs → s.headers.done key ≡ n ∷ ns →
         StandsFor (given n owner (sent key s)) (changed n (λ r. given_to owner (cleared r)) hs) }

@@ -1,5 +1,5 @@
 use Rattle.std.proofs.Common.{◌≡◌, ◌≤◌, ◌+◌, ◌-◌, List, ℕ, length, take, drop, ap, arith, length-take}
-use Rattle.header_core.specs.BufferHeader.{BufferHeader, bytes_of}
+use Rattle.header_core.specs.BufferHeader.{BufferHeader, bytes_of, own_memory}
 use Rattle.header_core.proofs.Ranges.{drop-range}
 use Rattle.header_core.proofs.header.Header.advance.Goals as goal
 
@@ -13,7 +13,7 @@ returns c =
     let within : i.start + n ≤ i.used = omega (arith, c.self.invariant.3) in
     let with : List ℕ → BufferHeader = λ bytes. record {
       key = i.key;
-      held = record { number = i.number; size = i.size; content = bytes; flags = i.flags; mark = i.mark };
+      held = record { number = i.number; size = i.size; content = bytes; flags = i.flags; mark = i.mark; memory = own_memory i.store };
       store = i.store;
     } in
     rw (← c.self.view_is) (ap with (drop-range (bytes_of i.store) i.start n i.used within))

@@ -36,7 +36,7 @@ made c = record {
 
 becomes : (c : goal.After-new) → Becomes c.self.inside.key c.self.inside.ports.items (headers_of c.add.new.entries.items) (c.self.inside.next + 1) (populated (made c) (stocked (kept c.self.inside.key c.self.inside.ports.items (headers_of c.self.inside.entries.items) c.self.inside.next)))
 becomes c =
-    populate_becomes (kept c.self.inside.key c.self.inside.ports.items (headers_of c.self.inside.entries.items) c.self.inside.next) _ (made c) c.self.invariant.headers refl refl (rw (c.self.view_is) c.requires.port) (rw (c.self.view_is) c.requires.few) (rw (c.self.view_is) c.requires.few_of_peer) c.add.ensures.headers
+    populate_becomes (kept c.self.inside.key c.self.inside.ports.items (headers_of c.self.inside.entries.items) c.self.inside.next) _ (made c) c.self.invariant.headers refl refl (rw (c.self.view_is) c.requires.port) c.requires.home c.owner_at.ensures (rw (c.self.view_is) c.requires.few) (rw (c.self.view_is) c.requires.few_of_peer) c.add.ensures.headers
 
 -- the state is the one that contracts name
 named : (c : goal.After-new) → made c ≡ made_header (stocked (kept c.self.inside.key c.self.inside.ports.items (headers_of c.self.inside.entries.items) c.self.inside.next)).next c.args.port c.args.peer c.args.home c.args.size (is_clients c.args.store)

@@ -15,7 +15,7 @@ old : goal.After-put → Kept
 old c = kept c.self.inside.key c.self.inside.ports.items (headers_of c.self.inside.entries.items) c.self.inside.next
 
 becomes : (c : goal.After-put) → Becomes c.self.inside.key c.self.inside.ports.items (headers_of c.put.new.entries.items) c.self.inside.next (pushed c.args.port c.args.spot c.args.header.held.number (load_in c.args.header.held) (stocked (kept c.self.inside.key c.self.inside.ports.items (headers_of c.self.inside.entries.items) c.self.inside.next)))
-becomes c = push_becomes (kept c.self.inside.key c.self.inside.ports.items (headers_of c.self.inside.entries.items) c.self.inside.next) _ c.args.port c.args.spot c.args.header c.self.invariant.headers (rw (c.self.view_is) c.requires.outside) c.put.ensures.headers
+becomes c = push_becomes (kept c.self.inside.key c.self.inside.ports.items (headers_of c.self.inside.entries.items) c.self.inside.next) _ c.args.port c.args.spot c.args.header c.self.invariant.headers (rw (c.self.view_is) c.requires.outside) (rw (c.self.view_is) c.requires.made_for) c.put.ensures.headers
 
 -- the header that is put has the key of those that are there
 kept_keys : (c : goal.After-put) → AreOf c.self.inside.key c.put.new.entries.items
