@@ -1,2 +1,3 @@
 pub mod ResetSteps
 pub mod Tunnels
+pub mod Marks

@@ -1,5 +1,5 @@
 -- The headers of a tunnel, made and put one after the other.
-use Rattle.std.proofs.Common.{◌≡◌, ℕ, ◌+◌, ◌-◌, ◌≤◌, [], ◌∷◌, Bool, true, false, ◌||◌, nat_eq, Option, Some, option_map, refl, sym, ◌∙◌, ap, subst, arith}
+use Rattle.std.proofs.Common.{◌≡◌, ℕ, ◌+◌, ◌-◌, ◌≤◌, [], ◌∷◌, Bool, true, false, ◌||◌, nat_eq, Option, Some, option_map, refl, sym, ◌∙◌, ap, arith}
 use Rattle.std.proofs.lemmas.Bool.Decides.{nat_tests}
 use Rattle.il_machine.specs.declared.port.PortKey.{PortKey}
 use Rattle.il_machine.specs.declared.header.HeaderState.{HeaderState}
@@ -8,14 +8,12 @@ use Rattle.il_machine.specs.declared.header.Spot.{Spot}
 use Rattle.il_machine.specs.declared.header.Spot.TheVariants.{TodoBack, TodoFront, DoneBack}
 use Rattle.il_machine.specs.World.{Load}
 use Rattle.il_machine.specs.Lists.{holds_at}
-use Rattle.il_machine.specs.Headers.{is_for, is_owned_by, same_key, state_at, weight}
+use Rattle.il_machine.specs.Headers.{is_for, same_key, state_at, weight}
 use Rattle.il_machine.specs.Stock.{Stocked, added, made_header, no_stock, populated, pulled, pulled_front, pushed, sent, sent_front, times_passed}
 use Rattle.machine_laws.proofs.Keys.{for_peer, for_port, key_is}
 use Rattle.machine_laws.proofs.Finding.{either}
 use Rattle.port_stock.specs.Conditions.{made_in}
-use Rattle.flush_mark.specs.Leading.{AreOwn}
 use Rattle.flush_mark.specs.Example.{IsEnd, IsTunnel, input, output}
-use Rattle.flush_mark.proofs.ResetSteps.{at_number_is, own_pushed}
 
 abbrev new_header : ℕ → PortKey → HeaderState
 new_header number home = made_header number input (Some output) (Port home) 4 false
@@ -23,7 +21,6 @@ new_header number home = made_header number input (Some output) (Port home) 4 fa
 pub begun : (key : ℕ) → IsTunnel (added 3 2 (no_stock key))
 begun key = record {
   ports = refl;
-  own = λ port number h e o. absurd cc;
   few = λ port. omega arith;
 }
 
@@ -38,14 +35,6 @@ end_for key home number e =
     (λ f. either (same_key key output)
     (λ t. for_peer key made (ap Some (sym (key_is key output t))))
     (λ u. absurd (let z : false ≡ true = rw (f, u) at h in cc)))
-
-own_made : (s : Stocked) (home : PortKey) → AreOwn s → IsEnd home → AreOwn (populated (new_header s.next home) s)
-own_made s home A H key m k e o = at_number_is s.next m (Some (new_header s.next home)) s.headers.header k e (is_for key k ≡ true)
-    (λ q x.
-    let w : new_header s.next home ≡ k = cc in
-    let same = key_is home key (subst (λ (v : HeaderState). is_owned_by key v.owner ≡ true) (sym w) o) in
-    subst (λ (v : HeaderState). is_for key v ≡ true) w (end_for key home s.next (subst IsEnd same H)))
-    (λ x. A key m k x o)
 
 there : (s : Stocked) (home : PortKey) → (populated (new_header s.next home) s).headers.header s.next ≡ Some (new_header s.next home)
 there s home = let q : nat_eq s.next s.next ≡ true = grind (arith, nat_tests) in rw q refl
@@ -72,10 +61,9 @@ few_pushed s home at key DoneBack load = few_counted s home at key DoneBack
 pushed_ports : (s : Stocked) (at : PortKey) (spot : Spot) (n : ℕ) (load : Load) → (pushed at spot n load s).ports ≡ s.ports
 pushed_ports s at spot n load = refl
 
-pub placed : (s : Stocked) (home at : PortKey) (spot : Spot) (load : Load) → IsTunnel s → IsEnd home → IsEnd at → IsTunnel (pushed at spot s.next load (populated (new_header s.next home) s))
-placed s home at spot load T H A = record {
+pub placed : (s : Stocked) (home at : PortKey) (spot : Spot) (load : Load) → IsTunnel s → IsTunnel (pushed at spot s.next load (populated (new_header s.next home) s))
+placed s home at spot load T = record {
   ports = T.ports;
-  own = own_pushed (populated (new_header s.next home) s) at spot s.next load (own_made s home T.own H) (made_for s home at A);
   few = λ key. let a = few_pushed s home at key spot load in let b = T.few key in omega arith;
 }
 

@@ -4,7 +4,6 @@ use Rattle.il_machine.specs.declared.port.PortKey.{PortKey}
 use Rattle.il_machine.specs.Stock.{Stocked}
 use Rattle.header_core.specs.BufferHeader.{BufferHeader, is_clients}
 use Rattle.port_stock.specs.Conditions.{has_key, made_in}
-use Rattle.flush_mark.specs.Leading.{AreOwn}
 
 abbrev pub input : PortKey
 input = record { component = 3; port = 0 }
@@ -23,7 +22,6 @@ HasBoth s = s.ports ≡ both
 
 pub record IsTunnel (s : Stocked) : Type 0 where
   pub ports : HasBoth s
-  pub own : AreOwn s
   pub few : (key : PortKey) → made_in s key ≤ s.next
 
 -- the header is still the same one

@@ -1,33 +1,37 @@
 //! The end of a flush: whether it is due, and the reset of the headers at home.
 
-ghost use Rattle.std.specs.Prelude.{◌≡◌, true, false};
+ghost use Rattle.std.specs.Prelude.{◌≡◌, ◌&&◌, true, false};
+ghost use Rattle.il_machine.specs.declared.port.Port.{Port};
+ghost use Rattle.il_machine.specs.World.{Component};
 ghost use Rattle.il_machine.specs.Headers.{reset};
-ghost use Rattle.il_machine.specs.Due.{reset_port};
+ghost use Rattle.il_machine.specs.Due.{is_flush_due, reset_port};
 ghost use Rattle.port_stock.specs.Kept.{stocked};
 ghost use Rattle.port_stock.specs.Conditions.{IsPort};
 ghost use Rattle.flush_mark.specs.Flushing.{is_flushed};
-ghost use Rattle.flush_mark.specs.Leading.{AreOwn, Leads};
+ghost use Rattle.flush_mark.specs.Leading.{Leads};
 
 use il_machine::{Port, PortKey, Spot};
 use port_stock::Stock;
 use tunnel_rules::is_supplier;
 
-/// Whether the port has no header in its lists but those that are at home there.
+/// Whether the port has no header in its lists but those that are at home there: then the end of its flush is due.
 pub fn flush_settled(stock: &Stock, port: PortKey) -> bool
     requires { IsPort port (stocked stock.now) }
-    ensures { result ≡ is_flushed (stocked stock.now).headers port }
+    ensures settled { result ≡ is_flushed (stocked stock.now).headers port }
+    ensures due { (c : Component) (p : Port) → p.key ≡ port →
+        is_flush_due (stocked stock.now).headers c p ≡ (p.state.flushing && result) }
 {
     stock.foreign(port) == 0
 }
 
 /// The headers of `todo` go in order to the back of `done`, and all are cleared.
 fn todo_to_done(stock: &mut Stock, key: PortKey)
-    requires port { IsPort key (stocked stock.old) }
-    requires own { AreOwn (stocked stock.old) }
+    requires { IsPort key (stocked stock.old) }
     ensures { Leads (reset true key) (stocked stock.old) (stocked stock.new) }
 {
     stock.clear_done(key);
     while let Some(mut header) = stock.pull_work(key) {
+        stock.law_of_owners();
         header.clear();
         stock.push_work(key, header, Spot::DoneBack);
     }
@@ -35,12 +39,12 @@ fn todo_to_done(stock: &mut Stock, key: PortKey)
 
 /// The headers of `done` go in order to the back of `todo`, and all are cleared.
 fn done_to_todo(stock: &mut Stock, key: PortKey)
-    requires port { IsPort key (stocked stock.old) }
-    requires own { AreOwn (stocked stock.old) }
+    requires { IsPort key (stocked stock.old) }
     ensures { Leads (reset false key) (stocked stock.old) (stocked stock.new) }
 {
     stock.clear_todo(key);
     while let Some(mut sent) = stock.send_front(key) {
+        stock.law_of_owners();
         sent.clear();
         stock.push_work(key, sent, Spot::TodoBack);
     }
@@ -49,8 +53,7 @@ fn done_to_todo(stock: &mut Stock, key: PortKey)
 /// Resets the headers in the lists of the port, where it supplies its tunnel. By the time that a flush ends or Idle is reached only
 /// those at home are there, which the call doesn't ask.
 pub fn reset_home(stock: &mut Stock, port: Port)
-    requires port { IsPort port.key (stocked stock.old) }
-    requires own { AreOwn (stocked stock.old) }
+    requires { IsPort port.key (stocked stock.old) }
     ensures { Leads (reset_port port) (stocked stock.old) (stocked stock.new) }
 {
     if !is_supplier(port) {

@@ -101,7 +101,6 @@ fn place(stock: &mut Stock, bytes: Vec<u8>, home: PortKey, at: (PortKey, Spot), 
     requires tunnel { IsTunnel (stocked stock.old) }
     requires few { (stocked stock.old).next < 32 }
     requires bytes { length bytes.items ≡ 4 }
-    requires home { IsEnd home }
     requires among { is_home_among input (Some output) (homes.Port home) ≡ true }
     requires at { IsEnd at.0 }
     ensures tunnel { IsTunnel (stocked stock.new) }

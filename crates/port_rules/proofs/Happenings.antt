@@ -1,5 +1,5 @@
 -- What each due thing makes of a component, and of the ports and headers.
-use Rattle.std.proofs.Common.{◌≡◌, inl, inr, ℕ, ◌<◌, Bool, true, false, is_some, List, [], ◌∷◌, Option, Some, None, IsSome, IsSomeAnd, MatchOption, refl, sym, ◌∙◌, ap, subst}
+use Rattle.std.proofs.Common.{◌≡◌, inl, inr, ℕ, ◌<◌, Bool, true, false, is_some, Option, Some, None, IsSome, IsSomeAnd, MatchOption, refl, sym, ◌∙◌, ap, subst}
 use Rattle.std.proofs.lemmas.Bool.{and_parts}
 use Rattle.std.proofs.lemmas.Option.{slice_get_within}
 use Rattle.omx_types.specs.declared.command.Event.TheVariants.{CmdComplete}
@@ -18,14 +18,12 @@ use Rattle.il_machine.specs.Ports.{is_steady}
 use Rattle.il_machine.specs.Stock.{Stocked, StandsFor}
 use Rattle.il_machine.specs.Sound.{IsSound}
 use Rattle.il_machine.specs.Due.{Transition, Flush, PortMode, WaitingMark, due_in, is_due_to, arrived, transition_happened, flush_happened, mode_happened, mark_happened, mode_completion, all_told, first_marked, reset_port, reset_on, at_port}
-use Rattle.stock_laws.specs.Changes.{front_marked, marked_first}
-use Rattle.stock_laws.proofs.Clearing.{mark_stands}
 use Rattle.machine_laws.proofs.Change.{IsChange}
 use Rattle.machine_laws.proofs.Lookups.{port_parts}
 use Rattle.machine_laws.proofs.Arriving.{sound_arrived, change_arrived, state_there, sound_let_go, change_let_go, flushed_places, steady_places, marked_places}
 use Rattle.machine_laws.proofs.Happening.{due_where, due_changes}
 use Rattle.il_component.specs.PortChanges.{flush_ended, mode_ended, mark_ended}
-use Rattle.flush_mark.specs.Leading.{AreOwn, Leads}
+use Rattle.flush_mark.specs.Leading.{Leads}
 use Rattle.port_rules.specs.Happened.{Happened, IsInOrder}
 use Rattle.flush_mark.proofs.ResetSteps.{unchanged}
 use Rattle.port_rules.proofs.Noticed.{keeps_reset_port, keeps_reset_on, keeps_marked}
@@ -102,7 +100,7 @@ pub mode_happens : (c d : Component) (s : Stocked) (n : ℕ) (p : Port) → IsIn
 mode_happens c d s n p I e z q = record {
   change = λ hs. hs;
   after = λ i w. ap (λ (o : Option Port). at_port o (mode_happened i c) w) e ∙ ap (λ (x : Component). with_component i x w) (sym q);
-  stock = unchanged s I.own;
+  stock = unchanged s;
   notices = λ hs m r o f y. refl;
   component = subst (IsChange c) (sym q) (mode_parts c n p p.state.mode I.sound e refl z).1;
   sound = subst IsSound (sym q) (mode_sound c n p I.sound e z);
@@ -110,43 +108,27 @@ mode_happens c d s n p I e z q = record {
 
 -- ---- a mark
 
-front_ports : (key : PortKey) (mark : Mark) (ns : List ℕ) (s : Stocked) → (front_marked key mark ns s).ports ≡ s.ports
-front_ports key mark [] s = refl
-front_ports key mark (n ∷ ns) s = refl
-
-front_key : (key : PortKey) (mark : Mark) (ns : List ℕ) (s : Stocked) → (front_marked key mark ns s).key ≡ s.key
-front_key key mark [] s = refl
-front_key key mark (n ∷ ns) s = refl
-
-front_next : (key : PortKey) (mark : Mark) (ns : List ℕ) (s : Stocked) → (front_marked key mark ns s).next ≡ s.next
-front_next key mark [] s = refl
-front_next key mark (n ∷ ns) s = refl
-
-front_own : (key : PortKey) (mark : Mark) (ns : List ℕ) (s : Stocked) → AreOwn s → AreOwn (front_marked key mark ns s)
-front_own key mark [] s A = A
-front_own key mark (n ∷ ns) s A = A
-
-marked_leads : (s t : Stocked) (key : PortKey) (mark : Mark) → AreOwn s → t ≡ marked_first key mark s → Leads (λ hs. first_marked ((seen hs).unmarked key) (Some mark) hs) s t
-marked_leads s t key mark A q = subst (Leads (λ hs. first_marked ((seen hs).unmarked key) (Some mark) hs) s) (sym q) (record {
-  stands = λ hs S. subst (StandsFor (marked_first key mark s)) (ap (λ (v : Seen). first_marked (v.unmarked key) (Some mark) hs) (sym S.looks)) (mark_stands s hs key mark S);
-  key = front_key key mark (s.headers.unmarked key) s;
-  ports = front_ports key mark (s.headers.unmarked key) s;
-  next = front_next key mark (s.headers.unmarked key) s;
-  own = front_own key mark (s.headers.unmarked key) s A;
-})
+-- the list of those without a mark is that of each flat list
+marked_leads : (s t : Stocked) (key : PortKey) (mark : Mark) → Leads (first_marked (s.headers.unmarked key) (Some mark)) s t → Leads (λ hs. first_marked ((seen hs).unmarked key) (Some mark) hs) s t
+marked_leads s t key mark L = record {
+  stands = λ hs S. subst (StandsFor t) (ap (λ (v : Seen). first_marked (v.unmarked key) (Some mark) hs) (sym S.looks)) (L.stands hs S);
+  key = L.key;
+  ports = L.ports;
+  next = L.next;
+}
 
 pub mark_sound : (c : Component) (n : ℕ) (p : Port) → IsSound c → port_of c n ≡ Some p → is_some p.state.waiting_mark ≡ true → IsSound (mark_ended p c)
 mark_sound c n p S e m = sound_let_go (CmdComplete (completions.Mark p.key.port)) p.key.port (record p.state { waiting_mark = None }) p.state c S (state_there c n p e) (marked_places p.state m)
 
-pub mark_happens : (c d : Component) (s t : Stocked) (n : ℕ) (p : Port) (mark : Mark) → IsInOrder c s → port_of c n ≡ Some p → p.state.waiting_mark ≡ Some mark → d ≡ mark_ended p c → t ≡ marked_first p.key mark s → Happened (WaitingMark n) c d s t
-mark_happens c d s t n p mark I e m q r =
+pub mark_happens : (c d : Component) (s t : Stocked) (n : ℕ) (p : Port) (mark : Mark) → IsInOrder c s → port_of c n ≡ Some p → p.state.waiting_mark ≡ Some mark → d ≡ mark_ended p c → Leads (first_marked (s.headers.unmarked p.key) (Some mark)) s t → Happened (WaitingMark n) c d s t
+mark_happens c d s t n p mark I e m q L =
     let y : is_some p.state.waiting_mark ≡ true = rw m refl in
     record {
       change = λ hs. first_marked ((seen hs).unmarked p.key) (Some mark) hs;
       after = λ i w. ap (λ (o : Option Port). at_port o (mark_happened i c) w) e
           ∙ (ap (λ (o : Option Mark). record (with_component i (mark_ended p c) w) { headers = first_marked ((seen w.headers).unmarked p.key) o w.headers }) m
           ∙ ap (λ (x : Component). record (with_component i x w) { headers = first_marked ((seen w.headers).unmarked p.key) (Some mark) w.headers }) (sym q));
-      stock = marked_leads s t p.key mark I.own r;
+      stock = marked_leads s t p.key mark L;
       notices = keeps_marked p.key mark;
       component = subst (IsChange c) (sym q) (change_let_go (CmdComplete (completions.Mark p.key.port)) p.key.port (record p.state { waiting_mark = None }) p.state c (state_there c n p e) refl);
       sound = subst IsSound (sym q) (mark_sound c n p I.sound e y);

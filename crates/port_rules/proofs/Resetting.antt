@@ -21,5 +21,4 @@ port_step change old s t ps i p e B R = record {
   key = R.key ∙ B.key;
   ports = R.ports ∙ B.ports;
   next = R.next ∙ B.next;
-  own = R.own;
 }

@@ -6,7 +6,7 @@ use Rattle.il_machine.specs.Due.{Thing, happened}
 use Rattle.il_machine.specs.Sound.{IsSound}
 use Rattle.il_machine.specs.Stock.{Stocked}
 use Rattle.machine_laws.proofs.Change.{IsChange}
-use Rattle.flush_mark.specs.Leading.{AreOwn, Leads}
+use Rattle.flush_mark.specs.Leading.{Leads}
 use Rattle.port_rules.specs.Tests.{HasAllPorts}
 
 -- the change leaves headers in notices as they are
@@ -23,8 +23,7 @@ pub record Happened (thing : Thing) (c d : Component) (s t : Stocked) : Type 0 w
   pub component : IsChange c d
   pub sound : IsSound d
 
--- the component is sound, its ports are the stock's, and each header that a port has was made for it
+-- the component is sound, and its ports are the stock's
 pub record IsInOrder (c : Component) (s : Stocked) : Type 0 where
   pub sound : IsSound c
   pub ports : HasAllPorts c s
-  pub own : AreOwn s

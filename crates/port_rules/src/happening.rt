@@ -6,7 +6,7 @@ ghost use Rattle.il_machine.specs.Ports.{is_steady};
 ghost use Rattle.il_machine.specs.Due.{reset_on, reset_ports, due_in, Transition, Flush, PortMode, WaitingMark};
 ghost use Rattle.il_component.specs.Entries.{component_of, KeepsNotices};
 ghost use Rattle.port_stock.specs.Kept.{stocked};
-ghost use Rattle.flush_mark.specs.Leading.{AreOwn, Leads};
+ghost use Rattle.flush_mark.specs.Leading.{Leads};
 ghost use Rattle.port_rules.specs.Tests.{HasAllPorts, thing_of};
 ghost use Rattle.port_rules.specs.Happened.{Happened, IsInOrder};
 
@@ -18,8 +18,7 @@ use port_stock::Stock;
 
 /// The headers at home in each port of the component are reset.
 fn reset_ports<C>(stock: &mut Stock, component: &Component<C>)
-    requires ports { HasAllPorts (component_of component.now) (stocked stock.old) }
-    requires own { AreOwn (stocked stock.old) }
+    requires { HasAllPorts (component_of component.now) (stocked stock.old) }
     ensures { Leads (reset_ports (ports_of (component_of component.now))) (stocked stock.old) (stocked stock.new) }
 {
     for index in 0..component.ports() {
@@ -32,8 +31,7 @@ fn reset_ports<C>(stock: &mut Stock, component: &Component<C>)
 
 /// The headers at home are reset where the component comes to Idle from above.
 fn reset_on<C>(stock: &mut Stock, component: &Component<C>, target: State)
-    requires ports { HasAllPorts (component_of component.now) (stocked stock.old) }
-    requires own { AreOwn (stocked stock.old) }
+    requires { HasAllPorts (component_of component.now) (stocked stock.old) }
     ensures { Leads (reset_on (component_of component.now) target) (stocked stock.old) (stocked stock.new) }
 {
     if matches!(target, State::Idle) && !state_rules::is_down(component.state()) {

@@ -1,27 +1,28 @@
 use Rattle.std.proofs.Common.{◌≡◌, true, ◌∷◌, drop, sym, ◌∙◌, ap, subst}
 use Rattle.il_machine.specs.declared.header.Spot.TheVariants.{DoneBack}
-use Rattle.il_machine.specs.Headers.{put_all, reset, no_load}
+use Rattle.il_machine.specs.Headers.{put_all, reset, unloaded}
+use Rattle.il_machine.specs.World.{Load}
 use Rattle.il_machine.specs.Buffers.{load_in}
 use Rattle.il_machine.specs.Stock.{Stocked, pushed, pulled}
 use Rattle.header_core.specs.BufferHeader.{BufferHeader}
 use Rattle.port_stock.specs.Kept.{stocked}
-use Rattle.flush_mark.proofs.ResetSteps.{Begun, begun_todo, front_is, pulled_for, todo_step}
+use Rattle.flush_mark.proofs.ResetSteps.{Begun, begun_todo, front_is, todo_step}
 use Rattle.flush_mark.proofs.flushing.todo_to_done.Goals as goal
 
 pub loop-header-init : goal.loop-header-init
 loop-header-init c =
     let key = c.args.key in
     let s = stocked c.args.stock.now in
-    subst (λ (t : Stocked). Begun (reset true key) (put_all key DoneBack (t.headers.todo key)) s t) (sym c.clear_done.ensures) (begun_todo s key c.requires.own)
+    subst (λ (t : Stocked). Begun (reset true key) (put_all key DoneBack (t.headers.todo key)) s t) (sym c.clear_done.ensures) (begun_todo s key)
 
 pub loop-header-preserved : goal.loop-header-preserved
 loop-header-preserved c =
     let key = c.args.key in
     let s = stocked c.loop-header.stock in
     let n = c.in-Some.header.held.number in
+    let load : Load = load_in c.in-Some.header.held in
     let e : s.headers.todo key ≡ n ∷ drop 1 (s.headers.todo key) = front_is (s.headers.todo key) n c.in-Some.ensures.front in
-    let f = pulled_for s key n (drop 1 (s.headers.todo key)) c.loop-header.invariant.own e c.in-Some.ensures.was.0 in
-    let p : stocked c.push_work.new.self ≡ pushed key DoneBack n no_load (pulled key s) = c.push_work.ensures
-    ∙ (ap (λ (h : BufferHeader). pushed key DoneBack h.held.number (load_in h.held) (stocked c.pull_work.new.self)) c.clear.ensures ∙ ap (pushed key DoneBack n no_load) c.pull_work.ensures.stock) in
+    let p : stocked c.push_work.new.self ≡ pushed key DoneBack n (unloaded load) (pulled key s) = c.push_work.ensures
+    ∙ (ap (λ (h : BufferHeader). pushed key DoneBack h.held.number (load_in h.held) (stocked c.pull_work.new.self)) c.clear.ensures ∙ ap (pushed key DoneBack n (unloaded load)) c.pull_work.ensures.stock) in
     subst (λ (t : Stocked). Begun (reset true key) (put_all key DoneBack (t.headers.todo key)) (stocked c.args.stock.now) t) (sym p)
-    (todo_step (reset true key) (stocked c.args.stock.now) s key n (drop 1 (s.headers.todo key)) e f c.loop-header.invariant)
+    (todo_step (reset true key) (stocked c.args.stock.now) s key n (drop 1 (s.headers.todo key)) load e c.in-Some.ensures.was.1 c.loop-header.invariant)

@@ -8,8 +8,8 @@ use Rattle.port_rules.proofs.Walking.{port_kept}
 use Rattle.port_rules.proofs.Happenings.{of_some, of_match, to_match, index_within, flush_sound, flush_happens}
 use Rattle.port_rules.proofs.happening.end_flush.Goals as goal
 
-pub reset_home-requires-clause-port : goal.reset_home-requires-clause-port
-reset_home-requires-clause-port g c =
+pub reset_home-requires : goal.reset_home-requires
+reset_home-requires g c =
     port_kept (component_of c.args.component.now) (stocked c.args.stock.now) c.args.index c.in-Some.port c.requires.in_order.ports (sym c.port.ensures ∙ c.in-Some.is)
 
 pub end_flush-requires-clause-there : goal.end_flush-requires-clause-there

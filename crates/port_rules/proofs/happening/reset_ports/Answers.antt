@@ -11,12 +11,12 @@ use Rattle.port_rules.proofs.happening.reset_ports.Goals as goal
 
 pub unreachable-requires : goal.unreachable-requires
 unreachable-requires g c =
-    port_within (component_of c.args.component.now) (stocked c.args.stock.now) c.loop-index.index c.requires.ports (rw (← c.ports-index-end.ensures.count) c.loop-index-test.true) (sym c.port.ensures ∙ c.in_default.is)
+    port_within (component_of c.args.component.now) (stocked c.args.stock.now) c.loop-index.index c.requires (rw (← c.ports-index-end.ensures.count) c.loop-index-test.true) (sym c.port.ensures ∙ c.in_default.is)
 
-pub reset_home-requires-clause-port : goal.reset_home-requires-clause-port
-reset_home-requires-clause-port g c =
+pub reset_home-requires : goal.reset_home-requires
+reset_home-requires g c =
     subst (λ (ks : List PortKey). has_key c.in-Some.port.key ks ≡ true) (sym c.loop-index.invariant.ports)
-    (port_kept (component_of c.args.component.now) (stocked c.args.stock.now) c.loop-index.index c.in-Some.port c.requires.ports (sym c.port.ensures ∙ c.in-Some.is))
+    (port_kept (component_of c.args.component.now) (stocked c.args.stock.now) c.loop-index.index c.in-Some.port c.requires (sym c.port.ensures ∙ c.in-Some.is))
 
 pub loop-index-preserved : goal.loop-index-preserved
 loop-index-preserved g c =
