@@ -11,7 +11,7 @@ use Rattle.il_machine.specs.declared.header.Owner.TheVariants as owners
 use Rattle.il_machine.specs.declared.header.Place.TheVariants.{Out}
 use Rattle.il_machine.specs.declared.header.Spot.TheVariants.{TodoBack}
 use Rattle.il_machine.specs.World.{Component, HeaderRecord, World, number_of, port_of, with_component}
-use Rattle.il_machine.specs.Headers.{Seen, seen, count_headers, is_for, is_notice, put, loaded, without, no_load}
+use Rattle.il_machine.specs.Headers.{Seen, seen, count_headers, is_for, is_notice, put, loaded, without, empty_load}
 use Rattle.il_machine.specs.Look.{look}
 use Rattle.il_machine.specs.Lists.{holds_at}
 use Rattle.il_machine.specs.Room.{room}
@@ -31,7 +31,7 @@ use Rattle.machine_laws.proofs.Replacing.{replaced_put}
 use Rattle.stock_laws.proofs.Standing.{Found, found, push_stands, populate_stands, withdraw_stands}
 use Rattle.whole_laws.proofs.Stocking.{lift_one, with_headers, stands_for, IsFree}
 use Rattle.header_core.specs.declared.memory.Store.{Store}
-use Rattle.header_core.specs.BufferHeader.{BufferHeader, is_clients}
+use Rattle.header_core.specs.BufferHeader.{BufferHeader, is_clients, own_memory}
 use Rattle.il_component.specs.Entries.{Entry, component_of, KeepsNotices}
 use Rattle.port_stock.specs.Kept.{Kept as StockKept, stocked}
 use Rattle.port_stock.specs.Conditions.{IsOutside, IsHeaderOf, made_in}
@@ -108,24 +108,24 @@ module _ {C : Type 0} (progress : C → Progress) (g : Entries C) (i : ℕ) (e :
 
     module _ (new : s.headers.header s.next ≡ None) (after_stock : StockKept) (now : stocked after_stock ≡ populated made s) where
       abbrev record_made : HeaderRecord
-      record_made = record { state = made; load = no_load }
+      record_made = record { state = made; load = empty_load (own_memory store) }
 
-      steps_made : Steps (kept progress g) (kept progress (with_stocked progress after_stock g)) (λ w v. v ≡ with_header (client_header w.made p (is_clients store)) w)
-      steps_made = stock_steps progress g after_stock (populated made s) (λ w v. v ≡ with_header (client_header w.made p (is_clients store)) w) now
+      steps_made : Steps (kept progress g) (kept progress (with_stocked progress after_stock g)) (λ w v. v ≡ with_header (client_header w.made p (is_clients store)) (own_memory store) w)
+      steps_made = stock_steps progress g after_stock (populated made s) (λ w v. v ≡ with_header (client_header w.made p (is_clients store)) (own_memory store) w) now
           (λ w S.
           let free : IsFree s.next s = rw new tt in
           let x = lift_one (kept progress g) s (populated made s) s.next (λ hs. hs ++ record_made ∷ []) (stock_of progress g) refl free
-          (λ hs T. populate_stands s hs made no_load T new refl refl)
+          (λ hs T. populate_stands s hs made (empty_load (own_memory store)) T new refl refl)
           (λ hs T. λ m d. push_else m hs record_made (λ q. d (sym q))) w S in
           let m : w.made ≡ s.next = made_of progress g w S in
-          (x.0, x.1, x.2 ∙ ap (λ (k : ℕ). record w { headers = w.headers ++ record { state = client_header k p (is_clients store); load = no_load } ∷ []; made = k + 1 }) (sym m)))
+          (x.0, x.1, x.2 ∙ ap (λ (k : ℕ). record w { headers = w.headers ++ record { state = client_header k p (is_clients store); load = empty_load (own_memory store) } ∷ []; made = k + 1 }) (sym m)))
 
-      pub made_returns : Clause (with_stocked progress after_stock g) (λ c p w v. v ≡ with_header (client_header w.made p (is_clients store)) w)
-      made_returns = clause_from (with_stocked progress after_stock g) (λ c p w v. v ≡ with_header (client_header w.made p (is_clients store)) w) steps_made
+      pub made_returns : Clause (with_stocked progress after_stock g) (λ c p w v. v ≡ with_header (client_header w.made p (is_clients store)) (own_memory store) w)
+      made_returns = clause_from (with_stocked progress after_stock g) (λ c p w v. v ≡ with_header (client_header w.made p (is_clients store)) (own_memory store) w) steps_made
 
       pub made_worlds : SoundWorld (kept progress (with_stocked progress after_stock g))
-      made_worlds = next_world (kept progress g) (kept progress (with_stocked progress after_stock g)) (λ w v. v ≡ with_header (client_header w.made p (is_clients store)) w) W steps_made
-          (λ w v S f sound. subst Sound (sym f) (sound_made w i c index p (is_clients store) sound (at_world progress g i e w S at) port (accepts_in w S) M.alone))
+      made_worlds = next_world (kept progress g) (kept progress (with_stocked progress after_stock g)) (λ w v. v ≡ with_header (client_header w.made p (is_clients store)) (own_memory store) w) W steps_made
+          (λ w v S f sound. subst Sound (sym f) (sound_made w i c index p (is_clients store) (own_memory store) sound (at_world progress g i e w S at) port (accepts_in w S) M.alone))
 
   -- ---- a header that the client has
 

@@ -28,10 +28,9 @@ use Rattle.il_component.specs.Entries.{Entry, component_of}
 use Rattle.il_component.specs.Entries as component
 use Rattle.registry.specs.Handles.{Handles}
 use Rattle.port_stock.specs.Kept.{Kept as StockKept, stocked}
-use Rattle.port_stock.specs.Conditions.{has_key}
+use Rattle.port_stock.specs.Conditions.{AreMadeForOwners, has_key}
 use Rattle.graph_core.specs.Entries.{Entries, components_of, look_of, kept}
 use Rattle.graph_core.specs.Standing.{SoundWorld, HasPorts, IsGraph}
-use Rattle.flush_mark.specs.Leading.{AreOwn}
 use Rattle.port_rules.specs.Tests.{HasAllPorts}
 use Rattle.port_rules.specs.Happened.{Happened, IsInOrder}
 use Rattle.graph_core.proofs.Replacing.{there, component_sound, kept_changed, graph_changed, next_world}
@@ -88,8 +87,8 @@ header_found None h e = absurd cc
 header_found (Some r) h e = let q : r.state ≡ h = cc in (r, refl, q)
 
 module _ {C : Type 0} (progress : C → Progress) where
-  pub own_there : (g : Entries C) → SoundWorld (kept progress g) → AreOwn (stocked g.stock)
-  own_there g W key n h e o =
+  pub own_there : (g : Entries C) → SoundWorld (kept progress g) → AreMadeForOwners (stocked g.stock)
+  own_there g W n h e key o =
       let w = W.world in
       let P = parts_of w W.sound in
       let s : option_map state_of (find_header n w.headers) ≡ Some h = ap (λ (l : Look). l.headers.header n) W.stands.looks ∙ e in
@@ -181,5 +180,4 @@ module _ {C : Type 0} (progress : C → Progress) where
       record {
         sound = component_sound progress g i (component_of e) G.worlds (there progress g i e at);
         ports = ports_there g registry capacity i e G refl at;
-        own = own_there g G.worlds;
       }

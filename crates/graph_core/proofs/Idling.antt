@@ -1,15 +1,14 @@
 -- Why a port hands no header over: what is looked at of the other end.
-use Rattle.std.proofs.Common.{◌≡◌, Bool, true, false, ◌&&◌, not, List, [], ◌∷◌, Option, Some, is_some, refl, sym, ◌∙◌, ap, slice_get, option_map}
+use Rattle.std.proofs.Common.{◌≡◌, Bool, true, not, List, [], ◌∷◌, Option, Some, is_some, refl, sym, ◌∙◌, ap, slice_get, option_map}
 use Rattle.il_machine.specs.declared.answer.Why.{Why}
 use Rattle.il_machine.specs.declared.answer.Why.TheVariants as why
 use Rattle.il_machine.specs.declared.port.Port.{Port}
 use Rattle.il_machine.specs.Lists.{first_of_these, is_empty}
 use Rattle.il_machine.specs.Look.{Look}
 use Rattle.il_machine.specs.Buffers.{is_taking}
-use Rattle.il_machine.specs.Ports.{id_of, is_at_rest, is_open, is_supplier}
-use Rattle.il_machine.specs.States.{is_running}
+use Rattle.il_machine.specs.Ports.{id_of, is_supplier}
 use Rattle.il_machine.specs.World.{Component}
-use Rattle.il_machine.specs.Flow.{at_end, is_giving, is_receiving, other_end, over_idle}
+use Rattle.il_machine.specs.Flow.{at_end, is_giving, other_end, over_idle}
 use Rattle.il_component.specs.Entries.{Entry, component_of}
 use Rattle.graph_core.specs.declared.other_end.End.{End}
 use Rattle.graph_core.specs.Entries.{components_of}
@@ -18,22 +17,10 @@ use Rattle.graph_core.proofs.OtherEnd.{end_found}
 use Rattle.port_rules.proofs.Passing.{left_found}
 
 abbrev pub peer_tests : List Component → Port → List (Bool × Why)
-peer_tests components p = at_end (other_end components p) (λ e. (not (is_receiving e.component e.port), why.NotRunning (id_of e.component e.port)) ∷ [])
-
-last_first : (a b c : Bool) → (a && b && c) ≡ (c && a && b)
-last_first true true true = refl
-last_first true true false = refl
-last_first true false true = refl
-last_first true false false = refl
-last_first false b true = refl
-last_first false b false = refl
-
--- what takes a client's header takes a tunnel's
-pub receiving_is : (c : Component) (p : Port) (b : Bool) → is_taking c p ≡ b → is_receiving c p ≡ b
-receiving_is c p b t = sym (last_first (is_running c.state) (is_at_rest c) (is_open p)) ∙ t
+peer_tests components p = at_end (other_end components p) (λ e. (not (is_taking e.component e.port), why.NotRunning (id_of e.component e.port)) ∷ [])
 
 -- the test of the end that was found
-pub peer_at : {C : Type 0} (es : List (Entry C)) (p : Port) (end : End) (e : Entry C) (b : Bool) → Some end ≡ option_map end_seen (other_end (components_of es) p) → slice_get es end.place ≡ Some e → is_receiving (component_of e) end.port ≡ b
+pub peer_at : {C : Type 0} (es : List (Entry C)) (p : Port) (end : End) (e : Entry C) (b : Bool) → Some end ≡ option_map end_seen (other_end (components_of es) p) → slice_get es end.place ≡ Some e → is_taking (component_of e) end.port ≡ b
     → first_of_these (peer_tests (components_of es) p) ≡ first_of_these ((not b, why.NotRunning (id_of (component_of e) end.port)) ∷ [])
 peer_at es p end e b h at r = rw ((end_found es p end e h at).is, r) refl
 

@@ -17,7 +17,6 @@ pub mod Returning
 pub mod Noticing
 pub mod Happens
 pub mod Handing
-pub mod Allowed
 pub mod OtherEnd
 pub mod Moving
 pub mod MovingSteps

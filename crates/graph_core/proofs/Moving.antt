@@ -6,7 +6,7 @@ use Rattle.il_machine.specs.declared.header.Spot.{Spot}
 use Rattle.il_machine.specs.declared.header.Spot.TheVariants.{TodoBack}
 use Rattle.il_machine.specs.World.{HeaderRecord, World}
 use Rattle.il_machine.specs.Lists.{holds_at}
-use Rattle.il_machine.specs.Headers.{Seen, seen, find_header, is_for, in_todo, in_done, no_load, put, cleared, unchanged, Once}
+use Rattle.il_machine.specs.Headers.{Seen, seen, find_header, is_for, in_todo, in_done, unloaded, put, cleared, unchanged, Once}
 use Rattle.il_machine.specs.Buffers.{load_in}
 use Rattle.il_machine.specs.Flow.{front_put, returned, unused_spot}
 use Rattle.il_machine.specs.Stock.{Stocked, StandsFor, pushed, pulled, pulled_front, sent, sent_front}
@@ -133,15 +133,15 @@ module _ (s : Stocked) (key supplier : PortKey) (input : Bool) (none : s.headers
     pulled_for_supplier = rw (pulled_is s key m left todo_is) (made_out m supplier (s.headers.header m) (in_todo key) s.headers.header (λ h x y. B m h x (and_parts _ _ y).1) was.0)
 
     abbrev after_pull : Stocked
-    after_pull = pushed supplier (unused_spot input) m no_load (pulled key s)
+    after_pull = pushed supplier (unused_spot input) m (unloaded (load_in header.held)) (pulled key s)
 
-    pushed_key : (spot : Spot) → (pushed supplier spot m no_load (pulled key s)).key ≡ s.key
+    pushed_key : (spot : Spot) → (pushed supplier spot m (unloaded (load_in header.held)) (pulled key s)).key ≡ s.key
     pushed_key spot = ap (λ (x : Stocked). x.key) (pulled_is s key m left todo_is)
 
-    pushed_ports : (spot : Spot) → (pushed supplier spot m no_load (pulled key s)).ports ≡ s.ports
+    pushed_ports : (spot : Spot) → (pushed supplier spot m (unloaded (load_in header.held)) (pulled key s)).ports ≡ s.ports
     pushed_ports spot = ap (λ (x : Stocked). x.ports) (pulled_is s key m left todo_is)
 
-    pushed_next : (spot : Spot) → (pushed supplier spot m no_load (pulled key s)).next ≡ s.next
+    pushed_next : (spot : Spot) → (pushed supplier spot m (unloaded (load_in header.held)) (pulled key s)).next ≡ s.next
     pushed_next spot = ap (λ (x : Stocked). x.next) (pulled_is s key m left todo_is)
 
     pub unused_back : (t : Stocked) → t ≡ after_pull → Moves back s t
@@ -149,7 +149,7 @@ module _ (s : Stocked) (key supplier : PortKey) (input : Bool) (none : s.headers
       stands = λ w S.
           let e : (seen w.headers).todo key ≡ m ∷ left = ap (λ (x : Seen). x.todo key) S.looks ∙ todo_is in
           subst (λ (v : World). StandsFor after_pull v.headers) (sym (unsent w S ∙ ap (λ (ns : List ℕ). front_put supplier (unused_spot input) cleared ns w) e))
-          (pull_put_cleared s w.headers key supplier (unused_spot input) m left S todo_is);
+          (pull_put_cleared s w.headers key supplier (unused_spot input) m left (load_in header.held) S todo_is was.1);
       key = pushed_key (unused_spot input);
       ports = pushed_ports (unused_spot input);
       next = pushed_next (unused_spot input);

@@ -80,7 +80,7 @@ module _ {C : Type 0} (progress : C → Progress) (g : Entries C) (i : ℕ) (e :
     pub shared : AreShared p.key link.peer (stocked g.stock)
     shared = λ n h s o.
         let F = found (stocked g.stock) w.headers n h (stands_for (stocked g.stock) (kept progress g) w (stock_of progress g) W.stands) s in
-        let own : is_for p.key h ≡ true = own_there progress g W p.key n h s o in
+        let own : is_for p.key h ≡ true = own_there progress g W n h s p.key o in
         let f : is_for p.key F.it.state ≡ true = subst (λ (x : HeaderState). is_for p.key x ≡ true) (sym F.state) own in
         let both = for_both (ports_in_list w.components) w.headers p.key p link F.it.state (parts_of w W.sound).tied here joined ((parts_of w W.sound).tied.placed n F.it F.is) f in
         subst (λ (x : HeaderState). is_for link.peer x ≡ true) F.state both

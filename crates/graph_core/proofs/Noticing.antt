@@ -15,8 +15,8 @@ use Rattle.il_machine.specs.Kinds.{ports_in}
 use Rattle.il_machine.specs.World.{Component, HeaderRecord, World, number_of, port_of, with_component}
 use Rattle.il_machine.specs.World as machine
 use Rattle.il_machine.specs.Look.{Look}
-use Rattle.il_machine.specs.Headers.{Seen, seen, find_header, changed, cleared, given_to, is_notice}
-use Rattle.il_machine.specs.Buffers.{held}
+use Rattle.il_machine.specs.Headers.{Seen, seen, find_header, changed, cleared, given_to, in_todo, is_notice, load_of}
+use Rattle.il_machine.specs.Buffers.{held, load_in}
 use Rattle.il_machine.specs.Flow.{done_note, noticed, handed_back}
 use Rattle.il_machine.specs.Stock.{Stocked, given, pulled, pulled_front, state_out}
 use Rattle.il_machine.specs.Whole.{Kept, Noticed, Stands, Steps, IsNoticed}
@@ -39,7 +39,7 @@ use Rattle.note_queues.specs.declared.taken.Taken.TheVariants.{Told, EmptyDone, 
 use Rattle.note_queues.specs.Queues.{note_of, header_note, header_notes, noted}
 use Rattle.il_component.specs.Entries.{Entry, component_of, noticed_of, held_in}
 use Rattle.port_stock.specs.Kept.{Kept as StockKept, stocked}
-use Rattle.port_stock.specs.Conditions.{IsOut, IsOutside, IsHeaderOf}
+use Rattle.port_stock.specs.Conditions.{IsFrom, IsOut, IsOutside, IsHeaderOf}
 use Rattle.graph_core.specs.Standing.{SoundWorld}
 use Rattle.graph_core.specs.Entries.{Entries, components_of, look_of, noticed_in, held_by, progress_at, kept, changed_at, component_at}
 use Rattle.graph_core.proofs.Replacing.{there, next_world}
@@ -128,7 +128,7 @@ module _ {C : Type 0} (progress : C → Progress) (g : Entries C) (i : ℕ) (e :
 
   -- ---- the front of todo
 
-  module _ (header : BufferHeader) (front : Some header.held.number ≡ slice_get (s.headers.todo p.key) 0) (outside : IsOutside header (pulled p.key s)) where
+  module _ (header : BufferHeader) (front : Some header.held.number ≡ slice_get (s.headers.todo p.key) 0) (was : IsFrom (in_todo p.key) header s) (outside : IsOutside header (pulled p.key s)) where
     abbrev n : ℕ
     n = header.held.number
 
@@ -218,7 +218,9 @@ module _ {C : Type 0} (progress : C → Progress) (g : Entries C) (i : ℕ) (e :
         let f : find_header n v.headers ≡ Some (moved r) = ap (find_header n) q ∙ changed_same moved (λ r. refl) n w.headers r T.found.is in
         let m : r.state.number ≡ n = found_number n w.headers r T.found.is in
         let z : r.state.size ≡ header.held.size = ap (λ (x : HeaderState). x.size) T.found.state ∙ sym (outside_size ((pulled p.key s).headers.header n) (state_out T.state) header T.shown outside.1) in
-        let h : held (moved r) ≡ empty_held n header.held.size = λ j. record { number = m j; size = z j; content = []; flags = 0; mark = None } in
+        let carried : Some r.load ≡ Some (load_in header.held) = ap (option_map load_of) (sym T.found.is) ∙ S.loads n (load_in header.held) was.1 in
+        let l : r.load ≡ load_in header.held = cc in
+        let h : held (moved r) ≡ empty_held n header.held.size header.held.memory = λ j. record { number = m j; size = z j; content = []; flags = 0; mark = None; memory = (l j).memory } in
         let o : r.state.client_memory ≡ is_clients header.store =
         ap (λ (x : HeaderState). x.client_memory) T.found.state ∙ sym (outside_memory ((pulled p.key s).headers.header n) (state_out T.state) header T.shown outside.1) in
         let k : header.key ≡ v.key = outside.0 ∙ (pulled_key p.key (s.headers.todo p.key) s ∙ sym (own ∙ ap (λ (l : Look). l.key) S.looks)) in

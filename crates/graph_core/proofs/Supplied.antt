@@ -7,7 +7,7 @@ use Rattle.il_machine.specs.declared.port.Port.{Port}
 use Rattle.il_machine.specs.declared.header.HeaderState.{HeaderState}
 use Rattle.il_machine.specs.declared.header.Place.{Place}
 use Rattle.il_machine.specs.World.{Component, HeaderRecord, World, port_of}
-use Rattle.il_machine.specs.Headers.{Seen, count_headers, is_for, at_spot, put_at, spot_place, no_load}
+use Rattle.il_machine.specs.Headers.{Seen, count_headers, is_for, at_spot, put_at, spot_place, empty_load}
 use Rattle.il_machine.specs.Look.{Look, look}
 use Rattle.il_machine.specs.Ports.{accepting, is_supplier, is_input_port}
 use Rattle.il_machine.specs.Buffers.{has_no_number}
@@ -140,11 +140,11 @@ module _ {C : Type 0} (progress : C → Progress) (g : Entries C) (i : ℕ) (e :
   made = supplied_header p peer s.next
 
   abbrev record_of : ℕ → HeaderRecord
-  record_of number = record { state = tunnel_header number p peer; load = no_load }
+  record_of number = record { state = tunnel_header number p peer; load = empty_load None }
 
-  placed : (hs : List HeaderRecord) → at_spot (supplied_spot (is_input_port p)) (put_at p.key (supplied_spot (is_input_port p)) (record { state = made; load = no_load })) hs ≡ hs ++ record_of s.next ∷ []
-  placed hs = at_back (is_input_port p) (put_at p.key (supplied_spot (is_input_port p)) (record { state = made; load = no_load })) hs
-      ∙ ap (λ (x : Place). hs ++ record { state = record (tunnel_header s.next p peer) { place = x }; load = no_load } ∷ []) (spot_is (is_input_port p))
+  placed : (hs : List HeaderRecord) → at_spot (supplied_spot (is_input_port p)) (put_at p.key (supplied_spot (is_input_port p)) (record { state = made; load = empty_load None })) hs ≡ hs ++ record_of s.next ∷ []
+  placed hs = at_back (is_input_port p) (put_at p.key (supplied_spot (is_input_port p)) (record { state = made; load = empty_load None })) hs
+      ∙ ap (λ (x : Place). hs ++ record { state = record (tunnel_header s.next p peer) { place = x }; load = empty_load None } ∷ []) (spot_is (is_input_port p))
 
   module _ (new : s.headers.header s.next ≡ None) (after_stock : StockKept) (now : stocked after_stock ≡ with_supply p peer s) where
     abbrev Change : World → World → Type 0
@@ -161,7 +161,7 @@ module _ {C : Type 0} (progress : C → Progress) (g : Entries C) (i : ℕ) (e :
         (λ w S.
         let free : IsFree s.next s = rw new tt in
         let x = lift_one (kept progress g) s (with_supply p peer s) s.next (λ hs. hs ++ record_of s.next ∷ []) (stock_of progress g) refl free
-        (λ hs T. subst (λ (ks : List HeaderRecord). StandsFor (with_supply p peer s) ks) (placed hs) (populate_put s hs made p.key (supplied_spot (is_input_port p)) no_load T new refl refl))
+        (λ hs T. subst (λ (ks : List HeaderRecord). StandsFor (with_supply p peer s) ks) (placed hs) (populate_put s hs made p.key (supplied_spot (is_input_port p)) (empty_load None) T new refl refl))
         (λ hs T. λ m d. push_else m hs (record_of s.next) (λ q. d (sym q))) w S in
         (x.0, x.1, x.2 ∙ supplied_is w (made_of progress g w S)))
 

@@ -7,7 +7,7 @@ use Rattle.il_machine.specs.declared.header.HeaderState.{HeaderState}
 use Rattle.il_machine.specs.declared.header.Spot.{Spot}
 use Rattle.il_machine.specs.declared.header.Spot.TheVariants.{TodoBack, DoneBack}
 use Rattle.il_machine.specs.World.{Component}
-use Rattle.il_machine.specs.Headers.{no_load}
+use Rattle.il_machine.specs.Headers.{empty_load}
 use Rattle.il_machine.specs.Look.{Look}
 use Rattle.il_machine.specs.Ports.{is_input_port}
 use Rattle.il_machine.specs.Flow.{supply_idle}
@@ -39,7 +39,7 @@ abbrev pub supplied_header : Port → PortKey → ℕ → HeaderState
 supplied_header p peer number = made_header number p.key (Some peer) (homes.Port p.key) p.setting.definition.size false
 
 abbrev pub with_supply : Port → PortKey → Stocked → Stocked
-with_supply p peer s = pushed p.key (supplied_spot (is_input_port p)) s.next no_load (populated (supplied_header p peer s.next) s)
+with_supply p peer s = pushed p.key (supplied_spot (is_input_port p)) s.next (empty_load None) (populated (supplied_header p peer s.next) s)
 
 abbrev pub left_from : PortKey → List ℕ → Stocked → Stocked
 left_from key [] s = sent key s

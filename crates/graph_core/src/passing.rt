@@ -6,7 +6,8 @@ ghost use Rattle.il_machine.specs.Lists.{first_of_these, is_empty};
 ghost use Rattle.il_machine.specs.Look.{Look};
 ghost use Rattle.il_machine.specs.Ports.{id_of, is_input_port};
 ghost use Rattle.il_machine.specs.World.{port_of};
-ghost use Rattle.il_machine.specs.Flow.{at_end, back_idle, front_put, handed_back, handed_over, is_giving, is_receiving, other_end, over_idle, returned};
+ghost use Rattle.il_machine.specs.Buffers.{is_taking};
+ghost use Rattle.il_machine.specs.Flow.{at_end, back_idle, front_put, handed_back, handed_over, is_giving, other_end, over_idle, returned};
 ghost use Rattle.il_machine.specs.Whole.{Steps};
 ghost use Rattle.il_machine.specs.declared.answer.Why.TheVariants as why;
 ghost use Rattle.il_machine.specs.declared.header.Spot.TheVariants.{TodoBack};
@@ -65,7 +66,7 @@ fn is_giving<C>(component: &Component<C>, port: Port) -> bool
 
 /// Why the other end of the port's tunnel takes no header, if it doesn't.
 fn peer_idle<C>(components: &[Component<C>], port: Port) -> Option<Why>
-    ensures { result ≡ first_of_these (at_end (other_end (components_of components.now) port) (λ e. (not (is_receiving e.component e.port), why.NotRunning (id_of e.component e.port)) ∷ [])) }
+    ensures { result ≡ first_of_these (at_end (other_end (components_of components.now) port) (λ e. (not (is_taking e.component e.port), why.NotRunning (id_of e.component e.port)) ∷ [])) }
 {
     let end = other_end(components, port)?;
     let component = &components[end.place];

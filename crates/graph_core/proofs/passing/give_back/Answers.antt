@@ -2,7 +2,7 @@ use Rattle.std.proofs.Common.{◌≡◌, ℕ, true, [], sym, ◌∙◌, ap, subs
 use Rattle.il_machine.specs.declared.header.Spot.{Spot}
 use Rattle.il_machine.specs.declared.header.Spot.TheVariants.{TodoBack}
 use Rattle.il_machine.specs.Lists.{holds_at}
-use Rattle.il_machine.specs.Headers.{seen, is_for, no_load}
+use Rattle.il_machine.specs.Headers.{seen, is_for, unloaded}
 use Rattle.il_machine.specs.Ports.{is_input_port}
 use Rattle.il_machine.specs.Stock.{Stocked, pushed}
 use Rattle.il_machine.specs.Buffers.{load_in}
@@ -63,9 +63,9 @@ returns c =
     let same : t ≡ s = c.send_front.ensures.stock ∙ none_sent s key none in
     let B : AreShared key c.args.supplier t = subst (λ (x : Stocked). AreShared key c.args.supplier x) (sym same) c.requires.shared in
     let N : t.headers.done key ≡ [] = subst (λ (x : Stocked). x.headers.done key ≡ []) (sym same) none in
-    let p : stocked c.push_work-2.new.self ≡ pushed c.args.supplier spot h.held.number no_load (stocked c.pull_work.new.self) = c.push_work-2.ensures
+    let p : stocked c.push_work-2.new.self ≡ pushed c.args.supplier spot h.held.number (unloaded (load_in h.held)) (stocked c.pull_work.new.self) = c.push_work-2.ensures
     ∙ (ap (λ (x : Spot). pushed c.args.supplier x c.clear.new.self.held.number (load_in c.clear.new.self.held) (stocked c.pull_work.new.self)) (c.supplied_spot.ensures ∙ unused_is_supplied (is_input_port c.args.port))
     ∙ ap (λ (x : BufferHeader). pushed c.args.supplier spot x.held.number (load_in x.held) (stocked c.pull_work.new.self)) c.clear.ensures) in
     subst (λ (x : Stocked). Moves (λ w. returned c.args.supplier (is_input_port c.args.port) ((seen w.headers).done key) ((seen w.headers).todo key) w) x (stocked c.push_work-2.new.self)) same
     (unused_back t key c.args.supplier (is_input_port c.args.port) N B h c.in-Some-pull_work.ensures.front c.in-Some-pull_work.ensures.was (stocked c.push_work-2.new.self)
-    (p ∙ ap (pushed c.args.supplier spot h.held.number no_load) c.pull_work.ensures.stock))
+    (p ∙ ap (pushed c.args.supplier spot h.held.number (unloaded (load_in h.held))) c.pull_work.ensures.stock))

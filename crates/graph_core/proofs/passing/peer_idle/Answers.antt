@@ -1,8 +1,8 @@
 use Rattle.std.proofs.Common.{◌≡◌, true, false, List, slice_get, Some, sym, ◌∙◌, ap}
 use Rattle.std.proofs.lemmas.Option.{slice_get-get_or}
 use Rattle.il_machine.specs.declared.answer.Why.TheVariants as why
-use Rattle.il_component.specs.Entries.{Entry, component_of}
-use Rattle.graph_core.proofs.Idling.{peer_at, receiving_is}
+use Rattle.il_component.specs.Entries.{Entry}
+use Rattle.graph_core.proofs.Idling.{peer_at}
 use Rattle.graph_core.proofs.passing.peer_idle.Goals as goal
 
 pub returns-then-is_taking : goal.returns-then-is_taking
@@ -11,7 +11,7 @@ returns-then-is_taking g c =
     let end = c.in_ok-end.end in
     let e : Entry (g.row.C.Denot) = c.index-components-end.result in
     let at : slice_get es end.place ≡ Some e = slice_get-get_or es end.place e c.in_ok-end.ensures.within ∙ ap Some (sym c.index-components-end.is) in
-    sym (peer_at es c.args.port end e true (sym c.in_ok-end.was ∙ c.other_end.ensures.end) at (receiving_is (component_of e) end.port true (sym c.is_taking.ensures ∙ c.if-is_taking.true)))
+    sym (peer_at es c.args.port end e true (sym c.in_ok-end.was ∙ c.other_end.ensures.end) at (sym c.is_taking.ensures ∙ c.if-is_taking.true))
 
 pub returns-else-is_taking : goal.returns-else-is_taking
 returns-else-is_taking g c =
@@ -20,4 +20,4 @@ returns-else-is_taking g c =
     let e : Entry (g.row.C.Denot) = c.index-components-end.result in
     let at : slice_get es end.place ≡ Some e = slice_get-get_or es end.place e c.in_ok-end.ensures.within ∙ ap Some (sym c.index-components-end.is) in
     ap (λ id. Some (why.NotRunning id)) c.port_id.ensures
-    ∙ sym (peer_at es c.args.port end e false (sym c.in_ok-end.was ∙ c.other_end.ensures.end) at (receiving_is (component_of e) end.port false (sym c.is_taking.ensures ∙ c.if-is_taking.false)))
+    ∙ sym (peer_at es c.args.port end e false (sym c.in_ok-end.was ∙ c.other_end.ensures.end) at (sym c.is_taking.ensures ∙ c.if-is_taking.false))

@@ -1,13 +1,14 @@
 use Rattle.std.proofs.Common.{◌≡◌, ℕ, ◌<◌, List, length, set, slice_get, Some, None, option_map, refl, sym, ◌∙◌, ap, subst}
 use Rattle.std.proofs.lemmas.Option.{slice_get-get_or}
 use Rattle.il_machine.specs.declared.header.Owner.TheVariants as owners
+use Rattle.il_machine.specs.Headers.{in_todo}
 use Rattle.il_machine.specs.World.{port_of}
 use Rattle.il_machine.specs.Stock.{Stocked, given, pulled}
 use Rattle.whole_laws.proofs.Entries.{set_same}
 use Rattle.header_core.specs.BufferHeader.{BufferHeader, cleared}
 use Rattle.note_queues.specs.Queues.{noted, header_note}
 use Rattle.port_stock.specs.Kept.{stocked}
-use Rattle.port_stock.specs.Conditions.{IsOutside, number_of}
+use Rattle.port_stock.specs.Conditions.{IsFrom, IsOutside, number_of}
 use Rattle.il_component.specs.Entries.{Entry, component_of}
 use Rattle.graph_core.specs.Entries.{Entries}
 use Rattle.graph_core.proofs.Clients.{clients_set}
@@ -77,9 +78,10 @@ put_header-requires g c =
     let client : p.state.link ≡ None = rw here at r in
     let h = c.in-Some-pull_work.header in
     let front : Some h.held.number ≡ slice_get ((stocked i.stock).headers.todo p.key) 0 = sym (ap (option_map number_of) c.in-Some-pull_work.is) ∙ c.pull_work.ensures.front in
+    let was : IsFrom (in_todo p.key) h (stocked i.stock) = rw c.in-Some-pull_work.is at c.pull_work.ensures.was in
     let out : IsOutside h (stocked c.pull_work.new.self) = rw c.in-Some-pull_work.is at c.pull_work.ensures.outside in
     let outside : IsOutside h (pulled p.key (stocked i.stock)) = subst (λ (s : Stocked). IsOutside h s) c.pull_work.ensures.stock out in
-    fewer_notes g.C.Client.progress G c.args.place e c.args.index p c.self.invariant.worlds at here client h front outside
+    fewer_notes g.C.Client.progress G c.args.place e c.args.index p c.self.invariant.worlds at here client h front was outside
 
 pub invariant_of-self-2 : goal.invariant_of-self-2
 invariant_of-self-2 g c =
@@ -95,6 +97,7 @@ invariant_of-self-2 g c =
     let client : p.state.link ≡ None = rw here at r in
     let h = c.in-Some-pull_work.header in
     let front : Some h.held.number ≡ slice_get ((stocked i.stock).headers.todo p.key) 0 = sym (ap (option_map number_of) c.in-Some-pull_work.is) ∙ c.pull_work.ensures.front in
+    let was : IsFrom (in_todo p.key) h (stocked i.stock) = rw c.in-Some-pull_work.is at c.pull_work.ensures.was in
     let out : IsOutside h (stocked c.pull_work.new.self) = rw c.in-Some-pull_work.is at c.pull_work.ensures.outside in
     let outside : IsOutside h (pulled p.key (stocked i.stock)) = subst (λ (s : Stocked). IsOutside h s) c.pull_work.ensures.stock out in
     let id : c.id.result ≡ h.held.number = c.id.ensures ∙ ap (λ (x : BufferHeader). x.held.number) c.clear.ensures in
@@ -105,7 +108,7 @@ invariant_of-self-2 g c =
     graph_with g.C.Client.progress i.components.items i.registry i.stock c.set_out.new.self i.units i.components.cap c.args.place e c.put_header.new.self c.self.invariant at
     (ap (λ (x : Entry (g.row.C.Denot)). x.handle) left) (ap (λ (x : Entry (g.row.C.Denot)). x.ports) left)
     (ap (λ (s : Stocked). s.ports) now ∙ pulled_ports p.key ((stocked i.stock).headers.todo p.key) (stocked i.stock))
-    (given_worlds g.C.Client.progress G c.args.place e c.args.index p c.self.invariant.worlds at here client h front outside c.put_header.new.self c.set_out.new.self left now)
+    (given_worlds g.C.Client.progress G c.args.place e c.args.index p c.self.invariant.worlds at here client h front was outside c.put_header.new.self c.set_out.new.self left now)
 
 pub returns-clause-change : goal.returns-clause-change
 returns-clause-change g c =
@@ -121,6 +124,7 @@ returns-clause-change g c =
     let client : p.state.link ≡ None = rw here at r in
     let h = c.in-Some-pull_work.header in
     let front : Some h.held.number ≡ slice_get ((stocked i.stock).headers.todo p.key) 0 = sym (ap (option_map number_of) c.in-Some-pull_work.is) ∙ c.pull_work.ensures.front in
+    let was : IsFrom (in_todo p.key) h (stocked i.stock) = rw c.in-Some-pull_work.is at c.pull_work.ensures.was in
     let out : IsOutside h (stocked c.pull_work.new.self) = rw c.in-Some-pull_work.is at c.pull_work.ensures.outside in
     let outside : IsOutside h (pulled p.key (stocked i.stock)) = subst (λ (s : Stocked). IsOutside h s) c.pull_work.ensures.stock out in
     let id : c.id.result ≡ h.held.number = c.id.ensures ∙ ap (λ (x : BufferHeader). x.held.number) c.clear.ensures in
@@ -128,7 +132,7 @@ returns-clause-change g c =
     c.set_out.ensures ∙ (ap (λ (n : ℕ). given n (owners.Notice p.key.component) (stocked c.pull_work.new.self)) id ∙ ap (λ (s : Stocked). given h.held.number (owners.Notice p.key.component) s) c.pull_work.ensures.stock) in
     let left : c.put_header.new.self ≡ record e { queues = noted (header_note p.setting.definition.input (cleared h)) e.queues } =
     c.put_header.ensures ∙ ap (λ (x : BufferHeader). record e { queues = noted (header_note p.setting.definition.input x) e.queues }) c.clear.ensures in
-    rw (← c.self.view_is) (given_returns g.C.Client.progress G c.args.place e c.args.index p c.self.invariant.worlds at here client h front outside c.put_header.new.self c.set_out.new.self left now)
+    rw (← c.self.view_is) (given_returns g.C.Client.progress G c.args.place e c.args.index p c.self.invariant.worlds at here client h front was outside c.put_header.new.self c.set_out.new.self left now)
 
 pub returns-in_default-pull_work-clause-clients : goal.returns-in_default-pull_work-clause-clients
 returns-in_default-pull_work-clause-clients g c =
