@@ -9,7 +9,7 @@ use Rattle.il_machine.specs.declared.answer.Progress.{Progress}
 use Rattle.il_machine.specs.declared.header.HeaderState.{HeaderState}
 use Rattle.il_machine.specs.declared.port.Port.{Port}
 use Rattle.il_machine.specs.World.{Component, World, port_of}
-use Rattle.il_machine.specs.Headers.{no_load}
+use Rattle.il_machine.specs.Headers.{empty_load}
 use Rattle.il_machine.specs.Look.{Look, look}
 use Rattle.il_machine.specs.Due.{ClosesTo}
 use Rattle.il_machine.specs.Answers.{plain, Resolving, Answers, AnswersOrMemory}
@@ -18,10 +18,9 @@ use Rattle.il_machine.specs.Whole.{Steps, Stands}
 use Rattle.whole_laws.proofs.Answering.{unresolved, resolved, refused, accepted, refused_or_memory, wants_memory, accepted_or_memory, then_closes, at_state}
 use Rattle.header_core.specs.declared.memory.Store.{Store}
 use Rattle.header_core.specs.declared.memory.Store.TheVariants.{Own, Block}
-use Rattle.header_core.specs.BufferHeader.{BufferHeader, is_clients, empty_held, fresh}
+use Rattle.header_core.specs.BufferHeader.{BufferHeader, is_clients, own_memory, empty_held, fresh}
 use Rattle.graph_core.specs.Entries.{Entries, look_of, kept, component_at, entry_place}
 use Rattle.graph_core.proofs.Replacing.{entry_place_is}
-use Rattle.il_graph.specs.Stood.{own_memory}
 use Rattle.il_graph.proofs.Calling.{Found, at_some}
 
 pub there_is_one : {A : Type 0} (P : A → Type 0) (o : Option A) → MatchOption o ⊥ P → (x : A) × (o ≡ Some x) × P x
@@ -97,13 +96,13 @@ module _ {C : Type 0} (progress : C → Progress) where
   -- ---- calls that make a header
 
   made_at : (g : Entries C) (o : Option Port) (header : BufferHeader) (store : Store) (b : Bool) → MatchOption o ⊥ (λ p. header ≡ fresh (look_of g).key (look_of g).made store p.setting.definition.size)
-      → (w : World) → Stands (kept progress g) w → MatchOption o ⊥ (λ p. header.held ≡ held_of (client_header w.made p b) no_load)
+      → (w : World) → Stands (kept progress g) w → MatchOption o ⊥ (λ p. header.held ≡ held_of (client_header w.made p b) (empty_load (own_memory store)))
   made_at g None header store b m = λ w S. absurd m
-  made_at g (Some p) header store b m = λ w S. ap (λ x. x.held) m ∙ ap (λ n. empty_held n p.setting.definition.size) (sym (ap (λ (l : Look). l.made) S.looks))
+  made_at g (Some p) header store b m = λ w S. ap (λ x. x.held) m ∙ ap (λ n. empty_held n p.setting.definition.size (own_memory store)) (sym (ap (λ (l : Look). l.made) S.looks))
 
   pub made_header : (g : Entries C) (h : Handle) (i port : ℕ) (header : BufferHeader) (store : Store) (b : Bool) (F : Found progress g h i)
       → MatchOption (component_at i g) ⊥ (λ c. MatchOption (port_of c port) ⊥ (λ p. header ≡ fresh (look_of g).key (look_of g).made store p.setting.definition.size))
-      → (w : World) → Stands (kept progress g) w → MatchOption (port_of F.component port) ⊥ (λ p. header.held ≡ held_of (client_header w.made p b) no_load)
+      → (w : World) → Stands (kept progress g) w → MatchOption (port_of F.component port) ⊥ (λ p. header.held ≡ held_of (client_header w.made p b) (empty_load (own_memory store)))
   made_header g h i port header store b F m = made_at g (port_of F.component port) header store b
       (at_some (λ c. MatchOption (port_of c port) ⊥ (λ p. header ≡ fresh (look_of g).key (look_of g).made store p.setting.definition.size)) (component_at i g) F.component F.at m)
 

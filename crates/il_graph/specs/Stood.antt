@@ -1,13 +1,11 @@
 -- The worlds that a graph stands for, and what its clauses say of a result that hands something back.
-use Rattle.std.specs.Prelude.{◌≡◌, ℕ, Bool, List, None, Some, Option, is_some, Result, Ok, Err}
+use Rattle.std.specs.Prelude.{Bool, Option, is_some, Result, Ok, Err}
 use Rattle.omx_types.specs.declared.error.CallError.{CallError}
 use Rattle.omx_types.specs.declared.error.CallError.TheVariants.{Omx, OutOfMemory}
 use Rattle.il_machine.specs.Buffers.{Held}
 use Rattle.il_machine.specs.Notes.{Took}
 use Rattle.il_machine.specs.declared.answer.Acted.{Acted}
 use Rattle.il_machine.specs.declared.answer.Acted.TheVariants.{Did, Idle}
-use Rattle.header_core.specs.declared.memory.Store.{Store}
-use Rattle.header_core.specs.declared.memory.Store.TheVariants.{Own, Block}
 use Rattle.header_core.specs.BufferHeader.{BufferHeader}
 use Rattle.note_queues.specs.Queues.{took_of}
 use Rattle.note_queues.specs.declared.taken.Took.{Took as Given}
@@ -31,11 +29,6 @@ heldly (Err e) = Err e
 abbrev pub memory_back : {B E : Type 0} → Result (Option B) E → Result Bool E
 memory_back (Ok memory) = Ok (is_some memory)
 memory_back (Err e) = Err e
-
--- the bytes that go back to the client where the memory is its own
-abbrev pub own_memory : Store → Option (List ℕ)
-own_memory (Own bytes) = Some bytes
-own_memory (Block bytes) = None
 
 -- the act was answered Idle
 abbrev pub OnIdle : {E : Type 0} → Result Acted E → Type 0 → Type 0

@@ -5,12 +5,12 @@ ghost use Rattle.std.specs.Prelude.{◌≡◌, OnOk, OnErr, IfOk, IfErr, false, 
 ghost use Rattle.il_machine.specs.Buffers.{AllocateBuffer, UseBuffer, FreeBuffer, EmptyThisBuffer, FillThisBuffer};
 ghost use Rattle.il_machine.specs.Whole.{Steps};
 ghost use Rattle.header_core.specs.declared.memory.Store.TheVariants.{Own};
-ghost use Rattle.header_core.specs.BufferHeader.{is_clients};
+ghost use Rattle.header_core.specs.BufferHeader.{is_clients, own_memory};
 ghost use Rattle.graph_core.specs.Entries.{kept, look_of};
 ghost use Rattle.graph_core.specs.Changes.{IsHandedIn};
 ghost use Rattle.graph_core.specs.Clients.{KeepsAllClients};
 ghost use Rattle.il_graph.specs.HandedIn.{StayHandedIn, KeepsOthersHandedIn, IsTakenIn, IsHandedOut};
-ghost use Rattle.il_graph.specs.Stood.{plainly, heldly, memory_back, own_memory};
+ghost use Rattle.il_graph.specs.Stood.{plainly, heldly, memory_back};
 
 use crate::graph::Graph;
 use header_core::{Header, Memory, Store};
@@ -97,7 +97,7 @@ impl<C: Client> Graph<C> {
         Ok(header)
     }
 
-    /// Unmakes a header of the port, and answers the client's memory if the header had it.
+    /// Unmakes a header of the port, and answers its memory if that is the client's own.
     pub fn free_buffer(
         &mut self,
         h: Handle,
@@ -108,7 +108,7 @@ impl<C: Client> Graph<C> {
         ensures step { Steps (kept C.progress self.old) (kept C.progress self.new) (λ w v. FreeBuffer w h port header.held.number (memory_back (plainly result)) v) }
         ensures held { KeepsOthersHandedIn header (look_of self.old) (look_of self.new) }
         ensures taken { OnOk result (IsTakenIn header (look_of self.new)) }
-        ensures memory { IfOk result (λ bytes. option_map (λ b. b.items) bytes ≡ own_memory header.store) }
+        ensures memory { IfOk result (λ bytes. option_map (λ b. b.items) bytes ≡ header.held.memory) }
         ensures handed_back { IfErr result (λ e. e.1 ≡ header) }
         ensures unchanged { OnErr result (self.new ≡ self.old) }
         ensures clients { KeepsAllClients self.old self.new }
@@ -152,7 +152,7 @@ impl<C: Client> Graph<C> {
         Ok(())
     }
 
-    /// The header is cleared, and goes to the back of the output port's todo.
+    /// The header is cleared, and goes to the back of the output port's todo. Its memory stays as it is.
     pub fn fill_this_buffer(
         &mut self,
         h: Handle,

@@ -1,8 +1,8 @@
-use Rattle.std.proofs.Common.{◌≡◌, false, Err, ◌∙◌, Ok, ap, refl}
+use Rattle.std.proofs.Common.{◌≡◌, false, None, Err, ◌∙◌, Ok, ap, refl}
 use Rattle.omx_types.specs.declared.error.OmxError.TheVariants as errors
 use Rattle.omx_types.specs.declared.error.CallError.TheVariants.{Omx}
 use Rattle.il_machine.specs.World.{Component, port_of}
-use Rattle.il_machine.specs.Headers.{no_load}
+use Rattle.il_machine.specs.Headers.{empty_load}
 use Rattle.il_machine.specs.Look.{Look, look}
 use Rattle.il_machine.specs.Due.{ClosesTo}
 use Rattle.il_machine.specs.Answers.{AnswersOrMemory}
@@ -18,7 +18,7 @@ use Rattle.il_graph.proofs.graph.Graph.allocate_buffer.Goals as goal
 pub returns-in_default-clause-step : goal.returns-in_default-clause-step
 returns-in_default-clause-step g c =
     rw (← c.self.view_is) (not_found_taking g.C.Client.progress Held c.self.inside.core c.args.h
-    (λ w v i k. AnswersOrMemory (allocate_refusal (look w) k (port_of k c.args.port)) (Err (Omx errors.InvalidComponent)) w v (λ x. AtPort (port_of k c.args.port) (λ q. (x ≡ held_of (client_header w.made q false) no_load) × ClosesTo (with_header (client_header w.made q false) w) v))) c.in_default.ensures.place)
+    (λ w v i k. AnswersOrMemory (allocate_refusal (look w) k (port_of k c.args.port)) (Err (Omx errors.InvalidComponent)) w v (λ x. AtPort (port_of k c.args.port) (λ q. (x ≡ held_of (client_header w.made q false) (empty_load None)) × ClosesTo (with_header (client_header w.made q false) None w) v))) c.in_default.ensures.place)
 
 pub returns-in-Some-allocate_refusal-clause-step : goal.returns-in-Some-allocate_refusal-clause-step
 returns-in-Some-allocate_refusal-clause-step g c =
@@ -26,7 +26,7 @@ returns-in-Some-allocate_refusal-clause-step g c =
     let G = c.self.inside.core in
     let F : Found p G c.args.h c.in-Some.place = found p G c.args.h c.in-Some.place c.in-Some.ensures.place c.in-Some.ensures.within in
     rw (← c.self.view_is) (refused_taking p (λ (l : Look) (k : Component). allocate_refusal l k (port_of k c.args.port)) G c.args.h c.in-Some.place c.in-Some-allocate_refusal.error
-    (λ w v i k (x : Held). AtPort (port_of k c.args.port) (λ q. (x ≡ held_of (client_header w.made q false) no_load) × ClosesTo (with_header (client_header w.made q false) w) v)) F c.in-Some-allocate_refusal.ensures)
+    (λ w v i k (x : Held). AtPort (port_of k c.args.port) (λ q. (x ≡ held_of (client_header w.made q false) (empty_load None)) × ClosesTo (with_header (client_header w.made q false) None w) v)) F c.in-Some-allocate_refusal.ensures)
 
 pub returns-in_default-block-clause-step : goal.returns-in_default-block-clause-step
 returns-in_default-block-clause-step g c =
@@ -34,18 +34,18 @@ returns-in_default-block-clause-step g c =
     let G = c.self.inside.core in
     let F : Found p G c.args.h c.in-Some.place = found p G c.args.h c.in-Some.place c.in-Some.ensures.place c.in-Some.ensures.within in
     rw (← c.self.view_is) (wanting_at p (λ (l : Look) (k : Component). allocate_refusal l k (port_of k c.args.port)) G c.args.h c.in-Some.place
-    (λ w v i k (x : Held). AtPort (port_of k c.args.port) (λ q. (x ≡ held_of (client_header w.made q false) no_load) × ClosesTo (with_header (client_header w.made q false) w) v)) F c.in_default-allocate_refusal.ensures)
+    (λ w v i k (x : Held). AtPort (port_of k c.args.port) (λ q. (x ≡ held_of (client_header w.made q false) (empty_load None)) × ClosesTo (with_header (client_header w.made q false) None w) v)) F c.in_default-allocate_refusal.ensures)
 
 pub returns-clause-step : goal.returns-clause-step
 returns-clause-step g c =
     let p = g.C.Client.progress in
     let G = c.self.inside.core in
     let F : Found p G c.args.h c.in-Some.place = found p G c.args.h c.in-Some.place c.in-Some.ensures.place c.in-Some.ensures.within in
-    let step = changed_on p G c.make_header-header.new.self c.close_out.new.self c.args.h c.in-Some.place c.args.port (λ k q w. with_header (client_header w.made q false) w) F c.make_header-header.ensures.change c.close_out.ensures.closes in
-    let said = and_said p G c.close_out.new.self (port_of F.component c.args.port) (λ w q. c.make_header-header.result.held ≡ held_of (client_header w.made q false) no_load) (λ w v q. ClosesTo (with_header (client_header w.made q false) w) v)
+    let step = changed_on p G c.make_header-header.new.self c.close_out.new.self c.args.h c.in-Some.place c.args.port (λ k q w. with_header (client_header w.made q false) None w) F c.make_header-header.ensures.change c.close_out.ensures.closes in
+    let said = and_said p G c.close_out.new.self (port_of F.component c.args.port) (λ w q. c.make_header-header.result.held ≡ held_of (client_header w.made q false) (empty_load None)) (λ w v q. ClosesTo (with_header (client_header w.made q false) None w) v)
     (made_header p G c.args.h c.in-Some.place c.args.port c.make_header-header.result (Block c.new.result) false F c.make_header-header.ensures.header) step in
     rw (← c.self.view_is) (done_taking p (λ (l : Look) (k : Component). allocate_refusal l k (port_of k c.args.port)) G c.close_out.new.self c.args.h c.in-Some.place c.make_header-header.result.held
-    (λ w v i k (x : Held). AtPort (port_of k c.args.port) (λ q. (x ≡ held_of (client_header w.made q false) no_load) × ClosesTo (with_header (client_header w.made q false) w) v)) F c.in_default-allocate_refusal.ensures said)
+    (λ w v i k (x : Held). AtPort (port_of k c.args.port) (λ q. (x ≡ held_of (client_header w.made q false) (empty_load None)) × ClosesTo (with_header (client_header w.made q false) None w) v)) F c.in_default-allocate_refusal.ensures said)
 
 pub returns-clause-clients : goal.returns-clause-clients
 returns-clause-clients g c = rw (← c.self.view_is) (λ k. c.close_out.ensures.clients k ∙ c.make_header-header.ensures.clients k)

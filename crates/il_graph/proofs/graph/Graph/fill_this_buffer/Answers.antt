@@ -2,11 +2,11 @@ use Rattle.std.proofs.Common.{Err, ◌∙◌, Ok}
 use Rattle.omx_types.specs.declared.error.OmxError.TheVariants as errors
 use Rattle.il_machine.specs.declared.header.HeaderState.{HeaderState}
 use Rattle.il_machine.specs.World.{Component, port_of}
-use Rattle.il_machine.specs.Headers.{cleared}
+use Rattle.il_machine.specs.Headers.{loaded, unloaded}
 use Rattle.il_machine.specs.Look.{look}
 use Rattle.il_machine.specs.Due.{ClosesTo}
 use Rattle.il_machine.specs.Answers.{Answers}
-use Rattle.il_machine.specs.Buffers.{AtState, AtPort, fill_refusal, with_todo}
+use Rattle.il_machine.specs.Buffers.{AtState, AtPort, load_in, fill_refusal, with_todo}
 use Rattle.graph_core.specs.Changes.{IsHandedIn}
 use Rattle.graph_core.specs.Entries.{look_of}
 use Rattle.il_graph.proofs.Calling.{Found, found, not_found}
@@ -18,7 +18,7 @@ pub returns-in_default-clause-step : goal.returns-in_default-clause-step
 returns-in_default-clause-step g c =
     let n = c.args.header.held in
     rw (← c.self.view_is) (not_found g.C.Client.progress (Unit {0}) c.self.inside.core c.args.h
-    (λ w v i k. AtState n.number (look w) (λ s. Answers (fill_refusal k (port_of k c.args.port) s) (Err errors.InvalidComponent) w v (λ _. AtPort (port_of k c.args.port) (λ p. ClosesTo (with_todo p.key n.number cleared w) v)))) c.in_default.ensures.place)
+    (λ w v i k. AtState n.number (look w) (λ s. Answers (fill_refusal k (port_of k c.args.port) s) (Err errors.InvalidComponent) w v (λ _. AtPort (port_of k c.args.port) (λ p. ClosesTo (with_todo p.key n.number (loaded (unloaded (load_in n))) w) v)))) c.in_default.ensures.place)
 
 pub returns-in-Some-fill_refusal-clause-step : goal.returns-in-Some-fill_refusal-clause-step
 returns-in-Some-fill_refusal-clause-step g c =
@@ -29,7 +29,7 @@ returns-in-Some-fill_refusal-clause-step g c =
     let handed : IsHandedIn c.args.header (look_of G) = rw (← c.self.view_is) at c.requires.handed in
     let x = there_is_one _ ((look_of G).headers.header n.number) handed.1 in
     rw (← c.self.view_is) (refused_with p (λ (k : Component) (s : HeaderState). fill_refusal k (port_of k c.args.port) s) G c.args.h c.in-Some.place n.number x.0 c.in-Some-fill_refusal.error
-    (λ w v i k s (_ : Unit {0}). AtPort (port_of k c.args.port) (λ p. ClosesTo (with_todo p.key n.number cleared w) v)) F x.1 c.in-Some-fill_refusal.ensures)
+    (λ w v i k s (_ : Unit {0}). AtPort (port_of k c.args.port) (λ p. ClosesTo (with_todo p.key n.number (loaded (unloaded (load_in n))) w) v)) F x.1 c.in-Some-fill_refusal.ensures)
 
 pub returns-clause-step : goal.returns-clause-step
 returns-clause-step g c =
@@ -40,9 +40,9 @@ returns-clause-step g c =
     let handed : IsHandedIn c.args.header (look_of G) = rw (← c.self.view_is) at c.requires.handed in
     let x = there_is_one _ ((look_of G).headers.header n.number) handed.1 in
     let taken = rw c.clear.ensures at c.take_in.ensures.change in
-    let step = changed_on p G c.take_in.new.self c.close_out.new.self c.args.h c.in-Some.place c.args.port (λ k q w. with_todo q.key n.number cleared w) F taken c.close_out.ensures.closes in
+    let step = changed_on p G c.take_in.new.self c.close_out.new.self c.args.h c.in-Some.place c.args.port (λ k q w. with_todo q.key n.number (loaded (unloaded (load_in n))) w) F taken c.close_out.ensures.closes in
     rw (← c.self.view_is) (done_with p (λ (k : Component) (s : HeaderState). fill_refusal k (port_of k c.args.port) s) G c.close_out.new.self c.args.h c.in-Some.place n.number x.0 tt
-    (λ w v i k s (_ : Unit {0}). AtPort (port_of k c.args.port) (λ p. ClosesTo (with_todo p.key n.number cleared w) v)) F x.1 c.in_default-fill_refusal.ensures step)
+    (λ w v i k s (_ : Unit {0}). AtPort (port_of k c.args.port) (λ p. ClosesTo (with_todo p.key n.number (loaded (unloaded (load_in n))) w) v)) F x.1 c.in_default-fill_refusal.ensures step)
 
 pub returns-clause-clients : goal.returns-clause-clients
 returns-clause-clients g c = rw (← c.self.view_is) (λ k. c.close_out.ensures.clients k ∙ c.take_in.ensures.clients k)

@@ -1,10 +1,9 @@
-use Rattle.std.proofs.Common.{Ok, Err, slice_get, refl, sym, ap, subst}
+use Rattle.std.proofs.Common.{Ok, Err, slice_get, refl}
 use Rattle.omx_types.specs.declared.error.OmxError.TheVariants as errors
 use Rattle.il_machine.specs.Notes.{Took, TakeFrom}
 use Rattle.il_machine.specs.Acts as acts
 use Rattle.note_queues.specs.Queues.{took_of}
 use Rattle.note_queues.specs.declared.taken.Took.TheVariants as tooks
-use Rattle.graph_core.specs.Entries.{Entries}
 use Rattle.il_graph.proofs.Calling.{Found, found, not_found}
 use Rattle.il_graph.proofs.Taking.{taken_at, none_taken_at}
 use Rattle.il_graph.proofs.Clients.{client_taken, others_kept}

@@ -1,7 +1,7 @@
 use Rattle.std.proofs.Common.{◌≡◌, ℕ, ◌∙◌, subst, length, true, Some, None, Ok, Err, MatchOption, ap, refl}
 use Rattle.omx_types.specs.declared.error.OmxError.TheVariants as errors
 use Rattle.il_machine.specs.World.{Component, port_of}
-use Rattle.il_machine.specs.Headers.{no_load}
+use Rattle.il_machine.specs.Headers.{empty_load}
 use Rattle.il_machine.specs.Look.{Look, look}
 use Rattle.il_machine.specs.Due.{ClosesTo}
 use Rattle.il_machine.specs.Answers.{Answers}
@@ -18,7 +18,7 @@ use Rattle.il_graph.proofs.graph.Graph.use_buffer.Goals as goal
 pub returns-in_default-clause-step : goal.returns-in_default-clause-step
 returns-in_default-clause-step g c =
     rw (← c.self.view_is) (not_found g.C.Client.progress Held c.self.inside.core c.args.h
-    (λ w v i k. Answers (use_refusal (look w) k (port_of k c.args.port) (length c.args.bytes.items)) (Err errors.InvalidComponent) w v (λ x. AtPort (port_of k c.args.port) (λ q. (x ≡ held_of (client_header w.made q true) no_load) × ClosesTo (with_header (client_header w.made q true) w) v))) c.in_default.ensures.place)
+    (λ w v i k. Answers (use_refusal (look w) k (port_of k c.args.port) (length c.args.bytes.items)) (Err errors.InvalidComponent) w v (λ x. AtPort (port_of k c.args.port) (λ q. (x ≡ held_of (client_header w.made q true) (empty_load (Some c.args.bytes.items))) × ClosesTo (with_header (client_header w.made q true) (Some c.args.bytes.items) w) v))) c.in_default.ensures.place)
 
 pub returns-in-Some-use_refusal-clause-step : goal.returns-in-Some-use_refusal-clause-step
 returns-in-Some-use_refusal-clause-step g c =
@@ -28,7 +28,7 @@ returns-in-Some-use_refusal-clause-step g c =
     let long : c.len.result ≡ length c.args.bytes.items = c.len.ensures ∙ c.args.bytes.ok.0 in
     let refused = subst (λ (m : ℕ). MatchOption (component_at c.in-Some.place G) ⊥ (λ k. Some c.in-Some-use_refusal.error ≡ use_refusal (look_of G) k (port_of k c.args.port) m)) long c.in-Some-use_refusal.ensures in
     rw (← c.self.view_is) (refused_at p (λ (l : Look) (k : Component). use_refusal l k (port_of k c.args.port) (length c.args.bytes.items)) G c.args.h c.in-Some.place c.in-Some-use_refusal.error
-    (λ w v i k (x : Held). AtPort (port_of k c.args.port) (λ q. (x ≡ held_of (client_header w.made q true) no_load) × ClosesTo (with_header (client_header w.made q true) w) v)) F refused)
+    (λ w v i k (x : Held). AtPort (port_of k c.args.port) (λ q. (x ≡ held_of (client_header w.made q true) (empty_load (Some c.args.bytes.items))) × ClosesTo (with_header (client_header w.made q true) (Some c.args.bytes.items) w) v)) F refused)
 
 pub returns-clause-step : goal.returns-clause-step
 returns-clause-step g c =
@@ -37,11 +37,13 @@ returns-clause-step g c =
     let F : Found p G c.args.h c.in-Some.place = found p G c.args.h c.in-Some.place c.in-Some.ensures.place c.in-Some.ensures.within in
     let long : c.len.result ≡ length c.args.bytes.items = c.len.ensures ∙ c.args.bytes.ok.0 in
     let allowed = subst (λ (m : ℕ). MatchOption (component_at c.in-Some.place G) ⊥ (λ k. None ≡ use_refusal (look_of G) k (port_of k c.args.port) m)) long c.in_default-use_refusal.ensures in
-    let step = changed_on p G c.make_header-header.new.self c.close_out.new.self c.args.h c.in-Some.place c.args.port (λ k q w. with_header (client_header w.made q true) w) F c.make_header-header.ensures.change c.close_out.ensures.closes in
-    let said = and_said p G c.close_out.new.self (port_of F.component c.args.port) (λ w q. c.make_header-header.result.held ≡ held_of (client_header w.made q true) no_load) (λ w v q. ClosesTo (with_header (client_header w.made q true) w) v)
-    (made_header p G c.args.h c.in-Some.place c.args.port c.make_header-header.result (Own c.new.result) true F c.make_header-header.ensures.header) step in
+    let change = rw c.new.ensures at c.make_header-header.ensures.change in
+    let made = rw c.new.ensures at c.make_header-header.ensures.header in
+    let step = changed_on p G c.make_header-header.new.self c.close_out.new.self c.args.h c.in-Some.place c.args.port (λ k q w. with_header (client_header w.made q true) (Some c.args.bytes.items) w) F change c.close_out.ensures.closes in
+    let said = and_said p G c.close_out.new.self (port_of F.component c.args.port) (λ w q. c.make_header-header.result.held ≡ held_of (client_header w.made q true) (empty_load (Some c.args.bytes.items))) (λ w v q. ClosesTo (with_header (client_header w.made q true) (Some c.args.bytes.items) w) v)
+    (made_header p G c.args.h c.in-Some.place c.args.port c.make_header-header.result (Own c.args.bytes.items) true F made) step in
     rw (← c.self.view_is) (done_at p (λ (l : Look) (k : Component). use_refusal l k (port_of k c.args.port) (length c.args.bytes.items)) G c.close_out.new.self c.args.h c.in-Some.place c.make_header-header.result.held
-    (λ w v i k (x : Held). AtPort (port_of k c.args.port) (λ q. (x ≡ held_of (client_header w.made q true) no_load) × ClosesTo (with_header (client_header w.made q true) w) v)) F allowed said)
+    (λ w v i k (x : Held). AtPort (port_of k c.args.port) (λ q. (x ≡ held_of (client_header w.made q true) (empty_load (Some c.args.bytes.items))) × ClosesTo (with_header (client_header w.made q true) (Some c.args.bytes.items) w) v)) F allowed said)
 
 pub returns-clause-clients : goal.returns-clause-clients
 returns-clause-clients g c = rw (← c.self.view_is) (λ k. c.close_out.ensures.clients k ∙ c.make_header-header.ensures.clients k)
