@@ -71,7 +71,7 @@ last-of_script script log old new source sink bytes Faults.WriteFault can none c
 last-of_script script log old new source sink bytes (Faults.Units have need) can none caused is = absurd caused
 
 last-of_ends : (script log : List ℕ) (old new : Outside) (source sink bytes : List ℕ) (fault : Fault) → IsReadable script log old source sink bytes → (Rose old.read_faults new.read_faults → ⊥) → (Rose old.write_faults new.write_faults → ⊥) → IsCaused old new fault → IsOfEnds source sink old fault → IsLast sink log old bytes fault
-last-of_ends script log old new source sink bytes (Faults.BadMedia which fault) can none unwritten caused is = (caused, is bytes can.source_given.held)
+last-of_ends script log old new source sink bytes (Faults.BadMedia which fault) can none unwritten caused is = (caused.0, is bytes can.source_given.held)
 last-of_ends script log old new source sink bytes Faults.ReadFault can none unwritten caused is = absurd (none caused)
 last-of_ends script log old new source sink bytes Faults.WriteFault can none unwritten caused is = absurd (unwritten caused)
 last-of_ends script log old new source sink bytes (Faults.Absent (Files.Line line)) can none unwritten caused (inl (at, missing)) = absurd (none-some bytes (old.file source) missing can.source_given.held)

@@ -7,6 +7,8 @@ use Rattle.outside_io.specs.Whole.{IsShort}
 use Rattle.omx_types.specs.declared.fault.Fault.{Fault}
 use Rattle.omx_types.specs.declared.fault.Fault.TheVariants as Faults
 use Rattle.omx_types.specs.declared.fault.Which.TheVariants.{Script, Log, Line}
+use Rattle.omx_types.specs.declared.fault.WavFault.{WavFault}
+use Rattle.omx_types.specs.declared.fault.WavFault.TheVariants as WavFaults
 use Rattle.omx_types.specs.declared.fault.Unbuilt.TheVariants as Unbuilts
 use Rattle.wav_form.specs.declared.heads.WavHead.{WavHead}
 use Rattle.wav_form.specs.Reading.{Reads}
@@ -16,11 +18,17 @@ use Rattle.omxrun.specs.Script.{IsTunnel, IsNoTunnel}
 abbrev pub ForTunnel : List ℕ → List ℕ → Outside → (List ℕ → List ℕ → Type 0) → Type 0
 ForTunnel script log old P = WhereTold (old.file script) (λ text. (source : List ℕ) × (sink : List ℕ) × IsTunnel script log text source sink × P source sink)
 
+-- the bytes themselves are at fault, and not a read of them
+abbrev pub IsOfHead : WavFault → Type 0
+IsOfHead WavFaults.Read = ⊥
+IsOfHead (WavFaults.Short at size) = ⊥
+IsOfHead fault = Unit {0}
+
 -- the count that a fault needs, and what never comes
 abbrev pub IsCaused : Outside → Outside → Fault → Type 0
 IsCaused old new (Faults.Script line why) = ⊥
 IsCaused old new Faults.Usage = ⊥
-IsCaused old new (Faults.BadMedia which fault) = which ≡ Line 2
+IsCaused old new (Faults.BadMedia which fault) = (which ≡ Line 2) × IsOfHead fault
 IsCaused old new Faults.ReadFault = Rose old.read_faults new.read_faults
 IsCaused old new Faults.WriteFault = Rose old.write_faults new.write_faults
 IsCaused old new (Faults.Absent which) = Rose old.absences new.absences

@@ -13,10 +13,10 @@ use Rattle.il_machine.specs.Lists.{first_of_these, is_empty}
 use Rattle.il_machine.specs.World.{Component, World, number_of, place_numbered, place_of, port_of}
 use Rattle.il_machine.specs.Look.{look}
 use Rattle.il_machine.specs.Ports.{accepting, returning, leaving, is_supplier, id_of}
-use Rattle.il_machine.specs.Buffers.{has_no_block, has_no_number}
+use Rattle.il_machine.specs.Buffers.{has_no_block, has_no_number, is_taking}
 use Rattle.il_machine.specs.Commands.{RunCommand}
 use Rattle.il_machine.specs.Answers.{ActsOrMemory}
-use Rattle.il_machine.specs.Flow.{End, end_at, end_in, end_of, other_end, at_end, supply_idle, Supply, in_port, release_idle, Release, is_giving, is_receiving, over_idle, HandOver, back_idle, HandBack}
+use Rattle.il_machine.specs.Flow.{End, end_at, end_in, end_of, other_end, at_end, supply_idle, Supply, in_port, release_idle, Release, is_giving, over_idle, HandOver, back_idle, HandBack}
 use Rattle.il_machine.specs.Sound.{Sound}
 use Rattle.machine_laws.proofs.Finding.{either}
 use Rattle.machine_laws.proofs.Keys.{there_is}
@@ -118,7 +118,7 @@ module _ (components : List NamedComponent) where
 
     over_reason : (i : ℕ) (c : Component) (p : Port) → slice_get w.components i ≡ Some c → IsNamedWhy components (over_idle (look w) c p)
     over_reason i c p at =
-        let far : End → List (Bool × Why) = λ e. (not (is_receiving e.component e.port), why.NotRunning (id_of e.component e.port)) ∷ [] in
+        let far : End → List (Bool × Why) = λ e. (not (is_taking e.component e.port), why.NotRunning (id_of e.component e.port)) ∷ [] in
         let last : List (Bool × Why) = (is_empty ((look w).headers.done p.key), why.NoHeader) ∷ [] in
         let end = other_end w.components p in
         first_named ((not (is_supplier p), why.NotSupplier) ∷ (not (is_giving c p), why.NotRunning (id_of c p)) ∷ at_end end far ++ last)

@@ -10,7 +10,7 @@ use Rattle.omx_types.specs.declared.handle.PortId.{PortId}
 use Rattle.il_machine.specs.declared.port.Port.{Port}
 use Rattle.il_machine.specs.declared.port.PortKey.{PortKey}
 use Rattle.il_machine.specs.declared.header.HeaderState.{HeaderState}
-use Rattle.il_machine.specs.Headers.{no_load, is_for, same_key}
+use Rattle.il_machine.specs.Headers.{empty_load, is_for, same_key}
 use Rattle.il_machine.specs.Sound.{Sound}
 use Rattle.il_machine.specs.Trails.{key_of}
 use Rattle.il_machine.proofs.Places.{is_first_place, passes_at}
@@ -177,18 +177,18 @@ accepted_or_memory (Some error) x w v Accepted a = let e = a.0 in absurd cc
 accepted_or_memory None x w v Accepted a = a
 
 module _ (w v : World) (h : Handle) (port : ℕ) (header : Held) (S : Sound w) (Z : Sound v) where
-  next_of : (i : ℕ) (c : Component) (p : Port) (client_memory : Bool) → slice_get w.components i ≡ Some c → c.handle ≡ h → port_of c port ≡ Some p → header ≡ held_of (client_header w.made p client_memory) no_load → ClosesTo (header_made (client_header w.made p client_memory) w) v → IsNext w h port header v
-  next_of i c p client_memory at is here e C =
+  next_of : (i : ℕ) (c : Component) (p : Port) (client_memory : Bool) (memory : Option (List ℕ)) → slice_get w.components i ≡ Some c → c.handle ≡ h → port_of c port ≡ Some p → header ≡ held_of (client_header w.made p client_memory) (empty_load memory) → ClosesTo (header_made (client_header w.made p client_memory) memory w) v → IsNext w h port header v
+  next_of i c p client_memory memory at is here e C =
       let k : p.key ≡ key_of h port = (port_parts c port p here).key ∙ ap (λ (n : ℕ). record { component = n; port = port }) (ap (λ (x : Handle). x.generation) is) in
       record {
         number = ap (λ (x : Held). x.number) e;
-        next = times_made C.steps (header_made (client_header w.made p client_memory) w) v C.by_steps;
+        next = times_made C.steps (header_made (client_header w.made p client_memory) memory w) v C.by_steps;
         place = i;
         component = c;
         there = at;
         named = is;
         state = client_header w.made p client_memory;
-        known = (made_clients w v p client_memory header S Z e C).0;
+        known = (made_clients w v p client_memory memory header S Z e C).0;
         made_for = ap (λ (x : PortKey). is_for (key_of h port) (client_header w.made (record p { key = x }) client_memory)) k ∙ for_itself (key_of h port);
       }
 
@@ -197,14 +197,14 @@ module _ (w v : World) (h : Handle) (port : ℕ) (header : Held) (S : Sound w) (
       let x = resolved Omx w v h header _ a in
       let y = accepted_or_memory (allocate_refusal (look w) x.component (port_of x.component port)) header w v _ x.then in
       let p = there_is (port_of x.component port) _ y in
-      next_of x.place x.component p.0 false x.there x.named p.1 p.2.0 p.2.1
+      next_of x.place x.component p.0 false None x.there x.named p.1 p.2.0 p.2.1
 
   used_next : (bytes : List ℕ) → UseBuffer w h port bytes (Ok header) v → IsNext w h port header v
   used_next bytes a =
       let x = resolved plain w v h header _ a in
       let y = accepted (use_refusal (look w) x.component (port_of x.component port) (length bytes)) header w v _ x.then in
       let p = there_is (port_of x.component port) _ y in
-      next_of x.place x.component p.0 true x.there x.named p.1 p.2.0 p.2.1
+      next_of x.place x.component p.0 true (Some bytes) x.there x.named p.1 p.2.0 p.2.1
 
 abbrev slot_of : List ℕ → PortId → BufferHeader → Slot
 slot_of name port header = record { name = name; number = header.held.number; port = port; hand = Some header }

@@ -8,7 +8,7 @@ use Rattle.il_machine.specs.declared.header.Home.TheVariants as homes
 use Rattle.il_machine.specs.declared.header.Owner.{Owner}
 use Rattle.il_machine.specs.declared.header.Owner.TheVariants as owners
 use Rattle.il_machine.specs.World.{HeaderRecord, World}
-use Rattle.il_machine.specs.Headers.{Once, find_header, seen, no_load}
+use Rattle.il_machine.specs.Headers.{Once, find_header, seen, empty_load}
 use Rattle.il_machine.specs.Flow.{in_port}
 use Rattle.il_machine.specs.Notes.{TakenEmpty, TakenFilled, TookNote}
 use Rattle.il_machine.specs.Acts.{Act, Reply}
@@ -122,7 +122,7 @@ carried_home : (n : ℕ) (w v : World) (ms : List Move) → Once w.headers → (
     → IsHome n w.headers ⊎ (ms ≡ moved n Unmade client_stop)
 carried_home n w v ms o B (Still S) H = inl (home_as n w.headers v.headers (ap (find_header n) S.headers) H)
 carried_home n w v ms o B (Made M) H =
-    let r : HeaderRecord = record { state = M.state; load = no_load } in
+    let r : HeaderRecord = record { state = M.state; load = empty_load M.memory } in
     elim (cases_eq (M.state).number n) [
       | inl is ↦
           let none : find_header (M.state).number w.headers ≡ None = rw M.number (none_made w B) in
@@ -157,7 +157,7 @@ carried_once : (w v : World) (ms : List Move) → Once w.headers → ((k : ℕ) 
 carried_once w v ms o B (Still S) = rw S.headers o
 carried_once w v ms o B (Made M) =
     let none : find_header (M.state).number w.headers ≡ None = rw M.number (none_made w B) in
-    rw M.headers (once_push w.headers (record { state = M.state; load = no_load }) o none)
+    rw M.headers (once_push w.headers (record { state = M.state; load = empty_load M.memory }) o none)
 carried_once w v ms o B (Gone M) = rw M.headers (once_without M.number w.headers o)
 carried_once w v ms o B (Moved M) = (M.replaced).once
 
