@@ -1,7 +1,13 @@
+pub mod AnyParts
 pub mod Formats
 pub mod Fronts
 pub mod Inputs
 pub mod Joins
+pub mod Lawful
 pub mod Mixing
+pub mod PortFrames
 pub mod Reading
+pub mod Readiness
+pub mod Reasons
 pub mod Sinking
+pub mod WholeFiles

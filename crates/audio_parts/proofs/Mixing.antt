@@ -1,6 +1,6 @@
 -- The sums of a mixer.
 use Rattle.std.proofs.Common.{◌≡◌, ◌≢◌, ℕ, zero, suc, ◌+◌, ◌-◌, ◌*◌, ◌/◌, ◌<◌, ◌≤◌, List, [], ◌∷◌, ◌++◌, length, map, get_or, set, replicate, refl, ap, sym, ◌∙◌, arith, ℤ, pos, ◌+ℤ◌, Bool, true, false, cond}
-use Rattle.std.proofs.lemmas.List.{map-append, length-replicate, append-nil, length-append, replicate-append-replicate}
+use Rattle.std.proofs.lemmas.List.{map-append, length-map, length-replicate, append-nil, length-append, replicate-append-replicate}
 use Rattle.std.proofs.lemmas.List.Sums.{sum_by-set}
 use Rattle.std.proofs.lemmas.Simd.{length-zip2}
 use Rattle.std.proofs.lemmas.Int.{ints}
@@ -8,7 +8,7 @@ use Rattle.std.specs.List.{count_by}
 use Rattle.std.specs.Int.{int_div_euclid}
 use Rattle.std.specs.Simd.Lanes.{zip2}
 use Rattle.pcm_ops.specs.Samples.{samples, bytes, mixed, scaled, clamped}
-use Rattle.audio_parts.specs.Mixing.{longest, padded, sums, mixed_bytes}
+use Rattle.audio_parts.specs.Mixing.{longest, padded, sums, mixed_bytes, Reach, with_zeros}
 use Rattle.audio_parts.proofs.Joins.{bytes-append, samples-append}
 
 -- ---- samples
@@ -134,23 +134,27 @@ sums_with (weight ∷ weights) count f g (suc i) piece l h silent gave whole sam
     (λ k n. same (suc k) (λ e. n (omega (arith, e)))))
     ∙ swapped weight (get_or weights i 0) rest (samples piece) (samples (padded (count * 2) (f 0)))
 
-longest_within : (weights : List ℕ) (size : ℕ) (f : ℕ → List ℕ) → AreWhole weights size f → longest weights f ≤ size
+longest_within : (weights : List ℕ) (size : ℕ) (f : ℕ → List ℕ) → ((k : ℕ) → k < length weights → length (f k) ≤ size) → longest weights f ≤ size
 unfolding longest
 longest_within [] size f h = omega arith
 longest_within (weight ∷ weights) size f h =
     omega (arith, h 0 (omega arith), longest_within weights size (λ k. f (suc k)) (λ k l. h (suc k) (omega arith)))
 
-longest_is : (weights : List ℕ) (size : ℕ) (f : ℕ → List ℕ) → 1 ≤ length weights → AreWhole weights size f → longest weights f ≡ size
+-- one input has that size
+longest_is : (weights : List ℕ) (size : ℕ) (f : ℕ → List ℕ) → ((k : ℕ) → k < length weights → length (f k) ≤ size)
+    → (k : ℕ) → k < length weights → length (f k) ≡ size → longest weights f ≡ size
 unfolding longest
-longest_is [] size f some h = absurd (omega arith)
-longest_is (weight ∷ weights) size f some h =
-    omega (arith, h 0 (omega arith), longest_within weights size (λ k. f (suc k)) (λ k l. h (suc k) (omega arith)))
+longest_is [] size f h k l e = absurd (omega arith)
+longest_is (weight ∷ weights) size f h zero l e =
+    omega (arith, e, longest_within weights size (λ k. f (suc k)) (λ k l. h (suc k) (omega arith)))
+longest_is (weight ∷ weights) size f h (suc k) l e =
+    omega (arith, h 0 (omega arith), longest_is weights size (λ k. f (suc k)) (λ k l. h (suc k) (omega arith)) k (omega arith) e)
 
 -- what the sums of whole inputs come to
 pub mixed_of : (weights : List ℕ) (count : ℕ) (f : ℕ → List ℕ) → 1 ≤ length weights → AreWhole weights (count * 2) f
     → mixed_bytes weights f ≡ bytes (map clamped (sums weights (count * 2) f))
 unfolding mixed_bytes
-mixed_of weights count f some h = ap (λ n. bytes (map clamped (sums weights n f))) (longest_is weights (count * 2) f some h)
+mixed_of weights count f some h = ap (λ n. bytes (map clamped (sums weights n f))) (longest_is weights (count * 2) f (λ k l. omega (arith, h k l)) 0 some (h 0 some))
 
 sums_joined : (weights : List ℕ) (count more : ℕ) (f g : ℕ → List ℕ) → AreWhole weights (count * 2) f → AreWhole weights (more * 2) g
     → sums weights ((count + more) * 2) (λ k. f k ++ g k) ≡ sums weights (count * 2) f ++ sums weights (more * 2) g
@@ -183,6 +187,56 @@ mixed_joined weights count more f g some h j =
     ∙ ap bytes (map-append clamped a b) ∙ bytes-append (map clamped a) (map clamped b)
     ∙ ap (λ s. s ++ bytes (map clamped b)) (sym (mixed_of weights count f some h))
     ∙ ap (λ s. mixed_bytes weights f ++ s) (sym (mixed_of weights more g some j))
+
+-- ---- inputs with zeros behind them
+
+padded_same : (size zeros : ℕ) (piece : List ℕ) → length piece + zeros ≡ size → padded size (piece ++ replicate zeros 0) ≡ padded size piece
+padded_same size zeros piece e =
+    let behind : zeros ≡ size - length piece = omega (arith, e) in
+    padded_whole size (piece ++ replicate zeros 0) (length-append piece (replicate zeros 0) ∙ ap (λ n. length piece + n) (length-replicate zeros 0) ∙ e)
+    ∙ ap (λ n. piece ++ replicate n 0) behind
+
+sums_padded : (weights : List ℕ) (size : ℕ) (zeros : ℕ → ℕ) (f : ℕ → List ℕ) → ((k : ℕ) → k < length weights → length (f k) + zeros k ≡ size)
+    → sums weights size (with_zeros zeros f) ≡ sums weights size f
+unfolding sums
+sums_padded [] size zeros f h = refl
+sums_padded (weight ∷ weights) size zeros f h =
+    ap (λ s. zip2 (mixed weight) s (samples (padded size (f 0 ++ replicate (zeros 0) 0))))
+    (sums_padded weights size (λ k. zeros (suc k)) (λ k. f (suc k)) (λ k l. h (suc k) (omega arith)))
+    ∙ ap (λ p. zip2 (mixed weight) (sums weights size (λ k. f (suc k))) (samples p)) (padded_same size (zeros 0) (f 0) (h 0 (omega arith)))
+
+reached : (weights : List ℕ) (size : ℕ) (zeros : ℕ → ℕ) (f : ℕ → List ℕ) → Reach weights size zeros f → AreWhole weights size (with_zeros zeros f)
+reached weights size zeros f h = λ k l.
+    length-append (f k) (replicate (zeros k) 0) ∙ ap (λ n. length (f k) + n) (length-replicate (zeros k) 0) ∙ h.each k l
+
+pub mixed_padded : (weights : List ℕ) (size : ℕ) (zeros : ℕ → ℕ) (f : ℕ → List ℕ) → Reach weights size zeros f
+    → mixed_bytes weights (with_zeros zeros f) ≡ mixed_bytes weights f
+unfolding mixed_bytes
+mixed_padded weights size zeros f h =
+    let one = h.one.0 in
+    let there : one < length weights = h.one.1 in
+    let whole = reached weights size zeros f h in
+    let full : length (f one) ≡ size = omega (arith, h.each one there, h.one.2) in
+    ap (λ n. bytes (map clamped (sums weights n (with_zeros zeros f))))
+    (longest_is weights size (with_zeros zeros f) (λ k l. omega (arith, whole k l)) one there (whole one there))
+    ∙ ap (λ s. bytes (map clamped s)) (sums_padded weights size zeros f h.each)
+    ∙ ap (λ n. bytes (map clamped (sums weights n f))) (sym (longest_is weights size f (λ k l. omega (arith, h.each k l)) one there full))
+
+bytes_long : (s : List ℤ) → length (bytes s) ≡ length s * 2
+unfolding bytes
+bytes_long [] = refl
+bytes_long (x ∷ s) = omega (arith, bytes_long s)
+
+pub mixed_long : (weights : List ℕ) (count : ℕ) (zeros : ℕ → ℕ) (f : ℕ → List ℕ) → Reach weights (count * 2) zeros f
+    → length (mixed_bytes weights f) ≡ count * 2
+mixed_long weights count zeros f h =
+    let there : h.one.0 < length weights = h.one.1 in
+    let whole = reached weights (count * 2) zeros f h in
+    let s = sums weights (count * 2) (with_zeros zeros f) in
+    ap length (sym (mixed_padded weights (count * 2) zeros f h))
+    ∙ ap length (mixed_of weights count (with_zeros zeros f) (omega (arith, there)) whole)
+    ∙ bytes_long (map clamped s)
+    ∙ ap (λ n. n * 2) (length-map s clamped ∙ sums_long weights count (with_zeros zeros f) whole)
 
 -- ---- flags
 

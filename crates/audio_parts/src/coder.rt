@@ -1,11 +1,14 @@
-// The two laws of G.711, code by code.
-ghost use Rattle.std.specs.Prelude.{◌≡◌, ◌*◌, ◌≤◌, length, map, vec_len, IfOk};
-ghost use Rattle.audio_parts.specs.Effects.{decoded, encoded, value_of, code_of};
+//! The two laws of G.711, code by code.
+ghost use Rattle.std.specs.Prelude.{◌≡◌, ◌*◌, ◌≤◌, [], ◌∷◌, length, map, vec_len, IfOk, None};
+ghost use Rattle.omx_types.specs.declared.kind.Kind.TheVariants as kinds;
+ghost use Rattle.audio_parts.specs.Effects.{decoded, encoded, value_of, code_of, law_of, coder_kind};
+ghost use Rattle.audio_parts.specs.Manners.{decoding, encoding};
 
 use crate::OutOfMemory;
 use crate::effect::Effect;
 use crate::one_input::OneInput;
 use g711_law::{alaw_decode_all, alaw_encode_all, mulaw_decode_all, mulaw_encode_all};
+use omx_types::Format;
 use pcm_ops::{bytes_of, samples_of};
 use std::alloc::Global;
 
@@ -17,6 +20,19 @@ pub enum Law {
 }
 
 impl Law {
+    /// The law of coded samples.
+    fn of(format: Format) -> Law
+        ensures { result ≡ law_of format }
+    {
+        match format {
+            Format::Mulaw {
+                rate: _,
+                channels: _,
+            } => Law::MuLaw,
+            _ => Law::ALaw,
+        }
+    }
+
     fn decode(self, from: &[u8], to: &mut [i16])
         requires { length from.now ≡ length to.old }
         ensures { to.new ≡ map (value_of self) from.now }
@@ -47,8 +63,8 @@ pub type G711Encoder = OneInput<Encoding>;
 /// The sample that each code stands for.
 #[derive(Drop)]
 pub struct Decoding {
-    law: Law,
-    channels: u32,
+    pub(crate) input: Format,
+    pub(crate) output: Format,
     samples: Vec<i16>,
     ghost room: { vec_len samples ≡ 4096 },
 }
@@ -57,32 +73,40 @@ pub struct Decoding {
 #[derive(Drop)]
 pub struct Encoding {
     law: Law,
-    channels: u32,
+    pub(crate) input: Format,
+    pub(crate) output: Format,
     samples: Vec<i16>,
     ghost room: { vec_len samples ≡ 4096 },
 }
 
 impl Decoding {
-    pub fn new(alloc: Global, law: Law, channels: u32) -> Result<Decoding, OutOfMemory>
-        ensures law { IfOk result (λ it. it.law ≡ law) }
-        ensures channels { IfOk result (λ it. it.channels ≡ channels) }
+    pub(crate) fn new(alloc: Global, input: Format, output: Format) -> Result<Decoding, OutOfMemory>
+        ensures input { IfOk result (λ it. it.input ≡ input) }
+        ensures output { IfOk result (λ it. it.output ≡ output) }
     {
         Ok(Decoding {
-            law,
-            channels,
+            input,
+            output,
             samples: vec![in alloc; 0; 4096]?,
         })
     }
 }
 
 impl Encoding {
-    pub fn new(alloc: Global, law: Law, channels: u32) -> Result<Encoding, OutOfMemory>
+    pub(crate) fn new(
+        alloc: Global,
+        law: Law,
+        input: Format,
+        output: Format,
+    ) -> Result<Encoding, OutOfMemory>
         ensures law { IfOk result (λ it. it.law ≡ law) }
-        ensures channels { IfOk result (λ it. it.channels ≡ channels) }
+        ensures input { IfOk result (λ it. it.input ≡ input) }
+        ensures output { IfOk result (λ it. it.output ≡ output) }
     {
         Ok(Encoding {
             law,
-            channels,
+            input,
+            output,
             samples: vec![in alloc; 0; 4096]?,
         })
     }
@@ -127,10 +151,12 @@ fn encode_front(law: Law, from: &[u8], samples: &mut [i16], count: usize, to: &m
 }
 
 impl Effect for Decoding {
-    ghost manner = { λ it. record { outputs = 1; channels = it.channels; input_width = 1; output_width = 2; effect = decoded it.law } };
+    ghost manner = { λ it. decoding it.input };
+
+    ghost terms = { λ it. record { kind = kinds.Decoder; inputs = it.input ∷ []; outputs = it.output ∷ []; factors = []; file = None } };
 
     fn channels(&self) -> u32 {
-        self.channels
+        self.input.channels()
     }
 
     fn input_width(&self) -> usize {
@@ -138,17 +164,26 @@ impl Effect for Decoding {
     }
 
     fn apply(&mut self, count: usize, from: &[u8], to: &mut [u8]) {
-        decode_front(self.law, from, &mut self.samples, count, to);
+        decode_front(Law::of(self.input), from, &mut self.samples, count, to);
+    }
+
+    fn set_format(&mut self, port: u32, format: Format) {
+        match port {
+            0 => self.input = format,
+            _ => self.output = format,
+        }
     }
 
     fn joins(&self) {}
 }
 
 impl Effect for Encoding {
-    ghost manner = { λ it. record { outputs = 1; channels = it.channels; input_width = 2; output_width = 1; effect = encoded it.law } };
+    ghost manner = { λ it. encoding it.law it.input };
+
+    ghost terms = { λ it. record { kind = coder_kind it.law; inputs = it.input ∷ []; outputs = it.output ∷ []; factors = []; file = None } };
 
     fn channels(&self) -> u32 {
-        self.channels
+        self.input.channels()
     }
 
     fn input_width(&self) -> usize {
@@ -157,6 +192,13 @@ impl Effect for Encoding {
 
     fn apply(&mut self, count: usize, from: &[u8], to: &mut [u8]) {
         encode_front(self.law, from, &mut self.samples, count, to);
+    }
+
+    fn set_format(&mut self, port: u32, format: Format) {
+        match port {
+            0 => self.input = format,
+            _ => self.output = format,
+        }
     }
 
     fn joins(&self) {}

@@ -1,9 +1,12 @@
-ghost use Rattle.std.specs.Prelude.{◌≡◌, ◌*◌, ◌≤◌, length, vec_len, IfOk};
+ghost use Rattle.std.specs.Prelude.{◌≡◌, ◌*◌, ◌≤◌, [], ◌∷◌, length, vec_len, IfOk, None};
+ghost use Rattle.omx_types.specs.declared.kind.Kind.TheVariants as kinds;
 ghost use Rattle.audio_parts.specs.Effects.{gained_bytes};
+ghost use Rattle.audio_parts.specs.Manners.{gaining};
 
 use crate::OutOfMemory;
 use crate::effect::Effect;
 use crate::one_input::OneInput;
+use omx_types::Format;
 use pcm_ops::{bytes_of, gain_into, samples_of};
 use std::alloc::Global;
 
@@ -13,8 +16,9 @@ pub type Gain = OneInput<Gaining>;
 /// Each sample times a factor in 4096ths, rounded down and clamped.
 #[derive(Drop)]
 pub struct Gaining {
-    channels: u32,
-    gain: u32,
+    pub(crate) input: Format,
+    pub(crate) output: Format,
+    pub(crate) gain: u32,
     before: Vec<i16>,
     after: Vec<i16>,
     ghost small: { gain ≤ 65535 },
@@ -23,17 +27,36 @@ pub struct Gaining {
 }
 
 impl Gaining {
-    pub fn new(alloc: Global, channels: u32, gain: u32) -> Result<Gaining, OutOfMemory>
+    pub(crate) fn new(
+        alloc: Global,
+        input: Format,
+        output: Format,
+        gain: u32,
+    ) -> Result<Gaining, OutOfMemory>
         requires { gain ≤ 65535 }
-        ensures channels { IfOk result (λ it. it.channels ≡ channels) }
+        ensures input { IfOk result (λ it. it.input ≡ input) }
+        ensures output { IfOk result (λ it. it.output ≡ output) }
         ensures gain { IfOk result (λ it. it.gain ≡ gain) }
     {
         Ok(Gaining {
-            channels,
+            input,
+            output,
             gain,
             before: vec![in alloc; 0; 4096]?,
             after: vec![in alloc; 0; 4096]?,
         })
+    }
+}
+
+impl Gain {
+    /// Sets the gain.
+    pub(crate) fn set_gain(&mut self, gain: u32)
+        requires { gain ≤ 65535 }
+        ensures gain { self.new.effect.gain ≡ gain }
+        ensures input { self.new.effect.input ≡ self.old.effect.input }
+        ensures output { self.new.effect.output ≡ self.old.effect.output }
+    {
+        self.effect.gain = gain;
     }
 }
 
@@ -69,10 +92,12 @@ fn gain_front(
 }
 
 impl Effect for Gaining {
-    ghost manner = { λ it. record { outputs = 1; channels = it.channels; input_width = 2; output_width = 2; effect = gained_bytes it.gain } };
+    ghost manner = { λ it. gaining it.gain it.input };
+
+    ghost terms = { λ it. record { kind = kinds.Gain; inputs = it.input ∷ []; outputs = it.output ∷ []; factors = it.gain ∷ []; file = None } };
 
     fn channels(&self) -> u32 {
-        self.channels
+        self.input.channels()
     }
 
     fn input_width(&self) -> usize {
@@ -88,6 +113,13 @@ impl Effect for Gaining {
             count,
             to,
         );
+    }
+
+    fn set_format(&mut self, port: u32, format: Format) {
+        match port {
+            0 => self.input = format,
+            _ => self.output = format,
+        }
     }
 
     fn joins(&self) {}

@@ -1,10 +1,12 @@
-ghost use Rattle.std.specs.Prelude.{◌≡◌, ℕ, ◌+◌, ◌*◌, ◌<◌, ◌≤◌, Bool, true, false, List, [], All, length, take, map, replicate, vec_len, unsigned_abs, count_by, slice_index_or, IfOk, None, pos};
+ghost use Rattle.std.specs.Prelude.{◌≡◌, ℕ, ◌+◌, ◌*◌, ◌<◌, ◌≤◌, Bool, true, false, List, [], ◌∷◌, All, length, take, map, replicate, slice_set, nat_lt, if◌then◌else◌, vec_len, unsigned_abs, count_by, slice_index_or, IfOk, None, pos};
 ghost use Rattle.std.specs.Simd.Lanes.{zip2};
+ghost use Rattle.omx_types.specs.Formats.{channels_of};
+ghost use Rattle.omx_types.specs.declared.kind.Kind.TheVariants as kinds;
 ghost use Rattle.pcm_ops.specs.Samples.{samples, bytes, mixed, clamped, IsSum};
 ghost use Rattle.audio_parts.specs.Mixing.{mixing, Carries};
 
 use crate::OutOfMemory;
-use omx_types::PartFault;
+use omx_types::{Format, PartFault};
 use part_api::Part;
 use pcm_ops::{bytes_of, clamp_into, mix_into, samples_of};
 use std::alloc::Global;
@@ -12,18 +14,22 @@ use std::alloc::Global;
 /// The weighted sum of its inputs, clamped.
 #[derive(Drop)]
 pub struct Mixer {
-    channels: u32,
+    /// The formats of its inputs and its output.
+    inputs: Vec<Format>,
+    output: Format,
     /// One for each input.
     weights: Vec<u32>,
     /// Which inputs were taken in this step.
     taken: Vec<bool>,
     sums: Vec<i32>,
     samples: Vec<i16>,
-    /// The samples of the step.
+    /// The frames of the step, and their samples.
+    frames: u32,
     count: usize,
+    ghost formats: { vec_len inputs ≡ vec_len weights },
     ghost flags: { vec_len taken ≡ vec_len weights },
     ghost some: { 1 ≤ vec_len weights },
-    ghost inputs: { vec_len weights ≤ 8 },
+    ghost not_many: { vec_len weights ≤ 8 },
     ghost small: { All (λ weight. weight ≤ 65535) weights.items },
     ghost sums_room: { vec_len sums ≡ 4096 },
     ghost samples_room: { vec_len samples ≡ 4096 },
@@ -86,33 +92,72 @@ fn clear_sums(sums: &mut [i32], count: usize)
 
 impl Mixer {
     /// A mixer with a weight for each input.
-    pub fn new(alloc: Global, channels: u32, weights: Vec<u32>) -> Result<Mixer, OutOfMemory>
+    pub(crate) fn new(
+        alloc: Global,
+        inputs: Vec<Format>,
+        output: Format,
+        weights: Vec<u32>,
+    ) -> Result<Mixer, OutOfMemory>
         requires some { 1 ≤ vec_len weights }
         requires inputs { vec_len weights ≤ 8 }
+        requires formats { vec_len inputs ≡ vec_len weights }
         requires small { All (λ weight. weight ≤ 65535) weights.items }
         ensures weights { IfOk result (λ mixer. mixer.weights.items ≡ weights.items) }
-        ensures channels { IfOk result (λ mixer. mixer.channels ≡ channels) }
+        ensures inputs { IfOk result (λ mixer. mixer.inputs.items ≡ inputs.items) }
+        ensures output { IfOk result (λ mixer. mixer.output ≡ output) }
     {
         let taken = vec![in alloc; false; weights.len()]?;
         Ok(Mixer {
-            channels,
+            inputs,
+            output,
             weights,
             taken,
             sums: vec![in alloc; 0; 4096]?,
             samples: vec![in alloc; 0; 4096]?,
+            frames: 0,
             count: 0,
         })
+    }
+
+    /// Sets the format of a port.
+    pub(crate) fn set_format(&mut self, port: u32, format: Format)
+        requires { port < vec_len self.old.inputs + 1 }
+        ensures inputs { self.new.inputs.items ≡ (if nat_lt port (length self.old.inputs.items) then slice_set self.old.inputs.items port format else self.old.inputs.items) }
+        ensures output { self.new.output ≡ (if nat_lt port (length self.old.inputs.items) then self.old.output else format) }
+        ensures weights { self.new.weights.items ≡ self.old.weights.items }
+    {
+        let at = port as usize;
+        if at < self.inputs.len() {
+            self.inputs[at] = format;
+        } else {
+            self.output = format;
+        }
+    }
+
+    /// Sets the weight of an input.
+    pub(crate) fn set_weight(&mut self, input: u32, weight: u32)
+        requires input { input < vec_len self.old.weights }
+        requires small { weight ≤ 65535 }
+        ensures weights { self.new.weights.items ≡ slice_set self.old.weights.items input weight }
+        ensures inputs { self.new.inputs.items ≡ self.old.inputs.items }
+        ensures output { self.new.output ≡ self.old.output }
+    {
+        self.weights[input as usize] = weight;
     }
 }
 
 impl Part for Mixer {
-    ghost shape = { λ mixer. mixing mixer.channels mixer.weights.items };
+    ghost shape = { λ mixer. mixing (channels_of mixer.output) mixer.weights.items };
 
-    ghost sizes = { λ mixer. record { input = mixer.count * 2; output = mixer.count * 2 } };
+    ghost sizes = { λ mixer. record { frames = mixer.frames; input = mixer.count * 2; output = mixer.count * 2 } };
 
     ghost carries = { λ mixer incoming. Carries mixer.weights.items mixer.taken.items mixer.count (take mixer.count mixer.sums.items) incoming };
 
-    ghost can_begin = { λ mixer frames. Unit {0} };
+    ghost terms = { λ mixer. record { kind = kinds.Mixer (vec_len mixer.weights); inputs = mixer.inputs.items; outputs = mixer.output ∷ []; factors = mixer.weights.items; file = None } };
+
+    ghost failed = { λ mixer. false };
+
+    ghost is_ready = { λ mixer. Unit {0} };
 
     ghost can_take = { λ mixer input. (input < length mixer.weights.items) × (slice_index_or mixer.taken.items input true ≡ false) };
 
@@ -126,12 +171,15 @@ impl Part for Mixer {
 
     ghost kept = { λ mixer. None };
 
+    ghost writing = { λ mixer. None };
+
     ghost writes = { λ mixer incoming. [] };
 
     ghost has_cause = { λ old new fault. ⊥ };
 
     fn begin(&mut self, frames: u32) {
-        self.count = (frames * self.channels) as usize;
+        self.frames = frames;
+        self.count = (frames * self.output.channels()) as usize;
         self.taken.fill(false);
         clear_sums(&mut self.sums, self.count);
     }

@@ -1,44 +1,59 @@
-ghost use Rattle.std.specs.Prelude.{◌≡◌, ℕ, ◌*◌, ◌<◌, ◌≤◌, take, vec_len, IfOk, None, []};
+ghost use Rattle.std.specs.Prelude.{◌≡◌, ◌+◌, ◌*◌, ◌<◌, ◌≤◌, false, length, take, vec_len, IfOk, None, []};
+ghost use Rattle.audio_parts.specs.Kinds.{with_format};
 ghost use Rattle.audio_parts.specs.Manners.{through};
 
 use crate::OutOfMemory;
 use crate::effect::Effect;
 use crate::register::{clear_front, set_front};
-use omx_types::PartFault;
+use omx_types::{Format, PartFault};
 use part_api::Part;
 use std::alloc::Global;
 
 /// A part with one input, whose every output is an effect of it.
 #[derive(Drop)]
 pub struct OneInput<E> {
-    effect: E,
+    pub(crate) effect: E,
     register: Vec<u8>,
-    /// The samples of the step.
+    /// The frames of the step, and their samples.
+    frames: u32,
     count: usize,
     ghost room: { vec_len register ≡ 8192 },
     ghost few: { count ≤ 4096 },
 }
 
 impl<E: Effect> OneInput<E> {
-    pub fn new(alloc: Global, effect: E) -> Result<OneInput<E>, OutOfMemory>
+    pub(crate) fn new(alloc: Global, effect: E) -> Result<OneInput<E>, OutOfMemory>
         ensures { IfOk result (λ part. part.effect ≡ effect) }
     {
         Ok(OneInput {
             effect,
             register: vec![in alloc; 0; 8192]?,
+            frames: 0,
             count: 0,
         })
+    }
+
+    /// Sets the format of a port.
+    pub(crate) fn set_format(&mut self, port: u32, format: Format)
+        requires { port < length (E.terms self.old.effect).inputs + length (E.terms self.old.effect).outputs }
+        ensures { E.terms self.new.effect ≡ with_format (E.terms self.old.effect) port format }
+    {
+        self.effect.set_format(port, format);
     }
 }
 
 impl<E: Effect> Part for OneInput<E> {
     ghost shape = { λ part. through (E.manner part.effect) };
 
-    ghost sizes = { λ part. record { input = part.count * (E.manner part.effect).input_width; output = part.count * (E.manner part.effect).output_width } };
+    ghost sizes = { λ part. record { frames = part.frames; input = part.count * (E.manner part.effect).input_width; output = part.count * (E.manner part.effect).output_width } };
 
     ghost carries = { λ part incoming. take (part.count * (E.manner part.effect).input_width) part.register.items ≡ incoming.input 0 };
 
-    ghost can_begin = { λ part frames. Unit {0} };
+    ghost terms = { λ part. E.terms part.effect };
+
+    ghost failed = { λ part. false };
+
+    ghost is_ready = { λ part. Unit {0} };
 
     ghost can_take = { λ part input. input < 1 };
 
@@ -52,11 +67,14 @@ impl<E: Effect> Part for OneInput<E> {
 
     ghost kept = { λ part. None };
 
+    ghost writing = { λ part. None };
+
     ghost writes = { λ part incoming. [] };
 
     ghost has_cause = { λ old new fault. ⊥ };
 
     fn begin(&mut self, frames: u32) {
+        self.frames = frames;
         self.count = (frames * self.effect.channels()) as usize;
         let length = self.count * self.effect.input_width();
         clear_front(&mut self.register, length);

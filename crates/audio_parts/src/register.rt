@@ -1,4 +1,4 @@
-// The front of a register.
+//! The front of a register.
 ghost use Rattle.std.specs.Prelude.{◌≡◌, ◌≤◌, length, take, replicate};
 
 /// Sets the front to zeros.

@@ -1,4 +1,4 @@
-// Against values from outside: the codes of the Recommendation on this scale, and sums worked by hand.
+//! Against values from outside: the codes of the Recommendation on this scale, and sums worked by hand.
 ghost use Rattle.std.specs.Prelude.{◌≡◌};
 
 use super::*;
@@ -7,10 +7,25 @@ use outside_io::{MemorySink, MemorySource};
 use part_api::Part;
 use std::test::Fail as Failure;
 
+const PCM: Format = Format::Pcm {
+    rate: 8000,
+    channels: 1,
+};
+
+const ALAW: Format = Format::Alaw {
+    rate: 8000,
+    channels: 1,
+};
+
+const MULAW: Format = Format::Mulaw {
+    rate: 8000,
+    channels: 1,
+};
+
 #[test]
 fn codes_of_alaw(rt: HostRuntime) -> Result<(), Failure> {
     let alloc = rt.alloc();
-    let mut encoder = G711Encoder::new(alloc, Encoding::new(alloc, Law::ALaw, 1)?)?;
+    let mut encoder = G711Encoder::new(alloc, Encoding::new(alloc, Law::ALaw, PCM, ALAW)?)?;
     let mut codes = [0; 4];
     encoder.begin(4);
     encoder.take(0, &[0, 0, 0xff, 0x7f, 0, 0x80, 0xe8, 0x03]);
@@ -23,7 +38,7 @@ fn codes_of_alaw(rt: HostRuntime) -> Result<(), Failure> {
 #[test]
 fn codes_of_mulaw(rt: HostRuntime) -> Result<(), Failure> {
     let alloc = rt.alloc();
-    let mut encoder = G711Encoder::new(alloc, Encoding::new(alloc, Law::MuLaw, 1)?)?;
+    let mut encoder = G711Encoder::new(alloc, Encoding::new(alloc, Law::MuLaw, PCM, MULAW)?)?;
     let mut codes = [0; 5];
     encoder.begin(5);
     encoder.take(0, &[0, 0, 0xff, 0xff, 0xff, 0x7f, 0, 0x80, 0xe8, 0x03]);
@@ -37,14 +52,22 @@ fn codes_of_mulaw(rt: HostRuntime) -> Result<(), Failure> {
 fn decoded_codes(rt: HostRuntime) -> Result<(), Failure> {
     let alloc = rt.alloc();
     let mut samples = [0; 8];
-    let mut alaw = G711Decoder::new(alloc, Decoding::new(alloc, Law::ALaw, 2)?)?;
+    let stereo = Format::Alaw {
+        rate: 8000,
+        channels: 2,
+    };
+    let decoded = Format::Pcm {
+        rate: 8000,
+        channels: 2,
+    };
+    let mut alaw = G711Decoder::new(alloc, Decoding::new(alloc, stereo, decoded)?)?;
     alaw.begin(2);
     alaw.take(0, &[0xd5, 0x55, 0xaa, 0xfa]);
     assert_eq!(rt; alaw.step(), None);
     alaw.put(0, &mut samples);
     // 8, -8, 32256, 1008
     assert_eq!(rt; samples, [8, 0, 0xf8, 0xff, 0, 0x7e, 0xf0, 3]);
-    let mut mulaw = G711Decoder::new(alloc, Decoding::new(alloc, Law::MuLaw, 1)?)?;
+    let mut mulaw = G711Decoder::new(alloc, Decoding::new(alloc, MULAW, PCM)?)?;
     mulaw.begin(4);
     mulaw.take(0, &[0xff, 0x7f, 0x80, 0xce]);
     assert_eq!(rt; mulaw.step(), None);
@@ -57,7 +80,7 @@ fn decoded_codes(rt: HostRuntime) -> Result<(), Failure> {
 #[test]
 fn gain_rounds_down(rt: HostRuntime) -> Result<(), Failure> {
     let alloc = rt.alloc();
-    let mut half = Gain::new(alloc, Gaining::new(alloc, 1, 2048)?)?;
+    let mut half = Gain::new(alloc, Gaining::new(alloc, PCM, PCM, 2048)?)?;
     let mut out = [7; 8];
     half.begin(4);
     // -1, 3, -3, 1000
@@ -76,7 +99,7 @@ fn gain_rounds_down(rt: HostRuntime) -> Result<(), Failure> {
 #[test]
 fn splitter_gives_each_output_the_input(rt: HostRuntime) -> Result<(), Failure> {
     let alloc = rt.alloc();
-    let mut splitter = Splitter::new(alloc, Splitting::new(2, 1, 1))?;
+    let mut splitter = Splitter::new(alloc, Splitting::new(ALAW, vec![in alloc; ALAW; 2]?))?;
     splitter.begin(3);
     splitter.take(0, &[1, 2, 3]);
     assert_eq!(rt; splitter.step(), None);
@@ -92,7 +115,12 @@ fn splitter_gives_each_output_the_input(rt: HostRuntime) -> Result<(), Failure> 
 #[test]
 fn mixer_with_a_shorter_input(rt: HostRuntime) -> Result<(), Failure> {
     let alloc = rt.alloc();
-    let mut mixer = Mixer::new(alloc, 1, vec![in alloc; 4096; 2]?)?;
+    let mut mixer = Mixer::new(
+        alloc,
+        vec![in alloc; PCM; 2]?,
+        PCM,
+        vec![in alloc; 4096; 2]?,
+    )?;
     let mut out = [0; 4];
     // 32767 and -5 beside 1 and 2, and then 3 alone
     mixer.begin(2);
@@ -113,42 +141,40 @@ fn mixer_with_a_shorter_input(rt: HostRuntime) -> Result<(), Failure> {
 fn source_in_pieces(rt: HostRuntime) -> Result<(), Failure> {
     let alloc = rt.alloc();
     let bytes = [9, 9, 1, 0, 2, 0, 3, 0].to_vec(alloc)?;
-    let format = Format::Pcm {
-        rate: 8000,
-        channels: 1,
-    };
-    let mut source = match WavSource::new(alloc, MemorySource::new(bytes), format, 4) {
-        Ok(source) => source,
-        Err((refused, _)) => return Err(refused.into()),
-    };
+    let mut source = WavSource::new(alloc, PCM)?;
+    assert_eq!(rt; source.left(), 0);
+    source.attach(MemorySource::new(bytes), PCM, 4);
     let mut first = [0; 4];
     source.begin(2);
     assert_eq!(rt; source.step(), None);
     source.put(0, &mut first);
     assert_eq!(rt; first, [9, 9, 1, 0]);
     assert_eq!(rt; source.left(), 2);
-    let _memory = source.into_source();
+    let mut second = [0; 4];
+    source.begin(2);
+    assert_eq!(rt; source.step(), None);
+    source.put(0, &mut second);
+    assert_eq!(rt; second, [2, 0, 3, 0]);
+    assert_eq!(rt; source.left(), 0);
+    assert_eq!(rt; source.into_file().is_some(), true);
     Ok(())
 }
 
 #[test]
 fn sink_of_odd_bytes(rt: HostRuntime) -> Result<(), Failure> {
     let alloc = rt.alloc();
-    let format = Format::Mulaw {
-        rate: 8000,
-        channels: 1,
-    };
-    let mut sink = match WavSink::new(alloc, MemorySink::new(alloc, 100)?, format, 3) {
-        Ok(sink) => sink,
-        Err((refused, _)) => return Err(refused.into()),
-    };
+    let mut sink = WavSink::new(alloc, MULAW)?;
+    sink.attach(MemorySink::new(alloc, 100)?, 3);
     sink.begin(2);
     sink.take(0, &[1, 2]);
     assert_eq!(rt; sink.step(), None);
     sink.begin(2);
     sink.take(0, &[3, 4]);
     assert_eq!(rt; sink.step(), None);
-    let bytes = sink.into_sink().into_bytes();
+    let Some(file) = sink.into_file() else {
+        panic!(rt; "no file comes back");
+    };
+    let bytes = file.sink.into_bytes();
     let wanted = [1, 2, 3, 0];
     assert_eq!(rt; bytes.len(), 62);
     for i in 0..4 {

@@ -1,111 +1,147 @@
-ghost use Rattle.std.specs.Prelude.{◌≡◌, ℕ, ◌-◌, ◌*◌, ◌<◌, ◌≤◌, true, false, [], if◌then◌else◌, length, replicate, take, vec_len, IfOk, IfErr, IfSome, None};
-ghost use Rattle.std.specs.Io.KnownBytes.{append_known};
-ghost use Rattle.omx_types.specs.Formats.{IsWithinLimits, channels_of, frame_bytes_of};
-ghost use Rattle.audio_parts.specs.Causes.{HasWriteCause};
-ghost use Rattle.audio_parts.specs.Sinking.{sinking, sink_sizes, sink_text, is_last_among};
-ghost use Rattle.part_api.specs.Streams.{Incoming, sizes_of};
-ghost use Rattle.part_api.specs.Steps.{OnNone, HasRead, HasGiven, TookFront};
+ghost use Rattle.std.specs.Prelude.{◌≡◌, ◌*◌, ◌≤◌, true, false, take, vec_len, IfOk, None, Some};
+ghost use Rattle.std.specs.Option.{ForSome};
+ghost use Rattle.omx_types.specs.Formats.{IsWithinLimits, frame_bytes_of};
+ghost use Rattle.audio_parts.specs.Causes.{WriteCause};
+ghost use Rattle.audio_parts.specs.FileParts.{sink_terms, writing_of};
+ghost use Rattle.audio_parts.specs.Ready.{IsReady};
+ghost use Rattle.audio_parts.specs.Sinking.{sinking, sink_sizes, writes_of};
 
 use crate::OutOfMemory;
 use crate::register::{clear_front, set_front};
-use crate::writes::write_step;
+use crate::sink_file::SinkFile;
 use omx_types::{Format, PartFault};
 use outside_io::Sink;
 use part_api::Part;
 use std::alloc::Global;
 
-/// Writes a WAV file of the planned frames.
+/// Writes a WAV file of the planned frames, where it has a file.
+#[derive(Drop)]
 pub struct WavSink<K: Sink> {
-    sink: K,
+    file: Option<SinkFile<K>>,
+    /// The format of its input.
     format: Format,
-    planned: u64,
-    /// How many planned frames aren't written.
-    left: u64,
-    /// The head is written.
-    headed: bool,
     register: Vec<u8>,
     /// The frames of the step, and their bytes.
     frames: u32,
     length: usize,
     /// They are still to be written.
     due: bool,
+    /// A step answered a fault.
+    failed: bool,
     ghost lawful: { IsWithinLimits format },
-    ghost planned_small: { planned * frame_bytes_of format ≤ 134217728 },
     ghost room: { vec_len register ≡ 8192 },
     ghost whole: { length ≡ frames * frame_bytes_of format },
     ghost small: { length ≤ 8192 },
+    ghost agrees: { due ≡ true → ForSome file (λ it. it.planned * frame_bytes_of format ≤ 134217728) },
 }
 
 impl<K: Sink> WavSink<K> {
-    pub fn new(
-        alloc: Global,
-        sink: K,
-        format: Format,
-        planned: u64,
-    ) -> Result<WavSink<K>, (OutOfMemory, K)>
-        requires lawful { IsWithinLimits format }
-        requires small { planned * frame_bytes_of format ≤ 134217728 }
-        ensures sink { IfOk result (λ part. part.sink ≡ sink) }
+    /// A sink without a file.
+    pub(crate) fn new(alloc: Global, format: Format) -> Result<WavSink<K>, OutOfMemory>
+        requires { IsWithinLimits format }
+        ensures file { IfOk result (λ part. part.file ≡ None) }
         ensures format { IfOk result (λ part. part.format ≡ format) }
-        ensures planned { IfOk result (λ part. part.planned ≡ planned) }
-        ensures left { IfOk result (λ part. part.left ≡ planned) }
-        ensures headed { IfOk result (λ part. part.headed ≡ false) }
-        ensures back { IfErr result (λ refused. refused.1 ≡ sink) }
+        ensures failed { IfOk result (λ part. part.failed ≡ false) }
     {
-        let register = match vec![in alloc; 0; 8192] {
-            Ok(register) => register,
-            Err(refused) => return Err((refused, sink)),
-        };
+        let register = vec![in alloc; 0; 8192]?;
         Ok(WavSink {
-            sink,
+            file: None,
             format,
-            planned,
-            left: planned,
-            headed: false,
             register,
             frames: 0,
             length: 0,
             due: false,
+            failed: false,
         })
     }
 
-    /// The file.
-    pub fn into_sink(self) -> K
-        ensures { result ≡ self.sink }
+    /// Gives up a step that was begun.
+    fn give_up(&mut self)
+        ensures frames { self.new.frames ≡ 0 }
+        ensures due { self.new.due ≡ false }
+        ensures file { self.new.file ≡ self.old.file }
+        ensures format { self.new.format ≡ self.old.format }
+        ensures failed { self.new.failed ≡ self.old.failed }
+        ensures length { self.new.length ≡ 0 }
+    {
+        self.due = false;
+        self.frames = 0;
+        self.length = 0;
+    }
+
+    /// Sets the format of its input. A step that was begun is given up.
+    pub(crate) fn set_format(&mut self, format: Format)
+        requires { IsWithinLimits format }
+        ensures format { self.new.format ≡ format }
+        ensures file { self.new.file ≡ self.old.file }
+        ensures failed { self.new.failed ≡ self.old.failed }
+        ensures frames { self.new.frames ≡ 0 }
+        ensures due { self.new.due ≡ false }
+    {
+        self.give_up();
+        self.format = format;
+    }
+
+    /// Gives it a file that takes so many frames. A step that was begun is given up.
+    pub(crate) fn attach(&mut self, sink: K, planned: u64)
+        requires { self.old.file ≡ None }
+        ensures file { self.new.file ≡ Some (record { sink = sink; planned = planned; left = planned; headed = false }) }
+        ensures format { self.new.format ≡ self.old.format }
+        ensures failed { self.new.failed ≡ self.old.failed }
+        ensures frames { self.new.frames ≡ 0 }
+        ensures due { self.new.due ≡ false }
+    {
+        self.give_up();
+        match self.file.replace(SinkFile::new(sink, planned)) {
+            None => {}
+            Some(_) => unreachable!(),
+        }
+    }
+
+    /// Takes its file away. A step that was begun is given up.
+    pub(crate) fn detach(&mut self) -> Option<SinkFile<K>>
+        ensures value { result ≡ self.old.file }
+        ensures file { self.new.file ≡ None }
+        ensures format { self.new.format ≡ self.old.format }
+        ensures failed { self.new.failed ≡ self.old.failed }
+    {
+        self.give_up();
+        self.file.take()
+    }
+
+    /// Its file, at its end.
+    pub(crate) fn into_file(self) -> Option<SinkFile<K>>
+        ensures { result ≡ self.file }
     {
         let WavSink {
-            sink,
+            file,
             format: _,
-            planned: _,
-            left: _,
-            headed: _,
             register: _,
             frames: _,
             length: _,
             due: _,
+            failed: _,
         } = self;
-        sink
+        file
     }
-}
-
-/// Whether the last of the planned frames that are left is among so many.
-fn is_last_among(left: u64, frames: u32) -> bool
-    ensures { result ≡ is_last_among left frames }
-{
-    left >= 1 && left <= u64::from(frames)
 }
 
 impl<K: Sink> Part for WavSink<K> {
     ghost shape = { λ part. sinking part.format };
 
-    ghost sizes = { λ part. sink_sizes part.length };
+    ghost sizes = { λ part. sink_sizes part.frames part.length };
 
     ghost carries = { λ part incoming. take part.length part.register.items ≡ incoming.input 0 };
 
-    ghost can_begin = { λ part frames. Unit {0} };
+    ghost terms = { λ part. sink_terms part.format part.file };
+
+    ghost failed = { λ part. part.failed };
+
+    ghost is_ready = { λ part. IsReady (sink_terms part.format part.file) part.failed };
 
     ghost can_take = { λ part input. input ≡ 0 };
 
+    // It has no output, as `AnyPart` says; a call for one is harmless.
     ghost can_put = { λ part output. Unit {0} };
 
     ghost can_step = { λ part. part.due ≡ true };
@@ -114,88 +150,40 @@ impl<K: Sink> Part for WavSink<K> {
 
     ghost left = { λ part. None };
 
-    ghost kept = { λ part. K.told part.sink };
+    ghost kept = { λ part. elim part.file [ Some it ↦ K.told it.sink | None ↦ None ] };
 
-    ghost writes = { λ part incoming. if part.due then sink_text part.headed part.format part.planned part.left part.frames (incoming.input 0) else [] };
+    ghost writing = { λ part. writing_of K.name part.format part.frames part.due part.file };
 
-    ghost has_cause = { λ old new fault. HasWriteCause (K.faults old.sink) (K.faults new.sink) fault };
+    ghost writes = { λ part incoming. writes_of (writing_of K.name part.format part.frames part.due part.file) (incoming.input 0) };
 
-    fn begin(&mut self, frames: u32)
-        requires { frames * channels_of self.old.format ≤ 4096 }
-        ensures shape { sinking self.new.format ≡ sinking self.old.format }
-        ensures format { self.new.format ≡ self.old.format }
-        ensures sizes { sink_sizes self.new.length ≡ sizes_of (sinking self.old.format) frames }
-        ensures silent { take self.new.length self.new.register.items ≡ replicate self.new.length 0 }
-        ensures begun { self.new.due ≡ true }
-        ensures frames { self.new.frames ≡ frames }
-        ensures sink { self.new.sink ≡ self.old.sink }
-        ensures headed { self.new.headed ≡ self.old.headed }
-        ensures planned { self.new.planned ≡ self.old.planned }
-        ensures planned_left { self.new.left ≡ self.old.left }
-    {
+    ghost has_cause = { λ old new. WriteCause (λ it. K.faults it.sink) old.file new.file };
+
+    fn begin(&mut self, frames: u32) {
         self.frames = frames;
         self.length = (frames * self.format.frame_bytes()) as usize;
         self.due = true;
         clear_front(&mut self.register, self.length);
     }
 
-    fn take(&mut self, _input: u32, piece: &[u8])
-        requires { length piece.now ≡ self.old.length }
-        ensures shape { sinking self.new.format ≡ sinking self.old.format }
-        ensures format { self.new.format ≡ self.old.format }
-        ensures sizes { sink_sizes self.new.length ≡ sink_sizes self.old.length }
-        ensures came { take self.new.length self.new.register.items ≡ piece.now }
-        ensures begun { self.new.due ≡ self.old.due }
-        ensures frames { self.new.frames ≡ self.old.frames }
-        ensures sink { self.new.sink ≡ self.old.sink }
-        ensures headed { self.new.headed ≡ self.old.headed }
-        ensures planned { self.new.planned ≡ self.old.planned }
-        ensures planned_left { self.new.left ≡ self.old.left }
-    {
+    fn take(&mut self, _input: u32, piece: &[u8]) {
         set_front(&mut self.register, piece, self.length);
     }
 
-    fn step(&mut self) -> Option<PartFault>
-        ensures shape { sinking self.new.format ≡ sinking self.old.format }
-        ensures format { self.new.format ≡ self.old.format }
-        ensures sizes { sink_sizes self.new.length ≡ sink_sizes self.old.length }
-        ensures read { OnNone result (self.old.due ≡ true → (incoming : Incoming) → take self.old.length self.old.register.items ≡ incoming.input 0
-            → HasRead None None (λ (came : Incoming). take self.new.length self.new.register.items ≡ came.input 0) incoming) }
-        ensures left { OnNone result (self.old.due ≡ true → HasGiven (frame_bytes_of self.old.format) self.old.length None None) }
-        ensures written { OnNone result ((incoming : Incoming) → take self.old.length self.old.register.items ≡ incoming.input 0
-            → K.told self.new.sink ≡ append_known (K.told self.old.sink)
-            (if self.old.due then sink_text self.old.headed self.old.format self.old.planned self.old.left self.old.frames (incoming.input 0) else [])) }
-        ensures front { (incoming : Incoming) → take self.old.length self.old.register.items ≡ incoming.input 0
-            → TookFront (K.told self.old.sink) (K.told self.new.sink)
-            (if self.old.due then sink_text self.old.headed self.old.format self.old.planned self.old.left self.old.frames (incoming.input 0) else []) }
-        ensures outputs { OnNone result ((output : ℕ) → output < 0 → Unit {0}) }
-        ensures cause { IfSome result (HasWriteCause (K.faults self.old.sink) (K.faults self.new.sink)) }
-        ensures headed { OnNone result (self.old.due ≡ true → self.new.headed ≡ true) }
-        ensures planned { self.new.planned ≡ self.old.planned }
-        ensures planned_left { OnNone result (self.old.due ≡ true → self.new.left ≡ self.old.left - self.old.frames) }
-        ensures name { K.name self.new.sink ≡ K.name self.old.sink }
-    {
-        if !self.due {
+    fn step(&mut self) -> Option<PartFault> {
+        let Some(file) = &mut self.file else {
+            self.due = false;
             return None;
-        }
-        let count = u64::from(self.frames).min(self.left);
-        let length = (count * u64::from(self.format.frame_bytes())) as usize;
-        let is_last = is_last_among(self.left, self.frames);
-        match write_step(
-            &mut self.sink,
-            self.headed,
-            self.format,
-            self.planned,
-            &self.register[..length],
-            is_last,
-        ) {
+        };
+        match file.write(self.format, &self.register[..self.length], self.frames) {
             Ok(()) => {
-                self.headed = true;
-                self.left -= count;
                 self.due = false;
                 None
             }
-            Err(fault) => Some(fault),
+            Err(fault) => {
+                self.due = false;
+                self.failed = true;
+                Some(fault)
+            }
         }
     }
 

@@ -1,120 +1,172 @@
-ghost use Rattle.std.specs.Prelude.{◌≡◌, ℕ, ◌+◌, ◌*◌, ◌<◌, ◌≤◌, true, false, [], take, vec_len, IfOk, IfErr, None, Some};
+ghost use Rattle.std.specs.Prelude.{◌≡◌, ◌+◌, ◌*◌, ◌<◌, ◌≤◌, true, false, [], take, vec_len, option_map, IfOk, None, Some};
+ghost use Rattle.std.specs.Option.{ForSome};
 ghost use Rattle.omx_types.specs.Formats.{IsWithinLimits, frame_bytes_of};
-ghost use Rattle.audio_parts.specs.Causes.{HasReadCause};
-ghost use Rattle.audio_parts.specs.Files.{sourcing, rest_of};
+ghost use Rattle.audio_parts.specs.Causes.{ReadCause};
+ghost use Rattle.audio_parts.specs.FileParts.{source_terms};
+ghost use Rattle.audio_parts.specs.Files.{sourcing, rest_of, none_left};
+ghost use Rattle.audio_parts.specs.Ready.{IsReady};
 
 use crate::OutOfMemory;
-use crate::reads::read_frames;
 use crate::register::clear_front;
+use crate::source_file::SourceFile;
 use omx_types::{Format, PartFault};
 use outside_io::Source;
 use part_api::Part;
 use std::alloc::Global;
 
-/// The frames of a file.
+/// The frames of a file, where it has one.
+#[derive(Drop)]
 pub struct WavSource<S: Source> {
-    source: S,
+    file: Option<SourceFile<S>>,
+    /// The format of its output.
     format: Format,
-    /// The place of the next frame in the source.
-    next: u64,
-    /// How many frames are left.
-    left: u64,
     register: Vec<u8>,
     /// The frames of the step, and their bytes.
     frames: u32,
     length: usize,
     /// They are still to be read.
     due: bool,
+    /// A step answered a fault.
+    failed: bool,
     ghost lawful: { IsWithinLimits format },
-    ghost there: { next + left * frame_bytes_of format ≤ S.size source },
+    ghost there: { ForSome file (λ it. it.next + it.left * frame_bytes_of it.format ≤ S.size it.source) },
     ghost room: { vec_len register ≡ 8192 },
     ghost whole: { length ≡ frames * frame_bytes_of format },
     ghost small: { length ≤ 8192 },
-    ghost enough: { due ≡ true → frames ≤ left },
+    ghost enough: { due ≡ true → frames ≤ none_left (option_map (λ it. it.left) file) },
+    ghost unfailed: { due ≡ true → failed ≡ false },
+    ghost agrees: { due ≡ true → ForSome file (λ it. it.format ≡ format) },
 }
 
 impl<S: Source> WavSource<S> {
-    /// A source of so many frames from where the file stands.
-    pub fn new(
-        alloc: Global,
-        source: S,
-        format: Format,
-        frames: u64,
-    ) -> Result<WavSource<S>, (OutOfMemory, S)>
-        requires lawful { IsWithinLimits format }
-        requires there { S.place source + frames * frame_bytes_of format ≤ S.size source }
-        ensures source { IfOk result (λ part. part.source ≡ source) }
+    /// A source without a file.
+    pub(crate) fn new(alloc: Global, format: Format) -> Result<WavSource<S>, OutOfMemory>
+        requires { IsWithinLimits format }
+        ensures file { IfOk result (λ part. part.file ≡ None) }
         ensures format { IfOk result (λ part. part.format ≡ format) }
-        ensures next { IfOk result (λ part. part.next ≡ S.place source) }
-        ensures left { IfOk result (λ part. part.left ≡ frames) }
-        ensures back { IfErr result (λ refused. refused.1 ≡ source) }
+        ensures failed { IfOk result (λ part. part.failed ≡ false) }
     {
-        let register = match vec![in alloc; 0; 8192] {
-            Ok(register) => register,
-            Err(refused) => return Err((refused, source)),
-        };
-        let next = source.place();
+        let register = vec![in alloc; 0; 8192]?;
         Ok(WavSource {
-            source,
+            file: None,
             format,
-            next,
-            left: frames,
             register,
             frames: 0,
             length: 0,
             due: false,
+            failed: false,
         })
     }
 
-    /// The frames that it hasn't given yet.
-    pub fn left(&self) -> u64
-        ensures { result ≡ self.now.left }
+    /// Gives up a step that was begun.
+    fn give_up(&mut self)
+        ensures due { self.new.due ≡ false }
+        ensures frames { self.new.frames ≡ 0 }
+        ensures length { self.new.length ≡ 0 }
+        ensures file { self.new.file ≡ self.old.file }
+        ensures format { self.new.format ≡ self.old.format }
+        ensures failed { self.new.failed ≡ self.old.failed }
     {
-        self.left
+        self.due = false;
+        self.frames = 0;
+        self.length = 0;
     }
 
-    /// The file.
-    pub fn into_source(self) -> S
-        ensures { result ≡ self.source }
+    /// Sets the format of its output. A step that was begun is given up.
+    pub(crate) fn set_format(&mut self, format: Format)
+        requires { IsWithinLimits format }
+        ensures format { self.new.format ≡ format }
+        ensures file { self.new.file ≡ self.old.file }
+        ensures failed { self.new.failed ≡ self.old.failed }
+    {
+        self.give_up();
+        self.format = format;
+    }
+
+    /// Gives it a file, from where that stands. A step that was begun is given up.
+    pub(crate) fn attach(&mut self, source: S, format: Format, frames: u64)
+        requires free { self.old.file ≡ None }
+        requires there { S.place source + frames * frame_bytes_of format ≤ S.size source }
+        ensures file { self.new.file ≡ Some (record { source = source; format = format; attached = frames; left = frames; next = S.place source }) }
+        ensures format { self.new.format ≡ self.old.format }
+        ensures failed { self.new.failed ≡ self.old.failed }
+    {
+        self.give_up();
+        match self.file.replace(SourceFile::new(source, format, frames)) {
+            None => {}
+            Some(_) => unreachable!(),
+        }
+    }
+
+    /// Takes its file away. A step that was begun is given up.
+    pub(crate) fn detach(&mut self) -> Option<SourceFile<S>>
+        ensures value { result ≡ self.old.file }
+        ensures file { self.new.file ≡ None }
+        ensures format { self.new.format ≡ self.old.format }
+        ensures failed { self.new.failed ≡ self.old.failed }
+    {
+        self.give_up();
+        self.file.take()
+    }
+
+    /// Its file, at its end.
+    pub(crate) fn into_file(self) -> Option<SourceFile<S>>
+        ensures { result ≡ self.file }
     {
         let WavSource {
-            source,
+            file,
             format: _,
-            next: _,
-            left: _,
             register: _,
             frames: _,
             length: _,
             due: _,
+            failed: _,
         } = self;
-        source
+        file
+    }
+
+    /// The frames that it hasn't given yet.
+    pub(crate) fn left(&self) -> u64
+        ensures { result ≡ none_left (option_map (λ it. it.left) self.now.file) }
+    {
+        match &self.file {
+            Some(file) => file.left,
+            None => 0,
+        }
     }
 }
 
 impl<S: Source> Part for WavSource<S> {
     ghost shape = { λ part. sourcing part.format };
 
-    ghost sizes = { λ part. record { input = 0; output = part.length } };
+    ghost sizes = { λ part. record { frames = part.frames; input = 0; output = part.length } };
 
     ghost carries = { λ part incoming. take part.length part.register.items ≡ incoming.file };
 
-    ghost can_begin = { λ part frames. frames ≤ part.left };
+    ghost terms = { λ part. source_terms part.format part.file };
 
+    ghost failed = { λ part. part.failed };
+
+    ghost is_ready = { λ part. IsReady (source_terms part.format part.file) part.failed };
+
+    // It has no input, as `AnyPart` says; a call for one is harmless.
     ghost can_take = { λ part input. Unit {0} };
 
-    ghost can_put = { λ part output. (output < 1) × (part.due ≡ false) };
+    ghost can_put = { λ part output. (output < 1) × (part.due ≡ false) × (part.failed ≡ false) };
 
     ghost can_step = { λ part. part.due ≡ true };
 
-    ghost rest = { λ part. rest_of (S.told part.source) part.next (part.left * frame_bytes_of part.format) };
+    ghost rest = { λ part. elim part.file [ Some it ↦ rest_of (S.told it.source) it.next (it.left * frame_bytes_of it.format) | None ↦ Some [] ] };
 
-    ghost left = { λ part. Some part.left };
+    ghost left = { λ part. Some (none_left (option_map (λ it. it.left) part.file)) };
 
     ghost kept = { λ part. None };
 
+    ghost writing = { λ part. None };
+
     ghost writes = { λ part incoming. [] };
 
-    ghost has_cause = { λ old new fault. HasReadCause (S.size old.source) (S.ends old.source) old.next (S.faults old.source) (S.faults new.source) fault };
+    ghost has_cause = { λ old new. ReadCause (λ it. S.size it.source) (λ it. S.ends it.source) (λ it. it.next) (λ it. S.faults it.source) old.file new.file };
 
     fn begin(&mut self, frames: u32) {
         self.frames = frames;
@@ -126,17 +178,20 @@ impl<S: Source> Part for WavSource<S> {
     fn take(&mut self, _input: u32, _piece: &[u8]) {}
 
     fn step(&mut self) -> Option<PartFault> {
-        if !self.due {
+        let Some(file) = &mut self.file else {
+            self.due = false;
             return None;
-        }
-        match read_frames(&mut self.source, self.next, &mut self.register, self.length) {
-            Ok(next) => {
-                self.next = next;
-                self.left -= u64::from(self.frames);
+        };
+        match file.give(self.frames, &mut self.register, self.length) {
+            Ok(()) => {
                 self.due = false;
                 None
             }
-            Err(fault) => Some(fault),
+            Err(fault) => {
+                self.due = false;
+                self.failed = true;
+                Some(fault)
+            }
         }
     }
 

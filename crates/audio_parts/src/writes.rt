@@ -1,4 +1,4 @@
-// What a sink's file takes in one step.
+//! What a sink's file takes in one step.
 ghost use Rattle.std.specs.Prelude.{◌≡◌, ◌*◌, ◌≤◌, Bool, OnOk, IfErr};
 ghost use Rattle.std.specs.Io.KnownBytes.{append_known};
 ghost use Rattle.omx_types.specs.Formats.{IsWithinLimits, frame_bytes_of};

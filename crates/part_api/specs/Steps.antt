@@ -1,11 +1,7 @@
 -- What one step of a part does, and pieces of whole streams.
-use Rattle.std.specs.Prelude.{◌≡◌, ℕ, ◌+◌, ◌*◌, ◌≤◌, List, [], ◌∷◌, ◌++◌, length, take, Option, None, Some}
+use Rattle.std.specs.Prelude.{◌≡◌, ℕ, ◌≤◌, List, [], ◌∷◌, ◌++◌, length, take, Option, None, Some}
 use Rattle.std.specs.Io.KnownBytes.{append_known}
 use Rattle.part_api.specs.Streams.{Incoming, Shape, HasFrames, with_file, joined, nothing}
-
-abbrev pub OnNone : {A : Type 0} → Option A → Type 0 → Type 0
-OnNone None P = P
-OnNone (Some x) P = Unit {0}
 
 -- a piece comes first in what the file still gives, where it tells that, and the rest stays
 abbrev pub ComesFirst : List ℕ → Option (List ℕ) → Option (List ℕ) → Type 0
@@ -15,11 +11,6 @@ ComesFirst piece (Some all) after = (rest : List ℕ) × (after ≡ Some rest) �
 -- the file gave its next piece, and the register carries it
 abbrev pub HasRead : Option (List ℕ) → Option (List ℕ) → (Incoming → Type 0) → Incoming → Type 0
 HasRead before after carries incoming = (piece : List ℕ) × ComesFirst piece before after × carries (with_file piece incoming)
-
--- of the frames that were left, of that many bytes each, those of a piece are given
-abbrev pub HasGiven : ℕ → ℕ → Option ℕ → Option ℕ → Type 0
-HasGiven frame size None after = Unit {0}
-HasGiven frame size (Some before) after = (rest : ℕ) × (after ≡ Some rest) × (before * frame ≡ size + rest * frame)
 
 -- the file took a front of these bytes, where it tells what it takes
 abbrev pub TookFront : Option (List ℕ) → Option (List ℕ) → List ℕ → Type 0

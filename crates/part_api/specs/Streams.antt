@@ -19,13 +19,14 @@ pub record Shape : Type 0 where
   -- the plain function: what each output gets of whole streams
   pub plain : Incoming → ℕ → List ℕ
 
--- the bytes of each input's and each output's piece in one step
+-- the frames of one step, and the bytes of each input's and each output's piece
 pub record Sizes : Type 0 where
+  pub frames : ℕ
   pub input : ℕ
   pub output : ℕ
 
 abbrev pub sizes_of : Shape → ℕ → Sizes
-sizes_of shape frames = record { input = frames * shape.input_frame; output = frames * shape.output_frame }
+sizes_of shape frames = record { frames = frames; input = frames * shape.input_frame; output = frames * shape.output_frame }
 
 -- as long as nothing came, everything is zeros
 abbrev pub silence : Sizes → Incoming

@@ -1,5 +1,6 @@
+use Rattle.audio_parts.specs.Effects.{law_of}
 use Rattle.audio_parts.proofs.Joins.{decoded_joined}
 use Rattle.audio_parts.proofs.coder.DecodingEffect.joins.Goals as goal
 
 pub returns : goal.returns
-returns c = λ frames first second whole. decoded_joined c.args.self.now.law first second
+returns c = λ frames first second whole. decoded_joined (law_of c.args.self.now.input) first second

@@ -7,7 +7,7 @@ use Rattle.audio_parts.proofs.mixer.MixerPart.begin.Goals as goal
 pub returns-clause-silent : goal.returns-clause-silent
 returns-clause-silent c =
     let mixer = c.args.self.now in
-    let n = c.args.frames * mixer.channels in
+    let n = c.args.frames * c.channels.result in
     let long : length c.clear_sums.new.sums ≡ mixer.sums.len = omega (arith, c.clear_sums.auto.sums, mixer.sums.ok.0) in
     record {
       summed = ap (take n) (front_append mixer.sums.len c.clear_sums.new.sums (drop (length c.clear_sums.new.sums) mixer.sums.items) long)

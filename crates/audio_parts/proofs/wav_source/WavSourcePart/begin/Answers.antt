@@ -1,5 +1,6 @@
 use Rattle.std.proofs.Common.{◌≤◌, ◌*◌, length, arith, ap, subst, sym}
 use Rattle.audio_parts.proofs.Formats.{few_bytes}
+use Rattle.audio_parts.proofs.Readiness.{source_agrees}
 use Rattle.audio_parts.proofs.wav_source.WavSourcePart.begin.Goals as goal
 
 pub overflow_mul-self : goal.overflow_mul-self
@@ -13,3 +14,8 @@ clear_front-requires g c =
     let few : c.args.frames * c.frame_bytes.result ≤ 8192 =
     subst (λ n. c.args.frames * n ≤ 8192) (sym c.frame_bytes.ensures) (few_bytes c.args.self.now.format c.args.frames c.requires.few) in
     omega (arith, few, c.args.self.now.room, c.deref_mut.ensures.len, ap length c.deref_mut.ensures.value, c.args.self.now.register.ok.0)
+
+pub invariant_of-self-clause-agrees : goal.invariant_of-self-clause-agrees
+invariant_of-self-clause-agrees g c = λ due.
+    let part = c.args.self.now in
+    source_agrees part.format part.file part.failed c.requires.fits

@@ -1,0 +1,192 @@
+//! Parts of any kind, against sums worked by hand.
+ghost use Rattle.std.specs.Prelude.{◌≡◌, IsTrue};
+
+use super::*;
+use omx_types::{Format, Kind};
+use outside_io::{MemorySink, MemorySource};
+use part_api::{Part, law_of_pieces};
+use std::test::Fail as Failure;
+
+const PCM: Format = Format::Pcm {
+    rate: 8000,
+    channels: 1,
+};
+
+type Parts = AnyPart<MemorySource, MemorySink>;
+
+/// Whether two steps without frames go well.
+fn steps_of_none<P: Part>(part: &mut P) -> bool
+    requires { P.is_ready part.old }
+    ensures terms { P.terms part.new ≡ P.terms part.old }
+    ensures ready { IsTrue result → P.is_ready part.new }
+{
+    part.begin(0);
+    if part.step().is_some() {
+        return false;
+    }
+    part.begin(0);
+    part.step().is_none()
+}
+
+#[test]
+fn half_of_odd_samples(rt: HostRuntime) -> Result<(), Failure> {
+    let mut part = Parts::new(rt.alloc(), Kind::Gain)?;
+    let mut out = [7; 4];
+    // 1 and -1, first by a gain of one
+    part.begin(2);
+    part.take(0, &[1, 0, 0xff, 0xff]);
+    assert_eq!(rt; part.step(), None);
+    part.put(0, &mut out);
+    assert_eq!(rt; out, [1, 0, 0xff, 0xff]);
+    part.set_factor(0, 2048);
+    part.begin(2);
+    part.take(0, &[1, 0, 0xff, 0xff]);
+    assert_eq!(rt; part.step(), None);
+    part.put(0, &mut out);
+    assert_eq!(rt; out, [0, 0, 0xff, 0xff]);
+    assert_eq!(rt; part.left(), None);
+    Ok(())
+}
+
+#[test]
+fn one_weight_of_two(rt: HostRuntime) -> Result<(), Failure> {
+    let mut part = Parts::new(rt.alloc(), Kind::Mixer(2))?;
+    let mut out = [0; 2];
+    assert_eq!(rt; steps_of_none(&mut part), true);
+    part.set_factor(1, 8192);
+    // 300 and twice -200
+    part.begin(1);
+    part.take(0, &[0x2c, 1]);
+    part.take(1, &[0x38, 0xff]);
+    assert_eq!(rt; part.step(), None);
+    part.put(0, &mut out);
+    assert_eq!(rt; out, [0x9c, 0xff]);
+    Ok(())
+}
+
+#[test]
+fn source_with_a_late_file(rt: HostRuntime) -> Result<(), Failure> {
+    let alloc = rt.alloc();
+    let mut part = Parts::new(alloc, Kind::Source)?;
+    let mut out = [7; 2];
+    assert_eq!(rt; part.left(), Some(0));
+    part.begin(0);
+    assert_eq!(rt; part.step(), None);
+    let mut none = [];
+    part.put(0, &mut none);
+    let bytes = [9, 9, 1, 0].to_vec(alloc)?;
+    part.attach(PartFile::From {
+        src: MemorySource::new(bytes),
+        format: PCM,
+        frames: 2,
+    });
+    part.begin(1);
+    assert_eq!(rt; part.step(), None);
+    part.put(0, &mut out);
+    assert_eq!(rt; out, [9, 9]);
+    assert_eq!(rt; part.left(), Some(1));
+    let frames = match part.detach() {
+        Some(
+            PartFile::From {
+                src: _,
+                format: _,
+                frames,
+            },
+        ) => frames,
+        _ => 0,
+    };
+    assert_eq!(rt; frames, 2);
+    assert_eq!(rt; part.left(), Some(0));
+    Ok(())
+}
+
+#[test]
+fn sink_of_another_format(rt: HostRuntime) -> Result<(), Failure> {
+    let alloc = rt.alloc();
+    let mut part = Parts::new(alloc, Kind::Sink)?;
+    let format = Format::Alaw {
+        rate: 16000,
+        channels: 1,
+    };
+    part.set_format(0, format);
+    part.attach(PartFile::To {
+        snk: MemorySink::new(alloc, 100)?,
+        frames: 2,
+    });
+    part.begin(2);
+    part.take(0, &[0xd5, 0x55]);
+    assert_eq!(rt; part.step(), None);
+    let Some(PartFile::To { snk, frames }) = part.into_file() else {
+        panic!(rt; "no sink comes back");
+    };
+    assert_eq!(rt; frames, 2);
+    let bytes = snk.into_bytes();
+    assert_eq!(rt; bytes.len(), 60);
+    // A-law, one channel, 16,000 frames a second, and the two codes behind the head
+    assert_eq!(rt; bytes.get(20).copied(), Some(6));
+    assert_eq!(rt; bytes.get(22).copied(), Some(1));
+    assert_eq!(rt; bytes.get(24).copied(), Some(0x80));
+    assert_eq!(rt; bytes.get(25).copied(), Some(0x3e));
+    assert_eq!(rt; bytes.get(58).copied(), Some(0xd5));
+    assert_eq!(rt; bytes.get(59).copied(), Some(0x55));
+    Ok(())
+}
+
+#[test]
+fn decoded_code(rt: HostRuntime) -> Result<(), Failure> {
+    let mut decoder = Parts::new(rt.alloc(), Kind::Decoder)?;
+    let mut out = [7; 2];
+    decoder.begin(1);
+    decoder.take(0, &[0xd5]);
+    assert_eq!(rt; decoder.step(), None);
+    decoder.put(0, &mut out);
+    assert_eq!(rt; out, [8, 0]);
+    assert_eq!(rt; decoder.into_file().is_none(), true);
+    Ok(())
+}
+
+#[test]
+fn code_by_alaw(rt: HostRuntime) -> Result<(), Failure> {
+    let mut encoder = Parts::new(rt.alloc(), Kind::Alaw)?;
+    let mut out = [7; 1];
+    encoder.begin(1);
+    encoder.take(0, &[0, 0]);
+    assert_eq!(rt; encoder.step(), None);
+    encoder.put(0, &mut out);
+    assert_eq!(rt; out, [0xd5]);
+    assert_eq!(rt; encoder.into_file().is_none(), true);
+    Ok(())
+}
+
+#[test]
+fn code_by_mulaw(rt: HostRuntime) -> Result<(), Failure> {
+    let mut encoder = Parts::new(rt.alloc(), Kind::Mulaw)?;
+    let mut out = [7; 1];
+    encoder.begin(1);
+    encoder.take(0, &[0, 0]);
+    assert_eq!(rt; encoder.step(), None);
+    encoder.put(0, &mut out);
+    assert_eq!(rt; out, [0xff]);
+    assert_eq!(rt; encoder.into_file().is_none(), true);
+    Ok(())
+}
+
+#[test]
+fn last_of_eight_outputs(rt: HostRuntime) -> Result<(), Failure> {
+    let mut splitter = Parts::new(rt.alloc(), Kind::Splitter(8))?;
+    let mut out = [7; 2];
+    splitter.begin(1);
+    splitter.take(0, &[1, 2]);
+    assert_eq!(rt; splitter.step(), None);
+    splitter.put(7, &mut out);
+    assert_eq!(rt; out, [1, 2]);
+    shape_by_terms(&splitter);
+    law_of_pieces(&splitter);
+    lawful_terms();
+    frames_by_format();
+    writes_by_writing(&splitter);
+    law_of_writing();
+    law_of_padding();
+    assert_eq!(rt; splitter.into_file().is_none(), true);
+    Ok(())
+}
