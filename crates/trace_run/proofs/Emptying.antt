@@ -1,6 +1,6 @@
 -- Notes are taken until none is left.
-use Rattle.std.proofs.Common.{◌≡◌, ℕ, zero, suc, ◌<◌, Bool, true, false, List, [], ◌∷◌, drop, length, set, slice_get, Option, Some, None, option_map, All, MatchOption, Result, Ok, Err, refl, sym, ◌∙◌, ap, subst, arith}
-use Rattle.std.specs.Prelude.{unwrap_or, option_and_then, IsSomeAnd, IfSome}
+use Rattle.std.proofs.Common.{◌≡◌, ℕ, ◌<◌, Bool, true, false, List, [], ◌∷◌, drop, length, set, slice_get, Option, Some, None, option_map, All, MatchOption, Result, Ok, Err, refl, sym, ◌∙◌, ap, subst, arith}
+use Rattle.std.specs.Prelude.{unwrap_or, option_and_then, IsSomeAnd}
 use Rattle.omx_types.specs.declared.handle.Handle.{Handle}
 use Rattle.omx_types.specs.declared.command.Note.{Note}
 use Rattle.omx_types.specs.declared.command.Note.TheVariants.{Told, EmptyDone, FillDone}
@@ -16,7 +16,7 @@ use Rattle.il_machine.specs.Due.{IsClosed}
 use Rattle.il_machine.specs.Acts as acts
 use Rattle.il_machine.specs.Run.{Run}
 use Rattle.il_machine.specs.Sound.{Sound}
-use Rattle.il_machine.specs.Whole.{Kept, Stands}
+use Rattle.il_machine.specs.Whole.{Kept}
 use Rattle.il_machine.proofs.Places.{is_first_place, place_set}
 use Rattle.machine_laws.proofs.Closing.{closed_closes}
 use Rattle.machine_laws.proofs.Every.{at_place, set_there}
@@ -29,11 +29,11 @@ use Rattle.trace_run.specs.declared.names.NamedComponent.{NamedComponent}
 use Rattle.trace_run.specs.declared.reply.LineAnswer.{LineAnswer}
 use Rattle.trace_run.specs.declared.reply.LineAnswer.TheVariants as answers
 use Rattle.trace_run.specs.declared.slots.Slot.{Slot}
-use Rattle.trace_run.specs.Naming.{Moment, Names, header_name}
+use Rattle.trace_run.specs.Naming.{Names, header_name}
 use Rattle.trace_run.specs.Replying.{LineReply, Plain, Emptied, Filled, printed}
 use Rattle.trace_run.specs.Lines.{taking}
-use Rattle.trace_run.specs.Standing.{Parts, IsSeated, HasStood, IsStood, Stood, Means, TakenSo, TakeLeads}
-use Rattle.trace_run.specs.Closing.{StayStood, StayEnded, IsEnded, is_event, is_note, notes_left}
+use Rattle.trace_run.specs.Standing.{IsSeated, HasStood, Means, TakeLeads}
+use Rattle.trace_run.specs.Closing.{StayStood, StayEnded, is_event, is_note, notes_left}
 use Rattle.trace_run.proofs.Standing.{world_rests}
 use Rattle.trace_run.proofs.Taken.{WasTaken, was_taken, named_before, named_then}
 use Rattle.trace_run.proofs.Ends.{seated_there}

@@ -1,16 +1,10 @@
 -- What the end of a trace needs is kept by each line.
-use Rattle.std.proofs.Common.{◌≡◌, ◌≢◌, inl, inr, ℕ, ◌+◌, ◌<◌, ◌≤◌, Bool, true, false, List, [], ◌∷◌, ◌++◌, set, slice_get, Option, Some, None, All, Ok, refl, sym, ◌∙◌, ap, subst, arith}
-use Rattle.std.specs.Prelude.{IsSomeAnd, nat_eq}
+use Rattle.std.proofs.Common.{◌≡◌, ◌≢◌, inl, inr, ℕ, ◌+◌, ◌<◌, Bool, true, false, List, [], ◌∷◌, ◌++◌, set, slice_get, Option, Some, None, All, Ok, refl, sym, ◌∙◌, ap, subst, arith}
+use Rattle.std.specs.Prelude.{IsSomeAnd}
 use Rattle.omx_types.specs.declared.handle.Handle.{Handle}
-use Rattle.omx_types.specs.declared.handle.PortId.{PortId}
-use Rattle.omx_types.specs.declared.state.State.{State}
-use Rattle.omx_types.specs.declared.state.State.TheVariants.{Invalid}
 use Rattle.omx_types.specs.declared.kind.Kind.{Kind}
 use Rattle.il_machine.specs.declared.header.HeaderState.{HeaderState}
-use Rattle.il_machine.specs.declared.header.Owner.TheVariants as owners
-use Rattle.il_machine.specs.declared.port.Port.{Port}
-use Rattle.il_machine.specs.declared.port.PortKey.{PortKey}
-use Rattle.il_machine.specs.World.{Component, World, number_of, fresh, place_of, port_of, is_at, same_handle}
+use Rattle.il_machine.specs.World.{Component, World, fresh}
 use Rattle.il_machine.specs.Headers.{is_for}
 use Rattle.il_machine.specs.Look.{Look, look}
 use Rattle.il_machine.specs.Buffers.{IsWithClient}
@@ -28,7 +22,7 @@ use Rattle.machine_laws.proofs.Keys.{there_is, is_there}
 use Rattle.history_laws.specs.ClientHeaders.{IsClients, taken_in, number_out}
 use Rattle.history_laws.proofs.Calm.{Fit, lasting}
 use Rattle.history_laws.proofs.ComingHeaders.{steps_come, steps_taken}
-use Rattle.history_laws.proofs.Cores.{Core, core, NoneGot, NoneTaken, Each, closes_each, outcome_each}
+use Rattle.history_laws.proofs.Cores.{core, NoneGot, NoneTaken, closes_each, outcome_each}
 use Rattle.history_laws.proofs.MadeFor.{made_for_step}
 use Rattle.history_laws.proofs.Steps.{step_comes}
 use Rattle.header_core.specs.BufferHeader.{BufferHeader}

@@ -1,12 +1,11 @@
 -- At the end each component is Invalid, so that each header in hand can be freed; then the client has none.
-use Rattle.std.proofs.Common.{◌≡◌, ◌≢◌, inl, inr, ℕ, zero, suc, ◌+◌, ◌<◌, ◌≤◌, Bool, true, false, ◌&&◌, ◌||◌, List, [], ◌∷◌, ◌++◌, length, position, slice_get, get_or, Option, Some, None, All, MatchOption, Result, Ok, Err, refl, sym, ◌∙◌, ap, subst, arith}
+use Rattle.std.proofs.Common.{◌≡◌, ◌≢◌, inl, inr, ℕ, ◌+◌, ◌<◌, ◌≤◌, Bool, true, false, ◌&&◌, ◌||◌, List, [], ◌∷◌, ◌++◌, length, position, slice_get, get_or, Option, Some, None, All, MatchOption, Result, Ok, Err, refl, sym, ◌∙◌, ap, subst, arith}
 use Rattle.std.proofs.lemmas.Bool.{cases_eq, cases_lt}
 use Rattle.std.proofs.lemmas.Option.{get_or_from_slice_get, slice_get_within}
 use Rattle.std.specs.Prelude.{IsSome, IsSomeAnd, IfSome, option_and_then}
 use Rattle.omx_types.specs.declared.handle.Handle.{Handle}
 use Rattle.omx_types.specs.declared.error.OmxError.{OmxError}
 use Rattle.omx_types.specs.declared.error.OmxError.TheVariants as errors
-use Rattle.omx_types.specs.declared.state.State.{State}
 use Rattle.omx_types.specs.declared.state.State.TheVariants.{Invalid}
 use Rattle.il_machine.specs.declared.header.Home.TheVariants as homes
 use Rattle.il_machine.specs.declared.header.HeaderState.{HeaderState}
@@ -22,7 +21,6 @@ use Rattle.il_machine.specs.Buffers.{AtState, AtPort, IsWithClient, FreeBuffer, 
 use Rattle.il_machine.specs.Due.{ClosesTo}
 use Rattle.il_machine.specs.Acts.{Act, Reply}
 use Rattle.il_machine.specs.Acts as acts
-use Rattle.il_machine.specs.Run.{Step}
 use Rattle.il_machine.specs.Sound.{Sound, IsMadeFor, IsOwnedSo, home_for, port_at}
 use Rattle.il_machine.specs.Trails.{key_of}
 use Rattle.il_machine.specs.Whole.{Kept, Stands, Steps}
@@ -36,19 +34,18 @@ use Rattle.history_laws.proofs.Cores.{core, outcome_each}
 use Rattle.history_laws.proofs.Homes.{found_state, set_in}
 use Rattle.history_laws.proofs.Steps.{step_comes}
 use Rattle.header_core.specs.BufferHeader.{BufferHeader}
-use Rattle.port_stock.specs.Conditions.{IsHeaderOf}
 use Rattle.graph_core.specs.Changes.{IsHandedIn}
 use Rattle.graph_core.specs.Clients.{IsOut}
 use Rattle.trace_run.specs.declared.names.NamedComponent.{NamedComponent}
 use Rattle.trace_run.specs.declared.slots.Slot.{Slot}
-use Rattle.trace_run.specs.Standing.{Parts, slot_numbered, AreRising, Hands, IsHand, IsNamed, IsSeated, IsOfPort, AreOfPorts, CanEnd, IsStood, Stood}
+use Rattle.trace_run.specs.Standing.{Parts, slot_numbered, AreRising, Hands, IsNamed, IsSeated, IsOfPort, IsStood}
 use Rattle.trace_run.specs.Closing.{IsEnded, StayEnded, IsFreeable, IsFreed, IsInHand, CanFree, IsOver}
 use Rattle.trace_run.proofs.Ends.{none_comes, taken_away, port_kept, seated_there, ends_with}
 use Rattle.trace_run.proofs.Handed.{when_some}
 use Rattle.trace_run.proofs.Invalidating.{named_there}
 use Rattle.trace_run.proofs.Lasting.{Any}
-use Rattle.trace_run.proofs.SlotLists.{Keeps, hands_kept, rising_more, rising_below, rising_front}
-use Rattle.trace_run.proofs.Standing.{keeps_others, looks_grow, known_home}
+use Rattle.trace_run.proofs.SlotLists.{rising_more, rising_below, rising_front}
+use Rattle.trace_run.proofs.Standing.{keeps_others, looks_grow}
 use Rattle.trace_run.proofs.Taking.{same_number}
 
 some_of : {A : Type 0} (o : Option A) (P : A → Type 0) → IsSomeAnd o P → (x : A) × (o ≡ Some x) × P x

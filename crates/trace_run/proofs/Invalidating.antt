@@ -1,5 +1,5 @@
 -- StateSet(Invalid) isn't refused where no note is queued, and makes the component Invalid.
-use Rattle.std.proofs.Common.{◌≡◌, ◌≢◌, inl, inr, ℕ, zero, suc, ◌+◌, Bool, true, false, List, [], ◌∷◌, map, length, set, slice_get, Option, Some, None, option_map, All, MatchOption, Result, Ok, Err, refl, sym, ◌∙◌, ap, subst, eqb-true, eq-eqb, arith}
+use Rattle.std.proofs.Common.{◌≡◌, inl, inr, ℕ, zero, suc, true, false, List, [], ◌∷◌, map, length, set, slice_get, Option, Some, None, option_map, All, MatchOption, Result, Ok, Err, refl, sym, ◌∙◌, ap, subst, eqb-true, eq-eqb, arith}
 use Rattle.std.specs.Prelude.{nat_eq, unwrap_or, option_and_then, sum_by}
 use Rattle.std.proofs.lemmas.Bool.{and_parts}
 use Rattle.omx_types.specs.declared.handle.Handle.{Handle}
@@ -20,7 +20,7 @@ use Rattle.il_machine.specs.Room.{port_places, room}
 use Rattle.il_machine.specs.Due.{ClosesTo}
 use Rattle.il_machine.specs.Acts as acts
 use Rattle.il_machine.specs.Sound.{Sound, AreRising}
-use Rattle.il_machine.specs.Whole.{Kept, Stands, Steps}
+use Rattle.il_machine.specs.Whole.{Kept, Stands}
 use Rattle.il_machine.proofs.Places.{is_first_place, passes_at}
 use Rattle.machine_laws.proofs.Every.{at_place, from_places, at_set}
 use Rattle.machine_laws.proofs.Finding.{either}

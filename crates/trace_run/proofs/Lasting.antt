@@ -1,5 +1,5 @@
 -- A component that is Invalid stays so over the acts of a trace's end.
-use Rattle.std.proofs.Common.{◌≡◌, inl, inr, ℕ, Bool, List, [], ◌∷◌, slice_get, Some, All, refl, sym, ◌∙◌, ap, subst}
+use Rattle.std.proofs.Common.{◌≡◌, inr, Bool, List, All, sym, ap, subst}
 use Rattle.omx_types.specs.declared.handle.Handle.{Handle}
 use Rattle.omx_types.specs.declared.state.State.TheVariants.{Invalid}
 use Rattle.il_machine.specs.World.{Component, World}

@@ -1,5 +1,5 @@
 -- Which headers were made for the client: those that were before, and the one that the act made.
-use Rattle.std.proofs.Common.{◌≡◌, ◌≢◌, ◌⊎◌, inl, inr, ℕ, ◌<◌, ◌≤◌, List, [], ◌∷◌, ◌++◌, Option, Some, None, option_map, Ok, refl, sym, ◌∙◌, ap, subst, arith}
+use Rattle.std.proofs.Common.{◌≡◌, ◌≢◌, ◌⊎◌, inl, inr, ℕ, ◌<◌, List, [], ◌∷◌, ◌++◌, Option, Some, None, option_map, Ok, refl, sym, ◌∙◌, ap, subst}
 use Rattle.std.proofs.lemmas.Bool.{cases_eq}
 use Rattle.il_machine.specs.declared.answer.Acted.TheVariants.{Did}
 use Rattle.il_machine.specs.declared.port.Link.{Link}
@@ -21,7 +21,7 @@ use Rattle.machine_laws.proofs.Finding.{push_last, push_else, once_push, without
 use Rattle.machine_laws.proofs.Keys.{none_or_some}
 use Rattle.machine_laws.proofs.Parts.{parts_of}
 use Rattle.history_laws.proofs.Carried.{Carried, Still, Made, Gone, Moved, none_made}
-use Rattle.history_laws.proofs.Closing.{times_settle, times_made}
+use Rattle.history_laws.proofs.Closing.{times_settle}
 use Rattle.history_laws.proofs.Outcome.{turn, Outcome, Nothing, Done}
 use Rattle.history_laws.proofs.Owners.{Settles, Stand, stand_of}
 use Rattle.history_laws.proofs.Steps.{step_comes}
@@ -175,20 +175,3 @@ outcome_home n w a r v S (Done C E) H =
 -- A header whose home is the client was made before, or by the act.
 pub made_step : (n : ℕ) (w : World) (a : Act) (r : Reply) (v : World) → Sound w → Meets w a → Step w a r v → IsHome n v.headers → IsHome n w.headers ⊎ (made_by a r ≡ Some n)
 made_step n w a r v S M h H = outcome_home n w a r v S (step_comes w a r v S M h) H
-
-carried_made : (w v : World) (ms : List Move) → Carried w ms v → w.made ≤ v.made
-carried_made w v ms (Still S) = let e = S.made in omega (arith, e)
-carried_made w v ms (Made M) = let e = M.made in omega (arith, e)
-carried_made w v ms (Gone M) = let e = M.made in omega (arith, e)
-carried_made w v ms (Moved M) = let e = M.made in omega (arith, e)
-
-outcome_made : (w : World) (a : Act) (r : Reply) (v : World) → Outcome w (turn w a r) v → w.made ≤ v.made
-outcome_made w a r v (Nothing e m) = let k : v.made ≡ w.made = ap (λ (x : World). x.made) e in omega (arith, k)
-outcome_made w a r v (Done C E) =
-    let k = times_made C.steps (effect w a r) v C.by_steps in
-    let l = carried_made w (effect w a r) (turn w a r).moves E.carried in
-    omega (arith, k, l)
-
--- no number of a header comes twice
-pub made_grows : (w : World) (a : Act) (r : Reply) (v : World) → Sound w → Meets w a → Step w a r v → w.made ≤ v.made
-made_grows w a r v S M h = outcome_made w a r v (step_comes w a r v S M h)

@@ -1,9 +1,9 @@
 -- A client object goes out with a note and comes back: then each is in again.
-use Rattle.std.proofs.Common.{◌≡◌, ◌≢◌, inl, inr, ℕ, Bool, true, false, List, set, position, slice_get, Option, Some, None, All, MatchOption, refl, sym, ◌∙◌, ap, subst, eqb-true}
+use Rattle.std.proofs.Common.{◌≡◌, inl, inr, ℕ, Bool, true, false, List, set, slice_get, Some, All, refl, sym, ◌∙◌, subst, eqb-true}
 use Rattle.std.specs.Prelude.{nat_eq}
 use Rattle.std.proofs.lemmas.Bool.{and_parts}
 use Rattle.omx_types.specs.declared.handle.Handle.{Handle}
-use Rattle.il_machine.specs.World.{Component, World, number_of, place_of, is_at, same_handle, with_component}
+use Rattle.il_machine.specs.World.{Component, World, place_of, is_at, same_handle, with_component}
 use Rattle.il_machine.specs.Notes.{Taken, EndNote, first_taken, back_in}
 use Rattle.il_machine.specs.Due.{ClosesTo}
 use Rattle.il_machine.specs.Sound.{Sound}

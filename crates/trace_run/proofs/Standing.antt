@@ -23,7 +23,8 @@ use Rattle.trace_run.specs.declared.names.NamedComponent.{NamedComponent}
 use Rattle.trace_run.specs.declared.slots.Slot.{Slot}
 use Rattle.trace_run.specs.Naming.{Moment, has_number}
 use Rattle.trace_run.specs.Standing.{Parts, names_in, slot_numbered, holding, Hands, AreNamed, HaveSlots, IsAtRest, CanEnd, Stood}
-use Rattle.trace_run.proofs.Made.{IsHome, made_by, made_step, made_grows}
+use Rattle.history_laws.proofs.MadeFor.{made_grows}
+use Rattle.trace_run.proofs.Made.{IsHome, made_by, made_step}
 use Rattle.history_laws.proofs.Cores.{NoneGot, NoneTaken}
 use Rattle.trace_run.proofs.Numbered.{numbered_step}
 use Rattle.history_laws.specs.ClientHeaders.{IsClients, taken_in}

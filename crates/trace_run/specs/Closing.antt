@@ -1,5 +1,5 @@
 -- How a trace ends: the notes are taken, each component is Invalid, and each header in hand is freed.
-use Rattle.std.specs.Prelude.{◌≡◌, ◌⊎◌, ℕ, Bool, true, false, List, All, length, slice_get, Option, Some, None, option_map, unwrap_or, IfSome, IsSome, IsSomeAnd, MatchOption, Ok}
+use Rattle.std.specs.Prelude.{◌≡◌, ◌⊎◌, ℕ, Bool, true, false, List, All, length, slice_get, None, option_map, unwrap_or, IfSome, IsSome, IsSomeAnd, MatchOption, Ok}
 use Rattle.omx_types.specs.declared.handle.Handle.{Handle}
 use Rattle.omx_types.specs.declared.state.State.TheVariants as states
 use Rattle.omx_types.specs.declared.command.Command.TheVariants.{StateSet}

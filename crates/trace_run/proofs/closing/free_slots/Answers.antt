@@ -1,7 +1,7 @@
 use Rattle.std.proofs.Common.{subst}
 use Rattle.trace_run.specs.Standing.{graph_kept}
 use Rattle.trace_run.specs.Closing.{CanFree}
-use Rattle.trace_run.proofs.Freeing.{freeable, freed_last, all_over}
+use Rattle.trace_run.proofs.Freeing.{freeable, freed_last}
 use Rattle.trace_run.proofs.closing.free_slots.Goals as goal
 
 pub free_slot-requires : goal.free_slot-requires

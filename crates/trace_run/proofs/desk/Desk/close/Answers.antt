@@ -1,7 +1,7 @@
 use Rattle.std.proofs.Common.{List, sym, subst, arith}
 use Rattle.graph_core.specs.Entries.{look_of}
 use Rattle.trace_run.specs.declared.names.NamedComponent.{NamedComponent}
-use Rattle.trace_run.specs.Standing.{parts, graph_kept, IsStood}
+use Rattle.trace_run.specs.Standing.{parts, IsStood}
 use Rattle.trace_run.proofs.Freeing.{can_free, ended_more, ended_all, none_out}
 use Rattle.trace_run.proofs.desk.Desk.close.Goals as goal
 
