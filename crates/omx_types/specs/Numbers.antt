@@ -51,6 +51,8 @@ fault_number Faults.OutOfMemory = 7
 fault_number (Faults.Short which at size) = 8
 fault_number (Faults.Units have need) = 9
 fault_number (Faults.NotBuilt what) = 10
+fault_number (Faults.Packets why) = 11
+fault_number (Faults.NotRun line why) = 12
 
 abbrev pub status_number : Status → ℕ
 status_number Statuses.Ok = 0

@@ -71,13 +71,46 @@ pub enum ScriptWhy {
     Differ,
 }
 
-/// A file of a command: its script, its log, that of a script line, or the made one of that number from 1.
+/// Why a file of packets isn't made or read: by its samples' format, or by its own form.
+#[derive(Clone, Copy, Debug, PartialEq, Eq, Error)]
+pub enum PacketsWhy {
+    #[error("not G.711 mono 8000")]
+    WrongFormat,
+    #[error("not a packet file")]
+    NotPackets,
+    #[error("no packets")]
+    NoPackets,
+    #[error("too long")]
+    TooLong,
+}
+
+/// Why a line of a log isn't that of a run of its script.
+#[derive(Clone, Copy, Debug, PartialEq, Eq, Error)]
+pub enum AuditWhy {
+    #[error("not canonical")]
+    BadLine,
+    #[error("not of a play")]
+    OtherAct,
+    #[error("not out")]
+    NotOut,
+    #[error("other reply")]
+    OtherReply,
+    #[error("other file")]
+    OtherFile,
+    #[error("not ended")]
+    NotEnded,
+}
+
+/// A file of a command: its script, its log, that of a script line, the made one of that number from 1,
+/// or the one that it reads or writes where it has two.
 #[derive(Clone, Copy, Debug, PartialEq, Eq)]
 pub enum Which {
     Script,
     Log,
     Line(u32),
     Made(u32),
+    Input,
+    Output,
 }
 
 impl fmt::Display for Which {
@@ -87,6 +120,8 @@ impl fmt::Display for Which {
             Which::Log => write!(f, "log"),
             Which::Line(line) => write!(f, "line {line}"),
             Which::Made(number) => write!(f, "made {number}"),
+            Which::Input => write!(f, "input"),
+            Which::Output => write!(f, "output"),
         }
     }
 }
@@ -123,6 +158,11 @@ pub enum Fault {
     Units { have: u32, need: u32 },
     #[error("not built: {what}")]
     NotBuilt { what: Unbuilt },
+    #[error("{why}")]
+    Packets { why: PacketsWhy },
+    /// A line of the log, from 1.
+    #[error("no: log line {line}: {why}")]
+    NotRun { line: u64, why: AuditWhy },
 }
 
 /// How a command of the program ended.
@@ -168,6 +208,8 @@ impl Fault {
             } => 8,
             Fault::Units { have: _, need: _ } => 9,
             Fault::NotBuilt { what: _ } => 10,
+            Fault::Packets { why: _ } => 11,
+            Fault::NotRun { line: _, why: _ } => 12,
         }
     }
 }

@@ -13,7 +13,9 @@ mod state;
 
 pub use command::{Command, Completion, Event, Note, PortSel};
 pub use error::{CallError, OmxError};
-pub use fault::{Fault, PartFault, ScriptWhy, Status, Unbuilt, WavFault, Which};
+pub use fault::{
+    AuditWhy, Fault, PacketsWhy, PartFault, ScriptWhy, Status, Unbuilt, WavFault, Which,
+};
 pub use format::Format;
 pub use handle::{Handle, PortId};
 pub use kind::Kind;
