@@ -8,7 +8,7 @@ use Rattle.std.proofs.lemmas.Slice.Eq.{bytes_eq-Decides}
 use Rattle.std.proofs.lemmas.Grind.{common_steps}
 use Rattle.omx_types.specs.declared.command.PortSel.{PortSel}
 use Rattle.omx_types.specs.declared.command.PortSel.TheVariants.{One, All}
-use Rattle.omx_types.specs.declared.format.Format.TheVariants.{Pcm, Alaw, Mulaw}
+use Rattle.omx_types.specs.declared.format.Format.TheVariants.{Pcm, Alaw, Mulaw, Auto}
 use Rattle.omx_types.specs.declared.param.Supplier.{Supplier}
 use Rattle.omx_types.specs.declared.param.Supplier.TheVariants.{Unspecified, Input, Output}
 use Rattle.omx_types.specs.declared.state.State.{State as StateType}
@@ -77,6 +77,7 @@ act-again (Port port) is = rw (name_of-port port, port_of-port port is) refl
 act-again (SetPort port (Pcm rate channels) count size) is = rw (port_of-port port is.0, small-again rate is.1.0, small-again channels is.1.1, small-again count is.2, small-again size is.3) refl
 act-again (SetPort port (Alaw rate channels) count size) is = rw (port_of-port port is.0, small-again rate is.1.0, small-again channels is.1.1, small-again count is.2, small-again size is.3) refl
 act-again (SetPort port (Mulaw rate channels) count size) is = rw (port_of-port port is.0, small-again rate is.1.0, small-again channels is.1.1, small-again count is.2, small-again size is.3) refl
+act-again (SetPort port Auto count size) is = rw (port_of-port port is.0, small-again count is.2, small-again size is.3) refl
 act-again (SetSupplier port supplier) is = rw (port_of-port port is, supplier-again supplier) refl
 act-again (SetPriority component priority) is = rw (name_of-name component is.0, small-again priority is.1) refl
 act-again (Gain component gain) is = rw (name_of-name component is.0, small-again gain is.1) refl

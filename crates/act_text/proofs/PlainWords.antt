@@ -12,7 +12,7 @@ use Rattle.omx_types.specs.declared.command.PortSel.{PortSel}
 use Rattle.omx_types.specs.declared.command.PortSel.TheVariants.{One, All}
 use Rattle.omx_types.specs.declared.error.OmxError.{OmxError}
 use Rattle.omx_types.specs.declared.error.OmxError.TheVariants as errors
-use Rattle.omx_types.specs.declared.format.Format.TheVariants.{Pcm, Alaw, Mulaw}
+use Rattle.omx_types.specs.declared.format.Format.TheVariants.{Pcm, Alaw, Mulaw, Auto}
 use Rattle.omx_types.specs.declared.param.Supplier.{Supplier as SupplierType}
 use Rattle.omx_types.specs.declared.param.Supplier.TheVariants.{Unspecified, Input, Output}
 use Rattle.omx_types.specs.declared.state.State.{State as StateType}
@@ -84,6 +84,7 @@ act-plain (acts.Back port) is = rw (port-plain port is) refl
 act-plain (acts.SetPort port (Pcm rate channels) count size) is = rw (port-plain port is.0, small-plain rate is.1.0, small-plain channels is.1.1, small-plain count is.2, small-plain size is.3) refl
 act-plain (acts.SetPort port (Alaw rate channels) count size) is = rw (port-plain port is.0, small-plain rate is.1.0, small-plain channels is.1.1, small-plain count is.2, small-plain size is.3) refl
 act-plain (acts.SetPort port (Mulaw rate channels) count size) is = rw (port-plain port is.0, small-plain rate is.1.0, small-plain channels is.1.1, small-plain count is.2, small-plain size is.3) refl
+act-plain (acts.SetPort port Auto count size) is = rw (port-plain port is.0, small-plain count is.2, small-plain size is.3) refl
 act-plain (acts.SetSupplier port supplier) is = rw (port-plain port is, supplier-plain supplier) refl
 act-plain (acts.SetPriority component priority) is = rw (name-plain component is.0, small-plain priority is.1) refl
 act-plain (acts.Gain component gain) is = rw (name-plain component is.0, small-plain gain is.1) refl

@@ -1,10 +1,10 @@
 -- The words of acts: a table with a row for each act.
-use Rattle.std.specs.Prelude.{ℕ, ◌^◌, ◌<◌, List, [], ◌∷◌, codes}
+use Rattle.std.specs.Prelude.{ℕ, ◌^◌, ◌<◌, List, [], ◌∷◌, ◌++◌, codes}
 use Rattle.std.specs.Fmt.{decimal}
 use Rattle.omx_types.specs.declared.command.PortSel.{PortSel}
 use Rattle.omx_types.specs.declared.command.PortSel.TheVariants.{One, All}
 use Rattle.omx_types.specs.declared.format.Format.{Format}
-use Rattle.omx_types.specs.declared.format.Format.TheVariants.{Pcm, Alaw, Mulaw}
+use Rattle.omx_types.specs.declared.format.Format.TheVariants.{Pcm, Alaw, Mulaw, Auto}
 use Rattle.omx_types.specs.declared.param.Supplier.{Supplier}
 use Rattle.omx_types.specs.declared.param.Supplier.TheVariants.{Unspecified, Input, Output}
 use Rattle.omx_types.specs.Formats.{rate_of, channels_of}
@@ -14,10 +14,12 @@ use Rattle.act_text.specs.Ports.{IsPortName, port_word}
 use Rattle.act_text.specs.declared.act.TextAct.{TextAct}
 use Rattle.act_text.specs.declared.act.TextAct.TheVariants.{Free, State, Port, SetPort, SetSupplier, SetPriority, Gain, Weight, Tunnel, DropTunnel, SendState, SendFlush, SendDisable, SendEnable, SendMark, Run, Supply, Release, Over, Back, Take, End}
 
-abbrev pub format_word : Format → List ℕ
-format_word (Pcm rate channels) = codes "pcm"
-format_word (Alaw rate channels) = codes "alaw"
-format_word (Mulaw rate channels) = codes "mulaw"
+-- a format that isn't known has neither rate nor channels
+abbrev pub format_words : Format → List (List ℕ)
+format_words (Pcm rate channels) = codes "pcm" ∷ decimal rate ∷ decimal channels ∷ []
+format_words (Alaw rate channels) = codes "alaw" ∷ decimal rate ∷ decimal channels ∷ []
+format_words (Mulaw rate channels) = codes "mulaw" ∷ decimal rate ∷ decimal channels ∷ []
+format_words Auto = codes "auto" ∷ []
 
 abbrev pub supplier_word : Supplier → List ℕ
 supplier_word Unspecified = codes "none"
@@ -30,7 +32,7 @@ ports_word All = codes "all"
 
 abbrev pub definition_words : List ℕ → Format → List ℕ → List ℕ → List (List ℕ)
 definition_words port format count size =
-    codes "set" ∷ port ∷ codes "port" ∷ format_word format ∷ decimal (rate_of format) ∷ decimal (channels_of format) ∷ count ∷ size ∷ []
+    codes "set" ∷ port ∷ codes "port" ∷ (format_words format ++ count ∷ size ∷ [])
 
 abbrev pub act_words : TextAct → List (List ℕ)
 act_words (Free component) = codes "free" ∷ component ∷ []

@@ -4,7 +4,7 @@ use Rattle.std.specs.Str.{bytes_eq}
 use Rattle.omx_types.specs.declared.command.PortSel.{PortSel}
 use Rattle.omx_types.specs.declared.command.PortSel.TheVariants.{One, All}
 use Rattle.omx_types.specs.declared.format.Format.{Format}
-use Rattle.omx_types.specs.declared.format.Format.TheVariants.{Pcm, Alaw, Mulaw}
+use Rattle.omx_types.specs.declared.format.Format.TheVariants.{Pcm, Alaw, Mulaw, Auto}
 use Rattle.omx_types.specs.declared.param.Supplier.{Supplier}
 use Rattle.omx_types.specs.declared.param.Supplier.TheVariants.{Unspecified, Input, Output}
 use Rattle.omx_types.specs.declared.state.State.{State as StateType}
@@ -113,12 +113,6 @@ of_mark (Some component) (Some port) None value = None
 of_mark (Some component) None target value = None
 of_mark None port target value = None
 
-abbrev pub of_six : List ℕ → List ℕ → List ℕ → List ℕ → List ℕ → List ℕ → Option TextAct
-of_six verb subject what port target value =
-    if bytes_eq verb (codes "send")
-    then (if bytes_eq what (codes "mark") then of_mark (name_of subject) (small_number port) (name_of target) (number_below (2 ^ 64) value) else None)
-    else None
-
 abbrev pub format_of : List ℕ → Option ℕ → Option ℕ → Option Format
 format_of kind (Some rate) (Some channels) = format_with kind rate channels
 format_of kind (Some rate) None = None
@@ -130,6 +124,19 @@ of_definition (Some port) (Some format) (Some count) None = None
 of_definition (Some port) (Some format) None size = None
 of_definition (Some port) None count size = None
 of_definition None format count size = None
+
+-- the definition of a port whose format isn't known
+abbrev pub of_auto : List ℕ → List ℕ → List ℕ → List ℕ → Option TextAct
+of_auto subject kind count size =
+    if bytes_eq kind (codes "auto") then of_definition (port_of subject) (Some Auto) (small_number count) (small_number size) else None
+
+abbrev pub of_six : List ℕ → List ℕ → List ℕ → List ℕ → List ℕ → List ℕ → Option TextAct
+of_six verb subject what first second third =
+    if bytes_eq verb (codes "send")
+    then (if bytes_eq what (codes "mark") then of_mark (name_of subject) (small_number first) (name_of second) (number_below (2 ^ 64) third) else None)
+    else if bytes_eq verb (codes "set")
+    then (if bytes_eq what (codes "port") then of_auto subject first second third else None)
+    else None
 
 abbrev pub of_eight : List ℕ → List ℕ → List ℕ → List ℕ → List ℕ → List ℕ → List ℕ → List ℕ → Option TextAct
 of_eight verb subject what kind rate channels count size =
@@ -153,6 +160,6 @@ abbrev pub act_of : List (List ℕ) → Option TextAct
 act_of (verb ∷ one ∷ []) = of_two verb (name_of one) (port_of one)
 act_of (verb ∷ one ∷ two ∷ []) = of_three verb (port_of one) (port_of two)
 act_of (verb ∷ one ∷ what ∷ two ∷ []) = of_four verb one what two
-act_of (verb ∷ one ∷ what ∷ port ∷ target ∷ value ∷ []) = of_six verb one what port target value
+act_of (verb ∷ one ∷ what ∷ first ∷ second ∷ third ∷ []) = of_six verb one what first second third
 act_of (verb ∷ one ∷ what ∷ kind ∷ rate ∷ channels ∷ count ∷ size ∷ []) = of_eight verb one what kind rate channels count size
 act_of words = None

@@ -1,6 +1,6 @@
 ghost use Rattle.std.specs.Prelude.{◌≡◌, ◌∷◌, ◌++◌, [], ℕ, List, OnOk, OnErr, codes};
 ghost use Rattle.std.specs.Fmt.{decimal};
-ghost use Rattle.act_text.specs.Acts.{act_words, definition_words, format_word, supplier_word, ports_word};
+ghost use Rattle.act_text.specs.Acts.{act_words, definition_words, supplier_word, ports_word};
 ghost use Rattle.act_text.specs.Ports.{port_word};
 ghost use Rattle.act_text.specs.Words.{spaced, word_bytes, IsGrown};
 ghost use Rattle.act_text.specs.declared.act.TextAct.TheVariants.{SetSupplier, SetPriority, Gain, Weight, SendState, SendMark};
@@ -75,25 +75,6 @@ fn supplier_bytes(supplier: Supplier) -> &'static [u8]
         Supplier::Unspecified => b"none",
         Supplier::Input => b"input",
         Supplier::Output => b"output",
-    }
-}
-
-fn format_bytes(format: &Format) -> &'static [u8]
-    ensures { result.now ≡ format_word format.now }
-{
-    match format {
-        Format::Pcm {
-            rate: _,
-            channels: _,
-        } => b"pcm",
-        Format::Alaw {
-            rate: _,
-            channels: _,
-        } => b"alaw",
-        Format::Mulaw {
-            rate: _,
-            channels: _,
-        } => b"mulaw",
     }
 }
 
@@ -215,13 +196,61 @@ fn put_definition(
     ensures ok { OnOk result (out.new.items ≡ out.old.items ++ spaced (definition_words (port_word port.now) format.now (decimal count) (decimal size))) }
     ensures err { OnErr result (IsGrown out.old.items out.new.items) }
 {
+    match format {
+        Format::Pcm { rate, channels } => {
+            put_known(port, b"pcm", *rate, *channels, count, size, out)
+        }
+        Format::Alaw { rate, channels } => {
+            put_known(port, b"alaw", *rate, *channels, count, size, out)
+        }
+        Format::Mulaw { rate, channels } => {
+            put_known(port, b"mulaw", *rate, *channels, count, size, out)
+        }
+        Format::Auto => put_unknown(port, count, size, out),
+    }
+}
+
+/// The definition of a port with that format.
+fn put_known(
+    port: &PortName,
+    kind: &[u8],
+    rate: u32,
+    channels: u32,
+    count: u32,
+    size: u32,
+    out: &mut Vec<u8>,
+) -> Result<(), OutOfMemory>
+    ensures ok { OnOk result (out.new.items ≡ out.old.items ++ spaced (codes "set" ∷ port_word port.now ∷ codes "port" ∷ kind.now ∷ decimal rate ∷ decimal channels ∷ decimal count ∷ decimal size ∷ [])) }
+    ensures err { OnErr result (IsGrown out.old.items out.new.items) }
+{
     let words = [
         Word::Bytes(b"set"),
         Word::Port(port),
         Word::Bytes(b"port"),
-        Word::Bytes(format_bytes(format)),
-        number(format.rate()),
-        number(format.channels()),
+        Word::Bytes(kind),
+        number(rate),
+        number(channels),
+        number(count),
+        number(size),
+    ];
+    put_words(&words, out)
+}
+
+/// The definition of a port whose format isn't known.
+fn put_unknown(
+    port: &PortName,
+    count: u32,
+    size: u32,
+    out: &mut Vec<u8>,
+) -> Result<(), OutOfMemory>
+    ensures ok { OnOk result (out.new.items ≡ out.old.items ++ spaced (codes "set" ∷ port_word port.now ∷ codes "port" ∷ codes "auto" ∷ decimal count ∷ decimal size ∷ [])) }
+    ensures err { OnErr result (IsGrown out.old.items out.new.items) }
+{
+    let words = [
+        Word::Bytes(b"set"),
+        Word::Port(port),
+        Word::Bytes(b"port"),
+        Word::Bytes(b"auto"),
         number(count),
         number(size),
     ];

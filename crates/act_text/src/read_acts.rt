@@ -1,13 +1,11 @@
 ghost use Rattle.std.specs.Prelude.{◌≡◌, ◌^◌, ◌<◌, ◌∷◌, [], ℕ, List, IfSome, Some, length, map, codes};
 ghost use Rattle.omx_types.specs.Names.{state_name};
-ghost use Rattle.act_text.specs.Acts.{act_words, supplier_word, ports_word, format_word, definition_words, IsAct, IsFormat, ArePorts};
+ghost use Rattle.act_text.specs.Acts.{act_words, supplier_word, ports_word, format_words, definition_words, IsAct, IsFormat, ArePorts};
 ghost use Rattle.act_text.specs.Names.{IsName};
 ghost use Rattle.act_text.specs.Words.{texts};
 ghost use Rattle.act_text.specs.Ports.{IsPortName, port_word};
 ghost use Rattle.act_text.specs.Reading.{name_of, number_below, small_number, port_of};
-ghost use Rattle.omx_types.specs.Formats.{rate_of, channels_of};
-ghost use Rattle.std.specs.Fmt.{decimal};
-ghost use Rattle.act_text.specs.ReadActs.{state_of, supplier_of, ports_of, format_with, of_component, of_port, of_ports, of_setting, of_config, of_sending, of_ports_sending, of_mark, of_four, of_definition, of_two, of_three, of_six, of_eight, format_of, act_of};
+ghost use Rattle.act_text.specs.ReadActs.{state_of, supplier_of, ports_of, format_with, of_component, of_port, of_ports, of_setting, of_config, of_sending, of_ports_sending, of_mark, of_four, of_definition, of_two, of_three, of_auto, of_six, of_eight, format_of, act_of};
 
 use crate::parts::{name_in, number_in, port_in, small_number_in};
 use crate::{Name, PortName, TextAct};
@@ -257,7 +255,7 @@ fn of_mark(subject: &[u8], port: &[u8], target: &[u8], value: &[u8]) -> Option<T
 }
 
 fn format_in(kind: &[u8], rate: &[u8], channels: &[u8]) -> Option<Format>
-    ensures some { IfSome result (λ format. (kind.now ≡ format_word format) × (rate.now ≡ decimal (rate_of format)) × (channels.now ≡ decimal (channels_of format))) }
+    ensures some { IfSome result (λ format. kind.now ∷ rate.now ∷ channels.now ∷ [] ≡ format_words format) }
     ensures fit { IfSome result IsFormat }
     ensures is { result ≡ format_of kind.now (small_number rate.now) (small_number channels.now) }
 {
@@ -334,25 +332,44 @@ fn of_three(verb: &[u8], first: &[u8], second: &[u8]) -> Option<TextAct>
     of_ports(verb, first, second)
 }
 
+/// The definition of a port whose format isn't known, by the words of `set PORT port ..` but these two.
+fn of_auto(port: &[u8], kind: &[u8], count: &[u8], size: &[u8]) -> Option<TextAct>
+    ensures some { IfSome result (λ act. codes "set" ∷ port.now ∷ codes "port" ∷ kind.now ∷ count.now ∷ size.now ∷ [] ≡ act_words act) }
+    ensures act { IfSome result IsAct }
+    ensures is { result ≡ of_auto port.now kind.now count.now size.now }
+{
+    if kind != b"auto".as_slice() {
+        return None;
+    }
+    of_definition(port, Some(Format::Auto), count, size)
+}
+
+/// A mark for a port, or the definition of a port whose format isn't known.
 fn of_six(
     verb: &[u8],
     subject: &[u8],
     what: &[u8],
-    port: &[u8],
-    target: &[u8],
-    value: &[u8],
+    first: &[u8],
+    second: &[u8],
+    third: &[u8],
 ) -> Option<TextAct>
-    ensures some { IfSome result (λ act. verb.now ∷ subject.now ∷ what.now ∷ port.now ∷ target.now ∷ value.now ∷ [] ≡ act_words act) }
+    ensures some { IfSome result (λ act. verb.now ∷ subject.now ∷ what.now ∷ first.now ∷ second.now ∷ third.now ∷ [] ≡ act_words act) }
     ensures act { IfSome result IsAct }
-    ensures is { result ≡ of_six verb.now subject.now what.now port.now target.now value.now }
+    ensures is { result ≡ of_six verb.now subject.now what.now first.now second.now third.now }
 {
-    if verb != b"send".as_slice() {
+    if verb == b"send".as_slice() {
+        if what != b"mark".as_slice() {
+            return None;
+        }
+        return of_mark(subject, first, second, third);
+    }
+    if verb != b"set".as_slice() {
         return None;
     }
-    if what != b"mark".as_slice() {
+    if what != b"port".as_slice() {
         return None;
     }
-    of_mark(subject, port, target, value)
+    of_auto(subject, first, second, third)
 }
 
 fn of_eight(
@@ -387,7 +404,7 @@ fn of_more(verb: &[u8], subject: &[u8], what: &[u8], rest: &[&[u8]]) -> Option<T
 {
     match rest {
         [value] => of_four(verb, subject, what, value),
-        [port, target, value] => of_six(verb, subject, what, port, target, value),
+        [first, second, third] => of_six(verb, subject, what, first, second, third),
         [kind, rate, channels, count, size] => {
             of_eight(verb, subject, what, kind, rate, channels, count, size)
         }

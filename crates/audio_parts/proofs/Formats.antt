@@ -1,8 +1,8 @@
 -- Frames in bytes.
 use Rattle.std.proofs.Common.{◌≡◌, ℕ, ◌+◌, ◌-◌, ◌*◌, ◌≤◌, ap, sym, subst, ◌∙◌, arith}
 use Rattle.omx_types.specs.declared.format.Format.{Format}
-use Rattle.omx_types.specs.declared.format.Format.TheVariants.{Pcm, Alaw, Mulaw}
-use Rattle.omx_types.specs.Formats.{channels_of, frame_bytes_of}
+use Rattle.omx_types.specs.declared.format.Format.TheVariants.{Pcm, Alaw, Mulaw, Auto}
+use Rattle.omx_types.specs.Formats.{channels_of, frame_bytes_of, IsWithinLimits}
 
 twice : (f c : ℕ) → f * c ≤ 4096 → f * (2 * c) ≤ 8192
 twice f c h = omega (arith, h)
@@ -11,10 +11,11 @@ once : (f c : ℕ) → f * c ≤ 4096 → f * c ≤ 8192
 once f c h = omega (arith, h)
 
 -- the register has room for them
-pub few_bytes : (format : Format) (frames : ℕ) → frames * channels_of format ≤ 4096 → frames * frame_bytes_of format ≤ 8192
-few_bytes (Pcm rate channels) frames h = twice frames channels h
-few_bytes (Alaw rate channels) frames h = once frames channels h
-few_bytes (Mulaw rate channels) frames h = once frames channels h
+pub few_bytes : (format : Format) (frames : ℕ) → IsWithinLimits format → frames * channels_of format ≤ 4096 → frames * frame_bytes_of format ≤ 8192
+few_bytes (Pcm rate channels) frames l h = twice frames channels h
+few_bytes (Alaw rate channels) frames l h = once frames channels h
+few_bytes (Mulaw rate channels) frames l h = once frames channels h
+few_bytes Auto frames l h = absurd (let some = l.some_channel in omega arith)
 
 behind : (next frames rest bytes size : ℕ) → next + (frames + rest) * bytes ≤ size → next + frames * bytes + rest * bytes ≤ size
 behind next frames rest bytes size h = omega (arith, h)

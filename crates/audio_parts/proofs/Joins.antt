@@ -2,8 +2,8 @@
 use Rattle.std.proofs.Common.{◌≡◌, ℕ, zero, suc, ◌+◌, ◌*◌, ◌/◌, ◌%◌, List, [], ◌∷◌, ◌++◌, length, map, ℤ, refl, ap, ◌∙◌, arith, of_z, to_z, w16}
 use Rattle.std.proofs.lemmas.List.{map-append}
 use Rattle.pcm_ops.specs.Samples.{samples, bytes, gained}
-use Rattle.audio_parts.specs.Effects.{gained_bytes, decoded, encoded, value_of, code_of}
-use Rattle.audio_parts.specs.declared.coder.Law.{Law}
+use Rattle.part_forms.specs.Effects.{gained_bytes, decoded, encoded, value_of, code_of}
+use Rattle.part_forms.specs.declared.law.Law.{Law}
 
 pub bytes-append : (xs ys : List ℤ) → bytes (xs ++ ys) ≡ bytes xs ++ bytes ys
 unfolding bytes

@@ -7,9 +7,10 @@ use Rattle.std.proofs.lemmas.List.{length-replicate}
 use Rattle.omx_types.specs.declared.format.Format.{Format}
 use Rattle.omx_types.specs.declared.format.Format.TheVariants as formats
 use Rattle.omx_types.specs.declared.kind.Kind.{Kind}
-use Rattle.omx_types.specs.declared.kind.Kind.TheVariants.{Source, Decoder, Alaw, Mulaw, Gain, Mixer, Splitter, Sink}
+use Rattle.omx_types.specs.declared.kind.Kind.TheVariants.{Source, Decoder, Alaw, Mulaw, Gain, Mixer, Splitter, Sink, Late}
 use Rattle.omx_types.specs.Formats.{IsWithinLimits}
-use Rattle.part_api.specs.Terms.{Attached, Terms}
+use Rattle.part_api.specs.declared.attached.Attached.{Attached}
+use Rattle.part_api.specs.Terms.{Terms}
 use Rattle.audio_parts.specs.Kinds.{MayBe, MayHave, is_input, default_terms, with_factor, with_file, with_format}
 use Rattle.audio_parts.specs.Shapes.{IsLawful}
 
@@ -54,6 +55,7 @@ new_is_lawful (Splitter number) = record {
   factor_count = refl;
 }
 new_is_lawful Sink = record { inputs = (record { allowed = refl; limits = pcm_limits }, tt); outputs = tt; input_count = refl; output_count = refl; factor_count = refl }
+new_is_lawful Late = record { inputs = tt; outputs = (record { allowed = refl; limits = pcm_limits }, tt); input_count = refl; output_count = refl; factor_count = refl }
 
 -- ---- another format
 

@@ -8,7 +8,7 @@ use Rattle.std.specs.List.{count_by}
 use Rattle.std.specs.Int.{int_div_euclid}
 use Rattle.std.specs.Simd.Lanes.{zip2}
 use Rattle.pcm_ops.specs.Samples.{samples, bytes, mixed, scaled, clamped}
-use Rattle.audio_parts.specs.Mixing.{longest, padded, sums, mixed_bytes, Reach, with_zeros}
+use Rattle.part_forms.specs.Mixing.{longest, padded, sums, mixed_bytes, Reach, with_zeros}
 use Rattle.audio_parts.proofs.Joins.{bytes-append, samples-append}
 
 -- ---- samples

@@ -3,16 +3,17 @@ use Rattle.std.proofs.Common.{◌≡◌, ℕ, ◌*◌, List, [], ◌∷◌, ◌+
 use Rattle.std.specs.List.{AllByRecursion}
 use Rattle.std.proofs.lemmas.List.{length-replicate}
 use Rattle.omx_types.specs.declared.format.Format.{Format}
-use Rattle.omx_types.specs.declared.format.Format.TheVariants.{Pcm, Alaw, Mulaw}
+use Rattle.omx_types.specs.declared.format.Format.TheVariants.{Pcm, Alaw, Mulaw, Auto}
 use Rattle.omx_types.specs.declared.kind.Kind.{Kind}
 use Rattle.omx_types.specs.declared.kind.Kind.TheVariants as kinds
-use Rattle.omx_types.specs.Formats.{channels_of, frame_bytes_of}
-use Rattle.il_machine.specs.Kinds.{is_pcm, is_alaw, is_mulaw, inputs_of, outputs_of}
+use Rattle.omx_types.specs.Formats.{channels_of, frame_bytes_of, is_pcm, is_alaw, is_mulaw, IsWithinLimits}
+use Rattle.part_forms.specs.Kinds.{inputs_of, outputs_of}
 use Rattle.part_api.specs.Terms.{Terms}
-use Rattle.audio_parts.specs.Effects.{width_of}
+use Rattle.part_forms.specs.Effects.{width_of}
 use Rattle.audio_parts.specs.Kinds.{MayBe, default_factors}
 use Rattle.audio_parts.specs.Ready.{Fit, AreFitting}
-use Rattle.audio_parts.specs.Shapes.{IsFrame, IsLawful, HasFramesOf, shape_by, shape_of}
+use Rattle.audio_parts.specs.Shapes.{IsFrame, IsLawful, HasFramesOf}
+use Rattle.part_forms.specs.Shapes.{shape_by, shape_of}
 
 -- ---- one format
 
@@ -20,26 +21,31 @@ pcm_frame : (format : Format) → is_pcm format ≡ true → frame_bytes_of form
 pcm_frame (Pcm rate channels) h = omega arith
 pcm_frame (Alaw rate channels) h = cc
 pcm_frame (Mulaw rate channels) h = cc
+pcm_frame Auto h = cc
 
 coded_frame : (format : Format) → (is_alaw format || is_mulaw format) ≡ true → frame_bytes_of format ≡ channels_of format * 1
 coded_frame (Pcm rate channels) h = cc
 coded_frame (Alaw rate channels) h = omega arith
 coded_frame (Mulaw rate channels) h = omega arith
+coded_frame Auto h = cc
 
 alaw_frame : (format : Format) → is_alaw format ≡ true → frame_bytes_of format ≡ channels_of format * 1
 alaw_frame (Pcm rate channels) h = cc
 alaw_frame (Alaw rate channels) h = omega arith
 alaw_frame (Mulaw rate channels) h = cc
+alaw_frame Auto h = cc
 
 mulaw_frame : (format : Format) → is_mulaw format ≡ true → frame_bytes_of format ≡ channels_of format * 1
 mulaw_frame (Pcm rate channels) h = cc
 mulaw_frame (Alaw rate channels) h = cc
 mulaw_frame (Mulaw rate channels) h = omega arith
+mulaw_frame Auto h = cc
 
-width_frame : (format : Format) → frame_bytes_of format ≡ channels_of format * width_of format
-width_frame (Pcm rate channels) = omega arith
-width_frame (Alaw rate channels) = omega arith
-width_frame (Mulaw rate channels) = omega arith
+width_frame : (format : Format) → IsWithinLimits format → frame_bytes_of format ≡ channels_of format * width_of format
+width_frame (Pcm rate channels) h = omega arith
+width_frame (Alaw rate channels) h = omega arith
+width_frame (Mulaw rate channels) h = omega arith
+width_frame Auto h = absurd (let some = h.some_channel in omega arith)
 
 -- ---- lists of ports
 
@@ -123,14 +129,14 @@ mixer_frames number factors inputs (output ∷ []) i o ic oc fc fit = record {
   output_count = refl;
 }
 
-splitter_frames : (number : ℕ) (factors : List ℕ) (inputs outputs : List Format) → length inputs ≡ 1 → length outputs ≡ number → AreFitting (kinds.Splitter number) (inputs ++ outputs)
+splitter_frames : (number : ℕ) (factors : List ℕ) (inputs outputs : List Format) → AllByRecursion (MayBe (kinds.Splitter number) true) inputs → length inputs ≡ 1 → length outputs ≡ number → AreFitting (kinds.Splitter number) (inputs ++ outputs)
     → HasFramesOf inputs outputs (shape_by (kinds.Splitter number) inputs outputs factors)
-splitter_frames number factors [] outputs ic oc fit = absurd (omega (arith, ic))
-splitter_frames number factors (x ∷ y ∷ xs) outputs ic oc fit = absurd (omega (arith, ic))
-splitter_frames number factors (input ∷ []) outputs ic oc fit = record {
-  input = (record { samples = refl; size = width_frame input }, tt);
+splitter_frames number factors [] outputs i ic oc fit = absurd (omega (arith, ic))
+splitter_frames number factors (x ∷ y ∷ xs) outputs i ic oc fit = absurd (omega (arith, ic))
+splitter_frames number factors (input ∷ []) outputs i ic oc fit = record {
+  input = (record { samples = refl; size = width_frame input i.0.limits }, tt);
   output = all_map (λ port. port ≡ input) (IsFrame (channels_of input) (channels_of input * width_of input)) outputs
-      (λ port e. record { samples = ap channels_of e; size = width_frame port ∙ ap (λ f. channels_of f * width_of f) e }) fit;
+      (λ port e. record { samples = ap channels_of e; size = ap frame_bytes_of e ∙ width_frame input i.0.limits }) fit;
   input_count = refl;
   output_count = oc;
 }
@@ -153,12 +159,13 @@ frames_of : (kind : Kind) (factors : List ℕ) (inputs outputs : List Format) �
     → length inputs ≡ inputs_of kind → length outputs ≡ outputs_of kind → length factors ≡ length (default_factors kind) → AreFitting kind (inputs ++ outputs)
     → HasFramesOf inputs outputs (shape_by kind inputs outputs factors)
 frames_of kinds.Source factors inputs outputs i o ic oc fc fit = source_frames factors inputs outputs ic oc
+frames_of kinds.Late factors inputs outputs i o ic oc fc fit = source_frames factors inputs outputs ic oc
 frames_of kinds.Decoder factors inputs outputs i o ic oc fc fit = paired kinds.Decoder factors (decoder_frames factors) inputs outputs i o ic oc fit
 frames_of kinds.Alaw factors inputs outputs i o ic oc fc fit = paired kinds.Alaw factors (alaw_frames factors) inputs outputs i o ic oc fit
 frames_of kinds.Mulaw factors inputs outputs i o ic oc fc fit = paired kinds.Mulaw factors (mulaw_frames factors) inputs outputs i o ic oc fit
 frames_of kinds.Gain factors inputs outputs i o ic oc fc fit = paired kinds.Gain factors (gain_frames factors) inputs outputs i o ic oc fit
 frames_of (kinds.Mixer number) factors inputs outputs i o ic oc fc fit = mixer_frames number factors inputs outputs i o ic oc (fc ∙ length-replicate number 4096) fit
-frames_of (kinds.Splitter number) factors inputs outputs i o ic oc fc fit = splitter_frames number factors inputs outputs ic oc fit
+frames_of (kinds.Splitter number) factors inputs outputs i o ic oc fc fit = splitter_frames number factors inputs outputs i ic oc fit
 frames_of kinds.Sink factors inputs outputs i o ic oc fc fit = sink_frames factors inputs outputs ic oc
 
 pub has_frames : (terms : Terms) → IsLawful terms → AreFitting terms.kind (terms.inputs ++ terms.outputs) → HasFramesOf terms.inputs terms.outputs (shape_of terms)

@@ -10,10 +10,10 @@ use Rattle.audio_parts.specs.FileParts.{source_terms, sink_terms}
 use Rattle.audio_parts.specs.Ready.{FitsFile, IsReady}
 
 -- the file of a source that is ready has its port's format
-pub source_agrees : {S : Type 0} (port : Format) (file : Option (SourceFile S)) (failed : Bool) → IsReady (source_terms port file) failed
+pub source_agrees : {S : Type 0} (late : Bool) (port : Format) (file : Option (SourceFile S)) (failed : Bool) → IsReady (source_terms late port file) failed
     → (it : SourceFile S) → file ≡ Some it → it.format ≡ port
-source_agrees {S} port file failed ready it e =
-    (subst (λ (o : Option (SourceFile S)). FitsFile (source_terms port file) (source_terms port o).file) e ready.file).0
+source_agrees {S} late port file failed ready it e =
+    (subst (λ (o : Option (SourceFile S)). FitsFile (source_terms late port file) (source_terms late port o).file) e ready.file).0
 
 -- the planned frames of a sink that is ready have few bytes
 pub sink_agrees : {K : Type 0} (port : Format) (file : Option (SinkFile K)) (failed : Bool) → IsReady (sink_terms port file) failed

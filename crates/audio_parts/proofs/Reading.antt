@@ -5,7 +5,7 @@ use Rattle.std.proofs.Math.Seq.{take-add}
 use Rattle.std.proofs.lemmas.List.{drop-drop}
 use Rattle.outside_io.specs.Moves.{WhereTold}
 use Rattle.part_api.specs.Steps.{ComesFirst}
-use Rattle.audio_parts.specs.Files.{rest_of}
+use Rattle.part_forms.specs.Files.{rest_of}
 
 split : (bytes : List ℕ) (next n m : ℕ) → take (n + m) (drop next bytes) ≡ take n (drop next bytes) ++ take m (drop (next + n) bytes)
 split bytes next n m = take-add n m (drop next bytes) ∙ ap (λ l. take n (drop next bytes) ++ take m l) (drop-drop n next bytes)

@@ -9,8 +9,8 @@ use Rattle.omx_types.specs.declared.format.Format.{Format}
 use Rattle.omx_types.specs.Formats.{frame_bytes_of}
 use Rattle.outside_io.proofs.Known.{append_known-twice}
 use Rattle.outside_io.specs.Moves.{AppendsFront}
-use Rattle.wav_form.specs.Writing.{head_of, pad_of}
-use Rattle.audio_parts.specs.Sinking.{head_due, pad_due, step_text, sink_text, is_last_among}
+use Rattle.part_forms.specs.Writing.{head_of, pad_of}
+use Rattle.part_forms.specs.Sinking.{head_due, pad_due, step_text, sink_text, is_last_among}
 
 pub headed_due : (is_headed : Bool) (format : Format) (planned : ℕ) → is_headed ≡ true → [] ≡ head_due is_headed format planned
 unfolding head_due

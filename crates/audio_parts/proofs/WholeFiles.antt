@@ -8,11 +8,11 @@ use Rattle.std.proofs.Math.Seq.{take-append-add}
 use Rattle.std.specs.Prelude.{Option, Some, nat_le}
 use Rattle.std.specs.List.{AllByRecursion}
 use Rattle.omx_types.specs.declared.format.Format.{Format}
-use Rattle.omx_types.specs.declared.format.Format.TheVariants.{Pcm, Alaw, Mulaw}
+use Rattle.omx_types.specs.declared.format.Format.TheVariants.{Pcm, Alaw, Mulaw, Auto}
 use Rattle.omx_types.specs.Formats.{frame_bytes_of, IsWithinLimits}
-use Rattle.wav_form.specs.Writing.{head_of, pad_of, written as file_of}
+use Rattle.part_forms.specs.Writing.{head_of, pad_of, written as file_of}
 use Rattle.part_api.specs.Terms.{Writing}
-use Rattle.audio_parts.specs.Sinking.{head_due, pad_due, is_last_among, sink_text}
+use Rattle.part_forms.specs.Sinking.{head_due, pad_due, is_last_among, sink_text}
 use Rattle.audio_parts.specs.WholeFiles.{Piece, IsWhole, IsUnwritten, WroteAll, frames_in, bytes_in, planned_of, text_of}
 use Rattle.audio_parts.proofs.Sinking.{headed_due, fresh_due, not_last}
 
@@ -167,6 +167,7 @@ some_bytes : (format : Format) → IsWithinLimits format → 0 < frame_bytes_of 
 some_bytes (Pcm rate channels) h = omega (arith, h.some_channel)
 some_bytes (Alaw rate channels) h = omega (arith, h.some_channel)
 some_bytes (Mulaw rate channels) h = omega (arith, h.some_channel)
+some_bytes Auto h = omega arith
 
 bytes_are : (format : Format) (pieces : List Piece) → AllByRecursion (IsWhole format) pieces → length (bytes_in pieces) ≡ frames_in pieces * frame_bytes_of format
 bytes_are format [] h = omega arith

@@ -1,10 +1,12 @@
 -- A part of any kind: its file, and whether it failed.
-use Rattle.std.specs.Prelude.{◌≡◌, ℕ, ◌+◌, ◌*◌, ◌≤◌, Bool, false, Option, None, option_map}
+use Rattle.std.specs.Prelude.{◌≡◌, ℕ, ◌+◌, ◌*◌, ◌≤◌, Bool, true, false, Option, None, option_map}
 use Rattle.omx_types.specs.declared.format.Format.{Format}
 use Rattle.omx_types.specs.declared.kind.Kind.{Kind}
 use Rattle.omx_types.specs.declared.kind.Kind.TheVariants as kinds
 use Rattle.omx_types.specs.Formats.{frame_bytes_of}
-use Rattle.part_api.specs.Terms.{Attached, From, To}
+use Rattle.part_forms.specs.Kinds.{is_source}
+use Rattle.part_api.specs.declared.attached.Attached.{Attached}
+use Rattle.part_api.specs.declared.attached.Attached.TheVariants.{From, To}
 use Rattle.audio_parts.specs.declared.any_part.AnyPart.{AnyPart}
 use Rattle.audio_parts.specs.declared.any_part.AnyPart.TheVariants.{Source, Sink}
 use Rattle.audio_parts.specs.declared.source_file.SourceFile.{SourceFile}
@@ -29,7 +31,7 @@ attached_of (files.To snk frames) = To frames
 
 -- a source reads a file, whose frames need no more bytes than there are; a sink writes one
 abbrev pub MayAttach : {S K : Type 0} → (S → ℕ) → (S → ℕ) → Kind → PartFile S K → Type 0
-MayAttach place size kind (files.From src format frames) = (kind ≡ kinds.Source) × (place src + frames * frame_bytes_of format ≤ size src)
+MayAttach place size kind (files.From src format frames) = (is_source kind ≡ true) × (place src + frames * frame_bytes_of format ≤ size src)
 MayAttach place size kind (files.To snk frames) = kind ≡ kinds.Sink
 
 -- of a file that is read

@@ -4,9 +4,9 @@ use Rattle.omx_types.specs.declared.kind.Kind.{Kind}
 use Rattle.omx_types.specs.declared.kind.Kind.TheVariants.{Gain, Mixer}
 use Rattle.omx_types.specs.declared.format.Format.{Format}
 use Rattle.omx_types.specs.Formats.{IsWithinLimits}
-use Rattle.il_machine.specs.Kinds.{inputs_of, outputs_of, is_format_of}
-use Rattle.il_machine.specs.Settings.{default_format}
-use Rattle.part_api.specs.Terms.{Attached, Terms}
+use Rattle.part_forms.specs.Kinds.{inputs_of, outputs_of, is_format_of, known_format}
+use Rattle.part_api.specs.declared.attached.Attached.{Attached}
+use Rattle.part_api.specs.Terms.{Terms}
 
 -- inputs are numbered from 0, then come the outputs
 abbrev pub is_input : Terms → ℕ → Bool
@@ -32,8 +32,8 @@ default_factors _ = []
 abbrev pub default_terms : Kind → Terms
 default_terms kind = record {
   kind = kind;
-  inputs = replicate (inputs_of kind) (default_format kind true);
-  outputs = replicate (outputs_of kind) (default_format kind false);
+  inputs = replicate (inputs_of kind) (known_format kind true);
+  outputs = replicate (outputs_of kind) (known_format kind false);
   factors = default_factors kind;
   file = None;
 }

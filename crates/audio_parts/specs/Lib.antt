@@ -1,12 +1,7 @@
 pub mod AnyParts
 pub mod Causes
-pub mod Effects
 pub mod FileParts
-pub mod Files
 pub mod Kinds
-pub mod Manners
-pub mod Mixing
 pub mod Ready
 pub mod Shapes
-pub mod Sinking
 pub mod WholeFiles

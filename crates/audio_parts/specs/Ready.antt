@@ -5,7 +5,9 @@ use Rattle.omx_types.specs.declared.format.Format.{Format}
 use Rattle.omx_types.specs.declared.kind.Kind.{Kind}
 use Rattle.omx_types.specs.declared.kind.Kind.TheVariants.{Splitter}
 use Rattle.omx_types.specs.Formats.{rate_of, channels_of, frame_bytes_of}
-use Rattle.part_api.specs.Terms.{Attached, From, To, Terms}
+use Rattle.part_api.specs.declared.attached.Attached.{Attached}
+use Rattle.part_api.specs.declared.attached.Attached.TheVariants.{From, To}
+use Rattle.part_api.specs.Terms.{Terms}
 
 -- two ports of a part fit: they have one rate and one number of channels, those of a splitter one format
 abbrev pub Fit : Kind → Format → Format → Type 0

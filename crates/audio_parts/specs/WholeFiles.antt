@@ -2,9 +2,9 @@
 use Rattle.std.specs.Prelude.{◌≡◌, ℕ, ◌+◌, ◌*◌, false, nat_le, if◌then◌else◌, List, [], ◌∷◌, ◌++◌, length, take, Option}
 use Rattle.omx_types.specs.declared.format.Format.{Format}
 use Rattle.omx_types.specs.Formats.{frame_bytes_of}
-use Rattle.wav_form.specs.Writing.{head_of, pad_of}
+use Rattle.part_forms.specs.Writing.{head_of, pad_of}
 use Rattle.part_api.specs.Terms.{Writing, begun, written}
-use Rattle.audio_parts.specs.Sinking.{writes_of}
+use Rattle.part_forms.specs.Sinking.{writes_of}
 
 -- the frames of one step
 pub record Piece : Type 0 where

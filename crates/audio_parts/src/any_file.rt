@@ -1,12 +1,12 @@
 //! The file of a part of any kind.
-ghost use Rattle.std.specs.Prelude.{◌≡◌, ◌*◌, ◌↔◌, false, None, Some, option_map, IsSome, IfSome};
+ghost use Rattle.std.specs.Prelude.{◌≡◌, ◌*◌, false, None, Some, option_map, is_some, IfSome};
 ghost use Rattle.std.specs.List.{AllByRecursion};
 ghost use Rattle.omx_types.specs.Formats.{frame_bytes_of};
-ghost use Rattle.omx_types.specs.declared.kind.Kind.TheVariants as kinds;
 ghost use Rattle.audio_parts.specs.AnyParts.{MayAttach, OnFrom, OnTo, attached_of, file_of, read_of, written_of};
-ghost use Rattle.audio_parts.specs.Files.{rest_of};
+ghost use Rattle.part_forms.specs.Files.{rest_of};
+ghost use Rattle.part_forms.specs.Kinds.{is_source};
 ghost use Rattle.audio_parts.specs.Kinds.{with_file};
-ghost use Rattle.audio_parts.specs.Sinking.{fresh};
+ghost use Rattle.part_forms.specs.Sinking.{fresh};
 
 use crate::any_part::AnyPart;
 use crate::part_file::PartFile;
@@ -92,7 +92,7 @@ impl<S: Source, K: Sink> AnyPart<S, K> {
     /// The frames of its file that a source hasn't given yet.
     pub fn left(&self) -> Option<u64>
         ensures value { result ≡ ⟦<AnyPart<S, K> as Part>⟧.left self.now }
-        ensures some { IsSome result ↔ (⟦<AnyPart<S, K> as Part>⟧.terms self.now).kind ≡ kinds.Source }
+        ensures some { is_some result ≡ is_source (⟦<AnyPart<S, K> as Part>⟧.terms self.now).kind }
         ensures empty { (⟦<AnyPart<S, K> as Part>⟧.terms self.now).file ≡ None → IfSome result (λ frames. frames ≡ 0) }
     {
         match self {

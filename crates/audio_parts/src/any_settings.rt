@@ -1,14 +1,14 @@
 //! A new part of any kind, and what its owner sets.
 ghost use Rattle.std.specs.Prelude.{◌≡◌, ◌+◌, ◌<◌, ◌≤◌, false, length, None, IfOk};
-ghost use Rattle.il_machine.specs.Settings.{IsSized};
+ghost use Rattle.part_forms.specs.Kinds.{IsSized};
 ghost use Rattle.audio_parts.specs.AnyParts.{file_of, read_of, written_of};
-ghost use Rattle.audio_parts.specs.Effects.{coder_kind};
+ghost use Rattle.part_forms.specs.Effects.{coder_kind};
 ghost use Rattle.audio_parts.specs.Kinds.{MayHave, default_terms, with_format, with_factor};
-ghost use Rattle.audio_parts.specs.Sinking.{reformatted};
+ghost use Rattle.part_forms.specs.Sinking.{reformatted};
 
 use crate::OutOfMemory;
 use crate::any_part::AnyPart;
-use crate::coder::{Decoding, Encoding, G711Decoder, G711Encoder, Law};
+use crate::coder::{Decoding, Encoding, G711Decoder, G711Encoder};
 use crate::gain::{Gain, Gaining};
 use crate::mixer::Mixer;
 use crate::splitter::{Splitter, Splitting};
@@ -17,6 +17,7 @@ use crate::wav_source::WavSource;
 use omx_types::{Format, Kind};
 use outside_io::{Sink, Source};
 use part_api::Part;
+use part_forms::Law;
 use std::alloc::Global;
 
 const PCM: Format = Format::Pcm {
@@ -78,7 +79,8 @@ impl<S: Source, K: Sink> AnyPart<S, K> {
         ensures writing { IfOk result (λ part. ⟦<AnyPart<S, K> as Part>⟧.writing part ≡ None) }
     {
         Ok(match kind {
-            Kind::Source => AnyPart::Source(WavSource::new(alloc, PCM)?),
+            Kind::Source => AnyPart::Source(WavSource::new(alloc, false, PCM)?),
+            Kind::Late => AnyPart::Source(WavSource::new(alloc, true, PCM)?),
             Kind::Decoder => {
                 let effect = Decoding::new(alloc, ALAW, PCM)?;
                 AnyPart::Decoder(G711Decoder::new(alloc, effect)?)

@@ -4,7 +4,7 @@ ghost use Rattle.audio_parts.specs.declared.any_part.AnyPart.TheVariants.{Source
 ghost use Rattle.audio_parts.specs.AnyParts.{has_failed, read_of, written_of};
 ghost use Rattle.audio_parts.specs.Causes.{ReadCause, WriteCause};
 ghost use Rattle.audio_parts.specs.Ready.{IsReady};
-ghost use Rattle.audio_parts.specs.Sinking.{writes_of};
+ghost use Rattle.part_forms.specs.Sinking.{writes_of};
 
 use crate::any_part::AnyPart;
 use crate::coder::{G711Decoder, G711Encoder};

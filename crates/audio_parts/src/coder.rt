@@ -1,56 +1,48 @@
 //! The two laws of G.711, code by code.
 ghost use Rattle.std.specs.Prelude.{◌≡◌, ◌*◌, ◌≤◌, [], ◌∷◌, length, map, vec_len, IfOk, None};
 ghost use Rattle.omx_types.specs.declared.kind.Kind.TheVariants as kinds;
-ghost use Rattle.audio_parts.specs.Effects.{decoded, encoded, value_of, code_of, law_of, coder_kind};
-ghost use Rattle.audio_parts.specs.Manners.{decoding, encoding};
+ghost use Rattle.part_forms.specs.Effects.{decoded, encoded, value_of, code_of, law_of, coder_kind};
+ghost use Rattle.part_forms.specs.Manners.{decoding, encoding};
 
 use crate::OutOfMemory;
 use crate::effect::Effect;
 use crate::one_input::OneInput;
 use g711_law::{alaw_decode_all, alaw_encode_all, mulaw_decode_all, mulaw_encode_all};
 use omx_types::Format;
+use part_forms::Law;
 use pcm_ops::{bytes_of, samples_of};
 use std::alloc::Global;
 
-/// A law of G.711.
-#[derive(Clone, Copy, Debug, PartialEq, Eq)]
-pub enum Law {
-    ALaw,
-    MuLaw,
+/// The law of coded samples.
+fn law_of(format: Format) -> Law
+    ensures { result ≡ law_of format }
+{
+    match format {
+        Format::Mulaw {
+            rate: _,
+            channels: _,
+        } => Law::MuLaw,
+        _ => Law::ALaw,
+    }
 }
 
-impl Law {
-    /// The law of coded samples.
-    fn of(format: Format) -> Law
-        ensures { result ≡ law_of format }
-    {
-        match format {
-            Format::Mulaw {
-                rate: _,
-                channels: _,
-            } => Law::MuLaw,
-            _ => Law::ALaw,
-        }
+fn decode(law: Law, from: &[u8], to: &mut [i16])
+    requires { length from.now ≡ length to.old }
+    ensures { to.new ≡ map (value_of law) from.now }
+{
+    match law {
+        Law::ALaw => alaw_decode_all(from, to),
+        Law::MuLaw => mulaw_decode_all(from, to),
     }
+}
 
-    fn decode(self, from: &[u8], to: &mut [i16])
-        requires { length from.now ≡ length to.old }
-        ensures { to.new ≡ map (value_of self) from.now }
-    {
-        match self {
-            Law::ALaw => alaw_decode_all(from, to),
-            Law::MuLaw => mulaw_decode_all(from, to),
-        }
-    }
-
-    fn encode(self, from: &[i16], to: &mut [u8])
-        requires { length from.now ≡ length to.old }
-        ensures { to.new ≡ map (code_of self) from.now }
-    {
-        match self {
-            Law::ALaw => alaw_encode_all(from, to),
-            Law::MuLaw => mulaw_encode_all(from, to),
-        }
+fn encode(law: Law, from: &[i16], to: &mut [u8])
+    requires { length from.now ≡ length to.old }
+    ensures { to.new ≡ map (code_of law) from.now }
+{
+    match law {
+        Law::ALaw => alaw_encode_all(from, to),
+        Law::MuLaw => mulaw_encode_all(from, to),
     }
 }
 
@@ -117,7 +109,7 @@ fn decode_bytes(law: Law, from: &[u8], samples: &mut [i16], to: &mut [u8])
     requires to { length to.old ≡ 2 * length samples.old }
     ensures { to.new ≡ decoded law from.now }
 {
-    law.decode(from, samples);
+    decode(law, from, samples);
     bytes_of(samples, to);
 }
 
@@ -127,7 +119,7 @@ fn encode_bytes(law: Law, from: &[u8], samples: &mut [i16], to: &mut [u8])
     ensures { to.new ≡ encoded law from.now }
 {
     samples_of(from, samples);
-    law.encode(samples, to);
+    encode(law, samples, to);
 }
 
 /// `decode_bytes` with the front of the register.
@@ -164,7 +156,7 @@ impl Effect for Decoding {
     }
 
     fn apply(&mut self, count: usize, from: &[u8], to: &mut [u8]) {
-        decode_front(Law::of(self.input), from, &mut self.samples, count, to);
+        decode_front(law_of(self.input), from, &mut self.samples, count, to);
     }
 
     fn set_format(&mut self, port: u32, format: Format) {

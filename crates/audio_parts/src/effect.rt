@@ -1,7 +1,7 @@
 ghost use Rattle.std.specs.Prelude.{◌≡◌, ℕ, ◌*◌, ◌≤◌, List, ◌++◌, length, ◌+◌, ◌<◌};
 ghost use Rattle.part_api.specs.Terms.{Terms};
 ghost use Rattle.audio_parts.specs.Kinds.{with_format};
-ghost use Rattle.audio_parts.specs.Manners.{Manner};
+ghost use Rattle.part_forms.specs.Manners.{Manner};
 
 use omx_types::Format;
 

@@ -1,7 +1,7 @@
 ghost use Rattle.std.specs.Prelude.{◌≡◌, ◌*◌, ◌≤◌, [], ◌∷◌, length, vec_len, IfOk, None};
 ghost use Rattle.omx_types.specs.declared.kind.Kind.TheVariants as kinds;
-ghost use Rattle.audio_parts.specs.Effects.{gained_bytes};
-ghost use Rattle.audio_parts.specs.Manners.{gaining};
+ghost use Rattle.part_forms.specs.Effects.{gained_bytes};
+ghost use Rattle.part_forms.specs.Manners.{gaining};
 
 use crate::OutOfMemory;
 use crate::effect::Effect;

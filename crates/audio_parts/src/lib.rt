@@ -23,7 +23,7 @@ mod wav_source;
 mod writes;
 
 pub use any_part::AnyPart;
-pub use coder::{Decoding, Encoding, G711Decoder, G711Encoder, Law};
+pub use coder::{Decoding, Encoding, G711Decoder, G711Encoder};
 pub use effect::Effect;
 pub use gain::{Gain, Gaining};
 pub use laws::{
@@ -32,6 +32,7 @@ pub use laws::{
 };
 pub use mixer::Mixer;
 pub use one_input::OneInput;
+pub use part_forms::Law;
 pub use part_file::PartFile;
 pub use sink_file::SinkFile;
 pub use source_file::SourceFile;

@@ -3,7 +3,7 @@ ghost use Rattle.std.specs.Simd.Lanes.{zip2};
 ghost use Rattle.omx_types.specs.Formats.{channels_of};
 ghost use Rattle.omx_types.specs.declared.kind.Kind.TheVariants as kinds;
 ghost use Rattle.pcm_ops.specs.Samples.{samples, bytes, mixed, clamped, IsSum};
-ghost use Rattle.audio_parts.specs.Mixing.{mixing, Carries};
+ghost use Rattle.part_forms.specs.Mixing.{mixing, Carries};
 
 use crate::OutOfMemory;
 use omx_types::{Format, PartFault};

@@ -1,6 +1,6 @@
 ghost use Rattle.std.specs.Prelude.{◌≡◌, ◌+◌, ◌*◌, ◌<◌, ◌≤◌, false, length, take, vec_len, IfOk, None, []};
 ghost use Rattle.audio_parts.specs.Kinds.{with_format};
-ghost use Rattle.audio_parts.specs.Manners.{through};
+ghost use Rattle.part_forms.specs.Manners.{through};
 
 use crate::OutOfMemory;
 use crate::effect::Effect;

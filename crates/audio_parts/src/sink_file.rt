@@ -4,7 +4,7 @@ ghost use Rattle.omx_types.specs.Formats.{IsWithinLimits, frame_bytes_of};
 ghost use Rattle.outside_io.specs.Moves.{AppendsFront};
 ghost use Rattle.audio_parts.specs.Causes.{HasWriteCause};
 ghost use Rattle.audio_parts.specs.declared.part_file.PartFile.TheVariants.{To};
-ghost use Rattle.audio_parts.specs.Sinking.{sink_text, is_last_among};
+ghost use Rattle.part_forms.specs.Sinking.{sink_text, is_last_among};
 
 use crate::part_file::PartFile;
 use crate::writes::write_step;

@@ -4,7 +4,7 @@ ghost use Rattle.outside_io.specs.Moves.{WhereTold};
 ghost use Rattle.part_api.specs.Steps.{ComesFirst};
 ghost use Rattle.audio_parts.specs.Causes.{HasReadCause};
 ghost use Rattle.audio_parts.specs.declared.part_file.PartFile.TheVariants.{From};
-ghost use Rattle.audio_parts.specs.Files.{rest_of};
+ghost use Rattle.part_forms.specs.Files.{rest_of};
 
 use crate::part_file::PartFile;
 use crate::reads::read_frames;

@@ -1,7 +1,7 @@
 ghost use Rattle.std.specs.Prelude.{◌≡◌, [], ◌∷◌, vec_len, None};
 ghost use Rattle.omx_types.specs.declared.kind.Kind.TheVariants as kinds;
-ghost use Rattle.audio_parts.specs.Effects.{width_of};
-ghost use Rattle.audio_parts.specs.Manners.{splitting};
+ghost use Rattle.part_forms.specs.Effects.{width_of};
+ghost use Rattle.part_forms.specs.Manners.{splitting};
 
 use crate::effect::Effect;
 use crate::one_input::OneInput;

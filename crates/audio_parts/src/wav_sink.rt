@@ -4,7 +4,7 @@ ghost use Rattle.omx_types.specs.Formats.{IsWithinLimits, frame_bytes_of};
 ghost use Rattle.audio_parts.specs.Causes.{WriteCause};
 ghost use Rattle.audio_parts.specs.FileParts.{sink_terms, writing_of};
 ghost use Rattle.audio_parts.specs.Ready.{IsReady};
-ghost use Rattle.audio_parts.specs.Sinking.{sinking, sink_sizes, writes_of};
+ghost use Rattle.part_forms.specs.Sinking.{sinking, sink_sizes, writes_of};
 
 use crate::OutOfMemory;
 use crate::register::{clear_front, set_front};

@@ -3,7 +3,7 @@ ghost use Rattle.std.specs.Option.{ForSome};
 ghost use Rattle.omx_types.specs.Formats.{IsWithinLimits, frame_bytes_of};
 ghost use Rattle.audio_parts.specs.Causes.{ReadCause};
 ghost use Rattle.audio_parts.specs.FileParts.{source_terms};
-ghost use Rattle.audio_parts.specs.Files.{sourcing, rest_of, none_left};
+ghost use Rattle.part_forms.specs.Files.{sourcing, rest_of, none_left};
 ghost use Rattle.audio_parts.specs.Ready.{IsReady};
 
 use crate::OutOfMemory;
@@ -17,6 +17,8 @@ use std::alloc::Global;
 /// The frames of a file, where it has one.
 #[derive(Drop)]
 pub struct WavSource<S: Source> {
+    /// It tells its file's format while it runs.
+    late: bool,
     file: Option<SourceFile<S>>,
     /// The format of its output.
     format: Format,
@@ -40,14 +42,16 @@ pub struct WavSource<S: Source> {
 
 impl<S: Source> WavSource<S> {
     /// A source without a file.
-    pub(crate) fn new(alloc: Global, format: Format) -> Result<WavSource<S>, OutOfMemory>
+    pub(crate) fn new(alloc: Global, late: bool, format: Format) -> Result<WavSource<S>, OutOfMemory>
         requires { IsWithinLimits format }
+        ensures late { IfOk result (λ part. part.late ≡ late) }
         ensures file { IfOk result (λ part. part.file ≡ None) }
         ensures format { IfOk result (λ part. part.format ≡ format) }
         ensures failed { IfOk result (λ part. part.failed ≡ false) }
     {
         let register = vec![in alloc; 0; 8192]?;
         Ok(WavSource {
+            late,
             file: None,
             format,
             register,
@@ -64,6 +68,7 @@ impl<S: Source> WavSource<S> {
         ensures frames { self.new.frames ≡ 0 }
         ensures length { self.new.length ≡ 0 }
         ensures file { self.new.file ≡ self.old.file }
+        ensures late { self.new.late ≡ self.old.late }
         ensures format { self.new.format ≡ self.old.format }
         ensures failed { self.new.failed ≡ self.old.failed }
     {
@@ -75,6 +80,7 @@ impl<S: Source> WavSource<S> {
     /// Sets the format of its output. A step that was begun is given up.
     pub(crate) fn set_format(&mut self, format: Format)
         requires { IsWithinLimits format }
+        ensures late { self.new.late ≡ self.old.late }
         ensures format { self.new.format ≡ format }
         ensures file { self.new.file ≡ self.old.file }
         ensures failed { self.new.failed ≡ self.old.failed }
@@ -88,6 +94,7 @@ impl<S: Source> WavSource<S> {
         requires free { self.old.file ≡ None }
         requires there { S.place source + frames * frame_bytes_of format ≤ S.size source }
         ensures file { self.new.file ≡ Some (record { source = source; format = format; attached = frames; left = frames; next = S.place source }) }
+        ensures late { self.new.late ≡ self.old.late }
         ensures format { self.new.format ≡ self.old.format }
         ensures failed { self.new.failed ≡ self.old.failed }
     {
@@ -102,6 +109,7 @@ impl<S: Source> WavSource<S> {
     pub(crate) fn detach(&mut self) -> Option<SourceFile<S>>
         ensures value { result ≡ self.old.file }
         ensures file { self.new.file ≡ None }
+        ensures late { self.new.late ≡ self.old.late }
         ensures format { self.new.format ≡ self.old.format }
         ensures failed { self.new.failed ≡ self.old.failed }
     {
@@ -114,6 +122,7 @@ impl<S: Source> WavSource<S> {
         ensures { result ≡ self.file }
     {
         let WavSource {
+            late: _,
             file,
             format: _,
             register: _,
@@ -143,11 +152,11 @@ impl<S: Source> Part for WavSource<S> {
 
     ghost carries = { λ part incoming. take part.length part.register.items ≡ incoming.file };
 
-    ghost terms = { λ part. source_terms part.format part.file };
+    ghost terms = { λ part. source_terms part.late part.format part.file };
 
     ghost failed = { λ part. part.failed };
 
-    ghost is_ready = { λ part. IsReady (source_terms part.format part.file) part.failed };
+    ghost is_ready = { λ part. IsReady (source_terms part.late part.format part.file) part.failed };
 
     // It has no input, as `AnyPart` says; a call for one is harmless.
     ghost can_take = { λ part input. Unit {0} };

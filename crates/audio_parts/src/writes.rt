@@ -4,7 +4,7 @@ ghost use Rattle.std.specs.Io.KnownBytes.{append_known};
 ghost use Rattle.omx_types.specs.Formats.{IsWithinLimits, frame_bytes_of};
 ghost use Rattle.outside_io.specs.Moves.{AppendsFront};
 ghost use Rattle.audio_parts.specs.Causes.{HasWriteCause};
-ghost use Rattle.audio_parts.specs.Sinking.{head_due, pad_due, step_text};
+ghost use Rattle.part_forms.specs.Sinking.{head_due, pad_due, step_text};
 
 use omx_types::{Format, PartFault};
 use outside_io::{Sink, write_all};

@@ -4,7 +4,7 @@ use Rattle.std.proofs.lemmas.List.{length-take-le}
 use Rattle.std.proofs.Math.Nat.{mul-div_cancel}
 use Rattle.omx_types.specs.declared.format.Format.{Format}
 use Rattle.omx_types.specs.Formats.{frame_bytes_of}
-use Rattle.wav_form.specs.Writing.{written, head_of, pad_of}
+use Rattle.part_forms.specs.Writing.{written, head_of, pad_of}
 use Rattle.il_graph.specs.declared.pair.Pair.{Pair}
 use Rattle.il_graph.specs.declared.pair.sink_part.SinkPart.{SinkPart}
 use Rattle.il_graph.specs.declared.pair.source_part.SourcePart.{SourcePart}

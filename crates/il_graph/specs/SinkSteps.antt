@@ -2,7 +2,7 @@
 use Rattle.std.specs.Prelude.{◌≡◌, ℕ, ◌*◌, Bool, true, false, List, [], ◌++◌}
 use Rattle.omx_types.specs.declared.format.Format.{Format}
 use Rattle.omx_types.specs.Formats.{frame_bytes_of}
-use Rattle.wav_form.specs.Writing.{head_of, pad_of}
+use Rattle.part_forms.specs.Writing.{head_of, pad_of}
 use Rattle.il_graph.specs.declared.pair.sink_part.Progress.{Progress}
 use Rattle.il_graph.specs.declared.pair.sink_part.Progress.TheVariants.{Fresh, Headed, Over}
 use Rattle.il_graph.specs.declared.pair.sink_part.SinkPart.{SinkPart}

@@ -34,7 +34,7 @@ impl<S: Source, K: Sink> Pair<S, K> {
     ghost use Rattle.std.specs.Io.KnownBytes.{append_known};
     ghost use Rattle.omx_types.specs.Formats.{IsWithinLimits, frame_bytes_of};
     ghost use Rattle.outside_io.specs.Moves.{WhereTold, AppendsFront};
-    ghost use Rattle.wav_form.specs.Writing.{written};
+    ghost use Rattle.part_forms.specs.Writing.{written};
     ghost use Rattle.il_graph.specs.Causes.{HasReadCause, HasWriteCause, HasPlayCause};
     ghost use Rattle.il_graph.specs.Headers.{Held, both_waiting, Passes, PassesCleared};
     ghost use Rattle.il_graph.specs.Playing.{source_of, sink_of, queues, next_of, end_of, has_ended, has_over, due, KeepsSource, KeepsSink, HasFilled, HasStayed, HasDrained, IsFilledFrom, Pays, acts_left};

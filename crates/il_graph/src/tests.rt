@@ -244,6 +244,8 @@ fn notes_told(rt: HostRuntime) -> Result<(), Fail> {
         state: Some(State::Idle),
         eos: false,
         error: None,
+        settings: None,
+        port: Some(Completion::Disable(1)),
     };
     assert_eq!(rt; graph.progress(gain), Ok(Some(progress)));
     graph.dispose();

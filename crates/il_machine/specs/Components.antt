@@ -11,6 +11,7 @@ use Rattle.omx_types.specs.declared.error.OmxError.TheVariants as errors
 use Rattle.omx_types.specs.declared.error.CallError.{CallError}
 use Rattle.omx_types.specs.declared.command.Event.{Event}
 use Rattle.omx_types.specs.declared.command.Event.TheVariants as events
+use Rattle.omx_types.specs.declared.command.Completion.{Completion}
 use Rattle.omx_types.specs.declared.command.Completion.TheVariants as completions
 use Rattle.omx_types.specs.declared.command.Note.{Note}
 use Rattle.omx_types.specs.declared.command.Note.TheVariants.{Told, EmptyDone, FillDone}
@@ -114,7 +115,7 @@ handle_at place l = option_map (λ c. c.handle) (slice_get l.components place)
 -- ---- progress
 
 abbrev pub no_progress : Progress
-no_progress = record { state = None; eos = false; error = None }
+no_progress = record { state = None; eos = false; error = None; settings = None; port = None }
 
 abbrev pub first_error : Option OmxError → OmxError → Option OmxError
 first_error None error = Some error
@@ -124,16 +125,21 @@ first_error (Some earlier) error = Some earlier
 abbrev pub has_eos : ℕ → Bool
 has_eos flags = nat_eq (flags % 2) 1
 
--- the last state reached, whether a stream's end was told, and the first error
+-- the disable or enable that was done last
+abbrev pub port_done : Completion → Progress → Progress
+port_done completion p = record p { port = Some completion }
+
+-- the last state reached, whether a stream's end was told, the first error, the port whose settings changed last, and the last disable
+-- or enable
 abbrev pub moved_by : Event → Progress → Progress
 moved_by (events.CmdComplete (completions.State s)) p = record p { state = Some s }
 moved_by (events.CmdComplete (completions.Flush port)) p = p
-moved_by (events.CmdComplete (completions.Disable port)) p = p
-moved_by (events.CmdComplete (completions.Enable port)) p = p
+moved_by (events.CmdComplete (completions.Disable port)) p = port_done (completions.Disable port) p
+moved_by (events.CmdComplete (completions.Enable port)) p = port_done (completions.Enable port) p
 moved_by (events.CmdComplete (completions.Mark port)) p = p
 moved_by (events.Error error) p = record p { error = first_error p.error error }
 moved_by (events.Mark value) p = p
-moved_by (events.PortSettingsChanged port) p = p
+moved_by (events.PortSettingsChanged port) p = record p { settings = Some port }
 moved_by (events.BufferFlag port flags) p = record p { eos = p.eos || has_eos flags }
 moved_by events.ResourcesAcquired p = p
 

@@ -1,9 +1,9 @@
--- The kinds of component: their names, their ports and the formats of these, in the order of a table.
-use Rattle.std.specs.Prelude.{ℕ, ◌+◌, Bool, true, false, ◌||◌, nat_lt, List, [], ◌∷◌, Option, option_map, codes, find}
+-- The names of the kinds of component, in the order of a table. Their ports and the formats of these are passed on.
+use Rattle.std.specs.Prelude.{ℕ, List, [], ◌∷◌, Option, option_map, codes, find, Bool}
 use Rattle.omx_types.specs.declared.kind.Kind.{Kind}
 use Rattle.omx_types.specs.declared.kind.Kind.TheVariants.{Source, Decoder, Alaw, Mulaw, Gain, Mixer, Splitter, Sink}
-use Rattle.omx_types.specs.declared.format.Format.{Format}
-use Rattle.omx_types.specs.declared.format.Format.TheVariants as formats
+pub use Rattle.omx_types.specs.Formats.{is_pcm, is_alaw, is_mulaw, is_auto}
+pub use Rattle.part_forms.specs.Kinds.{inputs_of, outputs_of, ports_in, is_input, is_source, is_late, is_input_format, is_output_format, is_format_of}
 use Rattle.il_machine.specs.Lists.{same_numbers}
 
 -- each name with the kind that it makes
@@ -37,68 +37,3 @@ has_name name row = same_numbers row.0 name
 -- the kind of the name, where the table has it
 abbrev pub kind_of : List ℕ → Option Kind
 kind_of name = option_map (λ row. row.1) (find (has_name name) named_kinds)
-
-abbrev pub inputs_of : Kind → ℕ
-inputs_of Source = 0
-inputs_of Decoder = 1
-inputs_of Alaw = 1
-inputs_of Mulaw = 1
-inputs_of Gain = 1
-inputs_of (Mixer inputs) = inputs
-inputs_of (Splitter outputs) = 1
-inputs_of Sink = 1
-
-abbrev pub outputs_of : Kind → ℕ
-outputs_of Source = 1
-outputs_of Decoder = 1
-outputs_of Alaw = 1
-outputs_of Mulaw = 1
-outputs_of Gain = 1
-outputs_of (Mixer inputs) = 1
-outputs_of (Splitter outputs) = outputs
-outputs_of Sink = 0
-
-abbrev pub ports_in : Kind → ℕ
-ports_in kind = inputs_of kind + outputs_of kind
-
--- inputs are numbered from 0, then come the outputs
-abbrev pub is_input : Kind → ℕ → Bool
-is_input kind port = nat_lt port (inputs_of kind)
-
-abbrev pub is_pcm : Format → Bool
-is_pcm (formats.Pcm rate channels) = true
-is_pcm _ = false
-
-abbrev pub is_alaw : Format → Bool
-is_alaw (formats.Alaw rate channels) = true
-is_alaw _ = false
-
-abbrev pub is_mulaw : Format → Bool
-is_mulaw (formats.Mulaw rate channels) = true
-is_mulaw _ = false
-
--- the formats that an input of the kind may have
-abbrev pub is_input_format : Kind → Format → Bool
-is_input_format Source format = false
-is_input_format Decoder format = is_alaw format || is_mulaw format
-is_input_format Alaw format = is_pcm format
-is_input_format Mulaw format = is_pcm format
-is_input_format Gain format = is_pcm format
-is_input_format (Mixer inputs) format = is_pcm format
-is_input_format (Splitter outputs) format = true
-is_input_format Sink format = true
-
--- the formats that an output of the kind may have
-abbrev pub is_output_format : Kind → Format → Bool
-is_output_format Source format = true
-is_output_format Decoder format = is_pcm format
-is_output_format Alaw format = is_alaw format
-is_output_format Mulaw format = is_mulaw format
-is_output_format Gain format = is_pcm format
-is_output_format (Mixer inputs) format = is_pcm format
-is_output_format (Splitter outputs) format = true
-is_output_format Sink format = false
-
-abbrev pub is_format_of : Kind → Bool → Format → Bool
-is_format_of kind true format = is_input_format kind format
-is_format_of kind false format = is_output_format kind format

@@ -6,7 +6,7 @@ use Rattle.std.proofs.Math.ListN.{get_or}
 use Rattle.omx_types.specs.declared.kind.Kind.{Kind}
 use Rattle.omx_types.specs.declared.kind.Kind.TheVariants.{Gain as GainKind, Mixer, Splitter}
 use Rattle.omx_types.specs.declared.format.Format.{Format}
-use Rattle.omx_types.specs.declared.format.Format.TheVariants.{Pcm, Alaw, Mulaw}
+use Rattle.omx_types.specs.declared.format.Format.TheVariants.{Pcm, Alaw, Mulaw, Auto}
 use Rattle.omx_types.specs.declared.error.OmxError.{OmxError}
 use Rattle.omx_types.specs.declared.error.OmxError.TheVariants as errors
 use Rattle.omx_types.specs.declared.param.PortDefinition.{PortDefinition}
@@ -16,6 +16,8 @@ use Rattle.omx_types.specs.declared.param.ParamKey.{ParamKey}
 use Rattle.omx_types.specs.declared.param.Supplier.TheVariants.{Unspecified}
 use Rattle.omx_types.specs.declared.param.Version.{Version}
 use Rattle.omx_types.specs.Formats.{rate_of, channels_of, frame_bytes_of}
+pub use Rattle.part_forms.specs.Kinds.{IsSized}
+use Rattle.part_forms.specs.Kinds.{known_format}
 use Rattle.il_machine.specs.declared.port.PortSetting.{PortSetting}
 use Rattle.il_machine.specs.Lists.{all_of, first_of_these}
 use Rattle.il_machine.specs.Kinds.{inputs_of, outputs_of, ports_in, is_input, is_format_of}
@@ -28,20 +30,10 @@ pub record Settings : Type 0 where
   -- one weight for each input of a mixer
   pub weights : List ℕ
 
--- a mixer has 2 to 8 inputs, a splitter 2 to 8 outputs
-abbrev pub IsSized : Kind → Type 0
-IsSized (Mixer inputs) = (2 ≤ inputs) × (inputs ≤ 8)
-IsSized (Splitter outputs) = (2 ≤ outputs) × (outputs ≤ 8)
-IsSized _ = Unit {0}
-
 -- ---- defaults
 
--- PCM where the port may have it, else A-law, else mu-law, with one channel of 8,000 samples a second
 abbrev pub default_format : Kind → Bool → Format
-default_format kind input =
-    if is_format_of kind input (Pcm 8000 1) then Pcm 8000 1
-    else if is_format_of kind input (Alaw 8000 1) then Alaw 8000 1
-    else Mulaw 8000 1
+default_format kind input = known_format kind input
 
 abbrev pub default_setting : Kind → Bool → PortSetting
 default_setting kind input = record { definition = record { input = input; format = default_format kind input; count = 2; size = 4096 }; supplier = Unspecified }
@@ -143,6 +135,7 @@ abbrev pub same_format : Format → Format → Bool
 same_format (Pcm rate channels) (Pcm rate' channels') = nat_eq rate rate' && nat_eq channels channels'
 same_format (Alaw rate channels) (Alaw rate' channels') = nat_eq rate rate' && nat_eq channels channels'
 same_format (Mulaw rate channels) (Mulaw rate' channels') = nat_eq rate rate' && nat_eq channels channels'
+same_format Auto Auto = true
 same_format _ _ = false
 
 -- every number is in its limits, a header has one frame at least, and the direction is the port's

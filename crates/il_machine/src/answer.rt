@@ -1,4 +1,4 @@
-use omx_types::{OmxError, PortId, State};
+use omx_types::{Completion, OmxError, PortId, State};
 
 /// Why an act changed nothing.
 #[derive(Clone, Copy, Debug, PartialEq, Eq)]
@@ -42,10 +42,13 @@ pub struct Pending {
     pub cause: Cause,
 }
 
-/// What a client object has been told: the last state reached, whether a stream's end was told, and the first error.
+/// What a client object has been told: the last state reached, whether a stream's end was told, the first error,
+/// the port whose settings changed last, and the last disable or enable that was done.
 #[derive(Clone, Copy, Debug, PartialEq, Eq)]
 pub struct Progress {
     pub state: Option<State>,
     pub eos: bool,
     pub error: Option<OmxError>,
+    pub settings: Option<u32>,
+    pub port: Option<Completion>,
 }

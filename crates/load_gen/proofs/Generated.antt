@@ -6,7 +6,7 @@ use Rattle.std.specs.Io.KnownBytes.{append_known}
 use Rattle.byteorder.specs.Endian.{little_bytes}
 use Rattle.outside_io.specs.Moves.{AppendsFront}
 use Rattle.outside_io.proofs.Known.{append_known-twice}
-use Rattle.wav_form.specs.Writing.{head_of}
+use Rattle.part_forms.specs.Writing.{head_of}
 use Rattle.load_gen.specs.Samples.{next, after, samples, format, wav_from}
 
 pub length-samples : (frames x : ℕ) → length (samples frames x) ≡ 2 * frames

@@ -3,7 +3,7 @@ use Rattle.std.specs.Prelude.{ℕ, zero, suc, ◌+◌, ◌*◌, ◌/◌, ◌%◌
 use Rattle.byteorder.specs.Endian.{little_bytes}
 use Rattle.omx_types.specs.declared.format.Format.{Format}
 use Rattle.omx_types.specs.declared.format.Format.TheVariants.{Pcm}
-use Rattle.wav_form.specs.Writing.{written}
+use Rattle.part_forms.specs.Writing.{written}
 
 -- the number after a number
 abbrev pub next : ℕ → ℕ

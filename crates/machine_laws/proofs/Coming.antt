@@ -6,7 +6,7 @@ use Rattle.std.proofs.lemmas.List.Sums.{sum_by-cons}
 use Rattle.std.proofs.lemmas.Bool.{cases_eq}
 use Rattle.omx_types.specs.declared.handle.Handle.{Handle}
 use Rattle.omx_types.specs.declared.kind.Kind.{Kind}
-use Rattle.omx_types.specs.declared.kind.Kind.TheVariants.{Source, Decoder, Alaw, Mulaw, Gain, Mixer, Splitter, Sink}
+use Rattle.omx_types.specs.declared.kind.Kind.TheVariants.{Source, Decoder, Alaw, Mulaw, Gain, Mixer, Splitter, Sink, Late}
 use Rattle.il_machine.specs.declared.port.Port.{Port}
 use Rattle.il_machine.specs.declared.port.PortSetting.{PortSetting}
 use Rattle.il_machine.specs.declared.header.Owner.TheVariants as owners
@@ -123,6 +123,8 @@ default_definition (Splitter n) true = refl
 default_definition (Splitter n) false = refl
 default_definition Sink true = refl
 default_definition Sink false = refl
+default_definition Late true = refl
+default_definition Late false = refl
 
 input_format : (kind : Kind) → 0 < inputs_of kind → is_format_of kind true (default_setting kind true).definition.format ≡ true
 input_format Source h = absurd (omega arith)
@@ -133,6 +135,7 @@ input_format Gain h = refl
 input_format (Mixer n) h = refl
 input_format (Splitter n) h = refl
 input_format Sink h = refl
+input_format Late h = absurd (omega arith)
 
 output_format : (kind : Kind) → 0 < outputs_of kind → is_format_of kind false (default_setting kind false).definition.format ≡ true
 output_format Source h = refl
@@ -143,6 +146,7 @@ output_format Gain h = refl
 output_format (Mixer n) h = refl
 output_format (Splitter n) h = refl
 output_format Sink h = absurd (omega arith)
+output_format Late h = refl
 
 default_lawful : (kind : Kind) (port : ℕ) (setting : PortSetting) → slice_get (default_settings kind).ports port ≡ Some setting → IsLawfulSetting (default_settings kind) port setting
 default_lawful kind port setting e = elim (at_two_replicas (inputs_of kind) (outputs_of kind) port (default_setting kind true) (default_setting kind false) setting e) [

@@ -4,7 +4,7 @@ use Rattle.omx_types.specs.declared.param.PortDefinition.{PortDefinition}
 use Rattle.omx_types.specs.declared.param.Supplier.{Supplier}
 use Rattle.omx_types.specs.declared.param.Supplier.TheVariants.{Unspecified, Input, Output}
 use Rattle.omx_types.specs.declared.format.Format.{Format}
-use Rattle.omx_types.specs.declared.format.Format.TheVariants.{Pcm, Alaw, Mulaw}
+use Rattle.omx_types.specs.declared.format.Format.TheVariants.{Pcm, Alaw, Mulaw, Auto}
 use Rattle.omx_types.specs.Formats.{frame_bytes_of}
 use Rattle.il_machine.specs.declared.port.PortKey.{PortKey}
 use Rattle.il_machine.specs.declared.port.Link.{Link}
@@ -103,6 +103,13 @@ same_format_sym (Alaw r n) (Pcm s m) h = absurd cc
 same_format_sym (Alaw r n) (Mulaw s m) h = absurd cc
 same_format_sym (Mulaw r n) (Pcm s m) h = absurd cc
 same_format_sym (Mulaw r n) (Alaw s m) h = absurd cc
+same_format_sym Auto Auto h = refl
+same_format_sym Auto (Pcm s m) h = absurd cc
+same_format_sym Auto (Alaw s m) h = absurd cc
+same_format_sym Auto (Mulaw s m) h = absurd cc
+same_format_sym (Pcm r n) Auto h = absurd cc
+same_format_sym (Alaw r n) Auto h = absurd cc
+same_format_sym (Mulaw r n) Auto h = absurd cc
 
 -- ---- one end
 

@@ -52,6 +52,8 @@ impl ProgressClient {
                 state: None,
                 eos: false,
                 error: None,
+                settings: None,
+                port: None,
             },
         }
     }
@@ -73,6 +75,13 @@ fn moved(progress: Progress, event: Event) -> Progress
     let mut next = progress;
     match event {
         Event::CmdComplete(Completion::State(state)) => next.state = Some(state),
+        Event::CmdComplete(Completion::Disable(port)) => {
+            next.port = Some(Completion::Disable(port));
+        }
+        Event::CmdComplete(Completion::Enable(port)) => {
+            next.port = Some(Completion::Enable(port));
+        }
+        Event::PortSettingsChanged(port) => next.settings = Some(port),
         Event::Error(error) => next.error = first_error(progress.error, error),
         Event::BufferFlag { port: _, flags } => next.eos = progress.eos || flags % 2 == 1,
         _ => {}

@@ -56,7 +56,9 @@ fn keeps_what_was_told(rt: HostRuntime) {
         Progress {
             state,
             eos: false,
-            error: None
+            error: None,
+            settings: None,
+            port: None
         }
     );
     assert_eq!(rt;
@@ -64,6 +66,25 @@ fn keeps_what_was_told(rt: HostRuntime) {
         (Some(OmxError::Hardware), Some(OmxError::Hardware))
     );
     assert_eq!(rt; (no_end, end), (false, true));
+    let disabled = Event::CmdComplete(Completion::Disable(1));
+    let enabled = Event::CmdComplete(Completion::Enable(0));
+    let flushed = Event::CmdComplete(Completion::Flush(1));
+    let ports = (
+        after(&mut client, disabled).port,
+        after(&mut client, enabled).port,
+        after(&mut client, flushed).port,
+    );
+    assert_eq!(rt;
+        ports,
+        (
+            Some(Completion::Disable(1)),
+            Some(Completion::Enable(0)),
+            Some(Completion::Enable(0))
+        )
+    );
+    let changed = after(&mut client, Event::PortSettingsChanged(1)).settings;
+    let kept = after(&mut client, IDLE).settings;
+    assert_eq!(rt; (changed, kept), (Some(1), Some(1)));
 }
 
 #[test]

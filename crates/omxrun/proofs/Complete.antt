@@ -57,18 +57,24 @@ last-of_script script log old new source sink bytes (Faults.Absent Files.Script)
 last-of_script script log old new source sink bytes (Faults.Absent Files.Log) can none caused is = absurd is
 last-of_script script log old new source sink bytes (Faults.Absent (Files.Line line)) can none caused is = absurd is
 last-of_script script log old new source sink bytes (Faults.Absent (Files.Made number)) can none caused is = absurd is
+last-of_script script log old new source sink bytes (Faults.Absent Files.Input) can none caused is = absurd is
+last-of_script script log old new source sink bytes (Faults.Absent Files.Output) can none caused is = absurd is
 last-of_script script log old new source sink bytes Faults.OutOfMemory can none caused is = tt
 last-of_script script log old new source sink bytes (Faults.Short Files.Script at size) can none caused is =
     absurd (let end = is.stopped can.given.end can.given.told_end in let whole = is.whole can.text can.given.held in let all = can.given.whole in omega (arith, end, whole, all, caused))
 last-of_script script log old new source sink bytes (Faults.Short Files.Log at size) can none caused is = absurd is
 last-of_script script log old new source sink bytes (Faults.Short (Files.Line line) at size) can none caused is = absurd is
 last-of_script script log old new source sink bytes (Faults.Short (Files.Made number) at size) can none caused is = absurd is
+last-of_script script log old new source sink bytes (Faults.Short Files.Input at size) can none caused is = absurd is
+last-of_script script log old new source sink bytes (Faults.Short Files.Output at size) can none caused is = absurd is
 last-of_script script log old new source sink bytes (Faults.NotBuilt what) can none caused is = absurd (is can.text can.given.held source sink can.tunnel)
 last-of_script script log old new source sink bytes (Faults.Script line why) can none caused is = absurd caused
 last-of_script script log old new source sink bytes Faults.Usage can none caused is = absurd caused
 last-of_script script log old new source sink bytes (Faults.BadMedia which fault) can none caused is = absurd is
 last-of_script script log old new source sink bytes Faults.WriteFault can none caused is = absurd is
 last-of_script script log old new source sink bytes (Faults.Units have need) can none caused is = absurd caused
+last-of_script script log old new source sink bytes (Faults.Packets why) can none caused is = absurd caused
+last-of_script script log old new source sink bytes (Faults.NotRun line why) can none caused is = absurd caused
 
 last-of_ends : (script log : List ℕ) (old new : Outside) (source sink bytes : List ℕ) (fault : Fault) → IsReadable script log old source sink bytes → (Rose old.read_faults new.read_faults → ⊥) → (Rose old.write_faults new.write_faults → ⊥) → IsCaused old new fault → IsOfEnds source sink old fault → IsLast sink log old bytes fault
 last-of_ends script log old new source sink bytes (Faults.BadMedia which fault) can none unwritten caused is = (caused.0, is bytes can.source_given.held)
@@ -79,15 +85,21 @@ last-of_ends script log old new source sink bytes (Faults.Absent (Files.Line lin
 last-of_ends script log old new source sink bytes (Faults.Absent Files.Script) can none unwritten caused is = absurd is
 last-of_ends script log old new source sink bytes (Faults.Absent Files.Log) can none unwritten caused is = absurd is
 last-of_ends script log old new source sink bytes (Faults.Absent (Files.Made number)) can none unwritten caused is = absurd is
+last-of_ends script log old new source sink bytes (Faults.Absent Files.Input) can none unwritten caused is = absurd is
+last-of_ends script log old new source sink bytes (Faults.Absent Files.Output) can none unwritten caused is = absurd is
 last-of_ends script log old new source sink bytes Faults.OutOfMemory can none unwritten caused is = tt
 last-of_ends script log old new source sink bytes (Faults.Short (Files.Line line) at size) can none unwritten caused (here, is) =
     absurd (let end = is.stopped can.source_given.end can.source_given.told_end in let whole = is.whole bytes can.source_given.held in let all = can.source_given.whole in omega (arith, end, whole, all, caused))
 last-of_ends script log old new source sink bytes (Faults.Short Files.Script at size) can none unwritten caused is = absurd is
 last-of_ends script log old new source sink bytes (Faults.Short Files.Log at size) can none unwritten caused is = absurd is
 last-of_ends script log old new source sink bytes (Faults.Short (Files.Made number) at size) can none unwritten caused is = absurd is
+last-of_ends script log old new source sink bytes (Faults.Short Files.Input at size) can none unwritten caused is = absurd is
+last-of_ends script log old new source sink bytes (Faults.Short Files.Output at size) can none unwritten caused is = absurd is
 last-of_ends script log old new source sink bytes (Faults.Script line why) can none unwritten caused is = absurd is
 last-of_ends script log old new source sink bytes Faults.Usage can none unwritten caused is = absurd is
 last-of_ends script log old new source sink bytes (Faults.Units have need) can none unwritten caused is = absurd is
+last-of_ends script log old new source sink bytes (Faults.Packets why) can none unwritten caused is = absurd is
+last-of_ends script log old new source sink bytes (Faults.NotRun line why) can none unwritten caused is = absurd is
 last-of_ends script log old new source sink bytes (Faults.NotBuilt what) can none unwritten caused is = absurd is
 
 last-of_log : (script log : List ℕ) (old new : Outside) (source sink bytes : List ℕ) (fault : Fault) → IsReadable script log old source sink bytes → (Rose old.write_faults new.write_faults → ⊥) → IsCaused old new fault → IsOfLog source log old fault → IsLast sink log old bytes fault
@@ -97,12 +109,16 @@ last-of_log script log old new source sink bytes Faults.OutOfMemory can unwritte
 last-of_log script log old new source sink bytes (Faults.Absent Files.Script) can unwritten caused is = absurd is
 last-of_log script log old new source sink bytes (Faults.Absent (Files.Line line)) can unwritten caused is = absurd is
 last-of_log script log old new source sink bytes (Faults.Absent (Files.Made number)) can unwritten caused is = absurd is
+last-of_log script log old new source sink bytes (Faults.Absent Files.Input) can unwritten caused is = absurd is
+last-of_log script log old new source sink bytes (Faults.Absent Files.Output) can unwritten caused is = absurd is
 last-of_log script log old new source sink bytes (Faults.BadMedia which fault) can unwritten caused is = absurd is
 last-of_log script log old new source sink bytes Faults.ReadFault can unwritten caused is = absurd is
 last-of_log script log old new source sink bytes (Faults.Short which at size) can unwritten caused is = absurd is
 last-of_log script log old new source sink bytes (Faults.Script line why) can unwritten caused is = absurd is
 last-of_log script log old new source sink bytes Faults.Usage can unwritten caused is = absurd is
 last-of_log script log old new source sink bytes (Faults.Units have need) can unwritten caused is = absurd is
+last-of_log script log old new source sink bytes (Faults.Packets why) can unwritten caused is = absurd is
+last-of_log script log old new source sink bytes (Faults.NotRun line why) can unwritten caused is = absurd is
 last-of_log script log old new source sink bytes (Faults.NotBuilt what) can unwritten caused is = absurd is
 
 -- the fault of a readable source, where no count rose
@@ -133,12 +149,16 @@ complete-fault script log old sink bytes head (Faults.Absent (Files.Line line)) 
 complete-fault script log old sink bytes head (Faults.Absent Files.Log) once reads no_sink no_log (may, valid) = absurd (true-false (old.may_refuse log) may no_log)
 complete-fault script log old sink bytes head (Faults.Absent Files.Script) once reads no_sink no_log is = absurd is
 complete-fault script log old sink bytes head (Faults.Absent (Files.Made number)) once reads no_sink no_log is = absurd is
+complete-fault script log old sink bytes head (Faults.Absent Files.Input) once reads no_sink no_log is = absurd is
+complete-fault script log old sink bytes head (Faults.Absent Files.Output) once reads no_sink no_log is = absurd is
 complete-fault script log old sink bytes head (Faults.Script line why) once reads no_sink no_log is = absurd is
 complete-fault script log old sink bytes head Faults.Usage once reads no_sink no_log is = absurd is
 complete-fault script log old sink bytes head Faults.ReadFault once reads no_sink no_log is = absurd is
 complete-fault script log old sink bytes head Faults.WriteFault once reads no_sink no_log is = absurd is
 complete-fault script log old sink bytes head (Faults.Short which at size) once reads no_sink no_log is = absurd is
 complete-fault script log old sink bytes head (Faults.Units have need) once reads no_sink no_log is = absurd is
+complete-fault script log old sink bytes head (Faults.Packets why) once reads no_sink no_log is = absurd is
+complete-fault script log old sink bytes head (Faults.NotRun line why) once reads no_sink no_log is = absurd is
 complete-fault script log old sink bytes head (Faults.NotBuilt what) once reads no_sink no_log is = absurd is
 
 pub complete : (script log : List ℕ) (old new : Outside) (before now : ℕ) (told told_new : Option (List ℕ)) (outcome : Result Done Fault) (status : Status) → ReadsOnce → IsOutcome script log old new outcome → IsTold outcome told told_new before now status → IsFaultless old new before now → CanPlay script log old → IsOrMemory status Statuses.Ok
@@ -158,12 +178,16 @@ faulty-fault log old sink bytes wanted (Faults.Absent (Files.Line line)) once re
 faulty-fault log old sink bytes wanted (Faults.Absent Files.Log) once reads (may, valid) = absurd (ok-err valid.0 wanted (once bytes (Ok valid.0) (Err wanted) valid.1 reads))
 faulty-fault log old sink bytes wanted (Faults.Absent Files.Script) once reads is = absurd is
 faulty-fault log old sink bytes wanted (Faults.Absent (Files.Made number)) once reads is = absurd is
+faulty-fault log old sink bytes wanted (Faults.Absent Files.Input) once reads is = absurd is
+faulty-fault log old sink bytes wanted (Faults.Absent Files.Output) once reads is = absurd is
 faulty-fault log old sink bytes wanted (Faults.Script line why) once reads is = absurd is
 faulty-fault log old sink bytes wanted Faults.Usage once reads is = absurd is
 faulty-fault log old sink bytes wanted Faults.ReadFault once reads is = absurd is
 faulty-fault log old sink bytes wanted Faults.WriteFault once reads is = absurd is
 faulty-fault log old sink bytes wanted (Faults.Short which at size) once reads is = absurd is
 faulty-fault log old sink bytes wanted (Faults.Units have need) once reads is = absurd is
+faulty-fault log old sink bytes wanted (Faults.Packets why) once reads is = absurd is
+faulty-fault log old sink bytes wanted (Faults.NotRun line why) once reads is = absurd is
 faulty-fault log old sink bytes wanted (Faults.NotBuilt what) once reads is = absurd is
 
 played-head : (source sink log : List ℕ) (old new : Outside) (done : Done) (bytes : List ℕ) → old.file source ≡ Some bytes → HasEndsPlayed source sink log old new done → (head : WavHead) × Reads bytes (Ok head)
@@ -196,18 +220,24 @@ unplayed-fault script log old new (Faults.Absent Files.Script) has none caused i
 unplayed-fault script log old new (Faults.Absent Files.Log) has none caused is = absurd is
 unplayed-fault script log old new (Faults.Absent (Files.Line line)) has none caused is = absurd is
 unplayed-fault script log old new (Faults.Absent (Files.Made number)) has none caused is = absurd is
+unplayed-fault script log old new (Faults.Absent Files.Input) has none caused is = absurd is
+unplayed-fault script log old new (Faults.Absent Files.Output) has none caused is = absurd is
 unplayed-fault script log old new Faults.OutOfMemory has none caused is = inr refl
 unplayed-fault script log old new (Faults.Short Files.Script at size) has none caused is =
     absurd (let end = is.stopped has.given.end has.given.told_end in let whole = is.whole has.text has.given.held in let all = has.given.whole in omega (arith, end, whole, all, caused))
 unplayed-fault script log old new (Faults.Short Files.Log at size) has none caused is = absurd is
 unplayed-fault script log old new (Faults.Short (Files.Line line) at size) has none caused is = absurd is
 unplayed-fault script log old new (Faults.Short (Files.Made number) at size) has none caused is = absurd is
+unplayed-fault script log old new (Faults.Short Files.Input at size) has none caused is = absurd is
+unplayed-fault script log old new (Faults.Short Files.Output at size) has none caused is = absurd is
 unplayed-fault script log old new (Faults.NotBuilt what) has none caused is = inl (ap Faults.NotBuilt caused)
 unplayed-fault script log old new (Faults.Script line why) has none caused is = absurd caused
 unplayed-fault script log old new Faults.Usage has none caused is = absurd caused
 unplayed-fault script log old new (Faults.BadMedia which fault) has none caused is = absurd is
 unplayed-fault script log old new Faults.WriteFault has none caused is = absurd is
 unplayed-fault script log old new (Faults.Units have need) has none caused is = absurd caused
+unplayed-fault script log old new (Faults.Packets why) has none caused is = absurd caused
+unplayed-fault script log old new (Faults.NotRun line why) has none caused is = absurd caused
 
 pub unplayed : (script log : List ℕ) (old new : Outside) (before now : ℕ) (told told_new : Option (List ℕ)) (outcome : Result Done Fault) (status : Status) → IsOutcome script log old new outcome → IsTold outcome told told_new before now status → IsFaultless old new before now → IsUnplayed script log old → IsOrMemory status (Statuses.Fault (Faults.NotBuilt Unbuilts.Script))
 unplayed script log old new before now told told_new (Ok done) status is printed none has =

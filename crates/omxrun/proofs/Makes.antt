@@ -21,6 +21,8 @@ not-refused folder old _ can (third may) = true-false _ may can.script_let_in
 make-fault : (folder : List ℕ) (old new : Outside) (before now : ℕ) (fault : Fault) → IsFaultless old new before now → CanMake folder old → HasReason folder old new fault → fault ≡ Faults.OutOfMemory
 make-fault folder old new before now Faults.WriteFault none can is = absurd (none.write is)
 make-fault folder old new before now (Faults.Absent (Files.Made number)) none can is = absurd (not-refused folder old number can is.1)
+make-fault folder old new before now (Faults.Absent Files.Input) none can is = absurd is
+make-fault folder old new before now (Faults.Absent Files.Output) none can is = absurd is
 make-fault folder old new before now (Faults.Absent Files.Script) none can is = absurd is
 make-fault folder old new before now (Faults.Absent Files.Log) none can is = absurd is
 make-fault folder old new before now (Faults.Absent (Files.Line line)) none can is = absurd is
@@ -31,6 +33,8 @@ make-fault folder old new before now (Faults.BadMedia which fault) none can is =
 make-fault folder old new before now Faults.ReadFault none can is = absurd is
 make-fault folder old new before now (Faults.Short which at size) none can is = absurd is
 make-fault folder old new before now (Faults.Units have need) none can is = absurd is
+make-fault folder old new before now (Faults.Packets why) none can is = absurd is
+make-fault folder old new before now (Faults.NotRun line why) none can is = absurd is
 make-fault folder old new before now (Faults.NotBuilt what) none can is = absurd is
 
 pub complete_make : (seed frames : ℕ) (folder : List ℕ) (old new : Outside) (before now : ℕ) (told told_new : Option (List ℕ)) (outcome : Result Done Fault) (status : Status) → IsMakeOutcome seed frames folder old new outcome → IsTold outcome told told_new before now status → IsFaultless old new before now → CanMake folder old → IsOrMemory status Statuses.Ok

@@ -190,6 +190,8 @@ caused-before old mid new (Faults.Absent which) on is = later old.absences mid.a
 caused-before old mid new Faults.OutOfMemory on is = is
 caused-before old mid new (Faults.Short which at size) on is = is
 caused-before old mid new (Faults.Units have need) on is = is
+caused-before old mid new (Faults.Packets why) on is = is
+caused-before old mid new (Faults.NotRun line why) on is = is
 caused-before old mid new (Faults.NotBuilt what) on is = is
 
 valid-before : (source : List ℕ) (old mid : Outside) → mid.file ≡ old.file → IsValid source mid → IsValid source old
@@ -205,6 +207,8 @@ of_ends-before source sink old mid (Faults.Absent (Files.Line line)) files ends 
 of_ends-before source sink old mid (Faults.Absent Files.Script) files ends refuse is = is
 of_ends-before source sink old mid (Faults.Absent Files.Log) files ends refuse is = is
 of_ends-before source sink old mid (Faults.Absent (Files.Made number)) files ends refuse is = is
+of_ends-before source sink old mid (Faults.Absent Files.Input) files ends refuse is = is
+of_ends-before source sink old mid (Faults.Absent Files.Output) files ends refuse is = is
 of_ends-before source sink old mid Faults.OutOfMemory files ends refuse is = tt
 of_ends-before source sink old mid (Faults.Short (Files.Line line) at size) files ends refuse (here, short) = (
   here,
@@ -217,9 +221,13 @@ of_ends-before source sink old mid (Faults.Short (Files.Line line) at size) file
 of_ends-before source sink old mid (Faults.Short Files.Script at size) files ends refuse is = is
 of_ends-before source sink old mid (Faults.Short Files.Log at size) files ends refuse is = is
 of_ends-before source sink old mid (Faults.Short (Files.Made number) at size) files ends refuse is = is
+of_ends-before source sink old mid (Faults.Short Files.Input at size) files ends refuse is = is
+of_ends-before source sink old mid (Faults.Short Files.Output at size) files ends refuse is = is
 of_ends-before source sink old mid (Faults.Script line why) files ends refuse is = is
 of_ends-before source sink old mid Faults.Usage files ends refuse is = is
 of_ends-before source sink old mid (Faults.Units have need) files ends refuse is = is
+of_ends-before source sink old mid (Faults.Packets why) files ends refuse is = is
+of_ends-before source sink old mid (Faults.NotRun line why) files ends refuse is = is
 of_ends-before source sink old mid (Faults.NotBuilt what) files ends refuse is = is
 
 of_log-before : (source log : List ℕ) (old mid : Outside) (fault : Fault) → mid.file ≡ old.file → mid.may_refuse ≡ old.may_refuse → IsOfLog source log mid fault → IsOfLog source log old fault
@@ -227,6 +235,8 @@ of_log-before source log old mid (Faults.Absent Files.Log) files refuse is = (su
 of_log-before source log old mid (Faults.Absent Files.Script) files refuse is = is
 of_log-before source log old mid (Faults.Absent (Files.Line line)) files refuse is = is
 of_log-before source log old mid (Faults.Absent (Files.Made number)) files refuse is = is
+of_log-before source log old mid (Faults.Absent Files.Input) files refuse is = is
+of_log-before source log old mid (Faults.Absent Files.Output) files refuse is = is
 of_log-before source log old mid Faults.WriteFault files refuse is = valid-before source old mid files is
 of_log-before source log old mid Faults.OutOfMemory files refuse is = tt
 of_log-before source log old mid (Faults.Script line why) files refuse is = is
@@ -235,6 +245,8 @@ of_log-before source log old mid (Faults.BadMedia which fault) files refuse is =
 of_log-before source log old mid Faults.ReadFault files refuse is = is
 of_log-before source log old mid (Faults.Short which at size) files refuse is = is
 of_log-before source log old mid (Faults.Units have need) files refuse is = is
+of_log-before source log old mid (Faults.Packets why) files refuse is = is
+of_log-before source log old mid (Faults.NotRun line why) files refuse is = is
 of_log-before source log old mid (Faults.NotBuilt what) files refuse is = is
 
 -- the script was read, and its files were played

@@ -6,7 +6,7 @@ use Rattle.outside_io.specs.Moves.{AppendsFront}
 use Rattle.omx_types.specs.Formats.{frame_bytes_of}
 use Rattle.omx_types.specs.declared.fault.PartFault.{PartFault}
 use Rattle.wav_form.specs.declared.heads.WavHead.{WavHead}
-use Rattle.wav_form.specs.Writing.{written}
+use Rattle.part_forms.specs.Writing.{written}
 use Rattle.omxrun.specs.Copied.{text_of}
 use Rattle.omxrun.specs.Stopped.{stopped}
 

@@ -10,7 +10,7 @@ use Rattle.outside_io.proofs.Closed.{closed-front}
 use Rattle.outside_io.specs.declared.source.Failed.{Failed}
 use Rattle.omx_types.specs.Formats.{frame_bytes_of}
 use Rattle.omx_types.specs.declared.format.Format.{Format}
-use Rattle.omx_types.specs.declared.format.Format.TheVariants.{Pcm, Alaw, Mulaw}
+use Rattle.omx_types.specs.declared.format.Format.TheVariants.{Pcm, Alaw, Mulaw, Auto}
 use Rattle.omx_types.specs.declared.fault.Fault.{Fault}
 use Rattle.omx_types.specs.declared.fault.Fault.TheVariants as Faults
 use Rattle.omx_types.specs.declared.fault.Which.TheVariants as Files
@@ -19,7 +19,7 @@ use Rattle.omx_types.specs.declared.fault.WavFault.TheVariants as WavFaults
 use Rattle.wav_form.specs.declared.heads.WavHead.{WavHead}
 use Rattle.wav_form.specs.Reading.{Reads, FitsFile}
 use Rattle.wav_form.specs.Stops.{UnlessStopped, IfShort, StoppedShort}
-use Rattle.wav_form.specs.Writing.{written, head_of, head_len, pad_of}
+use Rattle.part_forms.specs.Writing.{written, head_of, head_len, pad_of}
 use Rattle.omxrun.specs.Copied.{samples_in, text_of, HasCopied, IsKeptOrFront}
 use Rattle.omxrun.specs.Reasons.{IsOfEnds, IsValid}
 use Rattle.omxrun.specs.Sounds.{written_size, HoldsText, HoldsFront, IsOfRun, ended, fault_of_head}
@@ -31,6 +31,7 @@ length-head : (format : Format) (frames : ℕ) → length (head_of format frames
 length-head (Pcm rate channels) frames = refl
 length-head (Alaw rate channels) frames = refl
 length-head (Mulaw rate channels) frames = refl
+length-head Auto frames = refl
 
 abbrev one_zero : List ℕ
 one_zero = 0 ∷ []
@@ -116,6 +117,8 @@ run-fault source sink old mid size start ends told (Faults.Absent (Files.Line li
 run-fault source sink old mid size start ends told (Faults.Absent Files.Script) opened valid is = is
 run-fault source sink old mid size start ends told (Faults.Absent Files.Log) opened valid is = is
 run-fault source sink old mid size start ends told (Faults.Absent (Files.Made number)) opened valid is = is
+run-fault source sink old mid size start ends told (Faults.Absent Files.Input) opened valid is = is
+run-fault source sink old mid size start ends told (Faults.Absent Files.Output) opened valid is = is
 run-fault source sink old mid size start ends told (Faults.Short (Files.Line line) at told_size) opened valid (here, gave) = (
   here,
   record {
@@ -127,10 +130,14 @@ run-fault source sink old mid size start ends told (Faults.Short (Files.Line lin
 run-fault source sink old mid size start ends told (Faults.Short Files.Script at told_size) opened valid is = is
 run-fault source sink old mid size start ends told (Faults.Short Files.Log at told_size) opened valid is = is
 run-fault source sink old mid size start ends told (Faults.Short (Files.Made number) at told_size) opened valid is = is
+run-fault source sink old mid size start ends told (Faults.Short Files.Input at told_size) opened valid is = is
+run-fault source sink old mid size start ends told (Faults.Short Files.Output at told_size) opened valid is = is
 run-fault source sink old mid size start ends told (Faults.Script line why) opened valid is = is
 run-fault source sink old mid size start ends told Faults.Usage opened valid is = is
 run-fault source sink old mid size start ends told (Faults.BadMedia which fault) opened valid is = absurd is
 run-fault source sink old mid size start ends told (Faults.Units have need) opened valid is = is
+run-fault source sink old mid size start ends told (Faults.Packets why) opened valid is = is
+run-fault source sink old mid size start ends told (Faults.NotRun line why) opened valid is = is
 run-fault source sink old mid size start ends told (Faults.NotBuilt what) opened valid is = is
 
 pub run-subject : (source sink : List ℕ) (old mid : Outside) (size start : ℕ) (ends told : Option ℕ) (result : Result Done Fault) → IsOpened source old mid size ends told → IsValid source old → IfErr result (IsOfRun sink mid size ends start) → IfErr result (IsOfEnds source sink old)

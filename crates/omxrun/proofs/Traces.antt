@@ -70,6 +70,8 @@ risen-stop script old new before now Faults.ReadFault stopped rose = absurd stop
 risen-stop script old new before now (Faults.Absent which) stopped rose = absurd stopped
 risen-stop script old new before now (Faults.Short which at size) stopped rose = absurd stopped
 risen-stop script old new before now (Faults.Units have need) stopped rose = absurd stopped
+risen-stop script old new before now (Faults.Packets why) stopped rose = absurd stopped
+risen-stop script old new before now (Faults.NotRun line why) stopped rose = absurd stopped
 risen-stop script old new before now (Faults.NotBuilt what) stopped rose = absurd stopped
 
 -- a trace that ended so, where the count rose
@@ -90,6 +92,8 @@ told-stopped script old new before now Faults.ReadFault other stopped = absurd s
 told-stopped script old new before now (Faults.Absent which) other stopped = absurd stopped
 told-stopped script old new before now (Faults.Short which at size) other stopped = absurd stopped
 told-stopped script old new before now (Faults.Units have need) other stopped = absurd stopped
+told-stopped script old new before now (Faults.Packets why) other stopped = absurd stopped
+told-stopped script old new before now (Faults.NotRun line why) other stopped = absurd stopped
 told-stopped script old new before now (Faults.NotBuilt what) other stopped = absurd stopped
 
 -- the first lines are there, and the line of want of memory was told behind them
@@ -133,16 +137,22 @@ left-fault name bytes old new (Faults.Absent Files.Script) tells given none reas
 left-fault name bytes old new (Faults.Absent Files.Log) tells given none reason = absurd reason
 left-fault name bytes old new (Faults.Absent (Files.Line line)) tells given none reason = absurd reason
 left-fault name bytes old new (Faults.Absent (Files.Made number)) tells given none reason = absurd reason
+left-fault name bytes old new (Faults.Absent Files.Input) tells given none reason = absurd reason
+left-fault name bytes old new (Faults.Absent Files.Output) tells given none reason = absurd reason
 left-fault name bytes old new Faults.OutOfMemory tells given none reason = inl refl
 left-fault name bytes old new (Faults.Short Files.Script at size) tells given none reason =
     absurd (let below = reason.below in let end = reason.stopped given.end given.told_end in let whole = reason.whole bytes given.held in let all = given.whole in omega (arith, below, end, whole, all))
 left-fault name bytes old new (Faults.Short Files.Log at size) tells given none reason = absurd reason
 left-fault name bytes old new (Faults.Short (Files.Line line) at size) tells given none reason = absurd reason
 left-fault name bytes old new (Faults.Short (Files.Made number) at size) tells given none reason = absurd reason
+left-fault name bytes old new (Faults.Short Files.Input at size) tells given none reason = absurd reason
+left-fault name bytes old new (Faults.Short Files.Output at size) tells given none reason = absurd reason
 left-fault name bytes old new Faults.Usage tells given none reason = absurd reason
 left-fault name bytes old new (Faults.BadMedia which fault) tells given none reason = absurd reason
 left-fault name bytes old new Faults.WriteFault tells given none reason = absurd reason
 left-fault name bytes old new (Faults.Units have need) tells given none reason = absurd reason
+left-fault name bytes old new (Faults.Packets why) tells given none reason = absurd reason
+left-fault name bytes old new (Faults.NotRun line why) tells given none reason = absurd reason
 left-fault name bytes old new (Faults.NotBuilt what) tells given none reason = absurd reason
 
 -- a script's trace ends whole, or memory was wanting
@@ -157,6 +167,8 @@ traced-status script (Err Faults.WriteFault) text traces = absurd traces
 traced-status script (Err (Faults.Absent which)) text traces = absurd traces
 traced-status script (Err (Faults.Short which at size)) text traces = absurd traces
 traced-status script (Err (Faults.Units have need)) text traces = absurd traces
+traced-status script (Err (Faults.Packets why)) text traces = absurd traces
+traced-status script (Err (Faults.NotRun line why)) text traces = absurd traces
 traced-status script (Err (Faults.NotBuilt what)) text traces = absurd traces
 
 abbrev pub HasTraced : List ℕ → Outside → Outside → Option (List ℕ) → Option (List ℕ) → ℕ → ℕ → Status → Type 0

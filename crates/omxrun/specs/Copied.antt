@@ -4,7 +4,7 @@ use Rattle.outside_io.specs.Files.{Outside, IsFrontOf}
 use Rattle.omx_types.specs.Formats.{frame_bytes_of}
 use Rattle.wav_form.specs.declared.heads.WavHead.{WavHead}
 use Rattle.wav_form.specs.Reading.{Reads}
-use Rattle.wav_form.specs.Writing.{written}
+use Rattle.part_forms.specs.Writing.{written}
 use Rattle.omxrun.specs.declared.done.Done.{Done}
 use Rattle.omxrun.specs.declared.done.Done.TheVariants.{Played, Made}
 

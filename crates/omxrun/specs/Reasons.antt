@@ -36,6 +36,8 @@ IsCaused old new Faults.OutOfMemory = Unit {0}
 IsCaused old new (Faults.Short which at size) = at < size
 IsCaused old new (Faults.Units have need) = ⊥
 IsCaused old new (Faults.NotBuilt what) = what ≡ Unbuilts.Script
+IsCaused old new (Faults.Packets why) = ⊥
+IsCaused old new (Faults.NotRun line why) = ⊥
 
 -- a fault of the script's own file
 abbrev pub IsOfScript : List ℕ → List ℕ → Outside → Fault → Type 0

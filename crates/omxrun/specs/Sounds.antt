@@ -14,7 +14,7 @@ use Rattle.outside_io.specs.declared.media.Refused.{Refused}
 use Rattle.outside_io.specs.declared.media.Refused.TheVariants as Refusals
 use Rattle.il_graph.specs.Causes.{HasPlayCause}
 use Rattle.wav_form.specs.declared.heads.WavHead.{WavHead}
-use Rattle.wav_form.specs.Writing.{head_len}
+use Rattle.part_forms.specs.Writing.{head_len}
 use Rattle.omxrun.specs.Copied.{text_of}
 use Rattle.omxrun.specs.declared.done.Done.{Done}
 use Rattle.omxrun.specs.declared.done.Done.TheVariants.{Played, Made}

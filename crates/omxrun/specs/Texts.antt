@@ -4,11 +4,15 @@ use Rattle.std.specs.Fmt.{decimal}
 use Rattle.omx_types.specs.declared.fault.Fault.{Fault}
 use Rattle.omx_types.specs.declared.fault.Fault.TheVariants as Faults
 use Rattle.omx_types.specs.declared.fault.Which.{Which}
-use Rattle.omx_types.specs.declared.fault.Which.TheVariants.{Script, Log, Line, Made}
+use Rattle.omx_types.specs.declared.fault.Which.TheVariants.{Script, Log, Line, Made, Input, Output}
 use Rattle.omx_types.specs.declared.fault.WavFault.{WavFault}
 use Rattle.omx_types.specs.declared.fault.WavFault.TheVariants as WavFaults
 use Rattle.omx_types.specs.declared.fault.ScriptWhy.{ScriptWhy}
 use Rattle.omx_types.specs.declared.fault.ScriptWhy.TheVariants as Whys
+use Rattle.omx_types.specs.declared.fault.PacketsWhy.{PacketsWhy}
+use Rattle.omx_types.specs.declared.fault.PacketsWhy.TheVariants as Packets
+use Rattle.omx_types.specs.declared.fault.AuditWhy.{AuditWhy}
+use Rattle.omx_types.specs.declared.fault.AuditWhy.TheVariants as Audits
 use Rattle.omx_types.specs.declared.fault.Unbuilt.{Unbuilt}
 use Rattle.omx_types.specs.declared.fault.Unbuilt.TheVariants as Unbuilts
 
@@ -17,6 +21,8 @@ which_text Script = codes "script"
 which_text Log = codes "log"
 which_text (Line line) = codes "line " ++ decimal line
 which_text (Made number) = codes "made " ++ decimal number
+which_text Input = codes "input"
+which_text Output = codes "output"
 
 -- what is wrong with a WAV file; a read fault and a short file have texts of their own
 abbrev pub wav_text : WavFault → List ℕ
@@ -45,6 +51,21 @@ why_text Whys.Wrong = codes "wrong format"
 why_text Whys.Small = codes "block too small"
 why_text Whys.Differ = codes "formats differ"
 
+abbrev pub packets_text : PacketsWhy → List ℕ
+packets_text Packets.WrongFormat = codes "not G.711 mono 8000"
+packets_text Packets.NotPackets = codes "not a packet file"
+packets_text Packets.NoPackets = codes "no packets"
+packets_text Packets.TooLong = codes "too long"
+
+-- why a line of a log isn't that of a run
+abbrev pub audit_text : AuditWhy → List ℕ
+audit_text Audits.BadLine = codes "not canonical"
+audit_text Audits.OtherAct = codes "not of a play"
+audit_text Audits.NotOut = codes "not out"
+audit_text Audits.OtherReply = codes "other reply"
+audit_text Audits.OtherFile = codes "other file"
+audit_text Audits.NotEnded = codes "not ended"
+
 abbrev pub unbuilt_text : Unbuilt → List ℕ
 unbuilt_text Unbuilts.Words = codes "words"
 unbuilt_text Unbuilts.Script = codes "script"
@@ -62,6 +83,8 @@ fault_text (Faults.Short which at size) =
     codes "short: " ++ (which_text which ++ (codes " at " ++ (decimal at ++ (codes " of " ++ decimal size))))
 fault_text (Faults.Units have need) = codes "units: have " ++ (decimal have ++ (codes " need " ++ decimal need))
 fault_text (Faults.NotBuilt what) = codes "not built: " ++ unbuilt_text what
+fault_text (Faults.Packets why) = packets_text why
+fault_text (Faults.NotRun line why) = codes "no: log line " ++ (decimal line ++ (codes ": " ++ audit_text why))
 
 abbrev pub fault_line : Fault → List ℕ
 fault_line fault = fault_text fault ++ codes "\n"

@@ -1,9 +1,9 @@
 ghost use Rattle.std.specs.Prelude.{◌≡◌, ◌+◌, ◌≤◌, ◌++◌, length, codes};
 ghost use Rattle.std.specs.Fmt.{decimal};
-ghost use Rattle.omxrun.specs.Texts.{fault_text, played_text, made_text, which_text, wav_text, why_text, unbuilt_text};
+ghost use Rattle.omxrun.specs.Texts.{fault_text, played_text, made_text, which_text, wav_text, why_text, packets_text, audit_text, unbuilt_text};
 
 use crate::text::Text;
-use omx_types::{Fault, ScriptWhy, Unbuilt, WavFault, Which};
+use omx_types::{AuditWhy, Fault, PacketsWhy, ScriptWhy, Unbuilt, WavFault, Which};
 
 /// The line of a fault.
 pub fn text_of_fault(fault: Fault) -> Text
@@ -57,6 +57,8 @@ fn put_fault(text: &mut Text, fault: Fault)
         Fault::Short { which, at, size } => put_short(text, which, at, size),
         Fault::Units { have, need } => put_units(text, have, need),
         Fault::NotBuilt { what } => put_unbuilt(text, what),
+        Fault::Packets { why } => put_packets(text, why),
+        Fault::NotRun { line, why } => put_not_run(text, line, why),
     }
 }
 
@@ -109,6 +111,8 @@ fn put_which(text: &mut Text, which: Which)
             text.push(b"made ");
             text.push_number(u64::from(number));
         }
+        Which::Input => text.push(b"input"),
+        Which::Output => text.push(b"output"),
     }
 }
 
@@ -183,5 +187,43 @@ fn put_unbuilt(text: &mut Text, what: Unbuilt)
     match what {
         Unbuilt::Words => text.push(b"words"),
         Unbuilt::Script => text.push(b"script"),
+    }
+}
+
+fn put_packets(text: &mut Text, why: PacketsWhy)
+    requires { length text.old ≡ 0 }
+    ensures text { text.new ≡ text.old ++ packets_text why }
+    ensures len { length text.new ≤ 120 }
+{
+    match why {
+        PacketsWhy::WrongFormat => text.push(b"not G.711 mono 8000"),
+        PacketsWhy::NotPackets => text.push(b"not a packet file"),
+        PacketsWhy::NoPackets => text.push(b"no packets"),
+        PacketsWhy::TooLong => text.push(b"too long"),
+    }
+}
+
+fn put_not_run(text: &mut Text, line: u64, why: AuditWhy)
+    requires { length text.old ≡ 0 }
+    ensures text { text.new ≡ text.old ++ (codes "no: log line " ++ (decimal line ++ (codes ": " ++ audit_text why))) }
+    ensures len { length text.new ≤ 120 }
+{
+    text.push(b"no: log line ");
+    text.push_number(line);
+    text.push(b": ");
+    text.push(text_of_audit(why).as_bytes());
+}
+
+fn text_of_audit(why: AuditWhy) -> &'static str
+    ensures text { result.now ≡ audit_text why }
+    ensures len { length result.now ≤ 13 }
+{
+    match why {
+        AuditWhy::BadLine => "not canonical",
+        AuditWhy::OtherAct => "not of a play",
+        AuditWhy::NotOut => "not out",
+        AuditWhy::OtherReply => "other reply",
+        AuditWhy::OtherFile => "other file",
+        AuditWhy::NotEnded => "not ended",
     }
 }

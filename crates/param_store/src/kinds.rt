@@ -11,7 +11,7 @@ pub fn inputs(kind: Kind) -> u32
     ensures { result ≡ inputs_of kind }
 {
     match kind {
-        Kind::Source => 0,
+        Kind::Source | Kind::Late => 0,
         Kind::Mixer(inputs) => inputs,
         Kind::Decoder | Kind::Alaw | Kind::Mulaw | Kind::Gain | Kind::Splitter(_) | Kind::Sink => 1,
     }
@@ -23,7 +23,13 @@ pub fn outputs(kind: Kind) -> u32
     match kind {
         Kind::Sink => 0,
         Kind::Splitter(outputs) => outputs,
-        Kind::Source | Kind::Decoder | Kind::Alaw | Kind::Mulaw | Kind::Gain | Kind::Mixer(_) => 1,
+        Kind::Source
+        | Kind::Late
+        | Kind::Decoder
+        | Kind::Alaw
+        | Kind::Mulaw
+        | Kind::Gain
+        | Kind::Mixer(_) => 1,
     }
 }
 
@@ -64,8 +70,11 @@ pub fn is_format_of(kind: Kind, input: bool, format: Format) -> bool
     ensures { result ≡ is_format_of kind input format }
 {
     match (kind, input) {
-        (Kind::Source, true) | (Kind::Sink, false) => false,
-        (Kind::Source, false) | (Kind::Sink, true) | (Kind::Splitter(_), _) => true,
+        (Kind::Source, true) | (Kind::Late, true) | (Kind::Sink, false) => false,
+        (Kind::Late, false) => true,
+        (Kind::Source, false) | (Kind::Sink, true) | (Kind::Splitter(_), _) => {
+            !matches!(format, Format::Auto)
+        }
         (Kind::Decoder, true) => matches!(
             format,
             Format::Alaw {

@@ -57,6 +57,7 @@ pub fn is_same_format(a: Format, b: Format) -> bool
                 channels: _,
             },
         ) => same,
+        (Format::Auto, Format::Auto) => true,
         _ => false,
     }
 }

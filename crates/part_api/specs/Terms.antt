@@ -2,11 +2,7 @@
 use Rattle.std.specs.Prelude.{ℕ, ◌-◌, Bool, true, false, List, Option, None, Some}
 use Rattle.omx_types.specs.declared.format.Format.{Format}
 use Rattle.omx_types.specs.declared.kind.Kind.{Kind}
-
--- the frames for which a file came, and the format of one that is read
-pub data Attached : Type 0 where
-  From : (format : Format) (frames : ℕ) → Attached
-  To : (frames : ℕ) → Attached
+use Rattle.part_api.specs.declared.attached.Attached.{Attached}
 
 -- what a part's owner set, and what file came: a step leaves all of it as it is
 pub record Terms : Type 0 where

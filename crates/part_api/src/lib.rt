@@ -2,9 +2,11 @@
 //! and a `put` for each output.
 #![tactic(auto)]
 
+mod attached;
 mod laws;
 mod part;
 
+pub use attached::Attached;
 pub use laws::law_of_pieces;
 pub use omx_types::PartFault;
 pub use part::Part;

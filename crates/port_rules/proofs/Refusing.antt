@@ -4,7 +4,7 @@ use Rattle.std.proofs.Math.Bool.{not-not}
 use Rattle.std.proofs.lemmas.Bool.Decides.{nat_tests}
 use Rattle.omx_types.specs.declared.error.OmxError.TheVariants as errors
 use Rattle.omx_types.specs.declared.format.Format.{Format}
-use Rattle.omx_types.specs.declared.format.Format.TheVariants.{Pcm, Alaw, Mulaw}
+use Rattle.omx_types.specs.declared.format.Format.TheVariants.{Pcm, Alaw, Mulaw, Auto}
 use Rattle.omx_types.specs.Formats.{frame_bytes_of}
 use Rattle.il_machine.specs.declared.port.Port.{Port}
 use Rattle.il_machine.specs.declared.header.HeaderState.{HeaderState}
@@ -39,6 +39,7 @@ some_frame : (f : Format) → is_within_limits f ≡ true → 1 ≤ frame_bytes_
 some_frame (Pcm rate channels) h = grind (arith, nat_tests)
 some_frame (Alaw rate channels) h = grind (arith, nat_tests)
 some_frame (Mulaw rate channels) h = grind (arith, nat_tests)
+some_frame Auto h = omega arith
 
 pub frame_some : (c : Component) (index : ℕ) (p : Port) → IsSound c → port_of c index ≡ Some p → 1 ≤ frame_bytes_of p.setting.definition.format
 frame_some c index p S here = some_frame p.setting.definition.format (port_limits c index p S here).limits

@@ -5,12 +5,12 @@ use Rattle.std.proofs.Math.Nat.{mul-div_cancel}
 use Rattle.byteorder.specs.Endian.{little_from}
 use Rattle.byteorder.specs.Numbers.{little_number-reads_back}
 use Rattle.omx_types.specs.declared.format.Format.{Format}
-use Rattle.omx_types.specs.declared.format.Format.TheVariants.{Pcm, Alaw, Mulaw}
+use Rattle.omx_types.specs.declared.format.Format.TheVariants.{Pcm, Alaw, Mulaw, Auto}
 use Rattle.omx_types.specs.Formats.{rate_of, channels_of, frame_bytes_of, IsWithinLimits}
 use Rattle.wav_form.specs.Chunks.{Chunk, chunk_at, AreChunks}
 use Rattle.wav_form.specs.Reading.{within_limits, format_from, format_in, head_at, Reads, most_bytes}
 use Rattle.wav_form.specs.Search.{answer_after, format_after, some_of}
-use Rattle.wav_form.specs.Writing.{tag_of, bits_of, head_len, head_of}
+use Rattle.part_forms.specs.Writing.{tag_of, bits_of, head_len, head_of}
 use Rattle.wav_form.proofs.Read.{Reads-searched}
 use Rattle.wav_form.proofs.ChunkSearch.{answer_after-goes_on, answer_after-samples}
 
@@ -21,6 +21,7 @@ format_from-again : (format : Format) → IsWithinLimits format → format_from 
 format_from-again (Pcm rate channels) lawful = rw (within_limits-true rate channels lawful.some_rate lawful.rate lawful.some_channel lawful.channels) refl
 format_from-again (Alaw rate channels) lawful = rw (within_limits-true rate channels lawful.some_rate lawful.rate lawful.some_channel lawful.channels) refl
 format_from-again (Mulaw rate channels) lawful = rw (within_limits-true rate channels lawful.some_rate lawful.rate lawful.some_channel lawful.channels) refl
+format_from-again Auto lawful = absurd (let some = lawful.some_rate in omega arith)
 
 -- the fields of a format chunk stand at a place
 record HasFields (bytes : List ℕ) (place : ℕ) (format : Format) : Type 0 where
@@ -41,6 +42,7 @@ some_frame : (format : Format) → IsWithinLimits format → 0 < frame_bytes_of 
 some_frame (Pcm rate channels) lawful = (let some = lawful.some_channel in omega arith)
 some_frame (Alaw rate channels) lawful = lawful.some_channel
 some_frame (Mulaw rate channels) lawful = lawful.some_channel
+some_frame Auto lawful = omega arith
 
 head_at-again : (bytes name : List ℕ) (format : Format) (frames content : ℕ) → IsWithinLimits format → content + frames * frame_bytes_of format ≤ length bytes → head_at bytes format (record { name = name; size = frames * frame_bytes_of format; content = content }) ≡ record { format = format; start = content; frames = frames }
 head_at-again bytes name format frames content lawful within =
@@ -121,3 +123,4 @@ pub Reads-again : (format : Format) (frames : ℕ) (samples rest : List ℕ) →
 Reads-again (Pcm rate channels) frames samples rest lawful long small = Reads-pcm rate channels frames samples rest lawful long small
 Reads-again (Alaw rate channels) frames samples rest lawful long small = Reads-alaw rate channels frames samples rest lawful long small
 Reads-again (Mulaw rate channels) frames samples rest lawful long small = Reads-mulaw rate channels frames samples rest lawful long small
+Reads-again Auto frames samples rest lawful long small = absurd (let some = lawful.some_rate in omega arith)

@@ -6,7 +6,9 @@ use borrow.Rule.Slice.PartMut.{put_mid}
 use Rattle.byteorder.specs.Endian.{little_bytes}
 use Rattle.omx_types.specs.declared.format.Format.{Format}
 use Rattle.omx_types.specs.Formats.{rate_of, channels_of, frame_bytes_of}
-use Rattle.wav_form.specs.Writing.{Puts, tag_of, bits_of, fields_of, is_pcm, format_chunk}
+use Rattle.omx_types.specs.Formats.{is_pcm}
+use Rattle.part_forms.specs.Writing.{tag_of, bits_of, fields_of, format_chunk}
+use Rattle.wav_form.specs.Writing.{Puts}
 
 pub Puts-piece : (old piece bytes : List ℕ) (at : ℕ) → at + length bytes ≤ length old → piece ≡ bytes → Puts old (put_mid at (at + length bytes - at) old piece) at (at + length bytes) bytes
 Puts-piece old piece bytes at room is =

@@ -4,7 +4,7 @@ ghost use Rattle.omx_types.specs.declared.fault.WavFault.{WavFault};
 ghost use Rattle.omx_types.specs.Formats.{IsWithinLimits, frame_bytes_of};
 ghost use Rattle.wav_form.specs.declared.heads.WavHead.{WavHead};
 ghost use Rattle.wav_form.specs.Reading.{Reads, most_bytes};
-ghost use Rattle.wav_form.specs.Writing.{head_len, head_of};
+ghost use Rattle.part_forms.specs.Writing.{head_len, head_of};
 
 /// Any bytes read as one answer.
 pub fn one_answer()

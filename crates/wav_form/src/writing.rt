@@ -1,7 +1,9 @@
 ghost use Rattle.std.specs.Prelude.{◌≡◌, ◌+◌, ◌*◌, ◌≤◌, ◌^◌, ◌<◌, ◌++◌, length, take, drop, codes};
 ghost use Rattle.omx_types.specs.Formats.{IsWithinLimits, frame_bytes_of};
 ghost use Rattle.byteorder.specs.Endian.{little_bytes};
-ghost use Rattle.wav_form.specs.Writing.{head_len, head_of, format_chunk, fact_chunk, tag_of, bits_of, is_pcm, fields_of, Puts};
+ghost use Rattle.omx_types.specs.Formats.{is_pcm};
+ghost use Rattle.part_forms.specs.Writing.{head_len, head_of, format_chunk, fact_chunk, tag_of, bits_of, fields_of};
+ghost use Rattle.wav_form.specs.Writing.{Puts};
 
 use byteorder::{ByteOrder, LittleEndian};
 use omx_types::Format;
@@ -58,11 +60,12 @@ fn is_pcm(format: Format) -> bool
         | Format::Mulaw {
             rate: _,
             channels: _,
-        } => false,
+        }
+        | Format::Auto => false,
     }
 }
 
-/// The number that stands for a format: 1 for PCM, 6 for A-law, 7 for mu-law.
+/// The number that stands for a format: 1 for PCM, 6 for A-law, 7 for mu-law. No file has a format that isn't known.
 fn tag(format: Format) -> u16
     ensures { result ≡ tag_of format }
 {
@@ -79,6 +82,7 @@ fn tag(format: Format) -> u16
             rate: _,
             channels: _,
         } => 7,
+        Format::Auto => 0,
     }
 }
 

@@ -1,6 +1,6 @@
 ghost use Rattle.std.specs.Prelude.{◌≡◌, ◌*◌, ◌≤◌, length, IfOk};
 ghost use Rattle.omx_types.specs.Formats.{IsWithinLimits, frame_bytes_of};
-ghost use Rattle.wav_form.specs.Writing.{written};
+ghost use Rattle.part_forms.specs.Writing.{written};
 
 use super::Pair;
 use omx_types::Format;

@@ -1,6 +1,6 @@
 use Rattle.std.proofs.Common.{ap, ◌∙◌}
 use Rattle.pcm_ops.specs.Samples.{bytes}
-use Rattle.audio_parts.specs.Effects.{decoded}
+use Rattle.part_forms.specs.Effects.{decoded}
 use Rattle.audio_parts.proofs.coder.decode_bytes.Goals as goal
 
 pub returns : goal.returns

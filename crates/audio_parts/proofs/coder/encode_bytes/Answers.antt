@@ -1,5 +1,5 @@
 use Rattle.std.proofs.Common.{map, ap, ◌∙◌}
-use Rattle.audio_parts.specs.Effects.{encoded, code_of}
+use Rattle.part_forms.specs.Effects.{encoded, code_of}
 use Rattle.audio_parts.proofs.coder.encode_bytes.Goals as goal
 
 pub returns : goal.returns

@@ -1,6 +1,6 @@
 use Rattle.std.proofs.Common.{map, ap, ◌∙◌}
 use Rattle.pcm_ops.specs.Samples.{bytes, gained}
-use Rattle.audio_parts.specs.Effects.{gained_bytes}
+use Rattle.part_forms.specs.Effects.{gained_bytes}
 use Rattle.audio_parts.proofs.gain.gain_bytes.Goals as goal
 
 pub returns : goal.returns

@@ -2,7 +2,7 @@ use Rattle.std.proofs.Common.{◌≡◌, ◌*◌, ◌%◌, List, [], ◌∷◌, 
 use Rattle.std.specs.Io.KnownBytes.{append_known}
 use Rattle.omx_types.specs.Formats.{frame_bytes_of}
 use Rattle.outside_io.specs.Moves.{AppendsFront}
-use Rattle.audio_parts.specs.Sinking.{pad_due}
+use Rattle.part_forms.specs.Sinking.{pad_due}
 use Rattle.audio_parts.proofs.Sinking.{not_last, pad_is}
 use Rattle.audio_parts.proofs.writes.write_pad.Goals as goal
 

@@ -1,5 +1,5 @@
 use Rattle.std.proofs.Common.{◌++◌}
-use Rattle.audio_parts.specs.Sinking.{head_due, pad_due}
+use Rattle.part_forms.specs.Sinking.{head_due, pad_due}
 use Rattle.audio_parts.proofs.Sinking.{front_longer, front_after}
 use Rattle.audio_parts.proofs.writes.write_step.Goals as goal
 

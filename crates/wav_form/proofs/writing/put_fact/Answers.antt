@@ -1,5 +1,5 @@
 use Rattle.std.proofs.Common.{◌≡◌, ◌∙◌, sym, false}
-use Rattle.wav_form.specs.Writing.{is_pcm}
+use Rattle.omx_types.specs.Formats.{is_pcm}
 use Rattle.wav_form.proofs.Putting.{◌then◌}
 use Rattle.wav_form.proofs.writing.put_fact.Goals as goal
 

@@ -1,5 +1,6 @@
 use Rattle.std.proofs.Common.{◌≡◌, ◌∙◌, sym, subst, true, false}
-use Rattle.wav_form.specs.Writing.{Puts, is_pcm}
+use Rattle.omx_types.specs.Formats.{is_pcm}
+use Rattle.wav_form.specs.Writing.{Puts}
 use Rattle.wav_form.proofs.Putting.{◌then◌, format_chunk-pcm, format_chunk-law}
 use Rattle.wav_form.proofs.writing.put_format.Goals as goal
 

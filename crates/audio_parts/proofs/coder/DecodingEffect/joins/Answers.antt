@@ -1,4 +1,4 @@
-use Rattle.audio_parts.specs.Effects.{law_of}
+use Rattle.part_forms.specs.Effects.{law_of}
 use Rattle.audio_parts.proofs.Joins.{decoded_joined}
 use Rattle.audio_parts.proofs.coder.DecodingEffect.joins.Goals as goal
 

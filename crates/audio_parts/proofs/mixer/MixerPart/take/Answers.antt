@@ -3,7 +3,7 @@ use Rattle.std.specs.Simd.Lanes.{zip2}
 use Rattle.std.proofs.lemmas.List.{get_or_read}
 use Rattle.pcm_ops.specs.Samples.{samples, mixed}
 use Rattle.part_api.specs.Streams.{with_input}
-use Rattle.audio_parts.specs.Mixing.{sums}
+use Rattle.part_forms.specs.Mixing.{sums}
 use Rattle.audio_parts.proofs.Fronts.{front_append}
 use Rattle.audio_parts.proofs.Inputs.{with_same, with_other, with_each, with_untaken}
 use Rattle.audio_parts.proofs.Mixing.{sums_with, one_more_taken}

@@ -3,7 +3,7 @@ use Rattle.std.proofs.lemmas.List.{take_all}
 use Rattle.std.specs.Io.KnownBytes.{append_known}
 use Rattle.omx_types.specs.Formats.{frame_bytes_of}
 use Rattle.outside_io.specs.Memory.{source_bytes, source_place, sink_bytes}
-use Rattle.wav_form.specs.Writing.{written}
+use Rattle.part_forms.specs.Writing.{written}
 use Rattle.il_graph.specs.Playing.{sink_of, due}
 use Rattle.il_graph.proofs.pair.tests.played.Goals as goal
 

@@ -2,7 +2,7 @@ use Rattle.std.proofs.Common.{◌≡◌, ◌∙◌, ap, subst, sym, List, ℕ, �
 use Rattle.std.specs.Io.KnownBytes.{append_known}
 use Rattle.outside_io.specs.Moves.{AppendsFront}
 use Rattle.omx_types.specs.Formats.{frame_bytes_of}
-use Rattle.wav_form.specs.Writing.{pad_of}
+use Rattle.part_forms.specs.Writing.{pad_of}
 use Rattle.il_graph.specs.Headers.{held}
 use Rattle.il_graph.specs.SinkSteps.{pad_due, where_ends}
 use Rattle.il_graph.proofs.Fronts.{on_err, front-longer, front-after}

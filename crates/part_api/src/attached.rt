@@ -1,0 +1,8 @@
+use omx_types::Format;
+
+/// The frames for which a file came, and the format of one that is read.
+#[derive(Clone, Copy, Debug, PartialEq, Eq)]
+pub enum Attached {
+    From { format: Format, frames: u64 },
+    To { frames: u64 },
+}
