@@ -1,5 +1,4 @@
 -- One act is one call with its arguments. A client object isn't named: what moves is its progress. That of a new component is of no event.
--- Where more joins: a case of Act, of Reply and of Step for each new call.
 use Rattle.std.specs.Prelude.{ℕ, Bool, List, Option, Result}
 use Rattle.omx_types.specs.declared.state.State.{State}
 use Rattle.omx_types.specs.declared.handle.Handle.{Handle}
@@ -13,6 +12,7 @@ use Rattle.omx_types.specs.declared.param.Supplier.{Supplier}
 use Rattle.il_machine.specs.declared.answer.Acted.{Acted as ActAnswer}
 use Rattle.il_machine.specs.declared.answer.Progress.{Progress as ClientProgress}
 use Rattle.il_machine.specs.declared.port.PortView.{PortView as View}
+use Rattle.part_api.specs.declared.attached.Attached.{Attached}
 use Rattle.il_machine.specs.Buffers.{Held}
 use Rattle.il_machine.specs.Notes.{Took as Taking}
 
@@ -42,9 +42,11 @@ pub data Act : Type 0 where
   HandOver : (h : Handle) (port : ℕ) → Act
   HandBack : (h : Handle) (port : ℕ) → Act
 
--- What a call answers, without what it hands back. Of the memory of a header that is freed it says whether it is the client's.
+-- What a call answers, without what it hands back. Of the memory of a header that is freed it says whether it is the client's; of a
+-- component that is freed, for which frames its file came.
 pub data Reply : Type 0 where
   Got : (result : Result Handle CallError) → Reply
+  Removed : (result : Result (Option Attached) OmxError) → Reply
   Plain : (result : Result (Unit {0}) OmxError) → Reply
   Stated : (result : Result State OmxError) → Reply
   Viewed : (result : Result View OmxError) → Reply

@@ -1,6 +1,4 @@
 -- Headers of client ports: they are made, unmade, and handed in.
---
--- Where more joins: each new condition is one more test of the list of the call's refusals.
 use Rattle.std.specs.Prelude.{◌≡◌, ℕ, ◌+◌, ◌%◌, ◌≤◌, Bool, true, false, not, ◌&&◌, ◌||◌, nat_eq, nat_lt, nat_le, List, [], ◌∷◌, ◌++◌, length, Option, Some, None, is_none, Result, MatchOption, if◌then◌else◌}
 use Rattle.omx_types.specs.declared.state.State.TheVariants as states
 use Rattle.omx_types.specs.declared.handle.Handle.{Handle}

@@ -1,7 +1,4 @@
 -- Commands are queued, and carried out.
---
--- Where more joins: a fault of StateSet is one more of the list in `state_fault`; the units that a transition to Idle takes join in
--- `begun`; what StateSet(Invalid) gives back (units, a waiter's place) joins in `invalidated`.
 use Rattle.std.specs.Prelude.{ℕ, ◌+◌, Bool, true, false, not, ◌&&◌, ◌||◌, nat_eq, nat_lt, nat_le, List, [], ◌∷◌, ◌++◌, length, map, Option, Some, None, is_some, is_none, Result, if◌then◌else◌}
 use Rattle.omx_types.specs.declared.state.State.{State}
 use Rattle.omx_types.specs.declared.state.State.TheVariants as states
@@ -36,9 +33,18 @@ use Rattle.il_machine.specs.Answers.{plain, Resolving, Answers, Acts}
 abbrev pub at_rest : PortState → PortState
 at_rest p = record p { mode = Steady; flushing = false; waiting_mark = None }
 
--- All that StateSet(Invalid) does but its event: everything pending is dropped. Headers stay where they are.
+-- All that StateSet(Invalid) does but its event: everything pending is dropped, the units are given back, and a waiter leaves. Headers and
+-- a work stay where they are, and a port that is held stays so.
 abbrev pub invalidated : Component → Component
-invalidated c = record c { state = states.Invalid; pending = None; loss_mark = false; commands = []; ports = map at_rest c.ports }
+invalidated c = record c {
+  state = states.Invalid;
+  pending = None;
+  loss_mark = false;
+  holds = false;
+  waiting = None;
+  commands = [];
+  ports = map at_rest c.ports;
+}
 
 -- ---- the ports that a command names
 
@@ -125,12 +131,17 @@ abbrev pub run_idle : Component → List Command → Option Why
 run_idle c [] = Some why.NoCommand
 run_idle c (command ∷ rest) = run_reason c command
 
--- the present state; a pair that isn't lawful; from Loaded, ports that don't fit
+-- 2^64 - 1 waits were numbered
+abbrev pub has_no_wait : Look → Bool
+has_no_wait l = nat_eq l.waits 18446744073709551615
+
+-- the present state; a pair that isn't lawful; from Loaded, ports that don't fit; to WaitForResources, no waiting number
 abbrev pub state_fault : Look → Component → State → Option OmxError
 state_fault l c target = first_of_these
     ((same_state c.state target, errors.SameState)
     ∷ (not (is_lawful c.state target), errors.IncorrectStateTransition)
     ∷ (is_loaded c.state && not (fits c.settings), errors.UnsupportedSetting)
+    ∷ (same_state target states.WaitForResources && has_no_wait l, errors.InsufficientResources)
     ∷ [])
 
 -- the fault is told, or the transition is pending

@@ -1,6 +1,4 @@
 -- Components are made, freed and looked at.
---
--- Where more joins: each new condition of `free_handle` is one more test of the list in `free_refusal`.
 use Rattle.std.specs.Prelude.{◌≡◌, ℕ, ◌+◌, ◌%◌, Bool, true, false, not, ◌||◌, nat_eq, nat_lt, nat_le, List, [], ◌∷◌, ◌++◌, length, filter, remove, slice_get, Option, Some, None, is_some, is_none, option_map, Result, Ok, Err, MatchOption, if◌then◌else◌}
 use Rattle.std.specs.List.{list_any}
 use Rattle.omx_types.specs.declared.state.State.{State}
@@ -15,13 +13,14 @@ use Rattle.omx_types.specs.declared.command.Completion.{Completion}
 use Rattle.omx_types.specs.declared.command.Completion.TheVariants as completions
 use Rattle.omx_types.specs.declared.command.Note.{Note}
 use Rattle.omx_types.specs.declared.command.Note.TheVariants.{Told, EmptyDone, FillDone}
+use Rattle.part_api.specs.declared.attached.Attached.{Attached}
 use Rattle.il_machine.specs.declared.answer.Progress.{Progress}
 use Rattle.il_machine.specs.declared.port.PortView.{PortView}
 use Rattle.il_machine.specs.declared.port.Port.{Port}
 use Rattle.il_machine.specs.States.{is_invalid, is_loaded}
 use Rattle.il_machine.specs.Lists.{any_of, first_of_these}
 use Rattle.il_machine.specs.Kinds.{kind_of}
-use Rattle.il_machine.specs.World.{Component, World, Given, number_of, fresh, ports_of, port_of}
+use Rattle.il_machine.specs.World.{Component, World, Given, number_of, fresh, fresh_stream, is_stream_of, ports_of, port_of}
 use Rattle.il_machine.specs.Headers.{Seen, is_for}
 use Rattle.il_machine.specs.Look.{Look, look}
 use Rattle.il_machine.specs.Ports.{is_joined, unmade}
@@ -51,7 +50,11 @@ abbrev pub is_vacant : ℕ → List Component → Bool
 is_vacant slot components = not (list_any (λ c. nat_eq c.handle.slot slot) components)
 
 abbrev pub with_new_component : Handle → Kind → World → World
-with_new_component h kind w = record w { components = w.components ++ fresh h kind ∷ []; numbered = w.numbered + 1 }
+with_new_component h kind w = record w {
+  components = w.components ++ fresh h kind ∷ [];
+  streams = w.streams ++ fresh_stream w.numbered ∷ [];
+  numbered = w.numbered + 1;
+}
 
 -- The handle has the next number and any vacant slot.
 abbrev pub GetHandle : World → List ℕ → Result Handle CallError → World → Type 0
@@ -69,6 +72,7 @@ free_refusal headers c = first_of_these
           ∷ is_some c.pending
           ∷ not (each_port c (unmade headers))
           ∷ list_any is_joined (ports_of c)
+          ∷ is_some c.work
           ∷ c.client_out
           ∷ []),
       errors.IncorrectStateOperation,
@@ -78,13 +82,18 @@ free_refusal headers c = first_of_these
 abbrev pub is_given_to : ℕ → Given → Bool
 is_given_to number g = nat_eq g.component number
 
--- the component's record leaves, with its commands and notes
+-- the component's record leaves, with its commands, notes and file
 abbrev pub without_component : ℕ → Component → World → World
-without_component i c w = record w { components = remove w.components i; given = filter (λ g. not (is_given_to (number_of c) g)) w.given }
+without_component i c w = record w {
+  components = remove w.components i;
+  given = filter (λ g. not (is_given_to (number_of c) g)) w.given;
+  streams = filter (λ s. not (is_stream_of (number_of c) s)) w.streams;
+}
 
-abbrev pub FreeHandle : World → Handle → Result (Unit {0}) OmxError → World → Type 0
+-- It answers for which frames the component's file came.
+abbrev pub FreeHandle : World → Handle → Result (Option Attached) OmxError → World → Type 0
 FreeHandle w h result v = Resolving plain w h result v (λ i c.
-    Answers (free_refusal (look w).headers c) result w v (λ _. ClosesTo (without_component i c w) v))
+    Answers (free_refusal (look w).headers c) result w v (λ file. (file ≡ c.file) × ClosesTo (without_component i c w) v))
 
 -- ---- looking
 

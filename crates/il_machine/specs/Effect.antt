@@ -1,12 +1,10 @@
 -- The world that an act's answer leaves before the close-out. A refused act, one that answers Idle, and one that looks leave the world as it is.
---
--- Where more joins: a case for each new act that changes the world.
 use Rattle.std.specs.Prelude.{ℕ, true, false, Option, Some, None, slice_get, Ok}
 use Rattle.omx_types.specs.declared.handle.Handle.{Handle}
 use Rattle.omx_types.specs.declared.command.Note.TheVariants.{Told, EmptyDone, FillDone}
 use Rattle.il_machine.specs.declared.answer.Acted.TheVariants.{Did}
 use Rattle.il_machine.specs.declared.port.Port.{Port}
-use Rattle.il_machine.specs.World.{Component, World, place_of, with_component, port_of}
+use Rattle.il_machine.specs.World.{Component, World, changed_at, place_of, with_component, port_of}
 use Rattle.il_machine.specs.Headers.{seen, loaded, unloaded}
 use Rattle.il_machine.specs.Look.{look}
 use Rattle.il_machine.specs.Kinds.{kind_of}
@@ -19,11 +17,6 @@ use Rattle.il_machine.specs.Notes.{TakenEvent, TakenEmpty, TakenFilled, TookNote
 use Rattle.il_machine.specs.Flow.{with_supplied, in_port, front_unmade, handed_over, handed_back}
 use Rattle.il_machine.specs.Acts.{Act, Reply}
 use Rattle.il_machine.specs.Acts as acts
-
--- the change by what is there; where nothing is there the world stays
-abbrev pub changed_at : {T : Type 0} → Option T → World → (T → World) → World
-changed_at None w change = w
-changed_at (Some x) w change = change x
 
 -- by the place that the handle names, and the component there
 abbrev pub at_named : Handle → World → (ℕ → Component → World) → World
@@ -38,7 +31,7 @@ at_both p q w change = changed_at p w (λ a. changed_at q w (λ b. change a b))
 
 abbrev pub effect : World → Act → Reply → World
 effect w (acts.GetHandle name) (acts.Got (Ok h)) = changed_at (kind_of name) w (λ kind. with_new_component h kind w)
-effect w (acts.FreeHandle h) (acts.Plain (Ok done)) = at_named h w (λ i c. without_component i c w)
+effect w (acts.FreeHandle h) (acts.Removed (Ok file)) = at_named h w (λ i c. without_component i c w)
 effect w (acts.SetParameter h key value) (acts.Plain (Ok done)) = at_named h w (λ i c. with_component i (with_value key value c) w)
 effect w (acts.SetConfig h key value) (acts.Plain (Ok done)) = at_named h w (λ i c. with_component i (with_value key value c) w)
 effect w (acts.SetupTunnel output input) (acts.Joined (Ok supplier)) =

@@ -10,6 +10,8 @@ pub mod Ports
 pub mod Stock
 pub mod Room
 pub mod Due
+pub mod Units
+pub mod Parts
 pub mod Answers
 pub mod Components
 pub mod Parameters

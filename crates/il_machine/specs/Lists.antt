@@ -1,5 +1,5 @@
 -- Small words for lists of tests and for look-ups.
-use Rattle.std.specs.Prelude.{ℕ, Bool, true, false, ◌&&◌, ◌||◌, nat_eq, List, [], ◌∷◌, Option, Some, None, if◌then◌else◌}
+use Rattle.std.specs.Prelude.{ℕ, Bool, true, false, ◌&&◌, ◌||◌, nat_eq, List, [], ◌∷◌, ◌++◌, drop, length, Option, Some, None, if◌then◌else◌}
 
 -- every test of the list is true
 abbrev pub all_of : List Bool → Bool
@@ -31,3 +31,7 @@ same_numbers (x ∷ xs) [] = false
 abbrev pub is_empty : {A : Type 0} → List A → Bool
 is_empty [] = true
 is_empty (x ∷ xs) = false
+
+-- the bytes with others in place of their front
+abbrev pub overwritten : List ℕ → List ℕ → List ℕ
+overwritten front bytes = front ++ drop (length front) bytes

@@ -1,17 +1,18 @@
 -- Parameters and configs of a component.
---
--- Where more joins: that the component has no file is one more test of the list in `is_format_free`.
-use Rattle.std.specs.Prelude.{Bool, true, false, not, ◌&&◌, nat_eq, [], ◌∷◌, ◌++◌, Option, Result, if◌then◌else◌}
+use Rattle.std.specs.Prelude.{ℕ, Bool, true, false, not, ◌&&◌, ◌||◌, nat_eq, [], ◌∷◌, ◌++◌, Option, None, Some, is_some, Result, if◌then◌else◌}
 use Rattle.omx_types.specs.declared.handle.Handle.{Handle}
 use Rattle.omx_types.specs.declared.error.OmxError.{OmxError}
 use Rattle.omx_types.specs.declared.error.OmxError.TheVariants as errors
+use Rattle.omx_types.specs.declared.format.Format.{Format}
 use Rattle.omx_types.specs.declared.param.Param.{Param}
+use Rattle.omx_types.specs.declared.param.Param.TheVariants as params
 use Rattle.omx_types.specs.declared.param.ParamKey.{ParamKey}
 use Rattle.il_machine.specs.declared.port.Port.{Port}
 use Rattle.il_machine.specs.States.{is_invalid, is_loaded}
-use Rattle.il_machine.specs.Lists.{all_of, any_of, first_of_these, holds_at}
-use Rattle.il_machine.specs.Settings.{get_refusals, set_refusals, value_of, changed_by, refused_or}
-use Rattle.il_machine.specs.World.{Component, World, with_component, port_of}
+use Rattle.il_machine.specs.Kinds.{is_auto}
+use Rattle.il_machine.specs.Lists.{any_of, first_of_these, holds_at}
+use Rattle.il_machine.specs.Settings.{get_refusals, set_refusals, value_of, changed_by, refused_or, same_format}
+use Rattle.il_machine.specs.World.{Component, World, with_component, with_port, port_of}
 use Rattle.il_machine.specs.Headers.{Seen}
 use Rattle.il_machine.specs.Look.{Look, look}
 use Rattle.il_machine.specs.Ports.{is_at_rest, is_joined, unmade}
@@ -22,9 +23,18 @@ use Rattle.il_machine.specs.Answers.{plain, Resolving, Answers, component_named,
 abbrev pub is_settable : Component → Bool
 is_settable c = is_loaded c.state && is_at_rest c
 
--- the format of a port may change
-abbrev pub is_format_free : Component → Bool
-is_format_free c = all_of (is_settable c ∷ [])
+-- The port's format is known and stays: the port isn't held, and its component has a file or isn't Loaded with nothing pending.
+abbrev pub keeps_format : Component → Port → Bool
+keeps_format c p = not p.state.held && not (is_auto p.setting.definition.format) && (is_some c.file || not (is_settable c))
+
+-- The port may not get the format: it differs from one that stays.
+abbrev pub is_format_fixed : Component → Port → Format → Bool
+is_format_fixed c p format = any_of ((keeps_format c p && not (same_format format p.setting.definition.format)) ∷ [])
+
+-- the value may be set of the port, as far as its format goes
+abbrev pub is_format_free : Component → ℕ → Param → Bool
+is_format_free c port (params.Port d) = holds_at (port_of c port) (λ p. not (is_format_fixed c p d.format))
+is_format_free c port _ = true
 
 -- The port is joined, or has headers, or is enabled while its component isn't Loaded with nothing pending.
 abbrev pub is_fixed : Seen → Component → Port → Bool
@@ -53,16 +63,24 @@ is_wrong_time headers c key =
 abbrev pub set_parameter_refusal : Seen → Component → ParamKey → Param → Option OmxError
 set_parameter_refusal headers c key value = first_of_these
     ((is_invalid c.state, errors.InvalidState)
-    ∷ set_refusals c.settings key false value (is_format_free c)
+    ∷ set_refusals c.settings key false value (is_format_free c key.port value)
     ++ (is_wrong_time headers c key, errors.IncorrectStateOperation) ∷ [])
 
 abbrev pub set_config_refusal : Component → ParamKey → Param → Option OmxError
 set_config_refusal c key value = first_of_these
     ((is_invalid c.state, errors.InvalidState)
-    ∷ set_refusals c.settings key true value (is_format_free c))
+    ∷ set_refusals c.settings key true value true)
 
+-- the port, where it is there, is held no more
+abbrev pub unheld_at : Option Port → Component → Component
+unheld_at None c = c
+unheld_at (Some p) c = with_port p.key.port (record p.state { held = false }) c
+
+-- a port whose definition is set is held no more
 abbrev pub with_value : ParamKey → Param → Component → Component
-with_value key value c = record c { settings = changed_by key.port value c.settings }
+with_value key value c =
+    let d = record c { settings = changed_by key.port value c.settings } in
+    if nat_eq key.index 1 then unheld_at (port_of c key.port) d else d
 
 abbrev pub SetParameter : World → Handle → ParamKey → Param → Result (Unit {0}) OmxError → World → Type 0
 SetParameter w h key value result v = Resolving plain w h result v (λ i c.

@@ -16,7 +16,7 @@ use Rattle.il_machine.specs.Flow.{Supply, Release, HandOver, HandBack}
 -- In the world w the act may be answered so, and then leaves v. A call that looks changes nothing of a closed world.
 abbrev pub Step : World → Act → Reply → World → Type 0
 Step w (acts.GetHandle name) (acts.Got result) v = GetHandle w name result v
-Step w (acts.FreeHandle h) (acts.Plain result) v = FreeHandle w h result v
+Step w (acts.FreeHandle h) (acts.Removed result) v = FreeHandle w h result v
 Step w (acts.GetState h) (acts.Stated result) v = Looks (state_answer h (look w)) result w v
 Step w (acts.PortView h port) (acts.Viewed result) v = Looks (view_answer h port (look w)) result w v
 Step w (acts.Progress h) (acts.Progressed result) v = Looks (progress_answer h w) result w v
@@ -45,11 +45,30 @@ Step w _ _ v = ⊥
 -- What the caller sees to: a header that is handed in is with the client; the client object that is handed back was out, and has been
 -- told all that was given for its component.
 abbrev pub Meets : World → Act → Type 0
+Meets w (acts.GetHandle name) = Unit {0}
+Meets w (acts.FreeHandle h) = Unit {0}
+Meets w (acts.GetState h) = Unit {0}
+Meets w (acts.PortView h port) = Unit {0}
+Meets w (acts.Progress h) = Unit {0}
+Meets w (acts.GetParameter h key) = Unit {0}
+Meets w (acts.GetConfig h key) = Unit {0}
+Meets w (acts.SetParameter h key value) = Unit {0}
+Meets w (acts.SetConfig h key value) = Unit {0}
+Meets w (acts.SetupTunnel output input) = Unit {0}
+Meets w (acts.DropTunnel output input) = Unit {0}
+Meets w (acts.SendCommand h command) = Unit {0}
+Meets w (acts.RunCommand h) = Unit {0}
+Meets w (acts.AllocateBuffer h port) = Unit {0}
+Meets w (acts.UseBuffer h port bytes) = Unit {0}
 Meets w (acts.FreeBuffer h port header) = IsWithClient header (look w)
 Meets w (acts.EmptyThisBuffer h port header) = IsHeldByClient header (look w)
 Meets w (acts.FillThisBuffer h port header) = IsHeldByClient header (look w)
+Meets w (acts.TakeNote h) = Unit {0}
 Meets w (acts.EndNote h progress) = MatchOption (component_named h w.components) ⊥ (λ c. (c.client_out ≡ true) × (progress ≡ progress_of c w))
-Meets w _ = Unit {0}
+Meets w (acts.Supply h port) = Unit {0}
+Meets w (acts.Release h port) = Unit {0}
+Meets w (acts.HandOver h port) = Unit {0}
+Meets w (acts.HandBack h port) = Unit {0}
 
 -- The acts, each of which meets its condition, are answered so in their order and lead from w to v.
 abbrev pub Run : World → List (Act × Reply) → World → Type 0

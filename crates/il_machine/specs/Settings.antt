@@ -1,6 +1,6 @@
 -- What a client sets of a component: its ports' definitions and preferences, its priority, its factors.
 -- How they are got and set, and the refusals of both, in their order.
-use Rattle.std.specs.Prelude.{◌≡◌, ℕ, length, ◌≤◌, Bool, true, false, not, ◌&&◌, ◌||◌, nat_eq, nat_lt, nat_le, List, [], ◌∷◌, ◌++◌, replicate, slice_set, Option, Some, None, Result, Ok, Err, if◌then◌else◌}
+use Rattle.std.specs.Prelude.{◌≡◌, ℕ, length, map, Bool, true, false, not, ◌&&◌, ◌||◌, nat_eq, nat_lt, nat_le, List, [], ◌∷◌, ◌++◌, filter, replicate, slice_set, Option, Some, None, Result, Ok, Err, if◌then◌else◌}
 use Rattle.std.specs.List.{list_all}
 use Rattle.std.proofs.Math.ListN.{get_or}
 use Rattle.omx_types.specs.declared.kind.Kind.{Kind}
@@ -20,7 +20,7 @@ pub use Rattle.part_forms.specs.Kinds.{IsSized}
 use Rattle.part_forms.specs.Kinds.{known_format}
 use Rattle.il_machine.specs.declared.port.PortSetting.{PortSetting}
 use Rattle.il_machine.specs.Lists.{all_of, first_of_these}
-use Rattle.il_machine.specs.Kinds.{inputs_of, outputs_of, ports_in, is_input, is_format_of}
+use Rattle.il_machine.specs.Kinds.{inputs_of, outputs_of, ports_in, is_input, is_format_of, is_auto, is_late}
 
 pub record Settings : Type 0 where
   pub kind : Kind
@@ -32,8 +32,9 @@ pub record Settings : Type 0 where
 
 -- ---- defaults
 
+-- one that isn't known yet for a late source
 abbrev pub default_format : Kind → Bool → Format
-default_format kind input = known_format kind input
+default_format kind input = if is_late kind then Auto else known_format kind input
 
 abbrev pub default_setting : Kind → Bool → PortSetting
 default_setting kind input = record { definition = record { input = input; format = default_format kind input; count = 2; size = 4096 }; supplier = Unspecified }
@@ -125,7 +126,7 @@ abbrev pub is_between : ℕ → ℕ → ℕ → Bool
 is_between low high n = nat_le low n && nat_le n high
 
 abbrev pub is_within_limits : Format → Bool
-is_within_limits format = is_between 1 768000 (rate_of format) && is_between 1 8 (channels_of format)
+is_within_limits format = is_auto format || (is_between 1 768000 (rate_of format) && is_between 1 8 (channels_of format))
 
 abbrev pub same_bool : Bool → Bool → Bool
 same_bool true b = b
@@ -155,10 +156,10 @@ is_good_value input (params.Priority priority) = nat_le priority 255
 is_good_value input (params.Gain gain) = nat_le gain 65535
 is_good_value input (params.Weight weight) = nat_le weight 65535
 
--- a format that the port may have; it is the present one, or the format may change
+-- a format that the port may have, and the change to it is free
 abbrev pub is_supported : Settings → ℕ → Bool → Param → Bool
 is_supported s port free (params.Port d) =
-    is_format_of s.kind (is_input s.kind port) d.format && (free || same_format d.format (setting_at s port).definition.format)
+    is_format_of s.kind (is_input s.kind port) d.format && free
 is_supported s port free _ = true
 
 abbrev pub value_refusals : Settings → ParamKey → Param → Bool → List (Bool × OmxError)
@@ -198,12 +199,19 @@ abbrev pub is_splitter : Kind → Bool
 is_splitter (Splitter outputs) = true
 is_splitter _ = false
 
--- all ports have one rate and one number of channels; all of a splitter have one format
-abbrev pub are_fitting : Kind → List PortSetting → Bool
+-- the formats have one rate and one number of channels, and those of a splitter are one
+abbrev pub are_fitting : Kind → List Format → Bool
 are_fitting kind [] = true
 are_fitting kind (first ∷ rest) =
-    list_all (λ p. same_rate_and_channels p.definition.format first.definition.format) rest
-    && (not (is_splitter kind) || list_all (λ p. same_format p.definition.format first.definition.format) rest)
+    list_all (λ format. same_rate_and_channels format first) rest
+    && (not (is_splitter kind) || list_all (λ format. same_format format first) rest)
 
+abbrev pub is_known : Format → Bool
+is_known format = not (is_auto format)
+
+abbrev pub formats_of : List PortSetting → List Format
+formats_of ports = map (λ p. p.definition.format) ports
+
+-- all ports fit whose format is known
 abbrev pub fits : Settings → Bool
-fits s = are_fitting s.kind s.ports
+fits s = are_fitting s.kind (filter is_known (formats_of s.ports))

@@ -1,7 +1,5 @@
 -- What is true of every world that the machine reaches, and is kept by each step.
---
--- Where more joins: a header that a work has stands in no list; a component that isn't down holds its units.
-use Rattle.std.specs.Prelude.{◌≡◌, ◌≢◌, ℕ, suc, ◌<◌, ◌≤◌, Bool, true, not, ◌&&◌, ◌||◌, List, [], ◌∷◌, length, All, Option, Some, None, option_map, slice_get, MatchOption}
+use Rattle.std.specs.Prelude.{◌≡◌, ◌≢◌, ℕ, suc, ◌<◌, ◌≤◌, Bool, true, false, not, nat_eq, map, is_some, Contains, ◌&&◌, ◌||◌, List, [], ◌∷◌, length, All, Option, Some, None, option_map, slice_get, MatchOption}
 use Rattle.omx_types.specs.declared.state.State.TheVariants as states
 use Rattle.omx_types.specs.declared.param.Supplier.TheVariants as suppliers
 use Rattle.il_machine.specs.declared.answer.Pending.{Pending}
@@ -9,23 +7,25 @@ use Rattle.il_machine.specs.declared.port.PortKey.{PortKey}
 use Rattle.il_machine.specs.declared.port.Link.{Link}
 use Rattle.il_machine.specs.declared.port.Port.{Port}
 use Rattle.il_machine.specs.declared.port.PortSetting.{PortSetting}
+use Rattle.il_machine.specs.declared.port.PortState.{PortState}
 use Rattle.il_machine.specs.declared.header.Home.{Home}
 use Rattle.il_machine.specs.declared.header.Home.TheVariants as homes
 use Rattle.il_machine.specs.declared.header.Owner.{Owner}
 use Rattle.il_machine.specs.declared.header.Owner.TheVariants as owners
 use Rattle.il_machine.specs.declared.header.Place.TheVariants.{Out}
 use Rattle.il_machine.specs.declared.header.HeaderState.{HeaderState}
-use Rattle.il_machine.specs.States.{same_state, is_running}
+use Rattle.il_machine.specs.States.{same_state, is_invalid, is_running, is_up}
 use Rattle.il_machine.specs.Lists.{holds_at}
 use Rattle.il_machine.specs.Settings.{Settings, IsWhole, is_definition_of, same_format}
-use Rattle.il_machine.specs.Kinds.{ports_in, is_input, is_format_of}
-use Rattle.il_machine.specs.World.{Component, World, number_of, ports_of}
-use Rattle.il_machine.specs.Headers.{Seen, is_for, is_notice_of, Once, weight}
+use Rattle.il_machine.specs.Kinds.{inputs_of, ports_in, is_input, is_format_of, is_late}
+use Rattle.il_machine.specs.World.{Component, Picked, Work, World, number_of, ports_of}
+use Rattle.il_machine.specs.Headers.{Seen, is_for, is_notice_of, is_work_of, Once, weight}
 use Rattle.il_machine.specs.Look.{look}
 use Rattle.il_machine.specs.Ports.{is_input_port, is_supplier, is_going_to}
 use Rattle.il_machine.specs.Room.{is_by_client, used}
+use Rattle.il_machine.specs.Units.{is_waiter, units_held}
 use Rattle.il_machine.specs.Flow.{end_of}
-use Rattle.il_machine.specs.Census.{note_numbers, times}
+use Rattle.il_machine.specs.Census.{note_numbers, work_numbers, times}
 
 -- the port of the key
 abbrev pub port_at : PortKey → List Component → Option Port
@@ -70,12 +70,21 @@ abbrev pub IsMadeFor : Option PortKey → Port → Type 0
 IsMadeFor None p = p.state.link ≡ None
 IsMadeFor (Some peer) p = (is_supplier p ≡ true) × MatchOption p.state.link ⊥ (λ link. link.peer ≡ peer)
 
--- it is in a list exactly where its owner is a port, one that it was made for; only a client's header is with the client or in a note
+abbrev pub is_key_of : ℕ → Option PortKey → Bool
+is_key_of component None = false
+is_key_of component (Some key) = nat_eq key.component component
+
+-- the header was made for a port of the component of the number
+abbrev pub is_for_component : ℕ → HeaderState → Bool
+is_for_component component s = nat_eq s.port.component component || is_key_of component s.peer
+
+-- It is in a list exactly where its owner is a port, one that it was made for. Only a client's header is with the client or in a note; one in
+-- a work was made for a port of the work's component.
 abbrev pub IsOwnedSo : HeaderState → Owner → Type 0
 IsOwnedSo s owners.Client = (s.place ≡ Out) × (s.peer ≡ None)
 IsOwnedSo s (owners.Port key) = (is_for key s ≡ true) × (s.place ≢ Out)
 IsOwnedSo s (owners.Notice component) = (s.place ≡ Out) × (s.peer ≡ None) × (s.port.component ≡ component)
-IsOwnedSo s (owners.Work component) = ⊥
+IsOwnedSo s (owners.Work component) = (s.place ≡ Out) × (is_for_component component s ≡ true)
 
 pub record IsPlaced (components : List Component) (s : HeaderState) : Type 0 where
   pub home : s.home ≡ home_for s.port s.peer
@@ -88,6 +97,56 @@ is_in_notes_of component s = is_notice_of component s.owner
 -- the component's notes have each header of theirs once, and no other
 abbrev pub AreNoted : Seen → Component → Type 0
 AreNoted headers c = (number : ℕ) → times number (note_numbers c.notes) ≡ weight (holds_at (headers.header number) (is_in_notes_of (number_of c)))
+
+abbrev pub is_in_work_of : ℕ → HeaderState → Bool
+is_in_work_of component s = is_work_of component s.owner
+
+-- the component's work has each header of its own once, and no other
+abbrev pub AreClaimed : Seen → Component → Type 0
+AreClaimed headers c = (number : ℕ) → times number (work_numbers c.work) ≡ weight (holds_at (headers.header number) (is_in_work_of (number_of c)))
+
+-- ---- works
+
+-- a header of a work was made for the port that it is counted to
+abbrev pub IsPickedFor : Seen → ℕ → Picked → Type 0
+IsPickedFor headers component x = MatchOption (headers.header x.number) ⊥ (λ s. is_for (record { component = component; port = x.port }) s ≡ true)
+
+-- ports rise
+abbrev pub ArePicked : ℕ → List Picked → ℕ → Type 0
+ArePicked from [] ports = Unit {0}
+ArePicked from (x ∷ xs) ports = (from ≤ x.port) × (x.port < ports) × ArePicked (suc x.port) xs ports
+
+-- the states in which a work may be out
+abbrev pub may_work : Component → Bool
+may_work c = is_running c.state || is_invalid c.state
+
+-- Ports rise, each header was made for its port, and an announcement has none.
+pub record IsSoundWork (headers : Seen) (c : Component) (work : Work) : Type 0 where
+  pub state : may_work c ≡ true
+  pub rising : ArePicked 0 work.headers (length c.ports)
+  pub made : All (IsPickedFor headers (number_of c)) work.headers
+  pub announced : work.announces ≡ true → (is_late c.settings.kind ≡ true) × (work.headers ≡ [])
+  pub weights : length work.weights ≡ length c.settings.weights
+
+-- ---- units and waits
+
+-- its state is up, or its transition to Idle is pending
+abbrev pub needs_units : Component → Bool
+needs_units c = is_up c.state || is_going_to states.Idle c
+
+-- what holds of a component's units, of its waiting, of its held ports and of its part
+pub record IsUnitSound (waits : ℕ) (c : Component) : Type 0 where
+  -- one that holds units and needs none is on its way to Loaded
+  pub gives : c.holds ≡ true → (needs_units c || is_going_to states.Loaded c) ≡ true
+  pub waiting : is_waiter c ≡ true → is_some c.waiting ≡ true
+  pub numbered : (n : ℕ) → c.waiting ≡ Some n → (n < waits) × (c.state ≡ states.WaitForResources)
+  pub held : (p : PortState) → Contains c.ports p → p.held ≡ true → is_late c.settings.kind ≡ true
+  pub inputs : length c.part.ended_inputs ≡ inputs_of c.settings.kind
+
+-- two that wait have different numbers
+abbrev pub AreApart : List Component → Type 0
+AreApart components = (i j n : ℕ) (c d : Component) → slice_get components i ≡ Some c → slice_get components j ≡ Some d
+    → c.waiting ≡ Some n → d.waiting ≡ Some n → i ≡ j
 
 -- ---- tunnels
 
@@ -113,6 +172,8 @@ pub record IsConnected (w : World) (c : Component) : Type 0 where
   pub joined : All (λ p. IsJoinedWell w.components p p.state.link) (ports_of c)
   pub few : All (HasFew (look w).headers) (ports_of c)
   pub noted : AreNoted (look w).headers c
+  pub claimed : AreClaimed (look w).headers c
+  pub work : (work : Work) → c.work ≡ Some work → IsSoundWork (look w).headers c work
 
 -- ---- the world
 
@@ -123,3 +184,8 @@ pub record Sound (w : World) : Type 0 where
   pub once : Once w.headers
   pub numbered : All (λ r. r.state.number < w.made) w.headers
   pub placed : All (λ r. IsPlaced w.components r.state) w.headers
+  pub units : All (IsUnitSound w.waits) w.components
+  pub enough : units_held w.components ≤ w.units
+  pub apart : AreApart w.components
+  -- one for each component, in the same order
+  pub streams : map (λ s. s.component) w.streams ≡ map number_of w.components

@@ -1,6 +1,4 @@
 -- The moves of headers: they are read from each act, its reply and the lists before it.
---
--- Where more joins: a claim moves from a port to the work, a finish from the work to a port or a notice.
 use Rattle.std.specs.Prelude.{◌≡◌, ℕ, ◌+◌, ◌≤◌, Bool, true, false, not, ◌&&◌, nat_eq, List, [], ◌∷◌, ◌++◌, filter, Option, Some, None, option_and_then, Ok}
 use Rattle.omx_types.specs.declared.handle.Handle.{Handle}
 use Rattle.il_machine.specs.declared.answer.Acted.TheVariants.{Did}
@@ -13,7 +11,7 @@ use Rattle.il_machine.specs.declared.header.Owner.{Owner}
 use Rattle.il_machine.specs.declared.header.Owner.TheVariants as owners
 use Rattle.il_machine.specs.World.{World, port_of}
 use Rattle.il_machine.specs.declared.header.HeaderState.{HeaderState}
-use Rattle.il_machine.specs.Headers.{seen, is_home_owner, is_away, weight}
+use Rattle.il_machine.specs.Headers.{seen, is_home_owner, weight}
 use Rattle.il_machine.specs.Look.{look}
 use Rattle.il_machine.specs.Answers.{component_named}
 use Rattle.il_machine.specs.Notes.{TakenEmpty, TakenFilled, TookNote}
@@ -153,12 +151,16 @@ returns home (m ∷ ms) = weight (is_return home m) + returns home ms
 
 -- ---- what the trails say of the world that they lead to
 
+-- its owner isn't read as home
+abbrev pub is_handed_over : HeaderState → Bool
+is_handed_over s = not (is_home_stop s.home (With s.owner))
+
 -- The trail of a made header is legal for its home, ends with its owner, and has at most one return of each hand-over: as many of both
--- where it is at home or in a notice, else one return less.
+-- where it is at home, in a notice or in the work of its home's component, else one return less.
 pub record IsTrailOf (s : HeaderState) (ms : List Move) : Type 0 where
   pub legal : IsLegalFor s.home ms
   pub ends : owner_after Unmade ms ≡ With s.owner
-  pub returned : returns s.home ms + weight (is_away s) ≡ hand_overs s.home ms
+  pub returned : returns s.home ms + weight (is_handed_over s) ≡ hand_overs s.home ms
 
 -- The trail of a number without a header is legal for some home, it is empty or ends unmade, and it has as many returns as hand-overs.
 pub record IsTrailOfNone (ms : List Move) : Type 0 where

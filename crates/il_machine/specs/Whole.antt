@@ -1,20 +1,34 @@
--- The whole world beside what a graph keeps. The given notes, the order of headers in different queues, and what the headers carry that
--- are with the client aren't kept. So a graph stands for many worlds, and each call's clause speaks of every world that it stood for.
---
--- Where more joins: what a graph keeps more is one more field of Look, or of Kept and of Stands.
-use Rattle.std.specs.Prelude.{◌≡◌, ◌<◌, ℕ, Bool, true, false, List, [], slice_get, All, Option, Some, None}
+-- The whole world beside what a graph keeps. The given notes, the order of headers in different queues, what the headers carry that are
+-- with the client or in a work, and what went through a file that doesn't tell it aren't kept. So a graph stands for many worlds, and each
+-- call's clause speaks of every world that it stood for.
+use Rattle.std.specs.Prelude.{◌≡◌, ◌<◌, ℕ, ◌-◌, Bool, true, false, not, List, [], drop, slice_get, All, Option, Some, None, option_map, MatchOption}
+use Rattle.std.specs.Io.KnownBytes.{append_known}
+use Rattle.part_api.specs.declared.attached.Attached.TheVariants.{To}
+use Rattle.part_api.specs.Terms.{Terms, Writing}
 use Rattle.il_machine.specs.declared.answer.Progress.{Progress}
-use Rattle.il_machine.specs.World.{Component, Load, World}
+use Rattle.il_machine.specs.Lists.{is_empty}
+use Rattle.il_machine.specs.Kinds.{is_source}
+use Rattle.il_machine.specs.World.{Component, Load, Stream, World, number_of, stream_of}
 use Rattle.il_machine.specs.Headers.{Seen, seen, is_notice, load_at, Once}
 use Rattle.il_machine.specs.Look.{Look, look}
 use Rattle.il_machine.specs.Buffers.{Held, held, AtHeader}
 use Rattle.il_machine.specs.Components.{progress_of}
+use Rattle.il_machine.specs.Parts.{terms_of, frames_left, bytes_given}
 
 -- a header in a queued note, its key, and whether its memory is the client's own
 pub record Noticed : Type 0 where
   pub key : ℕ
   pub held : Held
   pub client_memory : Bool
+
+-- what a part shows of its file
+pub record PartSeen : Type 0 where
+  -- the frames that a source's file still gives, and their bytes, where it tells them
+  pub left : Option ℕ
+  pub rest : Option (List ℕ)
+  -- what a sink's file has taken, where it tells that, and how far its writing has come
+  pub kept : Option (List ℕ)
+  pub writing : Option Writing
 
 -- what a graph keeps
 pub record Kept : Type 0 where
@@ -25,6 +39,8 @@ pub record Kept : Type 0 where
   pub loads : ℕ → Option Load
   -- the headers in queued notes
   pub noticed : List Noticed
+  -- the part of each component whose work isn't out
+  pub parts : List (Option PartSeen)
 
 -- Each client object that is in has the progress of the notes that were given to it.
 abbrev pub HasProgress : List (Option Progress) → World → Type 0
@@ -34,12 +50,31 @@ HasProgress clients w = (i : ℕ) (c : Component) → slice_get w.components i �
 abbrev pub IsNoticed : World → Noticed → Type 0
 IsNoticed w h = (h.key ≡ w.key) × AtHeader h.held.number w (λ r. (held r ≡ h.held) × (is_notice r.state.owner ≡ true) × (r.state.client_memory ≡ h.client_memory))
 
+-- so far has the writing of its file come; its format is that of the last claim
+abbrev pub IsWriting : Terms → Stream → Writing → Type 0
+IsWriting t s x =
+    (t.file ≡ Some (To x.planned)) × (x.headed ≡ not (is_empty s.written)) × (x.left ≡ x.planned - s.frames) × (x.due ≡ false)
+
+-- A part of these terms has had so much go through it. Of what its file still gives, and of how far its writing has come, nothing is claimed
+-- once it failed.
+pub record HasDone (t : Terms) (failed : Bool) (s : Stream) (p : PartSeen) : Type 0 where
+  pub left : is_source t.kind ≡ true → p.left ≡ Some (frames_left t s)
+  pub rest : is_source t.kind ≡ true → failed ≡ false → p.rest ≡ option_map (drop (bytes_given t s)) s.known
+  pub kept : (planned : ℕ) → t.file ≡ Some (To planned) → p.kept ≡ append_known s.known s.written
+  pub writing : (planned : ℕ) → t.file ≡ Some (To planned) → failed ≡ false → MatchOption p.writing ⊥ (IsWriting t s)
+
+-- Each component whose work isn't out has its part.
+abbrev pub HasParts : List (Option PartSeen) → World → Type 0
+HasParts parts w = (i : ℕ) (c : Component) (s : Stream) → slice_get w.components i ≡ Some c → c.work ≡ None
+    → stream_of (number_of c) w ≡ Some s → (p : PartSeen) × (slice_get parts i ≡ Some (Some p)) × HasDone (terms_of c) c.part.failed s p
+
 -- All that is kept is the world's.
 pub record Stands (kept : Kept) (w : World) : Type 0 where
   pub looks : look w ≡ kept.looks
   pub loads : (number : ℕ) (load : Load) → kept.loads number ≡ Some load → load_at number w.headers ≡ Some load
   pub noticed : All (IsNoticed w) kept.noticed
   pub progress : HasProgress kept.clients w
+  pub parts : HasParts kept.parts w
   -- no two headers have one number, and notes were given to components that were numbered
   pub once : Once w.headers
   pub given : All (λ g. g.component < w.numbered) w.given
@@ -63,8 +98,9 @@ no_headers = seen []
 -- what is kept of a graph that was just made
 abbrev pub no_kept : ℕ → ℕ → Kept
 no_kept key units = record {
-  looks = record { key = key; components = []; headers = no_headers; units = units; numbered = 0; made = 0 };
+  looks = record { key = key; components = []; headers = no_headers; units = units; numbered = 0; made = 0; waits = 0 };
   clients = [];
   loads = λ number. None;
   noticed = [];
+  parts = [];
 }

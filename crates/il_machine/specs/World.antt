@@ -1,9 +1,5 @@
 -- A world of the machine: flat lists of records. Every number and every queue is found by filtering them.
---
--- Where more joins:
---   a component's work that is out, whether it holds its units, its waiting number, its file and its part: fields of Component
---   how many waits were numbered: a field of World
-use Rattle.std.specs.Prelude.{ℕ, ◌+◌, Bool, true, false, ◌&&◌, nat_eq, List, [], ◌∷◌, ◌++◌, replicate, position, slice_get, slice_set, Option, None}
+use Rattle.std.specs.Prelude.{ℕ, ◌+◌, Bool, true, false, ◌&&◌, nat_eq, List, [], ◌∷◌, ◌++◌, map, find, replicate, position, slice_get, slice_set, Option, None, Some, option_and_then, if◌then◌else◌}
 use Rattle.omx_types.specs.declared.state.State.{State}
 use Rattle.omx_types.specs.declared.state.State.TheVariants as states
 use Rattle.omx_types.specs.declared.handle.Handle.{Handle}
@@ -12,6 +8,7 @@ use Rattle.omx_types.specs.declared.command.Event.{Event}
 use Rattle.omx_types.specs.declared.command.Note.{Note}
 use Rattle.omx_types.specs.declared.command.Note.TheVariants.{Told}
 use Rattle.omx_types.specs.declared.kind.Kind.{Kind}
+use Rattle.part_api.specs.declared.attached.Attached.{Attached}
 use Rattle.il_machine.specs.declared.answer.Pending.{Pending}
 use Rattle.il_machine.specs.declared.port.Mark.{Mark}
 use Rattle.il_machine.specs.declared.port.Mode.TheVariants.{Steady}
@@ -20,7 +17,28 @@ use Rattle.il_machine.specs.declared.port.PortState.{PortState}
 use Rattle.il_machine.specs.declared.port.Port.{Port}
 use Rattle.il_machine.specs.declared.header.HeaderState.{HeaderState}
 use Rattle.il_machine.specs.Settings.{Settings, default_settings}
-use Rattle.il_machine.specs.Kinds.{ports_in}
+use Rattle.il_machine.specs.Kinds.{inputs_of, ports_in}
+
+-- a header in a work: its port's number, and its own
+pub record Picked : Type 0 where
+  pub port : ℕ
+  pub number : ℕ
+
+-- A work that is out: what one step of the component's part is given.
+pub record Work : Type 0 where
+  -- by rising port
+  pub headers : List Picked
+  -- as they were set at the claim
+  pub gain : ℕ
+  pub weights : List ℕ
+  -- it does no step: its end tells that the output has another format than the file
+  pub announces : Bool
+
+pub record PartState : Type 0 where
+  -- one for each input
+  pub ended_inputs : List Bool
+  pub ended : Bool
+  pub failed : Bool
 
 pub record Component : Type 0 where
   -- its generation is the component's number
@@ -32,6 +50,14 @@ pub record Component : Type 0 where
   pub commands : List Command
   pub notes : List Note
   pub client_out : Bool
+  -- it has its units
+  pub holds : Bool
+  -- its waiting number
+  pub waiting : Option ℕ
+  pub work : Option Work
+  -- the frames for which its file came, and the format of one that is read
+  pub file : Option Attached
+  pub part : PartState
   -- one for each port, in the order of their numbers
   pub ports : List PortState
 
@@ -53,6 +79,17 @@ pub record Given : Type 0 where
   pub component : ℕ
   pub note : Note
 
+-- what has gone through a component's part and its file since the file came
+pub record Stream : Type 0 where
+  pub component : ℕ
+  -- the frames of all its steps
+  pub frames : ℕ
+  -- What the file told when it came: of one that is read the bytes of its frames, of one that is written those that it had taken, where it
+  -- tells them. As long as no file came it is no bytes.
+  pub known : Option (List ℕ)
+  -- the bytes that a file took since
+  pub written : List ℕ
+
 pub record World : Type 0 where
   -- what all its headers have; nothing is known of it, and it stays
   pub key : ℕ
@@ -62,13 +99,26 @@ pub record World : Type 0 where
   pub headers : List HeaderRecord
   -- the oldest first
   pub given : List Given
+  -- one for each component, in the same order
+  pub streams : List Stream
   pub units : ℕ
-  -- how many components, and how many headers, were numbered so far
+  -- how many components, how many headers and how many waits were numbered so far
   pub numbered : ℕ
   pub made : ℕ
+  pub waits : ℕ
 
 abbrev pub no_world : ℕ → ℕ → World
-no_world key units = record { key = key; components = []; headers = []; given = []; units = units; numbered = 0; made = 0 }
+no_world key units = record {
+  key = key;
+  components = [];
+  headers = [];
+  given = [];
+  streams = [];
+  units = units;
+  numbered = 0;
+  made = 0;
+  waits = 0;
+}
 
 -- ---- components
 
@@ -92,8 +142,16 @@ is_numbered number c = nat_eq (number_of c) number
 abbrev pub place_numbered : ℕ → List Component → Option ℕ
 place_numbered number components = position (is_numbered number) components
 
+abbrev pub component_numbered : ℕ → World → Option Component
+component_numbered number w = option_and_then (slice_get w.components) (place_numbered number w.components)
+
 abbrev pub with_component : ℕ → Component → World → World
 with_component i c w = record w { components = slice_set w.components i c }
+
+-- the change by what is there; where nothing is there the world stays
+abbrev pub changed_at : {T : Type 0} → Option T → World → (T → World) → World
+changed_at None w change = w
+changed_at (Some x) w change = change x
 
 -- ---- ports
 
@@ -122,10 +180,26 @@ noted note c = record c { notes = c.notes ++ note ∷ [] }
 abbrev pub told : Event → Component → Component
 told event c = noted (Told event) c
 
+-- ---- streams
+
+abbrev pub fresh_stream : ℕ → Stream
+fresh_stream number = record { component = number; frames = 0; known = Some []; written = [] }
+
+abbrev pub is_stream_of : ℕ → Stream → Bool
+is_stream_of number s = nat_eq s.component number
+
+-- the stream of the component of the number
+abbrev pub stream_of : ℕ → World → Option Stream
+stream_of number w = find (is_stream_of number) w.streams
+
+-- the stream of the component of the number is changed
+abbrev pub with_stream : ℕ → (Stream → Stream) → World → World
+with_stream number change w = record w { streams = map (λ s. if is_stream_of number s then change s else s) w.streams }
+
 -- ---- a component that was just made
 
 abbrev pub fresh_port : PortState
-fresh_port = record { enabled = true; mode = Steady; flushing = false; waiting_mark = None; link = None }
+fresh_port = record { enabled = true; mode = Steady; flushing = false; held = false; waiting_mark = None; link = None }
 
 abbrev pub fresh : Handle → Kind → Component
 fresh h kind = record {
@@ -137,5 +211,10 @@ fresh h kind = record {
   commands = [];
   notes = [];
   client_out = false;
+  holds = false;
+  waiting = None;
+  work = None;
+  file = None;
+  part = record { ended_inputs = replicate (inputs_of kind) false; ended = false; failed = false };
   ports = replicate (ports_in kind) fresh_port;
 }

@@ -2,8 +2,7 @@
 //! that each answer leaves. The definitions stand in `specs/`; here are the plain types that they and
 //! the crates above share. `machine_laws` has what must hold of the definitions.
 //!
-//! Claims, finishes, units and waiters aren't here yet. Where they join a file of `specs/`, its head says so: a new condition is
-//! one more test of a list.
+//! A world has all that claims, finishes, units, files and late sources need; the acts themselves join later.
 #![tactic(auto)]
 
 mod answer;
