@@ -1,5 +1,5 @@
 -- What is true of every world that the machine reaches, and is kept by each step.
-use Rattle.std.specs.Prelude.{◌≡◌, ◌≢◌, ℕ, suc, ◌<◌, ◌≤◌, Bool, true, false, not, nat_eq, map, is_some, Contains, ◌&&◌, ◌||◌, List, [], ◌∷◌, length, All, Option, Some, None, option_map, slice_get, MatchOption}
+use Rattle.std.specs.Prelude.{◌≡◌, ◌≢◌, ℕ, suc, ◌<◌, ◌≤◌, Bool, true, false, not, nat_eq, map, is_some, is_none, Contains, ◌&&◌, ◌||◌, List, [], ◌∷◌, length, All, Option, Some, None, option_map, slice_get, MatchOption}
 use Rattle.omx_types.specs.declared.state.State.TheVariants as states
 use Rattle.omx_types.specs.declared.param.Supplier.TheVariants as suppliers
 use Rattle.il_machine.specs.declared.answer.Pending.{Pending}
@@ -14,7 +14,7 @@ use Rattle.il_machine.specs.declared.header.Owner.{Owner}
 use Rattle.il_machine.specs.declared.header.Owner.TheVariants as owners
 use Rattle.il_machine.specs.declared.header.Place.TheVariants.{Out}
 use Rattle.il_machine.specs.declared.header.HeaderState.{HeaderState}
-use Rattle.il_machine.specs.States.{same_state, is_invalid, is_running, is_up}
+use Rattle.il_machine.specs.States.{same_state, is_lawful, is_invalid, is_running, is_up}
 use Rattle.il_machine.specs.Lists.{holds_at}
 use Rattle.il_machine.specs.Settings.{Settings, IsWhole, is_definition_of, same_format}
 use Rattle.il_machine.specs.Kinds.{inputs_of, ports_in, is_input, is_format_of, is_late}
@@ -134,12 +134,21 @@ pub record IsSoundWork (headers : Seen) (c : Component) (work : Work) : Type 0 w
 abbrev pub needs_units : Component → Bool
 needs_units c = is_up c.state || is_going_to states.Idle c
 
--- what holds of a component's units, of its waiting, of its held ports and of its part
+-- A transition that is pending is lawful; or it is one from Loaded to Loaded by loss, or one from WaitForResources to Idle of a component
+-- that waits no more.
+abbrev pub is_lawful_way : Component → Pending → Bool
+is_lawful_way c p =
+    is_lawful c.state p.target
+    || (same_state c.state states.Loaded && same_state p.target states.Loaded && not (is_by_client p.cause))
+    || (same_state c.state states.WaitForResources && same_state p.target states.Idle && is_none c.waiting)
+
+-- what holds of a component's units, of its waiting, of the transition that is pending, of its held ports and of its part
 pub record IsUnitSound (waits : ℕ) (c : Component) : Type 0 where
   -- one that holds units and needs none is on its way to Loaded
   pub gives : c.holds ≡ true → (needs_units c || is_going_to states.Loaded c) ≡ true
   pub waiting : is_waiter c ≡ true → is_some c.waiting ≡ true
   pub numbered : (n : ℕ) → c.waiting ≡ Some n → (n < waits) × (c.state ≡ states.WaitForResources)
+  pub way : (p : Pending) → c.pending ≡ Some p → is_lawful_way c p ≡ true
   pub held : (p : PortState) → Contains c.ports p → p.held ≡ true → is_late c.settings.kind ≡ true
   pub inputs : length c.part.ended_inputs ≡ inputs_of c.settings.kind
 

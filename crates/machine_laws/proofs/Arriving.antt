@@ -1,6 +1,7 @@
 -- A component whose transition is reached, or at whose port something pending is done: the places that were reserved are let go.
-use Rattle.std.proofs.Common.{◌≡◌, ℕ, zero, suc, ◌+◌, ◌<◌, ◌≤◌, Bool, true, false, not, ◌&&◌, ◌||◌, List, [], ◌∷◌, length, length-set, map, set, get_or, slice_get, if◌then◌else◌, Some, None, is_some, refl, sym, ◌∙◌, ap, arith}
-use Rattle.std.proofs.lemmas.List.Sums.{sum_by-set}
+use Rattle.std.proofs.Common.{◌≡◌, ℕ, zero, suc, ◌+◌, ◌<◌, ◌≤◌, Bool, true, false, not, ◌&&◌, ◌||◌, List, [], ◌∷◌, length, length-set, map, set, get_or, slice_get, if◌then◌else◌, sum_by, Option, Some, None, is_some, refl, sym, ◌∙◌, ap, arith}
+use Rattle.std.proofs.lemmas.List.Sums.{sum_by-cons, sum_by-set}
+use Rattle.std.proofs.lemmas.List.{length-map}
 use Rattle.std.proofs.lemmas.Option.{slice_get_within, get_or_from_slice_get}
 use Rattle.omx_types.specs.declared.state.State.{State}
 use Rattle.omx_types.specs.declared.state.State.TheVariants.{Invalid, Loaded, Idle, Executing, Pause, WaitForResources}
@@ -14,16 +15,17 @@ use Rattle.il_machine.specs.declared.port.Mode.TheVariants.{Steady}
 use Rattle.il_machine.specs.declared.port.Port.{Port}
 use Rattle.il_machine.specs.declared.port.PortState.{PortState}
 use Rattle.il_machine.specs.States.{same_state, is_down, is_running}
-use Rattle.il_machine.specs.World.{Component, told, with_port, port_of}
+use Rattle.il_machine.specs.World.{Component, PartState, told, with_port, port_of}
 use Rattle.il_machine.specs.Headers.{weight}
 use Rattle.il_machine.specs.Ports.{is_going_to, is_steady}
 use Rattle.il_machine.specs.Room.{is_by_client, port_places, is_losing, used}
-use Rattle.il_machine.specs.Due.{reached, completed, completed_for, lost, lost_by, arrived, arrived_at}
+use Rattle.il_machine.specs.Due.{reached, completed, completed_for, lost, lost_by, restarted, with_part, unheld, all_given_back, arrived, arrived_at}
 use Rattle.il_machine.specs.Sound.{IsSound}
 use Rattle.machine_laws.proofs.Finding.{either}
 use Rattle.machine_laws.proofs.Lookups.{port_parts}
 use Rattle.machine_laws.proofs.Change.{IsChange, change_none, change_twice, link_of}
-use Rattle.machine_laws.proofs.Rooms.{costs, asked, loss, costs_same, used_told, IsLawful, lawful_of, sound_with, lawful_told, change_told}
+use Rattle.machine_laws.proofs.Units.{IsAside, aside_twice, held_set}
+use Rattle.machine_laws.proofs.Rooms.{aside_told, costs, asked, places, loss, costs_same, used_told, IsLawful, lawful_of, sound_with, lawful_told, change_told}
 
 -- ---- a transition
 
@@ -172,22 +174,59 @@ down_rests Executing h = absurd cc
 down_rests Pause h = absurd cc
 down_rests WaitForResources h = refl
 
-arrived_to : (t : State) (p : Pending) (c : Component) → IsSound c → c.pending ≡ Some p → p.target ≡ t → IsSound (arrived_at t p c)
-arrived_to Idle p c S e t = either (is_down c.state)
+-- What changes beside the state is outside of what is lawful, and of the places.
+abbrev with_waiting : Option ℕ → Component → Component
+with_waiting o c = record c { waiting = o }
+
+sound_with_part : (x : PartState) (c : Component) → IsSound c → IsSound (with_part x c)
+sound_with_part x c S =
+    let k : costs (with_part x c) ≡ costs c = costs_same c (with_part x c) c.commands refl in
+    sound_with (with_part x c) (record { whole = S.whole; ports = S.ports; settings = S.settings; cause = S.cause; mark = S.mark; commands = S.commands }) (omega (arith, S.room))
+
+sound_with_waiting : (o : Option ℕ) (c : Component) → IsSound c → IsSound (with_waiting o c)
+sound_with_waiting o c S =
+    let k : costs (with_waiting o c) ≡ costs c = costs_same c (with_waiting o c) c.commands refl in
+    sound_with (with_waiting o c) (record { whole = S.whole; ports = S.ports; settings = S.settings; cause = S.cause; mark = S.mark; commands = S.commands }) (omega (arith, S.room))
+
+pub unheld_places : (ps : List PortState) → sum_by port_places (map unheld ps) ≡ sum_by port_places ps
+unheld_places [] = refl
+unheld_places (p ∷ ps) = let s = sum_by-cons port_places (unheld p) (map unheld ps) in let q = sum_by-cons port_places p ps in let i = unheld_places ps in omega arith
+
+unheld_links : (ps : List PortState) → map link_of (map unheld ps) ≡ map link_of ps
+unheld_links [] = refl
+unheld_links (p ∷ ps) = let i = unheld_links ps in cc
+
+sound_given_back : (c : Component) → IsSound c → IsSound (all_given_back c)
+sound_given_back c S =
+    let l = length-map c.ports unheld in
+    let k : costs (all_given_back c) ≡ costs c = costs_same c (all_given_back c) c.commands l in
+    let p : places (all_given_back c) ≡ places c = unheld_places c.ports in
+    sound_with (all_given_back c) (record { whole = S.whole; ports = l ∙ S.ports; settings = S.settings; cause = S.cause; mark = S.mark; commands = S.commands }) (omega (arith, S.room))
+
+part_after : (x : PartState) (p : Pending) (c : Component) → lost_by p (completed_for p (with_part x c)) ≡ with_part x (lost_by p (completed_for p c))
+part_after x p c = either (is_by_client p.cause)
+    (λ b. either c.loss_mark (λ m. rw (b, m) refl) (λ m. rw (b, m) refl))
+    (λ b. either c.loss_mark (λ m. rw (b, m) refl) (λ m. rw (b, m) refl))
+
+given_after : (p : Pending) (c : Component) → completed_for p (all_given_back c) ≡ all_given_back (completed_for p c)
+given_after p c = either (is_by_client p.cause) (λ b. rw b refl) (λ b. rw b refl)
+
+arrived_to : (number : ℕ) (t : State) (p : Pending) (c : Component) → IsSound c → c.pending ≡ Some p → p.target ≡ t → IsSound (arrived_at number t p c)
+arrived_to number Idle p c S e t = either (is_down c.state)
     (λ d.
     let g : (is_running c.state && is_going_to Idle c) ≡ false = rw (down_rests c.state d) refl in
     rw d (sound_completed Idle p c S e (unmarked c (lawful_of c S) g) (idle_reserves p c e t)))
-    (λ d. rw d (sound_idle p c S e t))
-arrived_to Loaded p c S e t =
+    (λ d. rw (d, part_after (restarted c) p (reached p c)) (sound_with_part (restarted c) (lost_by p (completed_for p (reached p c))) (sound_idle p c S e t)))
+arrived_to number Loaded p c S e t =
     let g : (is_running c.state && is_going_to Idle c) ≡ false = rw (going_is c p e, t) (and_false (is_running c.state)) in
-    sound_for p c S e (unmarked c (lawful_of c S) g)
-arrived_to Executing p c S e t = sound_other Executing p c S e (rw t refl) (rw t refl)
-arrived_to Pause p c S e t = sound_other Pause p c S e (rw t refl) (rw t refl)
-arrived_to WaitForResources p c S e t = sound_other WaitForResources p c S e (rw t refl) (rw t refl)
-arrived_to Invalid p c S e t = sound_other Invalid p c S e (rw t refl) (rw t refl)
+    rw (given_after p (reached p c)) (sound_given_back (completed_for p (reached p c)) (sound_for p c S e (unmarked c (lawful_of c S) g)))
+arrived_to number Executing p c S e t = sound_other Executing p c S e (rw t refl) (rw t refl)
+arrived_to number Pause p c S e t = sound_other Pause p c S e (rw t refl) (rw t refl)
+arrived_to number WaitForResources p c S e t = sound_with_waiting (Some number) (completed WaitForResources (reached p c)) (sound_other WaitForResources p c S e (rw t refl) (rw t refl))
+arrived_to number Invalid p c S e t = sound_other Invalid p c S e (rw t refl) (rw t refl)
 
-pub sound_arrived : (p : Pending) (c : Component) → IsSound c → c.pending ≡ Some p → IsSound (arrived p c)
-sound_arrived p c S e = arrived_to p.target p c S e refl
+pub sound_arrived : (number : ℕ) (p : Pending) (c : Component) → IsSound c → c.pending ≡ Some p → IsSound (arrived number p c)
+sound_arrived number p c S e = arrived_to number p.target p c S e refl
 
 change_for : (p : Pending) (c : Component) → IsChange c (completed_for p (reached p c))
 change_for p c = either (is_by_client p.cause) (λ b. rw b (change_completed p.target p c)) (λ b. rw b (change_reached p c))
@@ -195,18 +234,28 @@ change_for p c = either (is_by_client p.cause) (λ b. rw b (change_completed p.t
 change_lost_by : (p : Pending) (c : Component) → IsChange c (lost_by p c)
 change_lost_by p c = either (c.loss_mark || not (is_by_client p.cause)) (λ b. rw b (change_lost c)) (λ b. rw b (change_none c))
 
-change_to : (t : State) (p : Pending) (c : Component) → IsChange c (arrived_at t p c)
-change_to Idle p c = either (is_down c.state)
-    (λ d. rw d (change_completed Idle p c))
-    (λ d. rw d (change_twice c (completed_for p (reached p c)) (lost_by p (completed_for p (reached p c))) (change_for p c) (change_lost_by p (completed_for p (reached p c)))))
-change_to Loaded p c = change_for p c
-change_to Executing p c = change_completed Executing p c
-change_to Pause p c = change_completed Pause p c
-change_to WaitForResources p c = change_completed WaitForResources p c
-change_to Invalid p c = change_completed Invalid p c
+change_with_part : (x : PartState) (c d : Component) → IsChange c d → IsChange c (with_part x d)
+change_with_part x c d C = record { handle = C.handle; ports = C.ports; links = C.links; notes = C.notes }
 
-pub change_arrived : (p : Pending) (c : Component) → IsChange c (arrived p c)
-change_arrived p c = change_to p.target p c
+change_with_waiting : (o : Option ℕ) (c d : Component) → IsChange c d → IsChange c (with_waiting o d)
+change_with_waiting o c d C = record { handle = C.handle; ports = C.ports; links = C.links; notes = C.notes }
+
+change_given_back : (c d : Component) → IsChange c d → IsChange c (all_given_back d)
+change_given_back c d C = record { handle = C.handle; ports = C.ports; links = unheld_links d.ports ∙ C.links; notes = C.notes }
+
+change_to : (number : ℕ) (t : State) (p : Pending) (c : Component) → IsChange c (arrived_at number t p c)
+change_to number Idle p c = either (is_down c.state)
+    (λ d. rw d (change_completed Idle p c))
+    (λ d. rw (d, part_after (restarted c) p (reached p c)) (change_with_part (restarted c) c (lost_by p (completed_for p (reached p c)))
+    (change_twice c (completed_for p (reached p c)) (lost_by p (completed_for p (reached p c))) (change_for p c) (change_lost_by p (completed_for p (reached p c))))))
+change_to number Loaded p c = rw (given_after p (reached p c)) (change_given_back c (completed_for p (reached p c)) (change_for p c))
+change_to number Executing p c = change_completed Executing p c
+change_to number Pause p c = change_completed Pause p c
+change_to number WaitForResources p c = change_with_waiting (Some number) c (completed WaitForResources (reached p c)) (change_completed WaitForResources p c)
+change_to number Invalid p c = change_completed Invalid p c
+
+pub change_arrived : (number : ℕ) (p : Pending) (c : Component) → IsChange c (arrived number p c)
+change_arrived number p c = change_to number p.target p c
 
 -- ---- a port
 
@@ -234,6 +283,17 @@ change_with_port k new old c e l = record { handle = refl; ports = refl; links =
 pub state_there : (c : Component) (index : ℕ) (p : Port) → port_of c index ≡ Some p → slice_get c.ports p.key.port ≡ Some p.state
 state_there c index p e = let is = port_parts c index p e in let n : p.key.port ≡ index = ap (λ k. k.port) is.key in rw n is.state
 
+pub aside_with_port : (k : ℕ) (new old : PortState) (c : Component) → slice_get c.ports k ≡ Some old → (new.held ≡ true → old.held ≡ true) → IsAside c (with_port k new c)
+aside_with_port k new old c e h = record {
+  keeps = record { kind = refl; weights = refl; count = length-set c.ports k new; work = refl };
+  state = refl;
+  pending = refl;
+  holds = refl;
+  waiting = refl;
+  part = refl;
+  held = λ test A. held_set test c.ports k new old e h A;
+}
+
 -- a port lets a place go, and an event is told
 pub sound_let_go : (event : Event) (k : ℕ) (new old : PortState) (c : Component) → IsSound c → slice_get c.ports k ≡ Some old → port_places new < port_places old
     → IsSound (told event (with_port k new c))
@@ -245,6 +305,9 @@ sound_let_go event k new old c S e lt =
 pub change_let_go : (event : Event) (k : ℕ) (new old : PortState) (c : Component) → slice_get c.ports k ≡ Some old → new.link ≡ old.link
     → IsChange c (told event (with_port k new c))
 change_let_go event k new old c e l = change_twice c (with_port k new c) (told event (with_port k new c)) (change_with_port k new old c e l) (change_told event (with_port k new c))
+
+pub aside_let_go : (event : Event) (k : ℕ) (new old : PortState) (c : Component) → slice_get c.ports k ≡ Some old → (new.held ≡ true → old.held ≡ true) → IsAside c (told event (with_port k new c))
+aside_let_go event k new old c e h = aside_twice c (with_port k new c) (told event (with_port k new c)) (aside_with_port k new old c e h) (aside_told event (with_port k new c))
 
 -- the three things of a port
 pub flushed_places : (s : PortState) → s.flushing ≡ true → port_places (record s { flushing = false }) < port_places s

@@ -1,17 +1,19 @@
 -- One component in place of another of the same handle, with the same settings and links of ports and the same headers in its notes.
-use Rattle.std.proofs.Common.{◌≡◌, inl, inr, ℕ, zero, suc, ◌+◌, List, [], ◌∷◌, map, set, slice_get, Option, Some, refl, ◌∙◌, ap}
+use Rattle.std.proofs.Common.{◌≡◌, inl, inr, ℕ, true, zero, suc, ◌+◌, List, [], ◌∷◌, map, set, slice_get, Option, Some, refl, sym, ◌∙◌, ap, arith}
 use Rattle.std.proofs.lemmas.Bool.{cases_eq}
 use Rattle.il_machine.specs.declared.port.Link.{Link}
 use Rattle.il_machine.specs.declared.port.PortSetting.{PortSetting}
 use Rattle.il_machine.specs.declared.port.PortState.{PortState}
-use Rattle.il_machine.specs.World.{Component, HeaderRecord, World, number_of, ports_from, port_of, with_component}
+use Rattle.il_machine.specs.World.{Component, HeaderRecord, Work, World, number_of, ports_from, port_of, with_component}
 use Rattle.il_machine.specs.Headers.{seen}
 use Rattle.il_machine.specs.Census.{note_numbers}
-use Rattle.il_machine.specs.Sound.{Sound, IsSound, AreNoted, AreRising, port_at}
+use Rattle.il_machine.specs.Sound.{Sound, IsSound, AreNoted, AreRising, may_work, port_at}
 use Rattle.machine_laws.proofs.Every.{at_set}
 use Rattle.machine_laws.proofs.Lookups.{rising_set, port_at_is, port_at_set, port_at_set_else}
 use Rattle.machine_laws.proofs.Ties.{Tied}
 use Rattle.machine_laws.proofs.PortChanges.{AreKept, tied_kept, kept_itself}
+use Rattle.machine_laws.proofs.Works.{IsLawfulWork, works_set, lawful_as}
+use Rattle.machine_laws.proofs.Units.{Resources, IsAside, IsFair, fair_aside, resources_of, resources_set}
 use Rattle.machine_laws.proofs.Parts.{Parts, ports_in_list, parts_of, sound_from}
 
 abbrev pub link_of : PortState → Option Link
@@ -59,17 +61,44 @@ each_set P i cs d h p j x e = elim (at_set cs i j d x e) [ inl s ↦ rw s.1 p | 
 pub same_notes : (hs : List HeaderRecord) (c d : Component) → number_of d ≡ number_of c → note_numbers d.notes ≡ note_numbers c.notes → AreNoted (seen hs) c → AreNoted (seen hs) d
 same_notes hs c d n e A = λ number. rw (e, n) (A number)
 
-pub parts_changed : (numbered made i : ℕ) (cs : List Component) (hs : List HeaderRecord) (c d : Component) → Parts cs hs numbered made → slice_get cs i ≡ Some c → IsChange c d → IsSound d → Parts (set cs i d) hs numbered made
-parts_changed numbered made i cs hs c d P e C S =
+pub lawful_set : (waits after i : ℕ) (cs : List Component) (c d : Component) → slice_get cs i ≡ Some c → IsFair waits after c d
+    → ((j : ℕ) (x : Component) (work : Work) → slice_get cs j ≡ Some x → x.work ≡ Some work → IsLawfulWork x work)
+    → (j : ℕ) (x : Component) (work : Work) → slice_get (set cs i d) j ≡ Some x → x.work ≡ Some work → IsLawfulWork x work
+lawful_set waits after i cs c d t F L j x work e f = elim (at_set cs i j d x e) [
+  | inl s ↦
+      let q : c.work ≡ Some work = sym (F.keeps).work ∙ (ap (λ (y : Component). y.work) (sym s.1) ∙ f) in
+      rw s.1 (lawful_as c d work F.keeps (F.stays work q) (L i c work t q))
+  | inr s ↦ L j x work s.1 f
+]
+
+pub parts_changed : (waits after numbered made i : ℕ) (cs : List Component) (hs : List HeaderRecord) (c d : Component) → Parts cs hs numbered made → slice_get cs i ≡ Some c → IsChange c d → IsSound d → IsFair waits after c d
+    → Parts (set cs i d) hs numbered made
+parts_changed waits after numbered made i cs hs c d P e C S F =
     let n : number_of d ≡ number_of c = ap (λ h. h.generation) C.handle in
     record {
       rising = rising_set 0 numbered i cs c d P.rising e n;
       components = each_set IsSound i cs d P.components S;
       tied = tied_set numbered i cs hs c d P.rising e n (kept_by_change hs c d C) P.tied;
       noted = each_set (AreNoted (seen hs)) i cs d P.noted (same_notes hs c d n C.notes (P.noted i c e));
+      works = works_set i cs hs c d e n (F.keeps).work P.works;
+      lawful = lawful_set waits after i cs c d e F P.lawful;
       once = P.once;
       below = P.below;
     }
 
-pub sound_component : (w : World) (i : ℕ) (c d : Component) → Sound w → slice_get w.components i ≡ Some c → IsChange c d → IsSound d → Sound (with_component i d w)
-sound_component w i c d S e C I = sound_from (with_component i d w) (parts_changed w.numbered w.made i w.components w.headers c d (parts_of w S) e C I)
+-- a work of a component of a sound world is out in a state in which it may be
+pub out_there : (w : World) (i : ℕ) (c : Component) → Sound w → slice_get w.components i ≡ Some c → (work : Work) → c.work ≡ Some work → may_work c ≡ true
+out_there w i c S t work e = ((parts_of w S).lawful i c work t e).state
+
+-- a change of a component of a sound world that is aside of its state and units
+pub aside_there : (w : World) (i : ℕ) (c d : Component) → Sound w → slice_get w.components i ≡ Some c → IsAside c d → IsFair w.waits w.waits c d
+aside_there w i c d S t A = fair_aside w.waits c d A ((resources_of w S).each i c t) (out_there w i c S t)
+
+-- the resources of a sound world after the change
+pub resources_changed : (w : World) (i : ℕ) (c d : Component) → Sound w → slice_get w.components i ≡ Some c → number_of d ≡ number_of c → IsFair w.waits w.waits c d → Resources (set w.components i d) w.streams w.waits w.units
+resources_changed w i c d S t n F = resources_set w.waits w.waits w.units i w.components w.streams c d (omega arith) t n F (resources_of w S)
+
+pub sound_component : (w : World) (i : ℕ) (c d : Component) → Sound w → slice_get w.components i ≡ Some c → IsChange c d → IsSound d → IsFair w.waits w.waits c d → Sound (with_component i d w)
+sound_component w i c d S e C I F =
+    sound_from (with_component i d w) (parts_changed w.waits w.waits w.numbered w.made i w.components w.headers c d (parts_of w S) e C I F)
+    (resources_changed w i c d S e (ap (λ h. h.generation) C.handle) F)

@@ -11,7 +11,7 @@ use Rattle.il_machine.specs.declared.header.Owner.TheVariants as owners
 use Rattle.il_machine.specs.declared.header.Spot.TheVariants.{TodoBack}
 use Rattle.il_machine.specs.States.{is_invalid, is_down, is_up}
 use Rattle.il_machine.specs.World.{Component, HeaderRecord, World, port_of, with_component}
-use Rattle.il_machine.specs.Headers.{seen, find_header, count_headers, is_for, is_notice, loaded, empty_load, unloaded}
+use Rattle.il_machine.specs.Headers.{seen, find_header, count_headers, is_for, loaded, empty_load, unloaded}
 use Rattle.il_machine.specs.Look.{Look, look}
 use Rattle.il_machine.specs.Ports.{is_input_port, accepting, populated, is_joined, is_going_to, is_at_rest}
 use Rattle.il_machine.specs.Room.{room}
@@ -21,9 +21,10 @@ use Rattle.machine_laws.proofs.Finding.{either}
 use Rattle.machine_laws.proofs.Keys.{for_which, is_there}
 use Rattle.machine_laws.proofs.Lookups.{port_there_at}
 use Rattle.machine_laws.proofs.Parts.{parts_of, sound_from}
-use Rattle.machine_laws.proofs.Change.{IsChange, change_none, parts_changed}
-use Rattle.machine_laws.proofs.Headers.{parts_put, parts_push, parts_without}
-use Rattle.machine_laws.proofs.Rooms.{sound_told, change_told}
+use Rattle.machine_laws.proofs.Change.{IsChange, change_none, parts_changed, aside_there, resources_changed}
+use Rattle.machine_laws.proofs.Units.{IsAside, aside_none, resources_of}
+use Rattle.machine_laws.proofs.Headers.{is_set_aside, parts_put, parts_push, parts_without}
+use Rattle.machine_laws.proofs.Rooms.{aside_told, sound_told, change_told}
 use Rattle.machine_laws.proofs.Accepting.{passed, not_either, not_not, is_not, both_of}
 use Rattle.machine_laws.proofs.Listed.{header_there}
 
@@ -61,7 +62,7 @@ sound_made w i c index p client_memory memory S t e a l =
           let is : q ≡ p = cc in
           rw is (subst (λ (x : PortKey). count_headers (is_for x) w.headers < p.setting.definition.count) h few)
       | inr h ↦ absurd cc
-    ]))
+    ])) (resources_of w S)
 
 allocate_passes : (l : Look) (c : Component) (p : Port) → allocate_refusal l c (Some p) ≡ None → (accepting l.headers c p ≡ true) × (p.state.link ≡ None)
 allocate_passes l c p h =
@@ -87,10 +88,10 @@ sound_used w i c index p bytes S t e h = let a = use_passes (look w) c p (length
 
 -- ---- handed in
 
--- a header that is in no note, and was made for the port, goes to the back of the port's todo
+-- a header that is in no note and no work, and was made for the port, goes to the back of the port's todo
 pub sound_put : (w : World) (key : PortKey) (number : ℕ) (change : HeaderRecord → HeaderRecord) (r : HeaderRecord) → ((x : HeaderRecord) → (change x).state ≡ x.state)
-    → Sound w → find_header number w.headers ≡ Some r → is_notice r.state.owner ≡ false → is_for key r.state ≡ true → Sound (with_todo key number change w)
-sound_put w key number change r keeps S f a b = sound_from (with_todo key number change w) (parts_put w.components key TodoBack change number r w.headers w.numbered w.made keeps (parts_of w S) f a b)
+    → Sound w → find_header number w.headers ≡ Some r → is_set_aside r.state.owner ≡ false → is_for key r.state ≡ true → Sound (with_todo key number change w)
+sound_put w key number change r keeps S f a b = sound_from (with_todo key number change w) (parts_put w.components key TodoBack change number r w.headers w.numbered w.made keeps (parts_of w S) f a b) (resources_of w S)
 
 empty_passes : (c : Component) (p : Port) (s : HeaderState) (content : List ℕ) → empty_refusal c (Some p) s content ≡ None → is_for p.key s ≡ true
 empty_passes c p s content h =
@@ -113,7 +114,7 @@ sound_emptied w c index p s header S e f o h =
     let r = header_there (find_header header.number w.headers) (λ x. x ≡ s) (rw f refl) in
     let b = empty_passes c p s header.content (rw e at h) in
     let k : is_for p.key (r.0).state ≡ true = rw r.2 b in
-    let n : is_notice (r.0).state.owner ≡ false = rw (r.2, o) refl in
+    let n : is_set_aside (r.0).state.owner ≡ false = rw (r.2, o) refl in
     sound_put w p.key header.number (loaded (load_in header)) r.0 (λ x. refl) S r.1 n k
 
 pub sound_filled : (w : World) (c : Component) (index : ℕ) (p : Port) (s : HeaderState) (header : Held) → Sound w → port_of c index ≡ Some p
@@ -123,7 +124,7 @@ sound_filled w c index p s header S e f o h =
     let r = header_there (find_header header.number w.headers) (λ x. x ≡ s) (rw f refl) in
     let b = fill_passes c p s (rw e at h) in
     let k : is_for p.key (r.0).state ≡ true = rw r.2 b in
-    let n : is_notice (r.0).state.owner ≡ false = rw (r.2, o) refl in
+    let n : is_set_aside (r.0).state.owner ≡ false = rw (r.2, o) refl in
     sound_put w p.key header.number (loaded (unloaded (load_in header))) r.0 (λ x. refl) S r.1 n k
 
 -- ---- unmade
@@ -141,13 +142,18 @@ sound_unpopulated p c S h = either (is_unpopulating c p)
 change_unpopulated : (p : Port) (c : Component) → IsChange c (unpopulated p c)
 change_unpopulated p c = either (is_unpopulating c p) (λ t. rw t (change_told (Error errors.PortUnpopulated) c)) (λ f. rw f (change_none c))
 
+aside_unpopulated : (p : Port) (c : Component) → IsAside c (unpopulated p c)
+aside_unpopulated p c = either (is_unpopulating c p) (λ t. rw t (aside_told (Error errors.PortUnpopulated) c)) (λ f. rw f (aside_none c))
+
 pub sound_freed : (w : World) (i : ℕ) (c : Component) (index : ℕ) (p : Port) (s : HeaderState) (number : ℕ) → Sound w → slice_get w.components i ≡ Some c → port_of c index ≡ Some p
     → (seen w.headers).header number ≡ Some s → s.owner ≡ owners.Client → free_buffer_refusal c (port_of c index) s ≡ None
     → Sound (without_header number (with_component i (unpopulated p c) w))
 sound_freed w i c index p s number S t e f o h =
     let P = parts_of w S in
     let r = header_there (find_header number w.headers) (λ x. x ≡ s) (rw f refl) in
-    let n : is_notice (r.0).state.owner ≡ false = rw (r.2, o) refl in
+    let n : is_set_aside (r.0).state.owner ≡ false = rw (r.2, o) refl in
     let I = sound_unpopulated p c (P.components i c t) (free_passes c p s (rw e at h)) in
-    let Q = parts_changed w.numbered w.made i w.components w.headers c (unpopulated p c) P t (change_unpopulated p c) I in
+    let F = aside_there w i c (unpopulated p c) S t (aside_unpopulated p c) in
+    let Q = parts_changed w.waits w.waits w.numbered w.made i w.components w.headers c (unpopulated p c) P t (change_unpopulated p c) I F in
     sound_from (without_header number (with_component i (unpopulated p c) w)) (parts_without (set w.components i (unpopulated p c)) number r.0 w.headers w.numbered w.made Q r.1 n)
+    (resources_changed w i c (unpopulated p c) S t (ap (λ h. h.generation) (change_unpopulated p c).handle) F)

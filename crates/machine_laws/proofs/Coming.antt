@@ -2,6 +2,7 @@
 use Rattle.std.proofs.Common.{◌≡◌, inl, inr, ℕ, zero, suc, ◌+◌, ◌<◌, Bool, true, false, not, ◌||◌, List, [], ◌∷◌, ◌++◌, remove, replicate, slice_get, is_some, Option, Some, None, option_map, find, sum_by, refl, sym, ◌∙◌, ap, subst, lt-ltb, le-ltb, eqb-true, arith}
 use Rattle.std.specs.List.{list_any, AllByRecursion}
 use Rattle.std.proofs.lemmas.List.{length-replicate}
+use Rattle.std.proofs.lemmas.List.Elements.{All-replicate}
 use Rattle.std.proofs.lemmas.List.Sums.{sum_by-cons}
 use Rattle.std.proofs.lemmas.Bool.{cases_eq}
 use Rattle.omx_types.specs.declared.handle.Handle.{Handle}
@@ -11,23 +12,25 @@ use Rattle.il_machine.specs.declared.port.Port.{Port}
 use Rattle.il_machine.specs.declared.port.PortSetting.{PortSetting}
 use Rattle.il_machine.specs.declared.header.Owner.TheVariants as owners
 use Rattle.il_machine.specs.States.{is_loaded, is_invalid}
-use Rattle.il_machine.specs.Kinds.{named_kinds, has_name, kind_of, inputs_of, outputs_of, ports_in, is_input, is_format_of}
+use Rattle.il_machine.specs.Kinds.{named_kinds, has_name, kind_of, inputs_of, outputs_of, ports_in, is_input, is_late, is_format_of}
 use Rattle.il_machine.specs.Settings.{IsSized, default_setting, default_settings, is_definition_of}
-use Rattle.il_machine.specs.World.{Component, HeaderRecord, World, fresh, fresh_port, ports_of, port_of}
-use Rattle.il_machine.specs.Headers.{Seen, find_header, count_headers, weight, is_for, is_notice_of}
+use Rattle.il_machine.specs.World.{Component, HeaderRecord, World, fresh, fresh_port, fresh_stream, ports_of, port_of}
+use Rattle.il_machine.specs.Headers.{Seen, find_header, count_headers, weight, is_for, is_notice_of, is_work_of}
 use Rattle.il_machine.specs.Look.{look}
 use Rattle.il_machine.specs.Ports.{is_joined, unmade}
 use Rattle.il_machine.specs.Room.{port_places}
 use Rattle.il_machine.specs.Due.{each_port}
 use Rattle.il_machine.specs.Components.{with_new_component, free_refusal, without_component}
-use Rattle.il_machine.specs.Sound.{Sound, IsSound, IsLawfulSetting, IsMadeFor, IsOwnedSo, port_at}
+use Rattle.il_machine.specs.Sound.{Sound, IsSound, IsLawfulSetting, IsMadeFor, IsOwnedSo, IsUnitSound, port_at}
 use Rattle.il_machine.proofs.Wholes.{whole_default}
 use Rattle.machine_laws.proofs.Every.{at_push, push_there, at_remove, remove_else, at_replicas, at_two_replicas, found_one, all_pass, none_passes}
 use Rattle.machine_laws.proofs.Keys.{there_is}
 use Rattle.machine_laws.proofs.Lookups.{rises_at, rising_push, rising_remove, port_at_is, has_port, port_parts}
 use Rattle.machine_laws.proofs.PortChanges.{tied_new, tied_gone}
+use Rattle.machine_laws.proofs.Works.{worked_at, works_remove}
+use Rattle.machine_laws.proofs.Units.{if_held, resources_of, resources_push, resources_remove}
 use Rattle.machine_laws.proofs.Parts.{Parts, ports_in_list, parts_of, sound_from}
-use Rattle.machine_laws.proofs.Headers.{noticed_at}
+use Rattle.machine_laws.proofs.Headers.{noticed_at, work_is, worker_there}
 use Rattle.machine_laws.proofs.Accepting.{passed, not_either, not_not}
 use Rattle.machine_laws.proofs.ClientHeaders.{unlinked}
 use Rattle.machine_laws.proofs.Listed.{weighs_one}
@@ -194,6 +197,29 @@ none_noticed cs hs numbered made P m = elim (cases_eq (weight (noticed_at number
       absurd (omega (arith, b.1, h.number, O.2))
 ]
 
+-- nor in its work
+none_worked : (cs : List Component) (hs : List HeaderRecord) (numbered made : ℕ) → Parts cs hs numbered made → (m : ℕ) → weight (worked_at numbered m hs) ≡ 0
+none_worked cs hs numbered made P m = elim (cases_eq (weight (worked_at numbered m hs)) 0) [
+  | inl z ↦ z
+  | inr n ↦
+      let r = weighs_one (find_header m hs) (λ s. is_work_of numbered s.owner) (omega arith) in
+      let o : (r.0).state.owner ≡ owners.Work numbered = work_is numbered (r.0).state.owner r.2 in
+      let c = worker_there cs hs numbered made P numbered m r.0 r.1 o in
+      let b = rises_at 0 numbered c.0 cs c.1 P.rising c.2 in
+      absurd (omega (arith, b.1, c.3))
+]
+
+-- a new component holds nothing, and waits for nothing
+units_fresh : (waits : ℕ) (h : Handle) (kind : Kind) → IsUnitSound waits (fresh h kind)
+units_fresh waits h kind = record {
+  gives = λ t. absurd cc;
+  waiting = λ t. absurd cc;
+  numbered = λ n e. absurd cc;
+  way = λ p e. absurd cc;
+  held = if_held (is_late kind) (replicate (ports_in kind) fresh_port) (All-replicate (λ p. p.held ≡ true → is_late kind ≡ true) (ports_in kind) fresh_port (λ t. absurd cc));
+  inputs = length-replicate (inputs_of kind) false;
+}
+
 pub sound_new : (w : World) (h : Handle) (kind : Kind) → Sound w → h.generation ≡ w.numbered → IsSized kind → Sound (with_new_component h kind w)
 sound_new w h kind S n z =
     let P = parts_of w S in
@@ -220,15 +246,29 @@ sound_new w h kind S n z =
         | inl a ↦ P.noted i x a
         | inr a ↦ rw (a, n) (λ m. sym (none_noticed cs w.headers w.numbered w.made P m))
       ];
+      works = record {
+        claimed = λ i x e. elim (at_push cs i c x e) [
+          | inl a ↦ (P.works).claimed i x a
+          | inr a ↦ rw (a, n) (λ m. sym (none_worked cs w.headers w.numbered w.made P m))
+        ];
+        made = λ i x work e f. elim (at_push cs i c x e) [
+          | inl a ↦ (P.works).made i x work a f
+          | inr a ↦ let z : x.work ≡ None = ap (λ (y : Component). y.work) a in absurd cc
+        ];
+      };
+      lawful = λ i x work e f. elim (at_push cs i c x e) [
+        | inl a ↦ P.lawful i x work a f
+        | inr a ↦ let z : x.work ≡ None = ap (λ (y : Component). y.work) a in absurd cc
+      ];
       once = P.once;
       below = P.below;
-    })
+    }) (resources_push w.waits w.units cs w.streams c (fresh_stream w.numbered) (sym n) (units_fresh w.waits h kind) refl refl (resources_of w S))
 
 -- ---- a component that leaves
 
 pub free_handle_passes : (headers : Seen) (c : Component) → free_refusal headers c ≡ None → (each_port c (unmade headers) ≡ true) × (list_any is_joined (ports_of c) ≡ false)
 free_handle_passes headers c h =
-    let a = (passed (not (is_loaded c.state || is_invalid c.state) || (is_some c.pending || (not (each_port c (unmade headers)) || (list_any is_joined (ports_of c) || (c.client_out || false))))) _ _ h).0 in
+    let a = (passed (not (is_loaded c.state || is_invalid c.state) || (is_some c.pending || (not (each_port c (unmade headers)) || (list_any is_joined (ports_of c) || (is_some c.work || (c.client_out || false)))))) _ _ h).0 in
     let b = not_either (not (is_loaded c.state || is_invalid c.state)) _ a in
     let d = not_either (is_some c.pending) _ b.1 in
     let e = not_either (not (each_port c (unmade headers))) _ d.1 in
@@ -264,6 +304,8 @@ sound_removed w i c S t h =
                 inl (port_at_is w.numbered b.0 key (remove cs i) a.component R b.1 a.number ∙ a.port)
           ]);
       noted = λ j x e. let a = at_remove cs i j x e in P.noted a.0 x a.2;
+      works = works_remove i cs w.headers P.works;
+      lawful = λ j x work e f. let a = at_remove cs i j x e in P.lawful a.0 x work a.2 f;
       once = P.once;
       below = P.below;
-    })
+    }) (resources_remove w.waits w.units w.numbered i cs w.streams c P.rising t (resources_of w S))

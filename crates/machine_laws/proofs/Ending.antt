@@ -19,12 +19,12 @@ use Rattle.il_machine.specs.World.{Component, World, port_of, with_port, told}
 use Rattle.il_machine.specs.Look.{look}
 use Rattle.il_machine.specs.Ports.{is_steady}
 use Rattle.il_machine.specs.Room.{is_by_client, port_places}
-use Rattle.il_machine.specs.Due.{Thing, Transition, Flush, PortMode, WaitingMark, is_due_to, due_in, has_due, first_due, reached, completed_for, lost_by, arrived, arrived_at, transition_happened, mode_completion, all_told, happened, Happens, HappenTimes, ClosesTo}
+use Rattle.il_machine.specs.Due.{Thing, Transition, Flush, PortMode, WaitingMark, is_due_to, due_in, has_due, first_due, reached, completed_for, lost_by, restarted, with_part, all_given_back, arrived, arrived_at, transition_happened, mode_completion, all_told, happened, Happens, HappenTimes, ClosesTo}
 use Rattle.il_machine.proofs.Places.{is_first_place, passes_at}
 use Rattle.machine_laws.proofs.Finding.{either}
 use Rattle.machine_laws.proofs.Keys.{none_or_some}
 use Rattle.machine_laws.proofs.Lookups.{port_parts}
-use Rattle.machine_laws.proofs.Arriving.{state_there, flushed_places, steady_places, marked_places}
+use Rattle.machine_laws.proofs.Arriving.{unheld_places, state_there, flushed_places, steady_places, marked_places}
 use Rattle.machine_laws.proofs.Happening.{IsDueAt, due_where, due_changes}
 
 -- ---- how much is pending
@@ -68,17 +68,17 @@ little_after p c = either (is_by_client p.cause)
     (λ b. either c.loss_mark (λ m. rw (b, m) (omega arith)) (λ m. rw (b, m) (omega arith)))
     (λ b. either c.loss_mark (λ m. rw (b, m) (omega arith)) (λ m. rw (b, m) (omega arith)))
 
-fewer_at : (t : State) (p : Pending) (c : Component) → left_in (arrived_at t p c) < target_weight t + sum_by port_places c.ports
-fewer_at Idle p c = either (is_down c.state) (λ d. rw d (omega arith)) (λ d. let l = little_after p c in rw d (omega arith))
-fewer_at Loaded p c = let n = none_after p c in omega arith
-fewer_at Executing p c = omega arith
-fewer_at Pause p c = omega arith
-fewer_at WaitForResources p c = omega arith
-fewer_at Invalid p c = omega arith
+fewer_at : (number : ℕ) (t : State) (p : Pending) (c : Component) → left_in (arrived_at number t p c) < target_weight t + sum_by port_places c.ports
+fewer_at number Idle p c = either (is_down c.state) (λ d. rw d (omega arith)) (λ d. let l = little_after p (with_part (restarted c) c) in rw d (omega arith))
+fewer_at number Loaded p c = let n = none_after p (all_given_back c) in let g = unheld_places c.ports in omega arith
+fewer_at number Executing p c = omega arith
+fewer_at number Pause p c = omega arith
+fewer_at number WaitForResources p c = omega arith
+fewer_at number Invalid p c = omega arith
 
-fewer_arrived : (p : Pending) (c : Component) → c.pending ≡ Some p → left_in (arrived p c) < left_in c
-fewer_arrived p c e =
-    let f = fewer_at p.target p c in
+fewer_arrived : (number : ℕ) (p : Pending) (c : Component) → c.pending ≡ Some p → left_in (arrived number p c) < left_in c
+fewer_arrived number p c e =
+    let f = fewer_at number p.target p c in
     let w : pending_weight c.pending ≡ target_weight p.target = rw e refl in
     omega arith
 
@@ -121,7 +121,7 @@ fewer_of w i c index p (WaitingMark n) t e k d =
 fewer_transition : (w : World) (i : ℕ) (c : Component) (o : Option Pending) → slice_get w.components i ≡ Some c → c.pending ≡ o → holds_at o (λ p. is_due_to (look w).headers c p.target) ≡ true
     → left (transition_happened i c o w) < left w
 fewer_transition w i c None t e d = absurd cc
-fewer_transition w i c (Some p) t e d = fewer_left w.components i c (arrived p c) t (fewer_arrived p c e)
+fewer_transition w i c (Some p) t e d = fewer_left w.components i c (arrived w.waits p c) t (fewer_arrived w.waits p c e)
 
 fewer_happened : (w : World) (i : ℕ) (c : Component) (thing : Thing) → slice_get w.components i ≡ Some c → due_in (look w).headers c ≡ Some thing → left (happened i c thing w) < left w
 fewer_happened w i c thing t h = elim (due_where (look w).headers c thing h) [

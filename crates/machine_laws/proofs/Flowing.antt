@@ -9,7 +9,7 @@ use Rattle.il_machine.specs.declared.header.Place.TheVariants.{Out}
 use Rattle.il_machine.specs.declared.header.Spot.{Spot}
 use Rattle.il_machine.specs.declared.header.Spot.TheVariants.{TodoBack}
 use Rattle.il_machine.specs.World.{Component, HeaderRecord, World, port_of}
-use Rattle.il_machine.specs.Headers.{seen, count_headers, is_for, is_notice, unchanged, cleared, empty_load}
+use Rattle.il_machine.specs.Headers.{seen, count_headers, is_for, unchanged, cleared, empty_load}
 use Rattle.il_machine.specs.Look.{look}
 use Rattle.il_machine.specs.Ports.{accepting, is_supplier, is_input_port}
 use Rattle.il_machine.specs.Buffers.{without_header}
@@ -19,15 +19,16 @@ use Rattle.machine_laws.proofs.Keys.{for_which, for_port, is_there, none_or_some
 use Rattle.machine_laws.proofs.Lookups.{port_there_at}
 use Rattle.machine_laws.proofs.Ties.{other_side, for_both}
 use Rattle.machine_laws.proofs.Parts.{Parts, ports_in_list, parts_of, sound_from}
-use Rattle.machine_laws.proofs.Headers.{parts_put, parts_push, parts_without}
+use Rattle.machine_laws.proofs.Headers.{is_set_aside, parts_put, parts_push, parts_without}
+use Rattle.machine_laws.proofs.Units.{resources_of}
 use Rattle.machine_laws.proofs.Accepting.{passed, not_not}
 use Rattle.machine_laws.proofs.Listed.{IsIn, AreIn, todo_in, done_in, both_in}
 use Rattle.machine_laws.proofs.ClientHeaders.{accepts_fewer}
 
--- ---- a header in a list of a port is in no note, and was made for the port
+-- ---- a header in a list of a port is in no note and no work, and was made for the port
 
-in_no_note : (key : PortKey) (hs : List HeaderRecord) (n : ℕ) (I : IsIn key hs n) → is_notice (I.header).state.owner ≡ false
-in_no_note key hs n I = rw I.owner refl
+in_list : (key : PortKey) (hs : List HeaderRecord) (n : ℕ) (I : IsIn key hs n) → is_set_aside (I.header).state.owner ≡ false
+in_list key hs n I = rw I.owner refl
 
 in_for : (cs : List Component) (key : PortKey) (hs : List HeaderRecord) (numbered made n : ℕ) → Parts cs hs numbered made → (I : IsIn key hs n) → is_for key (I.header).state ≡ true
 in_for cs key hs numbered made n P I = let O : IsOwnedSo (I.header).state (owners.Port key) = rw I.owner at (P.tied.placed n I.header I.found).owner in O.0
@@ -96,14 +97,14 @@ sound_supplied w i c index p S t e h = elim (none_or_some p.state.link) [
       absurd cc
   | inr link ↦
       let f : supplied_by w.made p p.state.link ≡ record { state = tunnel_header w.made p (link.0).peer; load = empty_load None } ∷ [] = rw link.1 refl in
-      sound_from (with_supplied p w) (rw f (sound_tunnel_header w i c index p link.0 S t e link.1 h))
+      sound_from (with_supplied p w) (rw f (sound_tunnel_header w i c index p link.0 S t e link.1 h)) (resources_of w S)
 ]
 
 -- ---- unmade
 
 released_front : (w : World) (key : PortKey) (ns : List ℕ) → Sound w → AreIn key w.headers ns → Sound (front_unmade ns w)
 released_front w key [] S A = S
-released_front w key (n ∷ ns) S A = let I = A.0 in sound_from (without_header n w) (parts_without w.components n I.header w.headers w.numbered w.made (parts_of w S) I.found (in_no_note key w.headers n I))
+released_front w key (n ∷ ns) S A = let I = A.0 in sound_from (without_header n w) (parts_without w.components n I.header w.headers w.numbered w.made (parts_of w S) I.found (in_list key w.headers n I)) (resources_of w S)
 
 pub sound_released : (w : World) (p : Port) → Sound w → Sound (front_unmade (in_port (seen w.headers) p) w)
 sound_released w p S =
@@ -120,7 +121,7 @@ front_moves w i c index p link spot change (n ∷ ns) S t e l keeps A =
     let I = A.0 in
     let at = port_there_at w.numbered i w.components c index p P.rising t e in
     let f = for_both (ports_in_list w.components) w.headers p.key p link (I.header).state P.tied at l (P.tied.placed n I.header I.found) (in_for w.components p.key w.headers w.numbered w.made n P I) in
-    sound_from (front_put link.peer spot change (n ∷ ns) w) (parts_put w.components link.peer spot change n I.header w.headers w.numbered w.made keeps P I.found (in_no_note p.key w.headers n I) f)
+    sound_from (front_put link.peer spot change (n ∷ ns) w) (parts_put w.components link.peer spot change n I.header w.headers w.numbered w.made keeps P I.found (in_list p.key w.headers n I) f) (resources_of w S)
 
 over_link : (w : World) (i : ℕ) (c : Component) (index : ℕ) (p : Port) (o : Option Link) → Sound w → slice_get w.components i ≡ Some c → port_of c index ≡ Some p → p.state.link ≡ o
     → Sound (at_link o (λ peer. front_put peer TodoBack unchanged ((seen w.headers).done p.key)) w)

@@ -8,19 +8,21 @@ use Rattle.il_machine.specs.declared.port.Mark.{Mark}
 use Rattle.il_machine.specs.declared.port.Mode.{Mode}
 use Rattle.il_machine.specs.declared.port.Mode.TheVariants.{Steady, Enabling, Disabling}
 use Rattle.il_machine.specs.declared.port.Port.{Port}
-use Rattle.il_machine.specs.Lists.{first_of_these}
+use Rattle.il_machine.specs.Lists.{first_of_these, holds_at}
 use Rattle.il_machine.specs.World.{Component, HeaderRecord, World, ports_of, port_of, with_port, with_component, told}
 use Rattle.il_machine.specs.Headers.{Seen, seen}
 use Rattle.il_machine.specs.Look.{look}
 use Rattle.il_machine.specs.Ports.{is_steady}
-use Rattle.il_machine.specs.Due.{Thing, Transition, Flush, PortMode, WaitingMark, is_transition_due, is_flush_due, is_mode_due, is_mark_due, things_of, due_in, arrived, transition_happened, flush_happened, mode_completion, all_told, mode_happened, marked, first_marked, mark_happened, happened, Happens, HappenTimes, ClosesTo}
+use Rattle.il_machine.specs.Due.{Thing, Transition, Flush, PortMode, WaitingMark, is_due_to, is_transition_due, is_flush_due, is_mode_due, is_mark_due, things_of, due_in, arrived, waits_after, transition_happened, flush_happened, mode_completion, all_told, mode_happened, marked, first_marked, mark_happened, happened, Happens, HappenTimes, ClosesTo}
 use Rattle.il_machine.specs.Sound.{Sound}
 use Rattle.machine_laws.proofs.Finding.{either}
 use Rattle.machine_laws.proofs.Lookups.{port_parts}
 use Rattle.machine_laws.proofs.Parts.{Parts, parts_of, sound_from}
-use Rattle.machine_laws.proofs.Change.{parts_changed, sound_component}
+use Rattle.machine_laws.proofs.Change.{parts_changed, sound_component, out_there, aside_there, resources_changed}
+use Rattle.machine_laws.proofs.Units.{resources_of, resources_set}
+use Rattle.machine_laws.proofs.Fairness.{fair_arrived, waits_later}
 use Rattle.machine_laws.proofs.Headers.{parts_loaded}
-use Rattle.machine_laws.proofs.Arriving.{sound_arrived, change_arrived, state_there, sound_let_go, change_let_go, flushed_places, steady_places, marked_places}
+use Rattle.machine_laws.proofs.Arriving.{sound_arrived, change_arrived, state_there, sound_let_go, change_let_go, aside_let_go, flushed_places, steady_places, marked_places}
 use Rattle.machine_laws.proofs.Resets.{parts_reset_port, parts_reset_on}
 
 -- ---- what is due at a port
@@ -61,12 +63,19 @@ due_where headers c t h = either (is_transition_due headers c)
 
 -- ---- the transition
 
-pub sound_transition : (w : World) (i : ℕ) (c : Component) (o : Option Pending) → Sound w → slice_get w.components i ≡ Some c → c.pending ≡ o → Sound (transition_happened i c o w)
-sound_transition w i c None S t e = S
-sound_transition w i c (Some p) S t e =
+pub sound_transition : (w : World) (i : ℕ) (c : Component) (o : Option Pending) → Sound w → slice_get w.components i ≡ Some c → c.pending ≡ o → holds_at o (λ p. is_due_to (look w).headers c p.target) ≡ true
+    → Sound (transition_happened i c o w)
+sound_transition w i c None S t e h = S
+sound_transition w i c (Some p) S t e h =
     let P = parts_of w S in
-    let Q = parts_changed w.numbered w.made i w.components w.headers c (arrived p c) P t (change_arrived p c) (sound_arrived p c (P.components i c t) e) in
-    sound_from (transition_happened i c (Some p) w) (parts_reset_on (set w.components i (arrived p c)) w.numbered w.made c p.target w.headers Q)
+    let R = resources_of w S in
+    let d : Component = arrived w.waits p c in
+    let after : ℕ = waits_after p.target w.waits in
+    let C = change_arrived w.waits p c in
+    let F = fair_arrived (look w).headers w.waits p c (R.each i c t) e h (out_there w i c S t) in
+    let Q = parts_changed w.waits after w.numbered w.made i w.components w.headers c d P t C (sound_arrived w.waits p c (P.components i c t) e) F in
+    sound_from (transition_happened i c (Some p) w) (parts_reset_on (set w.components i d) w.numbered w.made c p.target w.headers Q)
+    (resources_set w.waits after w.units i w.components w.streams c d (waits_later p.target w.waits) t (ap (λ k. k.generation) C.handle) F R)
 
 -- ---- a port's things
 
@@ -77,8 +86,9 @@ sound_flush w i c index p S t e f =
     let d : Component = told (CmdComplete (completions.Flush p.key.port)) (with_port p.key.port (record p.state { flushing = false }) c) in
     let I = sound_let_go (CmdComplete (completions.Flush p.key.port)) p.key.port (record p.state { flushing = false }) p.state c (P.components i c t) at (flushed_places p.state f) in
     let C = change_let_go (CmdComplete (completions.Flush p.key.port)) p.key.port (record p.state { flushing = false }) p.state c at refl in
-    let Q = parts_changed w.numbered w.made i w.components w.headers c d P t C I in
-    sound_from (flush_happened i c p w) (parts_reset_port (set w.components i d) w.numbered w.made p w.headers Q)
+    let F = aside_there w i c d S t (aside_let_go (CmdComplete (completions.Flush p.key.port)) p.key.port (record p.state { flushing = false }) p.state c at (λ h. h)) in
+    let Q = parts_changed w.waits w.waits w.numbered w.made i w.components w.headers c d P t C I F in
+    sound_from (flush_happened i c p w) (parts_reset_port (set w.components i d) w.numbered w.made p w.headers Q) (resources_changed w i c d S t refl F)
 
 mode_of : (w : World) (i : ℕ) (c : Component) (index : ℕ) (p : Port) (m : Mode) → Sound w → slice_get w.components i ≡ Some c → port_of c index ≡ Some p → p.state.mode ≡ m → is_steady m ≡ false
     → Sound (with_component i (all_told (mode_completion m p.key.port) (with_port p.key.port (record p.state { mode = Steady }) c)) w)
@@ -89,12 +99,16 @@ mode_of w i c index p Enabling S t e q n =
     let I = sound_let_go (CmdComplete (completions.Enable p.key.port)) p.key.port (record p.state { mode = Steady }) p.state c ((parts_of w S).components i c t) at (steady_places p.state z) in
     sound_component w i c (told (CmdComplete (completions.Enable p.key.port)) (with_port p.key.port (record p.state { mode = Steady }) c)) S t
     (change_let_go (CmdComplete (completions.Enable p.key.port)) p.key.port (record p.state { mode = Steady }) p.state c at refl) I
+    (aside_there w i c (told (CmdComplete (completions.Enable p.key.port)) (with_port p.key.port (record p.state { mode = Steady }) c)) S t
+    (aside_let_go (CmdComplete (completions.Enable p.key.port)) p.key.port (record p.state { mode = Steady }) p.state c at (λ h. h)))
 mode_of w i c index p Disabling S t e q n =
     let at = state_there c index p e in
     let z : is_steady p.state.mode ≡ false = rw q refl in
     let I = sound_let_go (CmdComplete (completions.Disable p.key.port)) p.key.port (record p.state { mode = Steady }) p.state c ((parts_of w S).components i c t) at (steady_places p.state z) in
     sound_component w i c (told (CmdComplete (completions.Disable p.key.port)) (with_port p.key.port (record p.state { mode = Steady }) c)) S t
     (change_let_go (CmdComplete (completions.Disable p.key.port)) p.key.port (record p.state { mode = Steady }) p.state c at refl) I
+    (aside_there w i c (told (CmdComplete (completions.Disable p.key.port)) (with_port p.key.port (record p.state { mode = Steady }) c)) S t
+    (aside_let_go (CmdComplete (completions.Disable p.key.port)) p.key.port (record p.state { mode = Steady }) p.state c at (λ h. h)))
 
 pub due_changes : (headers : Seen) (c : Component) (p : Port) (m : Mode) → is_mode_due headers c p m ≡ true → is_steady m ≡ false
 due_changes headers c p Steady h = absurd cc
@@ -115,8 +129,10 @@ sound_mark w i c index p S t e m =
     let d : Component = told (CmdComplete (completions.Mark p.key.port)) (with_port p.key.port (record p.state { waiting_mark = None }) c) in
     let I = sound_let_go (CmdComplete (completions.Mark p.key.port)) p.key.port (record p.state { waiting_mark = None }) p.state c (P.components i c t) at (marked_places p.state m) in
     let C = change_let_go (CmdComplete (completions.Mark p.key.port)) p.key.port (record p.state { waiting_mark = None }) p.state c at refl in
-    let Q = parts_changed w.numbered w.made i w.components w.headers c d P t C I in
+    let F = aside_there w i c d S t (aside_let_go (CmdComplete (completions.Mark p.key.port)) p.key.port (record p.state { waiting_mark = None }) p.state c at (λ h. h)) in
+    let Q = parts_changed w.waits w.waits w.numbered w.made i w.components w.headers c d P t C I F in
     sound_from (mark_happened i c p w) (parts_first_marked (set w.components i d) w.numbered w.made ((seen w.headers).unmarked p.key) p.state.waiting_mark w.headers Q)
+    (resources_changed w i c d S t refl F)
 
 -- ---- any thing that is due
 
@@ -137,7 +153,7 @@ happened_at w i c index p (WaitingMark n) S t e k d =
 
 pub sound_happened : (w : World) (i : ℕ) (c : Component) (thing : Thing) → Sound w → slice_get w.components i ≡ Some c → due_in (look w).headers c ≡ Some thing → Sound (happened i c thing w)
 sound_happened w i c thing S t h = elim (due_where (look w).headers c thing h) [
-  | inl a ↦ subst (λ (x : Thing). Sound (happened i c x w)) (sym a.0) (sound_transition w i c c.pending S t refl)
+  | inl a ↦ subst (λ (x : Thing). Sound (happened i c x w)) (sym a.0) (sound_transition w i c c.pending S t refl a.1)
   | inr d ↦ happened_at w i c d.place d.port thing S t d.there (ap (λ k. k.port) (port_parts c d.place d.port d.there).key) d.due
 ]
 

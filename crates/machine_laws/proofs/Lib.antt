@@ -7,10 +7,13 @@ pub mod Replacing
 pub mod Ties
 pub mod PortChanges
 pub mod Lookups
+pub mod Works
+pub mod Units
 pub mod Parts
 pub mod Change
 pub mod Headers
 pub mod Rooms
+pub mod Fairness
 pub mod Arriving
 pub mod Accepting
 pub mod Sending

@@ -23,9 +23,11 @@ use Rattle.machine_laws.proofs.Replacing.{IsReplaced, replaced_changed}
 use Rattle.machine_laws.proofs.Ties.{tied_replaced, for_client}
 use Rattle.machine_laws.proofs.PortChanges.{kept_itself}
 use Rattle.machine_laws.proofs.Parts.{Parts, Noted, ports_in_list, parts_of, sound_from}
-use Rattle.machine_laws.proofs.Change.{IsChange, tied_set, each_set, sound_component}
-use Rattle.machine_laws.proofs.Headers.{noticed_at, noticed_found, noticed_else}
-use Rattle.machine_laws.proofs.Rooms.{costs, costs_same, used_noted, numbers_push, lawful_of, lawful_noted, sound_with}
+use Rattle.machine_laws.proofs.Works.{works_kept, works_set, keeps_works_but}
+use Rattle.machine_laws.proofs.Units.{IsAside, IsFair}
+use Rattle.machine_laws.proofs.Change.{IsChange, tied_set, each_set, lawful_set, aside_there, resources_changed, sound_component}
+use Rattle.machine_laws.proofs.Headers.{noticed_at, noticed_found, noticed_else, worked_found}
+use Rattle.machine_laws.proofs.Rooms.{costs, costs_same, used_noted, numbers_push, lawful_of, lawful_noted, sound_with, aside_noted}
 use Rattle.machine_laws.proofs.Listed.{IsIn, first_in, todo_in, times_append, times_self, times_else, weighs_one}
 
 -- the notes of the one component that changes, and those of all others
@@ -82,10 +84,10 @@ port_not_noticed : (k : ℕ) (key : PortKey) (owner : Owner) → owner ≡ owner
 port_not_noticed k key owner e = rw e refl
 
 -- A header of a client port's list goes to a note of the port's component.
-parts_noticed : (i : ℕ) (cs : List Component) (hs : List HeaderRecord) (numbered made : ℕ) (c : Component) (index : ℕ) (p : Port) (b : Bool) (n : ℕ)
-    → Parts cs hs numbered made → slice_get cs i ≡ Some c → port_of c index ≡ Some p → p.state.link ≡ None → IsIn p.key hs n
+parts_noticed : (waits after i : ℕ) (cs : List Component) (hs : List HeaderRecord) (numbered made : ℕ) (c : Component) (index : ℕ) (p : Port) (b : Bool) (n : ℕ)
+    → Parts cs hs numbered made → slice_get cs i ≡ Some c → IsFair waits after c (noted (done_note b n) c) → port_of c index ≡ Some p → p.state.link ≡ None → IsIn p.key hs n
     → Parts (set cs i (noted (done_note b n) c)) (changed n (into_note (number_of c)) hs) numbered made
-parts_noticed i cs hs numbered made c index p b n P t e l I =
+parts_noticed waits after i cs hs numbered made c index p b n P t F e l I =
     let k : ℕ = number_of c in
     let d : Component = noted (done_note b n) c in
     let ks : List HeaderRecord = changed n (into_note k) hs in
@@ -108,6 +110,9 @@ parts_noticed i cs hs numbered made c index p b n P t e l I =
             | inl q ↦ rw (q, noticed_found j n ks (into_note k r) R.here, noticed_found j n hs r I.found, port_not_noticed j p.key r.state.owner I.owner) (ne_eqb k j (λ x. a (sym x)))
             | inr x ↦ noticed_else j m hs ks (R.others m x)
           ]);
+      works = works_set i cs ks c d t refl refl (works_kept cs hs ks
+          (keeps_works_but n hs ks R.others (λ j. worked_found j n hs r I.found ∙ rw I.owner refl) (λ j. worked_found j n ks (into_note k r) R.here)) P.works);
+      lawful = lawful_set waits after i cs c d t F P.lawful;
       once = R.once;
       below = λ m x f. elim (cases_eq m n) [
         | inl q ↦ rw q (P.below n r I.found)
@@ -120,8 +125,11 @@ noticed_front : (w : World) (i : ℕ) (c : Component) (index : ℕ) (p : Port) (
 noticed_front w i c index p [] S t e l q = S
 noticed_front w i c index p (n ∷ rest) S t e l q =
     let P = parts_of w S in
+    let d : Component = noted (done_note (is_input_port p) n) c in
+    let F = aside_there w i c d S t (aside_noted (done_note (is_input_port p) n) c) in
     let I = first_in p.key w.headers ((seen w.headers).todo p.key) rest n (todo_in p.key w.headers P.once) (sym q) in
-    sound_from (noticed i c p (n ∷ rest) w) (parts_noticed i w.components w.headers w.numbered w.made c index p (is_input_port p) n P t e l I)
+    sound_from (noticed i c p (n ∷ rest) w) (parts_noticed w.waits w.waits i w.components w.headers w.numbered w.made c index p (is_input_port p) n P t F e l I)
+    (resources_changed w i c d S t refl F)
 
 -- the front of a client port's todo is queued as a note
 pub sound_noticed : (w : World) (i : ℕ) (c : Component) (index : ℕ) (p : Port) → Sound w → slice_get w.components i ≡ Some c → port_of c index ≡ Some p → p.state.link ≡ None
@@ -144,14 +152,18 @@ pub first_is : (notes : List Note) (note : Note) → slice_get notes 0 ≡ Some 
 first_is [] note e = absurd cc
 first_is (x ∷ notes) note e = let s : x ≡ note = cc in ap (λ (y : Note). y ∷ notes) s
 
+aside_first_taken : (c : Component) → IsAside c (first_taken c)
+aside_first_taken c = record { keeps = record { kind = refl; weights = refl; count = refl; work = refl }; state = refl; pending = refl; holds = refl; waiting = refl; part = refl; held = λ test h. h }
+
 -- an event is given
 pub sound_given : (w : World) (i : ℕ) (c : Component) (event : Event) → Sound w → slice_get w.components i ≡ Some c → slice_get c.notes 0 ≡ Some (Told event) → Sound (with_given i c (Told event) w)
 sound_given w i c event S t e =
     let n : note_numbers (first_taken c).notes ≡ note_numbers c.notes = rw (first_is c.notes (Told event) e) refl in
     let I = sound_first_taken c ((parts_of w S).components i c t) in
     let C : IsChange c (first_taken c) = record { handle = refl; ports = refl; links = refl; notes = n } in
-    let P = parts_of (with_component i (first_taken c) w) (sound_component w i c (first_taken c) S t C I) in
-    sound_from (with_given i c (Told event) w) P
+    let F = aside_there w i c (first_taken c) S t (aside_first_taken c) in
+    let P = parts_of (with_component i (first_taken c) w) (sound_component w i c (first_taken c) S t C I F) in
+    sound_from (with_given i c (Told event) w) P (resources_changed w i c (first_taken c) S t refl F)
 
 abbrev to_client : HeaderRecord → HeaderRecord
 to_client r = given_to owners.Client r
@@ -196,6 +208,7 @@ sound_taken w i c note n S t e Q =
     let hs : List HeaderRecord = w.headers in
     let ks : List HeaderRecord = changed n to_client hs in
     let d : Component = first_taken c in
+    let F = aside_there w i c d S t (aside_first_taken c) in
     let q : note_numbers c.notes ≡ n ∷ note_numbers (drop 1 c.notes) = rw (first_is c.notes note e) (Q.numbers (drop 1 c.notes)) in
     let one : 1 ≤ weight (noticed_at k n hs) = let a = P.noted i c t n in let b : times n (n ∷ note_numbers (drop 1 c.notes)) ≡ weight (noticed_at k n hs) = rw q at a in omega (arith, times_self n (note_numbers (drop 1 c.notes))) in
     let r = weighs_one (find_header n hs) (λ s. is_notice_of k s.owner) one in
@@ -213,12 +226,15 @@ sound_taken w i c note n S t e Q =
             | inl x ↦ rw (x, noticed_found j n ks (to_client r.0) R.here, noticed_found j n hs r.0 r.1, o) (sym (ne_eqb k j (λ y. a (sym y))))
             | inr x ↦ noticed_else j m hs ks (R.others m x)
           ]);
+      works = works_set i cs ks c d t refl refl (works_kept cs hs ks
+          (keeps_works_but n hs ks R.others (λ j. worked_found j n hs r.0 r.1 ∙ rw o refl) (λ j. worked_found j n ks (to_client r.0) R.here)) P.works);
+      lawful = lawful_set w.waits w.waits i cs c d t F P.lawful;
       once = R.once;
       below = λ m x f. elim (cases_eq m n) [
         | inl y ↦ rw y (P.below n r.0 r.1)
         | inr y ↦ P.below m x (sym (R.others m y) ∙ f)
       ];
-    })
+    }) (resources_changed w i c d S t refl F)
 
 -- ---- the client object
 
@@ -229,6 +245,8 @@ sound_back_in c S =
 
 pub sound_ended : (w : World) (i : ℕ) (c : Component) → Sound w → slice_get w.components i ≡ Some c → Sound (with_component i (back_in c) w)
 sound_ended w i c S t = sound_component w i c (back_in c) S t (record { handle = refl; ports = refl; links = refl; notes = refl }) (sound_back_in c ((parts_of w S).components i c t))
+    (aside_there w i c (back_in c) S t
+    (record { keeps = record { kind = refl; weights = refl; count = refl; work = refl }; state = refl; pending = refl; holds = refl; waiting = refl; part = refl; held = λ test h. h }))
 
 pub note_emptied : (n : ℕ) → IsNoteOf (EmptyDone n) n
 note_emptied n = record { numbers = λ notes. refl }

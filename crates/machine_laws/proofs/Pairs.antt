@@ -6,16 +6,18 @@ use Rattle.il_machine.specs.declared.port.Link.{Link}
 use Rattle.il_machine.specs.declared.port.Port.{Port}
 use Rattle.il_machine.specs.declared.port.PortSetting.{PortSetting}
 use Rattle.il_machine.specs.declared.port.PortState.{PortState}
-use Rattle.il_machine.specs.World.{Component, HeaderRecord, number_of, ports_from, port_of}
+use Rattle.il_machine.specs.World.{Component, HeaderRecord, number_of, ports_from, port_of, World}
 use Rattle.il_machine.specs.Headers.{seen, count_headers, is_for}
 use Rattle.il_machine.specs.Census.{note_numbers}
-use Rattle.il_machine.specs.Sound.{IsSound, IsMadeFor, AreJoined, AreNoted, AreRising, port_at}
+use Rattle.il_machine.specs.Sound.{Sound, IsSound, IsMadeFor, AreJoined, AreNoted, AreRising, port_at}
 use Rattle.machine_laws.proofs.Every.{set_else}
 use Rattle.machine_laws.proofs.Keys.{for_port, there_is, is_there, same_or_apart}
 use Rattle.machine_laws.proofs.Lookups.{same_place, rising_set, port_at_is, port_at_set, port_at_set_else}
 use Rattle.machine_laws.proofs.Ties.{Tied, IsJoinedBy, counted}
 use Rattle.machine_laws.proofs.Parts.{Parts, ports_in_list}
-use Rattle.machine_laws.proofs.Change.{each_set, same_notes}
+use Rattle.machine_laws.proofs.Works.{works_set}
+use Rattle.machine_laws.proofs.Units.{Resources, IsFair, resources_set}
+use Rattle.machine_laws.proofs.Change.{each_set, same_notes, lawful_set, resources_changed}
 
 -- ---- by keys
 
@@ -108,12 +110,12 @@ one_else next i cs c d index p key R t O a = elim (cases_eq (number_of c) key.co
 pub apart_numbers : (next i j : ℕ) (cs : List Component) (c d : Component) → AreRising 0 cs next → slice_get cs i ≡ Some c → slice_get cs j ≡ Some d → i ≢ j → number_of c ≢ number_of d
 apart_numbers next i j cs c d R t u a n = a (same_place 0 next i j cs c d R t u n)
 
-pub parts_paired : (numbered made i j : ℕ) (cs : List Component) (hs : List HeaderRecord) (c d c' d' : Component) (index index' : ℕ) (p q : Port) → Parts cs hs numbered made
-    → slice_get cs i ≡ Some c → slice_get cs j ≡ Some d → i ≢ j → IsOnePort c c' index p → IsOnePort d d' index' q → IsSound c' → IsSound d'
+pub parts_paired : (waits numbered made i j : ℕ) (cs : List Component) (hs : List HeaderRecord) (c d c' d' : Component) (index index' : ℕ) (p q : Port) → Parts cs hs numbered made
+    → slice_get cs i ≡ Some c → slice_get cs j ≡ Some d → i ≢ j → IsOnePort c c' index p → IsOnePort d d' index' q → IsSound c' → IsSound d' → IsFair waits waits c c' → IsFair waits waits d d'
     → ((after : PortKey → Option Port) → after (key_at c index) ≡ Some p → after (key_at d index') ≡ Some q
     → ((key : PortKey) → key ≢ key_at c index → key ≢ key_at d index' → after key ≡ port_at key cs) → ArePaired (ports_in_list cs) after hs (key_at c index) (key_at d index') p q)
     → Parts (set (set cs i c') j d') hs numbered made
-parts_paired numbered made i j cs hs c d c' d' index index' p q P t u a O Q S S' pair =
+parts_paired waits numbered made i j cs hs c d c' d' index index' p q P t u a O Q S S' F F' pair =
     let R = rising_set 0 numbered i cs c c' P.rising t O.number in
     let u' : slice_get (set cs i c') j ≡ Some d = set_else cs i j c' (λ e. a (sym e)) ∙ u in
     let n = apart_numbers numbered i j cs c d P.rising t u a in
@@ -127,9 +129,18 @@ parts_paired numbered made i j cs hs c d c' d' index index' p q P t u a O Q S S'
       components = each_set IsSound j (set cs i c') d' (each_set IsSound i cs c' P.components S) S';
       tied = tied_pair (ports_in_list cs) (ports_in_list (set (set cs i c') j d')) hs (key_at c index) (key_at d index') p q P.tied (pair (ports_in_list (set (set cs i c') j d')) first second others);
       noted = each_set (AreNoted (seen hs)) j (set cs i c') d' (each_set (AreNoted (seen hs)) i cs c' P.noted (same_notes hs c c' O.number O.notes (P.noted i c t))) (same_notes hs d d' Q.number Q.notes (P.noted j d u));
+      works = works_set j (set cs i c') hs d d' u' Q.number (F'.keeps).work (works_set i cs hs c c' t O.number (F.keeps).work P.works);
+      lawful = lawful_set waits waits j (set cs i c') d d' u' F' (lawful_set waits waits i cs c c' t F P.lawful);
       once = P.once;
       below = P.below;
     }
+
+-- the resources of a sound world after both changes
+pub resources_paired : (w : World) (i j : ℕ) (c d c' d' : Component) → Sound w → slice_get w.components i ≡ Some c → slice_get w.components j ≡ Some d → i ≢ j → number_of c' ≡ number_of c → number_of d' ≡ number_of d
+    → IsFair w.waits w.waits c c' → IsFair w.waits w.waits d d' → Resources (set (set w.components i c') j d') w.streams w.waits w.units
+resources_paired w i j c d c' d' S t u a n n' F F' =
+    let u' : slice_get (set w.components i c') j ≡ Some d = set_else w.components i j c' (λ e. a (sym e)) ∙ u in
+    resources_set w.waits w.waits w.units j (set w.components i c') w.streams d d' (omega arith) u' n' F' (resources_changed w i c c' S t n F)
 
 -- ---- in one component
 

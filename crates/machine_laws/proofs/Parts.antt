@@ -3,14 +3,16 @@ use Rattle.std.proofs.Common.{◌≡◌, ℕ, ◌≤◌, ◌<◌, List, slice_ge
 use Rattle.il_machine.specs.declared.port.PortKey.{PortKey}
 use Rattle.il_machine.specs.declared.port.Link.{Link}
 use Rattle.il_machine.specs.declared.port.Port.{Port}
-use Rattle.il_machine.specs.World.{Component, HeaderRecord, World, ports_of}
+use Rattle.il_machine.specs.World.{Component, HeaderRecord, Work, World, ports_of}
 use Rattle.il_machine.specs.Headers.{seen, find_header, count_headers, is_for, Once}
 use Rattle.il_machine.specs.Look.{look}
-use Rattle.il_machine.specs.Sound.{Sound, IsSound, IsConnected, IsJoinedWell, HasFew, AreNoted, IsPlaced, AreRising, port_at}
+use Rattle.il_machine.specs.Sound.{Sound, IsSound, IsConnected, IsJoinedWell, HasFew, AreNoted, IsPlaced, AreRising, IsUnitSound, port_at}
 use Rattle.machine_laws.proofs.Every.{at_place, from_places}
 use Rattle.machine_laws.proofs.Finding.{found_is, found_all, found_number}
 use Rattle.machine_laws.proofs.Lookups.{has_port, port_there_at, port_parts}
 use Rattle.machine_laws.proofs.Ties.{Tied, IsJoinedBy}
+use Rattle.machine_laws.proofs.Works.{Works, IsLawfulWork, sound_work, lawful_work}
+use Rattle.machine_laws.proofs.Units.{Resources}
 
 -- the ports by their keys
 abbrev pub ports_in_list : List Component → PortKey → Option Port
@@ -25,6 +27,8 @@ pub record Parts (cs : List Component) (hs : List HeaderRecord) (numbered made :
   pub components : (i : ℕ) (c : Component) → slice_get cs i ≡ Some c → IsSound c
   pub tied : Tied (ports_in_list cs) hs
   pub noted : Noted cs hs
+  pub works : Works cs hs
+  pub lawful : (i : ℕ) (c : Component) (work : Work) → slice_get cs i ≡ Some c → c.work ≡ Some work → IsLawfulWork c work
   pub once : Once hs
   pub below : (n : ℕ) (r : HeaderRecord) → find_header n hs ≡ Some r → n < made
 
@@ -62,12 +66,17 @@ parts_of w S = record {
     placed = λ n r f. let P = found_is (λ x. IsPlaced w.components x.state) n w.headers r S.placed f in record { home = P.home; port = P.port; owner = P.owner };
   };
   noted = λ i c e. (at_place (IsConnected w) w.components i c S.connected e).noted;
+  works = record {
+    claimed = λ i c e. (at_place (IsConnected w) w.components i c S.connected e).claimed;
+    made = λ i c work e f. ((at_place (IsConnected w) w.components i c S.connected e).work work f).made;
+  };
+  lawful = λ i c work e f. lawful_work w.headers c work ((at_place (IsConnected w) w.components i c S.connected e).work work f);
   once = S.once;
   below = λ n r f. let b = found_is (λ x. x.state.number < w.made) n w.headers r S.numbered f in let e = found_number n w.headers r f in omega arith;
 }
 
-pub sound_from : (w : World) → Parts w.components w.headers w.numbered w.made → Sound w
-sound_from w P = record {
+pub sound_from : (w : World) → Parts w.components w.headers w.numbered w.made → Resources w.components w.streams w.waits w.units → Sound w
+sound_from w P R = record {
   rising = P.rising;
   components = from_places IsSound w.components P.components;
   connected = from_places (IsConnected w) w.components (λ i c e. record {
@@ -78,8 +87,14 @@ sound_from w P = record {
         let a = port_there_at w.numbered i w.components c k p P.rising e f in
         P.tied.few p.key p a);
     noted = P.noted i c e;
+    claimed = (P.works).claimed i c e;
+    work = λ work f. sound_work w.headers c work (P.lawful i c work e f) ((P.works).made i c work e f);
   });
   once = P.once;
   numbered = found_all (λ x. x.state.number < w.made) w.headers P.once (λ n r f. let b = P.below n r f in let e = found_number n w.headers r f in omega arith);
   placed = found_all (λ x. IsPlaced w.components x.state) w.headers P.once (λ n r f. let q = P.tied.placed n r f in record { home = q.home; port = q.port; owner = q.owner });
+  units = from_places (IsUnitSound w.waits) w.components R.each;
+  enough = R.enough;
+  apart = R.apart;
+  streams = R.streams;
 }

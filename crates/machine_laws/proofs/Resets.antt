@@ -10,14 +10,14 @@ use Rattle.il_machine.specs.declared.header.Spot.{Spot}
 use Rattle.il_machine.specs.declared.header.Spot.TheVariants.{TodoBack, DoneBack}
 use Rattle.il_machine.specs.States.{is_down}
 use Rattle.il_machine.specs.World.{Component, HeaderRecord, ports_of}
-use Rattle.il_machine.specs.Headers.{seen, find_header, put, put_at, changed, cleared, put_all, cleared_all, reset, is_notice, Once}
+use Rattle.il_machine.specs.Headers.{seen, find_header, put, put_at, changed, cleared, put_all, cleared_all, reset, Once}
 use Rattle.il_machine.specs.Ports.{is_supplier, is_input_port}
 use Rattle.il_machine.specs.Due.{reset_port, reset_ports, reset_on}
 use Rattle.il_machine.specs.Sound.{IsOwnedSo}
 use Rattle.machine_laws.proofs.Finding.{either, changed_same, changed_else}
 use Rattle.machine_laws.proofs.Replacing.{replaced_put}
 use Rattle.machine_laws.proofs.Parts.{Parts}
-use Rattle.machine_laws.proofs.Headers.{parts_put, parts_loaded}
+use Rattle.machine_laws.proofs.Headers.{is_set_aside, parts_put, parts_loaded}
 use Rattle.machine_laws.proofs.Listed.{IsIn, AreIn, todo_in, done_in}
 
 -- the rest are still in the port after one header of it is put there
@@ -55,7 +55,7 @@ module _ (cs : List Component) (numbered made : ℕ) where
   parts_put_all key spot (n ∷ ns) hs P A =
       let I = A.0 in
       let O : IsOwnedSo (I.header).state (owners.Port key) = rw I.owner at (P.tied.placed n I.header I.found).owner in
-      let o : is_notice (I.header).state.owner ≡ false = rw I.owner refl in
+      let o : is_set_aside (I.header).state.owner ≡ false = rw I.owner refl in
       parts_put_all key spot ns (put key spot n cleared hs)
       (parts_put cs key spot cleared n I.header hs numbered made (λ x. refl) P I.found o O.0)
       (all_after_put key spot n ns hs I.header P.once I.found A.1)

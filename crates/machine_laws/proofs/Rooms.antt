@@ -20,10 +20,11 @@ use Rattle.il_machine.specs.Lists.{holds_at}
 use Rattle.il_machine.specs.World.{Component, noted, told}
 use Rattle.il_machine.specs.Headers.{weight}
 use Rattle.il_machine.specs.Ports.{is_going_to}
-use Rattle.il_machine.specs.Room.{is_event, events_in, cost_of, sel_cost, is_by_client, port_places, is_losing, used, room}
+use Rattle.il_machine.specs.Room.{is_event, events_in, cost_of, sel_cost, is_by_client, port_places, is_losing, work_places, used, room}
 use Rattle.il_machine.specs.Census.{note_numbers}
 use Rattle.il_machine.specs.Sound.{IsSound, IsLawfulSetting, is_lawful_cause}
 use Rattle.machine_laws.proofs.Change.{IsChange}
+use Rattle.machine_laws.proofs.Units.{IsAside}
 
 -- ---- the parts of what is used
 
@@ -39,7 +40,7 @@ places c = sum_by port_places c.ports
 abbrev pub loss : Component → ℕ
 loss c = weight (is_losing c)
 
-pub used_is : (c : Component) → used c ≡ events_in c.notes + costs c + asked c + places c + loss c
+pub used_is : (c : Component) → used c ≡ events_in c.notes + costs c + asked c + places c + work_places c.work + loss c
 used_is c = omega arith
 
 sel_same : (c d : Component) → length d.ports ≡ length c.ports → (sel : PortSel) → sel_cost d sel ≡ sel_cost c sel
@@ -113,6 +114,12 @@ sound_told event c S r =
 
 pub change_told : (event : Event) (c : Component) → IsChange c (told event c)
 change_told event c = record { handle = refl; ports = refl; links = refl; notes = numbers_told event c.notes }
+
+pub aside_noted : (note : Note) (c : Component) → IsAside c (noted note c)
+aside_noted note c = record { keeps = record { kind = refl; weights = refl; count = refl; work = refl }; state = refl; pending = refl; holds = refl; waiting = refl; part = refl; held = λ test h. h }
+
+pub aside_told : (event : Event) (c : Component) → IsAside c (told event c)
+aside_told event c = aside_noted (Told event) c
 
 -- no more events are queued than there are places
 pub events_fit : (c : Component) → IsSound c → events_in c.notes ≤ 256

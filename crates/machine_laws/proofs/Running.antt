@@ -1,5 +1,6 @@
 -- A component whose first command was carried out: the command's places become those of what it begins.
-use Rattle.std.proofs.Common.{◌≡◌, ℕ, suc, ◌+◌, ◌<◌, ◌≤◌, Bool, true, false, ◌&&◌, ◌||◌, nat_eq, List, [], ◌∷◌, length, map, sum_by, Option, Some, None, refl, sym, ◌∙◌, ap, eqb-true, ne_eqb, arith}
+use Rattle.std.proofs.Common.{◌≡◌, ℕ, suc, ◌+◌, ◌<◌, ◌≤◌, Bool, true, false, not, ◌&&◌, ◌||◌, nat_eq, List, [], ◌∷◌, length, map, sum_by, if◌then◌else◌, Option, Some, None, refl, sym, ◌∙◌, ap, eqb-true, ne_eqb, arith}
+use Rattle.std.proofs.lemmas.List.Elements.{All-nil, All-cons, All-head, All-tail}
 use Rattle.std.proofs.lemmas.List.Sums.{sum_by-cons}
 use Rattle.omx_types.specs.declared.state.State.{State}
 use Rattle.omx_types.specs.declared.state.State.TheVariants as states
@@ -14,17 +15,20 @@ use Rattle.il_machine.specs.declared.answer.Pending.{Pending}
 use Rattle.il_machine.specs.declared.answer.Cause.TheVariants as causes
 use Rattle.il_machine.specs.declared.port.PortSetting.{PortSetting}
 use Rattle.il_machine.specs.declared.port.PortState.{PortState}
-use Rattle.il_machine.specs.States.{is_running}
+use Rattle.il_machine.specs.States.{same_state, is_lawful, is_running}
 use Rattle.il_machine.specs.Look.{Look}
-use Rattle.il_machine.specs.World.{Component, ports_from, ports_of, number_of, told}
+use Rattle.il_machine.specs.World.{Component, Work, ports_from, ports_of, number_of, told}
 use Rattle.il_machine.specs.Headers.{weight}
 use Rattle.il_machine.specs.Ports.{is_going_to}
 use Rattle.il_machine.specs.Room.{cost_of, sel_cost, port_places, used}
 use Rattle.il_machine.specs.Commands.{is_selected, busy_port, is_flushing, is_changing, is_waiting, pending_reason, run_reason, run_idle, state_fault, begun, selected_from, with_selected, flushing, disabling, enabling, waiting, carried_out, run_front}
-use Rattle.il_machine.specs.Sound.{IsSound}
+use Rattle.il_machine.specs.Sound.{IsSound, IsUnitSound, may_work}
 use Rattle.machine_laws.proofs.Finding.{either}
 use Rattle.machine_laws.proofs.Change.{IsChange, change_none, change_twice, link_of}
-use Rattle.machine_laws.proofs.Rooms.{costs, asked, loss, costs_same, used_told, IsLawful, lawful_of, sound_with, lawful_told, change_told}
+use Rattle.machine_laws.proofs.Rooms.{costs, asked, loss, costs_same, used_told, IsLawful, lawful_of, sound_with, lawful_told, change_told, aside_told}
+use Rattle.machine_laws.proofs.Units.{IsAside, IsFair, AreHeldIf, units_aside, fair_aside}
+use Rattle.machine_laws.proofs.Fairness.{aside_then_fair, fair_begun}
+use Rattle.machine_laws.proofs.Accepting.{passed, not_not}
 
 -- ---- the ports that a command names
 
@@ -32,9 +36,10 @@ length_selected : (index : ℕ) (sel : PortSel) (change : PortState → PortStat
 length_selected index sel change [] = refl
 length_selected index sel change (p ∷ ps) = ap suc (length_selected (index + 1) sel change ps)
 
--- the change keeps links, and takes a place at most where the test fails
+-- the change keeps links and what is held, and takes a place at most where the test fails
 record IsTaking (test : PortState → Bool) (change : PortState → PortState) : Type 0 where
   pub link : (s : PortState) → (change s).link ≡ s.link
+  pub held : (s : PortState) → (change s).held ≡ s.held
   pub place : (s : PortState) → test s ≡ false → port_places (change s) ≤ port_places s + 1
 
 links_selected : (test : PortState → Bool) (index : ℕ) (sel : PortSel) (change : PortState → PortState) (ps : List PortState) → IsTaking test change
@@ -114,20 +119,20 @@ change_selected : (sel : PortSel) (test : PortState → Bool) (change : PortStat
 change_selected sel test change c T = record { handle = refl; ports = refl; links = links_selected test 0 sel change c.ports T; notes = refl }
 
 takes_flush : IsTaking is_flushing flushing
-takes_flush = record { link = λ s. refl; place = λ s f. let w : weight s.flushing ≡ 0 = rw f refl in omega arith }
+takes_flush = record { link = λ s. refl; held = λ s. refl; place = λ s f. let w : weight s.flushing ≡ 0 = rw f refl in omega arith }
 
 weight_small : (b : Bool) → weight b ≤ 1
 weight_small true = omega arith
 weight_small false = omega arith
 
 takes_disable : IsTaking is_changing disabling
-takes_disable = record { link = λ s. refl; place = λ s f. omega arith }
+takes_disable = record { link = λ s. refl; held = λ s. refl; place = λ s f. omega arith }
 
 takes_enable : IsTaking is_changing enabling
-takes_enable = record { link = λ s. refl; place = λ s f. omega arith }
+takes_enable = record { link = λ s. refl; held = λ s. refl; place = λ s f. omega arith }
 
 takes_mark : (target : Handle) (value : ℕ) → IsTaking is_waiting (waiting target value)
-takes_mark target value = record { link = λ s. refl; place = λ s f. omega arith }
+takes_mark target value = record { link = λ s. refl; held = λ s. refl; place = λ s f. omega arith }
 
 -- ---- the command that leaves the queue
 
@@ -233,3 +238,67 @@ change_of_run l (command ∷ rest) c = change_twice c (without_front rest c) (ca
 
 pub change_run : (l : Look) (c : Component) → IsChange c (run_front l c.commands c)
 change_run l c = change_of_run l c.commands c
+
+-- ---- its units and its work
+
+held_selected : (busy : PortState → Bool) (late : Bool) (index : ℕ) (sel : PortSel) (change : PortState → PortState) (ps : List PortState) → IsTaking busy change
+    → AreHeldIf late ps → AreHeldIf late (selected_from index sel change ps)
+held_selected busy late index sel change [] T A = All-nil (λ p. p.held ≡ true → late ≡ true)
+held_selected busy late index sel change (p ∷ ps) T A =
+    let a : p.held ≡ true → late ≡ true = All-head (λ q. q.held ≡ true → late ≡ true) p ps A in
+    let i = held_selected busy late (index + 1) sel change ps T (All-tail (λ q. q.held ≡ true → late ≡ true) p ps A) in
+    let b : (if is_selected sel index then change p else p).held ≡ true → late ≡ true = either (is_selected sel index)
+    (λ t. let s : (if is_selected sel index then change p else p) ≡ change p = rw t refl in λ h. a (sym (T.held p) ∙ (ap (λ (q : PortState). q.held) (sym s) ∙ h)))
+    (λ f. let s : (if is_selected sel index then change p else p) ≡ p = rw f refl in λ h. a (ap (λ (q : PortState). q.held) (sym s) ∙ h)) in
+    All-cons (λ q. q.held ≡ true → late ≡ true) (if is_selected sel index then change p else p) (selected_from (index + 1) sel change ps) b i
+
+aside_selected : (sel : PortSel) (test : PortState → Bool) (change : PortState → PortState) (c : Component) → IsTaking test change → IsAside c (with_selected sel change c)
+aside_selected sel test change c T = record {
+  keeps = record { kind = refl; weights = refl; count = length_selected 0 sel change c.ports; work = refl };
+  state = refl;
+  pending = refl;
+  holds = refl;
+  waiting = refl;
+  part = refl;
+  held = λ late A. held_selected test late 0 sel change c.ports T A;
+}
+
+aside_front : (rest : List Command) (c : Component) → IsAside c (without_front rest c)
+aside_front rest c = record { keeps = record { kind = refl; weights = refl; count = refl; work = refl }; state = refl; pending = refl; holds = refl; waiting = refl; part = refl; held = λ test h. h }
+
+-- a transition without a fault is lawful
+lawful_target : (l : Look) (c : Component) (target : State) → state_fault l c target ≡ None → is_lawful c.state target ≡ true
+lawful_target l c target h =
+    let a = passed (same_state c.state target) _ _ h in
+    not_not (is_lawful c.state target) (passed (not (is_lawful c.state target)) _ _ a.1).0
+
+fair_started : (l : Look) (fault : Option OmxError) (target : State) (waits : ℕ) (c : Component) → state_fault l c target ≡ fault → IsUnitSound waits c → c.pending ≡ None
+    → ((work : Work) → c.work ≡ Some work → may_work c ≡ true) → IsFair waits waits c (begun fault target c)
+fair_started l (Some error) target waits c h U e m = fair_aside waits c (told (Error error) c) (aside_told (Error error) c) U m
+fair_started l None target waits c h U e m = fair_begun waits (record { target = target; cause = causes.Client }) c U e (lawful_target l c target h) m
+
+fair_carried : (l : Look) (command : Command) (waits : ℕ) (c : Component) → IsUnitSound waits c → ((work : Work) → c.work ≡ Some work → may_work c ≡ true) → run_reason c command ≡ None
+    → IsFair waits waits c (carried_out l command c)
+fair_carried l (commands.StateSet target) waits c U m h = fair_started l (state_fault l c target) target waits c refl U (no_pending c.pending h) m
+fair_carried l (commands.Flush sel) waits c U m h = fair_aside waits c (with_selected sel flushing c) (aside_selected sel is_flushing flushing c takes_flush) U m
+fair_carried l (commands.PortDisable sel) waits c U m h = fair_aside waits c (with_selected sel disabling c) (aside_selected sel is_changing disabling c takes_disable) U m
+fair_carried l (commands.PortEnable sel) waits c U m h = fair_aside waits c (with_selected sel enabling c) (aside_selected sel is_changing enabling c takes_enable) U m
+fair_carried l (commands.MarkBuffer port target value) waits c U m h =
+    fair_aside waits c (with_selected (sels.One port) (waiting target value) c) (aside_selected (sels.One port) is_waiting (waiting target value) c (takes_mark target value)) U m
+
+reason_front : (command : Command) (rest : List Command) (c : Component) → run_reason c command ≡ None → run_reason (without_front rest c) command ≡ None
+reason_front (commands.StateSet target) rest c h = h
+reason_front (commands.Flush sel) rest c h = h
+reason_front (commands.PortDisable sel) rest c h = h
+reason_front (commands.PortEnable sel) rest c h = h
+reason_front (commands.MarkBuffer port target value) rest c h = h
+
+fair_of_run : (l : Look) (xs : List Command) (waits : ℕ) (c : Component) → IsUnitSound waits c → ((work : Work) → c.work ≡ Some work → may_work c ≡ true) → run_idle c xs ≡ None → IsFair waits waits c (run_front l xs c)
+fair_of_run l [] waits c U m h = absurd cc
+fair_of_run l (command ∷ rest) waits c U m h =
+    let d : Component = without_front rest c in
+    let A = aside_front rest c in
+    aside_then_fair waits waits c d (carried_out l command d) A (fair_carried l command waits d (units_aside waits c d A U) m (reason_front command rest c h))
+
+pub fair_run : (l : Look) (waits : ℕ) (c : Component) → IsUnitSound waits c → ((work : Work) → c.work ≡ Some work → may_work c ≡ true) → run_idle c c.commands ≡ None → IsFair waits waits c (run_front l c.commands c)
+fair_run l waits c U m h = fair_of_run l c.commands waits c U m h

@@ -1,5 +1,5 @@
 -- A component to which a command was sent.
-use Rattle.std.proofs.Common.{◌≡◌, ◌+◌, ◌<◌, ◌≤◌, false, ◌||◌, nat_eq, nat_le, nat_lt, List, [], ◌∷◌, ◌++◌, length, length-append, map, sum_by, None, refl, ◌∙◌, leb-false, ltb-false, arith}
+use Rattle.std.proofs.Common.{◌≡◌, ℕ, true, Some, ◌+◌, ◌<◌, ◌≤◌, false, ◌||◌, nat_eq, nat_le, nat_lt, List, [], ◌∷◌, ◌++◌, length, length-append, map, sum_by, None, refl, ◌∙◌, leb-false, ltb-false, arith}
 use Rattle.std.proofs.lemmas.List.{length-map}
 use Rattle.std.proofs.lemmas.List.Sums.{sum_by_push, sum_by-cons}
 use Rattle.omx_types.specs.declared.command.Command.{Command}
@@ -8,13 +8,15 @@ use Rattle.omx_types.specs.declared.error.OmxError.TheVariants as errors
 use Rattle.il_machine.specs.declared.port.PortState.{PortState}
 use Rattle.il_machine.specs.States.{is_invalid}
 use Rattle.il_machine.specs.Look.{Look}
-use Rattle.il_machine.specs.World.{Component, told}
+use Rattle.il_machine.specs.World.{Component, Work, told}
 use Rattle.il_machine.specs.Room.{cost_of, port_places, used, room}
 use Rattle.il_machine.specs.Commands.{at_rest, invalidated, is_at_once, lacks_port, lacks_target, lacks_place, send_refusal, sent}
-use Rattle.il_machine.specs.Sound.{IsSound}
+use Rattle.il_machine.specs.Sound.{IsSound, IsUnitSound, may_work}
 use Rattle.machine_laws.proofs.Finding.{either}
 use Rattle.machine_laws.proofs.Change.{IsChange, change_twice, link_of}
-use Rattle.machine_laws.proofs.Rooms.{costs, places, costs_same, sound_with, sound_told, change_told}
+use Rattle.machine_laws.proofs.Rooms.{costs, places, costs_same, sound_with, sound_told, change_told, aside_told}
+use Rattle.machine_laws.proofs.Units.{IsAside, IsFair, fair_aside}
+use Rattle.machine_laws.proofs.Fairness.{fair_then_aside, fair_invalidated}
 use Rattle.machine_laws.proofs.Accepting.{passed, not_either}
 
 -- ---- StateSet(Invalid)
@@ -77,3 +79,13 @@ pub change_sent : (command : Command) (c : Component) → IsChange c (sent comma
 change_sent command c = either (is_at_once command)
     (λ t. rw t (change_twice c (invalidated c) (told (Error errors.InvalidState) (invalidated c)) (change_invalidated c) (change_told (Error errors.InvalidState) (invalidated c))))
     (λ f. rw f (record { handle = refl; ports = refl; links = refl; notes = refl }))
+
+-- ---- its units and its work
+
+aside_queued : (command : Command) (c : Component) → IsAside c (record c { commands = c.commands ++ command ∷ [] })
+aside_queued command c = record { keeps = record { kind = refl; weights = refl; count = refl; work = refl }; state = refl; pending = refl; holds = refl; waiting = refl; part = refl; held = λ test h. h }
+
+pub fair_sent : (waits : ℕ) (command : Command) (c : Component) → IsUnitSound waits c → ((work : Work) → c.work ≡ Some work → may_work c ≡ true) → IsFair waits waits c (sent command c)
+fair_sent waits command c U m = either (is_at_once command)
+    (λ t. rw t (fair_then_aside waits waits c (invalidated c) (told (Error errors.InvalidState) (invalidated c)) (fair_invalidated waits c U) (aside_told (Error errors.InvalidState) (invalidated c))))
+    (λ f. rw f (fair_aside waits c (record c { commands = c.commands ++ command ∷ [] }) (aside_queued command c) U m))

@@ -9,8 +9,8 @@ use Rattle.il_machine.specs.declared.header.Place.{Place}
 use Rattle.il_machine.specs.declared.header.Place.TheVariants.{Out, Todo, Done}
 use Rattle.il_machine.specs.Lists.{holds_at}
 use Rattle.il_machine.specs.World.{Component, HeaderRecord, World, number_of, ports_of}
-use Rattle.il_machine.specs.Headers.{Seen, seen, find_header, numbers, has_number, is_state, is_client, is_for, is_todo, is_done, in_todo, in_done, is_notice_of, same_key, weight, Once}
-use Rattle.il_machine.specs.Census.{note_numbers, in_ports, in_components, times, Census, HasRoom}
+use Rattle.il_machine.specs.Headers.{Seen, seen, find_header, numbers, has_number, is_state, is_client, is_for, is_todo, is_done, in_todo, in_done, is_notice_of, is_work_of, same_key, weight, Once}
+use Rattle.il_machine.specs.Census.{note_numbers, work_numbers, in_ports, in_components, times, Census, HasRoom}
 use Rattle.il_machine.specs.Room.{used}
 use Rattle.il_machine.specs.Sound.{Sound, IsMadeFor, IsOwnedSo, port_at}
 use Rattle.machine_laws.proofs.Every.{from_places}
@@ -19,7 +19,7 @@ use Rattle.machine_laws.proofs.Keys.{key_is, key_same, for_which, there_is, none
 use Rattle.machine_laws.proofs.Lookups.{same_place, has_port, port_parts}
 use Rattle.machine_laws.proofs.Ties.{other_side, made_peer}
 use Rattle.machine_laws.proofs.Parts.{Parts, ports_in_list, parts_of}
-use Rattle.machine_laws.proofs.Headers.{noticed_found, noticed_none}
+use Rattle.machine_laws.proofs.Headers.{noticed_found, noticed_none, worked_found, worked_none, worker_there}
 use Rattle.machine_laws.proofs.Listed.{times_cons, times_append, times_else}
 
 -- ---- a number among those of the headers that pass
@@ -46,13 +46,17 @@ abbrev port_times : ℕ → Seen → Port → ℕ
 port_times n s p = times n (s.todo p.key) + times n (s.done p.key)
 
 abbrev component_times : ℕ → Seen → Component → ℕ
-component_times n s c = times n (in_ports s (ports_of c)) + times n (note_numbers c.notes)
+component_times n s c = times n (in_ports s (ports_of c)) + times n (note_numbers c.notes) + times n (work_numbers c.work)
 
 of_ports : (n : ℕ) (s : Seen) (p : Port) (ps : List Port) → times n (in_ports s (p ∷ ps)) ≡ port_times n s p + times n (in_ports s ps)
 of_ports n s p ps = let a = times_append n (s.todo p.key ++ s.done p.key) (in_ports s ps) in let b = times_append n (s.todo p.key) (s.done p.key) in omega arith
 
 of_components : (n : ℕ) (s : Seen) (c : Component) (cs : List Component) → times n (in_components s (c ∷ cs)) ≡ component_times n s c + times n (in_components s cs)
-of_components n s c cs = let a = times_append n (in_ports s (ports_of c) ++ note_numbers c.notes) (in_components s cs) in let b = times_append n (in_ports s (ports_of c)) (note_numbers c.notes) in omega arith
+of_components n s c cs =
+    let a = times_append n (in_ports s (ports_of c) ++ note_numbers c.notes ++ work_numbers c.work) (in_components s cs) in
+    let b = times_append n (in_ports s (ports_of c) ++ note_numbers c.notes) (work_numbers c.work) in
+    let d = times_append n (in_ports s (ports_of c)) (note_numbers c.notes) in
+    omega arith
 
 ports_none : (n : ℕ) (s : Seen) (ps : List Port) → ((k : ℕ) (p : Port) → slice_get ps k ≡ Some p → port_times n s p ≡ 0) → times n (in_ports s ps) ≡ 0
 ports_none n s [] h = refl
@@ -107,6 +111,12 @@ notice_weighs k m owner o e = rw (o, e, eq-eqb k k refl) refl
 notice_away : (k m : ℕ) (owner : Owner) → owner ≡ owners.Notice k → k ≢ m → weight (is_notice_of m owner) ≡ 0
 notice_away k m owner o a = rw (o, ne_eqb k m a) refl
 
+work_weighs : (k m : ℕ) (owner : Owner) → owner ≡ owners.Work k → m ≡ k → weight (is_work_of m owner) ≡ 1
+work_weighs k m owner o e = rw (o, e, eq-eqb k k refl) refl
+
+work_away : (k m : ℕ) (owner : Owner) → owner ≡ owners.Work k → k ≢ m → weight (is_work_of m owner) ≡ 0
+work_away k m owner o a = rw (o, ne_eqb k m a) refl
+
 no_weight_apart : (key : PortKey) (q : Port) → key ≢ q.key → weight (same_key key q.key) ≡ 0
 no_weight_apart key q a = either (same_key key q.key) (λ t. absurd (a (key_is key q.key t))) (λ f. rw f refl)
 
@@ -129,11 +139,15 @@ module _ (cs : List Component) (hs : List HeaderRecord) (numbered made : ℕ) (P
   note_count : (i : ℕ) (c : Component) (r : HeaderRecord) → slice_get cs i ≡ Some c → find_header n hs ≡ Some r → times n (note_numbers c.notes) ≡ weight (is_notice_of (number_of c) r.state.owner)
   note_count i c r t f = P.noted i c t n ∙ ap weight (noticed_found (number_of c) n hs r f)
 
+  work_count : (i : ℕ) (c : Component) (r : HeaderRecord) → slice_get cs i ≡ Some c → find_header n hs ≡ Some r → times n (work_numbers c.work) ≡ weight (is_work_of (number_of c) r.state.owner)
+  work_count i c r t f = (P.works).claimed i c t n ∙ ap weight (worked_found (number_of c) n hs r f)
+
   -- a header that isn't there
   count_none : find_header n hs ≡ None → times n (in_components (seen hs) cs) ≡ 0
   count_none f = components_none n (seen hs) cs (λ i c t.
       let a = ports_none n (seen hs) (ports_of c) (λ k p e. no_port_count p f) in
       let b : times n (note_numbers c.notes) ≡ 0 = P.noted i c t n ∙ ap weight (noticed_none (number_of c) n hs f) in
+      let d : times n (work_numbers c.work) ≡ 0 = (P.works).claimed i c t n ∙ ap weight (worked_none (number_of c) n hs f) in
       omega arith)
 
   -- a header of the client
@@ -142,6 +156,7 @@ module _ (cs : List Component) (hs : List HeaderRecord) (numbered made : ℕ) (P
       let O : IsOwnedSo r.state owners.Client = rw o at (P.tied.placed n r f).owner in
       let a = ports_none n (seen hs) (ports_of c) (λ k p e. out_count r p f O.0) in
       let b : times n (note_numbers c.notes) ≡ 0 = note_count i c r t f ∙ rw o refl in
+      let d : times n (work_numbers c.work) ≡ 0 = work_count i c r t f ∙ ap (λ (x : Owner). weight (is_work_of (number_of c) x)) o in
       omega arith)
 
   -- a header of a note
@@ -157,12 +172,35 @@ module _ (cs : List Component) (hs : List HeaderRecord) (numbered made : ℕ) (P
       (let a = lists h.component in
       let w : weight (is_notice_of (number_of h.component) r.state.owner) ≡ 1 = notice_weighs k (number_of h.component) r.state.owner o num in
       let b = note_count h.place h.component r h.there f in
+      let d : times n (work_numbers (h.component).work) ≡ 0 = work_count h.place h.component r h.there f ∙ ap (λ (x : Owner). weight (is_work_of (number_of h.component) x)) o in
       omega arith)
       (λ j d t apart.
       let a = lists d in
       let away : k ≢ number_of d = λ e. apart (same_place 0 numbered j h.place cs d h.component P.rising t h.there (sym e ∙ sym num)) in
       let w : weight (is_notice_of (number_of d) r.state.owner) ≡ 0 = notice_away k (number_of d) r.state.owner o away in
       let b = note_count j d r t f in
+      let x : times n (work_numbers d.work) ≡ 0 = work_count j d r t f ∙ ap (λ (x : Owner). weight (is_work_of (number_of d) x)) o in
+      omega arith)
+
+  -- a header of a work
+  count_work : (r : HeaderRecord) (k : ℕ) → find_header n hs ≡ Some r → r.state.owner ≡ owners.Work k → times n (in_components (seen hs) cs) ≡ 1
+  count_work r k f o =
+      let O : IsOwnedSo r.state (owners.Work k) = rw o at (P.tied.placed n r f).owner in
+      let h = worker_there cs hs numbered made P k n r f o in
+      let lists : (c : Component) → times n (in_ports (seen hs) (ports_of c)) ≡ 0 = λ c. ports_none n (seen hs) (ports_of c) (λ x q e. out_count r q f O.0) in
+      let notes : (i : ℕ) (c : Component) → slice_get cs i ≡ Some c → times n (note_numbers c.notes) ≡ 0 = λ i c t. note_count i c r t f ∙ ap (λ (x : Owner). weight (is_notice_of (number_of c) x)) o in
+      components_one n (seen hs) cs h.0 h.1 h.2
+      (let a = lists h.1 in
+      let b = notes h.0 h.1 h.2 in
+      let w : weight (is_work_of (number_of h.1) r.state.owner) ≡ 1 = work_weighs k (number_of h.1) r.state.owner o h.3 in
+      let d = work_count h.0 h.1 r h.2 f in
+      omega arith)
+      (λ j d t apart.
+      let a = lists d in
+      let b = notes j d t in
+      let away : k ≢ number_of d = λ e. apart (same_place 0 numbered j h.0 cs d h.1 P.rising t h.2 (sym e ∙ sym h.3)) in
+      let w : weight (is_work_of (number_of d) r.state.owner) ≡ 0 = work_away k (number_of d) r.state.owner o away in
+      let x = work_count j d r t f in
       omega arith)
 
   -- the port that has a header
@@ -189,14 +227,17 @@ module _ (cs : List Component) (hs : List HeaderRecord) (numbered made : ℕ) (P
       let b : weight (in_todo q.key r.state) + weight (in_done q.key r.state) ≡ weight (same_key key q.key) = rw o (in_place r.state.place (same_key key q.key) O.1) in
       a ∙ b in
       let notes : (i : ℕ) (c : Component) → slice_get cs i ≡ Some c → times n (note_numbers c.notes) ≡ 0 = λ i c t. note_count i c r t f ∙ rw o refl in
+      let works : (i : ℕ) (c : Component) → slice_get cs i ≡ Some c → times n (work_numbers c.work) ≡ 0 = λ i c t. work_count i c r t f ∙ ap (λ (x : Owner). weight (is_work_of (number_of c) x)) o in
       components_one n (seen hs) cs h.place h.component h.there
       (let a = notes h.place h.component h.there in
+      let x = works h.place h.component h.there in
       let b = ports_one n (seen hs) (ports_of h.component) key.port p.0 h.port
       (at p.0 ∙ rw (P.tied.keyed key p.0 p.1, key_same key) refl)
       (λ j q e apart. at q ∙ no_weight_apart key q (λ s. apart (ap (λ x. x.port) (sym (port_parts h.component j q e).key) ∙ ap (λ x. x.port) (sym s)))) in
       omega arith)
       (λ j d t apart.
       let a = notes j d t in
+      let x = works j d t in
       let b = ports_none n (seen hs) (ports_of d) (λ k q e. at q ∙ no_weight_apart key q (λ s.
       apart (same_place 0 numbered j h.place cs d h.component P.rising t h.there
       (ap (λ x. x.component) (sym (port_parts d k q e).key) ∙ (ap (λ x. x.component) (sym s) ∙ sym h.number))))) in
@@ -224,7 +265,7 @@ module _ (cs : List Component) (hs : List HeaderRecord) (numbered made : ℕ) (P
       by_owner r owners.Client f o = let c = count_client r f o in omega arith
       by_owner r (owners.Port key) f o = let c = count_port r key f o in omega arith
       by_owner r (owners.Notice k) f o = let c = count_notice r k f o in omega arith
-      by_owner r (owners.Work k) f o = let O : IsOwnedSo r.state (owners.Work k) = rw o at (P.tied.placed n r f).owner in absurd O
+      by_owner r (owners.Work k) f o = let c = count_work r k f o in omega arith
 
 -- A sound world has its census, and no component has taken or reserved more places than there are.
 pub sound_census : (w : World) → Sound w → Census w × HasRoom w

@@ -12,6 +12,7 @@ use Rattle.omx_types.specs.declared.error.CallError.TheVariants.{Omx}
 use Rattle.omx_types.specs.declared.param.Param.{Param}
 use Rattle.omx_types.specs.declared.param.ParamKey.{ParamKey}
 use Rattle.omx_types.specs.declared.param.Supplier.{Supplier}
+use Rattle.part_api.specs.declared.attached.Attached.{Attached}
 use Rattle.il_machine.specs.declared.answer.Acted.{Acted}
 use Rattle.il_machine.specs.declared.port.Link.{Link}
 use Rattle.il_machine.specs.declared.port.Port.{Port}
@@ -35,10 +36,11 @@ use Rattle.il_machine.specs.Acts as acts
 use Rattle.il_machine.specs.Run.{Step, Meets, Run}
 use Rattle.il_machine.specs.Sound.{Sound}
 use Rattle.machine_laws.proofs.Keys.{there_is}
-use Rattle.machine_laws.proofs.Change.{sound_component}
+use Rattle.machine_laws.proofs.Change.{sound_component, out_there}
+use Rattle.machine_laws.proofs.Units.{resources_of}
 use Rattle.machine_laws.proofs.Parts.{parts_of}
-use Rattle.machine_laws.proofs.Sending.{sound_sent, change_sent}
-use Rattle.machine_laws.proofs.Running.{sound_run, change_run}
+use Rattle.machine_laws.proofs.Sending.{sound_sent, change_sent, fair_sent}
+use Rattle.machine_laws.proofs.Running.{sound_run, change_run, fair_run}
 use Rattle.machine_laws.proofs.ClientHeaders.{sound_allocated, sound_used, sound_emptied, sound_filled, sound_freed}
 use Rattle.machine_laws.proofs.Notices.{sound_noticed, sound_given, sound_taken, note_emptied, note_filled, IsNoteOf, sound_ended}
 use Rattle.machine_laws.proofs.Coming.{kind_sized, sound_new, sound_removed}
@@ -55,9 +57,9 @@ get_keeps w v name result h S = answers_or_memory_keep (get_handle_refusal (look
     let k = there_is (kind_of name) (λ kind. ClosesTo (with_new_component x kind w) v) a.2 in
     sound_closes (with_new_component x k.0 w) v k.2 (sound_new w x k.0 S a.0 (kind_sized name k.0 k.1)))
 
-free_keeps : (w v : World) (h : Handle) (result : Result (Unit {0}) OmxError) → FreeHandle w h result v → Sound w → Sound v
+free_keeps : (w v : World) (h : Handle) (result : Result (Option Attached) OmxError) → FreeHandle w h result v → Sound w → Sound v
 free_keeps w v h result r S = resolving_keeps plain w v h result _ S r (λ i c t a. answers_keep (free_refusal (look w).headers c) result w v _ a S (λ x n b.
-    sound_closes (without_component i c w) v b (sound_removed w i c S t n)))
+    sound_closes (without_component i c w) v b.1 (sound_removed w i c S t n)))
 
 -- ---- parameters and configs
 
@@ -73,11 +75,13 @@ configure_keeps w v h key value result r S = resolving_keeps plain w v h result 
 
 send_keeps : (w v : World) (h : Handle) (command : Command) (result : Result (Unit {0}) OmxError) → SendCommand w h command result v → Sound w → Sound v
 send_keeps w v h command result r S = resolving_keeps plain w v h result _ S r (λ i c t a. answers_keep (send_refusal (look w) c command) result w v _ a S (λ x n b.
-    sound_closes (with_component i (sent command c) w) v b (sound_component w i c (sent command c) S t (change_sent command c) (sound_sent (look w) command c ((parts_of w S).components i c t) n))))
+    sound_closes (with_component i (sent command c) w) v b (sound_component w i c (sent command c) S t (change_sent command c) (sound_sent (look w) command c ((parts_of w S).components i c t) n)
+    (fair_sent w.waits command c ((resources_of w S).each i c t) (out_there w i c S t)))))
 
 run_keeps : (w v : World) (h : Handle) (result : Result Acted OmxError) → RunCommand w h result v → Sound w → Sound v
 run_keeps w v h result r S = resolving_keeps plain w v h result _ S r (λ i c t a. acts_keep (run_idle c c.commands) result w (with_component i (run_front (look w) c.commands c) w) v a S (λ n.
-    sound_component w i c (run_front (look w) c.commands c) S t (change_run (look w) c) (sound_run (look w) c ((parts_of w S).components i c t) n)))
+    sound_component w i c (run_front (look w) c.commands c) S t (change_run (look w) c) (sound_run (look w) c ((parts_of w S).components i c t) n)
+    (fair_run (look w) w.waits c ((resources_of w S).each i c t) (out_there w i c S t) n)))
 
 -- ---- headers of client ports
 
@@ -200,7 +204,7 @@ hands_in w _ M = tt
 
 pub sound_after : (w v : World) (a : Act) (r : Reply) → HandsIn w a → Step w a r v → Sound w → Sound v
 sound_after w v (acts.GetHandle name) (acts.Got result) M s S = get_keeps w v name result s S
-sound_after w v (acts.FreeHandle h) (acts.Plain result) M s S = free_keeps w v h result s S
+sound_after w v (acts.FreeHandle h) (acts.Removed result) M s S = free_keeps w v h result s S
 sound_after w v (acts.GetState h) (acts.Stated result) M s S = looks_keep (state_answer h (look w)) result w v s S
 sound_after w v (acts.PortView h port) (acts.Viewed result) M s S = looks_keep (view_answer h port (look w)) result w v s S
 sound_after w v (acts.Progress h) (acts.Progressed result) M s S = looks_keep (progress_answer h w) result w v s S
@@ -241,4 +245,8 @@ sound_none key units = record {
   once = tt;
   numbered = All-nil _;
   placed = All-nil _;
+  units = All-nil _;
+  enough = omega arith;
+  apart = λ i j n c d e f p q. absurd cc;
+  streams = refl;
 }

@@ -27,11 +27,13 @@ use Rattle.machine_laws.proofs.Keys.{key_is, is_there}
 use Rattle.machine_laws.proofs.Lookups.{port_parts, port_there_at}
 use Rattle.machine_laws.proofs.Ties.{other_side}
 use Rattle.machine_laws.proofs.Parts.{Parts, ports_in_list, parts_of, sound_from}
-use Rattle.machine_laws.proofs.Arriving.{used_with_port, lawful_with_port}
+use Rattle.machine_laws.proofs.Units.{IsAside, aside_twice}
+use Rattle.machine_laws.proofs.Change.{aside_there}
+use Rattle.machine_laws.proofs.Arriving.{used_with_port, lawful_with_port, aside_with_port}
 use Rattle.machine_laws.proofs.Rooms.{lawful_of, sound_with}
 use Rattle.machine_laws.proofs.Accepting.{passed, not_either, not_not, both_of, is_not}
-use Rattle.machine_laws.proofs.Values.{sound_setting, fixed_loose}
-use Rattle.machine_laws.proofs.Pairs.{apart_numbers, IsOnePort, key_at, parts_paired, port_over, port_else, set_same}
+use Rattle.machine_laws.proofs.Values.{sound_setting, aside_setting, fixed_loose}
+use Rattle.machine_laws.proofs.Pairs.{resources_paired, apart_numbers, IsOnePort, key_at, parts_paired, port_over, port_else, set_same}
 
 -- ---- the port at its own number
 
@@ -158,6 +160,15 @@ sound_joined_end c d q supplier p S U e f =
     sound_linked (record c { settings = with_setting p.key.port (widened p q) c.settings }) p.key.port
     (record p.state { link = Some (record { peer = q.key; supplier = supplier }) }) p.state x is.state refl
 
+aside_joined : (c : Component) (q : Port) (supplier : Supplier) (p : Port) → port_of c p.key.port ≡ Some p → IsAside c (joined_to q supplier p c)
+aside_joined c q supplier p e =
+    let d : Component = record c { settings = with_setting p.key.port (widened p q) c.settings } in
+    aside_twice c d (joined_to q supplier p c) (aside_setting c p.key.port (widened p q))
+    (aside_with_port p.key.port (record p.state { link = Some (record { peer = q.key; supplier = supplier }) }) p.state d (port_parts c p.key.port p e).state (λ h. h))
+
+aside_parted : (c : Component) (p : Port) → port_of c p.key.port ≡ Some p → IsAside c (parted p c)
+aside_parted c p e = aside_with_port p.key.port (record p.state { link = None }) p.state c (port_parts c p.key.port p e).state (λ h. h)
+
 -- ---- set up
 
 record PassedSetup (headers : Seen) (c d : Component) (p q : Port) : Type 0 where
@@ -244,11 +255,13 @@ sound_joined w i c output p j d input q S t e u f h =
     let n = apart_numbers w.numbered i j w.components c d P.rising t u apart in
     let nn : q.key.component ≢ p.key.component = λ x. n (sym (ap (λ k. k.component) kp) ∙ (sym x ∙ ap (λ k. k.component) kq)) in
     let s = agreed_is p.setting.supplier q.setting.supplier in
+    let F = aside_there w i c (joined_to q supplier p c) S t (aside_joined c q supplier p e') in
+    let F' = aside_there w j d (joined_to p supplier q d) S u (aside_joined d p supplier q f') in
     let J = both_ends supplier p q s (rw (A.input, A.output) refl) (same_format_sym p.setting.definition.format q.setting.definition.format A.format) nn in
     let K = both_ends supplier q p s (rw (A.input, A.output) refl) A.format (λ x. nn (sym x)) in
-    sound_from (both_joined supplier i c p j d q w) (parts_paired w.numbered w.made i j w.components w.headers c d (joined_to q supplier p c) (joined_to p supplier q d) p.key.port q.key.port (joined_port q supplier p) (joined_port p supplier q)
+    sound_from (both_joined supplier i c p j d q w) (parts_paired w.waits w.numbered w.made i j w.components w.headers c d (joined_to q supplier p c) (joined_to p supplier q d) p.key.port q.key.port (joined_port q supplier p) (joined_port p supplier q)
     P t u apart (one_joined c q supplier p e') (one_joined d p supplier q f')
-    (sound_joined_end c d q supplier p (P.components i c t) (P.components j d u) e' f') (sound_joined_end d c p supplier q (P.components j d u) (P.components i c t) f' e')
+    (sound_joined_end c d q supplier p (P.components i c t) (P.components j d u) e' f') (sound_joined_end d c p supplier q (P.components j d u) (P.components i c t) f' e') F F'
     (λ after first second others. record {
       first = first;
       second = second;
@@ -260,7 +273,7 @@ sound_joined w i c output p j d input q S t e u f h =
       first_joined = is_there (after q.key) (AreJoined (joined_port q supplier p) (record { peer = q.key; supplier = supplier })) (joined_port p supplier q) (ap after kq ∙ second) J;
       second_joined = is_there (after p.key) (AreJoined (joined_port p supplier q) (record { peer = p.key; supplier = supplier })) (joined_port q supplier p) (ap after kp ∙ first) K;
       apart = λ key o link x y a b. (alone_apart w (key_at c p.key.port) p P at L.alone key o link x y, alone_apart w (key_at d q.key.port) q P bt M.alone key o link x y);
-    }))
+    })) (resources_paired w i j c d (joined_to q supplier p c) (joined_to p supplier q d) S t u apart refl refl F F')
 
 -- ---- dropped
 
@@ -318,8 +331,10 @@ sound_parted w i c output p j d input q S t e u f h =
     let a : Some c ≡ Some d = sym t ∙ (ap (slice_get w.components) x ∙ u) in
     let y : c ≡ d = cc in
     nn (ap (λ k. k.component) kq ∙ (sym (ap number_of y) ∙ sym (ap (λ k. k.component) kp))) in
-    sound_from (both_parted i c p j d q w) (parts_paired w.numbered w.made i j w.components w.headers c d (parted p c) (parted q d) p.key.port q.key.port (parted_port p) (parted_port q)
-    P t u apart (one_parted c p e') (one_parted d q f') (sound_parted_end c p (P.components i c t) e') (sound_parted_end d q (P.components j d u) f')
+    let F = aside_there w i c (parted p c) S t (aside_parted c p e') in
+    let F' = aside_there w j d (parted q d) S u (aside_parted d q f') in
+    sound_from (both_parted i c p j d q w) (parts_paired w.waits w.numbered w.made i j w.components w.headers c d (parted p c) (parted q d) p.key.port q.key.port (parted_port p) (parted_port q)
+    P t u apart (one_parted c p e') (one_parted d q f') (sound_parted_end c p (P.components i c t) e') (sound_parted_end d q (P.components j d u) f') F F'
     (λ after first second others. record {
       first = first;
       second = second;
@@ -334,4 +349,4 @@ sound_parted w i c output p j d input q S t e u f h =
         (λ g. b (joined_back w (key_at c p.key.port) p A.link P at A.is key x link y z g ∙ (A.peer ∙ kq))),
         (λ g. a (joined_back w (key_at d q.key.port) q (record { peer = p.key; supplier = (A.link).supplier }) P bt back key x link y z g ∙ kp)),
       );
-    }))
+    })) (resources_paired w i j c d (parted p c) (parted q d) S t u apart refl refl F F')

@@ -1,5 +1,5 @@
 -- A value of a component is set: a port's definition or preference changes only where the port is loose.
-use Rattle.std.proofs.Common.{◌≡◌, ◌≢◌, ◌⊎◌, inl, inr, ℕ, zero, suc, ◌+◌, Bool, true, false, not, ◌||◌, nat_eq, List, [], ◌∷◌, length-set, set, slice_get, Option, Some, None, refl, sym, ◌∙◌, ap, subst, eqb-true, arith}
+use Rattle.std.proofs.Common.{◌≡◌, ◌≢◌, ◌⊎◌, inl, inr, ℕ, zero, suc, ◌+◌, Bool, true, false, not, ◌||◌, nat_eq, List, [], ◌∷◌, length, length-set, set, slice_get, Option, Some, None, refl, sym, ◌∙◌, ap, subst, eqb-true, arith}
 use Rattle.std.proofs.lemmas.Bool.{cases_eq}
 use Rattle.std.proofs.lemmas.Option.{get_or_from_slice_get}
 use Rattle.omx_types.specs.declared.param.Param.{Param}
@@ -12,22 +12,26 @@ use Rattle.il_machine.specs.declared.port.PortState.{PortState}
 use Rattle.il_machine.specs.States.{is_invalid}
 use Rattle.il_machine.specs.Lists.{holds_at}
 use Rattle.il_machine.specs.Kinds.{ports_in, is_input, is_format_of}
-use Rattle.il_machine.specs.Settings.{setting_at, with_setting, changed_by, is_v112, is_index_of, is_port_of, is_value_of, is_good_value, is_supported, is_definition_of, same_format}
-use Rattle.il_machine.specs.World.{Component, HeaderRecord, World, number_of, ports_from, port_of, with_component}
+use Rattle.il_machine.specs.Settings.{setting_at, with_setting, changed_by, is_v112, is_index_of, is_port_of, is_value_of, is_good_value, is_supported, is_definition_of}
+use Rattle.il_machine.specs.World.{Component, HeaderRecord, World, number_of, ports_from, port_of, with_port, with_component}
 use Rattle.il_machine.specs.Headers.{Seen, seen, count_headers, is_for}
 use Rattle.il_machine.specs.Look.{look}
 use Rattle.il_machine.specs.Ports.{is_joined, unmade}
-use Rattle.il_machine.specs.Parameters.{is_format_free, is_fixed, is_wrong_time, set_parameter_refusal, set_config_refusal, with_value}
+use Rattle.il_machine.specs.Parameters.{is_format_free, is_fixed, is_wrong_time, set_parameter_refusal, set_config_refusal, unheld_at, with_value}
 use Rattle.il_machine.specs.Sound.{Sound, IsSound, IsLawfulSetting, AreNoted}
 use Rattle.il_machine.proofs.Wholes.{whole_changed}
-use Rattle.machine_laws.proofs.Every.{at_set_over}
+use Rattle.machine_laws.proofs.Finding.{either}
+use Rattle.machine_laws.proofs.Every.{set_there, at_set_over}
 use Rattle.machine_laws.proofs.Lookups.{rising_set}
 use Rattle.machine_laws.proofs.PortChanges.{IsLoose, AreKept, kept_itself}
+use Rattle.machine_laws.proofs.Works.{works_set}
+use Rattle.machine_laws.proofs.Units.{IsAside}
 use Rattle.machine_laws.proofs.Parts.{parts_of, sound_from}
-use Rattle.machine_laws.proofs.Change.{tied_set, each_set, sound_component}
+use Rattle.machine_laws.proofs.Change.{tied_set, each_set, lawful_set, aside_there, resources_changed, sound_component}
+use Rattle.machine_laws.proofs.Arriving.{state_there, used_with_port, lawful_with_port, change_with_port, aside_with_port}
 use Rattle.machine_laws.proofs.Accepting.{passed, not_either, not_not, both_of}
 use Rattle.machine_laws.proofs.ClientHeaders.{unlinked}
-use Rattle.machine_laws.proofs.Rooms.{costs, costs_same, sound_with}
+use Rattle.machine_laws.proofs.Rooms.{costs, costs_same, lawful_of, sound_with}
 
 -- ---- the refusals
 
@@ -47,10 +51,10 @@ parameter_passes headers c key value h =
     let d = passed (not (is_index_of s.kind false key.index)) _ _ b.1 in
     let e = passed (not (is_port_of s.kind key)) _ _ d.1 in
     let f = passed (not (is_value_of key.index value) || not (is_good_value (is_input s.kind key.port) value)) _ _ e.1 in
-    let g = passed (not (is_supported s key.port (is_format_free c) value)) _ _ f.1 in
+    let g = passed (not (is_supported s key.port (is_format_free c key.port value) value)) _ _ f.1 in
     let k = passed (is_wrong_time headers c key) _ _ g.1 in
     let v = not_either (not (is_value_of key.index value)) (not (is_good_value (is_input s.kind key.port) value)) f.0 in
-    (record { variant = not_not _ v.0; good = not_not _ v.1; free = is_format_free c; supported = not_not _ g.0 }, k.0)
+    (record { variant = not_not _ v.0; good = not_not _ v.1; free = is_format_free c key.port value; supported = not_not _ g.0 }, k.0)
 
 pub config_passes : (c : Component) (key : ParamKey) (value : Param) → set_config_refusal c key value ≡ None
     → IsSettable c key value × (is_index_of c.settings.kind true key.index ≡ true)
@@ -61,9 +65,9 @@ config_passes c key value h =
     let d = passed (not (is_index_of s.kind true key.index)) _ _ b.1 in
     let e = passed (not (is_port_of s.kind key)) _ _ d.1 in
     let f = passed (not (is_value_of key.index value) || not (is_good_value (is_input s.kind key.port) value)) _ _ e.1 in
-    let g = passed (not (is_supported s key.port (is_format_free c) value)) _ _ f.1 in
+    let g = passed (not (is_supported s key.port true value)) _ _ f.1 in
     let v = not_either (not (is_value_of key.index value)) (not (is_good_value (is_input s.kind key.port) value)) f.0 in
-    (record { variant = not_not _ v.0; good = not_not _ v.1; free = is_format_free c; supported = not_not _ g.0 }, not_not _ d.0)
+    (record { variant = not_not _ v.0; good = not_not _ v.1; free = true; supported = not_not _ g.0 }, not_not _ d.0)
 
 -- ---- a port's setting
 
@@ -114,20 +118,26 @@ sound_setting c j new S h =
       commands = S.commands;
     }) (omega (arith, S.room))
 
+pub aside_setting : (c : Component) (j : ℕ) (new : PortSetting) → IsAside c (with_setting_at j new c)
+aside_setting c j new = record { keeps = record { kind = refl; weights = refl; count = refl; work = refl }; state = refl; pending = refl; holds = refl; waiting = refl; part = refl; held = λ test h. h }
+
 sound_with_setting : (w : World) (i : ℕ) (c : Component) (j : ℕ) (new : PortSetting) → Sound w → slice_get w.components i ≡ Some c → ((p : Port) → port_of c j ≡ Some p → IsLoose w.headers p)
     → ((old : PortSetting) → slice_get c.settings.ports j ≡ Some old → IsLawfulSetting c.settings j new) → Sound (with_component i (with_setting_at j new c) w)
 sound_with_setting w i c j new S t L h =
     let P = parts_of w S in
     let cs : List Component = w.components in
     let d : Component = with_setting_at j new c in
+    let F = aside_there w i c d S t (aside_setting c j new) in
     sound_from (with_component i d w) (record {
       rising = rising_set 0 w.numbered i cs c d P.rising t refl;
       components = each_set IsSound i cs d P.components (sound_setting c j new (P.components i c t) h);
       tied = tied_set w.numbered i cs w.headers c d P.rising t refl (kept_setting w.headers c j new L) P.tied;
       noted = each_set (AreNoted (seen w.headers)) i cs d P.noted (P.noted i c t);
+      works = works_set i cs w.headers c d t refl refl P.works;
+      lawful = lawful_set w.waits w.waits i cs c d t F P.lawful;
       once = P.once;
       below = P.below;
-    })
+    }) (resources_changed w i c d S t refl F)
 
 -- ---- the value
 
@@ -146,10 +156,14 @@ index_loose hs c key index p e n h f =
     let b : holds_at (port_of c key.port) (is_fixed (seen hs) c) ≡ false = rw a at h in
     fixed_loose hs c (port_of c key.port) p b f
 
+-- the settings with the value, and all else as it was
+abbrev with_changed : ParamKey → Param → Component → Component
+with_changed key value c = record c { settings = changed_by key.port value c.settings }
+
 plain_change : (key : ParamKey) (value : Param) (c : Component) → IsSound c → (changed_by key.port value c.settings).ports ≡ c.settings.ports
-    → (changed_by key.port value c.settings).kind ≡ c.settings.kind → IsSound (with_value key value c)
+    → (changed_by key.port value c.settings).kind ≡ c.settings.kind → IsSound (with_changed key value c)
 plain_change key value c S p k =
-    let d : Component = with_value key value c in
+    let d : Component = with_changed key value c in
     let q : costs d ≡ costs c = costs_same c d c.commands refl in
     sound_with d (record {
       whole = whole_changed key.port value c.settings S.whole;
@@ -162,25 +176,58 @@ plain_change key value c S p k =
     }) (omega (arith, S.room))
 
 sound_plain : (w : World) (i : ℕ) (c : Component) (key : ParamKey) (value : Param) → Sound w → slice_get w.components i ≡ Some c → (changed_by key.port value c.settings).ports ≡ c.settings.ports
-    → (changed_by key.port value c.settings).kind ≡ c.settings.kind → Sound (with_component i (with_value key value c) w)
-sound_plain w i c key value S t p k = sound_component w i c (with_value key value c) S t (record { handle = refl; ports = p; links = refl; notes = refl }) (plain_change key value c ((parts_of w S).components i c t) p k)
+    → (changed_by key.port value c.settings).kind ≡ c.settings.kind → length (changed_by key.port value c.settings).weights ≡ length c.settings.weights → Sound (with_component i (with_changed key value c) w)
+sound_plain w i c key value S t p k l =
+    let d : Component = with_changed key value c in
+    sound_component w i c d S t (record { handle = refl; ports = p; links = refl; notes = refl }) (plain_change key value c ((parts_of w S).components i c t) p k)
+    (aside_there w i c d S t (record { keeps = record { kind = k; weights = l; count = refl; work = refl }; state = refl; pending = refl; holds = refl; waiting = refl; part = refl; held = λ test h. h }))
 
-sound_value : (w : World) (i : ℕ) (c : Component) (key : ParamKey) (value : Param) → Sound w → slice_get w.components i ≡ Some c → IsSettable c key value
+sound_changed : (w : World) (i : ℕ) (c : Component) (key : ParamKey) (value : Param) → Sound w → slice_get w.components i ≡ Some c → IsSettable c key value
     → ((p : Port) → (key.index ≡ 1) ⊎ (key.index ≡ 2) → port_of c key.port ≡ Some p → IsLoose w.headers p)
-    → Sound (with_component i (with_value key value c) w)
-sound_value w i c key (params.Port d) S t G L =
+    → Sound (with_component i (with_changed key value c) w)
+sound_changed w i c key (params.Port d) S t G L =
     let e : key.index ≡ 1 = eqb-true key.index 1 G.variant in
-    let q = both_of (is_format_of c.settings.kind (is_input c.settings.kind key.port) d.format) (G.free || same_format d.format (setting_at c.settings key.port).definition.format) G.supported in
+    let q = both_of (is_format_of c.settings.kind (is_input c.settings.kind key.port) d.format) G.free G.supported in
     sound_with_setting w i c key.port (record (setting_at c.settings key.port) { definition = d }) S t (λ p f. L p (inl e) f) (λ old f. (G.good, q.0))
-sound_value w i c key (params.Supplier x) S t G L =
+sound_changed w i c key (params.Supplier x) S t G L =
     let e : key.index ≡ 2 = eqb-true key.index 2 G.variant in
     sound_with_setting w i c key.port (record (setting_at c.settings key.port) { supplier = x }) S t (λ p f. L p (inr e) f) (λ old f.
     let l = ((parts_of w S).components i c t).settings key.port old f in
     let g : setting_at c.settings key.port ≡ old = get_or_from_slice_get c.settings.ports key.port old _ f in
     rw g l)
-sound_value w i c key (params.Priority n) S t G L = sound_plain w i c key (params.Priority n) S t refl refl
-sound_value w i c key (params.Gain n) S t G L = sound_plain w i c key (params.Gain n) S t refl refl
-sound_value w i c key (params.Weight n) S t G L = sound_plain w i c key (params.Weight n) S t refl refl
+sound_changed w i c key (params.Priority n) S t G L = sound_plain w i c key (params.Priority n) S t refl refl refl
+sound_changed w i c key (params.Gain n) S t G L = sound_plain w i c key (params.Gain n) S t refl refl refl
+sound_changed w i c key (params.Weight n) S t G L = sound_plain w i c key (params.Weight n) S t refl refl (length-set c.settings.weights key.port n)
+
+-- ---- a port is held no more
+
+set_twice : (i : ℕ) (cs : List Component) (d e : Component) → set (set cs i d) i e ≡ set cs i e
+set_twice i [] d e = refl
+set_twice zero (x ∷ cs) d e = refl
+set_twice (suc i) (x ∷ cs) d e = ap (λ (l : List Component). x ∷ l) (set_twice i cs d e)
+
+-- the port's state is that of the component before
+sound_unheld : (w : World) (i : ℕ) (c d : Component) (index : ℕ) (o : Option Port) → slice_get w.components i ≡ Some c → d.ports ≡ c.ports → port_of c index ≡ o → Sound (with_component i d w)
+    → Sound (with_component i (unheld_at o d) w)
+sound_unheld w i c d index None t q f S = S
+sound_unheld w i c d index (Some p) t q f S =
+    let k : ℕ = p.key.port in
+    let new : PortState = record p.state { held = false } in
+    let v : World = with_component i d w in
+    let u = set_there w.components i c d t in
+    let at : slice_get d.ports k ≡ Some p.state = rw q (state_there c index p f) in
+    let I = (parts_of v S).components i d u in
+    let x = used_with_port k new p.state d at in
+    let J = sound_with (with_port k new d) (lawful_with_port k new d (lawful_of d I)) (omega (arith, I.room)) in
+    let T = sound_component v i d (with_port k new d) S u (change_with_port k new p.state d at refl) J (aside_there v i d (with_port k new d) S u (aside_with_port k new p.state d at (λ h. absurd cc))) in
+    subst (λ (cs : List Component). Sound (record w { components = cs })) (set_twice i w.components d (with_port k new d)) T
+
+sound_value : (w : World) (i : ℕ) (c : Component) (key : ParamKey) (value : Param) → Sound w → slice_get w.components i ≡ Some c → IsSettable c key value
+    → ((p : Port) → (key.index ≡ 1) ⊎ (key.index ≡ 2) → port_of c key.port ≡ Some p → IsLoose w.headers p)
+    → Sound (with_component i (with_value key value c) w)
+sound_value w i c key value S t G L =
+    let T = sound_changed w i c key value S t G L in
+    either (nat_eq key.index 1) (λ b. rw b (sound_unheld w i c (with_changed key value c) key.port (port_of c key.port) t refl refl T)) (λ b. rw b T)
 
 pub sound_set : (w : World) (i : ℕ) (c : Component) (key : ParamKey) (value : Param) → Sound w → slice_get w.components i ≡ Some c → set_parameter_refusal (look w).headers c key value ≡ None
     → Sound (with_component i (with_value key value c) w)
