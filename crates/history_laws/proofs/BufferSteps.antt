@@ -33,7 +33,7 @@ use Rattle.history_laws.proofs.Growth.{Grows, grows_not, fails}
 use Rattle.history_laws.proofs.Quiet.{Nothing as Silent, first_note}
 use Rattle.history_laws.proofs.Births.{TellsNothing, silent_same, silent_set, silent_taken}
 use Rattle.history_laws.proofs.Carried.{Still, Made, Gone, Moved}
-use Rattle.history_laws.proofs.Homes.{found_state, set_in, no_work, client_home, noted_owner}
+use Rattle.history_laws.proofs.Homes.{found_state, set_in, client_home, noted_owner}
 use Rattle.history_laws.proofs.Outcome.{turn, Turn, Outcome, done, Nothing, IsNamed, answers, answers_or_memory, resolving}
 use Rattle.history_laws.proofs.HeaderActs.{named_key}
 
@@ -137,9 +137,7 @@ handed_in w v after h port key number change keeps S k H C is =
         made = refl;
         home = ap (λ (s : HeaderState). s.home) (keeps r);
         made_for = λ k. ap (is_for k) (keeps r);
-        from = no_work w number r S H.found;
         memory = inl H.owner;
-        to = tt;
         moves = rw (own, k) refl;
       });
     })
@@ -197,9 +195,7 @@ taken_header w v h i c make number rest r S N e n f C =
         made = refl;
         home = refl;
         made_for = λ k. refl;
-        from = no_work w number r S f;
         memory = inr refl;
-        to = tt;
         moves = rw (own, is) refl;
       });
     })

@@ -1,5 +1,5 @@
 -- Two results of one call in one world.
-use Rattle.std.proofs.Common.{◌≡◌, ℕ, Bool, true, false, List, slice_get, Option, Some, None, Result, Ok, refl, ◌∙◌}
+use Rattle.std.proofs.Common.{◌≡◌, ℕ, Bool, true, false, List, slice_get, Option, Some, None, Result, Ok, refl, ◌∙◌, ap}
 use Rattle.std.specs.Prelude.{length}
 use Rattle.omx_types.specs.declared.handle.Handle.{Handle}
 use Rattle.omx_types.specs.declared.handle.PortId.{PortId}
@@ -12,6 +12,7 @@ use Rattle.omx_types.specs.declared.error.CallError.TheVariants.{Omx}
 use Rattle.omx_types.specs.declared.param.Param.{Param}
 use Rattle.omx_types.specs.declared.param.ParamKey.{ParamKey}
 use Rattle.omx_types.specs.declared.param.Supplier.{Supplier}
+use Rattle.part_api.specs.declared.attached.Attached.{Attached}
 use Rattle.il_machine.specs.declared.answer.Acted.{Acted}
 use Rattle.il_machine.specs.World.{Component, World, place_of, with_component, port_of}
 use Rattle.il_machine.specs.Headers.{seen, find_header, loaded, empty_load, unloaded}
@@ -33,9 +34,10 @@ use Rattle.history_laws.proofs.Twice.{IsSame, both_there, nothing_twice, closed_
 
 -- ---- components, parameters, tunnels and commands
 
-pub free_handle_twice : (w : World) (h : Handle) (x y : Result (Unit {0}) OmxError) (v u : World) → FreeHandle w h x v → FreeHandle w h y u → IsSame x y v u
+pub free_handle_twice : (w : World) (h : Handle) (x y : Result (Option Attached) OmxError) (v u : World) → FreeHandle w h x v → FreeHandle w h y u → IsSame x y v u
 free_handle_twice w h x y v u a b = resolving_twice plain w h x y v u _ _ (IsSame x y v u) a b (λ s. s) (λ i c p q.
-    answers_twice (free_refusal (look w).headers c) w x y v u _ _ (IsSame x y v u) p q (λ s. s) (λ s t e f C D. closed_twice (without_component i c w) (Ok tt) x y v u e C f D))
+    answers_twice (free_refusal (look w).headers c) w x y v u _ _ (IsSame x y v u) p q (λ s. s) (λ s t e f C D.
+    closed_twice (without_component i c w) (Ok c.file) x y v u (e ∙ ap (λ (o : Option Attached). Ok o) C.0) C.1 (f ∙ ap (λ (o : Option Attached). Ok o) D.0) D.1))
 
 pub set_parameter_twice : (w : World) (h : Handle) (key : ParamKey) (value : Param) (x y : Result (Unit {0}) OmxError) (v u : World) → SetParameter w h key value x v → SetParameter w h key value y u → IsSame x y v u
 set_parameter_twice w h key value x y v u a b = resolving_twice plain w h x y v u _ _ (IsSame x y v u) a b (λ s. s) (λ i c p q.

@@ -1,5 +1,5 @@
 -- An Invalid component has nothing pending, and stays Invalid.
-use Rattle.std.proofs.Common.{◌≡◌, Bool, true, false, not, ◌||◌, List, [], ◌∷◌, Option, Some, None, refl, sym, ◌∙◌, ap}
+use Rattle.std.proofs.Common.{◌≡◌, ℕ, Bool, true, false, not, ◌||◌, List, [], ◌∷◌, Option, Some, None, refl, sym, ◌∙◌, ap}
 use Rattle.std.specs.Prelude.{is_some}
 use Rattle.omx_types.specs.declared.state.State.{State}
 use Rattle.omx_types.specs.declared.state.State.TheVariants.{Invalid, Loaded, Idle, Executing, Pause, WaitForResources}
@@ -12,7 +12,7 @@ use Rattle.il_machine.specs.States.{is_down, same_state}
 use Rattle.il_machine.specs.Room.{is_by_client}
 use Rattle.il_machine.specs.World.{Component}
 use Rattle.il_machine.specs.Look.{Look}
-use Rattle.il_machine.specs.Due.{reached, completed_for, lost_by, arrived_at}
+use Rattle.il_machine.specs.Due.{reached, completed_for, restarted, with_part, all_given_back, lost_by, arrived_at}
 use Rattle.il_machine.specs.Commands.{begun, state_fault, carried_out, run_front}
 use Rattle.machine_laws.proofs.Finding.{either}
 use Rattle.history_laws.proofs.Cores.{Core, IsLasting}
@@ -26,28 +26,31 @@ record KeepsSeat (c d : Component) : Type 0 where
 not_invalid : (s : State) → s ≡ Idle → s ≡ Invalid → ⊥
 not_invalid s e f = let k : Idle ≡ Invalid = sym e ∙ f in absurd cc
 
-client_keeps : (p : Pending) (c : Component) → KeepsSeat c (completed_for p (reached p c))
-client_keeps p c = either (is_by_client p.cause)
-    (λ t. rw t (record { handle = refl; out = refl; calm = λ e. refl }))
-    (λ f. rw f (record { handle = refl; out = refl; calm = λ e. refl }))
-
-client_state : (p : Pending) (c : Component) → (completed_for p (reached p c)).state ≡ p.target
-client_state p c = either (is_by_client p.cause) (λ t. rw t refl) (λ f. rw f refl)
+client_state : (p : Pending) (r : Component) → (completed_for p r).state ≡ r.state
+client_state p r = either (is_by_client p.cause) (λ t. rw t refl) (λ f. rw f refl)
 
 loss_keeps : (p : Pending) (c d : Component) → d.state ≡ Idle → KeepsSeat c d → KeepsSeat c (lost_by p d)
 loss_keeps p c d e K = either (d.loss_mark || not (is_by_client p.cause))
     (λ t. rw t (record { handle = K.handle; out = K.out; calm = λ i. absurd (not_invalid d.state e i) }))
     (λ f. rw f K)
 
-arrived_keeps : (target : State) (p : Pending) (c : Component) → p.target ≡ target → KeepsSeat c (arrived_at target p c)
-arrived_keeps Idle p c e = either (is_down c.state)
+-- the transition reached what it went to, and a part of the record that is none of this changed
+reached_keeps : (p : Pending) (c r : Component) → r.handle ≡ c.handle → r.client_out ≡ c.client_out → r.pending ≡ None → KeepsSeat c (completed_for p r)
+reached_keeps p c r h o n = either (is_by_client p.cause)
+    (λ t. rw t (record { handle = h; out = o; calm = λ e. n }))
+    (λ f. rw f (record { handle = h; out = o; calm = λ e. n }))
+
+arrived_keeps : (number : ℕ) (target : State) (p : Pending) (c : Component) → p.target ≡ target → KeepsSeat c (arrived_at number target p c)
+arrived_keeps number Idle p c e = either (is_down c.state)
     (λ t. rw t (record { handle = refl; out = refl; calm = λ i. refl }))
-    (λ f. rw f (loss_keeps p c (completed_for p (reached p c)) (client_state p c ∙ e) (client_keeps p c)))
-arrived_keeps Loaded p c e = client_keeps p c
-arrived_keeps Invalid p c e = record { handle = refl; out = refl; calm = λ i. refl }
-arrived_keeps Executing p c e = record { handle = refl; out = refl; calm = λ i. refl }
-arrived_keeps Pause p c e = record { handle = refl; out = refl; calm = λ i. refl }
-arrived_keeps WaitForResources p c e = record { handle = refl; out = refl; calm = λ i. refl }
+    (λ f.
+    let r : Component = with_part (restarted c) (reached p c) in
+    rw f (loss_keeps p c (completed_for p r) (client_state p r ∙ e) (reached_keeps p c r refl refl refl)))
+arrived_keeps number Loaded p c e = reached_keeps p c (all_given_back (reached p c)) refl refl refl
+arrived_keeps number Invalid p c e = record { handle = refl; out = refl; calm = λ i. refl }
+arrived_keeps number Executing p c e = record { handle = refl; out = refl; calm = λ i. refl }
+arrived_keeps number Pause p c e = record { handle = refl; out = refl; calm = λ i. refl }
+arrived_keeps number WaitForResources p c e = record { handle = refl; out = refl; calm = λ i. refl }
 
 -- ---- commands
 
@@ -91,8 +94,8 @@ Fit Q D k = Q k.handle k.out × (k.state ≡ Invalid → k.pending ≡ None) × 
 module _ (Q : Handle → Bool → Type 0) (D : Handle → Type 0) (back : (h : Handle) (out : Bool) → Q h out → Q h false) where
   pub lasting : IsLasting (Fit Q D)
   lasting = record {
-    arrives = λ p c e k.
-        let K = arrived_keeps p.target p c refl in (
+    arrives = λ number p c e k.
+        let K = arrived_keeps number p.target p c refl in (
           (rw (K.handle, K.out) k.0),
           K.calm,
           λ d. let x : None ≡ Some p = sym (k.1 (k.2 (rw K.handle at d))) ∙ e in absurd cc,

@@ -14,7 +14,7 @@ use Rattle.machine_laws.proofs.Replacing.{IsReplaced}
 use Rattle.machine_laws.proofs.Keys.{none_or_some}
 use Rattle.history_laws.specs.Memory.{memory_of}
 use Rattle.history_laws.proofs.Owners.{Settles}
-use Rattle.history_laws.proofs.Trails.{NoWork, trail_more, trail_own, trail_other, trail_begins, trail_on, trail_ends, has_same}
+use Rattle.history_laws.proofs.Trails.{trail_more, trail_own, trail_other, trail_begins, trail_on, trail_ends, has_same}
 
 -- nothing moves
 pub record IsStill (w : World) (ms : List Move) (v : World) : Type 0 where
@@ -51,8 +51,6 @@ pub record IsMoved (w : World) (ms : List Move) (v : World) : Type 0 where
   pub made : v.made ≡ w.made
   pub home : (now.state).home ≡ (was.state).home
   pub made_for : (key : PortKey) → is_for key now.state ≡ is_for key was.state
-  pub from : NoWork (was.state).owner
-  pub to : NoWork (now.state).owner
   -- it comes from the client, or its memory stays
   pub memory : ((was.state).owner ≡ owners.Client) ⊎ (memory_of now ≡ memory_of was)
   pub moves : ms ≡ moved number (With (was.state).owner) (With (now.state).owner)
@@ -146,7 +144,7 @@ moved_trails w v old ms o B T M =
           let was : HasTrail (Some (M.was).state) (trail M.number old) = had_trail M.number w (Some M.was) old T R.was in
           let t : trail n (old ++ m ∷ []) ≡ trail M.number old ++ m ∷ [] = subst (λ (k : ℕ). trail k (old ++ m ∷ []) ≡ trail M.number old ++ m ∷ []) is (moved_by old m) in
           has_trail n v (Some M.now) (trail n (old ++ m ∷ [])) (trail M.number old ++ m ∷ []) f t
-          (trail_on M.number (M.was).state (M.now).state (trail M.number old) was M.home M.from M.to)
+          (trail_on M.number (M.was).state (M.now).state (trail M.number old) was M.home)
       | inr a ↦
           let f : find_header n v.headers ≡ find_header n w.headers = R.others n (λ k. a (sym k)) in
           left n w v old m T a f

@@ -89,8 +89,8 @@ take_from w v i c false (Some (FillDone n)) result a C = let r = there_is (find_
 pub step_closed : (w : World) (a : Act) (r : Reply) (v : World) → IsClosed w → Step w a r v → IsClosed v
 step_closed w (acts.GetHandle name) (acts.Got result) v C s = answers_or_memory (get_handle_refusal (look w) name) result w v _ s C (λ h x.
     let k = there_is (kind_of name) (λ kind. ClosesTo (with_new_component h kind w) v) x.2 in (k.2).closed)
-step_closed w (acts.FreeHandle h) (acts.Plain result) v C s = resolving plain w v h result C _ s (λ i c a.
-    answers (free_refusal (look w).headers c) result w v _ a C (λ x b. b.closed))
+step_closed w (acts.FreeHandle h) (acts.Removed result) v C s = resolving plain w v h result C _ s (λ i c a.
+    answers (free_refusal (look w).headers c) result w v _ a C (λ x b. (b.1).closed))
 step_closed w (acts.GetState h) (acts.Stated result) v C s = looks (state_answer h (look w)) result w v s C
 step_closed w (acts.PortView h port) (acts.Viewed result) v C s = looks (view_answer h port (look w)) result w v s C
 step_closed w (acts.Progress h) (acts.Progressed result) v C s = looks (progress_answer h w) result w v s C

@@ -102,10 +102,10 @@ at_port_happens i c thing w (Some x) change at p h = h x refl
 
 arrival : (i : ℕ) (c : Component) (p : Pending) (w : World) → slice_get w.components i ≡ Some c → c.pending ≡ Some p → IsHappening i c Transition w (transition_happened i c (Some p) w)
 arrival i c p w at e = record {
-  component = arrived p c;
+  component = arrived w.waits p c;
   components = refl;
-  grows = arrival_grows c p e;
-  passes = arrival_passes c p e;
+  grows = arrival_grows w.waits c p e;
+  passes = arrival_passes w.waits c p e;
   given = refl;
   made = refl;
   numbered = refl;

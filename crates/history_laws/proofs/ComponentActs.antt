@@ -1,5 +1,5 @@
 -- The acts on components, parameters, tunnels and commands: none of them tells a completion or moves a header.
-use Rattle.std.proofs.Common.{◌≡◌, inl, inr, ℕ, true, List, [], ◌∷◌, ◌++◌, set, slice_get, Option, Some, None, Result, MatchOption, refl, sym, ◌∙◌, ap}
+use Rattle.std.proofs.Common.{◌≡◌, inl, inr, ℕ, true, nat_eq, List, [], ◌∷◌, ◌++◌, set, slice_get, Option, Some, None, Result, MatchOption, refl, sym, ◌∙◌, ap}
 use Rattle.std.proofs.lemmas.Bool.{cases_eq}
 use Rattle.omx_types.specs.declared.state.State.{State}
 use Rattle.omx_types.specs.declared.handle.Handle.{Handle}
@@ -13,21 +13,23 @@ use Rattle.omx_types.specs.declared.error.CallError.{CallError}
 use Rattle.omx_types.specs.declared.param.Param.{Param}
 use Rattle.omx_types.specs.declared.param.ParamKey.{ParamKey}
 use Rattle.omx_types.specs.declared.param.Supplier.{Supplier}
+use Rattle.part_api.specs.declared.attached.Attached.{Attached}
 use Rattle.il_machine.specs.declared.answer.Acted.{Acted}
-use Rattle.il_machine.specs.World.{Component, World, number_of, place_of, fresh, with_component, port_of, told}
+use Rattle.il_machine.specs.World.{changed_at, Component, World, number_of, place_of, fresh, with_component, port_of, told}
 use Rattle.il_machine.specs.Look.{Look, look}
 use Rattle.il_machine.specs.Due.{ClosesTo}
 use Rattle.il_machine.specs.Answers.{plain}
 use Rattle.il_machine.specs.Kinds.{kind_of}
 use Rattle.il_machine.specs.Components.{GetHandle, FreeHandle, get_handle_refusal, free_refusal, is_vacant, with_new_component, without_component}
-use Rattle.il_machine.specs.Parameters.{SetParameter, SetConfig, set_parameter_refusal, set_config_refusal, with_value}
+use Rattle.il_machine.specs.Parameters.{SetParameter, SetConfig, set_parameter_refusal, set_config_refusal, unheld_at, with_value}
+use Rattle.il_machine.specs.Settings.{changed_by}
 use Rattle.il_machine.specs.Tunnels.{SetupTunnel, DropTunnel, setup_refusal, drop_refusal, BothPorts, agreed_of, both_joined, both_parted, joined_to, parted}
 use Rattle.il_machine.specs.Commands.{SendCommand, RunCommand, send_refusal, sent, is_at_once, invalidated, run_idle, run_front, carried_out, begun, state_fault}
 use Rattle.il_machine.specs.Notes.{EndNote, back_in}
 use Rattle.il_machine.specs.declared.answer.Progress.{Progress}
 use Rattle.il_machine.specs.declared.port.Port.{Port}
 use Rattle.il_machine.specs.Acts as acts
-use Rattle.il_machine.specs.Effect.{changed_at, at_named, at_both, effect}
+use Rattle.il_machine.specs.Effect.{at_named, at_both, effect}
 use Rattle.il_machine.specs.Sound.{Sound}
 use Rattle.machine_laws.proofs.Finding.{either}
 use Rattle.machine_laws.proofs.Keys.{there_is}
@@ -72,23 +74,37 @@ get_handle w name result v a = answers_or_memory (get_handle_refusal (look w) na
     let is : changed_at (kind_of name) w (λ kind. with_new_component h kind w) ≡ mid = found_is (kind_of name) k.0 w (λ kind. with_new_component h kind w) k.1 in
     done w v _ mid is k.2 (record { silent = silent_push w mid (fresh h k.0) refl refl refl x.0 refl; carried = still w mid refl refl }))
 
-pub free_handle : (w : World) (h : Handle) (result : Result (Unit {0}) OmxError) (v : World) → Sound w → FreeHandle w h result v → Outcome w (unmoving (effect w (acts.FreeHandle h) (acts.Plain result))) v
-free_handle w h result v S a = let ms : Result (Unit {0}) OmxError → Turn = λ r. unmoving (effect w (acts.FreeHandle h) (acts.Plain r)) in resolving plain w h result v _ a ms (λ e. refl) (λ i c named b.
-    answers (free_refusal (look w).headers c) result w v ms (λ x. ClosesTo (without_component i c w) v) (λ e. refl) b (λ n x e C.
+pub free_handle : (w : World) (h : Handle) (result : Result (Option Attached) OmxError) (v : World) → Sound w → FreeHandle w h result v → Outcome w (unmoving (effect w (acts.FreeHandle h) (acts.Removed result))) v
+free_handle w h result v S a = let ms : Result (Option Attached) OmxError → Turn = λ r. unmoving (effect w (acts.FreeHandle h) (acts.Removed r)) in resolving plain w h result v _ a ms (λ e. refl) (λ i c named b.
+    answers (free_refusal (look w).headers c) result w v ms (λ x. (x ≡ c.file) × ClosesTo (without_component i c w) v) (λ e. refl) b (λ n x e C.
     let mid = without_component i c w in
-    done w v _ mid (named_is w h i c (λ i c. without_component i c w) named.place named.there) C (record { silent = silent_removed i w mid c S.rising named.there refl refl refl; carried = still w mid refl refl })))
+    done w v _ mid (named_is w h i c (λ i c. without_component i c w) named.place named.there) C.1 (record { silent = silent_removed i w mid c S.rising named.there refl refl refl; carried = still w mid refl refl })))
 
 -- ---- parameters
+
+record IsSeated (c d : Component) : Type 0 where
+  number : number_of d ≡ number_of c
+  notes : d.notes ≡ c.notes
+  state : d.state ≡ c.state
+
+unheld_kept : (o : Option Port) (c : Component) → IsSeated c (unheld_at o c)
+unheld_kept None c = record { number = refl; notes = refl; state = refl }
+unheld_kept (Some p) c = record { number = refl; notes = refl; state = refl }
+
+value_kept : (key : ParamKey) (value : Param) (c : Component) → IsSeated c (with_value key value c)
+value_kept key value c = either (nat_eq key.index 1)
+    (λ t. let K = unheld_kept (port_of c key.port) (record c { settings = changed_by key.port value c.settings }) in rw t (record { number = K.number; notes = K.notes; state = K.state }))
+    (λ f. rw f (record { number = refl; notes = refl; state = refl }))
 
 pub set_parameter : (w : World) (h : Handle) (key : ParamKey) (value : Param) (result : Result (Unit {0}) OmxError) (v : World) → SetParameter w h key value result v → Outcome w (unmoving (effect w (acts.SetParameter h key value) (acts.Plain result))) v
 set_parameter w h key value result v a = let ms : Result (Unit {0}) OmxError → Turn = λ r. unmoving (effect w (acts.SetParameter h key value) (acts.Plain r)) in resolving plain w h result v _ a ms (λ e. refl) (λ i c named b.
     answers (set_parameter_refusal (look w).headers c key value) result w v ms (λ x. ClosesTo (with_component i (with_value key value c) w) v) (λ e. refl) b
-    (λ n x e C. one_changed w v _ i c (with_value key value c) (named_is w h i c (λ i c. with_component i (with_value key value c) w) named.place named.there) named.there (grows_not Silent c (with_value key value c) refl refl) (inl refl) C))
+    (λ n x e C. one_changed w v _ i c (with_value key value c) (named_is w h i c (λ i c. with_component i (with_value key value c) w) named.place named.there) named.there (grows_not Silent c (with_value key value c) (value_kept key value c).number (value_kept key value c).notes) (inl (value_kept key value c).state) C))
 
 pub set_config : (w : World) (h : Handle) (key : ParamKey) (value : Param) (result : Result (Unit {0}) OmxError) (v : World) → SetConfig w h key value result v → Outcome w (unmoving (effect w (acts.SetConfig h key value) (acts.Plain result))) v
 set_config w h key value result v a = let ms : Result (Unit {0}) OmxError → Turn = λ r. unmoving (effect w (acts.SetConfig h key value) (acts.Plain r)) in resolving plain w h result v _ a ms (λ e. refl) (λ i c named b.
     answers (set_config_refusal c key value) result w v ms (λ x. ClosesTo (with_component i (with_value key value c) w) v) (λ e. refl) b
-    (λ n x e C. one_changed w v _ i c (with_value key value c) (named_is w h i c (λ i c. with_component i (with_value key value c) w) named.place named.there) named.there (grows_not Silent c (with_value key value c) refl refl) (inl refl) C))
+    (λ n x e C. one_changed w v _ i c (with_value key value c) (named_is w h i c (λ i c. with_component i (with_value key value c) w) named.place named.there) named.there (grows_not Silent c (with_value key value c) (value_kept key value c).number (value_kept key value c).notes) (inl (value_kept key value c).state) C))
 
 -- ---- tunnels
 

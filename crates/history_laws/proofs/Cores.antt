@@ -1,9 +1,11 @@
 -- What acts and the close-out leave of each component's handle, client object, state and pending transition.
-use Rattle.std.proofs.Common.{◌≡◌, ◌⊎◌, inl, inr, ℕ, zero, suc, Bool, List, [], ◌∷◌, set, remove, slice_get, Option, Some, None, All, Ok, refl, sym, subst}
+use Rattle.std.proofs.Common.{◌≡◌, ◌⊎◌, inl, inr, ℕ, zero, suc, Bool, nat_eq, List, [], ◌∷◌, set, remove, slice_get, Option, Some, None, All, Ok, refl, sym, subst}
 use Rattle.omx_types.specs.declared.state.State.{State}
 use Rattle.omx_types.specs.declared.handle.Handle.{Handle}
 use Rattle.omx_types.specs.declared.command.Command.{Command}
 use Rattle.omx_types.specs.declared.command.Event.{Event}
+use Rattle.omx_types.specs.declared.param.Param.{Param}
+use Rattle.omx_types.specs.declared.param.ParamKey.{ParamKey}
 use Rattle.il_machine.specs.declared.answer.Acted.TheVariants.{Did}
 use Rattle.il_machine.specs.declared.answer.Pending.{Pending}
 use Rattle.il_machine.specs.declared.port.Link.{Link}
@@ -12,18 +14,20 @@ use Rattle.il_machine.specs.declared.port.Port.{Port}
 use Rattle.il_machine.specs.declared.port.PortKey.{PortKey}
 use Rattle.il_machine.specs.declared.header.Spot.{Spot}
 use Rattle.il_machine.specs.declared.header.Spot.TheVariants.{TodoBack}
-use Rattle.il_machine.specs.World.{Component, HeaderRecord, World, place_of, port_of, with_port}
+use Rattle.il_machine.specs.World.{changed_at, Component, HeaderRecord, World, place_of, port_of, with_port}
 use Rattle.il_machine.specs.Headers.{seen, unchanged, cleared}
 use Rattle.il_machine.specs.Look.{Look, look}
 use Rattle.il_machine.specs.Ports.{is_input_port}
 use Rattle.il_machine.specs.Due.{Thing, Transition, Flush, PortMode, WaitingMark, arrived, mode_completion, all_told, transition_happened, at_port, flush_happened, mode_happened, mark_happened, happened, Happens, HappenTimes, ClosesTo}
+use Rattle.il_machine.specs.Settings.{changed_by}
+use Rattle.il_machine.specs.Parameters.{unheld_at, with_value}
 use Rattle.il_machine.specs.Commands.{is_at_once, invalidated, sent, run_front}
 use Rattle.il_machine.specs.Buffers.{is_unpopulating, unpopulated}
 use Rattle.il_machine.specs.Notes.{TakenEvent, TakenEmpty, TakenFilled, TookNote, first_taken, back_in}
 use Rattle.il_machine.specs.Flow.{in_port, front_unmade, front_put, at_link, handed_back, returned, unused_spot, noticed}
 use Rattle.il_machine.specs.Acts.{Act, Reply}
 use Rattle.il_machine.specs.Acts as acts
-use Rattle.il_machine.specs.Effect.{changed_at, at_named, at_named_port, at_both, effect}
+use Rattle.il_machine.specs.Effect.{at_named, at_named_port, at_both, effect}
 use Rattle.machine_laws.proofs.Finding.{either}
 use Rattle.machine_laws.proofs.Every.{at_place, from_places, at_set, at_remove}
 use Rattle.history_laws.proofs.Outcome.{turn, Outcome, Nothing, Done}
@@ -50,7 +54,7 @@ NoneTaken a r = Unit {0}
 module _ (P : Core → Type 0) where
   -- it stays true of a component that changes
   pub record IsLasting : Type 0 where
-    pub arrives : (p : Pending) (c : Component) → c.pending ≡ Some p → P (core c) → P (core (arrived p c))
+    pub arrives : (number : ℕ) (p : Pending) (c : Component) → c.pending ≡ Some p → P (core c) → P (core (arrived number p c))
     pub runs : (l : Look) (commands : List Command) (c : Component) → P (core c) → P (core (run_front l commands c))
     pub drops : (c : Component) → P (core c) → P (core (invalidated c))
     pub ends : (c : Component) → P (core c) → P (core (back_in c))
@@ -81,7 +85,7 @@ module _ (P : Core → Type 0) where
 
     transition_each : (i : ℕ) (c : Component) (o : Option Pending) (w : World) → c.pending ≡ o → P (core c) → Each w → Each (transition_happened i c o w)
     transition_each i c None w e p E = E
-    transition_each i c (Some pending) w e p E = each_set w.components i (arrived pending c) E (L.arrives pending c e p)
+    transition_each i c (Some pending) w e p E = each_set w.components i (arrived w.waits pending c) E (L.arrives w.waits pending c e p)
 
     happened_each : (i : ℕ) (c : Component) (thing : Thing) (w : World) → slice_get w.components i ≡ Some c → Each w → Each (happened i c thing w)
     happened_each i c thing w at E = let p = at_place (λ (d : Component). P (core d)) w.components i c E at in by_thing i c thing w p E
@@ -146,6 +150,15 @@ module _ (P : Core → Type 0) where
     sent_core : (command : Command) (c : Component) → P (core c) → P (core (sent command c))
     sent_core command c p = either (is_at_once command) (λ t. rw t (L.drops c p)) (λ f. rw f p)
 
+    unheld_core : (o : Option Port) (c : Component) → P (core c) → P (core (unheld_at o c))
+    unheld_core None c p = p
+    unheld_core (Some q) c p = p
+
+    value_core : (key : ParamKey) (value : Param) (c : Component) → P (core c) → P (core (with_value key value c))
+    value_core key value c p = either (nat_eq key.index 1)
+        (λ t. rw t (unheld_core (port_of c key.port) (record c { settings = changed_by key.port value c.settings }) p))
+        (λ f. rw f p)
+
     unpopulated_core : (q : Port) (c : Component) → P (core c) → P (core (unpopulated q c))
     unpopulated_core q c p = either (is_unpopulating c q) (λ t. rw t p) (λ f. rw f p)
 
@@ -156,9 +169,9 @@ module _ (P : Core → Type 0) where
       -- an act that takes no note, or one that it outlasts
       pub effect_each : (a : Act) (r : Reply) → NoneGot a r → (NoneTaken a r ⊎ ((c : Component) → P (core c) → P (core (first_taken c)))) → Each (effect w a r)
       effect_each (acts.GetHandle name) (acts.Got (Ok h)) n t = absurd n
-      effect_each (acts.FreeHandle h) (acts.Plain (Ok done)) n t = named_each h w _ E (λ i c p. each_removed w.components i E)
-      effect_each (acts.SetParameter h key value) (acts.Plain (Ok done)) n t = named_each h w _ E (λ i c p. each_set w.components i _ E p)
-      effect_each (acts.SetConfig h key value) (acts.Plain (Ok done)) n t = named_each h w _ E (λ i c p. each_set w.components i _ E p)
+      effect_each (acts.FreeHandle h) (acts.Removed (Ok file)) n t = named_each h w _ E (λ i c p. each_removed w.components i E)
+      effect_each (acts.SetParameter h key value) (acts.Plain (Ok done)) n t = named_each h w _ E (λ i c p. each_set w.components i _ E (value_core key value c p))
+      effect_each (acts.SetConfig h key value) (acts.Plain (Ok done)) n t = named_each h w _ E (λ i c p. each_set w.components i _ E (value_core key value c p))
       effect_each (acts.SetupTunnel output input) (acts.Joined (Ok supplier)) n t =
           named_each output.handle w _ E (λ i c p. named_each input.handle w _ E (λ j d q. both_each (port_of c output.index) (port_of d input.index) w _ E (λ x y.
           each_set (set w.components i _) j _ (each_set w.components i _ E p) q)))

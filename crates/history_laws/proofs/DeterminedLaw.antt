@@ -9,6 +9,7 @@ use Rattle.omx_types.specs.declared.error.CallError.{CallError}
 use Rattle.omx_types.specs.declared.param.Param.{Param}
 use Rattle.omx_types.specs.declared.param.ParamKey.{ParamKey}
 use Rattle.omx_types.specs.declared.param.Supplier.{Supplier}
+use Rattle.part_api.specs.declared.attached.Attached.{Attached}
 use Rattle.il_machine.specs.declared.answer.Acted.{Acted}
 use Rattle.il_machine.specs.declared.answer.Progress.{Progress}
 use Rattle.il_machine.specs.declared.port.PortView.{PortView}
@@ -36,8 +37,8 @@ get_handle_again : (w : World) (name : List ℕ) (x : Result Handle CallError) (
 get_handle_again w name x v (acts.Got y) u p q = get_handle_twice w name x y v u p q
 get_handle_again w name x v _ u p q = absurd q
 
-free_handle_again : (w : World) (h : Handle) (x : Result (Unit {0}) OmxError) (v : World) (s : Reply) (u : World) → FreeHandle w h x v → Step w (acts.FreeHandle h) s u → AreAlike w (acts.Plain x) v s u
-free_handle_again w h x v (acts.Plain y) u p q = alike (λ r. acts.Plain r) w x y v u (free_handle_twice w h x y v u p q)
+free_handle_again : (w : World) (h : Handle) (x : Result (Option Attached) OmxError) (v : World) (s : Reply) (u : World) → FreeHandle w h x v → Step w (acts.FreeHandle h) s u → AreAlike w (acts.Removed x) v s u
+free_handle_again w h x v (acts.Removed y) u p q = alike (λ r. acts.Removed r) w x y v u (free_handle_twice w h x y v u p q)
 free_handle_again w h x v _ u p q = absurd q
 
 set_parameter_again : (w : World) (h : Handle) (key : ParamKey) (value : Param) (x : Result (Unit {0}) OmxError) (v : World) (s : Reply) (u : World) → SetParameter w h key value x v → Step w (acts.SetParameter h key value) s u → AreAlike w (acts.Plain x) v s u
@@ -136,7 +137,7 @@ end_note_again w h progress v _ u p q = absurd q
 
 pub steps_alike : (w : World) (a : Act) (r : Reply) (v : World) (s : Reply) (u : World) → Step w a r v → Step w a s u → AreAlike w r v s u
 steps_alike w (acts.GetHandle name) (acts.Got x) v s u p q = get_handle_again w name x v s u p q
-steps_alike w (acts.FreeHandle h) (acts.Plain x) v s u p q = free_handle_again w h x v s u p q
+steps_alike w (acts.FreeHandle h) (acts.Removed x) v s u p q = free_handle_again w h x v s u p q
 steps_alike w (acts.SetParameter h key value) (acts.Plain x) v s u p q = set_parameter_again w h key value x v s u p q
 steps_alike w (acts.SetConfig h key value) (acts.Plain x) v s u p q = set_config_again w h key value x v s u p q
 steps_alike w (acts.SetupTunnel output input) (acts.Joined x) v s u p q = setup_tunnel_again w output input x v s u p q

@@ -8,12 +8,13 @@ use Rattle.omx_types.specs.declared.handle.Handle.{Handle}
 use Rattle.omx_types.specs.declared.command.Note.{Note}
 use Rattle.omx_types.specs.declared.command.Note.TheVariants.{Told, EmptyDone, FillDone}
 use Rattle.il_machine.specs.declared.answer.Progress.{Progress}
-use Rattle.il_machine.specs.World.{Component, World, Given, no_world, number_of, place_of}
+use Rattle.il_machine.specs.World.{component_numbered, Component, World, Given, no_world, number_of, place_of}
 use Rattle.il_machine.specs.Answers.{plain, component_named}
 use Rattle.il_machine.specs.Components.{is_given_to, without_component, no_progress, noted_by, progress_after, progress_of}
 use Rattle.il_machine.specs.Notes.{Taken, TakenEvent, TakenEmpty, TakenFilled, TookNote, with_given, with_client}
 use Rattle.il_machine.specs.Due.{ClosesTo}
-use Rattle.il_machine.specs.Queued.{component_numbered, notes_given}
+use Rattle.part_api.specs.declared.attached.Attached.{Attached}
+use Rattle.il_machine.specs.Queued.{notes_given}
 use Rattle.il_machine.specs.Effect.{effect}
 use Rattle.il_machine.specs.Acts.{Act, Reply}
 use Rattle.il_machine.specs.Acts as acts
@@ -68,10 +69,10 @@ none_gathered number g n = rw (ne_eqb g.component number n) refl
 
 -- ---- a component that is freed
 
-freed_is : (w : World) (h : Handle) (done : Unit {0}) (v : World) → Step w (acts.FreeHandle h) (acts.Plain (Ok done)) v
-    → (effect w (acts.FreeHandle h) (acts.Plain (Ok done))).given ≡ filter (λ g. not (is_given_to h.generation g)) w.given
-freed_is w h done v s =
-    let x = resolved plain w v h done _ s in
+freed_is : (w : World) (h : Handle) (file : Option Attached) (v : World) → Step w (acts.FreeHandle h) (acts.Removed (Ok file)) v
+    → (effect w (acts.FreeHandle h) (acts.Removed (Ok file))).given ≡ filter (λ g. not (is_given_to h.generation g)) w.given
+freed_is w h file v s =
+    let x = resolved plain w v h file _ s in
     let N = x.2 in
     ap (λ (y : World). y.given) (named_is w h x.0 x.1 (λ i c. without_component i c w) N.place N.there)
     ∙ ap (λ (k : ℕ). filter (λ g. not (is_given_to k g)) w.given) N.number
@@ -91,8 +92,8 @@ leaves w (acts.TakeNote h) (acts.Took (Ok (TookNote taken))) v number s n f = ei
     let x = after_take w h taken v number s in
     let apart : (x.0).component ≢ number = λ e. eqb-false _ _ t (sym x.1 ∙ e) in
     x.3 ∙ (ap (λ (l : List Note). notes_given number w ++ l) (none_gathered number x.0 apart) ∙ append-nil (notes_given number w)))
-leaves w (acts.FreeHandle h) (acts.Plain (Ok done)) v number s n f =
-    ap (gather number) (freed_is w h done v s) ∙ others_given number h.generation w.given (eqb-false _ _ f)
+leaves w (acts.FreeHandle h) (acts.Removed (Ok file)) v number s n f =
+    ap (gather number) (freed_is w h file v s) ∙ others_given number h.generation w.given (eqb-false _ _ f)
 leaves w a r v number s n f = ap (gather number) (effect_leaves w a r).1
 
 adds : (w : World) (a : Act) (r : Reply) (v : World) (number : ℕ) (note : Note) → Step w a r v → note_for number a r ≡ Some note → notes_given number (effect w a r) ≡ notes_given number w ++ note ∷ []
@@ -107,8 +108,8 @@ adds w (acts.TakeNote h) (acts.Took (Ok (TookNote taken))) v number note s n = e
 adds w _ _ v number note s n = absurd cc
 
 frees : (w : World) (a : Act) (r : Reply) (v : World) (number : ℕ) → Step w a r v → is_freed_by number a r ≡ true → notes_given number (effect w a r) ≡ []
-frees w (acts.FreeHandle h) (acts.Plain (Ok done)) v number s f =
-    ap (gather number) (freed_is w h done v s) ∙ subst (λ (k : ℕ). gather number (filter (λ g. not (is_given_to k g)) w.given) ≡ []) (sym (eqb-true _ _ f)) (none_left number w.given)
+frees w (acts.FreeHandle h) (acts.Removed (Ok file)) v number s f =
+    ap (gather number) (freed_is w h file v s) ∙ subst (λ (k : ℕ). gather number (filter (λ g. not (is_given_to k g)) w.given) ≡ []) (sym (eqb-true _ _ f)) (none_left number w.given)
 frees w _ _ v number s f = absurd cc
 
 -- ---- the law

@@ -12,10 +12,10 @@ use Rattle.il_machine.specs.declared.port.Mode.TheVariants.{Steady, Disabling, E
 use Rattle.il_machine.specs.declared.port.Port.{Port}
 use Rattle.il_machine.specs.States.{is_down}
 use Rattle.il_machine.specs.Lists.{first_of_these, holds_at}
-use Rattle.il_machine.specs.World.{Component, ports_of, port_of}
+use Rattle.il_machine.specs.World.{Component, number_of, ports_of, port_of}
 use Rattle.il_machine.specs.Headers.{Seen}
 use Rattle.il_machine.specs.Room.{is_by_client}
-use Rattle.il_machine.specs.Due.{Thing, Transition, Flush, PortMode, WaitingMark, is_transition_due, is_due_to, is_flush_due, is_mode_due, is_mark_due, things_of, due_in, reached, completed, completed_for, lost, lost_by, arrived_at, arrived, mode_completion, all_told}
+use Rattle.il_machine.specs.Due.{Thing, Transition, Flush, PortMode, WaitingMark, is_transition_due, is_due_to, is_flush_due, is_mode_due, is_mark_due, things_of, due_in, reached, completed, completed_for, restarted, with_part, all_given_back, lost, lost_by, arrived_at, arrived, mode_completion, all_told}
 use Rattle.il_machine.specs.Queued.{Tells, WasIn}
 use Rattle.machine_laws.proofs.Finding.{either}
 use Rattle.history_laws.proofs.Growth.{Grows, grows_not, grows_on, fails, Says, says_not, says, says_after, says_on}
@@ -62,28 +62,30 @@ lost_grows T p d = either (d.loss_mark || not (is_by_client p.cause))
     grows_on T d e (lost d) (grows_not T d e refl refl) (fails T errors.ResourcesLost e)))
     (λ f. rw f (grows_not T d d refl refl))
 
-told_target : (target : State) (c : Component) (p : Pending) → c.pending ≡ Some p → p.target ≡ target → Says (Tells c Transition) c (completed target (reached p c))
-told_target target c p e t =
-    says_after (Tells c Transition) c (reached p c) (completed target (reached p c)) refl refl
-    (says (Tells c Transition) (completions.State target) (reached p c) (subst (λ (s : State). Tells c Transition (completions.State s)) t (ends c p e)))
+-- the component r has the number and the notes of c
+told_target : (target : State) (c r : Component) (p : Pending) → number_of r ≡ number_of c → r.notes ≡ c.notes → c.pending ≡ Some p → p.target ≡ target → Says (Tells c Transition) c (completed target r)
+told_target target c r p n k e t =
+    says_after (Tells c Transition) c r (completed target r) n k
+    (says (Tells c Transition) (completions.State target) r (subst (λ (s : State). Tells c Transition (completions.State s)) t (ends c p e)))
 
-told_client : (c : Component) (p : Pending) → c.pending ≡ Some p → Says (Tells c Transition) c (completed_for p (reached p c))
-told_client c p e = says_after (Tells c Transition) c (reached p c) (completed_for p (reached p c)) refl refl (completed_grows c p (reached p c) e)
+told_client : (c r : Component) (p : Pending) → number_of r ≡ number_of c → r.notes ≡ c.notes → c.pending ≡ Some p → Says (Tells c Transition) c (completed_for p r)
+told_client c r p n k e = says_after (Tells c Transition) c r (completed_for p r) n k (completed_grows c p r e)
 
-arrived_grows : (target : State) (c : Component) (p : Pending) → c.pending ≡ Some p → p.target ≡ target → Says (Tells c Transition) c (arrived_at target p c)
-arrived_grows Idle c p e t = either (is_down c.state)
-    (λ d. rw d (told_target Idle c p e t))
+arrived_grows : (number : ℕ) (target : State) (c : Component) (p : Pending) → c.pending ≡ Some p → p.target ≡ target → Says (Tells c Transition) c (arrived_at number target p c)
+arrived_grows number Idle c p e t = either (is_down c.state)
+    (λ d. rw d (told_target Idle c (reached p c) p refl refl e t))
     (λ u. rw u (
-    let m = completed_for p (reached p c) in
-    says_on (Tells c Transition) c m (lost_by p m) (told_client c p e) (lost_grows (λ x. ⊥) p m)))
-arrived_grows Loaded c p e t = told_client c p e
-arrived_grows Executing c p e t = told_target Executing c p e t
-arrived_grows Pause c p e t = told_target Pause c p e t
-arrived_grows WaitForResources c p e t = told_target WaitForResources c p e t
-arrived_grows Invalid c p e t = told_target Invalid c p e t
+    let r : Component = with_part (restarted c) (reached p c) in
+    let m = completed_for p r in
+    says_on (Tells c Transition) c m (lost_by p m) (told_client c r p refl refl e) (lost_grows (λ x. ⊥) p m)))
+arrived_grows number Loaded c p e t = told_client c (all_given_back (reached p c)) p refl refl e
+arrived_grows number Executing c p e t = told_target Executing c (reached p c) p refl refl e t
+arrived_grows number Pause c p e t = told_target Pause c (reached p c) p refl refl e t
+arrived_grows number WaitForResources c p e t = told_target WaitForResources c (record (reached p c) { waiting = Some number }) p refl refl e t
+arrived_grows number Invalid c p e t = told_target Invalid c (reached p c) p refl refl e t
 
-pub arrival_grows : (c : Component) (p : Pending) → c.pending ≡ Some p → Says (Tells c Transition) c (arrived p c)
-arrival_grows c p e = arrived_grows p.target c p e refl
+pub arrival_grows : (number : ℕ) (c : Component) (p : Pending) → c.pending ≡ Some p → Says (Tells c Transition) c (arrived number p c)
+arrival_grows number c p e = arrived_grows number p.target c p e refl
 
 -- ---- what a port's mode tells
 
@@ -118,18 +120,20 @@ client_rests p d state h = either (is_by_client p.cause) (λ t. rw t h) (λ f. r
 lost_rests : (p : Pending) (d : Component) (state : State) → Rests state d → Rests state (lost_by p d)
 lost_rests p d state h = either (d.loss_mark || not (is_by_client p.cause)) (λ t. rw t (h.0, inr refl)) (λ f. rw f h)
 
-arrived_rests : (target : State) (c : Component) (p : Pending) → Rests p.target (arrived_at target p c)
-arrived_rests Idle c p = either (is_down c.state)
+arrived_rests : (number : ℕ) (target : State) (c : Component) (p : Pending) → Rests p.target (arrived_at number target p c)
+arrived_rests number Idle c p = either (is_down c.state)
     (λ d. rw d (refl, inl refl))
-    (λ u. rw u (lost_rests p (completed_for p (reached p c)) p.target (client_rests p (reached p c) p.target (refl, inl refl))))
-arrived_rests Loaded c p = client_rests p (reached p c) p.target (refl, inl refl)
-arrived_rests Executing c p = (refl, inl refl)
-arrived_rests Pause c p = (refl, inl refl)
-arrived_rests WaitForResources c p = (refl, inl refl)
-arrived_rests Invalid c p = (refl, inl refl)
+    (λ u.
+    let r : Component = with_part (restarted c) (reached p c) in
+    rw u (lost_rests p (completed_for p r) p.target (client_rests p r p.target (refl, inl refl))))
+arrived_rests number Loaded c p = client_rests p (all_given_back (reached p c)) p.target (refl, inl refl)
+arrived_rests number Executing c p = (refl, inl refl)
+arrived_rests number Pause c p = (refl, inl refl)
+arrived_rests number WaitForResources c p = (refl, inl refl)
+arrived_rests number Invalid c p = (refl, inl refl)
 
-pub arrival_passes : (c : Component) (p : Pending) → c.pending ≡ Some p → Passes c Transition (arrived p c)
-arrival_passes c p e = let r = arrived_rests p.target c p in (p, e, r.0, r.1)
+pub arrival_passes : (number : ℕ) (c : Component) (p : Pending) → c.pending ≡ Some p → Passes c Transition (arrived number p c)
+arrival_passes number c p e = let r = arrived_rests number p.target c p in (p, e, r.0, r.1)
 
 pub mode_passes : (mode : Mode) (port : ℕ) (d : Component) → ((all_told (mode_completion mode port) d).state ≡ d.state) × ((all_told (mode_completion mode port) d).pending ≡ d.pending)
 mode_passes Steady port d = (refl, refl)

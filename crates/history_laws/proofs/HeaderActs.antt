@@ -1,5 +1,5 @@
 -- The acts that move headers: none of them tells a completion or changes a state, and each moves one header at most.
-use Rattle.std.proofs.Common.{◌≡◌, inl, inr, ℕ, Bool, true, false, List, [], ◌∷◌, ◌++◌, slice_get, Option, Some, None, refl, sym, ◌∙◌, ap, subst}
+use Rattle.std.proofs.Common.{◌≡◌, inl, inr, ℕ, Bool, true, false, List, [], ◌∷◌, ◌++◌, slice_get, Option, Some, None, refl, sym, ◌∙◌, ap}
 use Rattle.std.specs.Prelude.{Contains}
 use Rattle.omx_types.specs.declared.handle.Handle.{Handle}
 use Rattle.omx_types.specs.declared.command.Completion.{Completion}
@@ -7,7 +7,6 @@ use Rattle.il_machine.specs.declared.port.PortKey.{PortKey}
 use Rattle.il_machine.specs.declared.port.Link.{Link}
 use Rattle.il_machine.specs.declared.port.Port.{Port}
 use Rattle.il_machine.specs.declared.header.HeaderState.{HeaderState}
-use Rattle.il_machine.specs.declared.header.Owner.{Owner}
 use Rattle.il_machine.specs.declared.header.Owner.TheVariants as owners
 use Rattle.il_machine.specs.declared.header.Spot.{Spot}
 use Rattle.il_machine.specs.declared.header.Spot.TheVariants.{TodoBack}
@@ -25,13 +24,9 @@ use Rattle.history_laws.proofs.Quiet.{Nothing as Silent}
 use Rattle.history_laws.proofs.Births.{TellsNothing, silent_same, silent_set}
 use Rattle.history_laws.proofs.Owners.{AreIn, in_todo_of, in_done_of}
 use Rattle.history_laws.proofs.Carried.{Carried, Still, Gone, Moved}
-use Rattle.history_laws.proofs.Trails.{NoWork}
 use Rattle.history_laws.proofs.Outcome.{IsNamed, silent_itself}
 
 -- ---- the front of a list of a port
-
-work_of_port : (key : PortKey) (o : Owner) → o ≡ owners.Port key → NoWork o
-work_of_port key o e = subst NoWork (sym e) tt
 
 -- it is put into a list of another port
 pub front_moves : (w : World) (key peer : PortKey) (spot : Spot) (change : HeaderRecord → HeaderRecord) (ns : List ℕ) → ((r : HeaderRecord) → (change r).state ≡ r.state) → ((r : HeaderRecord) → memory_of (change r) ≡ memory_of r)
@@ -49,8 +44,6 @@ front_moves w key peer spot change (n ∷ ns) keeps remembers o A =
       made = refl;
       home = ap (λ (s : HeaderState). s.home) (keeps r);
       made_for = λ k. ap (is_for k) (keeps r);
-      from = work_of_port key r.state.owner own;
-      to = tt;
       memory = inr (remembers r);
       moves = rw own refl;
     })
@@ -71,8 +64,6 @@ noted_header i c p w (n ∷ ns) o A k =
       made = refl;
       home = refl;
       made_for = λ k. refl;
-      from = work_of_port p.key r.state.owner own;
-      to = tt;
       memory = inr refl;
       moves = rw (own, k) refl;
     })

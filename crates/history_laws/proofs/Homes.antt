@@ -22,7 +22,6 @@ use Rattle.il_machine.specs.Trails.{With, home_stop}
 use Rattle.machine_laws.proofs.Keys.{for_which, there_is, at_there, none_or_some}
 use Rattle.machine_laws.proofs.Ties.{IsSet, Tied, other_side, made_peer}
 use Rattle.machine_laws.proofs.Parts.{parts_of, ports_in_list}
-use Rattle.history_laws.proofs.Trails.{NoWork}
 
 -- the header of a state that is seen
 pub found_state : (number : ℕ) (w : World) (s : HeaderState) → (look w).headers.header number ≡ Some s → (r : HeaderRecord) × (find_header number w.headers ≡ Some r) × (r.state ≡ s)
@@ -33,15 +32,6 @@ found_state number w s e = elim (none_or_some (find_header number w.headers)) [
 
 pub set_in : (w : World) (n : ℕ) (r : HeaderRecord) → Sound w → find_header n w.headers ≡ Some r → IsSet (ports_in_list w.components) r.state
 set_in w n r S f = ((parts_of w S).tied).placed n r f
-
-owned_no_work : (s : HeaderState) (o : Owner) → IsOwnedSo s o → NoWork o
-owned_no_work s owners.Client h = tt
-owned_no_work s (owners.Port key) h = tt
-owned_no_work s (owners.Notice c) h = tt
-owned_no_work s (owners.Work c) h = absurd h
-
-pub no_work : (w : World) (n : ℕ) (r : HeaderRecord) → Sound w → find_header n w.headers ≡ Some r → NoWork r.state.owner
-no_work w n r S f = owned_no_work r.state r.state.owner (set_in w n r S f).owner
 
 -- a header with the client is at home
 pub client_home : (ports : PortKey → Option Port) (s : HeaderState) → IsSet ports s → s.owner ≡ owners.Client → With s.owner ≡ home_stop s.home

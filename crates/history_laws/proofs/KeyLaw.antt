@@ -8,14 +8,14 @@ use Rattle.il_machine.specs.declared.port.Port.{Port}
 use Rattle.il_machine.specs.declared.port.PortKey.{PortKey}
 use Rattle.il_machine.specs.declared.header.Spot.{Spot}
 use Rattle.il_machine.specs.declared.header.Spot.TheVariants.{TodoBack}
-use Rattle.il_machine.specs.World.{Component, HeaderRecord, World, place_of, port_of}
+use Rattle.il_machine.specs.World.{changed_at, Component, HeaderRecord, World, place_of, port_of}
 use Rattle.il_machine.specs.Headers.{seen, unchanged, cleared}
 use Rattle.il_machine.specs.Due.{Thing, Transition, Flush, PortMode, WaitingMark, at_port, transition_happened, flush_happened, mode_happened, mark_happened, happened, Happens, HappenTimes, ClosesTo}
 use Rattle.il_machine.specs.Kinds.{kind_of}
 use Rattle.il_machine.specs.Notes.{TakenEvent, TakenEmpty, TakenFilled, TookNote}
 use Rattle.il_machine.specs.Flow.{in_port, front_unmade, front_put, handed_over, at_link, handed_back, returned, unused_spot, noticed}
 use Rattle.il_machine.specs.Ports.{is_input_port}
-use Rattle.il_machine.specs.Effect.{changed_at, at_named, at_named_port, at_both, effect}
+use Rattle.il_machine.specs.Effect.{at_named, at_named_port, at_both, effect}
 use Rattle.il_machine.specs.Acts.{Act, Reply}
 use Rattle.il_machine.specs.Acts as acts
 use Rattle.il_machine.specs.Run.{Run, Step, Meets}
@@ -61,7 +61,7 @@ Stays w v = HasKeyOf w v × (v.given ≡ w.given)
 
 -- all that was given stays; nothing is said of an act that gives a note or frees a component
 abbrev pub LeavesGiven : Act → Reply → World → World → Type 0
-LeavesGiven (acts.FreeHandle h) (acts.Plain (Ok done)) w v = Unit {0}
+LeavesGiven (acts.FreeHandle h) (acts.Removed (Ok file)) w v = Unit {0}
 LeavesGiven (acts.TakeNote h) (acts.Took (Ok (TookNote taken))) w v = Unit {0}
 LeavesGiven _ _ w v = v.given ≡ w.given
 
@@ -117,7 +117,7 @@ back_stays i c p (Some link) w = returned_stays link.peer (is_input_port p) ((se
 
 pub effect_leaves : (w : World) (a : Act) (r : Reply) → HasKeyOf w (effect w a r) × LeavesGiven a r w (effect w a r)
 effect_leaves w (acts.GetHandle name) (acts.Got (Ok h)) = at_there Stays stays (kind_of name) w _ (λ kind. (refl, refl))
-effect_leaves w (acts.FreeHandle h) (acts.Plain (Ok done)) = (key_named h w _ (λ i c. refl), tt)
+effect_leaves w (acts.FreeHandle h) (acts.Removed (Ok file)) = (key_named h w _ (λ i c. refl), tt)
 effect_leaves w (acts.SetParameter h key value) (acts.Plain (Ok done)) = named_stays h w _ (λ i c. (refl, refl))
 effect_leaves w (acts.SetConfig h key value) (acts.Plain (Ok done)) = named_stays h w _ (λ i c. (refl, refl))
 effect_leaves w (acts.SetupTunnel output input) (acts.Joined (Ok supplier)) =

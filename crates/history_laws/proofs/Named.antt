@@ -1,8 +1,7 @@
 -- The component of a number, as one component is replaced, added or removed.
 use Rattle.std.proofs.Common.{◌≡◌, ◌≢◌, ◌⊎◌, inl, inr, ℕ, zero, suc, ◌<◌, ◌≤◌, false, cond, List, [], ◌∷◌, ◌++◌, set, remove, slice_get, Option, Some, None, option_map, option_and_then, refl, sym, ◌∙◌, ap, eqb-true, eq-eqb, ne_eqb, arith}
-use Rattle.il_machine.specs.World.{Component, World, number_of, is_numbered}
+use Rattle.il_machine.specs.World.{component_numbered, Component, World, number_of, is_numbered}
 use Rattle.il_machine.specs.Places.{first_place}
-use Rattle.il_machine.specs.Queued.{component_numbered}
 use Rattle.il_machine.specs.Sound.{AreRising}
 use Rattle.il_machine.proofs.Places.{is_first_place}
 use Rattle.machine_laws.proofs.Finding.{either}

@@ -5,12 +5,12 @@ use Rattle.std.proofs.lemmas.List.{append-nil}
 use Rattle.omx_types.specs.declared.command.Event.TheVariants as events
 use Rattle.omx_types.specs.declared.command.Note.{Note}
 use Rattle.omx_types.specs.declared.command.Note.TheVariants.{Told}
-use Rattle.il_machine.specs.World.{Component, World}
+use Rattle.il_machine.specs.World.{component_numbered, Component, World}
 use Rattle.il_machine.specs.Acts.{Act, Reply}
 use Rattle.il_machine.specs.Run.{Step, Meets}
 use Rattle.il_machine.specs.Effect.{effect}
 use Rattle.il_machine.specs.Due.{HappenTimes, ClosesTo}
-use Rattle.il_machine.specs.Queued.{component_numbered, queued_for, notes_given, Queues, StepQueues}
+use Rattle.il_machine.specs.Queued.{queued_for, notes_given, Queues, StepQueues}
 use Rattle.il_machine.specs.Sound.{Sound}
 use Rattle.machine_laws.proofs.Keys.{none_or_some}
 use Rattle.history_laws.specs.Runs.{IsUnchanged}

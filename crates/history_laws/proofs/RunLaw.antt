@@ -4,11 +4,11 @@ use Rattle.std.specs.Prelude.{IsSome, Contains}
 use Rattle.std.proofs.lemmas.List.{append-nil}
 use Rattle.omx_types.specs.declared.command.Completion.{Completion}
 use Rattle.omx_types.specs.declared.command.Note.{Note}
-use Rattle.il_machine.specs.World.{Component, World, no_world}
+use Rattle.il_machine.specs.World.{component_numbered, Component, World, no_world}
 use Rattle.il_machine.specs.Acts.{Act, Reply}
 use Rattle.il_machine.specs.Run.{Step, Meets, Run}
 use Rattle.il_machine.specs.Effect.{effect}
-use Rattle.il_machine.specs.Queued.{component_numbered, queued_for, notes_given, completions_in, WasDue, Queues}
+use Rattle.il_machine.specs.Queued.{queued_for, notes_given, completions_in, WasDue, Queues}
 use Rattle.il_machine.specs.Sound.{Sound}
 use Rattle.machine_laws.proofs.Steps.{sound_step, sound_run_of, sound_none}
 use Rattle.history_laws.specs.Runs.{IsStepOf, WasDueIn, RunQueues}

@@ -1,5 +1,5 @@
 -- Where each header made for a port has come back: at a settled port, so where Idle is reached from Executing or Pause.
-use Rattle.std.proofs.Common.{◌≡◌, ◌≢◌, ◌⊎◌, inl, inr, ℕ, zero, suc, Bool, true, false, ◌&&◌, List, [], ◌∷◌, ◌++◌, Option, Some, None, All, MatchOption, refl, sym, ◌∙◌, ap, subst, eqb-true, arith}
+use Rattle.std.proofs.Common.{◌≡◌, ◌≢◌, ◌⊎◌, inl, inr, ℕ, zero, suc, Bool, true, false, ◌&&◌, List, [], ◌∷◌, ◌++◌, Option, Some, None, is_none, All, MatchOption, refl, sym, ◌∙◌, ap, subst, eqb-true, arith}
 use Rattle.std.specs.List.{list_all}
 use Rattle.std.proofs.lemmas.Bool.{and_parts}
 use Rattle.std.proofs.lemmas.List.Elements.{All-nil, All-cons}
@@ -10,15 +10,14 @@ use Rattle.il_machine.specs.declared.answer.Cause.TheVariants as causes
 use Rattle.il_machine.specs.declared.port.Port.{Port}
 use Rattle.il_machine.specs.declared.header.HeaderState.{HeaderState}
 use Rattle.il_machine.specs.States.{is_running, is_down}
-use Rattle.il_machine.specs.World.{Component, HeaderRecord, World, number_of, ports_of}
+use Rattle.il_machine.specs.World.{component_numbered, Component, HeaderRecord, World, number_of, ports_of}
 use Rattle.il_machine.specs.Headers.{Seen, seen, find_header, is_for, is_away, weight, count_headers, Once}
 use Rattle.il_machine.specs.Ports.{settled}
 use Rattle.il_machine.specs.Acts.{Act, Reply}
 use Rattle.il_machine.specs.Run.{Step, Meets}
 use Rattle.il_machine.specs.Due.{Thing, Transition, Flush, PortMode, WaitingMark, is_due_to, each_port, due_in, Happens, HappenTimes}
 use Rattle.il_machine.specs.Effect.{effect}
-use Rattle.il_machine.specs.Trails.{Move, moves, trail, returns, hand_overs, HaveTrails, IsTrailOf, HasTrail}
-use Rattle.il_machine.specs.Queued.{component_numbered}
+use Rattle.il_machine.specs.Trails.{Move, moves, trail, returns, hand_overs, is_handed_over, HaveTrails, IsTrailOf, HasTrail}
 use Rattle.il_machine.specs.Sound.{Sound}
 use Rattle.machine_laws.proofs.Finding.{either}
 use Rattle.machine_laws.proofs.Keys.{at_there}
@@ -29,6 +28,7 @@ use Rattle.history_laws.proofs.Happening.{Passes, IsAfter, target_due}
 use Rattle.history_laws.proofs.Closing.{happening_of}
 use Rattle.history_laws.proofs.Queues.{closing_advances}
 use Rattle.history_laws.proofs.Quiet.{KeepsState}
+use Rattle.history_laws.proofs.Trails.{home_unless_away}
 use Rattle.history_laws.proofs.Homes.{found_state}
 use Rattle.history_laws.proofs.Outcome.{Turn, turn, Outcome, Nothing, Done}
 use Rattle.history_laws.proofs.Steps.{step_comes}
@@ -48,7 +48,7 @@ not_away w p n r h f k = either (is_away r.state)
 
 trail_back : (s : HeaderState) (ms : List Move) → IsTrailOf s ms → is_away s ≡ false → returns s.home ms ≡ hand_overs s.home ms
 trail_back s ms T a =
-    let w : weight (is_away s) ≡ 0 = ap weight a in
+    let w : weight (is_handed_over s) ≡ 0 = ap weight (home_unless_away s.home s.owner a) in
     let r = T.returned in
     omega arith
 
@@ -103,8 +103,8 @@ not_down WaitForResources h = absurd cc
 settled_due : (headers : Seen) (c : Component) (target : State) → target ≡ Idle → is_running c.state ≡ true → is_due_to headers c target ≡ true → each_port c (settled headers) ≡ true
 settled_due headers c target t r d =
     let e : is_due_to headers c Idle ≡ true = rw t at d in
-    let f : (each_port c (settled headers) && true) ≡ true = rw (not_down c.state r) at e in
-    (and_parts (each_port c (settled headers)) true f).0
+    let f : (each_port c (settled headers) && (is_none c.work && true)) ≡ true = rw (not_down c.state r) at e in
+    (and_parts (each_port c (settled headers)) (is_none c.work && true) f).0
 
 other_target : (pending : Option Pending) → IsAfter pending → (p : Pending) → pending ≡ Some p → p.target ≢ Idle
 other_target pending (inl none) p e = let a : None ≡ Some p = sym none ∙ e in absurd cc

@@ -15,7 +15,7 @@ use Rattle.il_machine.specs.Headers.{Seen, seen}
 use Rattle.il_machine.specs.Look.{look}
 use Rattle.il_machine.specs.Places.{first_place}
 use Rattle.il_machine.specs.Room.{is_by_client}
-use Rattle.il_machine.specs.Due.{Thing, Transition, Flush, PortMode, WaitingMark, has_due, first_due, reset_on, reached, completed_for, lost_by, arrived_at, arrived, mode_completion, all_told, transition_happened, at_port, flush_happened, mode_happened, mark_happened, happened, Happens, HappenTimes, ClosesTo}
+use Rattle.il_machine.specs.Due.{Thing, Transition, Flush, PortMode, WaitingMark, has_due, first_due, reset_on, reached, completed_for, lost_by, arrived_at, arrived, mode_completion, all_told, transition_happened, at_port, flush_happened, mode_happened, mark_happened, happened, Happens, HappenTimes, ClosesTo, restarted, with_part, all_given_back, waits_after}
 use Rattle.il_machine.proofs.Places.{is_first_place}
 use Rattle.machine_laws.proofs.Finding.{either}
 use Rattle.history_laws.specs.Determined.{reseated, with_slot}
@@ -53,15 +53,17 @@ module _ (h : Handle) (slot : ℕ) where
   lost_same : (p : Pending) (c : Component) → lost_by p (reseated h slot c) ≡ reseated h slot (lost_by p c)
   lost_same p c = either (c.loss_mark || not (is_by_client p.cause)) (λ t. rw t refl) (λ f. rw f refl)
 
-  arrived_same : (target : State) (p : Pending) (c : Component) → arrived_at target p (reseated h slot c) ≡ reseated h slot (arrived_at target p c)
-  arrived_same Idle p c = either (is_down c.state)
+  arrived_same : (number : ℕ) (target : State) (p : Pending) (c : Component) → arrived_at number target p (reseated h slot c) ≡ reseated h slot (arrived_at number target p c)
+  arrived_same number Idle p c = either (is_down c.state)
       (λ t. rw t refl)
-      (λ f. rw f (ap (lost_by p) (client_same p (reached p c)) ∙ lost_same p (completed_for p (reached p c))))
-  arrived_same Loaded p c = client_same p (reached p c)
-  arrived_same Invalid p c = refl
-  arrived_same Executing p c = refl
-  arrived_same Pause p c = refl
-  arrived_same WaitForResources p c = refl
+      (λ f.
+      let r : Component = with_part (restarted c) (reached p c) in
+      rw f (ap (lost_by p) (client_same p r) ∙ lost_same p (completed_for p r)))
+  arrived_same number Loaded p c = client_same p (all_given_back (reached p c))
+  arrived_same number Invalid p c = refl
+  arrived_same number Executing p c = refl
+  arrived_same number Pause p c = refl
+  arrived_same number WaitForResources p c = refl
 
   mode_same : (mode : Mode) (port : ℕ) (c : Component) → all_told (mode_completion mode port) (reseated h slot c) ≡ reseated h slot (all_told (mode_completion mode port) c)
   mode_same Steady port c = refl
@@ -77,9 +79,9 @@ module _ (h : Handle) (slot : ℕ) where
   transition_same : (i : ℕ) (c : Component) (o : Option Pending) (w : World) → transition_happened i (reseated h slot c) o (with_slot h slot w) ≡ with_slot h slot (transition_happened i c o w)
   transition_same i c None w = refl
   transition_same i c (Some p) w =
-      let a = put_same w.components i (arrived p (reseated h slot c)) (arrived p c) (arrived_same p.target p c) in
+      let a = put_same w.components i (arrived w.waits p (reseated h slot c)) (arrived w.waits p c) (arrived_same w.waits p.target p c) in
       let b = reset_same p.target c w.headers in
-      λ j. record { key = w.key; components = a j; headers = b j; given = w.given; units = w.units; numbered = w.numbered; made = w.made }
+      λ j. record { key = w.key; components = a j; headers = b j; given = w.given; streams = w.streams; units = w.units; numbered = w.numbered; made = w.made; waits = waits_after p.target w.waits }
 
   flush_same : (i : ℕ) (c : Component) (o : Option Port) (w : World) → at_port o (flush_happened i (reseated h slot c)) (with_slot h slot w) ≡ with_slot h slot (at_port o (flush_happened i c) w)
   flush_same i c None w = refl

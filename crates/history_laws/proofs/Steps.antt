@@ -16,7 +16,7 @@ use Rattle.history_laws.proofs.FlowSteps.{supply, release, hand_over, hand_back}
 
 pub comes_after : (w : World) (a : Act) (r : Reply) (v : World) → Sound w → HandsIn w a → Step w a r v → Outcome w (turn w a r) v
 comes_after w (acts.GetHandle name) (acts.Got result) v S M h = get_handle w name result v h
-comes_after w (acts.FreeHandle x) (acts.Plain result) v S M h = free_handle w x result v S h
+comes_after w (acts.FreeHandle x) (acts.Removed result) v S M h = free_handle w x result v S h
 comes_after w (acts.GetState x) (acts.Stated result) v S M h = looks (state_answer x (look w)) result w v h
 comes_after w (acts.PortView x port) (acts.Viewed result) v S M h = looks (view_answer x port (look w)) result w v h
 comes_after w (acts.Progress x) (acts.Progressed result) v S M h = looks (progress_answer x w) result w v h

@@ -1,6 +1,6 @@
 -- A header that goes from a note to the client makes nothing due.
 use Rattle.std.proofs.Common.{◌≡◌, ℕ, ◌+◌, Bool, true, false, not, ◌&&◌, ◌||◌, List, [], ◌∷◌, set, position, slice_get, Option, Some, None, refl, sym, ◌∙◌, ap}
-use Rattle.std.specs.Prelude.{nat_eq, is_some}
+use Rattle.std.specs.Prelude.{nat_eq, is_some, is_none}
 use Rattle.omx_types.specs.declared.state.State.{State}
 use Rattle.omx_types.specs.declared.state.State.TheVariants.{Invalid, Loaded, Idle, Executing, Pause, WaitForResources}
 use Rattle.il_machine.specs.declared.answer.Pending.{Pending}
@@ -34,7 +34,7 @@ module _ (h k : Seen) (A : AreAlikeDue h k) where
   due_to : (c : Component) (target : State) → is_due_to h c target ≡ is_due_to k c target
   due_to c Idle = either (is_down c.state)
       (λ t. rw t (ap (λ (test : Port → Bool). all_of (each_port c test ∷ [])) (λ i p. not p.state.enabled || nat_eq (A.made p.key i) p.setting.definition.count)))
-      (λ f. rw f (ap (λ (test : Port → Bool). all_of (each_port c test ∷ [])) (λ i p. nat_eq (A.away p.key i) 0)))
+      (λ f. rw f (ap (λ (test : Port → Bool). all_of (each_port c test ∷ is_none c.work ∷ [])) (λ i p. nat_eq (A.away p.key i) 0)))
   due_to c Loaded = ap (λ (test : Port → Bool). all_of (each_port c test ∷ [])) (λ i p. nat_eq (A.made p.key i) 0)
   due_to c Invalid = refl
   due_to c Executing = refl
@@ -53,7 +53,7 @@ module _ (h k : Seen) (A : AreAlikeDue h k) where
   things_alike : (c : Component) (ps : List Port) → things_of h c ps ≡ things_of k c ps
   things_alike c [] = refl
   things_alike c (p ∷ ps) =
-      let flush : is_flush_due h c p ≡ is_flush_due k c p = ap (λ (n : ℕ). all_of (p.state.flushing ∷ nat_eq n 0 ∷ [])) (A.owned p.key) in
+      let flush : is_flush_due h c p ≡ is_flush_due k c p = ap (λ (n : ℕ). all_of (p.state.flushing ∷ nat_eq n 0 ∷ is_none c.work ∷ [])) (A.owned p.key) in
       let mark : is_mark_due h p ≡ is_mark_due k p = ap (λ (ns : List ℕ). is_some p.state.waiting_mark && not (is_empty ns)) (A.unmarked p.key) in
       let mode = mode_due c p p.state.mode in
       let rest = things_alike c ps in

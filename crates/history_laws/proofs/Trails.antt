@@ -6,8 +6,8 @@ use Rattle.il_machine.specs.declared.header.Home.TheVariants as homes
 use Rattle.il_machine.specs.declared.header.Owner.{Owner}
 use Rattle.il_machine.specs.declared.header.Owner.TheVariants as owners
 use Rattle.il_machine.specs.World.{HeaderRecord}
-use Rattle.il_machine.specs.Headers.{is_away, is_home_owner, is_notice, same_key, weight, state_of}
-use Rattle.il_machine.specs.Trails.{Stop, Unmade, With, Move, is_of, trail, home_stop, Follows, IsLegalFor, owner_after, is_home_stop, is_hand_over, is_return, hand_overs, returns, IsTrailOf, IsTrailOfNone, HasTrail}
+use Rattle.il_machine.specs.Headers.{is_home_owner, is_notice, same_key, weight, state_of}
+use Rattle.il_machine.specs.Trails.{Stop, Unmade, With, Move, is_of, trail, home_stop, Follows, IsLegalFor, owner_after, is_home_stop, is_handed_over, is_hand_over, is_return, hand_overs, returns, IsTrailOf, IsTrailOfNone, HasTrail}
 use Rattle.machine_laws.proofs.Finding.{either}
 use Rattle.history_laws.proofs.Owners.{Stand, stand_of}
 
@@ -59,24 +59,20 @@ hand_overs_more home (x ∷ ms) m = omega (arith, hand_overs_more home ms m)
 
 -- ---- hand-overs and returns
 
--- no work has the header
-abbrev pub NoWork : Owner → Type 0
-NoWork (owners.Work component) = ⊥
-NoWork _ = Unit {0}
-
 or_false : (b : Bool) → (b || false) ≡ b
 or_false true = refl
 or_false false = refl
 
-away_is : (home : Home) (owner : Owner) → NoWork owner → not (is_home_owner home owner || is_notice owner) ≡ not (is_home_stop home (With owner))
-away_is homes.Client owners.Client n = refl
-away_is homes.Client (owners.Port k) n = refl
-away_is homes.Client (owners.Notice c) n = refl
-away_is homes.Client (owners.Work c) n = absurd n
-away_is (homes.Port h) owners.Client n = refl
-away_is (homes.Port h) (owners.Port k) n = ap not (or_false (same_key h k))
-away_is (homes.Port h) (owners.Notice c) n = refl
-away_is (homes.Port h) (owners.Work c) n = absurd n
+-- A header at home or in a notice isn't handed over. One in the work of its home's component isn't either, though it is away.
+pub home_unless_away : (home : Home) (owner : Owner) → not (is_home_owner home owner || is_notice owner) ≡ false → not (is_home_stop home (With owner)) ≡ false
+home_unless_away homes.Client owners.Client h = refl
+home_unless_away homes.Client (owners.Port k) h = absurd cc
+home_unless_away homes.Client (owners.Notice c) h = refl
+home_unless_away homes.Client (owners.Work c) h = absurd cc
+home_unless_away (homes.Port p) owners.Client h = absurd cc
+home_unless_away (homes.Port p) (owners.Port k) h = sym (ap not (or_false (same_key p k))) ∙ h
+home_unless_away (homes.Port p) (owners.Notice c) h = refl
+home_unless_away (homes.Port p) (owners.Work c) h = absurd cc
 
 turn : (a b : Bool) → weight (not a && b) + weight (not b) ≡ weight (a && true && not b) + weight (not a)
 turn true true = refl
@@ -85,21 +81,20 @@ turn false true = refl
 turn false false = refl
 
 -- A header goes from one owner to another.
-pub trail_on : (n : ℕ) (s t : HeaderState) (ms : List Move) → IsTrailOf s ms → t.home ≡ s.home → NoWork s.owner → NoWork t.owner → IsTrailOf t (ms ++ record { header = n; from = With s.owner; to = With t.owner } ∷ [])
-trail_on n s t ms T h a b =
+pub trail_on : (n : ℕ) (s t : HeaderState) (ms : List Move) → IsTrailOf s ms → t.home ≡ s.home → IsTrailOf t (ms ++ record { header = n; from = With s.owner; to = With t.owner } ∷ [])
+trail_on n s t ms T h =
     let m : Move = record { header = n; from = With s.owner; to = With t.owner } in
     let r = returns_more s.home ms m in
     let o = hand_overs_more s.home ms m in
     let e = turn (is_home_stop s.home (With s.owner)) (is_home_stop s.home (With t.owner)) in
-    let x : weight (is_away s) ≡ weight (not (is_home_stop s.home (With s.owner))) = ap weight (away_is s.home s.owner a) in
-    let y : weight (not (is_home_owner s.home t.owner || is_notice t.owner)) ≡ weight (not (is_home_stop s.home (With t.owner))) = ap weight (away_is s.home t.owner b) in
+    let y : weight (is_handed_over t) ≡ weight (not (is_home_stop s.home (With t.owner))) = ap (λ (x : Home). weight (not (is_home_stop x (With t.owner)))) h in
     let q = T.returned in
     let c : weight (is_return s.home m) ≡ weight (not (is_home_stop s.home (With s.owner)) && is_home_stop s.home (With t.owner)) = refl in
     let d : weight (is_hand_over s.home m) ≡ weight (is_home_stop s.home (With s.owner) && true && not (is_home_stop s.home (With t.owner))) = refl in
     record {
       legal = rw h (legal_more s.home ms m s.owner T.legal T.ends refl (λ u. absurd (unmade_apart t.owner (sym u))));
       ends = ends_more Unmade ms m;
-      returned = rw h (omega (arith, r, o, e, x, y, q, c, d));
+      returned = rw h (omega (arith, r, o, e, y, q, c, d));
     }
 
 -- where the header is at home
@@ -131,7 +126,7 @@ trail_ends n s ms T h =
     let r = returns_more s.home ms m in
     let o = hand_overs_more s.home ms m in
     let b : is_home_stop s.home (With s.owner) ≡ true = home_stops s.home s.owner (home_is s.home s.owner h) in
-    let x : weight (is_away s) ≡ 0 = rw (home_is s.home s.owner h) refl in
+    let x : weight (is_handed_over s) ≡ 0 = rw b refl in
     let c : weight (is_return s.home m) ≡ 0 = rw b refl in
     let d : weight (is_hand_over s.home m) ≡ 0 = rw b refl in
     let q = T.returned in
@@ -148,17 +143,21 @@ pub trail_begins : (n : ℕ) (s : HeaderState) → With s.owner ≡ home_stop s.
 trail_begins n s h = record {
   legal = (refl, h, tt);
   ends = refl;
-  returned = rw (home_is s.home s.owner h) refl;
+  returned = rw (home_stops s.home s.owner (home_is s.home s.owner h)) refl;
 }
 
 -- ---- another record of the header, with its home and owner
 
 trail_same : (s t : HeaderState) (ms : List Move) → t.home ≡ s.home → t.owner ≡ s.owner → IsTrailOf s ms → IsTrailOf t ms
-trail_same s t ms h o T = record {
-  legal = rw h T.legal;
-  ends = rw o T.ends;
-  returned = rw (h, o) T.returned;
-}
+trail_same s t ms h o T =
+    let a : weight (is_handed_over t) ≡ weight (is_handed_over s) = λ i. weight (not (is_home_stop (h i) (With (o i)))) in
+    let b : returns t.home ms ≡ returns s.home ms = ap (λ (x : Home). returns x ms) h in
+    let c : hand_overs t.home ms ≡ hand_overs s.home ms = ap (λ (x : Home). hand_overs x ms) h in
+    record {
+      legal = rw h T.legal;
+      ends = rw o T.ends;
+      returned = omega (arith, a, b, c, T.returned);
+    }
 
 pub has_same : (a b : Option HeaderRecord) (ms : List Move) → option_map stand_of b ≡ option_map stand_of a → HasTrail (option_map state_of a) ms → HasTrail (option_map state_of b) ms
 has_same None None ms e T = T

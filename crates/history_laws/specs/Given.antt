@@ -24,7 +24,7 @@ note_for number _ _ = None
 
 -- the act freed the component of the number; one that was refused freed none
 abbrev pub is_freed_by : ℕ → Act → Reply → Bool
-is_freed_by number (acts.FreeHandle h) (acts.Plain (Ok done)) = nat_eq h.generation number
+is_freed_by number (acts.FreeHandle h) (acts.Removed (Ok file)) = nat_eq h.generation number
 is_freed_by number _ _ = false
 
 -- the act gave no note for the component of the number, and didn't free it

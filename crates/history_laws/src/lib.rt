@@ -10,7 +10,7 @@ ghost use Rattle.omx_types.specs.declared.command.Completion.TheVariants as comp
 ghost use Rattle.omx_types.specs.declared.command.Note.{Note};
 ghost use Rattle.il_machine.specs.declared.port.Port.{Port};
 ghost use Rattle.il_machine.specs.States.{is_running};
-ghost use Rattle.il_machine.specs.World.{Component, World, no_world, ports_of};
+ghost use Rattle.il_machine.specs.World.{Component, World, component_numbered, no_world, ports_of};
 ghost use Rattle.il_machine.specs.declared.port.PortKey.{PortKey};
 ghost use Rattle.il_machine.specs.declared.header.HeaderState.{HeaderState};
 ghost use Rattle.il_machine.specs.Headers.{seen, is_for};
@@ -24,7 +24,7 @@ ghost use Rattle.il_machine.specs.Acts.{Act, Reply};
 ghost use Rattle.il_machine.specs.Run.{Step, Meets, Run};
 ghost use Rattle.il_machine.specs.Sound.{Sound};
 ghost use Rattle.il_machine.specs.Effect.{effect};
-ghost use Rattle.il_machine.specs.Queued.{component_numbered, notes_given, queued_for, completions_in, StepQueues, WasDue};
+ghost use Rattle.il_machine.specs.Queued.{notes_given, queued_for, completions_in, StepQueues, WasDue};
 ghost use Rattle.il_machine.specs.Trails.{Move, moves, HaveTrails, RunMoves};
 ghost use Rattle.history_laws.specs.Runs.{IsUnchanged, RunQueues, WasDueIn};
 ghost use Rattle.history_laws.specs.Given.{IsGivenToNumbered, LeavesNotes, note_for, is_freed_by};
