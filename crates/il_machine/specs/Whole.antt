@@ -1,7 +1,7 @@
 -- The whole world beside what a graph keeps. The given notes, the order of headers in different queues, what the headers carry that are
 -- with the client or in a work, and what went through a file that doesn't tell it aren't kept. So a graph stands for many worlds, and each
 -- call's clause speaks of every world that it stood for.
-use Rattle.std.specs.Prelude.{◌≡◌, ◌<◌, ℕ, ◌-◌, Bool, true, false, not, List, [], drop, slice_get, All, Option, Some, None, option_map, MatchOption}
+use Rattle.std.specs.Prelude.{◌≡◌, ◌<◌, ℕ, ◌-◌, Bool, true, false, not, List, [], map, drop, slice_get, All, Option, Some, None, option_map, MatchOption}
 use Rattle.std.specs.Io.KnownBytes.{append_known}
 use Rattle.part_api.specs.declared.attached.Attached.TheVariants.{To}
 use Rattle.part_api.specs.Terms.{Terms, Writing}
@@ -75,6 +75,8 @@ pub record Stands (kept : Kept) (w : World) : Type 0 where
   pub noticed : All (IsNoticed w) kept.noticed
   pub progress : HasProgress kept.clients w
   pub parts : HasParts kept.parts w
+  -- one stream for each component, in the same order
+  pub streams : map (λ s. s.component) w.streams ≡ map number_of w.components
   -- no two headers have one number, and notes were given to components that were numbered
   pub once : Once w.headers
   pub given : All (λ g. g.component < w.numbered) w.given

@@ -1,4 +1,6 @@
 pub mod Lists
+pub mod Parts
+pub mod Streams
 pub mod Following
 pub mod Seeing
 pub mod Lifting

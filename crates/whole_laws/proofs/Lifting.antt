@@ -7,6 +7,7 @@ use Rattle.il_machine.specs.Look.{Look}
 use Rattle.il_machine.specs.Components.{progress_of, progress_after, is_given_to, no_progress}
 use Rattle.il_machine.specs.Whole.{Kept, Steps, HasProgress}
 use Rattle.whole_laws.proofs.Lists.{get_set_same, get_set_other}
+use Rattle.whole_laws.proofs.Parts.{KeepsPart, parts_set, streams_set}
 
 -- what is kept with another component at the place
 abbrev pub with_look : ℕ → Component → Kept → Kept
@@ -26,16 +27,18 @@ progress_set clients w i c c' at n o P = λ j d h out.
     let other : j ≢ i → slice_get clients j ≡ Some (Some (progress_of d w)) = λ e. P j d (sym (get_set_other w.components i j c' e) ∙ h) out in
     elim (eqb_tells j i) [ inl e ↦ same e.1 | inr e ↦ other e.1 ]
 
-pub lift_component : (k : Kept) (i : ℕ) (c c' : Component) → slice_get k.looks.components i ≡ Some c → number_of c' ≡ number_of c → c'.client_out ≡ c.client_out
+pub lift_component : (k : Kept) (i : ℕ) (c c' : Component) → slice_get k.looks.components i ≡ Some c → KeepsPart c c' → c'.client_out ≡ c.client_out
     → Steps k (with_look i c' k) (λ w v. v ≡ with_component i c' w)
-lift_component k i c c' at n o = λ w S.
+lift_component k i c c' at K o = λ w S.
     let cs : w.components ≡ k.looks.components = ap (λ (l : Look). l.components) S.looks in (
       with_component i c' w,
       record {
         looks = ap (λ (l : Look). record l { components = slice_set l.components i c' }) S.looks;
         loads = S.loads;
         noticed = S.noticed;
-        progress = progress_set k.clients w i c c' (rw cs at) n o S.progress;
+        progress = progress_set k.clients w i c c' (rw cs at) K.number o S.progress;
+        parts = parts_set k.parts w i c c' (rw cs at) K S.parts;
+        streams = streams_set w i c c' (rw cs at) K S.streams;
         once = S.once;
         given = S.given;
       },

@@ -11,6 +11,7 @@ use Rattle.il_machine.specs.Components.{progress_of, progress_after, is_given_to
 use Rattle.il_machine.specs.Notes.{first_taken, with_given, back_in}
 use Rattle.il_machine.specs.Whole.{Kept, Noticed, Stands, Steps, StepsWhere, IsNoticed, HasProgress}
 use Rattle.whole_laws.proofs.Lists.{get_set_same, get_set_other}
+use Rattle.whole_laws.proofs.Parts.{parts_set, streams_set}
 use Rattle.whole_laws.proofs.Lifting.{with_look, progress_number}
 
 -- ---- the queued notes have another header
@@ -20,7 +21,7 @@ abbrev pub with_noticed : List Noticed → Kept → Kept
 with_noticed hs k = record k { noticed = hs }
 
 pub renoticed : (k : Kept) (hs : List Noticed) (w : World) → Stands k w → All (IsNoticed w) hs → Stands (with_noticed hs k) w
-renoticed k hs w S N = record { looks = S.looks; loads = S.loads; noticed = N; progress = S.progress; once = S.once; given = S.given }
+renoticed k hs w S N = record { looks = S.looks; loads = S.loads; noticed = N; progress = S.progress; parts = S.parts; streams = S.streams; once = S.once; given = S.given }
 
 -- ---- a note is taken
 
@@ -64,6 +65,8 @@ lift_given k i c note at only few = λ w S.
         loads = S.loads;
         noticed = S.noticed;
         progress = taken_progress k w i c note (rw cs at) (subst (IsOnly i c) (sym cs) only) S.progress;
+        parts = parts_set k.parts w i c (first_taken c) (rw cs at) (record { number = refl; kind = refl; file = refl; failed = refl; work = refl }) S.parts;
+        streams = streams_set w i c (first_taken c) (rw cs at) (record { number = refl; kind = refl; file = refl; failed = refl; work = refl }) S.streams;
         once = S.once;
         given = All-push (λ g. g.component < w.numbered) w.given (record { component = number_of c; note = note }) S.given (rw n few);
       },
@@ -98,6 +101,8 @@ lift_ended k i c p x at client = λ w S is.
         loads = S.loads;
         noticed = S.noticed;
         progress = ended_progress k w i c p x (rw cs at) client is S.progress;
+        parts = parts_set k.parts w i c (back_in c) (rw cs at) (record { number = refl; kind = refl; file = refl; failed = refl; work = refl }) S.parts;
+        streams = streams_set w i c (back_in c) (rw cs at) (record { number = refl; kind = refl; file = refl; failed = refl; work = refl }) S.streams;
         once = S.once;
         given = S.given;
       },

@@ -6,7 +6,7 @@ use Rattle.il_machine.specs.declared.header.HeaderState.{HeaderState}
 use Rattle.il_machine.specs.World.{Component, HeaderRecord, World, ports_of}
 use Rattle.il_machine.specs.Look.{Look, look}
 use Rattle.il_machine.specs.Whole.{Kept, Stands}
-use Rattle.il_machine.specs.Sound.{Sound, IsPlaced, IsConnected, HasFew, AreNoted}
+use Rattle.il_machine.specs.Sound.{Sound, IsPlaced, IsConnected, HasFew, AreNoted, AreClaimed, IsSoundWork}
 use Rattle.il_machine.specs.Headers.{Seen, seen, find_header, has_number, Once, state_of}
 
 not_first : (x : HeaderRecord) (hs : List HeaderRecord) (k : ℕ) (d : HeaderRecord) → find_header x.state.number hs ≡ None → k < length hs → has_number (get_or hs k d).state.number x ≡ false
@@ -58,7 +58,13 @@ connected_alike : (u w : World) (c : Component) → look w ≡ look u → IsConn
 connected_alike u w c e C =
     let cs : w.components ≡ u.components = ap (λ (l : Look). l.components) e in
     let h : (look w).headers ≡ (look u).headers = ap (λ (l : Look). l.headers) e in
-    record { joined = rw cs C.joined; few = subst (λ (s : Seen). All (HasFew s) (ports_of c)) (sym h) C.few; noted = subst (λ (s : Seen). AreNoted s c) (sym h) C.noted }
+    record {
+      joined = rw cs C.joined;
+      few = subst (λ (s : Seen). All (HasFew s) (ports_of c)) (sym h) C.few;
+      noted = subst (λ (s : Seen). AreNoted s c) (sym h) C.noted;
+      claimed = subst (λ (s : Seen). AreClaimed s c) (sym h) C.claimed;
+      work = λ x out. subst (λ (s : Seen). IsSoundWork s c x) (sym h) (C.work x out);
+    }
 
 -- where what is kept stands for one sound world, each world that it stands for is sound
 pub sound_world : (kept : Kept) (u w : World) → Stands kept u → Sound u → Stands kept w → Sound w
@@ -68,6 +74,8 @@ sound_world kept u w U S W =
     let h : seen w.headers ≡ seen u.headers = ap (λ (l : Look). l.headers) e in
     let n : w.numbered ≡ u.numbered = ap (λ (l : Look). l.numbered) e in
     let m : w.made ≡ u.made = ap (λ (l : Look). l.made) e in
+    let q : w.waits ≡ u.waits = ap (λ (l : Look). l.waits) e in
+    let t : w.units ≡ u.units = ap (λ (l : Look). l.units) e in
     record {
       rising = rw (cs, n) S.rising;
       components = rw cs S.components;
@@ -75,4 +83,8 @@ sound_world kept u w U S W =
       once = W.once;
       numbered = rw m (all_states (λ s. s.number < u.made) u.headers w.headers W.once h S.numbered);
       placed = rw cs (all_states (IsPlaced u.components) u.headers w.headers W.once h S.placed);
+      units = rw (cs, q) S.units;
+      enough = rw (cs, t) S.enough;
+      apart = rw cs S.apart;
+      streams = W.streams;
     }

@@ -61,6 +61,8 @@ lift_stock k t f key law kept = λ w S.
         loads = T.loads;
         noticed = λ i d b. rw (kept w S i d b) (S.noticed i d b);
         progress = S.progress;
+        parts = S.parts;
+        streams = S.streams;
         once = T.once;
         given = S.given;
       },
