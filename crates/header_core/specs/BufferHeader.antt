@@ -2,7 +2,7 @@
 use Rattle.std.specs.Prelude.{◌≡◌, ℕ, ◌≤◌, Bool, true, false, List, [], length, drop, Option, Some, None, option_map}
 use Rattle.il_machine.specs.declared.port.Mark.{Mark}
 use Rattle.il_machine.specs.Buffers.{Held}
-use Rattle.header_core.specs.Lists.{overwritten}
+use Rattle.il_machine.specs.Lists.{overwritten}
 use Rattle.header_core.specs.declared.memory.Store.{Store}
 use Rattle.header_core.specs.declared.memory.Store.TheVariants.{Own, Block}
 

@@ -1,5 +1,5 @@
 ghost use Rattle.std.specs.Prelude.{◌≡◌, ◌≤◌, length};
-ghost use Rattle.header_core.specs.Lists.{overwritten};
+ghost use Rattle.il_machine.specs.Lists.{overwritten};
 
 use std::marker::Model;
 

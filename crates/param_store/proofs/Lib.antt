@@ -2,3 +2,4 @@ pub mod Runs
 pub mod Weights
 pub mod PortThere
 pub mod GetAfterSet
+pub mod Fitting

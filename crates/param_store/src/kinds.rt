@@ -1,7 +1,7 @@
 //! What the table of kinds says of their ports.
 
 ghost use Rattle.std.specs.Prelude.{◌≡◌, ◌+◌, ◌≤◌, ◌^◌, ◌<◌};
-ghost use Rattle.il_machine.specs.Kinds.{inputs_of, outputs_of, ports_in, is_input, is_format_of};
+ghost use Rattle.il_machine.specs.Kinds.{inputs_of, outputs_of, ports_in, is_input, is_format_of, is_late};
 ghost use Rattle.il_machine.specs.Settings.{default_format, default_setting, IsSized, is_gain, is_mixer, is_splitter};
 
 use il_machine::PortSetting;
@@ -63,6 +63,12 @@ pub fn is_splitter(kind: Kind) -> bool
     ensures { result ≡ is_splitter kind }
 {
     matches!(kind, Kind::Splitter(_))
+}
+
+fn is_late(kind: Kind) -> bool
+    ensures { result ≡ is_late kind }
+{
+    matches!(kind, Kind::Late)
 }
 
 /// Whether the kind's inputs, or else its outputs, may have the format.
@@ -128,7 +134,9 @@ fn default_format(kind: Kind, input: bool) -> Format
         rate: 8000,
         channels: 1,
     };
-    if is_format_of(kind, input, pcm) {
+    if is_late(kind) {
+        Format::Auto
+    } else if is_format_of(kind, input, pcm) {
         pcm
     } else if is_format_of(kind, input, alaw) {
         alaw

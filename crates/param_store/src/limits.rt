@@ -1,8 +1,9 @@
 //! The limits of values.
 
-ghost use Rattle.std.specs.Prelude.{◌≡◌};
+ghost use Rattle.std.specs.Prelude.{◌≡◌, filter, find};
 ghost use Rattle.std.specs.List.{list_all};
-ghost use Rattle.il_machine.specs.Settings.{is_v112, is_within_limits, same_format, same_rate_and_channels, is_definition_of, is_good_value, is_value_of, are_fitting};
+ghost use Rattle.il_machine.specs.Settings.{is_v112, is_within_limits, same_format, same_rate_and_channels, is_definition_of, is_good_value, is_value_of, are_fitting, is_known, formats_of};
+ghost use Rattle.il_machine.specs.Kinds.{is_auto};
 
 use crate::kinds;
 use il_machine::PortSetting;
@@ -14,12 +15,24 @@ pub fn is_v112(version: Version) -> bool
     version.major == 1 && version.minor == 1 && version.revision == 2 && version.step == 0
 }
 
+fn is_auto(format: Format) -> bool
+    ensures { result ≡ is_auto format }
+{
+    matches!(format, Format::Auto)
+}
+
+fn is_known(format: Format) -> bool
+    ensures { result ≡ is_known format }
+{
+    !is_auto(format)
+}
+
 fn is_within_limits(format: Format) -> bool
     ensures { result ≡ is_within_limits format }
 {
     let rate = format.rate();
     let channels = format.channels();
-    1 <= rate && rate <= 768_000 && 1 <= channels && channels <= 8
+    is_auto(format) || 1 <= rate && rate <= 768_000 && 1 <= channels && channels <= 8
 }
 
 pub fn is_same_format(a: Format, b: Format) -> bool
@@ -111,27 +124,42 @@ pub fn is_value_of(index: u32, value: Param) -> bool
     }
 }
 
+/// The formats that are known are alike in rate and channels with this one.
 fn all_alike(ports: &[PortSetting], format: Format) -> bool
-    ensures { result ≡ list_all (λ p. same_rate_and_channels p.definition.format format) ports.now }
-{
-    ports.iter().all(|port| has_same_rate_and_channels(port.definition.format, format))
-}
-
-fn all_of_format(ports: &[PortSetting], format: Format) -> bool
-    ensures { result ≡ list_all (λ p. same_format p.definition.format format) ports.now }
+    ensures { result ≡ list_all (λ f. same_rate_and_channels f format) (filter is_known (formats_of ports.now)) }
 {
     ports
         .iter()
-        .all(|port| is_same_format(port.definition.format, format))
+        .map(|port| port.definition.format)
+        .filter(|known| is_known(*known))
+        .all(|known| has_same_rate_and_channels(known, format))
 }
 
-/// Whether a component of the kind can work with these settings of its ports.
-pub fn are_fitting(kind: Kind, ports: &[PortSetting]) -> bool
-    ensures { result ≡ are_fitting kind ports.now }
+fn all_of_format(ports: &[PortSetting], format: Format) -> bool
+    ensures { result ≡ list_all (λ f. same_format f format) (filter is_known (formats_of ports.now)) }
 {
-    let [first, rest @ ..] = ports else {
+    ports
+        .iter()
+        .map(|port| port.definition.format)
+        .filter(|known| is_known(*known))
+        .all(|known| is_same_format(known, format))
+}
+
+fn first_known(ports: &[PortSetting]) -> Option<Format>
+    ensures { result ≡ find is_known (formats_of ports.now) }
+{
+    ports
+        .iter()
+        .map(|port| port.definition.format)
+        .find(|format| is_known(*format))
+}
+
+/// Whether a component of the kind can work with these settings of its ports, as far as their formats are known.
+pub fn are_fitting(kind: Kind, ports: &[PortSetting]) -> bool
+    ensures { result ≡ are_fitting kind (filter is_known (formats_of ports.now)) }
+{
+    let Some(format) = first_known(ports) else {
         return true;
     };
-    let format = first.definition.format;
-    all_alike(rest, format) && (!kinds::is_splitter(kind) || all_of_format(rest, format))
+    all_alike(ports, format) && (!kinds::is_splitter(kind) || all_of_format(ports, format))
 }

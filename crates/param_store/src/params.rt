@@ -168,12 +168,11 @@ impl Params {
         let Param::Port(definition) = value else {
             return true;
         };
-        let present = self.setting(key.port).definition.format;
         kinds::is_format_of(
             self.kind,
             kinds::is_input(self.kind, key.port),
             definition.format,
-        ) && (free || limits::is_same_format(definition.format, present))
+        ) && free
     }
 
     fn value_refusal(
@@ -198,7 +197,7 @@ impl Params {
         }
     }
 
-    /// Why `set` is refused, if it is. The format may change where `free` says so.
+    /// Why `set` is refused, if it is. `free` says whether a port's format may become that of the value.
     pub fn set_refusal(
         &self,
         key: ParamKey,
@@ -251,7 +250,7 @@ impl Params {
         }
     }
 
-    /// Sets the value of a parameter, or of a config. The format may change where `free` says so.
+    /// Sets the value of a parameter, or of a config. `free` says whether a port's format may become that of the value.
     pub fn set(
         &mut self,
         key: ParamKey,
