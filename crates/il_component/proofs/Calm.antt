@@ -1,5 +1,5 @@
 -- Where no transition is pending at a component, nothing is exactly where its queue holds no places for it.
-use Rattle.std.proofs.Common.{◌≡◌, suc, Bool, true, false, not, nat_eq, List, [], ◌∷◌, sum_by, All, Option, Some, None, is_some, refl, sym, ◌∙◌, arith}
+use Rattle.std.proofs.Common.{◌≡◌, suc, Bool, true, false, not, nat_eq, List, [], ◌∷◌, sum_by, All, Option, Some, None, is_some, refl, sym, ◌∙◌, ap, arith}
 use Rattle.std.specs.Bool.{IsTrue}
 use Rattle.std.proofs.Math.Logic.{◌↔◌}
 use Rattle.std.proofs.lemmas.Bool.Decides.{nat_tests}
@@ -8,6 +8,7 @@ use Rattle.std.proofs.lemmas.List.Elements.{All-nil, All-cons}
 use Rattle.il_machine.specs.declared.answer.Pending.{Pending}
 use Rattle.il_machine.specs.declared.port.Mark.{Mark}
 use Rattle.il_machine.specs.declared.port.PortState.{PortState}
+use Rattle.il_machine.specs.World.{Work}
 use Rattle.il_machine.specs.Headers.{weight}
 use Rattle.il_machine.specs.Ports.{IsCalm, IsCalmPort, is_steady}
 use Rattle.il_machine.specs.Room.{port_places}
@@ -59,15 +60,15 @@ no_pending : (o : Option Pending) → is_some o ≡ false → o ≡ None
 no_pending None e = refl
 no_pending (Some p) e = absurd cc
 
-resting_places : (o : Option Pending) (loss_mark : Bool) (ps : List PortState) → o ≡ None → places_of o loss_mark ps ≡ sum_by port_places ps
+resting_places : (o : Option Pending) (loss_mark : Bool) (ps : List PortState) → o ≡ None → places_of o loss_mark ps None ≡ sum_by port_places ps
 resting_places None loss_mark ps e = omega arith
 resting_places (Some p) loss_mark ps e = absurd cc
 
--- where no transition is pending
-pub calm_is : {C : Type 0} (e : Entry C) → IsFit e → is_some e.pending ≡ false → IsTrue (nat_eq e.queues.places 0) ↔ IsCalm (component_of e)
-calm_is e F o =
+-- where no transition is pending, and no work is out
+pub calm_is : {C : Type 0} (e : Entry C) → IsFit e → e.work ≡ None → is_some e.pending ≡ false → IsTrue (nat_eq e.queues.places 0) ↔ IsCalm (component_of e)
+calm_is e F w o =
     let resting = no_pending e.pending o in
-    let held = F.places ∙ resting_places e.pending e.loss_mark e.ports resting in (
+    let held = F.places ∙ ap (λ (x : Option Work). places_of e.pending e.loss_mark e.ports x) w ∙ resting_places e.pending e.loss_mark e.ports resting in (
       (λ t.
           let none : e.queues.places ≡ 0 = grind (arith, nat_tests) in
           record { resting = resting; ports = ports_calm e.ports (sym held ∙ none) }),

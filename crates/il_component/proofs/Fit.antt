@@ -11,7 +11,7 @@ use Rattle.omx_types.specs.declared.command.Note.TheVariants as machine
 use Rattle.il_machine.specs.declared.answer.Pending.{Pending}
 use Rattle.il_machine.specs.declared.port.PortState.{PortState}
 use Rattle.il_machine.specs.World.{Component, told}
-use Rattle.il_machine.specs.Room.{sel_cost, cost_of, used, room, events_in, is_event}
+use Rattle.il_machine.specs.Room.{sel_cost, cost_of, used, room, events_in, is_event, port_places}
 use Rattle.note_queues.specs.declared.taken.QueuedCommand.{QueuedCommand}
 use Rattle.note_queues.specs.declared.taken.Taken.{Taken}
 use Rattle.note_queues.specs.declared.taken.Taken.TheVariants.{Told, EmptyDone, FillDone}
@@ -63,7 +63,7 @@ held_in-told (FillDone header ∷ ts) event = ap (λ hs. noticed_of header ∷ h
 
 module _ {C : Type 0} where
   -- the places of the machine's component are those of its events, its commands and its record
-  pub used-entry : (e : Entry C) → All (HasCost (component_of e)) e.queues.commands → used (component_of e) ≡ events_in (notes_of e.queues) + costs e.queues + places_of e.pending e.loss_mark e.ports
+  pub used-entry : (e : Entry C) → All (HasCost (component_of e)) e.queues.commands → used (component_of e) ≡ events_in (notes_of e.queues) + costs e.queues + places_of e.pending e.loss_mark e.ports e.work
   used-entry e costs = omega (arith, queued_costs (component_of e) e.queues.commands costs)
 
   -- of an entry that fits they are those of its queue
@@ -80,7 +80,7 @@ module _ {C : Type 0} where
     pending = pending;
     loss_mark = loss_mark;
     ports = ports;
-    queues = holding (places_of pending loss_mark ports) e.queues;
+    queues = holding (places_of pending loss_mark ports e.work) e.queues;
   }
 
   pub fit-resettled : (e : Entry C) → IsFit e → (state : State) (pending : Option Pending) (loss_mark : Bool) (ports : List PortState) → length ports ≡ length e.ports → IsFit (resettled state pending loss_mark ports e)
@@ -93,7 +93,7 @@ module _ {C : Type 0} where
   }
 
   pub used-resettled : (e : Entry C) → IsFit e → (state : State) (pending : Option Pending) (loss_mark : Bool) (ports : List PortState) → length ports ≡ length e.ports
-      → used (component_of (resettled state pending loss_mark ports e)) ≡ events_in (notes_of e.queues) + costs e.queues + places_of pending loss_mark ports
+      → used (component_of (resettled state pending loss_mark ports e)) ≡ events_in (notes_of e.queues) + costs e.queues + places_of pending loss_mark ports e.work
   used-resettled e fit state pending loss_mark ports same =
       used-entry (resettled state pending loss_mark ports e) (kept_costs (component_of e) (component_of (resettled state pending loss_mark ports e)) e.queues.commands (sym same) fit.costs)
 
@@ -105,4 +105,15 @@ module _ {C : Type 0} where
     queue_ports = ports ∙ fit.queue_ports;
     places = places ∙ fit.places;
     costs = kept_costs (component_of e) (component_of (record e { queues = q })) q.commands refl costs;
+  }
+
+  -- with other settings of the ports' states and of what reserves no place
+  pub fit_again : (e d : Entry C) → IsFit e → d.settings ≡ e.settings → length d.ports ≡ length e.ports → sum_by port_places d.ports ≡ sum_by port_places e.ports → d.queues ≡ e.queues
+      → d.pending ≡ e.pending → d.loss_mark ≡ e.loss_mark → d.work ≡ e.work → IsFit d
+  fit_again e d F s l p q a b w = record {
+    whole = rw s F.whole;
+    ports = rw s (l ∙ F.ports);
+    queue_ports = rw (q, s) F.queue_ports;
+    places = rw (q, p, a, b, w) F.places;
+    costs = rw q (kept_costs (component_of e) (component_of d) e.queues.commands (sym l) F.costs);
   }

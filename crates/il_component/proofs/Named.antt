@@ -1,5 +1,5 @@
 -- The ports of a component, by their numbers.
-use Rattle.std.proofs.Common.{◌≡◌, ℕ, zero, suc, ◌+◌, ◌≤◌, ◌<◌, Bool, true, false, List, [], ◌∷◌, length, set, sum_by, slice_get, get_or, Option, Some, is_none, nat_le, MatchOption, refl, sym, ◌∙◌, ap, subst, arith, length-set}
+use Rattle.std.proofs.Common.{◌≡◌, ℕ, zero, suc, ◌+◌, ◌≤◌, ◌<◌, Bool, true, false, List, [], ◌∷◌, length, set, sum_by, slice_get, get_or, Option, Some, None, is_none, nat_le, nat_eq, if◌then◌else◌, MatchOption, refl, sym, ◌∙◌, ap, subst, arith, length-set}
 use Rattle.std.proofs.lemmas.Bool.Decides.{nat_tests}
 use Rattle.std.proofs.lemmas.List.Sums.{sum_by-set}
 use Rattle.std.proofs.lemmas.Option.{slice_get-get_or}
@@ -12,16 +12,20 @@ use Rattle.il_machine.specs.declared.port.Mode.{Mode}
 use Rattle.il_machine.specs.declared.port.Mode.TheVariants.{Steady}
 use Rattle.std.proofs.lemmas.List.{set-get_or}
 use Rattle.il_machine.specs.World.{Component, number_of, ports_from, port_of, with_port}
-use Rattle.il_machine.specs.Room.{is_by_client, port_places}
+use Rattle.il_machine.specs.Room.{is_by_client, port_places, work_places}
 use Rattle.il_machine.specs.Commands.{busy_port}
+use Rattle.il_machine.specs.Due.{unheld}
+use Rattle.il_machine.specs.Parameters.{unheld_at, with_value}
+use Rattle.omx_types.specs.declared.param.Param.{Param}
+use Rattle.omx_types.specs.declared.param.ParamKey.{ParamKey}
 use Rattle.il_machine.proofs.Joined.{joined_past, port_there}
-use Rattle.il_machine.specs.Settings.{Settings, IsWhole, with_setting, default_setting}
+use Rattle.il_machine.specs.Settings.{Settings, IsWhole, with_setting, default_setting, changed_by}
 use Rattle.il_machine.specs.Kinds.{ports_in}
 use Rattle.il_machine.specs.Lists.{holds_at}
 use Rattle.il_machine.specs.Headers.{weight}
 use Rattle.il_component.specs.Entries.{Entry, IsFit, component_of}
 use Rattle.il_component.specs.Places.{loses}
-use Rattle.il_component.specs.PortChanges.{busy_among, at_port, with_link}
+use Rattle.il_component.specs.PortChanges.{busy_among, at_port, with_link, let_go_by}
 use Rattle.il_component.proofs.Fit.{kept_costs}
 
 -- ---- which ports there are
@@ -77,7 +81,7 @@ linked_fit e i settings link old F b r W k =
       whole = W;
       ports = l ∙ (F.ports ∙ ap ports_in (sym k));
       queue_ports = F.queue_ports ∙ ap ports_in (sym k);
-      places = F.places ∙ ap (λ (n : ℕ). weight (holds_at e.pending (λ p. is_by_client p.cause)) + n + weight (loses e.pending e.loss_mark)) (sym s);
+      places = F.places ∙ ap (λ (n : ℕ). weight (holds_at e.pending (λ p. is_by_client p.cause)) + n + work_places e.work + weight (loses e.pending e.loss_mark)) (sym s);
       costs = kept_costs (component_of e) (component_of (record e { settings = settings; ports = set e.ports i (with_link link old) })) e.queues.commands (sym l) F.costs;
     }
 
@@ -102,3 +106,35 @@ steady_stays c i old r m =
     let e : record old { mode = Steady } ≡ old = ap (λ (x : Mode). record old { mode = x }) (sym m) in
     let s : set c.ports i (record old { mode = Steady }) ≡ c.ports = ap (λ (x : PortState). set c.ports i x) (e ∙ r) ∙ set-get_or c.ports i old in
     ap (λ (ps : List PortState). record c { ports = ps }) (sym s)
+
+-- ---- a port that is let go
+
+pub places_unheld : (i : ℕ) (ps : List PortState) (old : PortState) → i < length ps → old ≡ get_or ps i old → sum_by port_places (set ps i (unheld old)) ≡ sum_by port_places ps
+places_unheld i ps old b r =
+    let h = sum_by-set port_places ps i (unheld old) old b in
+    let e : port_places (unheld old) ≡ port_places (get_or ps i old) = ap port_places r in
+    omega arith
+
+by_port : (P : Component → Type 0) (o : Option Port) (c : Component) → ((p : Port) → P (with_port p.key.port (unheld p.state) c)) → P c → P (unheld_at o c)
+by_port P None c f x = x
+by_port P (Some p) c f x = f p
+
+by_key : (P : Component → Type 0) (b : Bool) (c d : Component) → P c → P d → P (if b then c else d)
+by_key P true c d x y = x
+by_key P false c d x y = y
+
+pub settings_stay : (key : ParamKey) (c : Component) → (let_go_by key c).settings ≡ c.settings
+settings_stay key c =
+    let P : Component → Type 0 = λ d. d.settings ≡ c.settings in
+    by_key P (nat_eq key.index 1) (unheld_at (port_of c key.port) c) c (by_port P (port_of c key.port) c (λ p. refl) refl) refl
+
+unheld_with : (o : Option Port) (c : Component) (s : Settings) → record (unheld_at o c) { settings = s } ≡ unheld_at o (record c { settings = s })
+unheld_with None c s = refl
+unheld_with (Some p) c s = refl
+
+value_if : (b : Bool) (o : Option Port) (c : Component) (s : Settings) → record (if b then unheld_at o c else c) { settings = s } ≡ (if b then unheld_at o (record c { settings = s }) else record c { settings = s })
+value_if true o c s = unheld_with o c s
+value_if false o c s = refl
+
+pub value_after : (key : ParamKey) (value : Param) (c : Component) → record (let_go_by key c) { settings = changed_by key.port value c.settings } ≡ with_value key value c
+value_after key value c = value_if (nat_eq key.index 1) (port_of c key.port) c (changed_by key.port value c.settings)

@@ -1,10 +1,13 @@
 -- The ports of a component, changed and looked through one after the other.
-use Rattle.std.proofs.Common.{◌≡◌, ℕ, zero, suc, ◌+◌, ◌≤◌, ◌<◌, Bool, true, false, cond, List, [], ◌∷◌, length, map, drop, get_or, set, refl, sym, ◌∙◌, ap, arith, add-one, ◌&&◌}
+use Rattle.std.proofs.Common.{◌≡◌, ℕ, zero, suc, ◌+◌, ◌≤◌, ◌<◌, Bool, true, false, cond, List, [], ◌∷◌, length, map, sum_by, drop, get_or, set, refl, sym, ◌∙◌, ap, arith, add-one, ◌&&◌}
 use Rattle.std.proofs.Math.Seq.{drop-cons}
+use Rattle.std.proofs.lemmas.List.Sums.{sum_by-cons}
 use Rattle.omx_types.specs.declared.command.PortSel.{PortSel}
 use Rattle.il_machine.specs.declared.port.PortState.{PortState}
 use Rattle.il_machine.specs.World.{fresh_port}
 use Rattle.il_machine.specs.Commands.{is_selected, selected_from, at_rest}
+use Rattle.il_machine.specs.Due.{unheld}
+use Rattle.il_machine.specs.Room.{port_places}
 use Rattle.il_component.specs.declared.port_changes.PortChange.{PortChange}
 use Rattle.il_component.specs.PortChanges.{changed_by, busy_among}
 use Rattle.il_component.proofs.Each.{each_until, until_more, until_same}
@@ -51,3 +54,35 @@ rest_step n ps qs d e b = rw (e, add-one) (until_more rested n 0 ps d b)
 pub busy_passed : (sel : PortSel) (test : PortState → Bool) (n : ℕ) (ps : List PortState) (d : PortState) (busy : Bool) → n < length ps → busy ≡ test (get_or ps n d) → is_selected sel n && busy ≡ false → busy_among n sel test (drop n ps) ≡ busy_among (n + 1) sel test (drop (n + 1) ps)
 busy_passed sel test n ps d busy b t e =
     rw (drop-cons ps n d b, ← t) (rw e (ap (λ k. busy_among (n + 1) sel test (drop k ps)) (let m : suc n ≡ n + 1 = omega arith in m)))
+
+-- ---- ports that are let go
+
+abbrev pub let_go : ℕ → PortState → PortState
+let_go index p = unheld p
+
+pub until_let_go : (n index : ℕ) (ps : List PortState) → length ps ≤ n → each_until let_go n index ps ≡ map unheld ps
+until_let_go n index [] b = refl
+until_let_go zero index (p ∷ ps) b = absurd (omega arith)
+until_let_go (suc n) index (p ∷ ps) b = ap (λ (qs : List PortState). unheld p ∷ qs) (until_let_go n (index + 1) ps (omega arith))
+
+pub let_go_step : (n : ℕ) (ps qs : List PortState) (d : PortState) → qs ≡ each_until let_go n 0 ps → n < length ps → set qs n (unheld (get_or qs n d)) ≡ each_until let_go (n + 1) 0 ps
+let_go_step n ps qs d e b = rw (e, add-one) (until_more let_go n 0 ps d b)
+
+pub unheld_places : (ps : List PortState) → sum_by port_places (map unheld ps) ≡ sum_by port_places ps
+unheld_places [] = refl
+unheld_places (p ∷ ps) =
+    let e : port_places (unheld p) ≡ port_places p = refl in
+    omega (arith, sum_by-cons port_places p ps, sum_by-cons port_places (unheld p) (map unheld ps), unheld_places ps)
+
+-- ---- flags that are cleared
+
+abbrev pub clear_flag : ℕ → Bool → Bool
+clear_flag index flag = false
+
+pub until_cleared : (n index : ℕ) (flags : List Bool) → length flags ≤ n → each_until clear_flag n index flags ≡ map (λ flag. false) flags
+until_cleared n index [] b = refl
+until_cleared zero index (p ∷ ps) b = absurd (omega arith)
+until_cleared (suc n) index (p ∷ ps) b = ap (λ (qs : List Bool). false ∷ qs) (until_cleared n (index + 1) ps (omega arith))
+
+pub clear_step : (n : ℕ) (ps qs : List Bool) → qs ≡ each_until clear_flag n 0 ps → n < length ps → set qs n false ≡ each_until clear_flag (n + 1) 0 ps
+clear_step n ps qs e b = rw (e, add-one) (until_more clear_flag n 0 ps false b)

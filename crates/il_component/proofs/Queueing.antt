@@ -1,12 +1,12 @@
 -- The places of a component whose queue changes.
-use Rattle.std.proofs.Common.{◌≡◌, ℕ, ◌-◌, true, false, List, [], ◌∷◌, map, sum_by, nat_le, nat_lt, ◌||◌, refl, sym, ◌∙◌, ap, arith}
+use Rattle.std.proofs.Common.{◌≡◌, ℕ, ◌+◌, ◌-◌, true, false, List, [], ◌∷◌, map, sum_by, nat_le, nat_lt, ◌||◌, refl, sym, ◌∙◌, ap, arith}
 use Rattle.std.proofs.lemmas.Bool.Decides.{nat_tests}
 use Rattle.std.proofs.lemmas.List.Elements.{All-push}
 use Rattle.std.proofs.lemmas.List.{length-map}
 use Rattle.omx_types.specs.declared.command.Command.{Command}
 use Rattle.il_machine.specs.declared.port.PortState.{PortState}
 use Rattle.il_machine.specs.World.{Component}
-use Rattle.il_machine.specs.Room.{used, room, events_in, cost_of, port_places}
+use Rattle.il_machine.specs.Room.{used, room, events_in, cost_of, port_places, work_places}
 use Rattle.il_machine.specs.Commands.{at_rest, invalidated, is_at_once, lacks_place}
 use Rattle.note_queues.specs.Queues.{Queues, notes_of, commands_of, costs, commanded, is_full, without_commands, command_of}
 use Rattle.note_queues.specs.Queues as queues
@@ -17,12 +17,12 @@ pub rest_places : (ps : List PortState) → sum_by port_places (map at_rest ps) 
 rest_places [] = refl
 rest_places (p ∷ ps) = omega (arith, rest_places ps)
 
--- StateSet(Invalid) lets all places but those of queued events go
-pub used_invalidated : (c : Component) → used (invalidated c) ≡ events_in c.notes
+-- StateSet(Invalid) lets all places but those of queued events and of a work go
+pub used_invalidated : (c : Component) → used (invalidated c) ≡ events_in c.notes + work_places c.work
 used_invalidated c = omega (arith, rest_places c.ports)
 
 module _ {C : Type 0} where
-  pub lacks_at_once : (e : Entry C) (command : Command) (events : ℕ) → events ≡ events_in (notes_of e.queues) → is_at_once command ≡ true → nat_le 256 events ≡ lacks_place (component_of e) command
+  pub lacks_at_once : (e : Entry C) (command : Command) (events : ℕ) → events ≡ events_in (notes_of e.queues) + work_places e.work → is_at_once command ≡ true → nat_le 256 events ≡ lacks_place (component_of e) command
   lacks_at_once e command events n t =
       let u : room (invalidated (component_of e)) ≡ 256 - events = ap (λ (k : ℕ). 256 - k) (used_invalidated (component_of e) ∙ sym n) in
       rw (t, u) (grind (arith, nat_tests))

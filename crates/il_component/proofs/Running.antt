@@ -1,5 +1,5 @@
 -- A command is carried out: what it takes of places, whatever else is looked at.
-use Rattle.std.proofs.Common.{◌≡◌, ◌≤◌, ◌<◌, Option, Some, None, List, [], ◌∷◌, drop, slice_get, refl, ap, subst, arith}
+use Rattle.std.proofs.Common.{◌≡◌, ℕ, ◌≤◌, ◌<◌, Option, Some, None, List, [], ◌∷◌, drop, slice_get, refl, ap, subst, arith}
 use Rattle.omx_types.specs.declared.state.State.{State}
 use Rattle.omx_types.specs.declared.error.OmxError.{OmxError}
 use Rattle.omx_types.specs.declared.command.Command.{Command}
@@ -11,9 +11,9 @@ use Rattle.il_machine.specs.Room.{used, room}
 use Rattle.il_machine.specs.Commands.{begun, carried_out, run_front}
 use Rattle.il_component.proofs.Fit.{used-told}
 
--- some look: a command is carried out alike in each
-pub a_look : Look
-a_look = look (no_world 0 0)
+-- some look in which so many waits were numbered: a command is carried out alike in each
+abbrev pub a_look : ℕ → Look
+a_look waits = look (record (no_world 0 0) { waits = waits })
 
 pub room_to_tell : (fault : Option OmxError) (error : OmxError) (target : State) (c : Component) → fault ≡ Some error → used (begun fault target c) ≤ 256 → 0 < room c
 room_to_tell fault error target c e u =
@@ -32,14 +32,14 @@ pub run_none : (l : Look) (commands : List Command) (c : Component) → None ≡
 run_none l [] c e = refl
 run_none l (x ∷ commands) c e = absurd cc
 
--- what is carried out is the same in each look
-pub carried_alike : (l m : Look) (command : Command) (c : Component) → carried_out l command c ≡ carried_out m command c
-carried_alike l m (variants.StateSet target) c = refl
-carried_alike l m (variants.Flush sel) c = refl
-carried_alike l m (variants.PortDisable sel) c = refl
-carried_alike l m (variants.PortEnable sel) c = refl
-carried_alike l m (variants.MarkBuffer port target value) c = refl
+-- what is carried out is the same in each look with as many waits
+pub carried_alike : (l m : Look) (command : Command) (c : Component) → l.waits ≡ m.waits → carried_out l command c ≡ carried_out m command c
+carried_alike l m (variants.StateSet target) c e = rw e refl
+carried_alike l m (variants.Flush sel) c e = refl
+carried_alike l m (variants.PortDisable sel) c e = refl
+carried_alike l m (variants.PortEnable sel) c e = refl
+carried_alike l m (variants.MarkBuffer port target value) c e = refl
 
-pub front_alike : (l m : Look) (commands : List Command) (c : Component) → run_front l commands c ≡ run_front m commands c
-front_alike l m [] c = refl
-front_alike l m (command ∷ commands) c = carried_alike l m command (record c { commands = commands })
+pub front_alike : (l m : Look) (commands : List Command) (c : Component) → l.waits ≡ m.waits → run_front l commands c ≡ run_front m commands c
+front_alike l m [] c e = refl
+front_alike l m (command ∷ commands) c e = carried_alike l m command (record c { commands = commands }) e

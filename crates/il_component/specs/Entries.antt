@@ -1,12 +1,13 @@
 -- What a contract sees of one component: its record with its queues, and how the machine sees it.
-use Rattle.std.specs.Prelude.{◌≡◌, Bool, List, [], ◌∷◌, length, Option, is_none, All}
+use Rattle.std.specs.Prelude.{◌≡◌, ℕ, Bool, List, [], ◌∷◌, length, Option, is_none, All}
 use Rattle.omx_types.specs.declared.handle.Handle.{Handle}
 use Rattle.omx_types.specs.declared.state.State.{State}
+use Rattle.part_api.specs.declared.attached.Attached.{Attached}
 use Rattle.il_machine.specs.declared.answer.Pending.{Pending}
 use Rattle.il_machine.specs.declared.port.PortState.{PortState}
 use Rattle.il_machine.specs.Settings.{Settings, IsWhole}
 use Rattle.il_machine.specs.Kinds.{ports_in}
-use Rattle.il_machine.specs.World.{Component}
+use Rattle.il_machine.specs.World.{Component, PartState, Work}
 use Rattle.il_machine.specs.Room.{cost_of}
 use Rattle.il_machine.specs.Whole.{Noticed}
 use Rattle.header_core.specs.BufferHeader.{BufferHeader, is_clients}
@@ -22,6 +23,11 @@ pub record Entry (C : Type 0) : Type 0 where
   pub state : State
   pub pending : Option Pending
   pub loss_mark : Bool
+  pub holds : Bool
+  pub waiting : Option ℕ
+  pub work : Option Work
+  pub file : Option Attached
+  pub part : PartState
   pub ports : List PortState
   pub queues : Queues C
 
@@ -50,6 +56,11 @@ module _ {C : Type 0} where
     commands = commands_of e.queues;
     notes = notes_of e.queues;
     client_out = is_none e.queues.client;
+    holds = e.holds;
+    waiting = e.waiting;
+    work = e.work;
+    file = e.file;
+    part = e.part;
     ports = e.ports;
   }
 
@@ -58,7 +69,7 @@ module _ {C : Type 0} where
     pub whole : IsWhole e.settings
     pub ports : length e.ports ≡ ports_in e.settings.kind
     pub queue_ports : e.queues.ports ≡ ports_in e.settings.kind
-    pub places : e.queues.places ≡ places_of e.pending e.loss_mark e.ports
+    pub places : e.queues.places ≡ places_of e.pending e.loss_mark e.ports e.work
     pub costs : All (HasCost (component_of e)) e.queues.commands
 
   -- the component's client object and the headers in its notes stay

@@ -1,6 +1,7 @@
 -- The changes that commands and tunnels make of a port, and what keeps a command from it.
-use Rattle.std.specs.Prelude.{ℕ, zero, suc, ◌+◌, Bool, false, ◌&&◌, List, [], ◌∷◌, Option, Some, None, if◌then◌else◌}
+use Rattle.std.specs.Prelude.{ℕ, zero, suc, ◌+◌, Bool, false, ◌&&◌, nat_eq, List, [], ◌∷◌, Option, Some, None, if◌then◌else◌}
 use Rattle.omx_types.specs.declared.command.PortSel.{PortSel}
+use Rattle.omx_types.specs.declared.param.ParamKey.{ParamKey}
 use Rattle.il_machine.specs.declared.answer.Why.{Why}
 use Rattle.il_machine.specs.declared.answer.Why.TheVariants.{PortBusy}
 use Rattle.omx_types.specs.declared.command.Event.TheVariants.{CmdComplete}
@@ -11,7 +12,8 @@ use Rattle.il_machine.specs.declared.port.Port.{Port}
 use Rattle.il_machine.specs.declared.port.PortSetting.{PortSetting}
 use Rattle.il_machine.specs.declared.port.PortState.{PortState}
 use Rattle.il_machine.specs.Settings.{with_setting}
-use Rattle.il_machine.specs.World.{Component, with_port, told}
+use Rattle.il_machine.specs.World.{Component, port_of, with_port, told}
+use Rattle.il_machine.specs.Parameters.{unheld_at}
 use Rattle.il_machine.specs.Due.{mode_completion, all_told}
 use Rattle.il_machine.specs.Commands.{flushing, disabling, enabling, waiting, is_selected, is_flushing, is_changing, is_waiting}
 use Rattle.il_component.specs.declared.port_changes.PortChange.{PortChange}
@@ -49,6 +51,10 @@ linked index setting link c = record c { settings = with_setting index setting c
 
 abbrev pub unlinked : ℕ → Component → Component
 unlinked index c = record c { ports = at_port index (with_link None) c.ports }
+
+-- the port whose definition is set, where it is there, is held no more
+abbrev pub let_go_by : ParamKey → Component → Component
+let_go_by key c = if nat_eq key.index 1 then unheld_at (port_of c key.port) c else c
 
 -- ---- what has ended at a port, and is told
 

@@ -7,15 +7,16 @@ ghost use Rattle.il_machine.specs.Room.{cost_of, room, used, events_in};
 ghost use Rattle.il_machine.specs.Commands.{invalidated, lacks_place, sent, with_selected};
 ghost use Rattle.omx_types.specs.declared.state.State.TheVariants as states;
 ghost use Rattle.omx_types.specs.declared.command.Event.TheVariants as events;
-ghost use Rattle.il_machine.specs.Due.{arrived, lost};
+ghost use Rattle.il_machine.specs.Due.{arrived, lost, restarted, with_part, all_given_back};
 ghost use Rattle.il_component.specs.Entries.{component_of, KeepsNotices};
-ghost use Rattle.il_component.specs.Places.{places_of, completed_if};
+ghost use Rattle.il_component.specs.Places.{places_of, completed_if, idle_reached};
 ghost use Rattle.il_component.specs.PortChanges.{changed_by, flush_ended, mode_ended, mark_ended};
 ghost use Rattle.note_queues.specs.Queues.{holding, costs, notes_of};
 
 use crate::commands::is_at_once;
 use crate::component::Component;
-use crate::port_changes::{PortChange, all_port_places, change_selected, put_at_rest};
+use crate::part_changes::{clear, is_source};
+use crate::port_changes::{PortChange, all_port_places, change_selected, let_all_go, put_at_rest};
 use il_machine::{Cause, Mode, Pending, PortState};
 use note_queues::Notes;
 use omx_types::{Command, Completion, Event, OmxError, PortSel, State};
@@ -23,7 +24,7 @@ use omx_types::{Command, Completion, Event, OmxError, PortSel, State};
 /// What is reserved beside the costs of commands.
 fn places(pending: Option<Pending>, loss_mark: bool, ports: &[PortState]) -> u32
     requires { length ports.now ≤ 16 }
-    ensures { result ≡ places_of pending loss_mark ports.now }
+    ensures { result ≡ places_of pending loss_mark ports.now None }
 {
     let Some(pending) = pending else {
         return all_port_places(ports);
@@ -37,8 +38,8 @@ fn places(pending: Option<Pending>, loss_mark: bool, ports: &[PortState]) -> u32
 /// Reserves what the component's record asks for.
 fn hold<C>(notes: &mut Notes<C>, pending: Option<Pending>, loss_mark: bool, ports: &[PortState])
     requires few { length ports.now ≤ 16 }
-    requires fits { events_in (notes_of notes.old) + costs notes.old + places_of pending loss_mark ports.now ≤ 256 }
-    ensures { notes.new ≡ holding (places_of pending loss_mark ports.now) notes.old }
+    requires fits { events_in (notes_of notes.old) + costs notes.old + places_of pending loss_mark ports.now None ≤ 256 }
+    ensures { notes.new ≡ holding (places_of pending loss_mark ports.now None) notes.old }
 {
     notes.hold_places(places(pending, loss_mark, ports));
 }
@@ -77,7 +78,7 @@ impl<C> Component<C> {
         hold(&mut self.notes, self.pending, self.loss_mark, &self.ports);
     }
 
-    /// Drops all that is pending, and is Invalid.
+    /// Drops all that is pending, gives the units back, and is Invalid.
     fn invalidate(&mut self)
         ensures component { component_of self.new ≡ invalidated (component_of self.old) }
         ensures kept { KeepsNotices self.old self.new }
@@ -87,6 +88,8 @@ impl<C> Component<C> {
         self.state = State::Invalid;
         self.pending = None;
         self.loss_mark = false;
+        self.holds = false;
+        self.waiting = None;
         put_at_rest(&mut self.ports);
         self.notes.drop_commands();
         hold(&mut self.notes, None, false, &self.ports);
@@ -181,22 +184,73 @@ impl<C> Component<C> {
         self.tell(Event::Error(OmxError::ResourcesLost));
     }
 
-    /// The pending transition is reached.
-    pub fn arrive(&mut self)
+    /// No input has ended; nor has the part, unless it is a source's or has failed.
+    fn restart(&mut self)
+        ensures component { component_of self.new ≡ with_part (restarted (component_of self.old)) (component_of self.old) }
+        ensures kept { KeepsNotices self.old self.new }
+    {
+        let stays = is_source(self.params.kind()) || self.failed;
+        self.ended = self.ended && stays;
+        clear(&mut self.ended_inputs);
+    }
+
+    /// The units are given back, the component waits no more, and no port of it is held.
+    fn give_back(&mut self)
+        ensures component { component_of self.new ≡ all_given_back (component_of self.old) }
+        ensures kept { KeepsNotices self.old self.new }
+    {
+        self.holds = false;
+        self.waiting = None;
+        let_all_go(&mut self.ports);
+    }
+
+    /// The component waits for resources, with the number.
+    fn wait(&mut self, number: u64)
+        ensures component { component_of self.new ≡ record (component_of self.old) { waiting = Some number } }
+        ensures kept { KeepsNotices self.old self.new }
+    {
+        self.waiting = Some(number);
+    }
+
+    /// Idle is reached from below, or by a component that worked: what has ended begins anew, and what was lost is told.
+    fn reach_idle(&mut self, by_client: bool)
+        requires { used (idle_reached by_client (component_of self.old)) ≤ 256 }
+        ensures component { component_of self.new ≡ idle_reached by_client (component_of self.old) }
+        ensures kept { KeepsNotices self.old self.new }
+    {
+        if state_rules::is_down(self.state) {
+            self.reach(State::Idle, true);
+            return;
+        }
+        self.restart();
+        if self.loss_mark || !by_client {
+            self.lose(by_client);
+        } else {
+            self.reach(State::Idle, true);
+        }
+    }
+
+    /// The pending transition is reached. A component that then waits for resources gets the number.
+    pub fn arrive(&mut self, number: u64)
         requires pending { IsSome self.old.pending }
-        requires fits { MatchOption self.old.pending ⊥ (λ p. used (arrived p (component_of self.old)) ≤ 256) }
-        ensures component { MatchOption self.old.pending ⊥ (λ p. component_of self.new ≡ arrived p (component_of self.old)) }
+        requires fits { MatchOption self.old.pending ⊥ (λ p. used (arrived number p (component_of self.old)) ≤ 256) }
+        ensures component { MatchOption self.old.pending ⊥ (λ p. component_of self.new ≡ arrived number p (component_of self.old)) }
         ensures kept { KeepsNotices self.old self.new }
     {
         let Some(pending) = self.pending else {
             unreachable!()
         };
         let by_client = matches!(pending.cause, Cause::Client);
-        let was_down = state_rules::is_down(self.state);
         match pending.target {
-            State::Idle if was_down => self.reach(State::Idle, true),
-            State::Idle if self.loss_mark || !by_client => self.lose(by_client),
-            State::Idle | State::Loaded => self.reach(pending.target, by_client),
+            State::Idle => self.reach_idle(by_client),
+            State::Loaded => {
+                self.give_back();
+                self.reach(State::Loaded, by_client);
+            }
+            State::WaitForResources => {
+                self.wait(number);
+                self.reach(State::WaitForResources, true);
+            }
             target => self.reach(target, true),
         }
     }

@@ -1,19 +1,20 @@
 //! The component's notes and its client object, its parameters and its tunnels.
 
-ghost use Rattle.std.specs.Prelude.{◌≡◌, ◌<◌, ◌*◌, true, false, is_none, Some, None, IsSome, option_map};
+ghost use Rattle.std.specs.Prelude.{◌≡◌, ◌<◌, ◌*◌, ◌||◌, true, false, is_none, Some, None, IsSome, option_map};
 ghost use Rattle.il_machine.specs.Kinds.{ports_in};
-ghost use Rattle.il_machine.specs.Settings.{set_refusal, value_of, refused_or, with_setting};
+ghost use Rattle.il_machine.specs.Settings.{set_refusal, value_of, refused_or, with_setting, changed_by};
 ghost use Rattle.il_machine.specs.World.{with_port};
-ghost use Rattle.il_machine.specs.Parameters.{is_format_free, get_parameter_refusal, set_config_refusal, with_value};
+ghost use Rattle.il_machine.specs.Parameters.{keeps_format, is_format_free, get_parameter_refusal, set_config_refusal, with_value};
 ghost use Rattle.note_queues.specs.Queues.{took, after_taking, header_notes, header_note, noted, with_client};
 ghost use Rattle.il_component.specs.Entries.{component_of, KeepsNotices};
-ghost use Rattle.il_component.specs.PortChanges.{linked, unlinked};
+ghost use Rattle.il_component.specs.PortChanges.{linked, unlinked, let_go_by};
 
 use crate::component::Component;
 use header_core::Header;
-use il_machine::{Link, PortSetting, Progress};
+use il_machine::{Link, Port, PortSetting, Progress};
 use note_queues::{Client, Took};
-use omx_types::{OmxError, Param, ParamKey};
+use omx_types::{Format, OmxError, Param, ParamKey};
+use param_store::is_same_format;
 
 impl<C> Component<C> {
     /// Moves the oldest note out, with the client object.
@@ -52,6 +53,12 @@ impl<C> Component<C> {
             state: _,
             pending: _,
             loss_mark: _,
+            holds: _,
+            waiting: _,
+            file: _,
+            ended_inputs: _,
+            ended: _,
+            failed: _,
             ports: _,
             notes,
         } = self;
@@ -68,6 +75,12 @@ impl<C> Component<C> {
             state: _,
             pending: _,
             loss_mark: _,
+            holds: _,
+            waiting: _,
+            file: _,
+            ended_inputs: _,
+            ended: _,
+            failed: _,
             ports: _,
             notes,
         } = self;
@@ -84,12 +97,42 @@ impl<C> Component<C> {
         self.params.get(key, config)
     }
 
+    /// The port's format is known and stays.
+    fn keeps_format(&self, port: Port) -> bool
+        ensures { result ≡ keeps_format (component_of self.now) port }
+    {
+        !port.state.held
+            && !matches!(port.setting.definition.format, Format::Auto)
+            && (self.file.is_some() || !self.is_settable())
+    }
+
+    /// Whether the value may be set of the port, as far as its format goes.
+    fn is_format_free(&self, index: u32, value: Param) -> bool
+        ensures { result ≡ is_format_free (component_of self.now) index value }
+    {
+        let Param::Port(definition) = value else {
+            return true;
+        };
+        let Some(port) = self.port(index) else {
+            return false;
+        };
+        !self.keeps_format(port)
+            || is_same_format(definition.format, port.setting.definition.format)
+    }
+
+    /// Whether the value may be set, as far as a port's format goes: a config has none.
+    fn is_free(&self, key: ParamKey, config: bool, value: Param) -> bool
+        ensures { result ≡ (config || is_format_free (component_of self.now) key.port value) }
+    {
+        config || self.is_format_free(key.port, value)
+    }
+
     /// Why the value of the key can't be set, if it can't, beside the component's state and its ports.
     pub fn settings_refusal(&self, key: ParamKey, config: bool, value: Param) -> Option<OmxError>
-        ensures { result ≡ set_refusal self.now.settings key config value (is_format_free (component_of self.now)) }
+        ensures { result ≡ set_refusal self.now.settings key config value (config || is_format_free (component_of self.now) key.port value) }
     {
         self.params
-            .set_refusal(key, config, value, self.is_settable())
+            .set_refusal(key, config, value, self.is_free(key, config, value))
     }
 
     /// Why a config can't be set, if it can't.
@@ -104,11 +147,30 @@ impl<C> Component<C> {
 
     /// Sets a parameter or a config that may be set.
     pub fn set_value(&mut self, key: ParamKey, config: bool, value: Param)
-        requires { set_refusal self.old.settings key config value (is_format_free (component_of self.old)) ≡ None }
+        requires { set_refusal self.old.settings key config value (config || is_format_free (component_of self.old) key.port value) ≡ None }
         ensures component { component_of self.new ≡ with_value key value (component_of self.old) }
         ensures kept { KeepsNotices self.old self.new }
     {
-        let free = self.is_settable();
+        let free = self.is_free(key, config, value);
+        self.let_go(key);
+        self.put_value(key, config, value, free);
+    }
+
+    /// A port whose definition is set is held no more.
+    fn let_go(&mut self, key: ParamKey)
+        ensures component { component_of self.new ≡ let_go_by key (component_of self.old) }
+        ensures kept { KeepsNotices self.old self.new }
+    {
+        if key.index == 1 && key.port < self.params.ports() {
+            self.ports[key.port as usize].held = false;
+        }
+    }
+
+    fn put_value(&mut self, key: ParamKey, config: bool, value: Param, free: bool)
+        requires { set_refusal self.old.settings key config value free ≡ None }
+        ensures component { component_of self.new ≡ record (component_of self.old) { settings = changed_by key.port value self.old.settings } }
+        ensures kept { KeepsNotices self.old self.new }
+    {
         match self.params.set(key, config, value, free) {
             Ok(()) => {}
             Err(_) => unreachable!(),

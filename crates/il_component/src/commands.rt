@@ -68,8 +68,8 @@ impl<C> Component<C> {
     }
 
     /// Why a transition to the state can't begin.
-    fn state_fault(&self, target: State) -> Option<OmxError>
-        ensures { (l : Look) → result ≡ state_fault l (component_of self.now) target }
+    fn state_fault(&self, waits: u64, target: State) -> Option<OmxError>
+        ensures { (l : Look) → l.waits ≡ waits → result ≡ state_fault l (component_of self.now) target }
     {
         if self.state == target {
             Some(OmxError::SameState)
@@ -77,18 +77,20 @@ impl<C> Component<C> {
             Some(OmxError::IncorrectStateTransition)
         } else if matches!(self.state, State::Loaded) && !self.params.fits() {
             Some(OmxError::UnsupportedSetting)
+        } else if matches!(target, State::WaitForResources) && waits == u64::MAX {
+            Some(OmxError::InsufficientResources)
         } else {
             None
         }
     }
 
     /// Begins the transition to the state, or tells why it can't begin.
-    fn begin_or_tell(&mut self, target: State)
-        requires { (l : Look) → used (begun (state_fault l (component_of self.old) target) target (component_of self.old)) ≤ 256 }
-        ensures component { (l : Look) → component_of self.new ≡ begun (state_fault l (component_of self.old) target) target (component_of self.old) }
+    fn begin_or_tell(&mut self, waits: u64, target: State)
+        requires { (l : Look) → l.waits ≡ waits → used (begun (state_fault l (component_of self.old) target) target (component_of self.old)) ≤ 256 }
+        ensures component { (l : Look) → l.waits ≡ waits → component_of self.new ≡ begun (state_fault l (component_of self.old) target) target (component_of self.old) }
         ensures kept { KeepsNotices self.old self.new }
     {
-        match self.state_fault(target) {
+        match self.state_fault(waits, target) {
             Some(error) => self.tell(Event::Error(error)),
             None => self.begin(Pending {
                 target,
@@ -98,13 +100,13 @@ impl<C> Component<C> {
     }
 
     /// Carries out a command that is queued no longer.
-    fn carry_out(&mut self, command: Command)
-        requires { (l : Look) → used (carried_out l command (component_of self.old)) ≤ 256 }
-        ensures component { (l : Look) → component_of self.new ≡ carried_out l command (component_of self.old) }
+    fn carry_out(&mut self, waits: u64, command: Command)
+        requires { (l : Look) → l.waits ≡ waits → used (carried_out l command (component_of self.old)) ≤ 256 }
+        ensures component { (l : Look) → l.waits ≡ waits → component_of self.new ≡ carried_out l command (component_of self.old) }
         ensures kept { KeepsNotices self.old self.new }
     {
         match command {
-            Command::StateSet(target) => self.begin_or_tell(target),
+            Command::StateSet(target) => self.begin_or_tell(waits, target),
             Command::Flush(sel) => self.change_ports(sel, PortChange::Flush),
             Command::PortDisable(sel) => self.change_ports(sel, PortChange::Disable),
             Command::PortEnable(sel) => self.change_ports(sel, PortChange::Enable),
@@ -119,14 +121,14 @@ impl<C> Component<C> {
         }
     }
 
-    /// Takes the first command out of the queue and carries it out, where there is one.
-    pub fn run(&mut self)
-        requires { (l : Look) → used (run_front l (component_of self.old).commands (component_of self.old)) ≤ 256 }
-        ensures component { (l : Look) → component_of self.new ≡ run_front l (component_of self.old).commands (component_of self.old) }
+    /// Takes the first command out of the queue and carries it out, where there is one. So many waits were numbered.
+    pub fn run(&mut self, waits: u64)
+        requires { (l : Look) → l.waits ≡ waits → used (run_front l (component_of self.old).commands (component_of self.old)) ≤ 256 }
+        ensures component { (l : Look) → l.waits ≡ waits → component_of self.new ≡ run_front l (component_of self.old).commands (component_of self.old) }
         ensures kept { KeepsNotices self.old self.new }
     {
         if let Some(command) = self.pop() {
-            self.carry_out(command);
+            self.carry_out(waits, command);
         }
     }
 }

@@ -14,6 +14,7 @@ use il_machine::{Cause, Mode, Pending, Port, PortKey, PortState};
 use note_queues::Notes;
 use omx_types::{Event, Handle, Kind, OmxError, Param, ParamKey, State};
 use param_store::Params;
+use part_api::Attached;
 use std::alloc::{AllocError, Global};
 use std::marker::Model;
 
@@ -24,11 +25,23 @@ pub struct Component<C> {
     pub(crate) state: State,
     pub(crate) pending: Option<Pending>,
     pub(crate) loss_mark: bool,
+    /// It has its units.
+    pub(crate) holds: bool,
+    /// Its waiting number.
+    pub(crate) waiting: Option<u64>,
+    pub(crate) file: Option<Attached>,
+    /// Which inputs have ended.
+    pub(crate) ended_inputs: Vec<bool>,
+    /// The part has ended.
+    pub(crate) ended: bool,
+    /// The part has failed.
+    pub(crate) failed: bool,
     pub(crate) ports: Vec<PortState>,
     pub(crate) notes: Notes<C>,
 }
 
 impl<C> Model for Component<C> {
+    ghost use Rattle.std.specs.Prelude.{None};
     ghost use Rattle.il_component.specs.Entries.{Entry, IsFit};
 
     ghost Value = { Entry C };
@@ -39,6 +52,11 @@ impl<C> Model for Component<C> {
       state = c.state;
       pending = c.pending;
       loss_mark = c.loss_mark;
+      holds = c.holds;
+      waiting = c.waiting;
+      work = None;
+      file = c.file;
+      part = record { ended_inputs = c.ended_inputs.items; ended = c.ended; failed = c.failed };
       ports = c.ports.items;
       queues = c.notes;
     } };
@@ -49,6 +67,11 @@ impl<C> Model for Component<C> {
       state = c.state;
       pending = c.pending;
       loss_mark = c.loss_mark;
+      holds = c.holds;
+      waiting = c.waiting;
+      work = None;
+      file = c.file;
+      part = record { ended_inputs = c.ended_inputs.items; ended = c.ended; failed = c.failed };
       ports = c.ports.items;
       queues = c.notes;
     }) };
@@ -62,10 +85,18 @@ fn fresh_ports(alloc: Global, count: u32) -> Result<Vec<PortState>, AllocError>
         enabled: true,
         mode: Mode::Steady,
         flushing: false,
+        held: false,
         waiting_mark: None,
         link: None,
     };
     vec![in alloc; fresh; count as usize]
+}
+
+/// So many inputs that haven't ended.
+fn fresh_inputs(alloc: Global, count: u32) -> Result<Vec<bool>, AllocError>
+    ensures { IfOk result (λ inputs. inputs.items ≡ replicate count false) }
+{
+    vec![in alloc; false; count as usize]
 }
 
 fn has_link(ports: &[PortState]) -> bool
@@ -95,6 +126,9 @@ impl<C> Component<C> {
         let Ok(ports) = fresh_ports(alloc, count) else {
             return Err(client);
         };
+        let Ok(ended_inputs) = fresh_inputs(alloc, param_store::inputs(kind)) else {
+            return Err(client);
+        };
         let notes = match Notes::new(alloc, count, client) {
             Ok(notes) => notes,
             Err((_, client)) => return Err(client),
@@ -105,6 +139,12 @@ impl<C> Component<C> {
             state: State::Loaded,
             pending: None,
             loss_mark: false,
+            holds: false,
+            waiting: None,
+            file: None,
+            ended_inputs,
+            ended: false,
+            failed: false,
             ports,
             notes,
         })
@@ -170,6 +210,21 @@ impl<C> Component<C> {
         ensures { result ≡ is_invalid self.now.state }
     {
         matches!(self.state, State::Invalid)
+    }
+
+    /// The frames for which its file came.
+    pub fn file(&self) -> Option<Attached>
+        ensures { result ≡ self.now.file }
+    {
+        self.file
+    }
+
+    /// Whether a work of the component is out: none is, as long as no call claims one.
+    pub fn is_work_out(&self) -> bool
+        ensures { result ≡ is_some self.now.work }
+    {
+        let _state = self.state;
+        false
     }
 
     /// Loaded with nothing pending.

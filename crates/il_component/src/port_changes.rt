@@ -3,6 +3,7 @@
 ghost use Rattle.std.specs.Prelude.{◌≡◌, ◌≤◌, ◌*◌, length, map, sum_by};
 ghost use Rattle.il_machine.specs.Room.{port_places};
 ghost use Rattle.il_machine.specs.Commands.{is_selected, selected_from, at_rest};
+ghost use Rattle.il_machine.specs.Due.{unheld};
 ghost use Rattle.il_component.specs.PortChanges.{changed_by, busy_test, busy_among};
 
 use il_machine::{Mark, Mode, PortState, Why};
@@ -68,6 +69,15 @@ pub fn put_at_rest(ports: &mut [PortState])
         port.mode = Mode::Steady;
         port.flushing = false;
         port.waiting_mark = None;
+    }
+}
+
+/// No port is held any more.
+pub fn let_all_go(ports: &mut [PortState])
+    ensures { ports.new ≡ map unheld ports.old }
+{
+    for port in ports.iter_mut() {
+        port.held = false;
     }
 }
 
