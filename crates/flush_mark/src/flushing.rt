@@ -1,6 +1,6 @@
 //! The end of a flush: whether it is due, and the reset of the headers at home.
 
-ghost use Rattle.std.specs.Prelude.{◌≡◌, ◌&&◌, true, false};
+ghost use Rattle.std.specs.Prelude.{◌≡◌, ◌&&◌, not, is_some, true, false};
 ghost use Rattle.il_machine.specs.declared.port.Port.{Port};
 ghost use Rattle.il_machine.specs.World.{Component};
 ghost use Rattle.il_machine.specs.Headers.{reset};
@@ -14,14 +14,15 @@ use il_machine::{Port, PortKey, Spot};
 use port_stock::Stock;
 use tunnel_rules::is_supplier;
 
-/// Whether the port has no header in its lists but those that are at home there: then the end of its flush is due.
-pub fn flush_settled(stock: &Stock, port: PortKey) -> bool
+/// Whether the port has no header in its lists but those that are at home there, and no work of its component is out: then the end of
+/// its flush is due.
+pub fn flush_settled(stock: &Stock, port: PortKey, work_out: bool) -> bool
     requires { IsPort port (stocked stock.now) }
-    ensures settled { result ≡ is_flushed (stocked stock.now).headers port }
-    ensures due { (c : Component) (p : Port) → p.key ≡ port →
+    ensures settled { result ≡ (is_flushed (stocked stock.now).headers port && not work_out) }
+    ensures due { (c : Component) (p : Port) → p.key ≡ port → is_some c.work ≡ work_out →
         is_flush_due (stocked stock.now).headers c p ≡ (p.state.flushing && result) }
 {
-    stock.foreign(port) == 0
+    stock.foreign(port) == 0 && !work_out
 }
 
 /// The headers of `todo` go in order to the back of `done`, and all are cleared.

@@ -56,6 +56,7 @@ fn end(key: PortKey, peer: PortKey, input: bool, supplier: Supplier) -> Port
             enabled: true,
             mode: Mode::Steady,
             flushing: true,
+            held: false,
             waiting_mark: None,
             link: Some(Link { peer, supplier }),
         },
@@ -174,7 +175,10 @@ fn four_headers(
 #[test]
 fn flushes_a_supplying_output(rt: HostRuntime) -> Result<(), Fail> {
     let mut stock = four_headers(rt.alloc(), OUTPUT, INPUT, Spot::DoneBack, Spot::TodoBack)?;
-    let settled = (flush_settled(&stock, OUTPUT), flush_settled(&stock, INPUT));
+    let settled = (
+        flush_settled(&stock, OUTPUT, false),
+        flush_settled(&stock, INPUT, false),
+    );
     reset_home(&mut stock, end(OUTPUT, INPUT, false, Supplier::Output));
     let first = next_todo(&mut stock, OUTPUT);
     let second = next_todo(&mut stock, OUTPUT);
@@ -194,7 +198,10 @@ fn flushes_a_supplying_output(rt: HostRuntime) -> Result<(), Fail> {
 #[test]
 fn flushes_a_supplying_input(rt: HostRuntime) -> Result<(), Fail> {
     let mut stock = four_headers(rt.alloc(), INPUT, OUTPUT, Spot::TodoBack, Spot::DoneBack)?;
-    let settled = (flush_settled(&stock, INPUT), flush_settled(&stock, OUTPUT));
+    let settled = (
+        flush_settled(&stock, INPUT, false),
+        flush_settled(&stock, OUTPUT, false),
+    );
     reset_home(&mut stock, end(INPUT, OUTPUT, true, Supplier::Input));
     let first = next_done(&mut stock, INPUT);
     let second = next_done(&mut stock, INPUT);
