@@ -51,15 +51,6 @@ waiter_leaves Executing l h = absurd cc
 waiter_leaves Pause l h = absurd cc
 waiter_leaves WaitForResources l h = absurd cc
 
--- none goes to Invalid
-none_breaks : (s : State) (l r : Bool) → way_by s Invalid l r ≡ false
-none_breaks Invalid l r = refl
-none_breaks Loaded l r = refl
-none_breaks Idle l r = refl
-none_breaks Executing l r = refl
-none_breaks Pause l r = refl
-none_breaks WaitForResources l r = refl
-
 -- from a state in which a work may be out, to one that is up
 works_on : (s t : State) (l r : Bool) → way_by s t l r ≡ true → (is_running s || is_invalid s) ≡ true → is_up t ≡ true
 works_on Invalid Invalid l r h m = absurd cc
@@ -91,10 +82,6 @@ down_is Idle h = refl
 down_is Executing h = absurd cc
 down_is Pause h = absurd cc
 down_is WaitForResources h = refl
-
-or_false : (b : Bool) → (b || false) ≡ b
-or_false true = refl
-or_false false = refl
 
 not_waiting_up : (t : State) → is_up t ≡ true → same_state t WaitForResources ≡ false
 not_waiting_up Invalid h = absurd cc
@@ -230,14 +217,6 @@ fair_waits waits p c U e t m = record {
     inputs = U.inputs;
   };
 }
-
-running_or : (t : State) → is_up t ≡ true → same_state t Idle ≡ false → is_running t ≡ true
-running_or Invalid u i = absurd cc
-running_or Loaded u i = absurd cc
-running_or Idle u i = absurd cc
-running_or Executing u i = refl
-running_or Pause u i = refl
-running_or WaitForResources u i = absurd cc
 
 -- Where Idle is due for a component that isn't down, its work isn't out.
 idle_due : (headers : Seen) (c : Component) → is_down c.state ≡ false → is_due_to headers c Idle ≡ true → is_none c.work ≡ true
