@@ -3,6 +3,7 @@ use Rattle.std.proofs.Common.{◌≡◌, ◌<◌, ◌≤◌, Bool, true, false, 
 use Rattle.omx_types.specs.declared.command.Completion.TheVariants as completions
 use Rattle.omx_types.specs.declared.command.Event.{Event as EventType}
 use Rattle.omx_types.specs.declared.command.Event.TheVariants as events
+use Rattle.omx_types.specs.declared.format.Format.TheVariants as formats
 use Rattle.il_machine.specs.declared.port.PortView.{PortView}
 use Rattle.act_text.specs.Acts.{act_words}
 use Rattle.act_text.specs.Replies.{view_words, event_words, why_words, reply_words}
@@ -24,7 +25,10 @@ act-counted (acts.Supply _) = (omega arith, omega arith)
 act-counted (acts.Release _) = (omega arith, omega arith)
 act-counted (acts.Over _) = (omega arith, omega arith)
 act-counted (acts.Back _) = (omega arith, omega arith)
-act-counted (acts.SetPort _ _ _ _) = (omega arith, omega arith)
+act-counted (acts.SetPort _ (formats.Pcm _ _) _ _) = (omega arith, omega arith)
+act-counted (acts.SetPort _ (formats.Alaw _ _) _ _) = (omega arith, omega arith)
+act-counted (acts.SetPort _ (formats.Mulaw _ _) _ _) = (omega arith, omega arith)
+act-counted (acts.SetPort _ formats.Auto _ _) = (omega arith, omega arith)
 act-counted (acts.SetSupplier _ _) = (omega arith, omega arith)
 act-counted (acts.SetPriority _ _) = (omega arith, omega arith)
 act-counted (acts.Gain _ _) = (omega arith, omega arith)

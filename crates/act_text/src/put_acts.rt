@@ -211,9 +211,9 @@ fn put_definition(
 }
 
 /// The definition of a port with that format.
-fn put_known(
-    port: &PortName,
-    kind: &[u8],
+fn put_known<'a>(
+    port: &'a PortName,
+    kind: &'a [u8],
     rate: u32,
     channels: u32,
     count: u32,

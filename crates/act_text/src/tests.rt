@@ -1,6 +1,6 @@
 use super::*;
 use line_text::BadWord;
-use omx_types::{Completion, Event};
+use omx_types::{Completion, Event, Format};
 use std::test::Fail;
 
 fn component() -> Option<Name> {
@@ -52,6 +52,25 @@ fn a_command_of_a_mark(rt: HostRuntime) -> Result<(), Fail> {
     put_act(&text, &mut out)?;
     assert_eq!(rt; out.as_slice(), b"send a mark 0 a 7 = ok".as_slice());
     assert_eq!(rt; read_act(b"send a mark 0 a 7 = ok"), Ok(text));
+    Ok(())
+}
+
+#[test]
+fn a_format_that_is_not_known(rt: HostRuntime) -> Result<(), Fail> {
+    let port = port_in(b"a.0").ok_or("port")?;
+    let text = ActText {
+        act: TextAct::SetPort {
+            port,
+            format: Format::Auto,
+            count: 1,
+            size: 4096,
+        },
+        reply: TextReply::Done,
+    };
+    let mut out = Vec::new(rt.alloc());
+    put_act(&text, &mut out)?;
+    assert_eq!(rt; out.as_slice(), b"set a.0 port auto 1 4096 = ok".as_slice());
+    assert_eq!(rt; read_act(b"set a.0 port auto 1 4096 = ok"), Ok(text));
     Ok(())
 }
 

@@ -4,6 +4,7 @@ use Rattle.std.specs.Fmt.{decimal}
 use Rattle.std.specs.Str.{bytes_eq}
 use Rattle.std.proofs.lemmas.Grind.{common_steps}
 use Rattle.line_text.specs.Numbers.{hex_digit, hex_of}
+use Rattle.omx_types.specs.declared.format.Format.TheVariants as formats
 use Rattle.act_text.specs.Acts.{act_words}
 use Rattle.act_text.specs.Reading.{name_of, port_of}
 use Rattle.act_text.specs.declared.name.PortName.{PortName}
@@ -41,7 +42,10 @@ act-no-other (acts.Supply _) = refl
 act-no-other (acts.Release _) = refl
 act-no-other (acts.Over _) = refl
 act-no-other (acts.Back _) = refl
-act-no-other (acts.SetPort _ _ _ _) = refl
+act-no-other (acts.SetPort _ (formats.Pcm _ _) _ _) = refl
+act-no-other (acts.SetPort _ (formats.Alaw _ _) _ _) = refl
+act-no-other (acts.SetPort _ (formats.Mulaw _ _) _ _) = refl
+act-no-other (acts.SetPort _ formats.Auto _ _) = refl
 act-no-other (acts.SetSupplier _ _) = refl
 act-no-other (acts.SetPriority _ _) = refl
 act-no-other (acts.Gain _ _) = refl
