@@ -1,6 +1,6 @@
--- The content of what flows: of each link the bytes that its input has taken, and those that are on their way in its headers, in order.
--- A step takes from the front of what is on its way to an input, and appends to what is on its way from an output; headers that are
--- handed on change neither.
+-- The content of what flows: of each link the bytes that its input has taken, and those that are on their way in its
+-- headers, in order. A step takes from the front of what is on its way to an input, and appends to what is on its way
+-- from an output; headers that are handed on change neither.
 use Rattle.std.specs.Prelude.{◌≡◌, ℕ, ◌-◌, ◌*◌, ◌<◌, true, false, nat_eq, nat_lt, nat_le, if◌then◌else◌, List, [], ◌∷◌, ◌++◌, length, take, drop, replicate}
 use Rattle.flow_model.specs.Network.{Network, IsInput, Filled, LinkState, Flow, queue, frames_in}
 use Rattle.flow_model.specs.Moves.{Move, moved}
@@ -32,10 +32,11 @@ pub record HasFrames (p : Part) (frames : ℕ) (x : Incoming) : Type 0 where
   -- a part without inputs reads a file
   pub file : p.inputs ≡ 0 → length x.file ≡ frames * p.output_frame
 
--- The plain function of two stretches, one after the other, is that of the first and then that of the second; so many frames in give
--- so many frames out.
+-- The plain function of two stretches, one after the other, is that of the first and then that of the second; so many
+-- frames in give so many frames out.
 pub record IsPart (p : Part) : Type 0 where
-  pub joins : (frames more : ℕ) (first second : Incoming) → HasFrames p frames first → HasFrames p more second → (output : ℕ) → p.plain (joined first second) output ≡ p.plain first output ++ p.plain second output
+  pub joins : (frames more : ℕ) (first second : Incoming) → HasFrames p frames first → HasFrames p more second → (output : ℕ) →
+      p.plain (joined first second) output ≡ p.plain first output ++ p.plain second output
   pub sized : (frames : ℕ) (x : Incoming) → HasFrames p frames x → (output : ℕ) → length (p.plain x output) ≡ frames * p.output_frame
 
 -- ---- what a network's components are

@@ -1,5 +1,6 @@
--- The number of frames of a step, as the rule of parts has it: the least of the frames in each claimed header that isn't ending, of those that fit
--- each output, and for a source of those left in its file; none where a part that is no source has claimed ending headers alone.
+-- The number of frames of a step, as the rule of parts has it: the least of the frames in each claimed header that isn't
+-- ending, of those that fit each output, and for a source of those left in its file; none where a part that is no source
+-- has claimed ending headers alone.
 use Rattle.std.specs.Prelude.{ℕ, zero, suc, ◌-◌, min, Bool, false, not, ◌&&◌, ◌||◌, nat_eq, if◌then◌else◌, List, [], ◌∷◌, Option, Some, None}
 use Rattle.flow_model.specs.Network.{Network, Filled, Flow}
 

@@ -1,20 +1,24 @@
--- What changes a flow: a step of a component, a filled header that goes on, a clear one that comes back. The two ends of a link differ
--- in who supplies the headers, and so in whether a header that goes on is handed over or handed back; here it goes on.
+-- What changes a flow: a step of a component, a filled header that goes on, a clear one that comes back. The two ends of
+-- a link differ in who supplies the headers, and so in whether a header that goes on is handed over or handed back; here
+-- it goes on.
 use Rattle.std.specs.Prelude.{◌≡◌, ℕ, ◌+◌, ◌-◌, ◌<◌, ◌≤◌, ◌⊎◌, Bool, true, false, nat_eq, nat_le, if◌then◌else◌, List, [], ◌∷◌, ◌++◌}
 use Rattle.flow_model.specs.Network.{Network, IsInput, IsOutput, Filled, LinkState, Flow}
 
 -- ---- one link
 
--- the front of done of the output goes to the back of todo of the input: by hand_over where the output supplies, else by hand_back
+-- the front of done of the output goes to the back of todo of the input: by hand_over where the output supplies, else by
+-- hand_back
 abbrev pub sent_on : List Filled → LinkState → LinkState
 sent_on [] x = x
 sent_on (h ∷ rest) x = record x { sent = rest; held = x.held ++ h ∷ [] }
 
--- the front of done of the input goes to the back of todo of the output: by hand_back where the output supplies, else by hand_over
+-- the front of done of the input goes to the back of todo of the output: by hand_back where the output supplies, else by
+-- hand_over
 abbrev pub sent_back : LinkState → LinkState
 sent_back x = record x { spent = x.spent - 1; ready = x.ready + 1 }
 
--- A step takes n frames out of the front header. One that has no frames left is spent, and with the end of the stream its input has ended.
+-- A step takes n frames out of the front header. One that has no frames left is spent, and with the end of the stream its
+-- input has ended.
 abbrev pub took_front : ℕ → List Filled → LinkState → LinkState
 took_front n [] x = x
 took_front n (h ∷ rest) x =
@@ -32,8 +36,8 @@ gave n last x = record x { ready = x.ready - 1; sent = x.sent ++ record { frames
 -- ---- the flow
 
 -- one link is changed, all else stays
-abbrev pub at_link : ℕ → (LinkState → LinkState) → Flow → Flow
-at_link l change s = record s { link = λ k. if nat_eq k l then change (s.link k) else s.link k }
+abbrev pub with_link : ℕ → (LinkState → LinkState) → Flow → Flow
+with_link l change s = record s { link = λ k. if nat_eq k l then change (s.link k) else s.link k }
 
 -- a component has done n frames: it took them out of each input that hasn't ended, and gave them into each output
 abbrev pub stepped : Network → ℕ → ℕ → Bool → Flow → Flow
@@ -64,8 +68,8 @@ pub record CanClaim (net : Network) (s : Flow) (c : ℕ) : Type 0 where
   pub inputs : (l : ℕ) → IsOpen net s c l → IsFront (λ h. Unit {0}) (s.link l).held
   pub outputs : (l : ℕ) → IsOutput net c l → 0 < (s.link l).ready
 
--- How many frames a step does: no more than are in a claimed header that isn't ending, than fit an output, or than the source has left.
--- It is none only where the source has none left, or each claimed input is ending.
+-- How many frames a step does: no more than are in a claimed header that isn't ending, than fit an output, or than the
+-- source has left. It is none only where the source has none left, or each claimed input is ending.
 pub record HasNumber (net : Network) (s : Flow) (c n : ℕ) : Type 0 where
   pub inputs : (l : ℕ) → IsOpen net s c l → IsFront (λ h. (n ≤ h.frames) ⊎ IsEnding h) (s.link l).held
   pub outputs : (l : ℕ) → IsOutput net c l → n ≤ net.fits l
@@ -100,8 +104,8 @@ Can net s (Back l) = CanBack net s l
 
 abbrev pub moved : Network → Move → Flow → Flow
 moved net (Step c n last) s = stepped net c n last s
-moved net (Forward l) s = at_link l (λ x. sent_on x.sent x) s
-moved net (Back l) s = at_link l sent_back s
+moved net (Forward l) s = with_link l (λ x. sent_on x.sent x) s
+moved net (Back l) s = with_link l sent_back s
 
 -- a list of moves, each one enabled
 abbrev pub CanAll : Network → Flow → List Move → Type 0

@@ -1,11 +1,11 @@
--- A network of components joined by links, and the state of what flows through it.
--- A header of a link is in one of four lists, the two of each of its ends. A clear one counts only by where it is, a filled one by
--- its frames and whether it has the end of the stream. A header that a work of its component has stands as if it were still at the
--- front of its list todo: so a claim changes nothing here, and a finish is the whole step.
+-- A network of components joined by links, and the state of what flows through it. A header of a link is in one of four
+-- lists, the two of each of its ends. A clear one counts only by where it is, a filled one by its frames and whether it
+-- has the end of the stream. A header that a work of its component has stands as if it were still at the front of its
+-- list todo: so a claim changes nothing here, and a finish is the whole step.
 use Rattle.std.specs.Prelude.{◌≡◌, ℕ, ◌+◌, ◌<◌, ◌≤◌, Bool, false, List, [], ◌∷◌, ◌++◌, length}
 
--- Components are named by their place in the order of placing, in which a giver stands before its taker; links by their place in
--- the list of links. Numbers beyond `components` and `links` stand for nothing.
+-- Components are named by their place in the order of placing, in which a giver stands before its taker; links by their
+-- place in the list of links. Numbers beyond `components` and `links` stand for nothing.
 pub record Network : Type 0 where
   pub components : ℕ
   pub links : ℕ

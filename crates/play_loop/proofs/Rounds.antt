@@ -1,10 +1,11 @@
 -- How a round stands after each turn, and that one in which nothing was accepted can't be.
 use Rattle.std.proofs.Common.{◌≡◌, ◌⊎◌, inl, inr, ℕ, ◌+◌, ◌<◌, Bool, true, false, ◌||◌, refl, sym, ◌∙◌, ap, subst, arith}
 use Rattle.flow_model.proofs.Queues.{either, both}
-use Rattle.play_model.specs.Play.{Layout, Play}
+use Rattle.play_model.specs.Play.{Layout, IsLayout, Play, component_at}
 use Rattle.play_model.specs.Acts.{Act, CanAct, all_acted}
 use Rattle.play_model.specs.Reached.{IsReached, IsOver, acts_left}
 use Rattle.play_model.proofs.Enabled.{enabled}
+use Rattle.play_model.proofs.LinkEnds.{end_inside}
 use Rattle.play_model.proofs.Handing.{acts_reach}
 use Rattle.play_model.proofs.Less.{acts_count}
 use Rattle.play_loop.specs.Turns.{IsOfComponent, IsOfLink, IsSend, IsAtRest, HasActed, Turned, IsGoing, IsTried, IsRound}
@@ -20,7 +21,7 @@ acted_less w p q G A =
     omega arith
 
 turned : (w : Layout) (start now next : Play) (did r : Bool) (P : Act → Type 0) (c l d m : ℕ) → IsRound w start now did c l → Turned w now next r P →
-    ((a : Act) → IsTried d m a → IsTried c l a ⊎ P a) → IsRound w start next (did || r) d m
+    ((a : Act) → IsTried w d m a → IsTried w c l a ⊎ P a) → IsRound w start next (did || r) d m
 turned w start now next did true P c l d m R T more =
     let less : acts_left w next < acts_left w now = acted_less w now next R.going T.0 in
     let fell : acts_left w next < acts_left w start = either did
@@ -59,7 +60,7 @@ round_begins w p G q false T = record {
   none = λ _ a tried C. T.1 a (only a tried) C;
 }
   where
-    only : (a : Act) → IsTried 0 0 a → IsSend a
+    only : (a : Act) → IsTried w 0 0 a → IsSend a
     only Act.Begin t = tt
     only (Act.Send k) t = tt
     only (Act.Run k) t = absurd (omega (arith, t))
@@ -72,62 +73,90 @@ round_begins w p G q false T = record {
     only (Act.HandBack k) t = absurd (omega (arith, t))
     only (Act.HandUnused k) t = absurd (omega (arith, t))
     only (Act.Step k n last) t = absurd (omega (arith, t))
+    only (Act.Announce k) t = absurd (omega (arith, t))
+    only (Act.TellSettings k) t = absurd (omega (arith, t))
+    only (Act.Conduct k) t = tt
+    only (Act.RunPort k output) t = absurd (omega (arith, t))
+    only (Act.HappenPort k output) t = t
+    only (Act.TellPort k output) t = absurd (omega (arith, t))
 
 below_or : (k c : ℕ) → k < c + 1 → (k < c) ⊎ (k ≡ c)
 below_or k c b = grind arith
 
-more_component : (c : ℕ) (a : Act) → IsTried (c + 1) 0 a → IsTried c 0 a ⊎ IsOfComponent c a
-more_component c Act.Begin t = inl t
-more_component c (Act.Send k) t = inl t
-more_component c (Act.Run k) t = below_or k c t
-more_component c (Act.Happen k) t = inl t
-more_component c (Act.Tell k) t = below_or k c t
-more_component c (Act.TellEnd k) t = below_or k c t
-more_component c (Act.Supply k) t = inl t
-more_component c (Act.Release k) t = inl t
-more_component c (Act.HandOver k) t = inl t
-more_component c (Act.HandBack k) t = inl t
-more_component c (Act.HandUnused k) t = inl t
-more_component c (Act.Step k n last) t = below_or k c t
+more_component : (w : Layout) (c : ℕ) (a : Act) → IsTried w (c + 1) 0 a → IsTried w c 0 a ⊎ IsOfComponent w c a
+more_component w c Act.Begin t = inl t
+more_component w c (Act.Send k) t = inl t
+more_component w c (Act.Run k) t = below_or k c t
+more_component w c (Act.Happen k) t = inl t
+more_component w c (Act.Tell k) t = below_or k c t
+more_component w c (Act.TellEnd k) t = below_or k c t
+more_component w c (Act.Supply k) t = inl t
+more_component w c (Act.Release k) t = inl t
+more_component w c (Act.HandOver k) t = inl t
+more_component w c (Act.HandBack k) t = inl t
+more_component w c (Act.HandUnused k) t = inl t
+more_component w c (Act.Step k n last) t = below_or k c t
+more_component w c (Act.Announce k) t = below_or ((w.network).giver k) c t
+more_component w c (Act.TellSettings k) t = below_or ((w.network).giver k) c t
+more_component w c (Act.Conduct k) t = inl t
+more_component w c (Act.RunPort k output) t = below_or (component_at w output k) c t
+more_component w c (Act.HappenPort k output) t = inl t
+more_component w c (Act.TellPort k output) t = below_or (component_at w output k) c t
 
-more_link : (c l : ℕ) (a : Act) → IsTried c (l + 1) a → IsTried c l a ⊎ IsOfLink l a
-more_link c l Act.Begin t = inl t
-more_link c l (Act.Send k) t = inl t
-more_link c l (Act.Run k) t = inl t
-more_link c l (Act.Happen k) t = inl t
-more_link c l (Act.Tell k) t = inl t
-more_link c l (Act.TellEnd k) t = inl t
-more_link c l (Act.Supply k) t = below_or k l t
-more_link c l (Act.Release k) t = below_or k l t
-more_link c l (Act.HandOver k) t = below_or k l t
-more_link c l (Act.HandBack k) t = below_or k l t
-more_link c l (Act.HandUnused k) t = below_or k l t
-more_link c l (Act.Step k n last) t = inl t
+more_link : (w : Layout) (c l : ℕ) (a : Act) → IsTried w c (l + 1) a → IsTried w c l a ⊎ IsOfLink l a
+more_link w c l Act.Begin t = inl t
+more_link w c l (Act.Send k) t = inl t
+more_link w c l (Act.Run k) t = inl t
+more_link w c l (Act.Happen k) t = inl t
+more_link w c l (Act.Tell k) t = inl t
+more_link w c l (Act.TellEnd k) t = inl t
+more_link w c l (Act.Supply k) t = below_or k l t
+more_link w c l (Act.Release k) t = below_or k l t
+more_link w c l (Act.HandOver k) t = below_or k l t
+more_link w c l (Act.HandBack k) t = below_or k l t
+more_link w c l (Act.HandUnused k) t = below_or k l t
+more_link w c l (Act.Step k n last) t = inl t
+more_link w c l (Act.Announce k) t = inl t
+more_link w c l (Act.TellSettings k) t = inl t
+more_link w c l (Act.Conduct k) t = inl t
+more_link w c l (Act.RunPort k output) t = inl t
+more_link w c l (Act.HappenPort k output) t = inl t
+more_link w c l (Act.TellPort k output) t = inl t
 
-pub round_component : (w : Layout) (start now next : Play) (did r : Bool) (c : ℕ) → IsRound w start now did c 0 → Turned w now next r (IsOfComponent c) → IsRound w start next (did || r) (c + 1) 0
-round_component w start now next did r c R T = turned w start now next did r (IsOfComponent c) c 0 (c + 1) 0 R T (more_component c)
+pub round_component : (w : Layout) (start now next : Play) (did r : Bool) (c : ℕ) → IsRound w start now did c 0 → Turned w now next r (IsOfComponent w c) → IsRound w start next (did || r) (c + 1) 0
+round_component w start now next did r c R T = turned w start now next did r (IsOfComponent w c) c 0 (c + 1) 0 R T (more_component w c)
 
 pub round_link : (w : Layout) (start now next : Play) (did r : Bool) (c l : ℕ) → IsRound w start now did c l → Turned w now next r (IsOfLink l) → IsRound w start next (did || r) c (l + 1)
-round_link w start now next did r c l R T = turned w start now next did r (IsOfLink l) c l c (l + 1) R T (more_link c l)
+round_link w start now next did r c l R T = turned w start now next did r (IsOfLink l) c l c (l + 1) R T (more_link w c l)
+
+end_below : (w : Layout) → IsLayout w → (output : Bool) (l : ℕ) → l < (w.network).links → component_at w output l < (w.network).components
+end_below w W true l b = end_inside w W ((w.network).giver l) l (inr (record { below = b; given_by = refl }))
+end_below w W false l b = end_inside w W ((w.network).taker l) l (inl (record { below = b; taken_by = refl }))
 
 -- every act that can be made is one that a whole round tries
-all_tried : (w : Layout) (p : Play) (a : Act) → IsAtRest w p → CanAct w p a → IsTried (w.network).components (w.network).links a
-all_tried w p Act.Begin rest C = tt
-all_tried w p (Act.Send k) rest C = tt
-all_tried w p (Act.Run k) rest C = C.0
-all_tried w p (Act.Happen k) rest C = rest k C
-all_tried w p (Act.Tell k) rest C = C.0
-all_tried w p (Act.TellEnd k) rest C = C.0
-all_tried w p (Act.Supply k) rest C = C.0
-all_tried w p (Act.Release k) rest C = C.0
-all_tried w p (Act.HandOver k) rest C = C.0
-all_tried w p (Act.HandBack k) rest C = C.0
-all_tried w p (Act.HandUnused k) rest C = C.0
-all_tried w p (Act.Step k n last) rest C = (C.1.0).inside
+all_tried : (w : Layout) (p : Play) (a : Act) → IsLayout w → IsAtRest w p → CanAct w p a → IsTried w (w.network).components (w.network).links a
+all_tried w p Act.Begin W rest C = tt
+all_tried w p (Act.Send k) W rest C = tt
+all_tried w p (Act.Run k) W rest C = C.0
+all_tried w p (Act.Happen k) W rest C = rest.components k C
+all_tried w p (Act.Tell k) W rest C = C.0
+all_tried w p (Act.TellEnd k) W rest C = C.0
+all_tried w p (Act.Supply k) W rest C = C.0
+all_tried w p (Act.Release k) W rest C = C.0
+all_tried w p (Act.HandOver k) W rest C = C.0
+all_tried w p (Act.HandBack k) W rest C = C.0
+all_tried w p (Act.HandUnused k) W rest C = C.0
+all_tried w p (Act.Step k n last) W rest C = (C.1.0).inside
+all_tried w p (Act.Announce k) W rest C = end_below w W true k C.0
+all_tried w p (Act.TellSettings k) W rest C = end_below w W true k C.0
+all_tried w p (Act.Conduct k) W rest C = tt
+all_tried w p (Act.RunPort k output) W rest C = end_below w W output k C.0
+all_tried w p (Act.HappenPort k output) W rest C = rest.ports k output C
+all_tried w p (Act.TellPort k output) W rest C = end_below w W output k C.0
 
 -- A round accepts something, as long as the phase isn't Over.
 pub round_acts : (w : Layout) (start now : Play) (did : Bool) → IsGoing w start → IsRound w start now did (w.network).components (w.network).links → (IsOver w start → ⊥) → did ≡ true
 round_acts w start now did G R going = either did (λ t. t) (λ f. absurd (elim (enabled w start G.reached) [
-  | inl v ↦ R.none f v.0 (all_tried w start v.0 G.rest v.1) v.1
+  | inl v ↦ R.none f v.0 (all_tried w start v.0 (G.reached).layout G.rest v.1) v.1
   | inr over ↦ going over
 ]))

@@ -1,17 +1,21 @@
 -- What a turn of a play's loop tries, and what it says where nothing was accepted.
 use Rattle.std.specs.Prelude.{◌≡◌, ℕ, ◌<◌, Bool, true, false, List, length}
-use Rattle.play_model.specs.Play.{Layout, Play}
+use Rattle.play_model.specs.Play.{Layout, Play, component_at}
 use Rattle.play_model.specs.Acts.{Act, CanAct, CanActs, all_acted}
-use Rattle.play_model.specs.Acts.Act.{Begin, Send, Run, Happen, Tell, TellEnd, Supply, Release, HandOver, HandBack, HandUnused, Step}
+use Rattle.play_model.specs.Acts.Act.{Begin, Send, Run, Happen, Tell, TellEnd, Supply, Release, HandOver, HandBack, HandUnused, Announce, TellSettings, Conduct, RunPort, HappenPort, TellPort, Step}
 use Rattle.play_model.specs.Reached.{IsReached, acts_left}
 
 -- the acts of a component's turn
-abbrev pub IsOfComponent : ℕ → Act → Type 0
-IsOfComponent c (Run k) = k ≡ c
-IsOfComponent c (Tell k) = k ≡ c
-IsOfComponent c (TellEnd k) = k ≡ c
-IsOfComponent c (Step k n last) = k ≡ c
-IsOfComponent c _ = ⊥
+abbrev pub IsOfComponent : Layout → ℕ → Act → Type 0
+IsOfComponent w c (Run k) = k ≡ c
+IsOfComponent w c (Tell k) = k ≡ c
+IsOfComponent w c (TellEnd k) = k ≡ c
+IsOfComponent w c (Step k n last) = k ≡ c
+IsOfComponent w c (Announce l) = (w.network).giver l ≡ c
+IsOfComponent w c (TellSettings l) = (w.network).giver l ≡ c
+IsOfComponent w c (RunPort l output) = component_at w output l ≡ c
+IsOfComponent w c (TellPort l output) = component_at w output l ≡ c
+IsOfComponent w c _ = ⊥
 
 -- the acts of a link's turn
 abbrev pub IsOfLink : ℕ → Act → Type 0
@@ -27,8 +31,9 @@ abbrev pub CanNone : Layout → Play → (Act → Type 0) → Type 0
 CanNone w p P = (a : Act) → P a → CanAct w p a → ⊥
 
 -- nothing pending is due
-abbrev pub IsAtRest : Layout → Play → Type 0
-IsAtRest w p = (c : ℕ) → CanAct w p (Happen c) → ⊥
+pub record IsAtRest (w : Layout) (p : Play) : Type 0 where
+  pub components : (c : ℕ) → CanAct w p (Happen c) → ⊥
+  pub ports : (l : ℕ) (output : Bool) → CanAct w p (HappenPort l output) → ⊥
 
 -- an accepted act, and perhaps more, with what happened after them
 pub record HasActed (w : Layout) (p q : Play) : Type 0 where
@@ -50,26 +55,33 @@ pub record IsGoing (w : Layout) (p : Play) : Type 0 where
 abbrev pub IsSend : Act → Type 0
 IsSend Begin = Unit {0}
 IsSend (Send c) = Unit {0}
+IsSend (Conduct l) = Unit {0}
 IsSend _ = ⊥
 
 -- the acts tried so far in a round: those of the conductor, those of the components below c, and those of the links below l
-abbrev pub IsTried : ℕ → ℕ → Act → Type 0
-IsTried c l Begin = Unit {0}
-IsTried c l (Send k) = Unit {0}
-IsTried c l (Run k) = k < c
-IsTried c l (Happen k) = ⊥
-IsTried c l (Tell k) = k < c
-IsTried c l (TellEnd k) = k < c
-IsTried c l (Step k n last) = k < c
-IsTried c l (Supply k) = k < l
-IsTried c l (Release k) = k < l
-IsTried c l (HandOver k) = k < l
-IsTried c l (HandBack k) = k < l
-IsTried c l (HandUnused k) = k < l
+abbrev pub IsTried : Layout → ℕ → ℕ → Act → Type 0
+IsTried w c l Begin = Unit {0}
+IsTried w c l (Send k) = Unit {0}
+IsTried w c l (Conduct k) = Unit {0}
+IsTried w c l (Run k) = k < c
+IsTried w c l (Happen k) = ⊥
+IsTried w c l (Tell k) = k < c
+IsTried w c l (TellEnd k) = k < c
+IsTried w c l (Step k n last) = k < c
+IsTried w c l (Announce k) = (w.network).giver k < c
+IsTried w c l (TellSettings k) = (w.network).giver k < c
+IsTried w c l (RunPort k output) = component_at w output k < c
+IsTried w c l (HappenPort k output) = ⊥
+IsTried w c l (TellPort k output) = component_at w output k < c
+IsTried w c l (Supply k) = k < l
+IsTried w c l (Release k) = k < l
+IsTried w c l (HandOver k) = k < l
+IsTried w c l (HandBack k) = k < l
+IsTried w c l (HandUnused k) = k < l
 
 -- how a round stands: less is left, or nothing was accepted yet
 pub record IsRound (w : Layout) (start now : Play) (did : Bool) (c l : ℕ) : Type 0 where
   pub going : IsGoing w now
   pub fell : did ≡ true → acts_left w now < acts_left w start
   pub still : did ≡ false → now ≡ start
-  pub none : did ≡ false → CanNone w start (IsTried c l)
+  pub none : did ≡ false → CanNone w start (IsTried w c l)

@@ -1,5 +1,6 @@
-//! The loop of a play over whatever makes its acts: it returns, and then the play is over. A round gives each component and each
-//! link its turn, in any order; since some act can always be made, a round in which every turn found nothing to do can't be.
+//! The loop of a play over whatever makes its acts: it returns, and then the play is over. A round gives each component
+//! and each link its turn, in any order; since some act can always be made, a round in which every turn found nothing to
+//! do can't be.
 #![tactic(auto)]
 
 ghost use Rattle.std.specs.Prelude.{◌≡◌, ◌<◌, ◌≤◌, ℕ, Bool, true, false, OnSome};
@@ -24,7 +25,7 @@ pub trait Player {
         ensures yes { result ≡ true → IsOver (layout self.now) (play self.now) }
         ensures nope { result ≡ false → IsOver (layout self.now) (play self.now) → ⊥ };
 
-    /// The conductor's next command is sent to all, once it is due.
+    /// The conductor's next command is sent to all, or its next act on a link that is being changed is made, once it is due.
     fn send(&mut self) -> bool
         ensures layout { layout self.new ≡ layout self.old }
         ensures turned { Turned (layout self.old) (play self.old) (play self.new) result IsSend };
@@ -33,7 +34,8 @@ pub trait Player {
     fn component_turn(&mut self, component: u32) -> bool
         requires { component < (layout self.old).network.components }
         ensures layout { layout self.new ≡ layout self.old }
-        ensures turned { Turned (layout self.old) (play self.old) (play self.new) result (IsOfComponent component) };
+        ensures turned { Turned (layout self.old) (play self.old) (play self.new) result
+            (IsOfComponent (layout self.old) component) };
 
     /// A header is made, unmade, handed over, handed back, as far as each can be.
     fn link_turn(&mut self, link: u32) -> bool
@@ -46,7 +48,8 @@ pub trait Player {
 fn round<P: Player>(player: &mut P) -> bool
     requires { IsGoing (P.layout player.old) (P.play player.old) }
     ensures layout { P.layout player.new ≡ P.layout player.old }
-    ensures round { IsRound (P.layout player.old) (P.play player.old) (P.play player.new) result (P.layout player.old).network.components (P.layout player.old).network.links }
+    ensures round { IsRound (P.layout player.old) (P.play player.old) (P.play player.new) result
+        (P.layout player.old).network.components (P.layout player.old).network.links }
 {
     let mut did = player.send();
     let components = player.components();

@@ -1,5 +1,5 @@
 -- Every reached play has acts that lead it to its end; and there is one, of a source and a sink.
-use Rattle.std.proofs.Common.{◌≡◌, inl, inr, ℕ, zero, suc, ◌<◌, ◌≤◌, false, not, nat_eq, List, [], ◌∷◌, refl, sym, ap, eqb-true, arith}
+use Rattle.std.proofs.Common.{◌≡◌, inl, inr, ℕ, zero, suc, ◌<◌, ◌≤◌, Bool, false, not, nat_eq, List, [], ◌∷◌, refl, sym, ap, eqb-true, arith}
 use Rattle.std.proofs.lemmas.Bool.{eqb-false}
 use Rattle.flow_model.proofs.Queues.{either, both}
 use Rattle.play_model.specs.Play.{Layout, IsLayout, Play}
@@ -33,8 +33,8 @@ sink_number c b f = let d = eqb-false _ _ f in omega arith
 source_number : (c : ℕ) → not (nat_eq c 0) ≡ false → c ≡ 0
 source_number c f = either (nat_eq c 0) (λ t. eqb-true _ _ t) (λ g. both (not (nat_eq c 0)) (ap not g) f)
 
-a_layout : IsLayout a_link
-a_layout = record {
+a_layout : (late : Bool) → IsLayout (a_link late)
+a_layout late = record {
   network = record {
     order = λ l b. omega arith;
     inside = λ l b. omega arith;
@@ -47,12 +47,13 @@ a_layout = record {
   outputs = λ c b f. (0, record { below = omega arith; given_by = sym (source_number c f) });
 }
 
-pub a_play_begins : IsBegun a_link a_play
-a_play_begins = record {
-  layout = a_layout;
+pub a_play_begins : (late : Bool) → IsBegun (a_link late) a_play
+a_play_begins late = record {
+  layout = a_layout late;
   phase = refl;
   stage = λ c. refl;
   told = λ c. refl;
   opening = record { done = λ c. refl; going = λ c. refl; empty = λ l. refl; taken = λ l. refl; open_ = λ l. refl };
   none = λ l. omega arith;
+  unchanged = λ l. refl;
 }

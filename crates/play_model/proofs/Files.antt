@@ -1,8 +1,8 @@
 -- A play that is over left the plain function's streams, and no header.
-use Rattle.std.proofs.Common.{◌∙◌, sym, ◌≡◌, inr, ℕ, ◌<◌, ◌≤◌, Bool, true, false, not, nat_eq, nat_le, List, [], ◌∷◌, ◌++◌, append_assoc, append-nil, refl, eqb-true, arith}
+use Rattle.std.proofs.Common.{◌∙◌, sym, ◌≡◌, inl, inr, ℕ, ◌<◌, ◌≤◌, Bool, true, false, not, nat_eq, nat_le, List, [], ◌∷◌, ◌++◌, append_assoc, append-nil, refl, eqb-true, arith}
 use Rattle.std.proofs.lemmas.Bool.{eqb-false, leb-true, leb-false}
 use Rattle.flow_model.specs.Network.{Flow}
-use Rattle.flow_model.specs.Moves.{Move, moved, at_link}
+use Rattle.flow_model.specs.Moves.{Move, moved, with_link}
 use Rattle.flow_model.specs.Account.{IsSound}
 use Rattle.flow_model.specs.Progress.{AllEnded, IsLinkOf}
 use Rattle.flow_model.specs.Content.{Contents, AreContents, Streams, AreStreams, ArePlain}
@@ -12,12 +12,12 @@ use Rattle.flow_model.proofs.Streams.{move_streams, same_streams}
 use Rattle.flow_model.proofs.Plain.{opening_streams, ended_plain}
 use Rattle.flow_model.proofs.Fronts.{fronts}
 use Rattle.play_model.specs.Play.{Layout, IsLayout, Play, made, HasDone}
-use Rattle.play_model.specs.Acts.{Act, CanAct, CanActs, supplied, hand, acted, all_acted}
+use Rattle.play_model.specs.Acts.{Act, CanAct, CanActs, supplied, released, given_unused, hand, acted, all_acted}
 use Rattle.play_model.specs.Reached.{IsReached, IsOver}
 use Rattle.play_model.specs.Files.{act_streamed, all_act_streamed, IsPlayed}
-use Rattle.play_model.proofs.Enabled.{end_inside}
-use Rattle.play_model.proofs.Reaching.{ended_from, same_supplied}
-use Rattle.play_model.proofs.Handing.{acts_reach, step_phase, act_reaches, begun_reached}
+use Rattle.play_model.proofs.LinkEnds.{end_inside}
+use Rattle.play_model.proofs.Reaching.{ended_from, same_supplied, release_change_same}
+use Rattle.play_model.proofs.Handing.{unused_change_same, acts_reach, step_phase, act_reaches, begun_reached}
 
 record HasStreams (w : Layout) (k : Contents) (stream : ℕ → List ℕ) (p : Play) (st : Streams) : Type 0 where
   flowing : p.phase ≤ 2 → AreStreams w.network k p.flow st
@@ -50,13 +50,31 @@ module _ (w : Layout) (k : Contents) (stream : ℕ → List ℕ) (P : AreContent
   act_streams p st (Act.Tell c) R C H = record { flowing = H.flowing; whole = H.whole }
   act_streams p st (Act.TellEnd c) R C H = record { flowing = H.flowing; whole = H.whole }
   act_streams p st (Act.Supply l) R C H = record {
-    flowing = λ e. same_streams w.network k p.flow st (at_link l (supplied (w.by_output l)) p.flow).link (same_at l (supplied (w.by_output l)) p.flow (same_supplied (w.by_output l) ((p.flow).link l))) (H.flowing e);
+    flowing = λ e. same_streams w.network k p.flow st (with_link l (supplied (w.by_output l)) p.flow).link (same_at l (supplied (w.by_output l)) p.flow (same_supplied (w.by_output l) ((p.flow).link l))) (H.flowing e);
     whole = H.whole;
   }
-  act_streams p st (Act.Release l) R C H = record { flowing = λ e. absurd (let q = (C.1).0 in omega arith); whole = H.whole }
+  act_streams p st (Act.Release l) R C H = record {
+    flowing = λ e. elim C.1 [
+      | inl leaves ↦ absurd (let q = leaves.0 in omega arith)
+      | inr d ↦ same_streams w.network k p.flow st (with_link l (released (w.by_output l)) p.flow).link (release_change_same w p l R C.0 d) (H.flowing e)
+    ];
+    whole = H.whole;
+  }
   act_streams p st (Act.HandOver l) R C H = record { flowing = λ e. hand_streams w k p.flow st (w.by_output l) l R.layout P (R.sound e) C.0 C.3 (H.flowing e); whole = H.whole }
   act_streams p st (Act.HandBack l) R C H = record { flowing = λ e. hand_streams w k p.flow st (not (w.by_output l)) l R.layout P (R.sound e) C.0 C.2 (H.flowing e); whole = H.whole }
-  act_streams p st (Act.HandUnused l) R C H = record { flowing = λ e. absurd (let q = (C.1).0 in omega arith); whole = H.whole }
+  act_streams p st (Act.HandUnused l) R C H = record {
+    flowing = λ e. elim C.1 [
+      | inl returns ↦ absurd (let q = returns.0 in omega arith)
+      | inr d ↦ same_streams w.network k p.flow st (with_link l (given_unused (w.by_output l)) p.flow).link (unused_change_same w p l R C.0 d) (H.flowing e)
+    ];
+    whole = H.whole;
+  }
+  act_streams p st (Act.Announce l) R C H = record { flowing = H.flowing; whole = H.whole }
+  act_streams p st (Act.TellSettings l) R C H = record { flowing = H.flowing; whole = H.whole }
+  act_streams p st (Act.Conduct l) R C H = record { flowing = H.flowing; whole = H.whole }
+  act_streams p st (Act.RunPort l output) R C H = record { flowing = H.flowing; whole = H.whole }
+  act_streams p st (Act.HappenPort l output) R C H = record { flowing = H.flowing; whole = H.whole }
+  act_streams p st (Act.TellPort l output) R C H = record { flowing = H.flowing; whole = H.whole }
   act_streams p st (Act.Step c n last) R C H =
       let two : p.phase ≡ 2 = step_phase w p c n last R C in
       record {

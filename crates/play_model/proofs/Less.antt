@@ -1,18 +1,21 @@
 -- Each act leaves less: less of the script, or as much and less work, or as much of both and fewer headers on their way.
-use Rattle.std.proofs.Common.{◌≡◌, inl, inr, ℕ, zero, suc, ◌+◌, ◌-◌, ◌*◌, ◌<◌, ◌≤◌, Bool, true, false, not, ◌&&◌, nat_eq, nat_le, if◌then◌else◌, List, [], ◌∷◌, length, refl, sym, ◌∙◌, ap, subst, length-append, eqb-true, eq-eqb, ne_eqb, arith}
+use Rattle.std.proofs.Common.{◌≡◌, ◌≢◌, ◌⊎◌, inl, inr, ℕ, zero, suc, ◌+◌, ◌-◌, ◌*◌, ◌<◌, ◌≤◌, Bool, true, false, not, ◌&&◌, ◌||◌, nat_eq, nat_le, if◌then◌else◌, List, [], ◌∷◌, length, refl, sym, ◌∙◌, ap, subst, length-append, eqb-true, eq-eqb, ne_eqb, arith}
 use Rattle.std.proofs.lemmas.Bool.{leb-true, leb-false}
 use Rattle.flow_model.specs.Network.{Network, Filled, LinkState, Flow, headers_of}
-use Rattle.flow_model.specs.Moves.{IsFront, Move, moved, at_link, sent_on, sent_back}
+use Rattle.flow_model.specs.Moves.{IsFront, Move, moved, with_link, sent_on, sent_back}
 use Rattle.flow_model.specs.Progress.{sum_to, work_left, all_headers}
 use Rattle.flow_model.proofs.Queues.{either}
 use Rattle.flow_model.proofs.Sums.{sum_le, sum_less, first_decides}
 use Rattle.flow_model.proofs.Full.{move_headers}
 use Rattle.flow_model.proofs.Measure.{step_less}
-use Rattle.play_model.specs.Play.{Layout, Play, made, other_end, IsReturning, HasDone, HasUnused}
-use Rattle.play_model.specs.Acts.{Act, CanBegin, CanAct, CanActs, with_stage, reset_all, supplied, released, back_held, given_unused, hand, acted, all_acted}
-use Rattle.play_model.specs.Reached.{IsReached, ways_left, makings_left, script_left, is_returning, unused_of, hands_of, hands_left, all_frames, acts_left, ComesBefore}
-use Rattle.play_model.proofs.Reaching.{at_case, stage_case, reset_headers, reset_case, more_supplied, released_headers, supply_up}
+use Rattle.play_model.specs.Changes.{Change, port_at, IsSteadyPort, IsDisabling, told_on, conducted, port_on}
+use Rattle.play_model.specs.Play.{Layout, Play, made, other_component, IsReturning, HasDone, HasUnused}
+use Rattle.play_model.specs.Acts.{Act, CanBegin, CanAct, CanConduct, CanActs, ArePorts, other_port, with_stage, with_change, reset_all, supplied, released, back_held, given_unused, hand, acted, all_acted}
+use Rattle.play_model.specs.Reached.{IsChanging, IsReached, ways_left, is_unchanged, makings_at, makings_left, changes_left, script_left, is_returning, is_returning_at, unused_of, hands_of, hands_left, all_frames, acts_left, ComesBefore}
+use Rattle.play_model.proofs.Reaching.{at_case, stage_case, reset_headers, reset_case, more_supplied, released_headers, supply_when, disabling_quiet}
 use Rattle.play_model.proofs.Handing.{hand_can, unused_headers, running_three, step_phase, act_reaches}
+use Rattle.play_model.proofs.Changes.{change_case, Conducted, conducted_is, conducted_later, conducted_later_input, disabling_step, IsPortGoing, port_half, command_goes, due_goes, completion_goes}
+use Rattle.play_model.proofs.Changing.{announce_phase, changing_phase}
 
 -- ---- sums
 
@@ -26,20 +29,19 @@ sum_twice (suc k) f = let i = sum_twice k f in omega arith
 
 -- ---- the script
 
-abbrev makings_at : ℕ → ℕ → ℕ → ℕ
-makings_at phase count made_ = if nat_le phase 1 then (count - made_) + count else (if nat_le phase 3 then count else made_)
-
-makings_send : (k count made_ : ℕ) → made_ ≤ count → makings_at (k + 1) count made_ ≤ makings_at k count made_
-makings_send k count made_ le = either (nat_le k 1)
+makings_send : (k count made_ : ℕ) (u : Bool) → made_ ≤ count → makings_at (k + 1) count u made_ ≤ makings_at k count u made_
+makings_send k count made_ u le = either (nat_le k 1)
     (λ a. either (nat_le (k + 1) 1)
     (λ b. rw (a, b) (omega arith))
     (λ b. either (nat_le (k + 1) 3)
-    (λ d. rw (a, b, d) (omega arith))
+    (λ d. either u (λ t. rw (a, b, d, t) (omega arith)) (λ g. rw (a, b, d, g) (omega arith)))
     (λ d. let x = leb-true _ _ a in let y = leb-false _ _ d in absurd (omega arith))))
     (λ a. either (nat_le (k + 1) 1)
     (λ b. let x = leb-false _ _ a in let y = leb-true _ _ b in absurd (omega arith))
     (λ b. either (nat_le k 3)
-    (λ c. either (nat_le (k + 1) 3) (λ d. rw (a, b, c, d) (omega arith)) (λ d. rw (a, b, c, d) (omega arith)))
+    (λ c. either (nat_le (k + 1) 3)
+    (λ d. rw (a, b, c, d) (omega arith))
+    (λ d. either u (λ t. rw (a, b, c, d, t) (omega arith)) (λ g. rw (a, b, c, d, g) (omega arith))))
     (λ c. either (nat_le (k + 1) 3)
     (λ d. let x = leb-false _ _ c in let y = leb-true _ _ d in absurd (omega arith))
     (λ d. rw (a, b, c, d) (omega arith)))))
@@ -47,7 +49,7 @@ makings_send k count made_ le = either (nat_le k 1)
 -- a play that differs in its headers alone, where none is made or unmade
 same_script : (w : Layout) (p : Play) (s : Flow) → ((l : ℕ) → l < (w.network).links → headers_of (s.link l) ≡ made p l) → script_left w (record p { flow = s }) ≡ script_left w p
 same_script w p s h =
-    let e = sum_same (w.network).links (makings_left w (record p { flow = s })) (makings_left w p) (λ l b. ap (makings_at p.phase ((w.network).count l)) (h l b)) in
+    let e = sum_same (w.network).links (makings_left w (record p { flow = s })) (makings_left w p) (λ l b. ap (λ (n : ℕ). makings_at p.phase ((w.network).count l) (is_unchanged w p l) n) (h l b)) in
     omega arith
 
 stage_less : (w : Layout) (p : Play) (c k : ℕ) → c < (w.network).components → p.stage c < k → k ≤ 4 → script_left w (with_stage c k p) < script_left w p
@@ -66,7 +68,7 @@ begin_less : (w : Layout) (p : Play) → IsReached w p → CanBegin w p → scri
 begin_less w p R C =
     let more = C.more in
     let a = sum_le (w.network).components (ways_left w (acted w Act.Begin p)) (ways_left w p) (λ c b. let k = C.all c b in omega arith) in
-    let m = sum_le (w.network).links (makings_left w (acted w Act.Begin p)) (makings_left w p) (λ l b. makings_send p.phase ((w.network).count l) (made p l) (R.few l b)) in
+    let m = sum_le (w.network).links (makings_left w (acted w Act.Begin p)) (makings_left w p) (λ l b. makings_send p.phase ((w.network).count l) (made p l) (is_unchanged w p l) (R.few l b)) in
     omega arith
 
 happen_less : (w : Layout) (p : Play) (c : ℕ) → CanAct w p (Act.Happen c) → script_left w (acted w (Act.Happen c) p) < script_left w p
@@ -99,28 +101,106 @@ tell_end_less w p c C =
 
 -- one link's headers change
 making_less : (w : Layout) (p : Play) (l : ℕ) (change : LinkState → LinkState) → l < (w.network).links →
-    makings_at p.phase ((w.network).count l) (headers_of (change ((p.flow).link l))) < makings_left w p l → script_left w (record p { flow = at_link l change p.flow }) < script_left w p
+    makings_at p.phase ((w.network).count l) (is_unchanged w p l) (headers_of (change ((p.flow).link l))) < makings_left w p l → script_left w (record p { flow = with_link l change p.flow }) < script_left w p
 making_less w p l change b less =
-    let q : Play = record p { flow = at_link l change p.flow } in
+    let q : Play = record p { flow = with_link l change p.flow } in
     let at_k : (k : ℕ) → makings_left w q k ≤ makings_left w p k = λ k.
-    at_case (λ j x. makings_at p.phase ((w.network).count j) (headers_of x) ≤ makings_left w p j) l change p.flow k (λ _. omega arith) (λ _. omega arith) in
+    at_case (λ j x. makings_at p.phase ((w.network).count j) (is_unchanged w p j) (headers_of x) ≤ makings_left w p j) l change p.flow k (λ _. omega arith) (λ _. omega arith) in
     let here : makings_left w q l < makings_left w p l =
-    at_case (λ j x. makings_at p.phase ((w.network).count j) (headers_of x) < makings_left w p j) l change p.flow l (λ _. less) (λ n. absurd (n refl)) in
+    at_case (λ j x. makings_at p.phase ((w.network).count j) (is_unchanged w p j) (headers_of x) < makings_left w p j) l change p.flow l (λ _. less) (λ n. absurd (n refl)) in
     let m = sum_less (w.network).links l (makings_left w q) (makings_left w p) b (λ k d. at_k k) here in
     omega arith
 
 supply_less : (w : Layout) (p : Play) (l : ℕ) → IsReached w p → CanAct w p (Act.Supply l) → script_left w (acted w (Act.Supply l) p) < script_left w p
 supply_less w p l R C =
-    let e : p.phase ≡ 1 = supply_up w p l R C in
     let few : made p l < (w.network).count l = C.3 in
     let more = more_supplied (w.by_output l) ((p.flow).link l) in
-    making_less w p l (supplied (w.by_output l)) C.0 (rw e (omega arith))
+    making_less w p l (supplied (w.by_output l)) C.0 (elim (supply_when w p l R C) [
+      | inl e ↦ rw e (omega arith)
+      | inr e ↦
+          let step = e.1 in
+          let dropped : is_unchanged w p l ≡ false = and_late (w.is_late l) (nat_le (p.change l).step 4) (lt_leb (p.change l).step 4 (omega arith)) in
+          rw (e.0, dropped) (omega arith)
+    ])
+  where
+    and_late : (a b : Bool) → b ≡ false → (a && b) ≡ false
+    and_late true b e = e
+    and_late false b e = refl
+
+    lt_leb : (n m : ℕ) → m < n → nat_le n m ≡ false
+    lt_leb n m h = either (nat_le n m) (λ t. let y = leb-true _ _ t in absurd (omega arith)) (λ g. g)
 
 release_less : (w : Layout) (p : Play) (l : ℕ) → IsReached w p → CanAct w p (Act.Release l) → script_left w (acted w (Act.Release l) p) < script_left w p
 release_less w p l R C =
-    let e : p.phase ≡ 4 = (C.1).0 in
     let less = released_headers (w.by_output l) ((p.flow).link l) C.2 in
-    making_less w p l (released (w.by_output l)) C.0 (rw e (omega arith))
+    making_less w p l (released (w.by_output l)) C.0 (elim C.1 [
+      | inl leaves ↦ rw leaves.0 (omega arith)
+      | inr d ↦
+          let D = disabling_quiet w p (w.by_output l) l R C.0 d in
+          let two : p.phase ≡ 2 = D.0 in
+          let late : w.is_late l ≡ true = D.1 in
+          let early : nat_le (p.change l).step 4 ≡ true = le_leb (p.change l).step 4 (disabling_step (w.by_output l) (p.change l) (R.changes l C.0).order d).1 in
+          let kept : is_unchanged w p l ≡ true = rw (late, early) refl in
+          rw (two, kept) (omega arith)
+    ])
+  where
+    le_leb : (n m : ℕ) → n ≤ m → nat_le n m ≡ true
+    le_leb n m h = either (nat_le n m) (λ t. t) (λ g. let y = leb-false _ _ g in absurd (omega arith))
+
+-- ---- a change goes on
+
+abbrev rest_of : Change → ℕ
+rest_of k = (10 - k.step) + (8 - k.output) + (8 - k.input)
+
+-- the tunnel is dropped when no header is made, and then as many are to be made as were to be made and unmade
+makings_drop : (count made_ s t : ℕ) → made_ ≤ count → s ≤ t → (s ≤ 4 → 5 ≤ t → made_ ≡ 0) → makings_at 2 count (true && nat_le t 4) made_ ≤ makings_at 2 count (true && nat_le s 4) made_
+makings_drop count made_ s t few up none = either (nat_le t 4)
+    (λ y. either (nat_le s 4)
+    (λ x. rw (x, y) (omega arith))
+    (λ x. let a = leb-true _ _ y in let b = leb-false _ _ x in absurd (omega arith)))
+    (λ y. either (nat_le s 4)
+    (λ x. let a = leb-false _ _ y in let b = leb-true _ _ x in let z = none b (omega arith) in rw (x, y) (omega arith))
+    (λ x. rw (x, y) (omega arith)))
+
+change_less : (w : Layout) (p : Play) (l : ℕ) (f : Change → Change) → IsReached w p → l < (w.network).links → w.is_late l ≡ true → p.phase ≡ 2 → rest_of (f (p.change l)) < rest_of (p.change l) →
+    (p.change l).step ≤ (f (p.change l)).step → ((p.change l).step ≤ 4 → 5 ≤ (f (p.change l)).step → made p l ≡ 0) → script_left w (with_change l f p) < script_left w p
+change_less w p l f R b late two less up none =
+    let q : Play = with_change l f p in
+    let here : (if w.is_late l then rest_of (f (p.change l)) else 0) < changes_left w p l = rw late less in
+    let c = sum_less (w.network).links l (changes_left w q) (changes_left w p) b
+    (λ j d. change_case (λ i k. (if w.is_late i then rest_of k else 0) ≤ changes_left w p i) l f p j (λ _. omega arith) (λ _. omega arith))
+    (change_case (λ i k. (if w.is_late i then rest_of k else 0) < changes_left w p i) l f p l (λ _. here) (λ n. absurd (n refl))) in
+    let m = sum_le (w.network).links (makings_left w q) (makings_left w p)
+    (λ j d. change_case (λ i k. makings_at p.phase ((w.network).count i) (w.is_late i && nat_le k.step 4) (made p i) ≤ makings_left w p i) l f p j
+    (λ _. rw (two, late) (makings_drop ((w.network).count l) (made p l) (p.change l).step (f (p.change l)).step (R.few l b) up none))
+    (λ _. omega arith)) in
+    omega arith
+
+told_less : (w : Layout) (p : Play) (l : ℕ) → IsReached w p → l < (w.network).links → w.is_late l ≡ true → p.phase ≡ 2 → (p.change l).step ≤ 1 → script_left w (with_change l told_on p) < script_left w p
+told_less w p l R b t two low = change_less w p l told_on R b t two (omega arith) (omega arith) (λ _ h. absurd (omega (arith, h)))
+
+conduct_less : (w : Layout) (p : Play) (l : ℕ) → IsReached w p → CanConduct w p l → script_left w (acted w (Act.Conduct l) p) < script_left w p
+conduct_less w p l R C =
+    let k : Change = p.change l in
+    let K : IsChanging w p l k = R.changes l C.below in
+    let low = C.told in
+    let more = C.more in
+    let D : Conducted k (conducted k) = conducted_is k in
+    let s = D.step in
+    let o = conducted_later k (conducted k) D in
+    let i = conducted_later_input k (conducted k) D in
+    change_less w p l conducted R C.below C.late (changing_phase w p l k K C.late (omega arith) C.more) (omega arith) (omega arith)
+    (λ a h. K.emptied (inl (let d = (C.disabled (omega (arith, h))).0 in (omega arith, omega arith))))
+
+port_less : (w : Layout) (p : Play) (l : ℕ) (out : Bool) → IsReached w p → l < (w.network).links → w.is_late l ≡ true → IsPortGoing (port_at out (p.change l)) → script_left w (with_change l (port_on out) p) < script_left w p
+port_less w p l true R b t g =
+    let two : p.phase ≡ 2 = ((R.changes l b).half (port_half true (p.change l) (R.changes l b).order g)).0 in
+    let few : (p.change l).output ≤ 7 = grind (arith, g) in
+    change_less w p l (port_on true) R b t two (omega arith) (omega arith) (λ a h. absurd (omega (arith, a, h)))
+port_less w p l false R b t g =
+    let two : p.phase ≡ 2 = ((R.changes l b).half (port_half false (p.change l) (R.changes l b).order g)).0 in
+    let few : (p.change l).input ≤ 7 = grind (arith, g) in
+    change_less w p l (port_on false) R b t two (omega arith) (omega arith) (λ a h. absurd (omega (arith, a, h)))
 
 -- ---- headers on their way
 
@@ -128,13 +208,13 @@ abbrev hands_at : Bool → Bool → LinkState → ℕ
 hands_at returning_ out x = length x.sent + x.spent + (if returning_ then 2 * unused_of out x else 0)
 
 link_less : (w : Layout) (p : Play) (l : ℕ) (change : LinkState → LinkState) → l < (w.network).links →
-    hands_at (is_returning p (other_end w l)) (w.by_output l) (change ((p.flow).link l)) < hands_of w p l → hands_left w (record p { flow = at_link l change p.flow }) < hands_left w p
+    hands_at (is_returning_at w p l) (w.by_output l) (change ((p.flow).link l)) < hands_of w p l → hands_left w (record p { flow = with_link l change p.flow }) < hands_left w p
 link_less w p l change b less =
-    let q : Play = record p { flow = at_link l change p.flow } in
+    let q : Play = record p { flow = with_link l change p.flow } in
     let at_k : (k : ℕ) → hands_of w q k ≤ hands_of w p k = λ k.
-    at_case (λ j x. hands_at (is_returning p (other_end w j)) (w.by_output j) x ≤ hands_of w p j) l change p.flow k (λ _. omega arith) (λ _. omega arith) in
+    at_case (λ j x. hands_at (is_returning_at w p j) (w.by_output j) x ≤ hands_of w p j) l change p.flow k (λ _. omega arith) (λ _. omega arith) in
     let here : hands_of w q l < hands_of w p l =
-    at_case (λ j x. hands_at (is_returning p (other_end w j)) (w.by_output j) x < hands_of w p j) l change p.flow l (λ _. less) (λ n. absurd (n refl)) in
+    at_case (λ j x. hands_at (is_returning_at w p j) (w.by_output j) x < hands_of w p j) l change p.flow l (λ _. less) (λ n. absurd (n refl)) in
     sum_less (w.network).links l (hands_of w q) (hands_of w p) b (λ k d. at_k k) here
 
 sent_shorter : (x : LinkState) (q : List Filled) → x.sent ≡ q → IsFront (λ h. Unit {0}) q → ((sent_on q x).ready ≡ x.ready) × ((sent_on q x).spent ≡ x.spent) × (length (sent_on q x).sent + 1 ≡ length x.sent)
@@ -154,7 +234,7 @@ back_hands true false x D = let s = sent_shorter x x.sent refl D in let a = s.1 
 back_hands false false x D = let s = sent_shorter x x.sent refl D in let a = s.1 in let b = s.2 in omega arith
 
 hand_less : (w : Layout) (p : Play) (out : Bool) (l : ℕ) → l < (w.network).links →
-    hands_at (is_returning p (other_end w l)) (w.by_output l) (if out then sent_on ((p.flow).link l).sent ((p.flow).link l) else sent_back ((p.flow).link l)) < hands_of w p l →
+    hands_at (is_returning_at w p l) (w.by_output l) (if out then sent_on ((p.flow).link l).sent ((p.flow).link l) else sent_back ((p.flow).link l)) < hands_of w p l →
     hands_left w (record p { flow = moved w.network (hand out l) p.flow }) < hands_left w p
 hand_less w p true l b less = link_less w p l (λ x. sent_on x.sent x) b less
 hand_less w p false l b less = link_less w p l sent_back b less
@@ -183,8 +263,23 @@ unused_hands r true x e U =
     rw e (omega arith)
 unused_hands r false x e U = let a = U.1 in rw e (omega arith)
 
-is_returning_of : (p : Play) (c : ℕ) → IsReturning p c → is_returning p c ≡ true
-is_returning_of p c r = rw (r.0, r.1) refl
+returning_of : (w : Layout) (p : Play) (l : ℕ) → IsReturning p (other_component w l) ⊎ IsDisabling (other_port w p l) → is_returning_at w p l ≡ true
+returning_of w p l (inl r) = rw (r.0, r.1) refl
+returning_of w p l (inr e) = or_true (is_returning p (other_component w l)) (nat_eq (other_port w p l) 2) (eq-eqb (other_port w p l) 2 e)
+  where
+    or_true : (a b : Bool) → b ≡ true → (a || b) ≡ true
+    or_true true b e = refl
+    or_true false b e = e
+
+-- where both ports are Steady and Idle isn't pending
+steady_not_returning : (w : Layout) (p : Play) (l : ℕ) → is_returning p (other_component w l) ≡ false → ArePorts IsSteadyPort (p.change l) → is_returning_at w p l ≡ false
+steady_not_returning w p l e P =
+    let n : nat_eq (other_port w p l) 2 ≡ false = ne_eqb (other_port w p l) 2 (steady (not (w.by_output l)) (p.change l) P) in
+    rw (e, n) refl
+  where
+    steady : (out : Bool) (k : Change) → ArePorts IsSteadyPort k → port_at out k ≢ 2
+    steady true k P e = let a = P.0 in grind (arith, a, e)
+    steady false k P e = let a = P.1 in grind (arith, a, e)
 
 -- ---- each act
 
@@ -200,18 +295,26 @@ act_less w p (Act.Release l) R C = inl (release_less w p l R C)
 act_less w p (Act.HandOver l) R C = inr (inr (
   hand_script w p (w.by_output l) l C.0 C.3,
   hand_work w.network p.flow (w.by_output l) l,
-  hand_less w p (w.by_output l) l C.0 (over_hands (is_returning p (other_end w l)) (w.by_output l) ((p.flow).link l) (not_returning p (other_end w l) (running_three p (other_end w l) C.2)) C.3),
+  hand_less w p (w.by_output l) l C.0 (over_hands (is_returning_at w p l) (w.by_output l) ((p.flow).link l) (steady_not_returning w p l (not_returning p (other_component w l) (running_three p (other_component w l) C.2)) C.4) C.3),
 ))
 act_less w p (Act.HandBack l) R C = inr (inr (
   hand_script w p (not (w.by_output l)) l C.0 C.2,
   hand_work w.network p.flow (not (w.by_output l)) l,
-  hand_less w p (not (w.by_output l)) l C.0 (back_hands (is_returning p (other_end w l)) (w.by_output l) ((p.flow).link l) C.2),
+  hand_less w p (not (w.by_output l)) l C.0 (back_hands (is_returning_at w p l) (w.by_output l) ((p.flow).link l) C.2),
 ))
 act_less w p (Act.HandUnused l) R C = inr (inr (
-  same_script w p (at_link l (given_unused (w.by_output l)) p.flow) (λ k b. at_case (λ j x. headers_of x ≡ made p j) l (given_unused (w.by_output l)) p.flow k (λ _. unused_headers (w.by_output l) ((p.flow).link l) C.2) (λ _. refl)),
+  same_script w p (with_link l (given_unused (w.by_output l)) p.flow) (λ k b. at_case (λ j x. headers_of x ≡ made p j) l (given_unused (w.by_output l)) p.flow k (λ _. unused_headers (w.by_output l) ((p.flow).link l) C.2) (λ _. refl)),
   refl,
-  link_less w p l (given_unused (w.by_output l)) C.0 (unused_hands (is_returning p (other_end w l)) (w.by_output l) ((p.flow).link l) (is_returning_of p (other_end w l) C.1) C.2),
+  link_less w p l (given_unused (w.by_output l)) C.0 (unused_hands (is_returning_at w p l) (w.by_output l) ((p.flow).link l) (returning_of w p l C.1) C.2),
 ))
+act_less w p (Act.Announce l) R C = inl (told_less w p l R C.0 C.1 (announce_phase w p l R C) (let e = C.3 in omega arith))
+act_less w p (Act.TellSettings l) R C =
+    let e = C.3 in
+    inl (told_less w p l R C.0 C.1 (changing_phase w p l (p.change l) (R.changes l C.0) C.1 (omega arith) (omega arith)) (omega arith))
+act_less w p (Act.Conduct l) R C = inl (conduct_less w p l R C)
+act_less w p (Act.RunPort l output) R C = inl (port_less w p l output R C.0 C.1 (command_goes (port_at output (p.change l)) C.2))
+act_less w p (Act.HappenPort l output) R C = inl (port_less w p l output R C.0 C.1 (due_goes (made p l) ((w.network).count l) (port_at output (p.change l)) C.2))
+act_less w p (Act.TellPort l output) R C = inl (port_less w p l output R C.0 C.1 (completion_goes (port_at output (p.change l)) C.2))
 act_less w p (Act.Step c n last) R C =
     let e : p.phase ≡ 2 = step_phase w p c n last R C in
     inr (inl (
@@ -226,7 +329,7 @@ work_few net s = sum_le net.components _ _ (λ c b. either (s.ended c) (λ t. rw
 
 hands_few : (w : Layout) (p : Play) → IsReached w p → hands_left w p ≤ 2 * all_headers w.network
 hands_few w p R =
-    let s = sum_le (w.network).links (hands_of w p) (λ l. 2 * (w.network).count l) (λ l b. few (is_returning p (other_end w l)) (w.by_output l) ((p.flow).link l) ((w.network).count l) (R.few l b)) in
+    let s = sum_le (w.network).links (hands_of w p) (λ l. 2 * (w.network).count l) (λ l b. few (is_returning_at w p l) (w.by_output l) ((p.flow).link l) ((w.network).count l) (R.few l b)) in
     omega (arith, sum_twice (w.network).links (w.network).count)
   where
     few : (r out : Bool) (x : LinkState) (count : ℕ) → headers_of x ≤ count → hands_at r out x ≤ 2 * count

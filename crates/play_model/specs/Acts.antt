@@ -1,8 +1,9 @@
 -- What changes a play. An act of the machine is one act here and then as many happenings as are due: its close-out.
-use Rattle.std.specs.Prelude.{◌≡◌, ◌≢◌, ℕ, zero, suc, ◌+◌, ◌-◌, ◌<◌, Bool, true, false, not, nat_eq, if◌then◌else◌, List, [], ◌∷◌, length}
+use Rattle.std.specs.Prelude.{◌≡◌, ◌≢◌, ℕ, zero, suc, ◌+◌, ◌-◌, ◌<◌, ◌≤◌, ◌⊎◌, Bool, true, false, not, nat_eq, if◌then◌else◌, List, [], ◌∷◌, length}
 use Rattle.flow_model.specs.Network.{Filled, LinkState, Flow}
-use Rattle.flow_model.specs.Moves.{Move, Can, moved, at_link}
-use Rattle.play_model.specs.Play.{Layout, Play, made, supplier, other_end, IsExecuting, IsRunning, IsReturning, IsAccepting, IsLeaving, HasDone, HasUnused, HasHome, IsDue}
+use Rattle.flow_model.specs.Moves.{Move, Can, moved, with_link}
+use Rattle.play_model.specs.Changes.{Change, port_at, IsChanged, IsEnabledPort, IsSteadyPort, IsDisabling, HasCommand, IsPortDue, HasCompletion, told_on, conducted, port_on}
+use Rattle.play_model.specs.Play.{Layout, Play, made, supplier, other_component, IsExecuting, IsRunning, IsReturning, IsAccepting, IsLeaving, HasDone, HasUnused, HasHome, IsDue, HasPorts, HasNoPortNote, IsNext}
 
 pub data Act : Type 0 where
   -- the conductor begins to send the next StateSet; a component gets it
@@ -21,14 +22,47 @@ pub data Act : Type 0 where
   HandOver : (l : ℕ) → Act
   HandBack : (l : ℕ) → Act
   HandUnused : (l : ℕ) → Act
+  -- a late source announces its settings by a claim and its finish, of no header, and holds its port; the note is told
+  Announce : (l : ℕ) → Act
+  TellSettings : (l : ℕ) → Act
+  -- the conductor's next act on a link that is being changed
+  Conduct : (l : ℕ) → Act
+  -- at the output's port, else at the input's: its disable or enable is run, what is due happens, its completion is told
+  RunPort : (l : ℕ) → (output : Bool) → Act
+  HappenPort : (l : ℕ) → (output : Bool) → Act
+  TellPort : (l : ℕ) → (output : Bool) → Act
   -- a claim, its step and the finish, with the frames done
   Step : (c n : ℕ) → (last : Bool) → Act
 
--- the next StateSet is begun where every component has told the last one, and the second Idle where every sink has told the end
+-- The next StateSet is begun where every component has told the last one; the second Idle where besides every sink has
+-- told the end, no link is half changed, and no late source whose link isn't changed has told its settings.
 pub record CanBegin (w : Layout) (p : Play) : Type 0 where
   pub more : p.phase < 4
   pub all : (c : ℕ) → c < (w.network).components → p.stage c ≡ 4
   pub ends : p.phase ≡ 2 → (c : ℕ) → c < (w.network).components → w.is_sink c ≡ true → p.told c ≡ true
+  pub changes : p.phase ≡ 2 → (l : ℕ) → l < (w.network).links → w.is_late l ≡ true →
+      ((p.change l).step ≤ 1) ⊎ IsChanged (p.change l)
+
+-- an act on a link that is being changed: the first one where it is next, the tunnel is dropped where both ends have told
+-- their disable
+pub record CanConduct (w : Layout) (p : Play) (l : ℕ) : Type 0 where
+  pub below : l < (w.network).links
+  pub late : w.is_late l ≡ true
+  pub told : 2 ≤ (p.change l).step
+  pub more : (p.change l).step < 10
+  pub next : (p.change l).step ≡ 2 → IsNext w p l
+  pub disabled : (p.change l).step ≡ 4 → ((p.change l).output ≡ 4) × ((p.change l).input ≡ 4)
+
+-- both ports of a link
+abbrev pub ArePorts : (ℕ → Type 0) → Change → Type 0
+ArePorts P k = P k.output × P k.input
+
+-- the port of the supplier, and of the other end
+abbrev pub supplier_port : Layout → Play → ℕ → ℕ
+supplier_port w p l = port_at (w.by_output l) (p.change l)
+
+abbrev pub other_port : Layout → Play → ℕ → ℕ
+other_port w p l = port_at (not (w.by_output l)) (p.change l)
 
 abbrev pub CanAct : Layout → Play → Act → Type 0
 CanAct w p Begin = CanBegin w p
@@ -36,18 +70,40 @@ CanAct w p (Send c) = (c < (w.network).components) × (p.stage c ≡ 0)
 CanAct w p (Run c) = (c < (w.network).components) × (p.stage c ≡ 1)
 CanAct w p (Happen c) = (c < (w.network).components) × (p.stage c ≡ 2) × IsDue w p c
 CanAct w p (Tell c) = (c < (w.network).components) × (p.stage c ≡ 3)
-CanAct w p (TellEnd c) = (c < (w.network).components) × (p.stage c ≢ 3) × (w.is_sink c ≡ true) × (p.told c ≡ false) × ((p.flow).ended c ≡ true)
-CanAct w p (Supply l) = (l < (w.network).links) × IsAccepting p (supplier w l) × IsAccepting p (other_end w l) × (made p l < (w.network).count l)
-CanAct w p (Release l) = (l < (w.network).links) × IsLeaving p (supplier w l) × HasHome (w.by_output l) ((p.flow).link l)
-CanAct w p (HandOver l) = (l < (w.network).links) × IsRunning p (supplier w l) × IsRunning p (other_end w l) × HasDone (w.by_output l) ((p.flow).link l)
-CanAct w p (HandBack l) = (l < (w.network).links) × IsExecuting p (other_end w l) × HasDone (not (w.by_output l)) ((p.flow).link l)
-CanAct w p (HandUnused l) = (l < (w.network).links) × IsReturning p (other_end w l) × HasUnused (w.by_output l) ((p.flow).link l)
-CanAct w p (Step c n last) = IsRunning p c × Can w.network p.flow (Move.Step c n last)
+CanAct w p (TellEnd c) =
+    (c < (w.network).components) × (p.stage c ≢ 3) × (w.is_sink c ≡ true) × (p.told c ≡ false) × ((p.flow).ended c ≡ true)
+    × HasNoPortNote w p c
+CanAct w p (Supply l) =
+    (l < (w.network).links) × IsAccepting p (supplier w l) × IsAccepting p (other_component w l)
+    × (made p l < (w.network).count l) × ArePorts IsEnabledPort (p.change l)
+CanAct w p (Release l) =
+    (l < (w.network).links) × (IsLeaving p (supplier w l) ⊎ IsDisabling (supplier_port w p l))
+    × HasHome (w.by_output l) ((p.flow).link l)
+CanAct w p (HandOver l) =
+    (l < (w.network).links) × IsRunning p (supplier w l) × IsRunning p (other_component w l)
+    × HasDone (w.by_output l) ((p.flow).link l) × ArePorts IsSteadyPort (p.change l)
+CanAct w p (HandBack l) = (l < (w.network).links) × IsExecuting p (other_component w l) × HasDone (not (w.by_output l)) ((p.flow).link l)
+CanAct w p (HandUnused l) =
+    (l < (w.network).links) × (IsReturning p (other_component w l) ⊎ IsDisabling (other_port w p l))
+    × HasUnused (w.by_output l) ((p.flow).link l)
+CanAct w p (Announce l) = (l < (w.network).links) × (w.is_late l ≡ true) × IsRunning p ((w.network).giver l) × ((p.change l).step ≡ 0)
+CanAct w p (TellSettings l) =
+    (l < (w.network).links) × (w.is_late l ≡ true) × (p.stage ((w.network).giver l) ≢ 3) × ((p.change l).step ≡ 1)
+CanAct w p (Conduct l) = CanConduct w p l
+CanAct w p (RunPort l output) = (l < (w.network).links) × (w.is_late l ≡ true) × HasCommand (port_at output (p.change l))
+CanAct w p (HappenPort l output) =
+    (l < (w.network).links) × (w.is_late l ≡ true) × IsPortDue (made p l) ((w.network).count l) (port_at output (p.change l))
+CanAct w p (TellPort l output) = (l < (w.network).links) × (w.is_late l ≡ true) × HasCompletion (port_at output (p.change l))
+CanAct w p (Step c n last) = IsRunning p c × Can w.network p.flow (Move.Step c n last) × HasPorts w p c
 
 abbrev pub with_stage : ℕ → ℕ → Play → Play
 with_stage c k p = record p { stage = λ j. if nat_eq j c then k else p.stage j }
 
--- at the end of a transition to Idle the headers at home are reset: those of done of an output go to its todo, those of todo of an input to its done, all cleared
+abbrev pub with_change : ℕ → (Change → Change) → Play → Play
+with_change l f p = record p { change = λ k. if nat_eq k l then f (p.change k) else p.change k }
+
+-- at the end of a transition to Idle the headers at home are reset: those of done of an output go to its todo, those of
+-- todo of an input to its done, all cleared
 abbrev pub reset_link : Bool → LinkState → LinkState
 reset_link true x = record x { ready = x.ready + length x.sent; sent = [] }
 reset_link false x = record x { spent = x.spent + length x.held; held = [] }
@@ -60,7 +116,7 @@ abbrev pub supplied : Bool → LinkState → LinkState
 supplied true x = record x { ready = x.ready + 1 }
 supplied false x = record x { spent = x.spent + 1 }
 
--- the front of todo, else of done
+-- a header is unmade: the front of todo, else of done
 abbrev pub less_sent : ℕ → List Filled → LinkState → LinkState
 less_sent zero [] x = x
 less_sent zero (h ∷ rest) x = record x { sent = rest }
@@ -95,11 +151,17 @@ acted w (Run c) p = with_stage c 2 p
 acted w (Happen c) p = record (with_stage c 3 p) { flow = if nat_eq p.phase 3 then reset_all w c p.flow else p.flow }
 acted w (Tell c) p = with_stage c 4 p
 acted w (TellEnd c) p = record p { told = λ j. if nat_eq j c then true else p.told j }
-acted w (Supply l) p = record p { flow = at_link l (supplied (w.by_output l)) p.flow }
-acted w (Release l) p = record p { flow = at_link l (released (w.by_output l)) p.flow }
+acted w (Supply l) p = record p { flow = with_link l (supplied (w.by_output l)) p.flow }
+acted w (Release l) p = record p { flow = with_link l (released (w.by_output l)) p.flow }
 acted w (HandOver l) p = record p { flow = moved w.network (hand (w.by_output l) l) p.flow }
 acted w (HandBack l) p = record p { flow = moved w.network (hand (not (w.by_output l)) l) p.flow }
-acted w (HandUnused l) p = record p { flow = at_link l (given_unused (w.by_output l)) p.flow }
+acted w (HandUnused l) p = record p { flow = with_link l (given_unused (w.by_output l)) p.flow }
+acted w (Announce l) p = with_change l told_on p
+acted w (TellSettings l) p = with_change l told_on p
+acted w (Conduct l) p = with_change l conducted p
+acted w (RunPort l output) p = with_change l (port_on output) p
+acted w (HappenPort l output) p = with_change l (port_on output) p
+acted w (TellPort l output) p = with_change l (port_on output) p
 acted w (Step c n last) p = record p { flow = moved w.network (Move.Step c n last) p.flow }
 
 abbrev pub CanActs : Layout → Play → List Act → Type 0

@@ -1,10 +1,23 @@
 -- The plays that are reached, how far each one is from its end, and one that shows that there are such plays.
-use Rattle.std.specs.Prelude.{[], ◌≡◌, ℕ, ◌+◌, ◌-◌, ◌*◌, ◌<◌, ◌≤◌, ◌⊎◌, Bool, true, false, not, ◌&&◌, nat_eq, nat_le, if◌then◌else◌, length}
-use Rattle.flow_model.specs.Network.{Network, LinkState}
-use Rattle.flow_model.specs.Account.{IsSound, IsFull, IsOpening}
+use Rattle.std.specs.Prelude.{[], ◌≡◌, ℕ, ◌+◌, ◌-◌, ◌*◌, ◌<◌, ◌≤◌, ◌⊎◌, Bool, true, false, not, ◌&&◌, ◌||◌, nat_eq, nat_le, if◌then◌else◌, length}
+use Rattle.flow_model.specs.Network.{Network, LinkState, queue}
+use Rattle.flow_model.specs.Account.{IsSound, IsOpening}
 use Rattle.flow_model.specs.Progress.{IsLinkOf, AllEnded, sum_to, work_left, all_headers}
-use Rattle.play_model.specs.Acts.{Act}
-use Rattle.play_model.specs.Play.{Layout, IsLayout, Play, made, supplier, other_end, IsSettled}
+use Rattle.play_model.specs.Changes.{Change, IsChanged, IsHalfChanged, IsInOrder, IsWhole, IsEmptied}
+use Rattle.play_model.specs.Acts.{Act, other_port}
+use Rattle.play_model.specs.Play.{Layout, IsLayout, Play, made, supplier, other_component, IsSettled}
+
+-- What is always so of a link's change. Only a late source's link is changed, once all are Executing and before the
+-- second Idle is begun.
+pub record IsChanging (w : Layout) (p : Play) (l : ℕ) (k : Change) : Type 0 where
+  pub order : IsInOrder k
+  pub fixed : w.is_late l ≡ false → k.step ≡ 0
+  pub early : p.phase ≤ 1 → k.step ≡ 0
+  pub over : 3 ≤ p.phase → w.is_late l ≡ true → IsChanged k
+  pub half : IsHalfChanged k → (p.phase ≡ 2) × ((c : ℕ) → c < (w.network).components → p.stage c ≡ 4)
+  pub emptied : IsEmptied k → made p l ≡ 0
+  -- before its port is enabled again a late source gives nothing, and nothing is on its way in its link
+  pub quiet : w.is_late l ≡ true → k.output < 7 → (queue ((p.flow).link l) ≡ []) × ((p.flow).ended ((w.network).giver l) ≡ false)
 
 -- What holds at every moment of a play. Phases 1 to 4 bring all to Idle, Executing, Idle and Loaded.
 pub record IsReached (w : Layout) (p : Play) : Type 0 where
@@ -16,18 +29,22 @@ pub record IsReached (w : Layout) (p : Play) : Type 0 where
   -- before the first command is begun
   pub first : p.phase ≡ 0 → (c : ℕ) → c < (w.network).components → p.stage c ≡ 4
   -- a component that has reached the first Idle has its headers, and while all are up each link has
-  pub up : p.phase ≡ 1 → (c : ℕ) → c < (w.network).components → 3 ≤ p.stage c → (l : ℕ) → IsLinkOf w.network c l → made p l ≡ (w.network).count l
-  pub full : 2 ≤ p.phase → p.phase ≤ 3 → IsFull w.network p.flow
+  pub up : p.phase ≡ 1 → (c : ℕ) → c < (w.network).components → 3 ≤ p.stage c → (l : ℕ) → IsLinkOf w.network c l →
+      made p l ≡ (w.network).count l
+  -- while they run each link has its headers, but for the time in which it is changed
+  pub full : 2 ≤ p.phase → p.phase ≤ 3 → (l : ℕ) → l < (w.network).links → IsWhole (p.change l) → made p l ≡ (w.network).count l
   -- nothing flows before Executing is begun; the account holds until the second Idle is begun, and then all have ended
   pub opening : p.phase ≤ 1 → IsOpening w.network p.flow
   pub sound : p.phase ≤ 2 → IsSound w.network p.flow
   pub ended : 3 ≤ p.phase → AllEnded w.network p.flow
   -- a component that has reached the second Idle has all headers of its links at home, and later each link has
-  pub settled : p.phase ≡ 3 → (c : ℕ) → c < (w.network).components → 3 ≤ p.stage c → (l : ℕ) → IsLinkOf w.network c l → IsSettled (w.by_output l) ((p.flow).link l)
+  pub settled : p.phase ≡ 3 → (c : ℕ) → c < (w.network).components → 3 ≤ p.stage c → (l : ℕ) → IsLinkOf w.network c l →
+      IsSettled (w.by_output l) ((p.flow).link l)
   pub home : p.phase ≡ 4 → (l : ℕ) → l < (w.network).links → IsSettled (w.by_output l) ((p.flow).link l)
   -- a component that is Loaded again has no header, and a header is unmade only by a supplier on its way
   pub unmade : p.phase ≡ 4 → (c : ℕ) → c < (w.network).components → 3 ≤ p.stage c → (l : ℕ) → IsLinkOf w.network c l → made p l ≡ 0
   pub leaving : p.phase ≡ 4 → (l : ℕ) → l < (w.network).links → made p l < (w.network).count l → 2 ≤ p.stage (supplier w l)
+  pub changes : (l : ℕ) → l < (w.network).links → IsChanging w p l (p.change l)
 
 -- the opening: nothing was sent, made or done
 pub record IsBegun (w : Layout) (p : Play) : Type 0 where
@@ -37,6 +54,7 @@ pub record IsBegun (w : Layout) (p : Play) : Type 0 where
   pub told : (c : ℕ) → p.told c ≡ false
   pub opening : IsOpening w.network p.flow
   pub none : (l : ℕ) → made p l ≡ 0
+  pub unchanged : (l : ℕ) → p.change l ≡ record { step = 0; output = 0; input = 0 }
 
 -- each component has told that it is Loaded again
 pub record IsOver (w : Layout) (p : Play) : Type 0 where
@@ -45,24 +63,43 @@ pub record IsOver (w : Layout) (p : Play) : Type 0 where
 
 -- ---- the measure: three numbers, of which no act raises the first two
 
--- They count what is still to be sent, told, made and done, and not what is queued; so an act that queues a note raises none of them.
+-- They count what is still to be sent, told, made and done, and not what is queued; so an act that queues a note raises
+-- none of them.
 
--- 1. What is still to be sent, told and made: of each component the ways to each state, the end of its stream; of each link its headers, made and unmade.
+-- 1. What is still to be sent, told and made: of each component the ways to each state, the end of its stream; of each
+-- link its headers, made and unmade, and of a late source's link what is to be told and sent of its change, and its
+-- headers a second time.
 abbrev pub ways_left : Layout → Play → ℕ → ℕ
 ways_left w p c = 5 * (4 - p.phase) + (4 - p.stage c) + (if w.is_sink c && not (p.told c) then 1 else 0)
 
+-- the tunnel of a late source isn't dropped yet
+abbrev pub is_unchanged : Layout → Play → ℕ → Bool
+is_unchanged w p l = w.is_late l && nat_le (p.change l).step 4
+
+abbrev pub makings_at : ℕ → ℕ → Bool → ℕ → ℕ
+makings_at phase count unchanged made_ =
+    if nat_le phase 1 then (count - made_) + count + (if unchanged then 2 * count else 0)
+    else (if nat_le phase 3 then (if unchanged then made_ + 2 * count else (count - made_) + count) else made_)
+
 abbrev pub makings_left : Layout → Play → ℕ → ℕ
-makings_left w p l =
-    if nat_le p.phase 1 then ((w.network).count l - made p l) + (w.network).count l
-    else (if nat_le p.phase 3 then (w.network).count l else made p l)
+makings_left w p l = makings_at p.phase ((w.network).count l) (is_unchanged w p l) (made p l)
+
+abbrev pub changes_left : Layout → Play → ℕ → ℕ
+changes_left w p l = if w.is_late l then (10 - (p.change l).step) + (8 - (p.change l).output) + (8 - (p.change l).input) else 0
 
 abbrev pub script_left : Layout → Play → ℕ
-script_left w p = (4 - p.phase) + sum_to (w.network).components (ways_left w p) + sum_to (w.network).links (makings_left w p)
+script_left w p =
+    (4 - p.phase) + sum_to (w.network).components (ways_left w p)
+    + sum_to (w.network).links (makings_left w p) + sum_to (w.network).links (changes_left w p)
 
 -- 2. The frames that are to be done: work_left of the flow.
--- 3. The headers in the lists done, and twice those in todo of the end that is to give them back.
+-- 3. The headers in the lists done, and twice those in todo of an end that is to give them back.
 abbrev pub is_returning : Play → ℕ → Bool
 is_returning p c = nat_eq p.phase 3 && nat_eq (p.stage c) 2
+
+-- the end that doesn't supply the link is to give its headers back
+abbrev pub is_returning_at : Layout → Play → ℕ → Bool
+is_returning_at w p l = is_returning p (other_component w l) || nat_eq (other_port w p l) 2
 
 abbrev pub unused_of : Bool → LinkState → ℕ
 unused_of true x = length x.held
@@ -71,7 +108,7 @@ unused_of false x = x.ready
 abbrev pub hands_of : Layout → Play → ℕ → ℕ
 hands_of w p l =
     let x = (p.flow).link l in
-    length x.sent + x.spent + (if is_returning p (other_end w l) then 2 * unused_of (w.by_output l) x else 0)
+    length x.sent + x.spent + (if is_returning_at w p l then 2 * unused_of (w.by_output l) x else 0)
 
 abbrev pub hands_left : Layout → Play → ℕ
 hands_left w p = sum_to (w.network).links (hands_of w p)
@@ -81,7 +118,8 @@ abbrev pub all_frames : Network → ℕ
 all_frames net = sum_to net.components (λ c. net.frames c + 1)
 
 abbrev pub acts_left : Layout → Play → ℕ
-acts_left w p = (script_left w p * (all_frames w.network + 1) + work_left w.network p.flow) * (2 * all_headers w.network + 1) + hands_left w p
+acts_left w p =
+    (script_left w p * (all_frames w.network + 1) + work_left w.network p.flow) * (2 * all_headers w.network + 1) + hands_left w p
 
 -- q has less left than p, by the first number that differs
 abbrev pub ComesBefore : Layout → Play → Play → Type 0
@@ -97,13 +135,39 @@ IsFlowActOf w c (Act.HandOver l) = IsLinkOf w.network c l
 IsFlowActOf w c (Act.HandBack l) = IsLinkOf w.network c l
 IsFlowActOf w c _ = ⊥
 
--- ---- a play: three frames from a source to a sink
+-- a late source's link of this component isn't changed: the port is held, or has its format open
+pub record IsUnset (w : Layout) (p : Play) (c l : ℕ) : Type 0 where
+  pub link : IsLinkOf w.network c l
+  pub late : w.is_late l ≡ true
+  pub unset : (p.change l).step ≤ 2
 
-abbrev pub a_link : Layout
-a_link = record {
-  network = record { components = 2; links = 1; giver = λ l. 0; taker = λ l. 1; count = λ l. 2; fits = λ l. 1; is_source = λ c. nat_eq c 0; frames = λ c. 3 };
+-- What the ends of a late source's link wait for while a port of it is held or has its format open: the late source
+-- announces, a note is told, the conductor begins a change.
+abbrev pub IsAwaitedAt : ℕ → Act → Type 0
+IsAwaitedAt l (Act.Announce k) = k ≡ l
+IsAwaitedAt l (Act.Tell c) = Unit {0}
+IsAwaitedAt l (Act.TellSettings k) = Unit {0}
+IsAwaitedAt l (Act.Conduct k) = Unit {0}
+IsAwaitedAt l _ = ⊥
+
+-- ---- a play: three frames from a source, or a late source, to a sink
+
+abbrev pub a_link : Bool → Layout
+a_link late = record {
+  network = record {
+    components = 2;
+    links = 1;
+    giver = λ l. 0;
+    taker = λ l. 1;
+    count = λ l. 2;
+    fits = λ l. 1;
+    is_source = λ c. nat_eq c 0;
+    frames = λ c. 3;
+  };
   by_output = λ l. false;
   is_sink = λ c. not (nat_eq c 0);
+  is_late = λ l. late;
+  place = λ c. c;
 }
 
 abbrev pub a_play : Play
@@ -111,5 +175,10 @@ a_play = record {
   phase = 0;
   stage = λ c. 4;
   told = λ c. false;
-  flow = record { done = λ c. 0; ended = λ c. false; link = λ l. record { ready = 0; sent = []; held = []; spent = 0; taken = 0; closed = false } };
+  flow = record {
+    done = λ c. 0;
+    ended = λ c. false;
+    link = λ l. record { ready = 0; sent = []; held = []; spent = 0; taken = 0; closed = false };
+  };
+  change = λ l. record { step = 0; output = 0; input = 0 };
 }

@@ -18,7 +18,7 @@ loop-c-preserved g c =
     record {
       layout = c.component_turn-acted.ensures.layout ∙ c.loop-c.invariant.layout;
       round = round_component w (g.P.Player.play c.args.player.now) now next c.loop-c.did c.component_turn-acted.result c.loop-c.c c.loop-c.invariant.round
-          (subst (λ (s : Layout). Turned s now next c.component_turn-acted.result (IsOfComponent c.loop-c.c)) c.loop-c.invariant.layout c.component_turn-acted.ensures.turned);
+          (subst (λ (s : Layout). Turned s now next c.component_turn-acted.result (IsOfComponent s c.loop-c.c)) c.loop-c.invariant.layout c.component_turn-acted.ensures.turned);
     }
 
 pub loop-l-preserved : goal.loop-l-preserved
