@@ -15,16 +15,17 @@ use Rattle.omx_types.specs.declared.state.State.{State as StateType}
 use Rattle.omx_types.specs.declared.state.State.TheVariants as states
 use Rattle.omx_types.specs.Names.{state_name}
 use Rattle.act_text.specs.Names.{is_name, is_name_byte}
-use Rattle.act_text.specs.Words.{texts}
+use Rattle.line_text.specs.Lists.{texts}
 use Rattle.act_text.specs.Ports.{port_word}
 use Rattle.act_text.specs.Acts.{act_words, ports_word, supplier_word, IsAct, ArePorts, FitsWord}
-use Rattle.act_text.specs.Reading.{name_of, small_number}
+use Rattle.act_text.specs.Reading.{name_of}
+use Rattle.line_text.specs.ReadNumbers.{small_number}
 use Rattle.act_text.specs.ReadActs.{act_of, state_of, supplier_of, ports_of}
 use Rattle.act_text.specs.declared.name.PortName.{PortName}
 use Rattle.act_text.specs.declared.act.TextAct.{TextAct}
 use Rattle.act_text.specs.declared.act.TextAct.TheVariants.{Free, State, Port, SetPort, SetSupplier, SetPriority, Gain, Weight, Tunnel, DropTunnel, SendState, SendFlush, SendDisable, SendEnable, SendMark, Run, Supply, Release, Over, Back, Take, End}
 use Rattle.act_text.proofs.Dots.{name_of-name, port_of-port, name-bytes, name_of-other}
-use Rattle.act_text.proofs.Numerals.{number_below-decimal, decimal-digits}
+use Rattle.line_text.proofs.Numerals.{number_below-decimal, decimal-digits}
 
 pub small-again : (n : ℕ) → FitsWord n → small_number (decimal n) ≡ Some n
 small-again n fits = number_below-decimal (2 ^ 32) n (omega arith) fits

@@ -6,8 +6,9 @@ use Rattle.std.proofs.lemmas.Grind.{common_steps}
 use Rattle.act_text.specs.Names.{is_name, is_name_byte, IsName}
 use Rattle.act_text.specs.Ports.{IsPortName, port_word}
 use Rattle.act_text.specs.declared.name.PortName.{PortName}
-use Rattle.act_text.specs.Reading.{both, small_number, name_of, port_of, before_dot, after_dot, port_name}
-use Rattle.act_text.proofs.Numerals.{number_below-decimal}
+use Rattle.act_text.specs.Reading.{both, name_of, port_of, before_dot, after_dot, port_name}
+use Rattle.line_text.specs.ReadNumbers.{small_number}
+use Rattle.line_text.proofs.Numerals.{number_below-decimal}
 
 no_dot : (b : ℕ) → (b ≡ 46 → ⊥) → (b == 46) ≡ false
 no_dot b other = Prim.grind (arith, common_steps)

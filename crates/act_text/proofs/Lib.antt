@@ -1,7 +1,6 @@
 pub mod ActsAgain
 pub mod Dots
 pub mod NameBytes
-pub mod Numerals
 pub mod Plain
 pub mod PlainWords
 pub mod RepliesAgain

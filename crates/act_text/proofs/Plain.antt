@@ -10,7 +10,7 @@ use Rattle.act_text.specs.Names.{is_name_byte, IsName}
 use Rattle.act_text.specs.Ports.{IsPortName, port_word}
 use Rattle.act_text.specs.declared.name.PortName.{PortName}
 use Rattle.act_text.proofs.Dots.{name-bytes}
-use Rattle.act_text.proofs.Numerals.{decimal-digits}
+use Rattle.line_text.proofs.Numerals.{decimal-digits}
 
 abbrev pub plain_byte : ℕ → Bool
 plain_byte byte = nat_lt 32 byte && not (byte == 61)

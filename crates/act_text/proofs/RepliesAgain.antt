@@ -19,7 +19,7 @@ use Rattle.act_text.specs.declared.reply.TextWhy.{TextWhy}
 use Rattle.act_text.specs.declared.reply.TextWhy.TheVariants as whys
 use Rattle.act_text.proofs.ActsAgain.{small-again, state-again}
 use Rattle.act_text.proofs.Dots.{port_of-port}
-use Rattle.act_text.proofs.Numerals.{number_below-decimal}
+use Rattle.line_text.proofs.Numerals.{number_below-decimal}
 
 error-again : (error : OmxError) → error_of (error_name error) ≡ Some error
 error-again errors.InsufficientResources = refl

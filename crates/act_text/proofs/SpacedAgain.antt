@@ -4,8 +4,8 @@ use Rattle.std.proofs.Math.Seq.{take-append_seam, drop-append_seam}
 use Rattle.std.proofs.lemmas.List.{get_or_append_left}
 use Rattle.std.specs.List.{AllByRecursion}
 use Rattle.line_text.specs.Words.{words_of, IsBlank}
-use Rattle.line_text.proofs.LineWords.{words_of-run}
-use Rattle.act_text.specs.Words.{after_spaces, spaced}
+use Rattle.line_text.proofs.WordSteps.{words_of-run}
+use Rattle.line_text.specs.Lists.{after_spaces, spaced}
 use Rattle.act_text.proofs.Plain.{IsSolid}
 
 no_blank : (byte : ℕ) → 32 < byte → IsBlank byte → ⊥

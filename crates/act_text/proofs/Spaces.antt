@@ -4,7 +4,8 @@ use Rattle.std.specs.Borrow.{Bor}
 use Rattle.std.proofs.Math.Seq.{drop-cons}
 use Rattle.std.proofs.lemmas.Grind.{flat_map-append}
 use Rattle.std.proofs.lemmas.List.{append-nil, append_assoc, append_cancel_left, map-append, take_more, take_more_set}
-use Rattle.act_text.specs.Words.{texts, word_bytes, put_words, after_spaces, IsGrown}
+use Rattle.line_text.specs.Lists.{texts, after_spaces}
+use Rattle.act_text.specs.Words.{word_bytes, put_words, IsGrown}
 use Rattle.act_text.specs.declared.put.Word.{Word}
 
 pub texts-more : (words : List (Bor (List ℕ))) (i : ℕ) (word : Bor (List ℕ)) → i < length words → texts (take (i + 1) (set words i word)) ≡ texts (take i words) ++ (word.now ∷ [])

@@ -13,7 +13,7 @@ use Rattle.act_text.specs.ReadActs.{act_of}
 use Rattle.act_text.specs.ReadReplies.{reply_of}
 use Rattle.act_text.specs.Replies.{reply_words}
 use Rattle.act_text.specs.Texts.{text_words, act_text, IsActText, before_equals, after_equals, text_of, text_with}
-use Rattle.act_text.specs.Words.{spaced, after_spaces, texts}
+use Rattle.line_text.specs.Lists.{spaced, after_spaces, texts}
 use Rattle.act_text.specs.declared.act.TextAct.{TextAct}
 use Rattle.act_text.specs.declared.reply.TextReply.{TextReply}
 use Rattle.act_text.specs.declared.text.ActText.{ActText}

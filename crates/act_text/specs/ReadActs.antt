@@ -9,7 +9,8 @@ use Rattle.omx_types.specs.declared.param.Supplier.{Supplier}
 use Rattle.omx_types.specs.declared.param.Supplier.TheVariants.{Unspecified, Input, Output}
 use Rattle.omx_types.specs.declared.state.State.{State as StateType}
 use Rattle.omx_types.specs.declared.state.State.TheVariants as states
-use Rattle.act_text.specs.Reading.{both, name_of, number_below, small_number, port_of}
+use Rattle.act_text.specs.Reading.{both, name_of, port_of}
+use Rattle.line_text.specs.ReadNumbers.{number_below, small_number}
 use Rattle.act_text.specs.declared.name.PortName.{PortName}
 use Rattle.act_text.specs.declared.act.TextAct.{TextAct}
 use Rattle.act_text.specs.declared.act.TextAct.TheVariants.{Free, State, Port, SetPort, SetSupplier, SetPriority, Gain, Weight, Tunnel, DropTunnel, SendState, SendFlush, SendDisable, SendEnable, SendMark, Run, Supply, Release, Over, Back, Take, End}

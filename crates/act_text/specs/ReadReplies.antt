@@ -8,7 +8,8 @@ use Rattle.omx_types.specs.declared.command.Event.{Event as EventType}
 use Rattle.omx_types.specs.declared.command.Event.TheVariants as events
 use Rattle.omx_types.specs.declared.error.OmxError.{OmxError}
 use Rattle.omx_types.specs.declared.error.OmxError.TheVariants as errors
-use Rattle.act_text.specs.Reading.{both, number_below, small_number, port_of}
+use Rattle.act_text.specs.Reading.{both, port_of}
+use Rattle.line_text.specs.ReadNumbers.{number_below, small_number}
 use Rattle.act_text.specs.ReadActs.{state_of}
 use Rattle.act_text.specs.declared.reply.TextReply.{TextReply}
 use Rattle.act_text.specs.declared.reply.TextReply.TheVariants.{Done, Error, State, Port, Supplier, Did, Idle, NoNote, Busy, Event, NotHeld, TooLong, NotOut}

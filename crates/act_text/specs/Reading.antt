@@ -3,6 +3,7 @@ use Rattle.std.specs.Prelude.{ℕ, ◌^◌, nat_lt, ◌==◌, if◌then◌else�
 use Rattle.std.specs.Fmt.{decimal}
 use Rattle.std.specs.Str.{bytes_eq}
 use Rattle.std.specs.Str.Parse.{digits_value}
+use Rattle.line_text.specs.ReadNumbers.{small_number}
 use Rattle.act_text.specs.Names.{is_name}
 use Rattle.act_text.specs.declared.name.PortName.{PortName}
 
@@ -14,16 +15,6 @@ both (Some one) (Some other) f = Some (f one other)
 
 unfoldable pub name_of : List ℕ → Option (List ℕ)
 name_of word = if is_name word then Some word else None
-
--- the value, where it is below the limit and writes as the word
-abbrev pub writes_as : ℕ → ℕ → List ℕ → Option ℕ
-writes_as value limit word = if nat_lt value limit then (if bytes_eq word (decimal value) then Some value else None) else None
-
-unfoldable pub number_below : ℕ → List ℕ → Option ℕ
-number_below limit word = writes_as (digits_value 10 word) limit word
-
-abbrev pub small_number : List ℕ → Option ℕ
-small_number word = number_below (2 ^ 32) word
 
 -- what stands before the first dot
 abbrev pub before_dot : List ℕ → List ℕ

@@ -6,7 +6,7 @@ use Rattle.act_text.specs.Reading.{both}
 use Rattle.act_text.specs.ReadActs.{act_of}
 use Rattle.act_text.specs.ReadReplies.{reply_of}
 use Rattle.act_text.specs.Replies.{reply_words, IsReply}
-use Rattle.act_text.specs.Words.{spaced}
+use Rattle.line_text.specs.Lists.{spaced}
 use Rattle.act_text.specs.declared.act.TextAct.{TextAct}
 use Rattle.act_text.specs.declared.reply.TextReply.{TextReply}
 use Rattle.act_text.specs.declared.text.ActText.{ActText}

@@ -21,11 +21,10 @@ mod words;
 pub use act::TextAct;
 pub use laws::law_of_texts;
 pub use name::{Name, PortName};
-pub use parts::{name_in, port_in, small_number_in};
+pub use parts::{name_in, port_in};
 pub use read_acts::act_in;
 pub use reply::{TextReply, TextWhy};
 pub use text::{ActText, put_act, put_reply, read_act};
-pub use words::LineWords;
 
 pub type OutOfMemory = AllocError;
 

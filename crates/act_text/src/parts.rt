@@ -2,34 +2,11 @@ ghost use Rattle.std.specs.Prelude.{◌≡◌, ◌^◌, ◌<◌, ◌+◌, ◌≤
 ghost use Rattle.std.specs.Fmt.{decimal};
 ghost use Rattle.act_text.specs.Names.{IsName};
 ghost use Rattle.act_text.specs.Ports.{IsPortName, port_word};
-ghost use Rattle.act_text.specs.Reading.{name_of, number_below, small_number, port_of, before_dot, after_dot};
+ghost use Rattle.act_text.specs.Reading.{name_of, port_of, before_dot, after_dot};
+ghost use Rattle.line_text.specs.ReadNumbers.{number_below, small_number};
 
 use crate::{Name, PortName};
-use line_text::{one_numeral, read_u64};
-
-/// The number below 2^64 that a word is.
-pub fn number_in(word: &[u8]) -> Option<u64>
-    ensures some { IfSome result (λ n. word.now ≡ decimal n) }
-    ensures is { result ≡ number_below (2 ^ 64) word.now }
-{
-    one_numeral();
-    match read_u64(word) {
-        Ok(n) => Some(n),
-        Err(_) => None,
-    }
-}
-
-/// The number below 2^32 that a word is.
-pub fn small_number_in(word: &[u8]) -> Option<u32>
-    ensures some { IfSome result (λ n. word.now ≡ decimal n) }
-    ensures is { result ≡ small_number word.now }
-{
-    one_numeral();
-    match read_u64(word) {
-        Ok(n) => u32::try_from(n).ok(),
-        Err(_) => None,
-    }
-}
+use line_text::small_number_in;
 
 /// The name that a word is.
 pub fn name_in(word: &[u8]) -> Option<Name>

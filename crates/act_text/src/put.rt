@@ -1,7 +1,8 @@
 ghost use Rattle.std.specs.Prelude.{◌≡◌, ◌∷◌, ◌++◌, [], ℕ, List, take, length, OnOk, OnErr};
 ghost use Rattle.std.specs.Fmt.{decimal};
 ghost use Rattle.act_text.specs.Ports.{port_word};
-ghost use Rattle.act_text.specs.Words.{word_bytes, put_words, after_spaces, spaced, IsGrown};
+ghost use Rattle.act_text.specs.Words.{word_bytes, put_words, IsGrown};
+ghost use Rattle.line_text.specs.Lists.{after_spaces, spaced};
 
 use crate::{OutOfMemory, PortName};
 use line_text::put_number;

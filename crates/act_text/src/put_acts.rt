@@ -2,7 +2,8 @@ ghost use Rattle.std.specs.Prelude.{◌≡◌, ◌∷◌, ◌++◌, [], ℕ, Lis
 ghost use Rattle.std.specs.Fmt.{decimal};
 ghost use Rattle.act_text.specs.Acts.{act_words, definition_words, supplier_word, ports_word};
 ghost use Rattle.act_text.specs.Ports.{port_word};
-ghost use Rattle.act_text.specs.Words.{spaced, word_bytes, IsGrown};
+ghost use Rattle.line_text.specs.Lists.{spaced};
+ghost use Rattle.act_text.specs.Words.{word_bytes, IsGrown};
 ghost use Rattle.act_text.specs.declared.act.TextAct.TheVariants.{SetSupplier, SetPriority, Gain, Weight, SendState, SendMark};
 
 use crate::put::{Word, number, put_words};

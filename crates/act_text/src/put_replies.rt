@@ -1,7 +1,8 @@
 ghost use Rattle.std.specs.Prelude.{◌≡◌, ◌∷◌, ◌++◌, [], ℕ, List, OnOk, OnErr, codes};
 ghost use Rattle.std.specs.Fmt.{decimal};
 ghost use Rattle.act_text.specs.Replies.{reply_words, event_words, why_words, view_words, side_word, enabled_word, mode_word};
-ghost use Rattle.act_text.specs.Words.{spaced, word_bytes, IsGrown};
+ghost use Rattle.line_text.specs.Lists.{spaced};
+ghost use Rattle.act_text.specs.Words.{word_bytes, IsGrown};
 
 use crate::put::{Word, number, put_words};
 use crate::{OutOfMemory, TextReply, TextWhy};

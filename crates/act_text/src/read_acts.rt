@@ -2,12 +2,21 @@ ghost use Rattle.std.specs.Prelude.{◌≡◌, ◌^◌, ◌<◌, ◌∷◌, [], 
 ghost use Rattle.omx_types.specs.Names.{state_name};
 ghost use Rattle.act_text.specs.Acts.{act_words, supplier_word, ports_word, format_words, definition_words, IsAct, IsFormat, ArePorts};
 ghost use Rattle.act_text.specs.Names.{IsName};
-ghost use Rattle.act_text.specs.Words.{texts};
+ghost use Rattle.line_text.specs.Lists.{texts};
 ghost use Rattle.act_text.specs.Ports.{IsPortName, port_word};
+<<<<<<< HEAD
 ghost use Rattle.act_text.specs.Reading.{name_of, number_below, small_number, port_of};
 ghost use Rattle.act_text.specs.ReadActs.{state_of, supplier_of, ports_of, format_with, of_component, of_port, of_ports, of_setting, of_config, of_sending, of_ports_sending, of_mark, of_four, of_definition, of_two, of_three, of_auto, of_six, of_eight, format_of, act_of};
+=======
+ghost use Rattle.act_text.specs.Reading.{name_of, port_of};
+ghost use Rattle.line_text.specs.ReadNumbers.{number_below, small_number};
+ghost use Rattle.omx_types.specs.Formats.{rate_of, channels_of};
+ghost use Rattle.std.specs.Fmt.{decimal};
+ghost use Rattle.act_text.specs.ReadActs.{state_of, supplier_of, ports_of, format_with, of_component, of_port, of_ports, of_setting, of_config, of_sending, of_ports_sending, of_mark, of_four, of_definition, of_two, of_three, of_six, of_eight, format_of, act_of};
+>>>>>>> a47f08b (line_text: lines of a script)
 
-use crate::parts::{name_in, number_in, port_in, small_number_in};
+use crate::parts::{name_in, port_in};
+use line_text::{number_in, small_number_in};
 use crate::{Name, PortName, TextAct};
 use omx_types::{Format, PortSel, State, Supplier};
 

@@ -2,12 +2,12 @@ ghost use Rattle.std.specs.Prelude.{◌≡◌, ◌^◌, ◌∷◌, [], ℕ, List
 ghost use Rattle.std.specs.Fmt.{decimal};
 ghost use Rattle.omx_types.specs.Names.{error_name};
 ghost use Rattle.act_text.specs.Acts.{FitsWord};
-ghost use Rattle.act_text.specs.Reading.{small_number, number_below};
+ghost use Rattle.line_text.specs.ReadNumbers.{small_number, number_below};
 ghost use Rattle.act_text.specs.Replies.{event_words, IsEvent};
 ghost use Rattle.act_text.specs.ReadReplies.{error_of, later_error_of, port_event, port_event_at, event_with, event_of};
-ghost use Rattle.act_text.specs.Words.{texts};
+ghost use Rattle.line_text.specs.Lists.{texts};
 
-use crate::parts::{number_in, small_number_in};
+use line_text::{number_in, small_number_in};
 use crate::read_acts::state_in;
 use omx_types::{Completion, Event, OmxError};
 

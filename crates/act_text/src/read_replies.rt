@@ -1,13 +1,13 @@
 ghost use Rattle.std.specs.Prelude.{◌≡◌, ◌∷◌, ◌<◌, [], ℕ, List, IfSome, Some, true, false, option_map, length, codes};
-ghost use Rattle.act_text.specs.Reading.{small_number};
+ghost use Rattle.line_text.specs.ReadNumbers.{small_number};
 ghost use Rattle.act_text.specs.ReadActs.{state_of};
 ghost use Rattle.act_text.specs.declared.reply.TextReply.TheVariants.{State, Port};
 ghost use Rattle.act_text.specs.Replies.{reply_words, side_word, enabled_word, mode_word, count_words, IsReply};
 ghost use Rattle.act_text.specs.ReadReplies.{reply_of_one, reply_of_two, side_of, enabled_of, mode_of, view_of, view_with, other_reply_of, reply_of};
-ghost use Rattle.act_text.specs.Words.{texts};
+ghost use Rattle.line_text.specs.Lists.{texts};
 
 use crate::TextReply;
-use crate::parts::small_number_in;
+use line_text::small_number_in;
 use crate::read_acts::state_in;
 use crate::read_events::{error_in, event_in};
 use crate::read_whys::why_in;

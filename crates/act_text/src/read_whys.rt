@@ -1,12 +1,13 @@
 ghost use Rattle.std.specs.Prelude.{◌≡◌, ◌∷◌, [], ℕ, List, IfSome, length, codes};
 ghost use Rattle.std.specs.Fmt.{decimal};
-ghost use Rattle.act_text.specs.Reading.{small_number};
+ghost use Rattle.line_text.specs.ReadNumbers.{small_number};
 ghost use Rattle.act_text.specs.Replies.{why_words, IsWhy};
 ghost use Rattle.act_text.specs.ReadReplies.{nothing_of, why_of_two, numbers_why, port_why, why_of_three, why_of};
-ghost use Rattle.act_text.specs.Words.{texts};
+ghost use Rattle.line_text.specs.Lists.{texts};
 
 use crate::TextWhy;
-use crate::parts::{port_in, small_number_in};
+use crate::parts::port_in;
+use line_text::small_number_in;
 use crate::read_acts::state_in;
 
 /// What there is none of.

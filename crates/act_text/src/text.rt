@@ -3,13 +3,15 @@ ghost use Rattle.std.specs.Str.{bytes_eq};
 ghost use Rattle.act_text.specs.Acts.{act_words};
 ghost use Rattle.act_text.specs.Replies.{reply_words};
 ghost use Rattle.act_text.specs.Texts.{act_text, text_words, text_of, before_equals, after_equals, IsActText};
-ghost use Rattle.act_text.specs.Words.{texts, spaced, IsGrown};
+ghost use Rattle.line_text.specs.Lists.{texts, spaced};
+ghost use Rattle.act_text.specs.Words.{IsGrown};
 
 use crate::put_acts::put_act_words;
 use crate::put_replies::put_reply_words;
 use crate::read_acts::act_in;
 use crate::read_replies::reply_in;
-use crate::words::{LineWords, is_spaced};
+use crate::words::is_spaced;
+use line_text::LineWords;
 use crate::{OutOfMemory, TextAct, TextReply};
 use line_text::BadWord;
 

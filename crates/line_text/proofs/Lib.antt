@@ -1,2 +1,4 @@
-pub mod LineWords
+pub mod WordSteps
+pub mod LineSteps
 pub mod Digits
+pub mod Numerals

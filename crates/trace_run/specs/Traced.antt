@@ -7,7 +7,7 @@ use Rattle.omx_types.specs.declared.fault.Fault.TheVariants.{WriteFault, OutOfMe
 use Rattle.outside_io.specs.Causes.{Rose}
 use Rattle.outside_io.specs.Moves.{AppendsFront}
 use Rattle.il_machine.specs.World.{no_world}
-use Rattle.act_text.specs.Words.{spaced}
+use Rattle.line_text.specs.Lists.{spaced}
 use Rattle.script_lang.specs.declared.form.TraceLine.{TraceLine}
 use Rattle.script_lang.specs.declared.script.Script.{Script}
 use Rattle.script_lang.specs.declared.script.Script.TheVariants.{Trace}

@@ -2,7 +2,7 @@
 
 ghost use Rattle.std.specs.Prelude.{◌≡◌, ◌++◌, codes, OnOk, Some, IsSome, IsSomeAnd};
 ghost use Rattle.std.specs.Fmt.{decimal};
-ghost use Rattle.act_text.specs.Words.{spaced};
+ghost use Rattle.line_text.specs.Lists.{spaced};
 ghost use Rattle.script_lang.specs.Forms.{flag_word};
 ghost use Rattle.line_text.specs.Numbers.{hex_of, hex_of_byte};
 ghost use Rattle.script_lang.specs.Hex.{bytes_word};

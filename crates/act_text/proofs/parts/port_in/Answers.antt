@@ -1,8 +1,8 @@
 use Rattle.std.proofs.Common.{◌≡◌, ◌+◌, ◌^◌, [], Some, None, drop, refl, sym, ap, ◌∙◌, arith}
 use Rattle.std.proofs.lemmas.List.{drop_all}
-use Rattle.act_text.specs.Reading.{small_number}
+use Rattle.line_text.specs.ReadNumbers.{small_number}
 use Rattle.act_text.proofs.Dots.{port_of-parts}
-use Rattle.act_text.proofs.Numerals.{number_below-empty}
+use Rattle.line_text.proofs.Numerals.{number_below-empty}
 use Rattle.act_text.proofs.parts.port_in.Goals as goal
 
 pub returns-in_default-clause-is : goal.returns-in_default-clause-is

@@ -1,7 +1,7 @@
 use Rattle.std.proofs.Common.{◌≡◌, ◌∙◌}
 use Rattle.std.proofs.lemmas.Bool.{both_ways}
 use Rattle.line_text.specs.Words.{words_of}
-use Rattle.act_text.specs.Words.{texts}
+use Rattle.line_text.specs.Lists.{texts}
 use Rattle.act_text.proofs.TextsAgain.{no-long-text, spaced-text, text-spaced, text-only, some-then}
 use Rattle.act_text.proofs.text.text_in.Goals as goal
 

@@ -4,7 +4,7 @@ use Rattle.act_text.specs.Acts.{act_words}
 use Rattle.act_text.specs.ReadActs.{act_of}
 use Rattle.act_text.specs.ReadReplies.{reply_of}
 use Rattle.act_text.specs.Texts.{before_equals, after_equals, text_with}
-use Rattle.act_text.specs.Words.{texts}
+use Rattle.line_text.specs.Lists.{texts}
 use Rattle.act_text.proofs.TextsAgain.{parts-text, both-none}
 use Rattle.act_text.proofs.text.text_of_words.Goals as goal
 

@@ -1,5 +1,5 @@
 use Rattle.std.proofs.Common.{◌≡◌, drop}
-use Rattle.act_text.specs.Words.{texts, after_spaces}
+use Rattle.line_text.specs.Lists.{texts, after_spaces}
 use Rattle.act_text.proofs.words.follow_spaces.Given as goal
 
 abbrev pub invariant-loop-word : goal.invariant-loop-word

@@ -1,5 +1,5 @@
 use Rattle.std.proofs.Common.{arith}
-use Rattle.line_text.proofs.LineWords.{words_of-rest, words_of-next}
+use Rattle.line_text.proofs.WordSteps.{words_of-rest, words_of-next}
 use Rattle.line_text.proofs.words.next_word.Goals as goal
 
 pub returns-then-start-line-clause-words : goal.returns-then-start-line-clause-words

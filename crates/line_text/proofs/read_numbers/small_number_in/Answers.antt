@@ -1,6 +1,6 @@
 use Rattle.std.proofs.Common.{◌^◌, sym, arith}
-use Rattle.act_text.proofs.Numerals.{below-iff, number_below-read, number_below-fault}
-use Rattle.act_text.proofs.parts.small_number_in.Goals as goal
+use Rattle.line_text.proofs.Numerals.{below-iff, number_below-read, number_below-fault}
+use Rattle.line_text.proofs.read_numbers.small_number_in.Goals as goal
 
 pub returns-in-Ok-clause-is : goal.returns-in-Ok-clause-is
 returns-in-Ok-clause-is c =

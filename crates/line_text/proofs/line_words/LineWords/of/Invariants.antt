@@ -1,7 +1,7 @@
 use Rattle.std.proofs.Common.{◌≡◌, ◌≤◌, ◌++◌, ◌-◌, length, take, drop}
 use Rattle.line_text.specs.Words.{words_of}
-use Rattle.act_text.specs.Words.{texts}
-use Rattle.act_text.proofs.words.LineWords.of.Given as goal
+use Rattle.line_text.specs.Lists.{texts}
+use Rattle.line_text.proofs.line_words.LineWords.of.Given as goal
 
 abbrev pub invariant-loop-start : goal.invariant-loop-start
 invariant-loop-start l = record {
