@@ -16,8 +16,8 @@ ghost use Rattle.act_text.specs.ReadActs.{state_of, supplier_of, ports_of, forma
 >>>>>>> a47f08b (line_text: lines of a script)
 
 use crate::parts::{name_in, port_in};
-use line_text::{number_in, small_number_in};
 use crate::{Name, PortName, TextAct};
+use line_text::{number_in, small_number_in};
 use omx_types::{Format, PortSel, State, Supplier};
 
 /// The state that a word names.

@@ -7,8 +7,8 @@ ghost use Rattle.act_text.specs.Replies.{event_words, IsEvent};
 ghost use Rattle.act_text.specs.ReadReplies.{error_of, later_error_of, port_event, port_event_at, event_with, event_of};
 ghost use Rattle.line_text.specs.Lists.{texts};
 
-use line_text::{number_in, small_number_in};
 use crate::read_acts::state_in;
+use line_text::{number_in, small_number_in};
 use omx_types::{Completion, Event, OmxError};
 
 /// The error that a word names.

@@ -7,11 +7,11 @@ ghost use Rattle.act_text.specs.ReadReplies.{reply_of_one, reply_of_two, side_of
 ghost use Rattle.line_text.specs.Lists.{texts};
 
 use crate::TextReply;
-use line_text::small_number_in;
 use crate::read_acts::state_in;
 use crate::read_events::{error_in, event_in};
 use crate::read_whys::why_in;
 use il_machine::{Mode, PortView};
+use line_text::small_number_in;
 
 fn reply_of_one(word: &[u8]) -> Option<TextReply>
     ensures some { IfSome result (λ reply. word.now ∷ [] ≡ reply_words reply) }

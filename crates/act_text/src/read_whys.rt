@@ -7,8 +7,8 @@ ghost use Rattle.line_text.specs.Lists.{texts};
 
 use crate::TextWhy;
 use crate::parts::port_in;
-use line_text::small_number_in;
 use crate::read_acts::state_in;
+use line_text::small_number_in;
 
 /// What there is none of.
 fn nothing_in(what: &[u8]) -> Option<TextWhy>

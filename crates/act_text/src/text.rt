@@ -11,9 +11,8 @@ use crate::put_replies::put_reply_words;
 use crate::read_acts::act_in;
 use crate::read_replies::reply_in;
 use crate::words::is_spaced;
-use line_text::LineWords;
 use crate::{OutOfMemory, TextAct, TextReply};
-use line_text::BadWord;
+use line_text::{BadWord, LineWords};
 
 /// An act with its reply.
 #[derive(Clone, Copy, Debug, PartialEq, Eq)]

@@ -13,7 +13,8 @@ use Rattle.omx_types.specs.declared.fault.Which.TheVariants as Files
 use Rattle.omx_types.specs.declared.fault.ScriptWhy.{ScriptWhy}
 use Rattle.omx_types.specs.declared.fault.Status.{Status}
 use Rattle.omx_types.specs.declared.fault.Status.TheVariants as Statuses
-use Rattle.script_lang.specs.Scripts.{IsScript, ReadsAs, Before, fault_at}
+use Rattle.script_lang.specs.LineByLine.{fault_at}
+use Rattle.script_lang.specs.Scripts.{IsScript, ReadsAs, Before}
 use Rattle.script_lang.specs.declared.script.Script.{Script}
 use Rattle.script_lang.specs.declared.script.ScriptFault.{ScriptFault}
 use Rattle.trace_run.specs.Traced.{GotTrace, GotFront, GotLines, IsStopped}

@@ -8,7 +8,8 @@ use Rattle.omx_types.specs.declared.fault.Status.{Status}
 use Rattle.omx_types.specs.declared.fault.Status.TheVariants.{Fault}
 use Rattle.omx_types.specs.declared.fault.ScriptWhy.{ScriptWhy}
 use Rattle.load_gen.specs.Script.{first_name, second_name, script_name}
-use Rattle.script_lang.specs.Scripts.{IsScript, ReadsAs, fault_at}
+use Rattle.script_lang.specs.LineByLine.{fault_at}
+use Rattle.script_lang.specs.Scripts.{IsScript, ReadsAs}
 use Rattle.script_lang.specs.declared.script.Script.{Script}
 use Rattle.wav_form.specs.declared.heads.WavHead.{WavHead}
 use Rattle.wav_form.specs.Reading.{Reads}

@@ -7,7 +7,8 @@ use Rattle.omx_types.specs.declared.fault.Fault.{Fault}
 use Rattle.omx_types.specs.declared.fault.Fault.TheVariants as Faults
 use Rattle.omx_types.specs.declared.fault.Which.TheVariants as Files
 use Rattle.omx_types.specs.declared.fault.ScriptWhy.{ScriptWhy}
-use Rattle.script_lang.specs.Scripts.{IsScript, ReadsAs, fault_at}
+use Rattle.script_lang.specs.LineByLine.{fault_at}
+use Rattle.script_lang.specs.Scripts.{IsScript, ReadsAs}
 use Rattle.script_lang.specs.declared.script.Script.{Script}
 use Rattle.trace_run.specs.Traced.{IsTraced, IsTracedTo}
 use Rattle.omxrun.specs.Texts.{fault_line}

@@ -1,5 +1,6 @@
-ghost use Rattle.std.specs.Prelude.{◌≡◌, ◌≤◌, List, ℕ, Result, IfOk, IfErr};
+ghost use Rattle.std.specs.Prelude.{◌≡◌, ◌≤◌, List, ℕ, Result, false, IfOk, IfErr};
 ghost use Rattle.outside_io.specs.Files.{GoesOn};
+ghost use Rattle.script_lang.specs.Scripts.{IsOfCommand};
 ghost use Rattle.omxrun.specs.Faults.{fault_of_trace_script, fault_of_reading};
 ghost use Rattle.omxrun.specs.Told.{IsPrinted, status_of};
 ghost use Rattle.omxrun.specs.Traced.{IsScriptIn, HasScriptReason, TracesTo, IsTraceOutcome};
@@ -34,6 +35,7 @@ fn script_in<M: Media>(alloc: Global, media: &mut M, name: &str) -> Result<Scrip
     ensures goes_on { GoesOn (M.outside media.old) (M.outside media.new) }
     ensures kept { (M.outside media.new).file ≡ (M.outside media.old).file }
     ensures script { IfOk result (IsScriptIn name.now (M.outside media.old)) }
+    ensures command { IfOk result (IsOfCommand false) }
     ensures reason { IfErr result (HasScriptReason name.now (M.outside media.old) (M.outside media.new)) }
 {
     let text = match read_whole(alloc, media, name, SCRIPT_BYTES) {
@@ -81,6 +83,7 @@ fn refused_fault(error: ScriptError) -> Fault
 
 /// Traces a script. Once a write to `out` has failed, nothing more is written to it.
 fn trace_script<O: Sink>(alloc: Global, script: &Script, out: &mut O) -> Status
+    requires { IsOfCommand false script.now }
     ensures later { O.faults out.old ≤ O.faults out.new }
     ensures traced { (outcome : Result (Unit {0}) Fault) × (text : List ℕ) × TracesTo script.now outcome text
         × IsPrinted (status_of outcome) text (O.told out.old) (O.told out.new) (O.faults out.old) (O.faults out.new) result }

@@ -1,5 +1,8 @@
 pub mod FormsAgain
 pub mod HexWords
-pub mod LineSteps
-pub mod Sayings
+pub mod OneByOne
 pub mod OneOutcome
+pub mod OnePlay
+pub mod PlayFormsAgain
+pub mod PlaySayings
+pub mod Sayings

@@ -8,13 +8,15 @@ use Rattle.act_text.specs.Reading.{name_of, port_of}
 use Rattle.line_text.specs.Words.{words_of}
 use Rattle.omx_types.specs.declared.fault.ScriptWhy.TheVariants as whys
 use Rattle.script_lang.specs.Known.{is_known, is_new}
-use Rattle.script_lang.specs.Lines.{lines_of}
+use Rattle.line_text.specs.Lines.{lines_of}
 use Rattle.script_lang.specs.ReadForms.{form_of, act_form}
-use Rattle.script_lang.specs.Scripts.{Before, WordsSay, Says, GoOn, ComeTo, Begin, ReadsAs, IsUnits, IsFormOf, AreNoForm, is_skipped, units_of, with_units, with_act}
+use Rattle.script_lang.specs.Scripts.{Before, WordsSay, Says, TraceComes, ReadsAs, after, nothing_before, IsUnits, IsFormOf, AreNoForm, units_of, with_units, with_act}
+use Rattle.line_text.specs.Scripts.{is_skipped}
 use Rattle.script_lang.specs.declared.form.TraceForm.{TraceForm}
 use Rattle.script_lang.specs.declared.saying.Said.{Said}
 use Rattle.script_lang.specs.declared.saying.Said.TheVariants.{Nothing, Units, Act, Fault}
 use Rattle.script_lang.specs.declared.script.ScriptFault.{ScriptFault}
+use Rattle.script_lang.proofs.OneByOne.{read-once}
 use Rattle.script_lang.proofs.FormsAgain.{form-again, units-again}
 
 -- ---- words are one form, or one number of units, or neither
@@ -101,40 +103,11 @@ says-once before line one other (inl (text, _)) (inr (never, _)) = absurd (never
 says-once before line one other (inr (never, _)) (inl (text, _)) = absurd (never text)
 says-once before line one other (inr (_, is)) (inr (_, also)) = is ∙ sym also
 
--- ---- lines come to one outcome
+-- ---- a line comes to one thing
 
-go-once : (lines : List (List ℕ)) (before : Before) (number : ℕ) (line : List ℕ) (said : Said) (one other : Result Before ScriptFault)
-    → ((next : Before) → ComeTo next (number + 1) lines one → ComeTo next (number + 1) lines other → one ≡ other)
-    → GoOn (λ next. ComeTo next (number + 1) lines one) before number line said one
-    → GoOn (λ next. ComeTo next (number + 1) lines other) before number line said other → one ≡ other
-go-once lines before number line Nothing one other later a b = later before a b
-go-once lines before number line (Units n) one other later a b = later (with_units before n) a b
-go-once lines before number line (Act form) one other later a b = later (with_act before number line form) a b
-go-once lines before number line (Fault why) one other later a b = a ∙ sym b
-
-come-once : (lines : List (List ℕ)) (before : Before) (number : ℕ) (one other : Result Before ScriptFault) → ComeTo before number lines one → ComeTo before number lines other → one ≡ other
-come-once [] before number one other a b = a ∙ sym b
-come-once (line ∷ lines) before number one other (said, says, a) (again, says', b) =
-    go-once lines before number line said one other (λ next. come-once lines next (number + 1) one other) a
-    (subst (λ (s : Said). GoOn (λ next. ComeTo next (number + 1) lines other) before number line s other) (says-once before line again said says' says) b)
-
-begin-once : (lines : List (List ℕ)) (one other : Result Before ScriptFault) → Begin lines one → Begin lines other → one ≡ other
-begin-once [] one other a b = a ∙ sym b
-begin-once (line ∷ lines) one other (inl (_, a)) (inl (_, b)) = a ∙ sym b
-begin-once (line ∷ lines) one other (inl (never, _)) (inr (inl (text, _, _))) = absurd (never text)
-begin-once (line ∷ lines) one other (inl (never, _)) (inr (inr (text, _, _))) = absurd (never text)
-begin-once (line ∷ lines) one other (inr (inl (text, _, _))) (inl (never, _)) = absurd (never text)
-begin-once (line ∷ lines) one other (inr (inr (text, _, _))) (inl (never, _)) = absurd (never text)
-begin-once (line ∷ lines) one other (inr (inl (_, _, a))) (inr (inl (_, _, b))) = a ∙ sym b
-begin-once (line ∷ lines) one other (inr (inl (_, not, _))) (inr (inr (_, first, _))) = absurd (not first)
-begin-once (line ∷ lines) one other (inr (inr (_, first, _))) (inr (inl (_, not, _))) = absurd (not first)
-begin-once (line ∷ lines) one other (inr (inr (_, _, a))) (inr (inr (_, _, b))) = come-once lines _ 2 one other a b
-
-short-long : {length : ℕ} → 65536 < length → length ≤ 65536 → ⊥
-short-long long short = omega arith
+pub trace-once : (before : Before) (number : ℕ) (line : List ℕ) (one other : Result Before ScriptFault) → TraceComes before number line one → TraceComes before number line other → one ≡ other
+trace-once before number line one other (said, says, is) (again, says', also) =
+    is ∙ ap (after before number line) (says-once before line said again says says') ∙ sym also
 
 pub one-outcome : (text : List ℕ) (one other : Result Before ScriptFault) → ReadsAs text one → ReadsAs text other → one ≡ other
-one-outcome text one other (inl (_, a)) (inl (_, b)) = a ∙ sym b
-one-outcome text one other (inl (long, _)) (inr (short, _)) = absurd (short-long long short)
-one-outcome text one other (inr (short, _)) (inl (long, _)) = absurd (short-long long short)
-one-outcome text one other (inr (_, a)) (inr (_, b)) = begin-once (lines_of text) one other a b
+one-outcome text one other a b = read-once TraceComes trace-once nothing_before (codes "trace") text one other a b

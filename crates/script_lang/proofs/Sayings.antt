@@ -1,11 +1,12 @@
 -- What a line says, and what it comes to.
-use Rattle.std.proofs.Common.{◌≡◌, ℕ, ◌<◌, ◌≤◌, true, false, List, [], ◌∷◌, length, refl, sym, ap, ◌∙◌, subst, arith, rules, Option, Some, None, IfNone, Err, codes}
+use Rattle.std.proofs.Common.{◌≡◌, ℕ, ◌<◌, ◌≤◌, true, false, List, [], ◌∷◌, length, refl, sym, ap, ◌∙◌, subst, arith, rules, Option, Some, None, IfNone, Ok, Err, codes}
 use Rattle.std.specs.Str.{bytes_eq}
 use Rattle.std.proofs.lemmas.Slice.Eq.{bytes_eq-Decides}
 use Rattle.std.proofs.lemmas.Grind.{common_steps}
 use Rattle.omx_types.specs.declared.fault.ScriptWhy.{ScriptWhy}
 use Rattle.script_lang.specs.ReadForms.{form_of}
-use Rattle.script_lang.specs.Scripts.{Before, Says, ComeTo, GoesOn, IsUnits, AreNoForm, units_of, with_units, with_act, fault_at, first_words, are_first}
+use Rattle.script_lang.specs.LineByLine.{ComeTo, GoesOn, fault_at}
+use Rattle.script_lang.specs.Scripts.{Before, Says, TraceComes, IsUnits, AreNoForm, units_of, with_units, with_act}
 use Rattle.script_lang.specs.declared.form.TraceForm.{TraceForm}
 use Rattle.script_lang.specs.declared.saying.Said.TheVariants.{Nothing, Units, Act, Fault}
 use Rattle.script_lang.proofs.FormsAgain.{form-again, form-short, units-again}
@@ -14,7 +15,7 @@ abbrev IsNothing : {T : Type 0} → Option T → Type 0
 IsNothing None = Unit {0}
 IsNothing (Some _) = ⊥
 
-none-some : {T : Type 0} (x : T) → None ≡ Some x → ⊥
+pub none-some : {T : Type 0} (x : T) → None ≡ Some x → ⊥
 none-some {T} x e = subst (λ (o : Option T). IsNothing o) e tt
 
 pub units-none : (before : Before) (words : List (List ℕ)) (r : Option ℕ) → r ≡ units_of words → IfNone r ((n : ℕ) → IsUnits before words n → ⊥)
@@ -39,29 +40,14 @@ long-no-form before words long = record {
     eight : {n : ℕ} → 16 < length words → length words ≡ n → n ≤ 8 → ⊥
     eight long is short = omega arith
 
-pub said-nothing : (before : Before) (number : ℕ) (line : List ℕ) → Says before line Nothing → GoesOn before number line before
-said-nothing before number line says = λ lines outcome come. (Nothing, says, come)
+pub said-nothing : (before : Before) (number : ℕ) (line : List ℕ) → Says before line Nothing → GoesOn TraceComes before number line before
+said-nothing before number line says = λ lines outcome come. (Ok before, (Nothing, says, refl), come)
 
-pub said-units : (before : Before) (number : ℕ) (line : List ℕ) (n : ℕ) → Says before line (Units n) → GoesOn before number line (with_units before n)
-said-units before number line n says = λ lines outcome come. (Units n, says, come)
+pub said-units : (before : Before) (number : ℕ) (line : List ℕ) (n : ℕ) → Says before line (Units n) → GoesOn TraceComes before number line (with_units before n)
+said-units before number line n says = λ lines outcome come. (Ok (with_units before n), (Units n, says, refl), come)
 
-pub said-act : (before : Before) (number : ℕ) (line : List ℕ) (form : TraceForm) → Says before line (Act form) → GoesOn before number line (with_act before number line form)
-said-act before number line form says = λ lines outcome come. (Act form, says, come)
+pub said-act : (before : Before) (number : ℕ) (line : List ℕ) (form : TraceForm) → Says before line (Act form) → GoesOn TraceComes before number line (with_act before number line form)
+said-act before number line form says = λ lines outcome come. (Ok (with_act before number line form), (Act form, says, refl), come)
 
-pub said-fault : (before : Before) (number : ℕ) (line : List ℕ) (why : ScriptWhy) → Says before line (Fault why) → (lines : List (List ℕ)) → ComeTo before number (line ∷ lines) (Err (fault_at number why))
-said-fault before number line why says lines = (Fault why, says, refl)
-
-pub first-are : (words : List (List ℕ)) → are_first words ≡ true → words ≡ first_words
-first-are (one ∷ two ∷ three ∷ []) is =
-    let tests : (bytes_eq one (codes "omx") ≡ true) × (bytes_eq two (codes "1") ≡ true) × (bytes_eq three (codes "trace") ≡ true) = (Prim.grind (arith, common_steps), Prim.grind (arith, common_steps), Prim.grind (arith, common_steps)) in
-    let a = (bytes_eq-Decides one (codes "omx")).0 tests.0 in
-    let b = (bytes_eq-Decides two (codes "1")).0 tests.1 in
-    let d = (bytes_eq-Decides three (codes "trace")).0 tests.2 in
-    ap (λ (w : List ℕ). w ∷ two ∷ three ∷ []) a ∙ ap (λ (w : List ℕ). codes "omx" ∷ w ∷ three ∷ []) b ∙ ap (λ (w : List ℕ). codes "omx" ∷ codes "1" ∷ w ∷ []) d
-first-are [] is = absurd (search (rules, is))
-first-are (_ ∷ []) is = absurd (search (rules, is))
-first-are (_ ∷ _ ∷ []) is = absurd (search (rules, is))
-first-are (_ ∷ _ ∷ _ ∷ _ ∷ _) is = absurd (search (rules, is))
-
-pub first-not : (words : List (List ℕ)) → are_first words ≡ false → words ≡ first_words → ⊥
-first-not words other is = search (rules, sym other ∙ ap are_first is)
+pub said-fault : (before : Before) (number : ℕ) (line : List ℕ) (why : ScriptWhy) → Says before line (Fault why) → (lines : List (List ℕ)) → ComeTo TraceComes before number (line ∷ lines) (Err (fault_at number why))
+said-fault before number line why says lines = (Err (fault_at number why), (Fault why, says, refl), refl)

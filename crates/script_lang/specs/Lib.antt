@@ -1,6 +1,11 @@
+pub mod FileNames
 pub mod Forms
 pub mod Hex
-pub mod Lines
 pub mod Known
+pub mod LineByLine
+pub mod PlayForms
+pub mod PlayKnown
+pub mod PlayScripts
 pub mod ReadForms
+pub mod ReadPlayForms
 pub mod Scripts

@@ -1,7 +1,8 @@
 -- The form that words are, by their number and their first word.
 use Rattle.std.specs.Prelude.{ℕ, Bool, true, false, nat_le, if◌then◌else◌, List, [], ◌∷◌, Option, Some, None, option_map, codes}
 use Rattle.std.specs.Str.{bytes_eq}
-use Rattle.act_text.specs.Reading.{name_of, small_number, port_of}
+use Rattle.act_text.specs.Reading.{name_of, port_of}
+use Rattle.line_text.specs.ReadNumbers.{small_number}
 use Rattle.act_text.specs.ReadActs.{act_of}
 use Rattle.act_text.specs.declared.name.PortName.{PortName}
 use Rattle.act_text.specs.declared.act.TextAct.{TextAct}

@@ -2,21 +2,23 @@
 use Rattle.std.specs.Prelude.{◌≡◌, ◌≢◌, ℕ, ◌+◌, ◌<◌, ◌≤◌, Bool, false, true, List, [], ◌∷◌, ◌++◌, Option, Some, None, unwrap_or, Result, Ok, Err, ◌⊎◌, ◌==◌, ◌&&◌, nat_le, if◌then◌else◌, codes, length, IsTrue, IsFalse, IsUtf8}
 use Rattle.std.specs.Fmt.{decimal}
 use Rattle.line_text.specs.Words.{words_of}
-use Rattle.act_text.specs.Reading.{small_number}
-use Rattle.act_text.specs.Words.{spaced}
+use Rattle.line_text.specs.Scripts.{is_skipped}
+use Rattle.script_lang.specs.LineByLine.{AreRead, ForFault, fault_at}
+use Rattle.line_text.specs.ReadNumbers.{small_number}
+use Rattle.line_text.specs.Lists.{spaced}
 use Rattle.std.specs.Str.{bytes_eq}
 use Rattle.omx_types.specs.declared.fault.ScriptWhy.{ScriptWhy}
 use Rattle.omx_types.specs.declared.fault.ScriptWhy.TheVariants as whys
 use Rattle.script_lang.specs.Forms.{form_words, IsForm}
 use Rattle.script_lang.specs.Known.{is_known, is_new}
-use Rattle.script_lang.specs.Lines.{lines_of}
+use Rattle.line_text.specs.Lines.{lines_of}
 use Rattle.script_lang.specs.declared.form.TraceForm.{TraceForm}
 use Rattle.script_lang.specs.declared.form.TraceLine.{TraceLine}
 use Rattle.script_lang.specs.declared.saying.Said.{Said}
 use Rattle.script_lang.specs.declared.saying.Said.TheVariants.{Nothing, Units, Act, Fault}
 use Rattle.script_lang.specs.declared.saying.Reading.{Reading}
 use Rattle.script_lang.specs.declared.script.Script.{Script}
-use Rattle.script_lang.specs.declared.script.Script.TheVariants.{Trace}
+use Rattle.script_lang.specs.declared.script.Script.TheVariants.{Play, Trace}
 use Rattle.script_lang.specs.declared.script.ScriptError.{ScriptError}
 use Rattle.script_lang.specs.declared.script.ScriptError.TheVariants as Errors
 use Rattle.script_lang.specs.declared.script.ScriptFault.{ScriptFault}
@@ -25,15 +27,6 @@ use Rattle.script_lang.specs.declared.script.ScriptFault.{ScriptFault}
 pub record Before : Type 0 where
   pub units : Option ℕ
   pub lines : List TraceLine
-
-abbrev pub begins_with_hash : List ℕ → Bool
-begins_with_hash [] = false
-begins_with_hash (byte ∷ bytes) = byte == 35
-
--- a line without words, or a comment
-abbrev pub is_skipped : List (List ℕ) → Bool
-is_skipped [] = true
-is_skipped (word ∷ words) = begins_with_hash word
 
 -- the units may stand before every act, once
 abbrev pub MayHaveUnits : Before → Type 0
@@ -91,72 +84,39 @@ line_with number bytes form = record { line = number; form = form; text = spaced
 abbrev pub with_act : Before → ℕ → List ℕ → TraceForm → Before
 with_act before number bytes form = record { units = before.units; lines = before.lines ++ (line_with number bytes form ∷ []) }
 
-abbrev pub fault_at : ℕ → ScriptWhy → ScriptFault
-fault_at number why = record { line = number; why = why }
+-- what is known behind a line, by what it says
+abbrev pub after : Before → ℕ → List ℕ → Said → Result Before ScriptFault
+after before number line Nothing = Ok before
+after before number line (Units n) = Ok (with_units before n)
+after before number line (Act form) = Ok (with_act before number line form)
+after before number line (Fault why) = Err (fault_at number why)
 
--- what follows a line, by what it says
-abbrev pub GoOn : (Before → Type 0) → Before → ℕ → List ℕ → Said → Result Before ScriptFault → Type 0
-GoOn Next before number line Nothing outcome = Next before
-GoOn Next before number line (Units n) outcome = Next (with_units before n)
-GoOn Next before number line (Act form) outcome = Next (with_act before number line form)
-GoOn Next before number line (Fault why) outcome = outcome ≡ Err (fault_at number why)
-
--- what the lines from a number on come to: all that they say, or the first fault
-abbrev pub ComeTo : Before → ℕ → List (List ℕ) → Result Before ScriptFault → Type 0
-ComeTo before number [] outcome = outcome ≡ Ok before
-ComeTo before number (line ∷ lines) outcome =
-    (said : Said) × Says before line said × GoOn (λ next. ComeTo next (number + 1) lines outcome) before number line said outcome
-
-abbrev pub first_words : List (List ℕ)
-first_words = codes "omx" ∷ codes "1" ∷ codes "trace" ∷ []
+-- what a line comes to after the earlier ones
+abbrev pub TraceComes : Before → ℕ → List ℕ → Result Before ScriptFault → Type 0
+TraceComes before number line step = (said : Said) × Says before line said × (step ≡ after before number line said)
 
 abbrev pub nothing_before : Before
 nothing_before = record { units = None; lines = [] }
 
--- the first line is that of a trace, and then the others count
-abbrev pub Begin : List (List ℕ) → Result Before ScriptFault → Type 0
-Begin [] outcome = outcome ≡ Err (fault_at 1 whys.FirstLine)
-Begin (line ∷ lines) outcome =
-    ((IsUtf8 line → ⊥) × (outcome ≡ Err (fault_at 1 whys.NotText)))
-    ⊎ (IsUtf8 line × (words_of line ≢ first_words) × (outcome ≡ Err (fault_at 1 whys.FirstLine)))
-    ⊎ (IsUtf8 line × (words_of line ≡ first_words) × ComeTo nothing_before 2 lines outcome)
-
 -- what a text comes to as a trace script
 abbrev pub ReadsAs : List ℕ → Result Before ScriptFault → Type 0
-ReadsAs text outcome =
-    ((65536 < length text) × (outcome ≡ Err (fault_at 0 whys.TooLong)))
-    ⊎ ((length text ≤ 65536) × Begin (lines_of text) outcome)
+ReadsAs text outcome = AreRead TraceComes nothing_before (codes "trace") text outcome
 
 -- the script that the lines say; without a line of units there are 128
 abbrev pub script_of : Before → Script
 script_of before = Trace (unwrap_or before.units 128) before.lines
 
+-- a script of `play`, or of `trace`
+abbrev pub IsOfCommand : Bool → Script → Type 0
+IsOfCommand true (Play units parts links) = Unit {0}
+IsOfCommand true (Trace units lines) = ⊥
+IsOfCommand false (Play units parts links) = ⊥
+IsOfCommand false (Trace units lines) = Unit {0}
+
 -- the text is this script
 abbrev pub IsScript : List ℕ → Script → Type 0
 IsScript text script = (before : Before) × ReadsAs text (Ok before) × (script ≡ script_of before)
 
--- P of the fault; want of memory says nothing
-abbrev pub ForFault : ScriptError → (ScriptFault → Type 0) → Type 0
-ForFault (Errors.Fault fault) P = P fault
-ForFault Errors.OutOfMemory P = Unit {0}
-
 -- the error is the first fault, or want of memory
 abbrev pub IsRefused : List ℕ → ScriptError → Type 0
 IsRefused text error = ForFault error (λ fault. ReadsAs text (Err fault))
-
--- after a line that is no fault, what the later lines come to is what it and they come to
-abbrev pub GoesOn : Before → ℕ → List ℕ → Before → Type 0
-GoesOn before number line next =
-    (lines : List (List ℕ)) (outcome : Result Before ScriptFault) → ComeTo next (number + 1) lines outcome → ComeTo before number (line ∷ lines) outcome
-
--- the line ends the reading with its fault, or memory was wanting
-abbrev pub IsEnded : Before → ℕ → List ℕ → ScriptError → Type 0
-IsEnded before number line error = ForFault error (λ fault. (lines : List (List ℕ)) → ComeTo before number (line ∷ lines) (Err fault))
-
--- the first line ends it
-abbrev pub IsNoBegin : List ℕ → ScriptError → Type 0
-IsNoBegin line error = ForFault error (λ fault. (lines : List (List ℕ)) → Begin (line ∷ lines) (Err fault))
-
-abbrev pub are_first : List (List ℕ) → Bool
-are_first (one ∷ two ∷ three ∷ []) = bytes_eq one (codes "omx") && (bytes_eq two (codes "1") && bytes_eq three (codes "trace"))
-are_first words = false

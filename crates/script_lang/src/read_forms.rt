@@ -1,13 +1,14 @@
 ghost use Rattle.std.specs.Prelude.{◌≡◌, ◌∷◌, [], IfOk, IfSome, Some, length};
 ghost use Rattle.act_text.specs.Reading.{name_of, port_of};
 ghost use Rattle.act_text.specs.ReadActs.{act_of};
-ghost use Rattle.act_text.specs.Words.{texts};
+ghost use Rattle.line_text.specs.Lists.{texts};
 ghost use Rattle.script_lang.specs.Forms.{form_words, flag_word, is_end, IsForm};
 ghost use Rattle.script_lang.specs.ReadForms.{form_of, other_form_of, form_of_three, at_port_of, flag_of, act_form};
 
 use crate::hex::bytes_in;
 use crate::{OutOfMemory, Text, TraceForm};
-use act_text::{TextAct, act_in, name_in, port_in, small_number_in};
+use act_text::{TextAct, act_in, name_in, port_in};
+use line_text::small_number_in;
 use std::alloc::Global;
 
 /// The form that the words of a line are.

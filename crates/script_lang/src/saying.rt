@@ -1,14 +1,14 @@
 ghost use Rattle.std.specs.Prelude.{◌≡◌, ◌∷◌, ◌≤◌, [], ℕ, codes, IsFalse, IfOk, IfSome, IfNone};
 ghost use Rattle.std.specs.Fmt.{decimal};
 ghost use Rattle.line_text.specs.Words.{words_of};
-ghost use Rattle.act_text.specs.Words.{texts, spaced};
-ghost use Rattle.script_lang.specs.Scripts.{Says, WordsSay, IsUnits, units_of, seen, is_skipped};
+ghost use Rattle.line_text.specs.Lists.{texts, spaced};
+ghost use Rattle.script_lang.specs.Scripts.{Says, WordsSay, IsUnits, units_of, seen};
+ghost use Rattle.line_text.specs.Scripts.{is_skipped};
 
 use crate::known::{is_known, is_new};
 use crate::read_forms::form_in;
 use crate::{OutOfMemory, Text, TraceForm, TraceLine};
-use act_text::{LineWords, small_number_in};
-use line_text::next_word;
+use line_text::{LineWords, is_skipped, next_word, small_number_in};
 use omx_types::ScriptWhy;
 use std::alloc::Global;
 use std::str;
@@ -51,16 +51,6 @@ fn text_says(alloc: Global, before: &Reading, line: &[u8]) -> Result<Said, OutOf
     words_say(alloc, before, words.as_slice())
 }
 
-/// Whether a line has no words, or is a comment.
-fn is_skipped(line: &[u8]) -> bool
-    ensures { result ≡ is_skipped (words_of line.now) }
-{
-    match next_word(line, 0) {
-        Ok((start, _)) => line[start] == b'#',
-        Err(_) => true,
-    }
-}
-
 fn words_say(alloc: Global, before: &Reading, words: &[&[u8]]) -> Result<Said, OutOfMemory>
     requires { IsFalse (is_skipped (texts words.now)) }
     ensures { IfOk result (WordsSay (seen before.now) (texts words.now)) }
@@ -94,7 +84,8 @@ fn units_at(before: &Reading, words: &[&[u8]]) -> Option<u32>
     units_in(words)
 }
 
-fn units_in(words: &[&[u8]]) -> Option<u32>
+/// The units that words say.
+pub fn units_in(words: &[&[u8]]) -> Option<u32>
     ensures spelled { IfSome result (λ n. texts words.now ≡ codes "units" ∷ decimal n ∷ []) }
     ensures few { IfSome result (λ n. n ≤ 1000) }
     ensures is { result ≡ units_of (texts words.now) }

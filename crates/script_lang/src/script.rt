@@ -1,14 +1,15 @@
-ghost use Rattle.std.specs.Prelude.{◌≡◌, ◌<◌, ◌∷◌, ◌++◌, [], length, Ok, Err, IsUtf8, IsFalse, OnOk, IfOk, IfErr};
-ghost use Rattle.line_text.specs.Words.{words_of};
-ghost use Rattle.act_text.specs.Words.{texts};
-ghost use Rattle.script_lang.specs.Lines.{lines_of};
-ghost use Rattle.script_lang.specs.Scripts.{ReadsAs, ComeTo, GoesOn, IsScript, IsRefused, IsEnded, IsNoBegin, ForFault, are_first, first_words, nothing_before, fault_at, line_with, seen};
+ghost use Rattle.std.specs.Prelude.{◌≡◌, ◌<◌, ◌∷◌, ◌++◌, [], length, true, false, Ok, Err, OnOk, IfOk, IfErr};
+ghost use Rattle.line_text.specs.Lines.{lines_of};
+ghost use Rattle.script_lang.specs.LineByLine.{ComeTo, GoesOn, IsEnded, ForFault, IsBehind, IsNoBegin, fault_at};
+ghost use Rattle.script_lang.specs.Scripts.{TraceComes, IsScript, IsRefused, IsOfCommand, nothing_before, line_with, seen};
+ghost use Rattle.script_lang.specs.PlayScripts.{PlayComes, IsPlayScript, IsPlayRefused, IsScriptOf, IsRefusedOf, no_play, play_seen};
 ghost use Rattle.script_lang.specs.declared.script.ScriptError.TheVariants as Errors;
 
-use crate::lines::next_line;
+use crate::play_reading::PlayReading;
+use crate::play_saying::{Taken, read_play_line};
 use crate::saying::{Reading, Said, says, spaced_text};
-use crate::{OutOfMemory, TraceForm, TraceLine, TraceLines};
-use act_text::LineWords;
+use crate::{LinkLines, OutOfMemory, PartLines, TraceForm, TraceLine, TraceLines};
+use line_text::{is_first_line, next_line};
 use omx_types::ScriptWhy;
 use std::alloc::{AllocError, Global};
 use std::str;
@@ -22,7 +23,15 @@ const UNITS: u32 = 128;
 /// A script, line by line.
 #[derive(Debug, Drop)]
 pub enum Script {
-    Trace { units: u32, lines: TraceLines },
+    Play {
+        units: u32,
+        parts: PartLines,
+        links: LinkLines,
+    },
+    Trace {
+        units: u32,
+        lines: TraceLines,
+    },
 }
 
 /// The first fault of a text that is no script.
@@ -49,8 +58,8 @@ impl From<AllocError> for ScriptError {
     }
 }
 
-/// The script that a text is. `play` says which command's script is wanted: those of `play` aren't read yet.
-/// `script` and `log` are the names that no file of a play may have.
+/// The script that a text is. `play` says which command's script is wanted. `script` and `log` are the names that no
+/// file of a play may have; a trace doesn't look at them.
 pub fn read_script(
     alloc: Global,
     bytes: &[u8],
@@ -58,89 +67,76 @@ pub fn read_script(
     script: &str,
     log: &str,
 ) -> Result<Script, ScriptError>
-    requires { IsFalse play }
+    ensures script { IfOk result (IsScriptOf play script.now log.now bytes.now) }
+    ensures command { IfOk result (IsOfCommand play) }
+    ensures refused { IfErr result (IsRefusedOf play script.now log.now bytes.now) }
+{
+    if play {
+        read_play(alloc, bytes, Taken { script, log })
+    } else {
+        read_trace(alloc, bytes)
+    }
+}
+
+fn read_trace(alloc: Global, bytes: &[u8]) -> Result<Script, ScriptError>
     ensures script { IfOk result (IsScript bytes.now) }
+    ensures command { IfOk result (IsOfCommand false) }
     ensures refused { IfErr result (IsRefused bytes.now) }
 {
-    let _any_play = play;
-    let _any_script = script;
-    let _any_log = log;
-    let reading = reading_of(alloc, bytes)?;
+    let lines = lines_behind(bytes, b"trace")?;
+    let reading = trace_lines(alloc, lines)?;
     Ok(Script::Trace {
         units: reading.units.unwrap_or(UNITS),
         lines: TraceLines::from_vec(reading.lines),
     })
 }
 
-fn fault(line: u32, why: ScriptWhy) -> ScriptError
+fn read_play(alloc: Global, bytes: &[u8], taken: Taken<'_>) -> Result<Script, ScriptError>
+    ensures script { IfOk result (IsPlayScript taken.entry.script.now taken.entry.log.now bytes.now) }
+    ensures command { IfOk result (IsOfCommand true) }
+    ensures refused { IfErr result (IsPlayRefused taken.entry.script.now taken.entry.log.now bytes.now) }
+{
+    let lines = lines_behind(bytes, b"play")?;
+    let reading = play_lines(alloc, taken, lines)?;
+    Ok(Script::Play {
+        units: reading.units.unwrap_or(UNITS),
+        parts: PartLines::from_vec(reading.parts),
+        links: LinkLines::from_vec(reading.links),
+    })
+}
+
+pub fn fault(line: u32, why: ScriptWhy) -> ScriptError
     ensures { result ≡ Errors.Fault (fault_at line why) }
 {
     ScriptError::Fault(ScriptFault { line, why })
 }
 
-fn reading_of(alloc: Global, bytes: &[u8]) -> Result<Reading, ScriptError>
-    ensures all { IfOk result (λ reading. ReadsAs bytes.now (Ok (seen reading))) }
-    ensures refused { IfErr result (IsRefused bytes.now) }
+/// The lines behind the first one, where that is the command's.
+fn lines_behind<'a>(bytes: &'a [u8], command: &[u8]) -> Result<&'a [u8], ScriptError>
+    ensures behind { IfOk result (λ rest. IsBehind command.now bytes.now rest.now) }
+    ensures small { IfOk result (λ rest. length rest.now < 65536) }
+    ensures refused { IfErr result (λ error. ForFault error (IsNoBegin command.now bytes.now)) }
 {
     if bytes.len() > MOST_BYTES {
         return Err(fault(0, ScriptWhy::TooLong));
     }
-    match next_line(bytes) {
-        None => Err(fault(1, ScriptWhy::FirstLine)),
-        Some((first, rest)) => {
-            begin(first)?;
-            later_lines(alloc, rest)
-        }
+    let Some((first, rest)) = next_line(bytes) else {
+        return Err(fault(1, ScriptWhy::FirstLine));
+    };
+    if str::from_utf8(first).is_err() {
+        return Err(fault(1, ScriptWhy::NotText));
     }
-}
-
-/// Whether the first line is that of a trace.
-fn begin(line: &[u8]) -> Result<(), ScriptError>
-    ensures text { OnOk result (IsUtf8 line.now) }
-    ensures words { OnOk result (words_of line.now ≡ first_words) }
-    ensures refused { IfErr result (IsNoBegin line.now) }
-{
-    match str::from_utf8(line) {
-        Ok(_) => {
-            if is_first(line) {
-                Ok(())
-            } else {
-                Err(fault(1, ScriptWhy::FirstLine))
-            }
-        }
-        Err(_) => Err(fault(1, ScriptWhy::NotText)),
+    if !is_first_line(first, command) {
+        return Err(fault(1, ScriptWhy::FirstLine));
     }
+    Ok(rest)
 }
 
-fn is_first(line: &[u8]) -> bool
-    ensures { result ≡ are_first (words_of line.now) }
-{
-    match LineWords::of(line) {
-        Some(words) => are_first(words.as_slice()),
-        None => false,
-    }
-}
-
-fn are_first(words: &[&[u8]]) -> bool
-    ensures { result ≡ are_first (texts words.now) }
-{
-    match words {
-        [one, two, three] => are_these(one, two, three),
-        _ => false,
-    }
-}
-
-fn are_these(one: &[u8], two: &[u8], three: &[u8]) -> bool
-    ensures { result ≡ are_first (one.now ∷ two.now ∷ three.now ∷ []) }
-{
-    one == b"omx".as_slice() && two == b"1".as_slice() && three == b"trace".as_slice()
-}
-
-/// The lines behind the first one.
-fn later_lines(alloc: Global, text: &[u8]) -> Result<Reading, ScriptError>
+/// What the lines behind the first one of a trace say.
+fn trace_lines(alloc: Global, text: &[u8]) -> Result<Reading, ScriptError>
     requires { length text.now < 65536 }
-    ensures all { IfOk result (λ reading. ComeTo nothing_before 2 (lines_of text.now) (Ok (seen reading))) }
-    ensures refused { IfErr result (λ error. ForFault error (λ fault. ComeTo nothing_before 2 (lines_of text.now) (Err fault))) }
+    ensures all { IfOk result (λ reading. ComeTo TraceComes nothing_before 2 (lines_of text.now) (Ok (seen reading))) }
+    ensures refused { IfErr result (λ error. ForFault error (λ fault. ComeTo TraceComes nothing_before 2 (lines_of text.now) (Err fault))) }
 {
     let mut reading = Reading {
         units: None,
@@ -156,6 +152,27 @@ fn later_lines(alloc: Global, text: &[u8]) -> Result<Reading, ScriptError>
     Ok(reading)
 }
 
+/// What the lines behind the first one of a play say.
+fn play_lines(alloc: Global, taken: Taken<'_>, text: &[u8]) -> Result<PlayReading, ScriptError>
+    requires { length text.now < 65536 }
+    ensures all { IfOk result (λ reading. ComeTo (PlayComes taken.entry.script.now taken.entry.log.now) no_play 2 (lines_of text.now) (Ok (play_seen reading))) }
+    ensures refused { IfErr result (λ error. ForFault error (λ fault. ComeTo (PlayComes taken.entry.script.now taken.entry.log.now) no_play 2 (lines_of text.now) (Err fault))) }
+{
+    let mut reading = PlayReading {
+        units: None,
+        parts: Vec::new(alloc),
+        links: Vec::new(alloc),
+    };
+    let mut rest = text;
+    let mut number = 2;
+    while let Some((line, behind)) = next_line(rest) {
+        read_play_line(alloc, taken, &mut reading, number, line)?;
+        rest = behind;
+        number += 1;
+    }
+    Ok(reading)
+}
+
 /// Takes in what a line says, or answers its fault.
 fn read_line(
     alloc: Global,
@@ -163,8 +180,8 @@ fn read_line(
     number: u32,
     line: &[u8],
 ) -> Result<(), ScriptError>
-    ensures more { OnOk result (GoesOn (seen reading.old) number line.now (seen reading.new)) }
-    ensures ended { IfErr result (IsEnded (seen reading.old) number line.now) }
+    ensures more { OnOk result (GoesOn TraceComes (seen reading.old) number line.now (seen reading.new)) }
+    ensures ended { IfErr result (IsEnded TraceComes (seen reading.old) number line.now) }
 {
     match says(alloc, reading, line)? {
         Said::Nothing => Ok(()),

@@ -10,7 +10,7 @@ use Rattle.il_machine.specs.World.{no_world}
 use Rattle.line_text.specs.Lists.{spaced}
 use Rattle.script_lang.specs.declared.form.TraceLine.{TraceLine}
 use Rattle.script_lang.specs.declared.script.Script.{Script}
-use Rattle.script_lang.specs.declared.script.Script.TheVariants.{Trace}
+use Rattle.script_lang.specs.declared.script.Script.TheVariants.{Play, Trace}
 use Rattle.trace_run.specs.Naming.{Moment, no_names}
 use Rattle.trace_run.specs.Replying.{LineReply, line_reply_words}
 use Rattle.trace_run.specs.Lines.{Answered}
@@ -30,12 +30,14 @@ Lead number at (line ∷ lines) text last =
 abbrev pub beginning : ℕ → ℕ → Moment
 beginning key units = record { world = no_world key units; names = no_names }
 
--- the text of the first lines of a script
+-- the text of the first lines of a script; that of a play has none
 abbrev pub IsTracedTo : ℕ → Script → List ℕ → Type 0
+IsTracedTo count (Play units parts links) text = ⊥
 IsTracedTo count (Trace units lines) text = (key : ℕ) × (last : Moment) × Lead 1 (beginning key units) (take count lines) text last
 
 -- the text of all its lines, and then `end`
 abbrev pub IsTraced : Script → List ℕ → Type 0
+IsTraced (Play units parts links) text = ⊥
 IsTraced (Trace units lines) text = (key : ℕ) × (body : List ℕ) × (last : Moment) × Lead 1 (beginning key units) lines body last × (text ≡ body ++ codes "end\n")
 
 -- ---- what a sink got of it

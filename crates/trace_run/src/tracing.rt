@@ -1,8 +1,9 @@
-ghost use Rattle.std.specs.Prelude.{◌≡◌, ◌≤◌, ◌<◌, ◌^◌, length, OnOk, IfErr};
+ghost use Rattle.std.specs.Prelude.{◌≡◌, ◌≤◌, ◌<◌, ◌^◌, length, false, OnOk, IfErr};
 ghost use Rattle.std.specs.Io.KnownBytes.{append_known};
 ghost use Rattle.omx_types.specs.declared.fault.Fault.TheVariants.{WriteFault};
 ghost use Rattle.outside_io.specs.Causes.{Rose};
 ghost use Rattle.outside_io.specs.Moves.{AppendsFront};
+ghost use Rattle.script_lang.specs.Scripts.{IsOfCommand};
 ghost use Rattle.script_lang.specs.declared.script.Script.TheVariants.{Trace};
 ghost use Rattle.trace_run.specs.Traced.{GotTrace, IsStopped};
 ghost use Rattle.trace_run.specs.Standing.{parts, IsStood};
@@ -18,6 +19,7 @@ use std::alloc::Global;
 /// Runs a trace script, and writes each line with its answer, and then `end`. Before that everything is given back by acts that
 /// aren't printed, so that the graph is closed with no header at the client and no client object out.
 pub fn trace<O: Sink>(alloc: Global, script: &Script, out: &mut O) -> Result<(), Fault>
+    requires { IsOfCommand false script.now }
     ensures traced { OnOk result (GotTrace script.now (O.told out.old) (O.told out.new)) }
     ensures stopped { IfErr result (IsStopped script.now (O.told out.old) (O.told out.new) (O.faults out.old) (O.faults out.new)) }
     ensures later { O.faults out.old ≤ O.faults out.new }
@@ -25,6 +27,11 @@ pub fn trace<O: Sink>(alloc: Global, script: &Script, out: &mut O) -> Result<(),
 {
     match script {
         Script::Trace { units, lines } => trace_lines(alloc, *units, lines.as_slice(), out),
+        Script::Play {
+            units: _,
+            parts: _,
+            links: _,
+        } => unreachable!(),
     }
 }
 

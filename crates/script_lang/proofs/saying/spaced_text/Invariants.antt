@@ -1,6 +1,6 @@
 use Rattle.std.proofs.Common.{◌≡◌, ◌≤◌, ◌++◌, ◌-◌, length, drop}
 use Rattle.line_text.specs.Words.{words_of}
-use Rattle.act_text.specs.Words.{after_spaces, spaced}
+use Rattle.line_text.specs.Lists.{after_spaces, spaced}
 use Rattle.script_lang.proofs.saying.spaced_text.Given as goal
 
 abbrev pub invariant-loop-start : goal.invariant-loop-start

@@ -1,6 +1,7 @@
 use Rattle.std.proofs.Common.{rules, IsFalse}
 use Rattle.line_text.specs.Words.{words_of}
-use Rattle.script_lang.specs.Scripts.{seen, is_skipped}
+use Rattle.script_lang.specs.Scripts.{seen}
+use Rattle.line_text.specs.Scripts.{is_skipped}
 use Rattle.script_lang.proofs.Sayings.{long-no-form}
 use Rattle.script_lang.proofs.saying.text_says.Goals as goal
 

@@ -1,4 +1,4 @@
-use Rattle.act_text.specs.Words.{texts}
+use Rattle.line_text.specs.Lists.{texts}
 use Rattle.script_lang.specs.Scripts.{seen}
 use Rattle.script_lang.proofs.Sayings.{units-none}
 use Rattle.script_lang.proofs.saying.units_at.Goals as goal

@@ -1,5 +1,5 @@
 use Rattle.std.proofs.Common.{sym, ◌∙◌}
-use Rattle.act_text.specs.Words.{texts}
+use Rattle.line_text.specs.Lists.{texts}
 use Rattle.script_lang.specs.Scripts.{seen}
 use Rattle.script_lang.proofs.Sayings.{no-form}
 use Rattle.script_lang.proofs.saying.words_say.Goals as goal

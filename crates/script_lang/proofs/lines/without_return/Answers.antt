@@ -1,9 +1,0 @@
-use Rattle.std.proofs.Common.{true, false, if◌then◌else◌}
-use Rattle.script_lang.proofs.LineSteps.{return-dropped, no-return}
-use Rattle.script_lang.proofs.lines.without_return.Goals as goal
-
-pub returns-then-last-eq13 : goal.returns-then-last-eq13
-returns-then-last-eq13 c = return-dropped c.args.line.now c.in-Some.front.now c.in-Some.last.now c.in-Some.ensures.cases.0 c.if-last-eq13.true
-
-pub returns-else-last-eq13 : goal.returns-else-last-eq13
-returns-else-last-eq13 c = no-return c.args.line.now c.in-Some.front.now c.in-Some.last.now c.in-Some.ensures.cases.0 c.if-last-eq13.false

@@ -1,0 +1,12 @@
+ghost use Rattle.std.specs.Prelude.{◌≤◌, length};
+
+use crate::{LinkLine, PartLine};
+
+/// What the earlier lines of a play said.
+#[derive(Drop)]
+pub struct PlayReading {
+    pub units: Option<u32>,
+    pub parts: Vec<PartLine>,
+    pub links: Vec<LinkLine>,
+    ghost few: { length parts.items ≤ 32 },
+}
