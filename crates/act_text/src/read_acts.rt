@@ -4,16 +4,9 @@ ghost use Rattle.act_text.specs.Acts.{act_words, supplier_word, ports_word, form
 ghost use Rattle.act_text.specs.Names.{IsName};
 ghost use Rattle.line_text.specs.Lists.{texts};
 ghost use Rattle.act_text.specs.Ports.{IsPortName, port_word};
-<<<<<<< HEAD
-ghost use Rattle.act_text.specs.Reading.{name_of, number_below, small_number, port_of};
-ghost use Rattle.act_text.specs.ReadActs.{state_of, supplier_of, ports_of, format_with, of_component, of_port, of_ports, of_setting, of_config, of_sending, of_ports_sending, of_mark, of_four, of_definition, of_two, of_three, of_auto, of_six, of_eight, format_of, act_of};
-=======
 ghost use Rattle.act_text.specs.Reading.{name_of, port_of};
 ghost use Rattle.line_text.specs.ReadNumbers.{number_below, small_number};
-ghost use Rattle.omx_types.specs.Formats.{rate_of, channels_of};
-ghost use Rattle.std.specs.Fmt.{decimal};
-ghost use Rattle.act_text.specs.ReadActs.{state_of, supplier_of, ports_of, format_with, of_component, of_port, of_ports, of_setting, of_config, of_sending, of_ports_sending, of_mark, of_four, of_definition, of_two, of_three, of_six, of_eight, format_of, act_of};
->>>>>>> a47f08b (line_text: lines of a script)
+ghost use Rattle.act_text.specs.ReadActs.{state_of, supplier_of, ports_of, format_with, of_component, of_port, of_ports, of_setting, of_config, of_sending, of_ports_sending, of_mark, of_four, of_definition, of_two, of_three, of_auto, of_six, of_eight, format_of, act_of};
 
 use crate::parts::{name_in, port_in};
 use crate::{Name, PortName, TextAct};
