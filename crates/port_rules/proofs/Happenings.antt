@@ -1,7 +1,10 @@
 -- What each due thing makes of a component, and of the ports and headers.
-use Rattle.std.proofs.Common.{◌≡◌, inl, inr, ℕ, ◌<◌, Bool, true, false, is_some, Option, Some, None, IsSome, IsSomeAnd, MatchOption, refl, sym, ◌∙◌, ap, subst}
+use Rattle.std.proofs.Common.{◌≡◌, inl, inr, ℕ, ◌<◌, Bool, true, false, not, ◌||◌, if◌then◌else◌, is_some, Option, Some, None, IsSome, IsSomeAnd, MatchOption, refl, sym, ◌∙◌, ap, subst}
 use Rattle.std.proofs.lemmas.Bool.{and_parts}
 use Rattle.std.proofs.lemmas.Option.{slice_get_within}
+use Rattle.omx_types.specs.declared.state.State.{State}
+use Rattle.omx_types.specs.declared.state.State.TheVariants.{Invalid, Loaded, Idle, Executing, Pause, WaitForResources}
+use Rattle.omx_types.specs.declared.command.Event.{Event}
 use Rattle.omx_types.specs.declared.command.Event.TheVariants.{CmdComplete}
 use Rattle.omx_types.specs.declared.command.Completion.TheVariants as completions
 use Rattle.il_machine.specs.declared.answer.Pending.{Pending}
@@ -12,12 +15,15 @@ use Rattle.il_machine.specs.declared.port.Port.{Port}
 use Rattle.il_machine.specs.declared.port.PortKey.{PortKey}
 use Rattle.il_machine.specs.Kinds.{ports_in}
 use Rattle.il_machine.specs.Lists.{holds_at}
-use Rattle.il_machine.specs.World.{Component, ports_of, port_of, with_port, with_component}
+use Rattle.il_machine.specs.World.{Component, ports_of, port_of, with_port, with_component, told}
 use Rattle.il_machine.specs.Headers.{Seen, seen}
 use Rattle.il_machine.specs.Ports.{is_steady}
 use Rattle.il_machine.specs.Stock.{Stocked, StandsFor}
 use Rattle.il_machine.specs.Sound.{IsSound}
-use Rattle.il_machine.specs.Due.{Transition, Flush, PortMode, WaitingMark, due_in, is_due_to, arrived, transition_happened, flush_happened, mode_happened, mark_happened, mode_completion, all_told, first_marked, reset_port, reset_on, at_port}
+use Rattle.il_machine.specs.Due.{Transition, Flush, PortMode, WaitingMark, due_in, is_due_to, arrived, arrived_at, reached, completed, completed_for, with_part, restarted, all_given_back, lost, lost_by, waits_after, transition_happened, flush_happened, mode_happened, mark_happened, mode_completion, all_told, first_marked, reset_port, reset_on, at_port}
+use Rattle.il_machine.specs.Room.{is_by_client}
+use Rattle.il_machine.specs.States.{is_down}
+use Rattle.whole_laws.specs.Parts.{KeepsPart}
 use Rattle.machine_laws.proofs.Change.{IsChange}
 use Rattle.machine_laws.proofs.Lookups.{port_parts}
 use Rattle.machine_laws.proofs.Arriving.{sound_arrived, change_arrived, state_there, sound_let_go, change_let_go, flushed_places, steady_places, marked_places}
@@ -48,16 +54,58 @@ module _ {A : Type 0} where
 pub index_within : (c : Component) (s : Stocked) (n : ℕ) (p : Port) → IsInOrder c s → port_of c n ≡ Some p → n < ports_in c.settings.kind
 index_within c s n p I e = subst (λ (k : ℕ). n < k) (I.ports).many (slice_get_within (ports_of c) n p e)
 
+-- ---- the part
+
+part_told : (event : Event) (c d : Component) → KeepsPart c d → KeepsPart c (told event d)
+part_told event c d K = record { number = K.number; kind = K.kind; file = K.file; failed = K.failed; work = K.work }
+
+part_either : (b : Bool) (c d e : Component) → KeepsPart c d → KeepsPart c e → KeepsPart c (if b then d else e)
+part_either true c d e D E = D
+part_either false c d e D E = E
+
+part_lost : (c d : Component) → KeepsPart c d → KeepsPart c (lost d)
+part_lost c d K = record { number = K.number; kind = K.kind; file = K.file; failed = K.failed; work = K.work }
+
+part_completed : (p : Pending) (c d : Component) → KeepsPart c d → KeepsPart c (completed_for p d)
+part_completed p c d K = part_either (is_by_client p.cause) c (completed p.target d) d (part_told (CmdComplete (completions.State p.target)) c d K) K
+
+part_reached : (target : State) (p : Pending) (c : Component) → KeepsPart c (completed target (reached p c))
+part_reached target p c = record { number = refl; kind = refl; file = refl; failed = refl; work = refl }
+
+part_at : (number : ℕ) (target : State) (p : Pending) (c : Component) → KeepsPart c (arrived_at number target p c)
+part_at number Idle p c =
+    let again : Component = with_part (restarted c) (reached p c) in
+    let r : Component = completed_for p again in
+    let R : KeepsPart c r = part_completed p c again (record { number = refl; kind = refl; file = refl; failed = refl; work = refl }) in
+    part_either (is_down c.state) c (completed Idle (reached p c)) (lost_by p r) (part_reached Idle p c)
+    (part_either (r.loss_mark || not (is_by_client p.cause)) c (lost r) r (part_lost c r R) R)
+part_at number Loaded p c = part_completed p c (all_given_back (reached p c)) (record { number = refl; kind = refl; file = refl; failed = refl; work = refl })
+part_at number Executing p c = part_reached Executing p c
+part_at number Pause p c = part_reached Pause p c
+part_at number WaitForResources p c = record { number = refl; kind = refl; file = refl; failed = refl; work = refl }
+part_at number Invalid p c = part_reached Invalid p c
+
+arrived_part : (number : ℕ) (p : Pending) (c : Component) → KeepsPart c (arrived number p c)
+arrived_part number p c = part_at number p.target p c
+
+mode_part : (c : Component) (p : Port) (m : Mode) → KeepsPart c (all_told (mode_completion m p.key.port) (with_port p.key.port (record p.state { mode = Steady }) c))
+mode_part c p Steady = record { number = refl; kind = refl; file = refl; failed = refl; work = refl }
+mode_part c p Enabling = record { number = refl; kind = refl; file = refl; failed = refl; work = refl }
+mode_part c p Disabling = record { number = refl; kind = refl; file = refl; failed = refl; work = refl }
+
 -- ---- the transition
 
-pub transition_happens : (c d : Component) (s t : Stocked) (p : Pending) → IsInOrder c s → c.pending ≡ Some p → d ≡ arrived p c → Leads (reset_on c p.target) s t → Happened Transition c d s t
-transition_happens c d s t p I e q L = record {
+pub transition_happens : (c d : Component) (s t : Stocked) (waits : ℕ) (p : Pending) → IsInOrder c s → c.pending ≡ Some p → d ≡ arrived waits p c → Leads (reset_on c p.target) s t → Happened Transition c d s t waits (waits_after p.target waits)
+transition_happens c d s t waits p I e q L = record {
   change = reset_on c p.target;
-  after = λ i w. ap (λ (o : Option Pending). transition_happened i c o w) e ∙ ap (λ (x : Component). record (with_component i x w) { headers = reset_on c p.target w.headers }) (sym q);
+  after = λ i w n. ap (λ (o : Option Pending). transition_happened i c o w) e
+      ∙ (ap (λ (m : ℕ). record (with_component i (arrived m p c) w) { headers = reset_on c p.target w.headers; waits = waits_after p.target m }) n
+      ∙ ap (λ (x : Component). record (with_component i x w) { headers = reset_on c p.target w.headers; waits = waits_after p.target waits }) (sym q));
   stock = L;
   notices = keeps_reset_on c p.target;
-  component = subst (IsChange c) (sym q) (change_arrived p c);
-  sound = subst IsSound (sym q) (sound_arrived p c I.sound e);
+  component = subst (IsChange c) (sym q) (change_arrived waits p c);
+  part = subst (KeepsPart c) (sym q) (arrived_part waits p c);
+  sound = subst IsSound (sym q) (sound_arrived waits p c I.sound e);
 }
 
 -- ---- a flush
@@ -65,13 +113,16 @@ transition_happens c d s t p I e q L = record {
 pub flush_sound : (c : Component) (n : ℕ) (p : Port) → IsSound c → port_of c n ≡ Some p → p.state.flushing ≡ true → IsSound (flush_ended p c)
 flush_sound c n p S e f = sound_let_go (CmdComplete (completions.Flush p.key.port)) p.key.port (record p.state { flushing = false }) p.state c S (state_there c n p e) (flushed_places p.state f)
 
-pub flush_happens : (c d : Component) (s t : Stocked) (n : ℕ) (p : Port) → IsInOrder c s → port_of c n ≡ Some p → p.state.flushing ≡ true → d ≡ flush_ended p c → Leads (reset_port p) s t → Happened (Flush n) c d s t
-flush_happens c d s t n p I e f q L = record {
+pub flush_happens : (c d : Component) (s t : Stocked) (waits n : ℕ) (p : Port) → IsInOrder c s → port_of c n ≡ Some p → p.state.flushing ≡ true → d ≡ flush_ended p c → Leads (reset_port p) s t → Happened (Flush n) c d s t waits waits
+flush_happens c d s t waits n p I e f q L = record {
   change = reset_port p;
-  after = λ i w. ap (λ (o : Option Port). at_port o (flush_happened i c) w) e ∙ ap (λ (x : Component). record (with_component i x w) { headers = reset_port p w.headers }) (sym q);
+  after = λ i w k. ap (λ (o : Option Port). at_port o (flush_happened i c) w) e
+      ∙ (ap (λ (x : Component). record (with_component i x w) { headers = reset_port p w.headers }) (sym q)
+      ∙ ap (λ (m : ℕ). record (with_component i d w) { headers = reset_port p w.headers; waits = m }) k);
   stock = L;
   notices = keeps_reset_port p;
   component = subst (IsChange c) (sym q) (change_let_go (CmdComplete (completions.Flush p.key.port)) p.key.port (record p.state { flushing = false }) p.state c (state_there c n p e) refl);
+  part = subst (KeepsPart c) (sym q) (record { number = refl; kind = refl; file = refl; failed = refl; work = refl });
   sound = subst IsSound (sym q) (flush_sound c n p I.sound e f);
 }
 
@@ -96,13 +147,15 @@ mode_parts c n p Disabling S e q z =
 pub mode_sound : (c : Component) (n : ℕ) (p : Port) → IsSound c → port_of c n ≡ Some p → is_steady p.state.mode ≡ false → IsSound (mode_ended p c)
 mode_sound c n p S e z = (mode_parts c n p p.state.mode S e refl z).0
 
-pub mode_happens : (c d : Component) (s : Stocked) (n : ℕ) (p : Port) → IsInOrder c s → port_of c n ≡ Some p → is_steady p.state.mode ≡ false → d ≡ mode_ended p c → Happened (PortMode n) c d s s
-mode_happens c d s n p I e z q = record {
+pub mode_happens : (c d : Component) (s : Stocked) (waits n : ℕ) (p : Port) → IsInOrder c s → port_of c n ≡ Some p → is_steady p.state.mode ≡ false → d ≡ mode_ended p c → Happened (PortMode n) c d s s waits waits
+mode_happens c d s waits n p I e z q = record {
   change = λ hs. hs;
-  after = λ i w. ap (λ (o : Option Port). at_port o (mode_happened i c) w) e ∙ ap (λ (x : Component). with_component i x w) (sym q);
+  after = λ i w k. ap (λ (o : Option Port). at_port o (mode_happened i c) w) e
+      ∙ (ap (λ (x : Component). with_component i x w) (sym q) ∙ ap (λ (m : ℕ). record (with_component i d w) { waits = m }) k);
   stock = unchanged s;
   notices = λ hs m r o f y. refl;
   component = subst (IsChange c) (sym q) (mode_parts c n p p.state.mode I.sound e refl z).1;
+  part = subst (KeepsPart c) (sym q) (mode_part c p p.state.mode);
   sound = subst IsSound (sym q) (mode_sound c n p I.sound e z);
 }
 
@@ -120,17 +173,19 @@ marked_leads s t key mark L = record {
 pub mark_sound : (c : Component) (n : ℕ) (p : Port) → IsSound c → port_of c n ≡ Some p → is_some p.state.waiting_mark ≡ true → IsSound (mark_ended p c)
 mark_sound c n p S e m = sound_let_go (CmdComplete (completions.Mark p.key.port)) p.key.port (record p.state { waiting_mark = None }) p.state c S (state_there c n p e) (marked_places p.state m)
 
-pub mark_happens : (c d : Component) (s t : Stocked) (n : ℕ) (p : Port) (mark : Mark) → IsInOrder c s → port_of c n ≡ Some p → p.state.waiting_mark ≡ Some mark → d ≡ mark_ended p c → Leads (first_marked (s.headers.unmarked p.key) (Some mark)) s t → Happened (WaitingMark n) c d s t
-mark_happens c d s t n p mark I e m q L =
+pub mark_happens : (c d : Component) (s t : Stocked) (waits n : ℕ) (p : Port) (mark : Mark) → IsInOrder c s → port_of c n ≡ Some p → p.state.waiting_mark ≡ Some mark → d ≡ mark_ended p c → Leads (first_marked (s.headers.unmarked p.key) (Some mark)) s t → Happened (WaitingMark n) c d s t waits waits
+mark_happens c d s t waits n p mark I e m q L =
     let y : is_some p.state.waiting_mark ≡ true = rw m refl in
     record {
       change = λ hs. first_marked ((seen hs).unmarked p.key) (Some mark) hs;
-      after = λ i w. ap (λ (o : Option Port). at_port o (mark_happened i c) w) e
+      after = λ i w k. ap (λ (o : Option Port). at_port o (mark_happened i c) w) e
           ∙ (ap (λ (o : Option Mark). record (with_component i (mark_ended p c) w) { headers = first_marked ((seen w.headers).unmarked p.key) o w.headers }) m
-          ∙ ap (λ (x : Component). record (with_component i x w) { headers = first_marked ((seen w.headers).unmarked p.key) (Some mark) w.headers }) (sym q));
+          ∙ (ap (λ (x : Component). record (with_component i x w) { headers = first_marked ((seen w.headers).unmarked p.key) (Some mark) w.headers }) (sym q)
+          ∙ ap (λ (m : ℕ). record (with_component i d w) { headers = first_marked ((seen w.headers).unmarked p.key) (Some mark) w.headers; waits = m }) k));
       stock = marked_leads s t p.key mark L;
       notices = keeps_marked p.key mark;
       component = subst (IsChange c) (sym q) (change_let_go (CmdComplete (completions.Mark p.key.port)) p.key.port (record p.state { waiting_mark = None }) p.state c (state_there c n p e) refl);
+      part = subst (KeepsPart c) (sym q) (record { number = refl; kind = refl; file = refl; failed = refl; work = refl });
       sound = subst IsSound (sym q) (mark_sound c n p I.sound e y);
     }
 

@@ -5,6 +5,7 @@ use Rattle.il_machine.specs.Headers.{find_header, is_notice, Once}
 use Rattle.il_machine.specs.Due.{Thing, happened}
 use Rattle.il_machine.specs.Sound.{IsSound}
 use Rattle.il_machine.specs.Stock.{Stocked}
+use Rattle.whole_laws.specs.Parts.{KeepsPart}
 use Rattle.machine_laws.proofs.Change.{IsChange}
 use Rattle.flush_mark.specs.Leading.{Leads}
 use Rattle.port_rules.specs.Tests.{HasAllPorts}
@@ -14,13 +15,14 @@ abbrev pub KeepsNotices : (List HeaderRecord → List HeaderRecord) → Type 0
 KeepsNotices change = (headers : List HeaderRecord) (number : ℕ) (r : HeaderRecord) → Once headers → find_header number headers ≡ Some r → is_notice r.state.owner ≡ true
     → find_header number (change headers) ≡ find_header number headers
 
--- The thing made the component d of c, and the stock t of s.
-pub record Happened (thing : Thing) (c d : Component) (s t : Stocked) : Type 0 where
+-- The thing made the component d of c, and the stock t of s; and of so many waits that were numbered as many as are then.
+pub record Happened (thing : Thing) (c d : Component) (s t : Stocked) (waits then : ℕ) : Type 0 where
   pub change : List HeaderRecord → List HeaderRecord
-  pub after : (place : ℕ) (w : World) → happened place c thing w ≡ record (with_component place d w) { headers = change w.headers }
+  pub after : (place : ℕ) (w : World) → w.waits ≡ waits → happened place c thing w ≡ record (with_component place d w) { headers = change w.headers; waits = then }
   pub stock : Leads change s t
   pub notices : KeepsNotices change
   pub component : IsChange c d
+  pub part : KeepsPart c d
   pub sound : IsSound d
 
 -- the component is sound, and its ports are the stock's

@@ -29,13 +29,11 @@ fn is_due_to<C>(stock: &Stock, component: &Component<C>, target: State) -> bool
 {
     match target {
         State::Idle => {
-            let down = state_rules::is_down(component.state());
-            let test = if down {
-                PortTest::Ready
+            if state_rules::is_down(component.state()) {
+                each_port(stock, component, PortTest::Ready)
             } else {
-                PortTest::Settled
-            };
-            each_port(stock, component, test)
+                each_port(stock, component, PortTest::Settled) && !component.is_work_out()
+            }
         }
         State::Loaded => each_port(stock, component, PortTest::Unmade),
         State::WaitForResources | State::Executing | State::Pause => true,
@@ -57,7 +55,7 @@ fn is_flush_due<C>(stock: &Stock, component: &Component<C>, port: Port) -> bool
     requires { IsPort port.key (stocked stock.now) }
     ensures { result ≡ is_flush_due (stocked stock.now).headers (component_of component.now) port }
 {
-    port.state.flushing && flush_settled(stock, port.key)
+    port.state.flushing && flush_settled(stock, port.key, component.is_work_out())
 }
 
 fn is_mode_due<C>(stock: &Stock, component: &Component<C>, port: Port) -> bool

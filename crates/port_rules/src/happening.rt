@@ -1,9 +1,11 @@
 //! The first due thing of a component happens.
 
-ghost use Rattle.std.specs.Prelude.{◌≡◌, true, false, IsSome, IsSomeAnd, Some, is_some};
+ghost use Rattle.std.specs.Prelude.{◌≡◌, ◌<◌, true, false, IsSome, IsSomeAnd, Some, is_some};
 ghost use Rattle.il_machine.specs.World.{port_of, ports_of};
-ghost use Rattle.il_machine.specs.Ports.{is_steady};
-ghost use Rattle.il_machine.specs.Due.{reset_on, reset_ports, due_in, Transition, Flush, PortMode, WaitingMark};
+ghost use Rattle.il_machine.specs.Ports.{is_steady, is_going_to};
+ghost use Rattle.il_machine.specs.States.{same_state};
+ghost use Rattle.omx_types.specs.declared.state.State.TheVariants as states;
+ghost use Rattle.il_machine.specs.Due.{waits_after, reset_on, reset_ports, due_in, Transition, Flush, PortMode, WaitingMark};
 ghost use Rattle.il_component.specs.Entries.{component_of, KeepsNotices};
 ghost use Rattle.port_stock.specs.Kept.{stocked};
 ghost use Rattle.flush_mark.specs.Leading.{Leads};
@@ -39,25 +41,39 @@ fn reset_on<C>(stock: &mut Stock, component: &Component<C>, target: State)
     }
 }
 
+/// How many waits are numbered once the state is reached.
+fn waits_after(target: State, waits: u64) -> u64
+    requires { same_state target states.WaitForResources ≡ true → waits < 18446744073709551615 }
+    ensures { result ≡ waits_after target waits }
+{
+    if matches!(target, State::WaitForResources) {
+        waits + 1
+    } else {
+        waits
+    }
+}
+
 /// The pending transition is reached.
-fn reach<C>(stock: &mut Stock, component: &mut Component<C>)
+fn reach<C>(stock: &mut Stock, component: &mut Component<C>, waits: u64) -> u64
     requires in_order { IsInOrder (component_of component.old) (stocked stock.old) }
     requires pending { IsSome component.old.pending }
-    ensures happened { Happened Transition (component_of component.old) (component_of component.new) (stocked stock.old) (stocked stock.new) }
+    requires left { is_going_to states.WaitForResources (component_of component.old) ≡ true → waits < 18446744073709551615 }
+    ensures happened { Happened Transition (component_of component.old) (component_of component.new) (stocked stock.old) (stocked stock.new) waits result }
     ensures kept { KeepsNotices component.old component.new }
 {
     let Some(pending) = component.pending() else {
         unreachable!()
     };
     reset_on(stock, component, pending.target);
-    component.arrive();
+    component.arrive(waits);
+    waits_after(pending.target, waits)
 }
 
 /// The flush of the port has ended.
-fn end_flush<C>(stock: &mut Stock, component: &mut Component<C>, index: u32)
+fn end_flush<C>(stock: &mut Stock, component: &mut Component<C>, index: u32, waits: u64) -> u64
     requires in_order { IsInOrder (component_of component.old) (stocked stock.old) }
     requires due { IsSomeAnd (port_of (component_of component.old) index) (λ p. p.state.flushing ≡ true) }
-    ensures happened { Happened (Flush index) (component_of component.old) (component_of component.new) (stocked stock.old) (stocked stock.new) }
+    ensures happened { Happened (Flush index) (component_of component.old) (component_of component.new) (stocked stock.old) (stocked stock.new) waits result }
     ensures kept { KeepsNotices component.old component.new }
 {
     let Some(port) = component.port(index) else {
@@ -65,23 +81,25 @@ fn end_flush<C>(stock: &mut Stock, component: &mut Component<C>, index: u32)
     };
     reset_home(stock, port);
     component.end_flush(index);
+    waits
 }
 
 /// The disable or enable of the port has ended.
-fn end_mode<C>(stock: &mut Stock, component: &mut Component<C>, index: u32)
+fn end_mode<C>(stock: &mut Stock, component: &mut Component<C>, index: u32, waits: u64) -> u64
     requires in_order { IsInOrder (component_of component.old) (stocked stock.old) }
     requires due { IsSomeAnd (port_of (component_of component.old) index) (λ p. is_steady p.state.mode ≡ false) }
-    ensures happened { Happened (PortMode index) (component_of component.old) (component_of component.new) (stocked stock.old) (stocked stock.new) }
+    ensures happened { Happened (PortMode index) (component_of component.old) (component_of component.new) (stocked stock.old) (stocked stock.new) waits result }
     ensures kept { KeepsNotices component.old component.new }
 {
     component.end_mode(index);
+    waits
 }
 
 /// The mark of the port is put on a header.
-fn end_mark<C>(stock: &mut Stock, component: &mut Component<C>, index: u32)
+fn end_mark<C>(stock: &mut Stock, component: &mut Component<C>, index: u32, waits: u64) -> u64
     requires in_order { IsInOrder (component_of component.old) (stocked stock.old) }
     requires due { IsSomeAnd (port_of (component_of component.old) index) (λ p. is_some p.state.waiting_mark ≡ true) }
-    ensures happened { Happened (WaitingMark index) (component_of component.old) (component_of component.new) (stocked stock.old) (stocked stock.new) }
+    ensures happened { Happened (WaitingMark index) (component_of component.old) (component_of component.new) (stocked stock.old) (stocked stock.new) waits result }
     ensures kept { KeepsNotices component.old component.new }
 {
     let Some(port) = component.port(index) else {
@@ -92,19 +110,21 @@ fn end_mark<C>(stock: &mut Stock, component: &mut Component<C>, index: u32)
     };
     attach_mark(stock, port.key, mark);
     component.end_mark(index);
+    waits
 }
 
-/// What is due first at the component happens.
-pub fn happen_in<C>(stock: &mut Stock, component: &mut Component<C>, due: Due)
+/// What is due first at the component happens. So many waits were numbered before; it answers how many are then.
+pub fn happen_in<C>(stock: &mut Stock, component: &mut Component<C>, due: Due, waits: u64) -> u64
     requires in_order { IsInOrder (component_of component.old) (stocked stock.old) }
+    requires left { is_going_to states.WaitForResources (component_of component.old) ≡ true → waits < 18446744073709551615 }
     requires first { due_in (stocked stock.old).headers (component_of component.old) ≡ Some (thing_of due) }
-    ensures happened { Happened (thing_of due) (component_of component.old) (component_of component.new) (stocked stock.old) (stocked stock.new) }
+    ensures happened { Happened (thing_of due) (component_of component.old) (component_of component.new) (stocked stock.old) (stocked stock.new) waits result }
     ensures kept { KeepsNotices component.old component.new }
 {
     match due {
-        Due::Transition => reach(stock, component),
-        Due::Flush(index) => end_flush(stock, component, index),
-        Due::Mode(index) => end_mode(stock, component, index),
-        Due::Mark(index) => end_mark(stock, component, index),
+        Due::Transition => reach(stock, component, waits),
+        Due::Flush(index) => end_flush(stock, component, index, waits),
+        Due::Mode(index) => end_mode(stock, component, index, waits),
+        Due::Mark(index) => end_mark(stock, component, index, waits),
     }
 }

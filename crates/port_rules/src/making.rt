@@ -69,6 +69,7 @@ pub fn free_fault<C>(stock: &Stock, component: &Component<C>) -> Option<OmxError
         || component.pending().is_some()
         || !each_port(stock, component, PortTest::Unmade)
         || component.is_joined()
+        || component.is_work_out()
         || component.is_client_out();
     if in_use {
         Some(OmxError::IncorrectStateOperation)

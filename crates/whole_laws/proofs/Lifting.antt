@@ -7,7 +7,8 @@ use Rattle.il_machine.specs.Look.{Look}
 use Rattle.il_machine.specs.Components.{progress_of, progress_after, is_given_to, no_progress}
 use Rattle.il_machine.specs.Whole.{Kept, Steps, HasProgress}
 use Rattle.whole_laws.proofs.Lists.{get_set_same, get_set_other}
-use Rattle.whole_laws.proofs.Parts.{KeepsPart, parts_set, streams_set}
+use Rattle.whole_laws.specs.Parts.{KeepsPart}
+use Rattle.whole_laws.proofs.Parts.{parts_set, streams_set}
 
 -- what is kept with another component at the place
 abbrev pub with_look : ℕ → Component → Kept → Kept

@@ -31,5 +31,5 @@ returns-clause-happened g c =
     let p = c.in-Some.port in
     let e : port_of k c.args.index ≡ _ = sym c.port.ensures ∙ c.in-Some.is in
     let f = of_some (port_of k c.args.index) (λ p. p.state.flushing ≡ true) p e c.requires.due in
-    flush_happens k d (stocked c.args.stock.now) (stocked c.reset_home.new.stock) c.args.index p c.requires.in_order e f
+    flush_happens k d (stocked c.args.stock.now) (stocked c.reset_home.new.stock) c.args.waits c.args.index p c.requires.in_order e f
     (of_match (port_of k c.args.index) (λ p. d ≡ flush_ended p k) p e c.end_flush.ensures.component) c.reset_home.ensures

@@ -30,5 +30,5 @@ returns-clause-happened g c =
     let d = component_of c.end_mark.new.self in
     let p = c.in-Some.port in
     let e : port_of k c.args.index ≡ _ = sym c.port.ensures ∙ c.in-Some.is in
-    mark_happens k d (stocked c.args.stock.now) (stocked c.attach_mark.new.stock) c.args.index p c.in-Some-waiting_mark.mark c.requires.in_order e c.in-Some-waiting_mark.is
+    mark_happens k d (stocked c.args.stock.now) (stocked c.attach_mark.new.stock) c.args.waits c.args.index p c.in-Some-waiting_mark.mark c.requires.in_order e c.in-Some-waiting_mark.is
     (of_match (port_of k c.args.index) (λ p. d ≡ mark_ended p k) p e c.end_mark.ensures.component) c.attach_mark.ensures.leads

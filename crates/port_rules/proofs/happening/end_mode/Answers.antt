@@ -19,4 +19,4 @@ returns-clause-happened g c =
     let k = component_of c.args.component.now in
     let d = component_of c.end_mode.new.self in
     let x = some_there (port_of k c.args.index) (λ p. is_steady p.state.mode ≡ false) c.requires.due in
-    mode_happens k d (stocked c.args.stock.now) c.args.index x.0 c.requires.in_order x.1 x.2 (of_match (port_of k c.args.index) (λ p. d ≡ mode_ended p k) x.0 x.1 c.end_mode.ensures.component)
+    mode_happens k d (stocked c.args.stock.now) c.args.waits c.args.index x.0 c.requires.in_order x.1 x.2 (of_match (port_of k c.args.index) (λ p. d ≡ mode_ended p k) x.0 x.1 c.end_mode.ensures.component)

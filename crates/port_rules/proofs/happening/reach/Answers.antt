@@ -12,7 +12,7 @@ arrive-requires-clause-fits g c =
     let k = component_of c.args.component.now in
     let p = c.in-Some.pending in
     let e : k.pending ≡ Some p = sym c.pending.ensures ∙ c.in-Some.is in
-    to_match k.pending (λ p. used (arrived p k) ≤ 256) p e (sound_arrived p k c.requires.in_order.sound e).room
+    to_match k.pending (λ p. used (arrived c.args.waits p k) ≤ 256) p e (sound_arrived c.args.waits p k c.requires.in_order.sound e).room
 
 pub returns-clause-happened : goal.returns-clause-happened
 returns-clause-happened g c =
@@ -20,4 +20,4 @@ returns-clause-happened g c =
     let d = component_of c.arrive.new.self in
     let p = c.in-Some.pending in
     let e : k.pending ≡ Some p = sym c.pending.ensures ∙ c.in-Some.is in
-    transition_happens k d (stocked c.args.stock.now) (stocked c.reset_on.new.stock) p c.requires.in_order e (of_match k.pending (λ p. d ≡ arrived p k) p e c.arrive.ensures.component) c.reset_on.ensures
+    rw c.waits_after.ensures (transition_happens k d (stocked c.args.stock.now) (stocked c.reset_on.new.stock) c.args.waits p c.requires.in_order e (of_match k.pending (λ p. d ≡ arrived c.args.waits p k) p e c.arrive.ensures.component) c.reset_on.ensures)
