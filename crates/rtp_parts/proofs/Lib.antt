@@ -1,0 +1,2 @@
+pub mod PackAnswers
+pub mod PackedTexts

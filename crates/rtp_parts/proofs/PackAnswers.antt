@@ -1,0 +1,83 @@
+-- What `pack` answers, by what the head reads as.
+use Rattle.std.proofs.Common.{◌≡◌, ℕ, ◌+◌, ◌*◌, ◌≤◌, List, ◌++◌, length, take, drop, Option, Some, None, Result, Ok, Err, sym, ap, subst, ◌∙◌, arith, length-drop}
+use Rattle.std.proofs.lemmas.List.{length-take}
+use Rattle.std.specs.Io.KnownBytes.{append_known}
+use Rattle.outside_io.specs.Moves.{AppendsFront}
+use Rattle.outside_io.proofs.Known.{append_known-twice}
+use Rattle.omx_types.specs.declared.fault.WavFault.{WavFault}
+use Rattle.omx_types.specs.declared.fault.WavFault.TheVariants.{TooLarge, NotRiff, NoFormat, BadFormat, NoSamples, UnsupportedTag, Read, Short}
+use Rattle.omx_types.specs.Formats.{frame_bytes_of}
+use Rattle.wav_form.specs.declared.heads.WavHead.{WavHead}
+use Rattle.wav_form.specs.Reading.{Reads, FitsFile}
+use Rattle.wav_form.specs.Stops.{UnlessStopped as UnlessHeadStopped}
+use Rattle.wav_form.proofs.Read.{same_answer}
+use Rattle.rtp_parts.specs.declared.law.Law.{Law}
+use Rattle.rtp_parts.specs.declared.fault.RtpFault.{RtpFault}
+use Rattle.rtp_parts.specs.declared.fault.RtpFault.TheVariants.{Head, WrongFormat}
+use Rattle.rtp_parts.specs.declared.packing.Packed.{Packed}
+use Rattle.rtp_parts.specs.Packets.{law_of_format}
+use Rattle.rtp_parts.specs.Packing.{magic, texts_of, packet_count}
+use Rattle.rtp_parts.specs.Answers.{UnlessStopped, packing_of, packing_under, counts_of, packets_file, samples_of, fault_of_head}
+use Rattle.rtp_parts.proofs.PackedTexts.{frame_byte, packed_is, front-first, front-then}
+
+same_fault : (bytes : List ℕ) (fault : WavFault) (head : Result WavHead WavFault) → Reads bytes (Err fault) → Reads bytes head → Err (Head fault) ≡ counts_of (packing_of bytes head)
+same_fault bytes fault head one other = ap (λ h. counts_of (packing_of bytes h)) (same_answer bytes (Err fault) head one other)
+
+by_fault : (bytes : List ℕ) (fault : WavFault) (head : Result WavHead WavFault) → UnlessHeadStopped {A = WavHead} (Err fault) (Reads bytes) → Reads bytes head → UnlessStopped {A = Packed} (Err (fault_of_head fault)) (λ r. r ≡ counts_of (packing_of bytes head))
+by_fault bytes (TooLarge size) head one other = same_fault bytes (TooLarge size) head one other
+by_fault bytes NotRiff head one other = same_fault bytes NotRiff head one other
+by_fault bytes NoFormat head one other = same_fault bytes NoFormat head one other
+by_fault bytes BadFormat head one other = same_fault bytes BadFormat head one other
+by_fault bytes NoSamples head one other = same_fault bytes NoSamples head one other
+by_fault bytes (UnsupportedTag tag) head one other = same_fault bytes (UnsupportedTag tag) head one other
+by_fault bytes Read head one other = tt
+by_fault bytes (Short at size) head one other = tt
+
+pub head_fault : (bytes : List ℕ) (fault : WavFault) (answer : RtpFault) (head : Result WavHead WavFault) → UnlessHeadStopped {A = WavHead} (Err fault) (Reads bytes) → Reads bytes head → answer ≡ fault_of_head fault → UnlessStopped {A = Packed} (Err answer) (λ r. r ≡ counts_of (packing_of bytes head))
+head_fault bytes fault answer head one other is =
+    subst (λ (f : RtpFault). UnlessStopped {A = Packed} (Err f) (λ r. r ≡ counts_of (packing_of bytes head))) (sym is) (by_fault bytes fault head one other)
+
+pub wrong_format : (bytes : List ℕ) (h : WavHead) (head : Result WavHead WavFault) → Reads bytes (Ok h) → Reads bytes head → law_of_format h.format ≡ None → Err WrongFormat ≡ counts_of (packing_of bytes head)
+wrong_format bytes h head one other none =
+    ap (λ (law : Option Law). counts_of (packing_under bytes h law)) (sym none) ∙ ap (λ r. counts_of (packing_of bytes r)) (same_answer bytes (Ok h) head one other)
+
+pub packing_is : (bytes : List ℕ) (h : WavHead) (head : Result WavHead WavFault) (law : Law) → Reads bytes (Ok h) → Reads bytes head → law_of_format h.format ≡ Some law → packing_of bytes head ≡ Ok (record { law = law; samples = samples_of bytes h })
+packing_is bytes h head law one other some = ap (packing_of bytes) (same_answer bytes head (Ok h) other one) ∙ ap (packing_under bytes h) some
+
+pub head_fits : (h : WavHead) (law : Law) (size : ℕ) → law_of_format h.format ≡ Some law → FitsFile h size → (h.start + h.frames ≤ size) × (h.frames ≤ 67108864)
+head_fits h law size some fits =
+    let one : h.frames * frame_bytes_of h.format ≡ h.frames = ap (λ (n : ℕ). h.frames * n) (frame_byte h.format law some) ∙ (let e : h.frames * 1 ≡ h.frames = omega arith in e) in
+    (omega (arith, one, fits.within), omega (arith, one, fits.bytes))
+
+samples_count : (bytes : List ℕ) (h : WavHead) (size : ℕ) → h.start + h.frames ≤ size → size ≡ length bytes → length (samples_of bytes h) ≡ h.frames
+samples_count bytes h size within whole = omega (arith, within, whole, length-take h.frames (drop h.start bytes), length-drop h.start bytes)
+
+pub counts_are : (bytes : List ℕ) (h : WavHead) (head : Result WavHead WavFault) (law : Law) (size packets : ℕ) → Reads bytes (Ok h) → Reads bytes head → law_of_format h.format ≡ Some law → h.start + h.frames ≤ size → size ≡ length bytes → packets ≡ packet_count h.frames → Ok (record { packets = packets; frames = h.frames }) ≡ counts_of (packing_of bytes head)
+counts_are bytes h head law size packets one other some within whole count =
+    let make : ℕ → ℕ → Result Packed RtpFault = λ p f. Ok (record { packets = p; frames = f }) in
+    ap (λ (p : ℕ). make p h.frames) count
+    ∙ ap (λ (n : ℕ). make (packet_count n) n) (sym (samples_count bytes h size within whole))
+    ∙ ap counts_of (sym (packing_is bytes h head law one other some))
+
+pub file_is : (bytes : List ℕ) (h : WavHead) (head : Result WavHead WavFault) (law : Law) (size : ℕ) → Reads bytes (Ok h) → Reads bytes head → law_of_format h.format ≡ Some law → h.start + h.frames ≤ size → size ≡ length bytes → packets_file (packing_of bytes head) ≡ magic ++ texts_of law (samples_of bytes h) 0 (packet_count h.frames)
+file_is bytes h head law size one other some within whole =
+    ap packets_file (packing_is bytes h head law one other some) ∙ packed_is law (samples_of bytes h)
+    ∙ ap (λ (n : ℕ). magic ++ texts_of law (samples_of bytes h) 0 (packet_count n)) (samples_count bytes h size within whole)
+
+pub packed-front_magic : (known new : Option (List ℕ)) (bytes : List ℕ) (h : WavHead) (head : Result WavHead WavFault) (law : Law) (size : ℕ) → Reads bytes (Ok h) → Reads bytes head → law_of_format h.format ≡ Some law → h.start + h.frames ≤ size → size ≡ length bytes → AppendsFront known new magic → AppendsFront known new (packets_file (packing_of bytes head))
+packed-front_magic known new bytes h head law size one other some within whole front =
+    subst (AppendsFront known new) (sym (file_is bytes h head law size one other some within whole))
+    (front-first known new magic (texts_of law (samples_of bytes h) 0 (packet_count h.frames)) front)
+
+pub packed-front : (known mid new : Option (List ℕ)) (bytes : List ℕ) (h : WavHead) (head : Result WavHead WavFault) (law : Law) (size place : ℕ) → Reads bytes (Ok h) → Reads bytes head → law_of_format h.format ≡ Some law → h.start + h.frames ≤ size → size ≡ length bytes → place ≡ h.start → mid ≡ append_known known magic → AppendsFront mid new (texts_of law (take h.frames (drop place bytes)) 0 (packet_count h.frames)) → AppendsFront known new (packets_file (packing_of bytes head))
+packed-front known mid new bytes h head law size place one other some within whole at is front =
+    subst (AppendsFront known new) (sym (file_is bytes h head law size one other some within whole))
+    (front-then known mid new magic (texts_of law (samples_of bytes h) 0 (packet_count h.frames)) is
+    (subst (λ (n : ℕ). AppendsFront mid new (texts_of law (take h.frames (drop n bytes)) 0 (packet_count h.frames))) at front))
+
+pub packed-whole : (known mid new : Option (List ℕ)) (bytes : List ℕ) (h : WavHead) (head : Result WavHead WavFault) (law : Law) (size place : ℕ) → Reads bytes (Ok h) → Reads bytes head → law_of_format h.format ≡ Some law → h.start + h.frames ≤ size → size ≡ length bytes → place ≡ h.start → mid ≡ append_known known magic → new ≡ append_known mid (texts_of law (take h.frames (drop place bytes)) 0 (packet_count h.frames)) → new ≡ append_known known (packets_file (packing_of bytes head))
+packed-whole known mid new bytes h head law size place one other some within whole at is taken =
+    let texts = texts_of law (samples_of bytes h) 0 (packet_count h.frames) in
+    taken ∙ ap (λ (n : ℕ). append_known mid (texts_of law (take h.frames (drop n bytes)) 0 (packet_count h.frames))) at
+    ∙ ap (λ (m : Option (List ℕ)). append_known m texts) is ∙ append_known-twice known magic texts
+    ∙ ap (append_known known) (sym (file_is bytes h head law size one other some within whole))

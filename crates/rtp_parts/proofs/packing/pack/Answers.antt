@@ -1,0 +1,33 @@
+use Rattle.std.proofs.Common.{◌≡◌, ◌∙◌, sym, arith}
+use Rattle.rtp_parts.specs.Packing.{packet_count}
+use Rattle.rtp_parts.proofs.PackAnswers.{head_fault, wrong_format, counts_are, packed-front_magic, packed-front, packed-whole}
+use Rattle.rtp_parts.proofs.packing.pack.Goals as goal
+
+pub returns-in-Err-clause-answer : goal.returns-in-Err-clause-answer
+returns-in-Err-clause-answer g c = λ bytes is head read.
+    head_fault bytes c.in-Err.fault c.of_head.result head (c.in-Err.ensures.reads bytes is) read c.of_head.ensures
+
+pub returns-in_default-clause-answer : goal.returns-in_default-clause-answer
+returns-in_default-clause-answer g c = λ bytes is head read.
+    wrong_format bytes c.in-Ok.head head (c.in-Ok.ensures.reads bytes is) read (sym c.of_format.ensures ∙ c.in_default.is)
+
+pub returns-in-Err-write_all-clause-front : goal.returns-in-Err-write_all-clause-front
+returns-in-Err-write_all-clause-front g c = λ bytes is head read.
+    packed-front_magic _ _ bytes c.in-Ok.head head c.in-Some.law c.size-size.result (c.in-Ok.ensures.reads bytes is) read (sym c.of_format.ensures ∙ c.in-Some.is) (omega (arith, c.if-prove.false)) (c.size-size.ensures.value ∙ c.size-size.ensures.told bytes (c.in-Ok.ensures.told ∙ is)) c.write_all.ensures.front
+
+pub returns-in-Ok-pack_samples-clause-answer : goal.returns-in-Ok-pack_samples-clause-answer
+returns-in-Ok-pack_samples-clause-answer g c = λ bytes is head read.
+    let count : c.div_ceil.result ≡ packet_count c.in-Ok.head.frames = omega (arith, c.div_ceil.ensures) in
+    counts_are bytes c.in-Ok.head head c.in-Some.law c.size-size.result _ (c.in-Ok.ensures.reads bytes is) read (sym c.of_format.ensures ∙ c.in-Some.is) (omega (arith, c.if-prove.false)) (c.size-size.ensures.value ∙ c.size-size.ensures.told bytes (c.in-Ok.ensures.told ∙ is)) count
+
+pub returns-in-Ok-pack_samples-clause-file : goal.returns-in-Ok-pack_samples-clause-file
+returns-in-Ok-pack_samples-clause-file g c = λ bytes is head read.
+    packed-whole _ _ _ bytes c.in-Ok.head head c.in-Some.law c.size-size.result _ (c.in-Ok.ensures.reads bytes is) read (sym c.of_format.ensures ∙ c.in-Some.is) (omega (arith, c.if-prove.false)) (c.size-size.ensures.value ∙ c.size-size.ensures.told bytes (c.in-Ok.ensures.told ∙ is)) c.in-Ok.ensures.place c.in-Ok-write_all.ensures.whole (c.in-Ok-pack_samples.ensures.whole bytes (c.in-Ok.ensures.told ∙ is))
+
+pub returns-in-Ok-pack_samples-clause-front : goal.returns-in-Ok-pack_samples-clause-front
+returns-in-Ok-pack_samples-clause-front g c = λ bytes is head read.
+    packed-front _ _ _ bytes c.in-Ok.head head c.in-Some.law c.size-size.result _ (c.in-Ok.ensures.reads bytes is) read (sym c.of_format.ensures ∙ c.in-Some.is) (omega (arith, c.if-prove.false)) (c.size-size.ensures.value ∙ c.size-size.ensures.told bytes (c.in-Ok.ensures.told ∙ is)) c.in-Ok.ensures.place c.in-Ok-write_all.ensures.whole (c.in-Ok-pack_samples.ensures.front bytes (c.in-Ok.ensures.told ∙ is))
+
+pub returns-in-Err-pack_samples-clause-front : goal.returns-in-Err-pack_samples-clause-front
+returns-in-Err-pack_samples-clause-front g c = λ bytes is head read.
+    packed-front _ _ _ bytes c.in-Ok.head head c.in-Some.law c.size-size.result _ (c.in-Ok.ensures.reads bytes is) read (sym c.of_format.ensures ∙ c.in-Some.is) (omega (arith, c.if-prove.false)) (c.size-size.ensures.value ∙ c.size-size.ensures.told bytes (c.in-Ok.ensures.told ∙ is)) c.in-Ok.ensures.place c.in-Ok-write_all.ensures.whole (c.in-Err-pack_samples.ensures.front bytes (c.in-Ok.ensures.told ∙ is))

@@ -1,0 +1,7 @@
+pub mod Packets
+pub mod Packing
+pub mod Arrivals
+pub mod Sorting
+pub mod Unpacking
+pub mod Answers
+pub mod Deliveries

@@ -1,0 +1,12 @@
+//! RTP packets of G.711 (RFC 3550, RFC 3551): a WAV file is cut into packets, and a list of packets that came late, twice
+//! or out of order is put together again.
+#![tactic(auto)]
+
+mod fault;
+mod law;
+mod packing;
+mod records;
+
+pub use fault::RtpFault;
+pub use law::Law;
+pub use packing::{Packed, pack};

@@ -1,0 +1,158 @@
+ghost use Rattle.std.specs.Prelude.{◌≡◌, ℕ, ◌+◌, ◌*◌, ◌≤◌, ◌<◌, ◌^◌, List, length, take, drop, max, IfErr, OnOk, Err, Result};
+ghost use Rattle.std.specs.Io.KnownBytes.{append_known};
+ghost use Rattle.outside_io.specs.Causes.{Rose};
+ghost use Rattle.outside_io.specs.Moves.{AppendsFront, WhereTold};
+ghost use Rattle.wav_form.specs.declared.heads.WavHead.{WavHead};
+ghost use Rattle.omx_types.specs.declared.fault.WavFault.{WavFault};
+ghost use Rattle.wav_form.specs.Reading.{Reads};
+ghost use Rattle.rtp_parts.specs.Packing.{packet_count, texts_of};
+ghost use Rattle.rtp_parts.specs.Answers.{IfShort, UnlessStopped, packing_of, counts_of, packets_file, StoppedPacking, IsStop};
+
+use crate::records::put_records;
+use crate::{Law, RtpFault};
+use outside_io::{Sink, Source, read_exact, write_all};
+use wav_form::read_head;
+
+/// The frames of a packet; the last one may have fewer.
+pub(crate) const PACKET_FRAMES: u64 = 160;
+
+/// The samples that are read at once, at most: 128 packets.
+const SAMPLES: usize = 20_480;
+
+/// The bytes of 128 packets of 160 frames, each with its length and its header.
+const RECORDS: usize = 22_272;
+
+/// What was packed.
+#[derive(Clone, Copy, Debug, PartialEq, Eq)]
+pub struct Packed {
+    pub packets: u64,
+    pub frames: u64,
+}
+
+/// Cuts a WAV file of G.711, with 8,000 frames a second of one channel, into packets of RTP. It takes no memory.
+pub fn pack<S: Source, K: Sink>(src: &mut S, snk: &mut K) -> Result<Packed, RtpFault>
+    // Where the source tells its bytes
+    ensures answer { WhereTold (S.told src.old) (λ bytes. (head : Result WavHead WavFault) → Reads bytes head →
+        UnlessStopped result (λ r. r ≡ counts_of (packing_of bytes head))) }
+    ensures file { WhereTold (S.told src.old) (λ bytes. (head : Result WavHead WavFault) → Reads bytes head →
+        OnOk result (K.told snk.new ≡ append_known (K.told snk.old) (packets_file (packing_of bytes head)))) }
+    ensures front { WhereTold (S.told src.old) (λ bytes. (head : Result WavHead WavFault) → Reads bytes head →
+        AppendsFront (K.told snk.old) (K.told snk.new) (packets_file (packing_of bytes head))) }
+
+    // Over every source and sink
+    ensures read { result ≡ Err RtpFault.Read → Rose (S.faults src.old) (S.faults src.new) }
+    ensures write { result ≡ Err RtpFault.Write → Rose (K.faults snk.old) (K.faults snk.new) }
+    ensures short { IfErr result (λ fault. IfShort fault (StoppedPacking (S.size src.old) (S.told src.old) (S.ends src.old))) }
+    ensures no_memory { ¬ (result ≡ Err RtpFault.OutOfMemory) }
+    ensures told { S.told src.new ≡ S.told src.old }
+    ensures ends { S.ends src.new ≡ S.ends src.old }
+    ensures size { S.size src.new ≡ S.size src.old }
+    ensures name { K.name snk.new ≡ K.name snk.old }
+    ensures read_later { S.faults src.old ≤ S.faults src.new }
+    ensures write_later { K.faults snk.old ≤ K.faults snk.new }
+{
+    let head = match read_head(src) {
+        Ok(head) => head,
+        Err(fault) => return Err(RtpFault::of_head(fault)),
+    };
+    let Some(law) = Law::of_format(head.format) else {
+        return Err(RtpFault::WrongFormat);
+    };
+    let size = src.size();
+    prove!(head.start + head.frames <= size);
+    match write_all(snk, b"omxrtp1\n") {
+        Ok(()) => {}
+        Err(_) => return Err(RtpFault::Write),
+    }
+    match pack_samples(src, snk, law, head.frames) {
+        Ok(()) => Ok(Packed {
+            packets: head.frames.div_ceil(PACKET_FRAMES),
+            frames: head.frames,
+        }),
+        Err(fault) => Err(fault),
+    }
+}
+
+/// Packs the next frames of a source.
+fn pack_samples<S: Source, K: Sink>(
+    src: &mut S,
+    snk: &mut K,
+    law: Law,
+    frames: u64,
+) -> Result<(), RtpFault>
+    requires within { S.place src.old + frames ≤ S.size src.old }
+    requires few { frames ≤ 67108864 }
+    ensures whole { WhereTold (S.told src.old) (λ bytes. OnOk result (
+        K.told snk.new ≡ append_known (K.told snk.old) (texts_of law (take frames (drop (S.place src.old) bytes)) 0 (packet_count frames)))) }
+    ensures front { WhereTold (S.told src.old) (λ bytes.
+        AppendsFront (K.told snk.old) (K.told snk.new) (texts_of law (take frames (drop (S.place src.old) bytes)) 0 (packet_count frames))) }
+    ensures stop { IfErr result (IsStop (S.size src.old) (S.ends src.old) (S.place src.old)
+        (S.faults src.old) (S.faults src.new) (K.faults snk.old) (K.faults snk.new)) }
+    ensures told { S.told src.new ≡ S.told src.old }
+    ensures ends { S.ends src.new ≡ S.ends src.old }
+    ensures size { S.size src.new ≡ S.size src.old }
+    ensures name { K.name snk.new ≡ K.name snk.old }
+    ensures read_later { S.faults src.old ≤ S.faults src.new }
+    ensures write_later { K.faults snk.old ≤ K.faults snk.new }
+{
+    let mut samples = [0u8; SAMPLES];
+    let mut records = [0u8; RECORDS];
+    let mut done = 0;
+    while done < frames {
+        let count = (frames - done).min(SAMPLES as u64);
+        let first = done / PACKET_FRAMES;
+        match pack_piece(
+            src,
+            snk,
+            law,
+            first,
+            &mut samples[..count as usize],
+            &mut records,
+        ) {
+            Ok(()) => done += count,
+            Err(fault) => return Err(fault),
+        }
+    }
+    Ok(())
+}
+
+/// Reads the next samples, which are to fill `samples`, and writes their packets from number `first` on, by way of `records`.
+fn pack_piece<S: Source, K: Sink>(
+    src: &mut S,
+    snk: &mut K,
+    law: Law,
+    first: u64,
+    samples: &mut [u8],
+    records: &mut [u8],
+) -> Result<(), RtpFault>
+    requires within { S.place src.old + length samples.old ≤ S.size src.old }
+    requires few { first ≤ 419431 }
+    requires piece { length samples.old ≤ 20480 }
+    requires room { length records.old ≡ 22272 }
+    ensures whole { WhereTold (S.told src.old) (λ bytes. (all : List ℕ) →
+        take (length samples.old) (drop (S.place src.old) bytes) ≡ take (160 * packet_count (length samples.old)) (drop (160 * first) all) →
+        OnOk result (K.told snk.new ≡ append_known (K.told snk.old) (texts_of law all first (packet_count (length samples.old))))) }
+    ensures front { WhereTold (S.told src.old) (λ bytes. (all : List ℕ) →
+        take (length samples.old) (drop (S.place src.old) bytes) ≡ take (160 * packet_count (length samples.old)) (drop (160 * first) all) →
+        AppendsFront (K.told snk.old) (K.told snk.new) (texts_of law all first (packet_count (length samples.old)))) }
+    ensures place { OnOk result (S.place src.new ≡ S.place src.old + length samples.old) }
+    ensures reached { WhereTold (S.ends src.old) (λ end. OnOk result (S.place src.new ≤ max end (S.place src.old))) }
+    ensures stop { IfErr result (IsStop (S.size src.old) (S.ends src.old) (S.place src.old)
+        (S.faults src.old) (S.faults src.new) (K.faults snk.old) (K.faults snk.new)) }
+    ensures told { S.told src.new ≡ S.told src.old }
+    ensures ends { S.ends src.new ≡ S.ends src.old }
+    ensures size { S.size src.new ≡ S.size src.old }
+    ensures name { K.name snk.new ≡ K.name snk.old }
+    ensures read_later { S.faults src.old ≤ S.faults src.new }
+    ensures write_later { K.faults snk.old ≤ K.faults snk.new }
+{
+    match read_exact(src, samples) {
+        Ok(()) => {}
+        Err(stop) => return Err(RtpFault::of_read(stop)),
+    }
+    let len = put_records(records, law, first, samples);
+    match write_all(snk, &records[..len]) {
+        Ok(()) => Ok(()),
+        Err(_) => Err(RtpFault::Write),
+    }
+}
