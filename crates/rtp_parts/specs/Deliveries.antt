@@ -1,7 +1,10 @@
 -- Deliveries of packets: which arrive, and in which order.
-use Rattle.std.specs.Prelude.{◌≡◌, ℕ, ◌+◌, ◌<◌, List, length, slice_index, map}
+use Rattle.std.specs.Prelude.{◌≤◌, ◌≡◌, ℕ, ◌+◌, ◌<◌, List, length, drop, slice_index, map, Ok}
 use Rattle.rtp_parts.specs.declared.law.Law.{Law}
-use Rattle.rtp_parts.specs.Packing.{packet_at}
+use Rattle.wav_form.specs.Reading.{most_bytes}
+use Rattle.rtp_parts.specs.Packing.{packet_at, file_of}
+use Rattle.rtp_parts.specs.Arrivals.{records_in}
+use Rattle.rtp_parts.specs.Unpacking.{unpacking_of, unpacked}
 
 -- the places of the packets that are delivered, of so many in all, in the order of arrival
 pub record AreDeliveries (count : ℕ) (places : List ℕ) : Type 0 where
@@ -13,3 +16,9 @@ pub record AreDeliveries (count : ℕ) (places : List ℕ) : Type 0 where
 
 abbrev pub delivered : Law → List ℕ → List ℕ → List (List ℕ)
 delivered law samples places = map (packet_at law samples) places
+
+-- these packets are unpacked to these samples, and so is their file, unless it is longer than files may be
+pub record Unpacks (packets : List (List ℕ)) (law : Law) (samples : List ℕ) : Type 0 where
+  pub same_law : (unpacking_of (records_in (drop 8 (file_of packets)))).law ≡ law
+  pub codes : (unpacking_of (records_in (drop 8 (file_of packets)))).codes ≡ samples
+  pub answer : length (file_of packets) ≤ most_bytes → unpacked (file_of packets) ≡ Ok (unpacking_of (records_in (drop 8 (file_of packets))))

@@ -4,9 +4,11 @@
 
 mod fault;
 mod law;
+mod laws;
 mod packing;
 mod records;
 
 pub use fault::RtpFault;
 pub use law::Law;
+pub use laws::deliveries_again;
 pub use packing::{Packed, pack};
