@@ -12,3 +12,6 @@ pub use fault::RtpFault;
 pub use law::Law;
 pub use laws::deliveries_again;
 pub use packing::{Packed, pack};
+
+#[cfg(test)]
+mod tests;
