@@ -12,7 +12,7 @@ use Rattle.outside_io.proofs.Known.{append_known-twice}
 use Rattle.wav_form.specs.Writing.{Puts}
 use Rattle.byteorder.specs.Endian.{big_bytes}
 use Rattle.omx_types.specs.declared.format.Format.{Format}
-use Rattle.omx_types.specs.declared.format.Format.TheVariants.{Pcm, Alaw as AlawAt, Mulaw as MulawAt}
+use Rattle.omx_types.specs.declared.format.Format.TheVariants.{Pcm, Alaw as AlawAt, Mulaw as MulawAt, Auto}
 use Rattle.omx_types.specs.Formats.{frame_bytes_of}
 use Rattle.rtp_parts.specs.declared.law.Law.{Law}
 use Rattle.rtp_parts.specs.Packets.{header, type_of_law, law_of_format}
@@ -105,6 +105,7 @@ pub frame_byte : (format : Format) (law : Law) → law_of_format format ≡ Some
 frame_byte (Pcm rate channels) law h = cc
 frame_byte (AlawAt rate channels) law h = grind arith
 frame_byte (MulawAt rate channels) law h = grind arith
+frame_byte Auto law h = cc
 
 pub packed_is : (law : Law) (samples : List ℕ) → packed law samples ≡ magic ++ texts_of law samples 0 (packet_count (length samples))
 unfolding packed

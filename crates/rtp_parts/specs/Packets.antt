@@ -2,7 +2,7 @@
 use Rattle.std.specs.Prelude.{ℕ, pos, ◌+◌, ◌-◌, ◌*◌, ◌/◌, ◌%◌, Bool, true, false, not, ◌==◌, nat_le, ◌&&◌, ◌||◌, if◌then◌else◌, List, [], ◌∷◌, ◌++◌, length, take, drop, slice_index, Option, Some, None}
 use Rattle.byteorder.specs.Endian.{big_bytes, big_from}
 use Rattle.omx_types.specs.declared.format.Format.{Format}
-use Rattle.omx_types.specs.declared.format.Format.TheVariants.{Pcm, Alaw as AlawAt, Mulaw as MulawAt}
+use Rattle.omx_types.specs.declared.format.Format.TheVariants.{Pcm, Alaw as AlawAt, Mulaw as MulawAt, Auto}
 use Rattle.g711_law.specs.Alaw.{alaw_code}
 use Rattle.g711_law.specs.Mulaw.{mulaw_code}
 use Rattle.rtp_parts.specs.declared.law.Law.{Law}
@@ -25,6 +25,7 @@ abbrev pub law_of_format : Format → Option Law
 law_of_format (Pcm rate channels) = None
 law_of_format (AlawAt rate channels) = if (rate == 8000) && (channels == 1) then Some Alaw else None
 law_of_format (MulawAt rate channels) = if (rate == 8000) && (channels == 1) then Some Mulaw else None
+law_of_format Auto = None
 
 abbrev pub same_law : Law → Law → Bool
 same_law Mulaw Mulaw = true

@@ -2,7 +2,7 @@
 use Rattle.std.specs.Prelude.{ℕ, ◌-◌, not, nat_lt, if◌then◌else◌, List, [], ◌∷◌, length, take, drop, bytes_eq, Option, None, Result, Ok, Err}
 use Rattle.omx_types.specs.declared.fault.WavFault.TheVariants.{TooLarge}
 use Rattle.wav_form.specs.Reading.{most_bytes}
-use Rattle.wav_form.specs.Writing.{written}
+use Rattle.part_forms.specs.Writing.{written}
 use Rattle.rtp_parts.specs.declared.law.Law.{Law}
 use Rattle.rtp_parts.specs.declared.law.Law.TheVariants.{Mulaw}
 use Rattle.rtp_parts.specs.declared.fault.RtpFault.{RtpFault}
