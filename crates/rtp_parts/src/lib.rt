@@ -1,5 +1,5 @@
-//! RTP packets of G.711 (RFC 3550, RFC 3551): a WAV file is cut into packets, and a list of packets that came late, twice
-//! or out of order is put together again.
+//! RTP packets of G.711 (RFC 3550, RFC 3551): a WAV file is cut into packets, and the law by which a list of packets that
+//! came late, twice or out of order gives the samples again.
 #![tactic(auto)]
 
 mod fault;
