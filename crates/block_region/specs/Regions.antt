@@ -30,7 +30,7 @@ abbrev pub fresh : ℕ → ℕ → ℕ → BlockRegion
 fresh number blocks size = record { key = record { number = number; size = size }; blocks = blocks; free = blocks }
 
 -- one block fewer is at home, and that is b
-pub record AreTaken (old : BlockRegion) (b : RegionBlock) (new : BlockRegion) : Type 0 where
+pub record IsTaken (old : BlockRegion) (b : RegionBlock) (new : BlockRegion) : Type 0 where
   pub key : b.key ≡ old.key
   pub size : length b.bytes ≡ old.key.size
   pub same_key : new.key ≡ old.key

@@ -1,5 +1,5 @@
-ghost use Rattle.std.specs.Prelude.{◌≡◌, ◌*◌, ◌≤◌, ◌↔◌, None, IsNone, IfOk, IfSome, length};
-ghost use Rattle.block_region.specs.Regions.{fresh, AreTaken, given_back, AllHome};
+ghost use Rattle.std.specs.Prelude.{◌≡◌, ◌+◌, ◌*◌, ◌≤◌, ◌↔◌, None, IsNone, IfOk, IfSome, length};
+ghost use Rattle.block_region.specs.Regions.{fresh, out, IsTaken, given_back, AllHome};
 
 use crate::block::Block;
 use crate::key::Key;
@@ -54,7 +54,7 @@ impl Region {
     pub fn take(&mut self) -> Option<Block>
         ensures none { IsNone result ↔ (self.old.free ≡ 0) }
         ensures unchanged { IsNone result → self.new ≡ self.old }
-        ensures taken { IfSome result (λ b. AreTaken self.old b self.new) }
+        ensures taken { IfSome result (λ b. IsTaken self.old b self.new) }
     {
         let bytes = self.free.pop()?;
         Some(Block {
@@ -77,7 +77,7 @@ impl Region {
     /// How many blocks are at home.
     pub fn free(&self) -> u32
         ensures free { result ≡ self.now.free }
-        ensures whole { result ≤ self.now.blocks }
+        ensures whole { result + out self.now ≡ self.now.blocks }
     {
         self.free.len() as u32
     }

@@ -1,12 +1,12 @@
 ghost use Rattle.std.specs.Prelude.{◌≡◌, ◌+◌, ◌<◌, ◌≤◌, [], All, length, vec_len, vec_capacity};
-ghost use Rattle.block_region.specs.Regions.{AreTaken};
+ghost use Rattle.block_region.specs.Regions.{IsTaken};
 
 use crate::{Block, Region};
 use std::test::Fail;
 
 fn take_one(region: &mut Region) -> Block
     requires { 0 < region.old.free }
-    ensures { AreTaken region.old result region.new }
+    ensures { IsTaken region.old result region.new }
 {
     match region.take() {
         Some(block) => block,

@@ -1,4 +1,4 @@
-use Rattle.std.proofs.Common.{◌≡◌, ℕ, ◌+◌, ◌*◌, All, length, vec_capacity}
+use Rattle.std.proofs.Common.{◌≡◌, ◌+◌, ◌*◌, All, length, vec_capacity}
 use Rattle.block_region.proofs.region.Region.new.Given as goal
 
 abbrev pub invariant-loop : goal.invariant-loop
