@@ -1,0 +1,7 @@
+pub mod Accepting
+pub mod DueLaws
+pub mod Masks
+pub mod Ordering
+pub mod PaceLaws
+pub mod Passing
+pub mod QueueLaws

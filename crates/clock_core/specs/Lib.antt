@@ -1,0 +1,4 @@
+pub mod Clock
+pub mod Due
+pub mod Kept
+pub mod Pace

@@ -1,0 +1,15 @@
+//! A media clock after the OpenMAX IL clock component: requests are fulfilled as its media time reaches theirs.
+//! The wall moment is handed in with each call. No call takes memory.
+#![tactic(auto)]
+
+mod act;
+mod clock;
+mod due;
+mod motion;
+mod pace;
+mod queue;
+mod refusing;
+
+pub use act::{ClockAct, ClockRefusal, Fulfilled, Request};
+pub use clock::Clock;
+pub use motion::Motion;
