@@ -1,4 +1,5 @@
 pub mod Clock
 pub mod Due
 pub mod Kept
+pub mod Next
 pub mod Pace

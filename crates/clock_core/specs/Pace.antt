@@ -1,5 +1,5 @@
 -- A media time that goes on.
-use Rattle.std.specs.Prelude.{◌≡◌, ℕ, ◌+◌, ◌-◌, ◌*◌, ◌/◌, ◌^◌, ◌<◌, ◌≤◌, nat_le, if◌then◌else◌}
+use Rattle.std.specs.Prelude.{◌≡◌, ℕ, ◌+◌, ◌-◌, ◌*◌, ◌/◌, ◌^◌, ◌<◌, ◌≤◌, nat_le, if◌then◌else◌, Option, Some, None}
 use Rattle.std.specs.Int.{div_ceil}
 use Rattle.clock_core.specs.declared.pace.Pace.{Pace}
 
@@ -23,3 +23,7 @@ pub record IsFirst (pace : Pace) (media moment : ℕ) : Type 0 where
 abbrev pub first_at : Pace → ℕ → ℕ
 first_at pace media =
     if nat_le media pace.media then pace.since else pace.since + div_ceil ((media - pace.media) * 65536) pace.scale
+
+-- that moment, if it isn't behind 2 ^ 53
+abbrev pub first_within : Pace → ℕ → Option ℕ
+first_within pace media = if nat_le media (media_at pace (2 ^ 53)) then Some (first_at pace media) else None

@@ -1,7 +1,8 @@
-ghost use Rattle.std.specs.Prelude.{◌≡◌, ◌^◌, ◌≤◌, ◌++◌, length, drop, None};
+ghost use Rattle.std.specs.Prelude.{◌≡◌, ◌^◌, ◌≤◌, ◌++◌, ◌↔◌, length, drop, None, IfSome, IsNone};
 ghost use Rattle.clock_core.specs.Clock.{opening, answer_of_call, after_call, notes_of_call, state_after, notes_of, refusal_of, HasMediaWithin};
+ghost use Rattle.clock_core.specs.Next.{IsNextWall, HasNoNext};
 
-use crate::due::{Requests, fulfil_until};
+use crate::due::{Requests, front_moment, fulfil_until};
 use crate::motion::{motion_after, pace_of, scale_after};
 use crate::queue::change;
 use crate::refusing::refusal_of_act;
@@ -65,6 +66,15 @@ impl Clock {
             Some(refusal) => Err(refusal),
             None => Ok(self.accept(wall, act, out)),
         }
+    }
+
+    /// The next wall moment at which a request is fulfilled, if only time passes.
+    pub fn next_wall(&self) -> Option<u64>
+        ensures next { IfSome result (IsNextWall self.now) }
+        ensures within { IfSome result (λ wall. wall ≤ 2 ^ 53) }
+        ensures none { IsNone result ↔ HasNoNext self.now }
+    {
+        front_moment(pace_of(self.motion, self.scale), self.requests.as_slice())
     }
 
     /// A call that isn't refused.

@@ -1,9 +1,10 @@
 ghost use Rattle.std.specs.Prelude.{◌≡◌, ◌+◌, ◌^◌, ◌<◌, ◌≤◌, ◌++◌, ◌∷◌, length, take, drop, Some, IfSome};
 ghost use Rattle.clock_core.specs.Pace.{IsSlow};
 ghost use Rattle.clock_core.specs.Kept.{CanGoOn};
+ghost use Rattle.clock_core.specs.Next.{front_moment};
 ghost use Rattle.clock_core.specs.Due.{AreInOrder, FrontIs, due_until, left_after, notes_until, note_from};
 
-use crate::pace::{Pace, first_at, media_at};
+use crate::pace::{Pace, first_at, first_within, media_at};
 use crate::{Fulfilled, Request};
 use arrayvec::ArrayVec;
 
@@ -78,4 +79,14 @@ fn due_front(requests: &Requests, reached: u64) -> Option<Request>
         Some(request) if request.media <= reached => Some(*request),
         _ => None,
     }
+}
+
+/// The moment at which the first request is due, if it isn't behind the last one.
+pub(crate) fn front_moment(pace: Option<Pace>, requests: &[Request]) -> Option<u64>
+    requires { CanGoOn pace (2 ^ 53) }
+    ensures { result ≡ front_moment pace requests.now }
+{
+    let pace = pace?;
+    let first = requests.first()?;
+    first_within(pace, first.media)
 }

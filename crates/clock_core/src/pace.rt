@@ -1,8 +1,11 @@
 ghost use Rattle.std.specs.Prelude.{◌≡◌, ◌^◌, ◌≤◌};
-ghost use Rattle.clock_core.specs.Pace.{IsSlow, IsFirst, media_at, first_at};
+ghost use Rattle.clock_core.specs.Pace.{IsSlow, IsFirst, media_at, first_at, first_within};
 
 /// A media time of 65,536ths: a scale of this many goes on by one in a moment.
 const WHOLE: u64 = 65_536;
+
+/// The last wall moment that a clock knows.
+const LAST: u64 = 1 << 53;
 
 /// A media time that goes on: at the wall moment `since` it was `media`.
 #[derive(Clone, Copy)]
@@ -48,4 +51,16 @@ pub(crate) fn first_at(pace: Pace, media: u64) -> u64
     let runs = left / scale;
     let rest = left % scale;
     pace.since + runs * WHOLE + (rest * WHOLE).div_ceil(scale)
+}
+
+/// That moment, if it isn't behind the last one.
+pub(crate) fn first_within(pace: Pace, media: u64) -> Option<u64>
+    requires slow { IsSlow pace }
+    ensures { result ≡ first_within pace media }
+{
+    if media <= media_at(pace, LAST) {
+        Some(first_at(pace, media))
+    } else {
+        None
+    }
 }
