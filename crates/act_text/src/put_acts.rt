@@ -238,12 +238,7 @@ fn put_known<'a>(
 }
 
 /// The definition of a port whose format isn't known.
-fn put_unknown(
-    port: &PortName,
-    count: u32,
-    size: u32,
-    out: &mut Vec<u8>,
-) -> Result<(), OutOfMemory>
+fn put_unknown(port: &PortName, count: u32, size: u32, out: &mut Vec<u8>) -> Result<(), OutOfMemory>
     ensures ok { OnOk result (out.new.items ≡ out.old.items ++ spaced (codes "set" ∷ port_word port.now ∷ codes "port" ∷ codes "auto" ∷ decimal count ∷ decimal size ∷ [])) }
     ensures err { OnErr result (IsGrown out.old.items out.new.items) }
 {

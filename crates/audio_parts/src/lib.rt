@@ -32,8 +32,8 @@ pub use laws::{
 };
 pub use mixer::Mixer;
 pub use one_input::OneInput;
-pub use part_forms::Law;
 pub use part_file::PartFile;
+pub use part_forms::Law;
 pub use sink_file::SinkFile;
 pub use source_file::SourceFile;
 pub use splitter::{Splitter, Splitting};

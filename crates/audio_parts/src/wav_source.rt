@@ -42,7 +42,11 @@ pub struct WavSource<S: Source> {
 
 impl<S: Source> WavSource<S> {
     /// A source without a file.
-    pub(crate) fn new(alloc: Global, late: bool, format: Format) -> Result<WavSource<S>, OutOfMemory>
+    pub(crate) fn new(
+        alloc: Global,
+        late: bool,
+        format: Format,
+    ) -> Result<WavSource<S>, OutOfMemory>
         requires { IsWithinLimits format }
         ensures late { IfOk result (λ part. part.late ≡ late) }
         ensures file { IfOk result (λ part. part.file ≡ None) }
