@@ -1,12 +1,11 @@
 -- What an accepted call comes to, by division.
-use Rattle.std.proofs.Common.{◌≡◌, ℕ, ◌+◌, ◌-◌, ◌*◌, ◌/◌, ◌^◌, ◌<◌, ◌≤◌, List, [], ◌∷◌, ◌++◌, length, take, drop, refl, sym, ap, subst, inl, inr, ◌∙◌, length-append, arith}
-use Rattle.std.specs.Prelude.{filter, map, min, not, ◌==◌, nat_lt, Bool, true, false, Option, Some, None, if◌then◌else◌}
+use Rattle.std.proofs.Common.{◌≡◌, ℕ, ◌+◌, ◌-◌, ◌*◌, ◌/◌, ◌^◌, ◌<◌, ◌≤◌, List, [], ◌++◌, length, take, drop, refl, sym, ap, ◌∙◌, length-append, arith}
+use Rattle.std.specs.Prelude.{not, ◌==◌, nat_lt, Bool, true, false, Option, Some, None, if◌then◌else◌}
 use Rattle.std.specs.List.{list_any}
-use Rattle.std.proofs.lemmas.Bool.{cases_lt}
 use Rattle.std.proofs.lemmas.Grind.{common_steps}
 use Rattle.std.proofs.lemmas.List.{take-append-drop, drop-drop, length-map}
 use Rattle.std.proofs.Math.Nat.{mul-le-mul_left, div-le_of_le-mul}
-use Rattle.clock_core.specs.Clock.{State, acted, before_last_notes, fulfilled, has_id, is_due, least_of, motion_after, notes_now, notes_of, notes_passing, pace_of, passed, refusal_of, refusal_of_act, refusal_of_request, requests_after, rescaled, scale_after, state_after, told, waits_for, HasMediaWithin}
+use Rattle.clock_core.specs.Clock.{State, acted, before_last_notes, fulfilled, has_id, is_due, least_of, motion_after, notes_now, notes_of, pace_of, passed, refusal_of, refusal_of_act, refusal_of_request, requests_after, rescaled, scale_after, state_after, told, HasMediaWithin}
 use Rattle.clock_core.specs.Due.{AreInOrder, due_until, left_after, note_from, notes_until}
 use Rattle.clock_core.specs.Kept.{IsKept, IsReachable, IsWithin, HasRoomFor}
 use Rattle.clock_core.specs.Pace.{media_at}

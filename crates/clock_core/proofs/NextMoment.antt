@@ -1,12 +1,12 @@
 -- The moment of the front request is the next one at which one is fulfilled.
-use Rattle.std.proofs.Common.{◌≡◌, ℕ, suc, zero, ◌+◌, ◌-◌, ◌*◌, ◌/◌, ◌^◌, ◌<◌, ◌≤◌, ◌⊎◌, List, [], ◌∷◌, length, refl, sym, ap, subst, inl, inr, ◌∙◌, arith}
+use Rattle.std.proofs.Common.{◌≡◌, ℕ, ◌+◌, ◌-◌, ◌*◌, ◌/◌, ◌^◌, ◌<◌, ◌≤◌, List, [], ◌∷◌, refl, sym, ap, subst, inl, inr, ◌∙◌, arith}
 use Rattle.std.specs.Prelude.{map, nat_le, Bool, true, false, Option, Some, None, if◌then◌else◌, IfSome, IsNone, ◌↔◌}
 use Rattle.std.proofs.lemmas.Bool.{cases_lt, le-leb}
 use Rattle.std.proofs.Math.Nat.{mul-le-mul_left}
 use Rattle.clock_core.specs.Clock.{State, notes_passing, pace_of}
-use Rattle.clock_core.specs.Due.{AreInOrder, due_until, note_from}
-use Rattle.clock_core.specs.Kept.{IsKept, IsReachable}
-use Rattle.clock_core.specs.Next.{IsNextWall, IsRunning, HasNoNext, front_moment}
+use Rattle.clock_core.specs.Due.{note_from}
+use Rattle.clock_core.specs.Kept.{IsKept}
+use Rattle.clock_core.specs.Next.{IsNextWall, HasNoNext, front_moment}
 use Rattle.clock_core.specs.Pace.{media_at, first_at, first_within, IsFirst}
 use Rattle.clock_core.specs.declared.act.Fulfilled.{Fulfilled}
 use Rattle.clock_core.specs.declared.act.Request.{Request}

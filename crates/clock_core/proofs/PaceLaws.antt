@@ -1,11 +1,11 @@
 -- A pace that goes on: its media time never falls, and the moment by division is the first one.
-use Rattle.std.proofs.Common.{◌≡◌, ℕ, zero, suc, ◌+◌, ◌-◌, ◌*◌, ◌/◌, ◌%◌, ◌^◌, ◌<◌, ◌≤◌, ◌⊎◌, inl, inr, refl, sym, ap, subst, ◌∙◌, arith}
+use Rattle.std.proofs.Common.{◌≡◌, ℕ, zero, suc, ◌+◌, ◌-◌, ◌*◌, ◌/◌, ◌%◌, ◌<◌, ◌≤◌, inl, inr, refl, sym, ap, ◌∙◌, arith}
 use Rattle.std.specs.Prelude.{min, Bool, true, false, nat_le, if◌then◌else◌}
 use Rattle.std.specs.Int.{div_ceil}
-use Rattle.std.proofs.Math.Nat.{le-div_iff_mul-le, add-mul-div_left, add-mul-mod_self_left, lt_of_mul-lt-mul_right, mul-le-mul_right, mul-le-mul_left, div-add-mod}
+use Rattle.std.proofs.Math.Nat.{le-div_iff_mul-le, add-mul-div_left, add-mul-mod_self_left, lt_of_mul-lt-mul_right, mul-le-mul_right, div-add-mod}
 use Rattle.std.proofs.lemmas.Grind.{div_ceil_times, common_steps}
 use Rattle.std.proofs.lemmas.Bool.{cases_lt}
-use Rattle.clock_core.specs.Pace.{media_at, first_at, IsFirst, IsSlow}
+use Rattle.clock_core.specs.Pace.{media_at, first_at, IsFirst}
 use Rattle.clock_core.specs.declared.pace.Pace.{Pace}
 
 -- a quotient isn't below a number exactly where the product isn't

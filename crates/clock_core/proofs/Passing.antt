@@ -1,10 +1,10 @@
 -- What division finds is what the clock comes to that goes from moment to moment.
-use Rattle.std.proofs.Common.{◌≡◌, ℕ, zero, suc, ◌+◌, ◌<◌, ◌≤◌, List, [], ◌∷◌, ◌++◌, length, refl, sym, ap, subst, inl, inr, ◌∙◌, add-zero, arith}
-use Rattle.std.specs.Prelude.{filter, map, max, not, Bool, true, false, Option, Some, None}
+use Rattle.std.proofs.Common.{◌≡◌, ℕ, zero, suc, ◌+◌, ◌<◌, ◌≤◌, List, [], ◌++◌, refl, sym, ap, inl, inr, ◌∙◌, add-zero, arith}
+use Rattle.std.specs.Prelude.{map, max, Option, Some, None}
 use Rattle.std.proofs.lemmas.Bool.{cases_lt}
 use Rattle.std.proofs.lemmas.List.{map-append}
-use Rattle.clock_core.specs.Clock.{State, is_due_at, note_at, notes_now, fulfilled, next_moment, passed, notes_passing, pace_of}
-use Rattle.clock_core.specs.Due.{AllFrom, AreInOrder, due_until, left_after, notes_until, note_from, first_of}
+use Rattle.clock_core.specs.Clock.{State, note_at, notes_now, passed, notes_passing, pace_of}
+use Rattle.clock_core.specs.Due.{AllFrom, AreInOrder, due_until, left_after, notes_until, note_from}
 use Rattle.clock_core.specs.Kept.{IsReachable}
 use Rattle.clock_core.specs.Pace.{media_at, first_at}
 use Rattle.clock_core.specs.declared.act.Fulfilled.{Fulfilled}

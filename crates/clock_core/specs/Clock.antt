@@ -1,10 +1,10 @@
 -- The clock that goes from moment to moment, one at a time.
-use Rattle.std.specs.Prelude.{◌≡◌, ℕ, zero, suc, ◌+◌, ◌-◌, ◌<◌, ◌≤◌, ◌^◌, min, Bool, true, false, not, ◌==◌, nat_lt, nat_le, if◌then◌else◌, List, [], ◌∷◌, ◌++◌, map, filter, length, Option, Some, None, Result, Ok, Err}
+use Rattle.std.specs.Prelude.{ℕ, zero, suc, ◌+◌, ◌-◌, ◌≤◌, ◌^◌, min, Bool, false, not, ◌==◌, nat_lt, nat_le, if◌then◌else◌, List, [], ◌∷◌, ◌++◌, map, filter, length, Option, Some, None, Result, Ok, Err}
 use Rattle.std.specs.List.{list_any}
 use Rattle.std.specs.Int.{bit_at}
 use Rattle.clock_core.specs.Pace.{media_at}
 use Rattle.clock_core.specs.declared.act.ClockAct.{ClockAct}
-use Rattle.clock_core.specs.declared.act.ClockAct.TheVariants.{Start, Stop, Scale, Wait, Port, Ask, Cancel, Pass}
+use Rattle.clock_core.specs.declared.act.ClockAct.TheVariants.{Start, Stop, Scale, Wait, Port, Ask, Cancel}
 use Rattle.clock_core.specs.declared.act.ClockRefusal.{ClockRefusal}
 use Rattle.clock_core.specs.declared.act.ClockRefusal.TheVariants.{Backwards, BadScale, BadMask, NotWaiting, Taken, Full, Unknown}
 use Rattle.clock_core.specs.declared.act.Fulfilled.{Fulfilled}

@@ -1,5 +1,5 @@
 -- The requests that are due at a moment, and their notes.
-use Rattle.std.specs.Prelude.{◌≡◌, ℕ, ◌+◌, ◌≤◌, ◌<◌, max, Bool, not, ◌⊎◌, List, [], ◌∷◌, ◌++◌, map, filter, length, take, drop, Option, Some, None}
+use Rattle.std.specs.Prelude.{◌≡◌, ℕ, ◌≤◌, ◌<◌, max, not, ◌⊎◌, List, [], ◌∷◌, map, filter, drop, Option, Some, None}
 use Rattle.clock_core.specs.Clock.{is_due_at}
 use Rattle.clock_core.specs.Pace.{first_at}
 use Rattle.clock_core.specs.declared.act.Fulfilled.{Fulfilled}

@@ -1,10 +1,10 @@
 -- The next moment at which a request is fulfilled.
-use Rattle.std.specs.Prelude.{◌≡◌, ◌≢◌, ℕ, ◌+◌, ◌-◌, ◌^◌, ◌<◌, ◌≤◌, ◌⊎◌, List, [], ◌∷◌, Option, Some, None}
+use Rattle.std.specs.Prelude.{◌≡◌, ◌≢◌, ℕ, ◌+◌, ◌-◌, ◌^◌, ◌<◌, ◌⊎◌, List, [], ◌∷◌, Option, Some, None}
 use Rattle.clock_core.specs.Clock.{State, notes_passing}
 use Rattle.clock_core.specs.Pace.{first_within}
 use Rattle.clock_core.specs.declared.act.Request.{Request}
 use Rattle.clock_core.specs.declared.motion.Motion.{Motion}
-use Rattle.clock_core.specs.declared.motion.Motion.TheVariants.{Stopped, Running, Waiting}
+use Rattle.clock_core.specs.declared.motion.Motion.TheVariants.{Running}
 use Rattle.clock_core.specs.declared.pace.Pace.{Pace}
 
 -- the least moment at which a request is fulfilled if only time passes

@@ -1,5 +1,5 @@
 -- A media time that goes on.
-use Rattle.std.specs.Prelude.{◌≡◌, ℕ, ◌+◌, ◌-◌, ◌*◌, ◌/◌, ◌^◌, ◌<◌, ◌≤◌, nat_le, if◌then◌else◌, Option, Some, None}
+use Rattle.std.specs.Prelude.{ℕ, ◌+◌, ◌-◌, ◌*◌, ◌/◌, ◌^◌, ◌<◌, ◌≤◌, nat_le, if◌then◌else◌, Option, Some, None}
 use Rattle.std.specs.Int.{div_ceil}
 use Rattle.clock_core.specs.declared.pace.Pace.{Pace}
 

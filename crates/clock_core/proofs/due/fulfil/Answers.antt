@@ -1,6 +1,6 @@
 use Rattle.std.proofs.Common.{◌≡◌, [], length, take, ◌++◌, List, sym, ap, ◌∙◌, append-nil, arith}
 use Rattle.std.specs.Prelude.{Some, map}
-use Rattle.clock_core.specs.Due.{due_until, left_after, note_from}
+use Rattle.clock_core.specs.Due.{due_until, note_from}
 use Rattle.clock_core.specs.Pace.{media_at}
 use Rattle.clock_core.specs.declared.act.Request.{Request}
 use Rattle.clock_core.proofs.DueLaws.{due-at_end, left-at_end}

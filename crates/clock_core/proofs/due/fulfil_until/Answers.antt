@@ -1,4 +1,4 @@
-use Rattle.std.proofs.Common.{◌≡◌, ◌++◌, [], List, length, take, sym, ap, ◌∙◌, append-nil, arith}
+use Rattle.std.proofs.Common.{◌++◌, List, length, take, sym, ap, ◌∙◌, append-nil, arith}
 use Rattle.std.specs.Prelude.{None, map}
 use Rattle.clock_core.specs.Due.{note_from}
 use Rattle.clock_core.specs.declared.act.Request.{Request}

@@ -1,5 +1,5 @@
 use Rattle.std.proofs.Common.{arith}
-use Rattle.clock_core.proofs.Masks.{port-below, bit-le}
+use Rattle.clock_core.proofs.Masks.{port-below}
 use Rattle.clock_core.proofs.motion.without_port.Goals as goal
 
 pub overflow_shl-result : goal.overflow_shl-result

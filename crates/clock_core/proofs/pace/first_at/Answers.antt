@@ -1,6 +1,3 @@
-use Rattle.std.proofs.Common.{◌≡◌, ◌+◌, ◌*◌, ◌/◌, ◌%◌, ◌-◌, ◌≤◌, sym, subst, ℕ, arith, ◌∙◌}
-use Rattle.std.specs.Int.{div_ceil}
-use Rattle.clock_core.specs.Pace.{IsFirst, first_at}
 use Rattle.clock_core.proofs.PaceLaws.{first_at-IsFirst, first_at-runs, first_at-le}
 use Rattle.clock_core.proofs.pace.first_at.Goals as goal
 

@@ -1,4 +1,4 @@
-use Rattle.std.proofs.Common.{◌≡◌, ◌+◌, ◌*◌, ◌/◌, ◌%◌, ◌-◌, ap, arith}
+use Rattle.std.proofs.Common.{◌-◌, arith}
 use Rattle.clock_core.proofs.PaceLaws.{media-split}
 use Rattle.clock_core.proofs.pace.media_at.Goals as goal
 

@@ -1,6 +1,5 @@
-use Rattle.std.proofs.Common.{◌≡◌, ◌+◌, ◌≤◌, ◌++◌, List, length, take, drop, sym, ap, subst, ◌∙◌, arith}
-use Rattle.std.specs.Prelude.{None}
-use Rattle.clock_core.specs.Clock.{State, pace_of, refusal_of, requests_after, state_after, notes_of}
+use Rattle.std.proofs.Common.{◌++◌, List, length, drop, sym, ap, subst, ◌∙◌, arith}
+use Rattle.clock_core.specs.Clock.{State, requests_after}
 use Rattle.clock_core.specs.Due.{due_until, left_after}
 use Rattle.clock_core.specs.Kept.{IsKept}
 use Rattle.clock_core.specs.declared.act.Fulfilled.{Fulfilled}

@@ -1,11 +1,4 @@
-use Rattle.std.proofs.Common.{sym, subst, ap, ◌≡◌, ◌∙◌, ℕ, List}
-use Rattle.std.specs.Prelude.{Option}
-use Rattle.clock_core.specs.Clock.{State}
-use Rattle.clock_core.specs.Next.{front_moment}
-use Rattle.clock_core.specs.declared.act.Request.{Request}
-use Rattle.clock_core.specs.declared.pace.Pace.{Pace}
-use Rattle.clock_core.proofs.NextMoment.{Says, next-says}
-use Rattle.clock_core.proofs.Passing.{at_moment}
+use Rattle.clock_core.proofs.NextMoment.{next-says}
 use Rattle.clock_core.proofs.clock.Clock.next_wall.Goals as goal
 
 pub returns-clause-next : goal.returns-clause-next
