@@ -63,7 +63,7 @@ impl Region {
         })
     }
 
-    /// Takes a block of this region home.
+    /// Takes a block of this region home, if one was out.
     pub fn give(&mut self, block: Block)
         requires { block.key ≡ self.old.key }
         ensures { self.new ≡ given_back self.old }

@@ -55,8 +55,8 @@ abbrev pub IsWriting : Terms → Stream → Writing → Type 0
 IsWriting t s x =
     (t.file ≡ Some (To x.planned)) × (x.headed ≡ not (is_empty s.written)) × (x.left ≡ x.planned - s.frames) × (x.due ≡ false)
 
--- A part of these terms has had so much go through it. Of what its file still gives, and of how far its writing has come, nothing is claimed
--- once it failed.
+-- A part of these terms has had so much go through it. Of the bytes that its file still gives, and of how far its writing has come, nothing
+-- is claimed once it failed.
 pub record HasDone (t : Terms) (failed : Bool) (s : Stream) (p : PartSeen) : Type 0 where
   pub left : is_source t.kind ≡ true → p.left ≡ Some (frames_left t s)
   pub rest : is_source t.kind ≡ true → failed ≡ false → p.rest ≡ option_map (drop (bytes_given t s)) s.known

@@ -79,7 +79,7 @@ pub record Given : Type 0 where
   pub component : ℕ
   pub note : Note
 
--- what has gone through a component's part and its file since the file came
+-- what has gone through a component's part and its file since the file came, or, as long as none came, since the component was made
 pub record Stream : Type 0 where
   pub component : ℕ
   -- the frames of all its steps

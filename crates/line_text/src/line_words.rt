@@ -4,7 +4,7 @@ ghost use Rattle.line_text.specs.Lists.{texts, held_words};
 
 use crate::next_word;
 
-/// The most words that a line of a form has.
+/// More words than a line of any form has.
 const ROOM: usize = 16;
 
 /// The words of a line, in place.

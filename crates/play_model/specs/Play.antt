@@ -33,6 +33,7 @@ pub record Play : Type 0 where
   pub stage : ℕ → ℕ
   -- the end of the stream was told
   pub told : ℕ → Bool
+  -- (once a component has reached Idle again, its part in the machine begins anew; here it has ended, and stays so)
   pub flow : Flow
   -- of a late source's link, how far its change has gone
   pub change : ℕ → Change
