@@ -19,12 +19,14 @@ use Rattle.il_machine.specs.Components.{no_progress, is_vacant, with_new_compone
 use Rattle.il_machine.specs.Whole.{Kept, Steps}
 use Rattle.il_machine.specs.Sound.{Sound, port_at}
 use Rattle.machine_laws.proofs.Coming.{sound_new}
+use Rattle.machine_laws.proofs.Every.{from_places}
 use Rattle.machine_laws.proofs.Keys.{key_is}
 use Rattle.machine_laws.proofs.Lookups.{rises_at, has_port}
 use Rattle.machine_laws.proofs.Parts.{parts_of, ports_in_list}
 use Rattle.machine_laws.proofs.PortChanges.{none_for}
 use Rattle.whole_laws.proofs.Lists.{get_last}
 use Rattle.whole_laws.proofs.Entries.{held_added}
+use Rattle.whole_laws.specs.Entries.{no_part}
 use Rattle.whole_laws.proofs.Making.{with_component_made, lift_made}
 use Rattle.note_queues.specs.declared.taken.Taken.{Taken}
 use Rattle.note_queues.specs.Queues.{note_of}
@@ -34,7 +36,7 @@ use Rattle.port_stock.specs.Conditions.{IsWithoutPorts, IsUnmade, has_key}
 use Rattle.il_component.specs.Entries.{Entry, component_of, held_in}
 use Rattle.graph_core.specs.Registered.{Registered}
 use Rattle.graph_core.specs.Standing.{HasPorts, IsGraph, SoundWorld}
-use Rattle.graph_core.specs.Entries.{Entries, components_of, held_by, noticed_in, progress_at, kept}
+use Rattle.graph_core.specs.Entries.{Entries, components_of, no_parts, held_by, noticed_in, progress_at, kept}
 use Rattle.graph_core.proofs.Renumbered.{sound_there}
 use Rattle.graph_core.proofs.Replacing.{next_world}
 
@@ -123,22 +125,24 @@ module _ {C : Type 0} (progress : C → Progress) where
       ap (λ (x : Seen). x.count (is_for key)) (h ∙ sym hs) ∙ z
 
   -- another stock with the same value
-  kept_restocked : (es : List (Entry C)) (s t : StockKept) (units numbered : ℕ) → stocked t ≡ stocked s → kept progress (record { entries = es; stock = t; units = units; numbered = numbered }) ≡ kept progress (record { entries = es; stock = s; units = units; numbered = numbered })
-  kept_restocked es s t units numbered q =
+  kept_restocked : (es : List (Entry C)) (s t : StockKept) (units waits numbered : ℕ) → stocked t ≡ stocked s → kept progress (record { entries = es; stock = t; units = units; waits = waits; numbered = numbered }) ≡ kept progress (record { entries = es; stock = s; units = units; waits = waits; numbered = numbered })
+  kept_restocked es s t units waits numbered q =
       ap (λ (x : Stocked). record {
-        looks = record { key = x.key; components = components_of es; headers = x.headers; units = units; numbered = numbered; made = x.next };
+        looks = record { key = x.key; components = components_of es; headers = x.headers; units = units; waits = waits; numbered = numbered; made = x.next };
         clients = map (progress_at progress) es;
         loads = x.loads;
         noticed = noticed_in es;
+        parts = no_parts es;
       }) q
 
-  pub graph_restocked : (es : List (Entry C)) (registry : Handles ℕ) (s t : StockKept) (units capacity : ℕ) → stocked t ≡ stocked s → IsGraph progress es registry s units capacity → IsGraph progress es registry t units capacity
-  graph_restocked es registry s t units capacity q G = record {
+  pub graph_restocked : (es : List (Entry C)) (registry : Handles ℕ) (s t : StockKept) (units waits capacity : ℕ) → stocked t ≡ stocked s → IsGraph progress es registry s units waits capacity → IsGraph progress es registry t units waits capacity
+  graph_restocked es registry s t units waits capacity q G = record {
     registered = G.registered;
     roomy = G.roomy;
     few = G.few;
     ports = subst (λ (x : Stocked). HasPorts es x registry.given) (sym q) G.ports;
-    worlds = subst SoundWorld (sym (kept_restocked es s t units registry.given q)) G.worlds;
+    numbers = G.numbers;
+    worlds = subst SoundWorld (sym (kept_restocked es s t units waits registry.given q)) G.worlds;
   }
 
 -- ---- what is kept
@@ -147,43 +151,53 @@ pub no_notes_held : (ts : List Taken) → map note_of ts ≡ [] → held_in ts �
 no_notes_held [] e = refl
 no_notes_held (t ∷ ts) e = absurd cc
 
+-- each component has a number below the next one
+pub numbers_below : {C : Type 0} (progress : C → Progress) (g : Entries C) → SoundWorld (kept progress g) → All (λ c. number_of c < g.numbered) (components_of g.entries)
+numbers_below progress g W =
+    let cs : W.world.components ≡ components_of g.entries = ap (λ (l : Look). l.components) W.stands.looks in
+    let m : W.world.numbered ≡ g.numbered = ap (λ (l : Look). l.numbered) W.stands.looks in
+    subst (λ (n : ℕ). All (λ c. number_of c < n) (components_of g.entries)) m (subst (λ (xs : List Component). All (λ c. number_of c < W.world.numbered) xs) cs
+    (from_places (λ c. number_of c < W.world.numbered) W.world.components (λ i c e. (rises_at 0 W.world.numbered i W.world.components c W.sound.rising e).1)))
+
 -- the entry is of a component that was just made, with a client object that was told nothing
 pub record IsNew {C : Type 0} (progress : C → Progress) (h : Handle) (kind : Kind) (e : Entry C) : Type 0 where
   pub component : component_of e ≡ fresh h kind
   pub told : option_map progress e.queues.client ≡ Some no_progress
 
 module _ {C : Type 0} (progress : C → Progress) (h : Handle) (kind : Kind) (e : Entry C) (N : IsNew progress h kind e) where
-  kept_added : (es : List (Entry C)) (s t : StockKept) (units numbered : ℕ) (stock : Stocked) → stocked t ≡ stock → stock.key ≡ (stocked s).key → stock.headers ≡ (stocked s).headers → stock.loads ≡ (stocked s).loads → stock.next ≡ (stocked s).next
-      → kept progress (record { entries = es ++ e ∷ []; stock = t; units = units; numbered = numbered + 1 })
-      ≡ with_component_made (fresh h kind) (kept progress (record { entries = es; stock = s; units = units; numbered = numbered }))
-  kept_added es s t units numbered stock q ks hs ls ns =
+  kept_added : (es : List (Entry C)) (s t : StockKept) (units waits numbered : ℕ) (stock : Stocked) → stocked t ≡ stock → stock.key ≡ (stocked s).key → stock.headers ≡ (stocked s).headers → stock.loads ≡ (stocked s).loads → stock.next ≡ (stocked s).next
+      → kept progress (record { entries = es ++ e ∷ []; stock = t; units = units; waits = waits; numbered = numbered + 1 })
+      ≡ with_component_made (fresh h kind) (kept progress (record { entries = es; stock = s; units = units; waits = waits; numbered = numbered }))
+  kept_added es s t units waits numbered stock q ks hs ls ns =
       let cs : components_of (es ++ e ∷ []) ≡ components_of es ++ fresh h kind ∷ [] = map-append component_of es (e ∷ []) ∙ ap (λ (x : Component). components_of es ++ x ∷ []) N.component in
       let cl : map (progress_at progress) (es ++ e ∷ []) ≡ map (progress_at progress) es ++ Some no_progress ∷ [] = map-append (progress_at progress) es (e ∷ []) ∙ ap (λ (x : Option Progress). map (progress_at progress) es ++ x ∷ []) N.told in
       let hd : held_by e ≡ [] = no_notes_held e.queues.notes (ap (λ (x : Component). x.notes) N.component) in
       let nt : noticed_in (es ++ e ∷ []) ≡ noticed_in es = held_added held_by es e hd in
+      let ps : no_parts (es ++ e ∷ []) ≡ no_parts es ++ Some no_part ∷ [] = map-append (λ (x : Entry C). Some no_part) es (e ∷ []) in
       let K : (stocked t).key ≡ (stocked s).key = ap (λ (x : Stocked). x.key) q ∙ ks in
       let H : (stocked t).headers ≡ (stocked s).headers = ap (λ (x : Stocked). x.headers) q ∙ hs in
       let L : (stocked t).loads ≡ (stocked s).loads = ap (λ (x : Stocked). x.loads) q ∙ ls in
       let M : (stocked t).next ≡ (stocked s).next = ap (λ (x : Stocked). x.next) q ∙ ns in
       λ j. record {
-        looks = record { key = K j; components = cs j; headers = H j; units = units; numbered = numbered + 1; made = M j };
+        looks = record { key = K j; components = cs j; headers = H j; units = units; waits = waits; numbered = numbered + 1; made = M j };
         clients = cl j;
         loads = L j;
         noticed = nt j;
+        parts = ps j;
       }
 
-  pub steps_added : (es : List (Entry C)) (s t : StockKept) (units numbered count : ℕ) → stocked t ≡ added numbered count (stocked s) → h.generation ≡ numbered
-      → Steps (kept progress (record { entries = es; stock = s; units = units; numbered = numbered })) (kept progress (record { entries = es ++ e ∷ []; stock = t; units = units; numbered = numbered + 1 })) (λ w v. v ≡ with_new_component h kind w)
-  steps_added es s t units numbered count q n =
-      let k = kept progress (record { entries = es; stock = s; units = units; numbered = numbered }) in
-      subst (λ (x : Kept). Steps k x (λ w v. v ≡ with_new_component h kind w)) (sym (kept_added es s t units numbered (added numbered count (stocked s)) q refl refl refl refl))
-      (lift_made k (fresh h kind) n (length-map es (progress_at progress) ∙ sym (length-map es component_of)))
+  pub steps_added : (es : List (Entry C)) (s t : StockKept) (units waits numbered count : ℕ) → stocked t ≡ added numbered count (stocked s) → h.generation ≡ numbered → All (λ d. number_of d < numbered) (components_of es)
+      → Steps (kept progress (record { entries = es; stock = s; units = units; waits = waits; numbered = numbered })) (kept progress (record { entries = es ++ e ∷ []; stock = t; units = units; waits = waits; numbered = numbered + 1 })) (λ w v. v ≡ with_new_component h kind w)
+  steps_added es s t units waits numbered count q n below =
+      let k = kept progress (record { entries = es; stock = s; units = units; waits = waits; numbered = numbered }) in
+      subst (λ (x : Kept). Steps k x (λ w v. v ≡ with_new_component h kind w)) (sym (kept_added es s t units waits numbered (added numbered count (stocked s)) q refl refl refl refl))
+      (lift_made k (fresh h kind) n refl (length-map es (progress_at progress) ∙ sym (length-map es component_of)) (length-map es (λ (x : Entry C). Some no_part) ∙ sym (length-map es component_of)) below)
 
-  pub worlds_added : (es : List (Entry C)) (s t : StockKept) (units numbered count : ℕ) → IsSized kind → stocked t ≡ added numbered count (stocked s) → h.generation ≡ numbered
-      → SoundWorld (kept progress (record { entries = es; stock = s; units = units; numbered = numbered })) → SoundWorld (kept progress (record { entries = es ++ e ∷ []; stock = t; units = units; numbered = numbered + 1 }))
-  worlds_added es s t units numbered count sized q n W =
-      next_world (kept progress (record { entries = es; stock = s; units = units; numbered = numbered })) (kept progress (record { entries = es ++ e ∷ []; stock = t; units = units; numbered = numbered + 1 })) (λ w v. v ≡ with_new_component h kind w)
-      W (steps_added es s t units numbered count q n)
+  pub worlds_added : (es : List (Entry C)) (s t : StockKept) (units waits numbered count : ℕ) → IsSized kind → stocked t ≡ added numbered count (stocked s) → h.generation ≡ numbered
+      → SoundWorld (kept progress (record { entries = es; stock = s; units = units; waits = waits; numbered = numbered })) → SoundWorld (kept progress (record { entries = es ++ e ∷ []; stock = t; units = units; waits = waits; numbered = numbered + 1 }))
+  worlds_added es s t units waits numbered count sized q n W =
+      next_world (kept progress (record { entries = es; stock = s; units = units; waits = waits; numbered = numbered })) (kept progress (record { entries = es ++ e ∷ []; stock = t; units = units; waits = waits; numbered = numbered + 1 })) (λ w v. v ≡ with_new_component h kind w)
+      W (steps_added es s t units waits numbered count q n (numbers_below progress (record { entries = es; stock = s; units = units; waits = waits; numbered = numbered }) W))
       (λ w v S f sound. subst Sound (sym f) (sound_new w h kind sound (n ∙ sym (ap (λ (l : Look). l.numbered) S.looks)) sized))
 
   pub ports_added : (es : List (Entry C)) (s t : Stocked) (numbered : ℕ) → t ≡ added numbered (ports_in kind) s → h.generation ≡ numbered → HasPorts es s numbered → HasPorts (es ++ e ∷ []) t (numbered + 1)

@@ -10,7 +10,7 @@ use Rattle.il_machine.specs.declared.header.Owner.{Owner}
 use Rattle.il_machine.specs.declared.header.Owner.TheVariants as owners
 use Rattle.il_machine.specs.declared.header.Place.TheVariants.{Out}
 use Rattle.il_machine.specs.declared.header.Spot.TheVariants.{TodoBack}
-use Rattle.il_machine.specs.World.{Component, HeaderRecord, World, number_of, port_of, with_component}
+use Rattle.il_machine.specs.World.{Component, HeaderRecord, World, port_of, with_component}
 use Rattle.il_machine.specs.Headers.{Seen, seen, count_headers, is_for, is_notice, put, loaded, without, empty_load}
 use Rattle.il_machine.specs.Look.{look}
 use Rattle.il_machine.specs.Lists.{holds_at}
@@ -38,6 +38,8 @@ use Rattle.port_stock.specs.Conditions.{IsOutside, IsHeaderOf, made_in}
 use Rattle.graph_core.specs.Standing.{SoundWorld}
 use Rattle.graph_core.specs.Changes.{IsHandedIn, IsMakable}
 use Rattle.graph_core.specs.Entries.{Entries, look_of, kept, changed_at, component_at}
+use Rattle.machine_laws.proofs.Headers.{is_set_aside}
+use Rattle.graph_core.proofs.SameParts.{part_as, part_unpopulated}
 use Rattle.graph_core.proofs.Replacing.{there, next_world, steps_changed}
 use Rattle.graph_core.proofs.Stepping.{at_world, with_stocked, stock_of, stock_steps, made_is, made_of, seen_of}
 
@@ -47,6 +49,9 @@ unpopulated_handle p c = elim (is_unpopulating c p) as (λ b. is_unpopulating c 
 
 pub unpopulated_ports : (p : Port) (c : Component) → (unpopulated p c).ports ≡ c.ports
 unpopulated_ports p c = elim (is_unpopulating c p) as (λ b. is_unpopulating c p ≡ b → (unpopulated p c).ports ≡ c.ports) [ true ↦ λ q. rw q refl | false ↦ λ q. rw q refl ] refl
+
+pub unpopulated_pending : (p : Port) (c : Component) → (unpopulated p c).pending ≡ c.pending
+unpopulated_pending p c = elim (is_unpopulating c p) as (λ b. is_unpopulating c p ≡ b → (unpopulated p c).pending ≡ c.pending) [ true ↦ λ q. rw q refl | false ↦ λ q. rw q refl ] refl
 
 owned_by : (s : HeaderState) (owner : Owner) → s.owner ≡ owner → IsOwnedSo s s.owner → IsOwnedSo s owner
 owned_by s owner q O = subst (IsOwnedSo s) q O
@@ -199,7 +204,7 @@ module _ {C : Type 0} (progress : C → Progress) (g : Entries C) (i : ℕ) (e :
       in_worlds = next_world (kept progress g) (kept progress (with_stocked progress after_stock g)) (λ w v. v ≡ with_todo p.key n (loaded (load_in header.held)) w) W steps_in
           (λ w v S f sound.
           let F = found_in w S in
-          let unnoticed : is_notice F.it.state.owner ≡ false = rw (F.state, with_client) refl in
+          let unnoticed : is_set_aside F.it.state.owner ≡ false = rw (F.state, with_client) refl in
           let own : is_for p.key F.it.state ≡ true = rw F.state for_key in
           subst Sound (sym f) (sound_put w p.key n (loaded (load_in header.held)) F.it (λ x. refl) sound F.is unnoticed own))
 
@@ -209,12 +214,9 @@ module _ {C : Type 0} (progress : C → Progress) (g : Entries C) (i : ℕ) (e :
       abbrev after : Entries C
       after = with_stocked progress after_stock (changed_at i d g)
 
-      same_number : number_of (component_of d) ≡ number_of c
-      same_number = ap number_of is ∙ ap (λ h. h.generation) (unpopulated_handle p c)
-
       steps_freed : Steps (kept progress g) (kept progress after) (λ w v. v ≡ without_header n (with_component i (unpopulated p c) w))
       steps_freed = λ w S.
-          let x = steps_changed progress g i e d at keeps same_number w S in
+          let x = steps_changed progress g i e d at keeps (part_as c (component_of d) (unpopulated p c) is (part_unpopulated p c)) w S in
           let f = stock_steps progress (changed_at i d g) after_stock (withdrawn n s) (λ w v. v ≡ with_headers (without n w.headers) s.next w) now
           (lift_one (kept progress (changed_at i d g)) s (withdrawn n s) n (without n) (stock_of progress (changed_at i d g)) refl free
           (λ hs T. withdraw_stands s hs n state T shown place_out)

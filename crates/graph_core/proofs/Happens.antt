@@ -1,8 +1,11 @@
 -- The first due thing of a graph happens.
-use Rattle.std.proofs.Common.{◌≡◌, inl, inr, ℕ, zero, suc, ◌+◌, ◌<◌, Bool, true, false, is_none, List, [], ◌∷◌, length, set, map, position, slice_get, Option, Some, None, All, option_map, refl, sym, ◌∙◌, ap, subst, arith}
+use Rattle.std.proofs.Common.{◌≡◌, inl, inr, ℕ, zero, suc, ◌+◌, ◌<◌, ◌≤◌, Bool, true, false, is_none, List, [], ◌∷◌, length, set, map, position, slice_get, get_or, Option, Some, None, All, option_map, refl, sym, ◌∙◌, ap, subst, arith, length-set}
 use Rattle.std.proofs.lemmas.Bool.Decides.{eqb_tells}
+use Rattle.std.proofs.lemmas.Option.{slice_get_within, get_or_from_slice_get}
+use Rattle.std.proofs.lemmas.List.Sums.{get_or-le-sum_by}
+use Rattle.omx_types.specs.declared.state.State.TheVariants.{WaitForResources}
+use Rattle.il_machine.specs.Ports.{is_going_to}
 use Rattle.il_machine.specs.declared.answer.Progress.{Progress}
-use Rattle.omx_types.specs.declared.handle.Handle.{Handle}
 use Rattle.il_machine.specs.declared.port.PortKey.{PortKey}
 use Rattle.il_machine.specs.declared.header.Owner.TheVariants as owners
 use Rattle.il_machine.specs.declared.header.HeaderState.{HeaderState}
@@ -10,7 +13,7 @@ use Rattle.il_machine.specs.Places.{first_place}
 use Rattle.il_machine.proofs.Places.{is_first_place}
 use Rattle.il_machine.specs.World.{HeaderRecord, World, number_of, with_component}
 use Rattle.il_machine.specs.Look.{Look}
-use Rattle.il_machine.specs.Headers.{Seen, find_header, is_for, is_owned_by, state_of}
+use Rattle.il_machine.specs.Headers.{Seen, find_header, is_for, is_owned_by, state_of, weight}
 use Rattle.il_machine.specs.Stock.{Stocked}
 use Rattle.il_machine.specs.Whole.{Kept, Steps}
 use Rattle.il_machine.specs.Sound.{Sound, IsOwnedSo}
@@ -23,17 +26,19 @@ use Rattle.machine_laws.proofs.Happening.{sound_happened}
 use Rattle.machine_laws.proofs.Ending.{pending_in, happens_fewer}
 use Rattle.whole_laws.proofs.Lifting.{with_look, lift_component}
 use Rattle.whole_laws.proofs.Stocking.{IsStock, with_stock, with_headers, lift_stock, stands_for}
-use Rattle.whole_laws.proofs.Following.{Then, follow, as_change}
+use Rattle.whole_laws.proofs.Following.{as_change}
 use Rattle.il_component.specs.Entries.{Entry, component_of}
 use Rattle.il_component.specs.Entries as component
 use Rattle.registry.specs.Handles.{Handles}
 use Rattle.port_stock.specs.Kept.{Kept as StockKept, stocked}
 use Rattle.port_stock.specs.Conditions.{AreMadeForOwners, has_key}
-use Rattle.graph_core.specs.Entries.{Entries, components_of, look_of, kept}
+use Rattle.graph_core.specs.Entries.{Entries, components_of, look_of, kept, waits_next}
 use Rattle.graph_core.specs.Standing.{SoundWorld, HasPorts, IsGraph}
 use Rattle.port_rules.specs.Tests.{HasAllPorts}
 use Rattle.port_rules.specs.Happened.{Happened, IsInOrder}
-use Rattle.graph_core.proofs.Replacing.{there, component_sound, kept_changed, graph_changed, next_world}
+use Rattle.graph_core.proofs.Waiters.{waiters_set}
+use Rattle.graph_core.proofs.Registering.{set_sound}
+use Rattle.graph_core.proofs.Replacing.{there, component_sound, kept_changed, ports_changed, next_world}
 
 -- ---- the first that passes a test
 
@@ -98,7 +103,7 @@ module _ {C : Type 0} (progress : C → Progress) where
       let I : IsOwnedSo x.0.state (owners.Port key) = subst (IsOwnedSo x.0.state) q O in
       subst (λ (v : HeaderState). is_for key v ≡ true) x.2 I.0
 
-  pub ports_there : (g : Entries C) (registry : Handles ℕ) (capacity i : ℕ) (e : Entry C) → IsGraph progress g.entries registry g.stock g.units capacity → registry.given ≡ g.numbered → slice_get g.entries i ≡ Some e → HasAllPorts (component_of e) (stocked g.stock)
+  pub ports_there : (g : Entries C) (registry : Handles ℕ) (capacity i : ℕ) (e : Entry C) → IsGraph progress g.entries registry g.stock g.units g.waits capacity → registry.given ≡ g.numbered → slice_get g.entries i ≡ Some e → HasAllPorts (component_of e) (stocked g.stock)
   ports_there g registry capacity i e G n at = record {
     many = ports_number (component_of e) (component_sound progress (record g { numbered = registry.given }) i (component_of e) G.worlds (there progress g i e at));
     ports = G.ports.there i e at;
@@ -106,31 +111,55 @@ module _ {C : Type 0} (progress : C → Progress) where
 
   -- ---- what is kept afterwards
 
-  abbrev pub after : Entries C → ℕ → Entry C → StockKept → Entries C
-  after g i d st = record g { entries = set g.entries i d; stock = st }
+  abbrev pub after : Entries C → ℕ → Entry C → StockKept → ℕ → Entries C
+  after g i d st waits = record g { entries = set g.entries i d; stock = st; waits = waits }
 
-  kept_after : (g : Entries C) (i : ℕ) (e d : Entry C) (st : StockKept) → slice_get g.entries i ≡ Some e → component.KeepsNotices e d → kept progress (after g i d st) ≡ with_look i (component_of d) (with_stock (stocked st) (kept progress g))
-  kept_after g i e d st at N = kept_changed progress (record g { stock = st }) i e d at N
+  -- so many waits were numbered
+  abbrev with_waits : ℕ → Kept → Kept
+  with_waits waits k = record k { looks = record k.looks { waits = waits } }
 
-  pub steps_after : (g : Entries C) (i : ℕ) (e d : Entry C) (st : StockKept) (thing : Thing) → slice_get g.entries i ≡ Some e → component.KeepsNotices e d → Happened thing (component_of e) (component_of d) (stocked g.stock) (stocked st)
-      → Steps (kept progress g) (kept progress (after g i d st)) (λ w v. v ≡ happened i (component_of e) thing w)
-  steps_after g i e d st thing at N H =
+  lift_waits : (k : Kept) (waits : ℕ) → Steps k (with_waits waits k) (λ w v. v ≡ record w { waits = waits })
+  lift_waits k waits = λ w S. (
+    record w { waits = waits },
+    record {
+      looks = ap (λ (l : Look). record l { waits = waits }) S.looks;
+      loads = S.loads;
+      noticed = S.noticed;
+      progress = S.progress;
+      parts = S.parts;
+      streams = S.streams;
+      once = S.once;
+      given = S.given;
+    },
+    refl,
+  )
+
+  kept_after : (g : Entries C) (i : ℕ) (e d : Entry C) (st : StockKept) (waits : ℕ) → slice_get g.entries i ≡ Some e → component.KeepsNotices e d → kept progress (after g i d st waits) ≡ with_waits waits (with_look i (component_of d) (with_stock (stocked st) (kept progress g)))
+  kept_after g i e d st waits at N = ap (with_waits waits) (kept_changed progress (record g { stock = st }) i e d at N)
+
+  pub steps_after : (g : Entries C) (i : ℕ) (e d : Entry C) (st : StockKept) (thing : Thing) (then : ℕ) → slice_get g.entries i ≡ Some e → component.KeepsNotices e d → Happened thing (component_of e) (component_of d) (stocked g.stock) (stocked st) g.waits then
+      → Steps (kept progress g) (kept progress (after g i d st then)) (λ w v. v ≡ happened i (component_of e) thing w)
+  steps_after g i e d st thing then at N H =
       let k = kept progress g in
       let s = stocked g.stock in
       let t = stocked st in
       let f : World → List HeaderRecord = λ w. H.change w.headers in
       let I : IsStock s k = record { headers = refl; made = refl; loads = refl } in
-      let A : Steps k (with_stock t k) (λ w v. v ≡ with_headers (f w) t.next w) = lift_stock k t f H.stock.key
+      let a = with_stock t k in
+      let b = with_look i (component_of d) a in
+      let A : Steps k a (λ w v. v ≡ with_headers (f w) t.next w) = lift_stock k t f H.stock.key
       (λ w S. H.stock.stands w.headers (stands_for s k w I S))
       (λ w S. λ j h b. let x = there_is (find_header _ w.headers) _ (S.noticed j h b).1 in H.notices w.headers _ x.0 S.once x.1 x.2.1) in
-      let B : Steps (with_stock t k) (with_look i (component_of d) (with_stock t k)) (λ w v. v ≡ with_component i (component_of d) w) = lift_component (with_stock t k) i (component_of e) (component_of d) (there progress g i e at)
-      (ap (λ (h : Handle). h.generation) H.component.handle) (ap (λ (x : Option C). is_none x) N.client) in
-      let D = follow k (with_stock t k) (with_look i (component_of d) (with_stock t k)) (λ w v. v ≡ with_headers (f w) t.next w) (λ w v. v ≡ with_component i (component_of d) w) A B in
-      let E = as_change k (with_look i (component_of d) (with_stock t k)) (Then (λ w v. v ≡ with_headers (f w) t.next w) (λ w v. v ≡ with_component i (component_of d) w)) (λ w v. v ≡ happened i (component_of e) thing w) D
-      (λ w v S x.
+      let B : Steps a b (λ w v. v ≡ with_component i (component_of d) w) = lift_component a i (component_of e) (component_of d) (there progress g i e at)
+      H.part (ap (λ (x : Option C). is_none x) N.client) in
+      let E : Steps k (with_waits then b) (λ w v. v ≡ happened i (component_of e) thing w) = λ w S.
+      let x = A w S in
+      let y = B x.0 x.1 in
+      let z = lift_waits b then y.0 y.1 in
       let m : t.next ≡ w.made = H.stock.next ∙ sym (ap (λ (l : Look). l.made) S.looks) in
-      x.2 ∙ (ap (with_component i (component_of d)) x.1 ∙ (ap (λ (n : ℕ). with_component i (component_of d) (with_headers (f w) n w)) m ∙ sym (H.after i w)))) in
-      subst (λ (x : Kept). Steps k x (λ w v. v ≡ happened i (component_of e) thing w)) (sym (kept_after g i e d st at N)) E
+      let n : w.waits ≡ g.waits = ap (λ (l : Look). l.waits) S.looks in
+      (z.0, z.1, z.2 ∙ (ap (λ (u : World). record u { waits = then }) (y.2 ∙ (ap (with_component i (component_of d)) x.2 ∙ ap (λ (n : ℕ). with_component i (component_of d) (with_headers (f w) n w)) m)) ∙ sym (H.after i w n))) in
+      subst (λ (x : Kept). Steps k x (λ w v. v ≡ happened i (component_of e) thing w)) (sym (kept_after g i e d st then at N)) E
 
   ports_same : (es : List (Entry C)) (s t : Stocked) (numbered : ℕ) → HasPorts es s numbered → t.ports ≡ s.ports → HasPorts es t numbered
   ports_same es s t numbered P q = record {
@@ -138,24 +167,24 @@ module _ {C : Type 0} (progress : C → Progress) where
     below = subst (λ (ks : List PortKey). All (λ key. key.component < numbered) ks) (sym q) P.below;
   }
 
-  pub graph_after : (es : List (Entry C)) (registry : Handles ℕ) (stock st : StockKept) (units capacity i : ℕ) (e d : Entry C) (thing : Thing) → IsGraph progress es registry stock units capacity → slice_get es i ≡ Some e → component.KeepsNotices e d
-      → Happened thing (component_of e) (component_of d) (stocked stock) (stocked st) → due_in (stocked stock).headers (component_of e) ≡ Some thing → IsGraph progress (set es i d) registry st units capacity
-  graph_after es registry stock st units capacity i e d thing G at N H due =
-      let g : Entries C = record { entries = es; stock = stock; units = units; numbered = registry.given } in
-      let Q = graph_changed progress es registry stock units capacity i e d G at N H.component H.sound in
+  pub graph_after : (es : List (Entry C)) (registry : Handles ℕ) (stock st : StockKept) (units waits capacity i : ℕ) (e d : Entry C) (thing : Thing) (then : ℕ) → IsGraph progress es registry stock units waits capacity → slice_get es i ≡ Some e → component.KeepsNotices e d
+      → Happened thing (component_of e) (component_of d) (stocked stock) (stocked st) waits then → due_in (stocked stock).headers (component_of e) ≡ Some thing → IsGraph progress (set es i d) registry st units then capacity
+  graph_after es registry stock st units waits capacity i e d thing then G at N H due =
+      let g : Entries C = record { entries = es; stock = stock; units = units; waits = waits; numbered = registry.given } in
       record {
-        registered = Q.registered;
-        roomy = Q.roomy;
-        few = Q.few;
-        ports = ports_same (set es i d) (stocked stock) (stocked st) registry.given Q.ports H.stock.ports;
-        worlds = next_world (kept progress g) (kept progress (after g i d st)) (λ w v. v ≡ happened i (component_of e) thing w) G.worlds (steps_after g i e d st thing at N H)
+        registered = set_sound es registry i e d G.registered at H.component.handle;
+        roomy = G.roomy;
+        few = subst (λ (n : ℕ). n ≤ 32) (sym (length-set es i d)) G.few;
+        ports = ports_same (set es i d) (stocked stock) (stocked st) registry.given (ports_changed progress es (stocked stock) registry.given i e d G.ports at H.component) H.stock.ports;
+        numbers = waiters_set es i e d waits then at H.numbers G.numbers;
+        worlds = next_world (kept progress g) (kept progress (after g i d st then)) (λ w v. v ≡ happened i (component_of e) thing w) G.worlds (steps_after g i e d st thing then at N H)
             (λ w v S f sound. subst Sound (sym f) (sound_happened w i (component_of e) thing sound (ap (λ (l : Look). slice_get l.components i) S.looks ∙ there progress g i e at)
             (ap (λ (l : Look). due_in l.headers (component_of e)) S.looks ∙ due)));
       }
 
-  pub happens_after : (g : Entries C) (i : ℕ) (e d : Entry C) (st : StockKept) (thing : Thing) → slice_get g.entries i ≡ Some e → component.KeepsNotices e d → Happened thing (component_of e) (component_of d) (stocked g.stock) (stocked st)
-      → first_due (look_of g) ≡ Some i → due_in (stocked g.stock).headers (component_of e) ≡ Some thing → Steps (kept progress g) (kept progress (after g i d st)) Happens
-  happens_after g i e d st thing at N H first due = as_change (kept progress g) (kept progress (after g i d st)) (λ w v. v ≡ happened i (component_of e) thing w) Happens (steps_after g i e d st thing at N H)
+  pub happens_after : (g : Entries C) (i : ℕ) (e d : Entry C) (st : StockKept) (thing : Thing) (then : ℕ) → slice_get g.entries i ≡ Some e → component.KeepsNotices e d → Happened thing (component_of e) (component_of d) (stocked g.stock) (stocked st) g.waits then
+      → first_due (look_of g) ≡ Some i → due_in (stocked g.stock).headers (component_of e) ≡ Some thing → Steps (kept progress g) (kept progress (after g i d st then)) Happens
+  happens_after g i e d st thing then at N H first due = as_change (kept progress g) (kept progress (after g i d st then)) (λ w v. v ≡ happened i (component_of e) thing w) Happens (steps_after g i e d st thing then at N H)
       (λ w v S f. record {
         place = i;
         component = component_of e;
@@ -174,10 +203,20 @@ module _ {C : Type 0} (progress : C → Progress) where
       let b : x.0.components ≡ components_of h.entries = ap (λ (l : Look). l.components) x.1.looks in
       rw (← a, ← b) l
 
-  pub in_order_there : (es : List (Entry C)) (registry : Handles ℕ) (stock : StockKept) (units capacity i : ℕ) (e : Entry C) → IsGraph progress es registry stock units capacity → slice_get es i ≡ Some e → IsInOrder (component_of e) (stocked stock)
-  in_order_there es registry stock units capacity i e G at =
-      let g : Entries C = record { entries = es; stock = stock; units = units; numbered = registry.given } in
+  pub in_order_there : (es : List (Entry C)) (registry : Handles ℕ) (stock : StockKept) (units waits capacity i : ℕ) (e : Entry C) → IsGraph progress es registry stock units waits capacity → slice_get es i ≡ Some e → IsInOrder (component_of e) (stocked stock)
+  in_order_there es registry stock units waits capacity i e G at =
+      let g : Entries C = record { entries = es; stock = stock; units = units; waits = waits; numbered = registry.given } in
       record {
         sound = component_sound progress g i (component_of e) G.worlds (there progress g i e at);
         ports = ports_there g registry capacity i e G refl at;
       }
+
+  -- a component that is on its way to wait gets a number
+  pub number_left : (es : List (Entry C)) (registry : Handles ℕ) (stock : StockKept) (units waits capacity i : ℕ) (e : Entry C) → IsGraph progress es registry stock units waits capacity → slice_get es i ≡ Some e
+      → is_going_to WaitForResources (component_of e) ≡ true → waits < 18446744073709551615
+  number_left es registry stock units waits capacity i e G at t =
+      let b = get_or-le-sum_by waits_next es i e (slice_get_within es i e at) in
+      let f = G.numbers in
+      let g : waits_next (get_or es i e) ≡ waits_next e = ap waits_next (get_or_from_slice_get es i e e at) in
+      let o : waits_next e ≡ 1 = ap weight t in
+      omega arith

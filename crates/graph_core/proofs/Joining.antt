@@ -35,6 +35,7 @@ use Rattle.graph_core.specs.Entries.{Entries, look_of, kept, changed_at}
 use Rattle.graph_core.proofs.Registering.{set_sound}
 use Rattle.graph_core.proofs.Replacing.{next_world, steps_changed}
 use Rattle.graph_core.proofs.Stepping.{at_world}
+use Rattle.graph_core.proofs.Waiters.{waiters_set, few_alike}
 use Rattle.graph_core.proofs.Swapping.{IsAlike, ports_swapped}
 
 -- ---- the component's own words are the machine's
@@ -84,20 +85,22 @@ module _ {C : Type 0} (progress : C → Progress) (i j : ℕ) (e d e' d' : Entry
       let F : World → World → Type 0 = λ w v. v ≡ with_component i (component_of e') w in
       let H : World → World → Type 0 = λ w v. v ≡ with_component j (component_of d') w in
       λ w S.
-      let x = steps_changed progress g i e e' R.first R.first_kept (ap (λ (h : Handle). h.generation) R.first_alike.handle) w S in
-      let y = steps_changed progress (changed_at i e' g) j d d' (still g.entries R) R.second_kept (ap (λ (h : Handle). h.generation) R.second_alike.handle) x.0 x.1 in
+      let x = steps_changed progress g i e e' R.first R.first_kept R.first_alike.part w S in
+      let y = steps_changed progress (changed_at i e' g) j d d' (still g.entries R) R.second_kept R.second_alike.part x.0 x.1 in
       (y.0, y.1, y.2 ∙ ap (with_component j (component_of d')) x.2)
 
-  pub graph_both : (es : List (Entry C)) (registry : Handles ℕ) (stock : StockKept) (units capacity : ℕ) → IsGraph progress es registry stock units capacity → AreReplaced es i j e d e' d'
-      → ((w : World) → look w ≡ look_of (record { entries = es; stock = stock; units = units; numbered = registry.given }) → Sound w → Sound (both_set w))
-      → IsGraph progress (set (set es i e') j d') registry stock units capacity
-  graph_both es registry stock units capacity G R keeps =
-      let g : Entries C = record { entries = es; stock = stock; units = units; numbered = registry.given } in
+  pub graph_both : (es : List (Entry C)) (registry : Handles ℕ) (stock : StockKept) (units waits capacity : ℕ) → IsGraph progress es registry stock units waits capacity → AreReplaced es i j e d e' d'
+      → ((w : World) → look w ≡ look_of (record { entries = es; stock = stock; units = units; waits = waits; numbered = registry.given }) → Sound w → Sound (both_set w))
+      → IsGraph progress (set (set es i e') j d') registry stock units waits capacity
+  graph_both es registry stock units waits capacity G R keeps =
+      let g : Entries C = record { entries = es; stock = stock; units = units; waits = waits; numbered = registry.given } in
       record {
         registered = set_sound (set es i e') registry j d d' (set_sound es registry i e e' G.registered R.first R.first_alike.handle) (still es R) R.second_alike.handle;
         roomy = G.roomy;
         few = subst (λ (n : ℕ). n ≤ 32) (sym (length-set (set es i e') j d' ∙ length-set es i e')) G.few;
         ports = ports_swapped (set es i e') (stocked stock) registry.given j d d' (ports_swapped es (stocked stock) registry.given i e e' G.ports R.first R.first_alike) (still es R) R.second_alike;
+        numbers = waiters_set (set es i e') j d d' waits waits (still es R) (few_alike waits d d' R.second_alike.pending)
+            (waiters_set es i e e' waits waits R.first (few_alike waits e e' R.first_alike.pending) G.numbers);
         worlds = next_world (kept progress g) (kept progress (changed_at j d' (changed_at i e' g))) (λ w v. v ≡ both_set w) G.worlds (steps_both g R) (λ w v s f sound. subst Sound (sym f) (keeps w s.looks sound));
       }
 

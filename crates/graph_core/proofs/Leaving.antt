@@ -24,6 +24,7 @@ use Rattle.machine_laws.proofs.Keys.{key_is}
 use Rattle.machine_laws.proofs.Lookups.{port_at_is, port_parts}
 use Rattle.machine_laws.proofs.Pairs.{apart_numbers}
 use Rattle.whole_laws.proofs.Lists.{map_remove}
+use Rattle.whole_laws.specs.Entries.{no_part}
 use Rattle.whole_laws.proofs.Entries.{held_removed}
 use Rattle.whole_laws.proofs.Noting.{IsOnly}
 use Rattle.whole_laws.proofs.Making.{with_removed, lift_removed}
@@ -32,7 +33,7 @@ use Rattle.port_stock.specs.Kept.{Kept as StockKept, stocked}
 use Rattle.port_stock.specs.Conditions.{IsUnmade, has_key}
 use Rattle.il_component.specs.Entries.{Entry, component_of}
 use Rattle.graph_core.specs.Standing.{HasPorts, SoundWorld}
-use Rattle.graph_core.specs.Entries.{Entries, components_of, held_by, noticed_in, progress_at, kept, look_of}
+use Rattle.graph_core.specs.Entries.{Entries, components_of, no_parts, held_by, noticed_in, progress_at, kept, look_of}
 use Rattle.graph_core.proofs.Adding.{none_made}
 use Rattle.graph_core.proofs.Replacing.{next_world, there}
 
@@ -62,7 +63,8 @@ client_in headers c h =
     let d = not_either (is_some c.pending) _ b.1 in
     let e = not_either (not (each_port c (unmade headers))) _ d.1 in
     let f = not_either (list_any is_joined (ports_of c)) _ e.1 in
-    (not_either c.client_out false f.1).0
+    let h = not_either (is_some c.work) _ f.1 in
+    (not_either c.client_out false h.1).0
 
 pub some_client : {A : Type 0} (o : Option A) → is_none o ≡ false → IsSome o
 some_client None e = absurd cc
@@ -97,26 +99,28 @@ module _ {C : Type 0} (progress : C → Progress) (g : Entries C) (i : ℕ) (e :
       apart_numbers W.world.numbered j i W.world.components d (component_of e) W.sound.rising (ap (λ (xs : List Component). slice_get xs j) cs ∙ at_j) here apart
 
   kept_left : (t : StockKept) → stocked t ≡ removed (number_of (component_of e)) (stocked g.stock)
-      → kept progress (record { entries = remove g.entries i; stock = t; units = g.units; numbered = g.numbered }) ≡ with_removed i (noticed_in (remove g.entries i)) (kept progress g)
+      → kept progress (record { entries = remove g.entries i; stock = t; units = g.units; waits = g.waits; numbered = g.numbered }) ≡ with_removed i (noticed_in (remove g.entries i)) (kept progress g)
   kept_left t q =
       let cs : components_of (remove g.entries i) ≡ remove (components_of g.entries) i = map_remove component_of g.entries i in
       let cl : map (progress_at progress) (remove g.entries i) ≡ remove (map (progress_at progress) g.entries) i = map_remove (progress_at progress) g.entries i in
+      let ps : no_parts (remove g.entries i) ≡ remove (no_parts g.entries) i = map_remove (λ (x : Entry C). Some no_part) g.entries i in
       λ j. record {
-        looks = record { key = (q j).key; components = cs j; headers = (q j).headers; units = g.units; numbered = g.numbered; made = (q j).next };
+        looks = record { key = (q j).key; components = cs j; headers = (q j).headers; units = g.units; waits = g.waits; numbered = g.numbered; made = (q j).next };
         clients = cl j;
         loads = (q j).loads;
         noticed = noticed_in (remove g.entries i);
+        parts = ps j;
       }
 
   pub steps_left : (t : StockKept) → stocked t ≡ removed (number_of (component_of e)) (stocked g.stock)
-      → Steps (kept progress g) (kept progress (record { entries = remove g.entries i; stock = t; units = g.units; numbered = g.numbered })) (λ w v. v ≡ without_component i (component_of e) w)
+      → Steps (kept progress g) (kept progress (record { entries = remove g.entries i; stock = t; units = g.units; waits = g.waits; numbered = g.numbered })) (λ w v. v ≡ without_component i (component_of e) w)
   steps_left t q =
       subst (λ (k : Kept). Steps (kept progress g) k (λ w v. v ≡ without_component i (component_of e) w)) (sym (kept_left t q))
-      (lift_removed (kept progress g) i (component_of e) (noticed_in (remove g.entries i)) only (λ P A. held_removed held_by P g.entries i A))
+      (lift_removed (kept progress g) i (component_of e) (noticed_in (remove g.entries i)) (there progress g i e at) only (λ P A. held_removed held_by P g.entries i A))
 
-  pub worlds_left : (t : StockKept) → stocked t ≡ removed (number_of (component_of e)) (stocked g.stock) → SoundWorld (kept progress (record { entries = remove g.entries i; stock = t; units = g.units; numbered = g.numbered }))
+  pub worlds_left : (t : StockKept) → stocked t ≡ removed (number_of (component_of e)) (stocked g.stock) → SoundWorld (kept progress (record { entries = remove g.entries i; stock = t; units = g.units; waits = g.waits; numbered = g.numbered }))
   worlds_left t q =
-      next_world (kept progress g) (kept progress (record { entries = remove g.entries i; stock = t; units = g.units; numbered = g.numbered })) (λ w v. v ≡ without_component i (component_of e) w) W (steps_left t q)
+      next_world (kept progress g) (kept progress (record { entries = remove g.entries i; stock = t; units = g.units; waits = g.waits; numbered = g.numbered })) (λ w v. v ≡ without_component i (component_of e) w) W (steps_left t q)
       (λ w v S f sound.
       let h : slice_get w.components i ≡ Some (component_of e) = ap (λ (l : Look). slice_get l.components i) S.looks ∙ there progress g i e at in
       let r : free_refusal (look w).headers (component_of e) ≡ None = subst (λ (l : Look). free_refusal l.headers (component_of e) ≡ None) (sym S.looks) ok in

@@ -1,5 +1,8 @@
 pub mod Registering
 pub mod Renumbered
+pub mod SameParts
+pub mod Waiters
+pub mod RunNumbers
 pub mod Replacing
 pub mod Accepted
 pub mod Beginning

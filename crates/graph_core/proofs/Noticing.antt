@@ -42,7 +42,7 @@ use Rattle.port_stock.specs.Kept.{Kept as StockKept, stocked}
 use Rattle.port_stock.specs.Conditions.{IsFrom, IsOut, IsOutside, IsHeaderOf}
 use Rattle.graph_core.specs.Standing.{SoundWorld}
 use Rattle.graph_core.specs.Entries.{Entries, components_of, look_of, noticed_in, held_by, progress_at, kept, changed_at, component_at}
-use Rattle.graph_core.proofs.Replacing.{there, next_world}
+use Rattle.graph_core.proofs.Replacing.{there, next_world, parts_set}
 use Rattle.graph_core.proofs.Stepping.{at_world, with_stocked, stock_of, stock_steps, made_is, made_of, seen_of}
 
 -- ---- lists
@@ -208,6 +208,7 @@ module _ {C : Type 0} (progress : C → Progress) (g : Entries C) (i : ℕ) (e :
           clients = cl j;
           loads = (now j).loads;
           noticed = noticed_in (set g.entries i with_note);
+          parts = parts_set progress g.entries i with_note j;
         }
 
     -- the header of the note is the world's
@@ -229,7 +230,7 @@ module _ {C : Type 0} (progress : C → Progress) (g : Entries C) (i : ℕ) (e :
     steps_noted : (after_stock : StockKept) → stocked after_stock ≡ after_pull → Steps (kept progress g) (kept progress (after after_stock)) (λ w v. v ≡ noticed i c p (n ∷ rest) w)
     steps_noted after_stock now = λ w S.
         let x = steps_stock w S in
-        let y = lift_component (with_stock after_pull (kept progress g)) i c (machine.noted note c) (there progress g i e at) refl refl x.0 x.1 in
+        let y = lift_component (with_stock after_pull (kept progress g)) i c (machine.noted note c) (there progress g i e at) (record { number = refl; kind = refl; file = refl; failed = refl; work = refl }) refl x.0 x.1 in
         let is : y.0 ≡ noticed i c p (n ∷ rest) w =
         y.2 ∙ ap (with_component i (machine.noted note c)) (x.2 ∙ (ap (λ (k : ℕ). with_headers (changed n moved w.headers) k w) next_is ∙ made_is progress w (changed n moved w.headers) s.next (made_of progress g w S))) in
         let own : IsNoticed y.0 (noticed_of (emptied_header header)) = header_noticed w y.0 S (ap (λ (u : World). u.key) is) (ap (λ (u : World). u.headers) is) in

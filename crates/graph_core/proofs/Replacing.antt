@@ -1,11 +1,12 @@
 -- One component of a graph is replaced: what is kept then, and the worlds that it stands for.
-use Rattle.std.proofs.Common.{◌≡◌, ◌≢◌, inl, inr, MatchOption, IsSomeAnd, ℕ, Bool, ◌<◌, ◌≤◌, List, [], ◌∷◌, length, set, map, Option, Some, option_map, slice_get, is_none, refl, sym, ◌∙◌, ap, subst, length-set}
+use Rattle.std.proofs.Common.{◌≡◌, ◌≢◌, inl, inr, MatchOption, IsSomeAnd, ℕ, zero, suc, ◌+◌, Bool, ◌<◌, ◌≤◌, List, [], ◌∷◌, length, set, map, Option, Some, option_map, slice_get, is_none, refl, sym, ◌∙◌, ap, subst, length-set}
 use Rattle.std.proofs.lemmas.Option.{slice_get-map, slice_get_within, get_or_from_slice_get}
 use Rattle.std.proofs.lemmas.List.{length-map}
 use Rattle.std.proofs.lemmas.Bool.Decides.{eqb_tells}
 use Rattle.omx_types.specs.declared.handle.Handle.{Handle}
 use Rattle.il_machine.specs.Stock.{Stocked}
 use Rattle.machine_laws.proofs.Change.{IsChange, link_of, sound_component}
+use Rattle.machine_laws.proofs.Units.{IsFair}
 use Rattle.port_stock.specs.Kept.{Kept as StockKept, stocked}
 use Rattle.port_stock.specs.Conditions.{IsPort}
 use Rattle.registry.specs.Handles.{Handles}
@@ -15,19 +16,27 @@ use Rattle.il_machine.specs.World.{Component, World, number_of, with_component, 
 use Rattle.il_machine.specs.Places.{first_place}
 use Rattle.il_machine.proofs.Places.{is_first_place}
 use Rattle.il_machine.specs.Look.{Look}
-use Rattle.il_machine.specs.Whole.{Kept, Stands, Steps}
+use Rattle.il_machine.specs.Whole.{Kept, PartSeen, Stands, Steps}
 use Rattle.il_machine.specs.Sound.{Sound, IsSound}
 use Rattle.whole_laws.proofs.Lists.{map_set, get_set_same, get_set_other}
 use Rattle.whole_laws.proofs.Entries.{set_same, held_same}
+use Rattle.whole_laws.specs.Entries.{no_part}
+use Rattle.whole_laws.specs.Parts.{KeepsPart}
 use Rattle.whole_laws.proofs.Lifting.{with_look, lift_component}
 use Rattle.il_component.specs.Entries.{Entry, component_of, KeepsNotices}
 use Rattle.graph_core.specs.Standing.{SoundWorld, HasPorts, IsGraph}
 use Rattle.graph_core.proofs.Registering.{set_sound, some_within}
-use Rattle.graph_core.specs.Entries.{Entries, components_of, look_of, noticed_in, held_by, progress_at, kept, changed_at, component_at, entry_place, is_entry_at}
+use Rattle.graph_core.specs.Entries.{Entries, components_of, look_of, no_parts, waiters, noticed_in, held_by, progress_at, kept, changed_at, component_at, entry_place, is_entry_at}
 
 module _ {C : Type 0} (progress : C → Progress) where
   progress_kept : (e d : Entry C) → KeepsNotices e d → progress_at progress d ≡ progress_at progress e
   progress_kept e d N = ap (λ (x : Option C). option_map progress x) N.client
+
+  -- the parts are alike
+  pub parts_set : (es : List (Entry C)) (i : ℕ) (d : Entry C) → no_parts (set es i d) ≡ no_parts es
+  parts_set [] i d = refl
+  parts_set (e ∷ es) zero d = refl
+  parts_set (e ∷ es) (suc i) d = ap (λ (xs : List (Option PartSeen)). Some no_part ∷ xs) (parts_set es i d)
 
   pub kept_changed : (g : Entries C) (i : ℕ) (e d : Entry C) → slice_get g.entries i ≡ Some e → KeepsNotices e d → kept progress (changed_at i d g) ≡ with_look i (component_of d) (kept progress g)
   kept_changed g i e d at N =
@@ -36,22 +45,24 @@ module _ {C : Type 0} (progress : C → Progress) where
       let cl : map (progress_at progress) (set g.entries i d) ≡ map (progress_at progress) g.entries =
       map_set (progress_at progress) g.entries i d ∙ (ap (λ (x : Option Progress). set (map (progress_at progress) g.entries) i x) (progress_kept e d N) ∙ set_same (map (progress_at progress) g.entries) i (progress_at progress e) there) in
       let ns : noticed_in (set g.entries i d) ≡ noticed_in g.entries = held_same held_by g.entries i e d at N.headers in
+      let ps : no_parts (set g.entries i d) ≡ no_parts g.entries = parts_set g.entries i d in
       λ j. record {
         looks = record (look_of g) { components = cs j };
         clients = cl j;
         loads = (kept progress g).loads;
         noticed = ns j;
+        parts = ps j;
       }
 
   pub there : (g : Entries C) (i : ℕ) (e : Entry C) → slice_get g.entries i ≡ Some e → component_at i g ≡ Some (component_of e)
   there g i e at = slice_get-map component_of g.entries i ∙ ap (option_map component_of) at
 
   -- the component of the place becomes d's, in each world
-  pub steps_changed : (g : Entries C) (i : ℕ) (e d : Entry C) → slice_get g.entries i ≡ Some e → KeepsNotices e d → number_of (component_of d) ≡ number_of (component_of e)
+  pub steps_changed : (g : Entries C) (i : ℕ) (e d : Entry C) → slice_get g.entries i ≡ Some e → KeepsNotices e d → KeepsPart (component_of e) (component_of d)
       → Steps (kept progress g) (kept progress (changed_at i d g)) (λ w v. v ≡ with_component i (component_of d) w)
-  steps_changed g i e d at N n =
+  steps_changed g i e d at N K =
       subst (λ (k : Kept). Steps (kept progress g) k (λ w v. v ≡ with_component i (component_of d) w)) (sym (kept_changed g i e d at N))
-      (lift_component (kept progress g) i (component_of e) (component_of d) (there g i e at) n (ap (λ (x : Option C). is_none x) N.client))
+      (lift_component (kept progress g) i (component_of e) (component_of d) (there g i e at) K (ap (λ (x : Option C). is_none x) N.client))
 
 -- what a step leaves stands for a sound world, if the step keeps a world sound
 pub next_world : (a b : Kept) (F : World → World → Type 0) → SoundWorld a → Steps a b F → ((w v : World) → Stands a w → F w v → Sound w → Sound v) → SoundWorld b
@@ -71,14 +82,15 @@ module _ {C : Type 0} (progress : C → Progress) where
       let b = slice_get_within W.world.components i c h in
       subst IsSound (get_or_from_slice_get W.world.components i c c h) (W.sound.components i c b)
 
-  pub changed_worlds : (g : Entries C) (i : ℕ) (e d : Entry C) → SoundWorld (kept progress g) → slice_get g.entries i ≡ Some e → KeepsNotices e d → IsChange (component_of e) (component_of d) → IsSound (component_of d) → SoundWorld (kept progress (changed_at i d g))
-  changed_worlds g i e d W at N X S = next_world (kept progress g) (kept progress (changed_at i d g)) (λ w v. v ≡ with_component i (component_of d) w) W
-      (steps_changed progress g i e d at N (ap (λ (h : Handle). h.generation) X.handle))
+  pub changed_worlds : (g : Entries C) (i : ℕ) (e d : Entry C) → SoundWorld (kept progress g) → slice_get g.entries i ≡ Some e → KeepsNotices e d → KeepsPart (component_of e) (component_of d) → IsChange (component_of e) (component_of d) → IsSound (component_of d)
+      → ((w : World) → Stands (kept progress g) w → Sound w → IsFair w.waits w.waits (component_of e) (component_of d)) → SoundWorld (kept progress (changed_at i d g))
+  changed_worlds g i e d W at N K X S F = next_world (kept progress g) (kept progress (changed_at i d g)) (λ w v. v ≡ with_component i (component_of d) w) W
+      (steps_changed progress g i e d at N K)
       (λ w v s f sound.
       let h : slice_get w.components i ≡ Some (component_of e) = ap (λ (l : Look). slice_get l.components i) s.looks ∙ there progress g i e at in
-      subst Sound (sym f) (sound_component w i (component_of e) (component_of d) sound h X S))
+      subst Sound (sym f) (sound_component w i (component_of e) (component_of d) sound h X S (F w s sound)))
 
-  ports_changed : (es : List (Entry C)) (s : Stocked) (numbered i : ℕ) (e d : Entry C) → HasPorts es s numbered → slice_get es i ≡ Some e → IsChange (component_of e) (component_of d) → HasPorts (set es i d) s numbered
+  pub ports_changed : (es : List (Entry C)) (s : Stocked) (numbered i : ℕ) (e d : Entry C) → HasPorts es s numbered → slice_get es i ≡ Some e → IsChange (component_of e) (component_of d) → HasPorts (set es i d) s numbered
   ports_changed es s numbered i e d P at X = record {
     there = λ j x h port b.
         let l : length (component_of d).ports ≡ length (component_of e).ports = sym (length-map (component_of d).ports link_of) ∙ (ap length X.links ∙ length-map (component_of e).ports link_of) in
@@ -93,23 +105,26 @@ module _ {C : Type 0} (progress : C → Progress) where
     below = P.below;
   }
 
-  pub graph_changed : (es : List (Entry C)) (registry : Handles ℕ) (stock : StockKept) (units capacity i : ℕ) (e d : Entry C) → IsGraph progress es registry stock units capacity → slice_get es i ≡ Some e → KeepsNotices e d → IsChange (component_of e) (component_of d) → IsSound (component_of d)
-      → IsGraph progress (set es i d) registry stock units capacity
-  graph_changed es registry stock units capacity i e d G at N X S = record {
+  pub graph_changed : (es : List (Entry C)) (registry : Handles ℕ) (stock : StockKept) (units waits capacity i : ℕ) (e d : Entry C) → IsGraph progress es registry stock units waits capacity → slice_get es i ≡ Some e → KeepsNotices e d → KeepsPart (component_of e) (component_of d) → IsChange (component_of e) (component_of d) → IsSound (component_of d)
+      → ((w : World) → Stands (kept progress (record { entries = es; stock = stock; units = units; waits = waits; numbered = registry.given })) w → Sound w → IsFair w.waits w.waits (component_of e) (component_of d))
+      → waits + waiters (set es i d) ≤ 18446744073709551615
+      → IsGraph progress (set es i d) registry stock units waits capacity
+  graph_changed es registry stock units waits capacity i e d G at N K X S F few = record {
     registered = set_sound es registry i e d G.registered at X.handle;
     roomy = G.roomy;
     few = subst (λ (n : ℕ). n ≤ 32) (sym (length-set es i d)) G.few;
     ports = ports_changed es (stocked stock) registry.given i e d G.ports at X;
-    worlds = changed_worlds (record { entries = es; stock = stock; units = units; numbered = registry.given }) i e d G.worlds at N X S;
+    numbers = few;
+    worlds = changed_worlds (record { entries = es; stock = stock; units = units; waits = waits; numbered = registry.given }) i e d G.worlds at N K X S F;
   }
 
   -- the clause of a change of one component
-  pub returns_changed : (g : Entries C) (i : ℕ) (e d : Entry C) (F : World → Component → Component) → slice_get g.entries i ≡ Some e → KeepsNotices e d → number_of (component_of d) ≡ number_of (component_of e)
-      → ((w : World) → component_of d ≡ F w (component_of e))
+  pub returns_changed : (g : Entries C) (i : ℕ) (e d : Entry C) (F : World → Component → Component) → slice_get g.entries i ≡ Some e → KeepsNotices e d → KeepsPart (component_of e) (component_of d)
+      → ((w : World) → Stands (kept progress g) w → component_of d ≡ F w (component_of e))
       → MatchOption (component_at i g) ⊥ (λ c. Steps (kept progress g) (kept progress (changed_at i d g)) (λ w v. v ≡ with_component i (F w c) w))
-  returns_changed g i e d F at N n f =
+  returns_changed g i e d F at N K f =
       rw (there progress g i e at) (as_change (kept progress g) (kept progress (changed_at i d g)) (λ w v. v ≡ with_component i (component_of d) w) (λ w v. v ≡ with_component i (F w (component_of e)) w)
-      (steps_changed progress g i e d at N n) (λ w v s h. h ∙ ap (λ (c : Component). with_component i c w) (f w)))
+      (steps_changed progress g i e d at N K) (λ w v s h. h ∙ ap (λ (c : Component). with_component i c w) (f w s)))
 
 -- ---- the machine finds the component that a handle names at the same place
 

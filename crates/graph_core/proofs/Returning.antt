@@ -10,10 +10,11 @@ use Rattle.omx_types.specs.declared.command.Completion.TheVariants as completion
 use Rattle.omx_types.specs.declared.command.Event.TheVariants as events
 use Rattle.omx_types.specs.declared.command.Note.{Note}
 use Rattle.omx_types.specs.declared.command.Note.TheVariants.{Told}
+use Rattle.omx_types.specs.declared.command.Completion.{Completion}
 use Rattle.il_machine.specs.declared.answer.Progress.{Progress}
 use Rattle.il_machine.specs.World.{Component, Given, World, number_of, with_component}
 use Rattle.il_machine.specs.Look.{Look}
-use Rattle.il_machine.specs.Components.{progress_of, progress_after, is_given_to, no_progress}
+use Rattle.il_machine.specs.Components.{noted_by, progress_of, progress_after, is_given_to, no_progress}
 use Rattle.il_machine.specs.Notes.{back_in}
 use Rattle.il_machine.specs.Whole.{Kept, Stands, StepsWhere}
 use Rattle.il_machine.specs.Sound.{Sound}
@@ -25,9 +26,10 @@ use Rattle.whole_laws.proofs.Noting.{IsOnly, lift_ended, with_client_in}
 use Rattle.whole_laws.proofs.Seeing.{sound_world}
 use Rattle.note_queues.specs.Queues.{with_client}
 use Rattle.il_component.specs.Entries.{Entry, component_of}
+use Rattle.graph_core.specs.Clients.{IsPortDone}
 use Rattle.graph_core.specs.Standing.{SoundWorld}
 use Rattle.graph_core.specs.Entries.{Entries, components_of, look_of, noticed_in, held_by, progress_at, kept, changed_at, component_at}
-use Rattle.graph_core.proofs.Replacing.{there}
+use Rattle.graph_core.proofs.Replacing.{there, parts_set}
 use Rattle.graph_core.proofs.Stepping.{at_world, only, numbered_before}
 
 -- ---- notes that come to a progress
@@ -44,22 +46,65 @@ abbrev error_notes : Option OmxError → List Note
 error_notes None = []
 error_notes (Some error) = Told (events.Error error) ∷ []
 
+abbrev settings_notes : Option ℕ → List Note
+settings_notes None = []
+settings_notes (Some port) = Told (events.PortSettingsChanged port) ∷ []
+
+abbrev port_notes : Option Completion → List Note
+port_notes None = []
+port_notes (Some completion) = Told (events.CmdComplete completion) ∷ []
+
 abbrev notes_for : Progress → List Note
-notes_for p = state_notes p.state ++ eos_notes p.eos ++ error_notes p.error
+notes_for p = state_notes p.state ++ eos_notes p.eos ++ error_notes p.error ++ settings_notes p.settings ++ port_notes p.port
 
 abbrev given_as : ℕ → List Note → List Given
 given_as n [] = []
 given_as n (note ∷ notes) = record { component = n; note = note } ∷ given_as n notes
 
-comes_to : (n : ℕ) (s : Option State) (b : Bool) (e : Option OmxError) → progress_after (given_as n (state_notes s ++ eos_notes b ++ error_notes e)) no_progress ≡ record { state = s; eos = b; error = e }
-comes_to n None false None = refl
-comes_to n None false (Some error) = refl
-comes_to n None true None = refl
-comes_to n None true (Some error) = refl
-comes_to n (Some state) false None = refl
-comes_to n (Some state) false (Some error) = refl
-comes_to n (Some state) true None = refl
-comes_to n (Some state) true (Some error) = refl
+abbrev comes : ℕ → List Note → Progress → Progress → Type 0
+comes n xs p q = progress_after (given_as n xs) p ≡ q
+
+comes_on : (n : ℕ) (xs ys : List Note) (p q r : Progress) → comes n xs p q → comes n ys q r → comes n (xs ++ ys) p r
+comes_on n [] ys p q r e f = ap (progress_after (given_as n ys)) e ∙ f
+comes_on n (x ∷ xs) ys p q r e f = comes_on n xs ys (noted_by x p) q r e f
+
+abbrev with_all : Option State → Bool → Option OmxError → Option ℕ → Option Completion → Progress
+with_all s b e q r = record { state = s; eos = b; error = e; settings = q; port = r }
+
+comes_state : (n : ℕ) (s : Option State) → comes n (state_notes s) no_progress (with_all s false None None None)
+comes_state n None = refl
+comes_state n (Some state) = refl
+
+comes_eos : (n : ℕ) (s : Option State) (b : Bool) → comes n (eos_notes b) (with_all s false None None None) (with_all s b None None None)
+comes_eos n s false = refl
+comes_eos n s true = refl
+
+comes_error : (n : ℕ) (s : Option State) (b : Bool) (e : Option OmxError) → comes n (error_notes e) (with_all s b None None None) (with_all s b e None None)
+comes_error n s b None = refl
+comes_error n s b (Some error) = refl
+
+comes_settings : (n : ℕ) (s : Option State) (b : Bool) (e : Option OmxError) (q : Option ℕ) → comes n (settings_notes q) (with_all s b e None None) (with_all s b e q None)
+comes_settings n s b e None = refl
+comes_settings n s b e (Some port) = refl
+
+comes_port : (n : ℕ) (s : Option State) (b : Bool) (e : Option OmxError) (q : Option ℕ) (r : Option Completion) → IsPortDone r → comes n (port_notes r) (with_all s b e q None) (with_all s b e q r)
+comes_port n s b e q None d = refl
+comes_port n s b e q (Some (completions.Disable port)) d = refl
+comes_port n s b e q (Some (completions.Enable port)) d = refl
+comes_port n s b e q (Some (completions.State state)) d = absurd d
+comes_port n s b e q (Some (completions.Flush port)) d = absurd d
+comes_port n s b e q (Some (completions.Mark port)) d = absurd d
+
+comes_to : (n : ℕ) (p : Progress) → IsPortDone p.port → comes n (notes_for p) no_progress p
+comes_to n p d =
+    let s = p.state in
+    let b = p.eos in
+    let e = p.error in
+    let q = p.settings in
+    let a1 = comes_on n (state_notes s) (eos_notes b) no_progress (with_all s false None None None) (with_all s b None None None) (comes_state n s) (comes_eos n s b) in
+    let a2 = comes_on n (state_notes s ++ eos_notes b) (error_notes e) no_progress (with_all s b None None None) (with_all s b e None None) a1 (comes_error n s b e) in
+    let a3 = comes_on n (state_notes s ++ eos_notes b ++ error_notes e) (settings_notes q) no_progress (with_all s b e None None) (with_all s b e q None) a2 (comes_settings n s b e q) in
+    comes_on n (state_notes s ++ eos_notes b ++ error_notes e ++ settings_notes q) (port_notes p.port) no_progress (with_all s b e q None) p a3 (comes_port n s b e q p.port d)
 
 all_own : (n : ℕ) (ns : List Note) → filter (is_given_to n) (given_as n ns) ≡ given_as n ns
 all_own n [] = refl
@@ -91,12 +136,12 @@ given_for n p gs = without_own n gs ++ given_as n (notes_for p)
 abbrev regiven : ℕ → Progress → World → World
 regiven n p w = record w { given = given_for n p w.given }
 
-own_progress : (c : Component) (p : Progress) (w : World) → p ≡ progress_of c (regiven (number_of c) p w)
-own_progress c p w =
+own_progress : (c : Component) (p : Progress) (w : World) → IsPortDone p.port → p ≡ progress_of c (regiven (number_of c) p w)
+own_progress c p w d =
     let n = number_of c in
     let e : filter (is_given_to n) (given_for n p w.given) ≡ given_as n (notes_for p) =
     filter-append (is_given_to n) (without_own n w.given) (given_as n (notes_for p)) ∙ rw (own_gone n w.given) (all_own n (notes_for p)) in
-    sym (ap (λ (gs : List Given). progress_after gs no_progress) e ∙ comes_to n p.state p.eos p.error)
+    sym (ap (λ (gs : List Given). progress_after gs no_progress) e ∙ comes_to n p d)
 
 other_progress : (d : Component) (n : ℕ) (p : Progress) (w : World) → number_of d ≢ n → progress_of d (regiven n p w) ≡ progress_of d w
 other_progress d n p w a =
@@ -118,6 +163,8 @@ regiven_stands k w i c p S at gone one few = record {
         absurd cc
     | inr q ↦ S.progress j d h out ∙ ap (λ (x : Progress). Some (Some x)) (sym (other_progress d (number_of c) p w (one j d h q.1)))
   ];
+  parts = S.parts;
+  streams = S.streams;
   once = S.once;
   given = All-append (λ g. g.component < w.numbered) (without_own (number_of c) w.given) (given_as (number_of c) (notes_for p)) (All-filter (λ g. not (is_given_to (number_of c) g)) (λ g. g.component < w.numbered) w.given S.given) (all_below (number_of c) w.numbered (notes_for p) few);
 }
@@ -141,6 +188,7 @@ module _ {C : Type 0} (progress : C → Progress) (g : Entries C) (i : ℕ) (e :
         clients = cl j;
         loads = (kept progress g).loads;
         noticed = ns j;
+        parts = parts_set progress g.entries i put_back j;
       }
 
   abbrev Change : Kept → Type 0
@@ -155,8 +203,8 @@ module _ {C : Type 0} (progress : C → Progress) (g : Entries C) (i : ℕ) (e :
   pub back_returns : (d : Entry C) → d ≡ put_back → Clause (changed_at i d g)
   back_returns d q = subst (λ (x : Entry C). Clause (changed_at i x g)) (sym q) (rw (there progress g i e at) steps_back)
 
-  world_back : is_none e.queues.client ≡ true → SoundWorld (kept progress (changed_at i put_back g))
-  world_back gone =
+  world_back : IsPortDone (progress client).port → is_none e.queues.client ≡ true → SoundWorld (kept progress (changed_at i put_back g))
+  world_back done gone =
       let w = W.world in
       let k = kept progress g in
       let here = at_world progress g i e w W.stands at in
@@ -165,8 +213,8 @@ module _ {C : Type 0} (progress : C → Progress) (g : Entries C) (i : ℕ) (e :
       let S = regiven_stands k w i c (progress client) W.stands here gone (subst (IsOnly i c) (sym cs) (only progress g i e W at)) (rw n (numbered_before progress g i e W at)) in
       let u = regiven (number_of c) (progress client) w in
       let sound : Sound u = sound_world k w u W.stands W.sound S in
-      let x = steps_back u S (own_progress c (progress client) w) in
+      let x = steps_back u S (own_progress c (progress client) w done) in
       record { world = x.0; stands = x.1; sound = subst Sound (sym x.2) (sound_ended u i c sound here) }
 
-  pub back_worlds : (d : Entry C) → d ≡ put_back → is_none e.queues.client ≡ true → SoundWorld (kept progress (changed_at i d g))
-  back_worlds d q gone = subst (λ (x : Entry C). SoundWorld (kept progress (changed_at i x g))) (sym q) (world_back gone)
+  pub back_worlds : (d : Entry C) → d ≡ put_back → IsPortDone (progress client).port → is_none e.queues.client ≡ true → SoundWorld (kept progress (changed_at i d g))
+  back_worlds d q done gone = subst (λ (x : Entry C). SoundWorld (kept progress (changed_at i x g))) (sym q) (world_back done gone)

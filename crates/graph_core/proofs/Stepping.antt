@@ -27,6 +27,7 @@ use Rattle.registry.specs.Handles.{Handles}
 use Rattle.graph_core.specs.Standing.{SoundWorld, HasPorts, IsGraph}
 use Rattle.graph_core.specs.Entries.{Entries, components_of, kept}
 use Rattle.graph_core.proofs.Registering.{set_sound}
+use Rattle.graph_core.proofs.Waiters.{waiters_set, few_alike}
 use Rattle.graph_core.proofs.Replacing.{there}
 
 -- ---- lists of headers in notes
@@ -114,30 +115,32 @@ module _ {C : Type 0} (progress : C → Progress) where
     below = rw q P.below;
   }
 
-  abbrev pub graph_of : List (Entry C) → StockKept → ℕ → ℕ → Entries C
-  graph_of es stock units numbered = record { entries = es; stock = stock; units = units; numbered = numbered }
+  abbrev pub graph_of : List (Entry C) → StockKept → ℕ → ℕ → ℕ → Entries C
+  graph_of es stock units waits numbered = record { entries = es; stock = stock; units = units; waits = waits; numbered = numbered }
 
   -- the entry of a place and the stock change, but for handles and ports
-  pub graph_with : (es : List (Entry C)) (registry : Handles ℕ) (stock after : StockKept) (units capacity i : ℕ) (e d : Entry C) → IsGraph progress es registry stock units capacity → slice_get es i ≡ Some e → d.handle ≡ e.handle → d.ports ≡ e.ports
-      → (stocked after).ports ≡ (stocked stock).ports → SoundWorld (kept progress (graph_of (set es i d) after units registry.given))
-      → IsGraph progress (set es i d) registry after units capacity
-  graph_with es registry stock after units capacity i e d G at m l q W = record {
+  pub graph_with : (es : List (Entry C)) (registry : Handles ℕ) (stock after : StockKept) (units waits capacity i : ℕ) (e d : Entry C) → IsGraph progress es registry stock units waits capacity → slice_get es i ≡ Some e → d.handle ≡ e.handle → d.ports ≡ e.ports → d.pending ≡ e.pending
+      → (stocked after).ports ≡ (stocked stock).ports → SoundWorld (kept progress (graph_of (set es i d) after units waits registry.given))
+      → IsGraph progress (set es i d) registry after units waits capacity
+  graph_with es registry stock after units waits capacity i e d G at m l m' q W = record {
     registered = set_sound es registry i e d G.registered at m;
     roomy = G.roomy;
     few = subst (λ (n : ℕ). n ≤ 32) (sym (length-set es i d)) G.few;
     ports = ports_set es (stocked after) registry.given i e d (ports_same es (stocked stock) (stocked after) registry.given G.ports q) at m l;
+    numbers = waiters_set es i e d waits waits at (few_alike waits e d m') G.numbers;
     worlds = W;
   }
 
   -- the stock alone changes, but for its ports
-  pub graph_stocked : (es : List (Entry C)) (registry : Handles ℕ) (stock after : StockKept) (units capacity : ℕ) → IsGraph progress es registry stock units capacity
-      → (stocked after).ports ≡ (stocked stock).ports → SoundWorld (kept progress (graph_of es after units registry.given))
-      → IsGraph progress es registry after units capacity
-  graph_stocked es registry stock after units capacity G q W = record {
+  pub graph_stocked : (es : List (Entry C)) (registry : Handles ℕ) (stock after : StockKept) (units waits capacity : ℕ) → IsGraph progress es registry stock units waits capacity
+      → (stocked after).ports ≡ (stocked stock).ports → SoundWorld (kept progress (graph_of es after units waits registry.given))
+      → IsGraph progress es registry after units waits capacity
+  graph_stocked es registry stock after units waits capacity G q W = record {
     registered = G.registered;
     roomy = G.roomy;
     few = G.few;
     ports = ports_same es (stocked stock) (stocked after) registry.given G.ports q;
+    numbers = G.numbers;
     worlds = W;
   }
 

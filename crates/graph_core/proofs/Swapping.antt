@@ -10,18 +10,22 @@ use Rattle.il_machine.specs.Sound.{Sound}
 use Rattle.registry.specs.Handles.{Handles}
 use Rattle.port_stock.specs.Kept.{Kept as StockKept, stocked}
 use Rattle.port_stock.specs.Conditions.{IsPort}
+use Rattle.whole_laws.specs.Parts.{KeepsPart}
 use Rattle.whole_laws.proofs.Lists.{get_set_same, get_set_other}
 use Rattle.il_component.specs.Entries.{Entry, component_of, KeepsNotices}
 use Rattle.graph_core.specs.Standing.{HasPorts, IsGraph}
 use Rattle.graph_core.specs.Entries.{Entries, look_of, kept, changed_at}
 use Rattle.graph_core.proofs.Registering.{set_sound}
+use Rattle.graph_core.proofs.Waiters.{waiters_set, few_alike}
 use Rattle.graph_core.proofs.Replacing.{next_world, steps_changed}
 
 module _ {C : Type 0} where
-  -- the same handle, and as many ports
+  -- the same handle, as many ports, and the same part
   pub record IsAlike (e d : Entry C) : Type 0 where
     pub handle : d.handle ≡ e.handle
     pub ports : length d.ports ≡ length e.ports
+    pub pending : d.pending ≡ e.pending
+    pub part : KeepsPart (component_of e) (component_of d)
 
   pub ports_swapped : (es : List (Entry C)) (s : Stocked) (numbered i : ℕ) (e d : Entry C) → HasPorts es s numbered → slice_get es i ≡ Some e → IsAlike e d → HasPorts (set es i d) s numbered
   ports_swapped es s numbered i e d P at A = record {
@@ -37,20 +41,21 @@ module _ {C : Type 0} where
     below = P.below;
   }
 
-  module _ (progress : C → Progress) (es : List (Entry C)) (registry : Handles ℕ) (stock : StockKept) (units : ℕ) where
+  module _ (progress : C → Progress) (es : List (Entry C)) (registry : Handles ℕ) (stock : StockKept) (units waits : ℕ) where
     whole : Entries C
-    whole = record { entries = es; stock = stock; units = units; numbered = registry.given }
+    whole = record { entries = es; stock = stock; units = units; waits = waits; numbered = registry.given }
 
-    pub graph_swapped : (capacity i : ℕ) (e d : Entry C) → IsGraph progress es registry stock units capacity → slice_get es i ≡ Some e → KeepsNotices e d → IsAlike e d
-        → ((w : World) → look w ≡ look_of (record { entries = es; stock = stock; units = units; numbered = registry.given }) → Sound w → Sound (with_component i (component_of d) w))
-        → IsGraph progress (set es i d) registry stock units capacity
+    pub graph_swapped : (capacity i : ℕ) (e d : Entry C) → IsGraph progress es registry stock units waits capacity → slice_get es i ≡ Some e → KeepsNotices e d → IsAlike e d
+        → ((w : World) → look w ≡ look_of (record { entries = es; stock = stock; units = units; waits = waits; numbered = registry.given }) → Sound w → Sound (with_component i (component_of d) w))
+        → IsGraph progress (set es i d) registry stock units waits capacity
     unfolding whole
     graph_swapped capacity i e d G at N A keeps = record {
       registered = set_sound es registry i e d G.registered at A.handle;
       roomy = G.roomy;
       few = subst (λ (n : ℕ). n ≤ 32) (sym (length-set es i d)) G.few;
       ports = ports_swapped es (stocked stock) registry.given i e d G.ports at A;
+      numbers = waiters_set es i e d waits waits at (few_alike waits e d A.pending) G.numbers;
       worlds = next_world (kept progress whole) (kept progress (changed_at i d whole)) (λ w v. v ≡ with_component i (component_of d) w) G.worlds
-          (steps_changed progress whole i e d at N (ap (λ (h : Handle). h.generation) A.handle))
+          (steps_changed progress whole i e d at N A.part)
           (λ w v s f sound. subst Sound (sym f) (keeps w s.looks sound));
     }

@@ -43,7 +43,7 @@ use Rattle.port_stock.specs.Conditions.{IsOut}
 use Rattle.graph_core.specs.Standing.{SoundWorld}
 use Rattle.graph_core.specs.Changes.{OnNoNote, Takes, TakesNote}
 use Rattle.graph_core.specs.Entries.{Entries, components_of, look_of, noticed_in, held_by, progress_at, kept, changed_at, component_at}
-use Rattle.graph_core.proofs.Replacing.{there, next_world}
+use Rattle.graph_core.proofs.Replacing.{there, next_world, parts_set}
 use Rattle.graph_core.proofs.Stepping.{at_world, only, numbered_before, with_stocked, stock_of, stock_steps, made_is, made_of, seen_of, held_there, held_each}
 
 -- ---- the queue
@@ -107,6 +107,7 @@ module _ {C : Type 0} (progress : C → Progress) (g : Entries C) (i : ℕ) (e :
         clients = cl j;
         loads = (kept progress g).loads;
         noticed = noticed_in after.entries;
+        parts = parts_set progress g.entries i (left e rest) j;
       }
 
   less : (P : Noticed → Type 0) (u : Taken) → All P (held_in (u ∷ rest)) → All P (held_in rest)

@@ -1,6 +1,8 @@
 -- Which component has which client object, as a graph changes.
-use Rattle.std.specs.Prelude.{◌≡◌, true, false, Some, None, IsSome, IsSomeAnd, MatchOption}
+use Rattle.std.specs.Prelude.{◌≡◌, true, false, Option, Some, None, IsSome, IsSomeAnd, MatchOption}
 use Rattle.omx_types.specs.declared.handle.Handle.{Handle}
+use Rattle.omx_types.specs.declared.command.Completion.{Completion}
+use Rattle.omx_types.specs.declared.command.Completion.TheVariants as completions
 use Rattle.il_machine.specs.declared.answer.Progress.{Progress}
 use Rattle.il_machine.specs.World.{World, same_handle}
 use Rattle.il_machine.specs.Look.{Look}
@@ -35,3 +37,12 @@ WasTold h told w = MatchOption (component_named h w.components) ⊥ (λ c. told 
 -- each client object that is in has the progress of all events that were given for its component
 abbrev pub AreTold : {C : Type 0} → (C → Progress) → Entries C → World → Type 0
 AreTold {C} progress g w = (h : Handle) (client : C) → client_of h g ≡ Some client → WasTold h (progress client) w
+
+-- What a progress says of ports is the completion of a disable or an enable, as it is of each that events come to.
+abbrev pub IsPortDone : Option Completion → Type 0
+IsPortDone None = Unit {0}
+IsPortDone (Some (completions.Disable port)) = Unit {0}
+IsPortDone (Some (completions.Enable port)) = Unit {0}
+IsPortDone (Some (completions.State state)) = ⊥
+IsPortDone (Some (completions.Flush port)) = ⊥
+IsPortDone (Some (completions.Mark port)) = ⊥

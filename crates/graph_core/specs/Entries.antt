@@ -1,11 +1,14 @@
 -- What a contract sees of a graph: its components with their queues, in the order of their numbers, and its ports and headers.
-use Rattle.std.specs.Prelude.{ℕ, Bool, List, map, remove, position, slice_get, slice_set, Option, option_and_then, option_map}
+use Rattle.std.specs.Prelude.{ℕ, Bool, List, map, remove, position, slice_get, slice_set, sum_by, Option, Some, option_and_then, option_map}
 use Rattle.omx_types.specs.declared.handle.Handle.{Handle}
 use Rattle.il_machine.specs.declared.answer.Progress.{Progress}
 use Rattle.il_machine.specs.World.{Component, is_at}
+use Rattle.omx_types.specs.declared.state.State.TheVariants.{WaitForResources}
 use Rattle.il_machine.specs.Look.{Look}
-use Rattle.il_machine.specs.Whole.{Kept, Noticed}
-use Rattle.whole_laws.specs.Entries.{all_held}
+use Rattle.il_machine.specs.Headers.{weight}
+use Rattle.il_machine.specs.Ports.{is_going_to}
+use Rattle.il_machine.specs.Whole.{Kept, Noticed, PartSeen}
+use Rattle.whole_laws.specs.Entries.{all_held, no_part}
 use Rattle.il_component.specs.Entries.{Entry, component_of, held_in}
 use Rattle.port_stock.specs.Kept.{Kept as StockKept, stocked}
 
@@ -13,6 +16,8 @@ pub record Entries (C : Type 0) : Type 0 where
   pub entries : List (Entry C)
   pub stock : StockKept
   pub units : ℕ
+  -- how many waits, and how many components, were numbered
+  pub waits : ℕ
   pub numbered : ℕ
 
 module _ {C : Type 0} where
@@ -22,7 +27,7 @@ module _ {C : Type 0} where
   components_of entries = map component_of entries
 
   abbrev pub look_of : Entries C → Look
-  look_of g = record { key = (stocked g.stock).key; components = components_of g.entries; headers = (stocked g.stock).headers; units = g.units; numbered = g.numbered; made = (stocked g.stock).next }
+  look_of g = record { key = (stocked g.stock).key; components = components_of g.entries; headers = (stocked g.stock).headers; units = g.units; numbered = g.numbered; made = (stocked g.stock).next; waits = g.waits }
 
   abbrev pub held_by : Entry C → List Noticed
   held_by e = held_in e.queues.notes
@@ -34,9 +39,13 @@ module _ {C : Type 0} where
   abbrev pub progress_at : (C → Progress) → Entry C → Option Progress
   progress_at progress e = option_map progress e.queues.client
 
+  -- no component has a file yet
+  abbrev pub no_parts : List (Entry C) → List (Option PartSeen)
+  no_parts entries = map (λ e. Some no_part) entries
+
   -- what is kept, where the client objects have this progress
   abbrev pub kept : (C → Progress) → Entries C → Kept
-  kept progress g = record { looks = look_of g; clients = map (progress_at progress) g.entries; loads = (stocked g.stock).loads; noticed = noticed_in g.entries }
+  kept progress g = record { looks = look_of g; clients = map (progress_at progress) g.entries; loads = (stocked g.stock).loads; noticed = noticed_in g.entries; parts = no_parts g.entries }
 
   -- ---- the component that a handle names
 
@@ -66,3 +75,13 @@ module _ {C : Type 0} where
   -- the component at the place, as the machine sees it
   abbrev pub component_at : ℕ → Entries C → Option Component
   component_at i g = slice_get (components_of g.entries) i
+
+  -- ---- waits
+
+  -- one where the component is on its way to wait for resources
+  abbrev pub waits_next : Entry C → ℕ
+  waits_next e = weight (is_going_to WaitForResources (component_of e))
+
+  -- how many components are on their way to wait for resources
+  abbrev pub waiters : List (Entry C) → ℕ
+  waiters entries = sum_by waits_next entries

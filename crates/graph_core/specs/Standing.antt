@@ -1,6 +1,6 @@
 -- What is true of all that a graph keeps: it stands for a sound world, the registry gives each live handle's place, and each port is
 -- one of the stock's.
-use Rattle.std.specs.Prelude.{◌≡◌, ◌<◌, ◌≤◌, ℕ, List, length, All, slice_get, Some}
+use Rattle.std.specs.Prelude.{◌≡◌, ◌+◌, ◌<◌, ◌≤◌, ℕ, List, length, All, slice_get, Some}
 use Rattle.il_machine.specs.declared.answer.Progress.{Progress}
 use Rattle.il_machine.specs.World.{World}
 use Rattle.il_machine.specs.Whole.{Stands}
@@ -11,7 +11,7 @@ use Rattle.il_component.specs.Entries.{Entry, component_of}
 use Rattle.port_stock.specs.Kept.{Kept, stocked}
 use Rattle.port_rules.specs.Tests.{HasPortsOf}
 use Rattle.registry.specs.Handles.{Handles}
-use Rattle.graph_core.specs.Entries.{kept}
+use Rattle.graph_core.specs.Entries.{kept, waiters}
 use Rattle.graph_core.specs.Registered.{Registered}
 
 -- a sound world that what is kept stands for
@@ -26,9 +26,11 @@ module _ {C : Type 0} where
     pub there : (i : ℕ) (e : Entry C) → slice_get entries i ≡ Some e → HasPortsOf (component_of e) s
     pub below : All (λ key. key.component < numbered) s.ports
 
-  pub record IsGraph (progress : C → Progress) (entries : List (Entry C)) (registry : Handles ℕ) (stock : Kept) (units capacity : ℕ) : Type 0 where
+  pub record IsGraph (progress : C → Progress) (entries : List (Entry C)) (registry : Handles ℕ) (stock : Kept) (units waits capacity : ℕ) : Type 0 where
     pub registered : Registered entries registry
     pub roomy : 32 ≤ capacity
     pub few : length entries ≤ 32
     pub ports : HasPorts entries (stocked stock) registry.given
-    pub worlds : SoundWorld (kept progress (record { entries = entries; stock = stock; units = units; numbered = registry.given }))
+    -- each component that is on its way to wait gets a number
+    pub numbers : waits + waiters entries ≤ 18446744073709551615
+    pub worlds : SoundWorld (kept progress (record { entries = entries; stock = stock; units = units; waits = waits; numbered = registry.given }))

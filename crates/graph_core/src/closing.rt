@@ -52,7 +52,8 @@ impl<C: Client> Core<C> {
         ensures clients { KeepsAllClients self.old self.new }
     {
         let component = &mut self.components[place];
-        happen_in(&mut self.stock, component, due);
+        let waits = happen_in(&mut self.stock, component, due, self.waits);
+        self.waits = waits;
     }
 
     /// While something is due, the first due thing happens.

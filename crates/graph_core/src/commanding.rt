@@ -4,6 +4,7 @@ ghost use Rattle.std.specs.Prelude.{◌≡◌, ◌<◌, None, length, MatchOptio
 ghost use Rattle.il_machine.specs.World.{with_component};
 ghost use Rattle.il_machine.specs.Look.{look};
 ghost use Rattle.il_machine.specs.Commands.{send_refusal, lacks_target, sent, run_idle, run_front};
+ghost use Rattle.il_machine.specs.Due.{first_due};
 ghost use Rattle.il_machine.specs.Whole.{Steps};
 ghost use Rattle.graph_core.specs.Entries.{kept, look_of, component_at};
 ghost use Rattle.graph_core.specs.Clients.{KeepsAllClients};
@@ -62,13 +63,14 @@ impl<C: Client> Core<C> {
         component.run_idle()
     }
 
-    /// The component at the place carries out its first command.
+    /// The component at the place carries out its first command. Nothing is due before: then none waits for its number.
     pub fn run(&mut self, place: usize)
-        requires { IsSomeAnd (component_at place self.old) (λ c. run_idle c c.commands ≡ None) }
+        requires closed { first_due (look_of self.old) ≡ None }
+        requires may { IsSomeAnd (component_at place self.old) (λ c. run_idle c c.commands ≡ None) }
         ensures change { MatchOption (component_at place self.old) ⊥ (λ c. Steps (kept C.progress self.old) (kept C.progress self.new) (λ w v. v ≡ with_component place (run_front (look w) c.commands c) w)) }
         ensures clients { KeepsAllClients self.old self.new }
     {
         let component = &mut self.components[place];
-        component.run();
+        component.run(self.waits);
     }
 }

@@ -18,6 +18,8 @@ pub struct Core<C: Client> {
     pub(crate) components: Vec<Component<C>>,
     pub(crate) stock: Stock,
     pub(crate) units: u32,
+    /// How many waits were numbered.
+    pub(crate) waits: u64,
 }
 
 impl<C: Client> Model for Core<C> {
@@ -27,15 +29,15 @@ impl<C: Client> Model for Core<C> {
 
     ghost Value = { Entries C };
 
-    ghost view = { λ g. record { entries = g.components.items; stock = g.stock; units = g.units; numbered = g.registry.given } };
+    ghost view = { λ g. record { entries = g.components.items; stock = g.stock; units = g.units; waits = g.waits; numbered = g.registry.given } };
 
-    ghost invariant = { λ g. IsGraph C.progress g.components.items g.registry g.stock g.units (vec_capacity g.components) };
+    ghost invariant = { λ g. IsGraph C.progress g.components.items g.registry g.stock g.units g.waits (vec_capacity g.components) };
 }
 
 impl<C: Client> Core<C> {
     /// A graph with no component, and so many free units.
     pub fn new(alloc: Global, units: u32) -> Result<Core<C>, AllocError>
-        ensures { IfOk result (λ g. (g.entries ≡ []) × (stocked g.stock ≡ no_stock (stocked g.stock).key) × (g.units ≡ units) × (g.numbered ≡ 0)) }
+        ensures { IfOk result (λ g. (g.entries ≡ []) × (stocked g.stock ≡ no_stock (stocked g.stock).key) × (g.units ≡ units) × (g.waits ≡ 0) × (g.numbered ≡ 0)) }
     {
         let stock = Stock::new(alloc)?;
         let components = match Vec::with_capacity(alloc, 32) {
@@ -50,6 +52,7 @@ impl<C: Client> Core<C> {
             components,
             stock,
             units,
+            waits: 0,
         })
     }
 

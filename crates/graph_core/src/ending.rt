@@ -20,6 +20,7 @@ impl<C: Client + Drop> Core<C> {
             components,
             stock,
             units: _,
+            waits: _,
         } = self;
         end_all(components);
         stock.dispose();

@@ -8,7 +8,7 @@ ghost use Rattle.il_machine.specs.Flow.{handed_back};
 ghost use Rattle.il_machine.specs.Whole.{Steps, StepsWhere};
 ghost use Rattle.graph_core.specs.Entries.{kept, client_of, component_at};
 ghost use Rattle.graph_core.specs.Changes.{OnNoNote, Takes};
-ghost use Rattle.graph_core.specs.Clients.{KeepsClients, KeepsAllClients, TakesClient};
+ghost use Rattle.graph_core.specs.Clients.{IsPortDone, KeepsClients, KeepsAllClients, TakesClient};
 
 use crate::core_graph::Core;
 use il_machine::Owner;
@@ -38,7 +38,8 @@ impl<C: Client> Core<C> {
 
     /// Puts the client object of the component at the place back. It was out, and was told all that was given for the component.
     pub fn put_client(&mut self, place: usize, client: C)
-        requires { IsSomeAnd (component_at place self.old) (λ c. c.client_out ≡ true) }
+        requires told { IsPortDone (C.progress client).port }
+        requires out { IsSomeAnd (component_at place self.old) (λ c. c.client_out ≡ true) }
         ensures change { MatchOption (component_at place self.old) ⊥ (λ c. StepsWhere (kept C.progress self.old) (kept C.progress self.new) (λ w. C.progress client ≡ progress_of c w) (λ w v. v ≡ with_component place (back_in c) w)) }
         ensures client { MatchOption (component_at place self.old) ⊥ (λ c. client_of c.handle self.new ≡ Some client) }
         ensures clients { MatchOption (component_at place self.old) ⊥ (λ c. KeepsClients c.handle self.old self.new) }

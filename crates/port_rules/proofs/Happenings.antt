@@ -1,5 +1,5 @@
 -- What each due thing makes of a component, and of the ports and headers.
-use Rattle.std.proofs.Common.{◌≡◌, inl, inr, ℕ, ◌<◌, Bool, true, false, not, ◌||◌, if◌then◌else◌, is_some, Option, Some, None, IsSome, IsSomeAnd, MatchOption, refl, sym, ◌∙◌, ap, subst}
+use Rattle.std.proofs.Common.{◌≡◌, inl, inr, ℕ, ◌+◌, ◌≤◌, ◌<◌, Bool, true, false, not, ◌||◌, if◌then◌else◌, is_some, Option, Some, None, IsSome, IsSomeAnd, MatchOption, refl, sym, ◌∙◌, ap, subst, arith}
 use Rattle.std.proofs.lemmas.Bool.{and_parts}
 use Rattle.std.proofs.lemmas.Option.{slice_get_within}
 use Rattle.omx_types.specs.declared.state.State.{State}
@@ -16,13 +16,13 @@ use Rattle.il_machine.specs.declared.port.PortKey.{PortKey}
 use Rattle.il_machine.specs.Kinds.{ports_in}
 use Rattle.il_machine.specs.Lists.{holds_at}
 use Rattle.il_machine.specs.World.{Component, ports_of, port_of, with_port, with_component, told}
-use Rattle.il_machine.specs.Headers.{Seen, seen}
-use Rattle.il_machine.specs.Ports.{is_steady}
+use Rattle.il_machine.specs.Headers.{Seen, seen, weight}
+use Rattle.il_machine.specs.Ports.{is_steady, is_going_to}
 use Rattle.il_machine.specs.Stock.{Stocked, StandsFor}
 use Rattle.il_machine.specs.Sound.{IsSound}
 use Rattle.il_machine.specs.Due.{Transition, Flush, PortMode, WaitingMark, due_in, is_due_to, arrived, arrived_at, reached, completed, completed_for, with_part, restarted, all_given_back, lost, lost_by, waits_after, transition_happened, flush_happened, mode_happened, mark_happened, mode_completion, all_told, first_marked, reset_port, reset_on, at_port}
 use Rattle.il_machine.specs.Room.{is_by_client}
-use Rattle.il_machine.specs.States.{is_down}
+use Rattle.il_machine.specs.States.{is_down, same_state}
 use Rattle.whole_laws.specs.Parts.{KeepsPart}
 use Rattle.machine_laws.proofs.Change.{IsChange}
 use Rattle.machine_laws.proofs.Lookups.{port_parts}
@@ -93,6 +93,59 @@ mode_part c p Steady = record { number = refl; kind = refl; file = refl; failed 
 mode_part c p Enabling = record { number = refl; kind = refl; file = refl; failed = refl; work = refl }
 mode_part c p Disabling = record { number = refl; kind = refl; file = refl; failed = refl; work = refl }
 
+-- ---- which waits are to come
+
+abbrev waits_next : Component → ℕ
+waits_next c = weight (is_going_to WaitForResources c)
+
+next_either : (P : Component → Type 0) (b : Bool) (d e : Component) → P d → P e → P (if b then d else e)
+next_either P true d e x y = x
+next_either P false d e x y = y
+
+NoneNext : Component → Type 0
+NoneNext d = waits_next d ≡ 0
+
+none_completed : (p : Pending) (d : Component) → NoneNext d → NoneNext (completed_for p d)
+unfolding NoneNext
+none_completed p d h = next_either NoneNext (is_by_client p.cause) (completed p.target d) d h h
+
+none_at : (number : ℕ) (target : State) (p : Pending) (c : Component) → NoneNext (arrived_at number target p c)
+unfolding NoneNext
+none_at number Idle p c =
+    let again : Component = with_part (restarted c) (reached p c) in
+    let r : Component = completed_for p again in
+    let R : NoneNext r = none_completed p again refl in
+    next_either NoneNext (is_down c.state) (completed Idle (reached p c)) (lost_by p r) refl (next_either NoneNext (r.loss_mark || not (is_by_client p.cause)) (lost r) r refl R)
+none_at number Loaded p c = none_completed p (all_given_back (reached p c)) refl
+none_at number Executing p c = refl
+none_at number Pause p c = refl
+none_at number WaitForResources p c = refl
+none_at number Invalid p c = refl
+
+none_arrived : (number : ℕ) (p : Pending) (c : Component) → waits_next (arrived number p c) ≡ 0
+unfolding NoneNext
+none_arrived number p c = none_at number p.target p c
+
+waits_then : (waits : ℕ) (t : State) → waits_after t waits ≤ waits + weight (same_state t WaitForResources)
+waits_then waits Invalid = omega arith
+waits_then waits Loaded = omega arith
+waits_then waits Idle = omega arith
+waits_then waits Executing = omega arith
+waits_then waits Pause = omega arith
+waits_then waits WaitForResources = omega arith
+
+arrived_next : (waits : ℕ) (p : Pending) (c : Component) → c.pending ≡ Some p → waits_after p.target waits + waits_next (arrived waits p c) ≤ waits + waits_next c
+arrived_next waits p c e =
+    let a = none_arrived waits p c in
+    let b = waits_then waits p.target in
+    let d : waits_next c ≡ weight (same_state p.target WaitForResources) = rw e refl in
+    omega arith
+
+mode_next : (waits : ℕ) (c : Component) (p : Port) (m : Mode) → waits + waits_next (all_told (mode_completion m p.key.port) (with_port p.key.port (record p.state { mode = Steady }) c)) ≤ waits + waits_next c
+mode_next waits c p Steady = omega arith
+mode_next waits c p Enabling = omega arith
+mode_next waits c p Disabling = omega arith
+
 -- ---- the transition
 
 pub transition_happens : (c d : Component) (s t : Stocked) (waits : ℕ) (p : Pending) → IsInOrder c s → c.pending ≡ Some p → d ≡ arrived waits p c → Leads (reset_on c p.target) s t → Happened Transition c d s t waits (waits_after p.target waits)
@@ -102,6 +155,7 @@ transition_happens c d s t waits p I e q L = record {
       ∙ (ap (λ (m : ℕ). record (with_component i (arrived m p c) w) { headers = reset_on c p.target w.headers; waits = waits_after p.target m }) n
       ∙ ap (λ (x : Component). record (with_component i x w) { headers = reset_on c p.target w.headers; waits = waits_after p.target waits }) (sym q));
   stock = L;
+  numbers = subst (λ (x : Component). waits_after p.target waits + waits_next x ≤ waits + waits_next c) (sym q) (arrived_next waits p c e);
   notices = keeps_reset_on c p.target;
   component = subst (IsChange c) (sym q) (change_arrived waits p c);
   part = subst (KeepsPart c) (sym q) (arrived_part waits p c);
@@ -120,6 +174,7 @@ flush_happens c d s t waits n p I e f q L = record {
       ∙ (ap (λ (x : Component). record (with_component i x w) { headers = reset_port p w.headers }) (sym q)
       ∙ ap (λ (m : ℕ). record (with_component i d w) { headers = reset_port p w.headers; waits = m }) k);
   stock = L;
+  numbers = subst (λ (x : Component). waits + waits_next x ≤ waits + waits_next c) (sym q) (omega arith);
   notices = keeps_reset_port p;
   component = subst (IsChange c) (sym q) (change_let_go (CmdComplete (completions.Flush p.key.port)) p.key.port (record p.state { flushing = false }) p.state c (state_there c n p e) refl);
   part = subst (KeepsPart c) (sym q) (record { number = refl; kind = refl; file = refl; failed = refl; work = refl });
@@ -153,6 +208,7 @@ mode_happens c d s waits n p I e z q = record {
   after = λ i w k. ap (λ (o : Option Port). at_port o (mode_happened i c) w) e
       ∙ (ap (λ (x : Component). with_component i x w) (sym q) ∙ ap (λ (m : ℕ). record (with_component i d w) { waits = m }) k);
   stock = unchanged s;
+  numbers = subst (λ (x : Component). waits + waits_next x ≤ waits + waits_next c) (sym q) (mode_next waits c p p.state.mode);
   notices = λ hs m r o f y. refl;
   component = subst (IsChange c) (sym q) (mode_parts c n p p.state.mode I.sound e refl z).1;
   part = subst (KeepsPart c) (sym q) (mode_part c p p.state.mode);
@@ -183,6 +239,7 @@ mark_happens c d s t waits n p mark I e m q L =
           ∙ (ap (λ (x : Component). record (with_component i x w) { headers = first_marked ((seen w.headers).unmarked p.key) (Some mark) w.headers }) (sym q)
           ∙ ap (λ (m : ℕ). record (with_component i d w) { headers = first_marked ((seen w.headers).unmarked p.key) (Some mark) w.headers; waits = m }) k));
       stock = marked_leads s t p.key mark L;
+      numbers = subst (λ (x : Component). waits + waits_next x ≤ waits + waits_next c) (sym q) (omega arith);
       notices = keeps_marked p.key mark;
       component = subst (IsChange c) (sym q) (change_let_go (CmdComplete (completions.Mark p.key.port)) p.key.port (record p.state { waiting_mark = None }) p.state c (state_there c n p e) refl);
       part = subst (KeepsPart c) (sym q) (record { number = refl; kind = refl; file = refl; failed = refl; work = refl });

@@ -1,7 +1,9 @@
 -- What one due thing makes of a component, and of the ports and headers.
-use Rattle.std.specs.Prelude.{◌≡◌, ℕ, true, List, Some}
+use Rattle.std.specs.Prelude.{◌≡◌, ◌+◌, ◌≤◌, ℕ, true, List, Some}
 use Rattle.il_machine.specs.World.{Component, HeaderRecord, World, with_component}
-use Rattle.il_machine.specs.Headers.{find_header, is_notice, Once}
+use Rattle.omx_types.specs.declared.state.State.TheVariants.{WaitForResources}
+use Rattle.il_machine.specs.Headers.{find_header, is_notice, weight, Once}
+use Rattle.il_machine.specs.Ports.{is_going_to}
 use Rattle.il_machine.specs.Due.{Thing, happened}
 use Rattle.il_machine.specs.Sound.{IsSound}
 use Rattle.il_machine.specs.Stock.{Stocked}
@@ -20,6 +22,8 @@ pub record Happened (thing : Thing) (c d : Component) (s t : Stocked) (waits the
   pub change : List HeaderRecord → List HeaderRecord
   pub after : (place : ℕ) (w : World) → w.waits ≡ waits → happened place c thing w ≡ record (with_component place d w) { headers = change w.headers; waits = then }
   pub stock : Leads change s t
+  -- each number that is taken is that of a component which was on its way to wait
+  pub numbers : then + weight (is_going_to WaitForResources d) ≤ waits + weight (is_going_to WaitForResources c)
   pub notices : KeepsNotices change
   pub component : IsChange c d
   pub part : KeepsPart c d

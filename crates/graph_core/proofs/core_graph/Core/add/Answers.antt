@@ -9,7 +9,8 @@ use Rattle.graph_core.specs.Standing.{IsGraph}
 use Rattle.graph_core.specs.Entries.{Entries}
 use Rattle.graph_core.proofs.Registering.{added_sound, vacant_place, few_live}
 use Rattle.graph_core.proofs.Clients.{client_added, clients_added, in_now}
-use Rattle.graph_core.proofs.Adding.{IsNew, without_ports, unnumbered_unmade, restored, graph_restocked, steps_added, worlds_added, ports_added, vacant_slot}
+use Rattle.graph_core.proofs.Waiters.{waiters_added}
+use Rattle.graph_core.proofs.Adding.{IsNew, without_ports, unnumbered_unmade, restored, graph_restocked, steps_added, worlds_added, ports_added, vacant_slot, numbers_below}
 use Rattle.graph_core.proofs.core_graph.Core.add.Goals as goal
 
 pub make-requires-clause-without : goal.make-requires-clause-without
@@ -20,7 +21,7 @@ make-requires-clause-without g c =
 pub invariant_of-self : goal.invariant_of-self
 invariant_of-self g c =
     let i = c.self.inside in
-    graph_restocked g.C.Client.progress i.components.items i.registry i.stock c.make.new.stock i.units i.components.cap c.in-Err.ensures.unchanged c.self.invariant
+    graph_restocked g.C.Client.progress i.components.items i.registry i.stock c.make.new.stock i.units i.waits i.components.cap c.in-Err.ensures.unchanged c.self.invariant
 
 pub put_last-requires : goal.put_last-requires
 put_last-requires g c =
@@ -58,13 +59,14 @@ invariant_of-self-in-Ok-insert g c =
       roomy = omega arith;
       few = omega arith;
       ports = rw G.given (ports_added p h c.args.kind e N es (stocked i.stock) (stocked c.make.new.stock) n st G.generation c.self.invariant.ports);
-      worlds = rw G.given (worlds_added p h c.args.kind e N es i.stock c.make.new.stock i.units n (ports_in c.args.kind) c.requires.sized st G.generation c.self.invariant.worlds);
+      numbers = waiters_added es e i.waits (ap (λ (x : Component). x.pending) q) c.self.invariant.numbers;
+      worlds = rw G.given (worlds_added p h c.args.kind e N es i.stock c.make.new.stock i.units i.waits n (ports_in c.args.kind) c.requires.sized st G.generation c.self.invariant.worlds);
     })
 
 pub remove_ports-requires : goal.remove_ports-requires
 remove_ports-requires g c =
     let i = c.self.inside in
-    let G : Entries (g.row.C.Denot) = record { entries = i.components.items; stock = i.stock; units = i.units; numbered = i.registry.given } in
+    let G : Entries (g.row.C.Denot) = record { entries = i.components.items; stock = i.stock; units = i.units; waits = i.waits; numbered = i.registry.given } in
     unnumbered_unmade g.C.Client.progress G c.given-number.result (stocked c.make.new.stock) c.self.invariant.worlds c.given-number.ensures (ap (λ (x : Stocked). x.headers) c.in-Ok.ensures.ports)
 
 pub invariant_of-self-in-Err-insert : goal.invariant_of-self-in-Err-insert
@@ -74,8 +76,8 @@ invariant_of-self-in-Err-insert g c =
     let st : stocked c.make.new.stock ≡ added n (ports_in c.args.kind) (stocked i.stock) = subst (λ (k : ℕ). stocked c.make.new.stock ≡ added k (ports_in c.args.kind) (stocked i.stock)) c.given-number.ensures c.in-Ok.ensures.ports in
     let rm : stocked c.remove_ports.new.self ≡ removed n (stocked c.make.new.stock) = subst (λ (k : ℕ). stocked c.remove_ports.new.self ≡ removed k (stocked c.make.new.stock)) c.given-number.ensures c.remove_ports.ensures in
     let back : stocked c.remove_ports.new.self ≡ stocked i.stock = rm ∙ (ap (removed n) st ∙ restored (stocked i.stock) n (ports_in c.args.kind) c.self.invariant.ports.below) in
-    subst (λ (r : Handles ℕ). IsGraph g.C.Client.progress i.components.items r c.remove_ports.new.self i.units i.components.cap) (sym c.in-Err-insert.ensures.unchanged)
-    (graph_restocked g.C.Client.progress i.components.items i.registry i.stock c.remove_ports.new.self i.units i.components.cap back c.self.invariant)
+    subst (λ (r : Handles ℕ). IsGraph g.C.Client.progress i.components.items r c.remove_ports.new.self i.units i.waits i.components.cap) (sym c.in-Err-insert.ensures.unchanged)
+    (graph_restocked g.C.Client.progress i.components.items i.registry i.stock c.remove_ports.new.self i.units i.waits i.components.cap back c.self.invariant)
 
 pub returns-in-Ok-insert-clause-made : goal.returns-in-Ok-insert-clause-made
 returns-in-Ok-insert-clause-made g c =
@@ -94,7 +96,7 @@ returns-in-Ok-insert-clause-made g c =
     let N : IsNew p h c.args.kind e = record { component = q; told = rw (cl, c.requires.new) refl } in
     let st : stocked c.make.new.stock ≡ added n (ports_in c.args.kind) (stocked i.stock) = subst (λ (k : ℕ). stocked c.make.new.stock ≡ added k (ports_in c.args.kind) (stocked i.stock)) c.given-number.ensures c.in-Ok.ensures.ports in
     let m : e.handle ≡ h = ap (λ (x : Component). x.handle) q in
-    rw (← c.self.view_is, c.put_last.ensures.items, G.given) (steps_added p h c.args.kind e N es i.stock c.make.new.stock i.units n (ports_in c.args.kind) st G.generation)
+    rw (← c.self.view_is, c.put_last.ensures.items, G.given) (steps_added p h c.args.kind e N es i.stock c.make.new.stock i.units i.waits n (ports_in c.args.kind) st G.generation (numbers_below p (record { entries = es; stock = i.stock; units = i.units; waits = i.waits; numbered = n }) c.self.invariant.worlds))
 
 pub returns-in-Ok-insert-clause-vacant : goal.returns-in-Ok-insert-clause-vacant
 returns-in-Ok-insert-clause-vacant g c =

@@ -7,5 +7,5 @@ use Rattle.graph_core.proofs.core_graph.Core.first_due.Goals as goal
 pub first_due_of-requires : goal.first_due_of-requires
 first_due_of-requires g c =
     let i = c.self.inside in
-    let G : Entries (g.row.C.Denot) = record { entries = i.components.items; stock = i.stock; units = i.units; numbered = i.registry.given } in
+    let G : Entries (g.row.C.Denot) = record { entries = i.components.items; stock = i.stock; units = i.units; waits = i.waits; numbered = i.registry.given } in
     λ j e at. ports_there g.C.Client.progress G i.registry i.components.cap j e c.self.invariant refl (subst (λ (es : List (Entry (g.row.C.Denot))). slice_get es j ≡ Some e) c.deref.ensures.value at)

@@ -13,6 +13,7 @@ use Rattle.graph_core.specs.Entries.{Entries, is_entry_at, look_of}
 use Rattle.graph_core.proofs.Renumbered.{sound_there, shifted_start, removed_length}
 use Rattle.graph_core.proofs.Replacing.{there, within}
 use Rattle.graph_core.proofs.Clients.{client_removed, clients_removed}
+use Rattle.graph_core.proofs.Waiters.{waiters_left}
 use Rattle.graph_core.proofs.Leaving.{leaves_no_header, leaves_no_note, client_in, some_client, steps_left, worlds_left, ports_left}
 use Rattle.graph_core.proofs.core_graph.Core.free.Goals as goal
 
@@ -20,7 +21,7 @@ pub unreachable-requires : goal.unreachable-requires
 unreachable-requires g c =
     let i = c.self.inside in
     let p = g.C.Client.progress in
-    let G : Entries (g.row.C.Denot) = record { entries = i.components.items; stock = i.stock; units = i.units; numbered = i.registry.given } in
+    let G : Entries (g.row.C.Denot) = record { entries = i.components.items; stock = i.stock; units = i.units; waits = i.waits; numbered = i.registry.given } in
     let e = c.index-component.result.now in
     let asked = rw (← c.self.view_is) at c.requires in
     let b : c.args.place < length i.components.items = within p G c.args.place _ asked in
@@ -33,7 +34,7 @@ pub remove-component-requires : goal.remove-component-requires
 remove-component-requires g c =
     let i = c.self.inside in
     let p = g.C.Client.progress in
-    let G : Entries (g.row.C.Denot) = record { entries = i.components.items; stock = i.stock; units = i.units; numbered = i.registry.given } in
+    let G : Entries (g.row.C.Denot) = record { entries = i.components.items; stock = i.stock; units = i.units; waits = i.waits; numbered = i.registry.given } in
     let e = c.index-component.result.now in
     let asked = rw (← c.self.view_is) at c.requires in
     let b : c.args.place < length i.components.items = within p G c.args.place _ asked in
@@ -45,7 +46,7 @@ pub renumber-requires-clause-shifted : goal.renumber-requires-clause-shifted
 renumber-requires-clause-shifted g c =
     let i = c.self.inside in
     let p = g.C.Client.progress in
-    let G : Entries (g.row.C.Denot) = record { entries = i.components.items; stock = i.stock; units = i.units; numbered = i.registry.given } in
+    let G : Entries (g.row.C.Denot) = record { entries = i.components.items; stock = i.stock; units = i.units; waits = i.waits; numbered = i.registry.given } in
     let e = c.index-component.result.now in
     let asked = rw (← c.self.view_is) at c.requires in
     let b : c.args.place < length i.components.items = within p G c.args.place _ asked in
@@ -57,7 +58,7 @@ pub remove_ports-requires : goal.remove_ports-requires
 remove_ports-requires g c =
     let i = c.self.inside in
     let p = g.C.Client.progress in
-    let G : Entries (g.row.C.Denot) = record { entries = i.components.items; stock = i.stock; units = i.units; numbered = i.registry.given } in
+    let G : Entries (g.row.C.Denot) = record { entries = i.components.items; stock = i.stock; units = i.units; waits = i.waits; numbered = i.registry.given } in
     let e = c.index-component.result.now in
     let asked = rw (← c.self.view_is) at c.requires in
     let b : c.args.place < length i.components.items = within p G c.args.place _ asked in
@@ -69,7 +70,7 @@ pub close-requires-clause-client : goal.close-requires-clause-client
 close-requires-clause-client g c =
     let i = c.self.inside in
     let p = g.C.Client.progress in
-    let G : Entries (g.row.C.Denot) = record { entries = i.components.items; stock = i.stock; units = i.units; numbered = i.registry.given } in
+    let G : Entries (g.row.C.Denot) = record { entries = i.components.items; stock = i.stock; units = i.units; waits = i.waits; numbered = i.registry.given } in
     let e = c.remove-component.result in
     let asked = rw (← c.self.view_is) at c.requires in
     let b : c.args.place < length i.components.items = within p G c.args.place _ asked in
@@ -81,7 +82,7 @@ pub close-requires-clause-headers : goal.close-requires-clause-headers
 close-requires-clause-headers g c =
     let i = c.self.inside in
     let p = g.C.Client.progress in
-    let G : Entries (g.row.C.Denot) = record { entries = i.components.items; stock = i.stock; units = i.units; numbered = i.registry.given } in
+    let G : Entries (g.row.C.Denot) = record { entries = i.components.items; stock = i.stock; units = i.units; waits = i.waits; numbered = i.registry.given } in
     let e = c.remove-component.result in
     let asked = rw (← c.self.view_is) at c.requires in
     let b : c.args.place < length i.components.items = within p G c.args.place _ asked in
@@ -93,7 +94,7 @@ pub invariant_of-self : goal.invariant_of-self
 invariant_of-self g c =
     let i = c.self.inside in
     let p = g.C.Client.progress in
-    let G : Entries (g.row.C.Denot) = record { entries = i.components.items; stock = i.stock; units = i.units; numbered = i.registry.given } in
+    let G : Entries (g.row.C.Denot) = record { entries = i.components.items; stock = i.stock; units = i.units; waits = i.waits; numbered = i.registry.given } in
     let e = c.remove-component.result in
     let asked = rw (← c.self.view_is) at c.requires in
     let b : c.args.place < length i.components.items = within p G c.args.place _ asked in
@@ -124,6 +125,7 @@ invariant_of-self g c =
       roomy = omega arith;
       few = omega arith;
       ports = rw n (ports_left p G c.args.place e c.self.invariant.worlds at ok (stocked c.remove_ports.new.self) rm c.self.invariant.ports);
+      numbers = waiters_left i.components.items c.args.place i.waits e at c.self.invariant.numbers;
       worlds = rw n (worlds_left p G c.args.place e c.self.invariant.worlds at ok c.remove_ports.new.self rm);
     })
 
@@ -131,7 +133,7 @@ pub returns-clause-freed : goal.returns-clause-freed
 returns-clause-freed g c =
     let i = c.self.inside in
     let p = g.C.Client.progress in
-    let G : Entries (g.row.C.Denot) = record { entries = i.components.items; stock = i.stock; units = i.units; numbered = i.registry.given } in
+    let G : Entries (g.row.C.Denot) = record { entries = i.components.items; stock = i.stock; units = i.units; waits = i.waits; numbered = i.registry.given } in
     let e = c.remove-component.result in
     let asked = rw (← c.self.view_is) at c.requires in
     let b : c.args.place < length i.components.items = within p G c.args.place _ asked in
@@ -151,7 +153,7 @@ pub returns-clause-client : goal.returns-clause-client
 returns-clause-client g c =
     let i = c.self.inside in
     let p = g.C.Client.progress in
-    let G : Entries (g.row.C.Denot) = record { entries = i.components.items; stock = i.stock; units = i.units; numbered = i.registry.given } in
+    let G : Entries (g.row.C.Denot) = record { entries = i.components.items; stock = i.stock; units = i.units; waits = i.waits; numbered = i.registry.given } in
     let e = c.remove-component.result in
     let asked = rw (← c.self.view_is) at c.requires in
     let b : c.args.place < length i.components.items = within p G c.args.place _ asked in
@@ -162,7 +164,7 @@ pub returns-clause-clients : goal.returns-clause-clients
 returns-clause-clients g c =
     let i = c.self.inside in
     let p = g.C.Client.progress in
-    let G : Entries (g.row.C.Denot) = record { entries = i.components.items; stock = i.stock; units = i.units; numbered = i.registry.given } in
+    let G : Entries (g.row.C.Denot) = record { entries = i.components.items; stock = i.stock; units = i.units; waits = i.waits; numbered = i.registry.given } in
     let e = c.remove-component.result in
     let asked = rw (← c.self.view_is) at c.requires in
     let b : c.args.place < length i.components.items = within p G c.args.place _ asked in
@@ -173,7 +175,7 @@ pub returns-clause-gone : goal.returns-clause-gone
 returns-clause-gone g c =
     let i = c.self.inside in
     let p = g.C.Client.progress in
-    let G : Entries (g.row.C.Denot) = record { entries = i.components.items; stock = i.stock; units = i.units; numbered = i.registry.given } in
+    let G : Entries (g.row.C.Denot) = record { entries = i.components.items; stock = i.stock; units = i.units; waits = i.waits; numbered = i.registry.given } in
     let e = c.remove-component.result in
     let asked = rw (← c.self.view_is) at c.requires in
     let b : c.args.place < length i.components.items = within p G c.args.place _ asked in

@@ -22,7 +22,7 @@ pull_work-requires g c =
     let i = c.self.inside in
     let e = c.index_mut-component.result.now in
     let p = c.in-Some.port in
-    let G : Entries (g.row.C.Denot) = record { entries = i.components.items; stock = i.stock; units = i.units; numbered = i.registry.given } in
+    let G : Entries (g.row.C.Denot) = record { entries = i.components.items; stock = i.stock; units = i.units; waits = i.waits; numbered = i.registry.given } in
     let asked = rw (← c.self.view_is) at c.requires in
     let b : c.args.place < length i.components.items = within g.C.Client.progress G c.args.place _ asked in
     let at : slice_get i.components.items c.args.place ≡ Some e = slice_get-get_or i.components.items c.args.place e b ∙ ap Some (sym c.index_mut-component.ensures.value) in
@@ -34,7 +34,7 @@ invariant_of-self g c =
     let i = c.self.inside in
     let e = c.index_mut-component.result.now in
     let p = c.in-Some.port in
-    let G : Entries (g.row.C.Denot) = record { entries = i.components.items; stock = i.stock; units = i.units; numbered = i.registry.given } in
+    let G : Entries (g.row.C.Denot) = record { entries = i.components.items; stock = i.stock; units = i.units; waits = i.waits; numbered = i.registry.given } in
     let asked = rw (← c.self.view_is) at c.requires in
     let b : c.args.place < length i.components.items = within g.C.Client.progress G c.args.place _ asked in
     let at : slice_get i.components.items c.args.place ≡ Some e = slice_get-get_or i.components.items c.args.place e b ∙ ap Some (sym c.index_mut-component.ensures.value) in
@@ -42,7 +42,7 @@ invariant_of-self g c =
     let r = rw (there g.C.Client.progress G c.args.place e at) at asked in
     let client : p.state.link ≡ None = rw here at r in
     let none : None ≡ slice_get ((stocked i.stock).headers.todo p.key) 0 = sym (ap (option_map number_of) c.in_default-pull_work.is) ∙ c.pull_work.ensures.front in
-    rw (set_same i.components.items c.args.place e at) (graph_stocked g.C.Client.progress i.components.items i.registry i.stock c.pull_work.new.self i.units i.components.cap c.self.invariant
+    rw (set_same i.components.items c.args.place e at) (graph_stocked g.C.Client.progress i.components.items i.registry i.stock c.pull_work.new.self i.units i.waits i.components.cap c.self.invariant
     (ap (λ (s : Stocked). s.ports) c.pull_work.ensures.stock ∙ pulled_ports p.key ((stocked i.stock).headers.todo p.key) (stocked i.stock))
     (nothing_worlds g.C.Client.progress G c.args.place e c.args.index p c.self.invariant.worlds at here client c.pull_work.new.self c.pull_work.ensures.stock none))
 
@@ -51,7 +51,7 @@ returns-in_default-pull_work-clause-change g c =
     let i = c.self.inside in
     let e = c.index_mut-component.result.now in
     let p = c.in-Some.port in
-    let G : Entries (g.row.C.Denot) = record { entries = i.components.items; stock = i.stock; units = i.units; numbered = i.registry.given } in
+    let G : Entries (g.row.C.Denot) = record { entries = i.components.items; stock = i.stock; units = i.units; waits = i.waits; numbered = i.registry.given } in
     let asked = rw (← c.self.view_is) at c.requires in
     let b : c.args.place < length i.components.items = within g.C.Client.progress G c.args.place _ asked in
     let at : slice_get i.components.items c.args.place ≡ Some e = slice_get-get_or i.components.items c.args.place e b ∙ ap Some (sym c.index_mut-component.ensures.value) in
@@ -69,7 +69,7 @@ put_header-requires g c =
     let i = c.self.inside in
     let e = c.index_mut-component.result.now in
     let p = c.in-Some.port in
-    let G : Entries (g.row.C.Denot) = record { entries = i.components.items; stock = i.stock; units = i.units; numbered = i.registry.given } in
+    let G : Entries (g.row.C.Denot) = record { entries = i.components.items; stock = i.stock; units = i.units; waits = i.waits; numbered = i.registry.given } in
     let asked = rw (← c.self.view_is) at c.requires in
     let b : c.args.place < length i.components.items = within g.C.Client.progress G c.args.place _ asked in
     let at : slice_get i.components.items c.args.place ≡ Some e = slice_get-get_or i.components.items c.args.place e b ∙ ap Some (sym c.index_mut-component.ensures.value) in
@@ -88,7 +88,7 @@ invariant_of-self-2 g c =
     let i = c.self.inside in
     let e = c.index_mut-component.result.now in
     let p = c.in-Some.port in
-    let G : Entries (g.row.C.Denot) = record { entries = i.components.items; stock = i.stock; units = i.units; numbered = i.registry.given } in
+    let G : Entries (g.row.C.Denot) = record { entries = i.components.items; stock = i.stock; units = i.units; waits = i.waits; numbered = i.registry.given } in
     let asked = rw (← c.self.view_is) at c.requires in
     let b : c.args.place < length i.components.items = within g.C.Client.progress G c.args.place _ asked in
     let at : slice_get i.components.items c.args.place ≡ Some e = slice_get-get_or i.components.items c.args.place e b ∙ ap Some (sym c.index_mut-component.ensures.value) in
@@ -105,8 +105,8 @@ invariant_of-self-2 g c =
     c.set_out.ensures ∙ (ap (λ (n : ℕ). given n (owners.Notice p.key.component) (stocked c.pull_work.new.self)) id ∙ ap (λ (s : Stocked). given h.held.number (owners.Notice p.key.component) s) c.pull_work.ensures.stock) in
     let left : c.put_header.new.self ≡ record e { queues = noted (header_note p.setting.definition.input (cleared h)) e.queues } =
     c.put_header.ensures ∙ ap (λ (x : BufferHeader). record e { queues = noted (header_note p.setting.definition.input x) e.queues }) c.clear.ensures in
-    graph_with g.C.Client.progress i.components.items i.registry i.stock c.set_out.new.self i.units i.components.cap c.args.place e c.put_header.new.self c.self.invariant at
-    (ap (λ (x : Entry (g.row.C.Denot)). x.handle) left) (ap (λ (x : Entry (g.row.C.Denot)). x.ports) left)
+    graph_with g.C.Client.progress i.components.items i.registry i.stock c.set_out.new.self i.units i.waits i.components.cap c.args.place e c.put_header.new.self c.self.invariant at
+    (ap (λ (x : Entry (g.row.C.Denot)). x.handle) left) (ap (λ (x : Entry (g.row.C.Denot)). x.ports) left) (ap (λ (x : Entry (g.row.C.Denot)). x.pending) left)
     (ap (λ (s : Stocked). s.ports) now ∙ pulled_ports p.key ((stocked i.stock).headers.todo p.key) (stocked i.stock))
     (given_worlds g.C.Client.progress G c.args.place e c.args.index p c.self.invariant.worlds at here client h front was outside c.put_header.new.self c.set_out.new.self left now)
 
@@ -115,7 +115,7 @@ returns-clause-change g c =
     let i = c.self.inside in
     let e = c.index_mut-component.result.now in
     let p = c.in-Some.port in
-    let G : Entries (g.row.C.Denot) = record { entries = i.components.items; stock = i.stock; units = i.units; numbered = i.registry.given } in
+    let G : Entries (g.row.C.Denot) = record { entries = i.components.items; stock = i.stock; units = i.units; waits = i.waits; numbered = i.registry.given } in
     let asked = rw (← c.self.view_is) at c.requires in
     let b : c.args.place < length i.components.items = within g.C.Client.progress G c.args.place _ asked in
     let at : slice_get i.components.items c.args.place ≡ Some e = slice_get-get_or i.components.items c.args.place e b ∙ ap Some (sym c.index_mut-component.ensures.value) in
@@ -138,7 +138,7 @@ pub returns-in_default-pull_work-clause-clients : goal.returns-in_default-pull_w
 returns-in_default-pull_work-clause-clients g c =
     let i = c.self.inside in
     let e = c.index_mut-component.result.now in
-    let G : Entries (g.row.C.Denot) = record { entries = i.components.items; stock = i.stock; units = i.units; numbered = i.registry.given } in
+    let G : Entries (g.row.C.Denot) = record { entries = i.components.items; stock = i.stock; units = i.units; waits = i.waits; numbered = i.registry.given } in
     let asked = rw (← c.self.view_is) at c.requires in
     let b : c.args.place < length i.components.items = within g.C.Client.progress G c.args.place _ asked in
     let at : slice_get i.components.items c.args.place ≡ Some e = slice_get-get_or i.components.items c.args.place e b ∙ ap Some (sym c.index_mut-component.ensures.value) in
@@ -148,7 +148,7 @@ pub returns-clause-clients : goal.returns-clause-clients
 returns-clause-clients g c =
     let i = c.self.inside in
     let e = c.index_mut-component.result.now in
-    let G : Entries (g.row.C.Denot) = record { entries = i.components.items; stock = i.stock; units = i.units; numbered = i.registry.given } in
+    let G : Entries (g.row.C.Denot) = record { entries = i.components.items; stock = i.stock; units = i.units; waits = i.waits; numbered = i.registry.given } in
     let asked = rw (← c.self.view_is) at c.requires in
     let b : c.args.place < length i.components.items = within g.C.Client.progress G c.args.place _ asked in
     let at : slice_get i.components.items c.args.place ≡ Some e = slice_get-get_or i.components.items c.args.place e b ∙ ap Some (sym c.index_mut-component.ensures.value) in

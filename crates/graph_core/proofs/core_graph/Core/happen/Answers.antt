@@ -7,19 +7,20 @@ use Rattle.graph_core.specs.Entries.{Entries, look_of}
 use Rattle.port_rules.specs.Tests.{thing_of}
 use Rattle.port_rules.proofs.Happenings.{of_some}
 use Rattle.graph_core.proofs.Clients.{clients_set}
-use Rattle.graph_core.proofs.Happens.{in_order_there, graph_after, happens_after, fewer_after, after}
+use Rattle.graph_core.proofs.Happens.{in_order_there, graph_after, happens_after, fewer_after, after, number_left}
 use Rattle.graph_core.proofs.core_graph.Core.happen.Goals as goal
 
-pub happen_in-requires : goal.happen_in-requires
-happen_in-requires g c =
+pub happen_in-waits-requires : goal.happen_in-waits-requires
+happen_in-waits-requires g c =
     let i = c.self.inside in
     let e = c.index_mut-component.result.now in
-    let G : Entries (g.row.C.Denot) = record { entries = i.components.items; stock = i.stock; units = i.units; numbered = i.registry.given } in
+    let G : Entries (g.row.C.Denot) = record { entries = i.components.items; stock = i.stock; units = i.units; waits = i.waits; numbered = i.registry.given } in
     let b : c.args.place < length i.components.items = rw (← c.self.view_is) at c.requires.within in
     let at : slice_get i.components.items c.args.place ≡ Some e = slice_get-get_or i.components.items c.args.place e b ∙ ap Some (sym c.index_mut-component.ensures.value) in
     let asked = subst (λ (x : Entries (g.row.C.Denot)). IsDueAt (look_of x).headers x.entries c.args.place c.args.due) (sym c.self.view_is) c.requires.due in
     record {
-      in_order = in_order_there g.C.Client.progress i.components.items i.registry i.stock i.units i.components.cap c.args.place e c.self.invariant at;
+      in_order = in_order_there g.C.Client.progress i.components.items i.registry i.stock i.units i.waits i.components.cap c.args.place e c.self.invariant at;
+      left = number_left g.C.Client.progress i.components.items i.registry i.stock i.units i.waits i.components.cap c.args.place e c.self.invariant at;
       first = of_some (slice_get i.components.items c.args.place) (λ (x : Entry (g.row.C.Denot)). due_in (look_of G).headers (component_of x) ≡ Some (thing_of c.args.due)) e at asked;
     }
 
@@ -27,29 +28,29 @@ pub invariant_of-self : goal.invariant_of-self
 invariant_of-self g c =
     let i = c.self.inside in
     let e = c.index_mut-component.result.now in
-    let d = c.happen_in.new.component in
-    let G : Entries (g.row.C.Denot) = record { entries = i.components.items; stock = i.stock; units = i.units; numbered = i.registry.given } in
+    let d = c.happen_in-waits.new.component in
+    let G : Entries (g.row.C.Denot) = record { entries = i.components.items; stock = i.stock; units = i.units; waits = i.waits; numbered = i.registry.given } in
     let b : c.args.place < length i.components.items = rw (← c.self.view_is) at c.requires.within in
     let at : slice_get i.components.items c.args.place ≡ Some e = slice_get-get_or i.components.items c.args.place e b ∙ ap Some (sym c.index_mut-component.ensures.value) in
     let asked = subst (λ (x : Entries (g.row.C.Denot)). IsDueAt (look_of x).headers x.entries c.args.place c.args.due) (sym c.self.view_is) c.requires.due in
     let due = of_some (slice_get i.components.items c.args.place) (λ (x : Entry (g.row.C.Denot)). due_in (look_of G).headers (component_of x) ≡ Some (thing_of c.args.due)) e at asked in
-    graph_after g.C.Client.progress i.components.items i.registry i.stock c.happen_in.new.stock i.units i.components.cap c.args.place e d (thing_of c.args.due) c.self.invariant at c.happen_in.ensures.kept c.happen_in.ensures.happened due
+    graph_after g.C.Client.progress i.components.items i.registry i.stock c.happen_in-waits.new.stock i.units i.waits i.components.cap c.args.place e d (thing_of c.args.due) c.happen_in-waits.result c.self.invariant at c.happen_in-waits.ensures.kept c.happen_in-waits.ensures.happened due
 
 pub returns : goal.returns
 returns g c =
     let i = c.self.inside in
     let e = c.index_mut-component.result.now in
-    let d = c.happen_in.new.component in
-    let G : Entries (g.row.C.Denot) = record { entries = i.components.items; stock = i.stock; units = i.units; numbered = i.registry.given } in
+    let d = c.happen_in-waits.new.component in
+    let G : Entries (g.row.C.Denot) = record { entries = i.components.items; stock = i.stock; units = i.units; waits = i.waits; numbered = i.registry.given } in
     let b : c.args.place < length i.components.items = rw (← c.self.view_is) at c.requires.within in
     let at : slice_get i.components.items c.args.place ≡ Some e = slice_get-get_or i.components.items c.args.place e b ∙ ap Some (sym c.index_mut-component.ensures.value) in
     let first : first_due (look_of G) ≡ Some c.args.place = subst (λ (x : Entries (g.row.C.Denot)). first_due (look_of x) ≡ Some c.args.place) (sym c.self.view_is) c.requires.first in
     let asked = subst (λ (x : Entries (g.row.C.Denot)). IsDueAt (look_of x).headers x.entries c.args.place c.args.due) (sym c.self.view_is) c.requires.due in
     let due = of_some (slice_get i.components.items c.args.place) (λ (x : Entry (g.row.C.Denot)). due_in (look_of G).headers (component_of x) ≡ Some (thing_of c.args.due)) e at asked in
-    let H = c.happen_in.ensures.happened in
-    let F = happens_after g.C.Client.progress G c.args.place e d c.happen_in.new.stock (thing_of c.args.due) at c.happen_in.ensures.kept H first due in
+    let H = c.happen_in-waits.ensures.happened in
+    let F = happens_after g.C.Client.progress G c.args.place e d c.happen_in-waits.new.stock (thing_of c.args.due) c.happen_in-waits.result at c.happen_in-waits.ensures.kept H first due in
     record {
       happens = rw (← c.self.view_is) F;
-      fewer = rw (← c.self.view_is) (fewer_after g.C.Client.progress G (after g.C.Client.progress G c.args.place d c.happen_in.new.stock) c.self.invariant.worlds F);
-      clients = rw (← c.self.view_is) (clients_set i.components.items c.args.place e d at H.component.handle c.happen_in.ensures.kept.client);
+      fewer = rw (← c.self.view_is) (fewer_after g.C.Client.progress G (after g.C.Client.progress G c.args.place d c.happen_in-waits.new.stock c.happen_in-waits.result) c.self.invariant.worlds F);
+      clients = rw (← c.self.view_is) (clients_set i.components.items c.args.place e d at H.component.handle c.happen_in-waits.ensures.kept.client);
     }

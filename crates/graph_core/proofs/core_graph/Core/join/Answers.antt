@@ -1,4 +1,4 @@
-use Rattle.std.proofs.Common.{◌≡◌, ◌<◌, None, length, set, slice_get, get_or, Some, sym, ◌∙◌, ap, subst, arith, length-set}
+use Rattle.std.proofs.Common.{◌≡◌, ◌<◌, None, length, set, slice_get, get_or, Some, sym, ◌∙◌, ap, subst, arith, length-set, refl}
 use Rattle.std.proofs.lemmas.Option.{slice_get-get_or}
 use Rattle.il_machine.specs.declared.port.PortSetting.{PortSetting}
 use Rattle.il_machine.specs.World.{Component, port_of}
@@ -11,6 +11,7 @@ use Rattle.il_component.specs.Entries.{Entry, component_of}
 use Rattle.il_component.specs.PortChanges.{linked}
 use Rattle.graph_core.specs.Entries.{Entries, look_of}
 use Rattle.graph_core.proofs.Clients.{clients_set}
+use Rattle.graph_core.proofs.SameParts.{part_as}
 use Rattle.graph_core.proofs.Replacing.{there, within}
 use Rattle.graph_core.proofs.Setting.{all_ports}
 use Rattle.graph_core.proofs.Joining.{AreEnds, AreReplaced, join_ends, port_below, linked_is, graph_both, both_changed}
@@ -21,7 +22,7 @@ unreachable-requires g c =
     let i = c.self.inside in
     let p = g.C.Client.progress in
     let es = i.components.items in
-    let G : Entries (g.row.C.Denot) = record { entries = es; stock = i.stock; units = i.units; numbered = i.registry.given } in
+    let G : Entries (g.row.C.Denot) = record { entries = es; stock = i.stock; units = i.units; waits = i.waits; numbered = i.registry.given } in
     let e = c.index.result.now in
     let asked = rw (← c.self.view_is) at c.requires in
     let b : c.args.giver < length es = within p G c.args.giver _ asked in
@@ -40,7 +41,7 @@ index-requires-2 g c =
     let i = c.self.inside in
     let p = g.C.Client.progress in
     let es = i.components.items in
-    let G : Entries (g.row.C.Denot) = record { entries = es; stock = i.stock; units = i.units; numbered = i.registry.given } in
+    let G : Entries (g.row.C.Denot) = record { entries = es; stock = i.stock; units = i.units; waits = i.waits; numbered = i.registry.given } in
     let e = c.index.result.now in
     let asked = rw (← c.self.view_is) at c.requires in
     let b : c.args.giver < length es = within p G c.args.giver _ asked in
@@ -59,7 +60,7 @@ unreachable-requires-in_default-port g c =
     let i = c.self.inside in
     let p = g.C.Client.progress in
     let es = i.components.items in
-    let G : Entries (g.row.C.Denot) = record { entries = es; stock = i.stock; units = i.units; numbered = i.registry.given } in
+    let G : Entries (g.row.C.Denot) = record { entries = es; stock = i.stock; units = i.units; waits = i.waits; numbered = i.registry.given } in
     let e = c.index.result.now in
     let asked = rw (← c.self.view_is) at c.requires in
     let b : c.args.giver < length es = within p G c.args.giver _ asked in
@@ -82,7 +83,7 @@ index_mut-requires g c =
     let i = c.self.inside in
     let p = g.C.Client.progress in
     let es = i.components.items in
-    let G : Entries (g.row.C.Denot) = record { entries = es; stock = i.stock; units = i.units; numbered = i.registry.given } in
+    let G : Entries (g.row.C.Denot) = record { entries = es; stock = i.stock; units = i.units; waits = i.waits; numbered = i.registry.given } in
     let e = c.index.result.now in
     let asked = rw (← c.self.view_is) at c.requires in
     let b : c.args.giver < length es = within p G c.args.giver _ asked in
@@ -101,7 +102,7 @@ join-requires g c =
     let i = c.self.inside in
     let p = g.C.Client.progress in
     let es = i.components.items in
-    let G : Entries (g.row.C.Denot) = record { entries = es; stock = i.stock; units = i.units; numbered = i.registry.given } in
+    let G : Entries (g.row.C.Denot) = record { entries = es; stock = i.stock; units = i.units; waits = i.waits; numbered = i.registry.given } in
     let e = c.index_mut.result.now in
     let asked = rw (← c.self.view_is) at c.requires in
     let b : c.args.giver < length es = within p G c.args.giver _ asked in
@@ -112,14 +113,14 @@ join-requires g c =
     let at-f : slice_get es c.args.taker ≡ Some f = slice_get-get_or es c.args.taker e b-2 in
     let ok : setup_refusal (look_of G).headers (component_of e) (component_of f) (port_of (component_of e) c.args.output) (port_of (component_of f) c.args.input) ≡ None = rw (there p G c.args.taker f at-f) at asked-2 in
     let E : AreEnds c.args.giver c.args.output c.args.taker c.args.input e f = join_ends es (look_of G).headers c.args.giver c.args.output c.args.taker c.args.input e f at at-f ok in
-    port_below (component_of e) (stocked i.stock) c.args.output E.first (all_ports p es i.registry i.stock i.units i.components.cap c.args.giver e c.self.invariant at) E.out
+    port_below (component_of e) (stocked i.stock) c.args.output E.first (all_ports p es i.registry i.stock i.units i.waits i.components.cap c.args.giver e c.self.invariant at) E.out
 
 pub index_mut-requires-2 : goal.index_mut-requires-2
 index_mut-requires-2 g c =
     let i = c.self.inside in
     let p = g.C.Client.progress in
     let es = i.components.items in
-    let G : Entries (g.row.C.Denot) = record { entries = es; stock = i.stock; units = i.units; numbered = i.registry.given } in
+    let G : Entries (g.row.C.Denot) = record { entries = es; stock = i.stock; units = i.units; waits = i.waits; numbered = i.registry.given } in
     let e = c.index_mut.result.now in
     let asked = rw (← c.self.view_is) at c.requires in
     let b : c.args.giver < length es = within p G c.args.giver _ asked in
@@ -138,7 +139,7 @@ join-requires-2 g c =
     let i = c.self.inside in
     let p = g.C.Client.progress in
     let es = i.components.items in
-    let G : Entries (g.row.C.Denot) = record { entries = es; stock = i.stock; units = i.units; numbered = i.registry.given } in
+    let G : Entries (g.row.C.Denot) = record { entries = es; stock = i.stock; units = i.units; waits = i.waits; numbered = i.registry.given } in
     let e = c.index_mut.result.now in
     let asked = rw (← c.self.view_is) at c.requires in
     let b : c.args.giver < length es = within p G c.args.giver _ asked in
@@ -168,14 +169,14 @@ join-requires-2 g c =
     let d-f : Some d ≡ Some f = sym at-d ∙ at-f in
     let one : d ≡ f = cc in
     let inp : port_of (component_of d) c.args.input ≡ Some y = ap (λ (v : Entry (g.row.C.Denot)). port_of (component_of v) c.args.input) one ∙ inp-f in
-    port_below (component_of d) (stocked i.stock) c.args.input y (all_ports p es i.registry i.stock i.units i.components.cap c.args.taker d c.self.invariant at-d) inp
+    port_below (component_of d) (stocked i.stock) c.args.input y (all_ports p es i.registry i.stock i.units i.waits i.components.cap c.args.taker d c.self.invariant at-d) inp
 
 pub invariant_of-self : goal.invariant_of-self
 invariant_of-self g c =
     let i = c.self.inside in
     let p = g.C.Client.progress in
     let es = i.components.items in
-    let G : Entries (g.row.C.Denot) = record { entries = es; stock = i.stock; units = i.units; numbered = i.registry.given } in
+    let G : Entries (g.row.C.Denot) = record { entries = es; stock = i.stock; units = i.units; waits = i.waits; numbered = i.registry.given } in
     let e = c.index_mut.result.now in
     let asked = rw (← c.self.view_is) at c.requires in
     let b : c.args.giver < length es = within p G c.args.giver _ asked in
@@ -217,12 +218,12 @@ invariant_of-self g c =
       apart = E.apart;
       first_kept = c.join.ensures.kept;
       second_kept = c.join-2.ensures.kept;
-      first_alike = record { handle = ap (λ (v : Component). v.handle) q-e; ports = ap (λ (v : Component). length v.ports) q-e ∙ length-set e.ports (x.key).port _ };
-      second_alike = record { handle = ap (λ (v : Component). v.handle) q-d; ports = ap (λ (v : Component). length v.ports) q-d ∙ length-set d.ports (y.key).port _ };
+      first_alike = record { handle = ap (λ (v : Component). v.handle) q-e; ports = ap (λ (v : Component). length v.ports) q-e ∙ length-set e.ports (x.key).port _; pending = ap (λ (v : Component). v.pending) q-e; part = part_as (component_of e) (component_of e') _ q-e (record { number = refl; kind = refl; file = refl; failed = refl; work = refl }) };
+      second_alike = record { handle = ap (λ (v : Component). v.handle) q-d; ports = ap (λ (v : Component). length v.ports) q-d ∙ length-set d.ports (y.key).port _; pending = ap (λ (v : Component). v.pending) q-d; part = part_as (component_of d) (component_of d') _ q-d (record { number = refl; kind = refl; file = refl; failed = refl; work = refl }) };
     } in
     let agreed : supplier ≡ agreed_of x y = c.agree_supplier-supplier.ensures in
     let ok-d : setup_refusal (look_of G).headers (component_of e) (component_of d) (port_of (component_of e) c.args.output) (port_of (component_of d) c.args.input) ≡ None = subst (λ (v : Entry (g.row.C.Denot)). setup_refusal (look_of G).headers (component_of e) (component_of v) (port_of (component_of e) c.args.output) (port_of (component_of v) c.args.input) ≡ None) (sym one) ok in
-    graph_both p c.args.giver c.args.taker e d e' d' es i.registry i.stock i.units i.components.cap c.self.invariant R
+    graph_both p c.args.giver c.args.taker e d e' d' es i.registry i.stock i.units i.waits i.components.cap c.self.invariant R
     (λ w l S.
     let t : slice_get w.components c.args.giver ≡ Some (component_of e) = ap (λ (v : Look). slice_get v.components c.args.giver) l ∙ there p G c.args.giver e at in
     let u : slice_get w.components c.args.taker ≡ Some (component_of d) = ap (λ (v : Look). slice_get v.components c.args.taker) l ∙ there p G c.args.taker d at-d in
@@ -234,7 +235,7 @@ returns-clause-change g c =
     let i = c.self.inside in
     let p = g.C.Client.progress in
     let es = i.components.items in
-    let G : Entries (g.row.C.Denot) = record { entries = es; stock = i.stock; units = i.units; numbered = i.registry.given } in
+    let G : Entries (g.row.C.Denot) = record { entries = es; stock = i.stock; units = i.units; waits = i.waits; numbered = i.registry.given } in
     let e = c.index_mut.result.now in
     let asked = rw (← c.self.view_is) at c.requires in
     let b : c.args.giver < length es = within p G c.args.giver _ asked in
@@ -276,8 +277,8 @@ returns-clause-change g c =
       apart = E.apart;
       first_kept = c.join.ensures.kept;
       second_kept = c.join-2.ensures.kept;
-      first_alike = record { handle = ap (λ (v : Component). v.handle) q-e; ports = ap (λ (v : Component). length v.ports) q-e ∙ length-set e.ports (x.key).port _ };
-      second_alike = record { handle = ap (λ (v : Component). v.handle) q-d; ports = ap (λ (v : Component). length v.ports) q-d ∙ length-set d.ports (y.key).port _ };
+      first_alike = record { handle = ap (λ (v : Component). v.handle) q-e; ports = ap (λ (v : Component). length v.ports) q-e ∙ length-set e.ports (x.key).port _; pending = ap (λ (v : Component). v.pending) q-e; part = part_as (component_of e) (component_of e') _ q-e (record { number = refl; kind = refl; file = refl; failed = refl; work = refl }) };
+      second_alike = record { handle = ap (λ (v : Component). v.handle) q-d; ports = ap (λ (v : Component). length v.ports) q-d ∙ length-set d.ports (y.key).port _; pending = ap (λ (v : Component). v.pending) q-d; part = part_as (component_of d) (component_of d') _ q-d (record { number = refl; kind = refl; file = refl; failed = refl; work = refl }) };
     } in
     let agreed : supplier ≡ agreed_of x y = c.agree_supplier-supplier.ensures in
     rw (← c.self.view_is, there p G c.args.giver e at, there p G c.args.taker d at-d, out, inp) (agreed, both_changed p G c.args.giver c.args.taker e d e' d' (joined_to y supplier x (component_of e)) (joined_to x supplier y (component_of d)) R q-e q-d)
@@ -287,7 +288,7 @@ returns-clause-clients g c =
     let i = c.self.inside in
     let p = g.C.Client.progress in
     let es = i.components.items in
-    let G : Entries (g.row.C.Denot) = record { entries = es; stock = i.stock; units = i.units; numbered = i.registry.given } in
+    let G : Entries (g.row.C.Denot) = record { entries = es; stock = i.stock; units = i.units; waits = i.waits; numbered = i.registry.given } in
     let e = c.index_mut.result.now in
     let asked = rw (← c.self.view_is) at c.requires in
     let b : c.args.giver < length es = within p G c.args.giver _ asked in

@@ -7,7 +7,7 @@ pub returns : goal.returns
 returns g c =
     let i = c.self.inside in
     let p = g.C.Client.progress in
-    let G : Entries (g.row.C.Denot) = record { entries = i.components.items; stock = i.stock; units = i.units; numbered = i.registry.given } in
+    let G : Entries (g.row.C.Denot) = record { entries = i.components.items; stock = i.stock; units = i.units; waits = i.waits; numbered = i.registry.given } in
     let sound = all_sound p G c.self.invariant.worlds in
     rw (← c.self.view_is) (record {
       one = c.self.invariant.worlds;

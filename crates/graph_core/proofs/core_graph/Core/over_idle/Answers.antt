@@ -14,7 +14,7 @@ over_idle-requires g c =
     let i = c.self.inside in
     let e = c.index-component.result.now in
     let p = c.in-Some.port in
-    let G : Entries (g.row.C.Denot) = record { entries = i.components.items; stock = i.stock; units = i.units; numbered = i.registry.given } in
+    let G : Entries (g.row.C.Denot) = record { entries = i.components.items; stock = i.stock; units = i.units; waits = i.waits; numbered = i.registry.given } in
     let asked = rw (← c.self.view_is) at c.requires in
     let b : c.args.place < length i.components.items = within g.C.Client.progress G c.args.place _ asked in
     let at : slice_get i.components.items c.args.place ≡ Some e = slice_get-get_or i.components.items c.args.place e b ∙ ap Some (sym c.index-component.ensures) in
@@ -26,7 +26,7 @@ returns g c =
     let i = c.self.inside in
     let e = c.index-component.result.now in
     let p = c.in-Some.port in
-    let G : Entries (g.row.C.Denot) = record { entries = i.components.items; stock = i.stock; units = i.units; numbered = i.registry.given } in
+    let G : Entries (g.row.C.Denot) = record { entries = i.components.items; stock = i.stock; units = i.units; waits = i.waits; numbered = i.registry.given } in
     let asked = rw (← c.self.view_is) at c.requires in
     let b : c.args.place < length i.components.items = within g.C.Client.progress G c.args.place _ asked in
     let at : slice_get i.components.items c.args.place ≡ Some e = slice_get-get_or i.components.items c.args.place e b ∙ ap Some (sym c.index-component.ensures) in

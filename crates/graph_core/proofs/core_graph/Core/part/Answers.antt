@@ -1,4 +1,4 @@
-use Rattle.std.proofs.Common.{◌≡◌, ◌<◌, None, length, set, slice_get, get_or, Some, sym, ◌∙◌, ap, subst, arith, length-set}
+use Rattle.std.proofs.Common.{◌≡◌, ◌<◌, None, length, set, slice_get, get_or, Some, sym, ◌∙◌, ap, subst, arith, length-set, refl}
 use Rattle.std.proofs.lemmas.Option.{slice_get-get_or}
 use Rattle.il_machine.specs.World.{Component, port_of}
 use Rattle.il_machine.specs.Look.{Look, look}
@@ -9,6 +9,7 @@ use Rattle.port_stock.specs.Kept.{stocked}
 use Rattle.il_component.specs.Entries.{Entry, component_of}
 use Rattle.graph_core.specs.Entries.{Entries, look_of}
 use Rattle.graph_core.proofs.Clients.{clients_set}
+use Rattle.graph_core.proofs.SameParts.{part_as}
 use Rattle.graph_core.proofs.Replacing.{there, within}
 use Rattle.graph_core.proofs.Setting.{all_ports}
 use Rattle.graph_core.proofs.Joining.{AreEnds, AreReplaced, part_ends, port_below, unlinked_is, graph_both, both_changed}
@@ -19,7 +20,7 @@ part-requires g c =
     let i = c.self.inside in
     let p = g.C.Client.progress in
     let es = i.components.items in
-    let G : Entries (g.row.C.Denot) = record { entries = es; stock = i.stock; units = i.units; numbered = i.registry.given } in
+    let G : Entries (g.row.C.Denot) = record { entries = es; stock = i.stock; units = i.units; waits = i.waits; numbered = i.registry.given } in
     let e = c.index_mut.result.now in
     let asked = rw (← c.self.view_is) at c.requires in
     let b : c.args.giver < length es = within p G c.args.giver _ asked in
@@ -30,14 +31,14 @@ part-requires g c =
     let at-f : slice_get es c.args.taker ≡ Some f = slice_get-get_or es c.args.taker e b-2 in
     let ok : drop_refusal (look_of G).headers (port_of (component_of e) c.args.output) (port_of (component_of f) c.args.input) ≡ None = rw (there p G c.args.taker f at-f) at asked-2 in
     let E : AreEnds c.args.giver c.args.output c.args.taker c.args.input e f = part_ends p G c.args.giver c.args.output c.args.taker c.args.input e f c.self.invariant.worlds at at-f ok in
-    port_below (component_of e) (stocked i.stock) c.args.output E.first (all_ports p es i.registry i.stock i.units i.components.cap c.args.giver e c.self.invariant at) E.out
+    port_below (component_of e) (stocked i.stock) c.args.output E.first (all_ports p es i.registry i.stock i.units i.waits i.components.cap c.args.giver e c.self.invariant at) E.out
 
 pub index_mut-requires-2 : goal.index_mut-requires-2
 index_mut-requires-2 g c =
     let i = c.self.inside in
     let p = g.C.Client.progress in
     let es = i.components.items in
-    let G : Entries (g.row.C.Denot) = record { entries = es; stock = i.stock; units = i.units; numbered = i.registry.given } in
+    let G : Entries (g.row.C.Denot) = record { entries = es; stock = i.stock; units = i.units; waits = i.waits; numbered = i.registry.given } in
     let e = c.index_mut.result.now in
     let asked = rw (← c.self.view_is) at c.requires in
     let b : c.args.giver < length es = within p G c.args.giver _ asked in
@@ -56,7 +57,7 @@ part-requires-2 g c =
     let i = c.self.inside in
     let p = g.C.Client.progress in
     let es = i.components.items in
-    let G : Entries (g.row.C.Denot) = record { entries = es; stock = i.stock; units = i.units; numbered = i.registry.given } in
+    let G : Entries (g.row.C.Denot) = record { entries = es; stock = i.stock; units = i.units; waits = i.waits; numbered = i.registry.given } in
     let e = c.index_mut.result.now in
     let asked = rw (← c.self.view_is) at c.requires in
     let b : c.args.giver < length es = within p G c.args.giver _ asked in
@@ -74,14 +75,14 @@ part-requires-2 g c =
     let d-f : Some d ≡ Some f = sym at-d ∙ at-f in
     let one : d ≡ f = cc in
     let inp : port_of (component_of d) c.args.input ≡ Some E.second = ap (λ (x : Entry (g.row.C.Denot)). port_of (component_of x) c.args.input) one ∙ E.inp in
-    port_below (component_of d) (stocked i.stock) c.args.input E.second (all_ports p es i.registry i.stock i.units i.components.cap c.args.taker d c.self.invariant at-d) inp
+    port_below (component_of d) (stocked i.stock) c.args.input E.second (all_ports p es i.registry i.stock i.units i.waits i.components.cap c.args.taker d c.self.invariant at-d) inp
 
 pub invariant_of-self : goal.invariant_of-self
 invariant_of-self g c =
     let i = c.self.inside in
     let p = g.C.Client.progress in
     let es = i.components.items in
-    let G : Entries (g.row.C.Denot) = record { entries = es; stock = i.stock; units = i.units; numbered = i.registry.given } in
+    let G : Entries (g.row.C.Denot) = record { entries = es; stock = i.stock; units = i.units; waits = i.waits; numbered = i.registry.given } in
     let e = c.index_mut.result.now in
     let asked = rw (← c.self.view_is) at c.requires in
     let b : c.args.giver < length es = within p G c.args.giver _ asked in
@@ -108,11 +109,11 @@ invariant_of-self g c =
       apart = E.apart;
       first_kept = c.part.ensures.kept;
       second_kept = c.part-2.ensures.kept;
-      first_alike = record { handle = ap (λ (x : Component). x.handle) q-e; ports = ap (λ (x : Component). length x.ports) q-e ∙ length-set e.ports (E.first).key.port _ };
-      second_alike = record { handle = ap (λ (x : Component). x.handle) q-d; ports = ap (λ (x : Component). length x.ports) q-d ∙ length-set d.ports (E.second).key.port _ };
+      first_alike = record { handle = ap (λ (x : Component). x.handle) q-e; ports = ap (λ (x : Component). length x.ports) q-e ∙ length-set e.ports (E.first).key.port _; pending = ap (λ (v : Component). v.pending) q-e; part = part_as (component_of e) (component_of e') _ q-e (record { number = refl; kind = refl; file = refl; failed = refl; work = refl }) };
+      second_alike = record { handle = ap (λ (x : Component). x.handle) q-d; ports = ap (λ (x : Component). length x.ports) q-d ∙ length-set d.ports (E.second).key.port _; pending = ap (λ (v : Component). v.pending) q-d; part = part_as (component_of d) (component_of d') _ q-d (record { number = refl; kind = refl; file = refl; failed = refl; work = refl }) };
     } in
     let ok-d : drop_refusal (look_of G).headers (port_of (component_of e) c.args.output) (port_of (component_of d) c.args.input) ≡ None = subst (λ (x : Entry (g.row.C.Denot)). drop_refusal (look_of G).headers (port_of (component_of e) c.args.output) (port_of (component_of x) c.args.input) ≡ None) (sym one) ok in
-    graph_both p c.args.giver c.args.taker e d e' d' es i.registry i.stock i.units i.components.cap c.self.invariant R
+    graph_both p c.args.giver c.args.taker e d e' d' es i.registry i.stock i.units i.waits i.components.cap c.self.invariant R
     (λ w l S.
     let t : slice_get w.components c.args.giver ≡ Some (component_of e) = ap (λ (x : Look). slice_get x.components c.args.giver) l ∙ there p G c.args.giver e at in
     let u : slice_get w.components c.args.taker ≡ Some (component_of d) = ap (λ (x : Look). slice_get x.components c.args.taker) l ∙ there p G c.args.taker d at-d in
@@ -124,7 +125,7 @@ returns-clause-change g c =
     let i = c.self.inside in
     let p = g.C.Client.progress in
     let es = i.components.items in
-    let G : Entries (g.row.C.Denot) = record { entries = es; stock = i.stock; units = i.units; numbered = i.registry.given } in
+    let G : Entries (g.row.C.Denot) = record { entries = es; stock = i.stock; units = i.units; waits = i.waits; numbered = i.registry.given } in
     let e = c.index_mut.result.now in
     let asked = rw (← c.self.view_is) at c.requires in
     let b : c.args.giver < length es = within p G c.args.giver _ asked in
@@ -151,8 +152,8 @@ returns-clause-change g c =
       apart = E.apart;
       first_kept = c.part.ensures.kept;
       second_kept = c.part-2.ensures.kept;
-      first_alike = record { handle = ap (λ (x : Component). x.handle) q-e; ports = ap (λ (x : Component). length x.ports) q-e ∙ length-set e.ports (E.first).key.port _ };
-      second_alike = record { handle = ap (λ (x : Component). x.handle) q-d; ports = ap (λ (x : Component). length x.ports) q-d ∙ length-set d.ports (E.second).key.port _ };
+      first_alike = record { handle = ap (λ (x : Component). x.handle) q-e; ports = ap (λ (x : Component). length x.ports) q-e ∙ length-set e.ports (E.first).key.port _; pending = ap (λ (v : Component). v.pending) q-e; part = part_as (component_of e) (component_of e') _ q-e (record { number = refl; kind = refl; file = refl; failed = refl; work = refl }) };
+      second_alike = record { handle = ap (λ (x : Component). x.handle) q-d; ports = ap (λ (x : Component). length x.ports) q-d ∙ length-set d.ports (E.second).key.port _; pending = ap (λ (v : Component). v.pending) q-d; part = part_as (component_of d) (component_of d') _ q-d (record { number = refl; kind = refl; file = refl; failed = refl; work = refl }) };
     } in
     rw (← c.self.view_is, there p G c.args.giver e at, there p G c.args.taker d at-d, E.out, inp) (both_changed p G c.args.giver c.args.taker e d e' d' (parted E.first (component_of e)) (parted E.second (component_of d)) R q-e q-d)
 
@@ -161,7 +162,7 @@ returns-clause-clients g c =
     let i = c.self.inside in
     let p = g.C.Client.progress in
     let es = i.components.items in
-    let G : Entries (g.row.C.Denot) = record { entries = es; stock = i.stock; units = i.units; numbered = i.registry.given } in
+    let G : Entries (g.row.C.Denot) = record { entries = es; stock = i.stock; units = i.units; waits = i.waits; numbered = i.registry.given } in
     let e = c.index_mut.result.now in
     let asked = rw (← c.self.view_is) at c.requires in
     let b : c.args.giver < length es = within p G c.args.giver _ asked in

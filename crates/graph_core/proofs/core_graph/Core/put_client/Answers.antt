@@ -13,8 +13,8 @@ pub put_client-requires : goal.put_client-requires
 put_client-requires g c =
     let i = c.self.inside in
     let e = c.index_mut-component.result.now in
-    let G : Entries (g.row.C.Denot) = record { entries = i.components.items; stock = i.stock; units = i.units; numbered = i.registry.given } in
-    let asked = rw (← c.self.view_is) at c.requires in
+    let G : Entries (g.row.C.Denot) = record { entries = i.components.items; stock = i.stock; units = i.units; waits = i.waits; numbered = i.registry.given } in
+    let asked = rw (← c.self.view_is) at c.requires.out in
     let b : c.args.place < length i.components.items = within g.C.Client.progress G c.args.place _ asked in
     let at : slice_get i.components.items c.args.place ≡ Some e = slice_get-get_or i.components.items c.args.place e b ∙ ap Some (sym c.index_mut-component.ensures.value) in
     rw (there g.C.Client.progress G c.args.place e at) at asked
@@ -23,22 +23,22 @@ pub invariant_of-self : goal.invariant_of-self
 invariant_of-self g c =
     let i = c.self.inside in
     let e = c.index_mut-component.result.now in
-    let G : Entries (g.row.C.Denot) = record { entries = i.components.items; stock = i.stock; units = i.units; numbered = i.registry.given } in
-    let asked = rw (← c.self.view_is) at c.requires in
+    let G : Entries (g.row.C.Denot) = record { entries = i.components.items; stock = i.stock; units = i.units; waits = i.waits; numbered = i.registry.given } in
+    let asked = rw (← c.self.view_is) at c.requires.out in
     let b : c.args.place < length i.components.items = within g.C.Client.progress G c.args.place _ asked in
     let at : slice_get i.components.items c.args.place ≡ Some e = slice_get-get_or i.components.items c.args.place e b ∙ ap Some (sym c.index_mut-component.ensures.value) in
     let d = c.put_client.new.self in
     let out : is_none e.queues.client ≡ true = rw (there g.C.Client.progress G c.args.place e at) at asked in
-    graph_with g.C.Client.progress i.components.items i.registry i.stock i.stock i.units i.components.cap c.args.place e d c.self.invariant at
-    (ap (λ (x : Entry (g.row.C.Denot)). x.handle) c.put_client.ensures) (ap (λ (x : Entry (g.row.C.Denot)). x.ports) c.put_client.ensures) refl
-    (back_worlds g.C.Client.progress G c.args.place e c.args.client c.self.invariant.worlds at d c.put_client.ensures out)
+    graph_with g.C.Client.progress i.components.items i.registry i.stock i.stock i.units i.waits i.components.cap c.args.place e d c.self.invariant at
+    (ap (λ (x : Entry (g.row.C.Denot)). x.handle) c.put_client.ensures) (ap (λ (x : Entry (g.row.C.Denot)). x.ports) c.put_client.ensures) (ap (λ (x : Entry (g.row.C.Denot)). x.pending) c.put_client.ensures) refl
+    (back_worlds g.C.Client.progress G c.args.place e c.args.client c.self.invariant.worlds at d c.put_client.ensures c.requires.told out)
 
 pub returns-clause-change : goal.returns-clause-change
 returns-clause-change g c =
     let i = c.self.inside in
     let e = c.index_mut-component.result.now in
-    let G : Entries (g.row.C.Denot) = record { entries = i.components.items; stock = i.stock; units = i.units; numbered = i.registry.given } in
-    let asked = rw (← c.self.view_is) at c.requires in
+    let G : Entries (g.row.C.Denot) = record { entries = i.components.items; stock = i.stock; units = i.units; waits = i.waits; numbered = i.registry.given } in
+    let asked = rw (← c.self.view_is) at c.requires.out in
     let b : c.args.place < length i.components.items = within g.C.Client.progress G c.args.place _ asked in
     let at : slice_get i.components.items c.args.place ≡ Some e = slice_get-get_or i.components.items c.args.place e b ∙ ap Some (sym c.index_mut-component.ensures.value) in
     rw (← c.self.view_is) (back_returns g.C.Client.progress G c.args.place e c.args.client c.self.invariant.worlds at c.put_client.new.self c.put_client.ensures)
@@ -47,8 +47,8 @@ pub returns-clause-client : goal.returns-clause-client
 returns-clause-client g c =
     let i = c.self.inside in
     let e = c.index_mut-component.result.now in
-    let G : Entries (g.row.C.Denot) = record { entries = i.components.items; stock = i.stock; units = i.units; numbered = i.registry.given } in
-    let asked = rw (← c.self.view_is) at c.requires in
+    let G : Entries (g.row.C.Denot) = record { entries = i.components.items; stock = i.stock; units = i.units; waits = i.waits; numbered = i.registry.given } in
+    let asked = rw (← c.self.view_is) at c.requires.out in
     let b : c.args.place < length i.components.items = within g.C.Client.progress G c.args.place _ asked in
     let at : slice_get i.components.items c.args.place ≡ Some e = slice_get-get_or i.components.items c.args.place e b ∙ ap Some (sym c.index_mut-component.ensures.value) in
     let m = ap (λ (x : Entry (g.row.C.Denot)). x.handle) c.put_client.ensures in
@@ -60,8 +60,8 @@ pub returns-clause-clients : goal.returns-clause-clients
 returns-clause-clients g c =
     let i = c.self.inside in
     let e = c.index_mut-component.result.now in
-    let G : Entries (g.row.C.Denot) = record { entries = i.components.items; stock = i.stock; units = i.units; numbered = i.registry.given } in
-    let asked = rw (← c.self.view_is) at c.requires in
+    let G : Entries (g.row.C.Denot) = record { entries = i.components.items; stock = i.stock; units = i.units; waits = i.waits; numbered = i.registry.given } in
+    let asked = rw (← c.self.view_is) at c.requires.out in
     let b : c.args.place < length i.components.items = within g.C.Client.progress G c.args.place _ asked in
     let at : slice_get i.components.items c.args.place ≡ Some e = slice_get-get_or i.components.items c.args.place e b ∙ ap Some (sym c.index_mut-component.ensures.value) in
     let m = ap (λ (x : Entry (g.row.C.Denot)). x.handle) c.put_client.ensures in

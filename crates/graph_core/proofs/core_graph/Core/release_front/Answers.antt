@@ -18,7 +18,7 @@ take_front-requires g c =
     let i = c.self.inside in
     let e = c.index-component.result.now in
     let p = c.in-Some.port in
-    let G : Entries (g.row.C.Denot) = record { entries = i.components.items; stock = i.stock; units = i.units; numbered = i.registry.given } in
+    let G : Entries (g.row.C.Denot) = record { entries = i.components.items; stock = i.stock; units = i.units; waits = i.waits; numbered = i.registry.given } in
     let asked = rw (← c.self.view_is) at c.requires in
     let b : c.args.place < length i.components.items = within g.C.Client.progress G c.args.place _ asked in
     let at : slice_get i.components.items c.args.place ≡ Some e = slice_get-get_or i.components.items c.args.place e b ∙ ap Some (sym c.index-component.ensures) in
@@ -30,7 +30,7 @@ unreachable-requires-in_default-take_front g c =
     let i = c.self.inside in
     let e = c.index-component.result.now in
     let p = c.in-Some.port in
-    let G : Entries (g.row.C.Denot) = record { entries = i.components.items; stock = i.stock; units = i.units; numbered = i.registry.given } in
+    let G : Entries (g.row.C.Denot) = record { entries = i.components.items; stock = i.stock; units = i.units; waits = i.waits; numbered = i.registry.given } in
     let asked = rw (← c.self.view_is) at c.requires in
     let b : c.args.place < length i.components.items = within g.C.Client.progress G c.args.place _ asked in
     let at : slice_get i.components.items c.args.place ≡ Some e = slice_get-get_or i.components.items c.args.place e b ∙ ap Some (sym c.index-component.ensures) in
@@ -44,7 +44,7 @@ invariant_of-self g c =
     let i = c.self.inside in
     let e = c.index-component.result.now in
     let p = c.in-Some.port in
-    let G : Entries (g.row.C.Denot) = record { entries = i.components.items; stock = i.stock; units = i.units; numbered = i.registry.given } in
+    let G : Entries (g.row.C.Denot) = record { entries = i.components.items; stock = i.stock; units = i.units; waits = i.waits; numbered = i.registry.given } in
     let asked = rw (← c.self.view_is) at c.requires in
     let b : c.args.place < length i.components.items = within g.C.Client.progress G c.args.place _ asked in
     let at : slice_get i.components.items c.args.place ≡ Some e = slice_get-get_or i.components.items c.args.place e b ∙ ap Some (sym c.index-component.ensures) in
@@ -53,7 +53,7 @@ invariant_of-self g c =
     let n = header.held.number in
     let front : Some n ≡ slice_get (in_port (stocked i.stock).headers p) 0 = sym (ap (option_map number_of) c.in-Some-take_front.is) ∙ c.take_front.ensures.front in
     let now : stocked c.withdraw-store.new.self ≡ withdrawn n (front_left p.key (stocked i.stock)) = c.withdraw-store.ensures.stock ∙ ap (withdrawn n) c.take_front.ensures.stock in
-    graph_stocked g.C.Client.progress i.components.items i.registry i.stock c.withdraw-store.new.self i.units i.components.cap c.self.invariant (ap (λ (s : Stocked). s.ports) now ∙ front_left_ports p.key (stocked i.stock))
+    graph_stocked g.C.Client.progress i.components.items i.registry i.stock c.withdraw-store.new.self i.units i.waits i.components.cap c.self.invariant (ap (λ (s : Stocked). s.ports) now ∙ front_left_ports p.key (stocked i.stock))
     (released_worlds g.C.Client.progress G c.args.place e c.args.index p n c.self.invariant.worlds at here front c.withdraw-store.new.self now)
 
 pub returns-clause-change : goal.returns-clause-change
@@ -61,7 +61,7 @@ returns-clause-change g c =
     let i = c.self.inside in
     let e = c.index-component.result.now in
     let p = c.in-Some.port in
-    let G : Entries (g.row.C.Denot) = record { entries = i.components.items; stock = i.stock; units = i.units; numbered = i.registry.given } in
+    let G : Entries (g.row.C.Denot) = record { entries = i.components.items; stock = i.stock; units = i.units; waits = i.waits; numbered = i.registry.given } in
     let asked = rw (← c.self.view_is) at c.requires in
     let b : c.args.place < length i.components.items = within g.C.Client.progress G c.args.place _ asked in
     let at : slice_get i.components.items c.args.place ≡ Some e = slice_get-get_or i.components.items c.args.place e b ∙ ap Some (sym c.index-component.ensures) in

@@ -9,33 +9,33 @@ pub setup_fault-requires-clause-giver : goal.setup_fault-requires-clause-giver
 setup_fault-requires-clause-giver g c =
     let i = c.self.inside in
     let p = g.C.Client.progress in
-    let G : Entries (g.row.C.Denot) = record { entries = i.components.items; stock = i.stock; units = i.units; numbered = i.registry.given } in
+    let G : Entries (g.row.C.Denot) = record { entries = i.components.items; stock = i.stock; units = i.units; waits = i.waits; numbered = i.registry.given } in
     let e = c.index.result.now in
     let d = c.index-2.result.now in
     let b : c.args.giver < length i.components.items = rw (← c.self.view_is) at c.requires.giver in
     let b' : c.args.taker < length i.components.items = rw (← c.self.view_is) at c.requires.taker in
     let at : slice_get i.components.items c.args.giver ≡ Some e = slice_get-get_or i.components.items c.args.giver e b ∙ ap Some (sym c.index.ensures) in
     let at' : slice_get i.components.items c.args.taker ≡ Some d = slice_get-get_or i.components.items c.args.taker d b' ∙ ap Some (sym c.index-2.ensures) in
-    all_ports p i.components.items i.registry i.stock i.units i.components.cap c.args.giver e c.self.invariant at
+    all_ports p i.components.items i.registry i.stock i.units i.waits i.components.cap c.args.giver e c.self.invariant at
 
 pub setup_fault-requires-clause-taker : goal.setup_fault-requires-clause-taker
 setup_fault-requires-clause-taker g c =
     let i = c.self.inside in
     let p = g.C.Client.progress in
-    let G : Entries (g.row.C.Denot) = record { entries = i.components.items; stock = i.stock; units = i.units; numbered = i.registry.given } in
+    let G : Entries (g.row.C.Denot) = record { entries = i.components.items; stock = i.stock; units = i.units; waits = i.waits; numbered = i.registry.given } in
     let e = c.index.result.now in
     let d = c.index-2.result.now in
     let b : c.args.giver < length i.components.items = rw (← c.self.view_is) at c.requires.giver in
     let b' : c.args.taker < length i.components.items = rw (← c.self.view_is) at c.requires.taker in
     let at : slice_get i.components.items c.args.giver ≡ Some e = slice_get-get_or i.components.items c.args.giver e b ∙ ap Some (sym c.index.ensures) in
     let at' : slice_get i.components.items c.args.taker ≡ Some d = slice_get-get_or i.components.items c.args.taker d b' ∙ ap Some (sym c.index-2.ensures) in
-    all_ports p i.components.items i.registry i.stock i.units i.components.cap c.args.taker d c.self.invariant at'
+    all_ports p i.components.items i.registry i.stock i.units i.waits i.components.cap c.args.taker d c.self.invariant at'
 
 pub returns : goal.returns
 returns g c =
     let i = c.self.inside in
     let p = g.C.Client.progress in
-    let G : Entries (g.row.C.Denot) = record { entries = i.components.items; stock = i.stock; units = i.units; numbered = i.registry.given } in
+    let G : Entries (g.row.C.Denot) = record { entries = i.components.items; stock = i.stock; units = i.units; waits = i.waits; numbered = i.registry.given } in
     let e = c.index.result.now in
     let d = c.index-2.result.now in
     let b : c.args.giver < length i.components.items = rw (← c.self.view_is) at c.requires.giver in

@@ -20,7 +20,7 @@ pub set_out-requires-clause-outside : goal.set_out-requires-clause-outside
 set_out-requires-clause-outside g c =
     let i = c.self.inside in
     let e = c.index_mut-component.result.now in
-    let G : Entries (g.row.C.Denot) = record { entries = i.components.items; stock = i.stock; units = i.units; numbered = i.registry.given } in
+    let G : Entries (g.row.C.Denot) = record { entries = i.components.items; stock = i.stock; units = i.units; waits = i.waits; numbered = i.registry.given } in
     let b : c.args.place < length i.components.items = rw (← c.self.view_is) at c.requires in
     let at : slice_get i.components.items c.args.place ≡ Some e = slice_get-get_or i.components.items c.args.place e b ∙ ap Some (sym c.index_mut-component.ensures.value) in
     rw c.id.ensures (done_out g.C.Client.progress G c.args.place e c.self.invariant.worlds at c.in-Call.call c.in-EmptyDone.header (sym c.take-took.ensures.took ∙ c.in-Call.is) c.in-EmptyDone.is)
@@ -29,25 +29,25 @@ pub invariant_of-self : goal.invariant_of-self
 invariant_of-self g c =
     let i = c.self.inside in
     let e = c.index_mut-component.result.now in
-    let G : Entries (g.row.C.Denot) = record { entries = i.components.items; stock = i.stock; units = i.units; numbered = i.registry.given } in
+    let G : Entries (g.row.C.Denot) = record { entries = i.components.items; stock = i.stock; units = i.units; waits = i.waits; numbered = i.registry.given } in
     let b : c.args.place < length i.components.items = rw (← c.self.view_is) at c.requires in
     let at : slice_get i.components.items c.args.place ≡ Some e = slice_get-get_or i.components.items c.args.place e b ∙ ap Some (sym c.index_mut-component.ensures.value) in
     let d = c.take-took.new.self in
-    graph_with g.C.Client.progress i.components.items i.registry i.stock i.stock i.units i.components.cap c.args.place e d c.self.invariant at
-    (ap (λ (x : Entry (g.row.C.Denot)). x.handle) c.take-took.ensures.left) (ap (λ (x : Entry (g.row.C.Denot)). x.ports) c.take-took.ensures.left) refl
+    graph_with g.C.Client.progress i.components.items i.registry i.stock i.stock i.units i.waits i.components.cap c.args.place e d c.self.invariant at
+    (ap (λ (x : Entry (g.row.C.Denot)). x.handle) c.take-took.ensures.left) (ap (λ (x : Entry (g.row.C.Denot)). x.ports) c.take-took.ensures.left) (ap (λ (x : Entry (g.row.C.Denot)). x.pending) c.take-took.ensures.left) refl
     (call_worlds g.C.Client.progress G c.args.place e c.self.invariant.worlds at c.in-Call.call c.in-Told.field-0 d (sym c.take-took.ensures.took ∙ c.in-Call.is) c.take-took.ensures.left c.in-Told.is)
 
 pub invariant_of-self-in-EmptyDone : goal.invariant_of-self-in-EmptyDone
 invariant_of-self-in-EmptyDone g c =
     let i = c.self.inside in
     let e = c.index_mut-component.result.now in
-    let G : Entries (g.row.C.Denot) = record { entries = i.components.items; stock = i.stock; units = i.units; numbered = i.registry.given } in
+    let G : Entries (g.row.C.Denot) = record { entries = i.components.items; stock = i.stock; units = i.units; waits = i.waits; numbered = i.registry.given } in
     let b : c.args.place < length i.components.items = rw (← c.self.view_is) at c.requires in
     let at : slice_get i.components.items c.args.place ≡ Some e = slice_get-get_or i.components.items c.args.place e b ∙ ap Some (sym c.index_mut-component.ensures.value) in
     let d = c.take-took.new.self in
     let now = c.set_out.ensures ∙ ap (λ (n : ℕ). given n owners.Client (stocked i.stock)) c.id.ensures in
-    graph_with g.C.Client.progress i.components.items i.registry i.stock c.set_out.new.self i.units i.components.cap c.args.place e d c.self.invariant at
-    (ap (λ (x : Entry (g.row.C.Denot)). x.handle) c.take-took.ensures.left) (ap (λ (x : Entry (g.row.C.Denot)). x.ports) c.take-took.ensures.left) (ap (λ (s : Stocked). s.ports) now)
+    graph_with g.C.Client.progress i.components.items i.registry i.stock c.set_out.new.self i.units i.waits i.components.cap c.args.place e d c.self.invariant at
+    (ap (λ (x : Entry (g.row.C.Denot)). x.handle) c.take-took.ensures.left) (ap (λ (x : Entry (g.row.C.Denot)). x.ports) c.take-took.ensures.left) (ap (λ (x : Entry (g.row.C.Denot)). x.pending) c.take-took.ensures.left) (ap (λ (s : Stocked). s.ports) now)
     (done_worlds g.C.Client.progress G c.args.place e c.self.invariant.worlds at c.in-Call.call c.in-EmptyDone.header d c.set_out.new.self (sym c.take-took.ensures.took ∙ c.in-Call.is) c.take-took.ensures.left c.in-EmptyDone.is now)
 
 not_call : {C : Type 0} (r : Took C) → ((x : Call C) → r ≡ tooks.Call x → ⊥) → (r ≡ tooks.None) ⊎ (r ≡ tooks.Busy)
@@ -59,7 +59,7 @@ pub invariant_of-self-in_default : goal.invariant_of-self-in_default
 invariant_of-self-in_default g c =
     let i = c.self.inside in
     let e = c.index_mut-component.result.now in
-    let G : Entries (g.row.C.Denot) = record { entries = i.components.items; stock = i.stock; units = i.units; numbered = i.registry.given } in
+    let G : Entries (g.row.C.Denot) = record { entries = i.components.items; stock = i.stock; units = i.units; waits = i.waits; numbered = i.registry.given } in
     let b : c.args.place < length i.components.items = rw (← c.self.view_is) at c.requires in
     let at : slice_get i.components.items c.args.place ≡ Some e = slice_get-get_or i.components.items c.args.place e b ∙ ap Some (sym c.index_mut-component.ensures.value) in
     let d = c.take-took.new.self in
@@ -70,7 +70,7 @@ pub returns-in-Told-clause-change : goal.returns-in-Told-clause-change
 returns-in-Told-clause-change g c =
     let i = c.self.inside in
     let e = c.index_mut-component.result.now in
-    let G : Entries (g.row.C.Denot) = record { entries = i.components.items; stock = i.stock; units = i.units; numbered = i.registry.given } in
+    let G : Entries (g.row.C.Denot) = record { entries = i.components.items; stock = i.stock; units = i.units; waits = i.waits; numbered = i.registry.given } in
     let b : c.args.place < length i.components.items = rw (← c.self.view_is) at c.requires in
     let at : slice_get i.components.items c.args.place ≡ Some e = slice_get-get_or i.components.items c.args.place e b ∙ ap Some (sym c.index_mut-component.ensures.value) in
     let d = c.take-took.new.self in
@@ -80,7 +80,7 @@ pub returns-in-EmptyDone-clause-change : goal.returns-in-EmptyDone-clause-change
 returns-in-EmptyDone-clause-change g c =
     let i = c.self.inside in
     let e = c.index_mut-component.result.now in
-    let G : Entries (g.row.C.Denot) = record { entries = i.components.items; stock = i.stock; units = i.units; numbered = i.registry.given } in
+    let G : Entries (g.row.C.Denot) = record { entries = i.components.items; stock = i.stock; units = i.units; waits = i.waits; numbered = i.registry.given } in
     let b : c.args.place < length i.components.items = rw (← c.self.view_is) at c.requires in
     let at : slice_get i.components.items c.args.place ≡ Some e = slice_get-get_or i.components.items c.args.place e b ∙ ap Some (sym c.index_mut-component.ensures.value) in
     let d = c.take-took.new.self in
@@ -91,7 +91,7 @@ pub returns-in_default-clause-change : goal.returns-in_default-clause-change
 returns-in_default-clause-change g c =
     let i = c.self.inside in
     let e = c.index_mut-component.result.now in
-    let G : Entries (g.row.C.Denot) = record { entries = i.components.items; stock = i.stock; units = i.units; numbered = i.registry.given } in
+    let G : Entries (g.row.C.Denot) = record { entries = i.components.items; stock = i.stock; units = i.units; waits = i.waits; numbered = i.registry.given } in
     let b : c.args.place < length i.components.items = rw (← c.self.view_is) at c.requires in
     let at : slice_get i.components.items c.args.place ≡ Some e = slice_get-get_or i.components.items c.args.place e b ∙ ap Some (sym c.index_mut-component.ensures.value) in
     let d = c.take-took.new.self in
@@ -108,7 +108,7 @@ pub returns-in_default-clause-unchanged : goal.returns-in_default-clause-unchang
 returns-in_default-clause-unchanged g c =
     let i = c.self.inside in
     let e = c.index_mut-component.result.now in
-    let G : Entries (g.row.C.Denot) = record { entries = i.components.items; stock = i.stock; units = i.units; numbered = i.registry.given } in
+    let G : Entries (g.row.C.Denot) = record { entries = i.components.items; stock = i.stock; units = i.units; waits = i.waits; numbered = i.registry.given } in
     let b : c.args.place < length i.components.items = rw (← c.self.view_is) at c.requires in
     let at : slice_get i.components.items c.args.place ≡ Some e = slice_get-get_or i.components.items c.args.place e b ∙ ap Some (sym c.index_mut-component.ensures.value) in
     let d = c.take-took.new.self in
@@ -119,7 +119,7 @@ pub returns-in-Told-clause-client : goal.returns-in-Told-clause-client
 returns-in-Told-clause-client g c =
     let i = c.self.inside in
     let e = c.index_mut-component.result.now in
-    let G : Entries (g.row.C.Denot) = record { entries = i.components.items; stock = i.stock; units = i.units; numbered = i.registry.given } in
+    let G : Entries (g.row.C.Denot) = record { entries = i.components.items; stock = i.stock; units = i.units; waits = i.waits; numbered = i.registry.given } in
     let b : c.args.place < length i.components.items = rw (← c.self.view_is) at c.requires in
     let at : slice_get i.components.items c.args.place ≡ Some e = slice_get-get_or i.components.items c.args.place e b ∙ ap Some (sym c.index_mut-component.ensures.value) in
     let d = c.take-took.new.self in
@@ -130,7 +130,7 @@ pub returns-in-Told-clause-clients : goal.returns-in-Told-clause-clients
 returns-in-Told-clause-clients g c =
     let i = c.self.inside in
     let e = c.index_mut-component.result.now in
-    let G : Entries (g.row.C.Denot) = record { entries = i.components.items; stock = i.stock; units = i.units; numbered = i.registry.given } in
+    let G : Entries (g.row.C.Denot) = record { entries = i.components.items; stock = i.stock; units = i.units; waits = i.waits; numbered = i.registry.given } in
     let b : c.args.place < length i.components.items = rw (← c.self.view_is) at c.requires in
     let at : slice_get i.components.items c.args.place ≡ Some e = slice_get-get_or i.components.items c.args.place e b ∙ ap Some (sym c.index_mut-component.ensures.value) in
     let d = c.take-took.new.self in
@@ -141,7 +141,7 @@ pub returns-in-EmptyDone-clause-client : goal.returns-in-EmptyDone-clause-client
 returns-in-EmptyDone-clause-client g c =
     let i = c.self.inside in
     let e = c.index_mut-component.result.now in
-    let G : Entries (g.row.C.Denot) = record { entries = i.components.items; stock = i.stock; units = i.units; numbered = i.registry.given } in
+    let G : Entries (g.row.C.Denot) = record { entries = i.components.items; stock = i.stock; units = i.units; waits = i.waits; numbered = i.registry.given } in
     let b : c.args.place < length i.components.items = rw (← c.self.view_is) at c.requires in
     let at : slice_get i.components.items c.args.place ≡ Some e = slice_get-get_or i.components.items c.args.place e b ∙ ap Some (sym c.index_mut-component.ensures.value) in
     let d = c.take-took.new.self in
@@ -152,7 +152,7 @@ pub returns-in-EmptyDone-clause-clients : goal.returns-in-EmptyDone-clause-clien
 returns-in-EmptyDone-clause-clients g c =
     let i = c.self.inside in
     let e = c.index_mut-component.result.now in
-    let G : Entries (g.row.C.Denot) = record { entries = i.components.items; stock = i.stock; units = i.units; numbered = i.registry.given } in
+    let G : Entries (g.row.C.Denot) = record { entries = i.components.items; stock = i.stock; units = i.units; waits = i.waits; numbered = i.registry.given } in
     let b : c.args.place < length i.components.items = rw (← c.self.view_is) at c.requires in
     let at : slice_get i.components.items c.args.place ≡ Some e = slice_get-get_or i.components.items c.args.place e b ∙ ap Some (sym c.index_mut-component.ensures.value) in
     let d = c.take-took.new.self in
@@ -163,7 +163,7 @@ pub returns-in_default-clause-client : goal.returns-in_default-clause-client
 returns-in_default-clause-client g c =
     let i = c.self.inside in
     let e = c.index_mut-component.result.now in
-    let G : Entries (g.row.C.Denot) = record { entries = i.components.items; stock = i.stock; units = i.units; numbered = i.registry.given } in
+    let G : Entries (g.row.C.Denot) = record { entries = i.components.items; stock = i.stock; units = i.units; waits = i.waits; numbered = i.registry.given } in
     let b : c.args.place < length i.components.items = rw (← c.self.view_is) at c.requires in
     let at : slice_get i.components.items c.args.place ≡ Some e = slice_get-get_or i.components.items c.args.place e b ∙ ap Some (sym c.index_mut-component.ensures.value) in
     let d = c.take-took.new.self in
@@ -175,7 +175,7 @@ pub returns-in_default-clause-clients : goal.returns-in_default-clause-clients
 returns-in_default-clause-clients g c =
     let i = c.self.inside in
     let e = c.index_mut-component.result.now in
-    let G : Entries (g.row.C.Denot) = record { entries = i.components.items; stock = i.stock; units = i.units; numbered = i.registry.given } in
+    let G : Entries (g.row.C.Denot) = record { entries = i.components.items; stock = i.stock; units = i.units; waits = i.waits; numbered = i.registry.given } in
     let b : c.args.place < length i.components.items = rw (← c.self.view_is) at c.requires in
     let at : slice_get i.components.items c.args.place ≡ Some e = slice_get-get_or i.components.items c.args.place e b ∙ ap Some (sym c.index_mut-component.ensures.value) in
     let d = c.take-took.new.self in

@@ -9,17 +9,17 @@ pub use_fault-requires : goal.use_fault-requires
 use_fault-requires g c =
     let i = c.self.inside in
     let p = g.C.Client.progress in
-    let G : Entries (g.row.C.Denot) = record { entries = i.components.items; stock = i.stock; units = i.units; numbered = i.registry.given } in
+    let G : Entries (g.row.C.Denot) = record { entries = i.components.items; stock = i.stock; units = i.units; waits = i.waits; numbered = i.registry.given } in
     let e = c.index-component.result.now in
     let b : c.args.place < length i.components.items = rw (← c.self.view_is) at c.requires in
     let at : slice_get i.components.items c.args.place ≡ Some e = slice_get-get_or i.components.items c.args.place e b ∙ ap Some (sym c.index-component.ensures) in
-    all_ports p i.components.items i.registry i.stock i.units i.components.cap c.args.place e c.self.invariant at
+    all_ports p i.components.items i.registry i.stock i.units i.waits i.components.cap c.args.place e c.self.invariant at
 
 pub returns : goal.returns
 returns g c =
     let i = c.self.inside in
     let p = g.C.Client.progress in
-    let G : Entries (g.row.C.Denot) = record { entries = i.components.items; stock = i.stock; units = i.units; numbered = i.registry.given } in
+    let G : Entries (g.row.C.Denot) = record { entries = i.components.items; stock = i.stock; units = i.units; waits = i.waits; numbered = i.registry.given } in
     let e = c.index-component.result.now in
     let b : c.args.place < length i.components.items = rw (← c.self.view_is) at c.requires in
     let at : slice_get i.components.items c.args.place ≡ Some e = slice_get-get_or i.components.items c.args.place e b ∙ ap Some (sym c.index-component.ensures) in
