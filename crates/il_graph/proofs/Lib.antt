@@ -9,6 +9,8 @@ pub mod Looking
 pub mod Calling
 pub mod Clients
 pub mod Handing
+pub mod Freeing
+pub mod PortsDone
 pub mod Naming
 pub mod Taking
 pub mod Tunnelling

@@ -1,13 +1,12 @@
 -- A component of a name is made.
-use Rattle.std.proofs.Common.{◌≡◌, ℕ, ◌≤◌, Bool, true, false, List, [], ◌∷◌, find, Option, Some, None, option_map, Result, Ok, Err, MatchOption, IsOkAnd, cond, refl, sym, ◌∙◌, ap, subst, arith}
+use Rattle.std.proofs.Common.{◌≡◌, ℕ, Bool, true, false, List, [], ◌∷◌, Option, Some, None, Result, Ok, Err, MatchOption, IsOkAnd, refl, sym, ◌∙◌, ap}
 use Rattle.omx_types.specs.declared.handle.Handle.{Handle}
 use Rattle.omx_types.specs.declared.kind.Kind.{Kind}
 use Rattle.omx_types.specs.declared.error.OmxError.{OmxError}
 use Rattle.omx_types.specs.declared.error.OmxError.TheVariants as errors
 use Rattle.omx_types.specs.declared.error.CallError.TheVariants.{Omx, OutOfMemory}
 use Rattle.il_machine.specs.Lists.{first_of_these}
-use Rattle.il_machine.specs.Kinds.{named_kinds, has_name, kind_of}
-use Rattle.il_machine.specs.Settings.{IsSized}
+use Rattle.il_machine.specs.Kinds.{kind_of}
 use Rattle.il_machine.specs.World.{World}
 use Rattle.il_machine.specs.Look.{Look}
 use Rattle.il_machine.specs.Due.{ClosesTo}
@@ -15,83 +14,6 @@ use Rattle.il_machine.specs.Components.{GetHandle, name_refusals, is_full, is_va
 use Rattle.il_machine.specs.Whole.{Kept, Steps}
 use Rattle.il_machine.proofs.Refusals.{first_of_first, first_of_second}
 use Rattle.whole_laws.proofs.Answering.{refused_or_memory, wants_memory, accepted_or_memory, then_closes}
-
--- ---- the kinds of the table have their sizes
-
-abbrev pub AllSized : List (List ℕ × Kind) → Type 0
-AllSized [] = Unit {0}
-AllSized (row ∷ rows) = IsSized row.1 × AllSized rows
-
-found_sized : (test : (List ℕ × Kind) → Bool) (rows : List (List ℕ × Kind)) (kind : Kind) → AllSized rows → option_map (λ row. row.1) (find test rows) ≡ Some kind → IsSized kind
-found_sized test [] kind A h = absurd cc
-found_sized test (row ∷ rows) kind A h = elim (test row) as (λ v. option_map (λ r. r.1) (cond v (Some row) (find test rows)) ≡ Some kind → IsSized kind)
-    [ true ↦ λ e. let s : row.1 ≡ kind = cc in subst IsSized s A.0 | false ↦ λ e. found_sized test rows kind A.1 e ] h
-
-low : (n : ℕ) → 2 ≤ n → n ≤ 8 → (2 ≤ n) × (n ≤ 8)
-low n a b = (a, b)
-
-table_sized : AllSized named_kinds
-table_sized = (
-  tt,
-  (
-    tt,
-    (
-      tt,
-      (
-        tt,
-        (
-          tt,
-          (
-            low 2 (omega arith) (omega arith),
-            (
-              low 3 (omega arith) (omega arith),
-              (
-                low 4 (omega arith) (omega arith),
-                (
-                  low 5 (omega arith) (omega arith),
-                  (
-                    low 6 (omega arith) (omega arith),
-                    (
-                      low 7 (omega arith) (omega arith),
-                      (
-                        low 8 (omega arith) (omega arith),
-                        (
-                          low 2 (omega arith) (omega arith),
-                          (
-                            low 3 (omega arith) (omega arith),
-                            (
-                              low 4 (omega arith) (omega arith),
-                              (
-                                low 5 (omega arith) (omega arith),
-                                (
-                                  low 6 (omega arith) (omega arith),
-                                  (
-                                    low 7 (omega arith) (omega arith),
-                                    (
-                                      low 8 (omega arith) (omega arith),
-                                      (tt, tt),
-                                    ),
-                                  ),
-                                ),
-                              ),
-                            ),
-                          ),
-                        ),
-                      ),
-                    ),
-                  ),
-                ),
-              ),
-            ),
-          ),
-        ),
-      ),
-    ),
-  ),
-)
-
-pub kind_sized : (name : List ℕ) (kind : Kind) → kind_of name ≡ Some kind → IsSized kind
-kind_sized name kind h = found_sized (has_name name) named_kinds kind table_sized h
 
 -- ---- a name is found, or refused
 

@@ -1,7 +1,11 @@
 -- The worlds that a graph stands for, and what its clauses say of a result that hands something back.
-use Rattle.std.specs.Prelude.{Bool, Option, is_some, Result, Ok, Err}
+use Rattle.std.specs.Prelude.{Bool, Option, is_some, option_and_then, Result, Ok, Err}
+use Rattle.omx_types.specs.declared.handle.Handle.{Handle}
 use Rattle.omx_types.specs.declared.error.CallError.{CallError}
 use Rattle.omx_types.specs.declared.error.CallError.TheVariants.{Omx, OutOfMemory}
+use Rattle.part_api.specs.declared.attached.Attached.{Attached}
+use Rattle.il_machine.specs.Answers.{component_named}
+use Rattle.il_machine.specs.Look.{Look}
 use Rattle.il_machine.specs.Buffers.{Held}
 use Rattle.il_machine.specs.Notes.{Took}
 use Rattle.il_machine.specs.declared.answer.Acted.{Acted}
@@ -9,16 +13,23 @@ use Rattle.il_machine.specs.declared.answer.Acted.TheVariants.{Did, Idle}
 use Rattle.header_core.specs.BufferHeader.{BufferHeader}
 use Rattle.note_queues.specs.Queues.{took_of}
 use Rattle.note_queues.specs.declared.taken.Took.{Took as Given}
+use Rattle.note_queues.specs.declared.taken.Took.TheVariants as tooks
+use Rattle.graph_core.specs.Clients.{IsPortDone}
+use Rattle.il_machine.specs.declared.answer.Progress.{Progress}
 
 -- the answer without what it hands back
 abbrev pub plainly : {T E X : Type 0} → Result T (E × X) → Result T E
 plainly (Ok x) = Ok x
 plainly (Err e) = Err e.0
 
--- what is answered on Ok is left out
-abbrev pub wordless : {T E : Type 0} → Result T E → Result (Unit {0}) E
-wordless (Ok x) = Ok tt
-wordless (Err e) = Err e
+-- for which frames the file of the component came that the handle names
+abbrev pub file_of : Handle → Look → Option Attached
+file_of h l = option_and_then (λ c. c.file) (component_named h l.components)
+
+-- what is answered on Ok is the file
+abbrev pub with_file : {T E : Type 0} → Option Attached → Result T E → Result (Option Attached) E
+with_file file (Ok x) = Ok file
+with_file file (Err e) = Err e
 
 -- the header as its holder sees it
 abbrev pub heldly : {E : Type 0} → Result BufferHeader E → Result Held E
@@ -45,3 +56,9 @@ OnRefusal OutOfMemory P = Unit {0}
 abbrev pub tookly : {C E : Type 0} → Result (Given C) E → Result Took E
 tookly (Ok took) = Ok (took_of took)
 tookly (Err e) = Err e
+
+-- Of ports the client object that comes with a note was told no other completion than that of a disable or an enable.
+abbrev pub IsTookDone : {C : Type 0} → (C → Progress) → Given C → Type 0
+IsTookDone progress (tooks.Call call) = IsPortDone (progress call.client).port
+IsTookDone progress tooks.None = Unit {0}
+IsTookDone progress tooks.Busy = Unit {0}

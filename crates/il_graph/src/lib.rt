@@ -11,8 +11,13 @@ mod pair;
 mod tests;
 
 pub use graph::Graph;
-pub use il_machine::{Mode, PortView, Progress};
-pub use note_queues::Client;
+pub use header_core::Header;
+pub use il_machine::{Acted, Mode, PortView, Progress, Why};
+pub use note_queues::{Call, Client, ProgressClient, Taken, Took};
+pub use omx_types::{
+    CallError, Command, Completion, Event, Format, Handle, OmxError, Param, ParamKey,
+    PortDefinition, PortId, PortSel, State, Supplier, Version,
+};
 pub use pair::{Pair, QueueName};
 
 /// Want of memory.

@@ -2,6 +2,7 @@ mod buffers;
 mod handles;
 mod tunnels;
 
+ghost use Rattle.graph_core.specs.Clients.{IsPortDone};
 ghost use Rattle.graph_core.specs.Entries.{look_of};
 ghost use Rattle.il_graph.specs.HandedIn.{StayHandedIn, IsHandedOut};
 
@@ -41,6 +42,21 @@ fn refused(rt: &impl Abort, alloc: Global, graph: &mut Plain, name: &str) -> Cal
     }
 }
 
+/// The client object, told the event of the note if it is one.
+fn told_of(client: ProgressClient, taken: &Taken) -> ProgressClient
+    requires { IsPortDone client.port }
+    ensures { IsPortDone result.port }
+{
+    match taken {
+        Taken::Told(event) => {
+            let mut next = client;
+            next.told(*event);
+            next
+        }
+        Taken::EmptyDone(_) | Taken::FillDone(_) => client,
+    }
+}
+
 /// The component's oldest note. Its client object, which was told it, is in again, and a header in it is let go.
 fn noted(rt: &impl Abort, graph: &mut Plain, h: Handle) -> Option<Note>
     ensures { StayHandedIn (look_of graph.old) (look_of graph.new) }
@@ -50,12 +66,10 @@ fn noted(rt: &impl Abort, graph: &mut Plain, h: Handle) -> Option<Note>
         Ok(Took::None) => return None,
         Ok(Took::Busy) | Err(_) => panic!(rt; "no client object"),
     };
-    let Call { mut client, taken } = call;
+    let Call { client, taken } = call;
+    let client = told_of(client, &taken);
     let note = match taken {
-        Taken::Told(event) => {
-            client.told(event);
-            Note::Told(event)
-        }
+        Taken::Told(event) => Note::Told(event),
         Taken::EmptyDone(header) => Note::EmptyDone(spent(header)),
         Taken::FillDone(header) => Note::FillDone(spent(header)),
     };
@@ -116,24 +130,6 @@ fn allocated(rt: &impl Abort, alloc: Global, graph: &mut Plain, h: Handle, port:
         Ok(header) => header,
         Err(_) => panic!(rt; "no header"),
     }
-}
-
-#[test]
-fn stale_handle(rt: HostRuntime) -> Result<(), Fail> {
-    let mut graph = Plain::new(rt.alloc(), 8)?;
-    let a = made(&rt, rt.alloc(), &mut graph, "OMX.lab.gain");
-    assert_eq!(rt; graph.free_handle(a), Ok(ProgressClient::new()));
-    let b = made(&rt, rt.alloc(), &mut graph, "OMX.lab.gain");
-    assert_eq!(rt; graph.get_state(a), Err(OmxError::InvalidComponent));
-    assert_eq!(rt; graph.get_state(b), Ok(State::Loaded));
-    assert_eq!(rt;
-        graph.get_state(Handle::none()),
-        Err(OmxError::InvalidComponent)
-    );
-    assert_eq!(rt; graph.handle_at(0), Some(b));
-    assert_eq!(rt; graph.handle_at(1), None);
-    graph.dispose();
-    Ok(())
 }
 
 #[test]
@@ -261,26 +257,6 @@ fn busy_until_the_end(rt: HostRuntime) -> Result<(), Fail> {
     assert_eq!(rt; is_busy(&mut graph, gain), Ok(false));
     assert_eq!(rt; is_busy(&mut graph, gain), Ok(true));
     assert_eq!(rt; graph.progress(gain), Ok(None));
-    graph.dispose();
-    Ok(())
-}
-
-/// Each command but StateSet(Invalid) reserves its places, and 32 are the most that wait.
-#[test]
-fn command_queue_full(rt: HostRuntime) -> Result<(), Fail> {
-    let mut graph = Plain::new(rt.alloc(), 8)?;
-    let gain = made(&rt, rt.alloc(), &mut graph, "OMX.lab.gain");
-    let flush = Command::Flush(PortSel::One(0));
-    for _ in 0..32 {
-        assert_eq!(rt; graph.send_command(gain, flush), Ok(()));
-    }
-    assert_eq!(rt;
-        graph.send_command(gain, flush),
-        Err(OmxError::InsufficientResources)
-    );
-    assert_eq!(rt; graph.run_command(gain), Ok(Acted::Did));
-    assert_eq!(rt; noted(&rt, &mut graph, gain), told(Completion::Flush(0)));
-    assert_eq!(rt; graph.send_command(gain, flush), Ok(()));
     graph.dispose();
     Ok(())
 }

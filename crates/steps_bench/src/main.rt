@@ -2,6 +2,8 @@
 //! `figures`.
 #![tactic(auto)]
 
+ghost use Rattle.graph_core.specs.Clients.{IsPortDone};
+
 use il_graph::Graph;
 use note_queues::{Call, Client, ProgressClient, Taken, Took};
 use omx_types::{
@@ -73,17 +75,32 @@ fn populate(alloc: Global, graph: &mut Sinks, h: Handle, count: u32) -> Result<(
 }
 
 /// Takes the oldest note and gives the client object back.
+/// The client object, told the event of the note. A header in the note is let go.
+fn told_of(client: ProgressClient, taken: Taken) -> ProgressClient
+    requires { IsPortDone client.port }
+    ensures { IsPortDone result.port }
+{
+    match taken {
+        Taken::Told(event) => {
+            let mut next = client;
+            next.told(event);
+            next
+        }
+        Taken::EmptyDone(header) | Taken::FillDone(header) => {
+            header.dispose();
+            client
+        }
+    }
+}
+
 fn take(graph: &mut Sinks, h: Handle) -> Result<(), OmxError> {
     let call = match graph.take_note(h) {
         Ok(Took::Call(call)) => call,
         Ok(Took::None | Took::Busy) => return Ok(()),
         Err(error) => return Err(error),
     };
-    let Call { mut client, taken } = call;
-    match taken {
-        Taken::Told(event) => client.told(event),
-        Taken::EmptyDone(header) | Taken::FillDone(header) => header.dispose(),
-    }
+    let Call { client, taken } = call;
+    let client = told_of(client, taken);
     graph.law_of_worlds();
     graph.end_note(h, client);
     Ok(())

@@ -6,7 +6,7 @@ ghost use Rattle.il_machine.specs.Whole.{Steps};
 ghost use Rattle.graph_core.specs.Entries.{kept, client_named, client_of, look_of};
 ghost use Rattle.graph_core.specs.Clients.{KeepsClients, KeepsAllClients};
 ghost use Rattle.il_graph.specs.HandedIn.{KeepsHandedIn};
-ghost use Rattle.il_graph.specs.Stood.{plainly, wordless, OnRefusal};
+ghost use Rattle.il_graph.specs.Stood.{plainly, file_of, with_file, OnRefusal};
 
 use crate::graph::Graph;
 use note_queues::Client;
@@ -49,7 +49,7 @@ impl<C: Client> Graph<C> {
 
     /// Frees a component, and answers its client object.
     pub fn free_handle(&mut self, h: Handle) -> Result<C, OmxError>
-        ensures step { Steps (kept C.progress self.old) (kept C.progress self.new) (λ w v. FreeHandle w h (wordless result) v) }
+        ensures step { Steps (kept C.progress self.old) (kept C.progress self.new) (λ w v. FreeHandle w h (with_file (file_of h (look_of self.old)) result) v) }
         ensures held { KeepsHandedIn (look_of self.old) (look_of self.new) }
         ensures client { IfOk result (λ client. client_of h self.old ≡ Some client) }
         ensures gone { OnOk result (client_named h self.new ≡ None) }

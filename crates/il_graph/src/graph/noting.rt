@@ -5,8 +5,8 @@ ghost use Rattle.il_machine.specs.Notes.{TakeNote, EndNote};
 ghost use Rattle.il_machine.specs.Whole.{Steps, StepsWhere};
 ghost use Rattle.graph_core.specs.Entries.{kept, client_of, look_of};
 ghost use Rattle.graph_core.specs.Changes.{OnNoNote};
-ghost use Rattle.graph_core.specs.Clients.{KeepsClients, TakesClient, IsOut, WasTold};
-ghost use Rattle.il_graph.specs.Stood.{tookly};
+ghost use Rattle.graph_core.specs.Clients.{KeepsClients, TakesClient, IsOut, IsPortDone, WasTold};
+ghost use Rattle.il_graph.specs.Stood.{tookly, IsTookDone};
 ghost use Rattle.il_graph.specs.HandedIn.{StayHandedIn, KeepsHandedIn, IsTookHandedOut};
 
 use crate::graph::Graph;
@@ -19,6 +19,7 @@ impl<C: Client> Graph<C> {
     pub fn take_note(&mut self, h: Handle) -> Result<Took<C>, OmxError>
         ensures step { Steps (kept C.progress self.old) (kept C.progress self.new) (λ w v. TakeNote w h (tookly result) v) }
         ensures client { IfOk result (λ took. TakesClient h self.old took self.new) }
+        ensures done { IfOk result (λ took. IsTookDone C.progress took) }
         ensures clients { KeepsClients h self.old self.new }
         ensures held { StayHandedIn (look_of self.old) (look_of self.new) }
         ensures handed { IfOk result (λ took. IsTookHandedOut (look_of self.old) (look_of self.new) took) }
@@ -42,7 +43,8 @@ impl<C: Client> Graph<C> {
     /// The component's client object, which was out, is in again. What the call did is said of the worlds in which the object's
     /// progress is that of all events that were taken for the component: so who takes a note tells it the event.
     pub fn end_note(&mut self, h: Handle, client: C)
-        requires { IsOut h (look_of self.old) }
+        requires out { IsOut h (look_of self.old) }
+        requires told { IsPortDone (C.progress client).port }
         ensures step { StepsWhere (kept C.progress self.old) (kept C.progress self.new) (WasTold h (C.progress client)) (λ w v. EndNote w h v) }
         ensures client { client_of h self.new ≡ Some client }
         ensures clients { KeepsClients h self.old self.new }

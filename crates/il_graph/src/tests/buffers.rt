@@ -1,4 +1,4 @@
-//! Headers of a client: they stand while a port is disabled and enabled, come back from a flush, and go to no other component.
+//! Headers of a client come back from a flush, each with its memory.
 
 ghost use Rattle.std.specs.Prelude.{◌≢◌};
 ghost use Rattle.graph_core.specs.Entries.{look_of};
@@ -6,12 +6,12 @@ ghost use Rattle.header_core.specs.BufferHeader.{BufferHeader};
 ghost use Rattle.graph_core.specs.Changes.{IsHandedIn};
 ghost use Rattle.il_graph.specs.HandedIn.{StayHandedIn, IsHandedOut, KeepsOthersHandedIn};
 
-use super::{Plain, allocated, key, made, noted, order, reach, spent, told};
+use super::{Plain, key, made, noted, order, reach, told};
 use header_core::Header;
-use il_machine::{Acted, Mode, PortView};
+use il_machine::Acted;
 use note_queues::{Call, Taken, Took};
 use omx_types::{
-    Command, Completion, Format, Handle, Note, OmxError, Param, PortDefinition, PortSel, State,
+    Command, Completion, Format, Handle, OmxError, Param, PortDefinition, PortSel, State,
 };
 use std::alloc::Global;
 use std::process::Abort;
@@ -22,35 +22,6 @@ struct Sink {
     h: Handle,
     x: Header,
     y: Header,
-}
-
-fn running_sink(rt: &impl Abort, alloc: Global, graph: &mut Plain) -> Sink
-    ensures x { IsHandedIn result.x (look_of graph.new) }
-    ensures y { IsHandedIn result.y (look_of graph.new) }
-    ensures apart { result.y.held.number ≢ result.x.held.number }
-{
-    let h = made(rt, alloc, graph, "OMX.lab.sink.wav");
-    order(rt, graph, h, Command::StateSet(State::Idle));
-    let x = allocated(rt, alloc, graph, h, 0);
-    assert_eq!(rt; noted(rt, graph, h), None);
-    let y = allocated(rt, alloc, graph, h, 0);
-    assert_eq!(rt; noted(rt, graph, h), told(Completion::State(State::Idle)));
-    reach(rt, graph, h, State::Executing);
-    Sink { h, x, y }
-}
-
-/// The header is unmade. Its memory was the graph's.
-fn freed(rt: &impl Abort, graph: &mut Plain, h: Handle, header: Header)
-    requires { IsHandedIn header (look_of graph.old) }
-    ensures { KeepsOthersHandedIn header (look_of graph.old) (look_of graph.new) }
-{
-    match graph.free_buffer(h, 0, header) {
-        Ok(memory) => assert!(rt; memory.is_none()),
-        Err((_, header)) => {
-            header.dispose();
-            panic!(rt; "not freed")
-        }
-    }
 }
 
 fn emptied(rt: &impl Abort, graph: &mut Plain, h: Handle, header: Header)
@@ -64,58 +35,6 @@ fn emptied(rt: &impl Abort, graph: &mut Plain, h: Handle, header: Header)
             panic!(rt; "not taken in")
         }
     }
-}
-
-#[test]
-fn disable_and_enable_while_executing(rt: HostRuntime) -> Result<(), Fail> {
-    let mut graph = Plain::new(rt.alloc(), 8)?;
-    let Sink { h, x, y } = running_sink(&rt, rt.alloc(), &mut graph);
-    order(&rt, &mut graph, h, Command::PortDisable(PortSel::One(0)));
-    assert_eq!(rt; noted(&rt, &mut graph, h), None);
-    freed(&rt, &mut graph, h, x);
-    assert_eq!(rt; noted(&rt, &mut graph, h), None);
-    freed(&rt, &mut graph, h, y);
-    assert_eq!(rt; noted(&rt, &mut graph, h), told(Completion::Disable(0)));
-    order(&rt, &mut graph, h, Command::PortEnable(PortSel::One(0)));
-    let view = PortView {
-        input: true,
-        enabled: true,
-        mode: Mode::Enabling,
-        flushing: false,
-        made: 0,
-        count: 2,
-    };
-    assert_eq!(rt; graph.port_view(h, 0), Ok(view));
-    allocated(&rt, rt.alloc(), &mut graph, h, 0).dispose();
-    allocated(&rt, rt.alloc(), &mut graph, h, 0).dispose();
-    assert_eq!(rt; noted(&rt, &mut graph, h), told(Completion::Enable(0)));
-    graph.dispose();
-    Ok(())
-}
-
-/// The mark that a header got goes with what it carried, and no event tells it.
-#[test]
-fn mark_lost_with_a_flush(rt: HostRuntime) -> Result<(), Fail> {
-    let mut graph = Plain::new(rt.alloc(), 8)?;
-    let Sink { h, x, y } = running_sink(&rt, rt.alloc(), &mut graph);
-    y.dispose();
-    let id = x.id();
-    emptied(&rt, &mut graph, h, x);
-    let mark = Command::MarkBuffer {
-        port: 0,
-        target: h,
-        value: 7,
-    };
-    order(&rt, &mut graph, h, mark);
-    assert_eq!(rt; noted(&rt, &mut graph, h), told(Completion::Mark(0)));
-    order(&rt, &mut graph, h, Command::Flush(PortSel::One(0)));
-    assert_eq!(rt; noted(&rt, &mut graph, h), None);
-    assert_eq!(rt; graph.hand_back(h, 0), Ok(Acted::Did));
-    assert_eq!(rt; noted(&rt, &mut graph, h), Some(Note::EmptyDone(id)));
-    assert_eq!(rt; noted(&rt, &mut graph, h), told(Completion::Flush(0)));
-    assert_eq!(rt; noted(&rt, &mut graph, h), None);
-    graph.dispose();
-    Ok(())
 }
 
 /// The header comes back from a call that refuses it by the error.
@@ -176,21 +95,6 @@ pub fn unfilled(
             header
         }
     }
-}
-
-#[test]
-fn header_of_another_component(rt: HostRuntime) -> Result<(), Fail> {
-    let mut graph = Plain::new(rt.alloc(), 8)?;
-    let a = made(&rt, rt.alloc(), &mut graph, "OMX.lab.gain");
-    let b = made(&rt, rt.alloc(), &mut graph, "OMX.lab.gain");
-    order(&rt, &mut graph, a, Command::StateSet(State::Idle));
-    let x = allocated(&rt, rt.alloc(), &mut graph, a, 0);
-    let id = x.id();
-    let x = unemptied(&rt, &mut graph, b, x, OmxError::BadParameter);
-    let x = unfreed(&rt, &mut graph, b, x, OmxError::BadParameter);
-    assert_eq!(rt; spent(x), id);
-    graph.dispose();
-    Ok(())
 }
 
 /// A header over the client's bytes.

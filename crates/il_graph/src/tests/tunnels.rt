@@ -1,4 +1,4 @@
-//! The header of a tunnel goes over and back, by hand.
+//! The header of a tunnel is made and unmade by the end that supplies it.
 
 use super::{Plain, key, made, noted, order, reach, told};
 use il_machine::{Acted, Why};
@@ -54,34 +54,6 @@ fn supplied(rt: &impl Abort, alloc: Global, graph: &mut Plain) -> (Handle, Handl
     assert_eq!(rt; noted(rt, graph, a), told(Completion::State(State::Idle)));
     assert_eq!(rt; noted(rt, graph, b), told(Completion::State(State::Idle)));
     (a, b)
-}
-
-/// The one header goes over once, and neither comes back by the end that supplies it nor before it was worked on.
-fn goes_over(rt: &impl Abort, graph: &mut Plain, a: Handle, b: Handle) {
-    assert_eq!(rt; graph.hand_over(a, 0), Ok(Acted::Idle(Why::NotSupplier)));
-    assert_eq!(rt; graph.hand_over(b, 0), Ok(Acted::Did));
-    assert_eq!(rt; graph.hand_over(b, 0), Ok(Acted::Idle(Why::NoHeader)));
-    assert_eq!(rt; graph.hand_back(b, 0), Ok(Acted::Idle(Why::IsSupplier)));
-    assert_eq!(rt; graph.hand_back(a, 0), Ok(Acted::Idle(Why::NoHeader)));
-}
-
-#[test]
-fn input_supplies_the_tunnel(rt: HostRuntime) -> Result<(), Fail> {
-    let idle = told(Completion::State(State::Idle));
-    let mut graph = Plain::new(rt.alloc(), 8)?;
-    let (a, b) = supplied(&rt, rt.alloc(), &mut graph);
-    reach(&rt, &mut graph, a, State::Executing);
-    reach(&rt, &mut graph, b, State::Executing);
-    goes_over(&rt, &mut graph, a, b);
-    order(&rt, &mut graph, a, Command::StateSet(State::Idle));
-    order(&rt, &mut graph, b, Command::StateSet(State::Idle));
-    assert_eq!(rt; noted(&rt, &mut graph, a), None);
-    assert_eq!(rt; noted(&rt, &mut graph, b), None);
-    assert_eq!(rt; graph.hand_back(a, 0), Ok(Acted::Did));
-    assert_eq!(rt; noted(&rt, &mut graph, a), idle);
-    assert_eq!(rt; noted(&rt, &mut graph, b), idle);
-    graph.dispose();
-    Ok(())
 }
 
 /// The end that supplies a tunnel unmakes its header on the way to Loaded, which then is reached.

@@ -6,14 +6,14 @@ use Rattle.il_graph.proofs.HandedIn.{closes_over}
 use Rattle.il_graph.proofs.graph.Graph.end_note.Goals as goal
 
 pub unreachable-requires : goal.unreachable-requires
-unreachable-requires g c = out_named g.C.Client.progress c.self.inside.core c.args.h (rw (← c.self.view_is) at c.requires) c.in_default.ensures.place
+unreachable-requires g c = out_named g.C.Client.progress c.self.inside.core c.args.h (rw (← c.self.view_is) at c.requires.out) c.in_default.ensures.place
 
-pub put_client-requires : goal.put_client-requires
-put_client-requires g c =
+pub put_client-requires-clause-out : goal.put_client-requires-clause-out
+put_client-requires-clause-out g c =
     let p = g.C.Client.progress in
     let G = c.self.inside.core in
     let F : Found p G c.args.h c.in-Some.place = found p G c.args.h c.in-Some.place c.in-Some.ensures.place c.in-Some.ensures.within in
-    out_at p G c.args.h c.in-Some.place F (rw (← c.self.view_is) at c.requires)
+    out_at p G c.args.h c.in-Some.place F (rw (← c.self.view_is) at c.requires.out)
 
 pub returns-clause-step : goal.returns-clause-step
 returns-clause-step g c =

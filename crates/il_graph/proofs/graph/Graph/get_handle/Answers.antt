@@ -2,7 +2,8 @@ use Rattle.std.proofs.Common.{sym, ◌∙◌, ap, Ok, refl}
 use Rattle.il_machine.specs.Lists.{first_of_these}
 use Rattle.il_machine.specs.Components.{name_refusals}
 use Rattle.graph_core.specs.Entries.{kept}
-use Rattle.il_graph.proofs.Naming.{kind_sized, found_kind, found_error, name_refused, full_refused, memory_wanted, made}
+use Rattle.machine_laws.proofs.Coming.{kind_sized}
+use Rattle.il_graph.proofs.Naming.{found_kind, found_error, name_refused, full_refused, memory_wanted, made}
 use Rattle.graph_core.proofs.Clients.{in_now}
 use Rattle.il_graph.proofs.Clients.{same_clients}
 use Rattle.il_graph.proofs.HandedIn.{keeps_over, keeps_alike, keeps_same}

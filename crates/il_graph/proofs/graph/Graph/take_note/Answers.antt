@@ -7,6 +7,7 @@ use Rattle.note_queues.specs.declared.taken.Took.TheVariants as tooks
 use Rattle.il_graph.proofs.Calling.{Found, found, not_found}
 use Rattle.il_graph.proofs.Taking.{taken_at, none_taken_at}
 use Rattle.il_graph.proofs.Clients.{client_taken, others_kept}
+use Rattle.il_graph.proofs.PortsDone.{done_taken}
 use Rattle.il_graph.proofs.HandedIn.{stays_over, stays_same, took_out}
 use Rattle.il_graph.proofs.graph.Graph.take_note.Goals as goal
 
@@ -30,6 +31,14 @@ returns-in-Call-clause-client g c =
     let G = c.self.inside.core in
     let F : Found p G c.args.h c.in-Some.place = found p G c.args.h c.in-Some.place c.in-Some.ensures.place c.in-Some.ensures.within in
     rw (← c.self.view_is) (client_taken p G c.take.new.self c.close_out.new.self c.args.h c.in-Some.place F c.close_out.ensures.clients (tooks.Call c.in-Call.call) (rw c.in-Call.is at c.take.ensures.client))
+
+pub returns-in-Call-clause-done : goal.returns-in-Call-clause-done
+returns-in-Call-clause-done g c =
+    let p = g.C.Client.progress in
+    let G = c.self.inside.core in
+    let F : Found p G c.args.h c.in-Some.place = found p G c.args.h c.in-Some.place c.in-Some.ensures.place c.in-Some.ensures.within in
+    let t = client_taken p G c.take.new.self c.close_out.new.self c.args.h c.in-Some.place F c.close_out.ensures.clients (tooks.Call c.in-Call.call) (rw c.in-Call.is at c.take.ensures.client) in
+    done_taken p G c.close_out.new.self c.args.h (tooks.Call c.in-Call.call) c.law_of_worlds.ensures.one c.law_of_worlds.ensures.told t
 
 pub returns-in-Call-clause-clients : goal.returns-in-Call-clause-clients
 returns-in-Call-clause-clients g c =
