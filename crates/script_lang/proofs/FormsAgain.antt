@@ -6,7 +6,6 @@ use Rattle.std.proofs.lemmas.Grind.{common_steps}
 use Rattle.line_text.specs.Numbers.{hex_digit, hex_of}
 use Rattle.omx_types.specs.declared.format.Format.TheVariants as formats
 use Rattle.act_text.specs.Acts.{act_words}
-use Rattle.act_text.specs.Reading.{name_of, port_of}
 use Rattle.act_text.specs.declared.name.PortName.{PortName}
 use Rattle.act_text.specs.declared.act.TextAct.{TextAct}
 use Rattle.act_text.specs.declared.act.TextAct.TheVariants as acts

@@ -1,5 +1,5 @@
 -- A text comes to one outcome.
-use Rattle.std.proofs.Common.{◌≡◌, ◌⊎◌, inl, inr, ℕ, ◌+◌, ◌<◌, ◌≤◌, IsTrue, IsFalse, if◌then◌else◌, List, [], ◌∷◌, refl, sym, ap, ◌∙◌, subst, arith, Option, Some, None, Result, codes}
+use Rattle.std.proofs.Common.{◌≡◌, ◌⊎◌, inl, inr, ℕ, IsTrue, IsFalse, if◌then◌else◌, List, refl, sym, ap, ◌∙◌, Option, Some, None, Result, codes}
 use Rattle.std.specs.Fmt.{decimal}
 use Rattle.std.proofs.lemmas.Bool.{both_ways}
 use Rattle.act_text.specs.declared.name.PortName.{PortName}
@@ -8,9 +8,8 @@ use Rattle.act_text.specs.Reading.{name_of, port_of}
 use Rattle.line_text.specs.Words.{words_of}
 use Rattle.omx_types.specs.declared.fault.ScriptWhy.TheVariants as whys
 use Rattle.script_lang.specs.Known.{is_known, is_new}
-use Rattle.line_text.specs.Lines.{lines_of}
 use Rattle.script_lang.specs.ReadForms.{form_of, act_form}
-use Rattle.script_lang.specs.Scripts.{Before, WordsSay, Says, TraceComes, ReadsAs, after, nothing_before, IsUnits, IsFormOf, AreNoForm, units_of, with_units, with_act}
+use Rattle.script_lang.specs.Scripts.{Before, WordsSay, Says, TraceComes, ReadsAs, after, nothing_before, IsUnits, IsFormOf, AreNoForm, units_of}
 use Rattle.line_text.specs.Scripts.{is_skipped}
 use Rattle.script_lang.specs.declared.form.TraceForm.{TraceForm}
 use Rattle.script_lang.specs.declared.saying.Said.{Said}

@@ -1,6 +1,5 @@
 -- A text comes to one outcome as a play script.
-use Rattle.std.proofs.Common.{◌≡◌, ◌⊎◌, inl, inr, ℕ, IsTrue, IsFalse, if◌then◌else◌, List, [], ◌∷◌, get_or, refl, sym, ap, ◌∙◌, Option, Some, None, Result, codes}
-use Rattle.std.specs.Fmt.{decimal}
+use Rattle.std.proofs.Common.{◌≡◌, ◌⊎◌, inl, inr, ℕ, IsTrue, IsFalse, if◌then◌else◌, List, [], get_or, refl, sym, ap, ◌∙◌, Option, Some, None, Result, codes}
 use Rattle.std.proofs.lemmas.Bool.{both_ways}
 use Rattle.line_text.specs.Words.{words_of}
 use Rattle.line_text.specs.Scripts.{is_skipped}

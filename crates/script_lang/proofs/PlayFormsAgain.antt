@@ -11,7 +11,7 @@ use Rattle.std.specs.Fmt.{decimal}
 use Rattle.std.specs.List.{AllByRecursion}
 use Rattle.std.proofs.lemmas.Grind.{common_steps}
 use Rattle.std.proofs.lemmas.List.{length-map, append_assoc, append-nil, drop_all}
-use Rattle.act_text.specs.Reading.{name_of, port_of}
+use Rattle.act_text.specs.Reading.{name_of}
 use Rattle.act_text.proofs.ActsAgain.{small-again}
 use Rattle.act_text.proofs.Dots.{name_of-name, port_of-port}
 use Rattle.script_lang.specs.FileNames.{IsFileName}

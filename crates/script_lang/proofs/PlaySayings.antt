@@ -1,11 +1,11 @@
 -- What a line of a play says, and what it comes to.
-use Rattle.std.proofs.Common.{◌≡◌, ℕ, ◌<◌, ◌≤◌, List, [], ◌∷◌, length, refl, sym, ap, ◌∙◌, arith, inl, inr, IsTrue, Option, Some, None, IfNone, Ok, Err}
+use Rattle.std.proofs.Common.{◌≡◌, ℕ, ◌<◌, ◌≤◌, List, ◌∷◌, length, refl, ap, ◌∙◌, arith, inl, inr, IsTrue, Option, Some, None, IfNone, Ok, Err}
 use Rattle.omx_types.specs.declared.fault.ScriptWhy.{ScriptWhy}
 use Rattle.omx_types.specs.declared.fault.ScriptWhy.TheVariants as whys
 use Rattle.script_lang.specs.PlayKnown.{has_place}
 use Rattle.script_lang.specs.LineByLine.{ComeTo, GoesOn, fault_at}
 use Rattle.script_lang.specs.Scripts.{units_of}
-use Rattle.script_lang.specs.PlayScripts.{PlayBefore, PlaySays, PlayComes, IsPlayUnits, IsPlayFormOf, AreNoPlayForm, with_play_units, with_form}
+use Rattle.script_lang.specs.PlayScripts.{PlayBefore, PlaySays, PlayComes, IsPlayUnits, AreNoPlayForm, with_play_units, with_form}
 use Rattle.script_lang.specs.declared.play_form.PlayForm.{PlayForm}
 use Rattle.script_lang.specs.declared.play_saying.PlaySaid.TheVariants.{Nothing, Units, Form, Fault}
 use Rattle.script_lang.proofs.FormsAgain.{units-again}

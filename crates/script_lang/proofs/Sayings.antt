@@ -1,8 +1,5 @@
 -- What a line says, and what it comes to.
-use Rattle.std.proofs.Common.{◌≡◌, ℕ, ◌<◌, ◌≤◌, true, false, List, [], ◌∷◌, length, refl, sym, ap, ◌∙◌, subst, arith, rules, Option, Some, None, IfNone, Ok, Err, codes}
-use Rattle.std.specs.Str.{bytes_eq}
-use Rattle.std.proofs.lemmas.Slice.Eq.{bytes_eq-Decides}
-use Rattle.std.proofs.lemmas.Grind.{common_steps}
+use Rattle.std.proofs.Common.{◌≡◌, ℕ, ◌<◌, ◌≤◌, List, ◌∷◌, length, refl, ap, ◌∙◌, subst, arith, Option, Some, None, IfNone, Ok, Err}
 use Rattle.omx_types.specs.declared.fault.ScriptWhy.{ScriptWhy}
 use Rattle.script_lang.specs.ReadForms.{form_of}
 use Rattle.script_lang.specs.LineByLine.{ComeTo, GoesOn, fault_at}

@@ -1,5 +1,5 @@
 -- Names of files in a play script.
-use Rattle.std.specs.Prelude.{ℕ, ◌<◌, ◌≤◌, Bool, nat_lt, List, length, IsTrue, IsUtf8}
+use Rattle.std.specs.Prelude.{ℕ, ◌≤◌, Bool, nat_lt, List, length, IsTrue, IsUtf8}
 use Rattle.std.specs.List.{list_all}
 
 abbrev pub is_visible : ℕ → Bool

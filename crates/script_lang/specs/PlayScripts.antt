@@ -8,7 +8,6 @@ use Rattle.script_lang.specs.LineByLine.{AreRead, ForFault, fault_at}
 use Rattle.script_lang.specs.PlayForms.{play_words, IsPlayForm}
 use Rattle.script_lang.specs.PlayKnown.{is_declared, is_free, has_place}
 use Rattle.script_lang.specs.Scripts.{IsScript, IsRefused}
-use Rattle.script_lang.specs.declared.play_line.PartForm.{PartForm}
 use Rattle.script_lang.specs.declared.play_line.PartLine.{PartLine}
 use Rattle.script_lang.specs.declared.play_line.LinkLine.{LinkLine}
 use Rattle.script_lang.specs.declared.play_form.PlayForm.{PlayForm}

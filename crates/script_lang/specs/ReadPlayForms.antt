@@ -1,5 +1,5 @@
 -- The form of a play that words are, by their number and their first word.
-use Rattle.std.specs.Prelude.{◌≡◌, ℕ, Bool, nat_le, nat_eq, ◌&&◌, if◌then◌else◌, List, [], ◌∷◌, Option, Some, None, length, option_map, codes}
+use Rattle.std.specs.Prelude.{◌≡◌, ℕ, nat_le, nat_eq, ◌&&◌, if◌then◌else◌, List, [], ◌∷◌, Option, Some, None, length, option_map, codes}
 use Rattle.std.specs.Str.{bytes_eq}
 use Rattle.line_text.specs.ReadNumbers.{small_number}
 use Rattle.act_text.specs.Reading.{name_of, port_of}

@@ -1,5 +1,5 @@
 -- What a trace script is, line by line, and its first fault.
-use Rattle.std.specs.Prelude.{◌≡◌, ◌≢◌, ℕ, ◌+◌, ◌<◌, ◌≤◌, Bool, false, true, List, [], ◌∷◌, ◌++◌, Option, Some, None, unwrap_or, Result, Ok, Err, ◌⊎◌, ◌==◌, ◌&&◌, nat_le, if◌then◌else◌, codes, length, IsTrue, IsFalse, IsUtf8}
+use Rattle.std.specs.Prelude.{◌≡◌, ℕ, ◌≤◌, Bool, false, true, List, [], ◌∷◌, ◌++◌, Option, Some, None, unwrap_or, Result, Ok, Err, ◌⊎◌, nat_le, if◌then◌else◌, codes, IsTrue, IsFalse, IsUtf8}
 use Rattle.std.specs.Fmt.{decimal}
 use Rattle.line_text.specs.Words.{words_of}
 use Rattle.line_text.specs.Scripts.{is_skipped}
@@ -7,11 +7,9 @@ use Rattle.script_lang.specs.LineByLine.{AreRead, ForFault, fault_at}
 use Rattle.line_text.specs.ReadNumbers.{small_number}
 use Rattle.line_text.specs.Lists.{spaced}
 use Rattle.std.specs.Str.{bytes_eq}
-use Rattle.omx_types.specs.declared.fault.ScriptWhy.{ScriptWhy}
 use Rattle.omx_types.specs.declared.fault.ScriptWhy.TheVariants as whys
 use Rattle.script_lang.specs.Forms.{form_words, IsForm}
 use Rattle.script_lang.specs.Known.{is_known, is_new}
-use Rattle.line_text.specs.Lines.{lines_of}
 use Rattle.script_lang.specs.declared.form.TraceForm.{TraceForm}
 use Rattle.script_lang.specs.declared.form.TraceLine.{TraceLine}
 use Rattle.script_lang.specs.declared.saying.Said.{Said}
@@ -20,7 +18,6 @@ use Rattle.script_lang.specs.declared.saying.Reading.{Reading}
 use Rattle.script_lang.specs.declared.script.Script.{Script}
 use Rattle.script_lang.specs.declared.script.Script.TheVariants.{Play, Trace}
 use Rattle.script_lang.specs.declared.script.ScriptError.{ScriptError}
-use Rattle.script_lang.specs.declared.script.ScriptError.TheVariants as Errors
 use Rattle.script_lang.specs.declared.script.ScriptFault.{ScriptFault}
 
 -- what the earlier lines said

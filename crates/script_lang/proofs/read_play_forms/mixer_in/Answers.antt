@@ -1,4 +1,4 @@
-use Rattle.std.proofs.Common.{ℕ, List, Option, refl, sym, ap, ◌∙◌}
+use Rattle.std.proofs.Common.{ℕ, Option, refl, sym, ap, ◌∙◌}
 use Rattle.act_text.specs.Reading.{name_of}
 use Rattle.line_text.specs.Lists.{texts}
 use Rattle.script_lang.specs.ReadPlayForms.{weights_of, mixer_with, part_with}

@@ -1,6 +1,6 @@
 use Rattle.std.proofs.Common.{sym, subst, List}
 use Rattle.script_lang.specs.LineByLine.{GoesOn, IsEnded}
-use Rattle.script_lang.specs.Scripts.{Before, Says, TraceComes, seen}
+use Rattle.script_lang.specs.Scripts.{Says, TraceComes, seen}
 use Rattle.script_lang.specs.declared.form.TraceLine.{TraceLine}
 use Rattle.script_lang.specs.declared.saying.Said.{Said}
 use Rattle.script_lang.specs.declared.script.ScriptError.{ScriptError}
