@@ -11,7 +11,7 @@ use Rattle.il_machine.specs.declared.port.Port.{Port}
 use Rattle.il_machine.specs.States.{is_down}
 use Rattle.il_machine.specs.Room.{is_by_client}
 use Rattle.il_machine.specs.World.{Component, World, port_of, with_port, told}
-use Rattle.il_machine.specs.Due.{Thing, Transition, Flush, PortMode, WaitingMark, reached, completed_for, lost_by, arrived_at, arrived, mode_completion, all_told, transition_happened, at_port, flush_happened, mode_happened, mark_happened, happened, Happens, HappenTimes, ClosesTo}
+use Rattle.il_machine.specs.Due.{Thing, Transition, Flush, PortMode, WaitingMark, reached, completed_for, restarted, with_part, all_given_back, lost_by, arrived_at, arrived, mode_completion, all_told, transition_happened, at_port, flush_happened, mode_happened, mark_happened, happened, Happens, HappenTimes, ClosesTo}
 use Rattle.machine_laws.proofs.Finding.{either}
 
 -- a component's handle, and whether its client object is out
@@ -46,15 +46,17 @@ client_told p c = either (is_by_client p.cause) (λ t. rw t refl) (λ f. rw f re
 loss_told : (p : Pending) (c : Component) → seat (lost_by p c) ≡ seat c
 loss_told p c = either (c.loss_mark || not (is_by_client p.cause)) (λ t. rw t refl) (λ f. rw f refl)
 
-arrived_seat : (target : State) (p : Pending) (c : Component) → seat (arrived_at target p c) ≡ seat c
-arrived_seat Idle p c = either (is_down c.state)
+arrived_seat : (number : ℕ) (target : State) (p : Pending) (c : Component) → seat (arrived_at number target p c) ≡ seat c
+arrived_seat number Idle p c = either (is_down c.state)
     (λ t. rw t refl)
-    (λ f. rw f (loss_told p (completed_for p (reached p c)) ∙ client_told p (reached p c)))
-arrived_seat Loaded p c = client_told p (reached p c)
-arrived_seat Invalid p c = refl
-arrived_seat Executing p c = refl
-arrived_seat Pause p c = refl
-arrived_seat WaitForResources p c = refl
+    (λ f.
+    let r : Component = with_part (restarted c) (reached p c) in
+    rw f (loss_told p (completed_for p r) ∙ client_told p r))
+arrived_seat number Loaded p c = client_told p (all_given_back (reached p c))
+arrived_seat number Invalid p c = refl
+arrived_seat number Executing p c = refl
+arrived_seat number Pause p c = refl
+arrived_seat number WaitForResources p c = refl
 
 told_seat : (events : List Event) (c : Component) → seat (all_told events c) ≡ seat c
 told_seat [] c = refl
@@ -68,7 +70,7 @@ at_port_kept (Some p) change w k = k p
 
 transition_kept : (i : ℕ) (c : Component) (o : Option Pending) (w : World) → slice_get w.components i ≡ Some c → IsKept w (transition_happened i c o w)
 transition_kept i c None w at = kept_itself w
-transition_kept i c (Some p) w at = record { seats = set_seat w.components i c (arrived p c) at (arrived_seat p.target p c); given = refl; numbered = refl }
+transition_kept i c (Some p) w at = record { seats = set_seat w.components i c (arrived w.waits p c) at (arrived_seat w.waits p.target p c); given = refl; numbered = refl }
 
 happened_kept : (i : ℕ) (c : Component) (thing : Thing) (w : World) → slice_get w.components i ≡ Some c → IsKept w (happened i c thing w)
 happened_kept i c Transition w at = transition_kept i c c.pending w at

@@ -1,7 +1,8 @@
 -- StateSet(Invalid) isn't refused where no note is queued, and makes the component Invalid.
-use Rattle.std.proofs.Common.{◌≡◌, inl, inr, ℕ, zero, suc, true, false, List, [], ◌∷◌, map, length, set, slice_get, Option, Some, None, option_map, All, MatchOption, Result, Ok, Err, refl, sym, ◌∙◌, ap, subst, eqb-true, eq-eqb, arith}
-use Rattle.std.specs.Prelude.{nat_eq, unwrap_or, option_and_then, sum_by}
+use Rattle.std.proofs.Common.{◌≡◌, inl, inr, ℕ, zero, suc, true, false, ◌+◌, ◌-◌, ◌≤◌, List, [], ◌∷◌, length, set, slice_get, Option, Some, None, option_map, All, MatchOption, Result, Ok, Err, refl, sym, ◌∙◌, ap, subst, eqb-true, eq-eqb, arith}
+use Rattle.std.specs.Prelude.{nat_eq, unwrap_or, option_and_then}
 use Rattle.std.proofs.lemmas.Bool.{and_parts}
+use Rattle.std.proofs.lemmas.Bool.Decides.{nat_tests}
 use Rattle.omx_types.specs.declared.handle.Handle.{Handle}
 use Rattle.omx_types.specs.declared.state.State.{State}
 use Rattle.omx_types.specs.declared.state.State.TheVariants.{Invalid, Loaded, Idle, Executing, Pause, WaitForResources}
@@ -9,19 +10,20 @@ use Rattle.omx_types.specs.declared.command.Command.TheVariants.{StateSet}
 use Rattle.omx_types.specs.declared.command.Note.{Note}
 use Rattle.omx_types.specs.declared.error.OmxError.{OmxError}
 use Rattle.omx_types.specs.declared.error.OmxError.TheVariants as errors
-use Rattle.il_machine.specs.declared.port.PortState.{PortState}
 use Rattle.il_machine.specs.States.{is_invalid}
-use Rattle.il_machine.specs.World.{Component, World, number_of, place_of, is_at, same_handle, with_component}
+use Rattle.il_machine.specs.World.{Component, Picked, Work, World, number_of, place_of, is_at, same_handle, with_component}
 use Rattle.il_machine.specs.Look.{Look, look}
 use Rattle.il_machine.specs.Answers.{component_named, looked, Answers}
 use Rattle.il_machine.specs.Components.{state_answer}
-use Rattle.il_machine.specs.Commands.{SendCommand, send_refusal, sent, invalidated, at_rest}
-use Rattle.il_machine.specs.Room.{port_places, room}
+use Rattle.il_machine.specs.Commands.{SendCommand, send_refusal, sent, invalidated}
+use Rattle.il_machine.specs.Room.{used, events_in, work_places, room}
 use Rattle.il_machine.specs.Due.{ClosesTo}
 use Rattle.il_machine.specs.Acts as acts
-use Rattle.il_machine.specs.Sound.{Sound, AreRising}
+use Rattle.il_machine.specs.Sound.{Sound, IsSound, IsConnected, ArePicked, AreRising}
 use Rattle.il_machine.specs.Whole.{Kept, Stands}
 use Rattle.il_machine.proofs.Places.{is_first_place, passes_at}
+use Rattle.param_store.proofs.Weights.{few_ports}
+use Rattle.il_component.proofs.Queueing.{used_invalidated}
 use Rattle.machine_laws.proofs.Every.{at_place, from_places, at_set}
 use Rattle.machine_laws.proofs.Finding.{either}
 use Rattle.machine_laws.proofs.Keys.{there_is}
@@ -102,18 +104,42 @@ ended_already h k w state B S e t = ended_when h k w B S (λ c n. was_invalid (c
 
 -- ---- the room for the event
 
-ports_rest : (ps : List PortState) → sum_by port_places (map at_rest ps) ≡ 0
-ports_rest [] = refl
-ports_rest (p ∷ ps) = ports_rest ps
+picked_few : (from ports : ℕ) (xs : List Picked) → ArePicked from xs ports → length xs ≤ ports - from
+picked_few from ports [] P = omega arith
+picked_few from ports (x ∷ xs) P =
+    let a = P.0 in
+    let b = P.1 in
+    let k = picked_few (suc x.port) ports xs P.2 in
+    omega (arith, a, b, k)
 
-room_left : (c : Component) (ns : List Note) → c.notes ≡ ns → length ns ≡ 0 → room (invalidated c) ≡ 256
-room_left c [] e l = let p = ports_rest c.ports in rw (e, p) refl
-room_left c (n ∷ ns) e l = absurd cc
+-- a work has no more headers than its component has ports, which are nine at most
+work_few : (c : Component) (o : Option Work) → IsSound c → ((work : Work) → o ≡ Some work → ArePicked 0 work.headers (length c.ports)) → work_places o ≤ 11
+work_few c None S P = omega arith
+work_few c (Some work) S P =
+    let k = picked_few 0 (length c.ports) work.headers (P work refl) in
+    let n = S.ports in
+    let f = few_ports c.settings.kind S.whole.sized in
+    omega (arith, k, n, f)
 
-sendable : (l : Look) (c : Component) → is_invalid c.state ≡ false → length c.notes ≡ 0 → send_refusal l c (StateSet Invalid) ≡ None
-sendable l c i e =
-    let r = room_left c c.notes refl e in
+some_left : (taken : ℕ) → taken ≤ 11 → nat_eq (256 - taken) 0 ≡ false
+some_left taken h = grind (arith, nat_tests)
+
+room_left : (c : Component) (ns : List Note) → c.notes ≡ ns → length ns ≡ 0 → work_places c.work ≤ 11 → nat_eq (room (invalidated c)) 0 ≡ false
+room_left c [] e l p =
+    let u = used_invalidated c in
+    let n : events_in c.notes ≡ 0 = ap events_in e in
+    some_left (used (invalidated c)) (omega (arith, u, n, p))
+room_left c (n ∷ ns) e l p = absurd cc
+
+sendable : (l : Look) (c : Component) → is_invalid c.state ≡ false → length c.notes ≡ 0 → work_places c.work ≤ 11 → send_refusal l c (StateSet Invalid) ≡ None
+sendable l c i e p =
+    let r = room_left c c.notes refl e p in
     rw (i, r) refl
+
+work_there : (w : World) (i : ℕ) (c : Component) → Sound w → slice_get w.components i ≡ Some c → work_places c.work ≤ 11
+work_there w i c S at =
+    let K = at_place (IsConnected w) w.components i c S.connected at in
+    work_few c c.work (at_place IsSound w.components i c S.components at) (λ work e. (K.work work e).rising)
 
 left_none : (h : Handle) (w : World) (c : Component) → component_named h w.components ≡ Some c → notes_left h (look w) ≡ 0 → length c.notes ≡ 0
 left_none h w c n e = sym (ap (λ (o : Option Component). unwrap_or (option_map (λ (x : Component). length x.notes) o) 0) n) ∙ e
@@ -126,7 +152,7 @@ accepted : {T : Type 0} (o : Option OmxError) (w v : World) (P : T → Type 0) {
 accepted None w v P a = a
 accepted (Some error) w v P a = let e = a.0 in absurd cc
 
-module _ (w : World) (h : Handle) (state : State) (error : OmxError) (v : World) (none : notes_left h (look w) ≡ 0) (e : state_answer h (look w) ≡ Ok state) (n : is_invalid state ≡ false) where
+module _ (w : World) (h : Handle) (state : State) (error : OmxError) (v : World) (S : Sound w) (none : notes_left h (look w) ≡ 0) (e : state_answer h (look w) ≡ Ok state) (n : is_invalid state ≡ false) where
   sent_at : (o : Option ℕ) → place_of h w.components ≡ o
       → MatchOption o (Path (Result (Unit {0}) OmxError) (Err error) (Err errors.InvalidComponent) × (v ≡ w)) (λ i. MatchOption (slice_get w.components i) ⊥ (λ c. Answers {T = Unit {0}} (send_refusal (look w) c (StateSet Invalid)) (Err error) w v (λ _. ClosesTo (with_component i (sent (StateSet Invalid) c) w) v)))
       → ⊥
@@ -139,7 +165,7 @@ module _ (w : World) (h : Handle) (state : State) (error : OmxError) (v : World)
       let c = x.0 in
       let named : component_named h w.components ≡ Some c = ap (option_and_then (slice_get w.components)) p ∙ x.1 in
       let is = was_invalid (component_named h w.components) state c e named in
-      refused_not (send_refusal (look w) c (StateSet Invalid)) error w v _ (sendable (look w) c (ap is_invalid is ∙ n) (left_none h w c named none)) x.2
+      refused_not (send_refusal (look w) c (StateSet Invalid)) error w v _ (sendable (look w) c (ap is_invalid is ∙ n) (left_none h w c named none) (work_there w i c S x.1)) x.2
 
   -- it isn't refused
   pub sent_always : SendCommand w h (StateSet Invalid) (Err error) v → ⊥

@@ -6,7 +6,7 @@ use Rattle.omx_types.specs.declared.kind.Kind.{Kind}
 use Rattle.il_machine.specs.declared.answer.Acted.TheVariants.{Did}
 use Rattle.il_machine.specs.declared.port.Link.{Link}
 use Rattle.il_machine.specs.declared.port.Port.{Port}
-use Rattle.il_machine.specs.World.{Component, HeaderRecord, World, place_of, port_of}
+use Rattle.il_machine.specs.World.{Component, HeaderRecord, World, changed_at, place_of, port_of}
 use Rattle.il_machine.specs.Headers.{seen, unchanged, cleared}
 use Rattle.machine_laws.proofs.Keys.{there_is}
 use Rattle.il_machine.specs.Notes.{TakenEvent, TakenEmpty, TakenFilled, TookNote}
@@ -20,7 +20,7 @@ use Rattle.il_machine.specs.Answers.{AnswersOrMemory}
 use Rattle.il_machine.specs.Ports.{is_input_port}
 use Rattle.il_machine.specs.declared.header.Spot.{Spot}
 use Rattle.il_machine.specs.declared.header.Spot.TheVariants.{TodoBack}
-use Rattle.il_machine.specs.Effect.{changed_at, at_named, at_named_port, at_both, effect}
+use Rattle.il_machine.specs.Effect.{at_named, at_named_port, at_both, effect}
 use Rattle.il_machine.specs.Acts.{Act, Reply}
 use Rattle.il_machine.specs.Acts as acts
 use Rattle.il_machine.specs.Run.{Step, Meets}
@@ -75,7 +75,7 @@ back_same i c p (Some link) w = returned_same link.peer (is_input_port p) ((seen
 
 effect_same : (w : World) (a : Act) (r : Reply) → NoneGot a r → Same w (effect w a r)
 effect_same w (acts.GetHandle name) (acts.Got (Ok h)) n = absurd n
-effect_same w (acts.FreeHandle h) (acts.Plain (Ok done)) n = named_same h w _ (λ i c. refl)
+effect_same w (acts.FreeHandle h) (acts.Removed (Ok file)) n = named_same h w _ (λ i c. refl)
 effect_same w (acts.SetParameter h key value) (acts.Plain (Ok done)) n = named_same h w _ (λ i c. refl)
 effect_same w (acts.SetConfig h key value) (acts.Plain (Ok done)) n = named_same h w _ (λ i c. refl)
 effect_same w (acts.SetupTunnel output input) (acts.Joined (Ok supplier)) n =

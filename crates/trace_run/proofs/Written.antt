@@ -4,7 +4,7 @@ use Rattle.std.specs.Prelude.{codes, OnOk, IfErr}
 use Rattle.std.proofs.lemmas.List.{take_more}
 use Rattle.std.specs.Io.KnownBytes.{append_known}
 use Rattle.omx_types.specs.declared.fault.Fault.{Fault}
-use Rattle.omx_types.specs.declared.fault.Fault.TheVariants.{Script as ScriptFault, Usage, BadMedia, ReadFault, WriteFault, Absent, OutOfMemory, Short, Units, NotBuilt}
+use Rattle.omx_types.specs.declared.fault.Fault.TheVariants.{WriteFault, OutOfMemory}
 use Rattle.outside_io.specs.Causes.{Rose}
 use Rattle.outside_io.specs.Moves.{AppendsFront}
 use Rattle.outside_io.proofs.Known.{append_known-twice, append_known-nil}
@@ -162,11 +162,4 @@ front_written key units lines old new x = (x.1, inr (x.0, (key, x.2, x.3)), x.4)
 pub lines_broken : (key units : ℕ) (lines : List TraceLine) (old new : Option (List ℕ)) (before after : ℕ) (fault : Fault) → IsBroken (beginning key units) lines old new before after fault → IsStopped (Trace units lines) old new before after fault
 lines_broken key units lines old new before after WriteFault (rose, rest) = (rose, front_written key units lines old new rest)
 lines_broken key units lines old new before after OutOfMemory (count, (text, last, lead, got)) = (count, text, (key, last, lead), got)
-lines_broken key units lines old new before after (ScriptFault line why) broken = absurd broken
-lines_broken key units lines old new before after Usage broken = absurd broken
-lines_broken key units lines old new before after (BadMedia which why) broken = absurd broken
-lines_broken key units lines old new before after ReadFault broken = absurd broken
-lines_broken key units lines old new before after (Absent which) broken = absurd broken
-lines_broken key units lines old new before after (Short which at size) broken = absurd broken
-lines_broken key units lines old new before after (Units line count) broken = absurd broken
-lines_broken key units lines old new before after (NotBuilt line) broken = absurd broken
+lines_broken key units lines old new before after _ broken = absurd broken

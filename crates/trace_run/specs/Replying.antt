@@ -91,6 +91,7 @@ or_call_error reply (Err calls.OutOfMemory) = None
 
 abbrev pub printed : Names → Reply → Option LineReply
 printed names (acts.Got result) = or_call_error (λ handle. done) result
+printed names (acts.Removed result) = or_error (λ file. done) result
 printed names (acts.Plain result) = or_error (λ x. done) result
 printed names (acts.Stated result) = or_error (λ state. Some (Plain (texts.State state))) result
 printed names (acts.Viewed result) = or_error (λ view. Some (Plain (texts.Port view))) result

@@ -5,7 +5,7 @@ ghost use Rattle.il_machine.specs.Components.{noted_by};
 ghost use Rattle.il_machine.specs.Notes.{EndNote};
 ghost use Rattle.il_machine.specs.Whole.{StepsWhere};
 ghost use Rattle.graph_core.specs.Entries.{look_of};
-ghost use Rattle.graph_core.specs.Clients.{IsOut, WasTold};
+ghost use Rattle.graph_core.specs.Clients.{IsOut, IsPortDone, WasTold};
 ghost use Rattle.trace_run.specs.declared.names.NamedComponent.{NamedComponent as Named};
 ghost use Rattle.trace_run.specs.Standing.{parts, graph_kept, slot_numbered, machine_note, Rehanded, HasEmptySlot, HasSlotFor, KeptSo, HasStood, TakeLeads};
 
@@ -41,6 +41,7 @@ fn end(
 ) -> LineAnswer
     requires out { IsOut h (look_of graph.old) }
     requires slot { HasSlotFor slots.old.items call.taken }
+    requires told { IsPortDone call.client.port }
     ensures step { StepsWhere (graph_kept graph.old) (graph_kept graph.new) (WasTold h (noted_by (machine_note call.taken) call.client)) (λ w v. EndNote w h v) }
     ensures kept { KeptSo call.taken slots.old.items slots.new.items result }
 {

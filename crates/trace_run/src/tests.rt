@@ -24,94 +24,6 @@ fn check_trace<R: Alloc<A = Global> + Abort>(rt: &R, script: &[u8], text: &[u8])
     assert_eq!(rt; out.as_slice(), text);
 }
 
-#[test]
-fn a_sink_to_idle(rt: HostRuntime) -> Result<(), Fail> {
-    let script = b"omx 1 trace
-get a OMX.lab.sink.wav
-send a state Idle
-run a
-take a
-alloc x a.0
-take a
-alloc y a.0
-take a
-state a
-";
-    let text = b"1: get a OMX.lab.sink.wav = ok
-2: send a state Idle = ok
-3: run a = did
-4: take a = none
-5: alloc x a.0 = ok
-6: take a = none
-7: alloc y a.0 = ok
-8: take a = event state Idle
-9: state a = Idle
-end
-";
-    check_trace(&rt, script, text);
-    Ok(())
-}
-
-#[test]
-fn wrong_and_same_transition(rt: HostRuntime) -> Result<(), Fail> {
-    let script = b"omx 1 trace
-get a OMX.lab.gain
-send a state Executing
-run a
-take a
-send a state Loaded
-run a
-take a
-state a
-";
-    let text = b"1: get a OMX.lab.gain = ok
-2: send a state Executing = ok
-3: run a = did
-4: take a = event error IncorrectStateTransition
-5: send a state Loaded = ok
-6: run a = did
-7: take a = event error SameState
-8: state a = Loaded
-end
-";
-    check_trace(&rt, script, text);
-    Ok(())
-}
-
-#[test]
-fn port_unpopulated(rt: HostRuntime) -> Result<(), Fail> {
-    let script = b"omx 1 trace
-get a OMX.lab.sink.wav
-send a state Idle
-run a
-alloc x a.0
-alloc y a.0
-send a state Executing
-take a
-run a
-take a
-freebuf x a.0
-take a
-port a.0
-";
-    let text = b"1: get a OMX.lab.sink.wav = ok
-2: send a state Idle = ok
-3: run a = did
-4: alloc x a.0 = ok
-5: alloc y a.0 = ok
-6: send a state Executing = ok
-7: take a = event state Idle
-8: run a = did
-9: take a = event state Executing
-10: freebuf x a.0 = ok
-11: take a = event error PortUnpopulated
-12: port a.0 = input enabled steady 1 of 2
-end
-";
-    check_trace(&rt, script, text);
-    Ok(())
-}
-
 const HANDED_IN: &[u8] = b"omx 1 trace
 get a OMX.lab.sink.wav
 send a state Idle
@@ -175,11 +87,5 @@ take a
 end
 ";
     check_trace(&rt, script, text);
-    Ok(())
-}
-
-#[test]
-fn empty_trace(rt: HostRuntime) -> Result<(), Fail> {
-    check_trace(&rt, b"omx 1 trace\n", b"end\n");
     Ok(())
 }

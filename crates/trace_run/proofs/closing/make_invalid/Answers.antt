@@ -10,7 +10,7 @@ unreachable-requires c =
     let k = graph_kept c.args.graph.now in
     let x = c.in_default-send_command.ensures.step W.world W.stands in
     let none = ap (notes_left c.args.h) W.stands.looks ∙ c.requires in
-    sent_always W.world c.args.h c.in-Ok.state c.in_default-send_command.field-0 x.0 none (sym (c.get_state.ensures W.world W.stands) ∙ c.in-Ok.is) (sym c.is_invalid.ensures ∙ c.if-is_invalid.false) x.2
+    sent_always W.world c.args.h c.in-Ok.state c.in_default-send_command.field-0 x.0 W.sound none (sym (c.get_state.ensures W.world W.stands) ∙ c.in-Ok.is) (sym c.is_invalid.ensures ∙ c.if-is_invalid.false) x.2
 
 pub returns-in_default : goal.returns-in_default
 returns-in_default c =

@@ -6,8 +6,9 @@ use Rattle.note_queues.specs.declared.taken.Took.{Took}
 use Rattle.note_queues.specs.Queues.{took_of}
 use Rattle.graph_core.specs.Clients.{TakesClient}
 use Rattle.il_graph.specs.HandedIn.{IsTookHandedOut}
+use Rattle.il_graph.specs.Stood.{IsTookDone}
 use Rattle.act_text.specs.declared.reply.TextReply.TheVariants as texts
-use Rattle.trace_run.specs.Standing.{graph_kept}
+use Rattle.trace_run.specs.Standing.{client_progress, graph_kept}
 use Rattle.trace_run.proofs.Taking.{call_taken, nothing_taken, has_slot, is_out}
 use Rattle.trace_run.proofs.notes.take.Goals as goal
 
@@ -17,6 +18,9 @@ end-requires-clause-out c =
     let mid = graph_kept c.take_note.new.self in
     let step = subst (λ (t : Took Progress). Steps old mid (λ w v. TakeNote w c.args.h (Ok (took_of t)) v)) c.in-Ok-Call.field-0-is c.in-Ok-Call.ensures.step in
     is_out c.args.slots.now.items old mid c.args.h c.in-Ok-Call.call.taken c.requires step
+
+pub end-requires-clause-told : goal.end-requires-clause-told
+end-requires-clause-told c = subst (λ (t : Took Progress). IsTookDone client_progress t) c.in-Ok-Call.field-0-is c.in-Ok-Call.ensures.done
 
 pub end-requires-clause-slot : goal.end-requires-clause-slot
 end-requires-clause-slot c =
