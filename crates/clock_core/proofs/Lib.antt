@@ -1,8 +1,10 @@
 pub mod Accepting
+pub mod CallLaws
 pub mod DueLaws
 pub mod Masks
 pub mod NextMoment
 pub mod Ordering
 pub mod PaceLaws
 pub mod Passing
+pub mod Picking
 pub mod QueueLaws

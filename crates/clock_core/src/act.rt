@@ -19,6 +19,13 @@ pub enum ClockAct {
     Pass,
 }
 
+/// A call at a wall moment.
+#[derive(Clone, Copy, Debug, PartialEq, Eq)]
+pub struct TimedAct {
+    pub wall: u64,
+    pub act: ClockAct,
+}
+
 /// A request that waits for its media time.
 #[derive(Clone, Copy, Debug, Default, PartialEq, Eq)]
 pub struct Request {

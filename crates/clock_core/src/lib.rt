@@ -5,11 +5,13 @@
 mod act;
 mod clock;
 mod due;
+mod laws;
 mod motion;
 mod pace;
 mod queue;
 mod refusing;
 
-pub use act::{ClockAct, ClockRefusal, Fulfilled, Request};
+pub use act::{ClockAct, ClockRefusal, Fulfilled, Request, TimedAct};
 pub use clock::Clock;
+pub use laws::law_of_calls;
 pub use motion::Motion;
