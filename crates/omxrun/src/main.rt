@@ -30,7 +30,7 @@ fn main(rt: HostRuntime) -> io::Result<ExitCode> {
     let mut out = HostSink::new(rt.stdout());
     let status = match words_of(&rt) {
         Ok(words) => {
-            let mut media = HostMedia::new(rt.clone()?);
+            let mut media = HostMedia::new(rt.alloc(), rt.clone()?);
             run_words(&rt, rt.alloc(), &words, &mut media, &mut out)
         }
         Err(fault) => tell(Err(fault), &mut out),

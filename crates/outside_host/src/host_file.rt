@@ -4,6 +4,7 @@ ghost use Rattle.std.specs.Io.{WritesAtMost};
 ghost use Rattle.std.specs.Prelude.{◌≡◌, ◌<◌, [], length, take, IfOk, OnOk, OnErr};
 ghost use Rattle.outside_io.specs.Causes.{HasCause};
 
+use crate::FileId;
 use crate::retry::{TRIES, write_some};
 use outside_io::{Failed, Sink};
 use std::io::{BufWriter, ErrorKind, Write};
@@ -12,17 +13,30 @@ use std::io::{BufWriter, ErrorKind, Write};
 #[derive(Drop)]
 pub struct HostFile<F: Write + Drop> {
     file: BufWriter<F>,
+    id: FileId,
     pub(crate) faults: u64,
 }
 
 impl<F: Write + Drop> HostFile<F> {
     ghost use Rattle.outside_host.specs.Adapters.{file_writer};
 
-    pub(crate) fn new(file: BufWriter<F>) -> HostFile<F>
+    pub(crate) fn new(file: BufWriter<F>, id: FileId) -> HostFile<F>
         ensures file { file_writer result ≡ file }
+        ensures id { result.id ≡ id }
         ensures faults { result.faults ≡ 0 }
     {
-        HostFile { file, faults: 0 }
+        HostFile {
+            file,
+            id,
+            faults: 0,
+        }
+    }
+
+    /// Which file it is.
+    pub fn id(&self) -> FileId
+        ensures { result ≡ self.now.id }
+    {
+        self.id
     }
 
     /// Writes what was kept back, and again after each interruption.

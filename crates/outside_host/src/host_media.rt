@@ -1,33 +1,41 @@
-ghost use Rattle.std.specs.Prelude.{None, true, false};
+ghost use Rattle.std.specs.Prelude.{◌≡◌, ◌≤◌, None, true, false, [], length, IfOk, OnOk, OnErr, IsErrOf, IsTrue, IsFalse, IsSome, Some};
+ghost use Rattle.outside_io.specs.Causes.{Rose, sum_of_counts};
+ghost use Rattle.outside_io.specs.Files.{GoesOn, SameBut, IsFrontOf};
+ghost use Rattle.outside_io.specs.Moves.{WhereTold};
+ghost use Rattle.outside_host.specs.Opened.{has_file, StayOpened};
 
-use crate::{HostFile, HostSource};
+use crate::opened_files::OpenedFiles;
+use crate::{FileId, HostFile, HostSource};
 use outside_io::{Failed, Media, Refused};
 use std::alloc::Global;
-use std::fs::{self, OpenFile};
-use std::io::{BufReader, BufWriter, ErrorKind};
+use std::fs::{self, File, Metadata, OpenOptions};
+use std::io::{self, BufReader, BufWriter, ErrorKind};
 use std::rt::Files;
 
 /// How many bytes of a file are kept at once.
 const KEPT: usize = 65_536;
 
 /// The host's files by name. What isn't there, or has no folder to be made in, is absent; each other failure to open is a
-/// fault.
+/// fault. A sink whose file it has opened before, under whatever name, is such a failure, and its bytes stay.
 #[derive(Drop)]
 pub struct HostMedia<R> {
     files: R,
+    opened: OpenedFiles,
     read_faults: u64,
     write_faults: u64,
     absences: u64,
 }
 
 impl<R> HostMedia<R> {
-    ghost use Rattle.outside_host.specs.Adapters.{HasNoCount};
+    ghost use Rattle.outside_host.specs.Adapters.{HasNoCount, opened_of};
 
-    pub fn new(files: R) -> HostMedia<R>
-        ensures { HasNoCount result }
+    pub fn new(alloc: Global, files: R) -> HostMedia<R>
+        ensures counts { HasNoCount result }
+        ensures opened { opened_of result ≡ [] }
     {
         HostMedia {
             files,
+            opened: OpenedFiles::new(alloc),
             read_faults: 0,
             write_faults: 0,
             absences: 0,
@@ -35,23 +43,80 @@ impl<R> HostMedia<R> {
     }
 }
 
-impl<R: Files> Media for HostMedia<R>
-where
-    R::File: Send + Drop,
+/// What the host's error is for one who opens.
+fn refusal(error: io::Error) -> Refused {
+    match error.kind() {
+        ErrorKind::NotFound => Refused::Absent,
+        _ => Refused::Failed,
+    }
+}
+
+/// Opens a file to be read, and remembers it.
+fn open_source<R: Files<File = File>>(
+    alloc: Global,
+    files: &R,
+    opened: &mut OpenedFiles,
+    name: &str,
+) -> Result<HostSource<File>, Refused>
+    ensures place { IfOk result (λ src. src.place ≡ 0) }
+    ensures opened { IfOk result (λ src. IsTrue (has_file src.id opened.new.ids.items)) }
+    ensures stay { StayOpened opened.old.ids.items opened.new.ids.items }
 {
-    type Src = HostSource<R::File>;
+    let file = fs::open(files, name).map_err(refusal)?;
+    let data = file.metadata().map_err(refusal)?;
+    let id = FileId::of(&data);
+    match BufReader::with_capacity(alloc, KEPT, file) {
+        Ok(file) => match opened.add(id) {
+            Ok(()) => Ok(HostSource::new(file, id, data.len())),
+            Err(_) => Err(Refused::OutOfMemory),
+        },
+        Err(_) => Err(Refused::OutOfMemory),
+    }
+}
 
-    type Snk = HostFile<R::File>;
+/// Opens a file to be written that wasn't opened before, remembers it, and only then empties it.
+fn open_sink<R: Files<File = File>>(
+    alloc: Global,
+    files: &R,
+    opened: &mut OpenedFiles,
+    name: &str,
+) -> Result<HostFile<File>, Refused>
+    ensures other { IfOk result (λ snk. has_file snk.id opened.old.ids.items ≡ false) }
+    ensures opened { IfOk result (λ snk. IsTrue (has_file snk.id opened.new.ids.items)) }
+    ensures stay { StayOpened opened.old.ids.items opened.new.ids.items }
+{
+    let mut how = OpenOptions::new();
+    how.write(true).create(true);
+    let file = how.open(files, name).map_err(refusal)?;
+    let data = file.metadata().map_err(refusal)?;
+    let id = FileId::of(&data);
+    match BufWriter::with_capacity(alloc, KEPT, file) {
+        Ok(file) => {
+            opened.add_other(id)?;
+            empty(file.get_ref(), &data)?;
+            Ok(HostFile::new(file, id))
+        }
+        Err(_) => Err(Refused::OutOfMemory),
+    }
+}
 
-    ghost outside = { λ m. record {
-      tells = false;
-      file = λ _. None;
-      ends = λ _. None;
-      may_refuse = λ _. true;
-      read_faults = m.read_faults;
-      write_faults = m.write_faults;
-      absences = m.absences;
-    } };
+/// Empties a file. A device or a pipe has no length to be cut.
+fn empty(file: &File, data: &Metadata) -> Result<(), Refused> {
+    if data.is_file() {
+        file.set_len(0).map_err(refusal)
+    } else {
+        Ok(())
+    }
+}
+
+impl<R: Files<File = File>> Media for HostMedia<R> {
+    ghost use Rattle.outside_host.specs.Adapters.{endless, host_outside, opened_of, unnamed, untold};
+
+    type Src = HostSource<File>;
+
+    type Snk = HostFile<File>;
+
+    ghost outside = { host_outside };
 
     fn read_faults(&self) -> u64 {
         self.read_faults
@@ -65,52 +130,83 @@ where
         self.absences
     }
 
-    fn source(&mut self, alloc: Global, name: &str) -> Result<HostSource<R::File>, Refused> {
-        let opened = match fs::open(&self.files, name) {
-            Ok(file) => match file.metadata() {
-                Ok(data) => Ok((file, data.len())),
-                Err(error) => Err(error),
-            },
-            Err(error) => Err(error),
-        };
-        match opened {
-            Ok((file, size)) => match BufReader::with_capacity(alloc, KEPT, file) {
-                Ok(file) => Ok(HostSource::new(file, size)),
-                Err(_) => Err(Refused::OutOfMemory),
-            },
-            Err(error) => {
-                if error.kind() == ErrorKind::NotFound {
-                    self.absences = self.absences.saturating_add(1);
-                    return Err(Refused::Absent);
-                }
+    fn source(&mut self, alloc: Global, name: &str) -> Result<HostSource<File>, Refused>
+        ensures goes_on { GoesOn (host_outside self.old) (host_outside self.new) }
+        ensures files { (host_outside self.new).file ≡ (host_outside self.old).file }
+        ensures told { IfOk result (λ src. untold ≡ (host_outside self.old).file name.now) }
+        ensures there { IsTrue (host_outside self.old).tells → OnOk result (IsSome ((host_outside self.old).file name.now)) }
+        ensures size { WhereTold ((host_outside self.old).file name.now) (λ bytes. IfOk result (λ src. src.size ≡ length bytes)) }
+        ensures place { IfOk result (λ src. src.place ≡ 0) }
+        ensures ends { IfOk result (λ src. endless ≡ (host_outside self.old).ends name.now) }
+        ensures absent { IsErrOf result Refused.Absent → Rose (host_outside self.old).absences (host_outside self.new).absences }
+        ensures absent_name { IsErrOf result Refused.Absent → (host_outside self.old).file name.now ≡ None }
+        ensures absences { IsSome ((host_outside self.old).file name.now) → (host_outside self.new).absences ≡ (host_outside self.old).absences }
+        ensures failed { IsErrOf result Refused.Failed → Rose (host_outside self.old).read_faults (host_outside self.new).read_faults }
+        ensures opened { IfOk result (λ src. IsTrue (has_file src.id (opened_of self.new))) }
+        ensures stay { StayOpened (opened_of self.old) (opened_of self.new) }
+    {
+        match open_source(alloc, &self.files, &mut self.opened, name) {
+            Ok(source) => Ok(source),
+            Err(Refused::Absent) => {
+                self.absences = self.absences.saturating_add(1);
+                Err(Refused::Absent)
+            }
+            Err(Refused::Failed) => {
                 self.read_faults = self.read_faults.saturating_add(1);
                 Err(Refused::Failed)
             }
+            Err(Refused::OutOfMemory) => Err(Refused::OutOfMemory),
         }
     }
 
-    fn sink(&mut self, alloc: Global, name: &str) -> Result<HostFile<R::File>, Refused> {
-        match fs::create(&self.files, name) {
-            Ok(file) => match BufWriter::with_capacity(alloc, KEPT, file) {
-                Ok(file) => Ok(HostFile::new(file)),
-                Err(_) => Err(Refused::OutOfMemory),
-            },
-            Err(error) => {
-                if error.kind() == ErrorKind::NotFound {
-                    self.absences = self.absences.saturating_add(1);
-                    return Err(Refused::Absent);
-                }
+    fn sink(&mut self, alloc: Global, name: &str) -> Result<HostFile<File>, Refused>
+        ensures goes_on { GoesOn (host_outside self.old) (host_outside self.new) }
+        ensures files { (host_outside self.new).file ≡ (host_outside self.old).file }
+        ensures told { IsTrue (host_outside self.old).tells → IfOk result (λ snk. untold ≡ Some []) }
+        ensures name { IsTrue (host_outside self.old).tells → IfOk result (λ snk. unnamed ≡ name.now) }
+        ensures absent { IsErrOf result Refused.Absent → Rose (host_outside self.old).absences (host_outside self.new).absences }
+        ensures absent_name { IsErrOf result Refused.Absent → IsTrue ((host_outside self.old).may_refuse name.now) }
+        ensures absences { IsFalse ((host_outside self.old).may_refuse name.now) → (host_outside self.new).absences ≡ (host_outside self.old).absences }
+        ensures failed { IsErrOf result Refused.Failed → Rose (host_outside self.old).write_faults (host_outside self.new).write_faults }
+        ensures other { IfOk result (λ snk. has_file snk.id (opened_of self.old) ≡ false) }
+        ensures opened { IfOk result (λ snk. IsTrue (has_file snk.id (opened_of self.new))) }
+        ensures stay { StayOpened (opened_of self.old) (opened_of self.new) }
+    {
+        match open_sink(alloc, &self.files, &mut self.opened, name) {
+            Ok(sink) => Ok(sink),
+            Err(Refused::Absent) => {
+                self.absences = self.absences.saturating_add(1);
+                Err(Refused::Absent)
+            }
+            Err(Refused::Failed) => {
                 self.write_faults = self.write_faults.saturating_add(1);
                 Err(Refused::Failed)
             }
+            Err(Refused::OutOfMemory) => Err(Refused::OutOfMemory),
         }
     }
 
-    fn close_source(&mut self, src: HostSource<R::File>) {
+    fn close_source(&mut self, src: HostSource<File>)
+        ensures goes_on { GoesOn (host_outside self.old) (host_outside self.new) }
+        ensures files { (host_outside self.new).file ≡ (host_outside self.old).file }
+        ensures absences { (host_outside self.new).absences ≡ (host_outside self.old).absences }
+        ensures added { (host_outside self.new).read_faults ≡ sum_of_counts (host_outside self.old).read_faults src.faults }
+        ensures stay { opened_of self.new ≡ opened_of self.old }
+    {
         self.read_faults = self.read_faults.saturating_add(src.faults);
     }
 
-    fn close_sink(&mut self, snk: HostFile<R::File>) -> Result<(), Failed> {
+    fn close_sink(&mut self, snk: HostFile<File>) -> Result<(), Failed>
+        ensures goes_on { GoesOn (host_outside self.old) (host_outside self.new) }
+        ensures others { SameBut unnamed (host_outside self.old) (host_outside self.new) }
+        ensures held { OnOk result ((host_outside self.new).file unnamed ≡ untold) }
+        ensures front { OnErr result (WhereTold untold (IsFrontOf ((host_outside self.new).file unnamed))) }
+        ensures absences { (host_outside self.new).absences ≡ (host_outside self.old).absences }
+        ensures added { sum_of_counts (host_outside self.old).write_faults snk.faults ≤ (host_outside self.new).write_faults }
+        ensures closed { OnOk result ((host_outside self.new).write_faults ≡ sum_of_counts (host_outside self.old).write_faults snk.faults) }
+        ensures failed { OnErr result (Rose (sum_of_counts (host_outside self.old).write_faults snk.faults) (host_outside self.new).write_faults) }
+        ensures stay { opened_of self.new ≡ opened_of self.old }
+    {
         let mut snk = snk;
         self.write_faults = self.write_faults.saturating_add(snk.faults);
         match snk.finish() {

@@ -6,6 +6,7 @@ ghost use Rattle.std.specs.Prelude.{◌≡◌, ◌+◌, ◌<◌, ◌≤◌, min,
 ghost use Rattle.outside_io.specs.Causes.{HasCause};
 ghost use Rattle.outside_io.specs.Moves.{WhereTold};
 
+use crate::FileId;
 use crate::retry::{read_some, seek};
 use outside_io::{Failed, Source};
 use std::io::{BufReader, Read, Seek};
@@ -14,6 +15,7 @@ use std::io::{BufReader, Read, Seek};
 #[derive(Drop)]
 pub struct HostSource<F> {
     file: BufReader<F>,
+    id: FileId,
     size: u64,
     place: u64,
     pub(crate) faults: u64,
@@ -24,18 +26,27 @@ impl<F> HostSource<F> {
     ghost use Rattle.outside_host.specs.Adapters.{source_reader};
 
     /// A file of this size that stands at its first byte.
-    pub(crate) fn new(file: BufReader<F>, size: u64) -> HostSource<F>
+    pub(crate) fn new(file: BufReader<F>, id: FileId, size: u64) -> HostSource<F>
         ensures file { source_reader result ≡ file }
+        ensures id { result.id ≡ id }
         ensures size { result.size ≡ size }
         ensures place { result.place ≡ 0 }
         ensures faults { result.faults ≡ 0 }
     {
         HostSource {
             file,
+            id,
             size,
             place: 0,
             faults: 0,
         }
+    }
+
+    /// Which file it is.
+    pub fn id(&self) -> FileId
+        ensures { result ≡ self.now.id }
+    {
+        self.id
     }
 }
 

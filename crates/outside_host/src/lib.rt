@@ -5,6 +5,7 @@ mod host_file;
 mod host_media;
 mod host_sink;
 mod host_source;
+mod opened_files;
 mod retry;
 #[cfg(test)]
 mod tests;
@@ -13,3 +14,4 @@ pub use host_file::HostFile;
 pub use host_media::HostMedia;
 pub use host_sink::HostSink;
 pub use host_source::HostSource;
+pub use opened_files::FileId;
