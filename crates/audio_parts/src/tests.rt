@@ -141,7 +141,7 @@ fn mixer_with_a_shorter_input(rt: HostRuntime) -> Result<(), Failure> {
 fn source_in_pieces(rt: HostRuntime) -> Result<(), Failure> {
     let alloc = rt.alloc();
     let bytes = [9, 9, 1, 0, 2, 0, 3, 0].to_vec(alloc)?;
-    let mut source = WavSource::new(alloc, PCM)?;
+    let mut source = WavSource::new(alloc, false, PCM)?;
     assert_eq!(rt; source.left(), 0);
     source.attach(MemorySource::new(bytes), PCM, 4);
     let mut first = [0; 4];
