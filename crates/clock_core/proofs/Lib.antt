@@ -1,10 +1,13 @@
 pub mod Accepting
 pub mod CallLaws
+pub mod CallTexts
 pub mod DueLaws
 pub mod Masks
 pub mod NextMoment
+pub mod OneFault
 pub mod Ordering
 pub mod PaceLaws
 pub mod Passing
 pub mod Picking
 pub mod QueueLaws
+pub mod Sent

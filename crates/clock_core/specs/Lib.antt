@@ -4,3 +4,6 @@ pub mod Due
 pub mod Kept
 pub mod Next
 pub mod Pace
+pub mod Printed
+pub mod Running
+pub mod Script

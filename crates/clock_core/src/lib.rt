@@ -10,8 +10,12 @@ mod motion;
 mod pace;
 mod queue;
 mod refusing;
+mod run;
+mod script;
+mod text;
 
 pub use act::{ClockAct, ClockRefusal, Fulfilled, Request, TimedAct};
 pub use clock::Clock;
 pub use laws::law_of_calls;
 pub use motion::Motion;
+pub use run::run_clock;
