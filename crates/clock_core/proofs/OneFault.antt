@@ -1,16 +1,13 @@
 -- A text has one first fault, or is a script.
-use Rattle.std.proofs.Common.{◌≡◌, ℕ, ◌+◌, ◌-◌, ◌^◌, ◌≤◌, ◌<◌, ◌⊎◌, List, [], ◌∷◌, ◌++◌, length, refl, sym, ap, subst, inl, inr, ◌∙◌, arith}
-use Rattle.std.specs.Prelude.{IsUtf8}
+use Rattle.std.proofs.Common.{◌≡◌, ℕ, ◌+◌, List, [], ◌∷◌, sym, ap, subst, inl, inr, ◌∙◌, arith}
 use Rattle.line_text.specs.Lines.{lines_of}
-use Rattle.line_text.specs.Words.{words_of}
 use Rattle.omx_types.specs.declared.fault.Fault.{Fault as Faults}
 use Rattle.omx_types.specs.declared.fault.Fault.TheVariants as faults
 use Rattle.omx_types.specs.declared.fault.ScriptWhy.{ScriptWhy}
-use Rattle.omx_types.specs.declared.fault.ScriptWhy.TheVariants as whys
 use Rattle.clock_core.specs.Running.{IsFaultIn}
-use Rattle.clock_core.specs.Script.{AreGood, Begins, FaultsFrom, FaultsIn, IsFaulty, IsGoodLine, IsNoFault, Says, clock_words, said_of}
+use Rattle.clock_core.specs.Script.{AreGood, Begins, FaultsFrom, FaultsIn, IsFaulty, IsGoodLine, IsNoFault, Says}
 use Rattle.clock_core.specs.declared.script.Said.{Said}
-use Rattle.clock_core.specs.declared.script.Said.TheVariants.{Nothing, Call, Fault}
+use Rattle.clock_core.specs.declared.script.Said.TheVariants.{Fault}
 
 -- a line says one thing
 pub one-saying : (line : List ℕ) (a b : Said) → Says line a → Says line b → a ≡ b

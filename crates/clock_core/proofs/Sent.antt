@@ -14,7 +14,6 @@ use Rattle.clock_core.specs.Clock.{State, after_call}
 use Rattle.clock_core.specs.Printed.{call_text, calls_in, printed}
 use Rattle.clock_core.specs.Running.{AddsCall, IsRun, IsWriteFault}
 use Rattle.clock_core.specs.Script.{call_words}
-use Rattle.clock_core.specs.declared.script.Said.{Said}
 use Rattle.clock_core.specs.declared.act.TimedAct.{TimedAct}
 
 -- the text without the rest was written

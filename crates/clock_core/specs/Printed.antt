@@ -16,7 +16,7 @@ use Rattle.clock_core.specs.declared.act.ClockRefusal.TheVariants.{Backwards, Ba
 use Rattle.clock_core.specs.declared.act.Fulfilled.{Fulfilled}
 use Rattle.clock_core.specs.declared.act.TimedAct.{TimedAct}
 use Rattle.clock_core.specs.declared.script.Said.{Said}
-use Rattle.clock_core.specs.declared.script.Said.TheVariants.{Nothing, Call}
+use Rattle.clock_core.specs.declared.script.Said.TheVariants.{Call}
 
 abbrev pub refusal_name : ClockRefusal → List ℕ
 refusal_name (Backwards last) = codes "Backwards"

@@ -1,5 +1,4 @@
 use Rattle.std.proofs.Common.{◌∙◌, arith}
-use Rattle.std.specs.Prelude.{[]}
 use Rattle.clock_core.specs.Clock.{opening}
 use Rattle.clock_core.specs.Printed.{calls_in, printed}
 use Rattle.line_text.specs.Lines.{lines_of}

@@ -1,4 +1,4 @@
-use Rattle.std.proofs.Common.{◌≡◌, ◌≤◌, ◌+◌, ℕ, length}
+use Rattle.std.proofs.Common.{◌≡◌, ◌≤◌, ◌+◌, length}
 use Rattle.line_text.specs.Lines.{lines_of}
 use Rattle.clock_core.specs.Clock.{opening}
 use Rattle.clock_core.specs.Printed.{calls_in, printed}
