@@ -2,6 +2,8 @@ pub mod DeliveredCodes
 pub mod DeliveredPackets
 pub mod DeliveredRun
 pub mod PackAnswers
+pub mod PacketRead
 pub mod PackedTexts
 pub mod RecordList
 pub mod SortedNumbers
+pub mod WindowLines

@@ -5,3 +5,4 @@ pub mod Sorting
 pub mod Unpacking
 pub mod Answers
 pub mod Deliveries
+pub mod Steps

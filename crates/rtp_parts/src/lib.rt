@@ -5,8 +5,10 @@
 mod fault;
 mod law;
 mod laws;
+mod packet;
 mod packing;
 mod records;
+mod window;
 
 pub use fault::RtpFault;
 pub use law::Law;

@@ -1,0 +1,16 @@
+use Rattle.std.proofs.Common.{◌≡◌, ℕ, List, max, map, ap, sym, ◌∙◌, arith, refl}
+use Rattle.rtp_parts.specs.declared.window.Held.{Held}
+use Rattle.rtp_parts.specs.Sorting.{placed}
+use Rattle.rtp_parts.specs.Steps.{numbered_of}
+use Rattle.rtp_parts.proofs.WindowLines.{insert-placed, line_is}
+use Rattle.rtp_parts.proofs.window.Window.insert.Goals as goal
+
+pub returns-clause-kept : goal.returns-clause-kept
+returns-clause-kept c =
+    let held : Held = record { number = c.args.number; timestamp = c.args.timestamp; payload = c.in_ok-to_vec.field-0 } in
+    let greatest : c.args.self.now.greatest ≡ max c.args.self.now.greatest c.args.number = omega (arith, c.requires.below) in
+    line_is _ _ greatest
+    (ap (map numbered_of) c.in_ok-insert.ensures.items
+    ∙ insert-placed held c.args.self.now.held.items c.place_of-place.result (c.place_of-place.ensures.place (numbered_of held) refl)
+    ∙ ap (λ (p : List ℕ). placed (record { number = c.args.number; timestamp = c.args.timestamp; payload = p }) (map numbered_of c.args.self.now.held.items)) (c.in_ok-to_vec.ensures.items_if_clones_equal (λ x y same. same)))
+    refl refl refl
