@@ -1,3 +1,5 @@
+pub mod Course
+pub mod CourseLeft
 pub mod DeliveredCodes
 pub mod DeliveredPackets
 pub mod DeliveredRun
@@ -5,5 +7,6 @@ pub mod PackAnswers
 pub mod PacketRead
 pub mod PackedTexts
 pub mod RecordList
+pub mod RecordRead
 pub mod SortedNumbers
 pub mod WindowLines

@@ -14,8 +14,10 @@ use Rattle.rtp_parts.specs.declared.law.Law.{Law}
 use Rattle.rtp_parts.specs.declared.fault.RtpFault.{RtpFault}
 use Rattle.rtp_parts.specs.declared.fault.RtpFault.TheVariants.{Head, Read, Write, Short, WrongFormat, NotPackets, NoPackets, TooLong, OutOfMemory}
 use Rattle.rtp_parts.specs.declared.packing.Packed.{Packed}
+use Rattle.rtp_parts.specs.declared.unpacking.Unpacked.{Unpacked}
 use Rattle.rtp_parts.specs.Packets.{law_of_format}
 use Rattle.rtp_parts.specs.Packing.{packed, packet_count}
+use Rattle.rtp_parts.specs.Unpacking.{Unpacking, wav_of}
 
 -- p of the place of a short stop
 abbrev pub IfShort : RtpFault → (ℕ → ℕ → Type 0) → Type 0
@@ -88,3 +90,16 @@ IsStop size ends start read_before read_now write_before write_now Read = Rose r
 IsStop size ends start read_before read_now write_before write_now Write = Rose write_before write_now
 IsStop size ends start read_before read_now write_before write_now (Short at told_size) = GaveNothing size ends start at told_size
 IsStop size ends start read_before read_now write_before write_now _ = ⊥
+
+-- what is told of what was unpacked
+abbrev pub unpacked_counts : Result Unpacking RtpFault → Result Unpacked RtpFault
+unpacked_counts (Err fault) = Err fault
+unpacked_counts (Ok unpacking) = Ok (record {
+  frames = length unpacking.codes;
+  bytes = length (wav_of (Ok unpacking));
+  packets = unpacking.packets;
+  accepted = unpacking.accepted;
+  late = unpacking.late;
+  repeated = unpacking.repeated;
+  skipped = unpacking.skipped;
+})

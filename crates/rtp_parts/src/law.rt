@@ -1,5 +1,5 @@
 ghost use Rattle.std.specs.Prelude.{◌≡◌};
-ghost use Rattle.rtp_parts.specs.Packets.{type_of_law, law_of_type, format_of_law, law_of_format, silence_of};
+ghost use Rattle.rtp_parts.specs.Packets.{type_of_law, law_of_type, format_of_law, law_of_format, same_law, silence_of};
 
 use g711_law::{alaw_encode, mulaw_encode};
 use omx_types::Format;
@@ -61,6 +61,15 @@ impl Law {
                 channels: 1,
             } => Some(Law::Alaw),
             _ => None,
+        }
+    }
+
+    pub(crate) fn is(self, other: Law) -> bool
+        ensures { result ≡ same_law self other }
+    {
+        match self {
+            Law::Mulaw => matches!(other, Law::Mulaw),
+            Law::Alaw => matches!(other, Law::Alaw),
         }
     }
 

@@ -7,13 +7,17 @@ mod law;
 mod laws;
 mod packet;
 mod packing;
+mod reading;
 mod records;
+mod unpacker;
+mod unpacking;
 mod window;
 
 pub use fault::RtpFault;
 pub use law::Law;
 pub use laws::deliveries_again;
 pub use packing::{Packed, pack};
+pub use unpacking::Unpacked;
 
 #[cfg(test)]
 mod tests;

@@ -1,4 +1,5 @@
 ghost use Rattle.std.specs.Prelude.{◌≡◌, ◌⊎◌, ℕ, ◌+◌, ◌*◌, ◌==◌, ◌++◌, take, drop, ◌≤◌, ◌<◌, ◌^◌, [], ◌∷◌, true, length, map, vec_len, IfSome, IfNone, OnOk};
+ghost use Rattle.std.specs.Option.{option_to_list};
 ghost use Rattle.std.specs.List.{All, list_any};
 ghost use Rattle.std.specs.VecDeque.{deque_len};
 ghost use Rattle.rtp_parts.specs.declared.window.Held.{Held};
@@ -38,7 +39,9 @@ impl Window {
     ghost use Rattle.rtp_parts.specs.Steps.{numbered_of, line_of, line_step, line_kept, with_first};
 
     pub(crate) fn new(alloc: Global) -> Window
-        ensures { line_of result ≡ record { greatest = 65536; line = []; accepted = 0; late = 0; repeated = 0 } }
+        ensures line { line_of result ≡ record { greatest = 65536; line = []; accepted = 0; late = 0; repeated = 0 } }
+        ensures empty { result.held.items ≡ [] }
+        ensures len { deque_len result.held ≡ 0 }
     {
         Window {
             greatest: 65_536,
@@ -52,7 +55,9 @@ impl Window {
     /// Numbers what arrives from the first packet's sequence number on.
     pub(crate) fn start(&mut self, sequence: u16)
         requires { self.old.held.items ≡ [] }
-        ensures { line_of self.new ≡ record (line_of self.old) { greatest = 65536 + sequence } }
+        ensures line { line_of self.new ≡ record (line_of self.old) { greatest = 65536 + sequence } }
+        ensures counts { (self.new.accepted ≡ self.old.accepted) × (self.new.late ≡ self.old.late) × (self.new.repeated ≡ self.old.repeated) }
+        ensures held { deque_len self.new.held ≡ deque_len self.old.held }
     {
         self.greatest = 65_536 + u64::from(sequence);
     }
@@ -69,6 +74,7 @@ impl Window {
         requires few { self.old.accepted + self.old.late + self.old.repeated < 2 ^ 40 }
         ensures judged { OnOk result (line_of self.new ≡ line_step (line_of self.old) sequence timestamp payload.now) }
         ensures counts { self.new.accepted + self.new.late + self.new.repeated ≤ self.old.accepted + self.old.late + self.old.repeated + 1 }
+        ensures held { deque_len self.new.held ≤ deque_len self.old.held + 1 }
     {
         let number = nearest(self.greatest, sequence);
         if number + SIZE <= self.greatest {
@@ -90,6 +96,7 @@ impl Window {
         requires { self.old.greatest < 2 ^ 60 }
         ensures given { IfSome result (λ held. line_of self.old ≡ with_first (numbered_of held) (line_of self.new)) }
         ensures due { IfSome result (λ held. (ended ≡ true) ⊎ (held.number + 64 ≤ self.old.greatest)) }
+        ensures held { deque_len self.new.held + length (option_to_list result) ≡ deque_len self.old.held }
         ensures short { IfSome result (λ held. vec_len held.payload ≤ 4096) }
         ensures counts { (self.new.accepted ≡ self.old.accepted) × (self.new.late ≡ self.old.late) × (self.new.repeated ≡ self.old.repeated) }
         ensures kept { IfNone result (line_of self.new ≡ line_of self.old) }
@@ -127,6 +134,7 @@ impl Window {
         requires few { self.old.accepted + self.old.late + self.old.repeated < 2 ^ 40 }
         ensures kept { OnOk result (line_of self.new ≡ line_kept (line_of self.old) number timestamp payload.now) }
         ensures counts { self.new.accepted + self.new.late + self.new.repeated ≤ self.old.accepted + self.old.late + self.old.repeated + 1 }
+        ensures held { deque_len self.new.held ≤ deque_len self.old.held + 1 }
     {
         let held = Held {
             number,
@@ -165,6 +173,7 @@ impl Window {
         requires few { self.old.accepted + self.old.late + self.old.repeated < 2 ^ 40 }
         ensures kept { OnOk result (line_of self.new ≡ line_kept (line_of self.old) number timestamp payload.now) }
         ensures counts { self.new.accepted + self.new.late + self.new.repeated ≤ self.old.accepted + self.old.late + self.old.repeated + 1 }
+        ensures held { deque_len self.new.held ≤ deque_len self.old.held + 1 }
     {
         let held = Held {
             number,

@@ -1,0 +1,53 @@
+ghost use Rattle.std.specs.Prelude.{◌≡◌, ◌-◌, ◌≤◌, length, drop, IfErr, IfOk, OnOk};
+ghost use Rattle.outside_io.specs.Moves.{WhereTold};
+ghost use Rattle.rtp_parts.specs.Steps.{RecordAt, RecordTakes, StopsReading};
+
+use crate::RtpFault;
+use byteorder::{BigEndian, ByteOrder};
+use outside_io::{Source, read_exact};
+
+/// What the next record of a list is.
+pub(crate) enum Record {
+    /// So many bytes were read.
+    Whole(usize),
+    /// The file ends inside.
+    Cut,
+    End,
+}
+
+/// Reads the next record of a list.
+pub(crate) fn read_record<S: Source>(src: &mut S, buffer: &mut [u8]) -> Result<Record, RtpFault>
+    requires room { length buffer.old ≡ 65535 }
+    requires reached { WhereTold (S.ends src.old) (λ end. S.place src.old ≤ end) }
+    ensures record { WhereTold (S.told src.old) (λ bytes. IfOk result (
+        RecordAt buffer.new (drop (S.place src.old) bytes) (drop (S.place src.new) bytes))) }
+    ensures takes { IfOk result (RecordTakes (S.size src.old - S.place src.old) (S.size src.old - S.place src.new)) }
+    ensures stop { IfErr result (StopsReading (S.size src.old) (S.ends src.old) (S.faults src.old) (S.faults src.new)) }
+    ensures reached { WhereTold (S.ends src.old) (λ end. OnOk result (S.place src.new ≤ end)) }
+    ensures told { S.told src.new ≡ S.told src.old }
+    ensures ends { S.ends src.new ≡ S.ends src.old }
+    ensures size { S.size src.new ≡ S.size src.old }
+    ensures later { S.faults src.old ≤ S.faults src.new }
+{
+    let left = src.size() - src.place();
+    if left == 0 {
+        return Ok(Record::End);
+    }
+    if left == 1 {
+        return Ok(Record::Cut);
+    }
+    let mut head = [0u8; 2];
+    match read_exact(src, &mut head) {
+        Ok(()) => {}
+        Err(stop) => return Err(RtpFault::of_read(stop)),
+    }
+    let len = BigEndian::read_u16(&head);
+    if left - 2 < u64::from(len) {
+        return Ok(Record::Cut);
+    }
+    let len = usize::from(len);
+    match read_exact(src, &mut buffer[..len]) {
+        Ok(()) => Ok(Record::Whole(len)),
+        Err(stop) => Err(RtpFault::of_read(stop)),
+    }
+}
