@@ -1,7 +1,8 @@
 -- The names of the kinds of component, in the order of a table. Their ports and the formats of these are passed on.
-use Rattle.std.specs.Prelude.{ℕ, List, [], ◌∷◌, Option, option_map, codes, find, Bool}
+use Rattle.std.specs.Prelude.{ℕ, List, [], ◌∷◌, Option, option_map, codes, find, Bool, ◌&&◌, ◌||◌}
 use Rattle.omx_types.specs.declared.kind.Kind.{Kind}
-use Rattle.omx_types.specs.declared.kind.Kind.TheVariants.{Source, Decoder, Alaw, Mulaw, Gain, Mixer, Splitter, Sink}
+use Rattle.omx_types.specs.declared.kind.Kind.TheVariants.{Source, Decoder, Alaw, Mulaw, Gain, Mixer, Splitter, Sink, Late}
+use Rattle.omx_types.specs.declared.format.Format.{Format}
 pub use Rattle.omx_types.specs.Formats.{is_pcm, is_alaw, is_mulaw, is_auto}
 pub use Rattle.part_forms.specs.Kinds.{inputs_of, outputs_of, ports_in, is_input, is_source, is_late, is_input_format, is_output_format, is_format_of}
 use Rattle.il_machine.specs.Lists.{same_numbers}
@@ -10,6 +11,7 @@ use Rattle.il_machine.specs.Lists.{same_numbers}
 abbrev pub named_kinds : List (List ℕ × Kind)
 named_kinds =
     (codes "OMX.lab.source.wav", Source)
+    ∷ (codes "OMX.lab.source.late", Late)
     ∷ (codes "OMX.lab.decoder.g711", Decoder)
     ∷ (codes "OMX.lab.encoder.alaw", Alaw)
     ∷ (codes "OMX.lab.encoder.mulaw", Mulaw)
@@ -37,3 +39,7 @@ has_name name row = same_numbers row.0 name
 -- the kind of the name, where the table has it
 abbrev pub kind_of : List ℕ → Option Kind
 kind_of name = option_map (λ row. row.1) (find (has_name name) named_kinds)
+
+-- a port may have the format: one of the kind's, or one that isn't known yet, on an input or on the output of a late source
+abbrev pub is_port_format : Kind → Bool → Format → Bool
+is_port_format kind input format = is_format_of kind input format || (is_auto format && (input || is_late kind))

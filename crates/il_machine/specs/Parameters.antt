@@ -1,5 +1,5 @@
 -- Parameters and configs of a component.
-use Rattle.std.specs.Prelude.{ℕ, Bool, true, false, not, ◌&&◌, ◌||◌, nat_eq, [], ◌∷◌, ◌++◌, Option, None, Some, is_some, Result, if◌then◌else◌}
+use Rattle.std.specs.Prelude.{ℕ, ◌*◌, Bool, true, false, not, ◌&&◌, ◌||◌, nat_eq, nat_lt, [], ◌∷◌, ◌++◌, Option, None, Some, is_some, Result, if◌then◌else◌}
 use Rattle.omx_types.specs.declared.handle.Handle.{Handle}
 use Rattle.omx_types.specs.declared.error.OmxError.{OmxError}
 use Rattle.omx_types.specs.declared.error.OmxError.TheVariants as errors
@@ -7,11 +7,16 @@ use Rattle.omx_types.specs.declared.format.Format.{Format}
 use Rattle.omx_types.specs.declared.param.Param.{Param}
 use Rattle.omx_types.specs.declared.param.Param.TheVariants as params
 use Rattle.omx_types.specs.declared.param.ParamKey.{ParamKey}
+use Rattle.omx_types.specs.declared.param.PortDefinition.{PortDefinition}
+use Rattle.omx_types.specs.Formats.{frame_bytes_of}
+use Rattle.part_api.specs.declared.attached.Attached.{Attached}
+use Rattle.part_api.specs.declared.attached.Attached.TheVariants.{To}
 use Rattle.il_machine.specs.declared.port.Port.{Port}
 use Rattle.il_machine.specs.States.{is_invalid, is_loaded}
 use Rattle.il_machine.specs.Kinds.{is_auto}
 use Rattle.il_machine.specs.Lists.{any_of, first_of_these, holds_at}
-use Rattle.il_machine.specs.Settings.{get_refusals, set_refusals, value_of, changed_by, refused_or, same_format}
+use Rattle.il_machine.specs.Settings.{get_refusals, set_refusals, value_of, changed_by, refused_or, same_format, fits}
+use Rattle.il_machine.specs.Parts.{file_format}
 use Rattle.il_machine.specs.World.{Component, World, with_component, with_port, port_of}
 use Rattle.il_machine.specs.Headers.{Seen}
 use Rattle.il_machine.specs.Look.{Look, look}
@@ -27,13 +32,36 @@ is_settable c = is_loaded c.state && is_at_rest c
 abbrev pub keeps_format : Component → Port → Bool
 keeps_format c p = not p.state.held && not (is_auto p.setting.definition.format) && (is_some c.file || not (is_settable c))
 
--- The port may not get the format: it differs from one that stays.
-abbrev pub is_format_fixed : Component → Port → Format → Bool
-is_format_fixed c p format = any_of ((keeps_format c p && not (same_format format p.setting.definition.format)) ∷ [])
+-- the port is held, and the format isn't its file's
+abbrev pub is_off_file : Component → Port → Format → Bool
+is_off_file c p format = p.state.held && not (same_format format (file_format c.file))
+
+-- the component's ports fit with this definition of the port
+abbrev pub would_fit : Component → ℕ → PortDefinition → Bool
+would_fit c port d = fits (changed_by port (params.Port d) c.settings)
+
+-- more bytes than a file may have
+abbrev pub is_too_large : ℕ → Format → Bool
+is_too_large frames format = nat_lt 134217728 (frames * frame_bytes_of format)
+
+-- the frames that are planned for a file that is written have too many bytes
+abbrev pub overflows : Option Attached → Format → Bool
+overflows (Some (To planned)) format = is_too_large planned format
+overflows _ format = false
+
+-- The port may not get the definition for its format: that is off the file's, or differs from one that stays, or wouldn't fit while the
+-- component isn't Loaded with nothing pending, or makes the planned file too large.
+abbrev pub is_format_fixed : Component → Port → PortDefinition → Bool
+is_format_fixed c p d = any_of
+    (is_off_file c p d.format
+    ∷ (keeps_format c p && not (same_format d.format p.setting.definition.format))
+    ∷ (not (is_settable c) && not (would_fit c p.key.port d))
+    ∷ overflows c.file d.format
+    ∷ [])
 
 -- the value may be set of the port, as far as its format goes
 abbrev pub is_format_free : Component → ℕ → Param → Bool
-is_format_free c port (params.Port d) = holds_at (port_of c port) (λ p. not (is_format_fixed c p d.format))
+is_format_free c port (params.Port d) = holds_at (port_of c port) (λ p. not (is_format_fixed c p d))
 is_format_free c port _ = true
 
 -- The port is joined, or has headers, or is enabled while its component isn't Loaded with nothing pending.

@@ -20,7 +20,7 @@ pub use Rattle.part_forms.specs.Kinds.{IsSized}
 use Rattle.part_forms.specs.Kinds.{known_format}
 use Rattle.il_machine.specs.declared.port.PortSetting.{PortSetting}
 use Rattle.il_machine.specs.Lists.{all_of, first_of_these}
-use Rattle.il_machine.specs.Kinds.{inputs_of, outputs_of, ports_in, is_input, is_format_of, is_auto, is_late}
+use Rattle.il_machine.specs.Kinds.{inputs_of, outputs_of, ports_in, is_input, is_port_format, is_auto, is_late}
 
 pub record Settings : Type 0 where
   pub kind : Kind
@@ -159,7 +159,7 @@ is_good_value input (params.Weight weight) = nat_le weight 65535
 -- a format that the port may have, and the change to it is free
 abbrev pub is_supported : Settings → ℕ → Bool → Param → Bool
 is_supported s port free (params.Port d) =
-    is_format_of s.kind (is_input s.kind port) d.format && free
+    is_port_format s.kind (is_input s.kind port) d.format && free
 is_supported s port free _ = true
 
 abbrev pub value_refusals : Settings → ParamKey → Param → Bool → List (Bool × OmxError)

@@ -17,7 +17,7 @@ use Rattle.il_machine.specs.declared.header.HeaderState.{HeaderState}
 use Rattle.il_machine.specs.States.{same_state, is_lawful, is_invalid, is_running, is_up}
 use Rattle.il_machine.specs.Lists.{holds_at}
 use Rattle.il_machine.specs.Settings.{Settings, IsWhole, is_definition_of, same_format}
-use Rattle.il_machine.specs.Kinds.{inputs_of, ports_in, is_input, is_format_of, is_late}
+use Rattle.il_machine.specs.Kinds.{inputs_of, ports_in, is_input, is_port_format, is_late}
 use Rattle.il_machine.specs.World.{Component, Picked, Work, World, number_of, ports_of}
 use Rattle.il_machine.specs.Headers.{Seen, is_for, is_notice_of, is_work_of, Once, weight}
 use Rattle.il_machine.specs.Look.{look}
@@ -36,7 +36,7 @@ port_at key components = option_map (λ e. e.port) (end_of components key)
 -- each port's definition is one that may be set for it
 abbrev pub IsLawfulSetting : Settings → ℕ → PortSetting → Type 0
 IsLawfulSetting s port setting =
-    (is_definition_of (is_input s.kind port) setting.definition ≡ true) × (is_format_of s.kind (is_input s.kind port) setting.definition.format ≡ true)
+    (is_definition_of (is_input s.kind port) setting.definition ≡ true) × (is_port_format s.kind (is_input s.kind port) setting.definition.format ≡ true)
 
 -- a transition by loss is one to Idle from Executing or Pause, or one to Loaded
 abbrev pub is_lawful_cause : Component → Pending → Bool
