@@ -6,13 +6,14 @@ use Rattle.std.proofs.lemmas.List.Elements.{All-replicate}
 use Rattle.std.proofs.lemmas.List.Sums.{sum_by-cons}
 use Rattle.std.proofs.lemmas.Bool.{cases_eq}
 use Rattle.omx_types.specs.declared.handle.Handle.{Handle}
+use Rattle.omx_types.specs.declared.format.Format.{Format}
 use Rattle.omx_types.specs.declared.kind.Kind.{Kind}
 use Rattle.omx_types.specs.declared.kind.Kind.TheVariants.{Source, Decoder, Alaw, Mulaw, Gain, Mixer, Splitter, Sink, Late}
 use Rattle.il_machine.specs.declared.port.Port.{Port}
 use Rattle.il_machine.specs.declared.port.PortSetting.{PortSetting}
 use Rattle.il_machine.specs.declared.header.Owner.TheVariants as owners
 use Rattle.il_machine.specs.States.{is_loaded, is_invalid}
-use Rattle.il_machine.specs.Kinds.{named_kinds, has_name, kind_of, inputs_of, outputs_of, ports_in, is_input, is_late, is_format_of}
+use Rattle.il_machine.specs.Kinds.{named_kinds, has_name, kind_of, inputs_of, outputs_of, ports_in, is_input, is_late, is_format_of, is_port_format}
 use Rattle.il_machine.specs.Settings.{IsSized, default_setting, default_settings, is_definition_of}
 use Rattle.il_machine.specs.World.{Component, HeaderRecord, World, fresh, fresh_port, fresh_stream, ports_of, port_of}
 use Rattle.il_machine.specs.Headers.{Seen, find_header, count_headers, weight, is_for, is_notice_of, is_work_of}
@@ -50,7 +51,7 @@ sized_rows = (
         (
           tt,
           (
-            (omega arith, omega arith),
+            tt,
             (
               (omega arith, omega arith),
               (
@@ -77,7 +78,10 @@ sized_rows = (
                                     (omega arith, omega arith),
                                     (
                                       (omega arith, omega arith),
-                                      (tt, tt),
+                                      (
+                                        (omega arith, omega arith),
+                                        (tt, tt),
+                                      ),
                                     ),
                                   ),
                                 ),
@@ -151,10 +155,14 @@ output_format (Splitter n) h = refl
 output_format Sink h = absurd (omega arith)
 output_format Late h = refl
 
+-- a port may have a format of its kind
+kind_format : (kind : Kind) (input : Bool) (format : Format) → is_format_of kind input format ≡ true → is_port_format kind input format ≡ true
+kind_format kind input format h = rw h refl
+
 default_lawful : (kind : Kind) (port : ℕ) (setting : PortSetting) → slice_get (default_settings kind).ports port ≡ Some setting → IsLawfulSetting (default_settings kind) port setting
 default_lawful kind port setting e = elim (at_two_replicas (inputs_of kind) (outputs_of kind) port (default_setting kind true) (default_setting kind false) setting e) [
-  | inl h ↦ let t : is_input kind port ≡ true = lt-ltb port (inputs_of kind) h.0 in rw (t, h.1) (default_definition kind true, input_format kind (omega (arith, h.0)))
-  | inr h ↦ let f : is_input kind port ≡ false = le-ltb port (inputs_of kind) h.0 in rw (f, h.2) (default_definition kind false, output_format kind (omega (arith, h.0, h.1)))
+  | inl h ↦ let t : is_input kind port ≡ true = lt-ltb port (inputs_of kind) h.0 in rw (t, h.1) (default_definition kind true, kind_format kind true (default_setting kind true).definition.format (input_format kind (omega (arith, h.0))))
+  | inr h ↦ let f : is_input kind port ≡ false = le-ltb port (inputs_of kind) h.0 in rw (f, h.2) (default_definition kind false, kind_format kind false (default_setting kind false).definition.format (output_format kind (omega (arith, h.0, h.1))))
 ]
 
 fresh_places : (n : ℕ) → sum_by port_places (replicate n fresh_port) ≡ 0

@@ -11,7 +11,7 @@ use Rattle.il_machine.specs.declared.port.PortSetting.{PortSetting}
 use Rattle.il_machine.specs.declared.port.PortState.{PortState}
 use Rattle.il_machine.specs.States.{is_invalid}
 use Rattle.il_machine.specs.Lists.{holds_at}
-use Rattle.il_machine.specs.Kinds.{ports_in, is_input, is_format_of}
+use Rattle.il_machine.specs.Kinds.{ports_in, is_input, is_port_format}
 use Rattle.il_machine.specs.Settings.{setting_at, with_setting, changed_by, is_v112, is_index_of, is_port_of, is_value_of, is_good_value, is_supported, is_definition_of}
 use Rattle.il_machine.specs.World.{Component, HeaderRecord, World, number_of, ports_from, port_of, with_port, with_component}
 use Rattle.il_machine.specs.Headers.{Seen, seen, count_headers, is_for}
@@ -169,7 +169,7 @@ plain_change key value c S p k =
       whole = whole_changed key.port value c.settings S.whole;
       ports = S.ports ∙ ap ports_in (sym k);
       settings = λ j z e. let f : slice_get c.settings.ports j ≡ Some z = ap (λ (l : List PortSetting). slice_get l j) (sym p) ∙ e in let L = S.settings j z f in
-          subst (λ (x : Kind). (is_definition_of (is_input x j) z.definition ≡ true) × (is_format_of x (is_input x j) z.definition.format ≡ true)) (sym k) L;
+          subst (λ (x : Kind). (is_definition_of (is_input x j) z.definition ≡ true) × (is_port_format x (is_input x j) z.definition.format ≡ true)) (sym k) L;
       cause = S.cause;
       mark = S.mark;
       commands = S.commands;
@@ -187,7 +187,7 @@ sound_changed : (w : World) (i : ℕ) (c : Component) (key : ParamKey) (value : 
     → Sound (with_component i (with_changed key value c) w)
 sound_changed w i c key (params.Port d) S t G L =
     let e : key.index ≡ 1 = eqb-true key.index 1 G.variant in
-    let q = both_of (is_format_of c.settings.kind (is_input c.settings.kind key.port) d.format) G.free G.supported in
+    let q = both_of (is_port_format c.settings.kind (is_input c.settings.kind key.port) d.format) G.free G.supported in
     sound_with_setting w i c key.port (record (setting_at c.settings key.port) { definition = d }) S t (λ p f. L p (inl e) f) (λ old f. (G.good, q.0))
 sound_changed w i c key (params.Supplier x) S t G L =
     let e : key.index ≡ 2 = eqb-true key.index 2 G.variant in
