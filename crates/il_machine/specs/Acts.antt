@@ -10,6 +10,8 @@ use Rattle.omx_types.specs.declared.param.Param.{Param}
 use Rattle.omx_types.specs.declared.param.ParamKey.{ParamKey}
 use Rattle.omx_types.specs.declared.param.Supplier.{Supplier}
 use Rattle.il_machine.specs.declared.answer.Acted.{Acted as ActAnswer}
+use Rattle.il_machine.specs.declared.answer.Granted.{Granted as GrantAnswer}
+use Rattle.il_machine.specs.declared.answer.Preempted.{Preempted as PreemptAnswer}
 use Rattle.il_machine.specs.declared.answer.Progress.{Progress as ClientProgress}
 use Rattle.il_machine.specs.declared.port.PortView.{PortView as View}
 use Rattle.part_api.specs.declared.attached.Attached.{Attached}
@@ -41,6 +43,8 @@ pub data Act : Type 0 where
   Release : (h : Handle) (port : ℕ) → Act
   HandOver : (h : Handle) (port : ℕ) → Act
   HandBack : (h : Handle) (port : ℕ) → Act
+  Grant : Act
+  Preempt : Act
 
 -- What a call answers, without what it hands back. Of the memory of a header that is freed it says whether it is the client's; of a
 -- component that is freed, for which frames its file came.
@@ -60,3 +64,5 @@ pub data Reply : Type 0 where
   Took : (result : Result Taking OmxError) → Reply
   Ended : Reply
   Supplied : (result : Result ActAnswer CallError) → Reply
+  Granted : (answer : GrantAnswer) → Reply
+  Preempted : (answer : PreemptAnswer) → Reply

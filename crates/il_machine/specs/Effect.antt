@@ -15,6 +15,9 @@ use Rattle.il_machine.specs.Commands.{sent, run_front}
 use Rattle.il_machine.specs.Buffers.{client_header, with_header, unpopulated, without_header, with_todo, load_in}
 use Rattle.il_machine.specs.Notes.{TakenEvent, TakenEmpty, TakenFilled, TookNote, with_given, with_client, back_in}
 use Rattle.il_machine.specs.Flow.{with_supplied, in_port, front_unmade, handed_over, handed_back}
+use Rattle.il_machine.specs.declared.answer.Granted.TheVariants as granted
+use Rattle.il_machine.specs.declared.answer.Preempted.TheVariants as preempted
+use Rattle.il_machine.specs.Units.{first_waiter, victim, with_changed, granted_units, preempted_units}
 use Rattle.il_machine.specs.Acts.{Act, Reply}
 use Rattle.il_machine.specs.Acts as acts
 
@@ -60,4 +63,6 @@ effect w (acts.Supply h port) (acts.Supplied (Ok Did)) = at_named_port h port w 
 effect w (acts.Release h port) (acts.Acted (Ok Did)) = at_named_port h port w (λ i c p. front_unmade (in_port (seen w.headers) p) w)
 effect w (acts.HandOver h port) (acts.Acted (Ok Did)) = at_named_port h port w (λ i c p. handed_over p w)
 effect w (acts.HandBack h port) (acts.Acted (Ok Did)) = at_named_port h port w (λ i c p. handed_back i c p p.state.link w)
+effect w acts.Grant (acts.Granted (granted.Granted h)) = changed_at (first_waiter w.components) w (λ c. with_changed granted_units c w)
+effect w acts.Preempt (acts.Preempted (preempted.Victim h)) = changed_at (victim w.components) w (λ c. with_changed preempted_units c w)
 effect w _ _ = w

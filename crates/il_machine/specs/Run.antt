@@ -12,6 +12,7 @@ use Rattle.il_machine.specs.Commands.{SendCommand, RunCommand}
 use Rattle.il_machine.specs.Buffers.{AllocateBuffer, UseBuffer, FreeBuffer, EmptyThisBuffer, FillThisBuffer, IsWithClient, IsHeldByClient}
 use Rattle.il_machine.specs.Notes.{TakeNote, EndNote}
 use Rattle.il_machine.specs.Flow.{Supply, Release, HandOver, HandBack}
+use Rattle.il_machine.specs.Units.{Grant, Preempt}
 
 -- In the world w the act may be answered so, and then leaves v. A call that looks changes nothing of a closed world.
 abbrev pub Step : World → Act → Reply → World → Type 0
@@ -39,6 +40,8 @@ Step w (acts.Supply h port) (acts.Supplied result) v = Supply w h port result v
 Step w (acts.Release h port) (acts.Acted result) v = Release w h port result v
 Step w (acts.HandOver h port) (acts.Acted result) v = HandOver w h port result v
 Step w (acts.HandBack h port) (acts.Acted result) v = HandBack w h port result v
+Step w acts.Grant (acts.Granted answer) v = Grant w answer v
+Step w acts.Preempt (acts.Preempted answer) v = Preempt w answer v
 -- no other answer is given
 Step w _ _ v = ⊥
 
@@ -69,6 +72,8 @@ Meets w (acts.Supply h port) = Unit {0}
 Meets w (acts.Release h port) = Unit {0}
 Meets w (acts.HandOver h port) = Unit {0}
 Meets w (acts.HandBack h port) = Unit {0}
+Meets w acts.Grant = Unit {0}
+Meets w acts.Preempt = Unit {0}
 
 -- The acts, each of which meets its condition, are answered so in their order and lead from w to v.
 abbrev pub Run : World → List (Act × Reply) → World → Type 0

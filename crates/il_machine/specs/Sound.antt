@@ -144,6 +144,7 @@ is_lawful_way c p =
 
 -- what holds of a component's units, of its waiting, of the transition that is pending, of its held ports and of its part
 pub record IsUnitSound (waits : ℕ) (c : Component) : Type 0 where
+  pub holds : needs_units c ≡ true → c.holds ≡ true
   -- one that holds units and needs none is on its way to Loaded
   pub gives : c.holds ≡ true → (needs_units c || is_going_to states.Loaded c) ≡ true
   pub waiting : is_waiter c ≡ true → is_some c.waiting ≡ true

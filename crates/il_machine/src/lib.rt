@@ -9,6 +9,6 @@ mod answer;
 mod header;
 mod port;
 
-pub use answer::{Acted, Cause, Pending, Progress, Why};
+pub use answer::{Acted, Cause, Granted, Pending, Preempted, Progress, Why};
 pub use header::{HeaderState, Home, Owner, Place, Spot};
 pub use port::{Link, Mark, Mode, Port, PortKey, PortSetting, PortState, PortView};
