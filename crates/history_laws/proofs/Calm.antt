@@ -12,10 +12,13 @@ use Rattle.il_machine.specs.States.{is_down, same_state}
 use Rattle.il_machine.specs.Room.{is_by_client}
 use Rattle.il_machine.specs.World.{Component}
 use Rattle.il_machine.specs.Look.{Look}
+use Rattle.il_machine.specs.Ports.{is_at_rest}
 use Rattle.il_machine.specs.Due.{reached, completed_for, restarted, with_part, all_given_back, lost_by, arrived_at}
 use Rattle.il_machine.specs.Commands.{begun, state_fault, carried_out, run_front}
 use Rattle.machine_laws.proofs.Finding.{either}
-use Rattle.history_laws.proofs.Cores.{Core, IsLasting}
+use Rattle.machine_laws.proofs.Accepting.{both_of}
+use Rattle.machine_laws.proofs.Granting.{waits_there, preempted_by}
+use Rattle.history_laws.proofs.Cores.{Core, core, IsLasting}
 
 -- a transition happened, or a command was begun: the handle and the client object are as they were
 record KeepsSeat (c d : Component) : Type 0 where
@@ -108,4 +111,16 @@ module _ (Q : Handle → Bool → Type 0) (D : Handle → Type 0) (back : (h : H
         );
     drops = λ c k. (k.0, (λ i. refl), (λ d. refl));
     ends = λ c k. (back c.handle c.client_out k.0, k.1, k.2);
+    grants = λ c h k.
+        let s = waits_there c.state (both_of (same_state c.state WaitForResources) (is_at_rest c) h).0 in (
+          k.0,
+          (λ i. let x : WaitForResources ≡ Invalid = sym s ∙ i in absurd cc),
+          k.2,
+        );
+    loses = λ c h k.
+        let no : c.state ≡ Invalid → ⊥ = λ i. let x : true ≡ false = rw i at h in absurd cc in
+        preempted_by (λ d. Fit Q D (core d)) c
+        (λ f. (k.0, (λ i. absurd (no i)), k.2))
+        (λ t g. (k.0, (λ i. absurd (no i)), k.2))
+        (λ t g. (k.0, (λ i. absurd (no i)), k.2));
   }

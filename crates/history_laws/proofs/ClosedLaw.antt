@@ -9,6 +9,8 @@ use Rattle.omx_types.specs.declared.error.OmxError.TheVariants as errors
 use Rattle.omx_types.specs.declared.error.CallError.{CallError}
 use Rattle.omx_types.specs.declared.error.CallError.TheVariants.{Omx}
 use Rattle.il_machine.specs.declared.answer.Acted.{Acted}
+use Rattle.il_machine.specs.declared.answer.Granted.{Granted}
+use Rattle.il_machine.specs.declared.answer.Preempted.{Preempted}
 use Rattle.il_machine.specs.declared.answer.Why.{Why}
 use Rattle.il_machine.specs.declared.port.Port.{Port}
 use Rattle.il_machine.specs.World.{Component, World, no_world, place_of, port_of, with_component}
@@ -25,6 +27,7 @@ use Rattle.il_machine.specs.Buffers.{allocate_refusal, use_refusal, free_buffer_
 use Rattle.il_machine.specs.Notes.{TakeFrom, Took}
 use Rattle.il_machine.specs.Flow.{OnPort, supply_idle, release_idle, over_idle, back_idle, with_supplied, front_unmade, in_port, handed_over, handed_back}
 use Rattle.il_machine.specs.Headers.{seen}
+use Rattle.il_machine.specs.Units.{first_waiter, victim, grant_idle, preempt_idle, Grants, Preempts}
 use Rattle.il_machine.specs.Acts.{Act, Reply}
 use Rattle.il_machine.specs.Acts as acts
 use Rattle.il_machine.specs.Run.{Step, Run}
@@ -74,6 +77,18 @@ acts_or_memory None (Err error) w after v a C = stays w v a.1 C
 looks : {T : Type 0} (answer result : Result T OmxError) (w v : World) → Looks answer result w v → IsClosed w → IsClosed v
 looks (Ok x) result w v a C = (a.1).closed
 looks (Err error) result w v a C = stays w v a.1 C
+
+-- ---- grant and preempt
+
+grants_close : (w v : World) (idle : Option Why) (waiter : Option Component) (answer : Granted) → Grants idle waiter w answer v → IsClosed w → IsClosed v
+grants_close w v (Some reason) waiter answer G C = stays w v G.1 C
+grants_close w v None None answer G C = absurd G
+grants_close w v None (Some c) answer G C = (G.1).closed
+
+preempts_close : (w v : World) (idle : Option Why) (weak : Option Component) (answer : Preempted) → Preempts idle weak w answer v → IsClosed w → IsClosed v
+preempts_close w v (Some reason) weak answer G C = stays w v G.1 C
+preempts_close w v None None answer G C = absurd G
+preempts_close w v None (Some c) answer G C = (G.1).closed
 
 -- ---- take_note
 
@@ -138,6 +153,8 @@ step_closed w (acts.Release h port) (acts.Acted result) v C s = on_port plain w 
 step_closed w (acts.HandOver h port) (acts.Acted result) v C s = on_port plain w v h result C port _ s (λ i c p a. acts_close (over_idle (look w) c p) result w (handed_over p w) v a C)
 step_closed w (acts.HandBack h port) (acts.Acted result) v C s = on_port plain w v h result C port _ s (λ i c p a.
     acts_close (back_idle (look w) c p) result w (handed_back i c p p.state.link w) v a C)
+step_closed w acts.Grant (acts.Granted answer) v C s = grants_close w v (grant_idle (look w)) (first_waiter w.components) answer s C
+step_closed w acts.Preempt (acts.Preempted answer) v C s = preempts_close w v (preempt_idle (look w)) (victim w.components) answer s C
 step_closed w _ _ v C s = absurd s
 
 closed_from : (w v : World) (xs : List (Act × Reply)) → IsClosed w → Run w xs v → IsClosed v

@@ -1,5 +1,5 @@
 -- What acts and the close-out leave of each component's handle, client object, state and pending transition.
-use Rattle.std.proofs.Common.{◌≡◌, ◌⊎◌, inl, inr, ℕ, zero, suc, Bool, nat_eq, List, [], ◌∷◌, set, remove, slice_get, Option, Some, None, All, Ok, refl, sym, subst}
+use Rattle.std.proofs.Common.{◌≡◌, ◌⊎◌, inl, inr, ℕ, zero, suc, Bool, true, false, nat_eq, List, [], ◌∷◌, set, remove, slice_get, Option, Some, None, All, Ok, refl, sym, subst}
 use Rattle.omx_types.specs.declared.state.State.{State}
 use Rattle.omx_types.specs.declared.handle.Handle.{Handle}
 use Rattle.omx_types.specs.declared.command.Command.{Command}
@@ -14,7 +14,7 @@ use Rattle.il_machine.specs.declared.port.Port.{Port}
 use Rattle.il_machine.specs.declared.port.PortKey.{PortKey}
 use Rattle.il_machine.specs.declared.header.Spot.{Spot}
 use Rattle.il_machine.specs.declared.header.Spot.TheVariants.{TodoBack}
-use Rattle.il_machine.specs.World.{changed_at, Component, HeaderRecord, World, place_of, port_of, with_port}
+use Rattle.il_machine.specs.World.{changed_at, Component, HeaderRecord, World, number_of, place_of, place_numbered, port_of, with_port}
 use Rattle.il_machine.specs.Headers.{seen, unchanged, cleared}
 use Rattle.il_machine.specs.Look.{Look, look}
 use Rattle.il_machine.specs.Ports.{is_input_port}
@@ -25,10 +25,17 @@ use Rattle.il_machine.specs.Commands.{is_at_once, invalidated, sent, run_front}
 use Rattle.il_machine.specs.Buffers.{is_unpopulating, unpopulated}
 use Rattle.il_machine.specs.Notes.{TakenEvent, TakenEmpty, TakenFilled, TookNote, first_taken, back_in}
 use Rattle.il_machine.specs.Flow.{in_port, front_unmade, front_put, at_link, handed_back, returned, unused_spot, noticed}
+use Rattle.il_machine.specs.declared.answer.Granted.TheVariants as granted
+use Rattle.il_machine.specs.declared.answer.Preempted.TheVariants as preempted
+use Rattle.il_machine.specs.States.{is_invalid}
+use Rattle.il_machine.specs.Units.{is_waiter, is_before, first_waiter, victim, with_changed, granted_units, preempted_units}
+use Rattle.il_machine.specs.Sound.{Sound}
 use Rattle.il_machine.specs.Acts.{Act, Reply}
 use Rattle.il_machine.specs.Acts as acts
 use Rattle.il_machine.specs.Effect.{at_named, at_named_port, at_both, effect}
 use Rattle.machine_laws.proofs.Finding.{either}
+use Rattle.machine_laws.proofs.Accepting.{is_not}
+use Rattle.machine_laws.proofs.Granting.{best_among, victim_there}
 use Rattle.machine_laws.proofs.Every.{at_place, from_places, at_set, at_remove}
 use Rattle.history_laws.proofs.Outcome.{turn, Outcome, Nothing, Done}
 
@@ -58,6 +65,8 @@ module _ (P : Core → Type 0) where
     pub runs : (l : Look) (commands : List Command) (c : Component) → P (core c) → P (core (run_front l commands c))
     pub drops : (c : Component) → P (core c) → P (core (invalidated c))
     pub ends : (c : Component) → P (core c) → P (core (back_in c))
+    pub grants : (c : Component) → is_waiter c ≡ true → P (core c) → P (core (granted_units c))
+    pub loses : (c : Component) → is_invalid c.state ≡ false → P (core c) → P (core (preempted_units c))
 
   -- it is true of each component
   abbrev pub Each : World → Type 0
@@ -162,7 +171,20 @@ module _ (P : Core → Type 0) where
     unpopulated_core : (q : Port) (c : Component) → P (core c) → P (core (unpopulated q c))
     unpopulated_core q c p = either (is_unpopulating c q) (λ t. rw t p) (λ f. rw f p)
 
-    module _ (w : World) (E : Each w) where
+    granted_each : (o : Option Component) (w : World) → first_waiter w.components ≡ o → Each w → Each (changed_at o w (λ c. with_changed granted_units c w))
+    granted_each None w e E = E
+    granted_each (Some c) w e E =
+        let A = best_among is_waiter is_before w.components c e in
+        changed_each (place_numbered (number_of c) w.components) w _ E (λ i f. each_set w.components i _ E (L.grants c A.passes (at_place (λ (d : Component). P (core d)) w.components A.place c E A.there)))
+
+    preempted_each : (o : Option Component) (w : World) → Sound w → victim w.components ≡ o → Each w → Each (changed_at o w (λ c. with_changed preempted_units c w))
+    preempted_each None w S e E = E
+    preempted_each (Some c) w S e E =
+        let A = victim_there w c S e in
+        changed_each (place_numbered (number_of c) w.components) w _ E (λ i f.
+        each_set w.components i _ E (L.loses c (is_not (is_invalid c.state) A.passes) (at_place (λ (d : Component). P (core d)) w.components A.place c E A.there)))
+
+    module _ (w : World) (S : Sound w) (E : Each w) where
       noted_each : (i : ℕ) (c : Component) → P (core (first_taken c)) → Each (record w { components = set w.components i (first_taken c) })
       noted_each i c p = each_set w.components i (first_taken c) E p
 
@@ -194,8 +216,10 @@ module _ (P : Core → Type 0) where
       effect_each (acts.Release h port) (acts.Acted (Ok Did)) n t = port_each h port w _ E (λ i c q p. unmade_each (in_port (seen w.headers) q) w E)
       effect_each (acts.HandOver h port) (acts.Acted (Ok Did)) n t = port_each h port w _ E (λ i c q p. over_each q q.state.link w E)
       effect_each (acts.HandBack h port) (acts.Acted (Ok Did)) n t = port_each h port w _ E (λ i c q p. back_each i c q q.state.link w p E)
+      effect_each acts.Grant (acts.Granted (granted.Granted h)) n t = granted_each (first_waiter w.components) w refl E
+      effect_each acts.Preempt (acts.Preempted (preempted.Victim h)) n t = preempted_each (victim w.components) w S refl E
       effect_each _ _ n t = E
 
-    pub outcome_each : (w : World) (a : Act) (r : Reply) (v : World) → NoneGot a r → (NoneTaken a r ⊎ ((c : Component) → P (core c) → P (core (first_taken c)))) → Outcome w (turn w a r) v → Each w → Each v
-    outcome_each w a r v n t (Nothing e m) E = subst Each (sym e) E
-    outcome_each w a r v n t (Done C F) E = closes_each (effect w a r) v C (effect_each w E a r n t)
+    pub outcome_each : (w : World) (a : Act) (r : Reply) (v : World) → Sound w → NoneGot a r → (NoneTaken a r ⊎ ((c : Component) → P (core c) → P (core (first_taken c)))) → Outcome w (turn w a r) v → Each w → Each v
+    outcome_each w a r v S n t (Nothing e m) E = subst Each (sym e) E
+    outcome_each w a r v S n t (Done C F) E = closes_each (effect w a r) v C (effect_each w S E a r n t)

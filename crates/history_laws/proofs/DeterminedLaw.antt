@@ -11,6 +11,8 @@ use Rattle.omx_types.specs.declared.param.ParamKey.{ParamKey}
 use Rattle.omx_types.specs.declared.param.Supplier.{Supplier}
 use Rattle.part_api.specs.declared.attached.Attached.{Attached}
 use Rattle.il_machine.specs.declared.answer.Acted.{Acted}
+use Rattle.il_machine.specs.declared.answer.Granted.{Granted}
+use Rattle.il_machine.specs.declared.answer.Preempted.{Preempted}
 use Rattle.il_machine.specs.declared.answer.Progress.{Progress}
 use Rattle.il_machine.specs.declared.port.PortView.{PortView}
 use Rattle.il_machine.specs.World.{World}
@@ -23,12 +25,14 @@ use Rattle.il_machine.specs.Commands.{SendCommand, RunCommand}
 use Rattle.il_machine.specs.Buffers.{Held, AllocateBuffer, UseBuffer, FreeBuffer, EmptyThisBuffer, FillThisBuffer}
 use Rattle.il_machine.specs.Notes.{Took, TakeNote, EndNote}
 use Rattle.il_machine.specs.Flow.{Supply, Release, HandOver, HandBack}
+use Rattle.il_machine.specs.Units.{Grant, Preempt}
 use Rattle.il_machine.specs.Acts.{Act, Reply}
 use Rattle.il_machine.specs.Acts as acts
 use Rattle.il_machine.specs.Run.{Step}
 use Rattle.history_laws.specs.Determined.{AreAlike, Equal}
 use Rattle.history_laws.proofs.NewHandles.{alike, get_handle_twice}
 use Rattle.history_laws.proofs.Twice.{looks_twice}
+use Rattle.history_laws.proofs.GrantSteps.{grant_twice, preempt_twice}
 use Rattle.history_laws.proofs.CallsTwice.{free_handle_twice, set_parameter_twice, set_config_twice, setup_tunnel_twice, drop_tunnel_twice, send_command_twice, run_command_twice, end_note_twice, allocate_buffer_twice, use_buffer_twice, free_buffer_twice, empty_this_buffer_twice, fill_this_buffer_twice, take_note_twice, supply_twice, release_twice, hand_over_twice, hand_back_twice}
 
 -- ---- components, parameters, tunnels and commands
@@ -133,6 +137,16 @@ end_note_again : (w : World) (h : Handle) (progress : Progress) (v : World) (s :
 end_note_again w h progress v acts.Ended u p q = Equal refl (end_note_twice w h v u p q)
 end_note_again w h progress v _ u p q = absurd q
 
+-- ---- units
+
+grant_again : (w : World) (x : Granted) (v : World) (s : Reply) (u : World) → Grant w x v → Step w acts.Grant s u → AreAlike w (acts.Granted x) v s u
+grant_again w x v (acts.Granted y) u p q = alike (λ r. acts.Granted r) w x y v u (grant_twice w x y v u p q)
+grant_again w x v _ u p q = absurd q
+
+preempt_again : (w : World) (x : Preempted) (v : World) (s : Reply) (u : World) → Preempt w x v → Step w acts.Preempt s u → AreAlike w (acts.Preempted x) v s u
+preempt_again w x v (acts.Preempted y) u p q = alike (λ r. acts.Preempted r) w x y v u (preempt_twice w x y v u p q)
+preempt_again w x v _ u p q = absurd q
+
 -- ---- all acts
 
 pub steps_alike : (w : World) (a : Act) (r : Reply) (v : World) (s : Reply) (u : World) → Step w a r v → Step w a s u → AreAlike w r v s u
@@ -160,4 +174,6 @@ steps_alike w (acts.Release h port) (acts.Acted x) v s u p q = release_again w h
 steps_alike w (acts.HandOver h port) (acts.Acted x) v s u p q = hand_over_again w h port x v s u p q
 steps_alike w (acts.HandBack h port) (acts.Acted x) v s u p q = hand_back_again w h port x v s u p q
 steps_alike w (acts.EndNote h progress) acts.Ended v s u p q = end_note_again w h progress v s u p q
+steps_alike w acts.Grant (acts.Granted x) v s u p q = grant_again w x v s u p q
+steps_alike w acts.Preempt (acts.Preempted x) v s u p q = preempt_again w x v s u p q
 steps_alike w _ _ v s u p q = absurd p

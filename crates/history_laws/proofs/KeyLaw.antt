@@ -8,7 +8,7 @@ use Rattle.il_machine.specs.declared.port.Port.{Port}
 use Rattle.il_machine.specs.declared.port.PortKey.{PortKey}
 use Rattle.il_machine.specs.declared.header.Spot.{Spot}
 use Rattle.il_machine.specs.declared.header.Spot.TheVariants.{TodoBack}
-use Rattle.il_machine.specs.World.{changed_at, Component, HeaderRecord, World, place_of, port_of}
+use Rattle.il_machine.specs.World.{changed_at, Component, HeaderRecord, World, number_of, place_of, place_numbered, port_of}
 use Rattle.il_machine.specs.Headers.{seen, unchanged, cleared}
 use Rattle.il_machine.specs.Due.{Thing, Transition, Flush, PortMode, WaitingMark, at_port, transition_happened, flush_happened, mode_happened, mark_happened, happened, Happens, HappenTimes, ClosesTo}
 use Rattle.il_machine.specs.Kinds.{kind_of}
@@ -16,6 +16,9 @@ use Rattle.il_machine.specs.Notes.{TakenEvent, TakenEmpty, TakenFilled, TookNote
 use Rattle.il_machine.specs.Flow.{in_port, front_unmade, front_put, handed_over, at_link, handed_back, returned, unused_spot, noticed}
 use Rattle.il_machine.specs.Ports.{is_input_port}
 use Rattle.il_machine.specs.Effect.{at_named, at_named_port, at_both, effect}
+use Rattle.il_machine.specs.declared.answer.Granted.TheVariants as granted
+use Rattle.il_machine.specs.declared.answer.Preempted.TheVariants as preempted
+use Rattle.il_machine.specs.Units.{first_waiter, victim, with_changed, granted_units, preempted_units}
 use Rattle.il_machine.specs.Acts.{Act, Reply}
 use Rattle.il_machine.specs.Acts as acts
 use Rattle.il_machine.specs.Run.{Run, Step, Meets}
@@ -115,6 +118,9 @@ back_stays : (i : ℕ) (c : Component) (p : Port) (o : Option Link) (w : World) 
 back_stays i c p None w = noticed_stays i c p ((seen w.headers).todo p.key) w
 back_stays i c p (Some link) w = returned_stays link.peer (is_input_port p) ((seen w.headers).done p.key) ((seen w.headers).todo p.key) w
 
+changed_stays : (change : Component → Component) (o : Option Component) (w : World) → Stays w (changed_at o w (λ c. with_changed change c w))
+changed_stays change o w = at_there Stays stays o w _ (λ c. at_there Stays stays (place_numbered (number_of c) w.components) w _ (λ i. (refl, refl)))
+
 pub effect_leaves : (w : World) (a : Act) (r : Reply) → HasKeyOf w (effect w a r) × LeavesGiven a r w (effect w a r)
 effect_leaves w (acts.GetHandle name) (acts.Got (Ok h)) = at_there Stays stays (kind_of name) w _ (λ kind. (refl, refl))
 effect_leaves w (acts.FreeHandle h) (acts.Removed (Ok file)) = (key_named h w _ (λ i c. refl), tt)
@@ -139,6 +145,8 @@ effect_leaves w (acts.Supply h port) (acts.Supplied (Ok Did)) = port_stays h por
 effect_leaves w (acts.Release h port) (acts.Acted (Ok Did)) = port_stays h port w _ (λ i c p. unmade_stays (in_port (seen w.headers) p) w)
 effect_leaves w (acts.HandOver h port) (acts.Acted (Ok Did)) = port_stays h port w _ (λ i c p. over_stays p w)
 effect_leaves w (acts.HandBack h port) (acts.Acted (Ok Did)) = port_stays h port w _ (λ i c p. back_stays i c p p.state.link w)
+effect_leaves w acts.Grant (acts.Granted (granted.Granted h)) = changed_stays granted_units (first_waiter w.components) w
+effect_leaves w acts.Preempt (acts.Preempted (preempted.Victim h)) = changed_stays preempted_units (victim w.components) w
 effect_leaves w _ _ = (refl, refl)
 
 outcome_key : (w : World) (a : Act) (r : Reply) (v : World) → Outcome w (turn w a r) v → HasKeyOf w v

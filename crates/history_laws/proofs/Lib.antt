@@ -14,6 +14,7 @@ pub mod Homes
 pub mod HeaderActs
 pub mod BufferSteps
 pub mod FlowSteps
+pub mod GrantSteps
 pub mod Steps
 pub mod QueueLaw
 pub mod TrailLaw

@@ -60,7 +60,7 @@ looks (Err e) result w v h = Nothing h.1 refl
 
 -- ---- the forms of an answer; ms is what comes by the result
 
-nothing_by : {R : Type 0} (w v : World) (ms : R → Turn) (result r : R) → result ≡ r → ms r ≡ no_turn w → v ≡ w → Outcome w (ms result) v
+pub nothing_by : {R : Type 0} (w v : World) (ms : R → Turn) (result r : R) → result ≡ r → ms r ≡ no_turn w → v ≡ w → Outcome w (ms result) v
 nothing_by w v ms result r e m s = Nothing s (ap ms e ∙ m)
 
 module _ {T : Type 0} where

@@ -35,3 +35,16 @@ is_empty (x ∷ xs) = false
 -- the bytes with others in place of their front
 abbrev pub overwritten : List ℕ → List ℕ → List ℕ
 overwritten front bytes = front ++ drop (length front) bytes
+
+-- ---- the best of a list
+
+module _ {X : Type 0} where
+  -- one that is in front gives way to the best of the others where that one goes before it
+  abbrev pub better : (X → X → Bool) → X → Option X → X
+  better before x None = x
+  better before x (Some y) = if before y x then y else x
+
+  -- the best of those that pass the test
+  abbrev pub best_of : (X → Bool) → (X → X → Bool) → List X → Option X
+  best_of test before [] = None
+  best_of test before (x ∷ xs) = if test x then Some (better before x (best_of test before xs)) else best_of test before xs

@@ -13,7 +13,7 @@ use Rattle.il_machine.specs.declared.answer.Preempted.TheVariants as preempted
 use Rattle.il_machine.specs.declared.answer.Why.{Why}
 use Rattle.il_machine.specs.declared.answer.Why.TheVariants as why
 use Rattle.il_machine.specs.States.{same_state, is_running}
-use Rattle.il_machine.specs.Lists.{first_of_these, holds_at}
+use Rattle.il_machine.specs.Lists.{best_of, first_of_these, holds_at}
 use Rattle.il_machine.specs.World.{Component, World, changed_at, number_of, place_numbered, with_component, told}
 use Rattle.il_machine.specs.Look.{Look, look}
 use Rattle.il_machine.specs.Ports.{is_at_rest, is_going_to}
@@ -67,14 +67,9 @@ is_before c d =
     nat_lt c.settings.priority d.settings.priority
     || (nat_eq c.settings.priority d.settings.priority && nat_lt (number_or_0 c.waiting) (number_or_0 d.waiting))
 
-abbrev pub earlier : Component → Option Component → Component
-earlier c None = c
-earlier c (Some d) = if is_before d c then d else c
-
 -- the first of those that wait
 abbrev pub first_waiter : List Component → Option Component
-first_waiter [] = None
-first_waiter (c ∷ components) = if is_waiter c then Some (earlier c (first_waiter components)) else first_waiter components
+first_waiter components = best_of is_waiter is_before components
 
 -- ---- who gives up its units
 
@@ -82,15 +77,13 @@ first_waiter (c ∷ components) = if is_waiter c then Some (earlier c (first_wai
 abbrev pub is_weaker : Component → Component → Bool
 is_weaker waiter c = c.holds && not (is_giving_back c) && nat_lt waiter.settings.priority c.settings.priority
 
--- the greater priority number, and of two that are equal the later component
-abbrev pub later : Component → Option Component → Component
-later c None = c
-later c (Some d) = if nat_lt d.settings.priority c.settings.priority then c else d
+-- the priority number of the later component isn't less than that of the earlier one
+abbrev pub gives_first : Component → Component → Bool
+gives_first later earlier = nat_le earlier.settings.priority later.settings.priority
 
 -- of those that are weaker than the waiter the one with the greatest priority number, the last of these
 abbrev pub weakest : Component → List Component → Option Component
-weakest waiter [] = None
-weakest waiter (c ∷ components) = if is_weaker waiter c then Some (later c (weakest waiter components)) else weakest waiter components
+weakest waiter components = best_of (is_weaker waiter) gives_first components
 
 abbrev pub victim : List Component → Option Component
 victim components = option_and_then (λ waiter. weakest waiter components) (first_waiter components)

@@ -53,10 +53,10 @@ lawful_reached : (p : Pending) (c : Component) → IsLawful c → c.loss_mark �
 lawful_reached p c L m = record { whole = L.whole; ports = L.ports; settings = L.settings; cause = λ q e. absurd cc; mark = λ t. absurd cc; commands = L.commands }
 
 -- Loaded is pending by loss
-abbrev losing : Component → Component
+abbrev pub losing : Component → Component
 losing c = record c { loss_mark = false; pending = Some (record { target = Loaded; cause = causes.Loss }) }
 
-lawful_losing : (c : Component) → IsLawful c → IsLawful (losing c)
+pub lawful_losing : (c : Component) → IsLawful c → IsLawful (losing c)
 lawful_losing c L = record {
   whole = L.whole;
   ports = L.ports;
@@ -76,10 +76,10 @@ used_losing c e =
 used_lost : (c : Component) → c.pending ≡ None → used (lost c) ≡ used c + 1
 used_lost c e = let t = used_told (Error errors.ResourcesLost) (losing c) in let l = used_losing c e in omega arith
 
-lawful_lost : (c : Component) → IsLawful c → IsLawful (lost c)
+pub lawful_lost : (c : Component) → IsLawful c → IsLawful (lost c)
 lawful_lost c L = lawful_told (Error errors.ResourcesLost) (losing c) (lawful_losing c L)
 
-change_lost : (c : Component) → IsChange c (lost c)
+pub change_lost : (c : Component) → IsChange c (lost c)
 change_lost c = change_twice c (losing c) (lost c) (record { handle = refl; ports = refl; links = refl; notes = refl }) (change_told (Error errors.ResourcesLost) (losing c))
 
 -- a component that reached its target, before its loss mark is cleared

@@ -6,6 +6,8 @@ use Rattle.il_machine.specs.declared.port.PortSetting.{PortSetting}
 use Rattle.il_machine.specs.declared.port.PortState.{PortState}
 use Rattle.il_machine.specs.World.{Component, HeaderRecord, Work, World, number_of, ports_from, port_of, with_component}
 use Rattle.il_machine.specs.Headers.{seen}
+use Rattle.il_machine.specs.Look.{look}
+use Rattle.il_machine.specs.Units.{free_units}
 use Rattle.il_machine.specs.Census.{note_numbers}
 use Rattle.il_machine.specs.Sound.{Sound, IsSound, AreNoted, AreRising, may_work, port_at}
 use Rattle.machine_laws.proofs.Every.{at_set}
@@ -61,19 +63,19 @@ each_set P i cs d h p j x e = elim (at_set cs i j d x e) [ inl s ↦ rw s.1 p | 
 pub same_notes : (hs : List HeaderRecord) (c d : Component) → number_of d ≡ number_of c → note_numbers d.notes ≡ note_numbers c.notes → AreNoted (seen hs) c → AreNoted (seen hs) d
 same_notes hs c d n e A = λ number. rw (e, n) (A number)
 
-pub lawful_set : (waits after i : ℕ) (cs : List Component) (c d : Component) → slice_get cs i ≡ Some c → IsFair waits after c d
+pub lawful_set : (spare waits after i : ℕ) (cs : List Component) (c d : Component) → slice_get cs i ≡ Some c → IsFair spare waits after c d
     → ((j : ℕ) (x : Component) (work : Work) → slice_get cs j ≡ Some x → x.work ≡ Some work → IsLawfulWork x work)
     → (j : ℕ) (x : Component) (work : Work) → slice_get (set cs i d) j ≡ Some x → x.work ≡ Some work → IsLawfulWork x work
-lawful_set waits after i cs c d t F L j x work e f = elim (at_set cs i j d x e) [
+lawful_set spare waits after i cs c d t F L j x work e f = elim (at_set cs i j d x e) [
   | inl s ↦
       let q : c.work ≡ Some work = sym (F.keeps).work ∙ (ap (λ (y : Component). y.work) (sym s.1) ∙ f) in
       rw s.1 (lawful_as c d work F.keeps (F.stays work q) (L i c work t q))
   | inr s ↦ L j x work s.1 f
 ]
 
-pub parts_changed : (waits after numbered made i : ℕ) (cs : List Component) (hs : List HeaderRecord) (c d : Component) → Parts cs hs numbered made → slice_get cs i ≡ Some c → IsChange c d → IsSound d → IsFair waits after c d
+pub parts_changed : (spare waits after numbered made i : ℕ) (cs : List Component) (hs : List HeaderRecord) (c d : Component) → Parts cs hs numbered made → slice_get cs i ≡ Some c → IsChange c d → IsSound d → IsFair spare waits after c d
     → Parts (set cs i d) hs numbered made
-parts_changed waits after numbered made i cs hs c d P e C S F =
+parts_changed spare waits after numbered made i cs hs c d P e C S F =
     let n : number_of d ≡ number_of c = ap (λ h. h.generation) C.handle in
     record {
       rising = rising_set 0 numbered i cs c d P.rising e n;
@@ -81,7 +83,7 @@ parts_changed waits after numbered made i cs hs c d P e C S F =
       tied = tied_set numbered i cs hs c d P.rising e n (kept_by_change hs c d C) P.tied;
       noted = each_set (AreNoted (seen hs)) i cs d P.noted (same_notes hs c d n C.notes (P.noted i c e));
       works = works_set i cs hs c d e n (F.keeps).work P.works;
-      lawful = lawful_set waits after i cs c d e F P.lawful;
+      lawful = lawful_set spare waits after i cs c d e F P.lawful;
       once = P.once;
       below = P.below;
     }
@@ -91,14 +93,20 @@ pub out_there : (w : World) (i : ℕ) (c : Component) → Sound w → slice_get 
 out_there w i c S t work e = ((parts_of w S).lawful i c work t e).state
 
 -- a change of a component of a sound world that is aside of its state and units
-pub aside_there : (w : World) (i : ℕ) (c d : Component) → Sound w → slice_get w.components i ≡ Some c → IsAside c d → IsFair w.waits w.waits c d
+pub aside_there : (w : World) (i : ℕ) (c d : Component) → Sound w → slice_get w.components i ≡ Some c → IsAside c d → IsFair 0 w.waits w.waits c d
 aside_there w i c d S t A = fair_aside w.waits c d A ((resources_of w S).each i c t) (out_there w i c S t)
 
 -- the resources of a sound world after the change
-pub resources_changed : (w : World) (i : ℕ) (c d : Component) → Sound w → slice_get w.components i ≡ Some c → number_of d ≡ number_of c → IsFair w.waits w.waits c d → Resources (set w.components i d) w.streams w.waits w.units
-resources_changed w i c d S t n F = resources_set w.waits w.waits w.units i w.components w.streams c d (omega arith) t n F (resources_of w S)
+pub resources_changed : (w : World) (i : ℕ) (c d : Component) → Sound w → slice_get w.components i ≡ Some c → number_of d ≡ number_of c → IsFair 0 w.waits w.waits c d → Resources (set w.components i d) w.streams w.waits w.units
+resources_changed w i c d S t n F = resources_set 0 w.waits w.waits w.units i w.components w.streams c d (omega arith) t n (omega (arith, S.enough)) F (resources_of w S)
 
-pub sound_component : (w : World) (i : ℕ) (c d : Component) → Sound w → slice_get w.components i ≡ Some c → IsChange c d → IsSound d → IsFair w.waits w.waits c d → Sound (with_component i d w)
+pub sound_component : (w : World) (i : ℕ) (c d : Component) → Sound w → slice_get w.components i ≡ Some c → IsChange c d → IsSound d → IsFair 0 w.waits w.waits c d → Sound (with_component i d w)
 sound_component w i c d S e C I F =
-    sound_from (with_component i d w) (parts_changed w.waits w.waits w.numbered w.made i w.components w.headers c d (parts_of w S) e C I F)
+    sound_from (with_component i d w) (parts_changed 0 w.waits w.waits w.numbered w.made i w.components w.headers c d (parts_of w S) e C I F)
     (resources_changed w i c d S e (ap (λ h. h.generation) C.handle) F)
+
+-- the units that nobody holds are spare
+pub sound_taking_units : (w : World) (i : ℕ) (c d : Component) → Sound w → slice_get w.components i ≡ Some c → IsChange c d → IsSound d → IsFair (free_units (look w)) w.waits w.waits c d → Sound (with_component i d w)
+sound_taking_units w i c d S e C I F =
+    sound_from (with_component i d w) (parts_changed (free_units (look w)) w.waits w.waits w.numbered w.made i w.components w.headers c d (parts_of w S) e C I F)
+    (resources_set (free_units (look w)) w.waits w.waits w.units i w.components w.streams c d (omega arith) e (ap (λ h. h.generation) C.handle) (omega (arith, S.enough)) F (resources_of w S))

@@ -154,6 +154,6 @@ sound_freed w i c index p s number S t e f o h =
     let n : is_set_aside (r.0).state.owner ≡ false = rw (r.2, o) refl in
     let I = sound_unpopulated p c (P.components i c t) (free_passes c p s (rw e at h)) in
     let F = aside_there w i c (unpopulated p c) S t (aside_unpopulated p c) in
-    let Q = parts_changed w.waits w.waits w.numbered w.made i w.components w.headers c (unpopulated p c) P t (change_unpopulated p c) I F in
+    let Q = parts_changed 0 w.waits w.waits w.numbered w.made i w.components w.headers c (unpopulated p c) P t (change_unpopulated p c) I F in
     sound_from (without_header number (with_component i (unpopulated p c) w)) (parts_without (set w.components i (unpopulated p c)) number r.0 w.headers w.numbered w.made Q r.1 n)
     (resources_changed w i c (unpopulated p c) S t (ap (λ h. h.generation) (change_unpopulated p c).handle) F)

@@ -220,6 +220,7 @@ none_worked cs hs numbered made P m = elim (cases_eq (weight (worked_at numbered
 -- a new component holds nothing, and waits for nothing
 units_fresh : (waits : ℕ) (h : Handle) (kind : Kind) → IsUnitSound waits (fresh h kind)
 units_fresh waits h kind = record {
+  holds = λ t. absurd cc;
   gives = λ t. absurd cc;
   waiting = λ t. absurd cc;
   numbered = λ n e. absurd cc;

@@ -1,5 +1,5 @@
 -- What is due happens.
-use Rattle.std.proofs.Common.{◌≡◌, ◌⊎◌, inl, inr, ℕ, zero, suc, true, false, List, [], ◌∷◌, set, slice_get, Option, Some, None, is_some, refl, sym, ◌∙◌, ap, subst}
+use Rattle.std.proofs.Common.{◌≡◌, ◌⊎◌, inl, inr, ℕ, zero, suc, true, false, List, [], ◌∷◌, set, slice_get, Option, Some, None, is_some, refl, sym, ◌∙◌, ap, subst, arith}
 use Rattle.std.proofs.lemmas.Bool.{and_parts}
 use Rattle.omx_types.specs.declared.command.Event.TheVariants.{CmdComplete}
 use Rattle.omx_types.specs.declared.command.Completion.TheVariants as completions
@@ -73,9 +73,9 @@ sound_transition w i c (Some p) S t e h =
     let after : ℕ = waits_after p.target w.waits in
     let C = change_arrived w.waits p c in
     let F = fair_arrived (look w).headers w.waits p c (R.each i c t) e h (out_there w i c S t) in
-    let Q = parts_changed w.waits after w.numbered w.made i w.components w.headers c d P t C (sound_arrived w.waits p c (P.components i c t) e) F in
+    let Q = parts_changed 0 w.waits after w.numbered w.made i w.components w.headers c d P t C (sound_arrived w.waits p c (P.components i c t) e) F in
     sound_from (transition_happened i c (Some p) w) (parts_reset_on (set w.components i d) w.numbered w.made c p.target w.headers Q)
-    (resources_set w.waits after w.units i w.components w.streams c d (waits_later p.target w.waits) t (ap (λ k. k.generation) C.handle) F R)
+    (resources_set 0 w.waits after w.units i w.components w.streams c d (waits_later p.target w.waits) t (ap (λ k. k.generation) C.handle) (omega (arith, R.enough)) F R)
 
 -- ---- a port's things
 
@@ -87,7 +87,7 @@ sound_flush w i c index p S t e f =
     let I = sound_let_go (CmdComplete (completions.Flush p.key.port)) p.key.port (record p.state { flushing = false }) p.state c (P.components i c t) at (flushed_places p.state f) in
     let C = change_let_go (CmdComplete (completions.Flush p.key.port)) p.key.port (record p.state { flushing = false }) p.state c at refl in
     let F = aside_there w i c d S t (aside_let_go (CmdComplete (completions.Flush p.key.port)) p.key.port (record p.state { flushing = false }) p.state c at (λ h. h)) in
-    let Q = parts_changed w.waits w.waits w.numbered w.made i w.components w.headers c d P t C I F in
+    let Q = parts_changed 0 w.waits w.waits w.numbered w.made i w.components w.headers c d P t C I F in
     sound_from (flush_happened i c p w) (parts_reset_port (set w.components i d) w.numbered w.made p w.headers Q) (resources_changed w i c d S t refl F)
 
 mode_of : (w : World) (i : ℕ) (c : Component) (index : ℕ) (p : Port) (m : Mode) → Sound w → slice_get w.components i ≡ Some c → port_of c index ≡ Some p → p.state.mode ≡ m → is_steady m ≡ false
@@ -130,7 +130,7 @@ sound_mark w i c index p S t e m =
     let I = sound_let_go (CmdComplete (completions.Mark p.key.port)) p.key.port (record p.state { waiting_mark = None }) p.state c (P.components i c t) at (marked_places p.state m) in
     let C = change_let_go (CmdComplete (completions.Mark p.key.port)) p.key.port (record p.state { waiting_mark = None }) p.state c at refl in
     let F = aside_there w i c d S t (aside_let_go (CmdComplete (completions.Mark p.key.port)) p.key.port (record p.state { waiting_mark = None }) p.state c at (λ h. h)) in
-    let Q = parts_changed w.waits w.waits w.numbered w.made i w.components w.headers c d P t C I F in
+    let Q = parts_changed 0 w.waits w.waits w.numbered w.made i w.components w.headers c d P t C I F in
     sound_from (mark_happened i c p w) (parts_first_marked (set w.components i d) w.numbered w.made ((seen w.headers).unmarked p.key) p.state.waiting_mark w.headers Q)
     (resources_changed w i c d S t refl F)
 

@@ -25,6 +25,7 @@ pub mod Coming
 pub mod Values
 pub mod Resets
 pub mod Happening
+pub mod Granting
 pub mod Flowing
 pub mod Pairs
 pub mod Tunnels

@@ -85,7 +85,7 @@ port_not_noticed k key owner e = rw e refl
 
 -- A header of a client port's list goes to a note of the port's component.
 parts_noticed : (waits after i : ℕ) (cs : List Component) (hs : List HeaderRecord) (numbered made : ℕ) (c : Component) (index : ℕ) (p : Port) (b : Bool) (n : ℕ)
-    → Parts cs hs numbered made → slice_get cs i ≡ Some c → IsFair waits after c (noted (done_note b n) c) → port_of c index ≡ Some p → p.state.link ≡ None → IsIn p.key hs n
+    → Parts cs hs numbered made → slice_get cs i ≡ Some c → IsFair 0 waits after c (noted (done_note b n) c) → port_of c index ≡ Some p → p.state.link ≡ None → IsIn p.key hs n
     → Parts (set cs i (noted (done_note b n) c)) (changed n (into_note (number_of c)) hs) numbered made
 parts_noticed waits after i cs hs numbered made c index p b n P t F e l I =
     let k : ℕ = number_of c in
@@ -112,7 +112,7 @@ parts_noticed waits after i cs hs numbered made c index p b n P t F e l I =
           ]);
       works = works_set i cs ks c d t refl refl (works_kept cs hs ks
           (keeps_works_but n hs ks R.others (λ j. worked_found j n hs r I.found ∙ rw I.owner refl) (λ j. worked_found j n ks (into_note k r) R.here)) P.works);
-      lawful = lawful_set waits after i cs c d t F P.lawful;
+      lawful = lawful_set 0 waits after i cs c d t F P.lawful;
       once = R.once;
       below = λ m x f. elim (cases_eq m n) [
         | inl q ↦ rw q (P.below n r I.found)
@@ -228,7 +228,7 @@ sound_taken w i c note n S t e Q =
           ]);
       works = works_set i cs ks c d t refl refl (works_kept cs hs ks
           (keeps_works_but n hs ks R.others (λ j. worked_found j n hs r.0 r.1 ∙ rw o refl) (λ j. worked_found j n ks (to_client r.0) R.here)) P.works);
-      lawful = lawful_set w.waits w.waits i cs c d t F P.lawful;
+      lawful = lawful_set 0 w.waits w.waits i cs c d t F P.lawful;
       once = R.once;
       below = λ m x f. elim (cases_eq m n) [
         | inl y ↦ rw y (P.below n r.0 r.1)

@@ -111,7 +111,7 @@ pub apart_numbers : (next i j : ℕ) (cs : List Component) (c d : Component) →
 apart_numbers next i j cs c d R t u a n = a (same_place 0 next i j cs c d R t u n)
 
 pub parts_paired : (waits numbered made i j : ℕ) (cs : List Component) (hs : List HeaderRecord) (c d c' d' : Component) (index index' : ℕ) (p q : Port) → Parts cs hs numbered made
-    → slice_get cs i ≡ Some c → slice_get cs j ≡ Some d → i ≢ j → IsOnePort c c' index p → IsOnePort d d' index' q → IsSound c' → IsSound d' → IsFair waits waits c c' → IsFair waits waits d d'
+    → slice_get cs i ≡ Some c → slice_get cs j ≡ Some d → i ≢ j → IsOnePort c c' index p → IsOnePort d d' index' q → IsSound c' → IsSound d' → IsFair 0 waits waits c c' → IsFair 0 waits waits d d'
     → ((after : PortKey → Option Port) → after (key_at c index) ≡ Some p → after (key_at d index') ≡ Some q
     → ((key : PortKey) → key ≢ key_at c index → key ≢ key_at d index' → after key ≡ port_at key cs) → ArePaired (ports_in_list cs) after hs (key_at c index) (key_at d index') p q)
     → Parts (set (set cs i c') j d') hs numbered made
@@ -130,17 +130,18 @@ parts_paired waits numbered made i j cs hs c d c' d' index index' p q P t u a O 
       tied = tied_pair (ports_in_list cs) (ports_in_list (set (set cs i c') j d')) hs (key_at c index) (key_at d index') p q P.tied (pair (ports_in_list (set (set cs i c') j d')) first second others);
       noted = each_set (AreNoted (seen hs)) j (set cs i c') d' (each_set (AreNoted (seen hs)) i cs c' P.noted (same_notes hs c c' O.number O.notes (P.noted i c t))) (same_notes hs d d' Q.number Q.notes (P.noted j d u));
       works = works_set j (set cs i c') hs d d' u' Q.number (F'.keeps).work (works_set i cs hs c c' t O.number (F.keeps).work P.works);
-      lawful = lawful_set waits waits j (set cs i c') d d' u' F' (lawful_set waits waits i cs c c' t F P.lawful);
+      lawful = lawful_set 0 waits waits j (set cs i c') d d' u' F' (lawful_set 0 waits waits i cs c c' t F P.lawful);
       once = P.once;
       below = P.below;
     }
 
 -- the resources of a sound world after both changes
 pub resources_paired : (w : World) (i j : ℕ) (c d c' d' : Component) → Sound w → slice_get w.components i ≡ Some c → slice_get w.components j ≡ Some d → i ≢ j → number_of c' ≡ number_of c → number_of d' ≡ number_of d
-    → IsFair w.waits w.waits c c' → IsFair w.waits w.waits d d' → Resources (set (set w.components i c') j d') w.streams w.waits w.units
+    → IsFair 0 w.waits w.waits c c' → IsFair 0 w.waits w.waits d d' → Resources (set (set w.components i c') j d') w.streams w.waits w.units
 resources_paired w i j c d c' d' S t u a n n' F F' =
     let u' : slice_get (set w.components i c') j ≡ Some d = set_else w.components i j c' (λ e. a (sym e)) ∙ u in
-    resources_set w.waits w.waits w.units j (set w.components i c') w.streams d d' (omega arith) u' n' F' (resources_changed w i c c' S t n F)
+    let R = resources_changed w i c c' S t n F in
+    resources_set 0 w.waits w.waits w.units j (set w.components i c') w.streams d d' (omega arith) u' n' (omega (arith, R.enough)) F' R
 
 -- ---- in one component
 

@@ -1,5 +1,5 @@
 -- A component whose first command was carried out: the command's places become those of what it begins.
-use Rattle.std.proofs.Common.{◌≡◌, ℕ, suc, ◌+◌, ◌<◌, ◌≤◌, Bool, true, false, not, ◌&&◌, ◌||◌, nat_eq, List, [], ◌∷◌, length, map, sum_by, if◌then◌else◌, Option, Some, None, refl, sym, ◌∙◌, ap, eqb-true, ne_eqb, arith}
+use Rattle.std.proofs.Common.{◌≡◌, ℕ, suc, ◌+◌, ◌<◌, ◌≤◌, Bool, true, false, not, ◌&&◌, ◌||◌, nat_eq, nat_lt, List, [], ◌∷◌, length, map, sum_by, if◌then◌else◌, Option, Some, None, refl, sym, ◌∙◌, ap, eqb-true, ne_eqb, ltb-false, arith}
 use Rattle.std.proofs.lemmas.List.Elements.{All-nil, All-cons, All-head, All-tail}
 use Rattle.std.proofs.lemmas.List.Sums.{sum_by-cons}
 use Rattle.omx_types.specs.declared.state.State.{State}
@@ -15,18 +15,20 @@ use Rattle.il_machine.specs.declared.answer.Pending.{Pending}
 use Rattle.il_machine.specs.declared.answer.Cause.TheVariants as causes
 use Rattle.il_machine.specs.declared.port.PortSetting.{PortSetting}
 use Rattle.il_machine.specs.declared.port.PortState.{PortState}
-use Rattle.il_machine.specs.States.{same_state, is_lawful, is_running}
+use Rattle.il_machine.specs.States.{same_state, is_lawful, is_loaded, is_running, is_up}
 use Rattle.il_machine.specs.Look.{Look}
 use Rattle.il_machine.specs.World.{Component, Work, ports_from, ports_of, number_of, told}
 use Rattle.il_machine.specs.Headers.{weight}
 use Rattle.il_machine.specs.Ports.{is_going_to}
 use Rattle.il_machine.specs.Room.{cost_of, sel_cost, port_places, used}
 use Rattle.il_machine.specs.Commands.{is_selected, busy_port, is_flushing, is_changing, is_waiting, pending_reason, run_reason, run_idle, state_fault, begun, selected_from, with_selected, flushing, disabling, enabling, waiting, carried_out, run_front}
+use Rattle.il_machine.specs.Settings.{fits}
+use Rattle.il_machine.specs.Units.{need_of, free_units}
 use Rattle.il_machine.specs.Sound.{IsSound, IsUnitSound, may_work}
 use Rattle.machine_laws.proofs.Finding.{either}
 use Rattle.machine_laws.proofs.Change.{IsChange, change_none, change_twice, link_of}
 use Rattle.machine_laws.proofs.Rooms.{costs, asked, loss, costs_same, used_told, IsLawful, lawful_of, sound_with, lawful_told, change_told, aside_told}
-use Rattle.machine_laws.proofs.Units.{IsAside, IsFair, AreHeldIf, units_aside, fair_aside}
+use Rattle.machine_laws.proofs.Units.{IsAside, IsFair, AreHeldIf, units_aside, fair_aside, fair_more}
 use Rattle.machine_laws.proofs.Fairness.{aside_then_fair, fair_begun}
 use Rattle.machine_laws.proofs.Accepting.{passed, not_not}
 
@@ -175,7 +177,7 @@ sound_begun (Some error) target c L e u =
     sound_with (told (Error error) c) (lawful_told (Error error) c L) (omega arith)
 sound_begun None target c L e u =
     let p : Pending = record { target = target; cause = causes.Client } in
-    let d : Component = record c { pending = Some p } in
+    let d : Component = record c { pending = Some p; holds = c.holds || same_state target states.Idle } in
     let a : asked c ≡ 0 = rw e refl in
     let m : c.loss_mark ≡ false = either c.loss_mark (λ t. let g = L.mark t in let z : (is_running c.state && false) ≡ true = rw e at g in absurd (no_such (is_running c.state) z)) (λ f. f) in
     let l : loss d ≡ 0 = rw m (no_loss (is_going_to states.Idle d)) in
@@ -272,19 +274,49 @@ lawful_target l c target h =
     let a = passed (same_state c.state target) _ _ h in
     not_not (is_lawful c.state target) (passed (not (is_lawful c.state target)) _ _ a.1).0
 
+-- the lawful way to Idle from a state that isn't up begins in Loaded
+from_loaded : (s t : State) → is_lawful s t ≡ true → same_state t states.Idle ≡ true → is_up s ≡ false → is_loaded s ≡ true
+from_loaded s states.Invalid l i u = absurd cc
+from_loaded s states.Loaded l i u = absurd cc
+from_loaded s states.Executing l i u = absurd cc
+from_loaded s states.Pause l i u = absurd cc
+from_loaded s states.WaitForResources l i u = absurd cc
+from_loaded states.Invalid states.Idle l i u = absurd cc
+from_loaded states.Loaded states.Idle l i u = refl
+from_loaded states.Idle states.Idle l i u = absurd cc
+from_loaded states.Executing states.Idle l i u = absurd cc
+from_loaded states.Pause states.Idle l i u = absurd cc
+from_loaded states.WaitForResources states.Idle l i u = absurd cc
+
+-- so the units that are taken are free
+units_spare : (l : Look) (target : State) (waits : ℕ) (c : Component) → state_fault l c target ≡ None → IsUnitSound waits c → c.holds ≡ false → same_state target states.Idle ≡ true → need_of c ≤ free_units l
+units_spare l target waits c h U z i =
+    let a = passed (same_state c.state target) _ _ h in
+    let b = passed (not (is_lawful c.state target)) _ _ a.1 in
+    let d = passed (is_loaded c.state && not (fits c.settings)) _ _ b.1 in
+    let e = (passed (is_loaded c.state && same_state target states.Idle && nat_lt (free_units l) (need_of c)) _ _ d.1).0 in
+    let u : is_up c.state ≡ false = either (is_up c.state) (λ t. let x = U.holds (rw t refl) in absurd cc) (λ f. f) in
+    let s = from_loaded c.state target (not_not (is_lawful c.state target) b.0) i u in
+    let g : nat_lt (free_units l) (need_of c) ≡ false = rw (s, i) at e in
+    ltb-false (free_units l) (need_of c) g
+
 fair_started : (l : Look) (fault : Option OmxError) (target : State) (waits : ℕ) (c : Component) → state_fault l c target ≡ fault → IsUnitSound waits c → c.pending ≡ None
-    → ((work : Work) → c.work ≡ Some work → may_work c ≡ true) → IsFair waits waits c (begun fault target c)
-fair_started l (Some error) target waits c h U e m = fair_aside waits c (told (Error error) c) (aside_told (Error error) c) U m
-fair_started l None target waits c h U e m = fair_begun waits (record { target = target; cause = causes.Client }) c U e (lawful_target l c target h) m
+    → ((work : Work) → c.work ≡ Some work → may_work c ≡ true) → IsFair (free_units l) waits waits c (begun fault target c)
+fair_started l (Some error) target waits c h U e m = fair_more (free_units l) waits waits c (told (Error error) c) (fair_aside waits c (told (Error error) c) (aside_told (Error error) c) U m)
+fair_started l None target waits c h U e m = fair_begun (free_units l) waits (record { target = target; cause = causes.Client }) c U e (lawful_target l c target h) (units_spare l target waits c h U) m
+
+fair_taking : (l : Look) (sel : PortSel) (test : PortState → Bool) (change : PortState → PortState) (waits : ℕ) (c : Component) → IsTaking test change → IsUnitSound waits c
+    → ((work : Work) → c.work ≡ Some work → may_work c ≡ true) → IsFair (free_units l) waits waits c (with_selected sel change c)
+fair_taking l sel test change waits c T U m =
+    fair_more (free_units l) waits waits c (with_selected sel change c) (fair_aside waits c (with_selected sel change c) (aside_selected sel test change c T) U m)
 
 fair_carried : (l : Look) (command : Command) (waits : ℕ) (c : Component) → IsUnitSound waits c → ((work : Work) → c.work ≡ Some work → may_work c ≡ true) → run_reason c command ≡ None
-    → IsFair waits waits c (carried_out l command c)
+    → IsFair (free_units l) waits waits c (carried_out l command c)
 fair_carried l (commands.StateSet target) waits c U m h = fair_started l (state_fault l c target) target waits c refl U (no_pending c.pending h) m
-fair_carried l (commands.Flush sel) waits c U m h = fair_aside waits c (with_selected sel flushing c) (aside_selected sel is_flushing flushing c takes_flush) U m
-fair_carried l (commands.PortDisable sel) waits c U m h = fair_aside waits c (with_selected sel disabling c) (aside_selected sel is_changing disabling c takes_disable) U m
-fair_carried l (commands.PortEnable sel) waits c U m h = fair_aside waits c (with_selected sel enabling c) (aside_selected sel is_changing enabling c takes_enable) U m
-fair_carried l (commands.MarkBuffer port target value) waits c U m h =
-    fair_aside waits c (with_selected (sels.One port) (waiting target value) c) (aside_selected (sels.One port) is_waiting (waiting target value) c (takes_mark target value)) U m
+fair_carried l (commands.Flush sel) waits c U m h = fair_taking l sel is_flushing flushing waits c takes_flush U m
+fair_carried l (commands.PortDisable sel) waits c U m h = fair_taking l sel is_changing disabling waits c takes_disable U m
+fair_carried l (commands.PortEnable sel) waits c U m h = fair_taking l sel is_changing enabling waits c takes_enable U m
+fair_carried l (commands.MarkBuffer port target value) waits c U m h = fair_taking l (sels.One port) is_waiting (waiting target value) waits c (takes_mark target value) U m
 
 reason_front : (command : Command) (rest : List Command) (c : Component) → run_reason c command ≡ None → run_reason (without_front rest c) command ≡ None
 reason_front (commands.StateSet target) rest c h = h
@@ -293,12 +325,12 @@ reason_front (commands.PortDisable sel) rest c h = h
 reason_front (commands.PortEnable sel) rest c h = h
 reason_front (commands.MarkBuffer port target value) rest c h = h
 
-fair_of_run : (l : Look) (xs : List Command) (waits : ℕ) (c : Component) → IsUnitSound waits c → ((work : Work) → c.work ≡ Some work → may_work c ≡ true) → run_idle c xs ≡ None → IsFair waits waits c (run_front l xs c)
+fair_of_run : (l : Look) (xs : List Command) (waits : ℕ) (c : Component) → IsUnitSound waits c → ((work : Work) → c.work ≡ Some work → may_work c ≡ true) → run_idle c xs ≡ None → IsFair (free_units l) waits waits c (run_front l xs c)
 fair_of_run l [] waits c U m h = absurd cc
 fair_of_run l (command ∷ rest) waits c U m h =
     let d : Component = without_front rest c in
     let A = aside_front rest c in
-    aside_then_fair waits waits c d (carried_out l command d) A (fair_carried l command waits d (units_aside waits c d A U) m (reason_front command rest c h))
+    aside_then_fair (free_units l) waits waits c d (carried_out l command d) A (fair_carried l command waits d (units_aside waits c d A U) m (reason_front command rest c h))
 
-pub fair_run : (l : Look) (waits : ℕ) (c : Component) → IsUnitSound waits c → ((work : Work) → c.work ≡ Some work → may_work c ≡ true) → run_idle c c.commands ≡ None → IsFair waits waits c (run_front l c.commands c)
+pub fair_run : (l : Look) (waits : ℕ) (c : Component) → IsUnitSound waits c → ((work : Work) → c.work ≡ Some work → may_work c ≡ true) → run_idle c c.commands ≡ None → IsFair (free_units l) waits waits c (run_front l c.commands c)
 fair_run l waits c U m h = fair_of_run l c.commands waits c U m h

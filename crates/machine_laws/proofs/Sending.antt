@@ -85,7 +85,7 @@ change_sent command c = either (is_at_once command)
 aside_queued : (command : Command) (c : Component) → IsAside c (record c { commands = c.commands ++ command ∷ [] })
 aside_queued command c = record { keeps = record { kind = refl; weights = refl; count = refl; work = refl }; state = refl; pending = refl; holds = refl; waiting = refl; part = refl; held = λ test h. h }
 
-pub fair_sent : (waits : ℕ) (command : Command) (c : Component) → IsUnitSound waits c → ((work : Work) → c.work ≡ Some work → may_work c ≡ true) → IsFair waits waits c (sent command c)
+pub fair_sent : (waits : ℕ) (command : Command) (c : Component) → IsUnitSound waits c → ((work : Work) → c.work ≡ Some work → may_work c ≡ true) → IsFair 0 waits waits c (sent command c)
 fair_sent waits command c U m = either (is_at_once command)
-    (λ t. rw t (fair_then_aside waits waits c (invalidated c) (told (Error errors.InvalidState) (invalidated c)) (fair_invalidated waits c U) (aside_told (Error errors.InvalidState) (invalidated c))))
+    (λ t. rw t (fair_then_aside 0 waits waits c (invalidated c) (told (Error errors.InvalidState) (invalidated c)) (fair_invalidated waits c U) (aside_told (Error errors.InvalidState) (invalidated c))))
     (λ f. rw f (fair_aside waits c (record c { commands = c.commands ++ command ∷ [] }) (aside_queued command c) U m))

@@ -36,7 +36,7 @@ use Rattle.il_machine.specs.Acts as acts
 use Rattle.il_machine.specs.Run.{Step, Meets, Run}
 use Rattle.il_machine.specs.Sound.{Sound}
 use Rattle.machine_laws.proofs.Keys.{there_is}
-use Rattle.machine_laws.proofs.Change.{sound_component, out_there}
+use Rattle.machine_laws.proofs.Change.{sound_component, sound_taking_units, out_there}
 use Rattle.machine_laws.proofs.Units.{resources_of}
 use Rattle.machine_laws.proofs.Parts.{parts_of}
 use Rattle.machine_laws.proofs.Sending.{sound_sent, change_sent, fair_sent}
@@ -46,6 +46,7 @@ use Rattle.machine_laws.proofs.Notices.{sound_noticed, sound_given, sound_taken,
 use Rattle.machine_laws.proofs.Coming.{kind_sized, sound_new, sound_removed}
 use Rattle.machine_laws.proofs.Values.{sound_set, sound_configured}
 use Rattle.machine_laws.proofs.Happening.{sound_closes}
+use Rattle.machine_laws.proofs.Granting.{grant_keeps, preempt_keeps}
 use Rattle.machine_laws.proofs.Flowing.{sound_supplied, sound_released, sound_handed_over, sound_returned}
 use Rattle.machine_laws.proofs.Tunnels.{sound_joined, sound_parted}
 use Rattle.machine_laws.proofs.Forms.{stays_sound, resolving_keeps, on_port_keeps, answers_keep, answers_or_memory_keep, acts_keep, acts_or_memory_keep, looks_keep}
@@ -80,7 +81,7 @@ send_keeps w v h command result r S = resolving_keeps plain w v h result _ S r (
 
 run_keeps : (w v : World) (h : Handle) (result : Result Acted OmxError) → RunCommand w h result v → Sound w → Sound v
 run_keeps w v h result r S = resolving_keeps plain w v h result _ S r (λ i c t a. acts_keep (run_idle c c.commands) result w (with_component i (run_front (look w) c.commands c) w) v a S (λ n.
-    sound_component w i c (run_front (look w) c.commands c) S t (change_run (look w) c) (sound_run (look w) c ((parts_of w S).components i c t) n)
+    sound_taking_units w i c (run_front (look w) c.commands c) S t (change_run (look w) c) (sound_run (look w) c ((parts_of w S).components i c t) n)
     (fair_run (look w) w.waits c ((resources_of w S).each i c t) (out_there w i c S t) n)))
 
 -- ---- headers of client ports
@@ -227,6 +228,8 @@ sound_after w v (acts.Supply h port) (acts.Supplied result) M s S = supply_keeps
 sound_after w v (acts.Release h port) (acts.Acted result) M s S = release_keeps w v h port result s S
 sound_after w v (acts.HandOver h port) (acts.Acted result) M s S = over_keeps w v h port result s S
 sound_after w v (acts.HandBack h port) (acts.Acted result) M s S = back_keeps w v h port result s S
+sound_after w v acts.Grant (acts.Granted answer) M s S = grant_keeps w v answer s S
+sound_after w v acts.Preempt (acts.Preempted answer) M s S = preempt_keeps w v answer s S
 sound_after w v _ _ M s S = absurd s
 
 pub sound_step : (w v : World) (a : Act) (r : Reply) → Meets w a → Step w a r v → Sound w → Sound v

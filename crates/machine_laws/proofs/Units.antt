@@ -7,7 +7,7 @@ use Rattle.il_machine.specs.declared.port.PortState.{PortState}
 use Rattle.il_machine.specs.Kinds.{is_late}
 use Rattle.il_machine.specs.World.{Component, Stream, Work, World, number_of, is_stream_of}
 use Rattle.il_machine.specs.Units.{need_of, is_holder, units_held, is_waiter}
-use Rattle.il_machine.specs.Sound.{Sound, IsUnitSound, AreApart, AreRising, may_work}
+use Rattle.il_machine.specs.Sound.{Sound, IsUnitSound, AreApart, AreRising, may_work, needs_units}
 use Rattle.machine_laws.proofs.Every.{at_place, from_places, at_set, at_push, at_remove}
 use Rattle.machine_laws.proofs.Finding.{either}
 use Rattle.machine_laws.proofs.Lookups.{rises_at, same_place, rising_remove}
@@ -73,6 +73,7 @@ aside_twice c d e C D = record {
 
 pub units_aside : (waits : ℕ) (c d : Component) → IsAside c d → IsUnitSound waits c → IsUnitSound waits d
 units_aside waits c d A U = record {
+  holds = λ h. let g : needs_units c ≡ true = rw (A.state, A.pending) at h in rw A.holds (U.holds g);
   gives = λ h. rw (A.state, A.pending) (U.gives (sym A.holds ∙ h));
   waiting = λ h. let g : is_waiter c ≡ true = rw (A.state, A.pending) at h in rw A.waiting (U.waiting g);
   numbered = λ n e. rw A.state (U.numbered n (sym A.waiting ∙ e));
@@ -81,25 +82,37 @@ units_aside waits c d A U = record {
   inputs = rw (A.part, (A.keeps).kind) U.inputs;
 }
 
--- The change keeps what a sound world asks. The component holds its units only if it did, and a waiting number that it gets is the next one.
-pub record IsFair (waits after : ℕ) (c d : Component) : Type 0 where
+-- the units that it holds
+abbrev pub held_by : Component → ℕ
+held_by c = cond c.holds (need_of c) 0
+
+pub held_fewer : (c d : Component) → d.settings.kind ≡ c.settings.kind → (d.holds ≡ true → c.holds ≡ true) → held_by d ≤ held_by c + 0
+held_fewer c d k h = either d.holds (λ t. rw (t, h t, k) (omega arith)) (λ f. rw f (omega arith))
+
+-- The change keeps what a sound world asks. The component takes no more units than are spare, and a waiting number that it gets is the next.
+pub record IsFair (spare waits after : ℕ) (c d : Component) : Type 0 where
   pub keeps : KeepsWork c d
   pub stays : (work : Work) → c.work ≡ Some work → may_work d ≡ true
-  pub holds : d.holds ≡ true → c.holds ≡ true
+  pub taken : held_by d ≤ held_by c + spare
   pub waiting : (n : ℕ) → d.waiting ≡ Some n → (c.waiting ≡ Some n) ⊎ (n ≡ waits)
   pub units : IsUnitSound after d
 
-pub fair_aside : (waits : ℕ) (c d : Component) → IsAside c d → IsUnitSound waits c → ((work : Work) → c.work ≡ Some work → may_work c ≡ true) → IsFair waits waits c d
+pub fair_aside : (waits : ℕ) (c d : Component) → IsAside c d → IsUnitSound waits c → ((work : Work) → c.work ≡ Some work → may_work c ≡ true) → IsFair 0 waits waits c d
 fair_aside waits c d A U m = record {
   keeps = A.keeps;
   stays = λ work e. rw A.state (m work e);
-  holds = λ h. sym A.holds ∙ h;
+  taken = held_fewer c d (A.keeps).kind (λ h. sym A.holds ∙ h);
   waiting = λ n e. inl (sym A.waiting ∙ e);
   units = units_aside waits c d A U;
 }
 
+-- where more is spare
+pub fair_more : (spare waits after : ℕ) (c d : Component) → IsFair 0 waits after c d → IsFair spare waits after c d
+fair_more spare waits after c d F = record { keeps = F.keeps; stays = F.stays; taken = omega (arith, F.taken); waiting = F.waiting; units = F.units }
+
 pub units_later : (waits after : ℕ) (c : Component) → waits ≤ after → IsUnitSound waits c → IsUnitSound after c
 units_later waits after c l U = record {
+  holds = U.holds;
   gives = U.gives;
   waiting = U.waiting;
   numbered = λ n e. let b = U.numbered n e in (omega (arith, b.0), b.1);
@@ -110,27 +123,20 @@ units_later waits after c l U = record {
 
 -- ---- the units that are held
 
-abbrev held_by : Component → ℕ
-held_by c = cond c.holds (need_of c) 0
-
 of_filtered : (f : Component → ℕ) (c : Component) (b : Bool) (xs : List Component) (n : ℕ) → sum_by f xs ≡ n → sum_by f (cond b (c ∷ xs) xs) ≡ cond b (f c) 0 + n
 of_filtered f c true xs n e = let s = sum_by-cons f c xs in omega arith
 of_filtered f c false xs n e = let z : 0 + n ≡ n = omega arith in e ∙ sym z
 
-held_is : (cs : List Component) → units_held cs ≡ sum_by held_by cs
+pub held_is : (cs : List Component) → units_held cs ≡ sum_by held_by cs
 held_is [] = refl
 held_is (c ∷ cs) = of_filtered need_of c c.holds (filter is_holder cs) (sum_by held_by cs) (held_is cs) ∙ sym (sum_by-cons held_by c cs)
 
-held_fewer : (c d : Component) → d.settings.kind ≡ c.settings.kind → (d.holds ≡ true → c.holds ≡ true) → held_by d ≤ held_by c
-held_fewer c d k h = either d.holds (λ t. rw (t, h t, k) (omega arith)) (λ f. rw f (omega arith))
-
-enough_set : (i units : ℕ) (cs : List Component) (c d : Component) → slice_get cs i ≡ Some c → d.settings.kind ≡ c.settings.kind → (d.holds ≡ true → c.holds ≡ true) → units_held cs ≤ units → units_held (set cs i d) ≤ units
-enough_set i units cs c d t k h l =
+enough_set : (spare i units : ℕ) (cs : List Component) (c d : Component) → slice_get cs i ≡ Some c → held_by d ≤ held_by c + spare → units_held cs + spare ≤ units → units_held (set cs i d) ≤ units
+enough_set spare i units cs c d t f l =
     let a = held_is cs in
     let b = held_is (set cs i d) in
     let s = sum_by-set held_by cs i d c (slice_get_within cs i c t) in
     let o : held_by (get_or cs i c) ≡ held_by c = ap held_by (get_or_from_slice_get cs i c c t) in
-    let f = held_fewer c d k h in
     omega arith
 
 -- ---- all of them, after one component changed
@@ -157,11 +163,11 @@ numbers_set i [] c d t n = absurd cc
 numbers_set zero (x ∷ cs) c d t n = let s : x ≡ c = cc in let m : number_of d ≡ number_of x = n ∙ sym (ap number_of s) in cc
 numbers_set (suc i) (x ∷ cs) c d t n = let r = numbers_set i cs c d t n in cc
 
-pub resources_set : (waits after units i : ℕ) (cs : List Component) (ss : List Stream) (c d : Component) → waits ≤ after → slice_get cs i ≡ Some c → number_of d ≡ number_of c → IsFair waits after c d
+pub resources_set : (spare waits after units i : ℕ) (cs : List Component) (ss : List Stream) (c d : Component) → waits ≤ after → slice_get cs i ≡ Some c → number_of d ≡ number_of c → units_held cs + spare ≤ units → IsFair spare waits after c d
     → Resources cs ss waits units → Resources (set cs i d) ss after units
-resources_set waits after units i cs ss c d l t n F R = record {
+resources_set spare waits after units i cs ss c d l t n u F R = record {
   each = λ j x e. elim (at_set cs i j d x e) [ inl s ↦ rw s.1 F.units | inr s ↦ units_later waits after x l (R.each j x s.1) ];
-  enough = enough_set i units cs c d t (F.keeps).kind F.holds R.enough;
+  enough = enough_set spare i units cs c d t F.taken u;
   apart = apart_set waits i cs c d t R.each F.waiting R.apart;
   streams = R.streams ∙ sym (numbers_set i cs c d t n);
 }

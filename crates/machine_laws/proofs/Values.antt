@@ -134,7 +134,7 @@ sound_with_setting w i c j new S t L h =
       tied = tied_set w.numbered i cs w.headers c d P.rising t refl (kept_setting w.headers c j new L) P.tied;
       noted = each_set (AreNoted (seen w.headers)) i cs d P.noted (P.noted i c t);
       works = works_set i cs w.headers c d t refl refl P.works;
-      lawful = lawful_set w.waits w.waits i cs c d t F P.lawful;
+      lawful = lawful_set 0 w.waits w.waits i cs c d t F P.lawful;
       once = P.once;
       below = P.below;
     }) (resources_changed w i c d S t refl F)
