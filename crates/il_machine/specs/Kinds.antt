@@ -1,5 +1,5 @@
 -- The names of the kinds of component, in the order of a table. Their ports and the formats of these are passed on.
-use Rattle.std.specs.Prelude.{ℕ, List, [], ◌∷◌, Option, option_map, codes, find, Bool, ◌&&◌, ◌||◌}
+use Rattle.std.specs.Prelude.{ℕ, List, [], ◌∷◌, Option, option_map, codes, find, Bool, ◌&&◌, ◌||◌, true, false}
 use Rattle.omx_types.specs.declared.kind.Kind.{Kind}
 use Rattle.omx_types.specs.declared.kind.Kind.TheVariants.{Source, Decoder, Alaw, Mulaw, Gain, Mixer, Splitter, Sink, Late}
 use Rattle.omx_types.specs.declared.format.Format.{Format}
@@ -43,3 +43,7 @@ kind_of name = option_map (λ row. row.1) (find (has_name name) named_kinds)
 -- a port may have the format: one of the kind's, or one that isn't known yet, on an input or on the output of a late source
 abbrev pub is_port_format : Kind → Bool → Format → Bool
 is_port_format kind input format = is_format_of kind input format || (is_auto format && (input || is_late kind))
+
+abbrev pub is_sink : Kind → Bool
+is_sink Sink = true
+is_sink _ = false

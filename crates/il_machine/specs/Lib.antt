@@ -20,6 +20,8 @@ pub mod Commands
 pub mod Buffers
 pub mod Notes
 pub mod Flow
+pub mod Claims
+pub mod Stepping
 pub mod Acts
 pub mod Run
 pub mod Whole

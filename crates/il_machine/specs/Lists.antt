@@ -1,5 +1,5 @@
 -- Small words for lists of tests and for look-ups.
-use Rattle.std.specs.Prelude.{ℕ, Bool, true, false, ◌&&◌, ◌||◌, nat_eq, List, [], ◌∷◌, ◌++◌, drop, length, Option, Some, None, if◌then◌else◌}
+use Rattle.std.specs.Prelude.{ℕ, Bool, true, false, ◌&&◌, ◌||◌, nat_eq, List, [], ◌∷◌, ◌++◌, drop, length, min, Option, Some, None, if◌then◌else◌}
 
 -- every test of the list is true
 abbrev pub all_of : List Bool → Bool
@@ -48,3 +48,9 @@ module _ {X : Type 0} where
   abbrev pub best_of : (X → Bool) → (X → X → Bool) → List X → Option X
   best_of test before [] = None
   best_of test before (x ∷ xs) = if test x then Some (better before x (best_of test before xs)) else best_of test before xs
+
+-- the least of the numbers, 0 where there are none
+abbrev pub least : List ℕ → ℕ
+least [] = 0
+least (n ∷ []) = n
+least (n ∷ m ∷ ns) = min n (least (m ∷ ns))
