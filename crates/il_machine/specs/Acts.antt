@@ -16,11 +16,15 @@ use Rattle.il_machine.specs.declared.answer.Progress.{Progress as ClientProgress
 use Rattle.il_machine.specs.declared.port.PortView.{PortView as View}
 use Rattle.part_api.specs.declared.attached.Attached.{Attached}
 use Rattle.il_machine.specs.Buffers.{Held}
+use Rattle.il_machine.specs.Files.{Offered}
+use Rattle.il_machine.specs.Claims.{Claimed as ClaimAnswer}
+use Rattle.il_machine.specs.Stepping.{Done}
 use Rattle.il_machine.specs.Notes.{Took as Taking}
 
 pub data Act : Type 0 where
   GetHandle : (name : List ℕ) → Act
   FreeHandle : (h : Handle) → Act
+  Attach : (h : Handle) (file : Offered) → Act
   GetState : (h : Handle) → Act
   PortView : (h : Handle) (port : ℕ) → Act
   Progress : (h : Handle) → Act
@@ -45,6 +49,8 @@ pub data Act : Type 0 where
   HandBack : (h : Handle) (port : ℕ) → Act
   Grant : Act
   Preempt : Act
+  Claim : (h : Handle) → Act
+  Finish : (done : Done) → Act
 
 -- What a call answers, without what it hands back. Of the memory of a header that is freed it says whether it is the client's; of a
 -- component that is freed, for which frames its file came.
@@ -66,3 +72,5 @@ pub data Reply : Type 0 where
   Supplied : (result : Result ActAnswer CallError) → Reply
   Granted : (answer : GrantAnswer) → Reply
   Preempted : (answer : PreemptAnswer) → Reply
+  Claimed : (result : Result ClaimAnswer OmxError) → Reply
+  Finished : Reply

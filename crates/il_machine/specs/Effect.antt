@@ -4,7 +4,7 @@ use Rattle.omx_types.specs.declared.handle.Handle.{Handle}
 use Rattle.omx_types.specs.declared.command.Note.TheVariants.{Told, EmptyDone, FillDone}
 use Rattle.il_machine.specs.declared.answer.Acted.TheVariants.{Did}
 use Rattle.il_machine.specs.declared.port.Port.{Port}
-use Rattle.il_machine.specs.World.{Component, World, changed_at, place_of, with_component, port_of}
+use Rattle.il_machine.specs.World.{Component, World, changed_at, place_numbered, place_of, with_component, port_of}
 use Rattle.il_machine.specs.Headers.{seen, loaded, unloaded}
 use Rattle.il_machine.specs.Look.{look}
 use Rattle.il_machine.specs.Kinds.{kind_of}
@@ -18,12 +18,19 @@ use Rattle.il_machine.specs.Flow.{with_supplied, in_port, front_unmade, handed_o
 use Rattle.il_machine.specs.declared.answer.Granted.TheVariants as granted
 use Rattle.il_machine.specs.declared.answer.Preempted.TheVariants as preempted
 use Rattle.il_machine.specs.Units.{first_waiter, victim, with_changed, granted_units, preempted_units}
+use Rattle.il_machine.specs.Files.{with_file}
+use Rattle.il_machine.specs.Claims.{ClaimedWork, work_of, with_work}
+use Rattle.il_machine.specs.Finishing.{finished}
 use Rattle.il_machine.specs.Acts.{Act, Reply}
 use Rattle.il_machine.specs.Acts as acts
 
 -- by the place that the handle names, and the component there
 abbrev pub at_named : Handle → World → (ℕ → Component → World) → World
 at_named h w change = changed_at (place_of h w.components) w (λ i. changed_at (slice_get w.components i) w (λ c. change i c))
+
+-- by the component's number
+abbrev pub at_numbered : ℕ → World → (ℕ → Component → World) → World
+at_numbered number w change = changed_at (place_numbered number w.components) w (λ i. changed_at (slice_get w.components i) w (λ c. change i c))
 
 -- by its port too
 abbrev pub at_named_port : Handle → ℕ → World → (ℕ → Component → Port → World) → World
@@ -35,6 +42,7 @@ at_both p q w change = changed_at p w (λ a. changed_at q w (λ b. change a b))
 abbrev pub effect : World → Act → Reply → World
 effect w (acts.GetHandle name) (acts.Got (Ok h)) = changed_at (kind_of name) w (λ kind. with_new_component h kind w)
 effect w (acts.FreeHandle h) (acts.Removed (Ok file)) = at_named h w (λ i c. without_component i c w)
+effect w (acts.Attach h file) (acts.Plain (Ok done)) = at_named h w (λ i c. with_file i c file w)
 effect w (acts.SetParameter h key value) (acts.Plain (Ok done)) = at_named h w (λ i c. with_component i (with_value key value c) w)
 effect w (acts.SetConfig h key value) (acts.Plain (Ok done)) = at_named h w (λ i c. with_component i (with_value key value c) w)
 effect w (acts.SetupTunnel output input) (acts.Joined (Ok supplier)) =
@@ -65,4 +73,6 @@ effect w (acts.HandOver h port) (acts.Acted (Ok Did)) = at_named_port h port w (
 effect w (acts.HandBack h port) (acts.Acted (Ok Did)) = at_named_port h port w (λ i c p. handed_back i c p p.state.link w)
 effect w acts.Grant (acts.Granted (granted.Granted h)) = changed_at (first_waiter w.components) w (λ c. with_changed granted_units c w)
 effect w acts.Preempt (acts.Preempted (preempted.Victim h)) = changed_at (victim w.components) w (λ c. with_changed preempted_units c w)
+effect w (acts.Claim h) (acts.Claimed (Ok (ClaimedWork work))) = at_named h w (λ i c. with_work i c (work_of (seen w.headers) c) w)
+effect w (acts.Finish done) acts.Finished = at_numbered done.component w (λ i c. finished i c done w)
 effect w _ _ = w

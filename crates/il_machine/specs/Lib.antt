@@ -20,8 +20,10 @@ pub mod Commands
 pub mod Buffers
 pub mod Notes
 pub mod Flow
+pub mod Files
 pub mod Claims
 pub mod Stepping
+pub mod Finishing
 pub mod Acts
 pub mod Run
 pub mod Whole

@@ -1,6 +1,6 @@
 -- One step of the machine, and a run of it.
 use Rattle.std.specs.Prelude.{◌≡◌, true, false, List, [], ◌∷◌, MatchOption}
-use Rattle.il_machine.specs.World.{World}
+use Rattle.il_machine.specs.World.{World, component_numbered}
 use Rattle.il_machine.specs.Answers.{Looks, component_named}
 use Rattle.il_machine.specs.Acts.{Act, Reply}
 use Rattle.il_machine.specs.Acts as acts
@@ -13,11 +13,16 @@ use Rattle.il_machine.specs.Buffers.{AllocateBuffer, UseBuffer, FreeBuffer, Empt
 use Rattle.il_machine.specs.Notes.{TakeNote, EndNote}
 use Rattle.il_machine.specs.Flow.{Supply, Release, HandOver, HandBack}
 use Rattle.il_machine.specs.Units.{Grant, Preempt}
+use Rattle.il_machine.specs.Files.{Attach}
+use Rattle.il_machine.specs.Claims.{Claim}
+use Rattle.il_machine.specs.Stepping.{IsDoneOf}
+use Rattle.il_machine.specs.Finishing.{Finish}
 
 -- In the world w the act may be answered so, and then leaves v. A call that looks changes nothing of a closed world.
 abbrev pub Step : World → Act → Reply → World → Type 0
 Step w (acts.GetHandle name) (acts.Got result) v = GetHandle w name result v
 Step w (acts.FreeHandle h) (acts.Removed result) v = FreeHandle w h result v
+Step w (acts.Attach h file) (acts.Plain result) v = Attach w h file result v
 Step w (acts.GetState h) (acts.Stated result) v = Looks (state_answer h (look w)) result w v
 Step w (acts.PortView h port) (acts.Viewed result) v = Looks (view_answer h port (look w)) result w v
 Step w (acts.Progress h) (acts.Progressed result) v = Looks (progress_answer h w) result w v
@@ -42,14 +47,17 @@ Step w (acts.HandOver h port) (acts.Acted result) v = HandOver w h port result v
 Step w (acts.HandBack h port) (acts.Acted result) v = HandBack w h port result v
 Step w acts.Grant (acts.Granted answer) v = Grant w answer v
 Step w acts.Preempt (acts.Preempted answer) v = Preempt w answer v
+Step w (acts.Claim h) (acts.Claimed result) v = Claim w h result v
+Step w (acts.Finish done) acts.Finished v = Finish w done v
 -- no other answer is given
 Step w _ _ v = ⊥
 
 -- What the caller sees to: a header that is handed in is with the client; the client object that is handed back was out, and has been
--- told all that was given for its component.
+-- told all that was given for its component; a work that comes back is out, and was done by one step.
 abbrev pub Meets : World → Act → Type 0
 Meets w (acts.GetHandle name) = Unit {0}
 Meets w (acts.FreeHandle h) = Unit {0}
+Meets w (acts.Attach h file) = Unit {0}
 Meets w (acts.GetState h) = Unit {0}
 Meets w (acts.PortView h port) = Unit {0}
 Meets w (acts.Progress h) = Unit {0}
@@ -74,6 +82,8 @@ Meets w (acts.HandOver h port) = Unit {0}
 Meets w (acts.HandBack h port) = Unit {0}
 Meets w acts.Grant = Unit {0}
 Meets w acts.Preempt = Unit {0}
+Meets w (acts.Claim h) = Unit {0}
+Meets w (acts.Finish done) = MatchOption (component_numbered done.component w) ⊥ (λ c. MatchOption c.work ⊥ (λ work. IsDoneOf w c work done))
 
 -- The acts, each of which meets its condition, are answered so in their order and lead from w to v.
 abbrev pub Run : World → List (Act × Reply) → World → Type 0

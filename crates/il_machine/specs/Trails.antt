@@ -1,5 +1,5 @@
 -- The moves of headers: they are read from each act, its reply and the lists before it.
-use Rattle.std.specs.Prelude.{◌≡◌, ℕ, ◌+◌, ◌≤◌, Bool, true, false, not, ◌&&◌, nat_eq, List, [], ◌∷◌, ◌++◌, filter, Option, Some, None, option_and_then, Ok}
+use Rattle.std.specs.Prelude.{◌≡◌, ℕ, ◌+◌, ◌≤◌, Bool, true, false, not, ◌&&◌, nat_eq, List, [], ◌∷◌, ◌++◌, filter, map, Option, Some, None, option_and_then, Ok}
 use Rattle.omx_types.specs.declared.handle.Handle.{Handle}
 use Rattle.il_machine.specs.declared.answer.Acted.TheVariants.{Did}
 use Rattle.il_machine.specs.declared.port.PortKey.{PortKey}
@@ -9,13 +9,16 @@ use Rattle.il_machine.specs.declared.header.Home.{Home}
 use Rattle.il_machine.specs.declared.header.Home.TheVariants as homes
 use Rattle.il_machine.specs.declared.header.Owner.{Owner}
 use Rattle.il_machine.specs.declared.header.Owner.TheVariants as owners
-use Rattle.il_machine.specs.World.{World, port_of}
+use Rattle.il_machine.specs.World.{Component, Stream, World, component_numbered, port_of, stream_of}
 use Rattle.il_machine.specs.declared.header.HeaderState.{HeaderState}
 use Rattle.il_machine.specs.Headers.{seen, is_home_owner, weight}
 use Rattle.il_machine.specs.Look.{look}
 use Rattle.il_machine.specs.Answers.{component_named}
 use Rattle.il_machine.specs.Notes.{TakenEmpty, TakenFilled, TookNote}
 use Rattle.il_machine.specs.Flow.{in_port}
+use Rattle.il_machine.specs.Claims.{Carried, ClaimedWork}
+use Rattle.il_machine.specs.Stepping.{Done}
+use Rattle.il_machine.specs.Finishing.{Landing, Again, Onward, Noted, landing, key_at}
 use Rattle.il_machine.specs.Acts.{Act, Reply}
 use Rattle.il_machine.specs.Acts as acts
 use Rattle.il_machine.specs.Run.{Step, Meets}
@@ -73,6 +76,27 @@ handed_back w (Some p) = back w p p.state.link
 abbrev pub moved : ℕ → Stop → Stop → List Move
 moved number from to = record { header = number; from = from; to = to } ∷ []
 
+-- a header of a claimed work goes from its port to the work of the component of the number
+abbrev pub claimed_move : ℕ → Carried → Move
+claimed_move number x = record { header = x.header.number; from = port_stop (record { component = number; port = x.port }); to = With (owners.Work number) }
+
+-- the owner of a header that lands
+abbrev pub landed_owner : Landing → Component → Carried → Owner
+landed_owner Noted c x = owners.Notice c.handle.generation
+landed_owner Again c x = owners.Port (key_at c x)
+landed_owner Onward c x = owners.Port (key_at c x)
+
+abbrev pub finished_move : Component → Stream → Done → Carried → Move
+finished_move c s done x = record {
+  header = x.header.number;
+  from = With (owners.Work c.handle.generation);
+  to = With (landed_owner (landing c s done x) c x);
+}
+
+abbrev pub finished_moves : Option Component → Option Stream → Done → List Move
+finished_moves (Some c) (Some s) done = map (finished_move c s done) done.headers
+finished_moves _ _ done = []
+
 abbrev pub moves : World → Act → Reply → List Move
 moves w (acts.AllocateBuffer h port) (acts.Allocated (Ok header)) = moved header.number Unmade client_stop
 moves w (acts.UseBuffer h port bytes) (acts.Used (Ok header)) = moved header.number Unmade client_stop
@@ -85,6 +109,8 @@ moves w (acts.Supply h port) (acts.Supplied (Ok Did)) = moved w.made Unmade (por
 moves w (acts.Release h port) (acts.Acted (Ok Did)) = released w (port_named h port w)
 moves w (acts.HandOver h port) (acts.Acted (Ok Did)) = handed w (port_named h port w)
 moves w (acts.HandBack h port) (acts.Acted (Ok Did)) = handed_back w (port_named h port w)
+moves w (acts.Claim h) (acts.Claimed (Ok (ClaimedWork work))) = map (claimed_move work.component) work.headers
+moves w (acts.Finish done) acts.Finished = finished_moves (component_numbered done.component w) (stream_of done.component w) done
 moves w _ _ = []
 
 -- The acts, each of which meets its condition, are answered so and lead from w to v by these moves.

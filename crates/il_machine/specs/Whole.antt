@@ -1,19 +1,22 @@
 -- The whole world beside what a graph keeps. The given notes, the order of headers in different queues, what the headers carry that are
 -- with the client or in a work, and what went through a file that doesn't tell it aren't kept. So a graph stands for many worlds, and each
 -- call's clause speaks of every world that it stood for.
-use Rattle.std.specs.Prelude.{◌≡◌, ◌<◌, ℕ, ◌-◌, Bool, true, false, not, List, [], map, drop, slice_get, All, Option, Some, None, option_map, MatchOption}
+use Rattle.std.specs.Prelude.{◌≡◌, ◌<◌, ℕ, ◌-◌, Bool, true, false, not, List, [], map, drop, slice_get, All, Option, Some, None, option_map, is_some, MatchOption}
 use Rattle.std.specs.Io.KnownBytes.{append_known}
 use Rattle.part_api.specs.declared.attached.Attached.TheVariants.{To}
 use Rattle.part_api.specs.Terms.{Terms, Writing}
 use Rattle.il_machine.specs.declared.answer.Progress.{Progress}
 use Rattle.il_machine.specs.Lists.{is_empty}
 use Rattle.il_machine.specs.Kinds.{is_source}
-use Rattle.il_machine.specs.World.{Component, Load, Stream, World, number_of, stream_of}
+use Rattle.il_machine.specs.World.{Component, Load, Stream, World, component_numbered, number_of, stream_of}
 use Rattle.il_machine.specs.Headers.{Seen, seen, is_notice, load_at, Once}
 use Rattle.il_machine.specs.Look.{Look, look}
 use Rattle.il_machine.specs.Buffers.{Held, held, AtHeader}
 use Rattle.il_machine.specs.Components.{progress_of}
 use Rattle.il_machine.specs.Parts.{terms_of, frames_left, bytes_given}
+use Rattle.il_machine.specs.Claims.{WorkSeen, seen_work}
+use Rattle.il_machine.specs.Stepping.{Done}
+use Rattle.il_machine.specs.Finishing.{gone_through}
 
 -- a header in a queued note, its key, and whether its memory is the client's own
 pub record Noticed : Type 0 where
@@ -67,6 +70,16 @@ pub record HasDone (t : Terms) (failed : Bool) (s : Stream) (p : PartSeen) : Typ
 abbrev pub HasParts : List (Option PartSeen) → World → Type 0
 HasParts parts w = (i : ℕ) (c : Component) (s : Stream) → slice_get w.components i ≡ Some c → c.work ≡ None
     → stream_of (number_of c) w ≡ Some s → (p : PartSeen) × (slice_get parts i ≡ Some (Some p)) × HasDone (terms_of c) c.part.failed s p
+
+-- The work that a caller holds is out in the world, with the part that it shows: what the headers carry is as it was at the claim.
+abbrev pub IsOut : World → WorkSeen → PartSeen → Type 0
+IsOut w x p = MatchOption (component_numbered x.component w) ⊥ (λ c. MatchOption c.work ⊥ (λ work.
+    MatchOption (stream_of x.component w) ⊥ (λ s. (x ≡ seen_work c work w.headers) × HasDone (terms_of c) c.part.failed s p)))
+
+-- The part that comes back with the work has had through it what then has gone through it.
+abbrev pub IsBack : World → Done → PartSeen → Type 0
+IsBack w done p = MatchOption (component_numbered done.component w) ⊥ (λ c.
+    MatchOption (stream_of done.component w) ⊥ (λ s. HasDone (terms_of c) (is_some done.fault) (gone_through done s) p))
 
 -- All that is kept is the world's.
 pub record Stands (kept : Kept) (w : World) : Type 0 where
