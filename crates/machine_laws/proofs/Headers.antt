@@ -122,7 +122,7 @@ worker_there cs hs numbered made P k n r f o =
 pub works_replaced : (n : ℕ) (r s : HeaderRecord) (hs ks : List HeaderRecord) → IsReplaced n r s hs ks → is_set_aside r.state.owner ≡ false → is_set_aside s.state.owner ≡ false → KeepsWorks hs ks
 works_replaced n r s hs ks R a b = keeps_works_but n hs ks R.others (λ k. worked_found k n hs r R.was ∙ not_in_work k r.state.owner a) (λ k. worked_found k n ks s R.here ∙ not_in_work k s.state.owner b)
 
-not_out : (spot : Spot) → spot_place spot ≢ Out
+pub not_out : (spot : Spot) → spot_place spot ≢ Out
 not_out TodoBack e = cc
 not_out TodoFront e = cc
 not_out DoneBack e = cc

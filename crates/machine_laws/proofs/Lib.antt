@@ -22,6 +22,11 @@ pub mod Listed
 pub mod ClientHeaders
 pub mod Notices
 pub mod Coming
+pub mod Attaching
+pub mod Shifting
+pub mod Claiming
+pub mod Landing
+pub mod Finishing
 pub mod Values
 pub mod Resets
 pub mod Happening

@@ -18,7 +18,7 @@ use Rattle.il_machine.specs.declared.port.Link.{Link}
 use Rattle.il_machine.specs.declared.port.Port.{Port}
 use Rattle.il_machine.specs.declared.header.HeaderState.{HeaderState}
 use Rattle.il_machine.specs.declared.header.Owner.TheVariants as owners
-use Rattle.il_machine.specs.World.{Component, World, no_world, place_of, port_of, with_component}
+use Rattle.il_machine.specs.World.{Component, World, no_world, place_of, place_numbered, port_of, with_component}
 use Rattle.il_machine.specs.Headers.{seen, find_header, loaded, empty_load, unloaded}
 use Rattle.il_machine.specs.Look.{look}
 use Rattle.il_machine.specs.Answers.{plain}
@@ -31,6 +31,10 @@ use Rattle.il_machine.specs.Commands.{SendCommand, RunCommand, send_refusal, sen
 use Rattle.il_machine.specs.Buffers.{AllocateBuffer, UseBuffer, FreeBuffer, EmptyThisBuffer, FillThisBuffer, Held, held_of, load_in, AtState, IsWithClient, allocate_refusal, use_refusal, client_header, with_header, free_buffer_refusal, unpopulated, without_header, empty_refusal, fill_refusal, with_todo}
 use Rattle.il_machine.specs.Notes.{TakeNote, EndNote, TakeFrom, TakesHeader, Taken, TakenEmpty, TakenFilled, Took, with_given, with_client, back_in}
 use Rattle.il_machine.specs.Flow.{Supply, Release, HandOver, HandBack, supply_idle, with_supplied, release_idle, in_port, front_unmade, over_idle, handed_over, back_idle, handed_back}
+use Rattle.il_machine.specs.Files.{Offered, Attach, attach_refusal, with_file}
+use Rattle.il_machine.specs.Stepping.{Done, IsDoneOf}
+use Rattle.il_machine.specs.Finishing.{Finish, finished}
+use Rattle.il_machine.specs.Claims.{Claim, Claims, Claimed, claim_idle, work_of, with_work}
 use Rattle.il_machine.specs.Acts.{Act, Reply}
 use Rattle.il_machine.specs.Acts as acts
 use Rattle.il_machine.specs.Run.{Step, Meets, Run}
@@ -44,6 +48,9 @@ use Rattle.machine_laws.proofs.Running.{sound_run, change_run, fair_run}
 use Rattle.machine_laws.proofs.ClientHeaders.{sound_allocated, sound_used, sound_emptied, sound_filled, sound_freed}
 use Rattle.machine_laws.proofs.Notices.{sound_noticed, sound_given, sound_taken, note_emptied, note_filled, IsNoteOf, sound_ended}
 use Rattle.machine_laws.proofs.Coming.{kind_sized, sound_new, sound_removed}
+use Rattle.machine_laws.proofs.Attaching.{sound_attached}
+use Rattle.machine_laws.proofs.Claiming.{sound_claimed}
+use Rattle.machine_laws.proofs.Finishing.{sound_finished}
 use Rattle.machine_laws.proofs.Values.{sound_set, sound_configured}
 use Rattle.machine_laws.proofs.Happening.{sound_closes}
 use Rattle.machine_laws.proofs.Granting.{grant_keeps, preempt_keeps}
@@ -61,6 +68,10 @@ get_keeps w v name result h S = answers_or_memory_keep (get_handle_refusal (look
 free_keeps : (w v : World) (h : Handle) (result : Result (Option Attached) OmxError) → FreeHandle w h result v → Sound w → Sound v
 free_keeps w v h result r S = resolving_keeps plain w v h result _ S r (λ i c t a. answers_keep (free_refusal (look w).headers c) result w v _ a S (λ x n b.
     sound_closes (without_component i c w) v b.1 (sound_removed w i c S t n)))
+
+attach_keeps : (w v : World) (h : Handle) (file : Offered) (result : Result (Unit {0}) OmxError) → Attach w h file result v → Sound w → Sound v
+attach_keeps w v h file result r S = resolving_keeps plain w v h result _ S r (λ i c t a. answers_keep (attach_refusal c file) result w v _ a S (λ x n b.
+    sound_closes (with_file i c file w) v b (sound_attached w i c file S t)))
 
 -- ---- parameters and configs
 
@@ -184,13 +195,33 @@ sound_handed_back w i c index p (Some link) S t e l = sound_returned w i c index
 back_keeps : (w v : World) (h : Handle) (port : ℕ) (result : Result Acted OmxError) → HandBack w h port result v → Sound w → Sound v
 back_keeps w v h port result r S = on_port_keeps plain w v h result port _ S r (λ i c p t e a. acts_keep (back_idle (look w) c p) result w (handed_back i c p p.state.link w) v a S (λ n. sound_handed_back w i c port p p.state.link S t e refl))
 
+-- ---- works
+
+claims_keep : (w v : World) (i : ℕ) (c : Component) (o : Option Claimed) (result : Result Claimed OmxError) → claim_idle (look w) c ≡ o → Claims o i c w result v → Sound w → slice_get w.components i ≡ Some c → Sound v
+claims_keep w v i c (Some idle) result e h S t = stays_sound w v h.1 S
+claims_keep w v i c None result e h S t = sound_closes (with_work i c (work_of (seen w.headers) c) w) v h.1 (sound_claimed w i c S t e)
+
+claim_keeps : (w v : World) (h : Handle) (result : Result Claimed OmxError) → Claim w h result v → Sound w → Sound v
+claim_keeps w v h result r S = resolving_keeps plain w v h result _ S r (λ i c t a. claims_keep w v i c (claim_idle (look w) c) result refl a S t)
+
+-- the component whose work comes back, by the number of its place
+finish_keeps : (w v : World) (done : Done) → Meets w (acts.Finish done) → Finish w done v → Sound w → Sound v
+finish_keeps w v done M h S =
+    let i = there_is (place_numbered done.component w.components) _ h in
+    let c = there_is (slice_get w.components i.0) (λ c. ClosesTo (finished i.0 c done w) v) i.2 in
+    let m : MatchOption (c.0).work ⊥ (λ work. IsDoneOf w c.0 work done) = rw (i.1, c.1) at M in
+    let x = there_is (c.0).work (λ work. IsDoneOf w c.0 work done) m in
+    sound_closes (finished i.0 c.0 done w) v c.2 (sound_finished w i.0 c.0 x.0 done S c.1 x.1 x.2)
+
 -- ---- all
 
--- The header that is handed in is with the client: all that a sound world asks of the caller.
+-- The header that is handed in is with the client, and a work that comes back was out and done by one step: all that a sound world asks of
+-- the caller.
 abbrev pub HandsIn : World → Act → Type 0
 HandsIn w (acts.FreeBuffer h port header) = IsWithClient header (look w)
 HandsIn w (acts.EmptyThisBuffer h port header) = IsWithClient header.number (look w)
 HandsIn w (acts.FillThisBuffer h port header) = IsWithClient header.number (look w)
+HandsIn w (acts.Finish done) = Meets w (acts.Finish done)
 HandsIn w _ = Unit {0}
 
 held_with : (o : Option HeaderState) (header : Held) → MatchOption o ⊥ (λ s. (s.owner ≡ owners.Client) × (header.size ≡ s.size) × (length header.content ≤ s.size)) → MatchOption o ⊥ (λ s. s.owner ≡ owners.Client)
@@ -201,11 +232,13 @@ pub hands_in : (w : World) (a : Act) → Meets w a → HandsIn w a
 hands_in w (acts.FreeBuffer h port header) M = M
 hands_in w (acts.EmptyThisBuffer h port header) M = held_with ((look w).headers.header header.number) header M
 hands_in w (acts.FillThisBuffer h port header) M = held_with ((look w).headers.header header.number) header M
+hands_in w (acts.Finish done) M = M
 hands_in w _ M = tt
 
 pub sound_after : (w v : World) (a : Act) (r : Reply) → HandsIn w a → Step w a r v → Sound w → Sound v
 sound_after w v (acts.GetHandle name) (acts.Got result) M s S = get_keeps w v name result s S
 sound_after w v (acts.FreeHandle h) (acts.Removed result) M s S = free_keeps w v h result s S
+sound_after w v (acts.Attach h file) (acts.Plain result) M s S = attach_keeps w v h file result s S
 sound_after w v (acts.GetState h) (acts.Stated result) M s S = looks_keep (state_answer h (look w)) result w v s S
 sound_after w v (acts.PortView h port) (acts.Viewed result) M s S = looks_keep (view_answer h port (look w)) result w v s S
 sound_after w v (acts.Progress h) (acts.Progressed result) M s S = looks_keep (progress_answer h w) result w v s S
@@ -230,6 +263,8 @@ sound_after w v (acts.HandOver h port) (acts.Acted result) M s S = over_keeps w 
 sound_after w v (acts.HandBack h port) (acts.Acted result) M s S = back_keeps w v h port result s S
 sound_after w v acts.Grant (acts.Granted answer) M s S = grant_keeps w v answer s S
 sound_after w v acts.Preempt (acts.Preempted answer) M s S = preempt_keeps w v answer s S
+sound_after w v (acts.Claim h) (acts.Claimed result) M s S = claim_keeps w v h result s S
+sound_after w v (acts.Finish done) acts.Finished M s S = finish_keeps w v done M s S
 sound_after w v _ _ M s S = absurd s
 
 pub sound_step : (w v : World) (a : Act) (r : Reply) → Meets w a → Step w a r v → Sound w → Sound v

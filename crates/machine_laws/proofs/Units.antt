@@ -172,6 +172,16 @@ resources_set spare waits after units i cs ss c d l t n u F R = record {
   streams = R.streams ∙ sym (numbers_set i cs c d t n);
 }
 
+-- the component holds no other units, and waits as before
+pub resources_as : (waits units i : ℕ) (cs : List Component) (ss : List Stream) (c d : Component) → slice_get cs i ≡ Some c → number_of d ≡ number_of c → held_by d ≡ held_by c → d.waiting ≡ c.waiting → IsUnitSound waits d
+    → Resources cs ss waits units → Resources (set cs i d) ss waits units
+resources_as waits units i cs ss c d t n h w U R = record {
+  each = λ j x e. elim (at_set cs i j d x e) [ inl s ↦ rw s.1 U | inr s ↦ R.each j x s.1 ];
+  enough = enough_set 0 i units cs c d t (omega arith) (omega (arith, R.enough));
+  apart = apart_set waits i cs c d t R.each (λ m e. inl (sym w ∙ e)) R.apart;
+  streams = R.streams ∙ sym (numbers_set i cs c d t n);
+}
+
 -- ---- one component more
 
 map_push : {X : Type 0} (f : X → ℕ) (xs : List X) (x : X) → map f (xs ++ x ∷ []) ≡ map f xs ++ f x ∷ []

@@ -201,7 +201,7 @@ sound_changed w i c key (params.Weight n) S t G L = sound_plain w i c key (param
 
 -- ---- a port is held no more
 
-set_twice : (i : ℕ) (cs : List Component) (d e : Component) → set (set cs i d) i e ≡ set cs i e
+pub set_twice : (i : ℕ) (cs : List Component) (d e : Component) → set (set cs i d) i e ≡ set cs i e
 set_twice i [] d e = refl
 set_twice zero (x ∷ cs) d e = refl
 set_twice (suc i) (x ∷ cs) d e = ap (λ (l : List Component). x ∷ l) (set_twice i cs d e)

@@ -27,7 +27,7 @@ pub record Works (cs : List Component) (hs : List HeaderRecord) : Type 0 where
   pub claimed : (i : ℕ) (c : Component) → slice_get cs i ≡ Some c → AreClaimed (seen hs) c
   pub made : (i : ℕ) (c : Component) (work : Work) → slice_get cs i ≡ Some c → c.work ≡ Some work → All (IsPickedFor (seen hs) (number_of c)) work.headers
 
-made_there : (o : Option HeaderState) (key : PortKey) → MatchOption o ⊥ (λ s. is_for key s ≡ true) → holds_at o (is_for key) ≡ true
+pub made_there : (o : Option HeaderState) (key : PortKey) → MatchOption o ⊥ (λ s. is_for key s ≡ true) → holds_at o (is_for key) ≡ true
 made_there None key h = absurd h
 made_there (Some s) key h = h
 
@@ -35,12 +35,19 @@ there_made : (o : Option HeaderState) (key : PortKey) → holds_at o (is_for key
 there_made None key h = absurd cc
 there_made (Some s) key h = h
 
+-- each header was made for the same ports
+pub made_kept : (hs ks : List HeaderRecord) (k : ℕ) (xs : List Picked) → ((n : ℕ) (key : PortKey) → made_at key n ks ≡ made_at key n hs) → All (IsPickedFor (seen hs) k) xs → All (IsPickedFor (seen ks) k) xs
+made_kept hs ks k xs h A = from_places (IsPickedFor (seen ks) k) xs (λ j x f.
+    let key : PortKey = record { component = k; port = x.port } in
+    let m = made_there (option_map state_of (find_header x.number hs)) key (at_place (IsPickedFor (seen hs) k) xs j x A f) in
+    there_made (option_map state_of (find_header x.number ks)) key (h x.number key ∙ m))
+
 picked_number : (xs : List Picked) (j : ℕ) (x : Picked) → slice_get xs j ≡ Some x → 1 ≤ times x.number (map (λ y. y.number) xs)
 picked_number [] j x e = absurd cc
 picked_number (y ∷ xs) zero x e = let s : y ≡ x = cc in rw s (omega (arith, times_self x.number (map (λ z. z.number) xs)))
 picked_number (y ∷ xs) (suc j) x e = let i = picked_number xs j x e in omega (arith, times_cons x.number y.number (map (λ z. z.number) xs))
 
-weighs : (b : Bool) → 1 ≤ weight b → b ≡ true
+pub weighs : (b : Bool) → 1 ≤ weight b → b ≡ true
 weighs true h = refl
 weighs false h = absurd (omega arith)
 
