@@ -4,7 +4,6 @@ use Rattle.omx_types.specs.declared.handle.Handle.{Handle}
 use Rattle.omx_types.specs.declared.error.OmxError.{OmxError}
 use Rattle.omx_types.specs.declared.error.OmxError.TheVariants as errors
 use Rattle.omx_types.specs.declared.format.Format.{Format}
-use Rattle.omx_types.specs.Formats.{frame_bytes_of}
 use Rattle.omx_types.specs.declared.param.Param.{Param}
 use Rattle.omx_types.specs.declared.param.Param.TheVariants as params
 use Rattle.omx_types.specs.declared.param.ParamKey.{ParamKey}
@@ -28,10 +27,6 @@ use Rattle.il_machine.specs.Answers.{plain, Resolving, Answers, component_named,
 -- Loaded with nothing pending
 abbrev pub is_settable : Component → Bool
 is_settable c = is_loaded c.state && is_at_rest c
-
--- a file has at most 134,217,728 bytes
-abbrev pub is_too_large : ℕ → Format → Bool
-is_too_large frames format = nat_lt 134217728 (frames * frame_bytes_of format)
 
 -- The port's format is known and stays: the port isn't held, and its component has a file or isn't Loaded with nothing pending.
 abbrev pub keeps_format : Component → Port → Bool

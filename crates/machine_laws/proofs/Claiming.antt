@@ -233,7 +233,7 @@ sound_its s c S f l =
     sound_with d (record { whole = S.whole; ports = S.ports; settings = S.settings; cause = S.cause; mark = S.mark; commands = S.commands }) (omega (arith, S.room))
 
 pub units_its : (waits : ℕ) (c : Component) (work : Work) → IsUnitSound waits c → IsUnitSound waits (with_its work c)
-units_its waits c work U = record { gives = U.gives; waiting = U.waiting; numbered = U.numbered; way = U.way; held = U.held; inputs = U.inputs }
+units_its waits c work U = record { holds = U.holds; gives = U.gives; waiting = U.waiting; numbered = U.numbered; way = U.way; held = U.held; inputs = U.inputs }
 
 lawful_its : (s : Seen) (c : Component) → is_executing c.state ≡ true → IsLawfulWork (with_its (work_of s c) c) (work_of s c)
 lawful_its s c e = record {
@@ -269,4 +269,4 @@ sound_claimed w i c S t h =
     (parts_shifted i cs w.headers (all_given_out k work.headers w.headers) w.numbered w.made c d P t B refl (λ x. kept_itself (all_given_out k work.headers w.headers) (port_of c x))
     (sound_its (seen w.headers) c (P.components i c t) C.free C.room)
     (λ x e. let s : x ≡ work = cc in rw s (lawful_its (seen w.headers) c C.runs, M)))
-    (resources_as w.waits w.waits w.units i cs w.streams c d (omega arith) t refl refl (λ x. x) (λ n e. inl e) (units_its w.waits c work U) (resources_of w S))
+    (resources_as w.waits w.units i cs w.streams c d t refl refl refl (units_its w.waits c work U) (resources_of w S))

@@ -25,7 +25,7 @@ use Rattle.machine_laws.proofs.Every.{at_place, set_there}
 use Rattle.machine_laws.proofs.Finding.{either}
 use Rattle.machine_laws.proofs.Lookups.{port_at_is}
 use Rattle.machine_laws.proofs.PortChanges.{kept_itself}
-use Rattle.machine_laws.proofs.Units.{IsFair, resources_of, resources_as}
+use Rattle.machine_laws.proofs.Units.{IsFair, held_fewer, resources_of, resources_as}
 use Rattle.machine_laws.proofs.Parts.{ports_in_list, parts_of, sound_from}
 use Rattle.machine_laws.proofs.Change.{sound_component}
 use Rattle.machine_laws.proofs.Rooms.{costs, costs_same, lawful_of, sound_with, lawful_told, used_told}
@@ -111,7 +111,7 @@ part_inputs c s done None S e = ended_length (terms_of c) 0 done.headers 0 (leng
 part_inputs c s done (Some fault) S e = e
 
 units_back : (waits : ℕ) (c : Component) (s : Stream) (done : Done) → IsSound c → IsUnitSound waits c → IsUnitSound waits (stepped_back c s done)
-units_back waits c s done S U = record { gives = U.gives; waiting = U.waiting; numbered = U.numbered; way = U.way; held = U.held; inputs = part_inputs c s done done.fault S U.inputs }
+units_back waits c s done S U = record { holds = U.holds; gives = U.gives; waiting = U.waiting; numbered = U.numbered; way = U.way; held = U.held; inputs = part_inputs c s done done.fault S U.inputs }
 
 -- ---- a work of headers comes back
 
@@ -150,7 +150,7 @@ sound_landed w i c work done s S t e A =
     sound_from (with_landed i c done s w)
     (parts_shifted i cs w.headers ks w.numbered w.made c d P t D refl (λ x. kept_itself ks (port_of c x)) (sound_back c s done work (P.components i c t) e A) (λ x f. absurd cc))
     (resources_streamed (set cs i d) w.streams w.waits w.units k (gone_through done) (λ x. refl)
-    (resources_as w.waits w.waits w.units i cs w.streams c d (omega arith) t refl refl (λ x. x) (λ n f. inl f) (units_back w.waits c s done (P.components i c t) U) (resources_of w S)))
+    (resources_as w.waits w.units i cs w.streams c d t refl refl refl (units_back w.waits c s done (P.components i c t) U) (resources_of w S)))
 
 -- ---- an announcement comes back
 
@@ -169,10 +169,10 @@ sound_idle w i c work S t e z =
     let n : work_numbers c.work ≡ [] = rw (e, z) refl in
     let Z : Shifted (ports_in_list cs) (number_of c) w.headers (note_numbers c.notes) [] w.headers = rw n at (shifted_none cs w.headers w.numbered w.made i c P t) in
     let U = (resources_of w S).each i c t in
-    let V : IsUnitSound w.waits d = record { gives = U.gives; waiting = U.waiting; numbered = U.numbered; way = U.way; held = U.held; inputs = U.inputs } in (
+    let V : IsUnitSound w.waits d = record { holds = U.holds; gives = U.gives; waiting = U.waiting; numbered = U.numbered; way = U.way; held = U.held; inputs = U.inputs } in (
       sound_from (with_component i d w)
           (parts_shifted i cs w.headers w.headers w.numbered w.made c d P t Z refl (λ x. kept_itself w.headers (port_of c x)) J (λ x f. absurd cc))
-          (resources_as w.waits w.waits w.units i cs w.streams c d (omega arith) t refl refl (λ x. x) (λ m f. inl f) V (resources_of w S)),
+          (resources_as w.waits w.units i cs w.streams c d t refl refl refl V (resources_of w S)),
       u,
     )
 
@@ -192,12 +192,12 @@ sound_held w i index c p S t z l late f =
     let u = used_with_port k new p.state c at in
     let v = used_told (PortSettingsChanged k) (with_port k new c) in
     let J = sound_with d (lawful_told (PortSettingsChanged k) (with_port k new c) (lawful_with_port k new c (lawful_of c I))) (omega arith) in
-    let F : IsFair w.waits w.waits c d = record {
+    let F : IsFair 0 w.waits w.waits c d = record {
       keeps = record { kind = refl; weights = refl; count = (lawful_with_port k new c (lawful_of c I)).ports ∙ sym I.ports; work = refl };
       stays = λ work e. absurd cc;
-      holds = λ h. h;
+      taken = held_fewer c d refl (λ h. h);
       waiting = λ n e. inl e;
-      units = record { gives = U.gives; waiting = U.waiting; numbered = U.numbered; way = U.way; held = λ q m h. late; inputs = U.inputs };
+      units = record { holds = U.holds; gives = U.gives; waiting = U.waiting; numbered = U.numbered; way = U.way; held = λ q m h. late; inputs = U.inputs };
     } in
     sound_component w i c d S t (change_let_go (PortSettingsChanged k) k new p.state c at refl) J F
 

@@ -1,5 +1,5 @@
 -- Units that are granted or taken keep a world sound.
-use Rattle.std.proofs.Common.{◌≡◌, ◌⊎◌, inl, inr, ℕ, zero, suc, ◌+◌, ◌≤◌, Bool, true, false, not, ◌&&◌, ◌||◌, nat_lt, nat_le, List, [], ◌∷◌, slice_get, Option, Some, None, is_none, option_and_then, refl, sym, ◌∙◌, ap, eq-eqb, ne_eqb, ltb-false, arith}
+use Rattle.std.proofs.Common.{◌≡◌, ◌⊎◌, inl, inr, ℕ, zero, suc, ◌≤◌, Bool, true, false, not, ◌&&◌, ◌||◌, nat_lt, nat_le, List, [], ◌∷◌, slice_get, Option, Some, None, is_none, option_and_then, refl, sym, ◌∙◌, ap, eq-eqb, ne_eqb, ltb-false, arith}
 use Rattle.omx_types.specs.declared.state.State.{State}
 use Rattle.omx_types.specs.declared.state.State.TheVariants as states
 use Rattle.omx_types.specs.declared.command.Event.TheVariants.{Error, ResourcesAcquired}
@@ -9,25 +9,24 @@ use Rattle.il_machine.specs.declared.answer.Granted.{Granted}
 use Rattle.il_machine.specs.declared.answer.Preempted.{Preempted}
 use Rattle.il_machine.specs.declared.answer.Pending.{Pending}
 use Rattle.il_machine.specs.declared.answer.Why.{Why}
-use Rattle.il_machine.specs.declared.answer.Why.TheVariants as why
 use Rattle.il_machine.specs.States.{same_state, is_lawful, is_invalid, is_running, is_up}
 use Rattle.il_machine.specs.Lists.{better, best_of, holds_at}
 use Rattle.il_machine.specs.Places.{first_place}
 use Rattle.il_machine.specs.World.{Component, Work, World, number_of, is_numbered, place_numbered, with_component, told}
 use Rattle.il_machine.specs.Look.{look}
 use Rattle.il_machine.specs.Ports.{is_at_rest, is_going_to}
-use Rattle.il_machine.specs.Room.{is_by_client, room, used}
-use Rattle.il_machine.specs.Due.{lost, ClosesTo}
+use Rattle.il_machine.specs.Room.{is_by_client, room}
+use Rattle.il_machine.specs.Due.{lost}
 use Rattle.il_machine.specs.Units.{need_of, free_units, coming_units, is_giving_back, is_waiter, is_before, is_weaker, gives_first, first_waiter, weakest, victim, granted_units, with_changed, Grants, Grant, grant_idle, preempted_units, Preempts, Preempt, preempt_idle}
-use Rattle.il_machine.specs.Sound.{Sound, IsSound, IsUnitSound, AreRising, may_work, needs_units}
+use Rattle.il_machine.specs.Sound.{Sound, IsSound, IsUnitSound, AreRising, may_work}
 use Rattle.il_machine.proofs.Places.{is_first_place}
 use Rattle.machine_laws.proofs.Finding.{either}
 use Rattle.machine_laws.proofs.Lookups.{rises_at}
-use Rattle.machine_laws.proofs.Accepting.{passed, not_either, not_not, is_not, both_of}
-use Rattle.machine_laws.proofs.Change.{IsChange, change_none, change_twice, sound_component, sound_taking_units, out_there}
+use Rattle.machine_laws.proofs.Accepting.{passed, not_either, is_not, both_of}
+use Rattle.machine_laws.proofs.Change.{IsChange, change_twice, sound_component, sound_taking_units, out_there}
 use Rattle.machine_laws.proofs.Parts.{parts_of}
-use Rattle.machine_laws.proofs.Units.{IsAside, IsFair, held_fewer, fair_aside, resources_of}
-use Rattle.machine_laws.proofs.Rooms.{costs, asked, loss, costs_same, used_told, IsLawful, lawful_of, sound_with, lawful_told, change_told, aside_told}
+use Rattle.machine_laws.proofs.Units.{IsFair, held_fewer, fair_aside, resources_of}
+use Rattle.machine_laws.proofs.Rooms.{costs, asked, loss, costs_same, used_told, lawful_of, sound_with, lawful_told, change_told, aside_told}
 use Rattle.machine_laws.proofs.Arriving.{losing, lawful_lost, change_lost}
 use Rattle.machine_laws.proofs.Fairness.{way_by, fair_then_aside}
 use Rattle.machine_laws.proofs.Happening.{sound_closes}
