@@ -1,10 +1,12 @@
 -- The ports of a component, changed and looked through one after the other.
-use Rattle.std.proofs.Common.{◌≡◌, ℕ, zero, suc, ◌+◌, ◌≤◌, ◌<◌, Bool, true, false, cond, List, [], ◌∷◌, length, map, sum_by, drop, get_or, set, refl, sym, ◌∙◌, ap, arith, add-one, ◌&&◌}
+use Rattle.std.proofs.Common.{◌≡◌, ℕ, zero, suc, ◌+◌, ◌≤◌, ◌<◌, Bool, true, false, cond, List, [], ◌∷◌, length, map, sum_by, drop, get_or, set, refl, sym, ◌∙◌, ap, arith, add-one, ◌&&◌, slice_get, Some}
 use Rattle.std.proofs.Math.Seq.{drop-cons}
 use Rattle.std.proofs.lemmas.List.Sums.{sum_by-cons}
 use Rattle.omx_types.specs.declared.command.PortSel.{PortSel}
+use Rattle.il_machine.specs.declared.port.Port.{Port}
+use Rattle.il_machine.specs.declared.port.PortSetting.{PortSetting}
 use Rattle.il_machine.specs.declared.port.PortState.{PortState}
-use Rattle.il_machine.specs.World.{fresh_port}
+use Rattle.il_machine.specs.World.{fresh_port, ports_from}
 use Rattle.il_machine.specs.Commands.{is_selected, selected_from, at_rest}
 use Rattle.il_machine.specs.Due.{unheld}
 use Rattle.il_machine.specs.Room.{port_places}
@@ -86,3 +88,15 @@ until_cleared (suc n) index (p ∷ ps) b = ap (λ (qs : List Bool). false ∷ qs
 
 pub clear_step : (n : ℕ) (ps qs : List Bool) → qs ≡ each_until clear_flag n 0 ps → n < length ps → set qs n false ≡ each_until clear_flag (n + 1) 0 ps
 clear_step n ps qs e b = rw (e, add-one) (until_more clear_flag n 0 ps false b)
+
+-- ---- the number of a port
+
+pub port_numbered : (number index k : ℕ) (ss : List PortSetting) (ps : List PortState) (p : Port) → slice_get (ports_from number index ss ps) k ≡ Some p → (p.key.port ≡ index + k) × (k < length ss)
+port_numbered number index k [] ps p e = absurd cc
+port_numbered number index k (s ∷ ss) [] p e = absurd cc
+port_numbered number index zero (s ∷ ss) (q ∷ ps) p e =
+    let x : Port = record { key = record { component = number; port = index }; setting = s; state = q } in
+    let o : Some x ≡ Some p = e in
+    let is : x ≡ p = cc in
+    (rw (← is) (omega arith), omega arith)
+port_numbered number index (suc k) (s ∷ ss) (q ∷ ps) p e = let i = port_numbered number (index + 1) k ss ps p e in (omega (arith, i.0), omega (arith, i.1))

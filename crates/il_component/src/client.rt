@@ -4,17 +4,16 @@ ghost use Rattle.std.specs.Prelude.{◌≡◌, ◌<◌, ◌*◌, ◌||◌, true,
 ghost use Rattle.il_machine.specs.Kinds.{ports_in};
 ghost use Rattle.il_machine.specs.Settings.{set_refusal, value_of, refused_or, with_setting, changed_by};
 ghost use Rattle.il_machine.specs.World.{with_port};
-ghost use Rattle.il_machine.specs.Parameters.{keeps_format, is_format_free, get_parameter_refusal, set_config_refusal, with_value};
+ghost use Rattle.il_machine.specs.Parameters.{is_format_free, get_parameter_refusal, set_config_refusal, with_value};
 ghost use Rattle.note_queues.specs.Queues.{took, after_taking, header_notes, header_note, noted, with_client};
 ghost use Rattle.il_component.specs.Entries.{component_of, KeepsNotices};
 ghost use Rattle.il_component.specs.PortChanges.{linked, unlinked, let_go_by};
 
 use crate::component::Component;
 use header_core::Header;
-use il_machine::{Link, Port, PortSetting, Progress};
+use il_machine::{Link, PortSetting, Progress};
 use note_queues::{Client, Took};
-use omx_types::{Format, OmxError, Param, ParamKey};
-use param_store::is_same_format;
+use omx_types::{OmxError, Param, ParamKey};
 
 impl<C> Component<C> {
     /// Moves the oldest note out, with the client object.
@@ -95,36 +94,6 @@ impl<C> Component<C> {
             return Err(OmxError::InvalidState);
         }
         self.params.get(key, config)
-    }
-
-    /// The port's format is known and stays.
-    fn keeps_format(&self, port: Port) -> bool
-        ensures { result ≡ keeps_format (component_of self.now) port }
-    {
-        !port.state.held
-            && !matches!(port.setting.definition.format, Format::Auto)
-            && (self.file.is_some() || !self.is_settable())
-    }
-
-    /// Whether the value may be set of the port, as far as its format goes.
-    fn is_format_free(&self, index: u32, value: Param) -> bool
-        ensures { result ≡ is_format_free (component_of self.now) index value }
-    {
-        let Param::Port(definition) = value else {
-            return true;
-        };
-        let Some(port) = self.port(index) else {
-            return false;
-        };
-        !self.keeps_format(port)
-            || is_same_format(definition.format, port.setting.definition.format)
-    }
-
-    /// Whether the value may be set, as far as a port's format goes: a config has none.
-    fn is_free(&self, key: ParamKey, config: bool, value: Param) -> bool
-        ensures { result ≡ (config || is_format_free (component_of self.now) key.port value) }
-    {
-        config || self.is_format_free(key.port, value)
     }
 
     /// Why the value of the key can't be set, if it can't, beside the component's state and its ports.

@@ -1,7 +1,7 @@
 //! What the table of kinds says of their ports.
 
 ghost use Rattle.std.specs.Prelude.{◌≡◌, ◌+◌, ◌≤◌, ◌^◌, ◌<◌};
-ghost use Rattle.il_machine.specs.Kinds.{inputs_of, outputs_of, ports_in, is_input, is_format_of, is_late};
+ghost use Rattle.il_machine.specs.Kinds.{inputs_of, outputs_of, ports_in, is_input, is_format_of, is_port_format, is_late};
 ghost use Rattle.il_machine.specs.Settings.{default_format, default_setting, IsSized, is_gain, is_mixer, is_splitter};
 
 use il_machine::PortSetting;
@@ -72,7 +72,7 @@ fn is_late(kind: Kind) -> bool
 }
 
 /// Whether the kind's inputs, or else its outputs, may have the format.
-pub fn is_format_of(kind: Kind, input: bool, format: Format) -> bool
+fn is_format_of(kind: Kind, input: bool, format: Format) -> bool
     ensures { result ≡ is_format_of kind input format }
 {
     match (kind, input) {
@@ -117,6 +117,14 @@ pub fn is_format_of(kind: Kind, input: bool, format: Format) -> bool
             }
         ),
     }
+}
+
+/// Whether an input of the kind, or else an output, may have the format: also one that isn't known yet.
+pub fn is_port_format(kind: Kind, input: bool, format: Format) -> bool
+    ensures { result ≡ is_port_format kind input format }
+{
+    is_format_of(kind, input, format)
+        || (matches!(format, Format::Auto) && (input || is_late(kind)))
 }
 
 fn default_format(kind: Kind, input: bool) -> Format

@@ -4,6 +4,8 @@ ghost use Rattle.std.specs.Prelude.{◌≡◌, filter, find};
 ghost use Rattle.std.specs.List.{list_all};
 ghost use Rattle.il_machine.specs.Settings.{is_v112, is_within_limits, same_format, same_rate_and_channels, is_definition_of, is_good_value, is_value_of, are_fitting, is_known, formats_of};
 ghost use Rattle.il_machine.specs.Kinds.{is_auto};
+ghost use Rattle.il_machine.specs.Parameters.{is_too_large};
+ghost use Rattle.omx_types.specs.Formats.{frame_bytes_of};
 
 use crate::kinds;
 use il_machine::PortSetting;
@@ -79,6 +81,24 @@ pub fn has_same_rate_and_channels(a: Format, b: Format) -> bool
     ensures { result ≡ same_rate_and_channels a b }
 {
     a.rate() == b.rate() && a.channels() == b.channels()
+}
+
+/// The bytes of one frame, also of a format outside the limits.
+fn frame_bytes(format: Format) -> u64
+    ensures { result ≡ frame_bytes_of format }
+{
+    match format {
+        Format::Pcm { rate: _, channels } => 2 * channels as u64,
+        Format::Alaw { rate: _, channels } | Format::Mulaw { rate: _, channels } => channels as u64,
+        Format::Auto => 1,
+    }
+}
+
+/// Whether so many frames have more bytes than a file may have.
+pub fn is_too_large(frames: u64, format: Format) -> bool
+    ensures { result ≡ is_too_large frames format }
+{
+    frames as u128 * frame_bytes(format) as u128 > 134_217_728
 }
 
 fn is_definition_of(input: bool, definition: PortDefinition) -> bool

@@ -5,7 +5,7 @@ ghost use Rattle.il_machine.specs.Settings.{IsSized, default_settings, default_s
 
 use crate::{kinds, limits};
 use il_machine::PortSetting;
-use omx_types::{Kind, OmxError, Param, ParamKey};
+use omx_types::{Kind, OmxError, Param, ParamKey, PortDefinition};
 use std::marker::Model;
 
 /// What a client sets of one component.
@@ -95,6 +95,18 @@ impl Params {
         limits::are_fitting(self.kind, &self.ports[..kinds::ports(self.kind) as usize])
     }
 
+    /// Whether they would fit with this definition of the port.
+    pub fn would_fit(&self, port: u32, definition: PortDefinition) -> bool
+        requires { port < ports_in self.now.kind }
+        ensures { result ≡ fits (changed_by port (Param.Port definition) self.now) }
+    {
+        let mut setting = self.setting(port);
+        setting.definition = definition;
+        let mut ports = self.ports;
+        ports[port as usize] = setting;
+        limits::are_fitting(self.kind, &ports[..kinds::ports(self.kind) as usize])
+    }
+
     fn is_index(&self, config: bool, index: u32) -> bool
         ensures { result ≡ is_index_of self.now.kind config index }
     {
@@ -168,7 +180,7 @@ impl Params {
         let Param::Port(definition) = value else {
             return true;
         };
-        kinds::is_format_of(
+        kinds::is_port_format(
             self.kind,
             kinds::is_input(self.kind, key.port),
             definition.format,

@@ -109,6 +109,28 @@ fn has_ports_of_splitters(rt: HostRuntime) {
     assert_eq!(rt; formats(Kind::Splitter(8), 8, false), (true, true, true));
 }
 
+/// Whether the port may have a format that isn't known.
+fn takes_auto(kind: Kind, port: u32, input: bool) -> bool
+    requires { IsSized kind }
+{
+    let auto = definition(input, Format::Auto);
+    Params::new(kind)
+        .set(key(1, port), false, auto, true)
+        .is_ok()
+}
+
+#[test]
+fn has_formats_that_are_not_known(rt: HostRuntime) {
+    assert!(rt; has_ports(Kind::Late, 0, Format::Auto, 1, Format::Auto));
+    assert_eq!(rt; formats(Kind::Late, 0, false), (true, true, true));
+    assert!(rt; takes_auto(Kind::Late, 0, false));
+    assert!(rt; takes_auto(Kind::Decoder, 0, true));
+    assert!(rt; takes_auto(Kind::Mixer(8), 7, true));
+    assert!(rt; takes_auto(Kind::Splitter(2), 0, true));
+    assert!(rt; !takes_auto(Kind::Splitter(2), 1, false));
+    assert!(rt; !takes_auto(Kind::Source, 0, false));
+}
+
 #[test]
 fn has_other_defaults(rt: HostRuntime) {
     let gain = Params::new(Kind::Gain);

@@ -10,6 +10,7 @@ fn kind_of(name: &str) -> Option<Kind>
 {
     match name {
         "OMX.lab.source.wav" => Some(Kind::Source),
+        "OMX.lab.source.late" => Some(Kind::Late),
         "OMX.lab.decoder.g711" => Some(Kind::Decoder),
         "OMX.lab.encoder.alaw" => Some(Kind::Alaw),
         "OMX.lab.encoder.mulaw" => Some(Kind::Mulaw),

@@ -5,6 +5,7 @@ use std::test::Fail;
 #[test]
 fn finds_sources_and_sinks(rt: HostRuntime) {
     assert_eq!(rt; find("OMX.lab.source.wav"), Ok(Kind::Source));
+    assert_eq!(rt; find("OMX.lab.source.late"), Ok(Kind::Late));
     assert_eq!(rt; find("OMX.lab.sink.wav"), Ok(Kind::Sink));
     assert_eq!(rt; find("OMX.lab.gain"), Ok(Kind::Gain));
 }

@@ -27,7 +27,7 @@ returns-in_default c =
                       d.not-text-9,
                       (
                         d.not-text-10,
-                        (d.not-text-11, (d.not-text-12, (d.not-text-13, (d.not-text-14, (d.not-text-15, (d.not-text-16, (d.not-text-17, (d.not-text-18, (d.not-text-19, (d.not-text-20, tt)))))))))),
+                        (d.not-text-11, (d.not-text-12, (d.not-text-13, (d.not-text-14, (d.not-text-15, (d.not-text-16, (d.not-text-17, (d.not-text-18, (d.not-text-19, (d.not-text-20, (d.not-text-21, tt))))))))))),
                       ),
                     ),
                   ),
