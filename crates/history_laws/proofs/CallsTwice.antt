@@ -14,7 +14,7 @@ use Rattle.omx_types.specs.declared.param.ParamKey.{ParamKey}
 use Rattle.omx_types.specs.declared.param.Supplier.{Supplier}
 use Rattle.part_api.specs.declared.attached.Attached.{Attached}
 use Rattle.il_machine.specs.declared.answer.Acted.{Acted}
-use Rattle.il_machine.specs.World.{Component, World, place_of, with_component, port_of}
+use Rattle.il_machine.specs.World.{Component, Work, World, place_of, place_numbered, with_component, port_of}
 use Rattle.il_machine.specs.Headers.{seen, find_header, loaded, empty_load, unloaded}
 use Rattle.il_machine.specs.Look.{look}
 use Rattle.il_machine.specs.Answers.{plain}
@@ -26,6 +26,10 @@ use Rattle.il_machine.specs.Buffers.{Held, held_of, load_in, AllocateBuffer, Use
 use Rattle.il_machine.specs.Notes.{TakenEvent, TakenEmpty, TakenFilled, Took, TookNote, TookNone, TookBusy, TakeNote, TakeFrom, EndNote, with_given, with_client, back_in}
 use Rattle.il_machine.specs.Buffers.{held}
 use Rattle.il_machine.specs.Flow.{Supply, Release, HandOver, HandBack, supply_idle, release_idle, over_idle, back_idle, with_supplied, in_port, front_unmade, handed_over, handed_back}
+use Rattle.il_machine.specs.Files.{Offered, Attach, attach_refusal, with_file}
+use Rattle.il_machine.specs.Claims.{Claimed, ClaimedWork, Claim, Claims, claim_idle, seen_work, work_of, with_work}
+use Rattle.il_machine.specs.Stepping.{Done as Finishing}
+use Rattle.il_machine.specs.Finishing.{Finish, finished}
 use Rattle.il_machine.specs.Acts as acts
 use Rattle.machine_laws.proofs.Closing.{closes_once}
 use Rattle.history_laws.specs.Determined.{AreAlike, FirstWants, SecondWants}
@@ -38,6 +42,10 @@ pub free_handle_twice : (w : World) (h : Handle) (x y : Result (Option Attached)
 free_handle_twice w h x y v u a b = resolving_twice plain w h x y v u _ _ (IsSame x y v u) a b (λ s. s) (λ i c p q.
     answers_twice (free_refusal (look w).headers c) w x y v u _ _ (IsSame x y v u) p q (λ s. s) (λ s t e f C D.
     closed_twice (without_component i c w) (Ok c.file) x y v u (e ∙ ap (λ (o : Option Attached). Ok o) C.0) C.1 (f ∙ ap (λ (o : Option Attached). Ok o) D.0) D.1))
+
+pub attach_twice : (w : World) (h : Handle) (file : Offered) (x y : Result (Unit {0}) OmxError) (v u : World) → Attach w h file x v → Attach w h file y u → IsSame x y v u
+attach_twice w h file x y v u a b = resolving_twice plain w h x y v u _ _ (IsSame x y v u) a b (λ s. s) (λ i c p q.
+    answers_twice (attach_refusal c file) w x y v u _ _ (IsSame x y v u) p q (λ s. s) (λ s t e f C D. closed_twice (with_file i c file w) (Ok tt) x y v u e C f D))
 
 pub set_parameter_twice : (w : World) (h : Handle) (key : ParamKey) (value : Param) (x y : Result (Unit {0}) OmxError) (v u : World) → SetParameter w h key value x v → SetParameter w h key value y u → IsSame x y v u
 set_parameter_twice w h key value x y v u a b = resolving_twice plain w h x y v u _ _ (IsSame x y v u) a b (λ s. s) (λ i c p q.
@@ -153,3 +161,19 @@ hand_over_twice w h port x y v u a b = on_port_twice plain w h port x y v u _ _ 
 pub hand_back_twice : (w : World) (h : Handle) (port : ℕ) (x y : Result Acted OmxError) (v u : World) → HandBack w h port x v → HandBack w h port y u → IsSame x y v u
 hand_back_twice w h port x y v u a b = on_port_twice plain w h port x y v u _ _ (IsSame x y v u) a b (λ s. s) (λ i c p m n.
     acts_twice (back_idle (look w) c p) w (handed_back i c p p.state.link w) x y v u m n)
+
+-- ---- works
+
+claims_twice : (w : World) (i : ℕ) (c : Component) (idle : Option Claimed) (x y : Result Claimed OmxError) (v u : World) → Claims idle i c w x v → Claims idle i c w y u → IsSame x y v u
+claims_twice w i c (Some idle) x y v u p q = nothing_twice w (Ok idle) x y v u p.0 p.1 q.0 q.1
+claims_twice w i c None x y v u p q =
+    let work : Work = work_of (seen w.headers) c in
+    closed_twice (with_work i c work w) (Ok (ClaimedWork (seen_work c work w.headers))) x y v u p.0 p.1 q.0 q.1
+
+pub claim_twice : (w : World) (h : Handle) (x y : Result Claimed OmxError) (v u : World) → Claim w h x v → Claim w h y u → IsSame x y v u
+claim_twice w h x y v u a b = resolving_twice plain w h x y v u _ _ (IsSame x y v u) a b (λ s. s) (λ i c p q. claims_twice w i c (claim_idle (look w) c) x y v u p q)
+
+pub finish_twice : (w : World) (done : Finishing) (v u : World) → Finish w done v → Finish w done u → u ≡ v
+finish_twice w done v u a b =
+    both_there (place_numbered done.component w.components) _ _ a b (λ i e p q.
+    both_there (slice_get w.components i) _ _ p q (λ c f C D. closes_once (finished i c done w) u v D C))

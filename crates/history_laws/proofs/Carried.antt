@@ -55,11 +55,39 @@ pub record IsMoved (w : World) (ms : List Move) (v : World) : Type 0 where
   pub memory : ((was.state).owner ≡ owners.Client) ⊎ (memory_of now ≡ memory_of was)
   pub moves : ms ≡ moved number (With (was.state).owner) (With (now.state).owner)
 
+-- the header of the number goes from one owner to another, neither of them the client
+pub record IsPassedOn (number : ℕ) (hs : List HeaderRecord) (ms : List Move) (ks : List HeaderRecord) : Type 0 where
+  pub was : HeaderRecord
+  pub now : HeaderRecord
+  pub found : find_header number hs ≡ Some was
+  pub here : find_header number ks ≡ Some now
+  pub home : (now.state).home ≡ (was.state).home
+  pub made_for : (key : PortKey) → is_for key now.state ≡ is_for key was.state
+  pub from_other : (was.state).owner ≢ owners.Client
+  pub to_other : (now.state).owner ≢ owners.Client
+  -- it comes from a work, or its memory stays
+  pub memory : ((k : ℕ) × ((was.state).owner ≡ owners.Work k)) ⊎ (memory_of now ≡ memory_of was)
+  pub moves : trail number ms ≡ moved number (With (was.state).owner) (With (now.state).owner)
+
+-- the header of the number stays as it is
+abbrev pub IsLeft : ℕ → List HeaderRecord → List Move → List HeaderRecord → Type 0
+IsLeft number hs ms ks = (find_header number ks ≡ find_header number hs) × (trail number ms ≡ [])
+
+-- several headers go from one owner to another, each once
+pub record ArePassedOn (hs : List HeaderRecord) (ms : List Move) (ks : List HeaderRecord) : Type 0 where
+  pub once : Once ks
+  pub each : (number : ℕ) → IsLeft number hs ms ks ⊎ IsPassedOn number hs ms ks
+
+pub record AreMoved (w : World) (ms : List Move) (v : World) : Type 0 where
+  pub headers : ArePassedOn w.headers ms v.headers
+  pub made : v.made ≡ w.made
+
 pub data Carried (w : World) (ms : List Move) (v : World) : Type 0 where
   Still : IsStill w ms v → Carried w ms v
   Made : IsMade w ms v → Carried w ms v
   Gone : IsUnmade w ms v → Carried w ms v
   Moved : IsMoved w ms v → Carried w ms v
+  Several : AreMoved w ms v → Carried w ms v
 
 -- each header has a number that was given
 abbrev pub AreBelow : World → Type 0
@@ -155,6 +183,22 @@ moved_trails w v old ms o B T M =
     unmoved n old m a ∙ T.none_yet n (omega arith)) in
     (record { each = each; none_yet = none_yet }, R.once)
 
+several_trails : (w v : World) (old ms : List Move) → AreBelow w → HaveTrails w old → AreMoved w ms v → HaveTrails v (old ++ ms) × Once v.headers
+several_trails w v old ms B T M =
+    let each : (n : ℕ) → HasTrail ((look v).headers.header n) (trail n (old ++ ms)) = λ n. elim ((M.headers).each n) [
+      | inl L ↦ has_trail n v (find_header n w.headers) (trail n (old ++ ms)) (trail n old) L.0 (trail_more n old ms ∙ (rw L.1 (append-nil (trail n old)))) (T.each n)
+      | inr P ↦
+          let m : Move = record { header = n; from = With ((P.was).state).owner; to = With ((P.now).state).owner } in
+          let was : HasTrail (Some (P.was).state) (trail n old) = had_trail n w (Some P.was) old T P.found in
+          has_trail n v (Some P.now) (trail n (old ++ ms)) (trail n old ++ m ∷ []) P.here (trail_more n old ms ∙ ap (λ (l : List Move). trail n old ++ l) P.moves)
+          (trail_on n (P.was).state (P.now).state (trail n old) was P.home)
+    ] in
+    let none_yet : (n : ℕ) → v.made ≤ n → trail n (old ++ ms) ≡ [] = λ n l. elim ((M.headers).each n) [
+      | inl L ↦ let k = M.made in trail_more n old ms ∙ (rw L.1 (append-nil (trail n old) ∙ T.none_yet n (omega arith)))
+      | inr P ↦ let k = M.made in let b = B n P.was P.found in absurd (omega arith)
+    ] in
+    (record { each = each; none_yet = none_yet }, (M.headers).once)
+
 still_trails : (w v : World) (old ms : List Move) → Once w.headers → HaveTrails w old → IsStill w ms v → HaveTrails v (old ++ ms) × Once v.headers
 still_trails w v old ms o T S =
     let e : old ++ ms ≡ old = ap (λ (l : List Move). old ++ l) S.moves ∙ append-nil old in
@@ -173,6 +217,7 @@ carried_trails w v old ms o B T (Still S) = still_trails w v old ms o T S
 carried_trails w v old ms o B T (Made M) = made_trails w v old ms o B T M
 carried_trails w v old ms o B T (Gone M) = gone_trails w v old ms o B T M
 carried_trails w v old ms o B T (Moved M) = moved_trails w v old ms o B T M
+carried_trails w v old ms o B T (Several M) = several_trails w v old ms B T M
 
 -- While things happen no header moves.
 pub settled_trails : (w v : World) (ms : List Move) → Settles w.headers v.headers → v.made ≡ w.made → HaveTrails w ms → HaveTrails v ms

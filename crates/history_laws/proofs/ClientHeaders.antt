@@ -1,5 +1,5 @@
 -- A header that is with the client stays so, as it is, unless an act takes it in.
-use Rattle.std.proofs.Common.{◌≡◌, ◌≢◌, inl, inr, ℕ, List, [], ◌∷◌, Option, Some, None, Ok, All, option_map, refl, sym, ◌∙◌, ap, subst}
+use Rattle.std.proofs.Common.{◌≡◌, ◌≢◌, inl, inr, ℕ, List, [], ◌∷◌, Option, Some, None, Ok, All, map, option_map, refl, sym, ◌∙◌, ap, subst}
 use Rattle.std.proofs.lemmas.Bool.{cases_eq}
 use Rattle.std.proofs.lemmas.List.Elements.{All-head, All-tail}
 use Rattle.il_machine.specs.declared.header.HeaderState.{HeaderState}
@@ -8,17 +8,19 @@ use Rattle.il_machine.specs.declared.header.Owner.TheVariants as owners
 use Rattle.il_machine.specs.declared.header.Place.TheVariants.{Out}
 use Rattle.il_machine.specs.declared.port.Link.{Link}
 use Rattle.il_machine.specs.declared.port.Port.{Port}
-use Rattle.il_machine.specs.World.{HeaderRecord, World}
+use Rattle.il_machine.specs.World.{Component, HeaderRecord, Stream, World, component_numbered, stream_of}
 use Rattle.il_machine.specs.Headers.{find_header, state_of, Once}
 use Rattle.il_machine.specs.Look.{look}
 use Rattle.il_machine.specs.Due.{ClosesTo}
 use Rattle.il_machine.specs.Notes.{TakenEmpty, TakenFilled, TookNote}
 use Rattle.il_machine.specs.declared.answer.Acted.TheVariants.{Did}
+use Rattle.il_machine.specs.Claims.{Carried as CarriedHeader, ClaimedWork}
+use Rattle.il_machine.specs.Stepping.{Done as Finishing}
 use Rattle.il_machine.specs.Acts.{Act, Reply}
 use Rattle.il_machine.specs.Acts as acts
 use Rattle.il_machine.specs.Run.{Step, Meets, Run}
 use Rattle.il_machine.specs.Sound.{Sound, IsOwnedSo}
-use Rattle.il_machine.specs.Trails.{Stop, Unmade, With, Move, moves, moved, front_move, client_stop, released, over, handed, back, handed_back, port_named}
+use Rattle.il_machine.specs.Trails.{Stop, Unmade, With, Move, moves, moved, front_move, client_stop, released, over, handed, back, handed_back, port_named, claimed_move, finished_move, finished_moves}
 use Rattle.machine_laws.proofs.Finding.{found_number, push_else, without_else, once_push, once_without}
 use Rattle.machine_laws.proofs.Parts.{parts_of}
 use Rattle.machine_laws.proofs.Steps.{HandsIn, hands_in, sound_after, sound_step}
@@ -26,7 +28,7 @@ use Rattle.machine_laws.proofs.Happening.{sound_closes}
 use Rattle.history_laws.specs.ClientHeaders.{IsClients, taken_in}
 use Rattle.history_laws.proofs.Owners.{Settles, Stand, stand_of, stand_in}
 use Rattle.history_laws.proofs.Closing.{times_settle}
-use Rattle.history_laws.proofs.Carried.{Carried, Still, Made, Gone, Moved, AreBelow, none_made}
+use Rattle.history_laws.proofs.Carried.{Carried, Still, Made, Gone, Moved, Several, AreBelow, none_made}
 use Rattle.history_laws.proofs.Homes.{found_state, set_in}
 use Rattle.history_laws.proofs.Outcome.{Turn, turn, Outcome, Nothing, Done}
 use Rattle.history_laws.proofs.Steps.{comes_after}
@@ -63,6 +65,25 @@ not_handed_back : (w : World) (o : Option Port) (number : ℕ) (end : Stop) → 
 not_handed_back w None number end e = absurd cc
 not_handed_back w (Some p) number end e = not_back w p p.state.link number end e
 
+not_claimed : (k : ℕ) (xs : List CarriedHeader) (number : ℕ) (end : Stop) → map (claimed_move k) xs ≡ moved number client_stop end → ⊥
+not_claimed k [] number end e = cc
+not_claimed k (x ∷ xs) number end e =
+    let s : claimed_move k x ≡ record { header = number; from = client_stop; to = end } = cc in
+    let f = ap (λ (y : Move). y.from) s in
+    cc
+
+not_landed : (c : Component) (s : Stream) (done : Finishing) (xs : List CarriedHeader) (number : ℕ) (end : Stop) → map (finished_move c s done) xs ≡ moved number client_stop end → ⊥
+not_landed c s done [] number end e = cc
+not_landed c s done (x ∷ xs) number end e =
+    let q : finished_move c s done x ≡ record { header = number; from = client_stop; to = end } = cc in
+    let f = ap (λ (y : Move). y.from) q in
+    cc
+
+not_finished : (c : Option Component) (s : Option Stream) (done : Finishing) (number : ℕ) (end : Stop) → finished_moves c s done ≡ moved number client_stop end → ⊥
+not_finished None s done number end e = cc
+not_finished (Some c) None done number end e = cc
+not_finished (Some c) (Some s) done number end e = not_landed c s done done.headers number end e
+
 taken : (number n : ℕ) (to end : Stop) → moved n client_stop to ≡ moved number client_stop end → Some n ≡ Some number
 taken number n to end e =
     let m : Move = record { header = n; from = client_stop; to = to } in
@@ -84,6 +105,8 @@ takes w (acts.Supply h port) (acts.Supplied (Ok Did)) number end e = absurd (not
 takes w (acts.Release h port) (acts.Acted (Ok Did)) number end e = absurd (not_released w (port_named h port w) number end e)
 takes w (acts.HandOver h port) (acts.Acted (Ok Did)) number end e = absurd (not_handed w (port_named h port w) number end e)
 takes w (acts.HandBack h port) (acts.Acted (Ok Did)) number end e = absurd (not_handed_back w (port_named h port w) number end e)
+takes w (acts.Claim h) (acts.Claimed (Ok (ClaimedWork work))) number end e = absurd (not_claimed work.component work.headers number end e)
+takes w (acts.Finish done) acts.Finished number end e = absurd (not_finished (component_numbered done.component w) (stream_of done.component w) done number end e)
 takes w _ _ number end e = absurd cc
 
 -- ---- a header of the client's over the act
@@ -111,12 +134,20 @@ carried_found w v ms number r B (Moved M) f o n = elim (cases_eq number M.number
   | inl is ↦ absurd (n _ (clients_move number M.number r M.was w.headers ms _ f o M.replaced.was is M.moves))
   | inr a ↦ M.replaced.others number a ∙ f
 ]
+carried_found w v ms number r B (Several M) f o n = elim ((M.headers).each number) [
+  | inl L ↦ L.0 ∙ f
+  | inr P ↦
+      let s : Some P.was ≡ Some r = sym P.found ∙ f in
+      let q : P.was ≡ r = cc in
+      absurd (P.from_other (ap (λ (x : HeaderRecord). x.state.owner) q ∙ o))
+]
 
 pub carried_once : (w v : World) (ms : List Move) → Once w.headers → AreBelow w → Carried w ms v → Once v.headers
 carried_once w v ms o B (Still S) = subst Once (sym S.headers) o
 carried_once w v ms o B (Made M) = subst Once (sym M.headers) (once_push w.headers _ o (ap (λ (k : ℕ). find_header k w.headers) M.number ∙ none_made w B))
 carried_once w v ms o B (Gone M) = subst Once (sym M.headers) (once_without M.number w.headers o)
 carried_once w v ms o B (Moved M) = M.replaced.once
+carried_once w v ms o B (Several M) = (M.headers).once
 
 -- ---- and over the close-out
 

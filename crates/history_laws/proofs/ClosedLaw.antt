@@ -13,7 +13,7 @@ use Rattle.il_machine.specs.declared.answer.Granted.{Granted}
 use Rattle.il_machine.specs.declared.answer.Preempted.{Preempted}
 use Rattle.il_machine.specs.declared.answer.Why.{Why}
 use Rattle.il_machine.specs.declared.port.Port.{Port}
-use Rattle.il_machine.specs.World.{Component, World, no_world, place_of, port_of, with_component}
+use Rattle.il_machine.specs.World.{Component, World, no_world, place_of, place_numbered, port_of, with_component}
 use Rattle.il_machine.specs.Headers.{find_header}
 use Rattle.il_machine.specs.Look.{look}
 use Rattle.il_machine.specs.Kinds.{kind_of}
@@ -28,6 +28,9 @@ use Rattle.il_machine.specs.Notes.{TakeFrom, Took}
 use Rattle.il_machine.specs.Flow.{OnPort, supply_idle, release_idle, over_idle, back_idle, with_supplied, front_unmade, in_port, handed_over, handed_back}
 use Rattle.il_machine.specs.Headers.{seen}
 use Rattle.il_machine.specs.Units.{first_waiter, victim, grant_idle, preempt_idle, Grants, Preempts}
+use Rattle.il_machine.specs.Files.{attach_refusal}
+use Rattle.il_machine.specs.Claims.{Claimed, Claims, claim_idle}
+use Rattle.il_machine.specs.Finishing.{finished}
 use Rattle.il_machine.specs.Acts.{Act, Reply}
 use Rattle.il_machine.specs.Acts as acts
 use Rattle.il_machine.specs.Run.{Step, Run}
@@ -90,6 +93,12 @@ preempts_close w v (Some reason) weak answer G C = stays w v G.1 C
 preempts_close w v None None answer G C = absurd G
 preempts_close w v None (Some c) answer G C = (G.1).closed
 
+-- ---- claim
+
+claims_close : (w v : World) (i : ℕ) (c : Component) (idle : Option Claimed) (result : Result Claimed OmxError) → Claims idle i c w result v → IsClosed w → IsClosed v
+claims_close w v i c (Some idle) result a C = stays w v a.1 C
+claims_close w v i c None result a C = (a.1).closed
+
 -- ---- take_note
 
 take_from : (w v : World) (i : ℕ) (c : Component) (busy : Bool) (oldest : Option Note) (result : Result Took OmxError) → TakeFrom w i c busy oldest result v → IsClosed w → IsClosed v
@@ -106,6 +115,8 @@ step_closed w (acts.GetHandle name) (acts.Got result) v C s = answers_or_memory 
     let k = there_is (kind_of name) (λ kind. ClosesTo (with_new_component h kind w) v) x.2 in (k.2).closed)
 step_closed w (acts.FreeHandle h) (acts.Removed result) v C s = resolving plain w v h result C _ s (λ i c a.
     answers (free_refusal (look w).headers c) result w v _ a C (λ x b. (b.1).closed))
+step_closed w (acts.Attach h file) (acts.Plain result) v C s = resolving plain w v h result C _ s (λ i c a.
+    answers (attach_refusal c file) result w v _ a C (λ x b. b.closed))
 step_closed w (acts.GetState h) (acts.Stated result) v C s = looks (state_answer h (look w)) result w v s C
 step_closed w (acts.PortView h port) (acts.Viewed result) v C s = looks (view_answer h port (look w)) result w v s C
 step_closed w (acts.Progress h) (acts.Progressed result) v C s = looks (progress_answer h w) result w v s C
@@ -155,6 +166,11 @@ step_closed w (acts.HandBack h port) (acts.Acted result) v C s = on_port plain w
     acts_close (back_idle (look w) c p) result w (handed_back i c p p.state.link w) v a C)
 step_closed w acts.Grant (acts.Granted answer) v C s = grants_close w v (grant_idle (look w)) (first_waiter w.components) answer s C
 step_closed w acts.Preempt (acts.Preempted answer) v C s = preempts_close w v (preempt_idle (look w)) (victim w.components) answer s C
+step_closed w (acts.Claim h) (acts.Claimed result) v C s = resolving plain w v h result C _ s (λ i c a. claims_close w v i c (claim_idle (look w) c) result a C)
+step_closed w (acts.Finish done) acts.Finished v C s =
+    let i = there_is (place_numbered done.component w.components) _ s in
+    let c = there_is (slice_get w.components i.0) (λ c. ClosesTo (finished i.0 c done w) v) i.2 in
+    (c.2).closed
 step_closed w _ _ v C s = absurd s
 
 closed_from : (w v : World) (xs : List (Act × Reply)) → IsClosed w → Run w xs v → IsClosed v

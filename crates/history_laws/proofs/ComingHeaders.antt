@@ -1,5 +1,5 @@
 -- No header comes to the client but the one that an act gives, and one that was taken in isn't with it.
-use Rattle.std.proofs.Common.{◌≡◌, ◌≢◌, inl, inr, ℕ, List, [], ◌∷◌, ◌++◌, Option, Some, None, Ok, All, option_map, sym, ◌∙◌, ap, subst}
+use Rattle.std.proofs.Common.{◌≡◌, ◌≢◌, inl, inr, ℕ, List, [], ◌∷◌, ◌++◌, Option, Some, None, Ok, All, map, option_map, sym, ◌∙◌, ap, subst}
 use Rattle.std.proofs.lemmas.Bool.{cases_eq}
 use Rattle.std.proofs.lemmas.List.Elements.{All-head, All-tail}
 use Rattle.il_machine.specs.declared.header.HeaderState.{HeaderState}
@@ -8,17 +8,20 @@ use Rattle.il_machine.specs.declared.header.Owner.TheVariants as owners
 use Rattle.il_machine.specs.declared.header.Place.TheVariants.{Out}
 use Rattle.il_machine.specs.declared.port.Link.{Link}
 use Rattle.il_machine.specs.declared.port.Port.{Port}
-use Rattle.il_machine.specs.World.{HeaderRecord, World}
+use Rattle.il_machine.specs.World.{Component, HeaderRecord, Stream, World, component_numbered, stream_of}
 use Rattle.il_machine.specs.Headers.{find_header, state_of, without, empty_load, Once}
 use Rattle.il_machine.specs.Look.{look}
 use Rattle.il_machine.specs.Due.{ClosesTo}
 use Rattle.il_machine.specs.Notes.{TakenEmpty, TakenFilled, TookNote}
 use Rattle.il_machine.specs.declared.answer.Acted.TheVariants.{Did}
+use Rattle.il_machine.specs.Claims.{Carried as CarriedHeader, ClaimedWork}
+use Rattle.il_machine.specs.Stepping.{Done as Finishing}
+use Rattle.il_machine.specs.Finishing.{Landing, Again, Onward, Noted, landing}
 use Rattle.il_machine.specs.Acts.{Act, Reply}
 use Rattle.il_machine.specs.Acts as acts
 use Rattle.il_machine.specs.Run.{Step, Meets, Run}
 use Rattle.il_machine.specs.Sound.{Sound}
-use Rattle.il_machine.specs.Trails.{Stop, Unmade, With, Move, moves, moved, front_move, client_stop, released, over, handed, back, handed_back, port_named}
+use Rattle.il_machine.specs.Trails.{Stop, Unmade, With, Move, moves, moved, front_move, client_stop, released, over, handed, back, handed_back, port_named, trail, claimed_move, finished_move, finished_moves, landed_owner}
 use Rattle.machine_laws.proofs.Finding.{found_number, push_last, push_else, without_else, without_same}
 use Rattle.machine_laws.proofs.Parts.{parts_of}
 use Rattle.machine_laws.proofs.Steps.{HandsIn, hands_in, sound_after, sound_step}
@@ -26,8 +29,9 @@ use Rattle.machine_laws.proofs.Happening.{sound_closes}
 use Rattle.history_laws.specs.ClientHeaders.{IsClients, taken_in, number_out}
 use Rattle.history_laws.proofs.Owners.{Settles, Stand, stand_of}
 use Rattle.history_laws.proofs.Closing.{times_settle}
-use Rattle.history_laws.proofs.Carried.{Carried, Still, Made, Gone, Moved, AreBelow, none_made}
+use Rattle.history_laws.proofs.Carried.{Carried, Still, Made, Gone, Moved, Several, AreBelow, none_made}
 use Rattle.history_laws.proofs.Homes.{found_state}
+use Rattle.history_laws.proofs.Trails.{trail_own}
 use Rattle.history_laws.proofs.Outcome.{Turn, turn, Outcome, Nothing, Done}
 use Rattle.history_laws.proofs.Steps.{comes_after}
 use Rattle.history_laws.proofs.ClientHeaders.{first_move, client_out, settled_found, same_state, carried_once}
@@ -61,6 +65,29 @@ none_handed_back : (w : World) (o : Option Port) (number : ℕ) (start : Stop) �
 none_handed_back w None number start e = absurd cc
 none_handed_back w (Some p) number start e = none_back w p p.state.link number start e
 
+none_claimed : (k : ℕ) (xs : List CarriedHeader) (number : ℕ) (start : Stop) → map (claimed_move k) xs ≡ moved number start client_stop → ⊥
+none_claimed k [] number start e = cc
+none_claimed k (x ∷ xs) number start e =
+    let s : claimed_move k x ≡ record { header = number; from = start; to = client_stop } = cc in
+    let f = ap (λ (y : Move). y.to) s in
+    cc
+
+lands_apart : (l : Landing) (c : Component) (x : CarriedHeader) → With (landed_owner l c x) ≢ client_stop
+lands_apart Again c x e = cc
+lands_apart Onward c x e = cc
+lands_apart Noted c x e = cc
+
+none_landed : (c : Component) (s : Stream) (done : Finishing) (xs : List CarriedHeader) (number : ℕ) (start : Stop) → map (finished_move c s done) xs ≡ moved number start client_stop → ⊥
+none_landed c s done [] number start e = cc
+none_landed c s done (x ∷ xs) number start e =
+    let q : finished_move c s done x ≡ record { header = number; from = start; to = client_stop } = cc in
+    lands_apart (landing c s done x) c x (ap (λ (y : Move). y.to) q)
+
+none_finished : (c : Option Component) (s : Option Stream) (done : Finishing) (number : ℕ) (start : Stop) → finished_moves c s done ≡ moved number start client_stop → ⊥
+none_finished None s done number start e = cc
+none_finished (Some c) None done number start e = cc
+none_finished (Some c) (Some s) done number start e = none_landed c s done done.headers number start e
+
 same_number : (number n : ℕ) (from to start end : Stop) → moved n from to ≡ moved number start end → Some n ≡ Some number
 same_number number n from to start end e = ap (λ (y : Move). Some y.header) (first_move (one_move n from to) (one_move number start end) e)
 
@@ -79,6 +106,8 @@ gives w (acts.Supply h port) (acts.Supplied (Ok Did)) number start e = absurd (n
 gives w (acts.Release h port) (acts.Acted (Ok Did)) number start e = absurd (none_released w (port_named h port w) number start e)
 gives w (acts.HandOver h port) (acts.Acted (Ok Did)) number start e = absurd (none_handed w (port_named h port w) number start e)
 gives w (acts.HandBack h port) (acts.Acted (Ok Did)) number start e = absurd (none_handed_back w (port_named h port w) number start e)
+gives w (acts.Claim h) (acts.Claimed (Ok (ClaimedWork work))) number start e = absurd (none_claimed work.component work.headers number start e)
+gives w (acts.Finish done) acts.Finished number start e = absurd (none_finished (component_numbered done.component w) (stream_of done.component w) done number start e)
 gives w _ _ number start e = absurd cc
 
 -- the move of a header that is taken in: it leaves the client
@@ -130,6 +159,10 @@ module _ (w v : World) (ms : List Move) (number : ℕ) (r : HeaderRecord) (f : f
         absurd (n _ (M.moves ∙ (ap (λ (k : ℕ). moved k (With (M.was).state.owner) (With (M.now).state.owner)) (sym is) ∙ ap (λ (y : Owner). moved number (With (M.was).state.owner) (With y)) (is_client M.now there))))
     | inr a ↦ sym ((M.replaced).others number a) ∙ f
   ]
+  carried_back once B (Several M) n = elim ((M.headers).each number) [
+    | inl L ↦ sym L.0 ∙ f
+    | inr P ↦ absurd (P.to_other (is_client P.now P.here))
+  ]
 
   not_carried : Once w.headers → Carried w ms v → Leaves number ms → ⊥
   not_carried once (Still S) L = let e : [] ≡ moved number client_stop L.to = sym S.moves ∙ L.moves in absurd cc
@@ -145,6 +178,12 @@ module _ (w v : World) (ms : List Move) (number : ℕ) (r : HeaderRecord) (f : f
       let m = first_move (one_move M.number (With (M.was).state.owner) (With (M.now).state.owner)) (one_move number client_stop L.to) (sym M.moves ∙ L.moves) in
       let there : find_header number v.headers ≡ Some M.now = ap (λ (k : ℕ). find_header k v.headers) (sym (ap (λ (y : Move). y.header) m)) ∙ (M.replaced).here in
       L.away (sym (ap (λ (y : Move). y.to) m) ∙ ap With (is_client M.now there))
+  not_carried once (Several M) L =
+      let own : trail number ms ≡ moved number client_stop L.to = ap (trail number) L.moves ∙ trail_own (one_move number client_stop L.to) in
+      elim ((M.headers).each number) [
+        | inl x ↦ let e : [] ≡ moved number client_stop L.to = sym x.1 ∙ own in absurd cc
+        | inr P ↦ P.to_other (is_client P.now P.here)
+      ]
 
 -- ---- and over the close-out
 

@@ -14,7 +14,7 @@ use Rattle.il_machine.specs.declared.port.Port.{Port}
 use Rattle.il_machine.specs.declared.port.PortKey.{PortKey}
 use Rattle.il_machine.specs.declared.header.Spot.{Spot}
 use Rattle.il_machine.specs.declared.header.Spot.TheVariants.{TodoBack}
-use Rattle.il_machine.specs.World.{changed_at, Component, HeaderRecord, World, number_of, place_of, place_numbered, port_of, with_port}
+use Rattle.il_machine.specs.World.{changed_at, Component, HeaderRecord, Work, World, number_of, place_of, place_numbered, port_of, stream_of, with_port}
 use Rattle.il_machine.specs.Headers.{seen, unchanged, cleared}
 use Rattle.il_machine.specs.Look.{Look, look}
 use Rattle.il_machine.specs.Ports.{is_input_port}
@@ -30,6 +30,11 @@ use Rattle.il_machine.specs.declared.answer.Preempted.TheVariants as preempted
 use Rattle.il_machine.specs.States.{is_invalid}
 use Rattle.il_machine.specs.Units.{is_waiter, is_before, first_waiter, victim, with_changed, granted_units, preempted_units}
 use Rattle.il_machine.specs.Sound.{Sound}
+use Rattle.il_machine.specs.Settings.{same_format}
+use Rattle.il_machine.specs.Parts.{file_format}
+use Rattle.il_machine.specs.Claims.{ClaimedWork}
+use Rattle.il_machine.specs.Stepping.{Done as Finishing}
+use Rattle.il_machine.specs.Finishing.{announced, announced_at, stepped_back, finished_by}
 use Rattle.il_machine.specs.Acts.{Act, Reply}
 use Rattle.il_machine.specs.Acts as acts
 use Rattle.il_machine.specs.Effect.{at_named, at_named_port, at_both, effect}
@@ -184,6 +189,16 @@ module _ (P : Core → Type 0) where
         changed_each (place_numbered (number_of c) w.components) w _ E (λ i f.
         each_set w.components i _ E (L.loses c (is_not (is_invalid c.state) A.passes) (at_place (λ (d : Component). P (core d)) w.components A.place c E A.there)))
 
+    announced_core : (o : Option Port) (c : Component) → P (core c) → P (core (announced_at o c))
+    announced_core None c p = p
+    announced_core (Some q) c p = either (same_format q.setting.definition.format (file_format c.file)) (λ t. rw t p) (λ f. rw f p)
+
+    finished_each : (i : ℕ) (c : Component) (done : Finishing) (o : Option Work) (w : World) → P (core c) → Each w → Each (finished_by i c done o w)
+    finished_each i c done None w p E = E
+    finished_each i c done (Some work) w p E = either work.announces
+        (λ t. rw t (each_set w.components i (announced c) E (announced_core (port_of c 0) (record c { work = None }) p)))
+        (λ f. rw f (changed_each (stream_of (number_of c) w) w _ E (λ s e. each_set w.components i (stepped_back c s done) E p)))
+
     module _ (w : World) (S : Sound w) (E : Each w) where
       noted_each : (i : ℕ) (c : Component) → P (core (first_taken c)) → Each (record w { components = set w.components i (first_taken c) })
       noted_each i c p = each_set w.components i (first_taken c) E p
@@ -192,6 +207,7 @@ module _ (P : Core → Type 0) where
       pub effect_each : (a : Act) (r : Reply) → NoneGot a r → (NoneTaken a r ⊎ ((c : Component) → P (core c) → P (core (first_taken c)))) → Each (effect w a r)
       effect_each (acts.GetHandle name) (acts.Got (Ok h)) n t = absurd n
       effect_each (acts.FreeHandle h) (acts.Removed (Ok file)) n t = named_each h w _ E (λ i c p. each_removed w.components i E)
+      effect_each (acts.Attach h file) (acts.Plain (Ok done)) n t = named_each h w _ E (λ i c p. each_set w.components i _ E p)
       effect_each (acts.SetParameter h key value) (acts.Plain (Ok done)) n t = named_each h w _ E (λ i c p. each_set w.components i _ E (value_core key value c p))
       effect_each (acts.SetConfig h key value) (acts.Plain (Ok done)) n t = named_each h w _ E (λ i c p. each_set w.components i _ E (value_core key value c p))
       effect_each (acts.SetupTunnel output input) (acts.Joined (Ok supplier)) n t =
@@ -218,6 +234,9 @@ module _ (P : Core → Type 0) where
       effect_each (acts.HandBack h port) (acts.Acted (Ok Did)) n t = port_each h port w _ E (λ i c q p. back_each i c q q.state.link w p E)
       effect_each acts.Grant (acts.Granted (granted.Granted h)) n t = granted_each (first_waiter w.components) w refl E
       effect_each acts.Preempt (acts.Preempted (preempted.Victim h)) n t = preempted_each (victim w.components) w S refl E
+      effect_each (acts.Claim h) (acts.Claimed (Ok (ClaimedWork work))) n t = named_each h w _ E (λ i c p. each_set w.components i _ E p)
+      effect_each (acts.Finish done) acts.Finished n t = changed_each (place_numbered done.component w.components) w _ E (λ i e.
+          changed_each (slice_get w.components i) w _ E (λ c at. finished_each i c done c.work w (at_place (λ (d : Component). P (core d)) w.components i c E at) E))
       effect_each _ _ n t = E
 
     pub outcome_each : (w : World) (a : Act) (r : Reply) (v : World) → Sound w → NoneGot a r → (NoneTaken a r ⊎ ((c : Component) → P (core c) → P (core (first_taken c)))) → Outcome w (turn w a r) v → Each w → Each v

@@ -26,6 +26,10 @@ use Rattle.il_machine.specs.Buffers.{Held, AllocateBuffer, UseBuffer, FreeBuffer
 use Rattle.il_machine.specs.Notes.{Took, TakeNote, EndNote}
 use Rattle.il_machine.specs.Flow.{Supply, Release, HandOver, HandBack}
 use Rattle.il_machine.specs.Units.{Grant, Preempt}
+use Rattle.il_machine.specs.Files.{Offered, Attach}
+use Rattle.il_machine.specs.Claims.{Claimed, Claim}
+use Rattle.il_machine.specs.Stepping.{Done as Finishing}
+use Rattle.il_machine.specs.Finishing.{Finish}
 use Rattle.il_machine.specs.Acts.{Act, Reply}
 use Rattle.il_machine.specs.Acts as acts
 use Rattle.il_machine.specs.Run.{Step}
@@ -33,7 +37,7 @@ use Rattle.history_laws.specs.Determined.{AreAlike, Equal}
 use Rattle.history_laws.proofs.NewHandles.{alike, get_handle_twice}
 use Rattle.history_laws.proofs.Twice.{looks_twice}
 use Rattle.history_laws.proofs.GrantSteps.{grant_twice, preempt_twice}
-use Rattle.history_laws.proofs.CallsTwice.{free_handle_twice, set_parameter_twice, set_config_twice, setup_tunnel_twice, drop_tunnel_twice, send_command_twice, run_command_twice, end_note_twice, allocate_buffer_twice, use_buffer_twice, free_buffer_twice, empty_this_buffer_twice, fill_this_buffer_twice, take_note_twice, supply_twice, release_twice, hand_over_twice, hand_back_twice}
+use Rattle.history_laws.proofs.CallsTwice.{free_handle_twice, attach_twice, claim_twice, finish_twice, set_parameter_twice, set_config_twice, setup_tunnel_twice, drop_tunnel_twice, send_command_twice, run_command_twice, end_note_twice, allocate_buffer_twice, use_buffer_twice, free_buffer_twice, empty_this_buffer_twice, fill_this_buffer_twice, take_note_twice, supply_twice, release_twice, hand_over_twice, hand_back_twice}
 
 -- ---- components, parameters, tunnels and commands
 
@@ -44,6 +48,10 @@ get_handle_again w name x v _ u p q = absurd q
 free_handle_again : (w : World) (h : Handle) (x : Result (Option Attached) OmxError) (v : World) (s : Reply) (u : World) → FreeHandle w h x v → Step w (acts.FreeHandle h) s u → AreAlike w (acts.Removed x) v s u
 free_handle_again w h x v (acts.Removed y) u p q = alike (λ r. acts.Removed r) w x y v u (free_handle_twice w h x y v u p q)
 free_handle_again w h x v _ u p q = absurd q
+
+attach_again : (w : World) (h : Handle) (file : Offered) (x : Result (Unit {0}) OmxError) (v : World) (s : Reply) (u : World) → Attach w h file x v → Step w (acts.Attach h file) s u → AreAlike w (acts.Plain x) v s u
+attach_again w h file x v (acts.Plain y) u p q = alike (λ r. acts.Plain r) w x y v u (attach_twice w h file x y v u p q)
+attach_again w h file x v _ u p q = absurd q
 
 set_parameter_again : (w : World) (h : Handle) (key : ParamKey) (value : Param) (x : Result (Unit {0}) OmxError) (v : World) (s : Reply) (u : World) → SetParameter w h key value x v → Step w (acts.SetParameter h key value) s u → AreAlike w (acts.Plain x) v s u
 set_parameter_again w h key value x v (acts.Plain y) u p q = alike (λ r. acts.Plain r) w x y v u (set_parameter_twice w h key value x y v u p q)
@@ -137,6 +145,16 @@ end_note_again : (w : World) (h : Handle) (progress : Progress) (v : World) (s :
 end_note_again w h progress v acts.Ended u p q = Equal refl (end_note_twice w h v u p q)
 end_note_again w h progress v _ u p q = absurd q
 
+-- ---- works
+
+claim_again : (w : World) (h : Handle) (x : Result Claimed OmxError) (v : World) (s : Reply) (u : World) → Claim w h x v → Step w (acts.Claim h) s u → AreAlike w (acts.Claimed x) v s u
+claim_again w h x v (acts.Claimed y) u p q = alike (λ r. acts.Claimed r) w x y v u (claim_twice w h x y v u p q)
+claim_again w h x v _ u p q = absurd q
+
+finish_again : (w : World) (done : Finishing) (v : World) (s : Reply) (u : World) → Finish w done v → Step w (acts.Finish done) s u → AreAlike w acts.Finished v s u
+finish_again w done v acts.Finished u p q = Equal refl (finish_twice w done v u p q)
+finish_again w done v _ u p q = absurd q
+
 -- ---- units
 
 grant_again : (w : World) (x : Granted) (v : World) (s : Reply) (u : World) → Grant w x v → Step w acts.Grant s u → AreAlike w (acts.Granted x) v s u
@@ -174,6 +192,9 @@ steps_alike w (acts.Release h port) (acts.Acted x) v s u p q = release_again w h
 steps_alike w (acts.HandOver h port) (acts.Acted x) v s u p q = hand_over_again w h port x v s u p q
 steps_alike w (acts.HandBack h port) (acts.Acted x) v s u p q = hand_back_again w h port x v s u p q
 steps_alike w (acts.EndNote h progress) acts.Ended v s u p q = end_note_again w h progress v s u p q
+steps_alike w (acts.Attach h file) (acts.Plain x) v s u p q = attach_again w h file x v s u p q
+steps_alike w (acts.Claim h) (acts.Claimed x) v s u p q = claim_again w h x v s u p q
+steps_alike w (acts.Finish done) acts.Finished v s u p q = finish_again w done v s u p q
 steps_alike w acts.Grant (acts.Granted x) v s u p q = grant_again w x v s u p q
 steps_alike w acts.Preempt (acts.Preempted x) v s u p q = preempt_again w x v s u p q
 steps_alike w _ _ v s u p q = absurd p

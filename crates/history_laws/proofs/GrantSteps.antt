@@ -1,5 +1,5 @@
 -- The acts that give and take units: none of them tells a completion or moves a header.
-use Rattle.std.proofs.Common.{◌≡◌, inl, [], Option, Some, None, refl, sym, ◌∙◌, subst}
+use Rattle.std.proofs.Common.{◌≡◌, inl, Option, Some, None, refl, ◌∙◌, subst}
 use Rattle.omx_types.specs.declared.command.Event.TheVariants as events
 use Rattle.omx_types.specs.declared.command.Note.TheVariants.{Told}
 use Rattle.omx_types.specs.declared.error.OmxError.TheVariants as errors

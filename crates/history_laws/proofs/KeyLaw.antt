@@ -1,5 +1,5 @@
 -- The key of a world's headers stays in each step, and what was given stays in each act but two.
-use Rattle.std.proofs.Common.{◌≡◌, ℕ, zero, suc, Bool, List, [], ◌∷◌, Option, Some, None, Ok, refl, sym, ◌∙◌, ap, subst}
+use Rattle.std.proofs.Common.{◌≡◌, ℕ, zero, suc, Bool, List, [], ◌∷◌, slice_get, Option, Some, None, Ok, refl, sym, ◌∙◌, ap, subst}
 use Rattle.omx_types.specs.declared.handle.Handle.{Handle}
 use Rattle.il_machine.specs.declared.answer.Acted.TheVariants.{Did}
 use Rattle.il_machine.specs.declared.answer.Pending.{Pending}
@@ -8,7 +8,7 @@ use Rattle.il_machine.specs.declared.port.Port.{Port}
 use Rattle.il_machine.specs.declared.port.PortKey.{PortKey}
 use Rattle.il_machine.specs.declared.header.Spot.{Spot}
 use Rattle.il_machine.specs.declared.header.Spot.TheVariants.{TodoBack}
-use Rattle.il_machine.specs.World.{changed_at, Component, HeaderRecord, World, number_of, place_of, place_numbered, port_of}
+use Rattle.il_machine.specs.World.{changed_at, Component, HeaderRecord, Work, World, number_of, place_of, place_numbered, port_of, stream_of}
 use Rattle.il_machine.specs.Headers.{seen, unchanged, cleared}
 use Rattle.il_machine.specs.Due.{Thing, Transition, Flush, PortMode, WaitingMark, at_port, transition_happened, flush_happened, mode_happened, mark_happened, happened, Happens, HappenTimes, ClosesTo}
 use Rattle.il_machine.specs.Kinds.{kind_of}
@@ -19,10 +19,14 @@ use Rattle.il_machine.specs.Effect.{at_named, at_named_port, at_both, effect}
 use Rattle.il_machine.specs.declared.answer.Granted.TheVariants as granted
 use Rattle.il_machine.specs.declared.answer.Preempted.TheVariants as preempted
 use Rattle.il_machine.specs.Units.{first_waiter, victim, with_changed, granted_units, preempted_units}
+use Rattle.il_machine.specs.Claims.{ClaimedWork}
+use Rattle.il_machine.specs.Stepping.{Done as Finishing}
+use Rattle.il_machine.specs.Finishing.{with_landed, finished, finished_by}
 use Rattle.il_machine.specs.Acts.{Act, Reply}
 use Rattle.il_machine.specs.Acts as acts
 use Rattle.il_machine.specs.Run.{Run, Step, Meets}
 use Rattle.il_machine.specs.Sound.{Sound}
+use Rattle.machine_laws.proofs.Finding.{either}
 use Rattle.history_laws.proofs.Outcome.{turn, Outcome, Nothing, Done}
 use Rattle.history_laws.proofs.Steps.{comes_after, step_comes}
 use Rattle.machine_laws.proofs.Steps.{HandsIn, sound_step}
@@ -121,9 +125,16 @@ back_stays i c p (Some link) w = returned_stays link.peer (is_input_port p) ((se
 changed_stays : (change : Component → Component) (o : Option Component) (w : World) → Stays w (changed_at o w (λ c. with_changed change c w))
 changed_stays change o w = at_there Stays stays o w _ (λ c. at_there Stays stays (place_numbered (number_of c) w.components) w _ (λ i. (refl, refl)))
 
+finished_stays : (i : ℕ) (c : Component) (done : Finishing) (o : Option Work) (w : World) → Stays w (finished_by i c done o w)
+finished_stays i c done None w = stays w
+finished_stays i c done (Some work) w = either work.announces
+    (λ t. rw t (refl, refl))
+    (λ f. rw f (at_there Stays stays (stream_of (number_of c) w) w (λ s. with_landed i c done s w) (λ s. (refl, refl))))
+
 pub effect_leaves : (w : World) (a : Act) (r : Reply) → HasKeyOf w (effect w a r) × LeavesGiven a r w (effect w a r)
 effect_leaves w (acts.GetHandle name) (acts.Got (Ok h)) = at_there Stays stays (kind_of name) w _ (λ kind. (refl, refl))
 effect_leaves w (acts.FreeHandle h) (acts.Removed (Ok file)) = (key_named h w _ (λ i c. refl), tt)
+effect_leaves w (acts.Attach h file) (acts.Plain (Ok done)) = named_stays h w _ (λ i c. (refl, refl))
 effect_leaves w (acts.SetParameter h key value) (acts.Plain (Ok done)) = named_stays h w _ (λ i c. (refl, refl))
 effect_leaves w (acts.SetConfig h key value) (acts.Plain (Ok done)) = named_stays h w _ (λ i c. (refl, refl))
 effect_leaves w (acts.SetupTunnel output input) (acts.Joined (Ok supplier)) =
@@ -147,6 +158,9 @@ effect_leaves w (acts.HandOver h port) (acts.Acted (Ok Did)) = port_stays h port
 effect_leaves w (acts.HandBack h port) (acts.Acted (Ok Did)) = port_stays h port w _ (λ i c p. back_stays i c p p.state.link w)
 effect_leaves w acts.Grant (acts.Granted (granted.Granted h)) = changed_stays granted_units (first_waiter w.components) w
 effect_leaves w acts.Preempt (acts.Preempted (preempted.Victim h)) = changed_stays preempted_units (victim w.components) w
+effect_leaves w (acts.Claim h) (acts.Claimed (Ok (ClaimedWork work))) = named_stays h w _ (λ i c. (refl, refl))
+effect_leaves w (acts.Finish done) acts.Finished =
+    at_there Stays stays (place_numbered done.component w.components) w _ (λ i. at_there Stays stays (slice_get w.components i) w (λ c. finished i c done w) (λ c. finished_stays i c done c.work w))
 effect_leaves w _ _ = (refl, refl)
 
 outcome_key : (w : World) (a : Act) (r : Reply) (v : World) → Outcome w (turn w a r) v → HasKeyOf w v

@@ -28,7 +28,7 @@ use Rattle.history_laws.specs.Settled.{AreAllBack, IsUnmadeAndBack}
 use Rattle.history_laws.proofs.Homes.{found_state}
 use Rattle.history_laws.proofs.Owners.{Settles, Stand, stand_of}
 use Rattle.history_laws.proofs.Closing.{times_settle, times_made}
-use Rattle.history_laws.proofs.Carried.{Carried, Still, Made, Gone, Moved}
+use Rattle.history_laws.proofs.Carried.{Carried, Still, Made, Gone, Moved, Several}
 use Rattle.history_laws.proofs.Trails.{trail_more}
 use Rattle.history_laws.proofs.Outcome.{Turn, turn, Outcome, Nothing, Done}
 use Rattle.history_laws.proofs.Steps.{step_comes}
@@ -79,6 +79,19 @@ carried_lasts key number w v ms o (Moved M) L =
       }
       | inr a ↦ as_found key number w v (R.others number a) (rw M.made L.given) L
     ]
+carried_lasts key number w v ms o (Several M) L = elim ((M.headers).each number) [
+  | inl x ↦ as_found key number w v x.0 (rw M.made L.given) L
+  | inr P ↦ record {
+    given = rw M.made L.given;
+    found = elim L.found [
+      | inl none ↦ let a : find_header number w.headers ≡ Some P.was = P.found in absurd cc
+      | inr (r, e, k) ↦
+          let b : Some r ≡ Some P.was = sym e ∙ P.found in
+          let c : r ≡ P.was = cc in
+          inr (P.now, P.here, P.made_for key ∙ (subst (λ (x : HeaderRecord). is_for key x.state ≡ true) c k))
+    ];
+  }
+]
 
 same_for : (key : PortKey) (r s : HeaderRecord) → stand_of s ≡ stand_of r → is_for key s.state ≡ is_for key r.state
 same_for key r s e = ap (λ (x : Stand). is_for_both key x.port x.peer) e

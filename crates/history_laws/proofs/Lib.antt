@@ -15,6 +15,9 @@ pub mod HeaderActs
 pub mod BufferSteps
 pub mod FlowSteps
 pub mod GrantSteps
+pub mod Shifts
+pub mod WorkSteps
+pub mod Filling
 pub mod Steps
 pub mod QueueLaw
 pub mod TrailLaw

@@ -14,7 +14,7 @@ use Rattle.machine_laws.proofs.Finding.{push_else, without_else, without_same}
 use Rattle.machine_laws.proofs.Parts.{parts_of}
 use Rattle.history_laws.proofs.Owners.{Settles, Stand, stand_of}
 use Rattle.history_laws.proofs.Closing.{times_settle, times_made}
-use Rattle.history_laws.proofs.Carried.{Carried, Still, Made, Gone, Moved}
+use Rattle.history_laws.proofs.Carried.{Carried, Still, Made, Gone, Moved, Several}
 use Rattle.history_laws.proofs.ClientHeaders.{settled_found, carried_once}
 use Rattle.history_laws.proofs.Homes.{found_state}
 use Rattle.history_laws.proofs.Outcome.{Turn, turn, Outcome, Nothing, Done}
@@ -57,6 +57,13 @@ carried_made w v ms number r once n (Moved M) f = elim (cases_eq number M.number
       }
   | inr a ↦ was_itself w.headers number r (sym ((M.replaced).others number a) ∙ f)
 ]
+carried_made w v ms number r once n (Several M) f = elim ((M.headers).each number) [
+  | inl x ↦ was_itself w.headers number r (sym x.0 ∙ f)
+  | inr P ↦
+      let s : Some r ≡ Some P.now = sym f ∙ P.here in
+      let q : r ≡ P.now = cc in
+      record { was = P.was; found = P.found; same = λ key. ap (λ (x : HeaderRecord). is_for key x.state) q ∙ P.made_for key }
+]
 
 -- over the close-out
 settled_made : (hs ks : List HeaderRecord) (number : ℕ) (r : HeaderRecord) → Settles hs ks → find_header number ks ≡ Some r → WasMade hs number r
@@ -98,6 +105,7 @@ carried_grows w v ms (Still S) = let e = S.made in omega (arith, e)
 carried_grows w v ms (Made M) = let e = M.made in omega (arith, e)
 carried_grows w v ms (Gone M) = let e = M.made in omega (arith, e)
 carried_grows w v ms (Moved M) = let e = M.made in omega (arith, e)
+carried_grows w v ms (Several M) = let e = M.made in omega (arith, e)
 
 outcome_grows : (w v : World) (t : Turn) → Outcome w t v → w.made ≤ v.made
 outcome_grows w v t (Nothing e m) = let k : v.made ≡ w.made = ap (λ (x : World). x.made) e in omega (arith, k)

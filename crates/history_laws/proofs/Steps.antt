@@ -13,11 +13,13 @@ use Rattle.history_laws.proofs.Outcome.{turn, Outcome, looks}
 use Rattle.history_laws.proofs.ComponentActs.{get_handle, free_handle, set_parameter, set_config, setup_tunnel, drop_tunnel, send_command, run_command, end_note}
 use Rattle.history_laws.proofs.BufferSteps.{allocate_buffer, use_buffer, free_buffer, empty_this_buffer, fill_this_buffer, take_note}
 use Rattle.history_laws.proofs.GrantSteps.{grant, preempt}
+use Rattle.history_laws.proofs.WorkSteps.{attach, claim, finish}
 use Rattle.history_laws.proofs.FlowSteps.{supply, release, hand_over, hand_back}
 
 pub comes_after : (w : World) (a : Act) (r : Reply) (v : World) → Sound w → HandsIn w a → Step w a r v → Outcome w (turn w a r) v
 comes_after w (acts.GetHandle name) (acts.Got result) v S M h = get_handle w name result v h
 comes_after w (acts.FreeHandle x) (acts.Removed result) v S M h = free_handle w x result v S h
+comes_after w (acts.Attach x file) (acts.Plain result) v S M h = attach w x file result v h
 comes_after w (acts.GetState x) (acts.Stated result) v S M h = looks (state_answer x (look w)) result w v h
 comes_after w (acts.PortView x port) (acts.Viewed result) v S M h = looks (view_answer x port (look w)) result w v h
 comes_after w (acts.Progress x) (acts.Progressed result) v S M h = looks (progress_answer x w) result w v h
@@ -40,6 +42,8 @@ comes_after w (acts.Supply x port) (acts.Supplied result) v S M h = supply w x p
 comes_after w (acts.Release x port) (acts.Acted result) v S M h = release w x port result v S h
 comes_after w (acts.HandOver x port) (acts.Acted result) v S M h = hand_over w x port result v S h
 comes_after w (acts.HandBack x port) (acts.Acted result) v S M h = hand_back w x port result v S h
+comes_after w (acts.Claim x) (acts.Claimed result) v S M h = claim w x result v S h
+comes_after w (acts.Finish done) acts.Finished v S M h = finish w done v S M h
 comes_after w acts.Grant (acts.Granted answer) v S M h = grant w answer v S h
 comes_after w acts.Preempt (acts.Preempted answer) v S M h = preempt w answer v S h
 comes_after w _ _ v S M h = absurd h

@@ -2,7 +2,7 @@
 //! was given stays, which way headers go, that each comes back with its memory, and that one act in one world has one result.
 #![tactic(auto)]
 
-ghost use Rattle.std.specs.Prelude.{◌≡◌, ◌≢◌, ℕ, true, List, All, ◌++◌, ◌∷◌, [], ◌⊎◌, Option, Some, None, IsSome, Contains};
+ghost use Rattle.std.specs.Prelude.{◌≡◌, ◌≢◌, ℕ, true, false, List, All, ◌++◌, ◌∷◌, [], ◌⊎◌, Option, Some, None, IsSome, Contains};
 ghost use Rattle.omx_types.specs.declared.handle.Handle.{Handle};
 ghost use Rattle.omx_types.specs.declared.state.State.TheVariants as states;
 ghost use Rattle.omx_types.specs.declared.command.Completion.{Completion};
@@ -31,7 +31,7 @@ ghost use Rattle.history_laws.specs.Given.{IsGivenToNumbered, LeavesNotes, note_
 ghost use Rattle.history_laws.specs.Settled.{IsReturned, TakesToIdle, ReachesIdle, WasUnmade, IsUnmadeAndBack};
 ghost use Rattle.history_laws.specs.Determined.{AreAlike};
 ghost use Rattle.history_laws.specs.ClientHeaders.{IsClients, taken_in, given_out, number_out, IsGiven};
-ghost use Rattle.history_laws.specs.Memory.{HasMemory, handed_in, number_in};
+ghost use Rattle.history_laws.specs.Memory.{HasMemory, handed_in, number_in, filled_in, with_front, RunFills, brings};
 
 /// What is queued for a client grows at its end alone: the act tells no completion, and each that the close-out
 /// tells was due in it. The close-out begins with the act's effect. For a component that comes nothing is queued.
@@ -145,24 +145,28 @@ pub fn law_of_client_headers()
         → Sound w → Run w xs v → IsClients (look v) number s → All (λ x. number_out x.0 x.1 ≢ Some number) xs → IsClients (look w) number s }
 {}
 
-/// A header's memory stays in each step that doesn't hand this very header in; one that is handed in has the memory that
-/// it was handed in with, until it comes back. So no two headers swap their memories.
+/// A header's memory stays in each step that doesn't hand this very header in; but an output's header that comes back from a
+/// work has the content that its step made at the front of its memory. One that is handed in has the memory that it was handed
+/// in with, until it comes back. So no two headers swap their memories.
 pub fn law_of_memory()
     ensures stays { (w : World) (a : Act) (r : Reply) (v : World) (number : ℕ) (before after : Option (List ℕ))
         → Sound w → Meets w a → Step w a r v → HasMemory w number before → HasMemory v number after
-        → number_in a r ≢ Some number → after ≡ before }
+        → number_in a r ≢ Some number → after ≡ with_front (filled_in w a number) before }
     ensures handed { (w : World) (a : Act) (r : Reply) (v : World) (header : Held)
         → Sound w → Step w a r v → handed_in a r ≡ Some header → HasMemory v header.number header.memory }
     ensures closing { (w v : World) (number : ℕ) (memory : Option (List ℕ))
         → Sound w → ClosesTo w v → HasMemory w number memory → HasMemory v number memory }
     ensures runs { (w v : World) (xs : List (Act × Reply)) (number : ℕ) (before after : Option (List ℕ))
         → Sound w → Run w xs v → HasMemory w number before → HasMemory v number after
-        → All (λ x. number_in x.0 x.1 ≢ Some number) xs → after ≡ before }
+        → All (λ x. number_in x.0 x.1 ≢ Some number) xs → RunFills w xs v number before after }
+    ensures kept { (w v : World) (xs : List (Act × Reply)) (number : ℕ) (before after : Option (List ℕ))
+        → RunFills w xs v number before after → All (λ x. brings number x.0 ≡ false) xs → after ≡ before }
     ensures back { (u : World) (a : Act) (r : Reply) (w : World) (xs : List (Act × Reply))
         (v : World) (b : Act) (s : Reply) (z : World) (header back : Held)
         → Sound u → Meets u a → Step u a r w → handed_in a r ≡ Some header
         → Run w xs v → All (λ x. number_in x.0 x.1 ≢ Some header.number) xs
-        → Meets v b → Step v b s z → given_out b s ≡ Some back → back.number ≡ header.number → back.memory ≡ header.memory }
+        → Meets v b → Step v b s z → given_out b s ≡ Some back → back.number ≡ header.number
+        → RunFills w xs v header.number header.memory back.memory }
 {}
 
 /// The key of all headers stays.

@@ -171,7 +171,7 @@ or_left a b h = rw h refl
 
 -- ---- they go out
 
-in_ports_kept : (k from n port : ℕ) (hs ks : List HeaderRecord) (s : HeaderRecord) (I : IsIn (record { component = k; port = port }) hs n) → IsReplaced n I.header s hs ks → port < from → (xs : List Picked)
+pub in_ports_kept : (k from n port : ℕ) (hs ks : List HeaderRecord) (s : HeaderRecord) (I : IsIn (record { component = k; port = port }) hs n) → IsReplaced n I.header s hs ks → port < from → (xs : List Picked)
     → AreInPorts k from hs xs → AreInPorts k from ks xs
 in_ports_kept k from n port hs ks s I R l [] A = tt
 in_ports_kept k from n port hs ks s I R l (x ∷ xs) A =

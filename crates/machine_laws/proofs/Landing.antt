@@ -52,7 +52,7 @@ mapped_of f a b [] (x ∷ xs) A = absurd A
 mapped_of f a b (p ∷ ps) [] A = absurd A
 mapped_of f a b (p ∷ ps) (x ∷ xs) A = (a x ∙ A.0, b x ∙ A.1, mapped_of f a b ps xs A.2)
 
-stepped_number : (t : Terms) (frames : ℕ) (came : Incoming) (over : Bool) (x : Carried) → (stepped t frames came over x).header.number ≡ x.header.number
+pub stepped_number : (t : Terms) (frames : ℕ) (came : Incoming) (over : Bool) (x : Carried) → (stepped t frames came over x).header.number ≡ x.header.number
 stepped_number t frames came over x = either (is_in t x) (λ h. rw h refl) (λ h. rw h refl)
 
 step_of : (o : Option PartFault) (t : Terms) (s : Stream) (ps : List Picked) (headers : List Carried) (done : Done) → IsStepBy o t s headers done → AreOf ps headers → AreOf ps done.headers
@@ -152,7 +152,7 @@ noted_client c s done x h = either (not (is_tunnelled c x) && (is_finished c s d
 
 module _ (ports : PortKey → Option Port) (c : Component) (there : (port : ℕ) (p : Port) → ports (record { component = number_of c; port = port }) ≡ Some p → port_of c port ≡ Some p) (hs : List HeaderRecord) where
   -- the front header of the work
-  front_is : (ks : List HeaderRecord) (notes work : List ℕ) (n : ℕ) → Shifted ports (number_of c) hs notes (n ∷ work) ks
+  pub front_is : (ks : List HeaderRecord) (notes work : List ℕ) (n : ℕ) → Shifted ports (number_of c) hs notes (n ∷ work) ks
       → (r : HeaderRecord) × (find_header n ks ≡ Some r) × (r.state.owner ≡ owners.Work (number_of c)) × (times n notes ≡ 0) × (times n (n ∷ work) ≡ 1)
   front_is ks notes work n A =
       let k : ℕ = number_of c in
@@ -197,7 +197,7 @@ module _ (ports : PortKey → Option Port) (c : Component) (there : (port : ℕ)
       shifted_one ports k n hs ks (changed n change ks) r (change r) notes (n ∷ work) (notes ++ n ∷ []) work A R (record { port = refl; peer = refl; home = refl }) (refl, C.1, ap (λ (y : PortKey). y.component) C.0)
       (rw F.2 (shift_noted k n notes work F.3 F.4))
 
-  one_landed : (ks : List HeaderRecord) (notes work : List ℕ) (s : Stream) (done : Done) (x : Carried) (load : Load) (l : Landing) → landing c s done x ≡ l → Shifted ports (number_of c) hs notes (x.header.number ∷ work) ks
+  pub one_landed : (ks : List HeaderRecord) (notes work : List ℕ) (s : Stream) (done : Done) (x : Carried) (load : Load) (l : Landing) → landing c s done x ≡ l → Shifted ports (number_of c) hs notes (x.header.number ∷ work) ks
       → made_at (record { component = number_of c; port = x.port }) x.header.number hs ≡ true → Shifted ports (number_of c) hs (notes ++ landed_number l x.header.number) work (landed_at l c x load ks)
   one_landed ks notes work s done x load Again e A m = rw (append-nil notes) (to_port ks notes work x TodoFront load A m)
   one_landed ks notes work s done x load Onward e A m = rw (append-nil notes) (to_port ks notes work x DoneBack load A m)
