@@ -11,3 +11,4 @@ pub mod Passing
 pub mod Picking
 pub mod QueueLaws
 pub mod Sent
+pub mod TogetherLaws

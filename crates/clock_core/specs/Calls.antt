@@ -1,7 +1,7 @@
 -- Lists of calls, and what becomes of a request on them.
-use Rattle.std.specs.Prelude.{◌≡◌, ◌≢◌, ℕ, zero, suc, ◌-◌, ◌<◌, false, ◌||◌, ◌==◌, if◌then◌else◌, List, [], ◌∷◌, ◌++◌, filter, Contains, Option, Some, None}
-use Rattle.std.specs.List.{list_any}
-use Rattle.clock_core.specs.Clock.{State, after_call, before_last_notes, fulfilled, has_id, is_due, next_moment, note_at, notes_of, notes_of_call, notes_passing, opening, refusal_of, state_after}
+use Rattle.std.specs.Prelude.{◌≡◌, ◌≢◌, ℕ, zero, suc, ◌-◌, ◌<◌, true, false, ◌||◌, ◌==◌, if◌then◌else◌, List, [], ◌∷◌, ◌++◌, filter, Contains, Option, Some, None}
+use Rattle.std.specs.List.{All, flat_map, list_any}
+use Rattle.clock_core.specs.Clock.{State, after_call, before_last_notes, fulfilled, has_id, is_due, next_moment, note_at, notes_now, notes_of, notes_of_call, notes_passing, opening, refusal_of, state_after}
 use Rattle.clock_core.specs.declared.act.ClockAct.{ClockAct}
 use Rattle.clock_core.specs.declared.act.ClockAct.TheVariants.{Ask, Cancel}
 use Rattle.clock_core.specs.declared.act.ClockRefusal.{ClockRefusal}
@@ -92,3 +92,41 @@ IsFulfilledFirst state one two =
     Contains state.requests one → Contains state.requests two → one.media < two.media →
     (calls : List TimedAct) (more : ℕ) → AreOthers one.id state calls → AreOthers two.id state calls →
     notes_with_either one.id two.id (notes_along state calls more) ≡ note_at_first one (moments_along state calls more) ++ note_at_first two (moments_along state calls more)
+
+-- the same for two that are outstanding together right after an accepted call's act, also where the call itself fulfils one
+abbrev pub IsFulfilledFirstFromAct : State → ℕ → ClockAct → Request → Request → Type 0
+IsFulfilledFirstFromAct state wall act one two =
+    refusal_of state wall act ≡ None →
+    Contains (before_last_notes state wall act).requests one → Contains (before_last_notes state wall act).requests two → one.media < two.media →
+    (calls : List TimedAct) (more : ℕ) → AreOthers one.id (state_after state wall act) calls → AreOthers two.id (state_after state wall act) calls →
+    notes_with_either one.id two.id (notes_now (before_last_notes state wall act) ++ notes_along (state_after state wall act) calls more)
+    ≡ note_at_first one (before_last_notes state wall act ∷ moments_along (state_after state wall act) calls more)
+    ++ note_at_first two (before_last_notes state wall act ∷ moments_along (state_after state wall act) calls more)
+
+-- of two requests that are outstanding at a moment, the one with the lesser media time is due there if the other one is,
+-- and has its note first
+abbrev pub IsByMedia : State → Type 0
+IsByMedia moment =
+    (one two : Request) → Contains moment.requests one → Contains moment.requests two → one.media < two.media →
+    (is_due moment two ≡ true → is_due moment one ≡ true)
+    × (notes_with_either one.id two.id (notes_now moment) ≡ note_at_first one (moment ∷ []) ++ note_at_first two (moment ∷ []))
+
+-- what holds of each list of calls on a new clock
+pub record IsLawful (calls : List TimedAct) : Type 0 where
+  -- at each moment all that is due is fulfilled, and nothing else ever
+  pub moments : (more : ℕ) → notes_along opening calls more ≡ flat_map notes_now (moments_along opening calls more)
+  pub by_media : (more : ℕ) → All IsByMedia (moments_along opening calls more)
+  -- and of what is asked for or outstanding after them
+  pub once : (wall : ℕ) (request : Request) → IsFulfilledOnce (reached calls) wall request
+  pub unasked : (id : ℕ) → HasNoNotes (reached calls) id
+  pub lesser_first : (one two : Request) → IsFulfilledFirst (reached calls) one two
+  pub lesser_first_from_act : (wall : ℕ) (act : ClockAct) (one two : Request) → IsFulfilledFirstFromAct (reached calls) wall act one two
+
+abbrev pub and_then : List TimedAct → ℕ → ClockAct → List TimedAct
+and_then calls wall act = calls ++ record { wall = wall; act = act } ∷ []
+
+-- a call after a list of calls makes a longer one, with its notes behind theirs, which is lawful
+pub record GoesOn (before : List TimedAct) (wall : ℕ) (act : ClockAct) (after : State) (notes : List Fulfilled) : Type 0 where
+  pub state : after ≡ reached (and_then before wall act)
+  pub told : notes_of_calls opening (and_then before wall act) ≡ notes_of_calls opening before ++ notes
+  pub lawful : IsLawful (and_then before wall act)

@@ -1,6 +1,9 @@
-ghost use Rattle.std.specs.Prelude.{◌≡◌, ◌^◌, ◌≤◌, ◌++◌, ◌↔◌, length, drop, None, IfSome, IsNone};
+ghost use Rattle.std.specs.Prelude.{◌≡◌, ◌^◌, ◌≤◌, ◌++◌, ◌↔◌, List, length, drop, None, IfSome, IsNone};
+ghost use Rattle.clock_core.specs.Calls.{GoesOn, reached};
 ghost use Rattle.clock_core.specs.Clock.{opening, answer_of_call, after_call, notes_of_call, state_after, notes_of, refusal_of, HasMediaWithin};
 ghost use Rattle.clock_core.specs.Next.{IsNextWall, HasNoNext};
+ghost use Rattle.clock_core.specs.Running.{notes_in};
+ghost use Rattle.clock_core.specs.declared.act.TimedAct.{TimedAct as Made};
 
 use crate::due::{Requests, front_moment, fulfil_until};
 use crate::motion::{motion_after, pace_of, scale_after};
@@ -58,14 +61,9 @@ impl Clock {
         ensures answer { result ≡ answer_of_call self.old wall act }
         ensures state { self.new ≡ after_call self.old wall act }
         ensures notes { out.new ≡ notes_of_call self.old wall act ++ drop (length (notes_of_call self.old wall act)) out.old }
+        ensures law { (before : List Made) → self.old ≡ reached before → GoesOn before wall act self.new (notes_in result out.new) }
     {
-        if wall < self.wall {
-            return Err(ClockRefusal::Backwards { last: self.wall });
-        }
-        match refusal_of_act(self.motion, &self.requests, act) {
-            Some(refusal) => Err(refusal),
-            None => Ok(self.accept(wall, act, out)),
-        }
+        self.carry_out(wall, act, out)
     }
 
     /// The next wall moment at which a request is fulfilled, if only time passes.
@@ -75,6 +73,28 @@ impl Clock {
         ensures none { IsNone result ↔ HasNoNext self.now }
     {
         front_moment(pace_of(self.motion, self.scale), self.requests.as_slice())
+    }
+
+    /// What a call does and answers, whatever calls were made before.
+    fn carry_out(
+        &mut self,
+        wall: u64,
+        act: ClockAct,
+        out: &mut [Fulfilled; 64],
+    ) -> Result<u32, ClockRefusal>
+        requires wall { wall ≤ 2 ^ 53 }
+        requires media { HasMediaWithin act }
+        ensures answer { result ≡ answer_of_call self.old wall act }
+        ensures state { self.new ≡ after_call self.old wall act }
+        ensures notes { out.new ≡ notes_of_call self.old wall act ++ drop (length (notes_of_call self.old wall act)) out.old }
+    {
+        if wall < self.wall {
+            return Err(ClockRefusal::Backwards { last: self.wall });
+        }
+        match refusal_of_act(self.motion, &self.requests, act) {
+            Some(refusal) => Err(refusal),
+            None => Ok(self.accept(wall, act, out)),
+        }
     }
 
     /// A call that isn't refused.
