@@ -19,3 +19,6 @@ pub use clock::Clock;
 pub use laws::law_of_calls;
 pub use motion::Motion;
 pub use run::run_clock;
+
+#[cfg(test)]
+mod tests;

@@ -1,0 +1,187 @@
+use super::*;
+
+/// Makes a call, if its numbers are those of a clock, and answers how many notes came, or the refusal.
+fn called(
+    clock: &mut Clock,
+    wall: u64,
+    act: ClockAct,
+    out: &mut [Fulfilled; 64],
+) -> Option<Result<u32, ClockRefusal>> {
+    let media = match act {
+        ClockAct::Start(media) => media,
+        ClockAct::Port { port: _, media } => media,
+        ClockAct::Ask { id: _, media } => media,
+        _ => 0,
+    };
+    if wall <= 1 << 53 && media <= 1 << 53 {
+        Some(clock.call(wall, act, out))
+    } else {
+        None
+    }
+}
+
+fn ask(id: u64, media: u64) -> ClockAct {
+    ClockAct::Ask { id, media }
+}
+
+fn due(id: u64, wall: u64) -> Fulfilled {
+    Fulfilled { id, wall }
+}
+
+#[test]
+fn requests_under_a_scale(rt: HostRuntime) {
+    let mut clock = Clock::new();
+    let mut out = [Fulfilled::default(); 64];
+    assert_eq!(rt;
+        called(&mut clock, 0, ClockAct::Start(0), &mut out),
+        Some(Ok(0))
+    );
+    assert_eq!(rt; called(&mut clock, 0, ask(1, 100), &mut out), Some(Ok(0)));
+    assert_eq!(rt; called(&mut clock, 0, ask(2, 50), &mut out), Some(Ok(0)));
+    assert_eq!(rt;
+        called(&mut clock, 10, ClockAct::Scale(32_768), &mut out),
+        Some(Ok(0))
+    );
+    assert_eq!(rt; clock.next_wall(), Some(90));
+    assert_eq!(rt;
+        called(&mut clock, 200, ClockAct::Pass, &mut out),
+        Some(Ok(2))
+    );
+    assert_eq!(rt; out[0], due(2, 90));
+    assert_eq!(rt; out[1], due(1, 190));
+    assert_eq!(rt; clock.next_wall(), None);
+}
+
+#[test]
+fn clock_waits_for_two_ports(rt: HostRuntime) {
+    let mut clock = Clock::new();
+    let mut out = [Fulfilled::default(); 64];
+    assert_eq!(rt;
+        called(&mut clock, 5, ClockAct::Wait(5), &mut out),
+        Some(Ok(0))
+    );
+    assert_eq!(rt;
+        called(
+            &mut clock,
+            6,
+            ClockAct::Port { port: 0, media: 40 },
+            &mut out
+        ),
+        Some(Ok(0))
+    );
+    assert_eq!(rt;
+        called(
+            &mut clock,
+            7,
+            ClockAct::Port { port: 2, media: 30 },
+            &mut out
+        ),
+        Some(Ok(0))
+    );
+    assert_eq!(rt; called(&mut clock, 7, ask(9, 30), &mut out), Some(Ok(1)));
+    assert_eq!(rt; out[0], due(9, 7));
+    assert_eq!(rt;
+        called(&mut clock, 6, ClockAct::Pass, &mut out),
+        Some(Err(ClockRefusal::Backwards { last: 7 }))
+    );
+}
+
+#[test]
+fn jumps_over_all_moments(rt: HostRuntime) {
+    let mut clock = Clock::new();
+    let mut out = [Fulfilled::default(); 64];
+    assert_eq!(rt;
+        called(&mut clock, 0, ClockAct::Scale(1), &mut out),
+        Some(Ok(0))
+    );
+    assert_eq!(rt;
+        called(&mut clock, 0, ClockAct::Start(0), &mut out),
+        Some(Ok(0))
+    );
+    assert_eq!(rt;
+        called(&mut clock, 0, ask(1, 1 << 37), &mut out),
+        Some(Ok(0))
+    );
+    assert_eq!(rt;
+        called(&mut clock, 0, ask(2, (1 << 37) + 1), &mut out),
+        Some(Ok(0))
+    );
+    assert_eq!(rt; clock.next_wall(), Some(1 << 53));
+    assert_eq!(rt;
+        called(&mut clock, 1 << 53, ClockAct::Pass, &mut out),
+        Some(Ok(1))
+    );
+    assert_eq!(rt; out[0], due(1, 1 << 53));
+    assert_eq!(rt; clock.next_wall(), None);
+}
+
+#[test]
+fn sixty_four_requests(rt: HostRuntime) {
+    let mut clock = Clock::new();
+    let mut out = [Fulfilled::default(); 64];
+    for id in 0..64 {
+        assert_eq!(rt; called(&mut clock, 1, ask(id, 7), &mut out), Some(Ok(0)));
+    }
+    assert_eq!(rt;
+        called(&mut clock, 0, ask(64, 7), &mut out),
+        Some(Err(ClockRefusal::Backwards { last: 1 }))
+    );
+    assert_eq!(rt;
+        called(&mut clock, 1, ask(64, 7), &mut out),
+        Some(Err(ClockRefusal::Full))
+    );
+    assert_eq!(rt;
+        called(&mut clock, 1, ask(3, 7), &mut out),
+        Some(Err(ClockRefusal::Taken))
+    );
+    assert_eq!(rt;
+        called(&mut clock, 3, ClockAct::Start(7), &mut out),
+        Some(Ok(64))
+    );
+    assert_eq!(rt; out[63], due(63, 3));
+}
+
+#[test]
+fn each_refusal_and_backwards_before_it(rt: HostRuntime) {
+    let mut clock = Clock::new();
+    let mut out = [Fulfilled::default(); 64];
+    assert_eq!(rt; called(&mut clock, 10, ask(1, 5), &mut out), Some(Ok(0)));
+    let refused = [
+        (ClockAct::Scale(1_048_577), ClockRefusal::BadScale),
+        (ClockAct::Wait(0), ClockRefusal::BadMask),
+        (
+            ClockAct::Port { port: 0, media: 5 },
+            ClockRefusal::NotWaiting,
+        ),
+        (ask(1, 6), ClockRefusal::Taken),
+        (ClockAct::Cancel(2), ClockRefusal::Unknown),
+    ];
+    for (act, refusal) in refused {
+        assert_eq!(rt; called(&mut clock, 10, act, &mut out), Some(Err(refusal)));
+        assert_eq!(rt;
+            called(&mut clock, 9, act, &mut out),
+            Some(Err(ClockRefusal::Backwards { last: 10 }))
+        );
+    }
+}
+
+/// The moment at which a media time is reached at a scale, from a start at zero.
+fn moment_at(scale: u32, media: u64) -> Option<u64> {
+    let mut clock = Clock::new();
+    let mut out = [Fulfilled::default(); 64];
+    let _ = called(&mut clock, 0, ClockAct::Scale(scale), &mut out);
+    let _ = called(&mut clock, 0, ClockAct::Start(0), &mut out);
+    let _ = called(&mut clock, 0, ask(1, media), &mut out);
+    clock.next_wall()
+}
+
+#[test]
+fn scales(rt: HostRuntime) {
+    assert_eq!(rt; moment_at(0, 1), None);
+    assert_eq!(rt; moment_at(65_535, 1), Some(2));
+    assert_eq!(rt; moment_at(65_535, 65_535), Some(65_536));
+    assert_eq!(rt; moment_at(65_537, 65_536), Some(65_536));
+    assert_eq!(rt; moment_at(65_537, 65_537), Some(65_536));
+    assert_eq!(rt; moment_at(1_048_576, 16), Some(1));
+    assert_eq!(rt; moment_at(1_048_576, 17), Some(2));
+}
