@@ -44,6 +44,10 @@ pub record HasNoCount {R : Type 0} (m : HostMedia R) : Type 0 where
 abbrev pub opened_of : {R : Type 0} → HostMedia R → List FileId
 opened_of m = m.opened.ids.items
 
+-- how far a source was asked for bytes, which no adapter tells
+abbrev pub unasked : Option ℕ
+unasked = None
+
 -- what a media of the host tells: nothing but its counts
 abbrev pub host_outside : {R : Type 0} → HostMedia R → Outside
 host_outside m = record {

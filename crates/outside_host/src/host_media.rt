@@ -59,6 +59,7 @@ fn open_source<R: Files<File = File>>(
     name: &str,
 ) -> Result<HostSource<File>, Refused>
     ensures place { IfOk result (λ src. src.place ≡ 0) }
+    ensures faults { IfOk result (λ src. src.faults ≡ 0) }
     ensures opened { IfOk result (λ src. IsTrue (has_file src.id opened.new.ids.items)) }
     ensures stay { StayOpened opened.old.ids.items opened.new.ids.items }
 {
@@ -82,6 +83,7 @@ fn open_sink<R: Files<File = File>>(
     name: &str,
 ) -> Result<HostFile<File>, Refused>
     ensures other { IfOk result (λ snk. has_file snk.id opened.old.ids.items ≡ false) }
+    ensures faults { IfOk result (λ snk. snk.faults ≡ 0) }
     ensures opened { IfOk result (λ snk. IsTrue (has_file snk.id opened.new.ids.items)) }
     ensures stay { StayOpened opened.old.ids.items opened.new.ids.items }
 {
@@ -142,6 +144,10 @@ impl<R: Files<File = File>> Media for HostMedia<R> {
         ensures absent_name { IsErrOf result Refused.Absent → (host_outside self.old).file name.now ≡ None }
         ensures absences { IsSome ((host_outside self.old).file name.now) → (host_outside self.new).absences ≡ (host_outside self.old).absences }
         ensures failed { IsErrOf result Refused.Failed → Rose (host_outside self.old).read_faults (host_outside self.new).read_faults }
+        ensures reads_stand { ¬ (IsErrOf result Refused.Failed) → (host_outside self.new).read_faults ≡ (host_outside self.old).read_faults }
+        ensures absences_stand { ¬ (IsErrOf result Refused.Absent) → (host_outside self.new).absences ≡ (host_outside self.old).absences }
+        ensures unfailed { IfOk result (λ src. src.faults ≡ 0) }
+        ensures write_faults { (host_outside self.new).write_faults ≡ (host_outside self.old).write_faults }
         ensures opened { IfOk result (λ src. IsTrue (has_file src.id (opened_of self.new))) }
         ensures stay { StayOpened (opened_of self.old) (opened_of self.new) }
     {
@@ -168,6 +174,10 @@ impl<R: Files<File = File>> Media for HostMedia<R> {
         ensures absent_name { IsErrOf result Refused.Absent → IsTrue ((host_outside self.old).may_refuse name.now) }
         ensures absences { IsFalse ((host_outside self.old).may_refuse name.now) → (host_outside self.new).absences ≡ (host_outside self.old).absences }
         ensures failed { IsErrOf result Refused.Failed → Rose (host_outside self.old).write_faults (host_outside self.new).write_faults }
+        ensures writes_stand { ¬ (IsErrOf result Refused.Failed) → (host_outside self.new).write_faults ≡ (host_outside self.old).write_faults }
+        ensures absences_stand { ¬ (IsErrOf result Refused.Absent) → (host_outside self.new).absences ≡ (host_outside self.old).absences }
+        ensures unfailed { IfOk result (λ snk. snk.faults ≡ 0) }
+        ensures read_faults { (host_outside self.new).read_faults ≡ (host_outside self.old).read_faults }
         ensures other { IfOk result (λ snk. has_file snk.id (opened_of self.old) ≡ false) }
         ensures opened { IfOk result (λ snk. IsTrue (has_file snk.id (opened_of self.new))) }
         ensures stay { StayOpened (opened_of self.old) (opened_of self.new) }
@@ -190,6 +200,7 @@ impl<R: Files<File = File>> Media for HostMedia<R> {
         ensures goes_on { GoesOn (host_outside self.old) (host_outside self.new) }
         ensures files { (host_outside self.new).file ≡ (host_outside self.old).file }
         ensures absences { (host_outside self.new).absences ≡ (host_outside self.old).absences }
+        ensures write_faults { (host_outside self.new).write_faults ≡ (host_outside self.old).write_faults }
         ensures added { (host_outside self.new).read_faults ≡ sum_of_counts (host_outside self.old).read_faults src.faults }
         ensures stay { opened_of self.new ≡ opened_of self.old }
     {
@@ -202,6 +213,7 @@ impl<R: Files<File = File>> Media for HostMedia<R> {
         ensures held { OnOk result ((host_outside self.new).file unnamed ≡ untold) }
         ensures front { OnErr result (WhereTold untold (IsFrontOf ((host_outside self.new).file unnamed))) }
         ensures absences { (host_outside self.new).absences ≡ (host_outside self.old).absences }
+        ensures read_faults { (host_outside self.new).read_faults ≡ (host_outside self.old).read_faults }
         ensures added { sum_of_counts (host_outside self.old).write_faults snk.faults ≤ (host_outside self.new).write_faults }
         ensures closed { OnOk result ((host_outside self.new).write_faults ≡ sum_of_counts (host_outside self.old).write_faults snk.faults) }
         ensures failed { OnErr result (Rose (sum_of_counts (host_outside self.old).write_faults snk.faults) (host_outside self.new).write_faults) }

@@ -3,6 +3,7 @@ ghost use Rattle.std.specs.Io.KnownBytes.{Consumes, IsAtEnd, Keeps};
 ghost use Rattle.std.specs.Io.Seek.{MovesTo};
 ghost use Rattle.std.specs.Io.{ReadsAtMost};
 ghost use Rattle.std.specs.Prelude.{◌≡◌, ◌+◌, ◌<◌, ◌≤◌, min, max, length, take, drop, IfOk, OnOk, OnErr};
+ghost use Rattle.outside_io.specs.Asking.{asked_up_to};
 ghost use Rattle.outside_io.specs.Causes.{HasCause};
 ghost use Rattle.outside_io.specs.Moves.{WhereTold};
 
@@ -77,7 +78,7 @@ impl<F: Read> HostSource<F> {
 }
 
 impl<F: Read + Seek> Source for HostSource<F> {
-    ghost use Rattle.outside_host.specs.Adapters.{endless, source_reader, untold};
+    ghost use Rattle.outside_host.specs.Adapters.{endless, source_reader, unasked, untold};
 
     ghost told = { λ s. untold };
 
@@ -86,6 +87,8 @@ impl<F: Read + Seek> Source for HostSource<F> {
     ghost size = { λ s. s.size };
 
     ghost place = { λ s. s.place };
+
+    ghost asked = { λ s. unasked };
 
     ghost faults = { λ s. s.faults };
 
@@ -114,6 +117,7 @@ impl<F: Read + Seek> Source for HostSource<F> {
         ensures gives { WhereTold endless (λ end. IfOk result (λ count.
             self.old.place < min end self.old.size → 0 < count)) }
         ensures stops { WhereTold endless (λ end. OnOk result (self.new.place ≤ max end self.old.place)) }
+        ensures asked { unasked ≡ asked_up_to unasked (self.old.place + length buf.old) }
         ensures cause { HasCause self.old.faults self.new.faults result }
         ensures given { IfOk result (λ count. Consumes (reader_remaining F.remaining (source_reader self.old))
             (reader_remaining F.remaining (source_reader self.new)) (take count buf.new)) }
@@ -141,6 +145,7 @@ impl<F: Read + Seek> Source for HostSource<F> {
         ensures size { self.new.size ≡ self.old.size }
         ensures reached { OnOk result (self.new.place ≡ to) }
         ensures within { self.new.place ≤ self.new.size }
+        ensures asked { unasked ≡ unasked }
         ensures cause { HasCause self.old.faults self.new.faults result }
         ensures moves { MovesTo (reader_position F.stream_position (source_reader self.old))
             (reader_position F.stream_position (source_reader self.new)) to result }

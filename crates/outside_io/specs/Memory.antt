@@ -19,6 +19,10 @@ source_place s = s.place
 abbrev pub source_ends : MemorySource → ℕ
 source_ends s = s.end
 
+-- the greatest place up to which it was asked for bytes
+abbrev pub source_asked : MemorySource → ℕ
+source_asked s = s.asked
+
 abbrev pub source_faults : MemorySource → ℕ
 source_faults s = s.faults
 

@@ -19,7 +19,8 @@ pub enum Refused {
 /// Named files, of which sources and sinks are opened. A media may tell its files: then each source tells its bytes,
 /// and only the closing of a sink changes a told file, namely that of its name. It may also tell the sink names that it
 /// may refuse, and for each name the place from which on its sources give nothing; both stay the same over all its calls.
-/// Counts never fall, and stay at their last value.
+/// Counts never fall, and stay at their last value. A call raises only the count
+/// of its own answer, and what is opened has failed in no call yet.
 pub trait Media {
     type Src: Source + Send;
 
@@ -48,7 +49,11 @@ pub trait Media {
         ensures absent { IsErrOf result Refused.Absent → Rose (outside self.old).absences (outside self.new).absences }
         ensures absent_name { IsErrOf result Refused.Absent → (outside self.old).file name.now ≡ None }
         ensures absences { IsSome ((outside self.old).file name.now) → (outside self.new).absences ≡ (outside self.old).absences }
-        ensures failed { IsErrOf result Refused.Failed → Rose (outside self.old).read_faults (outside self.new).read_faults };
+        ensures failed { IsErrOf result Refused.Failed → Rose (outside self.old).read_faults (outside self.new).read_faults }
+        ensures reads_stand { ¬ (IsErrOf result Refused.Failed) → (outside self.new).read_faults ≡ (outside self.old).read_faults }
+        ensures absences_stand { ¬ (IsErrOf result Refused.Absent) → (outside self.new).absences ≡ (outside self.old).absences }
+        ensures unfailed { IfOk result (λ src. Self.Src.faults src ≡ 0) }
+        ensures write_faults { (outside self.new).write_faults ≡ (outside self.old).write_faults };
 
     fn sink(&mut self, alloc: Global, name: &str) -> Result<Self::Snk, Refused>
         ensures goes_on { GoesOn (outside self.old) (outside self.new) }
@@ -58,12 +63,17 @@ pub trait Media {
         ensures absent { IsErrOf result Refused.Absent → Rose (outside self.old).absences (outside self.new).absences }
         ensures absent_name { IsErrOf result Refused.Absent → IsTrue ((outside self.old).may_refuse name.now) }
         ensures absences { IsFalse ((outside self.old).may_refuse name.now) → (outside self.new).absences ≡ (outside self.old).absences }
-        ensures failed { IsErrOf result Refused.Failed → Rose (outside self.old).write_faults (outside self.new).write_faults };
+        ensures failed { IsErrOf result Refused.Failed → Rose (outside self.old).write_faults (outside self.new).write_faults }
+        ensures writes_stand { ¬ (IsErrOf result Refused.Failed) → (outside self.new).write_faults ≡ (outside self.old).write_faults }
+        ensures absences_stand { ¬ (IsErrOf result Refused.Absent) → (outside self.new).absences ≡ (outside self.old).absences }
+        ensures unfailed { IfOk result (λ snk. Self.Snk.faults snk ≡ 0) }
+        ensures read_faults { (outside self.new).read_faults ≡ (outside self.old).read_faults };
 
     fn close_source(&mut self, src: Self::Src)
         ensures goes_on { GoesOn (outside self.old) (outside self.new) }
         ensures files { (outside self.new).file ≡ (outside self.old).file }
         ensures absences { (outside self.new).absences ≡ (outside self.old).absences }
+        ensures write_faults { (outside self.new).write_faults ≡ (outside self.old).write_faults }
         ensures added { (outside self.new).read_faults ≡ sum_of_counts (outside self.old).read_faults (Self.Src.faults src) };
 
     fn close_sink(&mut self, snk: Self::Snk) -> Result<(), Failed>
@@ -72,6 +82,7 @@ pub trait Media {
         ensures held { OnOk result ((outside self.new).file (Self.Snk.name snk) ≡ Self.Snk.told snk) }
         ensures front { OnErr result (WhereTold (Self.Snk.told snk) (IsFrontOf ((outside self.new).file (Self.Snk.name snk)))) }
         ensures absences { (outside self.new).absences ≡ (outside self.old).absences }
+        ensures read_faults { (outside self.new).read_faults ≡ (outside self.old).read_faults }
         ensures added { sum_of_counts (outside self.old).write_faults (Self.Snk.faults snk) ≤ (outside self.new).write_faults }
         ensures closed { OnOk result ((outside self.new).write_faults ≡ sum_of_counts (outside self.old).write_faults (Self.Snk.faults snk)) }
         ensures failed { OnErr result (Rose (sum_of_counts (outside self.old).write_faults (Self.Snk.faults snk)) (outside self.new).write_faults) };

@@ -104,6 +104,10 @@ impl Media for MemoryMedia {
         ensures absent_name { IsErrOf result Refused.Absent → (memory_outside self.old).file name.now ≡ None }
         ensures absences { IsSome ((memory_outside self.old).file name.now) → (memory_outside self.new).absences ≡ (memory_outside self.old).absences }
         ensures failed { IsErrOf result Refused.Failed → Rose (memory_outside self.old).read_faults (memory_outside self.new).read_faults }
+        ensures reads_stand { ¬ (IsErrOf result Refused.Failed) → (memory_outside self.new).read_faults ≡ (memory_outside self.old).read_faults }
+        ensures absences_stand { ¬ (IsErrOf result Refused.Absent) → (memory_outside self.new).absences ≡ (memory_outside self.old).absences }
+        ensures unfailed { IfOk result (λ src. source_faults src ≡ 0) }
+        ensures write_faults { (memory_outside self.new).write_faults ≡ (memory_outside self.old).write_faults }
         ensures exactly { OpensSource name.now self.old self.new result }
     {
         if Planned::call(&mut self.plans, FailKind::OpenSource, name) {
@@ -129,6 +133,10 @@ impl Media for MemoryMedia {
         ensures absent_name { IsErrOf result Refused.Absent → IsTrue ((memory_outside self.old).may_refuse name.now) }
         ensures absences { IsFalse ((memory_outside self.old).may_refuse name.now) → (memory_outside self.new).absences ≡ (memory_outside self.old).absences }
         ensures failed { IsErrOf result Refused.Failed → Rose (memory_outside self.old).write_faults (memory_outside self.new).write_faults }
+        ensures writes_stand { ¬ (IsErrOf result Refused.Failed) → (memory_outside self.new).write_faults ≡ (memory_outside self.old).write_faults }
+        ensures absences_stand { ¬ (IsErrOf result Refused.Absent) → (memory_outside self.new).absences ≡ (memory_outside self.old).absences }
+        ensures unfailed { IfOk result (λ snk. sink_faults snk ≡ 0) }
+        ensures read_faults { (memory_outside self.new).read_faults ≡ (memory_outside self.old).read_faults }
         ensures exactly { OpensSink name.now self.old self.new result }
     {
         let absent = Planned::call(&mut self.plans, FailKind::AbsentSink, name);
@@ -151,6 +159,7 @@ impl Media for MemoryMedia {
         ensures goes_on { GoesOn (memory_outside self.old) (memory_outside self.new) }
         ensures files { (memory_outside self.new).file ≡ (memory_outside self.old).file }
         ensures absences { (memory_outside self.new).absences ≡ (memory_outside self.old).absences }
+        ensures write_faults { (memory_outside self.new).write_faults ≡ (memory_outside self.old).write_faults }
         ensures added { (memory_outside self.new).read_faults ≡ sum_of_counts (memory_outside self.old).read_faults (source_faults src) }
         ensures exactly { ClosesSource src self.old self.new }
     {
@@ -166,6 +175,7 @@ impl Media for MemoryMedia {
         ensures held { OnOk result ((memory_outside self.new).file (sink_name snk) ≡ Some (sink_bytes snk)) }
         ensures front { OnErr result (WhereTold (Some (sink_bytes snk)) (IsFrontOf ((memory_outside self.new).file (sink_name snk)))) }
         ensures absences { (memory_outside self.new).absences ≡ (memory_outside self.old).absences }
+        ensures read_faults { (memory_outside self.new).read_faults ≡ (memory_outside self.old).read_faults }
         ensures added { sum_of_counts (memory_outside self.old).write_faults (sink_faults snk) ≤ (memory_outside self.new).write_faults }
         ensures closed { OnOk result ((memory_outside self.new).write_faults ≡ sum_of_counts (memory_outside self.old).write_faults (sink_faults snk)) }
         ensures failed { OnErr result (Rose (sum_of_counts (memory_outside self.old).write_faults (sink_faults snk)) (memory_outside self.new).write_faults) }

@@ -1,5 +1,6 @@
 ghost use Rattle.std.specs.Io.{ReadsAtMost};
 ghost use Rattle.std.specs.Prelude.{◌≡◌, ◌+◌, ◌<◌, ◌≤◌, max, min, length, take, drop, vec_len, [], Some, IfOk, OnOk};
+ghost use Rattle.outside_io.specs.Asking.{asked_up_to};
 ghost use Rattle.outside_io.specs.Causes.{HasCause};
 ghost use Rattle.outside_io.specs.Moves.{WhereTold};
 
@@ -16,6 +17,7 @@ pub struct MemorySource {
     bytes: Vec<u8>,
     place: usize,
     end: u64,
+    asked: u64,
     pub(crate) reads: Calls,
     pub(crate) seeks: Calls,
     pub(crate) faults: u64,
@@ -23,7 +25,7 @@ pub struct MemorySource {
 }
 
 impl MemorySource {
-    ghost use Rattle.outside_io.specs.Memory.{source_bytes, source_place, source_ends, source_faults, source_reads, source_seeks};
+    ghost use Rattle.outside_io.specs.Memory.{source_bytes, source_place, source_ends, source_asked, source_faults, source_reads, source_seeks};
     ghost use Rattle.outside_io.specs.MemoryFiles.{IsNewSource};
 
     /// A source that stands at place 0, never fails and gives all its bytes.
@@ -31,6 +33,7 @@ impl MemorySource {
         ensures bytes { source_bytes result ≡ bytes.items }
         ensures place { source_place result ≡ 0 }
         ensures ends { length bytes.items ≤ source_ends result }
+        ensures asked { source_asked result ≡ 0 }
         ensures faults { source_faults result ≡ 0 }
         ensures no_read_fails { (source_reads result).due.items ≡ [] }
         ensures no_seek_fails { (source_seeks result).due.items ≡ [] }
@@ -41,6 +44,7 @@ impl MemorySource {
             bytes,
             place: 0,
             end: u64::MAX,
+            asked: 0,
             reads: Calls::sound(alloc),
             seeks: Calls::sound(alloc),
             faults: 0,
@@ -61,6 +65,7 @@ impl MemorySource {
             bytes: bytes.to_vec(alloc)?,
             place: 0,
             end: Planned::end(plans, name),
+            asked: 0,
             reads: Calls::new(Planned::due(alloc, plans, FailKind::Read, name)?),
             seeks: Calls::new(Planned::due(alloc, plans, FailKind::Seek, name)?),
             faults: 0,
@@ -69,7 +74,7 @@ impl MemorySource {
 }
 
 impl Source for MemorySource {
-    ghost use Rattle.outside_io.specs.Memory.{source_bytes, source_place, source_ends, source_faults, Reads, Seeks};
+    ghost use Rattle.outside_io.specs.Memory.{source_bytes, source_place, source_ends, source_asked, source_faults, Reads, Seeks};
 
     ghost told = { λ s. Some (source_bytes s) };
 
@@ -78,6 +83,8 @@ impl Source for MemorySource {
     ghost size = { λ s. length (source_bytes s) };
 
     ghost place = { source_place };
+
+    ghost asked = { λ s. Some (source_asked s) };
 
     ghost faults = { source_faults };
 
@@ -107,9 +114,11 @@ impl Source for MemorySource {
             source_place self.old < min end (length (source_bytes self.old)) → 0 < count)) }
         ensures stops { WhereTold (Some (source_ends self.old)) (λ end. OnOk result (
             source_place self.new ≤ max end (source_place self.old))) }
+        ensures asked { Some (source_asked self.new) ≡ asked_up_to (Some (source_asked self.old)) (source_place self.old + length buf.old) }
         ensures cause { HasCause (source_faults self.old) (source_faults self.new) result }
         ensures exactly { Reads self.old self.new (length buf.old) result }
     {
+        self.asked = self.asked.max(self.place as u64 + buf.len() as u64);
         if self.reads.call() {
             self.faults = self.faults.saturating_add(1);
             return Err(Failed);
@@ -134,6 +143,7 @@ impl Source for MemorySource {
         ensures size { length (source_bytes self.new) ≡ length (source_bytes self.old) }
         ensures reached { OnOk result (source_place self.new ≡ to) }
         ensures within { source_place self.new ≤ length (source_bytes self.new) }
+        ensures asked { Some (source_asked self.new) ≡ Some (source_asked self.old) }
         ensures cause { HasCause (source_faults self.old) (source_faults self.new) result }
         ensures exactly { Seeks self.old self.new result }
     {

@@ -1,5 +1,6 @@
-ghost use Rattle.std.specs.Prelude.{◌≡◌, ◌+◌, ◌<◌, ◌≤◌, max, length, take, drop, IfErr, OnOk, Err};
+ghost use Rattle.std.specs.Prelude.{◌≡◌, ◌≢◌, ◌+◌, ◌<◌, ◌≤◌, max, length, take, drop, IfErr, OnOk, Err};
 ghost use Rattle.std.specs.Io.KnownBytes.{append_known};
+ghost use Rattle.outside_io.specs.Asking.{AsksWithin};
 ghost use Rattle.outside_io.specs.Causes.{HasCause, Rose};
 ghost use Rattle.outside_io.specs.Moves.{AppendsFront, WhereTold};
 ghost use Rattle.outside_io.specs.Stops.{IsShortAt, IsShortOf, IsStopAt, IsStopOf, StopsBefore};
@@ -52,6 +53,8 @@ pub fn read_exact<S: Source>(source: &mut S, buf: &mut [u8]) -> Result<(), ReadS
     ensures size { S.size source.new ≡ S.size source.old }
     ensures later { S.faults source.old ≤ S.faults source.new }
     ensures failed { result ≡ Err ReadStop.Failed → Rose (S.faults source.old) (S.faults source.new) }
+    ensures stands { result ≢ Err ReadStop.Failed → S.faults source.new ≡ S.faults source.old }
+    ensures asks { AsksWithin (S.asked source.old) (S.asked source.new) (S.place source.old + length buf.old) }
     ensures short { IfErr result (IsStopOf (S.size source.old) (S.ends source.old) (S.place source.old)) }
     ensures reached { WhereTold (S.ends source.old) (λ end. OnOk result (
         S.place source.new ≤ max end (S.place source.old))) }
@@ -91,6 +94,8 @@ pub fn pump<S: Source, K: Sink>(source: &mut S, sink: &mut K) -> Result<(), Pump
     ensures write_later { K.faults sink.old ≤ K.faults sink.new }
     ensures read { result ≡ Err PumpFault.Read → Rose (S.faults source.old) (S.faults source.new) }
     ensures write { result ≡ Err PumpFault.Write → Rose (K.faults sink.old) (K.faults sink.new) }
+    ensures read_stands { result ≢ Err PumpFault.Read → S.faults source.new ≡ S.faults source.old }
+    ensures write_stands { result ≢ Err PumpFault.Write → K.faults sink.new ≡ K.faults sink.old }
     ensures short { IfErr result (IsShortOf (S.size source.old) (S.ends source.old) (S.place source.old)) }
     ensures reached { IfErr result (IsShortAt (S.place source.new)) }
 {

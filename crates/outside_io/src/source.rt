@@ -1,5 +1,6 @@
 ghost use Rattle.std.specs.Prelude.{◌≡◌, ℕ, ◌+◌, ◌<◌, ◌≤◌, max, min, List, length, take, drop, Option, IfOk, OnOk};
 ghost use Rattle.std.specs.Io.{ReadsAtMost};
+ghost use Rattle.outside_io.specs.Asking.{asked_up_to};
 ghost use Rattle.outside_io.specs.Causes.{HasCause};
 ghost use Rattle.outside_io.specs.Moves.{WhereTold};
 
@@ -21,6 +22,10 @@ pub trait Source {
 
     /// Where it stands, which is never above its size.
     ghost place: { Self → ℕ };
+
+    /// The greatest place up to which a read asked for bytes, where it tells that. A read asks for as many as there is
+    /// room for.
+    ghost asked: { Self → Option ℕ };
 
     /// How many of its calls failed.
     ghost faults: { Self → ℕ };
@@ -52,6 +57,7 @@ pub trait Source {
             place self.old < min end (size self.old) → 0 < count)) }
         ensures stops { WhereTold (ends self.old) (λ end. OnOk result (
             place self.new ≤ max end (place self.old))) }
+        ensures asked { asked self.new ≡ asked_up_to (asked self.old) (place self.old + length buf.old) }
         ensures cause { HasCause (faults self.old) (faults self.new) result };
 
     fn seek_to(&mut self, to: u64) -> Result<(), Failed>
@@ -61,5 +67,6 @@ pub trait Source {
         ensures size { size self.new ≡ size self.old }
         ensures reached { OnOk result (place self.new ≡ to) }
         ensures within { place self.new ≤ size self.new }
+        ensures asked { asked self.new ≡ asked self.old }
         ensures cause { HasCause (faults self.old) (faults self.new) result };
 }

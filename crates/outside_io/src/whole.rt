@@ -1,4 +1,4 @@
-ghost use Rattle.std.specs.Prelude.{◌≡◌, ◌≤◌, length, IfOk, IfErr, OnOk, OnErr, IsSome, IsFalse, IsTrue, Some};
+ghost use Rattle.std.specs.Prelude.{◌≡◌, ◌≢◌, ◌≤◌, length, Err, IfOk, IfErr, OnOk, OnErr, IsSome, IsFalse, IsTrue, Some};
 ghost use Rattle.outside_io.specs.Files.{GoesOn, SameBut};
 ghost use Rattle.outside_io.specs.Moves.{WhereTold};
 ghost use Rattle.outside_io.specs.Whole.{HasRestReason, HasReadReason, HasWriteReason, IsKeptOrFrontOf, WasOpened};
@@ -33,6 +33,8 @@ pub fn read_whole<M: Media>(
     ensures reason { IfErr result (HasReadReason name.now most (M.outside media.old) (M.outside media.new)) }
     ensures there { IsTrue (M.outside media.old).tells → IfErr result (λ unread. WasOpened unread → IsSome ((M.outside media.old).file name.now)) }
     ensures absences { IsSome ((M.outside media.old).file name.now) → (M.outside media.new).absences ≡ (M.outside media.old).absences }
+    ensures read_stands { result ≢ Err Unread.Failed → (M.outside media.new).read_faults ≡ (M.outside media.old).read_faults }
+    ensures write_faults { (M.outside media.new).write_faults ≡ (M.outside media.old).write_faults }
 {
     let mut source = match media.source(alloc, name) {
         Ok(source) => source,
@@ -52,6 +54,7 @@ fn read_rest<S: Source>(alloc: Global, source: &mut S, most: u64) -> Result<Vec<
     ensures fits { IfOk result (λ bytes. length bytes.items ≤ most) }
     ensures told { S.told source.new ≡ S.told source.old }
     ensures later { S.faults source.old ≤ S.faults source.new }
+    ensures stands { result ≢ Err Unread.Failed → S.faults source.new ≡ S.faults source.old }
     ensures reason { IfErr result (HasRestReason (S.told source.old) (S.ends source.old) most (S.faults source.old) (S.faults source.new)) }
 {
     let size = source.size();
@@ -84,6 +87,8 @@ pub fn write_whole<M: Media>(
         OnErr result (IsKeptOrFrontOf ((M.outside media.old).file name.now) ((M.outside media.new).file name.now) bytes.now) }
     ensures reason { IfErr result (HasWriteReason name.now (M.outside media.old) (M.outside media.new)) }
     ensures absences { IsFalse ((M.outside media.old).may_refuse name.now) → (M.outside media.new).absences ≡ (M.outside media.old).absences }
+    ensures write_stands { result ≢ Err Refused.Failed → (M.outside media.new).write_faults ≡ (M.outside media.old).write_faults }
+    ensures read_faults { (M.outside media.new).read_faults ≡ (M.outside media.old).read_faults }
 {
     let mut sink = match media.sink(alloc, name) {
         Ok(sink) => sink,

@@ -1,4 +1,5 @@
-use Rattle.std.proofs.Common.{rules, ◌≡◌, ◌≤◌, ◌<◌, ◌+◌, ◌∙◌, arith, Some}
+use Rattle.std.proofs.Common.{rules, ◌≡◌, ◌≤◌, ◌<◌, ◌+◌, ◌∙◌, length, length-drop, arith, Some}
+use Rattle.outside_io.proofs.Asked.{asks-none, asks-more}
 use Rattle.outside_io.proofs.Filled.{filled-more, filled-within}
 use Rattle.outside_io.proofs.moving.read_exact.Goals as goal
 
@@ -33,6 +34,7 @@ loop-done-preserved g c = record {
   ends = search rules;
   size = search rules;
   read = search rules;
+  asks = asks-more _ _ _ _ _ c.loop-done.invariant.asks c.read.ensures.asked (omega (arith, length-drop c.loop-done.done c.loop-done.buf, c.loop-done.invariant.place, c.loop-done.invariant.within, c.loop-done.auto.buf));
   within_end = λ end is.
       let e : g.S.Source.ends c.loop-done.source ≡ Some end = c.loop-done.invariant.ends ∙ is in
       let s = c.in-Ok.ensures.stops end e in

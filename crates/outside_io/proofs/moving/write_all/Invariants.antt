@@ -7,7 +7,7 @@ invariant-loop-done g l = record {
   within : l.done ≤ length l.piece;
   told : g.K.Sink.told l.sink ≡ append_known (g.K.Sink.told l.initial.sink) (take l.done l.piece);
   name : g.K.Sink.name l.sink ≡ g.K.Sink.name l.initial.sink;
-  faults : g.K.Sink.faults l.initial.sink ≤ g.K.Sink.faults l.sink;
+  faults : g.K.Sink.faults l.sink ≡ g.K.Sink.faults l.initial.sink;
 }
 
 abbrev pub decreases-loop-done : goal.decreases-loop-done
