@@ -10,7 +10,7 @@ use Rattle.wav_form.specs.Reading.{format_in, with_samples, answer_of, answer_in
 use Rattle.wav_form.specs.Search.{and_then, some_of, answer_after}
 
 -- chunks from a place on have their content behind it
-first_named-behind : (bytes name : List ℕ) (place : ℕ) (chunks : List Chunk) (found : Chunk) → AreChunks bytes place chunks → first_named name chunks ≡ Some found → place + 8 ≤ found.content
+pub first_named-behind : (bytes name : List ℕ) (place : ℕ) (chunks : List Chunk) (found : Chunk) → AreChunks bytes place chunks → first_named name chunks ≡ Some found → place + 8 ≤ found.content
 first_named-behind bytes name place [] found are is = cc
 first_named-behind bytes name place (chunk ∷ chunks) found (room, at, are) is =
     let content : chunk.content ≡ place + 8 = ap (λ (c : Chunk). c.content) at in

@@ -1,5 +1,6 @@
 pub mod Again
 pub mod Answer
+pub mod AskedFor
 pub mod ChunkSearch
 pub mod FormatChunk
 pub mod Pieces

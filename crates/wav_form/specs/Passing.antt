@@ -1,6 +1,7 @@
--- The bytes that are passed over on the way to the samples.
-use Rattle.std.specs.Prelude.{◌≡◌, ℕ, ◌+◌, ◌<◌, ◌≤◌, ◌⊎◌, Bool, false, not, ◌&&◌, ◌||◌, if◌then◌else◌, List, [], ◌∷◌, bytes_eq, codes}
-use Rattle.wav_form.specs.Chunks.{Chunk, end_of}
+-- The bytes that are passed over on the way to the samples, and how far a source is asked for its bytes.
+use Rattle.std.specs.Prelude.{◌≡◌, ℕ, ◌+◌, ◌<◌, ◌≤◌, ◌⊎◌, Bool, false, not, ◌&&◌, ◌||◌, if◌then◌else◌, List, [], ◌∷◌, Option, Some, bytes_eq, codes}
+use Rattle.outside_io.specs.Asking.{AsksWithin}
+use Rattle.wav_form.specs.Chunks.{Chunk, end_of, AreChunks, first_named}
 
 abbrev pub is_format : Chunk → Bool
 is_format chunk = bytes_eq chunk.name (codes "fmt ")
@@ -20,3 +21,8 @@ IsPassedOver known (chunk ∷ chunks) place next =
     (is_samples chunk ≡ false)
     × (((passed_from known chunk ≤ place) × (place < next) × (next ≡ end_of chunk))
     ⊎ IsPassedOver (known || is_format chunk) chunks place next)
+
+-- nothing behind the head of the first chunk of samples was asked for that wasn't before
+abbrev pub AsksNoSamples : List ℕ → Option ℕ → Option ℕ → Type 0
+AsksNoSamples bytes old new =
+    (chunks : List Chunk) (samples : Chunk) → AreChunks bytes 12 chunks → first_named (codes "data") chunks ≡ Some samples → AsksWithin old new samples.content

@@ -1,5 +1,6 @@
-ghost use Rattle.std.specs.Prelude.{◌≡◌, ◌+◌, ◌<◌, ◌≤◌, ◌^◌, length, take, IfOk, IfErr, OnOk, Err, bytes_eq, codes};
+ghost use Rattle.std.specs.Prelude.{◌≡◌, ◌≢◌, ◌+◌, ◌<◌, ◌≤◌, ◌^◌, length, take, IfOk, IfErr, OnOk, Err, bytes_eq, codes};
 ghost use Rattle.byteorder.specs.Endian.{little_from};
+ghost use Rattle.outside_io.specs.Asking.{AsksWithin};
 ghost use Rattle.outside_io.specs.Causes.{Rose};
 ghost use Rattle.outside_io.specs.Moves.{WhereTold};
 ghost use Rattle.wav_form.specs.Chunks.{chunk_at, end_of};
@@ -35,6 +36,8 @@ pub(crate) fn read_chunk<S: Source>(src: &mut S, place: u64) -> Result<ChunkHead
     ensures size { S.size src.new ≡ S.size src.old }
     ensures later { S.faults src.old ≤ S.faults src.new }
     ensures read { result ≡ Err WavFault.Read → Rose (S.faults src.old) (S.faults src.new) }
+    ensures stands { result ≢ Err WavFault.Read → S.faults src.new ≡ S.faults src.old }
+    ensures asks { AsksWithin (S.asked src.old) (S.asked src.new) (place + 8) }
     ensures stop { IfErr result (IsReadStop (S.size src.old) (S.ends src.old) place (place + 8)) }
 {
     let mut head = [0u8; 8];

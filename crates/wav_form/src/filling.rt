@@ -1,4 +1,5 @@
-ghost use Rattle.std.specs.Prelude.{◌≡◌, ◌+◌, ◌<◌, ◌≤◌, length, take, drop, IfErr, OnOk, OnErr, Err};
+ghost use Rattle.std.specs.Prelude.{◌≡◌, ◌≢◌, ◌+◌, ◌<◌, ◌≤◌, length, take, drop, IfErr, OnOk, OnErr, Err};
+ghost use Rattle.outside_io.specs.Asking.{AsksWithin};
 ghost use Rattle.outside_io.specs.Causes.{Rose};
 ghost use Rattle.outside_io.specs.Moves.{WhereTold};
 ghost use Rattle.wav_form.specs.Stops.{IsReadStop};
@@ -18,6 +19,8 @@ pub(crate) fn fill_from<S: Source>(src: &mut S, place: u64, buf: &mut [u8]) -> R
     ensures size { S.size src.new ≡ S.size src.old }
     ensures later { S.faults src.old ≤ S.faults src.new }
     ensures read { result ≡ Err WavFault.Read → Rose (S.faults src.old) (S.faults src.new) }
+    ensures stands { result ≢ Err WavFault.Read → S.faults src.new ≡ S.faults src.old }
+    ensures asks { AsksWithin (S.asked src.old) (S.asked src.new) (place + length buf.old) }
     ensures stop { IfErr result (IsReadStop (S.size src.old) (S.ends src.old) place (place + length buf.old)) }
 {
     match go_to(src, place) {
@@ -40,6 +43,8 @@ fn go_to<S: Source>(src: &mut S, place: u64) -> Result<(), WavFault>
     ensures size { S.size src.new ≡ S.size src.old }
     ensures later { S.faults src.old ≤ S.faults src.new }
     ensures read { OnErr result (Rose (S.faults src.old) (S.faults src.new)) }
+    ensures stands { OnOk result (S.faults src.new ≡ S.faults src.old) }
+    ensures asked { S.asked src.new ≡ S.asked src.old }
     ensures only { IfErr result (λ fault. fault ≡ WavFault.Read) }
 {
     if src.place() == place {

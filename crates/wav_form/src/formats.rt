@@ -1,6 +1,7 @@
-ghost use Rattle.std.specs.Prelude.{◌≡◌, ◌+◌, ◌<◌, ◌≤◌, ◌^◌, length, take, drop, Some, None, true, is_some, ◌||◌, IfOk, IfErr, IfSome, OnOk, Err};
+ghost use Rattle.std.specs.Prelude.{◌≡◌, ◌≢◌, ◌+◌, ◌<◌, ◌≤◌, ◌^◌, length, take, drop, Some, None, true, is_some, ◌||◌, IfOk, IfErr, IfSome, OnOk, Err};
 ghost use Rattle.omx_types.specs.Formats.{IsWithinLimits, rate_of, channels_of};
 ghost use Rattle.byteorder.specs.Endian.{little_from};
+ghost use Rattle.outside_io.specs.Asking.{AsksWithin};
 ghost use Rattle.outside_io.specs.Causes.{Rose};
 ghost use Rattle.outside_io.specs.Moves.{WhereTold};
 ghost use Rattle.outside_io.specs.Stops.{GaveNothing};
@@ -39,6 +40,8 @@ pub(crate) fn known_format<S: Source>(
     ensures size { S.size src.new ≡ S.size src.old }
     ensures later { S.faults src.old ≤ S.faults src.new }
     ensures read { result ≡ Err WavFault.Read → Rose (S.faults src.old) (S.faults src.new) }
+    ensures stands { result ≢ Err WavFault.Read → S.faults src.new ≡ S.faults src.old }
+    ensures asks { AsksWithin (S.asked src.old) (S.asked src.new) (end_of (view chunk.now)) }
     ensures short { IfErr result (λ fault. IfShort fault (GaveNothing (S.size src.old) (S.ends src.old) chunk.now.content)) }
     ensures inside { IfErr result (λ fault. IfShort fault (λ at _. at < end_of (view chunk.now))) }
 {
@@ -64,6 +67,8 @@ fn read_format<S: Source>(src: &mut S, chunk: &ChunkHead) -> Result<Format, WavF
     ensures size { S.size src.new ≡ S.size src.old }
     ensures later { S.faults src.old ≤ S.faults src.new }
     ensures read { result ≡ Err WavFault.Read → Rose (S.faults src.old) (S.faults src.new) }
+    ensures stands { result ≢ Err WavFault.Read → S.faults src.new ≡ S.faults src.old }
+    ensures asks { AsksWithin (S.asked src.old) (S.asked src.new) (end_of (view chunk.now)) }
     ensures short { IfErr result (λ fault. IfShort fault (GaveNothing (S.size src.old) (S.ends src.old) chunk.now.content)) }
     ensures inside { IfErr result (λ fault. IfShort fault (λ at _. at < end_of (view chunk.now))) }
 {

@@ -1,8 +1,10 @@
-ghost use Rattle.std.specs.Prelude.{◌≡◌, ℕ, ◌+◌, ◌<◌, ◌≤◌, ◌^◌, List, length, Some, None, Ok, IfOk, IfErr, IfSome, OnOk, Err, IsTrue, ◌↔◌};
+ghost use Rattle.std.specs.Prelude.{◌≡◌, ◌≢◌, ℕ, ◌+◌, ◌<◌, ◌≤◌, ◌^◌, List, length, Some, None, Ok, IfOk, IfErr, IfSome, OnOk, Err, IsTrue, ◌↔◌};
 ghost use Rattle.omx_types.specs.Formats.{IsWithinLimits};
+ghost use Rattle.outside_io.specs.Asking.{AsksWithin};
 ghost use Rattle.outside_io.specs.Causes.{Rose};
 ghost use Rattle.outside_io.specs.Moves.{WhereTold};
 ghost use Rattle.wav_form.specs.Chunks.{Chunk, AreChunks};
+ghost use Rattle.wav_form.specs.Passing.{AsksNoSamples};
 ghost use Rattle.wav_form.specs.Reading.{IsRiff, Reads, FitsFile, most_bytes};
 ghost use Rattle.wav_form.specs.Search.{view, AnswersAs, answer_after, at_samples, at_end};
 ghost use Rattle.wav_form.specs.Stops.{UnlessStopped, IfShort, StoppedShort, IsRiffFault};
@@ -40,7 +42,13 @@ pub fn read_head<S: Source>(src: &mut S) -> Result<WavHead, WavFault>
     ensures asks_no_further { WhereTold (S.told src.old) (λ bytes. (head : WavHead) → Reads bytes (Ok head) →
         IfErr result (λ fault. IfShort fault (λ at _. at < head.start))) }
 
+    // Nothing behind the head of the samples is asked for, whatever the answer.
+    ensures asks_no_samples { WhereTold (S.told src.old) (λ bytes. AsksNoSamples bytes (S.asked src.old) (S.asked src.new)) }
+
     // Over every source
+    ensures asks { IfOk result (λ head. AsksWithin (S.asked src.old) (S.asked src.new) head.start) }
+    ensures start { WhereTold (S.ends src.old) (λ end. IfOk result (λ head. head.start ≤ end)) }
+    ensures stands { result ≢ Err WavFault.Read → S.faults src.new ≡ S.faults src.old }
     ensures fits { IfOk result (λ head. FitsFile head (S.size src.old)) }
     ensures too_large { most_bytes < S.size src.old → result ≡ Err (WavFault.TooLarge (S.size src.old)) }
     ensures place { IfOk result (λ head. S.place src.new ≡ head.start) }
@@ -73,6 +81,8 @@ fn check_riff<S: Source>(src: &mut S, size: u64) -> Result<(), WavFault>
     ensures size { S.size src.new ≡ S.size src.old }
     ensures later { S.faults src.old ≤ S.faults src.new }
     ensures read { result ≡ Err WavFault.Read → Rose (S.faults src.old) (S.faults src.new) }
+    ensures stands { result ≢ Err WavFault.Read → S.faults src.new ≡ S.faults src.old }
+    ensures asks { AsksWithin (S.asked src.old) (S.asked src.new) 12 }
 {
     if size < RIFF_HEAD {
         return Err(WavFault::NotRiff);
@@ -112,6 +122,11 @@ fn search<S: Source>(src: &mut S, size: u64) -> Result<WavHead, WavFault>
     ensures later { S.faults src.old ≤ S.faults src.new }
     ensures read { result ≡ Err WavFault.Read → Rose (S.faults src.old) (S.faults src.new) }
     ensures short { IfErr result (λ fault. IfShort fault (StoppedShort (S.size src.old) (S.told src.old) (S.ends src.old))) }
+    ensures stands { result ≢ Err WavFault.Read → S.faults src.new ≡ S.faults src.old }
+    ensures asks { IfOk result (λ head. AsksWithin (S.asked src.old) (S.asked src.new) head.start) }
+    ensures asks_no_samples { WhereTold (S.told src.old) (λ bytes. AsksNoSamples bytes (S.asked src.old) (S.asked src.new)) }
+    ensures behind { IfOk result (λ head. 20 ≤ head.start) }
+    ensures start { WhereTold (S.ends src.old) (λ end. IfOk result (λ head. head.start ≤ end)) }
 {
     let mut known: Option<Format> = None;
     let mut place = RIFF_HEAD;

@@ -10,7 +10,7 @@ invariant-loop-left g l = record {
   number : l.number ≡ after (l.frames - l.left) l.x;
   told : g.K.Sink.told l.sink ≡ append_known (g.K.Sink.told l.initial.sink) (samples (l.frames - l.left) l.x);
   name : g.K.Sink.name l.sink ≡ g.K.Sink.name l.initial.sink;
-  faults : g.K.Sink.faults l.initial.sink ≤ g.K.Sink.faults l.sink;
+  faults : g.K.Sink.faults l.sink ≡ g.K.Sink.faults l.initial.sink;
 }
 
 abbrev pub decreases-loop-left : goal.decreases-loop-left

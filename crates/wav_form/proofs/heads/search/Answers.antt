@@ -1,17 +1,19 @@
-use Rattle.std.proofs.Common.{rules, ◌∙◌, ◌+◌, ◌<◌, ◌≤◌, ℕ, length, None, Result, Err, Option, false, inl, ◌⊎◌, sym, subst, arith}
+use Rattle.std.proofs.Common.{rules, ◌∙◌, ◌+◌, ◌<◌, ◌≤◌, ℕ, length, None, Result, Err, Option, false, inl, ◌⊎◌, sym, subst, arith, codes}
 use Rattle.omx_types.specs.declared.fault.WavFault.{WavFault}
 use Rattle.wav_form.specs.declared.heads.WavHead.{WavHead}
-use Rattle.wav_form.specs.Chunks.{AreChunks}
+use Rattle.wav_form.specs.Chunks.{AreChunks, end_of}
 use Rattle.wav_form.specs.Search.{AnswersAs, answer_after, view}
 use Rattle.outside_io.specs.Stops.{GaveNothing}
 use Rattle.wav_form.specs.Passing.{IsPassedOver}
 use Rattle.wav_form.specs.Stops.{IfShort}
+use Rattle.outside_io.proofs.Asked.{asks-none, asks-then}
+use Rattle.wav_form.proofs.AskedFor.{first_is, first_named-other, asks_before, asks_behind, asks_found}
 use Rattle.wav_form.proofs.ChunkSearch.{StartsFrom, start_behind, answer_after-goes_on, answer_after-samples, answer_after-end, AnswersAs-samples, AnswersAs-end, AnswersAs-stop, Reached, Reached-behind, IfShort-gave, IfShort-reached, passed_behind, passed_from-known, answer_after-faults}
 use Rattle.wav_form.proofs.heads.search.Goals as goal
 
 pub returns-in-Err-clause-answer : goal.returns-in-Err-clause-answer
 returns-in-Err-clause-answer g c = λ x is chunks are.
-    let (rest, left, same, passes) = c.loop-place.invariant.rest x is chunks are in
+    let (rest, left, same, passes, samples_are) = c.loop-place.invariant.rest x is chunks are in
     let from = subst (StartsFrom (c.loop-place.place + 8)) (sym same) (start_behind x c.loop-place.known c.loop-place.place rest left) in
     AnswersAs-stop _ _ c.loop-place.place (c.loop-place.place + 8) c.in-Err.fault (answer_after x None chunks) c.in-Err.ensures.stop from
 
@@ -38,7 +40,7 @@ returns-in-Err-known_format-clause-short g c =
 
 pub returns-then-is_samples-clause-answer : goal.returns-then-is_samples-clause-answer
 returns-then-is_samples-clause-answer g c = λ x is chunks are.
-    let (rest, left, same, passes) = c.loop-place.invariant.rest x is chunks are in
+    let (rest, left, same, passes, samples_are) = c.loop-place.invariant.rest x is chunks are in
     let room : c.loop-place.place + 8 ≤ length x = omega (arith, c.requires.whole x is) in
     let chunk = c.in-Ok.ensures.chunk x (c.loop-place.invariant.told ∙ is) in
     let result = c.head_of.ensures.answer x (c.requires.whole x is) in
@@ -48,7 +50,7 @@ returns-then-is_samples-clause-answer g c = λ x is chunks are.
 
 pub returns-in-Err-known_format-clause-answer : goal.returns-in-Err-known_format-clause-answer
 returns-in-Err-known_format-clause-answer g c = λ x is chunks are.
-    let (rest, left, same, passes) = c.loop-place.invariant.rest x is chunks are in
+    let (rest, left, same, passes, samples_are) = c.loop-place.invariant.rest x is chunks are in
     let room : c.loop-place.place + 8 ≤ length x = omega (arith, c.requires.whole x is) in
     let chunk = c.in-Ok.ensures.chunk x (c.loop-place.invariant.told ∙ is) in
     subst (AnswersAs (Err c.in-Err-known_format.fault)) (sym same)
@@ -61,9 +63,13 @@ loop-place-preserved g c = record {
   told = search rules;
   ends = search rules;
   size = search rules;
-  later = omega arith;
+  faults = search rules;
+  far = omega (arith, c.end-place.ensures.value, c.in-Ok.ensures.content, c.loop-place.invariant.far);
+  asks =
+      let read = asks-then _ _ _ c.loop-place.place (c.loop-place.place + 8) c.end-place.result c.loop-place.invariant.asks c.in-Ok.ensures.asks (omega (arith, c.end-place.ensures.value, c.in-Ok.ensures.content)) (omega (arith, c.end-place.ensures.value, c.in-Ok.ensures.content)) in
+      asks-then _ _ _ c.end-place.result (end_of (view c.in-Ok.chunk)) c.end-place.result read c.in-Ok-known_format.ensures.asks (omega arith) (omega (arith, c.end-place.ensures.value));
   rest = λ x is chunks are.
-      let (rest, left, same, passes) = c.loop-place.invariant.rest x is chunks are in
+      let (rest, left, same, passes, samples_are) = c.loop-place.invariant.rest x is chunks are in
       let room : c.loop-place.place + 8 ≤ length x = omega (arith, c.requires.whole x is) in
       let chunk = c.in-Ok.ensures.chunk x (c.loop-place.invariant.told ∙ is) in
       let next = answer_after-goes_on x c.loop-place.known c.in-Ok-known_format.format c.loop-place.place (view c.in-Ok.chunk) rest left room chunk (sym c.is_samples.ensures ∙ c.if-is_samples.false) (c.in-Ok-known_format.ensures.answer x (c.in-Ok.ensures.told ∙ c.loop-place.invariant.told ∙ is)) in (
@@ -71,9 +77,10 @@ loop-place-preserved g c = record {
         subst (λ (n : ℕ). AreChunks x n next.0) (sym c.end-place.ensures.value) next.1,
         same ∙ next.2,
         λ p n passed. passes p n (passed_behind c.loop-place.known c.in-Ok-known_format.format (view c.in-Ok.chunk) rest next.0 p n next.3 (sym c.is_samples.ensures ∙ c.if-is_samples.false) c.in-Ok-known_format.ensures.known passed),
+        samples_are ∙ first_named-other (codes "data") (view c.in-Ok.chunk) rest next.0 next.3 (sym c.is_samples.ensures ∙ c.if-is_samples.false),
       );
   reached = λ end ends x is chunks are.
-      let (rest, left, same, passes) = c.loop-place.invariant.rest x is chunks are in
+      let (rest, left, same, passes, samples_are) = c.loop-place.invariant.rest x is chunks are in
       let room : c.loop-place.place + 8 ≤ length x = omega (arith, c.requires.whole x is) in
       let chunk = c.in-Ok.ensures.chunk x (c.loop-place.invariant.told ∙ is) in
       let content : c.in-Ok.chunk.content ≤ end = omega (arith, c.in-Ok.ensures.content, c.in-Ok.ensures.reached end (c.loop-place.invariant.ends ∙ ends)) in
@@ -85,7 +92,36 @@ loop-place-preserved g c = record {
 
 pub returns-clause-answer : goal.returns-clause-answer
 returns-clause-answer g c = λ x is chunks are.
-    let (rest, left, same, passes) = c.loop-place.invariant.rest x is chunks are in
+    let (rest, left, same, passes, samples_are) = c.loop-place.invariant.rest x is chunks are in
     let short : length x < c.loop-place.place + 8 = omega (arith, c.requires.whole x is) in
     subst (λ (f : WavFault). AnswersAs (Err f) (answer_after x None chunks)) (sym c.fault_at_end.ensures)
     (AnswersAs-end c.loop-place.known (answer_after x None chunks) (same ∙ answer_after-end x c.loop-place.known c.loop-place.place rest left short))
+
+-- ---- how far the source was asked
+
+pub returns-in-Err-clause-asks_no_samples : goal.returns-in-Err-clause-asks_no_samples
+returns-in-Err-clause-asks_no_samples g c = λ x is chunks samples are found.
+    let (rest, left, same, passes, samples_are) = c.loop-place.invariant.rest x is chunks are in
+    asks_before x c.loop-place.place chunks rest samples _ _ _ left samples_are found c.loop-place.invariant.asks c.in-Err.ensures.asks
+
+pub returns-then-is_samples-clause-asks_no_samples : goal.returns-then-is_samples-clause-asks_no_samples
+returns-then-is_samples-clause-asks_no_samples g c = λ x is chunks samples are found.
+    let (rest, left, same, passes, samples_are) = c.loop-place.invariant.rest x is chunks are in
+    asks_before x c.loop-place.place chunks rest samples _ _ _ left samples_are found c.loop-place.invariant.asks c.in-Ok.ensures.asks
+
+pub returns-in-Err-known_format-clause-asks_no_samples : goal.returns-in-Err-known_format-clause-asks_no_samples
+returns-in-Err-known_format-clause-asks_no_samples g c = λ x is chunks samples are found.
+    let (rest, left, same, passes, samples_are) = c.loop-place.invariant.rest x is chunks are in
+    let room : c.loop-place.place + 8 ≤ length x = omega (arith, c.requires.whole x is) in
+    let chunk = c.in-Ok.ensures.chunk x (c.loop-place.invariant.told ∙ is) in
+    asks_behind x c.loop-place.place chunks rest (view c.in-Ok.chunk) samples _ _ _ _ left samples_are found room chunk (sym c.is_samples.ensures ∙ c.if-is_samples.false)
+    c.loop-place.invariant.asks c.in-Ok.ensures.asks c.in-Err-known_format.ensures.asks
+
+pub returns-clause-asks_no_samples : goal.returns-clause-asks_no_samples
+returns-clause-asks_no_samples g c = λ x is chunks samples are found.
+    let (rest, left, same, passes, samples_are) = c.loop-place.invariant.rest x is chunks are in
+    asks_before x c.loop-place.place chunks rest samples _ _ _ left samples_are found c.loop-place.invariant.asks (asks-none _ _)
+
+pub returns-then-is_samples-clause-asks : goal.returns-then-is_samples-clause-asks
+returns-then-is_samples-clause-asks g c =
+    asks_found _ _ _ c.loop-place.place c.in-Ok.chunk.content c.head_of.result c.loop-place.invariant.asks c.in-Ok.ensures.asks c.in-Ok.ensures.content c.head_of.ensures.start
