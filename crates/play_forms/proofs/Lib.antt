@@ -1,0 +1,3 @@
+pub mod Places
+pub mod Plainly
+pub mod Settled

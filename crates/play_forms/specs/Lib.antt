@@ -1,0 +1,9 @@
+pub mod Fitting
+pub mod Flows
+pub mod Joints
+pub mod Parts
+pub mod Placing
+pub mod Plain
+pub mod Plans
+pub mod Rows
+pub mod Settling

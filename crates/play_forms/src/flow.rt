@@ -1,0 +1,8 @@
+use omx_types::Format;
+
+/// What goes through a link: frames of one format.
+#[derive(Clone, Copy, Debug, PartialEq, Eq)]
+pub struct Flow {
+    pub format: Format,
+    pub frames: u64,
+}
