@@ -91,6 +91,23 @@ taken_given t hs n owner load T =
     let Q : List HeaderRecord → Type 0 = λ v. StandsFor (given n owner t) v in
     subst Q e (give_stands t us n owner (state_out T.state) U T.shown refl)
 
+-- as it is
+taken_given_on : (t : Stocked) (hs : List HeaderRecord) (n : ℕ) (owner : Owner) → Taken t n hs → StandsFor (given n owner t) (changed n (given_to owner) hs)
+taken_given_on t hs n owner T =
+    let load = T.found.it.load in
+    let Q : List HeaderRecord → Type 0 = λ v. StandsFor (given n owner t) v in
+    subst Q (changed-as n (λ r. given_to owner (loaded load r)) (given_to owner) hs T.found.it T.found.is refl) (taken_given t hs n owner load T)
+
+-- a header that is in no list is given to an owner with a new load, of which nothing is kept
+pub give_loaded : (s : Stocked) (hs : List HeaderRecord) (n : ℕ) (owner : Owner) (load : Load) (h : HeaderState) → StandsFor s hs → s.headers.header n ≡ Some h → h.place ≡ Out → s.loads n ≡ None
+    → StandsFor (given n owner s) (changed n (λ r. given_to owner (loaded load r)) hs)
+give_loaded s hs n owner load h S e o none =
+    let ks : List HeaderRecord = changed n (loaded load) hs in
+    let A = load_free s hs n load h S e o none in
+    let B = give_stands s ks n owner h A e o in
+    let Q : List HeaderRecord → Type 0 = λ v. StandsFor (given n owner s) v in
+    subst Q (changed-changed n (loaded load) (given_to owner) hs (λ _. refl)) B
+
 -- it keeps the memory that it has
 pub taken_given_cleared : (t : Stocked) (hs : List HeaderRecord) (n : ℕ) (owner : Owner) → Taken t n hs → StandsFor (given n owner t) (changed n (λ r. given_to owner (cleared r)) hs)
 taken_given_cleared t hs n owner T =
@@ -134,6 +151,10 @@ pull_put_back s hs key peer spot n ns load S e l = taken_put_back (pulled key s)
 pub pull_put_cleared : (s : Stocked) (hs : List HeaderRecord) (key peer : PortKey) (spot : Spot) (n : ℕ) (ns : List ℕ) (load : Load) → StandsFor s hs → s.headers.todo key ≡ n ∷ ns → s.loads n ≡ Some load
     → StandsFor (pushed peer spot n (unloaded load) (pulled key s)) (put peer spot n cleared hs)
 pull_put_cleared s hs key peer spot n ns load S e l = taken_put_cleared (pulled key s) hs n peer spot load (pull_taken s hs key n ns S e) (S.loads n load l)
+
+pub pull_give_on : (s : Stocked) (hs : List HeaderRecord) (key : PortKey) (owner : Owner) (n : ℕ) (ns : List ℕ) → StandsFor s hs → s.headers.todo key ≡ n ∷ ns
+    → StandsFor (given n owner (pulled key s)) (changed n (given_to owner) hs)
+pull_give_on s hs key owner n ns S e = taken_given_on (pulled key s) hs n owner (pull_taken s hs key n ns S e)
 
 pub pull_give : (s : Stocked) (hs : List HeaderRecord) (key : PortKey) (owner : Owner) (n : ℕ) (ns : List ℕ) → StandsFor s hs → s.headers.todo key ≡ n ∷ ns
     → StandsFor (given n owner (pulled key s)) (changed n (λ r. given_to owner (cleared r)) hs)

@@ -45,11 +45,15 @@ pub fn law_of_leaving()
         StandsFor s hs → StandsFor (sent key s) (front_out (s.headers.done key) hs) }
 {}
 
-/// A header that is in no list gets an owner, is made, or is unmade.
+/// A header that is in no list gets an owner, and may get something else to carry where nothing is kept of that; it is made, or
+/// unmade.
 pub fn law_of_owners()
     ensures given { (s : Stocked) (hs : List HeaderRecord) (n : ℕ) (owner : Owner) (h : HeaderState) →
         StandsFor s hs → s.headers.header n ≡ Some h → h.place ≡ Out →
         StandsFor (given n owner s) (changed n (given_to owner) hs) }
+    ensures given_loaded { (s : Stocked) (hs : List HeaderRecord) (n : ℕ) (owner : Owner) (load : Load) (h : HeaderState) →
+        StandsFor s hs → s.headers.header n ≡ Some h → h.place ≡ Out → s.loads n ≡ None →
+        StandsFor (given n owner s) (changed n (λ r. given_to owner (loaded load r)) hs) }
     ensures made { (s : Stocked) (hs : List HeaderRecord) (state : HeaderState) (load : Load) →
         StandsFor s hs → s.headers.header s.next ≡ None → state.number ≡ s.next → state.place ≡ Out →
         StandsFor (populated state s) (hs ++ record { state = state; load = load } ∷ []) }
@@ -58,7 +62,7 @@ pub fn law_of_owners()
         StandsFor (withdrawn n s) (without n hs) }
 {}
 
-/// The front of `todo` leaves it, and is put at a spot, given to an owner, or unmade.
+/// The front of `todo` leaves it, and is put at a spot, given to an owner, cleared or as it is, or unmade.
 pub fn law_of_todo()
     ensures put { (s : Stocked) (hs : List HeaderRecord) (key peer : PortKey) (spot : Spot) (n : ℕ) (ns : List ℕ) (load : Load) →
         StandsFor s hs → s.headers.todo key ≡ n ∷ ns →
@@ -72,6 +76,9 @@ pub fn law_of_todo()
     ensures given { (s : Stocked) (hs : List HeaderRecord) (key : PortKey) (owner : Owner) (n : ℕ) (ns : List ℕ) →
         StandsFor s hs → s.headers.todo key ≡ n ∷ ns →
         StandsFor (given n owner (pulled key s)) (changed n (λ r. given_to owner (cleared r)) hs) }
+    ensures given_on { (s : Stocked) (hs : List HeaderRecord) (key : PortKey) (owner : Owner) (n : ℕ) (ns : List ℕ) →
+        StandsFor s hs → s.headers.todo key ≡ n ∷ ns →
+        StandsFor (given n owner (pulled key s)) (changed n (given_to owner) hs) }
     ensures unmade { (s : Stocked) (hs : List HeaderRecord) (key : PortKey) (n : ℕ) (ns : List ℕ) →
         StandsFor s hs → s.headers.todo key ≡ n ∷ ns →
         StandsFor (withdrawn n (pulled key s)) (without n hs) }

@@ -1,4 +1,5 @@
 use Rattle.stock_laws.proofs.Standing.{give_stands, populate_stands, withdraw_stands}
+use Rattle.stock_laws.proofs.Composed.{give_loaded}
 use Rattle.stock_laws.proofs.law_of_owners.Goals as goal
 
 pub returns-clause-given : goal.returns-clause-given
@@ -9,3 +10,6 @@ returns-clause-made c = populate_stands
 
 pub returns-clause-unmade : goal.returns-clause-unmade
 returns-clause-unmade c = withdraw_stands
+
+pub returns-clause-given_loaded : goal.returns-clause-given_loaded
+returns-clause-given_loaded c = give_loaded

@@ -1,4 +1,4 @@
-use Rattle.stock_laws.proofs.Composed.{pull_put, pull_put_back, pull_put_cleared, pull_give, pull_unmade}
+use Rattle.stock_laws.proofs.Composed.{pull_put, pull_put_back, pull_put_cleared, pull_give, pull_give_on, pull_unmade}
 use Rattle.stock_laws.proofs.law_of_todo.Goals as goal
 
 pub returns-clause-put : goal.returns-clause-put
@@ -15,3 +15,6 @@ returns-clause-given c = pull_give
 
 pub returns-clause-unmade : goal.returns-clause-unmade
 returns-clause-unmade c = pull_unmade
+
+pub returns-clause-given_on : goal.returns-clause-given_on
+returns-clause-given_on c = pull_give_on
