@@ -1,6 +1,7 @@
 pub mod Lists
 pub mod Parts
 pub mod Streams
+pub mod Works
 pub mod Following
 pub mod Seeing
 pub mod Lifting

@@ -10,6 +10,7 @@ use Rattle.il_machine.specs.Look.{Look}
 use Rattle.il_machine.specs.Components.{progress_of, progress_after, is_given_to, no_progress}
 use Rattle.il_machine.specs.Notes.{first_taken, with_given, back_in}
 use Rattle.il_machine.specs.Whole.{Kept, Noticed, Stands, Steps, StepsWhere, IsNoticed, HasProgress}
+use Rattle.whole_laws.specs.Parts.{IsAlone}
 use Rattle.whole_laws.proofs.Lists.{get_set_same, get_set_other}
 use Rattle.whole_laws.proofs.Parts.{parts_set, streams_set}
 use Rattle.whole_laws.proofs.Lifting.{with_look, progress_number}
@@ -25,9 +26,8 @@ renoticed k hs w S N = record { looks = S.looks; loads = S.loads; noticed = N; p
 
 -- ---- a note is taken
 
--- no other component has the number
 abbrev pub IsOnly : ℕ → Component → List Component → Type 0
-IsOnly i c components = (j : ℕ) (d : Component) → slice_get components j ≡ Some d → j ≢ i → number_of d ≢ number_of c
+IsOnly i c components = IsAlone i c components
 
 -- what is kept, with the client object of the place out
 abbrev pub with_client_out : ℕ → Kept → Kept

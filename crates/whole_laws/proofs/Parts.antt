@@ -16,7 +16,7 @@ use Rattle.whole_laws.proofs.Lists.{get_set_same, get_set_other, map_set}
 use Rattle.whole_laws.proofs.Entries.{set_same}
 
 -- what a part has done is told by its kind and its file
-done_alike : (t u : Terms) (f g : Bool) (s : Stream) (p : PartSeen) → u.kind ≡ t.kind → u.file ≡ t.file → g ≡ f → HasDone t f s p → HasDone u g s p
+pub done_alike : (t u : Terms) (f g : Bool) (s : Stream) (p : PartSeen) → u.kind ≡ t.kind → u.file ≡ t.file → g ≡ f → HasDone t f s p → HasDone u g s p
 done_alike t u f g s p k e q H = record {
   left = λ h. subst (λ (x : Option Attached). p.left ≡ Some (frames_of x - s.frames)) (sym e) (H.left (ap is_source (sym k) ∙ h));
   rest = λ h b. subst (λ (x : Option Attached). p.rest ≡ option_map (drop (s.frames * frame_bytes_of (file_format x))) s.known) (sym e) (H.rest (ap is_source (sym k) ∙ h) (sym q ∙ b));
