@@ -1,8 +1,9 @@
 -- A header as contracts see it, and what its calls make of it.
-use Rattle.std.specs.Prelude.{◌≡◌, ℕ, ◌≤◌, Bool, true, false, List, [], length, drop, Option, Some, None, option_map}
+use Rattle.std.specs.Prelude.{◌≡◌, ℕ, ◌≤◌, Bool, true, false, List, [], length, drop, take, Option, Some, None, option_map}
 use Rattle.il_machine.specs.declared.port.Mark.{Mark}
 use Rattle.il_machine.specs.Buffers.{Held}
 use Rattle.il_machine.specs.Lists.{overwritten}
+use Rattle.header_core.specs.Rewriting.{rewritten}
 use Rattle.header_core.specs.declared.memory.Store.{Store}
 use Rattle.header_core.specs.declared.memory.Store.TheVariants.{Own, Block}
 
@@ -57,6 +58,13 @@ abbrev pub filled : List ℕ → ℕ → BufferHeader → BufferHeader
 filled content flags h = record h {
   held = with_content content flags h.held;
   store = with_bytes (overwritten content (bytes_of h.store)) h.store;
+}
+
+-- the memory was written anew, and its first so many bytes are the content, with the flags
+abbrev pub refilled : ℕ → ℕ → List ℕ → BufferHeader → BufferHeader
+refilled bytes flags written h = record h {
+  held = record h.held { content = take bytes (rewritten (bytes_of h.store) written); flags = flags; memory = option_map (λ memory. rewritten memory written) h.held.memory };
+  store = with_bytes (rewritten (bytes_of h.store) written) h.store;
 }
 
 -- without content, flags and mark; the memory is as before

@@ -1,1 +1,5 @@
 pub mod BufferHeader
+pub mod Lending
+pub mod LendingHeader
+pub mod LendingStore
+pub mod Rewriting

@@ -1,4 +1,6 @@
 ghost use Rattle.std.specs.Prelude.{◌≡◌, ◌<◌, ◌≤◌, length, Ok, Err, OnOk, OnErr};
+ghost use Rattle.std.specs.Borrow.{sem};
+ghost use Rattle.header_core.specs.LendingHeader.{lends_content};
 ghost use Rattle.header_core.specs.BufferHeader.{bytes_of, is_clients, own_memory, fresh, filled, cleared, marked, advanced, IsSized};
 
 use crate::key::Key;
@@ -117,6 +119,19 @@ impl Header {
         self.used = bytes.len() as u32;
         self.flags = flags;
         Ok(())
+    }
+
+    /// Gives out all its memory to be written, of which the first so many bytes are its content, with the flags. A mark stays.
+    pub fn refill(&mut self, bytes: u32, flags: u32) -> &mut [u8]
+        requires { bytes ≤ self.old.held.size }
+        ensures* writes_back { sem 𝓛 (lends_content self.entry bytes flags result) }
+        ensures memory { result.now ≡ bytes_of self.old.store }
+        ensures room { self.old.held.size ≤ length result.now }
+    {
+        self.start = 0;
+        self.used = bytes;
+        self.flags = flags;
+        self.store.bytes_mut()
     }
 
     /// Takes content, flags and mark away.

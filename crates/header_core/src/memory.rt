@@ -1,5 +1,7 @@
 ghost use Rattle.std.specs.Prelude.{◌≡◌, ◌≤◌, length};
+ghost use Rattle.std.specs.Borrow.{sem};
 ghost use Rattle.il_machine.specs.Lists.{overwritten};
+ghost use Rattle.header_core.specs.Lending.{lends_memory};
 
 use std::marker::Model;
 
@@ -36,6 +38,14 @@ impl Memory {
         self.bytes.as_slice()
     }
 
+    /// All its bytes, to be written.
+    pub(crate) fn as_mut_slice(&mut self) -> &mut [u8]
+        ensures* writes_back { sem 𝓛 (lends_memory self.entry result) }
+        ensures bytes { result.now ≡ self.old }
+    {
+        self.bytes.as_mut_slice()
+    }
+
     /// Writes the bytes over the front.
     pub(crate) fn overwrite(&mut self, front: &[u8])
         requires { length front.now ≤ length self.old }
@@ -60,6 +70,18 @@ pub enum Store {
 
 impl Store {
     ghost use Rattle.header_core.specs.BufferHeader.{bytes_of, is_clients, with_bytes};
+    ghost use Rattle.header_core.specs.LendingStore.{lends_store};
+
+    /// All its bytes, to be written.
+    pub(crate) fn bytes_mut(&mut self) -> &mut [u8]
+        ensures* writes_back { sem 𝓛 (lends_store self.entry result) }
+        ensures bytes { result.now ≡ bytes_of self.old }
+    {
+        match self {
+            Store::Own(memory) => memory.as_mut_slice(),
+            Store::Block(memory) => memory.as_mut_slice(),
+        }
+    }
 
     pub fn is_clients(&self) -> bool
         ensures { result ≡ is_clients self.now }
