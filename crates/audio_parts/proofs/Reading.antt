@@ -13,7 +13,7 @@ split bytes next n m = take-add n m (drop next bytes) ∙ ap (λ l. take n (drop
 -- the next bytes come first
 comes_first : (told : Option (List ℕ)) (next n m : ℕ) (piece : List ℕ) → WhereTold told (λ bytes. piece ≡ take n (drop next bytes))
     → ComesFirst piece (rest_of told next (n + m)) (rest_of told (next + n) m)
-comes_first None next n m piece h = tt
+comes_first None next n m piece h = refl
 comes_first (Some bytes) next n m piece h =
     (take m (drop (next + n) bytes), refl, split bytes next n m ∙ ap (λ l. l ++ take m (drop (next + n) bytes)) (sym (h bytes refl)))
 

@@ -155,6 +155,10 @@ impl Effect for Decoding {
         1
     }
 
+    fn output_width(&self) -> usize {
+        2
+    }
+
     fn apply(&mut self, count: usize, from: &[u8], to: &mut [u8]) {
         decode_front(law_of(self.input), from, &mut self.samples, count, to);
     }
@@ -180,6 +184,10 @@ impl Effect for Encoding {
 
     fn input_width(&self) -> usize {
         2
+    }
+
+    fn output_width(&self) -> usize {
+        1
     }
 
     fn apply(&mut self, count: usize, from: &[u8], to: &mut [u8]) {

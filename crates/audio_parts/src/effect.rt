@@ -21,6 +21,11 @@ pub trait Effect: Drop {
         ensures value { result ≡ (manner self.now).input_width }
         ensures small { result ≤ 2 };
 
+    /// The bytes of a sample of an output.
+    fn output_width(&self) -> usize
+        ensures value { result ≡ (manner self.now).output_width }
+        ensures small { result ≤ 2 };
+
     /// The effect on a piece of `count` samples.
     fn apply(&mut self, count: usize, from: &[u8], to: &mut [u8])
         requires few { count ≤ 4096 }

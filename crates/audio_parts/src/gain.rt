@@ -104,6 +104,10 @@ impl Effect for Gaining {
         2
     }
 
+    fn output_width(&self) -> usize {
+        2
+    }
+
     fn apply(&mut self, count: usize, from: &[u8], to: &mut [u8]) {
         gain_front(
             from,

@@ -2,6 +2,8 @@
 #![tactic(auto)]
 
 mod any_file;
+mod any_frames;
+mod any_laws;
 mod any_part;
 mod any_settings;
 mod any_step;
@@ -22,6 +24,7 @@ mod wav_sink;
 mod wav_source;
 mod writes;
 
+pub use any_laws::{cause_by_kind, law_of_reads, writing_by_terms};
 pub use any_part::AnyPart;
 pub use coder::{Decoding, Encoding, G711Decoder, G711Encoder};
 pub use effect::Effect;

@@ -119,6 +119,19 @@ impl Mixer {
         })
     }
 
+    pub(crate) fn inputs(&self) -> u32
+        ensures { result ≡ length self.now.weights.items }
+    {
+        self.weights.len() as u32
+    }
+
+    /// The bytes of a frame of each port.
+    pub(crate) fn frame(&self) -> usize
+        ensures { result ≡ channels_of self.now.output * 2 }
+    {
+        self.output.channels() as usize * 2
+    }
+
     /// Sets the format of a port.
     pub(crate) fn set_format(&mut self, port: u32, format: Format)
         requires { port < vec_len self.old.inputs + 1 }

@@ -33,6 +33,20 @@ impl<E: Effect> OneInput<E> {
         })
     }
 
+    /// The bytes of a frame of its input.
+    pub(crate) fn input_frame(&self) -> usize
+        ensures { result ≡ (E.manner self.now.effect).channels * (E.manner self.now.effect).input_width }
+    {
+        self.effect.channels() as usize * self.effect.input_width()
+    }
+
+    /// The bytes of a frame of an output.
+    pub(crate) fn output_frame(&self) -> usize
+        ensures { result ≡ (E.manner self.now.effect).channels * (E.manner self.now.effect).output_width }
+    {
+        self.effect.channels() as usize * self.effect.output_width()
+    }
+
     /// Sets the format of a port.
     pub(crate) fn set_format(&mut self, port: u32, format: Format)
         requires { port < length (E.terms self.old.effect).inputs + length (E.terms self.old.effect).outputs }

@@ -52,6 +52,10 @@ impl Effect for Splitting {
         width(self.input)
     }
 
+    fn output_width(&self) -> usize {
+        width(self.input)
+    }
+
     fn apply(&mut self, count: usize, from: &[u8], to: &mut [u8]) {
         copy_into(from, to);
     }

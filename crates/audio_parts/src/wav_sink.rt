@@ -109,6 +109,13 @@ impl<K: Sink> WavSink<K> {
         self.file.take()
     }
 
+    /// The bytes of a frame of its port.
+    pub(crate) fn frame(&self) -> usize
+        ensures { result ≡ frame_bytes_of self.now.format }
+    {
+        self.format.frame_bytes() as usize
+    }
+
     /// Its file, at its end.
     pub(crate) fn into_file(self) -> Option<SinkFile<K>>
         ensures { result ≡ self.file }

@@ -1,8 +1,9 @@
-ghost use Rattle.std.specs.Prelude.{◌≡◌, ◌+◌, ◌*◌, ◌<◌, ◌≤◌, true, false, [], take, vec_len, option_map, IfOk, None, Some};
+ghost use Rattle.std.specs.Prelude.{◌≡◌, ◌+◌, ◌*◌, ◌<◌, ◌≤◌, true, false, [], length, take, vec_len, option_map, IfOk, None, Some};
 ghost use Rattle.std.specs.Option.{ForSome};
 ghost use Rattle.omx_types.specs.Formats.{IsWithinLimits, frame_bytes_of};
 ghost use Rattle.audio_parts.specs.Causes.{ReadCause};
 ghost use Rattle.audio_parts.specs.FileParts.{source_terms};
+ghost use Rattle.part_api.specs.Streams.{Incoming};
 ghost use Rattle.part_forms.specs.Files.{sourcing, rest_of, none_left};
 ghost use Rattle.audio_parts.specs.Ready.{IsReady};
 
@@ -119,6 +120,20 @@ impl<S: Source> WavSource<S> {
     {
         self.give_up();
         self.file.take()
+    }
+
+    /// The bytes of a frame of its port.
+    pub(crate) fn frame(&self) -> usize
+        ensures { result ≡ frame_bytes_of self.now.format }
+    {
+        self.format.frame_bytes() as usize
+    }
+
+    /// What the register carries of a step has its bytes. The call does nothing.
+    pub(crate) fn reads_whole(&self)
+        ensures { (incoming : Incoming) → ⟦<WavSource<S> as Part>⟧.carries self.now incoming → length incoming.file ≡ self.now.length }
+    {
+        let _ = &self.register;
     }
 
     /// Its file, at its end.

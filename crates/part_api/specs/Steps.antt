@@ -3,9 +3,9 @@ use Rattle.std.specs.Prelude.{◌≡◌, ℕ, ◌≤◌, List, [], ◌∷◌, �
 use Rattle.std.specs.Io.KnownBytes.{append_known}
 use Rattle.part_api.specs.Streams.{Incoming, Shape, HasFrames, with_file, joined, nothing}
 
--- a piece comes first in what the file still gives, where it tells that, and the rest stays
+-- a piece comes first in what the file still gives, where it tells that, and the rest stays; what it doesn't tell it doesn't tell then
 abbrev pub ComesFirst : List ℕ → Option (List ℕ) → Option (List ℕ) → Type 0
-ComesFirst piece None after = Unit {0}
+ComesFirst piece None after = after ≡ None
 ComesFirst piece (Some all) after = (rest : List ℕ) × (after ≡ Some rest) × (all ≡ piece ++ rest)
 
 -- the file gave its next piece, and the register carries it
