@@ -14,14 +14,14 @@ use Rattle.il_machine.specs.declared.header.Owner.{Owner}
 use Rattle.il_machine.specs.declared.header.Owner.TheVariants as owners
 use Rattle.il_machine.specs.declared.header.Place.TheVariants.{Out}
 use Rattle.il_machine.specs.declared.header.HeaderState.{HeaderState}
-use Rattle.il_machine.specs.States.{same_state, is_lawful, is_invalid, is_running, is_up}
+use Rattle.il_machine.specs.States.{same_state, is_lawful, is_loaded, is_invalid, is_running, is_up}
 use Rattle.il_machine.specs.Lists.{holds_at}
-use Rattle.il_machine.specs.Settings.{Settings, IsWhole, is_definition_of, same_format}
+use Rattle.il_machine.specs.Settings.{Settings, IsWhole, is_definition_of, same_format, fits}
 use Rattle.il_machine.specs.Kinds.{inputs_of, ports_in, is_input, is_port_format, is_late}
 use Rattle.il_machine.specs.World.{Component, Picked, Work, World, number_of, ports_of}
 use Rattle.il_machine.specs.Headers.{Seen, is_for, is_notice_of, is_work_of, Once, weight}
 use Rattle.il_machine.specs.Look.{look}
-use Rattle.il_machine.specs.Ports.{is_input_port, is_supplier, is_going_to}
+use Rattle.il_machine.specs.Ports.{is_input_port, is_supplier, is_going_to, is_at_rest}
 use Rattle.il_machine.specs.Room.{is_by_client, used}
 use Rattle.il_machine.specs.Units.{is_waiter, units_held}
 use Rattle.il_machine.specs.Flow.{end_of}
@@ -42,10 +42,15 @@ IsLawfulSetting s port setting =
 abbrev pub is_lawful_cause : Component → Pending → Bool
 is_lawful_cause c p = is_by_client p.cause || (same_state p.target states.Idle && is_running c.state) || same_state p.target states.Loaded
 
+-- the formats of its ports fit, unless it is Loaded or Invalid with nothing pending
+abbrev pub is_fit : Component → Bool
+is_fit c = ((is_loaded c.state || is_invalid c.state) && is_at_rest c) || fits c.settings
+
 pub record IsSound (c : Component) : Type 0 where
   pub whole : IsWhole c.settings
   pub ports : length c.ports ≡ ports_in c.settings.kind
   pub settings : (port : ℕ) (setting : PortSetting) → slice_get c.settings.ports port ≡ Some setting → IsLawfulSetting c.settings port setting
+  pub fit : is_fit c ≡ true
   pub cause : (p : Pending) → c.pending ≡ Some p → is_lawful_cause c p ≡ true
   -- the loss mark stands only on the way from Executing or Pause to Idle
   pub mark : c.loss_mark ≡ true → (is_running c.state && is_going_to states.Idle c) ≡ true

@@ -15,6 +15,7 @@ use Rattle.il_machine.specs.declared.port.Mode.TheVariants.{Steady}
 use Rattle.il_machine.specs.declared.port.Port.{Port}
 use Rattle.il_machine.specs.declared.port.PortState.{PortState}
 use Rattle.il_machine.specs.States.{same_state, is_down, is_running}
+use Rattle.il_machine.specs.Settings.{fits}
 use Rattle.il_machine.specs.World.{Component, PartState, told, with_port, port_of}
 use Rattle.il_machine.specs.Headers.{weight}
 use Rattle.il_machine.specs.Ports.{is_going_to, is_steady}
@@ -26,6 +27,7 @@ use Rattle.machine_laws.proofs.Lookups.{port_parts}
 use Rattle.machine_laws.proofs.Change.{IsChange, change_none, change_twice, link_of}
 use Rattle.machine_laws.proofs.Units.{IsAside, aside_twice, held_set}
 use Rattle.machine_laws.proofs.Rooms.{aside_told, costs, asked, places, loss, costs_same, used_told, IsLawful, lawful_of, sound_with, lawful_told, change_told}
+use Rattle.machine_laws.proofs.Fitting.{fit_with, fit_pending}
 
 -- ---- a transition
 
@@ -49,18 +51,19 @@ used_reached p c e =
 change_reached : (p : Pending) (c : Component) → IsChange c (reached p c)
 change_reached p c = record { handle = refl; ports = refl; links = refl; notes = refl }
 
-lawful_reached : (p : Pending) (c : Component) → IsLawful c → c.loss_mark ≡ false → IsLawful (reached p c)
-lawful_reached p c L m = record { whole = L.whole; ports = L.ports; settings = L.settings; cause = λ q e. absurd cc; mark = λ t. absurd cc; commands = L.commands }
+lawful_reached : (p : Pending) (c : Component) → IsLawful c → c.pending ≡ Some p → c.loss_mark ≡ false → IsLawful (reached p c)
+lawful_reached p c L e m = record { whole = L.whole; ports = L.ports; settings = L.settings; fit = fit_with (reached p c) (fit_pending c p L.fit e); cause = λ q e. absurd cc; mark = λ t. absurd cc; commands = L.commands }
 
 -- Loaded is pending by loss
 abbrev pub losing : Component → Component
 losing c = record c { loss_mark = false; pending = Some (record { target = Loaded; cause = causes.Loss }) }
 
-pub lawful_losing : (c : Component) → IsLawful c → IsLawful (losing c)
-lawful_losing c L = record {
+pub lawful_losing : (c : Component) → IsLawful c → fits c.settings ≡ true → IsLawful (losing c)
+lawful_losing c L f = record {
   whole = L.whole;
   ports = L.ports;
   settings = L.settings;
+  fit = fit_with (losing c) f;
   cause = λ q e. let a : Pending = record { target = Loaded; cause = causes.Loss } in let s : a ≡ q = cc in rw (← s) refl;
   mark = λ t. absurd cc;
   commands = L.commands;
@@ -76,18 +79,19 @@ used_losing c e =
 used_lost : (c : Component) → c.pending ≡ None → used (lost c) ≡ used c + 1
 used_lost c e = let t = used_told (Error errors.ResourcesLost) (losing c) in let l = used_losing c e in omega arith
 
-pub lawful_lost : (c : Component) → IsLawful c → IsLawful (lost c)
-lawful_lost c L = lawful_told (Error errors.ResourcesLost) (losing c) (lawful_losing c L)
+pub lawful_lost : (c : Component) → IsLawful c → fits c.settings ≡ true → IsLawful (lost c)
+lawful_lost c L f = lawful_told (Error errors.ResourcesLost) (losing c) (lawful_losing c L f)
 
 pub change_lost : (c : Component) → IsChange c (lost c)
 change_lost c = change_twice c (losing c) (lost c) (record { handle = refl; ports = refl; links = refl; notes = refl }) (change_told (Error errors.ResourcesLost) (losing c))
 
 -- a component that reached its target, before its loss mark is cleared
-lawful_once_unmarked : (p : Pending) (c : Component) → IsLawful c → IsLawful (losing (reached p c))
-lawful_once_unmarked p c L = record {
+lawful_once_unmarked : (p : Pending) (c : Component) → IsLawful c → c.pending ≡ Some p → IsLawful (losing (reached p c))
+lawful_once_unmarked p c L e = record {
   whole = L.whole;
   ports = L.ports;
   settings = L.settings;
+  fit = fit_with (losing (reached p c)) (fit_pending c p L.fit e);
   cause = λ q e. let a : Pending = record { target = Loaded; cause = causes.Loss } in let s : a ≡ q = cc in rw (← s) refl;
   mark = λ t. absurd cc;
   commands = L.commands;
@@ -101,7 +105,7 @@ sound_completed : (t : State) (p : Pending) (c : Component) → IsSound c → c.
 sound_completed t p c S e m w =
     let u = used_reached p c e in
     let k = used_told (CmdComplete (completions.State t)) (reached p c) in
-    sound_with (completed t (reached p c)) (lawful_told (CmdComplete (completions.State t)) (reached p c) (lawful_reached p c (lawful_of c S) m)) (omega (arith, S.room))
+    sound_with (completed t (reached p c)) (lawful_told (CmdComplete (completions.State t)) (reached p c) (lawful_reached p c (lawful_of c S) e m)) (omega (arith, S.room))
 
 change_completed : (t : State) (p : Pending) (c : Component) → IsChange c (completed t (reached p c))
 change_completed t p c = change_twice c (reached p c) (completed t (reached p c)) (change_reached p c) (change_told (CmdComplete (completions.State t)) (reached p c))
@@ -139,21 +143,21 @@ sound_idle p c S e t =
     let v : weight (is_by_client p.cause) ≡ 1 = rw b refl in
     let y = used_lost x refl in
     let f : lost_by p (completed_for p (reached p c)) ≡ lost x = rw (b, m) refl in
-    rw f (sound_with (lost x) (lawful_told (Error errors.ResourcesLost) (losing x) (lawful_told (CmdComplete (completions.State p.target)) (losing (reached p c)) (lawful_once_unmarked p c L))) (omega (arith, S.room))))
+    rw f (sound_with (lost x) (lawful_told (Error errors.ResourcesLost) (losing x) (lawful_told (CmdComplete (completions.State p.target)) (losing (reached p c)) (lawful_once_unmarked p c L e))) (omega (arith, S.room))))
     (λ m.
     let v : weight (is_by_client p.cause) ≡ 1 = rw b refl in
     let f : lost_by p (completed_for p (reached p c)) ≡ x = rw (b, m) refl in
-    rw f (sound_with x (lawful_told (CmdComplete (completions.State p.target)) (reached p c) (lawful_reached p c L m)) (omega (arith, S.room)))))
+    rw f (sound_with x (lawful_told (CmdComplete (completions.State p.target)) (reached p c) (lawful_reached p c L e m)) (omega (arith, S.room)))))
     (λ b.
     let z : loss c ≡ 1 = rw (l, b) (ones c.loss_mark) in
     let y = used_lost (reached p c) refl in
     let f : lost_by p (completed_for p (reached p c)) ≡ lost (reached p c) = rw b (lost_anyway c.loss_mark (lost (reached p c)) (reached p c)) in
-    rw f (sound_with (lost (reached p c)) (lawful_told (Error errors.ResourcesLost) (losing (reached p c)) (lawful_once_unmarked p c L)) (omega (arith, S.room))))
+    rw f (sound_with (lost (reached p c)) (lawful_told (Error errors.ResourcesLost) (losing (reached p c)) (lawful_once_unmarked p c L e)) (omega (arith, S.room))))
 
 sound_for : (p : Pending) (c : Component) → IsSound c → c.pending ≡ Some p → c.loss_mark ≡ false → IsSound (completed_for p (reached p c))
 sound_for p c S e m = either (is_by_client p.cause)
     (λ b. let w : weight (is_by_client p.cause) ≡ 1 = rw b refl in rw b (sound_completed p.target p c S e m (omega arith)))
-    (λ b. let u = used_reached p c e in rw b (sound_with (reached p c) (lawful_reached p c (lawful_of c S) m) (omega (arith, S.room))))
+    (λ b. let u = used_reached p c e in rw b (sound_with (reached p c) (lawful_reached p c (lawful_of c S) e m) (omega (arith, S.room))))
 
 -- a transition to any other state was asked for
 asked_for : (p : Pending) (c : Component) → IsSound c → c.pending ≡ Some p → same_state p.target Idle ≡ false → same_state p.target Loaded ≡ false → is_by_client p.cause ≡ true
@@ -181,12 +185,12 @@ with_waiting o c = record c { waiting = o }
 sound_with_part : (x : PartState) (c : Component) → IsSound c → IsSound (with_part x c)
 sound_with_part x c S =
     let k : costs (with_part x c) ≡ costs c = costs_same c (with_part x c) c.commands refl in
-    sound_with (with_part x c) (record { whole = S.whole; ports = S.ports; settings = S.settings; cause = S.cause; mark = S.mark; commands = S.commands }) (omega (arith, S.room))
+    sound_with (with_part x c) (record { whole = S.whole; ports = S.ports; settings = S.settings; fit = S.fit; cause = S.cause; mark = S.mark; commands = S.commands }) (omega (arith, S.room))
 
 sound_with_waiting : (o : Option ℕ) (c : Component) → IsSound c → IsSound (with_waiting o c)
 sound_with_waiting o c S =
     let k : costs (with_waiting o c) ≡ costs c = costs_same c (with_waiting o c) c.commands refl in
-    sound_with (with_waiting o c) (record { whole = S.whole; ports = S.ports; settings = S.settings; cause = S.cause; mark = S.mark; commands = S.commands }) (omega (arith, S.room))
+    sound_with (with_waiting o c) (record { whole = S.whole; ports = S.ports; settings = S.settings; fit = S.fit; cause = S.cause; mark = S.mark; commands = S.commands }) (omega (arith, S.room))
 
 pub unheld_places : (ps : List PortState) → sum_by port_places (map unheld ps) ≡ sum_by port_places ps
 unheld_places [] = refl
@@ -201,7 +205,7 @@ sound_given_back c S =
     let l = length-map c.ports unheld in
     let k : costs (all_given_back c) ≡ costs c = costs_same c (all_given_back c) c.commands l in
     let p : places (all_given_back c) ≡ places c = unheld_places c.ports in
-    sound_with (all_given_back c) (record { whole = S.whole; ports = l ∙ S.ports; settings = S.settings; cause = S.cause; mark = S.mark; commands = S.commands }) (omega (arith, S.room))
+    sound_with (all_given_back c) (record { whole = S.whole; ports = l ∙ S.ports; settings = S.settings; fit = S.fit; cause = S.cause; mark = S.mark; commands = S.commands }) (omega (arith, S.room))
 
 part_after : (x : PartState) (p : Pending) (c : Component) → lost_by p (completed_for p (with_part x c)) ≡ with_part x (lost_by p (completed_for p c))
 part_after x p c = either (is_by_client p.cause)
@@ -269,7 +273,7 @@ used_with_port k new old c e =
     omega arith
 
 pub lawful_with_port : (k : ℕ) (new : PortState) (c : Component) → IsLawful c → IsLawful (with_port k new c)
-lawful_with_port k new c L = record { whole = L.whole; ports = length-set c.ports k new ∙ L.ports; settings = L.settings; cause = L.cause; mark = L.mark; commands = L.commands }
+lawful_with_port k new c L = record { whole = L.whole; ports = length-set c.ports k new ∙ L.ports; settings = L.settings; fit = L.fit; cause = L.cause; mark = L.mark; commands = L.commands }
 
 links_set : (ps : List PortState) (k : ℕ) (new old : PortState) → slice_get ps k ≡ Some old → new.link ≡ old.link → map link_of (set ps k new) ≡ map link_of ps
 links_set [] k new old e l = absurd cc

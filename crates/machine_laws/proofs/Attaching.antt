@@ -32,7 +32,7 @@ sound_filed : (c : Component) (file : Offered) → IsSound c → IsSound (record
 sound_filed c file S =
     let d : Component = record c { file = Some (attached file) } in
     let k : costs d ≡ costs c = costs_same c d c.commands refl in
-    sound_with d (record { whole = S.whole; ports = S.ports; settings = S.settings; cause = S.cause; mark = S.mark; commands = S.commands }) (omega (arith, S.room))
+    sound_with d (record { whole = S.whole; ports = S.ports; settings = S.settings; fit = S.fit; cause = S.cause; mark = S.mark; commands = S.commands }) (omega (arith, S.room))
 
 pub aside_filed : (c : Component) (file : Offered) → IsAside c (record c { file = Some (attached file) })
 aside_filed c file = record { keeps = record { kind = refl; weights = refl; count = refl; work = refl }; state = refl; pending = refl; holds = refl; waiting = refl; part = refl; held = λ test h. h }

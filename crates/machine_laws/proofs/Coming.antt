@@ -174,6 +174,7 @@ sound_fresh h kind z = record {
   whole = whole_default kind z;
   ports = length-replicate (ports_in kind) fresh_port;
   settings = default_lawful kind;
+  fit = refl;
   cause = λ p e. absurd cc;
   mark = λ t. absurd cc;
   commands = omega arith;

@@ -12,13 +12,14 @@ use Rattle.il_machine.specs.declared.answer.Why.{Why}
 use Rattle.il_machine.specs.States.{same_state, is_lawful, is_invalid, is_running, is_up}
 use Rattle.il_machine.specs.Lists.{better, best_of, holds_at}
 use Rattle.il_machine.specs.Places.{first_place}
+use Rattle.il_machine.specs.Settings.{fits}
 use Rattle.il_machine.specs.World.{Component, Work, World, number_of, is_numbered, place_numbered, with_component, told}
 use Rattle.il_machine.specs.Look.{look}
 use Rattle.il_machine.specs.Ports.{is_at_rest, is_going_to}
 use Rattle.il_machine.specs.Room.{is_by_client, room}
 use Rattle.il_machine.specs.Due.{lost}
 use Rattle.il_machine.specs.Units.{need_of, free_units, coming_units, is_giving_back, is_waiter, is_before, is_weaker, gives_first, first_waiter, weakest, victim, granted_units, with_changed, Grants, Grant, grant_idle, preempted_units, Preempts, Preempt, preempt_idle}
-use Rattle.il_machine.specs.Sound.{Sound, IsSound, IsUnitSound, AreRising, may_work}
+use Rattle.il_machine.specs.Sound.{Sound, IsSound, IsUnitSound, AreRising, is_fit, may_work}
 use Rattle.il_machine.proofs.Places.{is_first_place}
 use Rattle.machine_laws.proofs.Finding.{either}
 use Rattle.machine_laws.proofs.Lookups.{rises_at}
@@ -27,6 +28,7 @@ use Rattle.machine_laws.proofs.Change.{IsChange, change_twice, sound_component, 
 use Rattle.machine_laws.proofs.Parts.{parts_of}
 use Rattle.machine_laws.proofs.Units.{IsFair, held_fewer, fair_aside, resources_of}
 use Rattle.machine_laws.proofs.Rooms.{costs, asked, loss, costs_same, used_told, lawful_of, sound_with, lawful_told, change_told, aside_told}
+use Rattle.machine_laws.proofs.Fitting.{is_idle_below, fit_with, fit_above, fit_pending}
 use Rattle.machine_laws.proofs.Arriving.{losing, lawful_lost, change_lost}
 use Rattle.machine_laws.proofs.Fairness.{way_by, fair_then_aside}
 use Rattle.machine_laws.proofs.Happening.{sound_closes}
@@ -123,6 +125,7 @@ sound_granted c S h r =
       whole = S.whole;
       ports = S.ports;
       settings = S.settings;
+      fit = fit_with d (fit_above c S.fit (rw s refl));
       cause = λ q f. let p : Pending = record { target = states.Idle; cause = causes.Client } in let y : p ≡ q = cc in rw (← y) refl;
       mark = λ y. absurd cc;
       commands = S.commands;
@@ -224,19 +227,48 @@ preempted_by P c down going rests = either (is_running c.state)
     (λ t. either (is_going_to states.Idle c) (λ g. rw (t, g) (going t g)) (λ g. rw (t, g) (rests t g)))
     (λ f. rw f (down f))
 
-sound_preempted : (c : Component) → IsSound c → IsVictim c → nat_lt (room c) 2 ≡ false → IsSound (preempted_units c)
-sound_preempted c S V r =
+running_above : (s : State) → is_running s ≡ true → is_idle_below s ≡ false
+running_above states.Invalid h = absurd cc
+running_above states.Loaded h = absurd cc
+running_above states.Idle h = refl
+running_above states.Executing h = refl
+running_above states.Pause h = refl
+running_above states.WaitForResources h = refl
+
+up_above : (s : State) → is_up s ≡ true → is_idle_below s ≡ false
+up_above states.Invalid h = absurd cc
+up_above states.Loaded h = absurd cc
+up_above states.Idle h = refl
+up_above states.Executing h = refl
+up_above states.Pause h = refl
+up_above states.WaitForResources h = absurd cc
+
+going_fits : (c : Component) (o : Option Pending) → is_fit c ≡ true → c.pending ≡ o → holds_at o (λ p. same_state p.target states.Idle) ≡ true → fits c.settings ≡ true
+going_fits c None h e g = absurd cc
+going_fits c (Some p) h e g = fit_pending c p h e
+
+victim_fits : (waits : ℕ) (c : Component) → IsUnitSound waits c → IsVictim c → is_fit c ≡ true → fits c.settings ≡ true
+victim_fits waits c U V h = either (is_up c.state)
+    (λ t. fit_above c h (up_above c.state t))
+    (λ f. going_fits c c.pending h refl (let g = U.gives V.holds in let n : (is_going_to states.Idle c || false) ≡ true = rw (f, V.stays) at g in left_true (is_going_to states.Idle c) n))
+  where
+    left_true : (b : Bool) → (b || false) ≡ true → b ≡ true
+    left_true true n = refl
+    left_true false n = absurd cc
+
+sound_preempted : (waits : ℕ) (c : Component) → IsSound c → IsUnitSound waits c → IsVictim c → nat_lt (room c) 2 ≡ false → IsSound (preempted_units c)
+sound_preempted waits c S U V r =
     let l : 2 ≤ room c = ltb-false (room c) 2 r in
     let L = lawful_of c S in
     preempted_by IsSound c
     (λ f.
     let k : costs (losing c) ≡ costs c = costs_same c (losing c) c.commands refl in
     let t = used_told (Error errors.ResourcesLost) (losing c) in
-    sound_with (lost c) (lawful_lost c L) (omega arith))
+    sound_with (lost c) (lawful_lost c L (victim_fits waits c U V S.fit)) (omega arith))
     (λ t g.
     let k : costs (marked c) ≡ costs c = costs_same c (marked c) c.commands refl in
     let z : loss (marked c) ≡ 1 = rw g refl in
-    sound_with (marked c) (record { whole = S.whole; ports = S.ports; settings = S.settings; cause = S.cause; mark = λ y. rw (t, g) refl; commands = S.commands }) (omega arith))
+    sound_with (marked c) (record { whole = S.whole; ports = S.ports; settings = S.settings; fit = S.fit; cause = S.cause; mark = λ y. rw (t, g) refl; commands = S.commands }) (omega arith))
     (λ t g.
     let k : costs (ending c) ≡ costs c = costs_same c (ending c) c.commands refl in
     let z : loss (ending c) ≡ 1 = rw V.unmarked refl in
@@ -245,6 +277,7 @@ sound_preempted c S V r =
       whole = S.whole;
       ports = S.ports;
       settings = S.settings;
+      fit = fit_with (ending c) (fit_above c S.fit (running_above c.state t));
       cause = λ q f. let p : Pending = record { target = states.Idle; cause = causes.Loss } in let y : p ≡ q = cc in rw (← y, t) refl;
       mark = λ y. let x = V.unmarked in absurd cc;
       commands = S.commands;
@@ -340,7 +373,7 @@ preempted_sound w c S h e =
     let a = passed (nat_le (need_of d.0) (coming_units (look w))) _ _ g in
     let b = passed (nat_lt (room c) 2) _ _ a.1 in
     rw (changed_there preempted_units w i c S.rising A.there)
-    (sound_component w i c (preempted_units c) S A.there (change_preempted c) (sound_preempted c ((parts_of w S).components i c A.there) V b.0)
+    (sound_component w i c (preempted_units c) S A.there (change_preempted c) (sound_preempted w.waits c ((parts_of w S).components i c A.there) ((resources_of w S).each i c A.there) V b.0)
     (fair_preempted w.waits c ((resources_of w S).each i c A.there) V (out_there w i c S A.there)))
 
 preempts_keep : (w v : World) (idle : Option Why) (weak : Option Component) (answer : Preempted) → preempt_idle (look w) ≡ idle → victim w.components ≡ weak → Preempts idle weak w answer v → Sound w → Sound v

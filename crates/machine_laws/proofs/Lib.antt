@@ -16,6 +16,7 @@ pub mod Rooms
 pub mod Fairness
 pub mod Arriving
 pub mod Accepting
+pub mod Fitting
 pub mod Sending
 pub mod Running
 pub mod Listed

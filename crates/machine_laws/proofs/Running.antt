@@ -24,10 +24,11 @@ use Rattle.il_machine.specs.Room.{cost_of, sel_cost, port_places, used}
 use Rattle.il_machine.specs.Commands.{is_selected, busy_port, is_flushing, is_changing, is_waiting, pending_reason, run_reason, run_idle, state_fault, begun, selected_from, with_selected, flushing, disabling, enabling, waiting, carried_out, run_front}
 use Rattle.il_machine.specs.Settings.{fits}
 use Rattle.il_machine.specs.Units.{need_of, free_units}
-use Rattle.il_machine.specs.Sound.{IsSound, IsUnitSound, may_work}
+use Rattle.il_machine.specs.Sound.{IsSound, IsUnitSound, is_fit, may_work}
 use Rattle.machine_laws.proofs.Finding.{either}
 use Rattle.machine_laws.proofs.Change.{IsChange, change_none, change_twice, link_of}
 use Rattle.machine_laws.proofs.Rooms.{costs, asked, loss, costs_same, used_told, IsLawful, lawful_of, sound_with, lawful_told, change_told, aside_told}
+use Rattle.machine_laws.proofs.Fitting.{is_idle_below, fit_with, fit_above}
 use Rattle.machine_laws.proofs.Units.{IsAside, IsFair, AreHeldIf, units_aside, fair_aside, fair_more}
 use Rattle.machine_laws.proofs.Fairness.{aside_then_fair, fair_begun}
 use Rattle.machine_laws.proofs.Accepting.{passed, not_not}
@@ -115,7 +116,7 @@ used_selected sel test change c T S h =
     omega arith
 
 lawful_selected : (sel : PortSel) (change : PortState → PortState) (c : Component) → IsLawful c → IsLawful (with_selected sel change c)
-lawful_selected sel change c L = record { whole = L.whole; ports = length_selected 0 sel change c.ports ∙ L.ports; settings = L.settings; cause = L.cause; mark = L.mark; commands = L.commands }
+lawful_selected sel change c L = record { whole = L.whole; ports = length_selected 0 sel change c.ports ∙ L.ports; settings = L.settings; fit = L.fit; cause = L.cause; mark = L.mark; commands = L.commands }
 
 change_selected : (sel : PortSel) (test : PortState → Bool) (change : PortState → PortState) (c : Component) → IsTaking test change → IsChange c (with_selected sel change c)
 change_selected sel test change c T = record { handle = refl; ports = refl; links = links_selected test 0 sel change c.ports T; notes = refl }
@@ -150,7 +151,7 @@ used_front command rest c e =
 lawful_front : (command : Command) (rest : List Command) (c : Component) → c.commands ≡ command ∷ rest → IsLawful c → IsLawful (without_front rest c)
 lawful_front command rest c e L =
     let n : length c.commands ≡ suc (length rest) = ap length e in
-    record { whole = L.whole; ports = L.ports; settings = L.settings; cause = L.cause; mark = L.mark; commands = omega (arith, L.commands) }
+    record { whole = L.whole; ports = L.ports; settings = L.settings; fit = L.fit; cause = L.cause; mark = L.mark; commands = omega (arith, L.commands) }
 
 change_front : (rest : List Command) (c : Component) → IsChange c (without_front rest c)
 change_front rest c = record { handle = refl; ports = refl; links = refl; notes = refl }
@@ -171,11 +172,32 @@ no_pending : (o : Option Pending) → pending_reason o ≡ None → o ≡ None
 no_pending None h = refl
 no_pending (Some p) h = absurd cc
 
-sound_begun : (fault : Option OmxError) (target : State) (c : Component) → IsLawful c → c.pending ≡ None → used c + 1 ≤ 256 → IsSound (begun fault target c)
-sound_begun (Some error) target c L e u =
+unlawful : (t : State) → is_lawful states.Invalid t ≡ true → ⊥
+unlawful t h = cc
+
+-- a transition that isn't refused begins with formats that fit
+begins_fit : (l : Look) (c : Component) (target : State) → is_fit c ≡ true → state_fault l c target ≡ None → fits c.settings ≡ true
+begins_fit l c target h f =
+    let a = passed (same_state c.state target) _ _ f in
+    let b = passed (not (is_lawful c.state target)) _ _ a.1 in
+    let d = passed (is_loaded c.state && not (fits c.settings)) _ _ b.1 in
+    either (fits c.settings) (λ t. t) (λ n.
+    let r : (is_loaded c.state && true) ≡ false = rw n at d.0 in
+    fit_above c h (neither c.state r (not_not (is_lawful c.state target) b.0)))
+  where
+    neither : (s : State) → (is_loaded s && true) ≡ false → is_lawful s target ≡ true → is_idle_below s ≡ false
+    neither states.Invalid r w = absurd (unlawful target w)
+    neither states.Loaded r w = absurd cc
+    neither states.Idle r w = refl
+    neither states.Executing r w = refl
+    neither states.Pause r w = refl
+    neither states.WaitForResources r w = refl
+
+sound_begun : (fault : Option OmxError) (target : State) (c : Component) → IsLawful c → c.pending ≡ None → (fault ≡ None → fits c.settings ≡ true) → used c + 1 ≤ 256 → IsSound (begun fault target c)
+sound_begun (Some error) target c L e f u =
     let t = used_told (Error error) c in
     sound_with (told (Error error) c) (lawful_told (Error error) c L) (omega arith)
-sound_begun None target c L e u =
+sound_begun None target c L e f u =
     let p : Pending = record { target = target; cause = causes.Client } in
     let d : Component = record c { pending = Some p; holds = c.holds || same_state target states.Idle } in
     let a : asked c ≡ 0 = rw e refl in
@@ -186,7 +208,8 @@ sound_begun None target c L e u =
       whole = L.whole;
       ports = L.ports;
       settings = L.settings;
-      cause = λ q f. let s : p ≡ q = cc in rw (← s) refl;
+      fit = fit_with d (f refl);
+      cause = λ q g. let s : p ≡ q = cc in rw (← s) refl;
       mark = λ t. absurd cc;
       commands = L.commands;
     }) (omega arith)
@@ -202,7 +225,8 @@ sound_taking sel test change c T S h u = let v = used_selected sel test change c
 sound_carried : (l : Look) (command : Command) (rest : List Command) (c : Component) → IsSound c → c.commands ≡ command ∷ rest → run_reason c command ≡ None → IsSound (carried_out l command (without_front rest c))
 sound_carried l (commands.StateSet target) rest c S e h =
     let u = used_front (commands.StateSet target) rest c e in
-    sound_begun (state_fault l (without_front rest c) target) target (without_front rest c) (lawful_front (commands.StateSet target) rest c e (lawful_of c S)) (no_pending c.pending h) (omega (arith, S.room))
+    sound_begun (state_fault l (without_front rest c) target) target (without_front rest c) (lawful_front (commands.StateSet target) rest c e (lawful_of c S)) (no_pending c.pending h)
+    (begins_fit l (without_front rest c) target S.fit) (omega (arith, S.room))
 sound_carried l (commands.Flush sel) rest c S e h =
     let u = used_front (commands.Flush sel) rest c e in
     let F = sound_with (without_front rest c) (lawful_front (commands.Flush sel) rest c e (lawful_of c S)) (omega (arith, S.room)) in
