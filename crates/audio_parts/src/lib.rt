@@ -2,14 +2,13 @@
 #![tactic(auto)]
 
 mod any_file;
-mod any_frames;
-mod any_laws;
 mod any_part;
 mod any_settings;
 mod any_step;
 mod coder;
 mod effect;
 mod gain;
+mod kind_part;
 mod laws;
 mod mixer;
 mod one_input;
@@ -24,11 +23,11 @@ mod wav_sink;
 mod wav_source;
 mod writes;
 
-pub use any_laws::{cause_by_kind, law_of_reads, writing_by_terms};
 pub use any_part::AnyPart;
 pub use coder::{Decoding, Encoding, G711Decoder, G711Encoder};
 pub use effect::Effect;
 pub use gain::{Gain, Gaining};
+pub use kind_part::KindPart;
 pub use laws::{
     frames_by_format, law_of_padding, law_of_writing, lawful_terms, shape_by_terms,
     writes_by_writing,
