@@ -1,7 +1,11 @@
 -- What is true of every world that the machine reaches, and is kept by each step.
 use Rattle.std.specs.Prelude.{◌≡◌, ◌≢◌, ℕ, suc, ◌<◌, ◌≤◌, Bool, true, false, not, nat_eq, map, is_some, is_none, Contains, ◌&&◌, ◌||◌, List, [], ◌∷◌, length, All, Option, Some, None, option_map, slice_get, MatchOption}
 use Rattle.omx_types.specs.declared.state.State.TheVariants as states
+use Rattle.omx_types.specs.declared.kind.Kind.{Kind}
+use Rattle.omx_types.specs.declared.format.Format.{Format}
 use Rattle.omx_types.specs.declared.param.Supplier.TheVariants as suppliers
+use Rattle.part_api.specs.declared.attached.Attached.{Attached}
+use Rattle.part_api.specs.declared.attached.Attached.TheVariants.{From, To}
 use Rattle.il_machine.specs.declared.answer.Pending.{Pending}
 use Rattle.il_machine.specs.declared.port.PortKey.{PortKey}
 use Rattle.il_machine.specs.declared.port.Link.{Link}
@@ -17,12 +21,14 @@ use Rattle.il_machine.specs.declared.header.HeaderState.{HeaderState}
 use Rattle.il_machine.specs.States.{same_state, is_lawful, is_loaded, is_invalid, is_running, is_up}
 use Rattle.il_machine.specs.Lists.{holds_at}
 use Rattle.il_machine.specs.Settings.{Settings, IsWhole, is_definition_of, same_format, fits}
-use Rattle.il_machine.specs.Kinds.{inputs_of, ports_in, is_input, is_port_format, is_late}
+use Rattle.il_machine.specs.Kinds.{inputs_of, ports_in, is_input, is_port_format, is_source, is_late, is_sink}
 use Rattle.il_machine.specs.World.{Component, Picked, Work, World, number_of, ports_of}
 use Rattle.il_machine.specs.Headers.{Seen, is_for, is_notice_of, is_work_of, Once, weight}
 use Rattle.il_machine.specs.Look.{look}
 use Rattle.il_machine.specs.Ports.{is_input_port, is_supplier, is_going_to, is_at_rest}
 use Rattle.il_machine.specs.Room.{is_by_client, used}
+use Rattle.il_machine.specs.Parameters.{is_too_large}
+use Rattle.il_machine.specs.Files.{is_wrong_format, file_port_format}
 use Rattle.il_machine.specs.Units.{is_waiter, units_held}
 use Rattle.il_machine.specs.Flow.{end_of}
 use Rattle.il_machine.specs.Census.{note_numbers, work_numbers, times}
@@ -46,11 +52,19 @@ is_lawful_cause c p = is_by_client p.cause || (same_state p.target states.Idle &
 abbrev pub is_fit : Component → Bool
 is_fit c = ((is_loaded c.state || is_invalid c.state) && is_at_rest c) || fits c.settings
 
+-- A file that a component may have. One that is read is a source's, in its port's format, or a late source's, in any that is known; one that
+-- is written is a sink's. Neither has too many bytes.
+abbrev pub may_have : Kind → Format → Attached → Bool
+may_have kind port (From format frames) = is_source kind && not (is_wrong_format kind port format) && not (is_too_large frames format)
+may_have kind port (To planned) = is_sink kind && not (is_too_large planned port)
+
 pub record IsSound (c : Component) : Type 0 where
   pub whole : IsWhole c.settings
   pub ports : length c.ports ≡ ports_in c.settings.kind
   pub settings : (port : ℕ) (setting : PortSetting) → slice_get c.settings.ports port ≡ Some setting → IsLawfulSetting c.settings port setting
   pub fit : is_fit c ≡ true
+  -- the file suits the component and its port
+  pub file : (file : Attached) → c.file ≡ Some file → may_have c.settings.kind (file_port_format c) file ≡ true
   pub cause : (p : Pending) → c.pending ≡ Some p → is_lawful_cause c p ≡ true
   -- the loss mark stands only on the way from Executing or Pause to Idle
   pub mark : c.loss_mark ≡ true → (is_running c.state && is_going_to states.Idle c) ≡ true

@@ -52,7 +52,7 @@ change_reached : (p : Pending) (c : Component) → IsChange c (reached p c)
 change_reached p c = record { handle = refl; ports = refl; links = refl; notes = refl }
 
 lawful_reached : (p : Pending) (c : Component) → IsLawful c → c.pending ≡ Some p → c.loss_mark ≡ false → IsLawful (reached p c)
-lawful_reached p c L e m = record { whole = L.whole; ports = L.ports; settings = L.settings; fit = fit_with (reached p c) (fit_pending c p L.fit e); cause = λ q e. absurd cc; mark = λ t. absurd cc; commands = L.commands }
+lawful_reached p c L e m = record { whole = L.whole; ports = L.ports; settings = L.settings; fit = fit_with (reached p c) (fit_pending c p L.fit e); file = L.file; cause = λ q e. absurd cc; mark = λ t. absurd cc; commands = L.commands }
 
 -- Loaded is pending by loss
 abbrev pub losing : Component → Component
@@ -64,6 +64,7 @@ lawful_losing c L f = record {
   ports = L.ports;
   settings = L.settings;
   fit = fit_with (losing c) f;
+  file = L.file;
   cause = λ q e. let a : Pending = record { target = Loaded; cause = causes.Loss } in let s : a ≡ q = cc in rw (← s) refl;
   mark = λ t. absurd cc;
   commands = L.commands;
@@ -92,6 +93,7 @@ lawful_once_unmarked p c L e = record {
   ports = L.ports;
   settings = L.settings;
   fit = fit_with (losing (reached p c)) (fit_pending c p L.fit e);
+  file = L.file;
   cause = λ q e. let a : Pending = record { target = Loaded; cause = causes.Loss } in let s : a ≡ q = cc in rw (← s) refl;
   mark = λ t. absurd cc;
   commands = L.commands;
@@ -185,12 +187,12 @@ with_waiting o c = record c { waiting = o }
 sound_with_part : (x : PartState) (c : Component) → IsSound c → IsSound (with_part x c)
 sound_with_part x c S =
     let k : costs (with_part x c) ≡ costs c = costs_same c (with_part x c) c.commands refl in
-    sound_with (with_part x c) (record { whole = S.whole; ports = S.ports; settings = S.settings; fit = S.fit; cause = S.cause; mark = S.mark; commands = S.commands }) (omega (arith, S.room))
+    sound_with (with_part x c) (record { whole = S.whole; ports = S.ports; settings = S.settings; fit = S.fit; file = S.file; cause = S.cause; mark = S.mark; commands = S.commands }) (omega (arith, S.room))
 
 sound_with_waiting : (o : Option ℕ) (c : Component) → IsSound c → IsSound (with_waiting o c)
 sound_with_waiting o c S =
     let k : costs (with_waiting o c) ≡ costs c = costs_same c (with_waiting o c) c.commands refl in
-    sound_with (with_waiting o c) (record { whole = S.whole; ports = S.ports; settings = S.settings; fit = S.fit; cause = S.cause; mark = S.mark; commands = S.commands }) (omega (arith, S.room))
+    sound_with (with_waiting o c) (record { whole = S.whole; ports = S.ports; settings = S.settings; fit = S.fit; file = S.file; cause = S.cause; mark = S.mark; commands = S.commands }) (omega (arith, S.room))
 
 pub unheld_places : (ps : List PortState) → sum_by port_places (map unheld ps) ≡ sum_by port_places ps
 unheld_places [] = refl
@@ -205,7 +207,7 @@ sound_given_back c S =
     let l = length-map c.ports unheld in
     let k : costs (all_given_back c) ≡ costs c = costs_same c (all_given_back c) c.commands l in
     let p : places (all_given_back c) ≡ places c = unheld_places c.ports in
-    sound_with (all_given_back c) (record { whole = S.whole; ports = l ∙ S.ports; settings = S.settings; fit = S.fit; cause = S.cause; mark = S.mark; commands = S.commands }) (omega (arith, S.room))
+    sound_with (all_given_back c) (record { whole = S.whole; ports = l ∙ S.ports; settings = S.settings; fit = S.fit; file = S.file; cause = S.cause; mark = S.mark; commands = S.commands }) (omega (arith, S.room))
 
 part_after : (x : PartState) (p : Pending) (c : Component) → lost_by p (completed_for p (with_part x c)) ≡ with_part x (lost_by p (completed_for p c))
 part_after x p c = either (is_by_client p.cause)
@@ -273,7 +275,7 @@ used_with_port k new old c e =
     omega arith
 
 pub lawful_with_port : (k : ℕ) (new : PortState) (c : Component) → IsLawful c → IsLawful (with_port k new c)
-lawful_with_port k new c L = record { whole = L.whole; ports = length-set c.ports k new ∙ L.ports; settings = L.settings; fit = L.fit; cause = L.cause; mark = L.mark; commands = L.commands }
+lawful_with_port k new c L = record { whole = L.whole; ports = length-set c.ports k new ∙ L.ports; settings = L.settings; fit = L.fit; file = L.file; cause = L.cause; mark = L.mark; commands = L.commands }
 
 links_set : (ps : List PortState) (k : ℕ) (new old : PortState) → slice_get ps k ≡ Some old → new.link ≡ old.link → map link_of (set ps k new) ≡ map link_of ps
 links_set [] k new old e l = absurd cc

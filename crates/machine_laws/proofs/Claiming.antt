@@ -230,7 +230,7 @@ sound_its s c S f l =
     let k : costs d ≡ costs c = costs_same c d c.commands refl in
     let z : used d ≡ used c + (length work.headers + 2) = rw f (omega (arith, k)) in
     let b = picked_length s (wanted c) in
-    sound_with d (record { whole = S.whole; ports = S.ports; settings = S.settings; fit = S.fit; cause = S.cause; mark = S.mark; commands = S.commands }) (omega (arith, S.room))
+    sound_with d (record { whole = S.whole; ports = S.ports; settings = S.settings; fit = S.fit; file = S.file; cause = S.cause; mark = S.mark; commands = S.commands }) (omega (arith, S.room))
 
 pub units_its : (waits : ℕ) (c : Component) (work : Work) → IsUnitSound waits c → IsUnitSound waits (with_its work c)
 units_its waits c work U = record { holds = U.holds; gives = U.gives; waiting = U.waiting; numbered = U.numbered; way = U.way; held = U.held; inputs = U.inputs }

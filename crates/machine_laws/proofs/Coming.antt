@@ -175,6 +175,7 @@ sound_fresh h kind z = record {
   ports = length-replicate (ports_in kind) fresh_port;
   settings = default_lawful kind;
   fit = refl;
+  file = λ x e. absurd cc;
   cause = λ p e. absurd cc;
   mark = λ t. absurd cc;
   commands = omega arith;

@@ -93,7 +93,7 @@ sound_back c s done work S e A =
     let n = events_append c.notes (notes_after c s done) in
     let l = length_of work.headers done.headers A in
     let v = after_events c s done in
-    sound_with d (record { whole = S.whole; ports = S.ports; settings = S.settings; fit = S.fit; cause = S.cause; mark = S.mark; commands = S.commands }) (omega (arith, S.room))
+    sound_with d (record { whole = S.whole; ports = S.ports; settings = S.settings; fit = S.fit; file = S.file; cause = S.cause; mark = S.mark; commands = S.commands }) (omega (arith, S.room))
 
 -- ---- the part
 
@@ -165,7 +165,7 @@ sound_idle w i c work S t e z =
     let I = P.components i c t in
     let k : costs d ≡ costs c = costs_same c d c.commands refl in
     let u : used d + 2 ≡ used c = rw (e, z) (omega (arith, k)) in
-    let J = sound_with d (record { whole = I.whole; ports = I.ports; settings = I.settings; fit = I.fit; cause = I.cause; mark = I.mark; commands = I.commands }) (omega (arith, I.room)) in
+    let J = sound_with d (record { whole = I.whole; ports = I.ports; settings = I.settings; fit = I.fit; file = I.file; cause = I.cause; mark = I.mark; commands = I.commands }) (omega (arith, I.room)) in
     let n : work_numbers c.work ≡ [] = rw (e, z) refl in
     let Z : Shifted (ports_in_list cs) (number_of c) w.headers (note_numbers c.notes) [] w.headers = rw n at (shifted_none cs w.headers w.numbered w.made i c P t) in
     let U = (resources_of w S).each i c t in

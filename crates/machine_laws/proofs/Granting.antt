@@ -28,7 +28,7 @@ use Rattle.machine_laws.proofs.Change.{IsChange, change_twice, sound_component, 
 use Rattle.machine_laws.proofs.Parts.{parts_of}
 use Rattle.machine_laws.proofs.Units.{IsFair, held_fewer, fair_aside, resources_of}
 use Rattle.machine_laws.proofs.Rooms.{costs, asked, loss, costs_same, used_told, lawful_of, sound_with, lawful_told, change_told, aside_told}
-use Rattle.machine_laws.proofs.Fitting.{is_idle_below, fit_with, fit_above, fit_pending}
+use Rattle.machine_laws.proofs.Fitting.{is_loaded_or_invalid, fit_with, fit_above, fit_pending}
 use Rattle.machine_laws.proofs.Arriving.{losing, lawful_lost, change_lost}
 use Rattle.machine_laws.proofs.Fairness.{way_by, fair_then_aside}
 use Rattle.machine_laws.proofs.Happening.{sound_closes}
@@ -126,6 +126,7 @@ sound_granted c S h r =
       ports = S.ports;
       settings = S.settings;
       fit = fit_with d (fit_above c S.fit (rw s refl));
+      file = S.file;
       cause = λ q f. let p : Pending = record { target = states.Idle; cause = causes.Client } in let y : p ≡ q = cc in rw (← y) refl;
       mark = λ y. absurd cc;
       commands = S.commands;
@@ -227,7 +228,7 @@ preempted_by P c down going rests = either (is_running c.state)
     (λ t. either (is_going_to states.Idle c) (λ g. rw (t, g) (going t g)) (λ g. rw (t, g) (rests t g)))
     (λ f. rw f (down f))
 
-running_above : (s : State) → is_running s ≡ true → is_idle_below s ≡ false
+running_above : (s : State) → is_running s ≡ true → is_loaded_or_invalid s ≡ false
 running_above states.Invalid h = absurd cc
 running_above states.Loaded h = absurd cc
 running_above states.Idle h = refl
@@ -235,7 +236,7 @@ running_above states.Executing h = refl
 running_above states.Pause h = refl
 running_above states.WaitForResources h = refl
 
-up_above : (s : State) → is_up s ≡ true → is_idle_below s ≡ false
+up_above : (s : State) → is_up s ≡ true → is_loaded_or_invalid s ≡ false
 up_above states.Invalid h = absurd cc
 up_above states.Loaded h = absurd cc
 up_above states.Idle h = refl
@@ -268,7 +269,7 @@ sound_preempted waits c S U V r =
     (λ t g.
     let k : costs (marked c) ≡ costs c = costs_same c (marked c) c.commands refl in
     let z : loss (marked c) ≡ 1 = rw g refl in
-    sound_with (marked c) (record { whole = S.whole; ports = S.ports; settings = S.settings; fit = S.fit; cause = S.cause; mark = λ y. rw (t, g) refl; commands = S.commands }) (omega arith))
+    sound_with (marked c) (record { whole = S.whole; ports = S.ports; settings = S.settings; fit = S.fit; file = S.file; cause = S.cause; mark = λ y. rw (t, g) refl; commands = S.commands }) (omega arith))
     (λ t g.
     let k : costs (ending c) ≡ costs c = costs_same c (ending c) c.commands refl in
     let z : loss (ending c) ≡ 1 = rw V.unmarked refl in
@@ -278,6 +279,7 @@ sound_preempted waits c S U V r =
       ports = S.ports;
       settings = S.settings;
       fit = fit_with (ending c) (fit_above c S.fit (running_above c.state t));
+      file = S.file;
       cause = λ q f. let p : Pending = record { target = states.Idle; cause = causes.Loss } in let y : p ≡ q = cc in rw (← y, t) refl;
       mark = λ y. let x = V.unmarked in absurd cc;
       commands = S.commands;

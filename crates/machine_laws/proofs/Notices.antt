@@ -146,7 +146,7 @@ sound_first_taken : (c : Component) → IsSound c → IsSound (first_taken c)
 sound_first_taken c S =
     let k : costs (first_taken c) ≡ costs c = costs_same c (first_taken c) c.commands refl in
     let f = fewer_events c.notes in
-    sound_with (first_taken c) (record { whole = S.whole; ports = S.ports; settings = S.settings; fit = S.fit; cause = S.cause; mark = S.mark; commands = S.commands }) (omega (arith, S.room))
+    sound_with (first_taken c) (record { whole = S.whole; ports = S.ports; settings = S.settings; fit = S.fit; file = S.file; cause = S.cause; mark = S.mark; commands = S.commands }) (omega (arith, S.room))
 
 pub first_is : (notes : List Note) (note : Note) → slice_get notes 0 ≡ Some note → notes ≡ note ∷ drop 1 notes
 first_is [] note e = absurd cc
@@ -241,7 +241,7 @@ sound_taken w i c note n S t e Q =
 sound_back_in : (c : Component) → IsSound c → IsSound (back_in c)
 sound_back_in c S =
     let k : costs (back_in c) ≡ costs c = costs_same c (back_in c) c.commands refl in
-    sound_with (back_in c) (record { whole = S.whole; ports = S.ports; settings = S.settings; fit = S.fit; cause = S.cause; mark = S.mark; commands = S.commands }) (omega (arith, S.room))
+    sound_with (back_in c) (record { whole = S.whole; ports = S.ports; settings = S.settings; fit = S.fit; file = S.file; cause = S.cause; mark = S.mark; commands = S.commands }) (omega (arith, S.room))
 
 pub sound_ended : (w : World) (i : ℕ) (c : Component) → Sound w → slice_get w.components i ≡ Some c → Sound (with_component i (back_in c) w)
 sound_ended w i c S t = sound_component w i c (back_in c) S t (record { handle = refl; ports = refl; links = refl; notes = refl }) (sound_back_in c ((parts_of w S).components i c t))

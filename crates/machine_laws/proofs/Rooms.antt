@@ -11,6 +11,7 @@ use Rattle.omx_types.specs.declared.command.Event.{Event}
 use Rattle.omx_types.specs.declared.command.Note.{Note}
 use Rattle.omx_types.specs.declared.command.Note.TheVariants.{Told, EmptyDone, FillDone}
 use Rattle.omx_types.specs.declared.state.State.TheVariants as states
+use Rattle.part_api.specs.declared.attached.Attached.{Attached}
 use Rattle.il_machine.specs.declared.answer.Pending.{Pending}
 use Rattle.il_machine.specs.declared.port.PortSetting.{PortSetting}
 use Rattle.il_machine.specs.Settings.{IsWhole}
@@ -21,8 +22,9 @@ use Rattle.il_machine.specs.World.{Component, noted, told}
 use Rattle.il_machine.specs.Headers.{weight}
 use Rattle.il_machine.specs.Ports.{is_going_to}
 use Rattle.il_machine.specs.Room.{is_event, events_in, cost_of, sel_cost, is_by_client, port_places, is_losing, work_places, used, room}
+use Rattle.il_machine.specs.Files.{file_port_format}
 use Rattle.il_machine.specs.Census.{note_numbers}
-use Rattle.il_machine.specs.Sound.{IsSound, IsLawfulSetting, is_fit, is_lawful_cause}
+use Rattle.il_machine.specs.Sound.{IsSound, IsLawfulSetting, is_fit, may_have, is_lawful_cause}
 use Rattle.machine_laws.proofs.Change.{IsChange}
 use Rattle.machine_laws.proofs.Units.{IsAside}
 
@@ -65,15 +67,16 @@ pub record IsLawful (c : Component) : Type 0 where
   pub ports : length c.ports ≡ ports_in c.settings.kind
   pub settings : (port : ℕ) (setting : PortSetting) → slice_get c.settings.ports port ≡ Some setting → IsLawfulSetting c.settings port setting
   pub fit : is_fit c ≡ true
+  pub file : (file : Attached) → c.file ≡ Some file → may_have c.settings.kind (file_port_format c) file ≡ true
   pub cause : (p : Pending) → c.pending ≡ Some p → is_lawful_cause c p ≡ true
   pub mark : c.loss_mark ≡ true → (is_running c.state && is_going_to states.Idle c) ≡ true
   pub commands : length c.commands ≤ 32
 
 pub lawful_of : (c : Component) → IsSound c → IsLawful c
-lawful_of c S = record { whole = S.whole; ports = S.ports; settings = S.settings; fit = S.fit; cause = S.cause; mark = S.mark; commands = S.commands }
+lawful_of c S = record { whole = S.whole; ports = S.ports; settings = S.settings; fit = S.fit; file = S.file; cause = S.cause; mark = S.mark; commands = S.commands }
 
 pub sound_with : (c : Component) → IsLawful c → used c ≤ 256 → IsSound c
-sound_with c L u = record { whole = L.whole; ports = L.ports; settings = L.settings; fit = L.fit; cause = L.cause; mark = L.mark; commands = L.commands; room = u }
+sound_with c L u = record { whole = L.whole; ports = L.ports; settings = L.settings; fit = L.fit; file = L.file; cause = L.cause; mark = L.mark; commands = L.commands; room = u }
 
 -- ---- one note more
 
@@ -101,7 +104,7 @@ pub used_told : (event : Event) (c : Component) → used (told event c) ≡ used
 used_told event c = used_noted (Told event) c
 
 pub lawful_noted : (note : Note) (c : Component) → IsLawful c → IsLawful (noted note c)
-lawful_noted note c L = record { whole = L.whole; ports = L.ports; settings = L.settings; fit = L.fit; cause = L.cause; mark = L.mark; commands = L.commands }
+lawful_noted note c L = record { whole = L.whole; ports = L.ports; settings = L.settings; fit = L.fit; file = L.file; cause = L.cause; mark = L.mark; commands = L.commands }
 
 pub lawful_told : (event : Event) (c : Component) → IsLawful c → IsLawful (told event c)
 lawful_told event c L = lawful_noted (Told event) c L

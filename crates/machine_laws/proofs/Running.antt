@@ -28,7 +28,7 @@ use Rattle.il_machine.specs.Sound.{IsSound, IsUnitSound, is_fit, may_work}
 use Rattle.machine_laws.proofs.Finding.{either}
 use Rattle.machine_laws.proofs.Change.{IsChange, change_none, change_twice, link_of}
 use Rattle.machine_laws.proofs.Rooms.{costs, asked, loss, costs_same, used_told, IsLawful, lawful_of, sound_with, lawful_told, change_told, aside_told}
-use Rattle.machine_laws.proofs.Fitting.{is_idle_below, fit_with, fit_above}
+use Rattle.machine_laws.proofs.Fitting.{is_loaded_or_invalid, fit_with, fit_above}
 use Rattle.machine_laws.proofs.Units.{IsAside, IsFair, AreHeldIf, units_aside, fair_aside, fair_more}
 use Rattle.machine_laws.proofs.Fairness.{aside_then_fair, fair_begun}
 use Rattle.machine_laws.proofs.Accepting.{passed, not_not}
@@ -116,7 +116,7 @@ used_selected sel test change c T S h =
     omega arith
 
 lawful_selected : (sel : PortSel) (change : PortState → PortState) (c : Component) → IsLawful c → IsLawful (with_selected sel change c)
-lawful_selected sel change c L = record { whole = L.whole; ports = length_selected 0 sel change c.ports ∙ L.ports; settings = L.settings; fit = L.fit; cause = L.cause; mark = L.mark; commands = L.commands }
+lawful_selected sel change c L = record { whole = L.whole; ports = length_selected 0 sel change c.ports ∙ L.ports; settings = L.settings; fit = L.fit; file = L.file; cause = L.cause; mark = L.mark; commands = L.commands }
 
 change_selected : (sel : PortSel) (test : PortState → Bool) (change : PortState → PortState) (c : Component) → IsTaking test change → IsChange c (with_selected sel change c)
 change_selected sel test change c T = record { handle = refl; ports = refl; links = links_selected test 0 sel change c.ports T; notes = refl }
@@ -151,7 +151,7 @@ used_front command rest c e =
 lawful_front : (command : Command) (rest : List Command) (c : Component) → c.commands ≡ command ∷ rest → IsLawful c → IsLawful (without_front rest c)
 lawful_front command rest c e L =
     let n : length c.commands ≡ suc (length rest) = ap length e in
-    record { whole = L.whole; ports = L.ports; settings = L.settings; fit = L.fit; cause = L.cause; mark = L.mark; commands = omega (arith, L.commands) }
+    record { whole = L.whole; ports = L.ports; settings = L.settings; fit = L.fit; file = L.file; cause = L.cause; mark = L.mark; commands = omega (arith, L.commands) }
 
 change_front : (rest : List Command) (c : Component) → IsChange c (without_front rest c)
 change_front rest c = record { handle = refl; ports = refl; links = refl; notes = refl }
@@ -185,7 +185,7 @@ begins_fit l c target h f =
     let r : (is_loaded c.state && true) ≡ false = rw n at d.0 in
     fit_above c h (neither c.state r (not_not (is_lawful c.state target) b.0)))
   where
-    neither : (s : State) → (is_loaded s && true) ≡ false → is_lawful s target ≡ true → is_idle_below s ≡ false
+    neither : (s : State) → (is_loaded s && true) ≡ false → is_lawful s target ≡ true → is_loaded_or_invalid s ≡ false
     neither states.Invalid r w = absurd (unlawful target w)
     neither states.Loaded r w = absurd cc
     neither states.Idle r w = refl
@@ -209,6 +209,7 @@ sound_begun None target c L e f u =
       ports = L.ports;
       settings = L.settings;
       fit = fit_with d (f refl);
+      file = L.file;
       cause = λ q g. let s : p ≡ q = cc in rw (← s) refl;
       mark = λ t. absurd cc;
       commands = L.commands;

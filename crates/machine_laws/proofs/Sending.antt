@@ -37,6 +37,7 @@ sound_invalidated c S =
       ports = length-map c.ports at_rest ∙ S.ports;
       settings = S.settings;
       fit = refl;
+      file = S.file;
       cause = λ q e. absurd cc;
       mark = λ t. absurd cc;
       commands = omega arith;
@@ -53,7 +54,7 @@ sound_queued command c S l u =
     let k : costs d ≡ sum_by (cost_of c) (c.commands ++ command ∷ []) = costs_same c d (c.commands ++ command ∷ []) refl in
     let s = sum_by_push (cost_of c) c.commands command in
     let n : length (c.commands ++ command ∷ []) ≡ length c.commands + 1 = length-append c.commands (command ∷ []) in
-    sound_with d (record { whole = S.whole; ports = S.ports; settings = S.settings; fit = S.fit; cause = S.cause; mark = S.mark; commands = omega arith }) (omega arith)
+    sound_with d (record { whole = S.whole; ports = S.ports; settings = S.settings; fit = S.fit; file = S.file; cause = S.cause; mark = S.mark; commands = omega arith }) (omega arith)
 
 -- ---- both
 

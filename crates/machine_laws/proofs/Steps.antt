@@ -71,7 +71,7 @@ free_keeps w v h result r S = resolving_keeps plain w v h result _ S r (λ i c t
 
 attach_keeps : (w v : World) (h : Handle) (file : Offered) (result : Result (Unit {0}) OmxError) → Attach w h file result v → Sound w → Sound v
 attach_keeps w v h file result r S = resolving_keeps plain w v h result _ S r (λ i c t a. answers_keep (attach_refusal c file) result w v _ a S (λ x n b.
-    sound_closes (with_file i c file w) v b (sound_attached w i c file S t)))
+    sound_closes (with_file i c file w) v b (sound_attached w i c file S t n)))
 
 -- ---- parameters and configs
 

@@ -32,7 +32,7 @@ use Rattle.machine_laws.proofs.Change.{aside_there}
 use Rattle.machine_laws.proofs.Arriving.{used_with_port, lawful_with_port, aside_with_port}
 use Rattle.machine_laws.proofs.Rooms.{lawful_of, sound_with}
 use Rattle.machine_laws.proofs.Accepting.{passed, not_either, not_not, both_of, is_not}
-use Rattle.machine_laws.proofs.Fitting.{fit_setting}
+use Rattle.machine_laws.proofs.Fitting.{fit_setting, file_setting}
 use Rattle.machine_laws.proofs.Values.{sound_setting, aside_setting, fixed_loose}
 use Rattle.machine_laws.proofs.Pairs.{resources_paired, apart_numbers, IsOnePort, key_at, parts_paired, port_over, port_else, set_same}
 
@@ -157,8 +157,12 @@ sound_joined_end c d q supplier p S U e f =
     let iq = port_parts d q.key.port q f in
     let L = S.settings p.key.port p.setting is.setting in
     let M = U.settings q.key.port q.setting iq.setting in
+    let same : (old : PortSetting) → slice_get c.settings.ports p.key.port ≡ Some old → (widened p q).definition.format ≡ old.definition.format = λ old o.
+    let s : Some p.setting ≡ Some old = sym is.setting ∙ o in
+    let e : p.setting ≡ old = cc in
+    rw (← e) refl in
     let x = sound_setting c p.key.port (widened p q) S (λ old o. (widened_good (is_input c.settings.kind p.key.port) (is_input d.settings.kind q.key.port) p q L.0 M.0, L.1))
-    (fit_setting c p.key.port (widened p q) S.fit (λ old o. let s : Some p.setting ≡ Some old = sym is.setting ∙ o in let e : p.setting ≡ old = cc in rw (← e) refl)) in
+    (fit_setting c p.key.port (widened p q) S.fit same) (file_setting c p.key.port (widened p q) S.file same) in
     sound_linked (record c { settings = with_setting p.key.port (widened p q) c.settings }) p.key.port
     (record p.state { link = Some (record { peer = q.key; supplier = supplier }) }) p.state x is.state refl
 

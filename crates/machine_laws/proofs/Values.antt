@@ -1,5 +1,5 @@
 -- A value of a component is set: a port's definition or preference changes only where the port is loose.
-use Rattle.std.proofs.Common.{◌≡◌, ◌≢◌, ◌⊎◌, inl, inr, ℕ, zero, suc, ◌+◌, Bool, true, false, not, ◌||◌, nat_eq, List, [], ◌∷◌, length, length-set, set, filter, slice_get, Option, Some, None, refl, sym, ◌∙◌, ap, subst, eqb-true, arith}
+use Rattle.std.proofs.Common.{◌≡◌, ◌≢◌, ◌⊎◌, inl, inr, ℕ, zero, suc, ◌+◌, Bool, true, false, not, ◌||◌, nat_eq, List, [], ◌∷◌, length, length-set, set, filter, get_or, slice_get, Option, Some, None, refl, sym, ◌∙◌, ap, subst, eqb-true, arith}
 use Rattle.std.proofs.lemmas.Bool.{cases_eq}
 use Rattle.std.proofs.lemmas.Option.{get_or_from_slice_get}
 use Rattle.omx_types.specs.declared.param.Param.{Param}
@@ -13,19 +13,20 @@ use Rattle.il_machine.specs.declared.port.PortState.{PortState}
 use Rattle.il_machine.specs.States.{is_invalid}
 use Rattle.il_machine.specs.Lists.{holds_at}
 use Rattle.il_machine.specs.Kinds.{ports_in, is_input, is_port_format}
-use Rattle.il_machine.specs.Settings.{setting_at, with_setting, changed_by, is_v112, is_index_of, is_port_of, is_value_of, is_good_value, is_supported, is_definition_of, are_fitting, is_known, formats_of, fits}
+use Rattle.il_machine.specs.Settings.{default_setting, setting_at, with_setting, changed_by, is_v112, is_index_of, is_port_of, is_value_of, is_good_value, is_supported, is_definition_of, are_fitting, is_known, formats_of, fits}
 use Rattle.il_machine.specs.World.{Component, HeaderRecord, World, number_of, ports_from, port_of, with_port, with_component}
 use Rattle.il_machine.specs.Headers.{Seen, seen, count_headers, is_for}
 use Rattle.il_machine.specs.Look.{look}
 use Rattle.il_machine.specs.Ports.{is_joined, unmade}
 use Rattle.il_machine.specs.Parameters.{is_format_free, is_fixed, is_wrong_time, set_parameter_refusal, set_config_refusal, unheld_at, with_value}
+use Rattle.il_machine.specs.Files.{file_port_format}
 use Rattle.il_machine.specs.Sound.{Sound, IsSound, IsLawfulSetting, AreNoted, is_fit}
 use Rattle.il_machine.proofs.Wholes.{whole_changed}
 use Rattle.machine_laws.proofs.Finding.{either}
 use Rattle.machine_laws.proofs.Every.{set_there, at_set_over}
 use Rattle.machine_laws.proofs.Lookups.{rising_set}
 use Rattle.machine_laws.proofs.PortChanges.{IsLoose, AreKept, kept_itself}
-use Rattle.machine_laws.proofs.Fitting.{fit_setting, fit_free}
+use Rattle.machine_laws.proofs.Fitting.{HasFile, fit_setting, fit_free, file_setting, file_free}
 use Rattle.machine_laws.proofs.Works.{works_set}
 use Rattle.machine_laws.proofs.Units.{IsAside}
 use Rattle.machine_laws.proofs.Parts.{parts_of, sound_from}
@@ -47,14 +48,13 @@ pub record IsSettable (c : Component) (key : ParamKey) (value : Param) : Type 0 
   pub good : is_good_value (is_input c.settings.kind key.port) value ≡ true
   pub free : Bool
   pub supported : is_supported c.settings key.port free value ≡ true
-  pub fit : (d : PortDefinition) → value ≡ params.Port d → is_fit (with_changed key value c) ≡ true
+  pub format : (d : PortDefinition) → value ≡ params.Port d → is_format_free c key.port (params.Port d) ≡ true
 
 free_of : (c : Component) (key : ParamKey) (value : Param) (d : PortDefinition) → value ≡ params.Port d → is_supported c.settings key.port (is_format_free c key.port value) value ≡ true
-    → is_fit (with_changed key value c) ≡ true
+    → is_format_free c key.port (params.Port d) ≡ true
 free_of c key value d e h =
     let x : is_supported c.settings key.port (is_format_free c key.port (params.Port d)) (params.Port d) ≡ true = rw e at h in
-    let b = both_of (is_port_format c.settings.kind (is_input c.settings.kind key.port) d.format) (is_format_free c key.port (params.Port d)) x in
-    rw e (fit_free c key.port d b.1)
+    (both_of (is_port_format c.settings.kind (is_input c.settings.kind key.port) d.format) (is_format_free c key.port (params.Port d)) x).1
 
 -- no config is a definition
 no_definition : (c : Component) (key : ParamKey) (value : Param) (d : PortDefinition) → value ≡ params.Port d → is_value_of key.index value ≡ true → is_index_of c.settings.kind true key.index ≡ true → ⊥
@@ -77,7 +77,7 @@ parameter_passes headers c key value h =
     let k = passed (is_wrong_time headers c key) _ _ g.1 in
     let v = not_either (not (is_value_of key.index value)) (not (is_good_value (is_input s.kind key.port) value)) f.0 in
     let supported : is_supported s key.port (is_format_free c key.port value) value ≡ true = not_not _ g.0 in
-    (record { variant = not_not _ v.0; good = not_not _ v.1; free = is_format_free c key.port value; supported = supported; fit = λ y w. free_of c key value y w supported }, k.0)
+    (record { variant = not_not _ v.0; good = not_not _ v.1; free = is_format_free c key.port value; supported = supported; format = λ y w. free_of c key value y w supported }, k.0)
 
 pub config_passes : (c : Component) (key : ParamKey) (value : Param) → set_config_refusal c key value ≡ None
     → IsSettable c key value × (is_index_of c.settings.kind true key.index ≡ true)
@@ -92,7 +92,7 @@ config_passes c key value h =
     let v = not_either (not (is_value_of key.index value)) (not (is_good_value (is_input s.kind key.port) value)) f.0 in
     let variant : is_value_of key.index value ≡ true = not_not _ v.0 in
     let index : is_index_of s.kind true key.index ≡ true = not_not _ d.0 in
-    (record { variant = variant; good = not_not _ v.1; free = true; supported = not_not _ g.0; fit = λ y w. absurd (no_definition c key value y w variant index) }, index)
+    (record { variant = variant; good = not_not _ v.1; free = true; supported = not_not _ g.0; format = λ y w. absurd (no_definition c key value y w variant index) }, index)
 
 -- ---- a port's setting
 
@@ -128,8 +128,8 @@ kept_setting hs c j new L k = elim (cases_eq k j) [
 
 -- one lawful setting for another
 pub sound_setting : (c : Component) (j : ℕ) (new : PortSetting) → IsSound c → ((old : PortSetting) → slice_get c.settings.ports j ≡ Some old → IsLawfulSetting c.settings j new) → is_fit (with_setting_at j new c) ≡ true
-    → IsSound (with_setting_at j new c)
-sound_setting c j new S h fit =
+    → HasFile (with_setting_at j new c) → IsSound (with_setting_at j new c)
+sound_setting c j new S h fit file =
     let d : Component = with_setting_at j new c in
     let k : costs d ≡ costs c = costs_same c d c.commands refl in
     sound_with d (record {
@@ -140,6 +140,7 @@ sound_setting c j new S h fit =
         | inr a ↦ S.settings i z a.1
       ];
       fit = fit;
+      file = file;
       cause = S.cause;
       mark = S.mark;
       commands = S.commands;
@@ -149,15 +150,16 @@ pub aside_setting : (c : Component) (j : ℕ) (new : PortSetting) → IsAside c 
 aside_setting c j new = record { keeps = record { kind = refl; weights = refl; count = refl; work = refl }; state = refl; pending = refl; holds = refl; waiting = refl; part = refl; held = λ test h. h }
 
 sound_with_setting : (w : World) (i : ℕ) (c : Component) (j : ℕ) (new : PortSetting) → Sound w → slice_get w.components i ≡ Some c → ((p : Port) → port_of c j ≡ Some p → IsLoose w.headers p)
-    → ((old : PortSetting) → slice_get c.settings.ports j ≡ Some old → IsLawfulSetting c.settings j new) → is_fit (with_setting_at j new c) ≡ true → Sound (with_component i (with_setting_at j new c) w)
-sound_with_setting w i c j new S t L h fit =
+    → ((old : PortSetting) → slice_get c.settings.ports j ≡ Some old → IsLawfulSetting c.settings j new) → is_fit (with_setting_at j new c) ≡ true
+    → HasFile (with_setting_at j new c) → Sound (with_component i (with_setting_at j new c) w)
+sound_with_setting w i c j new S t L h fit file =
     let P = parts_of w S in
     let cs : List Component = w.components in
     let d : Component = with_setting_at j new c in
     let F = aside_there w i c d S t (aside_setting c j new) in
     sound_from (with_component i d w) (record {
       rising = rising_set 0 w.numbered i cs c d P.rising t refl;
-      components = each_set IsSound i cs d P.components (sound_setting c j new (P.components i c t) h fit);
+      components = each_set IsSound i cs d P.components (sound_setting c j new (P.components i c t) h fit file);
       tied = tied_set w.numbered i cs w.headers c d P.rising t refl (kept_setting w.headers c j new L) P.tied;
       noted = each_set (AreNoted (seen w.headers)) i cs d P.noted (P.noted i c t);
       works = works_set i cs w.headers c d t refl refl P.works;
@@ -194,6 +196,7 @@ plain_change key value c S p k =
       settings = λ j z e. let f : slice_get c.settings.ports j ≡ Some z = ap (λ (l : List PortSetting). slice_get l j) (sym p) ∙ e in let L = S.settings j z f in
           subst (λ (x : Kind). (is_definition_of (is_input x j) z.definition ≡ true) × (is_port_format x (is_input x j) z.definition.format ≡ true)) (sym k) L;
       fit = let f : fits d.settings ≡ fits c.settings = λ i. are_fitting (k i) (filter is_known (formats_of (p i))) in rw f S.fit;
+      file = λ x e. let f : file_port_format d ≡ file_port_format c = λ i. (get_or (p i) 0 (default_setting (k i) (is_input (k i) 0))).definition.format in rw (k, f) (S.file x e);
       cause = S.cause;
       mark = S.mark;
       commands = S.commands;
@@ -212,7 +215,8 @@ sound_changed : (w : World) (i : ℕ) (c : Component) (key : ParamKey) (value : 
 sound_changed w i c key (params.Port d) S t G L =
     let e : key.index ≡ 1 = eqb-true key.index 1 G.variant in
     let q = both_of (is_port_format c.settings.kind (is_input c.settings.kind key.port) d.format) G.free G.supported in
-    sound_with_setting w i c key.port (record (setting_at c.settings key.port) { definition = d }) S t (λ p f. L p (inl e) f) (λ old f. (G.good, q.0)) (G.fit d refl)
+    sound_with_setting w i c key.port (record (setting_at c.settings key.port) { definition = d }) S t (λ p f. L p (inl e) f) (λ old f. (G.good, q.0))
+    (fit_free c key.port d (G.format d refl)) (file_free c key.port d ((parts_of w S).components i c t) (G.format d refl))
 sound_changed w i c key (params.Supplier x) S t G L =
     let e : key.index ≡ 2 = eqb-true key.index 2 G.variant in
     sound_with_setting w i c key.port (record (setting_at c.settings key.port) { supplier = x }) S t (λ p f. L p (inr e) f) (λ old f.
@@ -220,6 +224,9 @@ sound_changed w i c key (params.Supplier x) S t G L =
     let g : setting_at c.settings key.port ≡ old = get_or_from_slice_get c.settings.ports key.port old _ f in
     rw g l)
     (fit_setting c key.port (record (setting_at c.settings key.port) { supplier = x }) ((parts_of w S).components i c t).fit (λ old f.
+    let g : setting_at c.settings key.port ≡ old = get_or_from_slice_get c.settings.ports key.port old _ f in
+    rw g refl))
+    (file_setting c key.port (record (setting_at c.settings key.port) { supplier = x }) ((parts_of w S).components i c t).file (λ old f.
     let g : setting_at c.settings key.port ≡ old = get_or_from_slice_get c.settings.ports key.port old _ f in
     rw g refl))
 sound_changed w i c key (params.Priority n) S t G L = sound_plain w i c key (params.Priority n) S t refl refl refl
