@@ -1,6 +1,5 @@
 -- A plan, and the scripts that have one.
-use Rattle.std.specs.Prelude.{◌≡◌, ℕ, ◌*◌, ◌<◌, ◌≤◌, Bool, false, List, length, count_by, replicate, slice_get, Some}
-use Rattle.omx_types.specs.Formats.{IsWithinLimits, frame_bytes_of}
+use Rattle.std.specs.Prelude.{◌≡◌, ℕ, ◌<◌, ◌≤◌, List, length, replicate}
 use Rattle.script_lang.specs.declared.play_line.PartLine.{PartLine}
 use Rattle.script_lang.specs.declared.play_line.LinkLine.{LinkLine}
 use Rattle.script_lang.specs.declared.script.Script.{Script}
@@ -13,7 +12,7 @@ use Rattle.play_forms.specs.declared.plan_fault.PlanFault.TheVariants.{Cycle, Op
 use Rattle.play_forms.specs.Fitting.{AllFit, IsMisfit}
 use Rattle.play_forms.specs.Flows.{AreFlows, AreFrames, no_flow}
 use Rattle.play_forms.specs.Joints.{AllJoin, AllLinked, IsOpen, IsTooMany, IsTwice, headers_of, joints_of}
-use Rattle.play_forms.specs.Parts.{is_source_part, units_needed}
+use Rattle.play_forms.specs.Parts.{units_needed}
 use Rattle.play_forms.specs.Placing.{IsCycle, IsOrder}
 
 -- the units and the components of the script, its links, the order of placing, what goes through each link, and each component's frames
@@ -27,6 +26,7 @@ pub record PlanValue : Type 0 where
 
 -- every port of every component has one link, the headers are few, every component has its place, and the units are enough
 pub record IsValid (plan : PlanValue) : Type 0 where
+  pub most : length plan.parts ≤ 32
   pub joined : AllJoin plan.parts plan.joints
   pub linked : AllLinked plan.parts plan.joints
   pub few : headers_of plan.joints ≤ 1024
@@ -66,12 +66,6 @@ IsPlanOfScript (Trace units lines) plan = ⊥
 abbrev pub IsFaultOfScript : Script → PlanFault → Type 0
 IsFaultOfScript (Play units parts links) fault = IsShapeFault units parts (joints_of parts links) fault
 IsFaultOfScript (Trace units lines) fault = ⊥
-
--- one head for each source, in script order, as files have them
-pub record AreHeads (parts : List PartLine) (heads : List WavHead) : Type 0 where
-  pub many : length heads ≡ count_by is_source_part parts
-  pub within : (k : ℕ) (head : WavHead) → slice_get heads k ≡ Some head → IsWithinLimits head.format
-  pub small : (k : ℕ) (head : WavHead) → slice_get heads k ≡ Some head → head.frames * frame_bytes_of head.format ≤ 67108864
 
 -- the same plan, with what goes through its links by these heads
 pub record IsFitted (plan : PlanValue) (heads : List WavHead) (fitted : PlanValue) : Type 0 where

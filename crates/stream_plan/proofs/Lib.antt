@@ -1,0 +1,9 @@
+pub mod Defaults
+pub mod Fits
+pub mod Fitted
+pub mod Flows
+pub mod Frames
+pub mod Lefts
+pub mod Links
+pub mod Lists
+pub mod Sums
