@@ -4,3 +4,4 @@ pub mod Wholes
 pub mod Joined
 pub mod Looking
 pub mod Calm
+pub mod Carrying

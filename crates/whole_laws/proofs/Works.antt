@@ -3,19 +3,16 @@ use Rattle.std.proofs.Common.{◌≡◌, ◌≢◌, inl, inr, ℕ, ◌+◌, Bool
 use Rattle.std.proofs.lemmas.Bool.Decides.{eqb_tells}
 use Rattle.omx_types.specs.declared.fault.PartFault.{PartFault}
 use Rattle.part_api.specs.Terms.{Terms}
-use Rattle.il_machine.specs.declared.header.Owner.{Owner}
-use Rattle.il_machine.specs.declared.header.Owner.TheVariants as owners
 use Rattle.il_machine.specs.declared.port.Port.{Port}
 use Rattle.il_machine.specs.Settings.{same_format}
-use Rattle.il_machine.specs.World.{Component, HeaderRecord, Picked, Stream, Work, World, component_numbered, number_of, port_of, stream_of, is_stream_of, with_component, with_stream}
-use Rattle.il_machine.specs.Headers.{find_header, has_number, changed, given_to}
-use Rattle.il_machine.specs.Buffers.{Held, held}
+use Rattle.il_machine.specs.World.{Component, Stream, Work, World, component_numbered, number_of, port_of, stream_of, is_stream_of, with_component, with_stream}
 use Rattle.il_machine.specs.Parts.{terms_of, file_format}
 use Rattle.il_machine.specs.Files.{Offered, attached, stream_with, with_file}
-use Rattle.il_machine.specs.Claims.{Carried, carried, carried_by, all_given_out, seen_work, with_work}
+use Rattle.il_machine.specs.Claims.{all_given_out, seen_work, with_work}
 use Rattle.il_machine.specs.Stepping.{Done}
 use Rattle.il_machine.specs.Finishing.{part_by, part_after, gone_through, announced, announced_at, stepped_back, with_landed}
 use Rattle.il_machine.specs.Whole.{PartSeen, HasDone, HasParts, IsOut}
+use Rattle.il_machine.proofs.Carrying.{held_out, carried_same}
 use Rattle.whole_laws.proofs.Lists.{get_set_same, get_set_other}
 use Rattle.whole_laws.proofs.Noting.{IsOnly}
 use Rattle.whole_laws.proofs.Parts.{done_alike}
@@ -102,40 +99,11 @@ parts_claimed parts w i c work at P = λ j x s e out st.
     (y.0, get_set_other parts i j None z ∙ y.1, y.2) in
     elim (eqb_tells j i) [ inl z ↦ own z.1 | inr z ↦ other z.1 ]
 
--- what a header shows its holder doesn't tell its owner
-held_as : (m n : ℕ) (o : Owner) (hs : List HeaderRecord) → option_map held (find_header m (changed n (given_to o) hs)) ≡ option_map held (find_header m hs)
-held_as m n o [] = refl
-held_as m n o (r ∷ hs) = elim (has_number n r) as (λ b. has_number n r ≡ b → option_map held (find_header m (changed n (given_to o) (r ∷ hs))) ≡ option_map held (find_header m (r ∷ hs))) [
-  | true ↦ λ e. elim (has_number m r) as (λ b. has_number m r ≡ b → option_map held (find_header m (changed n (given_to o) (r ∷ hs))) ≡ option_map held (find_header m (r ∷ hs))) [ true ↦ λ q. rw (e, q) refl | false ↦ λ q. rw (e, q) refl ] refl
-  | false ↦ λ e. elim (has_number m r) as (λ b. has_number m r ≡ b → option_map held (find_header m (changed n (given_to o) (r ∷ hs))) ≡ option_map held (find_header m (r ∷ hs))) [
-    | true ↦ λ q. rw (e, q) refl
-    | false ↦ λ q. rw (e, q) (held_as m n o hs)
-  ] refl
-] refl
-
-held_out : (m k : ℕ) (ps : List Picked) (hs : List HeaderRecord) → option_map held (find_header m (all_given_out k ps hs)) ≡ option_map held (find_header m hs)
-held_out m k [] hs = refl
-held_out m k (p ∷ ps) hs = held_out m k ps (changed p.number (given_to (owners.Work k)) hs) ∙ held_as m p.number (owners.Work k) hs
-
-abbrev carried_as : ℕ → Option Held → List Carried → List Carried
-carried_as port None rest = rest
-carried_as port (Some h) rest = record { port = port; header = h } ∷ rest
-
-carried_by_held : (port : ℕ) (o : Option HeaderRecord) (rest : List Carried) → carried_by port o rest ≡ carried_as port (option_map held o) rest
-carried_by_held port None rest = refl
-carried_by_held port (Some r) rest = refl
-
-pub carried_same : (hs ks : List HeaderRecord) (ps : List Picked) → ((m : ℕ) → option_map held (find_header m ks) ≡ option_map held (find_header m hs)) → carried ks ps ≡ carried hs ps
-carried_same hs ks [] h = refl
-carried_same hs ks (p ∷ ps) h =
-    carried_by_held p.port (find_header p.number ks) (carried ks ps)
-    ∙ ((λ i. carried_as p.port (h p.number i) (carried_same hs ks ps h i)) ∙ sym (carried_by_held p.port (find_header p.number hs) (carried hs ps)))
-
 -- the work that went out is the one that the world shows, with the part that was kept
 pub out_claimed : (w : World) (i : ℕ) (c : Component) (work : Work) (s : Stream) (p : PartSeen) → component_numbered (number_of c) (with_work i c work w) ≡ Some (record c { work = Some work }) → stream_of (number_of c) w ≡ Some s
     → HasDone (terms_of c) c.part.failed s p → IsOut (with_work i c work w) (seen_work c work w.headers) p
 out_claimed w i c work s p n st H =
-    let e = carried_same w.headers (all_given_out (number_of c) work.headers w.headers) work.headers (λ m. held_out m (number_of c) work.headers w.headers) in
+    let e = carried_same w.headers (all_given_out (number_of c) work.headers w.headers) work.headers (λ j x f. held_out x.number (number_of c) work.headers w.headers) in
     rw (n, st) (rw e refl, H)
 
 -- ---- a work comes back
