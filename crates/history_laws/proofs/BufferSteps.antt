@@ -33,6 +33,8 @@ use Rattle.history_laws.proofs.Growth.{Grows, grows_not, fails}
 use Rattle.history_laws.proofs.Quiet.{Nothing as Silent, first_note}
 use Rattle.history_laws.proofs.Births.{TellsNothing, silent_same, silent_set, silent_taken}
 use Rattle.history_laws.proofs.Carried.{Still, Made, Gone, Moved}
+use Rattle.history_laws.proofs.Out.{works_same, works_set}
+use Rattle.history_laws.proofs.StillOut.{still_unpopulated, still_taken}
 use Rattle.history_laws.proofs.Homes.{found_state, set_in, client_home, noted_owner}
 use Rattle.history_laws.proofs.Outcome.{turn, Turn, Outcome, done, Nothing, IsNamed, answers, answers_or_memory, resolving}
 use Rattle.history_laws.proofs.HeaderActs.{named_key}
@@ -44,12 +46,13 @@ named_port_is w h i c port p change N e = let a = N.place in let b = N.there in 
 -- ---- a header is made for a client port
 
 made_for : (w v after : World) (p : Port) (b : Bool) (memory : Option (List ℕ)) (header : Held) → after ≡ with_header (client_header w.made p b) memory w → header ≡ held_of (client_header w.made p b) (empty_load memory)
-    → ClosesTo (with_header (client_header w.made p b) memory w) v → Outcome w (record { moves = moved header.number Unmade client_stop; after = after }) v
+    → ClosesTo (with_header (client_header w.made p b) memory w) v → Outcome w (record { moves = moved header.number Unmade client_stop; back = None; after = after }) v
 made_for w v after p b memory header is e C =
     let mid = with_header (client_header w.made p b) memory w in
     done w v _ mid is C (record {
       silent = silent_same w mid refl refl refl;
       carried = Made (record { state = client_header w.made p b; memory = memory; number = refl; headers = refl; made = refl; home = refl; moves = ap (λ (x : Held). moved x.number Unmade client_stop) e });
+      works = works_same None w mid refl refl;
     })
 
 pub allocate_buffer : (w : World) (h : Handle) (port : ℕ) (result : Result Held CallError) (v : World) → AllocateBuffer w h port result v → Outcome w (turn w (acts.AllocateBuffer h port) (acts.Allocated result)) v
@@ -91,7 +94,7 @@ unpopulated_state : (p : Port) (c : Component) → (unpopulated p c).state ≡ c
 unpopulated_state p c = either (is_unpopulating c p) (λ t. rw t refl) (λ f. rw f refl)
 
 freed : (w v after : World) (i : ℕ) (c : Component) (p : Port) (number : ℕ) → Sound w → slice_get w.components i ≡ Some c → IsClients w number → ClosesTo (without_header number (with_component i (unpopulated p c) w)) v
-    → after ≡ without_header number (with_component i (unpopulated p c) w) → Outcome w (record { moves = moved number client_stop Unmade; after = after }) v
+    → after ≡ without_header number (with_component i (unpopulated p c) w) → Outcome w (record { moves = moved number client_stop Unmade; back = None; after = after }) v
 freed w v after i c p number S at H C is =
     let mid = without_header number (with_component i (unpopulated p c) w) in
     let r = H.was in
@@ -107,6 +110,7 @@ freed w v after i c p number S at H C is =
         home = client_home (ports_in_list w.components) r.state (set_in w number r S H.found) H.owner;
         moves = rw own refl;
       });
+      works = works_set None i w mid c (unpopulated p c) at refl refl (unpopulated_grows p c).number (λ o. still_unpopulated p c);
     })
 
 pub free_buffer : (w : World) (h : Handle) (port number : ℕ) (result : Result Bool OmxError) (v : World) → Sound w → IsWithClient number (look w) → FreeBuffer w h port number result v
@@ -122,7 +126,7 @@ free_buffer w h port number result v S M a =
 -- ---- a header that is handed in
 
 handed_in : (w v after : World) (h : Handle) (port : ℕ) (key : PortKey) (number : ℕ) (change : HeaderRecord → HeaderRecord) → ((r : HeaderRecord) → (change r).state ≡ r.state) → Sound w → key_of h port ≡ key → IsClients w number
-    → ClosesTo (with_todo key number change w) v → after ≡ with_todo key number change w → Outcome w (record { moves = moved number client_stop (port_stop (key_of h port)); after = after }) v
+    → ClosesTo (with_todo key number change w) v → after ≡ with_todo key number change w → Outcome w (record { moves = moved number client_stop (port_stop (key_of h port)); back = None; after = after }) v
 handed_in w v after h port key number change keeps S k H C is =
     let mid = with_todo key number change w in
     let r = H.was in
@@ -140,6 +144,7 @@ handed_in w v after h port key number change keeps S k H C is =
         memory = inl H.owner;
         moves = rw (own, k) refl;
       });
+      works = works_same None w mid refl refl;
     })
 
 pub empty_this_buffer : (w : World) (h : Handle) (port : ℕ) (header : Held) (result : Result (Unit {0}) OmxError) (v : World) → Sound w → IsWithClient header.number (look w) → EmptyThisBuffer w h port header result v
@@ -176,7 +181,7 @@ taken_silent w v i c note S at e cs g n = silent_taken i w v c (first_taken c) n
 
 taken_header : (w v : World) (h : Handle) (i : ℕ) (c : Component) (make : ℕ → Note) (number : ℕ) (rest : List ℕ) (r : HeaderRecord) → Sound w → IsNamed w h i c → slice_get c.notes 0 ≡ Some (make number) → note_numbers c.notes ≡ number ∷ rest
     → find_header number w.headers ≡ Some r → ClosesTo (with_client number (with_given i c (make number) w)) v
-    → Outcome w (record { moves = moved (held r).number (With (owners.Notice h.generation)) client_stop; after = at_named h w (λ i c. with_client (held r).number (with_given i c (make (held r).number) w)) }) v
+    → Outcome w (record { moves = moved (held r).number (With (owners.Notice h.generation)) client_stop; back = None; after = at_named h w (λ i c. with_client (held r).number (with_given i c (make (held r).number) w)) }) v
 taken_header w v h i c make number rest r S N e n f C =
     let note = make number in
     let mid = with_client number (with_given i c note w) in
@@ -198,6 +203,7 @@ taken_header w v h i c make number rest r S N e n f C =
         memory = inr refl;
         moves = rw (own, is) refl;
       });
+      works = works_set None i w mid c (first_taken c) N.there refl refl refl (λ o. still_taken c);
     })
 
 pub empty_first : (notes : List Note) (number : ℕ) → slice_get notes 0 ≡ Some (EmptyDone number) → note_numbers notes ≡ number ∷ note_numbers (drop 1 notes)
@@ -215,7 +221,7 @@ take_from w v h i c false (Some (Told event)) result S N e a =
     let place = N.place in
     let there = N.there in
     let after : at_named h w (λ i c. with_given i c (Told event) w) ≡ mid = rw (place, there) refl in
-    rw a.0 (done w v _ mid after a.1 (record { silent = taken_silent w mid i c (Told event) S N.there e refl refl refl; carried = Still (record { headers = refl; made = refl; moves = refl }) }))
+    rw a.0 (done w v _ mid after a.1 (record { silent = taken_silent w mid i c (Told event) S N.there e refl refl refl; carried = Still (record { headers = refl; made = refl; moves = refl }); works = works_set None i w mid c (first_taken c) N.there refl refl refl (λ o. still_taken c) }))
 take_from w v h i c false (Some (EmptyDone number)) result S N e a =
     let r = there_is (find_header number w.headers) _ a in
     rw (r.2).0 (taken_header w v h i c (λ n. EmptyDone n) number (note_numbers (drop 1 c.notes)) r.0 S N e (empty_first c.notes number e) r.1 (r.2).1)

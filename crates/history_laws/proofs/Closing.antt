@@ -6,13 +6,15 @@ use Rattle.il_machine.specs.declared.answer.Pending.{Pending}
 use Rattle.il_machine.specs.declared.port.Mode.TheVariants.{Steady}
 use Rattle.il_machine.specs.declared.port.Port.{Port}
 use Rattle.il_machine.specs.World.{Component, World, with_port, port_of, told}
-use Rattle.il_machine.specs.Headers.{seen, Once}
+use Rattle.il_machine.specs.Headers.{seen, find_header, Once}
 use Rattle.il_machine.specs.Due.{Thing, Transition, Flush, PortMode, WaitingMark, due_in, arrived, mode_completion, all_told, transition_happened, at_port, flush_happened, mode_happened, mark_happened, happened, Happens, HappenTimes}
 use Rattle.il_machine.specs.Queued.{Tells}
 use Rattle.machine_laws.proofs.Lookups.{port_parts}
 use Rattle.history_laws.proofs.Growth.{Says, says_not, says, says_after}
 use Rattle.history_laws.proofs.Happening.{Passes, target_due, arrival_grows, arrival_passes, mode_grows, mode_passes}
-use Rattle.history_laws.proofs.Owners.{Settles, settles_not, settles_on, port_settles, arrival_settles, mark_settles}
+use Rattle.history_laws.proofs.Owners.{Settles, settles_not, settles_on, port_settles, arrival_settles, mark_settles, IsAway, port_outs, arrival_outs, mark_outs}
+use Rattle.history_laws.proofs.Out.{IsStillOut, still_itself}
+use Rattle.history_laws.proofs.StillOut.{still_done, still_arrived}
 
 -- The thing of the component c, which is at the place i, happened.
 pub record IsHappening (i : ℕ) (c : Component) (thing : Thing) (w v : World) : Type 0 where
@@ -24,6 +26,9 @@ pub record IsHappening (i : ℕ) (c : Component) (thing : Thing) (w v : World) :
   pub made : v.made ≡ w.made
   pub numbered : v.numbered ≡ w.numbered
   pub settles : Once w.headers → Settles w.headers v.headers
+  pub still : IsStillOut c component
+  pub streams : v.streams ≡ w.streams
+  pub outs : Once w.headers → (m : ℕ) → IsAway m w.headers → find_header m v.headers ≡ find_header m w.headers
 
 set_same : {X : Type 0} (xs : List X) (i : ℕ) (x : X) → slice_get xs i ≡ Some x → xs ≡ set xs i x
 set_same [] i x e = refl
@@ -40,6 +45,9 @@ nothing_happened i c thing w at p = record {
   made = refl;
   numbered = refl;
   settles = settles_not w.headers;
+  still = still_itself c;
+  streams = refl;
+  outs = λ o m a. refl;
 }
 
 key_is_port : (c : Component) (port : ℕ) (p : Port) → port_of c port ≡ Some p → port ≡ p.key.port
@@ -61,6 +69,9 @@ flushed i c port p w at e =
       made = refl;
       numbered = refl;
       settles = λ o. port_settles p w.headers o;
+      still = still_done (CmdComplete (completions.Flush p.key.port) ∷ []) port p (record p.state { flushing = false }) c e refl;
+      streams = refl;
+      outs = λ o n a. port_outs p n w.headers o a;
     }
 
 marked_so : (i : ℕ) (c : Component) (port : ℕ) (p : Port) (w : World) → slice_get w.components i ≡ Some c → port_of c port ≡ Some p → IsHappening i c (WaitingMark port) w (mark_happened i c p w)
@@ -76,6 +87,9 @@ marked_so i c port p w at e =
       made = refl;
       numbered = refl;
       settles = λ o. mark_settles ((seen w.headers).unmarked p.key) p.state.waiting_mark w.headers o;
+      still = still_done (CmdComplete (completions.Mark p.key.port) ∷ []) port p (record p.state { waiting_mark = None }) c e refl;
+      streams = refl;
+      outs = λ o n a. mark_outs p.key p.state.waiting_mark n w.headers o a;
     }
 
 steadied : (i : ℕ) (c : Component) (port : ℕ) (p : Port) (w : World) → slice_get w.components i ≡ Some c → port_of c port ≡ Some p → IsHappening i c (PortMode port) w (mode_happened i c p w)
@@ -93,6 +107,9 @@ steadied i c port p w at e =
       made = refl;
       numbered = refl;
       settles = settles_not w.headers;
+      still = still_done (mode_completion p.state.mode p.key.port) port p (record p.state { mode = Steady }) c e refl;
+      streams = refl;
+      outs = λ o n a. refl;
     }
 
 at_port_happens : (i : ℕ) (c : Component) (thing : Thing) (w : World) (o : Option Port) (change : Port → World → World) → slice_get w.components i ≡ Some c → Passes c thing c
@@ -110,6 +127,9 @@ arrival i c p w at e = record {
   made = refl;
   numbered = refl;
   settles = λ o. arrival_settles c p.target w.headers o;
+  still = still_arrived w.waits p c;
+  streams = refl;
+  outs = λ o m a. arrival_outs c p.target m w.headers o a;
 }
 
 is_happening : (i : ℕ) (c : Component) (thing : Thing) (w : World) → slice_get w.components i ≡ Some c → due_in (seen w.headers) c ≡ Some thing → IsHappening i c thing w (happened i c thing w)

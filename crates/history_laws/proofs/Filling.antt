@@ -4,7 +4,6 @@ use Rattle.std.proofs.lemmas.Bool.{cases_eq}
 use Rattle.omx_types.specs.declared.fault.PartFault.{PartFault}
 use Rattle.part_api.specs.Streams.{Incoming}
 use Rattle.il_machine.specs.declared.answer.Acted.TheVariants.{Did}
-use Rattle.il_machine.specs.declared.header.Owner.{Owner}
 use Rattle.il_machine.specs.declared.header.Owner.TheVariants as owners
 use Rattle.il_machine.specs.declared.port.Link.{Link}
 use Rattle.il_machine.specs.declared.port.PortKey.{PortKey}
@@ -37,10 +36,10 @@ use Rattle.history_laws.proofs.WorkSteps.{IsBackOf, back_of, landing_of, announc
 
 -- ---- moves from a work
 
-single : (m n : Move) (ms : List Move) → (m ∷ ms) ≡ (n ∷ []) → m ≡ n
+pub single : (m n : Move) (ms : List Move) → (m ∷ ms) ≡ (n ∷ []) → m ≡ n
 single m n ms e = cc
 
-none_moved : (n : Move) → [] ≡ (n ∷ []) → ⊥
+pub none_moved : (n : Move) → [] ≡ (n ∷ []) → ⊥
 none_moved n e = cc
 
 not_this : (number : ℕ) (m : Move) (k : ℕ) (to : Stop) → m.from ≢ With (owners.Work k) → trail number (m ∷ []) ≡ moved number (With (owners.Work k)) to → ⊥
@@ -89,27 +88,27 @@ not_claimed j (x ∷ xs) number k end e =
 not_one : (number n : ℕ) (from to : Stop) (k : ℕ) (end : Stop) → from ≢ With (owners.Work k) → trail number (moved n from to) ≡ moved number (With (owners.Work k)) end → ⊥
 not_one number n from to k end a e = not_this number (record { header = n; from = from; to = to }) k end a e
 
-from_none : (number k : ℕ) (to : Owner) → trail number [] ≡ moved number (With (owners.Work k)) (With to) → ⊥
-from_none number k to e = none_moved (record { header = number; from = With (owners.Work k); to = With to }) e
+from_none : (number k : ℕ) (to : Stop) → trail number [] ≡ moved number (With (owners.Work k)) to → ⊥
+from_none number k to e = none_moved (record { header = number; from = With (owners.Work k); to = to }) e
 
 -- any answer but that of a work that came back
 abbrev pub IsOther : Act → Reply → Type 0
 IsOther (acts.Finish done) acts.Finished = ⊥
 IsOther a r = Unit {0}
 
-pub from_no_work : (w : World) (a : Act) (r : Reply) (number k : ℕ) (to : Owner) → IsOther a r → trail number (moves w a r) ≡ moved number (With (owners.Work k)) (With to) → ⊥
-from_no_work w (acts.AllocateBuffer h port) (acts.Allocated (Ok header)) number k to o e = not_one number header.number Unmade client_stop k (With to) (λ q. absurd cc) e
-from_no_work w (acts.UseBuffer h port bytes) (acts.Used (Ok header)) number k to o e = not_one number header.number Unmade client_stop k (With to) (λ q. absurd cc) e
-from_no_work w (acts.FreeBuffer h port header) (acts.Freed (Ok memory)) number k to o e = not_one number header client_stop Unmade k (With to) (λ q. absurd cc) e
-from_no_work w (acts.EmptyThisBuffer h port header) (acts.Plain (Ok done)) number k to o e = not_one number header.number client_stop _ k (With to) (λ q. absurd cc) e
-from_no_work w (acts.FillThisBuffer h port header) (acts.Plain (Ok done)) number k to o e = not_one number header.number client_stop _ k (With to) (λ q. absurd cc) e
-from_no_work w (acts.TakeNote h) (acts.Took (Ok (TookNote (TakenEmpty header)))) number k to o e = not_one number header.number _ client_stop k (With to) (λ q. absurd cc) e
-from_no_work w (acts.TakeNote h) (acts.Took (Ok (TookNote (TakenFilled header)))) number k to o e = not_one number header.number _ client_stop k (With to) (λ q. absurd cc) e
-from_no_work w (acts.Supply h port) (acts.Supplied (Ok Did)) number k to o e = not_one number w.made Unmade _ k (With to) (λ q. absurd cc) e
-from_no_work w (acts.Release h port) (acts.Acted (Ok Did)) number k to o e = not_released w (port_named h port w) number k (With to) e
-from_no_work w (acts.HandOver h port) (acts.Acted (Ok Did)) number k to o e = not_handed w (port_named h port w) number k (With to) e
-from_no_work w (acts.HandBack h port) (acts.Acted (Ok Did)) number k to o e = not_handed_back w (port_named h port w) number k (With to) e
-from_no_work w (acts.Claim h) (acts.Claimed (Ok (ClaimedWork work))) number k to o e = not_claimed work.component work.headers number k (With to) e
+pub from_no_work : (w : World) (a : Act) (r : Reply) (number k : ℕ) (to : Stop) → IsOther a r → trail number (moves w a r) ≡ moved number (With (owners.Work k)) to → ⊥
+from_no_work w (acts.AllocateBuffer h port) (acts.Allocated (Ok header)) number k to o e = not_one number header.number Unmade client_stop k to (λ q. absurd cc) e
+from_no_work w (acts.UseBuffer h port bytes) (acts.Used (Ok header)) number k to o e = not_one number header.number Unmade client_stop k to (λ q. absurd cc) e
+from_no_work w (acts.FreeBuffer h port header) (acts.Freed (Ok memory)) number k to o e = not_one number header client_stop Unmade k to (λ q. absurd cc) e
+from_no_work w (acts.EmptyThisBuffer h port header) (acts.Plain (Ok done)) number k to o e = not_one number header.number client_stop _ k to (λ q. absurd cc) e
+from_no_work w (acts.FillThisBuffer h port header) (acts.Plain (Ok done)) number k to o e = not_one number header.number client_stop _ k to (λ q. absurd cc) e
+from_no_work w (acts.TakeNote h) (acts.Took (Ok (TookNote (TakenEmpty header)))) number k to o e = not_one number header.number _ client_stop k to (λ q. absurd cc) e
+from_no_work w (acts.TakeNote h) (acts.Took (Ok (TookNote (TakenFilled header)))) number k to o e = not_one number header.number _ client_stop k to (λ q. absurd cc) e
+from_no_work w (acts.Supply h port) (acts.Supplied (Ok Did)) number k to o e = not_one number w.made Unmade _ k to (λ q. absurd cc) e
+from_no_work w (acts.Release h port) (acts.Acted (Ok Did)) number k to o e = not_released w (port_named h port w) number k to e
+from_no_work w (acts.HandOver h port) (acts.Acted (Ok Did)) number k to o e = not_handed w (port_named h port w) number k to e
+from_no_work w (acts.HandBack h port) (acts.Acted (Ok Did)) number k to o e = not_handed_back w (port_named h port w) number k to e
+from_no_work w (acts.Claim h) (acts.Claimed (Ok (ClaimedWork work))) number k to o e = not_claimed work.component work.headers number k to e
 from_no_work w (acts.Finish done) acts.Finished number k to o e = absurd o
 from_no_work w _ _ number k to o e = from_none number k to e
 

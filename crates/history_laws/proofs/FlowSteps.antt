@@ -23,9 +23,10 @@ use Rattle.machine_laws.proofs.Lookups.{port_there_at}
 use Rattle.machine_laws.proofs.Parts.{parts_of, ports_in_list}
 use Rattle.history_laws.proofs.Births.{silent_same}
 use Rattle.history_laws.proofs.Carried.{Made}
+use Rattle.history_laws.proofs.Out.{works_same}
 use Rattle.history_laws.proofs.Homes.{set_in, supplier_joined, supplier_home}
 use Rattle.history_laws.proofs.BufferSteps.{named_port_is}
-use Rattle.history_laws.proofs.HeaderActs.{front_ends, in_port_of, over_moves, over_silent, back_moves, back_silent, unmade_silent, named_port, named_key, key_component}
+use Rattle.history_laws.proofs.HeaderActs.{front_ends, in_port_of, over_moves, over_silent, back_moves, back_silent, unmade_silent, unmade_works, over_works, back_works, named_port, named_key, key_component}
 use Rattle.history_laws.proofs.Outcome.{turn, Turn, Outcome, done, acts as acts_come, acts_or_memory, on_port}
 
 -- what supplies or releases is the supplier
@@ -57,6 +58,7 @@ supply w h port result v a =
         home = refl;
         moves = ap (λ (k : PortKey). moved w.made Unmade (port_stop k)) (named_key w h i c port p named e);
       });
+      works = works_same None w mid refl refl;
     })))
 
 -- ---- release
@@ -74,6 +76,7 @@ release w h port result v S a =
       silent = unmade_silent w (in_port (seen w.headers) p);
       carried = front_ends w p.key (in_port (seen w.headers) p) (in_port_of w p S.once)
           (λ k r f own. supplier_home (ports_in_list w.components) w p.key p r.state ((parts_of w S).tied) there supplies (set_in w k r S f) own);
+      works = unmade_works w (in_port (seen w.headers) p);
     }))))
 
 -- ---- hand_over and hand_back
@@ -85,7 +88,7 @@ hand_over w h port result v S a =
     let mid = handed_over p w in
     acts_come (over_idle (look w) c p) result w mid v ms (λ y. refl) b (λ n C.
     let at = named_port w h i c port p named e in
-    rw at (done w v _ mid (named_port_is w h i c port p (λ i c p. handed_over p w) named e) C (record { silent = over_silent w p p.state.link; carried = over_moves w p p.state.link S.once }))))
+    rw at (done w v _ mid (named_port_is w h i c port p (λ i c p. handed_over p w) named e) C (record { silent = over_silent w p p.state.link; carried = over_moves w p p.state.link S.once; works = over_works w p p.state.link }))))
 
 pub hand_back : (w : World) (h : Handle) (port : ℕ) (result : Result Acted OmxError) (v : World) → Sound w → HandBack w h port result v → Outcome w (turn w (acts.HandBack h port) (acts.Acted result)) v
 hand_back w h port result v S a =
@@ -94,4 +97,4 @@ hand_back w h port result v S a =
     let mid = handed_back i c p p.state.link w in
     acts_come (back_idle (look w) c p) result w mid v ms (λ y. refl) b (λ n C.
     let at = named_port w h i c port p named e in
-    rw at (done w v _ mid (named_port_is w h i c port p (λ i c p. handed_back i c p p.state.link w) named e) C (record { silent = back_silent i c p w p.state.link named.there; carried = back_moves i c p w p.state.link S.once (key_component c port p e) }))))
+    rw at (done w v _ mid (named_port_is w h i c port p (λ i c p. handed_back i c p p.state.link w) named e) C (record { silent = back_silent i c p w p.state.link named.there; carried = back_moves i c p w p.state.link S.once (key_component c port p e); works = back_works i c p w p.state.link named.there }))))

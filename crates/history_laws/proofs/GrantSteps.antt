@@ -19,6 +19,7 @@ use Rattle.machine_laws.proofs.Arriving.{losing}
 use Rattle.machine_laws.proofs.Granting.{best_among, victim_there, changed_there, preempted_by, on_its_way, marked, ending, told_loss}
 use Rattle.history_laws.proofs.Growth.{Grows, grows_not, grows_on, grows_by, none_in, fails}
 use Rattle.history_laws.proofs.Quiet.{KeepsState, Nothing as Silent}
+use Rattle.history_laws.proofs.StillOut.{still_granted, still_preempted}
 use Rattle.history_laws.proofs.Outcome.{Outcome, nothing_by}
 use Rattle.history_laws.proofs.ComponentActs.{unmoving, one_changed}
 use Rattle.history_laws.proofs.Twice.{IsSame, nothing_twice, closed_twice}
@@ -49,7 +50,7 @@ granted w v None (Some c) answer e S G =
     let A = best_among is_waiter is_before w.components c e in
     let is = changed_there granted_units w A.place c S.rising A.there in
     let after : effect w acts.Grant (acts.Granted answer) ≡ with_component A.place (granted_units c) w = rw G.0 (found_is (first_waiter w.components) c w (λ d. with_changed granted_units d w) e ∙ is) in
-    one_changed w v (effect w acts.Grant (acts.Granted answer)) A.place c (granted_units c) after A.there (granted_grows c) (inl refl) (subst (λ (x : World). ClosesTo x v) is G.1)
+    one_changed w v (effect w acts.Grant (acts.Granted answer)) A.place c (granted_units c) after A.there (granted_grows c) (inl refl) (λ o. still_granted c) (subst (λ (x : World). ClosesTo x v) is G.1)
 
 pub grant : (w : World) (answer : Granted) (v : World) → Sound w → Grant w answer v → Outcome w (unmoving (effect w acts.Grant (acts.Granted answer))) v
 grant w answer v S G = granted w v (grant_idle (look w)) (first_waiter w.components) answer refl S G
@@ -72,7 +73,7 @@ preempted w v None (Some c) answer e S G =
     let A = victim_there w c S e in
     let is = changed_there preempted_units w A.place c S.rising A.there in
     let after : effect w acts.Preempt (acts.Preempted answer) ≡ with_component A.place (preempted_units c) w = rw G.0 (found_is (victim w.components) c w (λ d. with_changed preempted_units d w) e ∙ is) in
-    one_changed w v (effect w acts.Preempt (acts.Preempted answer)) A.place c (preempted_units c) after A.there (preempted_grows c) (preempted_keeps c) (subst (λ (x : World). ClosesTo x v) is G.1)
+    one_changed w v (effect w acts.Preempt (acts.Preempted answer)) A.place c (preempted_units c) after A.there (preempted_grows c) (preempted_keeps c) (λ o. still_preempted c) (subst (λ (x : World). ClosesTo x v) is G.1)
 
 pub preempt : (w : World) (answer : Preempted) (v : World) → Sound w → Preempt w answer v → Outcome w (unmoving (effect w acts.Preempt (acts.Preempted answer))) v
 preempt w answer v S G = preempted w v (preempt_idle (look w)) (victim w.components) answer refl S G

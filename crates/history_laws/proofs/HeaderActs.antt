@@ -24,6 +24,8 @@ use Rattle.history_laws.proofs.Quiet.{Nothing as Silent}
 use Rattle.history_laws.proofs.Births.{TellsNothing, silent_same, silent_set}
 use Rattle.history_laws.proofs.Owners.{AreIn, in_todo_of, in_done_of}
 use Rattle.history_laws.proofs.Carried.{Carried, Still, Gone, Moved}
+use Rattle.history_laws.proofs.Out.{WorksStay, works_same, works_set}
+use Rattle.history_laws.proofs.StillOut.{still_noted}
 use Rattle.history_laws.proofs.Outcome.{IsNamed, silent_itself}
 
 -- ---- the front of a list of a port
@@ -130,6 +132,34 @@ back_silent i c p w (Some link) at = returned_silent w link.peer (is_input_port 
 pub unmade_silent : (w : World) (ns : List ℕ) → TellsNothing w (front_unmade ns w)
 unmade_silent w [] = silent_itself w
 unmade_silent w (n ∷ ns) = silent_same w (front_unmade (n ∷ ns) w) refl refl refl
+
+-- ---- works that are out
+
+put_works : (w : World) (peer : PortKey) (spot : Spot) (change : HeaderRecord → HeaderRecord) (ns : List ℕ) → WorksStay None w (front_put peer spot change ns w)
+put_works w peer spot change [] = works_same None w w refl refl
+put_works w peer spot change (n ∷ ns) = works_same None w (front_put peer spot change (n ∷ ns) w) refl refl
+
+pub over_works : (w : World) (p : Port) (link : Option Link) → WorksStay None w (at_link link (λ peer. front_put peer TodoBack unchanged ((seen w.headers).done p.key)) w)
+over_works w p None = works_same None w w refl refl
+over_works w p (Some link) = put_works w link.peer TodoBack unchanged ((seen w.headers).done p.key)
+
+returned_works : (w : World) (peer : PortKey) (b : Bool) (done todo : List ℕ) → WorksStay None w (returned peer b done todo w)
+returned_works w peer b [] todo = put_works w peer _ cleared todo
+returned_works w peer b (n ∷ done) todo = put_works w peer TodoBack unchanged (n ∷ done)
+
+noted_works : (i : ℕ) (c : Component) (p : Port) (w : World) (ns : List ℕ) → slice_get w.components i ≡ Some c → WorksStay None w (noticed i c p ns w)
+noted_works i c p w [] at = works_same None w w refl refl
+noted_works i c p w (n ∷ ns) at =
+    let note = done_note (is_input_port p) n in
+    works_set None i w (noticed i c p (n ∷ ns) w) c (noted note c) at refl refl refl (λ o. still_noted note c)
+
+pub back_works : (i : ℕ) (c : Component) (p : Port) (w : World) (link : Option Link) → slice_get w.components i ≡ Some c → WorksStay None w (put_back i c p link w)
+back_works i c p w None at = noted_works i c p w ((seen w.headers).todo p.key) at
+back_works i c p w (Some link) at = returned_works w link.peer (is_input_port p) ((seen w.headers).done p.key) ((seen w.headers).todo p.key)
+
+pub unmade_works : (w : World) (ns : List ℕ) → WorksStay None w (front_unmade ns w)
+unmade_works w [] = works_same None w w refl refl
+unmade_works w (n ∷ ns) = works_same None w (front_unmade (n ∷ ns) w) refl refl
 
 -- ---- the port that a handle and an index name
 

@@ -8,6 +8,8 @@ pub mod Quiet
 pub mod Births
 pub mod Trails
 pub mod Carried
+pub mod Out
+pub mod StillOut
 pub mod Outcome
 pub mod ComponentActs
 pub mod Homes
@@ -18,6 +20,7 @@ pub mod GrantSteps
 pub mod Shifts
 pub mod WorkSteps
 pub mod Filling
+pub mod HeldOut
 pub mod Steps
 pub mod QueueLaw
 pub mod TrailLaw

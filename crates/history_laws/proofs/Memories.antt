@@ -118,7 +118,7 @@ other_memory w a r v number before after S M h K L n o =
 pub steps_memory : (w : World) (a : Act) (r : Reply) (v : World) (number : ℕ) (before after : Option (List ℕ)) → Sound w → Meets w a → Step w a r v → HasMemory w number before → HasMemory v number after
     → number_in a r ≢ Some number → after ≡ with_front (filled_in w a number) before
 steps_memory w (acts.Finish done) acts.Finished v number before after S M h K L n = finished_memory w done v number before after S M h K L
-steps_memory w a r v number before after S M h K L n = is_unfilled w a r v number before after tt h (other_memory w a r v number before after S M h K L n (λ k to e. from_no_work w a r number k to tt e))
+steps_memory w a r v number before after S M h K L n = is_unfilled w a r v number before after tt h (other_memory w a r v number before after S M h K L n (λ k to e. from_no_work w a r number k (With to) tt e))
 
 pub closing_memory : (w v : World) (number : ℕ) (memory : Option (List ℕ)) → Sound w → ClosesTo w v → HasMemory w number memory → HasMemory v number memory
 closing_memory w v number memory S C H = closed_memory w v number memory S.once C H

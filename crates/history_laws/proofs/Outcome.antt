@@ -16,43 +16,51 @@ use Rattle.il_machine.specs.Answers.{Resolving, Answers, AnswersOrMemory, Acts, 
 use Rattle.il_machine.specs.Flow.{OnPort}
 use Rattle.il_machine.specs.Due.{ClosesTo}
 use Rattle.il_machine.specs.Acts.{Act, Reply}
+use Rattle.il_machine.specs.Acts as acts_
 use Rattle.il_machine.specs.Effect.{effect}
 use Rattle.il_machine.specs.Trails.{Move, moves}
 use Rattle.machine_laws.proofs.Keys.{there_is}
 use Rattle.il_machine.proofs.Places.{is_first_place, passes_at}
 use Rattle.history_laws.proofs.Births.{TellsNothing, silent_same}
 use Rattle.history_laws.proofs.Carried.{Carried, Still}
+use Rattle.history_laws.proofs.Out.{WorksStay, works_same}
 
--- The act tells no completion, keeps each state or makes it Invalid, and moves headers so.
-pub record Effect (w : World) (ms : List Move) (v : World) : Type 0 where
+-- The act tells no completion, keeps each state or makes it Invalid, moves headers so, and brings back this component's work alone.
+pub record Effect (w : World) (ms : List Move) (back : Option ℕ) (v : World) : Type 0 where
   pub silent : TellsNothing w v
   pub carried : Carried w ms v
+  pub works : WorksStay back w v
 
--- what an answer makes of a world: the moves of headers, and the world before the close-out
+-- what an answer makes of a world: the moves of headers, the component whose work comes back, and the world before the close-out
 pub record Turn : Type 0 where
   pub moves : List Move
+  pub back : Option ℕ
   pub after : World
 
+abbrev pub brought_back : Act → Reply → Option ℕ
+brought_back (acts_.Finish done) acts_.Finished = Some done.component
+brought_back _ _ = None
+
 abbrev pub turn : World → Act → Reply → Turn
-turn w a r = record { moves = moves w a r; after = effect w a r }
+turn w a r = record { moves = moves w a r; back = brought_back a r; after = effect w a r }
 
 -- nothing moves or changes
 abbrev pub no_turn : World → Turn
-no_turn w = record { moves = []; after = w }
+no_turn w = record { moves = []; back = None; after = w }
 
 pub data Outcome (w : World) (t : Turn) (v : World) : Type 0 where
   Nothing : v ≡ w → t ≡ no_turn w → Outcome w t v
-  Done : ClosesTo t.after v → Effect w t.moves t.after → Outcome w t v
+  Done : ClosesTo t.after v → Effect w t.moves t.back t.after → Outcome w t v
 
-pub done : (w v : World) (t : Turn) (mid : World) → t.after ≡ mid → ClosesTo mid v → Effect w t.moves mid → Outcome w t v
-done w v t mid e C E = Done (subst (λ (x : World). ClosesTo x v) (sym e) C) (subst (λ (x : World). Effect w t.moves x) (sym e) E)
+pub done : (w v : World) (t : Turn) (mid : World) → t.after ≡ mid → ClosesTo mid v → Effect w t.moves t.back mid → Outcome w t v
+done w v t mid e C E = Done (subst (λ (x : World). ClosesTo x v) (sym e) C) (subst (λ (x : World). Effect w t.moves t.back x) (sym e) E)
 
 pub silent_itself : (w : World) → TellsNothing w w
 silent_itself w = silent_same w w refl refl refl
 
 -- the close-out alone
 pub only_closes : (w v : World) → ClosesTo w v → Outcome w (no_turn w) v
-only_closes w v C = Done C (record { silent = silent_itself w; carried = Still (record { headers = refl; made = refl; moves = refl }) })
+only_closes w v C = Done C (record { silent = silent_itself w; carried = Still (record { headers = refl; made = refl; moves = refl }); works = works_same None w w refl refl })
 
 pub looks : {T : Type 0} (answer result : Result T OmxError) (w v : World) → Looks answer result w v → Outcome w (no_turn w) v
 looks (Ok x) result w v h = only_closes w v h.1

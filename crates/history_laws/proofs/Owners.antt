@@ -1,5 +1,5 @@
 -- Homes, owners and memories of headers stay as they are while things happen.
-use Rattle.std.proofs.Common.{◌≡◌, ◌≢◌, inl, inr, ℕ, Bool, true, false, List, [], ◌∷◌, Option, Some, None, option_map, refl, sym, ◌∙◌, ap}
+use Rattle.std.proofs.Common.{◌≡◌, ◌≢◌, inl, inr, ℕ, Bool, true, false, List, [], ◌∷◌, Option, Some, None, is_none, option_map, refl, sym, ◌∙◌, ap}
 use Rattle.std.proofs.lemmas.Bool.{cases_eq, and_parts}
 use Rattle.omx_types.specs.declared.state.State.{State}
 use Rattle.omx_types.specs.declared.state.State.TheVariants.{Invalid, Loaded, Idle, Executing, Pause, WaitForResources}
@@ -14,10 +14,11 @@ use Rattle.il_machine.specs.declared.port.Port.{Port}
 use Rattle.il_machine.specs.declared.port.PortKey.{PortKey}
 use Rattle.il_machine.specs.States.{is_down}
 use Rattle.il_machine.specs.World.{Component, HeaderRecord, ports_of}
-use Rattle.il_machine.specs.Headers.{seen, find_header, has_number, numbers, is_state, in_todo, in_done, is_owned_by, is_todo, is_done, Once, changed, put, put_all, cleared_all, cleared, reset, put_at}
+use Rattle.il_machine.specs.Headers.{seen, find_header, has_number, numbers, is_state, in_todo, in_done, in_unmarked, is_owned_by, is_todo, is_done, Once, changed, put, put_all, cleared_all, cleared, reset, put_at}
 use Rattle.il_machine.specs.Ports.{is_supplier, is_input_port}
 use Rattle.il_machine.specs.Due.{reset_port, reset_ports, reset_on, marked, first_marked}
-use Rattle.machine_laws.proofs.Finding.{either, found_head, found_tail, once_changed}
+use Rattle.machine_laws.proofs.Finding.{either, found_head, found_tail, changed_else, once_changed}
+use Rattle.machine_laws.proofs.Listed.{AreListed, numbers_listed}
 use Rattle.machine_laws.proofs.Replacing.{IsReplaced, replaced_put}
 use Rattle.machine_laws.proofs.Keys.{key_is, none_or_some}
 use Rattle.history_laws.specs.Memory.{memory_of, memory_at}
@@ -200,3 +201,76 @@ arrival_settles c WaitForResources hs o = settles_not hs o
 pub mark_settles : (ns : List ℕ) (mark : Option Mark) (hs : List HeaderRecord) → Once hs → Settles hs (first_marked ns mark hs)
 mark_settles [] mark hs o = settles_not hs o
 mark_settles (n ∷ ns) mark hs o = settles_changed (marked mark) (λ r. refl) (λ r. refl) n hs o
+
+-- ---- a header in a work is in no list, and stays as it is
+
+-- the header of the number is in a work
+abbrev pub IsAway : ℕ → List HeaderRecord → Type 0
+IsAway m hs = (r : HeaderRecord) × (k : ℕ) × (find_header m hs ≡ Some r) × (r.state.owner ≡ owners.Work k)
+
+pub away_stays : (m : ℕ) (hs ks : List HeaderRecord) → find_header m ks ≡ find_header m hs → IsAway m hs → IsAway m ks
+away_stays m hs ks e (r, k, f, o) = (r, k, e ∙ f, o)
+
+away_apart : (m n : ℕ) (key : PortKey) (hs : List HeaderRecord) → IsAway m hs → IsIn key n hs → m ≢ n
+away_apart m n key hs (r, k, f, o) (s, g, p) e =
+    let a : Some s ≡ Some r = sym g ∙ (ap (λ (x : ℕ). find_header x hs) (sym e) ∙ f) in
+    let b : s ≡ r = cc in
+    let c : owners.Port key ≡ owners.Work k = sym p ∙ (ap (λ (x : HeaderRecord). x.state.owner) b ∙ o) in
+    cc
+
+put_outs : (key : PortKey) (spot : Spot) (ns : List ℕ) (m : ℕ) (hs : List HeaderRecord) → Once hs → AreIn key ns hs → IsAway m hs → find_header m (put_all key spot ns hs) ≡ find_header m hs
+put_outs key spot [] m hs o A w = refl
+put_outs key spot (n ∷ ns) m hs o A w =
+    let ks = put key spot n cleared hs in
+    let R = replaced_put key spot cleared (λ x. refl) n hs (A.0).0 o (A.0).1 in
+    let S = stays_put key spot n hs o A.0 in
+    let e = R.others m (away_apart m n key hs w A.0) in
+    put_outs key spot ns m ks S.once (are_in_stay key ns hs ks S.stands A.1) (away_stays m hs ks e w) ∙ e
+
+clear_outs : (key : PortKey) (ns : List ℕ) (m : ℕ) (hs : List HeaderRecord) → Once hs → AreIn key ns hs → IsAway m hs → find_header m (cleared_all ns hs) ≡ find_header m hs
+clear_outs key [] m hs o A w = refl
+clear_outs key (n ∷ ns) m hs o A w =
+    let ks = changed n cleared hs in
+    let S = settles_changed cleared (λ r. refl) (λ r. refl) n hs o in
+    let e = changed_else cleared (λ r. refl) n m hs (away_apart m n key hs w A.0) in
+    clear_outs key ns m ks S.once (are_in_stay key ns hs ks S.stands A.1) (away_stays m hs ks e w) ∙ e
+
+both_outs : (key : PortKey) (spot : Spot) (ns ms : List ℕ) (m : ℕ) (hs : List HeaderRecord) → Once hs → AreIn key ns hs → AreIn key ms hs → IsAway m hs → find_header m (put_all key spot ns (cleared_all ms hs)) ≡ find_header m hs
+both_outs key spot ns ms m hs o A B w =
+    let ks = cleared_all ms hs in
+    let S = clear_each ms hs o in
+    let e = clear_outs key ms m hs o B w in
+    put_outs key spot ns m ks S.once (are_in_stay key ns hs ks S.stands A) (away_stays m hs ks e w) ∙ e
+
+reset_outs : (b : Bool) (key : PortKey) (m : ℕ) (hs : List HeaderRecord) → Once hs → IsAway m hs → find_header m (reset b key hs) ≡ find_header m hs
+reset_outs true key m hs o w = both_outs key DoneBack ((seen hs).todo key) ((seen hs).done key) m hs o (in_todo_of key hs o) (in_done_of key hs o) w
+reset_outs false key m hs o w = both_outs key TodoBack ((seen hs).done key) ((seen hs).todo key) m hs o (in_done_of key hs o) (in_todo_of key hs o) w
+
+pub port_outs : (p : Port) (m : ℕ) (hs : List HeaderRecord) → Once hs → IsAway m hs → find_header m (reset_port p hs) ≡ find_header m hs
+port_outs p m hs o w = either (is_supplier p) (λ t. rw t (reset_outs (is_input_port p) p.key m hs o w)) (λ f. rw f refl)
+
+ports_outs : (ps : List Port) (m : ℕ) (hs : List HeaderRecord) → Once hs → IsAway m hs → find_header m (reset_ports ps hs) ≡ find_header m hs
+ports_outs [] m hs o w = refl
+ports_outs (p ∷ ps) m hs o w =
+    let ks = reset_port p hs in
+    let e = port_outs p m hs o w in
+    ports_outs ps m ks (port_settles p hs o).once (away_stays m hs ks e w) ∙ e
+
+pub arrival_outs : (c : Component) (target : State) (m : ℕ) (hs : List HeaderRecord) → Once hs → IsAway m hs → find_header m (reset_on c target hs) ≡ find_header m hs
+arrival_outs c Idle m hs o w = either (is_down c.state) (λ t. rw t refl) (λ f. rw f (ports_outs (ports_of c) m hs o w))
+arrival_outs c Invalid m hs o w = refl
+arrival_outs c Loaded m hs o w = refl
+arrival_outs c Executing m hs o w = refl
+arrival_outs c Pause m hs o w = refl
+arrival_outs c WaitForResources m hs o w = refl
+
+unmarked_outs : (key : PortKey) (ns : List ℕ) (mark : Option Mark) (m : ℕ) (hs : List HeaderRecord) → AreListed (in_unmarked key) hs ns → IsAway m hs → find_header m (first_marked ns mark hs) ≡ find_header m hs
+unmarked_outs key [] mark m hs A w = refl
+unmarked_outs key (n ∷ ns) mark m hs A w =
+    let L = A.0 in
+    let t : in_todo key (L.header).state ≡ true = (and_parts (in_todo key (L.header).state) (is_none (L.header).load.mark) L.passes).0 in
+    let o : (L.header).state.owner ≡ owners.Port key = owned_is key (L.header).state.owner (and_parts (is_todo (L.header).state.place) (is_owned_by key (L.header).state.owner) t).1 in
+    changed_else (marked mark) (λ r. refl) n m hs (away_apart m n key hs w (L.header, L.found, o))
+
+pub mark_outs : (key : PortKey) (mark : Option Mark) (m : ℕ) (hs : List HeaderRecord) → Once hs → IsAway m hs → find_header m (first_marked ((seen hs).unmarked key) mark hs) ≡ find_header m hs
+mark_outs key mark m hs o w = unmarked_outs key ((seen hs).unmarked key) mark m hs (numbers_listed (in_unmarked key) hs o) w

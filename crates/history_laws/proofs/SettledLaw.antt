@@ -234,7 +234,7 @@ outcome_idle w v t old number c d S T (Nothing e m) was r is idle =
     let f : c ≡ d = cc in
     absurd (never_idle d idle (inl (rw (← f) r)))
 outcome_idle w v t old number c d S T (Done C E) was r is idle =
-    let x = effect_trails w t.after old t.moves S T E in
+    let x = effect_trails w t.after old t.moves t.back S T E in
     let m = was_there C.steps number t.after v d C.by_steps is in
     let k = ((E.silent).quiet number c m.0 was m.1).1 in
     elim (closing_idle C.steps t.after v (old ++ t.moves) number m.0 d C.by_steps x.1 x.0 m.1 (kept_away c m.0 r k) is) [

@@ -17,18 +17,18 @@ use Rattle.history_laws.proofs.WorkSteps.{attach, claim, finish}
 use Rattle.history_laws.proofs.FlowSteps.{supply, release, hand_over, hand_back}
 
 pub comes_after : (w : World) (a : Act) (r : Reply) (v : World) → Sound w → HandsIn w a → Step w a r v → Outcome w (turn w a r) v
-comes_after w (acts.GetHandle name) (acts.Got result) v S M h = get_handle w name result v h
+comes_after w (acts.GetHandle name) (acts.Got result) v S M h = get_handle w name result v S h
 comes_after w (acts.FreeHandle x) (acts.Removed result) v S M h = free_handle w x result v S h
-comes_after w (acts.Attach x file) (acts.Plain result) v S M h = attach w x file result v h
+comes_after w (acts.Attach x file) (acts.Plain result) v S M h = attach w x file result v S h
 comes_after w (acts.GetState x) (acts.Stated result) v S M h = looks (state_answer x (look w)) result w v h
 comes_after w (acts.PortView x port) (acts.Viewed result) v S M h = looks (view_answer x port (look w)) result w v h
 comes_after w (acts.Progress x) (acts.Progressed result) v S M h = looks (progress_answer x w) result w v h
 comes_after w (acts.GetParameter x key) (acts.Parameter result) v S M h = looks (parameter_answer x key false (look w)) result w v h
 comes_after w (acts.GetConfig x key) (acts.Parameter result) v S M h = looks (parameter_answer x key true (look w)) result w v h
-comes_after w (acts.SetParameter x key value) (acts.Plain result) v S M h = set_parameter w x key value result v h
+comes_after w (acts.SetParameter x key value) (acts.Plain result) v S M h = set_parameter w x key value result v S h
 comes_after w (acts.SetConfig x key value) (acts.Plain result) v S M h = set_config w x key value result v h
-comes_after w (acts.SetupTunnel output input) (acts.Joined result) v S M h = setup_tunnel w output input result v h
-comes_after w (acts.DropTunnel output input) (acts.Plain result) v S M h = drop_tunnel w output input result v h
+comes_after w (acts.SetupTunnel output input) (acts.Joined result) v S M h = setup_tunnel w output input result v S h
+comes_after w (acts.DropTunnel output input) (acts.Plain result) v S M h = drop_tunnel w output input result v S h
 comes_after w (acts.SendCommand x command) (acts.Plain result) v S M h = send_command w x command result v h
 comes_after w (acts.RunCommand x) (acts.Acted result) v S M h = run_command w x result v h
 comes_after w (acts.AllocateBuffer x port) (acts.Allocated result) v S M h = allocate_buffer w x port result v h

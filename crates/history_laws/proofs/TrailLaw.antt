@@ -1,5 +1,5 @@
 -- The trails of each step, and of a run.
-use Rattle.std.proofs.Common.{◌≡◌, ℕ, List, [], ◌∷◌, ◌++◌, refl, ap, append_assoc}
+use Rattle.std.proofs.Common.{◌≡◌, ℕ, Option, List, [], ◌∷◌, ◌++◌, refl, ap, append_assoc}
 use Rattle.std.proofs.lemmas.List.{append-nil}
 use Rattle.il_machine.specs.declared.header.Home.TheVariants as homes
 use Rattle.il_machine.specs.World.{World, no_world}
@@ -25,8 +25,8 @@ below : (w : World) → Sound w → AreBelow w
 below w S = (parts_of w S).below
 
 -- the trails after the act, before the close-out
-pub effect_trails : (w mid : World) (old ms : List Move) → Sound w → HaveTrails w old → Effect w ms mid → HaveTrails mid (old ++ ms) × Once mid.headers
-effect_trails w mid old ms S T E = carried_trails w mid old ms S.once (below w S) T E.carried
+pub effect_trails : (w mid : World) (old ms : List Move) (back : Option ℕ) → Sound w → HaveTrails w old → Effect w ms back mid → HaveTrails mid (old ++ ms) × Once mid.headers
+effect_trails w mid old ms back S T E = carried_trails w mid old ms S.once (below w S) T E.carried
 
 -- the same of each answer
 outcome_after : (w v : World) (t : Turn) (old : List Move) → Sound w → HaveTrails w old → Outcome w t v → HaveTrails t.after (old ++ t.moves) × Once (t.after).headers
@@ -34,7 +34,7 @@ outcome_after w v t old S T (Nothing e m) =
     let a : t.after ≡ w = ap (λ (x : Turn). x.after) m in
     let k : t.moves ≡ [] = ap (λ (x : Turn). x.moves) m in
     (rw (a, k, append-nil old) T, rw a S.once)
-outcome_after w v t old S T (Done C E) = effect_trails w t.after old t.moves S T E
+outcome_after w v t old S T (Done C E) = effect_trails w t.after old t.moves t.back S T E
 
 pub trails_after : (w : World) (old : List Move) (a : Act) (r : Reply) (v : World) → Sound w → HaveTrails w old → Meets w a → Step w a r v → HaveTrails (effect w a r) (old ++ moves w a r) × Once (effect w a r).headers
 trails_after w old a r v S T M h = outcome_after w v (turn w a r) old S T (step_comes w a r v S M h)
@@ -42,7 +42,7 @@ trails_after w old a r v S T M h = outcome_after w v (turn w a r) old S T (step_
 outcome_trails : (w v : World) (t : Turn) (old : List Move) → Sound w → HaveTrails w old → Outcome w t v → HaveTrails v (old ++ t.moves)
 outcome_trails w v t old S T (Nothing e m) = let k : t.moves ≡ [] = ap (λ (x : Turn). x.moves) m in rw (e, k, append-nil old) T
 outcome_trails w v t old S T (Done C E) =
-    let x = effect_trails w t.after old t.moves S T E in
+    let x = effect_trails w t.after old t.moves t.back S T E in
     times_trails C.steps t.after v (old ++ t.moves) C.by_steps x.1 x.0
 
 pub trails_of_steps : (w : World) (old : List Move) (a : Act) (r : Reply) (v : World) → Sound w → HaveTrails w old → Meets w a → Step w a r v → HaveTrails v (old ++ moves w a r)

@@ -22,10 +22,13 @@ use Rattle.il_machine.specs.Answers.{plain}
 use Rattle.il_machine.specs.Census.{note_numbers, work_numbers}
 use Rattle.il_machine.specs.Flow.{done_note}
 use Rattle.il_machine.specs.Parts.{file_format}
-use Rattle.il_machine.specs.Files.{Offered, Attach, attach_refusal, attached, with_file}
+use Rattle.il_machine.specs.States.{is_invalid}
+use Rattle.il_machine.specs.Lists.{any_of}
+use Rattle.il_machine.specs.Parameters.{is_settable}
+use Rattle.il_machine.specs.Files.{Offered, Attach, is_for_kind, is_bad_file, file_port_format, attach_refusal, attached, stream_with, with_file}
 use Rattle.il_machine.specs.Claims.{Carried as CarriedHeader, Claimed, ClaimedWork, ClaimedBusy, ClaimedNotRunning, ClaimedEnded, ClaimedHeld, ClaimedNoData, ClaimedNoRoom, ClaimedEvents, Claim, Claims, claim_idle, held_test, data_test, room_test, wanted, is_output_port, is_claimable, places_for, carried, seen_work, terms_in, work_of, with_work}
 use Rattle.il_machine.specs.Stepping.{Done as Finishing, IsDoneOf, IsDoneBy, IsAnnounced, IsStep}
-use Rattle.il_machine.specs.Finishing.{Landing, Again, Onward, Noted, landing, tells_mark, is_an_input, mark_note, landing_note, notes_of_header, notes_of_headers, end_note, tells_end, fault_note, notes_after, announced, announced_at, stepped_back, with_landed, finished_by, finished, Finish}
+use Rattle.il_machine.specs.Finishing.{Landing, Again, Onward, Noted, landing, tells_mark, is_an_input, mark_note, landing_note, notes_of_header, notes_of_headers, end_note, tells_end, fault_note, notes_after, gone_through, announced, announced_at, stepped_back, with_landed, finished_by, finished, Finish}
 use Rattle.il_machine.specs.Queued.{completions_in}
 use Rattle.il_machine.specs.Acts as acts
 use Rattle.il_machine.specs.Run.{Meets}
@@ -36,6 +39,7 @@ use Rattle.il_machine.proofs.Places.{is_first_place, passes_at}
 use Rattle.machine_laws.proofs.Every.{at_place}
 use Rattle.machine_laws.proofs.Finding.{either}
 use Rattle.machine_laws.proofs.Keys.{there_is}
+use Rattle.machine_laws.proofs.Accepting.{passed, not_not}
 use Rattle.machine_laws.proofs.Lookups.{port_at_is}
 use Rattle.machine_laws.proofs.Parts.{parts_of, ports_in_list}
 use Rattle.machine_laws.proofs.Listed.{todo_in}
@@ -46,20 +50,32 @@ use Rattle.history_laws.proofs.Growth.{Grows, grows_not, grows_on, completions_a
 use Rattle.history_laws.proofs.Quiet.{Nothing as Silent}
 use Rattle.history_laws.proofs.Births.{silent_set}
 use Rattle.history_laws.proofs.Carried.{Still, Several}
+use Rattle.history_laws.proofs.Out.{WorksStay, works_set, works_without, works_back, works_told}
 use Rattle.history_laws.proofs.Shifts.{claim_passed_on, finish_passed_on}
-use Rattle.history_laws.proofs.ComponentActs.{unmoving, named_is}
+use Rattle.history_laws.proofs.ComponentActs.{unmoving, named_is, unsettable}
 use Rattle.history_laws.proofs.Outcome.{Turn, turn, no_turn, Outcome, done as comes, nothing_by, answers, resolving}
 
 -- ---- attach
 
-pub attach : (w : World) (h : Handle) (file : Offered) (result : Result (Unit {0}) OmxError) (v : World) → Attach w h file result v → Outcome w (unmoving (effect w (acts.Attach h file) (acts.Plain result))) v
-attach w h file result v a = let ms : Result (Unit {0}) OmxError → Turn = λ r. unmoving (effect w (acts.Attach h file) (acts.Plain r)) in resolving plain w h result v _ a ms (λ e. refl) (λ i c named b.
+-- one that gets a file is settable, so that its work isn't out
+filed_works : (w : World) (i : ℕ) (c : Component) (file : Offered) → Sound w → slice_get w.components i ≡ Some c → attach_refusal c file ≡ None → WorksStay None w (with_file i c file w)
+filed_works w i c file S t n =
+    let a = passed (is_invalid c.state) _ _ n in
+    let b = passed (any_of (not (is_for_kind c.settings.kind file) ∷ is_some c.file ∷ is_bad_file c.settings.kind (file_port_format c) file ∷ [])) _ _ a.1 in
+    let d = passed (not (is_settable c)) _ _ b.1 in
+    let settable : is_settable c ≡ true = not_not (is_settable c) d.0 in
+    let z : is_some c.work ≡ false = either (is_some c.work) (λ o. let f = unsettable w i c S t o in absurd cc) (λ f. f) in
+    works_without i w (with_file i c file w) c (record c { file = Some (attached file) }) (stream_with file) S.rising (λ s. refl) t refl refl refl z
+
+pub attach : (w : World) (h : Handle) (file : Offered) (result : Result (Unit {0}) OmxError) (v : World) → Sound w → Attach w h file result v → Outcome w (unmoving (effect w (acts.Attach h file) (acts.Plain result))) v
+attach w h file result v S a = let ms : Result (Unit {0}) OmxError → Turn = λ r. unmoving (effect w (acts.Attach h file) (acts.Plain r)) in resolving plain w h result v _ a ms (λ e. refl) (λ i c named b.
     answers (attach_refusal c file) result w v ms (λ x. ClosesTo (with_file i c file w) v) (λ e. refl) b (λ n x e C.
     let mid = with_file i c file w in
     let d : Component = record c { file = Some (attached file) } in
     comes w v _ mid (named_is w h i c (λ i c. with_file i c file w) named.place named.there) C (record {
       silent = silent_set i w mid c d named.there refl refl refl (grows_not Silent c d refl refl) (inl refl);
       carried = Still (record { headers = refl; made = refl; moves = refl });
+      works = filed_works w i c file S named.there n;
     })))
 
 -- ---- claim
@@ -126,6 +142,7 @@ claims w h i c None result v S t is e a =
     subst (λ (r : Result Claimed OmxError). Outcome w (turn w (acts.Claim h) (acts.Claimed r)) v) (sym a.0) (comes w v _ mid is a.1 (record {
       silent = silent_set i w mid c (with_its work c) t refl refl refl (grows_not Silent c (with_its work c) refl refl) (inl refl);
       carried = Several (record { headers = claim_passed_on k 0 w.headers work.headers (carried w.headers work.headers) P.once I E; made = refl });
+      works = works_set None i w mid c (with_its work c) t refl refl refl (λ o. let z : is_some c.work ≡ false = ap (λ (y : Option Work). is_some y) C.free in absurd cc);
     }))
 
 pub claim : (w : World) (h : Handle) (result : Result Claimed OmxError) (v : World) → Sound w → Claim w h result v → Outcome w (turn w (acts.Claim h) (acts.Claimed result)) v
@@ -249,6 +266,7 @@ announces_back w done v i c work B a C =
     comes w v _ mid (effect_is w done i c work B ∙ after) (subst (λ (x : World). ClosesTo x v) e C) (record {
       silent = silent_set i w mid c (announced c) B.there refl refl refl A.grows (inl A.state);
       carried = Still (record { headers = refl; made = refl; moves = no_moves (component_numbered done.component w) (stream_of done.component w) done D.2 });
+      works = subst (λ (k : ℕ). WorksStay (Some k) w mid) B.number (works_told i w mid c (announced c) B.there refl (A.grows).number refl);
     })
 
 -- the stream and the headers of a work that did a step
@@ -294,6 +312,7 @@ lands_back w done v i c work S B n C =
     comes w v _ mid (effect_is w done i c work B ∙ after) (subst (λ (x : World). ClosesTo x v) e C) (record {
       silent = silent_set i w mid c (stepped_back c s done) B.there refl refl refl (back_grows c s done) (inl refl);
       carried = rw ms (Several (record { headers = A; made = refl }));
+      works = subst (λ (k : ℕ). WorksStay (Some k) w mid) B.number (works_back i w mid c (stepped_back c s done) (gone_through done) (λ x. refl) B.there refl refl refl);
     })
 
 pub finish : (w : World) (done : Finishing) (v : World) → Sound w → Meets w (acts.Finish done) → Finish w done v → Outcome w (turn w (acts.Finish done) acts.Finished) v

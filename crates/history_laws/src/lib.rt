@@ -2,7 +2,7 @@
 //! was given stays, which way headers go, that each comes back with its memory, and that one act in one world has one result.
 #![tactic(auto)]
 
-ghost use Rattle.std.specs.Prelude.{◌≡◌, ◌≢◌, ℕ, true, false, List, All, ◌++◌, ◌∷◌, [], ◌⊎◌, Option, Some, None, IsSome, Contains};
+ghost use Rattle.std.specs.Prelude.{◌≡◌, ◌≢◌, ℕ, true, false, List, All, ◌++◌, ◌∷◌, [], ◌⊎◌, Option, Some, None, Ok, IsSome, Contains};
 ghost use Rattle.omx_types.specs.declared.handle.Handle.{Handle};
 ghost use Rattle.omx_types.specs.declared.state.State.TheVariants as states;
 ghost use Rattle.omx_types.specs.declared.command.Completion.{Completion};
@@ -10,7 +10,7 @@ ghost use Rattle.omx_types.specs.declared.command.Completion.TheVariants as comp
 ghost use Rattle.omx_types.specs.declared.command.Note.{Note};
 ghost use Rattle.il_machine.specs.declared.port.Port.{Port};
 ghost use Rattle.il_machine.specs.States.{is_running};
-ghost use Rattle.il_machine.specs.World.{Component, World, component_numbered, no_world, ports_of};
+ghost use Rattle.il_machine.specs.World.{Component, Stream, World, component_numbered, no_world, ports_of, stream_of};
 ghost use Rattle.il_machine.specs.declared.port.PortKey.{PortKey};
 ghost use Rattle.il_machine.specs.declared.header.HeaderState.{HeaderState};
 ghost use Rattle.il_machine.specs.Headers.{seen, is_for};
@@ -21,6 +21,10 @@ ghost use Rattle.il_machine.specs.Ports.{settled};
 ghost use Rattle.il_machine.specs.Buffers.{Held};
 ghost use Rattle.il_machine.specs.Due.{Happens, HappenTimes, ClosesTo, IsClosed};
 ghost use Rattle.il_machine.specs.Acts.{Act, Reply};
+ghost use Rattle.il_machine.specs.Acts as acts;
+ghost use Rattle.il_machine.specs.Claims.{WorkSeen, ClaimedWork};
+ghost use Rattle.il_machine.specs.Stepping.{Done, IsStep, IsAnnounced};
+ghost use Rattle.history_laws.specs.Works.{IsHeldOut, returns_work};
 ghost use Rattle.il_machine.specs.Run.{Step, Meets, Run};
 ghost use Rattle.il_machine.specs.Sound.{Sound};
 ghost use Rattle.il_machine.specs.Effect.{effect};
@@ -175,4 +179,21 @@ pub fn law_of_keys()
         → Sound w → Meets w a → Step w a r v → v.key ≡ w.key }
     ensures closing { (w v : World) → ClosesTo w v → v.key ≡ w.key }
     ensures runs { (w v : World) (xs : List (Act × Reply)) → Sound w → Run w xs v → v.key ≡ w.key }
+{}
+
+/// A work that was claimed is out, as its holder sees it, until an act brings it back: nobody else moves its headers, what they
+/// carry stays, and so do its part's terms and what went through it. So a holder who did one step of it may bring it back.
+pub fn law_of_works()
+    ensures claimed { (w : World) (h : Handle) (x : WorkSeen) (v : World)
+        → Sound w → Step w (acts.Claim h) (acts.Claimed (Ok (ClaimedWork x))) v
+        → (s : Stream) × (stream_of x.component w ≡ Some s) × IsHeldOut v x s }
+    ensures stays { (w : World) (a : Act) (r : Reply) (v : World) (x : WorkSeen) (s : Stream)
+        → Sound w → Meets w a → Step w a r v → returns_work x.component a r ≡ false → IsHeldOut w x s → IsHeldOut v x s }
+    ensures closing { (w v : World) (x : WorkSeen) (s : Stream) → Sound w → ClosesTo w v → IsHeldOut w x s → IsHeldOut v x s }
+    ensures runs { (w v : World) (xs : List (Act × Reply)) (x : WorkSeen) (s : Stream)
+        → Sound w → Run w xs v → All (λ y. returns_work x.component y.0 y.1 ≡ false) xs → IsHeldOut w x s → IsHeldOut v x s }
+    ensures back { (w : World) (x : WorkSeen) (s : Stream) (done : Done)
+        → IsHeldOut w x s → done.component ≡ x.component → x.announces ≡ false → IsStep x.terms s x.headers done → Meets w (acts.Finish done) }
+    ensures told { (w : World) (x : WorkSeen) (s : Stream) (done : Done)
+        → IsHeldOut w x s → done.component ≡ x.component → x.announces ≡ true → IsAnnounced done → Meets w (acts.Finish done) }
 {}
