@@ -7,13 +7,18 @@ use Rattle.omx_types.specs.declared.command.Command.TheVariants as variants
 use Rattle.omx_types.specs.declared.command.Event.TheVariants.{Error}
 use Rattle.il_machine.specs.World.{Component, no_world}
 use Rattle.il_machine.specs.Look.{Look, look}
+use Rattle.il_machine.specs.Units.{free_units}
 use Rattle.il_machine.specs.Room.{used, room}
 use Rattle.il_machine.specs.Commands.{begun, carried_out, run_front}
+use Rattle.il_component.specs.Units.{Gives}
 use Rattle.il_component.proofs.Fit.{used-told}
 
--- some look in which so many waits were numbered: a command is carried out alike in each
-abbrev pub a_look : ℕ → Look
-a_look waits = look (record (no_world 0 0) { waits = waits })
+-- some look in which so many units are free, and so many waits were numbered: a command is carried out alike in each
+abbrev pub a_look : ℕ → ℕ → Look
+a_look free waits = look (record (no_world 0 free) { waits = waits })
+
+pub gives_it : (free waits : ℕ) → Gives (a_look free waits) free waits
+gives_it free waits = record { units = omega arith; numbered = refl }
 
 pub room_to_tell : (fault : Option OmxError) (error : OmxError) (target : State) (c : Component) → fault ≡ Some error → used (begun fault target c) ≤ 256 → 0 < room c
 room_to_tell fault error target c e u =
@@ -32,14 +37,14 @@ pub run_none : (l : Look) (commands : List Command) (c : Component) → None ≡
 run_none l [] c e = refl
 run_none l (x ∷ commands) c e = absurd cc
 
--- what is carried out is the same in each look with as many waits
-pub carried_alike : (l m : Look) (command : Command) (c : Component) → l.waits ≡ m.waits → carried_out l command c ≡ carried_out m command c
-carried_alike l m (variants.StateSet target) c e = rw e refl
-carried_alike l m (variants.Flush sel) c e = refl
-carried_alike l m (variants.PortDisable sel) c e = refl
-carried_alike l m (variants.PortEnable sel) c e = refl
-carried_alike l m (variants.MarkBuffer port target value) c e = refl
+-- what is carried out is the same in each look with as many free units and as many waits
+pub carried_alike : (l m : Look) (command : Command) (c : Component) → free_units l ≡ free_units m → l.waits ≡ m.waits → carried_out l command c ≡ carried_out m command c
+carried_alike l m (variants.StateSet target) c u e = rw (e, u) refl
+carried_alike l m (variants.Flush sel) c u e = refl
+carried_alike l m (variants.PortDisable sel) c u e = refl
+carried_alike l m (variants.PortEnable sel) c u e = refl
+carried_alike l m (variants.MarkBuffer port target value) c u e = refl
 
-pub front_alike : (l m : Look) (commands : List Command) (c : Component) → l.waits ≡ m.waits → run_front l commands c ≡ run_front m commands c
-front_alike l m [] c e = refl
-front_alike l m (command ∷ commands) c e = carried_alike l m command (record c { commands = commands }) e
+pub front_alike : (l m : Look) (commands : List Command) (c : Component) → free_units l ≡ free_units m → l.waits ≡ m.waits → run_front l commands c ≡ run_front m commands c
+front_alike l m [] c u e = refl
+front_alike l m (command ∷ commands) c u e = carried_alike l m command (record c { commands = commands }) u e

@@ -1,7 +1,8 @@
 //! How a component's record changes: its state, its ports, its queue of commands.
 
-ghost use Rattle.std.specs.Prelude.{◌≡◌, ◌<◌, ◌≤◌, ◌+◌, ℕ, length, None, Some, IsSome, MatchOption, slice_set, true, false, [], ◌∷◌, drop, slice_get};
+ghost use Rattle.std.specs.Prelude.{◌≡◌, ◌<◌, ◌≤◌, ◌+◌, ◌||◌, ℕ, length, None, Some, IsSome, MatchOption, slice_set, true, false, [], ◌∷◌, drop, slice_get};
 ghost use Rattle.il_machine.specs.Kinds.{ports_in};
+ghost use Rattle.il_machine.specs.States.{same_state};
 ghost use Rattle.il_machine.specs.World.{told, port_of, with_port};
 ghost use Rattle.il_machine.specs.Room.{cost_of, room, used, events_in};
 ghost use Rattle.il_machine.specs.Commands.{invalidated, lacks_place, sent, with_selected};
@@ -46,7 +47,7 @@ fn hold<C>(notes: &mut Notes<C>, pending: Option<Pending>, loss_mark: bool, port
 
 impl<C> Component<C> {
     /// Another state, and another pending transition.
-    fn settle(&mut self, state: State, pending: Option<Pending>, loss_mark: bool)
+    pub(crate) fn settle(&mut self, state: State, pending: Option<Pending>, loss_mark: bool)
         requires { used (record (component_of self.old) { state = state; pending = pending; loss_mark = loss_mark }) ≤ 256 }
         ensures component { component_of self.new ≡ record (component_of self.old) { state = state; pending = pending; loss_mark = loss_mark } }
         ensures kept { KeepsNotices self.old self.new }
@@ -146,12 +147,14 @@ impl<C> Component<C> {
         self.notes.pop_command()
     }
 
-    /// The transition is pending.
+    /// The transition is pending; one to Idle takes the units, unless the component has them.
     pub(crate) fn begin(&mut self, pending: Pending)
         requires { used (record (component_of self.old) { pending = Some pending }) ≤ 256 }
-        ensures component { component_of self.new ≡ record (component_of self.old) { pending = Some pending } }
+        ensures component { component_of self.new ≡ record (component_of self.old) { pending = Some pending; holds = (component_of self.old).holds || same_state pending.target states.Idle } }
         ensures kept { KeepsNotices self.old self.new }
     {
+        let holds = self.holds || matches!(pending.target, State::Idle);
+        self.set_units(holds, self.waiting);
         self.settle(self.state, Some(pending), self.loss_mark);
     }
 
@@ -210,6 +213,15 @@ impl<C> Component<C> {
         ensures kept { KeepsNotices self.old self.new }
     {
         self.waiting = Some(number);
+    }
+
+    /// Whether it has its units, and its waiting number.
+    pub(crate) fn set_units(&mut self, holds: bool, waiting: Option<u64>)
+        ensures component { component_of self.new ≡ record (component_of self.old) { holds = holds; waiting = waiting } }
+        ensures kept { KeepsNotices self.old self.new }
+    {
+        self.holds = holds;
+        self.waiting = waiting;
     }
 
     /// Idle is reached from below, or by a component that worked: what has ended begins anew, and what was lost is told.

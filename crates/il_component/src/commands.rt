@@ -5,6 +5,7 @@ ghost use Rattle.il_machine.specs.Commands.{run_idle, run_reason, lacks_port, st
 ghost use Rattle.il_machine.specs.Look.{Look};
 ghost use Rattle.il_machine.specs.Room.{used};
 ghost use Rattle.il_component.specs.Entries.{component_of, KeepsNotices};
+ghost use Rattle.il_component.specs.Units.{Gives};
 
 use crate::component::Component;
 use crate::port_changes::{Busy, PortChange, first_busy};
@@ -67,9 +68,9 @@ impl<C> Component<C> {
         }
     }
 
-    /// Why a transition to the state can't begin.
-    fn state_fault(&self, waits: u64, target: State) -> Option<OmxError>
-        ensures { (l : Look) → l.waits ≡ waits → result ≡ state_fault l (component_of self.now) target }
+    /// Why a transition to the state can't begin, with so many free units, and so many waits numbered.
+    fn state_fault(&self, free: u32, waits: u64, target: State) -> Option<OmxError>
+        ensures { (l : Look) → Gives l free waits → result ≡ state_fault l (component_of self.now) target }
     {
         if self.state == target {
             Some(OmxError::SameState)
@@ -77,6 +78,8 @@ impl<C> Component<C> {
             Some(OmxError::IncorrectStateTransition)
         } else if matches!(self.state, State::Loaded) && !self.params.fits() {
             Some(OmxError::UnsupportedSetting)
+        } else if matches!(self.state, State::Loaded) && matches!(target, State::Idle) && free < self.need() {
+            Some(OmxError::InsufficientResources)
         } else if matches!(target, State::WaitForResources) && waits == u64::MAX {
             Some(OmxError::InsufficientResources)
         } else {
@@ -85,12 +88,12 @@ impl<C> Component<C> {
     }
 
     /// Begins the transition to the state, or tells why it can't begin.
-    fn begin_or_tell(&mut self, waits: u64, target: State)
-        requires { (l : Look) → l.waits ≡ waits → used (begun (state_fault l (component_of self.old) target) target (component_of self.old)) ≤ 256 }
-        ensures component { (l : Look) → l.waits ≡ waits → component_of self.new ≡ begun (state_fault l (component_of self.old) target) target (component_of self.old) }
+    fn begin_or_tell(&mut self, free: u32, waits: u64, target: State)
+        requires { (l : Look) → Gives l free waits → used (begun (state_fault l (component_of self.old) target) target (component_of self.old)) ≤ 256 }
+        ensures component { (l : Look) → Gives l free waits → component_of self.new ≡ begun (state_fault l (component_of self.old) target) target (component_of self.old) }
         ensures kept { KeepsNotices self.old self.new }
     {
-        match self.state_fault(waits, target) {
+        match self.state_fault(free, waits, target) {
             Some(error) => self.tell(Event::Error(error)),
             None => self.begin(Pending {
                 target,
@@ -100,13 +103,13 @@ impl<C> Component<C> {
     }
 
     /// Carries out a command that is queued no longer.
-    fn carry_out(&mut self, waits: u64, command: Command)
-        requires { (l : Look) → l.waits ≡ waits → used (carried_out l command (component_of self.old)) ≤ 256 }
-        ensures component { (l : Look) → l.waits ≡ waits → component_of self.new ≡ carried_out l command (component_of self.old) }
+    fn carry_out(&mut self, free: u32, waits: u64, command: Command)
+        requires { (l : Look) → Gives l free waits → used (carried_out l command (component_of self.old)) ≤ 256 }
+        ensures component { (l : Look) → Gives l free waits → component_of self.new ≡ carried_out l command (component_of self.old) }
         ensures kept { KeepsNotices self.old self.new }
     {
         match command {
-            Command::StateSet(target) => self.begin_or_tell(waits, target),
+            Command::StateSet(target) => self.begin_or_tell(free, waits, target),
             Command::Flush(sel) => self.change_ports(sel, PortChange::Flush),
             Command::PortDisable(sel) => self.change_ports(sel, PortChange::Disable),
             Command::PortEnable(sel) => self.change_ports(sel, PortChange::Enable),
@@ -121,14 +124,15 @@ impl<C> Component<C> {
         }
     }
 
-    /// Takes the first command out of the queue and carries it out, where there is one. So many waits were numbered.
-    pub fn run(&mut self, waits: u64)
-        requires { (l : Look) → l.waits ≡ waits → used (run_front l (component_of self.old).commands (component_of self.old)) ≤ 256 }
-        ensures component { (l : Look) → l.waits ≡ waits → component_of self.new ≡ run_front l (component_of self.old).commands (component_of self.old) }
+    /// Takes the first command out of the queue and carries it out, where there is one. So many units are free, and so many waits were
+    /// numbered.
+    pub fn run(&mut self, free: u32, waits: u64)
+        requires { (l : Look) → Gives l free waits → used (run_front l (component_of self.old).commands (component_of self.old)) ≤ 256 }
+        ensures component { (l : Look) → Gives l free waits → component_of self.new ≡ run_front l (component_of self.old).commands (component_of self.old) }
         ensures kept { KeepsNotices self.old self.new }
     {
         if let Some(command) = self.pop() {
-            self.carry_out(waits, command);
+            self.carry_out(free, waits, command);
         }
     }
 }

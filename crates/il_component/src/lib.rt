@@ -9,6 +9,7 @@ mod component;
 mod formats;
 mod part_changes;
 mod port_changes;
+mod units;
 #[cfg(test)]
 mod tests;
 

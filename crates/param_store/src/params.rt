@@ -72,6 +72,12 @@ impl Params {
         self.kind
     }
 
+    pub fn priority(&self) -> u32
+        ensures { result ≡ self.now.priority }
+    {
+        self.priority
+    }
+
     /// How many ports the component has.
     pub fn ports(&self) -> u32
         ensures count { result ≡ ports_in self.now.kind }

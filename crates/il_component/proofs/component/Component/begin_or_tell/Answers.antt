@@ -2,18 +2,18 @@ use Rattle.std.proofs.Common.{◌≤◌, Some, None, refl, sym, ◌∙◌, subst
 use Rattle.il_machine.specs.Room.{used}
 use Rattle.il_machine.specs.Commands.{state_fault}
 use Rattle.il_component.specs.Entries.{component_of}
-use Rattle.il_component.proofs.Running.{a_look, room_to_tell, begun_with}
+use Rattle.il_component.proofs.Running.{a_look, gives_it, room_to_tell, begun_with}
 use Rattle.il_component.proofs.component.Component.begin_or_tell.Goals as goal
 
 pub tell-requires : goal.tell-requires
 tell-requires g c =
     let k = component_of c.args.self.now in
-    room_to_tell (state_fault (a_look c.args.waits) k c.args.target) c.in-Some.error c.args.target k (sym (c.state_fault.ensures (a_look c.args.waits) refl) ∙ c.in-Some.is) (c.requires (a_look c.args.waits) refl)
+    room_to_tell (state_fault (a_look c.args.free c.args.waits) k c.args.target) c.in-Some.error c.args.target k (sym (c.state_fault.ensures (a_look c.args.free c.args.waits) (gives_it c.args.free c.args.waits)) ∙ c.in-Some.is) (c.requires (a_look c.args.free c.args.waits) (gives_it c.args.free c.args.waits))
 
 pub begin-requires : goal.begin-requires
 begin-requires g c =
     let k = component_of c.args.self.now in
-    subst (λ d. used d ≤ 256) (begun_with (state_fault (a_look c.args.waits) k c.args.target) None c.args.target k (sym (c.state_fault.ensures (a_look c.args.waits) refl) ∙ c.in-None.is)) (c.requires (a_look c.args.waits) refl)
+    subst (λ d. used d ≤ 256) (begun_with (state_fault (a_look c.args.free c.args.waits) k c.args.target) None c.args.target k (sym (c.state_fault.ensures (a_look c.args.free c.args.waits) (gives_it c.args.free c.args.waits)) ∙ c.in-None.is)) (c.requires (a_look c.args.free c.args.waits) (gives_it c.args.free c.args.waits))
 
 pub returns-in-Some-clause-component : goal.returns-in-Some-clause-component
 returns-in-Some-clause-component g c = λ l e.
