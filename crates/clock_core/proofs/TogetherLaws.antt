@@ -1,10 +1,10 @@
 -- Two requests that are outstanding together, at a moment and from an act on; and what a call adds to a list of calls.
-use Rattle.std.proofs.Common.{◌≡◌, ℕ, zero, suc, ◌-◌, ◌<◌, List, [], ◌∷◌, ◌++◌, refl, sym, ap, ◌∙◌, append_assoc, arith}
-use Rattle.std.specs.Prelude.{◌==◌, ◌||◌, Bool, Contains, Option, Some, None, Result}
+use Rattle.std.proofs.Common.{◌≡◌, ℕ, zero, suc, ◌-◌, List, [], ◌∷◌, ◌++◌, refl, sym, ap, ◌∙◌, append_assoc, arith}
+use Rattle.std.specs.Prelude.{◌==◌, ◌||◌, Bool, Option, Some, None, Result}
 use Rattle.std.specs.List.{All}
 use Rattle.std.proofs.lemmas.List.{append-nil}
 use Rattle.std.proofs.lemmas.List.Elements.{All-append, All-cons, All-nil, filter-append}
-use Rattle.clock_core.specs.Calls.{AreOthers, GoesOn, IsByMedia, IsFulfilledFirstFromAct, IsLawful, and_then, moments_along, moments_of, moments_of_call, moments_of_calls, moments_passing, moments_unless, note_at_first, notes_along, notes_of_calls, reached, state_after_calls}
+use Rattle.clock_core.specs.Calls.{GoesOn, IsByMedia, IsFulfilledFirstFromAct, IsLawful, and_then, moments_along, moments_of, moments_of_call, moments_of_calls, moments_passing, moments_unless, notes_along, notes_of_calls, reached, state_after_calls}
 use Rattle.clock_core.specs.Clock.{State, after_call, answer_of_call, before_last_notes, fulfilled, next_moment, notes_now, notes_of, notes_of_call, opening, pace_of, refusal_of, state_after}
 use Rattle.clock_core.specs.Running.{notes_in}
 use Rattle.clock_core.specs.declared.act.ClockAct.{ClockAct}
