@@ -1,12 +1,11 @@
 -- The run of a list by its records, and the run that sorts the whole list.
-use Rattle.std.proofs.Common.{◌≡◌, ℕ, zero, suc, ◌+◌, ◌-◌, ◌<◌, ◌≤◌, nat_le, max, ◌==◌, ◌||◌, if◌then◌else◌, true, false, Bool, List, [], ◌∷◌, ◌++◌, length, filter, refl, sym, ap, subst, ◌∙◌, arith, Option, Some, None, add-one, ◌⊎◌, inl, inr}
+use Rattle.std.proofs.Common.{◌≡◌, ℕ, suc, ◌+◌, ◌<◌, ◌≤◌, nat_le, max, ◌==◌, ◌||◌, if◌then◌else◌, true, false, Bool, List, [], ◌∷◌, ◌++◌, length, filter, refl, sym, ap, ◌∙◌, arith, Option, Some, None}
 use Rattle.std.specs.Option.{option_to_list}
-use Rattle.rtp_parts.specs.declared.law.Law.{Law}
 use Rattle.rtp_parts.specs.declared.unpacker.Stream.{Stream}
 use Rattle.rtp_parts.specs.Packets.{Packet}
 use Rattle.rtp_parts.specs.Arrivals.{packet_of_record, well_formed, is_of_stream, of_first_stream, arrivals}
 use Rattle.rtp_parts.specs.Sorting.{Numbered, has_number, placed, sorted, nearest, Taken, judged, with_arrival, with_arrivals, before_first, taken_of}
-use Rattle.rtp_parts.specs.Steps.{Line, line_kept, line_judged, line_step, with_first, Course, stream_of, course_under, with_packet, with_record, with_records, start_line}
+use Rattle.rtp_parts.specs.Steps.{Line, line_kept, line_judged, line_step, with_first, Course, stream_of, with_packet, with_records, start_line}
 use Rattle.rtp_parts.proofs.SortedNumbers.{placed-later}
 
 swap_tests : (a b c : Bool) → (a || (b || c)) ≡ (b || (a || c))

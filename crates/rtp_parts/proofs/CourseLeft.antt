@@ -4,7 +4,7 @@ use Rattle.rtp_parts.specs.declared.unpacker.Stream.{Stream}
 use Rattle.rtp_parts.specs.declared.unpacker.Unpacker.{Unpacker}
 use Rattle.rtp_parts.specs.Arrivals.{records_in}
 use Rattle.rtp_parts.specs.Sorting.{Numbered, codes_from, gap_before, end_of}
-use Rattle.rtp_parts.specs.Steps.{Line, Course, with_first, with_records, course_of, course_left, codes_left, Counts, counts_in, numbered_of, start_line, whole_course, whole_codes}
+use Rattle.rtp_parts.specs.Steps.{Line, Course, with_first, with_records, course_of, course_left, codes_left, counts_in, numbered_of, start_line, whole_course, whole_codes}
 use Rattle.rtp_parts.proofs.Course.{run-first}
 
 by_end : (ended : Bool) (a : Numbered) (stream : Option Stream) (line : Line) (packets : ℕ) (records : List (Option (List ℕ))) → (ended ≡ true) ⊎ (a.number + 64 ≤ line.greatest) → (stream ≡ None → ⊥) → with_records (record { stream = stream; line = with_first a line; packets = packets }) (if ended then [] else records) ≡ (let rest = with_records (record { stream = stream; line = line; packets = packets }) (if ended then [] else records) in record rest { line = with_first a rest.line })

@@ -1,11 +1,11 @@
 -- What `pack` answers, by what the head reads as.
-use Rattle.std.proofs.Common.{◌≡◌, ℕ, ◌+◌, ◌*◌, ◌≤◌, List, ◌++◌, length, take, drop, Option, Some, None, Result, Ok, Err, sym, ap, subst, ◌∙◌, arith, length-drop}
+use Rattle.std.proofs.Common.{◌≡◌, ℕ, ◌+◌, ◌*◌, ◌≤◌, List, ◌++◌, length, take, drop, Option, Some, None, Result, Ok, Err, inr, sym, ap, subst, ◌∙◌, arith, length-drop}
 use Rattle.std.proofs.lemmas.List.{length-take}
 use Rattle.std.specs.Io.KnownBytes.{append_known}
-use Rattle.outside_io.specs.Moves.{AppendsFront}
+use Rattle.outside_io.specs.Moves.{AppendsFront, WhereTold}
 use Rattle.outside_io.proofs.Known.{append_known-twice}
 use Rattle.omx_types.specs.declared.fault.WavFault.{WavFault}
-use Rattle.omx_types.specs.declared.fault.WavFault.TheVariants.{TooLarge, NotRiff, NoFormat, BadFormat, NoSamples, UnsupportedTag, Read, Short}
+use Rattle.omx_types.specs.declared.fault.WavFault.TheVariants.{TooLarge, NotRiff, NoFormat, BadFormat, NoSamples, UnsupportedTag, Read as HeadRead, Short as HeadShort}
 use Rattle.omx_types.specs.Formats.{frame_bytes_of}
 use Rattle.wav_form.specs.declared.heads.WavHead.{WavHead}
 use Rattle.wav_form.specs.Reading.{Reads, FitsFile}
@@ -13,11 +13,11 @@ use Rattle.wav_form.specs.Stops.{UnlessStopped as UnlessHeadStopped}
 use Rattle.wav_form.proofs.Read.{same_answer}
 use Rattle.rtp_parts.specs.declared.law.Law.{Law}
 use Rattle.rtp_parts.specs.declared.fault.RtpFault.{RtpFault}
-use Rattle.rtp_parts.specs.declared.fault.RtpFault.TheVariants.{Head, WrongFormat}
+use Rattle.rtp_parts.specs.declared.fault.RtpFault.TheVariants.{Head, Read, Write, Short, WrongFormat, NotPackets, NoPackets, TooLong, OutOfMemory}
 use Rattle.rtp_parts.specs.declared.packing.Packed.{Packed}
 use Rattle.rtp_parts.specs.Packets.{law_of_format}
 use Rattle.rtp_parts.specs.Packing.{magic, texts_of, packet_count}
-use Rattle.rtp_parts.specs.Answers.{UnlessStopped, packing_of, packing_under, counts_of, packets_file, samples_of, fault_of_head}
+use Rattle.rtp_parts.specs.Answers.{IfShort, UnlessStopped, StoppedPacking, IsStop, packing_of, packing_under, counts_of, packets_file, samples_of, fault_of_head}
 use Rattle.rtp_parts.proofs.PackedTexts.{frame_byte, packed_is, front-first, front-then}
 
 same_fault : (bytes : List ℕ) (fault : WavFault) (head : Result WavHead WavFault) → Reads bytes (Err fault) → Reads bytes head → Err (Head fault) ≡ counts_of (packing_of bytes head)
@@ -30,8 +30,8 @@ by_fault bytes NoFormat head one other = same_fault bytes NoFormat head one othe
 by_fault bytes BadFormat head one other = same_fault bytes BadFormat head one other
 by_fault bytes NoSamples head one other = same_fault bytes NoSamples head one other
 by_fault bytes (UnsupportedTag tag) head one other = same_fault bytes (UnsupportedTag tag) head one other
-by_fault bytes Read head one other = tt
-by_fault bytes (Short at size) head one other = tt
+by_fault bytes HeadRead head one other = tt
+by_fault bytes (HeadShort at size) head one other = tt
 
 pub head_fault : (bytes : List ℕ) (fault : WavFault) (answer : RtpFault) (head : Result WavHead WavFault) → UnlessHeadStopped {A = WavHead} (Err fault) (Reads bytes) → Reads bytes head → answer ≡ fault_of_head fault → UnlessStopped {A = Packed} (Err answer) (λ r. r ≡ counts_of (packing_of bytes head))
 head_fault bytes fault answer head one other is =
@@ -81,3 +81,26 @@ packed-whole known mid new bytes h head law size place one other some within who
     taken ∙ ap (λ (n : ℕ). append_known mid (texts_of law (take h.frames (drop n bytes)) 0 (packet_count h.frames))) at
     ∙ ap (λ (m : Option (List ℕ)). append_known m texts) is ∙ append_known-twice known magic texts
     ∙ ap (append_known known) (sym (file_is bytes h head law size one other some within whole))
+
+-- a source that ended in its samples gave nothing at its end
+pub short_samples : (size size1 : ℕ) (told : Option (List ℕ)) (ends ends1 : Option ℕ) (head : WavHead) (place read_before read_now write_before write_now : ℕ) (fault : RtpFault) → size1 ≡ size → ends1 ≡ ends → place ≡ head.start → WhereTold ends (λ end. head.start ≤ end) → WhereTold told (λ bytes. Reads bytes (Ok head)) → IsStop size1 ends1 place read_before read_now write_before write_now fault → IfShort fault (StoppedPacking size told ends)
+short_samples size size1 told ends ends1 head place rb rn wb wn (Short at told_size) same_size same_ends same_place reached reads nothing =
+    inr (
+      head,
+      reads,
+      omega (arith, nothing.started, same_place),
+      record {
+        whole = nothing.whole ∙ same_size;
+        below = omega (arith, nothing.below, same_size);
+        started = omega arith;
+        stopped = λ end is. omega (arith, nothing.stopped end (same_ends ∙ is), reached end is, same_place);
+      },
+    )
+short_samples size size1 told ends ends1 head place rb rn wb wn (Head fault) same_size same_ends same_place reached reads nothing = tt
+short_samples size size1 told ends ends1 head place rb rn wb wn Read same_size same_ends same_place reached reads nothing = tt
+short_samples size size1 told ends ends1 head place rb rn wb wn Write same_size same_ends same_place reached reads nothing = tt
+short_samples size size1 told ends ends1 head place rb rn wb wn WrongFormat same_size same_ends same_place reached reads nothing = tt
+short_samples size size1 told ends ends1 head place rb rn wb wn NotPackets same_size same_ends same_place reached reads nothing = tt
+short_samples size size1 told ends ends1 head place rb rn wb wn NoPackets same_size same_ends same_place reached reads nothing = tt
+short_samples size size1 told ends ends1 head place rb rn wb wn TooLong same_size same_ends same_place reached reads nothing = tt
+short_samples size size1 told ends ends1 head place rb rn wb wn OutOfMemory same_size same_ends same_place reached reads nothing = tt

@@ -1,10 +1,8 @@
 -- The line of a window, by the list that the window holds.
-use Rattle.std.proofs.Common.{◌≡◌, ℕ, zero, suc, ◌+◌, ◌<◌, ◌≤◌, nat_le, nat_lt, max, ◌==◌, ◌||◌, if◌then◌else◌, true, false, Bool, List, [], ◌∷◌, ◌++◌, length, take, drop, map, refl, sym, ap, ◌∙◌, arith, get_or, append_assoc, add-one}
+use Rattle.std.proofs.Common.{◌≡◌, ℕ, suc, ◌+◌, ◌<◌, ◌≤◌, nat_le, max, ◌==◌, ◌||◌, if◌then◌else◌, true, false, Bool, List, [], ◌∷◌, ◌++◌, length, take, drop, map, refl, sym, ap, ◌∙◌, arith, get_or, append_assoc}
 use Rattle.std.specs.List.{All, list_any, insert}
 use Rattle.std.proofs.Math.Seq.{drop-cons, take-suc}
 use Rattle.std.proofs.Math.ListN.{drop_of_length-le}
-use Rattle.std.proofs.lemmas.Grind.{get_or_after_one}
-use Rattle.std.proofs.lemmas.List.{length-drop}
 use Rattle.rtp_parts.specs.declared.window.Held.{Held}
 use Rattle.rtp_parts.specs.Sorting.{Numbered, has_number, placed, nearest}
 use Rattle.rtp_parts.specs.Steps.{numbered_of, Line, line_kept, line_judged, line_step}

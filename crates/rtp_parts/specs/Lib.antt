@@ -4,5 +4,6 @@ pub mod Arrivals
 pub mod Sorting
 pub mod Unpacking
 pub mod Answers
+pub mod Ends
 pub mod Deliveries
 pub mod Steps

@@ -1,5 +1,5 @@
 -- Which arrivals are accepted, and what they give in the order of their numbers.
-use Rattle.std.specs.Prelude.{ℕ, ◌+◌, ◌-◌, ◌%◌, ◌^◌, max, Bool, ◌==◌, nat_le, if◌then◌else◌, List, [], ◌∷◌, ◌++◌, length, replicate, Option, Some, None}
+use Rattle.std.specs.Prelude.{◌≡◌, ◌≤◌, ℕ, ◌+◌, ◌-◌, ◌%◌, ◌^◌, max, Bool, ◌==◌, nat_le, if◌then◌else◌, List, [], ◌∷◌, ◌++◌, length, replicate, Option, Some, None}
 use Rattle.std.specs.List.{list_any}
 use Rattle.rtp_parts.specs.Packets.{Packet}
 
@@ -8,6 +8,12 @@ abbrev pub nearest : (greatest sequence : ℕ) → ℕ
 nearest greatest sequence =
     let least = greatest - 32767 in
     least + (sequence + 65536 - least % 65536) % 65536
+
+-- a number from `greatest` - 32,767 to `greatest` + 32,768 that equals the sequence number modulo 65,536
+pub record IsNearest (greatest sequence number : ℕ) : Type 0 where
+  pub low : greatest ≤ number + 32767
+  pub high : number ≤ greatest + 32768
+  pub same : number % 65536 ≡ sequence
 
 pub record Numbered : Type 0 where
   pub number : ℕ

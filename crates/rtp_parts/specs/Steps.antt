@@ -1,6 +1,6 @@
 -- A list that is unpacked with a window: what is left of it at each step. Only the proofs' steps cite it: what a whole list is
 -- unpacked to is `unpacking_of`.
-use Rattle.std.specs.Prelude.{◌≡◌, ℕ, ◌+◌, ◌*◌, ◌-◌, ◌%◌, ◌<◌, ◌≤◌, max, nat_lt, Bool, true, false, nat_le, if◌then◌else◌, List, [], ◌∷◌, length, take, drop, map, Option, Some, None, Result, Ok, Err}
+use Rattle.std.specs.Prelude.{◌≡◌, ℕ, ◌+◌, ◌*◌, ◌-◌, ◌%◌, ◌<◌, ◌≤◌, max, nat_lt, nat_le, if◌then◌else◌, List, [], ◌∷◌, length, take, drop, map, Option, Some, None, Result, Ok, Err}
 use Rattle.std.specs.VecDeque.{deque_len}
 use Rattle.outside_io.specs.Causes.{Rose}
 use Rattle.outside_io.specs.Stops.{GaveNothing}

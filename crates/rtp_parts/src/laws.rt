@@ -1,6 +1,7 @@
 ghost use Rattle.std.specs.Prelude.{◌≡◌, ℕ, ◌<◌, ◌≤◌, List, length};
 ghost use Rattle.rtp_parts.specs.declared.law.Law.{Law};
 ghost use Rattle.rtp_parts.specs.Packing.{packet_count};
+ghost use Rattle.rtp_parts.specs.Sorting.{IsNearest, nearest};
 ghost use Rattle.rtp_parts.specs.Unpacking.{most_codes};
 ghost use Rattle.rtp_parts.specs.Deliveries.{AreDeliveries, Unpacks, delivered};
 
@@ -9,4 +10,11 @@ ghost use Rattle.rtp_parts.specs.Deliveries.{AreDeliveries, Unpacks, delivered};
 pub fn deliveries_again()
     ensures { (law : Law) (samples places : List ℕ) → 0 < length samples → length samples ≤ most_codes →
         AreDeliveries (packet_count (length samples)) places → Unpacks (delivered law samples places) law samples }
+{}
+
+/// The number of an arrival lies near the greatest one and equals its sequence number modulo 65,536, and no other does.
+pub fn nearest_number()
+    ensures is { (greatest sequence : ℕ) → 65536 ≤ greatest → sequence < 65536 → IsNearest greatest sequence (nearest greatest sequence) }
+    ensures only { (greatest sequence number : ℕ) → 65536 ≤ greatest → sequence < 65536 → IsNearest greatest sequence number →
+        number ≡ nearest greatest sequence }
 {}

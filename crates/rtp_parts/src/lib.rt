@@ -7,6 +7,7 @@ mod law;
 mod laws;
 mod packet;
 mod packing;
+mod pieces;
 mod reading;
 mod records;
 mod unpacker;
@@ -15,9 +16,9 @@ mod window;
 
 pub use fault::RtpFault;
 pub use law::Law;
-pub use laws::deliveries_again;
+pub use laws::{deliveries_again, nearest_number};
 pub use packing::{Packed, pack};
-pub use unpacking::Unpacked;
+pub use unpacking::{Unpacked, unpack};
 
 #[cfg(test)]
 mod tests;

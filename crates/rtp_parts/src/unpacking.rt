@@ -1,3 +1,35 @@
+ghost use Rattle.std.specs.Prelude.{◌≡◌, ℕ, ◌+◌, ◌≤◌, ◌<◌, ◌++◌, length, take, drop, IfErr, IfOk, OnOk};
+ghost use Rattle.std.specs.Io.KnownBytes.{append_known};
+ghost use Rattle.outside_io.specs.Moves.{AppendsFront, WhereTold};
+ghost use Rattle.wav_form.specs.Reading.{most_bytes};
+ghost use Rattle.part_forms.specs.Writing.{written};
+ghost use Rattle.rtp_parts.specs.Packets.{silence_of, format_of_law};
+ghost use Rattle.rtp_parts.specs.Packing.{magic};
+ghost use Rattle.rtp_parts.specs.Unpacking.{most_codes, unpacked, wav_of};
+ghost use Rattle.rtp_parts.specs.Answers.{UnlessStopped, unpacked_counts};
+ghost use Rattle.rtp_parts.specs.Ends.{EndsUnpacking};
+ghost use Rattle.rtp_parts.specs.Steps.{course_of, counts_in, whole_course, whole_codes, survey_by, survey_of, StopsMoving};
+
+use crate::pieces::write_piece;
+use crate::unpacker::Unpacker;
+use crate::{Law, RtpFault};
+use omx_types::WavFault;
+use outside_io::{Sink, Source, read_exact, write_all};
+use std::alloc::Global;
+use wav_form::head_bytes;
+
+/// The longest list of packets that is read, in bytes.
+const MOST_BYTES: u64 = 67_108_864;
+
+/// The most codes that are written.
+const MOST_CODES: u64 = 67_108_864;
+
+/// The longest packet of a list.
+const MOST_PACKET: usize = 65_535;
+
+/// The bytes before the first packet.
+const MAGIC: u64 = 8;
+
 /// What was unpacked: the frames and bytes of the WAV file, and how many packets there were of each kind.
 #[derive(Clone, Copy, Debug, PartialEq, Eq)]
 pub struct Unpacked {
@@ -10,4 +42,223 @@ pub struct Unpacked {
     pub repeated: u64,
     /// Cut, not well formed, or of another stream than the first that is.
     pub skipped: u64,
+}
+
+/// Puts a list of packets together as a WAV file. The head of the file has the number of frames, so the list is read twice,
+/// with a window of 64 packets: memory doesn't grow with the list.
+pub fn unpack<S: Source, K: Sink>(
+    alloc: Global,
+    src: &mut S,
+    snk: &mut K,
+) -> Result<Unpacked, RtpFault>
+    // Where the source tells its bytes
+    ensures answer { WhereTold (S.told src.old) (λ bytes. UnlessStopped result (λ r. r ≡ unpacked_counts (unpacked bytes))) }
+    ensures file { WhereTold (S.told src.old) (λ bytes. OnOk result (K.told snk.new ≡ append_known (K.told snk.old) (wav_of (unpacked bytes)))) }
+    ensures front { WhereTold (S.told src.old) (λ bytes. AppendsFront (K.told snk.old) (K.told snk.new) (wav_of (unpacked bytes))) }
+
+    // Over every source and sink
+    ensures too_large { most_bytes < S.size src.old → result ≡ Err (RtpFault.Head (WavFault.TooLarge (S.size src.old))) }
+    ensures cause { IfErr result (EndsUnpacking (S.size src.old) (S.ends src.old) (S.faults src.old) (S.faults src.new) (K.faults snk.old) (K.faults snk.new)) }
+    ensures told { S.told src.new ≡ S.told src.old }
+    ensures ends { S.ends src.new ≡ S.ends src.old }
+    ensures size { S.size src.new ≡ S.size src.old }
+    ensures name { K.name snk.new ≡ K.name snk.old }
+    ensures read_later { S.faults src.old ≤ S.faults src.new }
+    ensures write_later { K.faults snk.old ≤ K.faults snk.new }
+{
+    match check_magic(src) {
+        Ok(()) => {}
+        Err(fault) => return Err(fault),
+    }
+    let Ok(mut buffer) = vec![in alloc; 0u8; MOST_PACKET] else {
+        return Err(RtpFault::OutOfMemory);
+    };
+    let (law, counts) = match survey(alloc, src, &mut buffer) {
+        Ok(found) => found,
+        Err(fault) => return Err(fault),
+    };
+    match src.seek_to(MAGIC) {
+        Ok(()) => {}
+        Err(_) => return Err(RtpFault::Read),
+    }
+    match write_wav(alloc, src, snk, law, counts.frames, &mut buffer) {
+        Ok(()) => Ok(counts),
+        Err(fault) => Err(fault),
+    }
+}
+
+/// Reads what each file of packets begins with.
+fn check_magic<S: Source>(src: &mut S) -> Result<(), RtpFault>
+    ensures begins { WhereTold (S.told src.old) (λ bytes. OnOk result ((take 8 bytes ≡ magic) × (length bytes ≤ most_bytes))) }
+    ensures other { WhereTold (S.told src.old) (λ bytes. UnlessStopped result (λ r. IfErr r (λ fault. unpacked bytes ≡ Err fault))) }
+    ensures few { OnOk result (S.size src.old ≤ most_bytes) }
+    ensures place { OnOk result (S.place src.new ≡ 8) }
+    ensures within { OnOk result (8 ≤ S.size src.old) }
+    ensures reached { WhereTold (S.ends src.old) (λ end. OnOk result (8 ≤ end)) }
+    ensures too_large { most_bytes < S.size src.old → result ≡ Err (RtpFault.Head (WavFault.TooLarge (S.size src.old))) }
+    ensures cause { IfErr result (EndsUnpacking (S.size src.old) (S.ends src.old) (S.faults src.old) (S.faults src.new) 0 0) }
+    ensures told { S.told src.new ≡ S.told src.old }
+    ensures ends { S.ends src.new ≡ S.ends src.old }
+    ensures size { S.size src.new ≡ S.size src.old }
+    ensures later { S.faults src.old ≤ S.faults src.new }
+{
+    let size = src.size();
+    if size > MOST_BYTES {
+        return Err(RtpFault::Head(WavFault::TooLarge(size)));
+    }
+    if size < MAGIC {
+        return Err(RtpFault::NotPackets);
+    }
+    match src.seek_to(0) {
+        Ok(()) => {}
+        Err(_) => return Err(RtpFault::Read),
+    }
+    let mut magic = [0u8; 8];
+    match read_exact(src, &mut magic) {
+        Ok(()) => {
+            if magic == *b"omxrtp1\n" {
+                Ok(())
+            } else {
+                Err(RtpFault::NotPackets)
+            }
+        }
+        Err(stop) => Err(RtpFault::of_read(stop)),
+    }
+}
+
+/// Goes over a list once: its law, and how much it is unpacked to.
+fn survey<S: Source>(
+    alloc: Global,
+    src: &mut S,
+    buffer: &mut [u8],
+) -> Result<(Law, Unpacked), RtpFault>
+    requires room { length buffer.old ≡ 65535 }
+    requires few { S.size src.old ≤ most_bytes }
+    requires reached { WhereTold (S.ends src.old) (λ end. S.place src.old ≤ end) }
+    ensures answer { WhereTold (S.told src.old) (λ bytes. UnlessStopped result (λ r. r ≡ survey_of (drop (S.place src.old) bytes))) }
+    ensures few { IfOk result (λ found. found.1.frames ≤ most_codes) }
+    ensures cause { IfErr result (EndsUnpacking (S.size src.old) (S.ends src.old) (S.faults src.old) (S.faults src.new) 0 0) }
+    ensures told { S.told src.new ≡ S.told src.old }
+    ensures ends { S.ends src.new ≡ S.ends src.old }
+    ensures size { S.size src.new ≡ S.size src.old }
+    ensures later { S.faults src.old ≤ S.faults src.new }
+{
+    let mut unpacker = Unpacker::new(alloc);
+    let mut frames = 0;
+    'pieces: loop {
+        match unpacker.next(alloc, src, buffer) {
+            Ok(Some(piece)) => {
+                frames += u64::from(piece.silence) + piece.payload.len() as u64;
+                if frames > MOST_CODES {
+                    return Err(RtpFault::TooLong);
+                }
+            }
+            Ok(None) => return found(&unpacker, frames),
+            Err(fault) => return Err(fault),
+        }
+    }
+}
+
+/// What was found in a list that an unpacker went over to its end.
+fn found(unpacker: &Unpacker, frames: u64) -> Result<(Law, Unpacked), RtpFault>
+    requires { frames ≤ most_codes }
+    ensures { result ≡ survey_by unpacker.now.stream (counts_in (course_of unpacker.now)) frames }
+{
+    let Some(stream) = unpacker.stream else {
+        return Err(RtpFault::NoPackets);
+    };
+    let window = &unpacker.window;
+    let counts = Unpacked {
+        frames,
+        bytes: 58 + frames + frames % 2,
+        packets: unpacker.packets,
+        accepted: window.accepted,
+        late: window.late,
+        repeated: window.repeated,
+        skipped: unpacker.packets - (window.accepted + window.late + window.repeated),
+    };
+    Ok((stream.law, counts))
+}
+
+/// Writes the WAV file of a list that is unpacked to so many frames.
+fn write_wav<S: Source, K: Sink>(
+    alloc: Global,
+    src: &mut S,
+    snk: &mut K,
+    law: Law,
+    frames: u64,
+    buffer: &mut [u8],
+) -> Result<(), RtpFault>
+    requires room { length buffer.old ≡ 65535 }
+    requires few { S.size src.old ≤ most_bytes }
+    requires short { frames ≤ most_codes }
+    requires reached { WhereTold (S.ends src.old) (λ end. S.place src.old ≤ end) }
+    ensures file { WhereTold (S.told src.old) (λ bytes. frames ≡ length (whole_codes (silence_of law) (drop (S.place src.old) bytes)) →
+        OnOk result (K.told snk.new ≡ append_known (K.told snk.old) (written (format_of_law law) (whole_codes (silence_of law) (drop (S.place src.old) bytes))))) }
+    ensures front { WhereTold (S.told src.old) (λ bytes. frames ≡ length (whole_codes (silence_of law) (drop (S.place src.old) bytes)) →
+        AppendsFront (K.told snk.old) (K.told snk.new) (written (format_of_law law) (whole_codes (silence_of law) (drop (S.place src.old) bytes)))) }
+    ensures stop { IfErr result (StopsMoving (S.size src.old) (S.ends src.old) (S.faults src.old) (S.faults src.new) (K.faults snk.old) (K.faults snk.new)) }
+    ensures told { S.told src.new ≡ S.told src.old }
+    ensures ends { S.ends src.new ≡ S.ends src.old }
+    ensures size { S.size src.new ≡ S.size src.old }
+    ensures name { K.name snk.new ≡ K.name snk.old }
+    ensures read_later { S.faults src.old ≤ S.faults src.new }
+    ensures write_later { K.faults snk.old ≤ K.faults snk.new }
+{
+    let mut head = [0u8; 58];
+    let len = head_bytes(law.format(), frames, &mut head);
+    match write_all(snk, &head[..len]) {
+        Ok(()) => {}
+        Err(_) => return Err(RtpFault::Write),
+    }
+    match write_codes(alloc, src, snk, law, buffer) {
+        Ok(()) => {}
+        Err(fault) => return Err(fault),
+    }
+    if frames % 2 == 1 {
+        match write_all(snk, &[0]) {
+            Ok(()) => Ok(()),
+            Err(_) => Err(RtpFault::Write),
+        }
+    } else {
+        Ok(())
+    }
+}
+
+/// Writes the codes that a list is unpacked to.
+fn write_codes<S: Source, K: Sink>(
+    alloc: Global,
+    src: &mut S,
+    snk: &mut K,
+    law: Law,
+    buffer: &mut [u8],
+) -> Result<(), RtpFault>
+    requires room { length buffer.old ≡ 65535 }
+    requires few { S.size src.old ≤ most_bytes }
+    requires reached { WhereTold (S.ends src.old) (λ end. S.place src.old ≤ end) }
+    ensures whole { WhereTold (S.told src.old) (λ bytes.
+        OnOk result (K.told snk.new ≡ append_known (K.told snk.old) (whole_codes (silence_of law) (drop (S.place src.old) bytes)))) }
+    ensures front { WhereTold (S.told src.old) (λ bytes.
+        AppendsFront (K.told snk.old) (K.told snk.new) (whole_codes (silence_of law) (drop (S.place src.old) bytes))) }
+    ensures stop { IfErr result (StopsMoving (S.size src.old) (S.ends src.old) (S.faults src.old) (S.faults src.new) (K.faults snk.old) (K.faults snk.new)) }
+    ensures told { S.told src.new ≡ S.told src.old }
+    ensures ends { S.ends src.new ≡ S.ends src.old }
+    ensures size { S.size src.new ≡ S.size src.old }
+    ensures name { K.name snk.new ≡ K.name snk.old }
+    ensures read_later { S.faults src.old ≤ S.faults src.new }
+    ensures write_later { K.faults snk.old ≤ K.faults snk.new }
+{
+    let mut unpacker = Unpacker::new(alloc);
+    'pieces: loop {
+        match unpacker.next(alloc, src, buffer) {
+            Ok(Some(piece)) => {
+                match write_piece(snk, law, &piece) {
+                    Ok(()) => {}
+                    Err(_) => return Err(RtpFault::Write),
+                }
+            }
+            Ok(None) => return Ok(()),
+            Err(fault) => return Err(fault),
+        }
+    }
 }

@@ -1,6 +1,6 @@
 use Rattle.std.proofs.Common.{◌≡◌, ◌∙◌, sym, arith}
 use Rattle.rtp_parts.specs.Packing.{packet_count}
-use Rattle.rtp_parts.proofs.PackAnswers.{head_fault, wrong_format, counts_are, packed-front_magic, packed-front, packed-whole}
+use Rattle.rtp_parts.proofs.PackAnswers.{head_fault, wrong_format, counts_are, short_samples, packed-front_magic, packed-front, packed-whole}
 use Rattle.rtp_parts.proofs.packing.pack.Goals as goal
 
 pub returns-in-Err-clause-answer : goal.returns-in-Err-clause-answer
@@ -31,3 +31,7 @@ returns-in-Ok-pack_samples-clause-front g c = λ bytes is head read.
 pub returns-in-Err-pack_samples-clause-front : goal.returns-in-Err-pack_samples-clause-front
 returns-in-Err-pack_samples-clause-front g c = λ bytes is head read.
     packed-front _ _ _ bytes c.in-Ok.head head c.in-Some.law c.size-size.result _ (c.in-Ok.ensures.reads bytes is) read (sym c.of_format.ensures ∙ c.in-Some.is) (omega (arith, c.if-prove.false)) (c.size-size.ensures.value ∙ c.size-size.ensures.told bytes (c.in-Ok.ensures.told ∙ is)) c.in-Ok.ensures.place c.in-Ok-write_all.ensures.whole (c.in-Err-pack_samples.ensures.front bytes (c.in-Ok.ensures.told ∙ is))
+
+pub returns-in-Err-pack_samples-clause-short : goal.returns-in-Err-pack_samples-clause-short
+returns-in-Err-pack_samples-clause-short g c =
+    short_samples _ _ _ _ _ c.in-Ok.head _ _ _ _ _ c.in-Err-pack_samples.fault c.in-Ok.ensures.size c.in-Ok.ensures.ends c.in-Ok.ensures.place c.in-Ok.ensures.start c.in-Ok.ensures.reads c.in-Err-pack_samples.ensures.stop

@@ -1,4 +1,4 @@
-use Rattle.std.proofs.Common.{◌≡◌, ℕ, ◌+◌, ◌-◌, ◌≤◌, length, take, drop, ap, subst, sym, ◌∙◌, arith, Err, Some}
+use Rattle.std.proofs.Common.{◌≡◌, ◌-◌, length, take, drop, ap, ◌∙◌, arith, Err}
 use Rattle.std.proofs.lemmas.List.{length-take}
 use Rattle.rtp_parts.proofs.RecordRead.{none_read, one_read, cut_read, whole_read, stop_read}
 use Rattle.rtp_parts.proofs.reading.read_record.Goals as goal

@@ -1,5 +1,5 @@
-use Rattle.std.proofs.Common.{rules, ◌≡◌, ℕ, ◌+◌, ◌-◌, ◌≤◌, ◌<◌, ◌^◌, List, drop, map, refl, sym, ap, subst, ◌∙◌, arith, Option, ◌*◌}
-use Rattle.rtp_parts.specs.Sorting.{gap_before, Numbered}
+use Rattle.std.proofs.Common.{rules, ◌≡◌, ℕ, ◌+◌, ◌-◌, ◌≤◌, ◌<◌, ◌^◌, map, refl, sym, ap, subst, ◌∙◌, arith, Option, ◌*◌}
+use Rattle.rtp_parts.specs.Sorting.{gap_before}
 use Rattle.rtp_parts.specs.Steps.{Line, Course, numbered_of, with_first, course_of, counts_in, room_left, steps_left}
 use Rattle.rtp_parts.proofs.CourseLeft.{left-first, left-on, codes-given, counts-given, codes-none, counts-none}
 use Rattle.rtp_parts.proofs.unpacker.Unpacker.next.Goals as goal

@@ -1,4 +1,4 @@
-use Rattle.std.proofs.Common.{ap, subst, refl, ◌∙◌, drop, take}
+use Rattle.std.proofs.Common.{ap, subst, refl, ◌∙◌, drop}
 use Rattle.rtp_parts.specs.Steps.{course_of, with_records, RecordAt}
 use Rattle.rtp_parts.proofs.RecordRead.{left-ends, left-goes}
 use Rattle.rtp_parts.proofs.unpacker.Unpacker.take_record.Goals as goal

@@ -1,4 +1,4 @@
-use Rattle.std.proofs.Common.{◌≡◌, ◌+◌, ◌<◌, ◌≤◌, subst, sym, ◌∙◌, arith, OnOk}
+use Rattle.std.proofs.Common.{◌≡◌, ◌<◌, subst, sym, ◌∙◌, arith, OnOk}
 use Rattle.rtp_parts.specs.Steps.{Line, line_of}
 use Rattle.rtp_parts.proofs.WindowLines.{has-map, none-above, judged-repeated, judged-kept, stepped}
 use Rattle.rtp_parts.proofs.window.Window.arrive.Goals as goal

@@ -1,4 +1,4 @@
-use Rattle.std.proofs.Common.{◌≤◌, vec_len, subst, sym, List, drop}
+use Rattle.std.proofs.Common.{◌≤◌, vec_len, subst, sym, List}
 use Rattle.std.specs.List.{All}
 use Rattle.rtp_parts.specs.declared.window.Held.{Held}
 use Rattle.rtp_parts.proofs.WindowLines.{All-rest}

@@ -1,4 +1,4 @@
-use Rattle.std.proofs.Common.{◌≡◌, ℕ, List, max, map, ap, sym, ◌∙◌, arith, refl}
+use Rattle.std.proofs.Common.{◌≡◌, ℕ, List, max, map, ap, ◌∙◌, arith, refl}
 use Rattle.rtp_parts.specs.declared.window.Held.{Held}
 use Rattle.rtp_parts.specs.Sorting.{placed}
 use Rattle.rtp_parts.specs.Steps.{numbered_of}

@@ -1,0 +1,28 @@
+use Rattle.std.proofs.Common.{◌≡◌, ℕ, List, Err, bytes_eq, take, drop, length, sym, ap, ◌∙◌, arith}
+use Rattle.omx_types.specs.declared.fault.WavFault.TheVariants.{TooLarge}
+use Rattle.rtp_parts.specs.declared.fault.RtpFault.TheVariants.{Head}
+use Rattle.rtp_parts.specs.Packing.{magic}
+use Rattle.rtp_parts.proofs.UnpackAnswers.{too_large_is, other_is, too_few}
+use Rattle.rtp_parts.proofs.unpacking.check_magic.Goals as goal
+
+pub returns-then-size-gt-MOST_BYTES-clause-other : goal.returns-then-size-gt-MOST_BYTES-clause-other
+returns-then-size-gt-MOST_BYTES-clause-other g c = λ bytes is.
+    let size : length bytes ≡ c.size-size.result = sym (c.size-size.ensures.value ∙ c.size-size.ensures.told bytes is) in
+    too_large_is bytes (omega (arith, size, c.if-size-gt-MOST_BYTES.true)) ∙ ap (λ (n : ℕ). Err (Head (TooLarge n))) size
+
+pub returns-then-size-lt-MAGIC-clause-other : goal.returns-then-size-lt-MAGIC-clause-other
+returns-then-size-lt-MAGIC-clause-other g c = λ bytes is.
+    let size : length bytes ≡ c.size-size.result = sym (c.size-size.ensures.value ∙ c.size-size.ensures.told bytes is) in
+    other_is bytes (omega (arith, size, c.if-size-lt-MAGIC.true)) (too_few bytes (omega (arith, size, c.if-size-lt-MAGIC.true)))
+
+pub returns-then-eq-clause-reached : goal.returns-then-eq-clause-reached
+returns-then-eq-clause-reached g c = λ end is.
+    omega (arith, c.in-Ok-read_exact.ensures.reached end (c.in-Ok.ensures.ends ∙ is), c.in-Ok-read_exact.ensures.place, c.in-Ok.ensures.reached)
+
+pub returns-else-eq-clause-other : goal.returns-else-eq-clause-other
+returns-else-eq-clause-other g c = λ bytes is.
+    let size : length bytes ≡ c.size-size.result = sym (c.size-size.ensures.value ∙ c.size-size.ensures.told bytes is) in
+    let read : c.read_exact.new.buf ≡ take 8 bytes =
+    c.in-Ok-read_exact.ensures.bytes bytes (c.in-Ok.ensures.told ∙ is) ∙ ap (λ (n : ℕ). take 8 (drop n bytes)) c.in-Ok.ensures.reached in
+    other_is bytes (omega (arith, size, c.if-size-gt-MOST_BYTES.false))
+    (ap (λ (b : List ℕ). bytes_eq b magic) (sym read) ∙ sym c.eq.ensures ∙ c.if-eq.false)

@@ -1,0 +1,72 @@
+use Rattle.std.proofs.Common.{◌≡◌, refl, sym, ◌∙◌, arith}
+use Rattle.rtp_parts.specs.Answers.{unpacked_counts}
+use Rattle.rtp_parts.specs.Unpacking.{unpacked}
+use Rattle.rtp_parts.proofs.UnpackAnswers.{magic_failed, found_at, failed_at, front-none, wav_sent, wav_front, ends_later, moving_ends, moving_unless, counts_found}
+use Rattle.rtp_parts.proofs.unpacking.unpack.Goals as goal
+
+pub returns-in-Err-clause-answer : goal.returns-in-Err-clause-answer
+returns-in-Err-clause-answer g c = λ bytes is. magic_failed bytes c.in-Err.fault (c.in-Err.ensures.other bytes is)
+
+pub returns-in-Err-clause-front : goal.returns-in-Err-clause-front
+returns-in-Err-clause-front g c = λ bytes is. front-none _ _
+
+pub returns-in-Err-clause-cause : goal.returns-in-Err-clause-cause
+returns-in-Err-clause-cause g c = ends_later _ _ _ _ _ _ _ _ _ c.in-Err.fault refl refl (omega arith) c.in-Err.ensures.cause
+
+pub returns-in_default-clause-front : goal.returns-in_default-clause-front
+returns-in_default-clause-front g c = λ bytes is. front-none _ _
+
+pub returns-in-Err-survey-clause-answer : goal.returns-in-Err-survey-clause-answer
+returns-in-Err-survey-clause-answer g c = λ bytes is.
+    failed_at bytes c.in-Err-survey.fault _ (c.in-Ok.ensures.begins bytes is) c.in-Ok.ensures.place (c.in-Err-survey.ensures.answer bytes (c.in-Ok.ensures.told ∙ is))
+
+pub returns-in-Err-survey-clause-front : goal.returns-in-Err-survey-clause-front
+returns-in-Err-survey-clause-front g c = λ bytes is. front-none _ _
+
+pub returns-in-Err-survey-clause-cause : goal.returns-in-Err-survey-clause-cause
+returns-in-Err-survey-clause-cause g c =
+    ends_later _ _ _ _ _ _ _ _ _ c.in-Err-survey.fault c.in-Ok.ensures.size c.in-Ok.ensures.ends c.in-Ok.ensures.later c.in-Err-survey.ensures.cause
+
+pub returns-in-Err-seek_to-clause-front : goal.returns-in-Err-seek_to-clause-front
+returns-in-Err-seek_to-clause-front g c = λ bytes is. front-none _ _
+
+pub write_wav-requires-clause-reached : goal.write_wav-requires-clause-reached
+write_wav-requires-clause-reached g c = λ end is.
+    let same = c.in-Ok-seek_to.ensures.ends ∙ c.in-Ok-survey.ensures.ends ∙ c.in-Ok.ensures.ends in
+    omega (arith, c.in-Ok.ensures.reached end (sym same ∙ is), c.in-Ok-seek_to.ensures.reached)
+
+pub returns-in-Ok-write_wav-clause-answer : goal.returns-in-Ok-write_wav-clause-answer
+returns-in-Ok-write_wav-clause-answer g c = λ bytes is.
+    let found = c.in-Ok-survey.found in
+    let whole = found_at bytes found _ (c.in-Ok.ensures.begins bytes is) c.in-Ok.ensures.place (c.in-Ok-survey.ensures.answer bytes (c.in-Ok.ensures.told ∙ is)) in
+    counts_found bytes found.0 found.1 whole
+
+pub returns-in-Ok-write_wav-clause-file : goal.returns-in-Ok-write_wav-clause-file
+returns-in-Ok-write_wav-clause-file g c = λ bytes is.
+    let found = c.in-Ok-survey.found in
+    let whole = found_at bytes found _ (c.in-Ok.ensures.begins bytes is) c.in-Ok.ensures.place (c.in-Ok-survey.ensures.answer bytes (c.in-Ok.ensures.told ∙ is)) in
+    let told = c.in-Ok-seek_to.ensures.told ∙ c.in-Ok-survey.ensures.told ∙ c.in-Ok.ensures.told ∙ is in
+    wav_sent bytes found.0 found.1 (g.S.Source.place c.seek_to.new.self) (g.K.Sink.told c.args.snk.now) (g.K.Sink.told c.write_wav.new.snk) whole c.in-Ok-seek_to.ensures.reached (c.in-Ok-write_wav.ensures.file bytes told)
+
+pub returns-in-Ok-write_wav-clause-front : goal.returns-in-Ok-write_wav-clause-front
+returns-in-Ok-write_wav-clause-front g c = λ bytes is.
+    let found = c.in-Ok-survey.found in
+    let whole = found_at bytes found _ (c.in-Ok.ensures.begins bytes is) c.in-Ok.ensures.place (c.in-Ok-survey.ensures.answer bytes (c.in-Ok.ensures.told ∙ is)) in
+    let told = c.in-Ok-seek_to.ensures.told ∙ c.in-Ok-survey.ensures.told ∙ c.in-Ok.ensures.told ∙ is in
+    wav_front bytes found.0 found.1 (g.S.Source.place c.seek_to.new.self) (g.K.Sink.told c.args.snk.now) (g.K.Sink.told c.write_wav.new.snk) whole c.in-Ok-seek_to.ensures.reached (c.in-Ok-write_wav.ensures.front bytes told)
+
+pub returns-clause-answer : goal.returns-clause-answer
+returns-clause-answer g c = λ bytes is.
+    moving_unless _ _ _ _ _ _ c.in-Err-write_wav.fault (λ r. r ≡ unpacked_counts (unpacked bytes)) c.in-Err-write_wav.ensures.stop
+
+pub returns-clause-front : goal.returns-clause-front
+returns-clause-front g c = λ bytes is.
+    let found = c.in-Ok-survey.found in
+    let whole = found_at bytes found _ (c.in-Ok.ensures.begins bytes is) c.in-Ok.ensures.place (c.in-Ok-survey.ensures.answer bytes (c.in-Ok.ensures.told ∙ is)) in
+    let told = c.in-Ok-seek_to.ensures.told ∙ c.in-Ok-survey.ensures.told ∙ c.in-Ok.ensures.told ∙ is in
+    wav_front bytes found.0 found.1 (g.S.Source.place c.seek_to.new.self) (g.K.Sink.told c.args.snk.now) (g.K.Sink.told c.write_wav.new.snk) whole c.in-Ok-seek_to.ensures.reached (c.in-Err-write_wav.ensures.front bytes told)
+
+pub returns-clause-cause : goal.returns-clause-cause
+returns-clause-cause g c =
+    moving_ends _ _ _ _ _ _ _ _ _ c.in-Err-write_wav.fault (c.in-Ok-seek_to.ensures.size ∙ c.in-Ok-survey.ensures.size ∙ c.in-Ok.ensures.size) (c.in-Ok-seek_to.ensures.ends ∙ c.in-Ok-survey.ensures.ends ∙ c.in-Ok.ensures.ends)
+    (omega (arith, c.in-Ok.ensures.later, c.in-Ok-survey.ensures.later, c.in-Ok-seek_to.ensures.cause.later)) c.in-Err-write_wav.ensures.stop

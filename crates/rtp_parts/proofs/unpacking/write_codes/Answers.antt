@@ -1,0 +1,69 @@
+use Rattle.std.proofs.Common.{rules, ℕ, ◌+◌, ◌-◌, ◌≤◌, ◌^◌, ◌++◌, [], replicate, drop, sym, subst, ◌∙◌, arith}
+use Rattle.outside_io.proofs.Known.{append_known-nil}
+use Rattle.rtp_parts.specs.Packets.{silence_of}
+use Rattle.rtp_parts.specs.Steps.{room_left}
+use Rattle.rtp_parts.proofs.CodesSent.{given_some, given_none, sent_on, sent_piece, sent_part, sent_all}
+use Rattle.rtp_parts.proofs.CourseLeft.{start-codes}
+use Rattle.rtp_parts.proofs.unpacking.write_codes.Goals as goal
+
+pub pieces-init : goal.pieces-init
+pieces-init g c =
+    let u = c.new-unpacker.result in
+    let made = c.new-unpacker.ensures in
+    record {
+      sent = λ bytes is. ([], sym (start-codes (silence_of c.args.law) u (drop (g.S.Source.place c.args.src.now) bytes) made.course made.going made.first), sym (append_known-nil (g.K.Sink.told c.args.snk.now)));
+      few = search rules;
+      room = search rules;
+      reached = c.requires.reached;
+      told = search rules;
+      ends = search rules;
+      size = search rules;
+      read = search rules;
+      name = search rules;
+      write = search rules;
+    }
+
+pub pieces-preserved : goal.pieces-preserved
+pieces-preserved g c =
+    let piece = c.in-Ok-Some.piece in
+    let silence = silence_of c.args.law in
+    record {
+      sent = λ bytes is.
+          let before = c.pieces.invariant.sent bytes is in
+          let front = replicate piece.silence silence ++ piece.payload.items in
+          let sent = sent_on _ _ _ _ before.0 _ front _ (before.1, before.2) (given_some _ piece _ c.in-Ok-Some.field-0-is (c.in-Ok-Some.ensures.given bytes (c.pieces.invariant.told ∙ is)) silence) c.in-Ok.ensures.whole in
+          (before.0 ++ front, sent.0, sent.1);
+      few = subst (λ (n : ℕ). c.next.new.self.packets + room_left c.next.new.self (n - g.S.Source.place c.next.new.src) ≤ 2 ^ 27) c.pieces.invariant.size c.in-Ok-Some.ensures.few;
+      room = search rules;
+      reached = λ end is. c.in-Ok-Some.ensures.reached end (c.pieces.invariant.ends ∙ is);
+      told = c.in-Ok-Some.ensures.told ∙ c.pieces.invariant.told;
+      ends = c.in-Ok-Some.ensures.ends ∙ c.pieces.invariant.ends;
+      size = c.in-Ok-Some.ensures.size ∙ c.pieces.invariant.size;
+      read = omega (arith, c.in-Ok-Some.ensures.later, c.pieces.invariant.read);
+      name = search rules;
+      write = search rules;
+    }
+
+pub returns-in-Err-write_piece-clause-front : goal.returns-in-Err-write_piece-clause-front
+returns-in-Err-write_piece-clause-front g c = λ bytes is.
+    let piece = c.in-Ok-Some.piece in
+    let silence = silence_of c.args.law in
+    let before = c.pieces.invariant.sent bytes is in
+    sent_piece _ _ _ _ before.0 _ (replicate piece.silence silence ++ piece.payload.items) _ (before.1, before.2)
+    (given_some _ piece _ c.in-Ok-Some.field-0-is (c.in-Ok-Some.ensures.given bytes (c.pieces.invariant.told ∙ is)) silence) c.write_piece.ensures.front
+
+pub returns-in-Ok-None-clause-whole : goal.returns-in-Ok-None-clause-whole
+returns-in-Ok-None-clause-whole g c = λ bytes is.
+    let before = c.pieces.invariant.sent bytes is in
+    sent_all _ _ _ before.0 _ (before.1, before.2)
+    (given_none _ _ c.in-Ok-None.field-0-is (c.in-Ok-None.ensures.none bytes (c.pieces.invariant.told ∙ is)) (silence_of c.args.law))
+
+pub returns-in-Ok-None-clause-front : goal.returns-in-Ok-None-clause-front
+returns-in-Ok-None-clause-front g c = λ bytes is.
+    let before = c.pieces.invariant.sent bytes is in
+    sent_part _ _ _ before.0 _ (before.1, before.2)
+
+pub returns-in-Err-clause-front : goal.returns-in-Err-clause-front
+returns-in-Err-clause-front g c = λ bytes is.
+    let before = c.pieces.invariant.sent bytes is in
+    sent_part _ _ _ before.0 _ (before.1, before.2)
