@@ -1,0 +1,4 @@
+pub mod Defaults
+pub mod Hearings
+pub mod OnePhase
+pub mod Steps

@@ -1,0 +1,5 @@
+pub mod Casting
+pub mod Changing
+pub mod DueChange
+pub mod Hearing
+pub mod Phases
