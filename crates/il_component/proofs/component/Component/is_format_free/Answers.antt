@@ -1,4 +1,4 @@
-use Rattle.std.proofs.Common.{◌≡◌, ◌<◌, length, Some, sym, arith}
+use Rattle.std.proofs.Common.{◌≡◌, length, Some, sym, arith}
 use Rattle.il_machine.specs.Kinds.{ports_in}
 use Rattle.il_machine.specs.World.{number_of, port_of}
 use Rattle.il_component.specs.Entries.{component_of}

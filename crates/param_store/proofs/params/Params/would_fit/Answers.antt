@@ -1,7 +1,7 @@
-use Rattle.std.proofs.Common.{◌≡◌, List, ◌∙◌, ap, take, set, filter}
+use Rattle.std.proofs.Common.{◌≡◌, take, set}
 use Rattle.il_machine.specs.declared.port.PortSetting.{PortSetting}
 use Rattle.il_machine.specs.Kinds.{ports_in}
-use Rattle.il_machine.specs.Settings.{are_fitting, is_known, formats_of, setting_at}
+use Rattle.il_machine.specs.Settings.{setting_at}
 use Rattle.param_store.proofs.Runs.{take_set}
 use Rattle.param_store.proofs.params.Params.would_fit.Goals as goal
 
