@@ -1,5 +1,5 @@
 -- Where all is told and no count rises, what a play comes to.
-use Rattle.std.proofs.Common.{◌≡◌, ◌⊎◌, inl, inr, ℕ, List, Option, Some, None, Result, Ok, Err, IsTrue, IsFalse, Bool, true, false, ap, sym, subst, refl, ◌∙◌, arith}
+use Rattle.std.proofs.Common.{◌≡◌, ◌⊎◌, inl, inr, ℕ, List, Option, Some, None, Result, Ok, Err, IsTrue, IsFalse, Bool, true, false, length, ap, sym, subst, refl, ◌∙◌, arith}
 use Rattle.outside_io.specs.Causes.{Rose}
 use Rattle.outside_io.specs.Files.{Outside}
 use Rattle.omx_types.specs.declared.fault.Fault.{Fault}
@@ -13,7 +13,7 @@ use Rattle.wav_form.specs.declared.heads.WavHead.{WavHead}
 use Rattle.wav_form.specs.Reading.{Reads}
 use Rattle.omxrun.specs.Asked.{IsUnplayed, IsReadable, IsFaulty, CanPlay, IsFaultless, IsOrMemory}
 use Rattle.omxrun.specs.Played.{IsPlayed, HasEndsPlayed, IsOutcome}
-use Rattle.omxrun.specs.Reasons.{ForTunnel, HasReason, IsCaused, IsOfScript, IsOfEnds, IsOfLog}
+use Rattle.omxrun.specs.Reasons.{ForTunnel, HasReason, IsCaused, IsOfScript, IsOfEnds, IsOfLog, IsValid}
 use Rattle.omxrun.specs.Script.{IsTunnel}
 use Rattle.omxrun.specs.Told.{IsPrinted, IsTold, status_of, outcome_text}
 use Rattle.omxrun.specs.declared.done.Done.{Done}
@@ -36,9 +36,10 @@ told-status outcome old new before now status print told = printed-status (statu
 -- the files of a script that is told are those of the tunnel
 at-tunnel : (script log : List ℕ) (old : Outside) (source sink bytes : List ℕ) (P : List ℕ → List ℕ → Type 0) → IsReadable script log old source sink bytes → ForTunnel script log old P → P source sink
 at-tunnel script log old source sink bytes P readable for =
-    let found = for readable.text readable.given.held in
-    let once = tunnel-once script log readable.text found.0 found.1 source sink found.2 readable.tunnel in
-    subst (λ (k : List ℕ). P source k) once.sinks (subst (λ (s : List ℕ). P s found.1) once.sources found.3)
+    let (text, from, to, held, tunnel, p) = for in
+    let texts = same-text text readable.text (old.file script) held readable.given.held in
+    let once = tunnel-once script log readable.text from to source sink (subst (λ (t : List ℕ). IsTunnel script log t from to) texts tunnel) readable.tunnel in
+    subst (λ (k : List ℕ). P source k) once.sinks (subst (λ (s : List ℕ). P s to) once.sources p)
 
 -- what is left of a fault of a readable source where no count rose: memory, the source's own fault, or a refused name
 abbrev pub IsLast : List ℕ → List ℕ → Outside → List ℕ → Fault → Type 0
@@ -51,6 +52,10 @@ IsLast sink log old bytes _ = ⊥
 pub none-some : {A : Type 0} (a : A) (held : Option A) → held ≡ None → held ≡ Some a → ⊥
 none-some a held p q = let e : None ≡ Some a = sym p ∙ q in cc
 
+-- the head of a valid file, whose bytes are these
+valid-head : (source bytes : List ℕ) (old : Outside) → old.file source ≡ Some bytes → IsValid source old → (head : WavHead) × Reads bytes (Ok head)
+valid-head source bytes old held (found, head, told, reads) = (head, subst (λ (b : List ℕ). Reads b (Ok head)) (same-text found bytes (old.file source) told held) reads)
+
 last-of_script : (script log : List ℕ) (old new : Outside) (source sink bytes : List ℕ) (fault : Fault) → IsReadable script log old source sink bytes → (Rose old.read_faults new.read_faults → ⊥) → IsCaused old new fault → IsOfScript script log old fault → IsLast sink log old bytes fault
 last-of_script script log old new source sink bytes Faults.ReadFault can none caused is = absurd (none caused)
 last-of_script script log old new source sink bytes (Faults.Absent Files.Script) can none caused is = absurd (none-some can.text (old.file script) is can.given.held)
@@ -60,14 +65,15 @@ last-of_script script log old new source sink bytes (Faults.Absent (Files.Made n
 last-of_script script log old new source sink bytes (Faults.Absent Files.Input) can none caused is = absurd is
 last-of_script script log old new source sink bytes (Faults.Absent Files.Output) can none caused is = absurd is
 last-of_script script log old new source sink bytes Faults.OutOfMemory can none caused is = tt
-last-of_script script log old new source sink bytes (Faults.Short Files.Script at size) can none caused is =
-    absurd (let end = is.stopped can.given.end can.given.told_end in let whole = is.whole can.text can.given.held in let all = can.given.whole in omega (arith, end, whole, all, caused))
+last-of_script script log old new source sink bytes (Faults.Short Files.Script at size) can none caused (_, is) =
+    absurd (let end = is.stopped can.given.end can.given.told_end in let whole = is.whole can.text can.given.held in let all = can.given.whole in omega (arith, end, whole, all, caused.0))
 last-of_script script log old new source sink bytes (Faults.Short Files.Log at size) can none caused is = absurd is
 last-of_script script log old new source sink bytes (Faults.Short (Files.Line line) at size) can none caused is = absurd is
 last-of_script script log old new source sink bytes (Faults.Short (Files.Made number) at size) can none caused is = absurd is
 last-of_script script log old new source sink bytes (Faults.Short Files.Input at size) can none caused is = absurd is
 last-of_script script log old new source sink bytes (Faults.Short Files.Output at size) can none caused is = absurd is
-last-of_script script log old new source sink bytes (Faults.NotBuilt what) can none caused is = absurd (is can.text can.given.held source sink can.tunnel)
+last-of_script script log old new source sink bytes (Faults.NotBuilt what) can none caused (text, held, none_is) =
+    absurd (none_is source sink (subst (λ (t : List ℕ). IsTunnel script log t source sink) (same-text can.text text (old.file script) can.given.held held) can.tunnel))
 last-of_script script log old new source sink bytes (Faults.Script line why) can none caused is = absurd caused
 last-of_script script log old new source sink bytes Faults.Usage can none caused is = absurd caused
 last-of_script script log old new source sink bytes (Faults.BadMedia which fault) can none caused is = absurd is
@@ -77,19 +83,20 @@ last-of_script script log old new source sink bytes (Faults.Packets why) can non
 last-of_script script log old new source sink bytes (Faults.NotRun line why) can none caused is = absurd caused
 
 last-of_ends : (script log : List ℕ) (old new : Outside) (source sink bytes : List ℕ) (fault : Fault) → IsReadable script log old source sink bytes → (Rose old.read_faults new.read_faults → ⊥) → (Rose old.write_faults new.write_faults → ⊥) → IsCaused old new fault → IsOfEnds source sink old fault → IsLast sink log old bytes fault
-last-of_ends script log old new source sink bytes (Faults.BadMedia which fault) can none unwritten caused is = (caused.0, is bytes can.source_given.held)
+last-of_ends script log old new source sink bytes (Faults.BadMedia which fault) can none unwritten caused (found, held, reads) =
+    (caused.0, subst (λ (b : List ℕ). Reads b (Err fault)) (same-text found bytes (old.file source) held can.source_given.held) reads)
 last-of_ends script log old new source sink bytes Faults.ReadFault can none unwritten caused is = absurd (none caused)
-last-of_ends script log old new source sink bytes Faults.WriteFault can none unwritten caused is = absurd (unwritten caused)
+last-of_ends script log old new source sink bytes Faults.WriteFault can none unwritten caused is = absurd (unwritten caused.0)
 last-of_ends script log old new source sink bytes (Faults.Absent (Files.Line line)) can none unwritten caused (inl (at, missing)) = absurd (none-some bytes (old.file source) missing can.source_given.held)
-last-of_ends script log old new source sink bytes (Faults.Absent (Files.Line line)) can none unwritten caused (inr (at, may, valid)) = (may, valid bytes can.source_given.held)
+last-of_ends script log old new source sink bytes (Faults.Absent (Files.Line line)) can none unwritten caused (inr (at, may, valid)) = (may, valid-head source bytes old can.source_given.held valid)
 last-of_ends script log old new source sink bytes (Faults.Absent Files.Script) can none unwritten caused is = absurd is
 last-of_ends script log old new source sink bytes (Faults.Absent Files.Log) can none unwritten caused is = absurd is
 last-of_ends script log old new source sink bytes (Faults.Absent (Files.Made number)) can none unwritten caused is = absurd is
 last-of_ends script log old new source sink bytes (Faults.Absent Files.Input) can none unwritten caused is = absurd is
 last-of_ends script log old new source sink bytes (Faults.Absent Files.Output) can none unwritten caused is = absurd is
 last-of_ends script log old new source sink bytes Faults.OutOfMemory can none unwritten caused is = tt
-last-of_ends script log old new source sink bytes (Faults.Short (Files.Line line) at size) can none unwritten caused (here, is) =
-    absurd (let end = is.stopped can.source_given.end can.source_given.told_end in let whole = is.whole bytes can.source_given.held in let all = can.source_given.whole in omega (arith, end, whole, all, caused))
+last-of_ends script log old new source sink bytes (Faults.Short (Files.Line line) at size) can none unwritten caused (here, (found, held, is)) =
+    absurd (let end = is.stopped can.source_given.end can.source_given.told_end in let same = ap length (same-text found bytes (old.file source) held can.source_given.held) in let below = is.below in let all = can.source_given.whole in omega (arith, end, same, below, all))
 last-of_ends script log old new source sink bytes (Faults.Short Files.Script at size) can none unwritten caused is = absurd is
 last-of_ends script log old new source sink bytes (Faults.Short Files.Log at size) can none unwritten caused is = absurd is
 last-of_ends script log old new source sink bytes (Faults.Short (Files.Made number) at size) can none unwritten caused is = absurd is
@@ -103,8 +110,8 @@ last-of_ends script log old new source sink bytes (Faults.NotRun line why) can n
 last-of_ends script log old new source sink bytes (Faults.NotBuilt what) can none unwritten caused is = absurd is
 
 last-of_log : (script log : List ℕ) (old new : Outside) (source sink bytes : List ℕ) (fault : Fault) → IsReadable script log old source sink bytes → (Rose old.write_faults new.write_faults → ⊥) → IsCaused old new fault → IsOfLog source log old fault → IsLast sink log old bytes fault
-last-of_log script log old new source sink bytes Faults.WriteFault can unwritten caused is = absurd (unwritten caused)
-last-of_log script log old new source sink bytes (Faults.Absent Files.Log) can unwritten caused (may, valid) = (may, valid bytes can.source_given.held)
+last-of_log script log old new source sink bytes Faults.WriteFault can unwritten caused is = absurd (unwritten caused.0)
+last-of_log script log old new source sink bytes (Faults.Absent Files.Log) can unwritten caused (may, valid) = (may, valid-head source bytes old can.source_given.held valid)
 last-of_log script log old new source sink bytes Faults.OutOfMemory can unwritten caused is = tt
 last-of_log script log old new source sink bytes (Faults.Absent Files.Script) can unwritten caused is = absurd is
 last-of_log script log old new source sink bytes (Faults.Absent (Files.Line line)) can unwritten caused is = absurd is
@@ -223,8 +230,8 @@ unplayed-fault script log old new (Faults.Absent (Files.Made number)) has none c
 unplayed-fault script log old new (Faults.Absent Files.Input) has none caused is = absurd is
 unplayed-fault script log old new (Faults.Absent Files.Output) has none caused is = absurd is
 unplayed-fault script log old new Faults.OutOfMemory has none caused is = inr refl
-unplayed-fault script log old new (Faults.Short Files.Script at size) has none caused is =
-    absurd (let end = is.stopped has.given.end has.given.told_end in let whole = is.whole has.text has.given.held in let all = has.given.whole in omega (arith, end, whole, all, caused))
+unplayed-fault script log old new (Faults.Short Files.Script at size) has none caused (_, is) =
+    absurd (let end = is.stopped has.given.end has.given.told_end in let whole = is.whole has.text has.given.held in let all = has.given.whole in omega (arith, end, whole, all, caused.0))
 unplayed-fault script log old new (Faults.Short Files.Log at size) has none caused is = absurd is
 unplayed-fault script log old new (Faults.Short (Files.Line line) at size) has none caused is = absurd is
 unplayed-fault script log old new (Faults.Short (Files.Made number) at size) has none caused is = absurd is
@@ -250,5 +257,5 @@ unplayed script log old new before now told told_new (Err fault) status is print
         | inl unbuilt ↦ inl (status_is ∙ ap Statuses.Fault unbuilt)
         | inr memory ↦ inr (status_is ∙ ap Statuses.Fault memory)
       ]
-      | inr for ↦ (let found = for has.text has.given.held in absurd (has.no_tunnel found.0 found.1 found.2))
+      | inr (text, source, sink, held, tunnel, _) ↦ absurd (has.no_tunnel source sink (subst (λ (t : List ℕ). IsTunnel script log t source sink) (same-text text has.text (old.file script) held has.given.held) tunnel))
     ]

@@ -1,3 +1,4 @@
+pub mod Causes
 pub mod Commands
 pub mod Complete
 pub mod Forms

@@ -1,5 +1,5 @@
 -- What the play of an opened source leaves, from its parts.
-use Rattle.std.proofs.Common.{◌≡◌, inl, inr, ℕ, ◌+◌, ◌*◌, ◌/◌, ◌%◌, ◌<◌, List, [], ◌∷◌, ◌++◌, drop, length, Option, Some, Result, Ok, Err, OnOk, OnErr, IfOk, IfErr, IsTrue, Bool, ap, sym, subst, refl, ◌∙◌, arith, length-drop}
+use Rattle.std.proofs.Common.{◌≡◌, inl, inr, ℕ, ◌+◌, ◌*◌, ◌/◌, ◌%◌, ◌<◌, List, [], ◌∷◌, ◌++◌, drop, length, Option, Some, Result, Ok, Err, OnOk, OnErr, IfOk, IfErr, IsTrue, Bool, true, false, ◌≤◌, ap, sym, subst, refl, ◌∙◌, arith, length-drop}
 use Rattle.std.proofs.lemmas.Bool.{cond_both, eqb-true, eqb-false}
 use Rattle.std.proofs.lemmas.List.{length-append, length-take}
 use Rattle.std.specs.Prelude.{if◌then◌else◌, ◌==◌}
@@ -63,10 +63,12 @@ text-size bytes head size fits sized =
     ∙ ap (λ n. head_len head.format + n + n % 2) (length-samples bytes head size fits sized)
 
 -- the name of a sink that took all and was closed holds the text
-pub sound-holds : (sink name bytes : List ℕ) (head : WavHead) (new : Outside) (ran : Result (Unit {0}) Stop) (closed : Result (Unit {0}) Failed) (told : Option (List ℕ)) → OnOk ran (told ≡ Some (text_of bytes head)) → OnOk closed (new.file name ≡ told) → name ≡ sink → length (text_of bytes head) ≡ written_size head → IfOk (ended head ran closed) (HoldsText sink bytes head new)
-sound-holds sink name bytes head new (Ok ran) (Ok closed) told whole held named size = (ap new.file (sym named) ∙ held ∙ whole, refl, sym size)
-sound-holds sink name bytes head new (Ok ran) (Err failed) told whole held named size = tt
-sound-holds sink name bytes head new (Err stop) closed told whole held named size = tt
+pub sound-holds : (sink name bytes : List ℕ) (head : WavHead) (new : Outside) (ran : Result (Unit {0}) Stop) (closed : Result (Unit {0}) Failed) (reads writes : Bool) (told : Option (List ℕ)) → OnOk ran (told ≡ Some (text_of bytes head)) → OnOk closed (new.file name ≡ told) → name ≡ sink → length (text_of bytes head) ≡ written_size head → IfOk (ended head ran closed reads writes) (HoldsText sink bytes head new)
+sound-holds sink name bytes head new ran closed true writes told whole held named size = tt
+sound-holds sink name bytes head new ran closed false true told whole held named size = tt
+sound-holds sink name bytes head new (Ok ran) (Ok closed) false false told whole held named size = (ap new.file (sym named) ∙ held ∙ whole, refl, sym size)
+sound-holds sink name bytes head new (Ok ran) (Err failed) false false told whole held named size = tt
+sound-holds sink name bytes head new (Err stop) closed false false told whole held named size = tt
 
 whole-front : (told : Option (List ℕ)) (text : List ℕ) → told ≡ Some text → AppendsFront (Some []) told text
 whole-front told text is = (length text, omega arith, is ∙ ap Some (sym (take-length text)))
@@ -107,61 +109,77 @@ pub record IsOpened (source : List ℕ) (old mid : Outside) (size : ℕ) (ends t
   pub may : mid.may_refuse ≡ old.may_refuse
   pub ends_are : ends ≡ told
   pub ends_of : told ≡ old.ends source
-  pub sized : WhereTold (old.file source) (λ bytes. size ≡ length bytes)
+  pub bytes : List ℕ
+  pub held : old.file source ≡ Some bytes
+  pub sized : size ≡ length bytes
 
-run-fault : (source sink : List ℕ) (old mid : Outside) (size start : ℕ) (ends told : Option ℕ) (fault : Fault) → IsOpened source old mid size ends told → IsValid source old → IsOfRun sink mid size ends start fault → IsOfEnds source sink old fault
-run-fault source sink old mid size start ends told Faults.ReadFault opened valid is = tt
-run-fault source sink old mid size start ends told Faults.WriteFault opened valid is = valid
-run-fault source sink old mid size start ends told Faults.OutOfMemory opened valid is = tt
-run-fault source sink old mid size start ends told (Faults.Absent (Files.Line line)) opened valid (at, may) = inr (at, subst (λ (f : List ℕ → Bool). IsTrue (f sink)) opened.may may, valid)
-run-fault source sink old mid size start ends told (Faults.Absent Files.Script) opened valid is = is
-run-fault source sink old mid size start ends told (Faults.Absent Files.Log) opened valid is = is
-run-fault source sink old mid size start ends told (Faults.Absent (Files.Made number)) opened valid is = is
-run-fault source sink old mid size start ends told (Faults.Absent Files.Input) opened valid is = is
-run-fault source sink old mid size start ends told (Faults.Absent Files.Output) opened valid is = is
-run-fault source sink old mid size start ends told (Faults.Short (Files.Line line) at told_size) opened valid (here, gave) = (
+run-fault : (source sink : List ℕ) (old mid : Outside) (size start : ℕ) (ends told : Option ℕ) (fault : Fault) → IsOpened source old mid size ends told → WhereTold ends (λ end. start ≤ end) → IsValid source old → IsOfRun sink mid size ends start fault → IsOfEnds source sink old fault
+run-fault source sink old mid size start ends told Faults.ReadFault opened behind valid is = tt
+run-fault source sink old mid size start ends told Faults.WriteFault opened behind valid is = valid
+run-fault source sink old mid size start ends told Faults.OutOfMemory opened behind valid is = tt
+run-fault source sink old mid size start ends told (Faults.Absent (Files.Line line)) opened behind valid (at, may) = inr (at, subst (λ (f : List ℕ → Bool). IsTrue (f sink)) opened.may may, valid)
+run-fault source sink old mid size start ends told (Faults.Absent Files.Script) opened behind valid is = is
+run-fault source sink old mid size start ends told (Faults.Absent Files.Log) opened behind valid is = is
+run-fault source sink old mid size start ends told (Faults.Absent (Files.Made number)) opened behind valid is = is
+run-fault source sink old mid size start ends told (Faults.Absent Files.Input) opened behind valid is = is
+run-fault source sink old mid size start ends told (Faults.Absent Files.Output) opened behind valid is = is
+run-fault source sink old mid size start ends told (Faults.Short (Files.Line line) at told_size) opened behind valid (here, gave) = (
   here,
-  record {
-    below = (let same = gave.whole in let below = gave.below in omega (arith, same, below));
-    stopped = λ end is. (let stop = gave.stopped end (opened.ends_are ∙ opened.ends_of ∙ is) in omega (arith, stop));
-    whole = λ bytes is. gave.whole ∙ opened.sized bytes is;
-  },
+  (
+    opened.bytes,
+    opened.held,
+    record {
+      whole = gave.whole ∙ opened.sized;
+      below = (let below = gave.below in let sized = opened.sized in omega (arith, below, sized));
+      stopped = λ end is. (let stop = gave.stopped end (opened.ends_are ∙ opened.ends_of ∙ is) in omega (arith, stop));
+      where_it_ends = λ end is _ _ _ _.
+          let told_end = opened.ends_are ∙ opened.ends_of ∙ is in
+          let stop = gave.stopped end told_end in
+          let from = behind end told_end in
+          inl (omega (arith, stop, from));
+    },
+  ),
 )
-run-fault source sink old mid size start ends told (Faults.Short Files.Script at told_size) opened valid is = is
-run-fault source sink old mid size start ends told (Faults.Short Files.Log at told_size) opened valid is = is
-run-fault source sink old mid size start ends told (Faults.Short (Files.Made number) at told_size) opened valid is = is
-run-fault source sink old mid size start ends told (Faults.Short Files.Input at told_size) opened valid is = is
-run-fault source sink old mid size start ends told (Faults.Short Files.Output at told_size) opened valid is = is
-run-fault source sink old mid size start ends told (Faults.Script line why) opened valid is = is
-run-fault source sink old mid size start ends told Faults.Usage opened valid is = is
-run-fault source sink old mid size start ends told (Faults.BadMedia which fault) opened valid is = absurd is
-run-fault source sink old mid size start ends told (Faults.Units have need) opened valid is = is
-run-fault source sink old mid size start ends told (Faults.Packets why) opened valid is = is
-run-fault source sink old mid size start ends told (Faults.NotRun line why) opened valid is = is
-run-fault source sink old mid size start ends told (Faults.NotBuilt what) opened valid is = is
+run-fault source sink old mid size start ends told (Faults.Short Files.Script at told_size) opened behind valid is = is
+run-fault source sink old mid size start ends told (Faults.Short Files.Log at told_size) opened behind valid is = is
+run-fault source sink old mid size start ends told (Faults.Short (Files.Made number) at told_size) opened behind valid is = is
+run-fault source sink old mid size start ends told (Faults.Short Files.Input at told_size) opened behind valid is = is
+run-fault source sink old mid size start ends told (Faults.Short Files.Output at told_size) opened behind valid is = is
+run-fault source sink old mid size start ends told (Faults.Script line why) opened behind valid is = is
+run-fault source sink old mid size start ends told Faults.Usage opened behind valid is = is
+run-fault source sink old mid size start ends told (Faults.BadMedia which fault) opened behind valid is = absurd is
+run-fault source sink old mid size start ends told (Faults.Units have need) opened behind valid is = is
+run-fault source sink old mid size start ends told (Faults.Packets why) opened behind valid is = is
+run-fault source sink old mid size start ends told (Faults.NotRun line why) opened behind valid is = is
+run-fault source sink old mid size start ends told (Faults.NotBuilt what) opened behind valid is = is
 
-pub run-subject : (source sink : List ℕ) (old mid : Outside) (size start : ℕ) (ends told : Option ℕ) (result : Result Done Fault) → IsOpened source old mid size ends told → IsValid source old → IfErr result (IsOfRun sink mid size ends start) → IfErr result (IsOfEnds source sink old)
-run-subject source sink old mid size start ends told (Ok done) opened valid is = tt
-run-subject source sink old mid size start ends told (Err fault) opened valid is = run-fault source sink old mid size start ends told fault opened valid is
+pub run-subject : (source sink : List ℕ) (old mid : Outside) (size start : ℕ) (ends told : Option ℕ) (result : Result Done Fault) → IsOpened source old mid size ends told → WhereTold ends (λ end. start ≤ end) → IsValid source old → IfErr result (IsOfRun sink mid size ends start) → IfErr result (IsOfEnds source sink old)
+run-subject source sink old mid size start ends told (Ok done) opened behind valid is = tt
+run-subject source sink old mid size start ends told (Err fault) opened behind valid is = run-fault source sink old mid size start ends told fault opened behind valid is
 
 -- a head that wasn't read
 abbrev pub failed_head : WavFault → Result WavHead WavFault
 failed_head fault = Err fault
 
 -- a file whose head wasn't read
-pub head-subject : (source sink : List ℕ) (old : Outside) (size : ℕ) (told : Option (List ℕ)) (ends : Option ℕ) (fault : WavFault) → told ≡ old.file source → ends ≡ old.ends source → WhereTold (old.file source) (λ bytes. size ≡ length bytes) → WhereTold told (λ bytes. UnlessStopped (failed_head fault) (Reads bytes)) → IfShort fault (StoppedShort size told ends) → IsOfEnds source sink old (fault_of_head fault)
-head-subject source sink old size told ends WavFaults.Read told_is ends_are sized reads short = tt
-head-subject source sink old size told ends (WavFaults.Short at told_size) told_is ends_are sized reads short = (
+pub head-subject : (source sink bytes : List ℕ) (old : Outside) (size : ℕ) (told : Option (List ℕ)) (ends : Option ℕ) (fault : WavFault) → told ≡ old.file source → ends ≡ old.ends source → old.file source ≡ Some bytes → size ≡ length bytes → WhereTold told (λ bytes. UnlessStopped (failed_head fault) (Reads bytes)) → IfShort fault (StoppedShort size told ends) → IsOfEnds source sink old (fault_of_head fault)
+head-subject source sink bytes old size told ends WavFaults.Read told_is ends_are held sized reads short = tt
+head-subject source sink bytes old size told ends (WavFaults.Short at told_size) told_is ends_are held sized reads short = (
   refl,
-  record {
-    below = (let same = short.whole in let below = short.below in omega (arith, same, below));
-    stopped = λ end is. short.stopped end (ends_are ∙ is);
-    whole = λ bytes is. short.whole ∙ sized bytes is;
-  },
+  (
+    bytes,
+    held,
+    record {
+      whole = short.whole ∙ sized;
+      below = (let below = short.below in omega (arith, below, sized));
+      stopped = λ end is. short.stopped end (ends_are ∙ is);
+      where_it_ends = λ end is also tells. short.where_it_ends end (ends_are ∙ is) also (told_is ∙ tells);
+    },
+  ),
 )
-head-subject source sink old size told ends (WavFaults.TooLarge large) told_is ends_are sized reads short = λ bytes is. reads bytes (told_is ∙ is)
-head-subject source sink old size told ends WavFaults.NotRiff told_is ends_are sized reads short = λ bytes is. reads bytes (told_is ∙ is)
-head-subject source sink old size told ends WavFaults.NoFormat told_is ends_are sized reads short = λ bytes is. reads bytes (told_is ∙ is)
-head-subject source sink old size told ends WavFaults.BadFormat told_is ends_are sized reads short = λ bytes is. reads bytes (told_is ∙ is)
-head-subject source sink old size told ends WavFaults.NoSamples told_is ends_are sized reads short = λ bytes is. reads bytes (told_is ∙ is)
-head-subject source sink old size told ends (WavFaults.UnsupportedTag tag) told_is ends_are sized reads short = λ bytes is. reads bytes (told_is ∙ is)
+head-subject source sink bytes old size told ends (WavFaults.TooLarge large) told_is ends_are held sized reads short = (bytes, held, reads bytes (told_is ∙ held))
+head-subject source sink bytes old size told ends WavFaults.NotRiff told_is ends_are held sized reads short = (bytes, held, reads bytes (told_is ∙ held))
+head-subject source sink bytes old size told ends WavFaults.NoFormat told_is ends_are held sized reads short = (bytes, held, reads bytes (told_is ∙ held))
+head-subject source sink bytes old size told ends WavFaults.BadFormat told_is ends_are held sized reads short = (bytes, held, reads bytes (told_is ∙ held))
+head-subject source sink bytes old size told ends WavFaults.NoSamples told_is ends_are held sized reads short = (bytes, held, reads bytes (told_is ∙ held))
+head-subject source sink bytes old size told ends (WavFaults.UnsupportedTag tag) told_is ends_are held sized reads short = (bytes, held, reads bytes (told_is ∙ held))

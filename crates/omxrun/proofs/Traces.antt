@@ -1,11 +1,15 @@
 -- What the trace of a script comes to.
-use Rattle.std.proofs.Common.{◌≡◌, ◌⊎◌, inl, inr, ℕ, ◌+◌, ◌≤◌, List, ◌++◌, length, take, Option, Result, Ok, Err, OnOk, IfErr, IsTrue, ap, sym, subst, refl, ◌∙◌, arith}
+use Rattle.std.proofs.Common.{◌≡◌, ◌≢◌, ◌⊎◌, inl, inr, ℕ, ◌+◌, ◌<◌, ◌≤◌, List, ◌++◌, length, take, Option, Result, Ok, Err, OnOk, IfErr, IsTrue, IsSome, ap, sym, subst, refl, ◌∙◌, arith}
 use Rattle.std.proofs.lemmas.List.{take-append-le, length-append}
 use Rattle.std.proofs.Math.Seq.{take-append-add, take-length}
 use Rattle.std.specs.Io.KnownBytes.{append_known}
 use Rattle.outside_io.specs.Causes.{Rose}
 use Rattle.outside_io.specs.Files.{Outside}
 use Rattle.outside_io.specs.Moves.{AppendsFront}
+use Rattle.outside_io.specs.Whole.{HasReadReason, WasOpened}
+use Rattle.outside_io.specs.declared.whole.Unread.{Unread}
+use Rattle.outside_io.specs.declared.whole.Unread.TheVariants as Unreads
+use Rattle.outside_io.proofs.Closed.{told_value}
 use Rattle.outside_io.proofs.Known.{append_known-twice}
 use Rattle.omx_types.specs.declared.fault.Fault.{Fault}
 use Rattle.omx_types.specs.declared.fault.Fault.TheVariants as Faults
@@ -19,6 +23,7 @@ use Rattle.script_lang.specs.declared.script.Script.{Script}
 use Rattle.script_lang.specs.declared.script.ScriptFault.{ScriptFault}
 use Rattle.trace_run.specs.Traced.{GotTrace, GotFront, GotLines, IsStopped}
 use Rattle.omxrun.specs.Asked.{IsGiven, CanTrace, IsUntraced, IsFaultless, IsOrMemory}
+use Rattle.omxrun.specs.Faults.{fault_of_trace_script}
 use Rattle.omxrun.specs.Texts.{fault_line}
 use Rattle.omxrun.specs.Told.{IsPrinted, status_of}
 use Rattle.omxrun.specs.Traced.{HasScriptReason, TracesTo, IsTraceOf, IsTraceOutcome}
@@ -43,10 +48,23 @@ front-behind old mid new text more behind (k, within, is) =
       is ∙ ap (λ (o : Option (List ℕ)). append_known o (take k more)) behind ∙ append_known-twice old text (take k more) ∙ ap (append_known old) (sym (take-append-add text more k)),
     )
 
--- ---- the trace of a script
+-- ---- a script that wasn't read
 
-pub risen : (before now : ℕ) → before ≤ now → (now ≡ before → ⊥) → Rose before now
-risen before now later other = grind arith
+pub unread-reason : (name : List ℕ) (old new : Outside) (unread : Unread) → HasReadReason name 65536 old new unread → (IsTrue old.tells → WasOpened unread → IsSome (old.file name)) → (unread ≢ Unreads.Failed → new.read_faults ≡ old.read_faults) → new.write_faults ≡ old.write_faults → HasScriptReason name old new (fault_of_trace_script unread)
+unread-reason name old new Unreads.Absent reason there stands writes = reason
+unread-reason name old new Unreads.Failed reason there stands writes = reason
+unread-reason name old new (Unreads.TooLong size) reason there stands writes = λ tells.
+    let (bytes, held) = told_value (old.file name) (there tells tt) in
+    let whole = reason.1 bytes held in
+    let more = reason.0 in
+    let longer : 65536 < length bytes = omega (arith, whole, more) in
+    record { bytes = bytes; held = held; refused = inl (longer, refl) }
+unread-reason name old new (Unreads.Short at size) reason there stands writes =
+    let other : Unreads.Short at size ≢ Unreads.Failed = λ same. cc in
+    (record { reads = stands other; writes = writes }, reason, λ tells. there tells tt)
+unread-reason name old new Unreads.OutOfMemory reason there stands writes = tt
+
+-- ---- the trace of a script
 
 -- what a trace came to, and what is printed of it
 abbrev pub HasTold : Script → Option (List ℕ) → Option (List ℕ) → ℕ → ℕ → Status → Type 0
@@ -142,7 +160,7 @@ left-fault name bytes old new (Faults.Absent Files.Input) tells given none reaso
 left-fault name bytes old new (Faults.Absent Files.Output) tells given none reason = absurd reason
 left-fault name bytes old new Faults.OutOfMemory tells given none reason = inl refl
 left-fault name bytes old new (Faults.Short Files.Script at size) tells given none reason =
-    absurd (let below = reason.below in let end = reason.stopped given.end given.told_end in let whole = reason.whole bytes given.held in let all = given.whole in omega (arith, below, end, whole, all))
+    absurd (let below = reason.1.below in let end = reason.1.stopped given.end given.told_end in let whole = reason.1.whole bytes given.held in let all = given.whole in omega (arith, below, end, whole, all))
 left-fault name bytes old new (Faults.Short Files.Log at size) tells given none reason = absurd reason
 left-fault name bytes old new (Faults.Short (Files.Line line) at size) tells given none reason = absurd reason
 left-fault name bytes old new (Faults.Short (Files.Made number) at size) tells given none reason = absurd reason

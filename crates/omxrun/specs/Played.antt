@@ -42,7 +42,7 @@ pub record IsPlayed (script log : List ℕ) (old new : Outside) (done : Done) : 
   pub tunnel : IsTunnel script log text source sink
   pub ends : HasEndsPlayed source sink log old new done
 
--- the files after a fault: no told name changed, or the script is the one form
+-- the files after a fault: no told name changed, or there is a script of the one form
 abbrev pub IsLeft : List ℕ → List ℕ → Outside → Outside → Type 0
 IsLeft script log old new = (new.file ≡ old.file) ⊎ ForTunnel script log old (λ source sink. EndsLeft source sink log old new)
 
@@ -61,4 +61,4 @@ pub record IsEndsOutcome (source sink log : List ℕ) (old new : Outside) (outco
   pub early : IfErr outcome (λ fault. IsEarly fault → new.file ≡ old.file)
   pub unlogged : IsTrue old.tells → IfErr outcome (λ fault. IsUnlogged fault → new.file log ≡ old.file log)
   pub caused : IfErr outcome (IsCaused old new)
-  pub subject : IfErr outcome (λ fault. IsOfEnds source sink old fault ⊎ IsOfLog source log old fault)
+  pub subject : IsTrue old.tells → IfErr outcome (λ fault. IsOfEnds source sink old fault ⊎ IsOfLog source log old fault)

@@ -74,8 +74,13 @@ fault_of_run (Part PartFaults.Read) unclosed = Faults.ReadFault
 fault_of_run (Part PartFaults.Write) unclosed = Faults.WriteFault
 fault_of_run (Part (PartFaults.Short at size)) unclosed = if unclosed then Faults.WriteFault else Faults.Short (Line 2) at size
 
--- what a run comes to, by how it ended and how its sink was closed
-abbrev pub ended : WavHead → Result (Unit {0}) Stop → Result (Unit {0}) Failed → Result Done Fault
-ended head (Ok done) (Ok closed) = Ok (Played head.frames (written_size head))
-ended head (Ok done) (Err failed) = Err Faults.WriteFault
-ended head (Err stop) closed = Err (fault_of_run stop (is_err closed))
+-- what a run comes to where no count rose, by how it ended and how its sink was closed
+abbrev pub ended_calm : WavHead → Result (Unit {0}) Stop → Result (Unit {0}) Failed → Result Done Fault
+ended_calm head (Ok done) (Ok closed) = Ok (Played head.frames (written_size head))
+ended_calm head (Ok done) (Err failed) = Err Faults.WriteFault
+ended_calm head (Err stop) closed = Err (fault_of_run stop (is_err closed))
+
+-- what a run comes to: first what the counts of failed reads and of failed writes say
+abbrev pub ended : WavHead → Result (Unit {0}) Stop → Result (Unit {0}) Failed → (reads writes : Bool) → Result Done Fault
+ended head ran closed reads writes =
+    if reads then Err Faults.ReadFault else (if writes then Err Faults.WriteFault else ended_calm head ran closed)

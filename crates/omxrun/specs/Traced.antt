@@ -1,5 +1,5 @@
 -- What the trace of a script comes to, and the text that it asks for.
-use Rattle.std.specs.Prelude.{◌≡◌, ◌⊎◌, ℕ, List, ◌++◌, Some, None, IsTrue, Result, Ok, Err}
+use Rattle.std.specs.Prelude.{◌≡◌, ◌⊎◌, ℕ, List, ◌++◌, Some, None, IsTrue, IsSome, Result, Ok, Err}
 use Rattle.outside_io.specs.Causes.{Rose}
 use Rattle.outside_io.specs.Files.{Outside}
 use Rattle.outside_io.specs.Whole.{IsShort}
@@ -11,6 +11,7 @@ use Rattle.script_lang.specs.LineByLine.{fault_at}
 use Rattle.script_lang.specs.Scripts.{IsScript, ReadsAs}
 use Rattle.script_lang.specs.declared.script.Script.{Script}
 use Rattle.trace_run.specs.Traced.{IsTraced, IsTracedTo}
+use Rattle.omxrun.specs.Reasons.{CountsStand}
 use Rattle.omxrun.specs.Texts.{fault_line}
 
 -- the file of that name is this script
@@ -31,7 +32,8 @@ HasScriptReason name old new (Faults.Script line why) = IsTrue old.tells → IsN
 HasScriptReason name old new Faults.ReadFault = Rose old.read_faults new.read_faults
 HasScriptReason name old new (Faults.Absent Files.Script) = Rose old.absences new.absences × (old.file name ≡ None)
 HasScriptReason name old new Faults.OutOfMemory = Unit {0}
-HasScriptReason name old new (Faults.Short Files.Script at size) = IsShort name old at size
+HasScriptReason name old new (Faults.Short Files.Script at size) =
+    CountsStand old new × IsShort name old at size × (IsTrue old.tells → IsSome (old.file name))
 HasScriptReason name old new other = ⊥
 
 -- a script's trace, or its first lines and then want of memory

@@ -1,9 +1,10 @@
-ghost use Rattle.std.specs.Prelude.{◌≡◌, ◌≤◌, IfOk, IfErr, OnOk, OnErr, IsTrue};
+ghost use Rattle.std.specs.Prelude.{◌≡◌, ◌≤◌, IfOk, IfErr, OnOk, OnErr, IsTrue, IsFalse};
+ghost use Rattle.outside_io.specs.Causes.{Rose};
 ghost use Rattle.outside_io.specs.Files.{GoesOn, SameBut, IsFrontOf};
 ghost use Rattle.outside_io.specs.Moves.{WhereTold};
 ghost use Rattle.wav_form.specs.Reading.{FitsFile};
 ghost use Rattle.omxrun.specs.Copied.{HasCopied, IsKeptOrFront, text_of};
-ghost use Rattle.omxrun.specs.Reasons.{IsCaused, IsOfEnds, IsEarly, IsValid};
+ghost use Rattle.omxrun.specs.Reasons.{CountsStand, IsCaused, IsOfEnds, IsEarly, IsValid};
 ghost use Rattle.omxrun.specs.Sounds.{HoldsText, IsOfRun, HoldsFront, fault_of_head, fault_of_source, fault_of_sink};
 ghost use Rattle.std.specs.Prelude.{◌*◌};
 ghost use Rattle.omx_types.specs.Formats.{IsWithinLimits, frame_bytes_of};
@@ -26,11 +27,12 @@ pub fn play_files<M: Media>(
     ensures goes_on { GoesOn (M.outside media.old) (M.outside media.new) }
     ensures others { IsTrue (M.outside media.old).tells → SameBut sink.now (M.outside media.old) (M.outside media.new) }
     ensures copied { IsTrue (M.outside media.old).tells → IfOk result (HasCopied source.now sink.now (M.outside media.old) (M.outside media.new)) }
-    ensures valid { OnOk result (IsValid source.now (M.outside media.old)) }
+    ensures valid { IsTrue (M.outside media.old).tells → OnOk result (IsValid source.now (M.outside media.old)) }
+    ensures stand { OnOk result (CountsStand (M.outside media.old) (M.outside media.new)) }
     ensures left { IsTrue (M.outside media.old).tells → OnErr result (IsKeptOrFront source.now sink.now (M.outside media.old) (M.outside media.new)) }
     ensures early { IfErr result (λ fault. IsEarly fault → (M.outside media.new).file ≡ (M.outside media.old).file) }
     ensures caused { IfErr result (IsCaused (M.outside media.old) (M.outside media.new)) }
-    ensures subject { IfErr result (IsOfEnds source.now sink.now (M.outside media.old)) }
+    ensures subject { IsTrue (M.outside media.old).tells → IfErr result (IsOfEnds source.now sink.now (M.outside media.old)) }
 {
     let mut src = match media.source(alloc, source) {
         Ok(src) => src,
@@ -55,6 +57,7 @@ fn play_sound<M: Media>(
 ) -> Result<Done, Fault>
     requires fits { FitsFile head (M.Src.size src) }
     requires place { M.Src.place src ≡ head.start }
+    requires unfailed { M.Src.faults src ≡ 0 }
     ensures goes_on { GoesOn (M.outside media.old) (M.outside media.new) }
     ensures others { IsTrue (M.outside media.old).tells → SameBut sink.now (M.outside media.old) (M.outside media.new) }
     ensures holds { IsTrue (M.outside media.old).tells → WhereTold (M.Src.told src) (λ bytes.
@@ -62,10 +65,13 @@ fn play_sound<M: Media>(
     ensures left { IsTrue (M.outside media.old).tells → WhereTold (M.Src.told src) (λ bytes.
         OnErr result (HoldsFront sink.now (text_of bytes head) (M.outside media.old) (M.outside media.new))) }
     ensures early { IfErr result (λ fault. IsEarly fault → (M.outside media.new).file ≡ (M.outside media.old).file) }
+    ensures stand { OnOk result (CountsStand (M.outside media.old) (M.outside media.new)) }
     ensures caused { IfErr result (IsCaused (M.outside media.old) (M.outside media.new)) }
     ensures subject { IfErr result (IsOfRun sink.now (M.outside media.old) (M.Src.size src) (M.Src.ends src) (M.Src.place src)) }
 {
     let _size = src.size();
+    let read_before = media.read_faults();
+    let write_before = media.write_faults();
     let snk = match media.sink(alloc, sink) {
         Ok(snk) => snk,
         Err(refused) => {
@@ -80,19 +86,39 @@ fn play_sound<M: Media>(
     } = run_pair(alloc, src, head, snk);
     media.close_source(source);
     let closed = media.close_sink(sink);
-    outcome_of(head, outcome, closed)
+    let reads = has_risen(read_before, media.read_faults());
+    let writes = has_risen(write_before, media.write_faults());
+    outcome_of(head, outcome, closed, reads, writes)
 }
 
-/// What a run comes to: a failed read before a failed write or closing, and that before a short source.
+/// Whether a count rose, which never falls.
+fn has_risen(before: u64, now: u64) -> bool
+    requires { before ≤ now }
+    ensures risen { IsTrue result → Rose before now }
+    ensures stands { IsFalse result → now ≡ before }
+{
+    now != before
+}
+
+/// What a run comes to: a failed read before a failed write or closing, and that before a short source. `reads` and
+/// `writes` say which counts rose.
 fn outcome_of(
     head: WavHead,
     ran: Result<(), Stop>,
     closed: Result<(), Failed>,
+    reads: bool,
+    writes: bool,
 ) -> Result<Done, Fault>
     requires lawful { IsWithinLimits head.format }
     requires small { head.frames * frame_bytes_of head.format ≤ 67108864 }
-    ensures { result ≡ ended head ran closed }
+    ensures { result ≡ ended head ran closed reads writes }
 {
+    if reads {
+        return Err(Fault::ReadFault);
+    }
+    if writes {
+        return Err(Fault::WriteFault);
+    }
     match ran {
         Ok(()) => match closed {
             Ok(()) => Ok(Done::Played {

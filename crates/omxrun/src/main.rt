@@ -1,6 +1,9 @@
 //! The program. Its words are a form of `trace`, `play` or `make`, and its exit status is that of what they came to.
 #![tactic(auto)]
 
+ghost use Rattle.std.specs.Prelude.{◌≡◌, ◌⊎◌, drop, IfOk, IfErr};
+ghost use Rattle.std.specs.Vec.Iter.{into_iter_items};
+
 mod done;
 mod files;
 mod making;
@@ -21,7 +24,7 @@ use outside_host::{HostMedia, HostSink};
 use print::tell;
 use run::run_words;
 use std::alloc::Global;
-use std::env::Env;
+use std::env::{Args, Env};
 use std::io::ErrorKind;
 use std::process::ExitCode;
 use std::{env, io};
@@ -39,19 +42,26 @@ fn main(rt: HostRuntime) -> io::Result<ExitCode> {
 }
 
 /// The words behind the program's name. Words that are no text are none of the forms.
-fn words_of<R: Env + Alloc<A = Global>>(rt: &R) -> Result<Vec<String>, Fault> {
-    let mut words = match env::args(rt) {
-        Ok(words) => words,
-        Err(error) => {
-            return Err(match error.kind() {
-                ErrorKind::InvalidData => Fault::Usage,
-                _ => Fault::OutOfMemory,
-            });
-        }
-    };
+fn words_of<R: Env + Alloc<A = Global>>(rt: &R) -> Result<Vec<String>, Fault>
+    ensures { IfErr result (λ fault. (fault ≡ Fault.Usage) ⊎ (fault ≡ Fault.OutOfMemory)) }
+{
+    match env::args(rt) {
+        Ok(words) => behind_first(rt.alloc(), words),
+        Err(error) => Err(match error.kind() {
+            ErrorKind::InvalidData => Fault::Usage,
+            _ => Fault::OutOfMemory,
+        }),
+    }
+}
+
+/// The words behind the first, in their order.
+fn behind_first(alloc: Global, mut words: Args) -> Result<Vec<String>, Fault>
+    ensures behind { IfOk result (λ rest. rest.items ≡ drop 1 (into_iter_items words)) }
+    ensures memory { IfErr result (λ fault. fault ≡ Fault.OutOfMemory) }
+{
     let _program = words.next();
-    let mut rest = Vec::new(rt.alloc());
-    for word in words {
+    let mut rest = Vec::new(alloc);
+    while let Some(word) = words.next() {
         match rest.push(word) {
             Ok(()) => {}
             Err(_) => return Err(Fault::OutOfMemory),

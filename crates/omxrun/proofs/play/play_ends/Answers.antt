@@ -8,7 +8,7 @@ pub returns-in-Err-write_whole-clause-outcome : goal.returns-in-Err-write_whole-
 returns-in-Err-write_whole-clause-outcome g c =
     subst (λ (fault : Fault). IsEndsOutcome c.args.source.now c.args.sink.now c.args.log.now (g.M.Media.outside c.args.media.now) (g.M.Media.outside c.write_whole.new.media) (Err fault)) (sym c.log_fault.ensures)
     (log-outcome c.args.source.now c.args.sink.now c.args.log.now (g.M.Media.outside c.args.media.now) (g.M.Media.outside c.play_files.new.media) (g.M.Media.outside c.write_whole.new.media) c.in-Ok.done _ c.requires
-    c.play_files.ensures.goes_on c.write_whole.ensures.goes_on c.play_files.ensures.others c.in-Ok.ensures.copied c.write_whole.ensures.others c.in-Err-write_whole.ensures.front c.in-Err-write_whole.ensures.reason c.in-Ok.ensures.valid)
+    c.play_files.ensures.goes_on c.write_whole.ensures.goes_on c.play_files.ensures.others c.in-Ok.ensures.copied c.write_whole.ensures.others c.in-Err-write_whole.ensures.front c.in-Err-write_whole.ensures.reason c.in-Ok.ensures.valid c.in-Ok.ensures.stand c.write_whole.ensures.read_faults)
 
 pub returns-in-Ok-write_whole-clause-outcome : goal.returns-in-Ok-write_whole-clause-outcome
 returns-in-Ok-write_whole-clause-outcome g c =

@@ -1,7 +1,8 @@
 use Rattle.std.proofs.Common.{sym, subst, ◌∙◌}
 use Rattle.omx_types.specs.declared.fault.Fault.{Fault}
 use Rattle.trace_run.specs.Traced.{IsStopped}
-use Rattle.omxrun.proofs.Traces.{risen, told-risen, told-stopped, told-memory}
+use Rattle.omxrun.proofs.Causes.{risen}
+use Rattle.omxrun.proofs.Traces.{told-risen, told-stopped, told-memory}
 use Rattle.omxrun.proofs.trace.trace_script.Goals as goal
 
 pub returns-then-faults-before-clause-traced : goal.returns-then-faults-before-clause-traced
