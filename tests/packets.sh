@@ -1,5 +1,5 @@
 #!/usr/bin/env bash
-# Packs and unpacks the files of tests/packets with the built program, and two more that by_struct.py builds there. In
+# Packs and unpacks the files of tests/packets with the built program, and those that by_struct.py builds there. In
 # its folders `pack` and `unpack` NAME.in is the first file, NAME.out what is printed, with a line 'status N' at its end,
 # and NAME.new the second file, where the status is 0; a long one is compressed. An independent model worked them out
 # from the rules. Its last line is 'packets: N passed, M failed'.

@@ -1,4 +1,4 @@
-"""Two files of packets, built by `struct` alone after RFC 3550 and RFC 3551, with what is to come of them."""
+"""Files of packets, built by `struct` alone after RFC 3550 and RFC 3551, with what is to come of them."""
 import struct
 
 MAGIC = b'omxrtp1\n'
@@ -51,5 +51,28 @@ def stream_of_a_tool():
     return 'unpack', listed(sent), told, wav(6, codes)
 
 
+def malformed():
+    """One packet that is well formed, with 4,096 codes, behind one of each kind that isn't."""
+    codes = bytes(k % 256 for k in range(4096))
+    good = packet(0, 7, 0, 1, codes)
+    sent = [
+        b'',
+        packet(0, 1, 0, 1, b'')[:11],
+        bytes([good[0] & 0x3f | 0x40]) + good[1:],
+        packet(9, 2, 0, 1, b'\x11'),
+        packet(0, 3, 0, 1, b''),
+        packet(0, 4, 0, 1, codes + b'\x11'),
+        packet(0, 5, 0, 1, b'', sources=(1, 2))[:16],
+        packet(0, 6, 0, 1, b'', extension=[1, 2])[:20],
+        bytes([good[0] | 0x20]) + packet(0, 8, 0, 1, b'\x11\x00')[1:],
+        bytes([good[0] | 0x20]) + packet(0, 9, 0, 1, b'\x11\x03')[1:],
+        good,
+        packet(0, 8, 4096, 2, b'\x11'),
+        packet(8, 9, 4096, 1, b'\x11'),
+    ]
+    told = 'unpacked 4096 frames 4154 bytes\npackets 13 accepted 1 late 0 repeated 0 skipped 12\nok\nstatus 0\n'
+    return 'unpack', listed(sent), told, wav(7, codes)
+
+
 def cases():
-    return [('1,000 codes', *packed_ramp()), ('packets of a tool', *stream_of_a_tool())]
+    return [('1,000 codes', *packed_ramp()), ('packets of a tool', *stream_of_a_tool()), ('malformed packets', *malformed())]
