@@ -1,3 +1,5 @@
+pub mod OneFault
+pub mod OnePlan
 pub mod Places
 pub mod Plainly
 pub mod Settled

@@ -83,3 +83,7 @@ IsFit plan = AllFit plan.parts plan.joints plan.flows plan.order
 -- the first link that doesn't
 abbrev pub IsFitFault : PlanValue → PlanFault → Type 0
 IsFitFault plan fault = IsMisfit plan.parts plan.joints plan.order plan.flows fault
+
+-- they are one fault, but for want of memory
+abbrev pub IsSameFault : PlanFault → PlanFault → Type 0
+IsSameFault fault other = (fault ≡ OutOfMemory → ⊥) → (other ≡ OutOfMemory → ⊥) → fault ≡ other

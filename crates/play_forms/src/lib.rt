@@ -9,5 +9,5 @@ mod plan_fault;
 
 pub use flow::Flow;
 pub use joint::Joint;
-pub use laws::{law_of_plain, law_of_rows};
+pub use laws::{law_of_plain, law_of_plans, law_of_rows};
 pub use plan_fault::PlanFault;
