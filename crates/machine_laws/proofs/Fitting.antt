@@ -1,5 +1,7 @@
 -- The formats of a component's ports fit while it isn't Loaded or Invalid with nothing pending, and its file suits its port.
-use Rattle.std.proofs.Common.{◌≡◌, ℕ, zero, suc, Bool, true, false, not, ◌&&◌, ◌||◌, List, [], ◌∷◌, set, slice_get, get_or, filter, Option, Some, None, nat_eq, eqb-true, eq-eqb, refl, ap}
+use Rattle.std.proofs.Common.{◌≡◌, ℕ, zero, suc, Bool, true, false, not, ◌&&◌, ◌||◌, List, [], ◌∷◌, set, slice_get, get_or, filter, Option, Some, None, nat_eq, eqb-true, eq-eqb, ltb-false, ◌*◌, ◌≤◌, refl, ap}
+use Rattle.std.specs.List.{AllByRecursion, list_all}
+use Rattle.omx_types.specs.Formats.{rate_of, channels_of, frame_bytes_of}
 use Rattle.omx_types.specs.declared.state.State.{State}
 use Rattle.omx_types.specs.declared.format.Format.{Format}
 use Rattle.omx_types.specs.declared.format.Format.TheVariants.{Pcm, Alaw, Mulaw, Auto}
@@ -15,7 +17,7 @@ use Rattle.il_machine.specs.declared.port.PortSetting.{PortSetting}
 use Rattle.il_machine.specs.States.{is_loaded, is_invalid}
 use Rattle.il_machine.specs.Lists.{holds_at}
 use Rattle.il_machine.specs.Kinds.{is_auto, is_input, is_sink, is_format_of, is_port_format}
-use Rattle.il_machine.specs.Settings.{changed_by, default_setting, setting_at, with_setting, are_fitting, is_known, formats_of, fits, same_format}
+use Rattle.il_machine.specs.Settings.{changed_by, default_setting, setting_at, with_setting, are_fitting, is_known, formats_of, fits, is_splitter, same_format, same_rate_and_channels}
 use Rattle.il_machine.specs.World.{Component, port_of}
 use Rattle.il_machine.specs.Ports.{is_at_rest}
 use Rattle.il_machine.specs.Parameters.{is_too_large, is_settable, keeps_format, is_off_file, would_fit, overflows, is_format_fixed, is_format_free}
@@ -214,3 +216,43 @@ file_free c (suc k) d S h file e =
 -- a format of a port that is known is one of its kind's
 pub known_format : (kind : Kind) (input : Bool) (format : Format) → is_port_format kind input format ≡ true → is_auto format ≡ false → is_format_of kind input format ≡ true
 known_format kind input format h a = either (is_format_of kind input format) (λ t. t) (λ f. let n : false ≡ true = rw (f, a) at h in absurd cc)
+
+-- ---- formats that fit, one by one
+
+pub all_known : (fs : List Format) → list_all is_known fs ≡ true → filter is_known fs ≡ fs
+all_known [] h = refl
+all_known (f ∷ fs) h = let b = both_of (is_known f) (list_all is_known fs) h in let i = all_known fs b.1 in rw b.0 (ap (λ (gs : List Format). f ∷ gs) i)
+
+abbrev pub AreAlike : Format → List Format → Type 0
+AreAlike first fs = AllByRecursion (λ f. (rate_of f ≡ rate_of first) × (channels_of f ≡ channels_of first)) fs
+
+alike : (first : Format) (fs : List Format) → list_all (λ f. same_rate_and_channels f first) fs ≡ true → AreAlike first fs
+alike first [] h = tt
+alike first (f ∷ fs) h =
+    let b = both_of (same_rate_and_channels f first) (list_all (λ g. same_rate_and_channels g first) fs) h in
+    let n = both_of (nat_eq (rate_of f) (rate_of first)) (nat_eq (channels_of f) (channels_of first)) b.0 in
+    ((eqb-true (rate_of f) (rate_of first) n.0, eqb-true (channels_of f) (channels_of first) n.1), alike first fs b.1)
+
+one_format : (first : Format) (fs : List Format) → list_all (λ f. same_format f first) fs ≡ true → AllByRecursion (λ f. f ≡ first) fs
+one_format first [] h = tt
+one_format first (f ∷ fs) h = let b = both_of (same_format f first) (list_all (λ g. same_format g first) fs) h in (same_is f first b.0, one_format first fs b.1)
+
+-- they have one rate and one number of channels
+pub fit_alike : (kind : Kind) (first : Format) (fs : List Format) → are_fitting kind (first ∷ fs) ≡ true → AreAlike first fs
+fit_alike kind first fs h = alike first fs (both_of (list_all (λ f. same_rate_and_channels f first) fs) (not (is_splitter kind) || list_all (λ f. same_format f first) fs) h).0
+
+-- and those of a splitter are one
+pub fit_splitter : (outputs : ℕ) (first : Format) (fs : List Format) → are_fitting (kinds.Splitter outputs) (first ∷ fs) ≡ true → AllByRecursion (λ f. f ≡ first) fs
+fit_splitter outputs first fs h = one_format first fs (both_of (list_all (λ f. same_rate_and_channels f first) fs) (list_all (λ f. same_format f first) fs) h).1
+
+-- ---- what a file that a component has asks of its port
+
+pub source_format : (port format : Format) (frames : ℕ) → may_have kinds.Source port (From format frames) ≡ true → format ≡ port
+source_format port format frames m =
+    let b = both_of (not (not (same_format format port))) (not (is_too_large frames format)) m in
+    same_is format port (not_not (same_format format port) (is_not (not (same_format format port)) b.0))
+
+pub sink_room : (kind : Kind) (port : Format) (planned : ℕ) → may_have kind port (To planned) ≡ true → planned * frame_bytes_of port ≤ 134217728
+sink_room kind port planned m =
+    let b = both_of (is_sink kind) (not (is_too_large planned port)) m in
+    ltb-false 134217728 (planned * frame_bytes_of port) (is_not (is_too_large planned port) b.1)
