@@ -1,8 +1,8 @@
 #!/usr/bin/env bash
-# Packs and unpacks the files of tests/packets with the built program, and those that by_struct.py builds there. In
-# its folders `pack` and `unpack` NAME.in is the first file, NAME.out what is printed, with a line 'status N' at its end,
-# and NAME.new the second file, where the status is 0; a long one is compressed. An independent model worked them out
-# from the rules. Its last line is 'packets: N passed, M failed'.
+# Packs and unpacks the files of tests/packets and of examples/packets with the built program, and those that
+# by_struct.py builds. In the folders `pack` and `unpack` NAME.in is the first file, NAME.out what is printed, with a
+# line 'status N' at its end, and NAME.new the second file, where the status is 0; a long one is compressed. An
+# independent model worked them out from the rules. Its last line is 'packets: N passed, M failed'.
 set -eu
 top=$(cd "$(dirname "${BASH_SOURCE[0]}")/.." && pwd)
 "$top/omxrun" >/dev/null || true
@@ -31,6 +31,12 @@ def stored(word):
         yield f'{word} {name}', word, content(path + '.in'), content(path + '.out').decode(), content(path + '.new')
 
 
+def example():
+    """What a newcomer unpacks first."""
+    path = os.path.join(top, 'examples/packets/late')
+    return 'example', 'unpack', content(path + '.packets'), content(path + '.out').decode(), content(path + '.wav')
+
+
 def difference(word, given, told, wanted):
     """What is other than it should be, or nothing."""
     with tempfile.TemporaryDirectory() as work:
@@ -53,7 +59,7 @@ def difference(word, given, told, wanted):
 
 
 good = bad = 0
-for name, *case in [*stored('pack'), *stored('unpack'), *by_struct.cases()]:
+for name, *case in [example(), *stored('pack'), *stored('unpack'), *by_struct.cases()]:
     wrong = difference(*case)
     good, bad = good + (wrong is None), bad + (wrong is not None)
     if wrong is not None:
