@@ -61,6 +61,13 @@ impl Conductor {
         })
     }
 
+    /// How many components the play has.
+    pub fn components(&self) -> usize
+        ensures { result ≡ length self.now.told }
+    {
+        self.told.len()
+    }
+
     /// What the play does next, by the components' views in script order. A view that is None tells nothing new.
     pub fn next(&mut self, views: &[Option<Progress>]) -> Phase
         requires { length views.now ≡ length self.old.told }

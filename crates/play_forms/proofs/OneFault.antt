@@ -1,6 +1,5 @@
 -- A script that has a plan has no fault, and one that has none has one first fault.
-use Rattle.std.proofs.Common.{◌≡◌, ℕ, ◌<◌, ◌≤◌, true, false, List, length, refl, sym, ◌∙◌, ap, subst, arith}
-use Rattle.omx_types.specs.Formats.{frame_bytes_of}
+use Rattle.std.proofs.Common.{◌≡◌, ℕ, List, refl, sym, ◌∙◌, ap, subst, arith}
 use Rattle.omx_types.specs.declared.format.Format.{Format}
 use Rattle.omx_types.specs.declared.kind.Kind.{Kind}
 use Rattle.part_forms.specs.Kinds.{is_input_format}
@@ -11,7 +10,6 @@ use Rattle.play_forms.specs.declared.plan_fault.PlanFault.{PlanFault}
 use Rattle.play_forms.specs.declared.plan_fault.PlanFault.TheVariants.{Cycle, OpenPort, PortTwice, TooMany, Units, Wrong, Small, Differ, OutOfMemory}
 use Rattle.play_forms.specs.Fitting.{Fits, IsCause}
 use Rattle.play_forms.specs.Joints.{joints_of}
-use Rattle.play_forms.specs.Parts.{units_needed}
 use Rattle.play_forms.specs.Plans.{IsFit, IsFitFault, IsPlanOf, IsSameFault, IsShapeFault, IsValid, PlanValue}
 use Rattle.play_forms.proofs.OnePlan.{few_not_many, joined_not_twice, linked_not_open, one_cycle, one_many, one_open, one_twice, order_not_cycle}
 use Rattle.play_forms.proofs.Places.{both}

@@ -1,5 +1,5 @@
 -- Where every component gives in its turn, behind all that it takes from, each link has in the end what its giver gives of them.
-use Rattle.std.proofs.Common.{◌≡◌, ℕ, zero, suc, ◌<◌, Bool, true, false, not, ◌==◌, ◌&&◌, ◌||◌, cond, List, [], ◌∷◌, ◌++◌, length, Some, None, refl, sym, ◌∙◌, ap, subst, append_assoc, arith}
+use Rattle.std.proofs.Common.{◌≡◌, ℕ, zero, suc, ◌<◌, true, false, not, ◌==◌, ◌&&◌, ◌||◌, cond, List, [], ◌∷◌, ◌++◌, length, Some, refl, sym, ◌∙◌, ap, subst, append_assoc, arith}
 use Rattle.std.specs.Prelude.{slice_get}
 use Rattle.std.proofs.Math.Path.{fun_ext}
 use Rattle.std.proofs.lemmas.Bool.{eqb-true}
@@ -7,7 +7,7 @@ use Rattle.std.proofs.lemmas.List.{append-nil}
 use Rattle.play_forms.specs.declared.joint.Joint.{Joint}
 use Rattle.play_forms.specs.Placing.{IsOrder, can_place, has_place, is_fed}
 use Rattle.play_forms.specs.Settling.{AreSettled, given_along, into, with_given}
-use Rattle.play_forms.proofs.Places.{Goes, Some_same, and_both, both, either, fed_kept, goes_on, has_place_kept, has_place_more, has_place_new, not_true, or_cases, other_place}
+use Rattle.play_forms.proofs.Places.{Goes, Some_same, and_both, fed_kept, goes_on, has_place_more, not_true, or_cases, other_place}
 
 pub length-with_given : {A : Type 0} (given : ℕ → A) (joints : List Joint) (values : List A) (p : ℕ) → length values ≡ length joints
     → length (with_given given joints values p) ≡ length joints

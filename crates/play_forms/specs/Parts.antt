@@ -1,5 +1,5 @@
 -- The components of a play, by their script lines.
-use Rattle.std.specs.Prelude.{ℕ, Bool, false, nat_le, nat_lt, ◌&&◌, List, [], ◌∷◌, length, take, sum_by, count_by, slice_get, Option, Some, None}
+use Rattle.std.specs.Prelude.{ℕ, Bool, false, nat_le, nat_lt, ◌&&◌, List, [], ◌∷◌, length, take, sum_by, count_by, Option, Some, None}
 use Rattle.il_machine.specs.Units.{units_of}
 use Rattle.omx_types.specs.declared.kind.Kind.{Kind}
 use Rattle.omx_types.specs.declared.kind.Kind.TheVariants as kinds

@@ -1,13 +1,11 @@
 -- Two plays worked out by hand: three samples from a source to a sink, and a mix of three links.
-use Rattle.std.specs.Prelude.{ℕ, List, [], ◌∷◌, codes, replicate}
-use Rattle.omx_types.specs.declared.format.Format.{Format}
+use Rattle.std.specs.Prelude.{ℕ, List, [], ◌∷◌, codes}
 use Rattle.omx_types.specs.declared.format.Format.TheVariants.{Pcm}
 use Rattle.script_lang.specs.declared.play_line.PartForm.{PartForm}
 use Rattle.script_lang.specs.declared.play_line.PartForm.TheVariants.{Source, Mixer, Splitter, Sink}
 use Rattle.script_lang.specs.declared.play_line.PartLine.{PartLine}
 use Rattle.script_lang.specs.declared.play_line.LinkLine.{LinkLine}
 use Rattle.play_forms.specs.declared.flow.Flow.{Flow}
-use Rattle.play_forms.specs.declared.joint.Joint.{Joint}
 use Rattle.play_forms.specs.Joints.{joints_of}
 use Rattle.play_forms.specs.Plans.{PlanValue}
 

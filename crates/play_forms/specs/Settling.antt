@@ -1,6 +1,6 @@
 -- Values of the links of a play, one by one, where each follows from those that its giver takes. A rule says what a component gives
 -- at an output, by its place and by what comes in at each of its inputs.
-use Rattle.std.specs.Prelude.{◌≡◌, ℕ, ◌==◌, ◌&&◌, if◌then◌else◌, List, [], ◌∷◌, length, replicate, slice_get, Some}
+use Rattle.std.specs.Prelude.{◌≡◌, ℕ, ◌==◌, ◌&&◌, if◌then◌else◌, List, [], ◌∷◌, length, slice_get, Some}
 use Rattle.play_forms.specs.declared.joint.Joint.{Joint}
 
 -- what comes in at an input of the component at a place; nothing, where no link does

@@ -48,6 +48,7 @@ impl Plan {
     pub fn build(alloc: Global, script: &Script) -> Result<Plan, PlanFault>
         requires { IsOfCommand true script.now }
         ensures plan { IfOk result (IsPlanOfScript script.now) }
+        ensures valid { IfOk result IsValid }
         ensures refused { IfErr result (IsFaultOfScript script.now) }
     {
         match script {
@@ -137,6 +138,7 @@ fn plan_of(
 ) -> Result<Plan, PlanFault>
     requires { length parts.now ≤ 32 }
     ensures plan { IfOk result (IsPlanOf units parts.now links.now) }
+    ensures valid { IfOk result IsValid }
     ensures refused { IfErr result (IsShapeFault units parts.now (joints_of parts.now links.now)) }
 {
     let joints = joints_of(alloc, parts, links)?;
