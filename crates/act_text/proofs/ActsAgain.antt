@@ -23,7 +23,7 @@ use Rattle.line_text.specs.ReadNumbers.{small_number}
 use Rattle.act_text.specs.ReadActs.{act_of, state_of, supplier_of, ports_of}
 use Rattle.act_text.specs.declared.name.PortName.{PortName}
 use Rattle.act_text.specs.declared.act.TextAct.{TextAct}
-use Rattle.act_text.specs.declared.act.TextAct.TheVariants.{Free, State, Port, SetPort, SetSupplier, SetPriority, Gain, Weight, Tunnel, DropTunnel, SendState, SendFlush, SendDisable, SendEnable, SendMark, Run, Supply, Release, Over, Back, Take, End}
+use Rattle.act_text.specs.declared.act.TextAct.TheVariants.{Free, State, Port, SetPort, SetSupplier, SetPriority, Gain, Weight, Tunnel, DropTunnel, SendState, SendFlush, SendDisable, SendEnable, SendMark, Run, Supply, Release, Over, Back, Take, End, Grant, Preempt}
 use Rattle.act_text.proofs.Dots.{name_of-name, port_of-port, name-bytes, name_of-other}
 use Rattle.line_text.proofs.Numerals.{number_below-decimal, decimal-digits}
 
@@ -97,6 +97,8 @@ act-again (Over port) is = rw (name_of-port port, port_of-port port is) refl
 act-again (Back port) is = rw (name_of-port port, port_of-port port is) refl
 act-again (Take component) is = rw (name_of-name component is) refl
 act-again (End component) is = rw (name_of-name component is) refl
+act-again Grant is = refl
+act-again Preempt is = refl
 
 pub act_of-other : (verb subject what : List ℕ) (rest : List (Bor (List ℕ))) → 0 < length rest → (length rest ≡ 1 → ⊥) → (length rest ≡ 3 → ⊥) → (length rest ≡ 5 → ⊥) → act_of (verb ∷ subject ∷ what ∷ texts rest) ≡ None
 act_of-other verb subject what [] some one three five = absurd (omega arith)

@@ -96,6 +96,8 @@ act-plain (acts.SendFlush component ports) is = rw (name-plain component is.0, p
 act-plain (acts.SendDisable component ports) is = rw (name-plain component is.0, ports-plain ports is.1) refl
 act-plain (acts.SendEnable component ports) is = rw (name-plain component is.0, ports-plain ports is.1) refl
 act-plain (acts.SendMark component port target value) is = rw (name-plain component is.0, small-plain port is.1, name-plain target is.2, number-plain value is.3) refl
+act-plain acts.Grant is = refl
+act-plain acts.Preempt is = refl
 
 event-plain : (event : EventType) → IsEvent event → list_all plain (event_words event) ≡ true
 event-plain (events.CmdComplete (completions.State state)) is = rw (state-plain state) refl
@@ -158,3 +160,5 @@ reply-plain (replies.Event event) is = event-plain event is
 reply-plain replies.NotHeld is = refl
 reply-plain replies.TooLong is = refl
 reply-plain replies.NotOut is = refl
+reply-plain (replies.Granted component) is = rw (name-plain component is) refl
+reply-plain (replies.Victim component) is = rw (name-plain component is) refl

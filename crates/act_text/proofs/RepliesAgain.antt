@@ -14,11 +14,11 @@ use Rattle.omx_types.specs.Names.{state_name, error_name}
 use Rattle.act_text.specs.ReadReplies.{reply_of, error_of}
 use Rattle.act_text.specs.Replies.{reply_words, event_words, why_words, view_words, IsReply, IsEvent, IsWhy}
 use Rattle.act_text.specs.declared.reply.TextReply.{TextReply}
-use Rattle.act_text.specs.declared.reply.TextReply.TheVariants.{Done, Error, State, Port, Supplier, Did, Idle, NoNote, Busy, Event, NotHeld, TooLong, NotOut}
+use Rattle.act_text.specs.declared.reply.TextReply.TheVariants.{Done, Error, State, Port, Supplier, Did, Idle, NoNote, Busy, Event, NotHeld, TooLong, NotOut, Granted, Victim}
 use Rattle.act_text.specs.declared.reply.TextWhy.{TextWhy}
 use Rattle.act_text.specs.declared.reply.TextWhy.TheVariants as whys
 use Rattle.act_text.proofs.ActsAgain.{small-again, state-again}
-use Rattle.act_text.proofs.Dots.{port_of-port}
+use Rattle.act_text.proofs.Dots.{name_of-name, port_of-port}
 use Rattle.line_text.proofs.Numerals.{number_below-decimal}
 
 error-again : (error : OmxError) → error_of (error_name error) ≡ Some error
@@ -123,3 +123,5 @@ reply-again (Event event) is = told-again event is
 reply-again NotHeld is = refl
 reply-again TooLong is = refl
 reply-again NotOut is = refl
+reply-again (Granted component) is = rw (name_of-name component is) refl
+reply-again (Victim component) is = rw (name_of-name component is) refl

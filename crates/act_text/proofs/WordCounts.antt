@@ -40,6 +40,8 @@ act-counted (acts.SendFlush _ _) = (omega arith, omega arith)
 act-counted (acts.SendDisable _ _) = (omega arith, omega arith)
 act-counted (acts.SendEnable _ _) = (omega arith, omega arith)
 act-counted (acts.SendMark _ _ _ _) = (omega arith, omega arith)
+act-counted acts.Grant = (omega arith, omega arith)
+act-counted acts.Preempt = (omega arith, omega arith)
 
 -- no act is without words, and none has more than eight
 pub act-some : (act : TextAct) → 0 < length (act_words act)
@@ -96,6 +98,8 @@ reply-counted (replies.Event event) = (omega arith, omega (arith, event-short ev
 reply-counted replies.NotHeld = (omega arith, omega arith)
 reply-counted replies.TooLong = (omega arith, omega arith)
 reply-counted replies.NotOut = (omega arith, omega arith)
+reply-counted (replies.Granted _) = (omega arith, omega arith)
+reply-counted (replies.Victim _) = (omega arith, omega arith)
 
 -- no reply is without words, and none has more than seven
 pub reply-some : (reply : TextReply) → 0 < length (reply_words reply)

@@ -12,7 +12,7 @@ use Rattle.omx_types.specs.Names.{state_name}
 use Rattle.act_text.specs.Names.{IsName}
 use Rattle.act_text.specs.Ports.{IsPortName, port_word}
 use Rattle.act_text.specs.declared.act.TextAct.{TextAct}
-use Rattle.act_text.specs.declared.act.TextAct.TheVariants.{Free, State, Port, SetPort, SetSupplier, SetPriority, Gain, Weight, Tunnel, DropTunnel, SendState, SendFlush, SendDisable, SendEnable, SendMark, Run, Supply, Release, Over, Back, Take, End}
+use Rattle.act_text.specs.declared.act.TextAct.TheVariants.{Free, State, Port, SetPort, SetSupplier, SetPriority, Gain, Weight, Tunnel, DropTunnel, SendState, SendFlush, SendDisable, SendEnable, SendMark, Run, Supply, Release, Over, Back, Take, End, Grant, Preempt}
 
 -- a format that isn't known has neither rate nor channels
 abbrev pub format_words : Format → List (List ℕ)
@@ -58,6 +58,8 @@ act_words (Over port) = codes "over" ∷ port_word port ∷ []
 act_words (Back port) = codes "back" ∷ port_word port ∷ []
 act_words (Take component) = codes "take" ∷ component ∷ []
 act_words (End component) = codes "end" ∷ component ∷ []
+act_words Grant = codes "grant" ∷ []
+act_words Preempt = codes "preempt" ∷ []
 
 abbrev pub FitsWord : ℕ → Type 0
 FitsWord number = number < 2 ^ 32
@@ -94,3 +96,5 @@ IsAct (Over port) = IsPortName port
 IsAct (Back port) = IsPortName port
 IsAct (Take component) = IsName component
 IsAct (End component) = IsName component
+IsAct Grant = Unit {0}
+IsAct Preempt = Unit {0}

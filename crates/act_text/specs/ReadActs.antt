@@ -13,7 +13,7 @@ use Rattle.act_text.specs.Reading.{both, name_of, port_of}
 use Rattle.line_text.specs.ReadNumbers.{number_below, small_number}
 use Rattle.act_text.specs.declared.name.PortName.{PortName}
 use Rattle.act_text.specs.declared.act.TextAct.{TextAct}
-use Rattle.act_text.specs.declared.act.TextAct.TheVariants.{Free, State, Port, SetPort, SetSupplier, SetPriority, Gain, Weight, Tunnel, DropTunnel, SendState, SendFlush, SendDisable, SendEnable, SendMark, Run, Supply, Release, Over, Back, Take, End}
+use Rattle.act_text.specs.declared.act.TextAct.TheVariants.{Free, State, Port, SetPort, SetSupplier, SetPriority, Gain, Weight, Tunnel, DropTunnel, SendState, SendFlush, SendDisable, SendEnable, SendMark, Run, Supply, Release, Over, Back, Take, End, Grant, Preempt}
 
 abbrev pub state_of : List ℕ → Option StateType
 state_of word =
@@ -145,6 +145,13 @@ of_eight verb subject what kind rate channels count size =
     then (if bytes_eq what (codes "port") then of_definition (port_of subject) (format_of kind (small_number rate) (small_number channels)) (small_number count) (small_number size) else None)
     else None
 
+-- an act that names nothing
+abbrev pub of_one : List ℕ → Option TextAct
+of_one verb =
+    if bytes_eq verb (codes "grant") then Some Grant
+    else if bytes_eq verb (codes "preempt") then Some Preempt
+    else None
+
 -- an act of one port, or of one component
 abbrev pub of_two : List ℕ → Option (List ℕ) → Option PortName → Option TextAct
 of_two verb (Some component) port = of_component verb component
@@ -158,6 +165,7 @@ of_three verb None second = None
 
 -- the act of a list of words
 abbrev pub act_of : List (List ℕ) → Option TextAct
+act_of (verb ∷ []) = of_one verb
 act_of (verb ∷ one ∷ []) = of_two verb (name_of one) (port_of one)
 act_of (verb ∷ one ∷ two ∷ []) = of_three verb (port_of one) (port_of two)
 act_of (verb ∷ one ∷ what ∷ two ∷ []) = of_four verb one what two

@@ -8,11 +8,11 @@ use Rattle.omx_types.specs.declared.command.Event.{Event as EventType}
 use Rattle.omx_types.specs.declared.command.Event.TheVariants as events
 use Rattle.omx_types.specs.declared.error.OmxError.{OmxError}
 use Rattle.omx_types.specs.declared.error.OmxError.TheVariants as errors
-use Rattle.act_text.specs.Reading.{both, port_of}
+use Rattle.act_text.specs.Reading.{both, name_of, port_of}
 use Rattle.line_text.specs.ReadNumbers.{number_below, small_number}
 use Rattle.act_text.specs.ReadActs.{state_of}
 use Rattle.act_text.specs.declared.reply.TextReply.{TextReply}
-use Rattle.act_text.specs.declared.reply.TextReply.TheVariants.{Done, Error, State, Port, Supplier, Did, Idle, NoNote, Busy, Event, NotHeld, TooLong, NotOut}
+use Rattle.act_text.specs.declared.reply.TextReply.TheVariants.{Done, Error, State, Port, Supplier, Did, Idle, NoNote, Busy, Event, NotHeld, TooLong, NotOut, Granted, Victim}
 use Rattle.act_text.specs.declared.reply.TextWhy.{TextWhy}
 use Rattle.act_text.specs.declared.reply.TextWhy.TheVariants as whys
 
@@ -134,13 +134,21 @@ reply_of_one word =
     else if bytes_eq word (codes "output") then Some (Supplier false)
     else option_map State (state_of word)
 
+-- a reply that names a component
+abbrev pub reply_of_name : List ℕ → Option (List ℕ) → Option TextReply
+reply_of_name one None = None
+reply_of_name one (Some component) =
+    if bytes_eq one (codes "granted") then Some (Granted component)
+    else if bytes_eq one (codes "victim") then Some (Victim component)
+    else None
+
 abbrev pub reply_of_two : List ℕ → List ℕ → Option TextReply
 reply_of_two one two =
     if bytes_eq one (codes "error") then option_map Error (error_of two)
     else if bytes_eq one (codes "not")
     then (if bytes_eq two (codes "held") then Some NotHeld else if bytes_eq two (codes "out") then Some NotOut else None)
     else if bytes_eq one (codes "too") then (if bytes_eq two (codes "long") then Some TooLong else None)
-    else None
+    else reply_of_name one (name_of two)
 
 abbrev pub side_of : List ℕ → Option Bool
 side_of word =

@@ -10,9 +10,10 @@ use Rattle.omx_types.specs.declared.command.Event.{Event as EventType}
 use Rattle.omx_types.specs.declared.command.Event.TheVariants as events
 use Rattle.omx_types.specs.Names.{state_name, error_name}
 use Rattle.act_text.specs.Acts.{FitsWord}
+use Rattle.act_text.specs.Names.{IsName}
 use Rattle.act_text.specs.Ports.{IsPortName, port_word}
 use Rattle.act_text.specs.declared.reply.TextReply.{TextReply}
-use Rattle.act_text.specs.declared.reply.TextReply.TheVariants.{Done, Error, State, Port, Supplier, Did, Idle, NoNote, Busy, Event, NotHeld, TooLong, NotOut}
+use Rattle.act_text.specs.declared.reply.TextReply.TheVariants.{Done, Error, State, Port, Supplier, Did, Idle, NoNote, Busy, Event, NotHeld, TooLong, NotOut, Granted, Victim}
 use Rattle.act_text.specs.declared.reply.TextWhy.{TextWhy}
 use Rattle.act_text.specs.declared.reply.TextWhy.TheVariants as whys
 
@@ -80,6 +81,8 @@ reply_words (Event event) = codes "event" ∷ event_words event
 reply_words NotHeld = codes "not" ∷ codes "held" ∷ []
 reply_words TooLong = codes "too" ∷ codes "long" ∷ []
 reply_words NotOut = codes "not" ∷ codes "out" ∷ []
+reply_words (Granted component) = codes "granted" ∷ component ∷ []
+reply_words (Victim component) = codes "victim" ∷ component ∷ []
 
 abbrev pub IsCompletion : Completion → Type 0
 IsCompletion (completions.State state) = Unit {0}
@@ -110,4 +113,6 @@ abbrev pub IsReply : TextReply → Type 0
 IsReply (Port view) = FitsWord view.made × FitsWord view.count
 IsReply (Idle why) = IsWhy why
 IsReply (Event event) = IsEvent event
+IsReply (Granted component) = IsName component
+IsReply (Victim component) = IsName component
 IsReply other = Unit {0}

@@ -66,4 +66,8 @@ pub enum TextAct {
     Back(PortName),
     Take(Name),
     End(Name),
+    /// Units for the first component that waits.
+    Grant,
+    /// A component's units, for the first that waits.
+    Preempt,
 }

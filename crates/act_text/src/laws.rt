@@ -147,6 +147,8 @@ fn law_of_acts(act: &TextAct)
             target,
             value,
         } => is_mark(component, *port, target, *value),
+        TextAct::Grant => {}
+        TextAct::Preempt => {}
     }
 }
 
@@ -160,6 +162,8 @@ fn law_of_replies(reply: &TextReply)
         }
         TextReply::Idle(why) => law_of_whys(why),
         TextReply::Event(event) => law_of_events(*event),
+        TextReply::Granted(component) => is_name(component),
+        TextReply::Victim(component) => is_name(component),
         TextReply::Done => {}
         TextReply::Error(_) => {}
         TextReply::State(_) => {}

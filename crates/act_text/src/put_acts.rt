@@ -51,6 +51,8 @@ pub fn put_act_words(act: &TextAct, out: &mut Vec<u8>) -> Result<(), OutOfMemory
         TextAct::Back(port) => put_two(b"back", Word::Port(port), out),
         TextAct::Take(component) => put_two(b"take", named(component), out),
         TextAct::End(component) => put_two(b"end", named(component), out),
+        TextAct::Grant => put_words(&[Word::Bytes(b"grant")], out),
+        TextAct::Preempt => put_words(&[Word::Bytes(b"preempt")], out),
     }
 }
 

@@ -31,6 +31,14 @@ pub fn put_reply_words(reply: &TextReply, out: &mut Vec<u8>) -> Result<(), OutOf
         TextReply::NotHeld => put_words(&[Word::Bytes(b"not"), Word::Bytes(b"held")], out),
         TextReply::TooLong => put_words(&[Word::Bytes(b"too"), Word::Bytes(b"long")], out),
         TextReply::NotOut => put_words(&[Word::Bytes(b"not"), Word::Bytes(b"out")], out),
+        TextReply::Granted(component) => put_words(
+            &[Word::Bytes(b"granted"), Word::Bytes(component.as_bytes())],
+            out,
+        ),
+        TextReply::Victim(component) => put_words(
+            &[Word::Bytes(b"victim"), Word::Bytes(component.as_bytes())],
+            out,
+        ),
     }
 }
 

@@ -6,7 +6,7 @@ ghost use Rattle.line_text.specs.Lists.{texts};
 ghost use Rattle.act_text.specs.Ports.{IsPortName, port_word};
 ghost use Rattle.act_text.specs.Reading.{name_of, port_of};
 ghost use Rattle.line_text.specs.ReadNumbers.{number_below, small_number};
-ghost use Rattle.act_text.specs.ReadActs.{state_of, supplier_of, ports_of, format_with, of_component, of_port, of_ports, of_setting, of_config, of_sending, of_ports_sending, of_mark, of_four, of_definition, of_two, of_three, of_auto, of_six, of_eight, format_of, act_of};
+ghost use Rattle.act_text.specs.ReadActs.{state_of, supplier_of, ports_of, format_with, of_component, of_port, of_ports, of_setting, of_config, of_sending, of_ports_sending, of_mark, of_four, of_definition, of_two, of_three, of_auto, of_six, of_eight, format_of, of_one, act_of};
 
 use crate::parts::{name_in, port_in};
 use crate::{Name, PortName, TextAct};
@@ -304,6 +304,21 @@ fn of_definition(port: &[u8], format: Option<Format>, count: &[u8], size: &[u8])
     })
 }
 
+/// An act that names nothing.
+fn of_one(verb: &[u8]) -> Option<TextAct>
+    ensures some { IfSome result (λ act. verb.now ∷ [] ≡ act_words act) }
+    ensures act { IfSome result IsAct }
+    ensures is { result ≡ of_one verb.now }
+{
+    if verb == b"grant".as_slice() {
+        Some(TextAct::Grant)
+    } else if verb == b"preempt".as_slice() {
+        Some(TextAct::Preempt)
+    } else {
+        None
+    }
+}
+
 /// An act of one component, or of one port.
 fn of_two(verb: &[u8], one: &[u8]) -> Option<TextAct>
     ensures some { IfSome result (λ act. verb.now ∷ one.now ∷ [] ≡ act_words act) }
@@ -421,6 +436,7 @@ pub fn act_in(words: &[&[u8]]) -> Option<TextAct>
     ensures is { result ≡ act_of (texts words.now) }
 {
     match words {
+        [verb] => of_one(verb),
         [verb, one] => of_two(verb, one),
         [verb, first, second] => of_three(verb, first, second),
         [verb, subject, what, rest @ ..] => of_more(verb, subject, what, rest),

@@ -1,12 +1,14 @@
 ghost use Rattle.std.specs.Prelude.{◌≡◌, ◌∷◌, ◌<◌, [], ℕ, List, IfSome, Some, true, false, option_map, length, codes};
 ghost use Rattle.line_text.specs.ReadNumbers.{small_number};
 ghost use Rattle.act_text.specs.ReadActs.{state_of};
+ghost use Rattle.act_text.specs.Reading.{name_of};
 ghost use Rattle.act_text.specs.declared.reply.TextReply.TheVariants.{State, Port};
 ghost use Rattle.act_text.specs.Replies.{reply_words, side_word, enabled_word, mode_word, count_words, IsReply};
-ghost use Rattle.act_text.specs.ReadReplies.{reply_of_one, reply_of_two, side_of, enabled_of, mode_of, view_of, view_with, other_reply_of, reply_of};
+ghost use Rattle.act_text.specs.ReadReplies.{reply_of_one, reply_of_two, reply_of_name, side_of, enabled_of, mode_of, view_of, view_with, other_reply_of, reply_of};
 ghost use Rattle.line_text.specs.Lists.{texts};
 
 use crate::TextReply;
+use crate::parts::name_in;
 use crate::read_acts::state_in;
 use crate::read_events::{error_in, event_in};
 use crate::read_whys::why_in;
@@ -70,6 +72,22 @@ fn reply_of_two(one: &[u8], two: &[u8]) -> Option<TextReply>
         } else {
             None
         }
+    } else {
+        reply_of_name(one, two)
+    }
+}
+
+/// A reply that names a component.
+fn reply_of_name(one: &[u8], two: &[u8]) -> Option<TextReply>
+    ensures some { IfSome result (λ reply. one.now ∷ two.now ∷ [] ≡ reply_words reply) }
+    ensures reply { IfSome result IsReply }
+    ensures is { result ≡ reply_of_name one.now (name_of two.now) }
+{
+    let component = name_in(two)?;
+    if one == b"granted".as_slice() {
+        Some(TextReply::Granted(component))
+    } else if one == b"victim".as_slice() {
+        Some(TextReply::Victim(component))
     } else {
         None
     }

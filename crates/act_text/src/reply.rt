@@ -1,4 +1,4 @@
-use crate::PortName;
+use crate::{Name, PortName};
 use il_machine::PortView;
 use omx_types::{Event, OmxError, State};
 
@@ -47,4 +47,8 @@ pub enum TextReply {
     TooLong,
     /// No work is held.
     NotOut,
+    /// The component has its units.
+    Granted(Name),
+    /// The component loses its units.
+    Victim(Name),
 }

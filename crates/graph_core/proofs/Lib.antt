@@ -2,6 +2,8 @@ pub mod Registering
 pub mod Renumbered
 pub mod SameParts
 pub mod Waiters
+pub mod Counting
+pub mod Granting
 pub mod RunNumbers
 pub mod Replacing
 pub mod Accepted

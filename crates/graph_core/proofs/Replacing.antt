@@ -5,7 +5,7 @@ use Rattle.std.proofs.lemmas.List.{length-map}
 use Rattle.std.proofs.lemmas.Bool.Decides.{eqb_tells}
 use Rattle.omx_types.specs.declared.handle.Handle.{Handle}
 use Rattle.il_machine.specs.Stock.{Stocked}
-use Rattle.machine_laws.proofs.Change.{IsChange, link_of, sound_component}
+use Rattle.machine_laws.proofs.Change.{IsChange, link_of, sound_taking_units}
 use Rattle.machine_laws.proofs.Units.{IsFair}
 use Rattle.port_stock.specs.Kept.{Kept as StockKept, stocked}
 use Rattle.port_stock.specs.Conditions.{IsPort}
@@ -15,7 +15,8 @@ use Rattle.il_machine.specs.declared.answer.Progress.{Progress}
 use Rattle.il_machine.specs.World.{Component, World, number_of, with_component, place_of, is_at}
 use Rattle.il_machine.specs.Places.{first_place}
 use Rattle.il_machine.proofs.Places.{is_first_place}
-use Rattle.il_machine.specs.Look.{Look}
+use Rattle.il_machine.specs.Look.{Look, look}
+use Rattle.il_machine.specs.Units.{free_units}
 use Rattle.il_machine.specs.Whole.{Kept, PartSeen, Stands, Steps}
 use Rattle.il_machine.specs.Sound.{Sound, IsSound}
 use Rattle.whole_laws.proofs.Lists.{map_set, get_set_same, get_set_other}
@@ -83,12 +84,12 @@ module _ {C : Type 0} (progress : C → Progress) where
       subst IsSound (get_or_from_slice_get W.world.components i c c h) (W.sound.components i c b)
 
   pub changed_worlds : (g : Entries C) (i : ℕ) (e d : Entry C) → SoundWorld (kept progress g) → slice_get g.entries i ≡ Some e → KeepsNotices e d → KeepsPart (component_of e) (component_of d) → IsChange (component_of e) (component_of d) → IsSound (component_of d)
-      → ((w : World) → Stands (kept progress g) w → Sound w → IsFair w.waits w.waits (component_of e) (component_of d)) → SoundWorld (kept progress (changed_at i d g))
+      → ((w : World) → Stands (kept progress g) w → Sound w → IsFair (free_units (look w)) w.waits w.waits (component_of e) (component_of d)) → SoundWorld (kept progress (changed_at i d g))
   changed_worlds g i e d W at N K X S F = next_world (kept progress g) (kept progress (changed_at i d g)) (λ w v. v ≡ with_component i (component_of d) w) W
       (steps_changed progress g i e d at N K)
       (λ w v s f sound.
       let h : slice_get w.components i ≡ Some (component_of e) = ap (λ (l : Look). slice_get l.components i) s.looks ∙ there progress g i e at in
-      subst Sound (sym f) (sound_component w i (component_of e) (component_of d) sound h X S (F w s sound)))
+      subst Sound (sym f) (sound_taking_units w i (component_of e) (component_of d) sound h X S (F w s sound)))
 
   pub ports_changed : (es : List (Entry C)) (s : Stocked) (numbered i : ℕ) (e d : Entry C) → HasPorts es s numbered → slice_get es i ≡ Some e → IsChange (component_of e) (component_of d) → HasPorts (set es i d) s numbered
   ports_changed es s numbered i e d P at X = record {
@@ -106,7 +107,7 @@ module _ {C : Type 0} (progress : C → Progress) where
   }
 
   pub graph_changed : (es : List (Entry C)) (registry : Handles ℕ) (stock : StockKept) (units waits capacity i : ℕ) (e d : Entry C) → IsGraph progress es registry stock units waits capacity → slice_get es i ≡ Some e → KeepsNotices e d → KeepsPart (component_of e) (component_of d) → IsChange (component_of e) (component_of d) → IsSound (component_of d)
-      → ((w : World) → Stands (kept progress (record { entries = es; stock = stock; units = units; waits = waits; numbered = registry.given })) w → Sound w → IsFair w.waits w.waits (component_of e) (component_of d))
+      → ((w : World) → Stands (kept progress (record { entries = es; stock = stock; units = units; waits = waits; numbered = registry.given })) w → Sound w → IsFair (free_units (look w)) w.waits w.waits (component_of e) (component_of d))
       → waits + waiters (set es i d) ≤ 18446744073709551615
       → IsGraph progress (set es i d) registry stock units waits capacity
   graph_changed es registry stock units waits capacity i e d G at N K X S F few = record {

@@ -1,5 +1,5 @@
 -- A command that is carried out in a closed graph takes no number that there isn't.
-use Rattle.std.proofs.Common.{◌≡◌, ℕ, ◌+◌, ◌≤◌, Bool, true, false, not, ◌&&◌, List, [], ◌∷◌, ◌++◌, if◌then◌else◌, set, slice_get, nat_eq, get_or, Option, Some, None, refl, ap, arith}
+use Rattle.std.proofs.Common.{◌≡◌, ℕ, ◌+◌, ◌≤◌, Bool, true, false, not, ◌&&◌, List, [], ◌∷◌, ◌++◌, if◌then◌else◌, set, slice_get, nat_eq, nat_lt, get_or, Option, Some, None, refl, ap, arith}
 use Rattle.std.proofs.lemmas.Bool.Decides.{nat_tests}
 use Rattle.std.proofs.lemmas.Option.{slice_get_within, get_or_from_slice_get}
 use Rattle.std.proofs.lemmas.List.Sums.{sum_by-set, get_or-le-sum_by}
@@ -8,11 +8,12 @@ use Rattle.omx_types.specs.declared.command.Command.TheVariants as commands
 use Rattle.omx_types.specs.declared.command.Event.TheVariants.{Error}
 use Rattle.omx_types.specs.declared.error.OmxError.{OmxError}
 use Rattle.omx_types.specs.declared.state.State.{State}
-use Rattle.omx_types.specs.declared.state.State.TheVariants.{WaitForResources}
+use Rattle.omx_types.specs.declared.state.State.TheVariants.{Idle, WaitForResources}
 use Rattle.omx_types.specs.declared.error.OmxError.TheVariants as errors
 use Rattle.il_machine.specs.States.{same_state, is_lawful, is_loaded}
 use Rattle.il_machine.specs.Settings.{fits}
 use Rattle.il_machine.specs.Lists.{first_of_these}
+use Rattle.il_machine.specs.Units.{units_of, free_units}
 use Rattle.il_machine.specs.Headers.{weight}
 use Rattle.il_machine.specs.Look.{Look}
 use Rattle.il_machine.specs.Ports.{is_going_to}
@@ -29,18 +30,20 @@ next_of c = weight (is_going_to WaitForResources c)
 few_zero : (w n : ℕ) → n ≡ 0 → w ≤ 18446744073709551615 → w + n ≤ 18446744073709551615
 few_zero w n z b = omega arith
 
-last_false : {E : Type 0} (a b d f : Bool) (x y z u : E) → None ≡ first_of_these ((a, x) ∷ (b, y) ∷ (d, z) ∷ (f, u) ∷ []) → f ≡ false
-last_false true b d f x y z u e = absurd cc
-last_false false true d f x y z u e = absurd cc
-last_false false false true f x y z u e = absurd cc
-last_false false false false true x y z u e = absurd cc
-last_false false false false false x y z u e = refl
+last_false : {E : Type 0} (a b d s f : Bool) (x y z t u : E) → None ≡ first_of_these ((a, x) ∷ (b, y) ∷ (d, z) ∷ (s, t) ∷ (f, u) ∷ []) → f ≡ false
+last_false true b d s f x y z t u e = absurd cc
+last_false false true d s f x y z t u e = absurd cc
+last_false false false true s f x y z t u e = absurd cc
+last_false false false false true f x y z t u e = absurd cc
+last_false false false false false true x y z t u e = absurd cc
+last_false false false false false false x y z t u e = refl
 
 -- a transition to WaitForResources that may begin has a number left
 number_there : (l : Look) (c : Component) (target : State) → None ≡ state_fault l c target → same_state target WaitForResources ≡ true → has_no_wait l ≡ false
 number_there l c target e t =
-    let f = last_false (same_state c.state target) (not (is_lawful c.state target)) (is_loaded c.state && not (fits c.settings)) (same_state target WaitForResources && has_no_wait l)
-    errors.SameState errors.IncorrectStateTransition errors.UnsupportedSetting errors.InsufficientResources e in
+    let f = last_false (same_state c.state target) (not (is_lawful c.state target)) (is_loaded c.state && not (fits c.settings))
+    (is_loaded c.state && same_state target Idle && nat_lt (free_units l) (units_of c.settings.kind)) (same_state target WaitForResources && has_no_wait l)
+    errors.SameState errors.IncorrectStateTransition errors.UnsupportedSetting errors.InsufficientResources errors.InsufficientResources e in
     rw t at f
 
 below_last : (n : ℕ) → nat_eq n 18446744073709551615 ≡ false → n ≤ 18446744073709551615 → n + 1 ≤ 18446744073709551615

@@ -8,3 +8,4 @@ pub mod OtherEnd
 pub mod Moving
 pub mod Supplying
 pub mod Closing
+pub mod Units

@@ -70,7 +70,8 @@ impl<C: Client> Core<C> {
         ensures change { MatchOption (component_at place self.old) ⊥ (λ c. Steps (kept C.progress self.old) (kept C.progress self.new) (λ w v. v ≡ with_component place (run_front (look w) c.commands c) w)) }
         ensures clients { KeepsAllClients self.old self.new }
     {
+        let free = self.free_units();
         let component = &mut self.components[place];
-        component.run(self.waits);
+        component.run(free, self.waits);
     }
 }

@@ -15,5 +15,6 @@ mod other_end;
 mod passing;
 mod supplying;
 mod tunnels;
+mod units;
 
 pub use core_graph::Core;

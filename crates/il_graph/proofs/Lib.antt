@@ -16,3 +16,4 @@ pub mod Taking
 pub mod Tunnelling
 pub mod Acting
 pub mod HandedIn
+pub mod Granting

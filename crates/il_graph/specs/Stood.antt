@@ -10,6 +10,10 @@ use Rattle.il_machine.specs.Buffers.{Held}
 use Rattle.il_machine.specs.Notes.{Took}
 use Rattle.il_machine.specs.declared.answer.Acted.{Acted}
 use Rattle.il_machine.specs.declared.answer.Acted.TheVariants.{Did, Idle}
+use Rattle.il_machine.specs.declared.answer.Granted.{Granted}
+use Rattle.il_machine.specs.declared.answer.Granted.TheVariants as grants
+use Rattle.il_machine.specs.declared.answer.Preempted.{Preempted}
+use Rattle.il_machine.specs.declared.answer.Preempted.TheVariants as losses
 use Rattle.header_core.specs.BufferHeader.{BufferHeader}
 use Rattle.note_queues.specs.Queues.{took_of}
 use Rattle.note_queues.specs.declared.taken.Took.{Took as Given}
@@ -46,6 +50,16 @@ abbrev pub OnIdle : {E : Type 0} → Result Acted E → Type 0 → Type 0
 OnIdle (Ok (Idle why)) P = P
 OnIdle (Ok Did) P = Unit {0}
 OnIdle (Err e) P = Unit {0}
+
+-- no units were granted
+abbrev pub OnNoGrant : Granted → Type 0 → Type 0
+OnNoGrant (grants.Idle why) P = P
+OnNoGrant (grants.Granted h) P = Unit {0}
+
+-- no units were taken
+abbrev pub OnNoVictim : Preempted → Type 0 → Type 0
+OnNoVictim (losses.Idle why) P = P
+OnNoVictim (losses.Victim h) P = Unit {0}
 
 -- the answer was a refusal, and not want of memory
 abbrev pub OnRefusal : CallError → Type 0 → Type 0

@@ -7,6 +7,7 @@ mod noting;
 mod parameters;
 mod supplying;
 mod tunnels;
+mod units;
 
 ghost use Rattle.std.specs.Prelude.{◌≡◌, ◌≢◌, ℕ, Some, None, IfOk};
 ghost use Rattle.omx_types.specs.declared.handle.Handle.{Handle as Named};
@@ -41,7 +42,7 @@ impl<C: Client> Model for Graph<C> {
 }
 
 impl<C: Client> Graph<C> {
-    /// A graph with no component, and so many free units. No call takes or gives back units yet.
+    /// A graph with no component, and so many free units.
     pub fn new(alloc: Global, units: u32) -> Result<Graph<C>, AllocError>
         ensures { IfOk result (λ g. kept C.progress g ≡ no_kept (look_of g).key units) }
     {

@@ -12,7 +12,7 @@ mod tests;
 
 pub use graph::Graph;
 pub use header_core::Header;
-pub use il_machine::{Acted, Mode, PortView, Progress, Why};
+pub use il_machine::{Acted, Granted, Mode, PortView, Preempted, Progress, Why};
 pub use note_queues::{Call, Client, ProgressClient, Taken, Took};
 pub use omx_types::{
     CallError, Command, Completion, Event, Format, Handle, OmxError, Param, ParamKey,

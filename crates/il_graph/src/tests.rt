@@ -1,6 +1,7 @@
 mod buffers;
 mod handles;
 mod tunnels;
+mod units;
 
 ghost use Rattle.graph_core.specs.Clients.{IsPortDone};
 ghost use Rattle.graph_core.specs.Entries.{look_of};

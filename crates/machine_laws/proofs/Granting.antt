@@ -109,7 +109,7 @@ never false h = cc
 abbrev pub on_its_way : Component → Component
 on_its_way c = record c { waiting = None; holds = true; pending = Some (record { target = states.Idle; cause = causes.Client }) }
 
-sound_granted : (c : Component) → IsSound c → is_waiter c ≡ true → nat_lt (room c) 2 ≡ false → IsSound (granted_units c)
+pub sound_granted : (c : Component) → IsSound c → is_waiter c ≡ true → nat_lt (room c) 2 ≡ false → IsSound (granted_units c)
 sound_granted c S h r =
     let b = both_of (same_state c.state states.WaitForResources) (is_at_rest c) h in
     let s = waits_there c.state b.0 in
@@ -132,10 +132,10 @@ sound_granted c S h r =
       commands = S.commands;
     })) (omega arith)
 
-change_granted : (c : Component) → IsChange c (granted_units c)
+pub change_granted : (c : Component) → IsChange c (granted_units c)
 change_granted c = change_twice c (on_its_way c) (granted_units c) (record { handle = refl; ports = refl; links = refl; notes = refl }) (change_told ResourcesAcquired (on_its_way c))
 
-fair_granted : (spare waits : ℕ) (c : Component) → IsUnitSound waits c → is_waiter c ≡ true → need_of c ≤ spare → ((work : Work) → c.work ≡ Some work → may_work c ≡ true) → IsFair spare waits waits c (granted_units c)
+pub fair_granted : (spare waits : ℕ) (c : Component) → IsUnitSound waits c → is_waiter c ≡ true → need_of c ≤ spare → ((work : Work) → c.work ≡ Some work → may_work c ≡ true) → IsFair spare waits waits c (granted_units c)
 fair_granted spare waits c U h n m =
     let s = waits_there c.state (both_of (same_state c.state states.WaitForResources) (is_at_rest c) h).0 in
     fair_then_aside spare waits waits c (on_its_way c) (granted_units c) (record {
@@ -157,12 +157,12 @@ fair_granted spare waits c U h n m =
 -- ---- the victim loses its units
 
 -- what a component is that may be the victim
-record IsVictim (c : Component) : Type 0 where
+pub record IsVictim (c : Component) : Type 0 where
   pub holds : c.holds ≡ true
   pub unmarked : c.loss_mark ≡ false
   pub stays : is_going_to states.Loaded c ≡ false
 
-victim_is : (waiter c : Component) → is_weaker waiter c ≡ true → IsVictim c
+pub victim_is : (waiter c : Component) → is_weaker waiter c ≡ true → IsVictim c
 victim_is waiter c h =
     let a = (both_of (c.holds && not (is_giving_back c)) (nat_lt waiter.settings.priority c.settings.priority) h).0 in
     let b = both_of c.holds (not (is_giving_back c)) a in
@@ -257,7 +257,7 @@ victim_fits waits c U V h = either (is_up c.state)
     left_true true n = refl
     left_true false n = absurd cc
 
-sound_preempted : (waits : ℕ) (c : Component) → IsSound c → IsUnitSound waits c → IsVictim c → nat_lt (room c) 2 ≡ false → IsSound (preempted_units c)
+pub sound_preempted : (waits : ℕ) (c : Component) → IsSound c → IsUnitSound waits c → IsVictim c → nat_lt (room c) 2 ≡ false → IsSound (preempted_units c)
 sound_preempted waits c S U V r =
     let l : 2 ≤ room c = ltb-false (room c) 2 r in
     let L = lawful_of c S in
@@ -285,13 +285,13 @@ sound_preempted waits c S U V r =
       commands = S.commands;
     })) (omega arith))
 
-change_preempted : (c : Component) → IsChange c (preempted_units c)
+pub change_preempted : (c : Component) → IsChange c (preempted_units c)
 change_preempted c = preempted_by (IsChange c) c
     (λ f. change_lost c)
     (λ t g. record { handle = refl; ports = refl; links = refl; notes = refl })
     (λ t g. change_twice c (ending c) (told_loss c) (record { handle = refl; ports = refl; links = refl; notes = refl }) (change_told (Error errors.ResourcesPreempted) (ending c)))
 
-fair_preempted : (waits : ℕ) (c : Component) → IsUnitSound waits c → IsVictim c → ((work : Work) → c.work ≡ Some work → may_work c ≡ true) → IsFair 0 waits waits c (preempted_units c)
+pub fair_preempted : (waits : ℕ) (c : Component) → IsUnitSound waits c → IsVictim c → ((work : Work) → c.work ≡ Some work → may_work c ≡ true) → IsFair 0 waits waits c (preempted_units c)
 fair_preempted waits c U V m = preempted_by (IsFair 0 waits waits c) c
     (λ f. fair_then_aside 0 waits waits c (losing c) (lost c) (record {
       keeps = record { kind = refl; weights = refl; count = refl; work = refl };

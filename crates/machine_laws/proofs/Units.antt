@@ -123,7 +123,7 @@ units_later waits after c l U = record {
 
 -- ---- the units that are held
 
-of_filtered : (f : Component → ℕ) (c : Component) (b : Bool) (xs : List Component) (n : ℕ) → sum_by f xs ≡ n → sum_by f (cond b (c ∷ xs) xs) ≡ cond b (f c) 0 + n
+pub of_filtered : (f : Component → ℕ) (c : Component) (b : Bool) (xs : List Component) (n : ℕ) → sum_by f xs ≡ n → sum_by f (cond b (c ∷ xs) xs) ≡ cond b (f c) 0 + n
 of_filtered f c true xs n e = let s = sum_by-cons f c xs in omega arith
 of_filtered f c false xs n e = let z : 0 + n ≡ n = omega arith in e ∙ sym z
 

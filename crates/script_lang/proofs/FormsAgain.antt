@@ -56,6 +56,8 @@ act-no-other (acts.SendFlush _ _) = refl
 act-no-other (acts.SendDisable _ _) = refl
 act-no-other (acts.SendEnable _ _) = refl
 act-no-other (acts.SendMark _ _ _ _) = refl
+act-no-other acts.Grant = refl
+act-no-other acts.Preempt = refl
 
 byte-again : (byte : ℕ) → byte < 256 → byte_with (hex_digit (byte / 16)) (hex_digit (byte % 16)) ≡ Some byte
 byte-again byte small =

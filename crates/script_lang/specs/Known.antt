@@ -32,6 +32,8 @@ act_components (acts.Over port) = port.component ∷ []
 act_components (acts.Back port) = port.component ∷ []
 act_components (acts.Take component) = component ∷ []
 act_components (acts.End component) = component ∷ []
+act_components acts.Grant = []
+act_components acts.Preempt = []
 
 -- the line introduces this component
 abbrev pub makes_component : List ℕ → TraceForm → Bool

@@ -71,6 +71,7 @@ fn is_known_act(before: &[TraceLine], act: &TextAct) -> bool
             target,
             ..
         } => has_component(before, component) && has_component(before, target),
+        TextAct::Grant | TextAct::Preempt => true,
     }
 }
 

@@ -51,6 +51,8 @@ makes_nothing at (lines.Over port) r P = record { meets = tt; got = tt; made = r
 makes_nothing at (lines.Back port) r P = record { meets = tt; got = tt; made = refl; taken = refl; notes = tt }
 makes_nothing at (lines.Take component) r P = absurd P
 makes_nothing at (lines.End component) r P = absurd P
+makes_nothing at lines.Grant r P = record { meets = tt; got = tt; made = refl; taken = refl; notes = tt }
+makes_nothing at lines.Preempt r P = record { meets = tt; got = tt; made = refl; taken = refl; notes = tt }
 
 act_line : (at : Moment) (act : TextAct) (r : Reply) (reply : LineReply) → IsPlain act → printed at.names r ≡ Some reply → ActLine at act ((asked at act, r) ∷ []) reply at.names
 act_line at (lines.Free component) r reply P e = (r, record { one = refl; says = e }, refl)
@@ -75,6 +77,8 @@ act_line at (lines.Over port) r reply P e = (r, record { one = refl; says = e },
 act_line at (lines.Back port) r reply P e = (r, record { one = refl; says = e }, refl)
 act_line at (lines.Take component) r reply P e = absurd P
 act_line at (lines.End component) r reply P e = absurd P
+act_line at lines.Grant r reply P e = (r, record { one = refl; says = e }, refl)
+act_line at lines.Preempt r reply P e = (r, record { one = refl; says = e }, refl)
 
 -- ---- from a moment that is stood for
 
@@ -151,3 +155,5 @@ plain_unless (lines.Over port) t e = tt
 plain_unless (lines.Back port) t e = tt
 plain_unless (lines.Take component) t e = t component refl
 plain_unless (lines.End component) t e = e component refl
+plain_unless lines.Grant t e = tt
+plain_unless lines.Preempt t e = tt

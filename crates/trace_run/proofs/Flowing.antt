@@ -73,12 +73,12 @@ at_place w port x v Then error bad (Some i) a =
 -- ---- the reasons
 
 module _ (components : List NamedComponent) where
-  map_some : {A B : Type 0} (f : A → B) (o : Option A) → IsSome o → IsSome (option_map f o)
+  pub map_some : {A B : Type 0} (f : A → B) (o : Option A) → IsSome o → IsSome (option_map f o)
   map_some f None h = absurd cc
   map_some f (Some x) h = refl
 
   -- the reason of each test has a name
-  abbrev AreNamedTests : List (Bool × Why) → Type 0
+  abbrev pub AreNamedTests : List (Bool × Why) → Type 0
   AreNamedTests [] = Unit {0}
   AreNamedTests (x ∷ xs) = IsSome (named_why components x.1) × AreNamedTests xs
 
@@ -90,7 +90,7 @@ module _ (components : List NamedComponent) where
   end_named None tests N = tt
   end_named (Some e) tests N = N e refl
 
-  first_named : (xs : List (Bool × Why)) → AreNamedTests xs → IsNamedWhy components (first_of_these xs)
+  pub first_named : (xs : List (Bool × Why)) → AreNamedTests xs → IsNamedWhy components (first_of_these xs)
   first_named [] N = tt
   first_named (x ∷ xs) N = either (x.0) (λ t. rw t (N.0)) (λ f. rw f (first_named xs (N.1)))
 

@@ -227,7 +227,7 @@ module _ (old new : Kept) (front : List Slot) (slot : Slot) (C : CanFree old (fr
         let w = C.world in
         let start : All F w.components = from_places F w.components (λ i c e.
         (tt, (at_place (IsSeated C.components) w.components i c (seated_in old (front ++ slot ∷ []) C) e).1, λ d. at_place (λ (c : Component). c.state ≡ Invalid) w.components i c (invalid_in old (front ++ slot ∷ []) C) e)) in
-        let after = outcome_each (Fit Any Everyone) (lasting Any Everyone (λ k out q. tt)) w a r v tt (inl tt) (step_comes w a r v C.sound meets step) start in
+        let after = outcome_each (Fit Any Everyone) (lasting Any Everyone (λ k out q. tt)) w a r v C.sound tt (inl tt) (step_comes w a r v C.sound meets step) start in
         subst (All (λ (c : Component). c.state ≡ Invalid)) (ap (λ (l : Look). l.components) B.looks) (from_places (λ (c : Component). c.state ≡ Invalid) v.components (λ i c e. (at_place F v.components i c after e).2 tt))
 
     freed_one : CanFree new front

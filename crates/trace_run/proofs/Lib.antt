@@ -4,6 +4,7 @@ mod Emptying
 mod Ends
 mod Flowing
 mod Freeing
+mod Granting
 mod Handed
 mod HandedIn
 mod HandedOut

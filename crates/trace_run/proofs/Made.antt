@@ -1,5 +1,5 @@
 -- Which headers were made for the client: those that were before, and the one that the act made.
-use Rattle.std.proofs.Common.{◌≡◌, ◌≢◌, ◌⊎◌, inl, inr, ℕ, ◌<◌, List, [], ◌∷◌, ◌++◌, Option, Some, None, option_map, Ok, refl, sym, ◌∙◌, ap, subst}
+use Rattle.std.proofs.Common.{◌≡◌, ◌≢◌, ◌⊎◌, inl, inr, ℕ, ◌<◌, List, [], ◌∷◌, ◌++◌, map, Option, Some, None, option_map, Ok, refl, sym, ◌∙◌, ap, subst}
 use Rattle.std.proofs.lemmas.Bool.{cases_eq}
 use Rattle.il_machine.specs.declared.answer.Acted.TheVariants.{Did}
 use Rattle.il_machine.specs.declared.port.Link.{Link}
@@ -7,7 +7,9 @@ use Rattle.il_machine.specs.declared.port.Port.{Port}
 use Rattle.il_machine.specs.declared.header.Home.TheVariants as homes
 use Rattle.il_machine.specs.declared.header.Owner.{Owner}
 use Rattle.il_machine.specs.declared.header.Owner.TheVariants as owners
-use Rattle.il_machine.specs.World.{HeaderRecord, World}
+use Rattle.il_machine.specs.World.{Component, HeaderRecord, Stream, World, component_numbered, stream_of}
+use Rattle.il_machine.specs.Claims.{Carried as CarriedHeader, ClaimedWork}
+use Rattle.il_machine.specs.Stepping.{Done as Finishing}
 use Rattle.il_machine.specs.Headers.{Once, find_header, seen, empty_load}
 use Rattle.il_machine.specs.Flow.{in_port}
 use Rattle.il_machine.specs.Notes.{TakenEmpty, TakenFilled, TookNote}
@@ -16,7 +18,7 @@ use Rattle.il_machine.specs.Acts as acts
 use Rattle.il_machine.specs.Run.{Step, Meets}
 use Rattle.il_machine.specs.Sound.{Sound}
 use Rattle.il_machine.specs.Effect.{effect}
-use Rattle.il_machine.specs.Trails.{Stop, Unmade, With, Move, moves, moved, front_move, released, over, handed, back, handed_back, key_of, port_named, port_stop, client_stop, home_stop}
+use Rattle.il_machine.specs.Trails.{Stop, Unmade, With, Move, moves, moved, front_move, released, over, handed, back, handed_back, key_of, port_named, port_stop, client_stop, home_stop, claimed_move, finished_move, finished_moves}
 use Rattle.machine_laws.proofs.Finding.{push_last, push_else, once_push, without_else, without_same, once_without}
 use Rattle.machine_laws.proofs.Keys.{none_or_some}
 use Rattle.machine_laws.proofs.Parts.{parts_of}
@@ -80,6 +82,21 @@ no_handed_back : (w : World) (o : Option Port) (n : ℕ) → handed_back w o ≡
 no_handed_back w None n e = cc
 no_handed_back w (Some p) n e = no_back w p p.state.link n e
 
+no_claimed : (k n : ℕ) (xs : List CarriedHeader) → map (claimed_move k) xs ≡ moved n Unmade client_stop → ⊥
+unfolding first_from
+no_claimed k n [] e = cc
+no_claimed k n (x ∷ xs) e = let a : port_stop (record { component = k; port = x.port }) ≡ Unmade = ap first_from e in cc
+
+no_landed : (c : Component) (s : Stream) (done : Finishing) (n : ℕ) (xs : List CarriedHeader) → map (finished_move c s done) xs ≡ moved n Unmade client_stop → ⊥
+unfolding first_from
+no_landed c s done n [] e = cc
+no_landed c s done n (x ∷ xs) e = let a : With (owners.Work c.handle.generation) ≡ Unmade = ap first_from e in cc
+
+no_finished : (c : Option Component) (s : Option Stream) (done : Finishing) (n : ℕ) → finished_moves c s done ≡ moved n Unmade client_stop → ⊥
+no_finished None s done n e = cc
+no_finished (Some c) None done n e = cc
+no_finished (Some c) (Some s) done n e = no_landed c s done n done.headers e
+
 number_moved : (n m : ℕ) → moved n Unmade client_stop ≡ moved m Unmade client_stop → n ≡ m
 unfolding first_number
 number_moved n m e = ap first_number e
@@ -96,6 +113,8 @@ told_by_moves w (acts.Supply h port) (acts.Supplied (Ok Did)) n e = absurd (no_o
 told_by_moves w (acts.Release h port) (acts.Acted (Ok Did)) n e = absurd (no_released w (port_named h port w) n e)
 told_by_moves w (acts.HandOver h port) (acts.Acted (Ok Did)) n e = absurd (no_handed w (port_named h port w) n e)
 told_by_moves w (acts.HandBack h port) (acts.Acted (Ok Did)) n e = absurd (no_handed_back w (port_named h port w) n e)
+told_by_moves w (acts.Claim h) (acts.Claimed (Ok (ClaimedWork work))) n e = absurd (no_claimed work.component n work.headers e)
+told_by_moves w (acts.Finish done) acts.Finished n e = absurd (no_finished (component_numbered done.component w) (stream_of done.component w) done n e)
 told_by_moves w _ _ n e = absurd cc
 
 -- ---- one step

@@ -1,12 +1,12 @@
 -- How many components were numbered: one more where one is made.
-use Rattle.std.proofs.Common.{◌≡◌, ℕ, ◌+◌, Bool, true, List, [], ◌∷◌, Option, Some, None, MatchOption, Ok, refl, ◌∙◌, ap}
+use Rattle.std.proofs.Common.{◌≡◌, ℕ, ◌+◌, Bool, true, List, [], ◌∷◌, Option, Some, None, MatchOption, Ok, slice_get, refl, ◌∙◌, ap}
 use Rattle.omx_types.specs.declared.error.OmxError.{OmxError}
 use Rattle.omx_types.specs.declared.handle.Handle.{Handle}
 use Rattle.omx_types.specs.declared.kind.Kind.{Kind}
 use Rattle.il_machine.specs.declared.answer.Acted.TheVariants.{Did}
 use Rattle.il_machine.specs.declared.port.Link.{Link}
 use Rattle.il_machine.specs.declared.port.Port.{Port}
-use Rattle.il_machine.specs.World.{Component, HeaderRecord, World, changed_at, place_of, port_of}
+use Rattle.il_machine.specs.World.{Component, HeaderRecord, Work, World, changed_at, number_of, stream_of, place_of, place_numbered, port_of}
 use Rattle.il_machine.specs.Headers.{seen, unchanged, cleared}
 use Rattle.machine_laws.proofs.Keys.{there_is}
 use Rattle.il_machine.specs.Notes.{TakenEvent, TakenEmpty, TakenFilled, TookNote}
@@ -20,7 +20,14 @@ use Rattle.il_machine.specs.Answers.{AnswersOrMemory}
 use Rattle.il_machine.specs.Ports.{is_input_port}
 use Rattle.il_machine.specs.declared.header.Spot.{Spot}
 use Rattle.il_machine.specs.declared.header.Spot.TheVariants.{TodoBack}
+use Rattle.il_machine.specs.Claims.{ClaimedWork}
+use Rattle.il_machine.specs.Stepping.{Done as Finishing}
+use Rattle.il_machine.specs.Finishing.{with_landed, finished, finished_by}
+use Rattle.machine_laws.proofs.Finding.{either}
 use Rattle.il_machine.specs.Effect.{at_named, at_named_port, at_both, effect}
+use Rattle.il_machine.specs.declared.answer.Granted.TheVariants as grants
+use Rattle.il_machine.specs.declared.answer.Preempted.TheVariants as losses
+use Rattle.il_machine.specs.Units.{first_waiter, victim, with_changed, granted_units, preempted_units}
 use Rattle.il_machine.specs.Acts.{Act, Reply}
 use Rattle.il_machine.specs.Acts as acts
 use Rattle.il_machine.specs.Run.{Step, Meets}
@@ -73,6 +80,15 @@ back_same : (i : ℕ) (c : Component) (p : Port) (o : Option Link) (w : World) �
 back_same i c p None w = noticed_same i c p ((seen w.headers).todo p.key) w
 back_same i c p (Some link) w = returned_same link.peer (is_input_port p) ((seen w.headers).done p.key) ((seen w.headers).todo p.key) w
 
+changed_same : (change : Component → Component) (o : Option Component) (w : World) → Same w (changed_at o w (λ c. with_changed change c w))
+changed_same change o w = at_same o w _ (λ c. at_same (place_numbered (number_of c) w.components) w _ (λ i. refl))
+
+finished_same : (i : ℕ) (c : Component) (done : Finishing) (o : Option Work) (w : World) → Same w (finished_by i c done o w)
+finished_same i c done None w = refl
+finished_same i c done (Some work) w = either work.announces
+    (λ t. rw t refl)
+    (λ f. rw f (at_same (stream_of (number_of c) w) w (λ s. with_landed i c done s w) (λ s. refl)))
+
 effect_same : (w : World) (a : Act) (r : Reply) → NoneGot a r → Same w (effect w a r)
 effect_same w (acts.GetHandle name) (acts.Got (Ok h)) n = absurd n
 effect_same w (acts.FreeHandle h) (acts.Removed (Ok file)) n = named_same h w _ (λ i c. refl)
@@ -97,6 +113,12 @@ effect_same w (acts.Supply h port) (acts.Supplied (Ok Did)) n = port_same h port
 effect_same w (acts.Release h port) (acts.Acted (Ok Did)) n = port_same h port w _ (λ i c p. unmade_same (in_port (seen w.headers) p) w)
 effect_same w (acts.HandOver h port) (acts.Acted (Ok Did)) n = port_same h port w _ (λ i c p. over_same p w)
 effect_same w (acts.HandBack h port) (acts.Acted (Ok Did)) n = port_same h port w _ (λ i c p. back_same i c p p.state.link w)
+effect_same w acts.Grant (acts.Granted (grants.Granted h)) n = changed_same granted_units (first_waiter w.components) w
+effect_same w acts.Preempt (acts.Preempted (losses.Victim h)) n = changed_same preempted_units (victim w.components) w
+effect_same w (acts.Attach h file) (acts.Plain (Ok done)) n = named_same h w _ (λ i c. refl)
+effect_same w (acts.Claim h) (acts.Claimed (Ok (ClaimedWork work))) n = named_same h w _ (λ i c. refl)
+effect_same w (acts.Finish done) acts.Finished n =
+    at_same (place_numbered done.component w.components) w _ (λ i. at_same (slice_get w.components i) w (λ c. finished i c done w) (λ c. finished_same i c done c.work w))
 effect_same w _ _ n = refl
 
 outcome_same : (w : World) (a : Act) (r : Reply) (v : World) → NoneGot a r → Outcome w (turn w a r) v → Same w v

@@ -53,3 +53,5 @@ asked at (lines.Over port) = acts.HandOver (handle_of at.names port.component) p
 asked at (lines.Back port) = acts.HandBack (handle_of at.names port.component) port.index
 asked at (lines.Take component) = acts.TakeNote (handle_of at.names component)
 asked at (lines.End component) = acts.Progress (handle_of at.names component)
+asked at lines.Grant = acts.Grant
+asked at lines.Preempt = acts.Preempt

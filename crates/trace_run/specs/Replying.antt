@@ -9,6 +9,10 @@ use Rattle.il_machine.specs.declared.answer.Acted.{Acted}
 use Rattle.il_machine.specs.declared.answer.Acted.TheVariants as acted
 use Rattle.il_machine.specs.declared.answer.Why.{Why}
 use Rattle.il_machine.specs.declared.answer.Why.TheVariants as machine
+use Rattle.il_machine.specs.declared.answer.Granted.{Granted}
+use Rattle.il_machine.specs.declared.answer.Granted.TheVariants as grants
+use Rattle.il_machine.specs.declared.answer.Preempted.{Preempted}
+use Rattle.il_machine.specs.declared.answer.Preempted.TheVariants as losses
 use Rattle.il_machine.specs.Components.{has_eos}
 use Rattle.il_machine.specs.Notes.{Took, TookNote, TookNone, TookBusy, TakenEvent, TakenEmpty, TakenFilled}
 use Rattle.il_machine.specs.Acts.{Reply}
@@ -20,7 +24,7 @@ use Rattle.act_text.specs.declared.reply.TextWhy.{TextWhy}
 use Rattle.act_text.specs.declared.reply.TextWhy.TheVariants as whys
 use Rattle.script_lang.specs.Forms.{flag_word}
 use Rattle.script_lang.specs.Hex.{bytes_word}
-use Rattle.trace_run.specs.Naming.{Names, port_name, header_name}
+use Rattle.trace_run.specs.Naming.{Names, component_name, port_name, header_name}
 use Rattle.trace_run.specs.declared.names.NamedComponent.{NamedComponent}
 
 -- a reply that names no header, or a header that came back
@@ -56,12 +60,28 @@ named_why components (machine.Enough have need) = Some (whys.Enough have need)
 named_why components machine.NoVictim = Some whys.NoVictim
 named_why components (machine.Events room need) = Some (whys.Events room need)
 
+abbrev pub granted_to : List ℕ → LineReply
+granted_to component = Plain (texts.Granted component)
+
+abbrev pub taken_from : List ℕ → LineReply
+taken_from component = Plain (texts.Victim component)
+
 abbrev pub idle_reply : TextWhy → LineReply
 idle_reply why = Plain (texts.Idle why)
 
 abbrev pub acted_reply : List NamedComponent → Acted → Option LineReply
 acted_reply components acted.Did = Some (Plain texts.Did)
 acted_reply components (acted.Idle why) = option_map idle_reply (named_why components why)
+
+-- who was granted units, by name
+abbrev pub granted_reply : List NamedComponent → Granted → Option LineReply
+granted_reply components (grants.Granted h) = option_map granted_to (component_name components h.generation)
+granted_reply components (grants.Idle why) = option_map idle_reply (named_why components why)
+
+-- who loses units, by name
+abbrev pub preempted_reply : List NamedComponent → Preempted → Option LineReply
+preempted_reply components (losses.Victim h) = option_map taken_from (component_name components h.generation)
+preempted_reply components (losses.Idle why) = option_map idle_reply (named_why components why)
 
 -- which end of a tunnel makes its headers
 abbrev pub is_input_end : Supplier → Bool
@@ -102,7 +122,11 @@ printed names (acts.Allocated result) = or_call_error (λ header. done) result
 printed names (acts.Used result) = or_error (λ header. done) result
 printed names (acts.Freed result) = or_error (λ memory. done) result
 printed names (acts.Took result) = or_error (took_reply names) result
+printed names (acts.Granted answer) = granted_reply names.components answer
+printed names (acts.Preempted answer) = preempted_reply names.components answer
 -- no line asks for these
+printed names (acts.Claimed result) = None
+printed names acts.Finished = None
 printed names (acts.Progressed result) = None
 printed names (acts.Parameter result) = None
 printed names acts.Ended = None

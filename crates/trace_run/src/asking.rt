@@ -9,8 +9,8 @@ ghost use Rattle.trace_run.specs.Standing.{graph_kept, AskReplied, IsNamedGraph,
 
 use crate::OutOfMemory;
 use crate::acts::{
-    back, drop_tunnel, free, over, port, release, run, send, set_config, set_definition,
-    set_parameter, state, supply, tunnel,
+    back, drop_tunnel, free, grant, over, port, preempt, release, run, send, set_config,
+    set_definition, set_parameter, state, supply, tunnel,
 };
 use crate::client::TraceClient;
 use crate::names::{NamedComponent, handle_of, port_id};
@@ -51,6 +51,8 @@ pub fn ask(
         TextAct::Release(at) => Ok(release(graph, components, port_id(components, at))),
         TextAct::Over(at) => Ok(over(graph, components, port_id(components, at))),
         TextAct::Back(at) => Ok(back(graph, components, port_id(components, at))),
+        TextAct::Grant => Ok(grant(graph, components)),
+        TextAct::Preempt => Ok(preempt(graph, components)),
         TextAct::Take(_) | TextAct::End(_) => Ok(TextReply::NotOut),
     }
 }

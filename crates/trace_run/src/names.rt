@@ -44,7 +44,7 @@ pub fn port_id(components: &[NamedComponent], port: &PortName) -> PortId
 }
 
 /// The name of the component of a number.
-fn component_name(components: &[NamedComponent], number: u64) -> Option<Name>
+pub fn component_name(components: &[NamedComponent], number: u64) -> Option<Name>
     ensures { result ≡ component_name components.now number }
 {
     let found = components

@@ -1,12 +1,12 @@
 ghost use Rattle.std.specs.Prelude.{◌≡◌, List, Some, IfOk, IsSome};
 ghost use Rattle.il_machine.specs.Acts as acts;
 ghost use Rattle.trace_run.specs.Naming.{Names, NamedHeader};
-ghost use Rattle.trace_run.specs.Replying.{Plain, printed, acted_reply, named_why};
+ghost use Rattle.trace_run.specs.Replying.{Plain, printed, acted_reply, granted_reply, preempted_reply, named_why};
 ghost use Rattle.trace_run.specs.Standing.{IsNamedAnswer};
 
-use crate::names::{NamedComponent, port_name};
+use crate::names::{NamedComponent, component_name, port_name};
 use act_text::{TextReply, TextWhy};
-use il_machine::{Acted, Why};
+use il_machine::{Acted, Granted, Preempted, Why};
 use omx_types::OmxError;
 
 /// The reply of a call that says no more than that it was done.
@@ -37,6 +37,34 @@ pub fn answer_reply(components: &[NamedComponent], answer: Result<Acted, OmxErro
     match answer {
         Ok(acted) => acted_reply(components, acted),
         Err(error) => TextReply::Error(error),
+    }
+}
+
+/// The reply of a grant, with the component by its name.
+pub fn granted_reply(components: &[NamedComponent], answer: Granted) -> TextReply
+    requires { IsSome (granted_reply components.now answer) }
+    ensures { granted_reply components.now answer ≡ Some (Plain result) }
+{
+    match answer {
+        Granted::Granted(waiter) => match component_name(components, waiter.generation) {
+            Some(component) => TextReply::Granted(component),
+            None => unreachable!(),
+        },
+        Granted::Idle(why) => TextReply::Idle(named_why(components, why)),
+    }
+}
+
+/// The reply of a loss, with the component by its name.
+pub fn preempted_reply(components: &[NamedComponent], answer: Preempted) -> TextReply
+    requires { IsSome (preempted_reply components.now answer) }
+    ensures { preempted_reply components.now answer ≡ Some (Plain result) }
+{
+    match answer {
+        Preempted::Victim(victim) => match component_name(components, victim.generation) {
+            Some(component) => TextReply::Victim(component),
+            None => unreachable!(),
+        },
+        Preempted::Idle(why) => TextReply::Idle(named_why(components, why)),
     }
 }
 

@@ -46,3 +46,9 @@ pub returns-in-Back-clause-replied : goal.returns-in-Back-clause-replied
 returns-in-Back-clause-replied c headers = as_asked c.args.components.now headers c.back.result (graph_kept c.args.graph.now) (graph_kept c.back.new.graph) c.args.act.now _ c.in-Back.is
     (at_name c.args.components.now (λ w x. acts.HandBack x.handle x.index) c.back.result (graph_kept c.args.graph.now) (graph_kept c.back.new.graph) c.port_id-in-Back.result (port_in c.args.components.now c.in-Back.at) c.port_id-in-Back.ensures
     c.back.ensures)
+
+pub returns-in-Grant-clause-replied : goal.returns-in-Grant-clause-replied
+returns-in-Grant-clause-replied c headers = as_asked c.args.components.now headers c.grant.result (graph_kept c.args.graph.now) (graph_kept c.grant.new.graph) c.args.act.now _ c.in-Grant.is c.grant.ensures
+
+pub returns-in-Preempt-clause-replied : goal.returns-in-Preempt-clause-replied
+returns-in-Preempt-clause-replied c headers = as_asked c.args.components.now headers c.preempt.result (graph_kept c.args.graph.now) (graph_kept c.preempt.new.graph) c.args.act.now _ c.in-Preempt.is c.preempt.ensures

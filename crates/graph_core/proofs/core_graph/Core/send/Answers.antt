@@ -1,10 +1,12 @@
 use Rattle.std.proofs.Common.{◌≡◌, ◌+◌, ◌≤◌, ◌<◌, length, slice_get, Some, sym, ◌∙◌, ap, subst}
 use Rattle.std.proofs.lemmas.Option.{slice_get-get_or}
 use Rattle.il_machine.specs.World.{Component}
+use Rattle.il_machine.specs.Look.{look}
+use Rattle.il_machine.specs.Units.{free_units}
 use Rattle.il_machine.specs.Commands.{sent}
 use Rattle.il_machine.specs.Sound.{IsSound}
 use Rattle.machine_laws.proofs.Sending.{sound_sent, change_sent, fair_sent}
-use Rattle.machine_laws.proofs.Units.{IsFair, resources_of}
+use Rattle.machine_laws.proofs.Units.{IsFair, fair_more, resources_of}
 use Rattle.machine_laws.proofs.Change.{out_there}
 use Rattle.graph_core.proofs.Stepping.{at_world}
 use Rattle.omx_types.specs.declared.state.State.TheVariants.{WaitForResources}
@@ -46,7 +48,8 @@ invariant_of-self g c =
     (rw c.send.ensures.component (change_sent c.args.command (component_of e))) (rw c.send.ensures.component (sound_sent (look_of G) c.args.command (component_of e) S r))
     (λ w s sound.
     let t : slice_get w.components c.args.place ≡ Some (component_of e) = at_world g.C.Client.progress G c.args.place e w s at in
-    subst (IsFair w.waits w.waits (component_of e)) (sym c.send.ensures.component) (fair_sent w.waits c.args.command (component_of e) ((resources_of w sound).each c.args.place (component_of e) t) (out_there w c.args.place (component_of e) sound t)))
+    subst (IsFair (free_units (look w)) w.waits w.waits (component_of e)) (sym c.send.ensures.component)
+    (fair_more (free_units (look w)) w.waits w.waits (component_of e) (sent c.args.command (component_of e)) (fair_sent w.waits c.args.command (component_of e) ((resources_of w sound).each c.args.place (component_of e) t) (out_there w c.args.place (component_of e) sound t))))
     (waiters_set i.components.items c.args.place e c.send.new.self i.waits i.waits at (subst (λ (x : Component). i.waits + weight (is_going_to WaitForResources x) ≤ i.waits + weight (is_going_to WaitForResources (component_of e))) (sym c.send.ensures.component) (few_sent i.waits c.args.command (component_of e))) c.self.invariant.numbers)
 
 pub returns-clause-change : goal.returns-clause-change
