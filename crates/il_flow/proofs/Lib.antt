@@ -1,0 +1,9 @@
+pub mod Bytes
+pub mod Coming
+pub mod Counting
+pub mod Laying
+pub mod Least
+pub mod Plain
+pub mod Sameness
+pub mod Stepped
+pub mod Told

@@ -1,0 +1,13 @@
+//! The work of a component: the headers for one step of its part go out with the part, the step is done away from the graph, and they
+//! come back.
+#![tactic(auto)]
+
+mod done;
+mod frames;
+mod layout;
+mod parts;
+mod running;
+mod work;
+
+pub use done::Done;
+pub use work::Work;
