@@ -71,6 +71,9 @@ refilled bytes flags written h = record h {
 abbrev pub cleared : BufferHeader → BufferHeader
 cleared h = record h { held = empty_held h.held.number h.held.size h.held.memory }
 
+abbrev pub with_mark : Option Mark → BufferHeader → BufferHeader
+with_mark mark h = record h { held = record h.held { mark = mark } }
+
 abbrev pub marked : Mark → BufferHeader → BufferHeader
 marked mark h = record h { held = record h.held { mark = Some mark } }
 

@@ -1,7 +1,7 @@
 ghost use Rattle.std.specs.Prelude.{◌≡◌, ◌<◌, ◌≤◌, length, Ok, Err, OnOk, OnErr};
 ghost use Rattle.std.specs.Borrow.{sem};
 ghost use Rattle.header_core.specs.LendingHeader.{lends_content};
-ghost use Rattle.header_core.specs.BufferHeader.{bytes_of, is_clients, own_memory, fresh, filled, cleared, marked, advanced, IsSized};
+ghost use Rattle.header_core.specs.BufferHeader.{bytes_of, is_clients, own_memory, fresh, filled, cleared, marked, with_mark, advanced, IsSized};
 
 use crate::key::Key;
 use crate::memory::Store;
@@ -149,6 +149,13 @@ impl Header {
         ensures { self.new ≡ marked mark self.old }
     {
         self.mark = Some(mark);
+    }
+
+    /// Sets the mark, or takes it away.
+    pub fn set_mark(&mut self, mark: Option<Mark>)
+        ensures { self.new ≡ with_mark mark self.old }
+    {
+        self.mark = mark;
     }
 
     /// Drops so many bytes at the front of the content.

@@ -3,6 +3,7 @@ pub mod Coming
 pub mod Counting
 pub mod Laying
 pub mod Least
+pub mod Picked
 pub mod Plain
 pub mod Sameness
 pub mod Stepped

@@ -1,4 +1,5 @@
 pub mod Layouts
+pub mod Picking
 pub mod Places
 pub mod Sound
 pub mod Steps

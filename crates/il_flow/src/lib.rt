@@ -6,8 +6,10 @@ mod done;
 mod frames;
 mod layout;
 mod parts;
+mod picking;
 mod running;
 mod work;
 
 pub use done::Done;
+pub use picking::{announcement, pick_up};
 pub use work::Work;
