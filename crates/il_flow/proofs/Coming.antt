@@ -1,16 +1,16 @@
 -- What comes into a part in a step.
-use Rattle.std.proofs.Common.{◌≡◌, ◌≢◌, ℕ, suc, zero, ◌+◌, ◌-◌, ◌*◌, ◌<◌, ◌≤◌, Bool, true, false, not, ◌&&◌, nat_eq, nat_lt, if◌then◌else◌, List, [], ◌∷◌, length, replicate, take, refl, ap, sym, subst, ◌∙◌, arith, ◌⊎◌, inl, inr}
+use Rattle.std.proofs.Common.{◌≡◌, ℕ, ◌+◌, ◌*◌, ◌<◌, ◌≤◌, Bool, true, false, not, ◌&&◌, nat_eq, nat_lt, if◌then◌else◌, List, [], ◌∷◌, length, replicate, take, refl, ap, sym, subst, ◌∙◌, arith}
 use Rattle.std.specs.Prelude.{Option, Some, None}
 use Rattle.std.specs.List.{find}
 use Rattle.std.proofs.lemmas.Bool.Decides.{nat_tests}
 use Rattle.omx_types.specs.Formats.{frame_bytes_of}
-use Rattle.part_api.specs.Streams.{Incoming, Shape, silence, sizes_of, with_input}
+use Rattle.part_api.specs.Streams.{Incoming, Shape, silence, sizes_of}
 use Rattle.part_api.specs.Terms.{Terms}
 use Rattle.il_machine.specs.Claims.{Carried}
 use Rattle.il_machine.specs.Stepping.{bytes_at, format_at, front_of, input_piece, is_for_port, is_in, is_last, zeros_at}
 use Rattle.header_core.specs.BufferHeader.{BufferHeader}
 use Rattle.il_flow.specs.declared.layout.Layout.{Layout}
-use Rattle.il_flow.specs.Layouts.{HasLayout, IsLaidOut}
+use Rattle.il_flow.specs.Layouts.{IsLaidOut}
 use Rattle.il_flow.specs.Places.{carried, carried_from}
 use Rattle.il_flow.specs.Steps.{came_in, taken_at, taken_by, taken_from}
 
@@ -77,7 +77,7 @@ after a b e l = grind (arith, nat_tests)
 at_first : (t : Terms) (n port : ℕ) (place : Option BufferHeader) (places : List (Option BufferHeader)) (incoming : Incoming) (input : ℕ) (same : Bool) → nat_eq port input ≡ same
     → port ≤ input → input < length t.inputs
     → (port + 1 ≤ input → (taken_from t n (port + 1) places (taken_by t n port place incoming)).input input
-        ≡ by_front t n ((taken_by t n port place incoming).input input) input (find (is_for_port input) (carried_from (port + 1) places)))
+    ≡ by_front t n ((taken_by t n port place incoming).input input) input (find (is_for_port input) (carried_from (port + 1) places)))
     → (taken_from t n port (place ∷ places) incoming).input input ≡ by_front t n (incoming.input input) input (find (is_for_port input) (carried_from port (place ∷ places)))
 at_first t n port place places incoming input true e l b rest =
     let here : port < length t.inputs = omega (arith, l, b) in
@@ -109,4 +109,3 @@ came t s l n places input laid b =
     at_input t n 0 places (silence (sizes_of s n)) input (omega arith) b
     ∙ ap (λ bytes. by_front t n (replicate (n * bytes) 0) input (find (is_for_port input) (carried_from 0 places))) frame
     ∙ by_zeros t n input (find (is_for_port input) (carried_from 0 places))
-

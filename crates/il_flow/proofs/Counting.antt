@@ -1,8 +1,7 @@
 -- The frames of a step are within what each header offers.
-use Rattle.std.proofs.Common.{◌≡◌, ℕ, suc, zero, ◌+◌, ◌-◌, ◌*◌, ◌/◌, ◌<◌, ◌≤◌, min, Bool, true, false, not, ◌&&◌, ◌||◌, nat_lt, List, [], ◌∷◌, length, map, refl, ap, sym, subst, ◌∙◌, arith}
+use Rattle.std.proofs.Common.{◌≡◌, ℕ, ◌+◌, ◌*◌, ◌/◌, ◌<◌, ◌≤◌, Bool, true, false, not, ◌&&◌, nat_lt, List, [], ◌∷◌, length, refl, sym, subst, ◌∙◌, arith}
 use Rattle.std.specs.Prelude.{Option, Some, None, IfSome, is_some}
-use Rattle.std.specs.List.{AllByRecursion, filter, list_any}
-use Rattle.std.proofs.Math.ListN.{get_or}
+use Rattle.std.specs.List.{AllByRecursion}
 use Rattle.std.proofs.Math.Nat.{div-mul-le_self, mul-le-mul_left, mul-le-mul_right}
 use Rattle.std.proofs.lemmas.Bool.Decides.{nat_tests}
 use Rattle.omx_types.specs.declared.kind.Kind.{Kind}
@@ -16,8 +15,8 @@ use Rattle.il_machine.specs.Claims.{Carried}
 use Rattle.il_machine.specs.Stepping.{all_frames_at, frames_at, has_input, is_in, is_last}
 use Rattle.header_core.specs.BufferHeader.{BufferHeader, IsSized}
 use Rattle.il_flow.specs.declared.layout.Layout.{Layout}
-use Rattle.il_flow.specs.Layouts.{HasLayout, IsLaidOut, ports_of}
-use Rattle.il_flow.specs.Places.{EachAt, EachFrom, Offer, carried, carried_at, carried_from}
+use Rattle.il_flow.specs.Layouts.{HasLayout, IsLaidOut}
+use Rattle.il_flow.specs.Places.{EachFrom, Offer, carried, carried_from}
 use Rattle.il_flow.specs.Sound.{HaveOutputs}
 use Rattle.il_flow.specs.Steps.{frames_by}
 

@@ -1,5 +1,5 @@
 -- The layout of a part whose formats fit.
-use Rattle.std.proofs.Common.{◌≡◌, ℕ, suc, zero, ◌+◌, ◌-◌, ◌*◌, ◌<◌, ◌≤◌, max, true, false, List, [], ◌∷◌, ◌++◌, length, refl, ap, sym, subst, ◌∙◌, arith}
+use Rattle.std.proofs.Common.{◌≡◌, ℕ, suc, zero, ◌-◌, ◌<◌, ◌≤◌, max, true, false, List, [], ◌∷◌, length, ap, sym, subst, ◌∙◌, arith}
 use Rattle.std.specs.List.{AllByRecursion}
 use Rattle.std.proofs.Math.ListN.{get_or, get_or-append}
 use Rattle.std.proofs.Math.Seq.{get_or-append_right}
@@ -11,9 +11,8 @@ use Rattle.part_api.specs.Terms.{Terms}
 use Rattle.part_forms.specs.Shapes.{shape_of}
 use Rattle.audio_parts.specs.Kinds.{MayBe}
 use Rattle.audio_parts.specs.Shapes.{HasFramesOf, IsFrame, IsLawful}
-use Rattle.il_machine.specs.Stepping.{format_at}
 use Rattle.il_flow.specs.declared.layout.Layout.{Layout}
-use Rattle.il_flow.specs.Layouts.{HasLayout, IsLaidOut, ports_of}
+use Rattle.il_flow.specs.Layouts.{IsLaidOut}
 
 pub all_at : {A : Type 0} (P : A → Type 0) (xs : List A) (i : ℕ) (d : A) → AllByRecursion P xs → i < length xs → P (get_or xs i d)
 all_at P [] i d h l = absurd (omega (arith, l))

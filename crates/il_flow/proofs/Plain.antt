@@ -1,5 +1,5 @@
 -- A plain function looks at nothing but the part's inputs, and at the file of a source.
-use Rattle.std.proofs.Common.{◌≡◌, ℕ, suc, zero, ◌+◌, ◌-◌, ◌*◌, ◌/◌, ◌<◌, ◌≤◌, max, true, Bool, false, nat_lt, if◌then◌else◌, List, [], ◌∷◌, length, map, refl, ap, sym, ◌∙◌, arith, replicate}
+use Rattle.std.proofs.Common.{◌≡◌, ℕ, suc, ◌+◌, ◌-◌, ◌<◌, max, true, Bool, false, List, [], ◌∷◌, length, map, refl, ap, ◌∙◌, arith}
 use Rattle.std.specs.Prelude.{Option, Some, None}
 use Rattle.std.specs.Simd.Lanes.{zip2}
 use Rattle.std.proofs.lemmas.List.{length-replicate}
@@ -14,7 +14,6 @@ use Rattle.part_forms.specs.Mixing.{longest, mixed_bytes, padded, sums}
 use Rattle.part_forms.specs.Shapes.{shape_by, shape_of}
 use Rattle.audio_parts.specs.Kinds.{default_factors}
 use Rattle.audio_parts.specs.Shapes.{IsLawful}
-use Rattle.il_machine.specs.Claims.{Carried}
 use Rattle.il_machine.specs.Stepping.{is_in, stepped}
 use Rattle.header_core.specs.BufferHeader.{BufferHeader}
 use Rattle.il_flow.specs.Places.{carried, carried_from, changed_from}

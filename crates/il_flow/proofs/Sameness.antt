@@ -1,12 +1,12 @@
 -- A step leaves each header what it is, but for what it carries.
-use Rattle.std.proofs.Common.{◌≡◌, ℕ, ◌+◌, ◌<◌, Bool, true, false, List, [], ◌∷◌, length, refl, nat_lt}
+use Rattle.std.proofs.Common.{◌≡◌, ℕ, ◌+◌, Bool, true, false, List, [], ◌∷◌, length, refl, nat_lt}
 use Rattle.std.specs.Prelude.{Option, Some, None}
 use Rattle.part_api.specs.Streams.{Incoming, Shape}
 use Rattle.part_api.specs.Terms.{Terms}
 use Rattle.header_core.specs.declared.memory.Store.{Store}
 use Rattle.header_core.specs.declared.memory.Store.TheVariants.{Own, Block}
 use Rattle.header_core.specs.BufferHeader.{BufferHeader, is_clients, with_bytes}
-use Rattle.il_flow.specs.Places.{AreSame, AreWithin, EachFrom, IsSame, changed_from}
+use Rattle.il_flow.specs.Places.{AreSame, AreWithin, IsSame, changed_from}
 use Rattle.il_flow.specs.Steps.{stepped_header}
 
 same_store : (bytes : List ℕ) (store : Store) → is_clients (with_bytes bytes store) ≡ is_clients store

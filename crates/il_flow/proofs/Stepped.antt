@@ -1,10 +1,9 @@
 -- A work's step is the machine's.
-use Rattle.std.proofs.Common.{◌≡◌, ℕ, suc, zero, ◌+◌, ◌-◌, ◌*◌, ◌<◌, ◌≤◌, Bool, true, false, not, if◌then◌else◌, List, [], ◌∷◌, ◌++◌, length, map, take, drop, refl, ap, sym, subst, ◌∙◌, arith}
-use Rattle.std.specs.Prelude.{Option, Some, None, option_map, MatchOption, is_some}
+use Rattle.std.proofs.Common.{◌≡◌, ℕ, ◌+◌, ◌-◌, ◌*◌, ◌≤◌, Bool, true, false, List, [], ◌++◌, length, map, take, drop, refl, ap, sym, subst, ◌∙◌, arith}
+use Rattle.std.specs.Prelude.{Option, Some, None, option_map, is_some}
 use Rattle.std.specs.Io.KnownBytes.{append_known}
 use Rattle.std.proofs.Math.ListN.{get_or}
 use Rattle.std.proofs.Math.Seq.{get_or-append_right}
-use Rattle.omx_types.specs.declared.format.Format.{Format}
 use Rattle.omx_types.specs.declared.format.Format.TheVariants.{Auto}
 use Rattle.omx_types.specs.declared.fault.PartFault.{PartFault}
 use Rattle.omx_types.specs.declared.fault.PartFault.TheVariants.{Read, Write, Short}
@@ -13,25 +12,24 @@ use Rattle.omx_types.specs.Formats.{frame_bytes_of}
 use Rattle.part_api.specs.declared.attached.Attached.{Attached}
 use Rattle.part_api.specs.declared.attached.Attached.TheVariants.{From, To}
 use Rattle.part_api.specs.Streams.{Incoming, Shape, with_file}
-use Rattle.part_api.specs.Terms.{Terms, Writing, begun, written}
+use Rattle.part_api.specs.Terms.{Terms, begun}
 use Rattle.part_forms.specs.Kinds.{is_source}
 use Rattle.part_forms.specs.Shapes.{shape_of}
 use Rattle.part_forms.specs.Sinking.{writes_of}
 use Rattle.audio_parts.specs.FileTerms.{IsOfKind, IsOfTerms}
 use Rattle.audio_parts.specs.Ready.{FitsFile, IsReady}
 use Rattle.audio_parts.specs.Shapes.{IsLawful}
-use Rattle.il_machine.specs.Lists.{least}
 use Rattle.il_machine.specs.Claims.{Carried}
 use Rattle.il_machine.specs.Parts.{bytes_given, file_format, frames_left, frames_of}
 use Rattle.il_machine.specs.World.{Stream}
-use Rattle.il_machine.specs.Whole.{HasDone, IsWriting, PartSeen}
-use Rattle.il_machine.specs.Stepping.{Done, Gives, IsBrokenStep, IsTold, IsWholeStep, all_frames_at, format_at, incoming, input_piece, inputs_ended, is_fault_of, is_over, step_frames, stepped, text_of}
+use Rattle.il_machine.specs.Whole.{HasDone, PartSeen}
+use Rattle.il_machine.specs.Stepping.{Done, Gives, IsBrokenStep, IsWholeStep, format_at, incoming, input_piece, inputs_ended, is_fault_of, is_over, step_frames, stepped, text_of}
 use Rattle.header_core.specs.BufferHeader.{BufferHeader}
 use Rattle.il_flow.specs.declared.layout.Layout.{Layout}
 use Rattle.il_flow.specs.Layouts.{IsLaidOut}
-use Rattle.il_flow.specs.Places.{carried_from, changed_from}
-use Rattle.il_flow.specs.Steps.{IsLeft, WasBroken, WasDone, came_in, frames_by, over_by, stepped_header}
-use Rattle.il_flow.specs.Works.{ComesBack, gone_through}
+use Rattle.il_flow.specs.Places.{carried_from}
+use Rattle.il_flow.specs.Steps.{IsLeft, WasBroken, WasDone, came_in, frames_by, over_by}
+use Rattle.il_flow.specs.Works.{ComesBack}
 use Rattle.il_flow.proofs.Coming.{came}
 use Rattle.il_flow.proofs.Counting.{are_there, source_ports}
 use Rattle.il_flow.proofs.Laying.{all_at}
@@ -106,7 +104,7 @@ headers_are t sh l s p p' left n over text piece carries before after is w file 
     ap (carried_from 0) w.headers
     ∙ all_stepped t sh n (with_file w.piece (came_in t sh n before)) (incoming t n (carried_from 0 before) piece) over 0 before
     (λ output. ap (λ x. x.plain (with_file w.piece (came_in t sh n before)) output) is.shape
-        ∙ plain_same t (with_file w.piece (came_in t sh n before)) (incoming t n (carried_from 0 before) piece) output is.lawful (λ input b. came t sh l n before input is.laid b) file)
+    ∙ plain_same t (with_file w.piece (came_in t sh n before)) (incoming t n (carried_from 0 before) piece) output is.lawful (λ input b. came t sh l n before input is.laid b) file)
 
 text_of_step : (t : Terms) (sh : Shape) (l : Layout) (s : Stream) (p : PartSeen) (left : Option ℕ) (n : ℕ) (before : List (Option BufferHeader)) → IsSet t sh l s p left
     → writes_of (begun n p.writing) ((came_in t sh n before).input 0) ≡ text_of t s n (carried_from 0 before)
@@ -215,7 +213,14 @@ pub record IsBegun (t : Terms) (sh : Shape) (l : Layout) (p : PartSeen) (left : 
 
 is_set : (t : Terms) (sh : Shape) (l : Layout) (s : Stream) (p : PartSeen) (left : Option ℕ) → IsBegun t sh l p left → HasDone t false s p → IsSet t sh l s p left
 is_set t sh l s p left b h = record {
-  lawful = b.lawful; fits = b.fits; shape = b.shape; laid = b.laid; writing = b.writing; some = b.some; left_is = b.left_is; has_done = h;
+  lawful = b.lawful;
+  fits = b.fits;
+  shape = b.shape;
+  laid = b.laid;
+  writing = b.writing;
+  some = b.some;
+  left_is = b.left_is;
+  has_done = h;
 }
 
 pub comes_back : (t : Terms) (sh : Shape) (l : Layout) (p p' : PartSeen) (left : Option ℕ) (n : ℕ) (over : Bool) (text : List ℕ) (carries : Incoming → Type 0)

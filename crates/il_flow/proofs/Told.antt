@@ -1,16 +1,13 @@
 -- What has gone through a part and its file, once a step was done.
-use Rattle.std.proofs.Common.{◌≡◌, ℕ, suc, zero, ◌+◌, ◌-◌, ◌*◌, ◌<◌, ◌≤◌, Bool, true, false, not, if◌then◌else◌, List, [], ◌∷◌, ◌++◌, length, take, drop, refl, ap, sym, subst, ◌∙◌, arith, append_assoc}
+use Rattle.std.proofs.Common.{◌≡◌, ℕ, ◌+◌, ◌-◌, ◌≤◌, Bool, true, false, not, if◌then◌else◌, List, [], ◌∷◌, ◌++◌, length, take, drop, refl, ap, sym, subst, ◌∙◌, arith, append_assoc}
 use Rattle.std.specs.Prelude.{Option, Some, None, option_map, MatchOption}
 use Rattle.std.specs.Io.KnownBytes.{append_known}
 use Rattle.std.proofs.lemmas.List.{drop-drop}
 use Rattle.omx_types.specs.declared.format.Format.{Format}
-use Rattle.omx_types.specs.declared.kind.Kind.{Kind}
-use Rattle.omx_types.specs.declared.kind.Kind.TheVariants as kinds
 use Rattle.part_api.specs.declared.attached.Attached.{Attached}
 use Rattle.part_api.specs.declared.attached.Attached.TheVariants.{From, To}
 use Rattle.part_api.specs.Steps.{ComesFirst}
 use Rattle.part_api.specs.Terms.{Terms, Writing, begun, written}
-use Rattle.part_forms.specs.Writing.{head_of}
 use Rattle.part_forms.specs.Sinking.{head_due, sink_text, writes_of}
 use Rattle.audio_parts.specs.FileTerms.{IsOfTerms}
 use Rattle.il_machine.specs.Lists.{is_empty}
@@ -67,9 +64,12 @@ sub_twice a b n = omega arith
 
 went_on : (t : Terms) (s : Stream) (n : ℕ) (piece text : List ℕ) (w : Writing) → IsWriting t s w → text ≡ writes_of (begun n (Some w)) piece
     → MatchOption (written (begun n (Some w))) ⊥ (IsWriting t (record s { frames = s.frames + n; written = s.written ++ text }))
-went_on t s n piece text w h e =
-    (h.0, subst (λ l. true ≡ not (is_empty (s.written ++ l))) (sym e) (is_headed s.written w.headed w.format w.planned w.left n piece h.1),
-        ap (λ k. k - n) h.2 ∙ sub_twice w.planned s.frames n, refl)
+went_on t s n piece text w h e = (
+  h.0,
+  subst (λ l. true ≡ not (is_empty (s.written ++ l))) (sym e) (is_headed s.written w.headed w.format w.planned w.left n piece h.1),
+  ap (λ k. k - n) h.2 ∙ sub_twice w.planned s.frames n,
+  refl,
+)
 
 -- so far the writing of a sink's file has come
 pub still_writing : (t : Terms) (s : Stream) (n : ℕ) (piece text : List ℕ) (old new : Option Writing) → MatchOption old ⊥ (IsWriting t s) → text ≡ writes_of (begun n old) piece

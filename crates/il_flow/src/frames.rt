@@ -97,13 +97,19 @@ fn are_last(layout: Layout, frames: u64, places: &[Option<Header>], port: u32) -
 {
     match places {
         [] => true,
-        [Some(header), ..] if port < layout.inputs && !is_last(layout, frames, port, header) => false,
+        [Some(header), ..] if port < layout.inputs && !is_last(layout, frames, port, header) =>
+            false,
         [_, rest @ ..] => are_last(layout, frames, rest, port + 1),
     }
 }
 
 /// Whether the part is over, once so many frames were taken.
-pub(crate) fn is_over(left: Option<u64>, layout: Layout, frames: u64, places: &[Option<Header>]) -> bool
+pub(crate) fn is_over(
+    left: Option<u64>,
+    layout: Layout,
+    frames: u64,
+    places: &[Option<Header>],
+) -> bool
     requires { length places.now ≤ 9 }
     ensures { (t : Terms) → HasLayout layout t → result ≡ over_by left t frames (carried_from 0 places.now) }
 {

@@ -297,13 +297,13 @@ pub(crate) fn step_part<P: Part>(
     ensures sizes { IfNone result (P.sizes part.new ≡ sizes_of (P.shape part.old) frames) }
     ensures done { IfNone result ((mid : P) × (P.writing mid ≡ begun frames (P.writing part.old))
         × WasDone (P.terms part.old) (P.shape part.old) frames over
-            (shown (P.left part.old) (P.rest part.old) (P.kept part.old) (P.writing part.old))
-            (shown (P.left part.new) (P.rest part.new) (P.kept part.new) (P.writing part.new))
-            (P.writes mid (came_in (P.terms part.old) (P.shape part.old) frames places.old)) (P.carries part.new) places.old places.new) }
+        (shown (P.left part.old) (P.rest part.old) (P.kept part.old) (P.writing part.old))
+        (shown (P.left part.new) (P.rest part.new) (P.kept part.new) (P.writing part.new))
+        (P.writes mid (came_in (P.terms part.old) (P.shape part.old) frames places.old)) (P.carries part.new) places.old places.new) }
     ensures broken { IfSome result (λ fault. (mid : P) × (P.writing mid ≡ begun frames (P.writing part.old))
         × WasBroken (shown (P.left part.old) (P.rest part.old) (P.kept part.old) (P.writing part.old))
-            (shown (P.left part.new) (P.rest part.new) (P.kept part.new) (P.writing part.new))
-            (P.writes mid (came_in (P.terms part.old) (P.shape part.old) frames places.old))) }
+        (shown (P.left part.new) (P.rest part.new) (P.kept part.new) (P.writing part.new))
+        (P.writes mid (came_in (P.terms part.old) (P.shape part.old) frames places.old))) }
     ensures untouched { IfSome result (λ fault. places.new ≡ places.old) }
     ensures cause { IfSome result (P.has_cause part.old part.new) }
 {

@@ -1,12 +1,11 @@
+use crate::done::Done;
+use crate::layout::Layout;
+use crate::running::{Stepped, do_step};
 use audio_parts::KindPart;
 use header_core::Header;
 use omx_types::Handle;
 use part_api::Part;
 use std::marker::Model;
-
-use crate::done::Done;
-use crate::layout::Layout;
-use crate::running::{Stepped, do_step};
 
 /// A header for each port of a component that gives one.
 pub(crate) type Places = [Option<Header>; 9];

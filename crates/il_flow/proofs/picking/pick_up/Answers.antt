@@ -1,4 +1,4 @@
-use Rattle.std.proofs.Common.{◌≡◌, length, arith, sym}
+use Rattle.std.proofs.Common.{◌≡◌, length, arith}
 use Rattle.port_stock.specs.Kept.{stocked}
 use Rattle.il_flow.specs.Layouts.{ports_of}
 use Rattle.il_flow.proofs.Picked.{picked_sized, picked_there, picked_within}

@@ -1,11 +1,9 @@
-use Rattle.std.proofs.Common.{◌≡◌, ℕ, Bool, ap, sym, subst, refl, ◌∙◌}
-use Rattle.std.specs.Prelude.{false}
+use Rattle.std.proofs.Common.{ap, sym, subst, refl, ◌∙◌}
 use Rattle.part_forms.specs.Kinds.{is_source}
 use Rattle.part_forms.specs.Sinking.{writes_of}
-use Rattle.audio_parts.specs.Ready.{IsReady}
 use Rattle.il_flow.specs.Layouts.{ports_of}
 use Rattle.il_flow.specs.Places.{AreSame, AreWithin, carried_from}
-use Rattle.il_flow.specs.Steps.{came_in, over_by, shown, stepped_header}
+use Rattle.il_flow.specs.Steps.{came_in, over_by, shown}
 use Rattle.part_api.specs.Streams.{with_file}
 use Rattle.il_flow.proofs.Sameness.{all_same, itself, still_within}
 use Rattle.il_flow.proofs.Stepped.{IsBegun, comes_back, comes_broken}
@@ -22,8 +20,13 @@ returns-in-Some-clause-step g c =
     let p' = shown (g.P.Part.left c.step_part.new.part) (g.P.Part.rest c.step_part.new.part) (g.P.Part.kept c.step_part.new.part) (g.P.Part.writing c.step_part.new.part) in
     let ready = c.is_by_terms.ensures.ready c.requires.fits in
     let begins : IsBegun t sh c.layout_of-layout.result p c.frames_left-left.result = record {
-      lawful = c.requires.lawful; fits = record { unfailed = refl; ports = ready.ports; file = ready.file }; shape = c.is_by_terms.ensures.shape; laid = c.layout_of-layout.ensures;
-      writing = c.is_by_terms.ensures.writing; some = c.frames_left-left.ensures.some; left_is = c.frames_left-left.ensures.value;
+      lawful = c.requires.lawful;
+      fits = record { unfailed = refl; ports = ready.ports; file = ready.file };
+      shape = c.is_by_terms.ensures.shape;
+      laid = c.layout_of-layout.ensures;
+      writing = c.is_by_terms.ensures.writing;
+      some = c.frames_left-left.ensures.some;
+      left_is = c.frames_left-left.ensures.value;
     } in
     let broken = c.in-Some.ensures.broken in
     let came = came_in t sh c.frames_for-frames.result c.args.places.now in
@@ -39,8 +42,8 @@ pub returns-in-None-clause-same : goal.returns-in-None-clause-same
 returns-in-None-clause-same g c =
     subst (AreSame c.args.places.now) (sym c.in-None.ensures.done.2.headers)
     (all_same (g.P.Part.terms c.args.part.now) (g.P.Part.shape c.args.part.now) c.frames_for-frames.result
-        (with_file c.in-None.ensures.done.2.piece (came_in (g.P.Part.terms c.args.part.now) (g.P.Part.shape c.args.part.now) c.frames_for-frames.result c.args.places.now))
-        c.is_over-over.result 0 c.args.places.now)
+    (with_file c.in-None.ensures.done.2.piece (came_in (g.P.Part.terms c.args.part.now) (g.P.Part.shape c.args.part.now) c.frames_for-frames.result c.args.places.now))
+    c.is_over-over.result 0 c.args.places.now)
 
 pub returns-in-None-clause-step : goal.returns-in-None-clause-step
 returns-in-None-clause-step g c =
@@ -50,8 +53,13 @@ returns-in-None-clause-step g c =
     let p' = shown (g.P.Part.left c.step_part.new.part) (g.P.Part.rest c.step_part.new.part) (g.P.Part.kept c.step_part.new.part) (g.P.Part.writing c.step_part.new.part) in
     let ready = c.is_by_terms.ensures.ready c.requires.fits in
     let begins : IsBegun t sh c.layout_of-layout.result p c.frames_left-left.result = record {
-      lawful = c.requires.lawful; fits = record { unfailed = refl; ports = ready.ports; file = ready.file }; shape = c.is_by_terms.ensures.shape; laid = c.layout_of-layout.ensures;
-      writing = c.is_by_terms.ensures.writing; some = c.frames_left-left.ensures.some; left_is = c.frames_left-left.ensures.value;
+      lawful = c.requires.lawful;
+      fits = record { unfailed = refl; ports = ready.ports; file = ready.file };
+      shape = c.is_by_terms.ensures.shape;
+      laid = c.layout_of-layout.ensures;
+      writing = c.is_by_terms.ensures.writing;
+      some = c.frames_left-left.ensures.some;
+      left_is = c.frames_left-left.ensures.value;
     } in
     let did = c.in-None.ensures.done in
     let came = came_in t sh c.frames_for-frames.result c.args.places.now in

@@ -1,7 +1,6 @@
-use Rattle.std.proofs.Common.{◌≡◌, ◌≤◌, ◌*◌, arith, ap, sym, subst, ◌∙◌}
+use Rattle.std.proofs.Common.{◌≤◌, ◌*◌, arith, ap, sym, subst, ◌∙◌}
 use Rattle.std.specs.Prelude.{is_some}
-use Rattle.il_flow.specs.Places.{Offer, carried_from}
-use Rattle.il_flow.specs.Steps.{frames_by}
+use Rattle.il_flow.specs.Places.{Offer}
 use Rattle.il_flow.proofs.Counting.{counted, offers}
 use Rattle.il_flow.proofs.running.frames_for.Goals as goal
 

@@ -1,7 +1,4 @@
 use Rattle.std.proofs.Common.{ap, max, ◌∙◌}
-use Rattle.il_flow.proofs.Coming.{came}
-use Rattle.il_flow.proofs.Plain.{all_stepped}
-use Rattle.il_flow.proofs.Stepped.{whole_step}
 use Rattle.il_flow.proofs.Laying.{laid_out}
 use Rattle.il_flow.proofs.running.layout_of.Goals as goal
 
