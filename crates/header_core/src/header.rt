@@ -122,15 +122,15 @@ impl Header {
     }
 
     /// Gives out all its memory to be written, of which the first so many bytes are its content, with the flags. A mark stays.
-    pub fn refill(&mut self, bytes: u32, flags: u32) -> &mut [u8]
+    pub fn refill(&mut self, bytes: u32, new_flags: u32) -> &mut [u8]
         requires { bytes ≤ self.old.held.size }
-        ensures* writes_back { sem 𝓛 (lends_content self.entry bytes flags result) }
+        ensures* writes_back { sem 𝓛 (lends_content self.entry bytes new_flags result) }
         ensures memory { result.now ≡ bytes_of self.old.store }
         ensures room { self.old.held.size ≤ length result.now }
     {
         self.start = 0;
         self.used = bytes;
-        self.flags = flags;
+        self.flags = new_flags;
         self.store.bytes_mut()
     }
 
