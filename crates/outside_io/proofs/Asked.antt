@@ -1,5 +1,5 @@
 -- How far a source was asked for bytes, over several reads.
-use Rattle.std.proofs.Common.{◌≡◌, ℕ, ◌≤◌, max, Option, Some, None, refl, ap, ◌∙◌, arith}
+use Rattle.std.proofs.Common.{◌≡◌, ℕ, ◌≤◌, max, Option, ap, ◌∙◌, arith}
 use Rattle.outside_io.specs.Asking.{asked_up_to, AsksWithin}
 
 pub asks-none : (asked : Option ℕ) (end : ℕ) → AsksWithin asked asked end

@@ -1,5 +1,5 @@
 -- How far a search asks for the bytes of a file.
-use Rattle.std.proofs.Common.{◌≡◌, ℕ, ◌+◌, ◌<◌, ◌≤◌, false, List, [], ◌∷◌, length, Option, Some, Result, Ok, Err, IfOk, refl, sym, ap, ◌∙◌, subst, arith, bytes_eq, codes}
+use Rattle.std.proofs.Common.{◌≡◌, ℕ, ◌+◌, ◌≤◌, false, List, [], ◌∷◌, length, Option, Some, Result, Ok, Err, IfOk, refl, sym, ap, ◌∙◌, subst, arith, bytes_eq, codes}
 use Rattle.outside_io.specs.Asking.{AsksWithin}
 use Rattle.outside_io.proofs.Asked.{asks-none, asks-then}
 use Rattle.omx_types.specs.declared.fault.WavFault.{WavFault}

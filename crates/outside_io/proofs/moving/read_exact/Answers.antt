@@ -1,5 +1,5 @@
-use Rattle.std.proofs.Common.{rules, ◌≡◌, ◌≤◌, ◌<◌, ◌+◌, ◌∙◌, length, length-drop, arith, Some}
-use Rattle.outside_io.proofs.Asked.{asks-none, asks-more}
+use Rattle.std.proofs.Common.{rules, ◌≡◌, ◌≤◌, ◌<◌, ◌+◌, ◌∙◌, length-drop, arith, Some}
+use Rattle.outside_io.proofs.Asked.{asks-more}
 use Rattle.outside_io.proofs.Filled.{filled-more, filled-within}
 use Rattle.outside_io.proofs.moving.read_exact.Goals as goal
 

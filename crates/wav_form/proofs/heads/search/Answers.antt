@@ -7,7 +7,7 @@ use Rattle.outside_io.specs.Stops.{GaveNothing}
 use Rattle.wav_form.specs.Passing.{IsPassedOver}
 use Rattle.wav_form.specs.Stops.{IfShort}
 use Rattle.outside_io.proofs.Asked.{asks-none, asks-then}
-use Rattle.wav_form.proofs.AskedFor.{first_is, first_named-other, asks_before, asks_behind, asks_found}
+use Rattle.wav_form.proofs.AskedFor.{first_named-other, asks_before, asks_behind, asks_found}
 use Rattle.wav_form.proofs.ChunkSearch.{StartsFrom, start_behind, answer_after-goes_on, answer_after-samples, answer_after-end, AnswersAs-samples, AnswersAs-end, AnswersAs-stop, Reached, Reached-behind, IfShort-gave, IfShort-reached, passed_behind, passed_from-known, answer_after-faults}
 use Rattle.wav_form.proofs.heads.search.Goals as goal
 
