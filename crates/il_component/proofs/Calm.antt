@@ -1,5 +1,5 @@
 -- Where no transition is pending at a component, nothing is exactly where its queue holds no places for it.
-use Rattle.std.proofs.Common.{◌≡◌, suc, Bool, true, false, not, nat_eq, List, [], ◌∷◌, sum_by, All, Option, Some, None, is_some, refl, sym, ◌∙◌, ap, arith}
+use Rattle.std.proofs.Common.{◌≡◌, ℕ, ◌+◌, suc, Bool, true, false, not, nat_eq, List, [], ◌∷◌, sum_by, All, Option, Some, None, is_some, refl, ◌∙◌, arith}
 use Rattle.std.specs.Bool.{IsTrue}
 use Rattle.std.proofs.Math.Logic.{◌↔◌}
 use Rattle.std.proofs.lemmas.Bool.Decides.{nat_tests}
@@ -11,7 +11,7 @@ use Rattle.il_machine.specs.declared.port.PortState.{PortState}
 use Rattle.il_machine.specs.World.{Work}
 use Rattle.il_machine.specs.Headers.{weight}
 use Rattle.il_machine.specs.Ports.{IsCalm, IsCalmPort, is_steady}
-use Rattle.il_machine.specs.Room.{port_places}
+use Rattle.il_machine.specs.Room.{port_places, work_places}
 use Rattle.il_component.specs.Places.{places_of}
 use Rattle.il_component.specs.Entries.{Entry, component_of, IsFit}
 
@@ -60,19 +60,20 @@ no_pending : (o : Option Pending) → is_some o ≡ false → o ≡ None
 no_pending None e = refl
 no_pending (Some p) e = absurd cc
 
-resting_places : (o : Option Pending) (loss_mark : Bool) (ps : List PortState) → o ≡ None → places_of o loss_mark ps None ≡ sum_by port_places ps
-resting_places None loss_mark ps e = omega arith
-resting_places (Some p) loss_mark ps e = absurd cc
+resting_places : (o : Option Pending) (loss_mark : Bool) (ps : List PortState) (work : Option Work) → o ≡ None → places_of o loss_mark ps work ≡ sum_by port_places ps + work_places work
+resting_places None loss_mark ps work e = omega arith
+resting_places (Some p) loss_mark ps work e = absurd cc
 
--- where no transition is pending, and no work is out
-pub calm_is : {C : Type 0} (e : Entry C) → IsFit e → e.work ≡ None → is_some e.pending ≡ false → IsTrue (nat_eq e.queues.places 0) ↔ IsCalm (component_of e)
-calm_is e F w o =
+-- where no transition is pending
+pub calm_is : {C : Type 0} (e : Entry C) (places : ℕ) → IsFit e → places ≡ work_places e.work → is_some e.pending ≡ false → IsTrue (nat_eq e.queues.places places) ↔ IsCalm (component_of e)
+calm_is e places F w o =
     let resting = no_pending e.pending o in
-    let held = F.places ∙ ap (λ (x : Option Work). places_of e.pending e.loss_mark e.ports x) w ∙ resting_places e.pending e.loss_mark e.ports resting in (
+    let held = F.places ∙ resting_places e.pending e.loss_mark e.ports e.work resting in (
       (λ t.
-          let none : e.queues.places ≡ 0 = grind (arith, nat_tests) in
-          record { resting = resting; ports = ports_calm e.ports (sym held ∙ none) }),
+          let same : e.queues.places ≡ places = grind (arith, nat_tests) in
+          let none : sum_by port_places e.ports ≡ 0 = omega (arith, held, w, same) in
+          record { resting = resting; ports = ports_calm e.ports none }),
       (λ C.
-          let none : e.queues.places ≡ 0 = held ∙ calm_ports e.ports C.ports in
-          rw none refl),
+          let same : e.queues.places ≡ places = omega (arith, held, w, calm_ports e.ports C.ports) in
+          grind (arith, nat_tests)),
     )

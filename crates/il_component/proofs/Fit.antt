@@ -1,5 +1,5 @@
 -- A component's record asks of its queue the places that the machine says are taken or reserved.
-use Rattle.std.proofs.Common.{◌≡◌, suc, ◌+◌, Bool, List, [], ◌∷◌, ◌++◌, length, map, sum_by, All, Option, refl, sym, ◌∙◌, ap, cond, ◌-◌, arith}
+use Rattle.std.proofs.Common.{◌≡◌, ◌≤◌, ℕ, suc, ◌+◌, Bool, List, [], ◌∷◌, ◌++◌, length, map, sum_by, All, Option, None, refl, sym, ◌∙◌, ap, cond, ◌-◌, arith}
 use Rattle.std.proofs.lemmas.List.Sums.{sum_by-cons, sum_by_push}
 use Rattle.omx_types.specs.declared.state.State.{State}
 use Rattle.omx_types.specs.declared.command.Command.{Command}
@@ -10,8 +10,8 @@ use Rattle.omx_types.specs.declared.command.Event.{Event}
 use Rattle.omx_types.specs.declared.command.Note.TheVariants as machine
 use Rattle.il_machine.specs.declared.answer.Pending.{Pending}
 use Rattle.il_machine.specs.declared.port.PortState.{PortState}
-use Rattle.il_machine.specs.World.{Component, told}
-use Rattle.il_machine.specs.Room.{sel_cost, cost_of, used, room, events_in, is_event, port_places}
+use Rattle.il_machine.specs.World.{Component, Work, told}
+use Rattle.il_machine.specs.Room.{sel_cost, cost_of, used, room, events_in, is_event, port_places, work_places}
 use Rattle.note_queues.specs.declared.taken.QueuedCommand.{QueuedCommand}
 use Rattle.note_queues.specs.declared.taken.Taken.{Taken}
 use Rattle.note_queues.specs.declared.taken.Taken.TheVariants.{Told, EmptyDone, FillDone}
@@ -52,6 +52,9 @@ queued_costs c (q ∷ qs) costs =
 
 pub used-told : (event : Event) (c : Component) → used (told event c) ≡ used c + 1
 used-told event c = omega (arith, sum_by_push (λ n. cond (is_event n) 1 0) c.notes (machine.Told event), same_costs (told event c) c refl c.commands)
+
+pub roomy : (c d : Component) (n : ℕ) → c ≡ d → used d + n ≤ 256 → n ≤ room c
+roomy c d n e b = rw e (omega (arith, b))
 
 pub held_in-told : (ts : List Taken) (event : Event) → held_in (ts ++ Told event ∷ []) ≡ held_in ts
 held_in-told [] event = refl
@@ -96,6 +99,14 @@ module _ {C : Type 0} where
       → used (component_of (resettled state pending loss_mark ports e)) ≡ events_in (notes_of e.queues) + costs e.queues + places_of pending loss_mark ports e.work
   used-resettled e fit state pending loss_mark ports same =
       used-entry (resettled state pending loss_mark ports e) (kept_costs (component_of e) (component_of (resettled state pending loss_mark ports e)) e.queues.commands (sym same) fit.costs)
+
+  -- with another work out, or none
+  pub used-reworked : (e : Entry C) → IsFit e → (work : Option Work) → used (component_of (record e { work = work })) ≡ events_in (notes_of e.queues) + costs e.queues + places_of e.pending e.loss_mark e.ports work
+  used-reworked e fit work = used-entry (record e { work = work }) (kept_costs (component_of e) (component_of (record e { work = work })) e.queues.commands refl fit.costs)
+
+  -- without one no more is reserved
+  pub used-workless : (e : Entry C) → IsFit e → used (component_of (record e { work = None })) + work_places e.work ≡ used (component_of e)
+  used-workless e fit = omega (arith, used-reworked e fit None, used-entry e fit.costs)
 
   -- with other commands and notes
   pub fit-requeued : (e : Entry C) → IsFit e → (q : Queues C) → q.ports ≡ e.queues.ports → q.places ≡ e.queues.places → All (HasCost (component_of e)) q.commands → IsFit (record e { queues = q })

@@ -6,3 +6,4 @@ pub mod Queueing
 pub mod Running
 pub mod Joining
 pub mod Calm
+pub mod Announcing

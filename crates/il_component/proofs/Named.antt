@@ -115,6 +115,15 @@ places_unheld i ps old b r =
     let e : port_places (unheld old) ≡ port_places (get_or ps i old) = ap port_places r in
     omega arith
 
+abbrev pub held_state : PortState → PortState
+held_state p = record p { held = true }
+
+pub places_held : (i : ℕ) (ps : List PortState) (old : PortState) → i < length ps → old ≡ get_or ps i old → sum_by port_places (set ps i (held_state old)) ≡ sum_by port_places ps
+places_held i ps old b r =
+    let h = sum_by-set port_places ps i (held_state old) old b in
+    let e : port_places (held_state old) ≡ port_places (get_or ps i old) = ap port_places r in
+    omega arith
+
 by_port : (P : Component → Type 0) (o : Option Port) (c : Component) → ((p : Port) → P (with_port p.key.port (unheld p.state) c)) → P c → P (unheld_at o c)
 by_port P None c f x = x
 by_port P (Some p) c f x = f p

@@ -1,5 +1,5 @@
 -- The places of a component whose queue changes.
-use Rattle.std.proofs.Common.{◌≡◌, ℕ, ◌+◌, ◌-◌, true, false, List, [], ◌∷◌, map, sum_by, nat_le, nat_lt, ◌||◌, refl, sym, ◌∙◌, ap, arith}
+use Rattle.std.proofs.Common.{◌≡◌, ◌≤◌, ℕ, ◌+◌, ◌-◌, true, false, List, [], ◌∷◌, map, sum_by, nat_le, nat_lt, ◌||◌, refl, sym, ap, arith}
 use Rattle.std.proofs.lemmas.Bool.Decides.{nat_tests}
 use Rattle.std.proofs.lemmas.List.Elements.{All-push}
 use Rattle.std.proofs.lemmas.List.{length-map}
@@ -22,9 +22,9 @@ pub used_invalidated : (c : Component) → used (invalidated c) ≡ events_in c.
 used_invalidated c = omega (arith, rest_places c.ports)
 
 module _ {C : Type 0} where
-  pub lacks_at_once : (e : Entry C) (command : Command) (events : ℕ) → events ≡ events_in (notes_of e.queues) + work_places e.work → is_at_once command ≡ true → nat_le 256 events ≡ lacks_place (component_of e) command
-  lacks_at_once e command events n t =
-      let u : room (invalidated (component_of e)) ≡ 256 - events = ap (λ (k : ℕ). 256 - k) (used_invalidated (component_of e) ∙ sym n) in
+  pub lacks_at_once : (e : Entry C) (command : Command) (events places : ℕ) → events ≡ events_in (notes_of e.queues) → places ≡ work_places e.work → places ≤ 11 → is_at_once command ≡ true → nat_le (256 - places) events ≡ lacks_place (component_of e) command
+  lacks_at_once e command events places n w few t =
+      let u : room (invalidated (component_of e)) ≡ 256 - (events + places) = omega (arith, used_invalidated (component_of e), n, w) in
       rw (t, u) (grind (arith, nat_tests))
 
   pub lacks_later : (e : Entry C) (command : Command) (cost : ℕ) → IsFit e → cost ≡ cost_of (component_of e) command → is_at_once command ≡ false → is_full cost e.queues ≡ lacks_place (component_of e) command

@@ -2,3 +2,4 @@ pub mod Places
 pub mod Entries
 pub mod PortChanges
 pub mod Units
+pub mod Works

@@ -18,31 +18,44 @@ use crate::commands::is_at_once;
 use crate::component::Component;
 use crate::part_changes::{clear, is_source};
 use crate::port_changes::{PortChange, all_port_places, change_selected, let_all_go, put_at_rest};
+use crate::work_out::{WorkOut, work_places};
 use il_machine::{Cause, Mode, Pending, PortState};
 use note_queues::Notes;
 use omx_types::{Command, Completion, Event, OmxError, PortSel, State};
 
 /// What is reserved beside the costs of commands.
-fn places(pending: Option<Pending>, loss_mark: bool, ports: &[PortState]) -> u32
+fn places(
+    pending: Option<Pending>,
+    loss_mark: bool,
+    ports: &[PortState],
+    work: &Option<WorkOut>,
+) -> u32
     requires { length ports.now ≤ 16 }
-    ensures { result ≡ places_of pending loss_mark ports.now None }
+    ensures { result ≡ places_of pending loss_mark ports.now work.now }
 {
+    let others = all_port_places(ports) + work_places(work);
     let Some(pending) = pending else {
-        return all_port_places(ports);
+        return others;
     };
     let by_loss = matches!(pending.cause, Cause::Loss);
     let asked = u32::from(!by_loss);
     let loses = u32::from(matches!(pending.target, State::Idle) && (loss_mark || by_loss));
-    asked + all_port_places(ports) + loses
+    asked + others + loses
 }
 
 /// Reserves what the component's record asks for.
-fn hold<C>(notes: &mut Notes<C>, pending: Option<Pending>, loss_mark: bool, ports: &[PortState])
+pub(crate) fn hold<C>(
+    notes: &mut Notes<C>,
+    pending: Option<Pending>,
+    loss_mark: bool,
+    ports: &[PortState],
+    work: &Option<WorkOut>,
+)
     requires few { length ports.now ≤ 16 }
-    requires fits { events_in (notes_of notes.old) + costs notes.old + places_of pending loss_mark ports.now None ≤ 256 }
-    ensures { notes.new ≡ holding (places_of pending loss_mark ports.now None) notes.old }
+    requires fits { events_in (notes_of notes.old) + costs notes.old + places_of pending loss_mark ports.now work.now ≤ 256 }
+    ensures { notes.new ≡ holding (places_of pending loss_mark ports.now work.now) notes.old }
 {
-    notes.hold_places(places(pending, loss_mark, ports));
+    notes.hold_places(places(pending, loss_mark, ports, work));
 }
 
 impl<C> Component<C> {
@@ -55,7 +68,7 @@ impl<C> Component<C> {
         self.state = state;
         self.pending = pending;
         self.loss_mark = loss_mark;
-        hold(&mut self.notes, pending, loss_mark, &self.ports);
+        hold(&mut self.notes, pending, loss_mark, &self.ports, &self.work);
     }
 
     /// Another state of the port.
@@ -66,7 +79,13 @@ impl<C> Component<C> {
         ensures kept { KeepsNotices self.old self.new }
     {
         self.ports[index as usize] = port;
-        hold(&mut self.notes, self.pending, self.loss_mark, &self.ports);
+        hold(
+            &mut self.notes,
+            self.pending,
+            self.loss_mark,
+            &self.ports,
+            &self.work,
+        );
     }
 
     /// Changes the ports that a command names.
@@ -76,7 +95,13 @@ impl<C> Component<C> {
         ensures kept { KeepsNotices self.old self.new }
     {
         change_selected(&mut self.ports, sel, change);
-        hold(&mut self.notes, self.pending, self.loss_mark, &self.ports);
+        hold(
+            &mut self.notes,
+            self.pending,
+            self.loss_mark,
+            &self.ports,
+            &self.work,
+        );
     }
 
     /// Drops all that is pending, gives the units back, and is Invalid.
@@ -93,7 +118,7 @@ impl<C> Component<C> {
         self.waiting = None;
         put_at_rest(&mut self.ports);
         self.notes.drop_commands();
-        hold(&mut self.notes, None, false, &self.ports);
+        hold(&mut self.notes, None, false, &self.ports, &self.work);
     }
 
     /// How many places the command reserves.
@@ -115,7 +140,7 @@ impl<C> Component<C> {
         ensures { result ≡ lacks_place (component_of self.now) command }
     {
         if is_at_once(command) {
-            return self.notes.events() >= 256;
+            return self.notes.events() >= 256 - work_places(&self.work);
         }
         self.notes.queued() >= 32 || self.notes.room() < self.cost(command)
     }

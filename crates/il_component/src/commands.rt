@@ -78,7 +78,10 @@ impl<C> Component<C> {
             Some(OmxError::IncorrectStateTransition)
         } else if matches!(self.state, State::Loaded) && !self.params.fits() {
             Some(OmxError::UnsupportedSetting)
-        } else if matches!(self.state, State::Loaded) && matches!(target, State::Idle) && free < self.need() {
+        } else if matches!(self.state, State::Loaded)
+            && matches!(target, State::Idle)
+            && free < self.need()
+        {
             Some(OmxError::InsufficientResources)
         } else if matches!(target, State::WaitForResources) && waits == u64::MAX {
             Some(OmxError::InsufficientResources)

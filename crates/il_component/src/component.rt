@@ -10,6 +10,7 @@ ghost use Rattle.il_machine.specs.Parameters.{is_settable, is_format_free, get_p
 ghost use Rattle.il_component.specs.Entries.{component_of, KeepsNotices};
 ghost use Rattle.il_component.specs.Places.{places_of};
 
+use crate::work_out::{WorkOut, work_places};
 use il_machine::{Cause, Mode, Pending, Port, PortKey, PortState};
 use note_queues::Notes;
 use omx_types::{Event, Handle, Kind, OmxError, Param, ParamKey, State};
@@ -29,6 +30,8 @@ pub struct Component<C> {
     pub(crate) holds: bool,
     /// Its waiting number.
     pub(crate) waiting: Option<u64>,
+    /// Its work that is out.
+    pub(crate) work: Option<WorkOut>,
     pub(crate) file: Option<Attached>,
     /// Which inputs have ended.
     pub(crate) ended_inputs: Vec<bool>,
@@ -41,7 +44,6 @@ pub struct Component<C> {
 }
 
 impl<C> Model for Component<C> {
-    ghost use Rattle.std.specs.Prelude.{None};
     ghost use Rattle.il_component.specs.Entries.{Entry, IsFit};
 
     ghost Value = { Entry C };
@@ -54,7 +56,7 @@ impl<C> Model for Component<C> {
       loss_mark = c.loss_mark;
       holds = c.holds;
       waiting = c.waiting;
-      work = None;
+      work = c.work;
       file = c.file;
       part = record { ended_inputs = c.ended_inputs.items; ended = c.ended; failed = c.failed };
       ports = c.ports.items;
@@ -69,7 +71,7 @@ impl<C> Model for Component<C> {
       loss_mark = c.loss_mark;
       holds = c.holds;
       waiting = c.waiting;
-      work = None;
+      work = c.work;
       file = c.file;
       part = record { ended_inputs = c.ended_inputs.items; ended = c.ended; failed = c.failed };
       ports = c.ports.items;
@@ -141,6 +143,7 @@ impl<C> Component<C> {
             loss_mark: false,
             holds: false,
             waiting: None,
+            work: None,
             file: None,
             ended_inputs,
             ended: false,
@@ -219,12 +222,11 @@ impl<C> Component<C> {
         self.file
     }
 
-    /// Whether a work of the component is out: none is, as long as no call claims one.
+    /// Whether a work of the component is out.
     pub fn is_work_out(&self) -> bool
         ensures { result ≡ is_some self.now.work }
     {
-        let _state = self.state;
-        false
+        self.work.is_some()
     }
 
     /// Loaded with nothing pending.
@@ -246,11 +248,12 @@ impl<C> Component<C> {
         self.notes.is_client_out()
     }
 
-    /// Whether nothing is pending, neither a transition nor anything at a port. No port is looked at: what is pending holds places.
+    /// Whether nothing is pending, neither a transition nor anything at a port. No port is looked at: what is pending holds places, beside
+    /// those of a work that is out.
     pub fn is_calm(&self) -> bool
         ensures { IsTrue result ↔ IsCalm (component_of self.now) }
     {
-        self.pending.is_none() && self.notes.held_places() == 0
+        self.pending.is_none() && self.notes.held_places() == work_places(&self.work)
     }
 
     /// The places for events that are neither taken nor reserved.

@@ -2,6 +2,7 @@
 
 ghost use Rattle.std.specs.Prelude.{◌≡◌, ◌<◌, ◌||◌};
 ghost use Rattle.il_machine.specs.Kinds.{ports_in};
+ghost use Rattle.il_machine.specs.Settings.{same_format};
 ghost use Rattle.il_machine.specs.Parts.{file_format};
 ghost use Rattle.il_machine.specs.Parameters.{keeps_format, is_off_file, overflows, is_format_fixed, is_format_free};
 ghost use Rattle.il_component.specs.Entries.{component_of};
@@ -36,6 +37,13 @@ fn overflows(file: Option<Attached>, format: Format) -> bool
 }
 
 impl<C> Component<C> {
+    /// The port has its file's format.
+    pub(crate) fn has_file_format(&self, port: Port) -> bool
+        ensures { result ≡ same_format port.setting.definition.format (file_format self.now.file) }
+    {
+        is_same_format(port.setting.definition.format, file_format(self.file))
+    }
+
     /// The port is held, and the format isn't its file's.
     fn is_off_file(&self, port: Port, format: Format) -> bool
         ensures { result ≡ is_off_file (component_of self.now) port format }

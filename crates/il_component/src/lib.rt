@@ -9,8 +9,10 @@ mod component;
 mod formats;
 mod part_changes;
 mod port_changes;
-mod units;
 #[cfg(test)]
 mod tests;
+mod units;
+mod work_out;
+mod works;
 
 pub use component::Component;

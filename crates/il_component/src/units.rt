@@ -47,7 +47,8 @@ impl<C> Component<C> {
         ensures { result ≡ is_giving_back (component_of self.now) }
     {
         let leaves = match self.pending {
-            Some(pending) => matches!(pending.cause, Cause::Loss) || matches!(pending.target, State::Loaded),
+            Some(pending) => matches!(pending.cause, Cause::Loss)
+                || matches!(pending.target, State::Loaded),
             None => false,
         };
         self.holds && (self.loss_mark || leaves)
@@ -123,7 +124,13 @@ impl<C> Component<C> {
             self.lose_units();
             return;
         }
-        if let Some(Pending { target: State::Idle, .. }) = self.pending {
+        if let Some(
+            Pending {
+                target: State::Idle,
+                ..
+            },
+        ) = self.pending
+        {
             self.settle(self.state, self.pending, true);
             return;
         }

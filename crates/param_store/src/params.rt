@@ -78,6 +78,19 @@ impl Params {
         self.priority
     }
 
+    pub fn gain(&self) -> u32
+        ensures { result ≡ self.now.gain }
+    {
+        self.gain
+    }
+
+    /// Its weights come first: those of a mixer's inputs.
+    pub fn weights(&self) -> [u32; 8]
+        ensures { take (weights_in self.now.kind) result ≡ self.now.weights }
+    {
+        self.weights
+    }
+
     /// How many ports the component has.
     pub fn ports(&self) -> u32
         ensures count { result ≡ ports_in self.now.kind }

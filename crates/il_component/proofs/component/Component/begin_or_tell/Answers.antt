@@ -1,4 +1,4 @@
-use Rattle.std.proofs.Common.{◌≤◌, Some, None, refl, sym, ◌∙◌, subst}
+use Rattle.std.proofs.Common.{◌≤◌, Some, None, sym, ◌∙◌, subst}
 use Rattle.il_machine.specs.Room.{used}
 use Rattle.il_machine.specs.Commands.{state_fault}
 use Rattle.il_component.specs.Entries.{component_of}

@@ -1,4 +1,3 @@
-use Rattle.std.proofs.Common.{refl}
 use Rattle.il_component.proofs.Running.{a_look, gives_it}
 use Rattle.il_component.proofs.component.Component.carry_out.Goals as goal
 

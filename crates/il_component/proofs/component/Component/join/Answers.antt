@@ -1,4 +1,4 @@
-use Rattle.std.proofs.Common.{◌<◌, length, Some, refl, sym, subst, None}
+use Rattle.std.proofs.Common.{◌<◌, length, Some, refl, sym, subst}
 use Rattle.il_component.proofs.Named.{at_port_read, linked_fit, set_whole}
 use Rattle.il_component.proofs.component.Component.join.Goals as goal
 
@@ -6,7 +6,7 @@ pub invariant_of-self : goal.invariant_of-self
 invariant_of-self g c =
     let i = c.self.inside in
     let b : c.args.index < length i.ports.items = subst (λ n. c.args.index < n) (sym c.self.invariant.ports) (rw (← c.self.view_is) at c.requires) in
-    linked_fit (record { handle = i.handle; settings = i.params; state = i.state; pending = i.pending; loss_mark = i.loss_mark; holds = i.holds; waiting = i.waiting; work = None; file = i.file; part = record { ended_inputs = i.ended_inputs.items; ended = i.ended; failed = i.failed }; ports = i.ports.items; queues = i.notes }) c.args.index c.set_setting.new.self (Some c.args.link) c.index_mut.result.now c.self.invariant b c.index_mut.ensures.value (rw c.set_setting.ensures (set_whole i.params c.args.index c.args.setting c.self.invariant.whole)) (rw c.set_setting.ensures refl)
+    linked_fit (record { handle = i.handle; settings = i.params; state = i.state; pending = i.pending; loss_mark = i.loss_mark; holds = i.holds; waiting = i.waiting; work = i.work; file = i.file; part = record { ended_inputs = i.ended_inputs.items; ended = i.ended; failed = i.failed }; ports = i.ports.items; queues = i.notes }) c.args.index c.set_setting.new.self (Some c.args.link) c.index_mut.result.now c.self.invariant b c.index_mut.ensures.value (rw c.set_setting.ensures (set_whole i.params c.args.index c.args.setting c.self.invariant.whole)) (rw c.set_setting.ensures refl)
 
 pub returns-clause-component : goal.returns-clause-component
 returns-clause-component g c =

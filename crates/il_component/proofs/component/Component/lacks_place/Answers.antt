@@ -1,4 +1,4 @@
-use Rattle.std.proofs.Common.{◌≡◌, false, nat_lt, nat_le, ◌||◌, sym, ◌∙◌, ap, arith, None}
+use Rattle.std.proofs.Common.{◌≡◌, false, nat_lt, nat_le, ◌||◌, sym, ◌∙◌, ap, arith}
 use Rattle.std.proofs.lemmas.Bool.Decides.{nat_tests}
 use Rattle.il_machine.specs.Commands.{is_at_once}
 use Rattle.note_queues.specs.Queues.{is_full}
@@ -9,13 +9,13 @@ use Rattle.il_component.proofs.component.Component.lacks_place.Goals as goal
 pub returns-then-is_at_once : goal.returns-then-is_at_once
 returns-then-is_at_once g c =
     let i = c.self.inside in
-    let e : Entry (g.row.C.Denot) = record { handle = i.handle; settings = i.params; state = i.state; pending = i.pending; loss_mark = i.loss_mark; holds = i.holds; waiting = i.waiting; work = None; file = i.file; part = record { ended_inputs = i.ended_inputs.items; ended = i.ended; failed = i.failed }; ports = i.ports.items; queues = i.notes } in
-    rw (← c.self.view_is) (lacks_at_once e c.args.command c.events.result (omega (arith, c.events.ensures)) (sym c.is_at_once.ensures ∙ c.if-is_at_once.true))
+    let e : Entry (g.row.C.Denot) = record { handle = i.handle; settings = i.params; state = i.state; pending = i.pending; loss_mark = i.loss_mark; holds = i.holds; waiting = i.waiting; work = i.work; file = i.file; part = record { ended_inputs = i.ended_inputs.items; ended = i.ended; failed = i.failed }; ports = i.ports.items; queues = i.notes } in
+    rw (← c.self.view_is) (lacks_at_once e c.args.command c.events.result c.work_places.result (omega (arith, c.events.ensures)) c.work_places.ensures.count c.work_places.ensures.few (sym c.is_at_once.ensures ∙ c.if-is_at_once.true))
 
 pub returns-else-queued-ge32 : goal.returns-else-queued-ge32
 returns-else-queued-ge32 g c =
     let i = c.self.inside in
-    let e : Entry (g.row.C.Denot) = record { handle = i.handle; settings = i.params; state = i.state; pending = i.pending; loss_mark = i.loss_mark; holds = i.holds; waiting = i.waiting; work = None; file = i.file; part = record { ended_inputs = i.ended_inputs.items; ended = i.ended; failed = i.failed }; ports = i.ports.items; queues = i.notes } in
+    let e : Entry (g.row.C.Denot) = record { handle = i.handle; settings = i.params; state = i.state; pending = i.pending; loss_mark = i.loss_mark; holds = i.holds; waiting = i.waiting; work = i.work; file = i.file; part = record { ended_inputs = i.ended_inputs.items; ended = i.ended; failed = i.failed }; ports = i.ports.items; queues = i.notes } in
     let t : is_at_once c.args.command ≡ false = sym c.is_at_once.ensures ∙ c.if-is_at_once.false in
     let k = rw (← c.self.view_is) at c.cost.ensures in
     let b = c.if-queued-ge32.false in

@@ -1,4 +1,4 @@
-use Rattle.std.proofs.Common.{◌≡◌, ◌<◌, ◌≤◌, length, set, None, refl, sym, ◌∙◌, arith, length-set, nat_eq, true, false}
+use Rattle.std.proofs.Common.{◌≡◌, ◌<◌, ◌≤◌, length, set, refl, sym, ◌∙◌, arith, length-set, nat_eq, true, false}
 use Rattle.std.proofs.lemmas.Bool.Decides.{nat_tests}
 use Rattle.il_machine.specs.Due.{unheld}
 use Rattle.il_machine.proofs.Joined.{port_past}
@@ -11,7 +11,7 @@ use Rattle.il_component.proofs.component.Component.let_go.Goals as goal
 pub invariant_of-self : goal.invariant_of-self
 invariant_of-self g c =
     let i = c.self.inside in
-    let e : Entry (g.row.C.Denot) = record { handle = i.handle; settings = i.params; state = i.state; pending = i.pending; loss_mark = i.loss_mark; holds = i.holds; waiting = i.waiting; work = None; file = i.file; part = record { ended_inputs = i.ended_inputs.items; ended = i.ended; failed = i.failed }; ports = i.ports.items; queues = i.notes } in
+    let e : Entry (g.row.C.Denot) = record { handle = i.handle; settings = i.params; state = i.state; pending = i.pending; loss_mark = i.loss_mark; holds = i.holds; waiting = i.waiting; work = i.work; file = i.file; part = record { ended_inputs = i.ended_inputs.items; ended = i.ended; failed = i.failed }; ports = i.ports.items; queues = i.notes } in
     let n = c.self.invariant.ports in
     let b : c.args.key.port < length i.ports.items = omega (arith, c.ports.ensures.count) in
     let old = c.index_mut.result.now in
@@ -20,7 +20,7 @@ invariant_of-self g c =
 pub returns-then-key-ports-clause-component : goal.returns-then-key-ports-clause-component
 returns-then-key-ports-clause-component g c =
     let i = c.self.inside in
-    let e : Entry (g.row.C.Denot) = record { handle = i.handle; settings = i.params; state = i.state; pending = i.pending; loss_mark = i.loss_mark; holds = i.holds; waiting = i.waiting; work = None; file = i.file; part = record { ended_inputs = i.ended_inputs.items; ended = i.ended; failed = i.failed }; ports = i.ports.items; queues = i.notes } in
+    let e : Entry (g.row.C.Denot) = record { handle = i.handle; settings = i.params; state = i.state; pending = i.pending; loss_mark = i.loss_mark; holds = i.holds; waiting = i.waiting; work = i.work; file = i.file; part = record { ended_inputs = i.ended_inputs.items; ended = i.ended; failed = i.failed }; ports = i.ports.items; queues = i.notes } in
     let n = c.self.invariant.ports in
     let b : c.args.key.port < length i.ports.items = omega (arith, c.ports.ensures.count) in
     let h = port_is e c.args.key.port c.index_mut.result.now c.self.invariant b c.index_mut.ensures.value in
