@@ -1,8 +1,7 @@
 -- Which counts a fault of a play needs, over its parts.
-use Rattle.std.proofs.Common.{◌≡◌, ◌≢◌, ℕ, ◌+◌, ◌-◌, ◌^◌, ◌<◌, ◌≤◌, min, List, Option, Bool, true, false, Result, Ok, Err, IsTrue, IsFalse, OnOk, OnErr, IfErr, refl, sym, ◌∙◌, arith}
+use Rattle.std.proofs.Common.{◌≡◌, ◌≢◌, ℕ, ◌-◌, ◌<◌, ◌≤◌, List, Option, Bool, true, false, Result, Ok, Err, IsTrue, IsFalse, OnOk, OnErr, IfErr, refl, ◌∙◌, arith}
 use Rattle.outside_io.specs.Causes.{Rose, sum_of_counts}
 use Rattle.outside_io.specs.Files.{Outside, GoesOn}
-use Rattle.outside_io.specs.Stops.{GaveNothing}
 use Rattle.outside_io.specs.declared.source.Failed.{Failed}
 use Rattle.omx_types.specs.declared.fault.Fault.{Fault}
 use Rattle.omx_types.specs.declared.fault.Fault.TheVariants as Faults

@@ -1,7 +1,6 @@
 -- What the parts of a play come to, joined.
-use Rattle.std.proofs.Common.{◌≡◌, ◌≢◌, ◌⊎◌, inl, inr, ℕ, ◌<◌, ◌≤◌, List, length, take, Option, Some, None, Bool, Result, Ok, Err, IsTrue, IsSome, IfOk, IfErr, OnErr, ap, sym, subst, refl, ◌∙◌, arith}
+use Rattle.std.proofs.Common.{◌≡◌, ◌≢◌, ◌⊎◌, inl, inr, ℕ, ◌<◌, List, length, Option, Some, Bool, Result, Ok, Err, IsTrue, IsSome, ap, sym, subst, refl, ◌∙◌, arith}
 use Rattle.std.proofs.Math.Seq.{take-length}
-use Rattle.outside_io.specs.Causes.{Rose}
 use Rattle.outside_io.specs.Files.{Outside, GoesOn, SameBut}
 use Rattle.outside_io.proofs.Closed.{told_value}
 use Rattle.outside_io.specs.Whole.{HasReadReason, HasWriteReason, IsKeptOrFrontOf, WasOpened}

@@ -1,4 +1,4 @@
-use Rattle.std.proofs.Common.{ap, subst, sym, Err}
+use Rattle.std.proofs.Common.{subst, sym}
 use Rattle.omx_types.specs.declared.fault.Fault.{Fault}
 use Rattle.omxrun.specs.Traced.{HasScriptReason}
 use Rattle.omxrun.proofs.Traces.{unread-reason}
