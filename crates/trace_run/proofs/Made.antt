@@ -22,7 +22,7 @@ use Rattle.il_machine.specs.Trails.{Stop, Unmade, With, Move, moves, moved, fron
 use Rattle.machine_laws.proofs.Finding.{push_last, push_else, once_push, without_else, without_same, once_without}
 use Rattle.machine_laws.proofs.Keys.{none_or_some}
 use Rattle.machine_laws.proofs.Parts.{parts_of}
-use Rattle.history_laws.proofs.Carried.{Carried, Still, Made, Gone, Moved, none_made}
+use Rattle.history_laws.proofs.Carried.{Carried, Still, Made, Gone, Moved, Several, none_made}
 use Rattle.history_laws.proofs.Closing.{times_settle}
 use Rattle.history_laws.proofs.Outcome.{turn, Outcome, Nothing, Done}
 use Rattle.history_laws.proofs.Owners.{Settles, Stand, stand_of}
@@ -171,6 +171,13 @@ carried_home n w v ms o B (Moved M) H =
           inl (M.was, was, sym M.home ∙ (sym (ap (λ (x : HeaderRecord). x.state.home) it) ∙ H.2))
       | inr a ↦ inl (home_as n w.headers v.headers (R.others n a) H)
     ]
+carried_home n w v ms o B (Several M) H = elim ((M.headers).each n) [
+  | inl x ↦ inl (home_as n w.headers v.headers x.0 H)
+  | inr P ↦
+      let same : Some H.0 ≡ Some P.now = sym H.1 ∙ P.here in
+      let it : H.0 ≡ P.now = cc in
+      inl (P.was, P.found, sym P.home ∙ (sym (ap (λ (x : HeaderRecord). x.state.home) it) ∙ H.2))
+]
 
 carried_once : (w v : World) (ms : List Move) → Once w.headers → ((k : ℕ) (r : HeaderRecord) → find_header k w.headers ≡ Some r → k < w.made) → Carried w ms v → Once v.headers
 carried_once w v ms o B (Still S) = rw S.headers o
@@ -179,6 +186,7 @@ carried_once w v ms o B (Made M) =
     rw M.headers (once_push w.headers (record { state = M.state; load = empty_load M.memory }) o none)
 carried_once w v ms o B (Gone M) = rw M.headers (once_without M.number w.headers o)
 carried_once w v ms o B (Moved M) = (M.replaced).once
+carried_once w v ms o B (Several M) = (M.headers).once
 
 outcome_home : (n : ℕ) (w : World) (a : Act) (r : Reply) (v : World) → Sound w → Outcome w (turn w a r) v → IsHome n v.headers → IsHome n w.headers ⊎ (made_by a r ≡ Some n)
 outcome_home n w a r v S (Nothing e m) H = inl (subst (λ (x : World). IsHome n x.headers) e H)
