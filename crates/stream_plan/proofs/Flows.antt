@@ -1,18 +1,17 @@
 -- What a link gives, step by step over the links.
-use Rattle.std.proofs.Common.{◌≡◌, ℕ, zero, suc, ◌+◌, ◌<◌, ◌≤◌, ◌^◌, ◌==◌, ◌&&◌, Bool, true, false, cond, List, [], ◌∷◌, ◌++◌, length, take, drop, get_or, add-one, lit<, Option, Some, None, refl, sym, ◌∙◌, ap, subst, arith}
+use Rattle.std.proofs.Common.{◌≡◌, ℕ, zero, suc, ◌+◌, ◌<◌, ◌==◌, ◌&&◌, true, false, cond, List, [], ◌∷◌, ◌++◌, length, take, drop, get_or, add-one, Option, Some, refl, sym, ◌∙◌, ap, arith}
 use Rattle.std.specs.Prelude.{slice_get}
 use Rattle.std.proofs.lemmas.Bool.{eqb-true, eq-eqb}
 use Rattle.std.proofs.Math.ListN.{set}
-use Rattle.omx_types.specs.Formats.{frame_bytes_of}
 use Rattle.omx_types.specs.declared.kind.Kind.{Kind}
 use Rattle.omx_types.specs.declared.kind.Kind.TheVariants.{Source, Decoder, Alaw, Mulaw, Gain, Mixer, Splitter, Sink, Late}
 use Rattle.part_forms.specs.Kinds.{inputs_of, is_source}
 use Rattle.wav_form.specs.declared.heads.WavHead.{WavHead}
 use Rattle.play_forms.specs.declared.flow.Flow.{Flow}
 use Rattle.play_forms.specs.declared.joint.Joint.{Joint}
-use Rattle.play_forms.specs.Flows.{flow_by, flow_of_head, given_format, most_frames, no_flow}
+use Rattle.play_forms.specs.Flows.{flow_by, flow_of_head, given_format, most_frames}
 use Rattle.play_forms.specs.Settling.{into, with_given}
-use Rattle.play_forms.proofs.Places.{and_both, both, either}
+use Rattle.play_forms.proofs.Places.{and_both, either}
 use Rattle.stream_plan.proofs.Lists.{there_at}
 
 pub flow_of_source : (kind : Kind) (head : Option WavHead) (incoming : ℕ → Flow) → is_source kind ≡ true → flow_by kind head incoming ≡ flow_of_head head

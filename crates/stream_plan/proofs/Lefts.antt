@@ -1,14 +1,12 @@
 -- How many components are left to be placed; one more behind the placed ones.
-use Rattle.std.proofs.Common.{◌≡◌, ℕ, zero, suc, ◌+◌, ◌<◌, ◌≤◌, Bool, true, false, not, ◌==◌, ◌&&◌, ◌||◌, cond, List, [], ◌∷◌, ◌++◌, length, take, Some, refl, sym, ◌∙◌, ap, subst, arith, inl, inr, ◌⊎◌}
-use Rattle.std.specs.Prelude.{slice_get}
+use Rattle.std.proofs.Common.{◌≡◌, ℕ, zero, suc, ◌+◌, ◌<◌, ◌≤◌, Bool, true, false, not, ◌==◌, ◌||◌, cond, List, [], ◌∷◌, ◌++◌, length, take, refl, sym, ◌∙◌, ap, subst, arith, inl, inr}
 use Rattle.std.proofs.Math.Seq.{take-append_seam}
 use Rattle.std.proofs.lemmas.List.{take-append-le}
 use Rattle.std.proofs.lemmas.Bool.{eqb-true, eq-eqb}
-use Rattle.std.proofs.lemmas.Option.{slice_get_within}
 use Rattle.play_forms.specs.declared.joint.Joint.{Joint}
-use Rattle.play_forms.specs.Placing.{ArePlaced, IsNext, can_place, has_place, is_fed}
+use Rattle.play_forms.specs.Placing.{ArePlaced, IsNext, has_place, is_fed}
 use Rattle.stream_plan.proofs.Lists.{slice_get_more}
-use Rattle.play_forms.proofs.Places.{and_both, both, either, has_place_kept, has_place_more, has_place_new, not_true, Some_same}
+use Rattle.play_forms.proofs.Places.{and_both, both, either, has_place_kept, has_place_more, has_place_new, not_true}
 
 below_other : (p count : ℕ) → p < suc count → (p ≡ count → ⊥) → p < count
 below_other p count below apart = omega arith

@@ -1,5 +1,5 @@
 -- What an error of planning says: the fault of that step, or want of memory.
-use Rattle.std.specs.Prelude.{◌≡◌, ℕ, ◌<◌, true, false, List, length}
+use Rattle.std.specs.Prelude.{◌≡◌, ℕ, ◌<◌, true, false, List}
 use Rattle.part_forms.specs.Kinds.{ports_in}
 use Rattle.script_lang.specs.declared.play_line.PartLine.{PartLine}
 use Rattle.play_forms.specs.declared.joint.Joint.{Joint}

@@ -1,4 +1,4 @@
-use Rattle.std.proofs.Common.{◌≡◌, ◌+◌, ◌<◌, ◌≤◌, take, sym, subst, arith}
+use Rattle.std.proofs.Common.{◌≡◌, take, arith}
 use Rattle.play_forms.specs.Joints.{headers_of}
 use Rattle.stream_plan.proofs.Sums.{too_many_at}
 use Rattle.stream_plan.proofs.counting.check_headers.Goals as goal

@@ -1,4 +1,4 @@
-use Rattle.std.proofs.Common.{◌≡◌, ◌<◌, below_more, ◌∙◌, sym, ap, subst, arith}
+use Rattle.std.proofs.Common.{◌≡◌, ◌<◌, below_more, ◌∙◌, ap, subst, arith}
 use Rattle.part_forms.specs.Kinds.{inputs_of}
 use Rattle.play_forms.specs.Fitting.{InputFits}
 use Rattle.play_forms.specs.Parts.{kind_of}

@@ -1,4 +1,4 @@
-use Rattle.std.proofs.Common.{◌≡◌, ℕ, ◌<◌}
+use Rattle.std.proofs.Common.{ℕ, ◌<◌}
 use Rattle.play_forms.specs.Fitting.{InputFits}
 use Rattle.stream_plan.proofs.fitting.component_misfit.Given as goal
 

@@ -1,4 +1,4 @@
-use Rattle.std.proofs.Common.{◌≡◌, ◌<◌, ℕ, Some, None, sym, ◌∙◌, subst, arith}
+use Rattle.std.proofs.Common.{◌≡◌, Some, None, ◌∙◌, subst, arith}
 use Rattle.play_forms.specs.Fitting.{ComponentFits}
 use Rattle.play_forms.proofs.Places.{Some_same}
 use Rattle.stream_plan.proofs.Fits.{fit_all, fit_more}

@@ -1,5 +1,4 @@
-use Rattle.std.proofs.Common.{◌≡◌, ℕ, List, length, get_or, ◌∙◌, ap}
-use Rattle.play_forms.specs.declared.flow.Flow.{Flow}
+use Rattle.std.proofs.Common.{◌≡◌, ℕ, length, get_or, ◌∙◌, ap}
 use Rattle.play_forms.specs.Flows.{flow_rule, no_flow}
 use Rattle.play_forms.specs.Settling.{into, with_given}
 use Rattle.play_forms.proofs.Settled.{length-with_given}

@@ -1,4 +1,4 @@
-use Rattle.std.proofs.Common.{◌≡◌, true, get_or, sym, ◌∙◌, ap, subst, arith}
+use Rattle.std.proofs.Common.{◌≡◌, true, get_or, sym, subst, arith}
 use Rattle.std.specs.Str.{bytes_eq}
 use Rattle.std.proofs.lemmas.List.Sums.{position_or_len_is}
 use Rattle.script_lang.specs.declared.play_line.PartLine.{PartLine}

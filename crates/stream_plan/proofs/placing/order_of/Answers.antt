@@ -1,5 +1,5 @@
-use Rattle.std.proofs.Common.{◌≡◌, ℕ, ◌+◌, ◌<◌, true, false, List, [], ◌∷◌, ◌++◌, length, get_or, refl, sym, subst, arith}
-use Rattle.play_forms.specs.Placing.{ArePlaced, IsNext, IsOrder, can_place, has_place}
+use Rattle.std.proofs.Common.{◌≡◌, ◌<◌, true, false, [], ◌∷◌, ◌++◌, length, get_or, refl, sym, subst}
+use Rattle.play_forms.specs.Placing.{ArePlaced, IsNext, can_place, has_place}
 use Rattle.stream_plan.proofs.Lefts.{left_less, left_of, new_place, placed_more}
 use Rattle.stream_plan.proofs.Lists.{there_at}
 use Rattle.stream_plan.proofs.placing.order_of.Goals as goal
