@@ -4,3 +4,4 @@ pub mod Resetting
 pub mod Noticed
 pub mod Happenings
 pub mod Refusing
+pub mod Idling

@@ -2,7 +2,7 @@
 use Rattle.std.specs.Prelude.{◌≡◌, ◌<◌, ℕ, Bool, not, ◌||◌, [], ◌∷◌, length, Option}
 use Rattle.il_machine.specs.declared.port.Port.{Port}
 use Rattle.il_machine.specs.Headers.{Seen}
-use Rattle.il_machine.specs.Ports.{populated, settled, unmade}
+use Rattle.il_machine.specs.Ports.{is_open, populated, settled, unmade}
 use Rattle.il_machine.specs.Due.{Thing, is_flush_due, is_mode_due, is_mark_due}
 use Rattle.il_machine.specs.Lists.{first_of_these}
 use Rattle.il_machine.specs.Kinds.{ports_in}
@@ -11,7 +11,7 @@ use Rattle.il_machine.specs.World.{Component, ports_of, number_of}
 use Rattle.port_stock.specs.Conditions.{IsPort}
 use Rattle.il_machine.specs.Due as things
 use Rattle.port_rules.specs.declared.terms.PortTest.{PortTest}
-use Rattle.port_rules.specs.declared.terms.PortTest.TheVariants.{Ready, Settled, Unmade}
+use Rattle.port_rules.specs.declared.terms.PortTest.TheVariants.{Ready, Settled, Unmade, Open}
 use Rattle.port_rules.specs.declared.due.Due.{Due}
 use Rattle.port_rules.specs.declared.due.Due.TheVariants.{Transition, Flush, Mode, Mark}
 
@@ -28,6 +28,7 @@ abbrev pub port_test : PortTest → Seen → Port → Bool
 port_test Ready headers p = not p.state.enabled || populated headers p
 port_test Settled headers p = settled headers p
 port_test Unmade headers p = unmade headers p
+port_test Open headers p = is_open p
 
 abbrev pub thing_of : Due → Thing
 thing_of Transition = things.Transition

@@ -3,6 +3,7 @@
 #![tactic(auto)]
 
 mod buffers;
+mod claiming;
 mod due;
 mod happening;
 mod making;
@@ -13,6 +14,7 @@ pub use buffers::{
     allocate_fault, empty_fault, fill_fault, free_buffer_fault, has_no_block, is_taking,
     unpopulate, use_fault,
 };
+pub use claiming::{NoWork, claim_idle, gives_header, must_announce};
 pub use due::{Due, due_in};
 pub use happening::happen_in;
 pub use making::{free_fault, parameter_fault};

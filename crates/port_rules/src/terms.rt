@@ -22,6 +22,8 @@ pub enum PortTest {
     Settled,
     /// None is made.
     Unmade,
+    /// The port itself is open, whatever its headers.
+    Open,
 }
 
 /// As many headers are made for the port as its count.
@@ -56,6 +58,7 @@ impl PortTest {
             PortTest::Ready => !port.state.enabled || is_populated(stock, port),
             PortTest::Settled => is_settled(stock, port),
             PortTest::Unmade => is_unmade(stock, port),
+            PortTest::Open => is_open(port),
         }
     }
 }
