@@ -7,4 +7,5 @@ pub mod Picked
 pub mod Plain
 pub mod Sameness
 pub mod Stepped
+pub mod Telling
 pub mod Told

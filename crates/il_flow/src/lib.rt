@@ -2,14 +2,18 @@
 //! come back.
 #![tactic(auto)]
 
+mod back;
 mod done;
 mod frames;
+mod landing;
 mod layout;
 mod parts;
 mod picking;
+mod returning;
 mod running;
 mod work;
 
+pub use back::Way;
 pub use done::Done;
 pub use picking::{announcement, pick_up};
 pub use work::Work;
