@@ -1,10 +1,11 @@
 -- Works, and works whose step was done, as contracts see them.
-use Rattle.std.specs.Prelude.{ℕ, ◌+◌, Bool, false, List, ◌++◌, Option, is_some}
+use Rattle.std.specs.Prelude.{ℕ, Bool, false, List, Option, is_some}
 use Rattle.omx_types.specs.declared.handle.Handle.{Handle}
 use Rattle.omx_types.specs.declared.fault.PartFault.{PartFault}
 use Rattle.part_api.specs.Terms.{Terms}
 use Rattle.il_machine.specs.World.{Stream}
 use Rattle.il_machine.specs.Claims.{Carried, WorkSeen}
+use Rattle.il_machine.specs.Finishing.{gone_through}
 use Rattle.il_machine.specs.Stepping.{Done, IsStep}
 use Rattle.il_machine.specs.Whole.{HasDone, PartSeen}
 use Rattle.header_core.specs.BufferHeader.{BufferHeader}
@@ -33,10 +34,6 @@ module _ {P : Type 0} where
   -- a work that comes back, by the bytes that the part's file took
   abbrev pub seen_done : List ℕ → DoneOf P → Done
   seen_done took d = record { component = d.component.generation; frames = d.frames; fault = d.fault; headers = carried_from 0 d.headers; took = took }
-
--- what then has gone through the part
-abbrev pub gone_through : Done → Stream → Stream
-gone_through done s = record s { frames = s.frames + done.frames; written = s.written ++ done.took }
 
 -- From the headers before, the step of a part of these terms comes back as these headers, these frames and this fault, and then so much has
 -- gone through the part. Nothing is said of the bytes that its file took but what the machine says.
