@@ -91,7 +91,9 @@ fn weakest<C>(components: &[Component<C>], waiter: usize) -> Option<usize>
 {
     let mut weak = None;
     for place in (0..components.len()).rev() {
-        if components[place].is_weaker(&components[waiter]) && gives_before(components, place, weak) {
+        if components[place].is_weaker(&components[waiter])
+            && gives_before(components, place, weak)
+        {
             weak = Some(place);
         }
     }

@@ -42,7 +42,7 @@ loop-place-preserved g c =
       best = rw W (elim c.else-is_weaker.branch [
         | else-is_weaker-via-then-is_weaker+else-gives_before w ↦
             loop_stays (is_weaker (component_of x)) gives_first es n e (omega (arith, c.loop-place-test.true)) at c.loop-place.weak (rw W at c.loop-place.invariant.best) (sym c.is_weaker.ensures ∙ w.if-is_weaker.true)
-                (sym w.gives_before.ensures ∙ w.if-gives_before.false)
+            (sym w.gives_before.ensures ∙ w.if-gives_before.false)
         | else-is_weaker-via-else-is_weaker w ↦
             loop_fails (is_weaker (component_of x)) gives_first es n e (omega (arith, c.loop-place-test.true)) at c.loop-place.weak (rw W at c.loop-place.invariant.best) (sym c.is_weaker.ensures ∙ w.if-is_weaker.false)
       ]);

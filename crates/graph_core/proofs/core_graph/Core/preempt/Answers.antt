@@ -68,9 +68,11 @@ returns-clause-change g c =
     let at : slice_get es c.in-Some.place ≡ Some e = slice_get-get_or es c.in-Some.place e within ∙ ap Some (sym c.index_mut-component.ensures.value) in
     let first : victim (components_of es) ≡ Some (component_of e) = sym found ∙ component_there es c.in-Some.place e at in
     let q = c.preempt.ensures.component in
-    rw (← c.self.view_is) (rw first (c.handle.ensures ∙ (ap (λ (x : Component). x.handle) q ∙ (change_preempted (component_of e)).handle),
-    units_changed g.C.Client.progress G c.in-Some.place e c.preempt.new.self preempted_units c.self.invariant.worlds at c.preempt.ensures.kept
-    (part_as (component_of e) (component_of c.preempt.new.self) (preempted_units (component_of e)) q (part_preempted (component_of e))) q))
+    rw (← c.self.view_is) (rw first (
+      c.handle.ensures ∙ (ap (λ (x : Component). x.handle) q ∙ (change_preempted (component_of e)).handle),
+      units_changed g.C.Client.progress G c.in-Some.place e c.preempt.new.self preempted_units c.self.invariant.worlds at c.preempt.ensures.kept
+          (part_as (component_of e) (component_of c.preempt.new.self) (preempted_units (component_of e)) q (part_preempted (component_of e))) q,
+    ))
 
 pub returns-clause-clients : goal.returns-clause-clients
 returns-clause-clients g c =
