@@ -1,9 +1,9 @@
 -- One view, one link, one sink more.
-use Rattle.std.proofs.Common.{◌≡◌, ℕ, zero, suc, ◌+◌, ◌<◌, ◌≤◌, ◌&&◌, ◌||◌, not, Bool, true, false, List, [], ◌∷◌, ◌++◌, length, take, drop, map, get_or, add-one, Option, Some, None, refl, sym, ◌∙◌, ap, subst, arith}
+use Rattle.std.proofs.Common.{◌≡◌, ℕ, zero, suc, ◌+◌, ◌<◌, ◌||◌, not, Bool, true, List, [], ◌∷◌, ◌++◌, length, take, drop, map, get_or, add-one, Option, Some, None, refl, sym, ◌∙◌, ap, arith}
 use Rattle.std.specs.Prelude.{slice_get}
 use Rattle.std.proofs.Math.ListN.{set}
 use Rattle.il_machine.specs.declared.answer.Progress.{Progress}
-use Rattle.conductor.specs.Hearing.{heard_view, heard_views}
+use Rattle.conductor.specs.Hearing.{heard_views}
 use Rattle.conductor.specs.Phases.{sinks_over}
 use Rattle.play_forms.proofs.Places.{Some_same}
 use Rattle.stream_plan.proofs.Lists.{there_at}

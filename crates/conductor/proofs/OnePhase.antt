@@ -1,5 +1,5 @@
 -- What a conductor knows leaves one answer, and one value behind it.
-use Rattle.std.proofs.Common.{◌≡◌, ℕ, zero, suc, ◌+◌, ◌<◌, ◌==◌, ◌&&◌, Bool, true, false, List, [], ◌∷◌, Option, Some, None, refl, sym, ◌∙◌, ap, subst, arith}
+use Rattle.std.proofs.Common.{◌≡◌, ℕ, ◌==◌, ◌&&◌, true, List, Some, None, refl, sym, ◌∙◌, ap, arith}
 use Rattle.std.specs.Prelude.{slice_get, slice_set}
 use Rattle.std.specs.List.{list_any}
 use Rattle.std.proofs.lemmas.Bool.{eqb-true}
@@ -12,7 +12,7 @@ use Rattle.conductor.specs.declared.phase.LateLink.{LateLink}
 use Rattle.conductor.specs.declared.phase.Phase.{Phase}
 use Rattle.conductor.specs.declared.phase.Phase.TheVariants.{Send, Change, Wait, Over, Failed}
 use Rattle.conductor.specs.Hearing.{ConductorValue}
-use Rattle.conductor.specs.Phases.{Conducts, IsChange, IsChangeDue, IsSendDue, IsStep, IsWaiting, NoneBefore, all_states, all_told, has_failed, has_half, is_half, is_over, is_ready, may_change, one_step_more}
+use Rattle.conductor.specs.Phases.{Conducts, IsChange, IsChangeDue, IsSendDue, IsStep, all_states, all_told, has_failed, has_half, is_half, is_over, is_ready, may_change, one_step_more}
 use Rattle.conductor.proofs.Steps.{any_at, one_first}
 use Rattle.play_forms.proofs.Places.{Some_same, and_both, and_of, both}
 

@@ -1,13 +1,13 @@
 -- The first link that passes a test, and that no two steps are due at once.
-use Rattle.std.proofs.Common.{◌≡◌, ◌⊎◌, inl, inr, ℕ, zero, suc, ◌+◌, ◌<◌, ◌≤◌, ◌==◌, ◌&&◌, ◌||◌, not, Bool, true, false, List, [], ◌∷◌, length, Option, Some, None, refl, sym, ◌∙◌, ap, subst, arith, rules, tests}
+use Rattle.std.proofs.Common.{◌≡◌, ◌⊎◌, inl, inr, ℕ, zero, suc, ◌<◌, ◌&&◌, not, Bool, true, false, List, [], ◌∷◌, Some, refl, sym, ◌∙◌, ap, subst, arith, rules, tests}
 use Rattle.std.specs.Prelude.{nat_lt, slice_get}
 use Rattle.std.specs.List.{list_any}
-use Rattle.std.proofs.lemmas.Bool.{cases_lt, eqb-true, eq-eqb}
+use Rattle.std.proofs.lemmas.Bool.{cases_lt}
 use Rattle.il_machine.specs.declared.answer.Progress.{Progress}
 use Rattle.conductor.specs.declared.phase.ChangeStep.{ChangeStep}
 use Rattle.conductor.specs.declared.phase.ChangeStep.TheVariants.{Disable, Retune, Enable}
 use Rattle.conductor.specs.declared.phase.LateLink.{LateLink}
-use Rattle.conductor.specs.Changing.{HasNoStep, IsFirst, IsNextStep, NoneDue}
+use Rattle.conductor.specs.Changing.{HasNoStep, IsNextStep, NoneDue}
 use Rattle.conductor.specs.Phases.{IsStep, NoneBefore, has_half, has_settings, is_changed, is_half, is_ready}
 use Rattle.play_forms.proofs.Places.{Some_same, and_both, both, either, not_true}
 

@@ -1,4 +1,4 @@
-use Rattle.std.proofs.Common.{subst, sym}
+use Rattle.std.proofs.Common.{subst}
 use Rattle.std.proofs.lemmas.Option.{get_or_from_slice_get}
 use Rattle.conductor.specs.Changing.{HasNoStep}
 use Rattle.conductor.proofs.Defaults.{no_late}

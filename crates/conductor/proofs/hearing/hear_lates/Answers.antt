@@ -1,6 +1,5 @@
-use Rattle.std.proofs.Common.{◌≡◌, ◌+◌, ◌<◌, List, length, take, drop, get_or, sym, subst, arith}
+use Rattle.std.proofs.Common.{◌≡◌, ◌+◌, ◌<◌, length, take, drop, get_or, sym, subst, arith}
 use Rattle.std.proofs.Math.ListN.{set}
-use Rattle.conductor.specs.declared.phase.LateLink.{LateLink}
 use Rattle.conductor.specs.Hearing.{heard_late, heard_lates}
 use Rattle.stream_plan.proofs.Lists.{there_at}
 use Rattle.conductor.proofs.Defaults.{no_late}

@@ -1,4 +1,4 @@
-use Rattle.std.proofs.Common.{◌≡◌, ◌++◌, length, take, drop}
+use Rattle.std.proofs.Common.{◌≡◌, take, drop}
 use Rattle.conductor.specs.Hearing.{heard_lates}
 use Rattle.conductor.proofs.hearing.hear_lates.Given as goal
 

@@ -1,8 +1,7 @@
 use Rattle.std.proofs.Common.{◌≡◌, false, List, sym, ◌∙◌, ap, subst}
 use Rattle.il_machine.specs.declared.answer.Progress.{Progress}
-use Rattle.conductor.specs.DueChange.{NoChange, NoSend}
 use Rattle.conductor.specs.Hearing.{ConductorValue}
-use Rattle.conductor.specs.Phases.{IsWaiting, has_failed, is_over}
+use Rattle.conductor.specs.Phases.{IsWaiting, has_failed}
 use Rattle.conductor.proofs.conductor.Conductor.next.Goals as goal
 
 pub returns-else-is_over : goal.returns-else-is_over
