@@ -30,3 +30,5 @@ pub mod Peers
 pub mod SupplyTests
 pub mod Supplied
 pub mod Released
+pub mod Picked
+pub mod Claimed

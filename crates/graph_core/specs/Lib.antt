@@ -9,3 +9,4 @@ pub mod Moving
 pub mod Supplying
 pub mod Closing
 pub mod Units
+pub mod Claiming

@@ -3,6 +3,7 @@
 #![tactic(auto)]
 
 mod buffers;
+mod claiming;
 mod closing;
 mod commanding;
 mod core_graph;
@@ -13,8 +14,10 @@ mod making;
 mod noting;
 mod other_end;
 mod passing;
+mod picking;
 mod supplying;
 mod tunnels;
 mod units;
 
 pub use core_graph::Core;
+pub use picking::Places;

@@ -1,0 +1,42 @@
+//! A component's work goes out.
+
+ghost use Rattle.std.specs.Prelude.{◌≡◌, ◌<◌, None, length, option_map, MatchOption, IsSomeAnd};
+ghost use Rattle.il_machine.specs.Headers.{seen};
+ghost use Rattle.il_machine.specs.Claims.{claim_idle, with_work, work_of};
+ghost use Rattle.il_machine.specs.Whole.{Steps};
+ghost use Rattle.port_rules.specs.Claiming.{claimed_by};
+ghost use Rattle.port_stock.specs.Kept.{stocked};
+ghost use Rattle.graph_core.specs.Claiming.{HasFronts};
+ghost use Rattle.graph_core.specs.Entries.{kept, look_of, component_at};
+ghost use Rattle.graph_core.specs.Clients.{KeepsAllClients};
+
+use crate::core_graph::Core;
+use crate::picking::{Places, numbers_of, pick_up};
+use note_queues::Client;
+use port_rules::{NoWork, must_announce};
+
+impl<C: Client> Core<C> {
+    /// Why the component at the place gives no work, if it doesn't.
+    pub fn claim_idle(&self, place: usize) -> Option<NoWork>
+        requires { place < length self.now.entries }
+        ensures { MatchOption (component_at place self.now) ⊥ (λ c. option_map claimed_by result ≡ claim_idle (look_of self.now) c) }
+    {
+        let component = &self.components[place];
+        port_rules::claim_idle(&self.stock, component)
+    }
+
+    /// The work of the component at the place goes out, with the front of `todo` of each input that hasn't ended and of each output. An
+    /// announcement has no header.
+    pub fn claim(&mut self, place: usize) -> Places
+        requires { IsSomeAnd (component_at place self.old) (λ c. claim_idle (look_of self.old) c ≡ None) }
+        ensures change { MatchOption (component_at place self.old) ⊥ (λ c. Steps (kept C.progress self.old) (kept C.progress self.new) (λ w v. v ≡ with_work place c (work_of (seen w.headers) c) w)) }
+        ensures headers { MatchOption (component_at place self.old) ⊥ (λ c. HasFronts c result (stocked self.old.stock)) }
+        ensures clients { KeepsAllClients self.old self.new }
+    {
+        let component = &mut self.components[place];
+        let announces = must_announce(&self.stock, component);
+        let headers = pick_up(&mut self.stock, component, announces);
+        component.give_work(numbers_of(&headers), announces);
+        headers
+    }
+}
