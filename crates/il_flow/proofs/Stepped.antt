@@ -51,9 +51,9 @@ pub record IsSet (t : Terms) (sh : Shape) (l : Layout) (s : Stream) (p : PartSee
 some_is : (a b : ℕ) → Some a ≡ Some b → a ≡ b
 some_is a b e = cc
 
-is_left : (t : Terms) (s : Stream) (p : PartSeen) (left : Option ℕ) → is_some left ≡ is_source t.kind → left ≡ p.left → HasDone t false s p → IsLeft left t s
-is_left t s p None some e h = sym some
-is_left t s p (Some n) some e h = (sym some, some_is n (frames_left t s) (e ∙ h.left (sym some)))
+pub is_left : (t : Terms) (s : Stream) (p : PartSeen) (failed : Bool) (left : Option ℕ) → is_some left ≡ is_source t.kind → left ≡ p.left → HasDone t failed s p → IsLeft left t s
+is_left t s p failed None some e h = sym some
+is_left t s p failed (Some n) some e h = (sym some, some_is n (frames_left t s) (e ∙ h.left (sym some)))
 
 -- ---- a source's file
 
@@ -120,7 +120,7 @@ whole_by : (t : Terms) (sh : Shape) (l : Layout) (s : Stream) (p p' : PartSeen) 
 whole_by t sh l s p p' left k n over text carries before after false e is frames w reads texts =
     ([], rw e refl, refl, headers_are t sh l s p p' left n over text [] carries before after is w (λ f. absurd (cc)), texts)
 whole_by t sh l s p p' left k n over text carries before after true e is frames w reads texts =
-    let few = few_left t s left n (carried_from 0 before) (is_left t s p left is.some is.left_is is.has_done) e frames in
+    let few = few_left t s left n (carried_from 0 before) (is_left t s p false left is.some is.left_is is.has_done) e frames in
     let size : length w.piece ≡ n * frame_bytes_of (file_format t.file) = reads (with_file w.piece (came_in t sh n before)) e w.carried ∙ source_bytes t sh l s n is.lawful is.fits is.laid e few in
     let g : IsGiven s.known p'.rest (bytes_given t s) (n * frame_bytes_of (file_format t.file)) w.piece = given s.known p.rest p'.rest (bytes_given t s) (n * frame_bytes_of (file_format t.file)) w.piece size (is.has_done.rest e refl) w.read in
     (w.piece, rw e g.told, refl, headers_are t sh l s p p' left n over text w.piece carries before after is w (λ f. refl), texts)
@@ -133,7 +133,7 @@ pub whole_step : (t : Terms) (sh : Shape) (l : Layout) (s : Stream) (p p' : Part
 whole_step t sh l s p p' left k n over text carries before after is frames ends w reads texts =
     let hs = carried_from 0 before in
     let done = done_with k n (carried_from 0 after) text in
-    let lefts = is_left t s p left is.some is.left_is is.has_done in
+    let lefts = is_left t s p false left is.some is.left_is is.has_done in
     let by : IsWholeBy n over t s hs done =
     whole_by t sh l s p p' left k n over text carries before after (is_source t.kind) refl is frames w reads (texts ∙ text_of_step t sh l s p left n before is) in
     let at_end : IsWholeBy n (is_over t s n (inputs_ended t n hs)) t s hs done = subst (λ b. IsWholeBy n b t s hs done) (ends ∙ over_is t s left n hs lefts) by in
@@ -149,7 +149,7 @@ gave_on : (t : Terms) (sh : Shape) (l : Layout) (s : Stream) (p p' : PartSeen) (
     → ((came : Incoming) → is_source t.kind ≡ true → carries came → length came.file ≡ n * sh.output_frame) → is_source t.kind ≡ true
     → p'.rest ≡ option_map (drop ((s.frames + n) * frame_bytes_of (file_format t.file))) s.known
 gave_on t sh l s p p' left n over text carries before after is frames w reads source =
-    let few = few_left t s left n (carried_from 0 before) (is_left t s p left is.some is.left_is is.has_done) source frames in
+    let few = few_left t s left n (carried_from 0 before) (is_left t s p false left is.some is.left_is is.has_done) source frames in
     let size : length w.piece ≡ n * frame_bytes_of (file_format t.file) = reads (with_file w.piece (came_in t sh n before)) source w.carried ∙ source_bytes t sh l s n is.lawful is.fits is.laid source few in
     let g : IsGiven s.known p'.rest (bytes_given t s) (n * frame_bytes_of (file_format t.file)) w.piece = given s.known p.rest p'.rest (bytes_given t s) (n * frame_bytes_of (file_format t.file)) w.piece size (is.has_done.rest source refl) w.read in
     g.left ∙ ap (λ k. option_map (drop k) s.known) (place_on s.frames n (frame_bytes_of (file_format t.file)))
@@ -184,7 +184,7 @@ pub broken_step : (t : Terms) (sh : Shape) (l : Layout) (s : Stream) (p p' : Par
 broken_step t sh l s p p' left k n fault text before after is frames of_kind same w texts =
     let hs = carried_from 0 before in
     let whole : text ≡ text_of t s (step_frames t s hs) hs =
-    texts ∙ text_of_step t sh l s p left n before is ∙ ap (λ m. text_of t s m hs) (frames ∙ frames_are t s left hs (is_left t s p left is.some is.left_is is.has_done)) in
+    texts ∙ text_of_step t sh l s p left n before is ∙ ap (λ m. text_of t s m hs) (frames ∙ frames_are t s left hs (is_left t s p false left is.some is.left_is is.has_done)) in
     (fault_of t.kind fault of_kind, refl, ap (carried_from 0) same, (w.front.0, subst (λ l. w.front.0 ≤ length l) whole w.front.1, ap (take w.front.0) whole))
 
 no_more : (n : ℕ) → n ≡ n + 0

@@ -1,3 +1,4 @@
+pub mod Landed
 pub mod Layouts
 pub mod Picking
 pub mod Places

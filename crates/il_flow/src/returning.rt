@@ -44,7 +44,7 @@ fn carries(layout: Layout, failed: bool, component: Handle, port: u32, header: &
 }
 
 /// The mark that is carried on: the first one of those, by port.
-fn mark_from(
+pub(crate) fn mark_from(
     layout: Layout,
     failed: bool,
     component: Handle,
@@ -88,7 +88,7 @@ fn bring_place<C>(
 }
 
 /// Brings all of them back, by rising port from this one on.
-fn bring_places<C>(
+pub(crate) fn bring_places<C>(
     stock: &mut Stock,
     notes: &mut Notes<C>,
     places: &mut [Option<Header>],

@@ -5,6 +5,7 @@ use Rattle.il_flow.specs.Layouts.{ports_of}
 use Rattle.il_flow.specs.Places.{AreSame, AreWithin, carried_from}
 use Rattle.il_flow.specs.Steps.{came_in, over_by, shown}
 use Rattle.part_api.specs.Streams.{with_file}
+use Rattle.il_flow.proofs.Laid.{all_laid}
 use Rattle.il_flow.proofs.Sameness.{all_same, itself, still_within}
 use Rattle.il_flow.proofs.Stepped.{IsBegun, comes_back, comes_broken}
 use Rattle.il_flow.proofs.running.do_step.Goals as goal
@@ -65,7 +66,7 @@ returns-in-None-clause-step g c =
     let came = came_in t sh c.frames_for-frames.result c.args.places.now in
     comes_back t sh c.layout_of-layout.result p p' c.frames_left-left.result c.frames_for-frames.result c.is_over-over.result (g.P.Part.writes did.0 came) (g.P.Part.carries c.step_part.new.part) c.args.places.now c.step_part.new.places
     begins c.frames_for-frames.ensures.value
-    (c.is_over-over.ensures t c.layout_of-layout.ensures.terms ∙ ap (λ n. over_by c.frames_left-left.result t n (carried_from 0 c.args.places.now)) c.from.ensures)
+    (c.is_over-over.ensures t (all_laid c.layout_of-layout.result t 0 c.args.places.now c.layout_of-layout.ensures.terms) ∙ ap (λ n. over_by c.frames_left-left.result t n (carried_from 0 c.args.places.now)) c.from.ensures)
     did.2
     (λ incoming source carried. c.is_by_terms-in-None.ensures.reads incoming (ap (λ x. is_source x.kind) c.in-None.ensures.terms ∙ source) carried ∙ ap (λ z. z.output) c.in-None.ensures.sizes)
     (c.is_by_terms.ensures.writes did.0 came ∙ ap (λ o. writes_of o (came.input 0)) did.1)
