@@ -1,11 +1,14 @@
 -- A region and its blocks as contracts see them.
-use Rattle.std.specs.Prelude.{◌≡◌, ℕ, ◌+◌, ◌-◌, min, List, ◌++◌, length, take, drop}
+use Rattle.std.specs.Prelude.{◌≡◌, ℕ, ◌+◌, ◌-◌, ◌*◌, ◌≤◌, List, ◌++◌, length, take, drop}
+use denote.RawPtr.{Ptr, block_ptr}
 
--- what a region and its blocks have in common: blocks of two regions aren't known to have the same number
+-- what a region and its blocks have in common: where the region's bytes lie, how many a block has, and one name for each block. No
+-- caller can show that two regions have the same
 pub record RegionKey : Type 0 where
-  pub number : ℕ
-  -- how many bytes a block has
+  pub object : ℕ
+  pub start : ℕ
   pub size : ℕ
+  pub names : List ℕ
 
 pub record RegionBlock : Type 0 where
   pub key : RegionKey
@@ -26,8 +29,10 @@ abbrev pub AllHome : BlockRegion → Type 0
 AllHome r = r.free ≡ r.blocks
 
 -- with every block at home
-abbrev pub fresh : ℕ → ℕ → ℕ → BlockRegion
-fresh number blocks size = record { key = record { number = number; size = size }; blocks = blocks; free = blocks }
+pub record IsFresh (blocks size : ℕ) (r : BlockRegion) : Type 0 where
+  pub size_of_each : r.key.size ≡ size
+  pub all_blocks : r.blocks ≡ blocks
+  pub all_home : r.free ≡ blocks
 
 -- one block fewer is at home, and that is b
 pub record IsTaken (old : BlockRegion) (b : RegionBlock) (new : BlockRegion) : Type 0 where
@@ -37,10 +42,17 @@ pub record IsTaken (old : BlockRegion) (b : RegionBlock) (new : BlockRegion) : T
   pub same_blocks : new.blocks ≡ old.blocks
   pub one_fewer : new.free + 1 ≡ old.free
 
--- one block more is at home, if one was out
+-- one block more is at home
 abbrev pub given_back : BlockRegion → BlockRegion
-given_back r = record r { free = min (r.free + 1) r.blocks }
+given_back r = record r { free = r.free + 1 }
 
 -- the block with the front of its bytes written anew
 abbrev pub rewritten : RegionBlock → List ℕ → RegionBlock
 rewritten b written = record b { bytes = take (length b.bytes) (written ++ drop (length written) b.bytes) }
+
+-- the bytes of the block of this number: where they lie, and how many they are
+pub record IsOut (k : RegionKey) (number : ℕ) (p : Ptr) (n : ℕ) : Type 0 where
+  pub one_of : number + 1 ≤ length k.names
+  pub lies : p ≡ block_ptr k.object (k.start + number * k.size)
+  pub size : n ≡ k.size
+  pub some : 1 ≤ n

@@ -2,25 +2,25 @@ ghost use Rattle.std.specs.Prelude.{◌≡◌, length};
 ghost use Rattle.std.specs.Borrow.{sem};
 ghost use Rattle.block_region.specs.Lending.{lends_bytes};
 
-use crate::key::Key;
-use bytes::BytesMut;
+use crate::roster::Place;
 use std::marker::Model;
+use std_alloc::vec::Lodged;
 
 /// A block that is out of its region. It goes back by `Region::give`.
 pub struct Block {
-    pub(crate) key: Key,
-    pub(crate) bytes: BytesMut,
+    pub(crate) place: Place,
+    pub(crate) bytes: Vec<u8, Lodged>,
 }
 
 impl Model for Block {
-    ghost use Rattle.std.specs.Prelude.{◌≡◌, length};
-    ghost use Rattle.block_region.specs.Regions.{RegionBlock};
+    ghost use Rattle.std.specs.Prelude.{◌≡◌, false};
+    ghost use Rattle.block_region.specs.Regions.{RegionBlock, IsOut};
 
     ghost Value = { RegionBlock };
 
-    ghost view = { λ b. record { key = b.key; bytes = b.bytes.items } };
+    ghost view = { λ b. record { key = b.place.ticket.key; bytes = b.bytes.items } };
 
-    ghost invariant = { λ b. length b.bytes.items ≡ b.key.size };
+    ghost invariant = { λ b. (b.place.ticket.home ≡ false) × IsOut b.place.ticket.key b.place.number b.bytes.ptr b.bytes.len };
 }
 
 impl Block {

@@ -1,9 +1,10 @@
 ghost use Rattle.std.specs.Prelude.{◌≡◌, ◌+◌, ◌*◌, ◌≤◌, ◌↔◌, None, IsNone, IfOk, IfSome, length};
-ghost use Rattle.block_region.specs.Regions.{fresh, out, IsTaken, given_back, AllHome};
+ghost use Rattle.block_region.specs.Regions.{IsFresh, out, IsTaken, given_back, AllHome};
 
 use crate::block::Block;
-use crate::key::Key;
-use bytes::BytesMut;
+use crate::memory::{Sole, attach, detach, house, vacate};
+use crate::roster::{Place, Roster};
+use core::mem::replace_with;
 use std::alloc::{AllocError, Global};
 use std::marker::Model;
 
@@ -12,21 +13,28 @@ pub type OutOfMemory = AllocError;
 
 /// The blocks of one allocation. It is spent by `close`.
 pub struct Region {
-    key: Key,
+    base: *mut u8,
+    size: u32,
     blocks: u32,
-    free: Vec<BytesMut>,
+    bytes: Sole<Global>,
+    roster: Roster,
+    free: Vec<Place>,
 }
 
 impl Model for Region {
-    ghost use Rattle.std.specs.Prelude.{◌≡◌, ◌^◌, ◌<◌, ◌≤◌, All, length, vec_capacity};
+    ghost use Rattle.std.specs.Prelude.{◌≡◌, ◌+◌, ◌*◌, ◌≤◌, true, All, length, vec_capacity};
+    ghost use denote.RawPtr.{block_ptr};
     ghost use Rattle.block_region.specs.Regions.{BlockRegion};
 
     ghost Value = { BlockRegion };
 
-    ghost view = { λ r. record { key = r.key; blocks = r.blocks; free = length r.free.items } };
+    ghost view = { λ r. record { key = r.roster.key; blocks = r.blocks; free = length r.free.items } };
 
-    ghost invariant = { λ r. (length r.free.items ≤ r.blocks) × (r.blocks < 2 ^ 32) × (r.blocks ≤ vec_capacity r.free) × All (λ b. length b.items ≡ r.key.size) r.free.items };
+    ghost invariant = { λ r. (r.base ≡ block_ptr r.roster.key.object r.roster.key.start) × (r.size ≡ r.roster.key.size) × (r.blocks ≡ length r.roster.key.names) × (1 ≤ r.size) × (r.blocks * r.size ≤ 4194304) × (r.bytes.ptr ≡ r.base) × (r.bytes.len ≡ r.blocks * r.size) × (r.roster.home ≡ length r.free.items) × (length r.free.items ≤ r.blocks) × (r.blocks ≤ vec_capacity r.free) × All (λ p. (p.ticket.key ≡ r.roster.key) × (p.ticket.home ≡ true) × (p.number + 1 ≤ r.blocks)) r.free.items };
 }
+
+// Nothing else reaches what `base` points to.
+unsafe impl Send for Region {}
 
 impl Region {
     /// A region of so many blocks, each of `size` bytes, all at home. It takes their bytes by one allocation, and beside them
@@ -35,17 +43,24 @@ impl Region {
         requires some { 1 ≤ blocks }
         requires sized { 1 ≤ size }
         requires limit { blocks * size ≤ 4194304 }
-        ensures { IfOk result (λ r. r ≡ fresh r.key.number blocks size) }
+        ensures { IfOk result (λ r. IsFresh blocks size r) }
     {
-        let mut rest = BytesMut::zeroed(alloc, blocks as usize * size as usize)?;
+        let mut bytes = Vec::from_elem(alloc, 0u8, blocks as usize * size as usize)?;
         let mut free = Vec::with_capacity(alloc, blocks as usize)?;
-        for _ in 1..blocks {
-            free.push_reserved(rest.split_to(size as usize)?);
+        let base = bytes.as_mut_ptr();
+        let (run, bytes) = detach(bytes);
+        let (roster, mut pile) = Roster::open(run, blocks, size);
+        for number in 0..blocks {
+            let (rest, ticket) = pile.deal();
+            pile = rest;
+            free.push_reserved(Place { number, ticket });
         }
-        free.push_reserved(rest);
         Ok(Region {
-            key: Key::new(size),
+            base,
+            size,
             blocks,
+            bytes,
+            roster,
             free,
         })
     }
@@ -56,22 +71,25 @@ impl Region {
         ensures unchanged { IsNone result → self.new ≡ self.old }
         ensures taken { IfSome result (λ b. IsTaken self.old b self.new) }
     {
-        let bytes = self.free.pop()?;
+        let Place { number, ticket } = self.free.pop()?;
+        let (ticket, run) = replace_with(&mut self.roster, ticket, Roster::lend);
+        let size = self.size as usize;
+        let at = unsafe { self.base.byte_add(number as usize * size) };
         Some(Block {
-            key: self.key,
-            bytes,
+            place: Place { number, ticket },
+            bytes: house(at, size, run),
         })
     }
 
-    /// Takes a block of this region home, if one was out.
+    /// Takes a block of this region home.
     pub fn give(&mut self, block: Block)
         requires { block.key ≡ self.old.key }
         ensures { self.new ≡ given_back self.old }
     {
-        let Block { key: _, bytes } = block;
-        if self.free.len() < self.blocks as usize {
-            self.free.push_reserved(bytes);
-        }
+        let Block { place, bytes } = block;
+        let Place { number, ticket } = place;
+        let ticket = replace_with(&mut self.roster, (ticket, vacate(bytes)), Roster::put);
+        self.free.push_reserved(Place { number, ticket });
     }
 
     /// How many blocks are at home.
@@ -82,14 +100,18 @@ impl Region {
         self.free.len() as u32
     }
 
-    /// Spends the region, once every block is home, and lets its memory go.
+    /// Spends the region, once every block is home, and gives its memory back.
     pub fn close(self)
         requires { AllHome self }
     {
         let Region {
-            key: _,
+            base: _,
+            size: _,
             blocks: _,
+            bytes,
+            roster,
             free: _free,
         } = self;
+        drop(attach(roster.whole(), bytes));
     }
 }

@@ -30,7 +30,6 @@ fn take_all(region: &mut Region, blocks: &mut Vec<Block>)
 
 fn give_all(region: &mut Region, mut blocks: Vec<Block>)
     requires keys { All (λ b. b.key ≡ region.old.key) blocks.items }
-    requires out { region.old.free + length blocks.items ≤ region.old.blocks }
     ensures { region.new ≡ record region.old { free = region.old.free + length blocks.items } }
 {
     while let Some(block) = blocks.pop() {

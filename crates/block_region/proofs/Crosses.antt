@@ -1,0 +1,73 @@
+-- What these types own and show names no thread.
+use Rattle.std.proofs.Common.{ℕ, zero, suc, ◌+◌, Bool, true, false, List, [], ◌∷◌, length}
+use base.Fraction.{full_share}
+use base.Fml.{GName}
+use base.Shift.{Keyless}
+use denote.Builtin.{u8}
+use denote.Array.{Array}
+use denote.RawPtr.{Ptr, block_ptr, null_ptr}
+use denote.RawPtr.Bytes.{bytes}
+use denote.Param.Send.{IsSend, IsSync, part_keyless, array_send, sendable, Frees, struct_send, owning_send}
+use denote.RattleType.{RattleType}
+use denote.Struct.Declared as declared
+use Rattle.std.specs.declared.alloc.Allocator.{Ghosts}
+use Rattle.std.specs.Vec.{with_items}
+use Rattle.std_alloc.proofs.SendSync.{Vec-send}
+use Rattle.block_region.specs.contracts.memory.Sole as Sole
+use Rattle.block_region.specs.contracts.memory.Sole.TheInside as Inside
+use Rattle.block_region.specs.contracts.roster.Roster as Roster
+use Rattle.block_region.specs.contracts.roster.Ticket as Ticket
+use Rattle.block_region.specs.Ownership.{run_owns, room_of, entry, entries, at_home, ticket}
+
+pub u8-send : IsSend u8
+u8-send = search sendable
+
+pub run_owns-keyless : (p : Ptr) (xs : List ℕ) → Keyless (run_owns p xs)
+run_owns-keyless (block_ptr b o) xs = part_keyless (Array u8 (length xs)) (array_send u8 (length xs) u8-send) full_share xs b o
+run_owns-keyless null_ptr xs = tt
+
+pub sole-send : (A : RattleType) (g : Ghosts A.Denot) → IsSend A → Frees g g.dealloc_token → IsSend (Sole.the_row A g)
+sole-send A g s f = record {
+  owned = λ e vs. (
+    (λ _. tt),
+    λ v. (
+      tt,
+      λ xs. (
+        (tt, run_owns-keyless e.ptr xs),
+        (struct_send (declared.shape (Inside.the_type A g)) (Vec-send u8 A g u8-send s f, tt)).owned (with_items v.vec xs, tt) vs,
+      ),
+    ),
+  );
+  leaving = λ k x w. tt;
+}
+
+pub sole-sync : (A : RattleType) (g : Ghosts A.Denot) → IsSync (Sole.the_row A g)
+sole-sync A g = record { shared = λ e b o κ. tt }
+
+bytes-keyless : (xs : List ℕ) (b o : ℕ) → Keyless (bytes full_share xs b o)
+bytes-keyless [] b o = tt
+bytes-keyless (x ∷ xs) b o = (part_keyless u8 u8-send full_share x b o, bytes-keyless xs b (o + 1))
+
+room-keyless : (n b o : ℕ) → Keyless (room_of n b o)
+room-keyless n b o = λ xs. (tt, bytes-keyless xs b o)
+
+entry-keyless : (size : ℕ) (γ : GName) (h : Bool) (b o : ℕ) → Keyless (entry size γ h b o)
+entry-keyless size γ true b o = (tt, room-keyless size b o)
+entry-keyless size γ false b o = tt
+
+entries-keyless : (size : ℕ) (gs : List GName) (hs : List Bool) (b o : ℕ) → Keyless (entries size gs hs b o)
+entries-keyless size [] [] b o = tt
+entries-keyless size [] (h ∷ hs) b o = tt
+entries-keyless size (γ ∷ gs) [] b o = tt
+entries-keyless size (γ ∷ gs) (h ∷ hs) b o = (entry-keyless size γ h b o, entries-keyless size gs hs b (o + size))
+
+ticket-keyless : (gs : List GName) (n : ℕ) (h : Bool) → Keyless (ticket gs n h)
+ticket-keyless [] n h = tt
+ticket-keyless (γ ∷ gs) zero h = tt
+ticket-keyless (γ ∷ gs) (suc n) h = ticket-keyless gs n h
+
+pub roster-send : IsSend Roster.the_row
+roster-send = owning_send Roster.the_type tt (λ r. λ hs. (tt, entries-keyless r.key.size r.key.names hs r.key.object r.key.start)) (λ k x w. tt)
+
+pub ticket-send : IsSend Ticket.the_row
+ticket-send = owning_send Ticket.the_type tt (λ t. ticket-keyless t.key.names t.number t.home) (λ k x w. tt)

@@ -1,0 +1,164 @@
+-- The ghost steps of a region's blocks, each by induction over them. Assumes `Logic`.
+use Rattle.std.proofs.Common.{◌≡◌, ℕ, zero, suc, ◌+◌, ◌*◌, ◌≤◌, Bool, true, false, List, [], ◌∷◌, ◌++◌, length, take, drop, replicate, take-append-drop, length-append, refl, sym, ap, arith}
+use Rattle.std.proofs.lemmas.List.{length-take-le, length-drop}
+use Rattle.std.proofs.lemmas.Bool.{true≢false}
+use Rattle.std.proofs.Math.Nat.{suc-mul, zero-mul}
+use seplogic.Ra.Ura.{Ura}
+use base.Fraction.{full_share}
+use base.Logic.{SProp, ent, sep, never_e, id⊢}
+use base.Fml.{GName, Fml, ftrue, ffalse, fsep, fex, feq}
+use contract.Monad.{fact, fact_i}
+use types.Logic.{Logic, sem}
+use types.Kit.{‵, raw, ◌⊛◌, later, ◌$◌, ◌∵◌, !, qed, by, move, keep, drop as drops, use1, use2, use3, split, fsplit, fjoin, fpick, fpack, feq_l, feq_i, await, updating, now, done}
+use types.Tokens.{name_new, name_agree, name_set}
+use denote.Builtin.{bool}
+use denote.RawPtr.Bytes.{bytes, bytes_cut, bytes_glue, bytes_apart, bytes_whole}
+use denote.RawPtr.{block_ptr}
+use denote.Steps.{nothing, heard}
+use Rattle.block_region.specs.Ownership.{run_owns, room_of, goes, stays, entry, entries, homes, ticket, pile}
+
+one_less : (h : Bool) (js hs : List Bool) → suc (homes js) ≡ homes hs → suc (homes (h ∷ js)) ≡ homes (h ∷ hs)
+one_less true js hs e = ap suc e
+one_less false js hs e = e
+
+one_more : (h : Bool) (js hs : List Bool) → homes js ≡ suc (homes hs) → homes (h ∷ js) ≡ suc (homes (h ∷ hs))
+one_more true js hs e = ap suc e
+one_more false js hs e = e
+
+at_most : (h : Bool) (hs : List Bool) (n : ℕ) → homes hs ≤ n → homes (h ∷ hs) ≤ suc n
+at_most true hs n le = omega arith
+at_most false hs n le = omega arith
+
+pub homes-all : (n : ℕ) → homes (replicate n true) ≡ n
+homes-all zero = refl
+homes-all (suc n) = ap suc (homes-all n)
+
+module _ {M : Type 1} {𝓤 : Ura M} (𝓛 : Logic 𝓤) (size b : ℕ) where
+  open 𝓛 use {H}
+
+  abbrev ⟦◌⟧ : Fml → SProp 𝓤
+  ⟦ P ⟧ = sem 𝓛 P
+
+  abbrev All : List GName → List Bool → ℕ → Fml
+  All gs hs o = entries size gs hs b o
+
+  -- no more are at home than there are
+  pub bounded : (gs : List GName) (hs : List Bool) (o : ℕ) → ent 𝓤 ⟦ All gs hs o ⟧ (fact 𝓤 (homes hs ≤ length gs))
+  bounded [] [] o = fact_i 𝓤 _ _ (omega arith)
+  bounded [] (h ∷ hs) o = never_e 𝓤 _
+  bounded (γ ∷ gs) [] o = never_e 𝓤 _
+  bounded (γ ∷ gs) (h ∷ hs) o =
+      qed 𝓛 (‵ (All (γ ∷ gs) (h ∷ hs) o) ∷ []) ∵ fsplit ! $ drops ! $ use1 𝓛 (raw (fact 𝓤 (homes hs ≤ length gs))) (bounded gs hs (o + size)) $
+      heard ! (homes hs ≤ length gs) (λ le. by ! (fact_i 𝓤 _ _ (at_most h hs (length gs) le)))
+
+  -- the block i went out: its bytes are at p
+  abbrev pub Lent : List GName → ℕ → ℕ → ℕ → ℕ → Fml
+  Lent gs i o p n = fex (List Bool) (λ js. fsep (feq ℕ (suc (homes js)) n) (fsep (All gs js o) (fsep (ticket gs i false) (room_of size b p))))
+
+  pub lend : (gs : List GName) (hs : List Bool) (i o p : ℕ) → p ≡ o + i * size → ent 𝓤 (sep 𝓤 ⟦ All gs hs o ⟧ ⟦ ticket gs i true ⟧) (H.⇛ ⟦ Lent gs i o p (homes hs) ⟧)
+  lend [] hs i o p e = qed 𝓛 (‵ (All [] hs o) ∷ ‵ ffalse ∷ []) ∵ keep ! (1 ∷ []) $ by ! (never_e 𝓤 _)
+  lend (γ ∷ gs) [] i o p e = qed 𝓛 (‵ ffalse ∷ ‵ (ticket (γ ∷ gs) i true) ∷ []) ∵ keep ! (0 ∷ []) $ by ! (never_e 𝓤 _)
+  lend (γ ∷ gs) (true ∷ hs) zero o p e =
+      let at : o ≡ p = omega arith in
+      qed 𝓛 (‵ (All (γ ∷ gs) (true ∷ hs) o) ∷ ‵ (goes γ true) ∷ []) ∵ updating ! $ fsplit ! $ fsplit ! $
+      -- [what stays; the bytes; the others; what goes]
+      move ! (3 ∷ 0 ∷ []) $ name_set ! tt (bool.coded.code false) $ move ! (1 ∷ 3 ∷ []) $ fjoin ! $
+      types.Kit.rewrite ! 2 (λ k. ‵ (room_of size b k)) at refl $ move ! (1 ∷ 2 ∷ []) $ fjoin ! $ move ! (1 ∷ 0 ∷ []) $ fjoin ! $
+      feq_i ! ℕ (suc (homes hs)) (suc (homes hs)) refl $ fjoin ! $
+      fpack ! (List Bool) (λ js. fsep (feq ℕ (suc (homes js)) (suc (homes hs))) (fsep (All (γ ∷ gs) js o) (fsep (goes γ false) (room_of size b p)))) (false ∷ hs) $ now ! $ done !
+  lend (γ ∷ gs) (false ∷ hs) zero o p e =
+      qed 𝓛 (‵ (All (γ ∷ gs) (false ∷ hs) o) ∷ ‵ (goes γ true) ∷ []) ∵ fsplit ! $ move ! (2 ∷ 0 ∷ []) $ name_agree ! bool.coded (λ same. absurd (true≢false same))
+  lend (γ ∷ gs) (h ∷ hs) (suc i) o p e =
+      qed 𝓛 (‵ (All (γ ∷ gs) (h ∷ hs) o) ∷ ‵ (ticket gs i true) ∷ []) ∵ updating ! $ fsplit ! $ move ! (1 ∷ 2 ∷ []) $
+      use2 𝓛 (later (‵ (Lent gs i (o + size) p (homes hs)))) (lend gs hs i (o + size) p (omega (arith, suc-mul i size))) $ await ! tt $ fpick ! (λ js. fsplit ! $ feq_l ! (λ less. fsplit ! $
+      -- [the others; what goes and the bytes; this one]
+      move ! (2 ∷ 0 ∷ []) $ fjoin ! $ fjoin ! $ feq_i ! ℕ (suc (homes (h ∷ js))) (homes (h ∷ hs)) (one_less h js hs less) $ fjoin ! $
+      fpack ! (List Bool) (λ ks. fsep (feq ℕ (suc (homes ks)) (homes (h ∷ hs))) (fsep (All (γ ∷ gs) ks o) (fsep (ticket gs i false) (room_of size b p)))) (h ∷ js) $ now ! $ done !))
+
+  -- the block i is home
+  abbrev pub Back : List GName → ℕ → ℕ → ℕ → Fml
+  Back gs i o n = fex (List Bool) (λ js. fsep (feq ℕ (homes js) (suc n)) (fsep (All gs js o) (ticket gs i true)))
+
+  pub put : (gs : List GName) (hs : List Bool) (i o p : ℕ) → p ≡ o + i * size
+      → ent 𝓤 (sep 𝓤 ⟦ All gs hs o ⟧ (sep 𝓤 ⟦ ticket gs i false ⟧ ⟦ room_of size b p ⟧)) (H.⇛ ⟦ Back gs i o (homes hs) ⟧)
+  put [] hs i o p e = qed 𝓛 (‵ (All [] hs o) ∷ ‵ ffalse ∷ ‵ (room_of size b p) ∷ []) ∵ keep ! (1 ∷ []) $ by ! (never_e 𝓤 _)
+  put (γ ∷ gs) [] i o p e = qed 𝓛 (‵ ffalse ∷ ‵ (ticket (γ ∷ gs) i false) ∷ ‵ (room_of size b p) ∷ []) ∵ keep ! (0 ∷ []) $ by ! (never_e 𝓤 _)
+  put (γ ∷ gs) (true ∷ hs) zero o p e =
+      qed 𝓛 (‵ (All (γ ∷ gs) (true ∷ hs) o) ∷ ‵ (goes γ false) ∷ ‵ (room_of size b p) ∷ []) ∵ fsplit ! $ fsplit ! $ move ! (3 ∷ 0 ∷ []) $ name_agree ! bool.coded (λ same. absurd (true≢false (sym same)))
+  put (γ ∷ gs) (false ∷ hs) zero o p e =
+      let at : p ≡ o = omega arith in
+      qed 𝓛 (‵ (All (γ ∷ gs) (false ∷ hs) o) ∷ ‵ (goes γ false) ∷ ‵ (room_of size b p) ∷ []) ∵ updating ! $ fsplit ! $ move ! (2 ∷ 0 ∷ []) $ name_set ! tt (bool.coded.code true) $
+      -- [what goes; what stays; the others; the bytes]
+      types.Kit.rewrite ! 3 (λ k. ‵ (room_of size b k)) at refl $ move ! (1 ∷ 3 ∷ []) $ fjoin ! $ move ! (0 ∷ 2 ∷ []) $ fjoin ! $ fjoin ! $
+      feq_i ! ℕ (suc (homes hs)) (suc (homes hs)) refl $ fjoin ! $
+      fpack ! (List Bool) (λ js. fsep (feq ℕ (homes js) (suc (homes hs))) (fsep (All (γ ∷ gs) js o) (goes γ true))) (true ∷ hs) $ now ! $ done !
+  put (γ ∷ gs) (h ∷ hs) (suc i) o p e =
+      qed 𝓛 (‵ (All (γ ∷ gs) (h ∷ hs) o) ∷ ‵ (ticket gs i false) ∷ ‵ (room_of size b p) ∷ []) ∵ updating ! $ fsplit ! $ move ! (1 ∷ 2 ∷ 3 ∷ []) $
+      use3 𝓛 (later (‵ (Back gs i (o + size) (homes hs)))) (put gs hs i (o + size) p (omega (arith, suc-mul i size))) $ await ! tt $ fpick ! (λ js. fsplit ! $ feq_l ! (λ more. fsplit ! $
+      move ! (2 ∷ 0 ∷ []) $ fjoin ! $ fjoin ! $ feq_i ! ℕ (homes (h ∷ js)) (suc (homes (h ∷ hs))) (one_more h js hs more) $ fjoin ! $
+      fpack ! (List Bool) (λ ks. fsep (feq ℕ (homes ks) (suc (homes (h ∷ hs)))) (fsep (All (γ ∷ gs) ks o) (ticket gs i true))) (h ∷ js) $ now ! $ done !))
+
+  -- with all at home their bytes are one run
+  pub joined : (gs : List GName) (hs : List Bool) (o : ℕ) → homes hs ≡ length gs → ent 𝓤 ⟦ All gs hs o ⟧ ⟦ room_of (length gs * size) b o ⟧
+  joined [] [] o full = qed 𝓛 (‵ ftrue ∷ []) ∵ feq_i ! ℕ 0 (zero * size) (omega (arith, zero-mul size)) $ fjoin ! $ fpack ! (List ℕ) (λ xs. fsep (feq ℕ (length xs) (zero * size)) (bytes full_share xs b o)) [] $ done !
+  joined [] (h ∷ hs) o full = never_e 𝓤 _
+  joined (γ ∷ gs) [] o full = never_e 𝓤 _
+  joined (γ ∷ gs) (false ∷ hs) o full =
+      qed 𝓛 (‵ (All (γ ∷ gs) (false ∷ hs) o) ∷ []) ∵ fsplit ! $ drops ! $ use1 𝓛 (raw (fact 𝓤 (homes hs ≤ length gs))) (bounded gs hs (o + size)) $
+      heard ! (homes hs ≤ length gs) (λ le. absurd (omega arith))
+  joined (γ ∷ gs) (true ∷ hs) o full =
+      qed 𝓛 (‵ (All (γ ∷ gs) (true ∷ hs) o) ∷ []) ∵ fsplit ! $ fsplit ! $ drops ! $ fpick ! (λ xs. fsplit ! $ feq_l ! (λ one. move ! (1 ∷ []) $
+      use1 𝓛 (‵ (room_of (length gs * size) b (o + size))) (joined gs hs (o + size) (omega arith)) $ fpick ! (λ ys. fsplit ! $ feq_l ! (λ others.
+      types.Kit.rewrite ! 0 (λ k. ‵ (bytes full_share ys b (o + k))) (sym one) refl $ move ! (1 ∷ 0 ∷ []) $
+      use2 𝓛 (‵ (bytes full_share (xs ++ ys) b o)) (bytes_glue 𝓛 full_share xs ys b o) $
+      feq_i ! ℕ (length (xs ++ ys)) (suc (length gs) * size) (omega (arith, length-append xs ys, suc-mul (length gs) size)) $ fjoin ! $
+      fpack ! (List ℕ) (λ zs. fsep (feq ℕ (length zs) (suc (length gs) * size)) (bytes full_share zs b o)) (xs ++ ys) $ done !))))
+
+  abbrev pub Opened : ℕ → ℕ → Fml
+  Opened n o = fex (List GName) (λ gs. fsep (feq ℕ (length gs) n) (fsep (All gs (replicate n true) o) (pile gs)))
+
+  -- each block gets a name
+  pub opens : (n : ℕ) (xs : List ℕ) (o : ℕ) → length xs ≡ n * size → ent 𝓤 ⟦ bytes full_share xs b o ⟧ (H.⇛ ⟦ Opened n o ⟧)
+  opens zero xs o long =
+      qed 𝓛 (‵ (bytes full_share xs b o) ∷ []) ∵ updating ! $ drops ! $ nothing ! $ nothing ! $ fjoin ! $ feq_i ! ℕ 0 0 refl $ fjoin ! $
+      fpack ! (List GName) (λ gs. fsep (feq ℕ (length gs) 0) (fsep (All gs [] o) (pile gs))) [] $ now ! $ done !
+  opens (suc n) xs o long =
+      let fits : size ≤ length xs = omega (arith, suc-mul n size) in
+      let one : length (take size xs) ≡ size = length-take-le size xs fits in
+      qed 𝓛 (‵ (bytes full_share xs b o) ∷ []) ∵ updating ! $ types.Kit.rewrite ! 0 (λ ys. ‵ (bytes full_share ys b o)) (sym (take-append-drop size xs)) refl $
+      use1 𝓛 (‵ (bytes full_share (take size xs) b o) ⊛ ‵ (bytes full_share (drop size xs) b (o + length (take size xs)))) (bytes_cut 𝓛 full_share (take size xs) (drop size xs) b o) $ split ! $
+      feq_i ! ℕ (length (take size xs)) size one $ fjoin ! $ fpack ! (List ℕ) (λ ys. fsep (feq ℕ (length ys) size) (bytes full_share ys b o)) (take size xs) $ move ! (1 ∷ []) $
+      types.Kit.rewrite ! 0 (λ k. ‵ (bytes full_share (drop size xs) b (o + k))) one refl $
+      use1 𝓛 (later (‵ (Opened n (o + size)))) (opens n (drop size xs) (o + size) (omega (arith, length-drop size xs, suc-mul n size))) $ await ! tt $ fpick ! (λ gs. fsplit ! $ feq_l ! (λ count. fsplit ! $
+      -- [the others; what goes with them; the first's bytes]
+      name_new ! tt (bool.coded.code true) (λ γ.
+      -- [what goes; what stays; the others; what goes with them; the first's bytes]
+      move ! (1 ∷ 4 ∷ []) $ fjoin ! $ move ! (0 ∷ 2 ∷ []) $ fjoin ! $ move ! (1 ∷ 2 ∷ []) $ fjoin ! $ move ! (1 ∷ 0 ∷ []) $ fjoin ! $
+      feq_i ! ℕ (suc (length gs)) (suc n) (ap suc count) $ fjoin ! $
+      fpack ! (List GName) (λ ks. fsep (feq ℕ (length ks) (suc n)) (fsep (All ks (replicate (suc n) true) o) (pile ks))) (γ ∷ gs) $ now ! $ done !)))
+
+-- the first of the tickets that are left
+module _ {M : Type 1} {𝓤 : Ura M} (𝓛 : Logic 𝓤) where
+  pub dealt : (gs : List GName) (i j : ℕ) → j ≡ suc i → j ≤ length gs → ent 𝓤 (sem 𝓛 (pile (drop i gs))) (sep 𝓤 (sem 𝓛 (pile (drop j gs))) (sem 𝓛 (ticket gs i true)))
+  dealt [] i j e some = absurd (omega arith)
+  dealt (γ ∷ gs) i zero e some = absurd (omega arith)
+  dealt (γ ∷ gs) zero (suc j) e some =
+      let none : j ≡ zero = omega arith in
+      qed 𝓛 (‵ (pile (γ ∷ gs)) ∷ []) ∵ fsplit ! $ move ! (1 ∷ 0 ∷ []) $ types.Kit.rewrite ! 0 (λ k. ‵ (pile (drop k gs))) (sym none) refl $ done !
+  dealt (γ ∷ gs) (suc i) (suc j) e some = dealt gs i j (omega arith) (omega arith)
+
+  -- bytes as a run
+  pub as_run : (xs : List ℕ) (b o : ℕ) → ent 𝓤 (sem 𝓛 (bytes full_share xs b o)) (sem 𝓛 (run_owns (block_ptr b o) xs))
+  as_run xs b o =
+      qed 𝓛 (‵ (bytes full_share xs b o) ∷ []) ∵ feq_i ! ℕ (length xs) (length xs) refl $ fjoin ! $
+      use1 𝓛 (‵ (run_owns (block_ptr b o) xs)) (bytes_whole 𝓛 full_share (length xs) xs b o) $ done !
+
+  pub as_room : (n : ℕ) (xs : List ℕ) (b o : ℕ) → length xs ≡ n → ent 𝓤 (sem 𝓛 (run_owns (block_ptr b o) xs)) (sem 𝓛 (room_of n b o))
+  as_room n xs b o long =
+      qed 𝓛 (‵ (run_owns (block_ptr b o) xs) ∷ []) ∵ use1 𝓛 (‵ (fsep (feq ℕ (length xs) (length xs)) (bytes full_share xs b o))) (bytes_apart 𝓛 full_share (length xs) xs b o) $
+      fsplit ! $ drops ! $ feq_i ! ℕ (length xs) n long $ fjoin ! $ fpack ! (List ℕ) (λ ys. fsep (feq ℕ (length ys) n) (bytes full_share ys b o)) xs $ done !
+
+  pub as_bytes : (xs : List ℕ) (b o : ℕ) → ent 𝓤 (sem 𝓛 (run_owns (block_ptr b o) xs)) (sem 𝓛 (bytes full_share xs b o))
+  as_bytes xs b o =
+      qed 𝓛 (‵ (run_owns (block_ptr b o) xs) ∷ []) ∵ use1 𝓛 (‵ (fsep (feq ℕ (length xs) (length xs)) (bytes full_share xs b o))) (bytes_apart 𝓛 full_share (length xs) xs b o) $
+      fsplit ! $ drops ! $ done !
