@@ -15,8 +15,8 @@ use Rattle.il_machine.specs.Components.{progress_of}
 use Rattle.il_machine.specs.Stock.{Stocked, StandsFor}
 use Rattle.il_machine.specs.Sound.{Sound}
 use Rattle.il_machine.specs.Buffers.{held}
-use Rattle.il_machine.specs.Claims.{all_given_out, claim_idle, must_announce, picked, wanted, with_work, work_of}
-use Rattle.il_machine.specs.Whole.{HasDone, HasParts, HasProgress, IsNoticed, Kept, Noticed, PartSeen, Steps}
+use Rattle.il_machine.specs.Claims.{all_given_out, carried, claim_idle, must_announce, picked, wanted, with_work, work_of}
+use Rattle.il_machine.specs.Whole.{Always, HasDone, HasParts, HasProgress, IsNoticed, Kept, Noticed, PartSeen, Steps}
 use Rattle.il_machine.specs.Parts.{terms_of}
 use Rattle.machine_laws.proofs.Claiming.{AreInPorts, claim_passes, headers_in, picked_length, sound_claimed}
 use Rattle.machine_laws.proofs.Finding.{changed_else}
@@ -28,12 +28,14 @@ use Rattle.whole_laws.proofs.Stocking.{lift_stock, stands_for, with_headers}
 use Rattle.il_component.specs.Entries.{Entry, component_of, KeepsNotices}
 use Rattle.il_component.proofs.Fit.{same_costs}
 use Rattle.port_stock.specs.Kept.{Kept as StockKept, stocked}
-use Rattle.graph_core.specs.Claiming.{all_out, gives_to}
+use Rattle.header_core.specs.BufferHeader.{BufferHeader}
+use Rattle.graph_core.specs.Claiming.{HasFronts, all_out, carried_from, gives_to}
+use Rattle.graph_core.proofs.Carried.{work_carried}
 use Rattle.graph_core.specs.Standing.{SoundWorld}
 use Rattle.graph_core.specs.Entries.{Entries, changed_at, component_at, kept, look_of}
 use Rattle.graph_core.proofs.Picked.{out_stands, out_stays, wanted_is}
 use Rattle.graph_core.proofs.Replacing.{kept_changed, next_world, there}
-use Rattle.graph_core.proofs.Stepping.{at_world, made_of, seen_of, with_stocked}
+use Rattle.graph_core.proofs.Stepping.{at_world, made_of, seen_of, stock_of, with_stocked}
 
 -- ---- the component has a work
 
@@ -181,3 +183,8 @@ module _ {C : Type 0} (progress : C → Progress) (g : Entries C) (i : ℕ) (e d
 
   pub claimed_ports : (stocked after).ports ≡ (stocked g.stock).ports
   claimed_ports = ap (λ (t : Stocked). t.ports) goes ∙ (out_stays (number_of c) 0 (map (gives_to a c) (ports_of c)) s).ports
+
+-- whoever gets the headers sees what they carry in each world
+pub carried_there : {C : Type 0} (progress : C → Progress) (g : Entries C) (c : Component) (places : List (Option BufferHeader)) → HasFronts c places (stocked g.stock) → Always (kept progress g) (λ w. carried w.headers (work_of (seen w.headers) c).headers ≡ carried_from 0 places)
+carried_there progress g c places F = λ w S.
+    ap (λ (t : Seen). carried w.headers (work_of t c).headers) (seen_of progress g w S) ∙ work_carried c (stocked g.stock) places F w.headers (stands_for (stocked g.stock) (kept progress g) w (stock_of progress g) S)

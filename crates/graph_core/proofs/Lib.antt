@@ -32,3 +32,4 @@ pub mod Supplied
 pub mod Released
 pub mod Picked
 pub mod Claimed
+pub mod Carried

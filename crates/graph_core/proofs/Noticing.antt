@@ -88,7 +88,7 @@ outside_out (Some h) header x = x.0
 pub out_of : (s : Stocked) (header : BufferHeader) → IsOutside header s → IsOut header.held.number s
 out_of s header x = outside_out (s.headers.header header.held.number) header x.1
 
-outside_size : (o : Option HeaderState) (s : HeaderState) (header : BufferHeader) → o ≡ Some s → MatchOption o ⊥ (λ h. (h.place ≡ Out) × IsHeaderOf h header) → header.held.size ≡ s.size
+pub outside_size : (o : Option HeaderState) (s : HeaderState) (header : BufferHeader) → o ≡ Some s → MatchOption o ⊥ (λ h. (h.place ≡ Out) × IsHeaderOf h header) → header.held.size ≡ s.size
 outside_size None s header e x = absurd x
 outside_size (Some h) s header e x = let q : h ≡ s = cc in x.1.size ∙ ap (λ (y : HeaderState). y.size) q
 

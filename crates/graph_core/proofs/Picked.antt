@@ -38,7 +38,7 @@ apart_ports component a b l = grind (arith, nat_tests)
 abbrev pub Agree : ℕ → ℕ → Stocked → Seen → Type 0
 Agree component from s t = (port : ℕ) → from ≤ port → s.headers.todo (key_at component port) ≡ t.todo (key_at component port)
 
-agree_next : (component port : ℕ) (gives : Bool) (s : Stocked) (t : Seen) → Agree component port s t → Agree component (port + 1) (out_where gives (key_at component port) s) t
+pub agree_next : (component port : ℕ) (gives : Bool) (s : Stocked) (t : Seen) → Agree component port s t → Agree component (port + 1) (out_where gives (key_at component port) s) t
 agree_next component port gives s t A = λ q b. where_todo gives (key_at component port) (key_at component q) s (apart_ports component port q (omega arith)) ∙ A q (omega arith)
 
 -- ---- the key, the ports and the next number stay

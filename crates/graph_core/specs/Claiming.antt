@@ -1,14 +1,14 @@
 -- Headers go out with a work of a component: the front of the todo of each port that gives one.
-use Rattle.std.specs.Prelude.{◌≡◌, ℕ, ◌+◌, Bool, true, false, not, ◌&&◌, List, [], ◌∷◌, Option, None, map, option_map, slice_get, MatchOption}
+use Rattle.std.specs.Prelude.{◌≡◌, ℕ, ◌+◌, Bool, true, false, not, ◌&&◌, List, [], ◌∷◌, Option, None, map, option_map, slice_get, MatchOption, Some}
 use Rattle.il_machine.specs.declared.port.Port.{Port}
 use Rattle.il_machine.specs.declared.port.PortKey.{PortKey}
 use Rattle.il_machine.specs.declared.header.Owner.TheVariants as owners
 use Rattle.il_machine.specs.Headers.{in_todo}
 use Rattle.il_machine.specs.Stock.{Stocked, given, pulled}
 use Rattle.il_machine.specs.World.{Component, number_of, ports_of}
-use Rattle.il_machine.specs.Claims.{gives_header, must_announce}
+use Rattle.il_machine.specs.Claims.{Carried, gives_header, must_announce}
 use Rattle.header_core.specs.BufferHeader.{BufferHeader}
-use Rattle.port_stock.specs.Conditions.{IsFrom, IsPort, number_of as header_number}
+use Rattle.port_stock.specs.Conditions.{IsFrom, IsOutside, IsPort, number_of as header_number}
 
 abbrev pub key_at : ℕ → ℕ → PortKey
 key_at component port = record { component = component; port = port }
@@ -30,9 +30,9 @@ abbrev pub all_out : ℕ → ℕ → List Bool → Stocked → Stocked
 all_out component port [] s = s
 all_out component port (gives ∷ flags) s = all_out component (port + 1) flags (out_where gives (key_at component port) s)
 
--- the header was in the port's todo, with all that it carries
+-- the header was in the port's todo, with all that it carries, and is out of it
 abbrev pub IsFromTodo : PortKey → Stocked → BufferHeader → Type 0
-IsFromTodo key s h = (h.key ≡ s.key) × IsFrom (in_todo key) h s
+IsFromTodo key s h = IsFrom (in_todo key) h s × IsOutside h (pulled key s)
 
 -- the front of the port's todo, where there is one
 abbrev pub IsFront : PortKey → Option BufferHeader → Stocked → Type 0
@@ -66,3 +66,12 @@ gives_to announces c p = not announces && gives_header c p
 -- the headers are the fronts of the ports from which the component's work has one
 abbrev pub HasFronts : Component → List (Option BufferHeader) → Stocked → Type 0
 HasFronts c places s = AreFronts (number_of c) 0 (map (gives_to (must_announce c) c) (ports_of c)) places s
+
+-- the headers as their holder sees them, by rising port from this one on
+abbrev pub carried_at : ℕ → Option BufferHeader → List Carried → List Carried
+carried_at port None rest = rest
+carried_at port (Some h) rest = record { port = port; header = h.held } ∷ rest
+
+abbrev pub carried_from : ℕ → List (Option BufferHeader) → List Carried
+carried_from port [] = []
+carried_from port (place ∷ places) = carried_at port place (carried_from (port + 1) places)

@@ -2,11 +2,11 @@
 
 ghost use Rattle.std.specs.Prelude.{◌≡◌, ◌<◌, None, length, option_map, MatchOption, IsSomeAnd};
 ghost use Rattle.il_machine.specs.Headers.{seen};
-ghost use Rattle.il_machine.specs.Claims.{claim_idle, with_work, work_of};
-ghost use Rattle.il_machine.specs.Whole.{Steps};
+ghost use Rattle.il_machine.specs.Claims.{carried, claim_idle, with_work, work_of};
+ghost use Rattle.il_machine.specs.Whole.{Always, Steps};
 ghost use Rattle.port_rules.specs.Claiming.{claimed_by};
 ghost use Rattle.port_stock.specs.Kept.{stocked};
-ghost use Rattle.graph_core.specs.Claiming.{HasFronts};
+ghost use Rattle.graph_core.specs.Claiming.{HasFronts, carried_from};
 ghost use Rattle.graph_core.specs.Entries.{kept, look_of, component_at};
 ghost use Rattle.graph_core.specs.Clients.{KeepsAllClients};
 
@@ -30,6 +30,7 @@ impl<C: Client> Core<C> {
     pub fn claim(&mut self, place: usize) -> Places
         requires { IsSomeAnd (component_at place self.old) (λ c. claim_idle (look_of self.old) c ≡ None) }
         ensures change { MatchOption (component_at place self.old) ⊥ (λ c. Steps (kept C.progress self.old) (kept C.progress self.new) (λ w v. v ≡ with_work place c (work_of (seen w.headers) c) w)) }
+        ensures carried { MatchOption (component_at place self.old) ⊥ (λ c. Always (kept C.progress self.old) (λ w. carried w.headers (work_of (seen w.headers) c).headers ≡ carried_from 0 result)) }
         ensures headers { MatchOption (component_at place self.old) ⊥ (λ c. HasFronts c result (stocked self.old.stock)) }
         ensures clients { KeepsAllClients self.old self.new }
     {
