@@ -1,22 +1,21 @@
 -- What the headers of a work carry, as whoever holds them sees it.
-use Rattle.std.proofs.Common.{◌≡◌, ℕ, ◌+◌, ◌<◌, Bool, true, false, List, [], ◌∷◌, map, filter, slice_get, Option, Some, None, option_map, if◌then◌else◌, refl, sym, ◌∙◌, ap, subst, arith}
+use Rattle.std.proofs.Common.{◌≡◌, ℕ, ◌+◌, Bool, true, false, List, [], ◌∷◌, map, filter, slice_get, Option, Some, None, option_map, if◌then◌else◌, refl, sym, ◌∙◌, ap, arith}
 use Rattle.il_machine.specs.declared.port.Port.{Port}
 use Rattle.il_machine.specs.declared.port.PortKey.{PortKey}
 use Rattle.il_machine.specs.declared.port.PortSetting.{PortSetting}
 use Rattle.il_machine.specs.declared.port.PortState.{PortState}
 use Rattle.il_machine.specs.declared.header.Owner.TheVariants as owners
 use Rattle.il_machine.specs.declared.header.HeaderState.{HeaderState}
-use Rattle.il_machine.specs.World.{Component, HeaderRecord, Load, Picked, number_of, ports_from, ports_of}
-use Rattle.il_machine.specs.Headers.{Seen, changed, find_header, given_to, in_todo, load_of}
-use Rattle.il_machine.specs.Stock.{Stocked, StandsFor, given, pulled, state_out}
+use Rattle.il_machine.specs.World.{Component, HeaderRecord, Picked, number_of, ports_from}
+use Rattle.il_machine.specs.Headers.{Seen, changed, find_header, given_to, load_of}
+use Rattle.il_machine.specs.Stock.{Stocked, StandsFor, pulled, state_out}
 use Rattle.il_machine.specs.Buffers.{held, load_in}
-use Rattle.il_machine.specs.Claims.{Carried, all_given_out, carried, carried_by, first_picked, must_announce, picked, wanted, work_of}
+use Rattle.il_machine.specs.Claims.{Carried, carried, carried_by, first_picked, must_announce, picked, work_of}
 use Rattle.il_machine.proofs.Carrying.{carried_same, held_out}
 use Rattle.machine_laws.proofs.Finding.{found_number}
 use Rattle.stock_laws.proofs.Composed.{pull_give_on, pull_taken}
 use Rattle.header_core.specs.BufferHeader.{BufferHeader}
-use Rattle.port_stock.specs.Conditions.{IsFrom, IsOutside, number_of as header_number}
-use Rattle.graph_core.specs.Claiming.{AreFree, AreFronts, HasFronts, IsFrontWhere, IsFromTodo, carried_at, carried_from, front_given, gives_to, goes_out, key_at, out_where}
+use Rattle.graph_core.specs.Claiming.{AreFree, AreFronts, HasFronts, IsFrontWhere, IsFromTodo, carried_at, carried_from, front_given, gives_to, key_at, out_where}
 use Rattle.graph_core.proofs.Noticing.{outside_size}
 use Rattle.graph_core.proofs.Picked.{Agree, agree_next, wanted_is}
 
