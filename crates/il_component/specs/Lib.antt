@@ -3,3 +3,4 @@ pub mod Entries
 pub mod PortChanges
 pub mod Units
 pub mod Works
+pub mod Files

@@ -6,6 +6,7 @@ mod changes;
 mod client;
 mod commands;
 mod component;
+mod files;
 mod formats;
 mod part_changes;
 mod port_changes;

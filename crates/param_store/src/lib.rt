@@ -11,5 +11,5 @@ mod tests;
 
 pub use kinds::{inputs, outputs, ports};
 pub use laws::{law_of_all_else, law_of_get_after_set};
-pub use limits::{is_same_format, is_too_large};
+pub use limits::{has_more_bytes, is_same_format, is_too_large, is_within_limits};
 pub use params::Params;

@@ -1,6 +1,6 @@
 //! The limits of values.
 
-ghost use Rattle.std.specs.Prelude.{◌≡◌, filter, find};
+ghost use Rattle.std.specs.Prelude.{◌≡◌, ◌*◌, nat_lt, filter, find};
 ghost use Rattle.std.specs.List.{list_all};
 ghost use Rattle.il_machine.specs.Settings.{is_v112, is_within_limits, same_format, same_rate_and_channels, is_definition_of, is_good_value, is_value_of, are_fitting, is_known, formats_of};
 ghost use Rattle.il_machine.specs.Kinds.{is_auto};
@@ -29,7 +29,7 @@ fn is_known(format: Format) -> bool
     !is_auto(format)
 }
 
-fn is_within_limits(format: Format) -> bool
+pub fn is_within_limits(format: Format) -> bool
     ensures { result ≡ is_within_limits format }
 {
     let rate = format.rate();
@@ -94,11 +94,18 @@ fn frame_bytes(format: Format) -> u64
     }
 }
 
+/// Whether so many frames have more bytes than there are.
+pub fn has_more_bytes(frames: u64, format: Format, there: u64) -> bool
+    ensures { result ≡ nat_lt there (frames * frame_bytes_of format) }
+{
+    frames as u128 * frame_bytes(format) as u128 > there as u128
+}
+
 /// Whether so many frames have more bytes than a file may have.
 pub fn is_too_large(frames: u64, format: Format) -> bool
     ensures { result ≡ is_too_large frames format }
 {
-    frames as u128 * frame_bytes(format) as u128 > 134_217_728
+    has_more_bytes(frames, format, 134_217_728)
 }
 
 fn is_definition_of(input: bool, definition: PortDefinition) -> bool
