@@ -1,0 +1,3 @@
+pub mod Best
+pub mod Changing
+pub mod Placing

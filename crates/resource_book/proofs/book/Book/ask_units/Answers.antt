@@ -1,0 +1,17 @@
+use Rattle.std.proofs.Common.{◌≡◌, ◌∙◌, ap, refl, arith}
+use Rattle.resource_book.specs.Rows.{row_at, holding}
+use Rattle.resource_book.specs.declared.row.Row.{Row}
+use Rattle.resource_book.proofs.Changing.{changed-covered, asked-room}
+use Rattle.resource_book.proofs.book.Book.ask_units.Goals as goal
+
+pub put-requires-clause-room : goal.put-requires-clause-room
+put-requires-clause-room c =
+    let change = λ (r : Row). holding c.args.need c.args.priority r in
+    let changed : c.holding-row.result ≡ change (row_at c.args.component c.args.self.now.rows) = c.holding-row.ensures ∙ ap change c.row.ensures.value in
+    λ _. asked-room change c.args.component c.args.self.now c.holding-row.result changed (λ _. refl) c.requires.room
+
+pub put-requires-clause-covered : goal.put-requires-clause-covered
+put-requires-clause-covered c =
+    let change = λ (r : Row). holding c.args.need c.args.priority r in
+    let changed : c.holding-row.result ≡ change (row_at c.args.component c.args.self.now.rows) = c.holding-row.ensures ∙ ap change c.row.ensures.value in
+    changed-covered change c.args.component c.args.self.now c.holding-row.result changed (λ _. refl) c.row.ensures.sound (omega (arith, c.free-have.ensures.count, c.if-have-need.false))

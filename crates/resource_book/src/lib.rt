@@ -1,0 +1,9 @@
+//! Who holds units of a resource, who waits for some, and who gives its own up for the first of these.
+#![tactic(auto)]
+
+mod book;
+mod row;
+#[cfg(test)]
+mod tests;
+
+pub use book::{Ask, Book};
