@@ -9,7 +9,7 @@ use Rattle.il_machine.specs.Headers.{in_todo}
 use Rattle.il_machine.specs.Stock.{Stocked, given, pulled}
 use Rattle.header_core.specs.BufferHeader.{BufferHeader, IsSized}
 use Rattle.il_flow.specs.Layouts.{ports_of}
-use Rattle.port_stock.specs.Conditions.{IsFrom, IsPort}
+use Rattle.port_stock.specs.Conditions.{IsFrom, IsOutside, IsPort}
 
 abbrev pub key_at : ℕ → ℕ → PortKey
 key_at component port = record { component = component; port = port }
@@ -40,11 +40,12 @@ abbrev pub AllWait : ℕ → ℕ → List Bool → Stocked → Type 0
 AllWait component port [] s = Unit {0}
 AllWait component port (gives ∷ flags) s = WaitsAt gives (key_at component port) s × AllWait component (port + 1) flags (out_where gives (key_at component port) s)
 
--- the header was the front of the port's todo, with all that it carried there
+-- the header was the front of the port's todo, with all that it carried there, and is out now
 pub record IsPicked (key : PortKey) (h : BufferHeader) (s : Stocked) : Type 0 where
   pub key_is : h.key ≡ s.key
   pub front : slice_get (s.headers.todo key) 0 ≡ Some h.held.number
   pub was : IsFrom (in_todo key) h s
+  pub outside : IsOutside h (pulled key s)
   pub sized : IsSized h
 
 abbrev pub IsPickedAt : Bool → PortKey → Option BufferHeader → Stocked → Type 0

@@ -6,6 +6,7 @@ mod back;
 mod done;
 mod frames;
 mod landing;
+mod laws;
 mod layout;
 mod parts;
 mod picking;
@@ -16,6 +17,7 @@ mod work;
 
 pub use back::Way;
 pub use done::Done;
+pub use laws::law_of_sameness;
 pub use picking::{announcement, pick_up};
 pub use putting::{PutDown, put_down};
 pub use work::Work;
