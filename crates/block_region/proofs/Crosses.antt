@@ -17,7 +17,7 @@ use Rattle.block_region.specs.contracts.memory.Sole as Sole
 use Rattle.block_region.specs.contracts.memory.Sole.TheInside as Inside
 use Rattle.block_region.specs.contracts.roster.Roster as Roster
 use Rattle.block_region.specs.contracts.roster.Ticket as Ticket
-use Rattle.block_region.specs.Ownership.{run_owns, room_of, entry, entries, at_home, ticket}
+use Rattle.block_region.specs.Ownership.{run_owns, room_of, entry, entries, ticket}
 
 pub u8-send : IsSend u8
 u8-send = search sendable
@@ -67,7 +67,7 @@ ticket-keyless (γ ∷ gs) zero h = tt
 ticket-keyless (γ ∷ gs) (suc n) h = ticket-keyless gs n h
 
 pub roster-send : IsSend Roster.the_row
-roster-send = owning_send Roster.the_type tt (λ r. λ hs. (tt, entries-keyless r.key.size r.key.names hs r.key.object r.key.start)) (λ k x w. tt)
+roster-send = owning_send Roster.the_type tt (λ r. entries-keyless r.key.size r.key.names r.home r.key.object r.key.start) (λ k x w. tt)
 
 pub ticket-send : IsSend Ticket.the_row
 ticket-send = owning_send Ticket.the_type tt (λ t. ticket-keyless t.key.names t.number t.home) (λ k x w. tt)

@@ -5,7 +5,7 @@ use Rattle.std.proofs.lemmas.Bool.{true≢false}
 use Rattle.std.proofs.Math.Nat.{suc-mul, zero-mul}
 use seplogic.Ra.Ura.{Ura}
 use base.Fraction.{full_share}
-use base.Logic.{SProp, ent, sep, never_e, id⊢}
+use base.Logic.{SProp, ent, sep, never_e}
 use base.Fml.{GName, Fml, ftrue, ffalse, fsep, fex, feq}
 use contract.Monad.{fact, fact_i}
 use types.Logic.{Logic, sem}
@@ -15,15 +15,25 @@ use denote.Builtin.{bool}
 use denote.RawPtr.Bytes.{bytes, bytes_cut, bytes_glue, bytes_apart, bytes_whole}
 use denote.RawPtr.{block_ptr}
 use denote.Steps.{nothing, heard}
-use Rattle.block_region.specs.Ownership.{run_owns, room_of, goes, stays, entry, entries, homes, ticket, pile}
+use Rattle.block_region.specs.Regions.{is_home, marked, homes}
+use Rattle.block_region.specs.Ownership.{run_owns, room_of, goes, entries, ticket, pile}
 
-one_less : (h : Bool) (js hs : List Bool) → suc (homes js) ≡ homes hs → suc (homes (h ∷ js)) ≡ homes (h ∷ hs)
-one_less true js hs e = ap suc e
-one_less false js hs e = e
+-- one fewer is at home
+pub one_less : (hs : List Bool) (n : ℕ) → is_home hs n ≡ true → homes (marked hs n false) + 1 ≡ homes hs
+one_less [] n e = absurd (true≢false (sym e))
+one_less (true ∷ hs) zero e = omega arith
+one_less (false ∷ hs) zero e = absurd (true≢false (sym e))
+one_less (true ∷ hs) (suc n) e = omega (arith, one_less hs n e)
+one_less (false ∷ hs) (suc n) e = one_less hs n e
 
-one_more : (h : Bool) (js hs : List Bool) → homes js ≡ suc (homes hs) → homes (h ∷ js) ≡ suc (homes (h ∷ hs))
-one_more true js hs e = ap suc e
-one_more false js hs e = e
+-- one more is at home, where what goes with it says that it was out
+pub one_more : (gs : List GName) (hs : List Bool) (n : ℕ) → length hs ≡ length gs → n + 1 ≤ length gs → is_home hs n ≡ false → homes (marked hs n true) ≡ homes hs + 1
+one_more [] hs n same some e = absurd (omega arith)
+one_more (γ ∷ gs) [] n same some e = absurd (omega arith)
+one_more (γ ∷ gs) (false ∷ hs) zero same some e = omega arith
+one_more (γ ∷ gs) (true ∷ hs) zero same some e = absurd (true≢false e)
+one_more (γ ∷ gs) (true ∷ hs) (suc n) same some e = omega (arith, one_more gs hs n (omega arith) (omega arith) e)
+one_more (γ ∷ gs) (false ∷ hs) (suc n) same some e = one_more gs hs n (omega arith) (omega arith) e
 
 at_most : (h : Bool) (hs : List Bool) (n : ℕ) → homes hs ≤ n → homes (h ∷ hs) ≤ suc n
 at_most true hs n le = omega arith
@@ -51,11 +61,20 @@ module _ {M : Type 1} {𝓤 : Ura M} (𝓛 : Logic 𝓤) (size b : ℕ) where
       qed 𝓛 (‵ (All (γ ∷ gs) (h ∷ hs) o) ∷ []) ∵ fsplit ! $ drops ! $ use1 𝓛 (raw (fact 𝓤 (homes hs ≤ length gs))) (bounded gs hs (o + size)) $
       heard ! (homes hs ≤ length gs) (λ le. by ! (fact_i 𝓤 _ _ (at_most h hs (length gs) le)))
 
-  -- the block i went out: its bytes are at p
-  abbrev pub Lent : List GName → ℕ → ℕ → ℕ → ℕ → Fml
-  Lent gs i o p n = fex (List Bool) (λ js. fsep (feq ℕ (suc (homes js)) n) (fsep (All gs js o) (fsep (ticket gs i false) (room_of size b p))))
+  -- each block has its name
+  pub paired : (gs : List GName) (hs : List Bool) (o : ℕ) → ent 𝓤 ⟦ All gs hs o ⟧ (fact 𝓤 (length hs ≡ length gs))
+  paired [] [] o = fact_i 𝓤 _ _ refl
+  paired [] (h ∷ hs) o = never_e 𝓤 _
+  paired (γ ∷ gs) [] o = never_e 𝓤 _
+  paired (γ ∷ gs) (h ∷ hs) o =
+      qed 𝓛 (‵ (All (γ ∷ gs) (h ∷ hs) o) ∷ []) ∵ fsplit ! $ drops ! $ use1 𝓛 (raw (fact 𝓤 (length hs ≡ length gs))) (paired gs hs (o + size)) $
+      heard ! (length hs ≡ length gs) (λ same. by ! (fact_i 𝓤 _ _ (ap suc same)))
 
-  pub lend : (gs : List GName) (hs : List Bool) (i o p : ℕ) → p ≡ o + i * size → ent 𝓤 (sep 𝓤 ⟦ All gs hs o ⟧ ⟦ ticket gs i true ⟧) (H.⇛ ⟦ Lent gs i o p (homes hs) ⟧)
+  -- the block i went out: its bytes are at p
+  abbrev pub Lent : List GName → List Bool → ℕ → ℕ → ℕ → Fml
+  Lent gs hs i o p = fsep (feq Bool (is_home hs i) true) (fsep (All gs (marked hs i false) o) (fsep (ticket gs i false) (room_of size b p)))
+
+  pub lend : (gs : List GName) (hs : List Bool) (i o p : ℕ) → p ≡ o + i * size → ent 𝓤 (sep 𝓤 ⟦ All gs hs o ⟧ ⟦ ticket gs i true ⟧) (H.⇛ ⟦ Lent gs hs i o p ⟧)
   lend [] hs i o p e = qed 𝓛 (‵ (All [] hs o) ∷ ‵ ffalse ∷ []) ∵ keep ! (1 ∷ []) $ by ! (never_e 𝓤 _)
   lend (γ ∷ gs) [] i o p e = qed 𝓛 (‵ ffalse ∷ ‵ (ticket (γ ∷ gs) i true) ∷ []) ∵ keep ! (0 ∷ []) $ by ! (never_e 𝓤 _)
   lend (γ ∷ gs) (true ∷ hs) zero o p e =
@@ -64,23 +83,21 @@ module _ {M : Type 1} {𝓤 : Ura M} (𝓛 : Logic 𝓤) (size b : ℕ) where
       -- [what stays; the bytes; the others; what goes]
       move ! (3 ∷ 0 ∷ []) $ name_set ! tt (bool.coded.code false) $ move ! (1 ∷ 3 ∷ []) $ fjoin ! $
       types.Kit.rewrite ! 2 (λ k. ‵ (room_of size b k)) at refl $ move ! (1 ∷ 2 ∷ []) $ fjoin ! $ move ! (1 ∷ 0 ∷ []) $ fjoin ! $
-      feq_i ! ℕ (suc (homes hs)) (suc (homes hs)) refl $ fjoin ! $
-      fpack ! (List Bool) (λ js. fsep (feq ℕ (suc (homes js)) (suc (homes hs))) (fsep (All (γ ∷ gs) js o) (fsep (goes γ false) (room_of size b p)))) (false ∷ hs) $ now ! $ done !
+      feq_i ! Bool true true refl $ fjoin ! $ now ! $ done !
   lend (γ ∷ gs) (false ∷ hs) zero o p e =
       qed 𝓛 (‵ (All (γ ∷ gs) (false ∷ hs) o) ∷ ‵ (goes γ true) ∷ []) ∵ fsplit ! $ move ! (2 ∷ 0 ∷ []) $ name_agree ! bool.coded (λ same. absurd (true≢false same))
   lend (γ ∷ gs) (h ∷ hs) (suc i) o p e =
       qed 𝓛 (‵ (All (γ ∷ gs) (h ∷ hs) o) ∷ ‵ (ticket gs i true) ∷ []) ∵ updating ! $ fsplit ! $ move ! (1 ∷ 2 ∷ []) $
-      use2 𝓛 (later (‵ (Lent gs i (o + size) p (homes hs)))) (lend gs hs i (o + size) p (omega (arith, suc-mul i size))) $ await ! tt $ fpick ! (λ js. fsplit ! $ feq_l ! (λ less. fsplit ! $
+      use2 𝓛 (later (‵ (Lent gs hs i (o + size) p))) (lend gs hs i (o + size) p (omega (arith, suc-mul i size))) $ await ! tt $ fsplit ! $ feq_l ! (λ was. fsplit ! $
       -- [the others; what goes and the bytes; this one]
-      move ! (2 ∷ 0 ∷ []) $ fjoin ! $ fjoin ! $ feq_i ! ℕ (suc (homes (h ∷ js))) (homes (h ∷ hs)) (one_less h js hs less) $ fjoin ! $
-      fpack ! (List Bool) (λ ks. fsep (feq ℕ (suc (homes ks)) (homes (h ∷ hs))) (fsep (All (γ ∷ gs) ks o) (fsep (ticket gs i false) (room_of size b p)))) (h ∷ js) $ now ! $ done !))
+      move ! (2 ∷ 0 ∷ []) $ fjoin ! $ fjoin ! $ feq_i ! Bool (is_home hs i) true was $ fjoin ! $ now ! $ done !)
 
   -- the block i is home
-  abbrev pub Back : List GName → ℕ → ℕ → ℕ → Fml
-  Back gs i o n = fex (List Bool) (λ js. fsep (feq ℕ (homes js) (suc n)) (fsep (All gs js o) (ticket gs i true)))
+  abbrev pub Back : List GName → List Bool → ℕ → ℕ → Fml
+  Back gs hs i o = fsep (feq Bool (is_home hs i) false) (fsep (All gs (marked hs i true) o) (ticket gs i true))
 
   pub put : (gs : List GName) (hs : List Bool) (i o p : ℕ) → p ≡ o + i * size
-      → ent 𝓤 (sep 𝓤 ⟦ All gs hs o ⟧ (sep 𝓤 ⟦ ticket gs i false ⟧ ⟦ room_of size b p ⟧)) (H.⇛ ⟦ Back gs i o (homes hs) ⟧)
+      → ent 𝓤 (sep 𝓤 ⟦ All gs hs o ⟧ (sep 𝓤 ⟦ ticket gs i false ⟧ ⟦ room_of size b p ⟧)) (H.⇛ ⟦ Back gs hs i o ⟧)
   put [] hs i o p e = qed 𝓛 (‵ (All [] hs o) ∷ ‵ ffalse ∷ ‵ (room_of size b p) ∷ []) ∵ keep ! (1 ∷ []) $ by ! (never_e 𝓤 _)
   put (γ ∷ gs) [] i o p e = qed 𝓛 (‵ ffalse ∷ ‵ (ticket (γ ∷ gs) i false) ∷ ‵ (room_of size b p) ∷ []) ∵ keep ! (0 ∷ []) $ by ! (never_e 𝓤 _)
   put (γ ∷ gs) (true ∷ hs) zero o p e =
@@ -90,13 +107,11 @@ module _ {M : Type 1} {𝓤 : Ura M} (𝓛 : Logic 𝓤) (size b : ℕ) where
       qed 𝓛 (‵ (All (γ ∷ gs) (false ∷ hs) o) ∷ ‵ (goes γ false) ∷ ‵ (room_of size b p) ∷ []) ∵ updating ! $ fsplit ! $ move ! (2 ∷ 0 ∷ []) $ name_set ! tt (bool.coded.code true) $
       -- [what goes; what stays; the others; the bytes]
       types.Kit.rewrite ! 3 (λ k. ‵ (room_of size b k)) at refl $ move ! (1 ∷ 3 ∷ []) $ fjoin ! $ move ! (0 ∷ 2 ∷ []) $ fjoin ! $ fjoin ! $
-      feq_i ! ℕ (suc (homes hs)) (suc (homes hs)) refl $ fjoin ! $
-      fpack ! (List Bool) (λ js. fsep (feq ℕ (homes js) (suc (homes hs))) (fsep (All (γ ∷ gs) js o) (goes γ true))) (true ∷ hs) $ now ! $ done !
+      feq_i ! Bool false false refl $ fjoin ! $ now ! $ done !
   put (γ ∷ gs) (h ∷ hs) (suc i) o p e =
       qed 𝓛 (‵ (All (γ ∷ gs) (h ∷ hs) o) ∷ ‵ (ticket gs i false) ∷ ‵ (room_of size b p) ∷ []) ∵ updating ! $ fsplit ! $ move ! (1 ∷ 2 ∷ 3 ∷ []) $
-      use3 𝓛 (later (‵ (Back gs i (o + size) (homes hs)))) (put gs hs i (o + size) p (omega (arith, suc-mul i size))) $ await ! tt $ fpick ! (λ js. fsplit ! $ feq_l ! (λ more. fsplit ! $
-      move ! (2 ∷ 0 ∷ []) $ fjoin ! $ fjoin ! $ feq_i ! ℕ (homes (h ∷ js)) (suc (homes (h ∷ hs))) (one_more h js hs more) $ fjoin ! $
-      fpack ! (List Bool) (λ ks. fsep (feq ℕ (homes ks) (suc (homes (h ∷ hs)))) (fsep (All (γ ∷ gs) ks o) (ticket gs i true))) (h ∷ js) $ now ! $ done !))
+      use3 𝓛 (later (‵ (Back gs hs i (o + size)))) (put gs hs i (o + size) p (omega (arith, suc-mul i size))) $ await ! tt $ fsplit ! $ feq_l ! (λ was. fsplit ! $
+      move ! (2 ∷ 0 ∷ []) $ fjoin ! $ fjoin ! $ feq_i ! Bool (is_home hs i) false was $ fjoin ! $ now ! $ done !)
 
   -- with all at home their bytes are one run
   pub joined : (gs : List GName) (hs : List Bool) (o : ℕ) → homes hs ≡ length gs → ent 𝓤 ⟦ All gs hs o ⟧ ⟦ room_of (length gs * size) b o ⟧

@@ -1,5 +1,5 @@
 -- Steps that the walks of `src/block` share. Assumes `Logic`.
-use Rattle.std.proofs.Common.{◌≡◌, ℕ, List, [], ◌∷◌, ◌++◌, take, drop as drop_l, take-append-drop, refl, subst}
+use Rattle.std.proofs.Common.{◌≡◌, ℕ, List, [], ◌∷◌, take, drop as drop_l, take-append-drop, refl, subst}
 use lib.Dec.{T}
 use seplogic.Ra.Ura.{Ura}
 use mir.Syntax.{given as dict_at}

@@ -1,12 +1,12 @@
 -- What a region, its blocks and the bytes between them own. Each block has a name of two halves, which agree on whether the block is at
 -- home: one stays with the region, the other goes with the block.
-use Rattle.std.specs.Prelude.{◌≡◌, refl, ℕ, zero, suc, ◌+◌, Bool, true, false, List, [], ◌∷◌, length, drop}
+use Rattle.std.specs.Prelude.{refl, ℕ, zero, suc, ◌+◌, Bool, true, false, List, [], ◌∷◌, length}
 use Rattle.std.specs.Coded.{Coded, code_by, coded×, coded_list, coded_ℕ}
 use base.Fraction.{full_share}
 use base.Fml.{GName, Fml, ftrue, ffalse, fsep, fex, feq, fobs, fauth}
 use denote.Builtin.{u8, bool}
 use denote.Array.{Array}
-use denote.RawPtr.{Ptr, block_ptr, coded_ptr, lies_at}
+use denote.RawPtr.{Ptr, coded_ptr, lies_at}
 use denote.RawPtr.Bytes.{bytes}
 use Rattle.block_region.specs.Regions.{RegionKey}
 
@@ -47,15 +47,9 @@ entries size [] (h ∷ hs) b o = ffalse
 entries size (γ ∷ gs) [] b o = ffalse
 entries size (γ ∷ gs) (h ∷ hs) b o = fsep (entry size γ h b o) (entries size gs hs b (o + size))
 
--- how many are at home
-abbrev pub homes : List Bool → ℕ
-homes [] = zero
-homes (true ∷ hs) = suc (homes hs)
-homes (false ∷ hs) = homes hs
-
--- what a region with n blocks at home owns of them
-abbrev pub at_home : RegionKey → ℕ → Fml
-at_home k n = fex (List Bool) (λ hs. fsep (feq ℕ (homes hs) n) (entries k.size k.names hs k.object k.start))
+-- what a region owns of its blocks
+abbrev pub at_home : RegionKey → List Bool → Fml
+at_home k hs = entries k.size k.names hs k.object k.start
 
 -- what goes with the block of this number
 abbrev pub ticket : List GName → ℕ → Bool → Fml

@@ -1,5 +1,5 @@
 -- A region and its blocks as contracts see them.
-use Rattle.std.specs.Prelude.{◌≡◌, ℕ, ◌+◌, ◌-◌, ◌*◌, ◌≤◌, List, ◌++◌, length, take, drop}
+use Rattle.std.specs.Prelude.{◌≡◌, ℕ, zero, suc, ◌+◌, ◌-◌, ◌*◌, ◌≤◌, Bool, true, false, List, [], ◌∷◌, ◌++◌, length, replicate, take, drop}
 use denote.RawPtr.{Ptr, block_ptr}
 
 -- what a region and its blocks have in common: where the region's bytes lie, how many a block has, and one name for each block. No
@@ -12,14 +12,35 @@ pub record RegionKey : Type 0 where
 
 pub record RegionBlock : Type 0 where
   pub key : RegionKey
+  -- which of the region's blocks it is: its bytes lie behind those of all blocks of smaller numbers
+  pub number : ℕ
   pub bytes : List ℕ
 
 pub record BlockRegion : Type 0 where
   pub key : RegionKey
   -- how many it has in all, at home and out
   pub blocks : ℕ
+  -- of each block, by its number, whether it is at home
+  pub home : List Bool
   -- how many are at home
   pub free : ℕ
+
+abbrev pub is_home : List Bool → ℕ → Bool
+is_home [] n = false
+is_home (h ∷ hs) zero = h
+is_home (h ∷ hs) (suc n) = is_home hs n
+
+-- the same, but for the block n
+abbrev pub marked : List Bool → ℕ → Bool → List Bool
+marked [] n home = []
+marked (h ∷ hs) zero home = home ∷ hs
+marked (h ∷ hs) (suc n) home = h ∷ marked hs n home
+
+-- how many are at home
+abbrev pub homes : List Bool → ℕ
+homes [] = zero
+homes (true ∷ hs) = suc (homes hs)
+homes (false ∷ hs) = homes hs
 
 -- how many are out
 abbrev pub out : BlockRegion → ℕ
@@ -32,19 +53,22 @@ AllHome r = r.free ≡ r.blocks
 pub record IsFresh (blocks size : ℕ) (r : BlockRegion) : Type 0 where
   pub size_of_each : r.key.size ≡ size
   pub all_blocks : r.blocks ≡ blocks
+  pub each_home : r.home ≡ replicate blocks true
   pub all_home : r.free ≡ blocks
 
--- one block fewer is at home, and that is b
+-- one block fewer is at home, and that is b, which no one else had
 pub record IsTaken (old : BlockRegion) (b : RegionBlock) (new : BlockRegion) : Type 0 where
   pub key : b.key ≡ old.key
   pub size : length b.bytes ≡ old.key.size
   pub same_key : new.key ≡ old.key
   pub same_blocks : new.blocks ≡ old.blocks
+  pub was_home : is_home old.home b.number ≡ true
+  pub now_out : new.home ≡ marked old.home b.number false
   pub one_fewer : new.free + 1 ≡ old.free
 
--- one block more is at home
-abbrev pub given_back : BlockRegion → BlockRegion
-given_back r = record r { free = r.free + 1 }
+-- one block more is at home, and that is the block n
+abbrev pub given_back : BlockRegion → ℕ → BlockRegion
+given_back r n = record r { home = marked r.home n true; free = r.free + 1 }
 
 -- the block with the front of its bytes written anew
 abbrev pub rewritten : RegionBlock → List ℕ → RegionBlock

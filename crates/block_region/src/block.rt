@@ -18,7 +18,7 @@ impl Model for Block {
 
     ghost Value = { RegionBlock };
 
-    ghost view = { λ b. record { key = b.place.ticket.key; bytes = b.bytes.items } };
+    ghost view = { λ b. record { key = b.place.ticket.key; number = b.place.number; bytes = b.bytes.items } };
 
     ghost invariant = { λ b. (b.place.ticket.home ≡ false) × IsOut b.place.ticket.key b.place.number b.bytes.ptr b.bytes.len };
 }

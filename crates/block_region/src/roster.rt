@@ -1,7 +1,7 @@
 //! Which blocks are at home, and the bytes of those. All here but a block's number is ghost state: at run time it is nothing.
-ghost use Rattle.std.specs.Prelude.{◌≡◌, ℕ, ◌+◌, ◌*◌, ◌≤◌, Bool, true, false, length, drop};
+ghost use Rattle.std.specs.Prelude.{◌≡◌, ℕ, ◌+◌, ◌*◌, ◌≤◌, Bool, true, false, List, length, replicate, drop};
 ghost use denote.RawPtr.{block_ptr};
-ghost use Rattle.block_region.specs.Regions.{RegionKey};
+ghost use Rattle.block_region.specs.Regions.{RegionKey, is_home, marked, homes};
 ghost use Rattle.block_region.specs.Ownership.{key_code, at_home, ticket, pile};
 
 use crate::memory::Run;
@@ -10,7 +10,7 @@ use std::marker::Model;
 /// The bytes of the blocks at home, and what tells which these are.
 pub(crate) struct Roster {
     ghost key: { RegionKey } by { key_code },
-    ghost home: { ℕ },
+    ghost home: { List Bool },
 }
 
 impl Model for Roster {
@@ -69,7 +69,8 @@ impl Roster {
     pub(crate) fn open(run: Run, blocks: u32, size: u32) -> (Roster, Pile)
         requires { length run.items ≡ blocks * size }
         ensures { (result.0.key.size ≡ size) × (length result.0.key.names ≡ blocks)
-            × (run.ptr ≡ block_ptr result.0.key.object result.0.key.start) × (result.0.home ≡ blocks)
+            × (run.ptr ≡ block_ptr result.0.key.object result.0.key.start) × (result.0.home ≡ replicate blocks true)
+            × (homes result.0.home ≡ blocks)
             × (result.1 ≡ record { key = result.0.key; next = 0 }) }
     {
         let Run {} = run;
@@ -79,7 +80,8 @@ impl Roster {
     /// The bytes of a block that was at home.
     pub(crate) fn lend(self, ticket: Ticket) -> (Roster, (Ticket, Run))
         requires { (ticket.key ≡ self.key) × (ticket.home ≡ true) }
-        ensures { (result.0.key ≡ self.key) × (result.0.home + 1 ≡ self.home)
+        ensures { (result.0.key ≡ self.key) × (is_home self.home ticket.number ≡ true)
+            × (result.0.home ≡ marked self.home ticket.number false) × (homes result.0.home + 1 ≡ homes self.home)
             × (result.1.0 ≡ record ticket { home = false })
             × (result.1.1.ptr ≡ block_ptr self.key.object (self.key.start + ticket.number * self.key.size))
             × (length result.1.1.items ≡ self.key.size) }
@@ -91,22 +93,24 @@ impl Roster {
 
     /// The bytes of a block that was out come home.
     pub(crate) fn put(self, block: (Ticket, Run)) -> (Roster, Ticket)
-        requires { (block.0.key ≡ self.key) × (block.0.home ≡ false)
+        requires { (block.0.key ≡ self.key) × (block.0.home ≡ false) × (block.0.number + 1 ≤ length self.key.names)
             × (block.1.ptr ≡ block_ptr self.key.object (self.key.start + block.0.number * self.key.size))
             × (length block.1.items ≡ self.key.size) }
-        ensures { (result.0.key ≡ self.key) × (result.0.home ≡ self.home + 1) × (result.0.home ≤ length self.key.names)
-            × (result.1 ≡ record block.0 { home = true }) }
+        ensures { (result.0.key ≡ self.key) × (is_home self.home block.0.number ≡ false)
+            × (result.0.home ≡ marked self.home block.0.number true) × (homes result.0.home ≡ homes self.home + 1)
+            × (homes result.0.home ≤ length self.key.names) × (result.1 ≡ record block.0 { home = true }) }
     {
         let (ticket, run) = block;
         self.join(ticket, run)
     }
 
     fn join(self, ticket: Ticket, run: Run) -> (Roster, Ticket)
-        requires { (ticket.key ≡ self.key) × (ticket.home ≡ false)
+        requires { (ticket.key ≡ self.key) × (ticket.home ≡ false) × (ticket.number + 1 ≤ length self.key.names)
             × (run.ptr ≡ block_ptr self.key.object (self.key.start + ticket.number * self.key.size))
             × (length run.items ≡ self.key.size) }
-        ensures { (result.0.key ≡ self.key) × (result.0.home ≡ self.home + 1) × (result.0.home ≤ length self.key.names)
-            × (result.1 ≡ record ticket { home = true }) }
+        ensures { (result.0.key ≡ self.key) × (is_home self.home ticket.number ≡ false)
+            × (result.0.home ≡ marked self.home ticket.number true) × (homes result.0.home ≡ homes self.home + 1)
+            × (homes result.0.home ≤ length self.key.names) × (result.1 ≡ record ticket { home = true }) }
     {
         let Roster {} = self;
         let Ticket {} = ticket;
@@ -116,7 +120,7 @@ impl Roster {
 
     /// All bytes, where every block is at home.
     pub(crate) fn whole(self) -> Run
-        requires { self.home ≡ length self.key.names }
+        requires { homes self.home ≡ length self.key.names }
         ensures { (result.ptr ≡ block_ptr self.key.object self.key.start)
             × (length result.items ≡ length self.key.names * self.key.size) }
     {

@@ -18,7 +18,7 @@ fn take_one(region: &mut Region) -> Block
 fn take_all(region: &mut Region, blocks: &mut Vec<Block>)
     requires none { blocks.old.items ≡ [] }
     requires room { region.old.free ≤ vec_capacity blocks.old }
-    ensures left { region.new ≡ record region.old { free = 0 } }
+    ensures left { (region.new.key ≡ region.old.key) × (region.new.blocks ≡ region.old.blocks) × (region.new.free ≡ 0) }
     ensures count { length blocks.new.items ≡ region.old.free }
     ensures keys { All (λ b. b.key ≡ region.old.key) blocks.new.items }
 {
@@ -30,7 +30,7 @@ fn take_all(region: &mut Region, blocks: &mut Vec<Block>)
 
 fn give_all(region: &mut Region, mut blocks: Vec<Block>)
     requires keys { All (λ b. b.key ≡ region.old.key) blocks.items }
-    ensures { region.new ≡ record region.old { free = region.old.free + length blocks.items } }
+    ensures { (region.new.key ≡ region.old.key) × (region.new.blocks ≡ region.old.blocks) × (region.new.free ≡ region.old.free + length blocks.items) }
 {
     while let Some(block) = blocks.pop() {
         region.give(block);

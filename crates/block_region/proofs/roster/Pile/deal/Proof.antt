@@ -1,11 +1,9 @@
 -- `deal` parts the first ticket from the others. Assumes `Logic`.
-use Rattle.std.proofs.Common.{◌≡◌, ℕ, ◌+◌, ◌*◌, ◌≤◌, Bool, true, false, List, [], ◌∷◌, ◌++◌, length, take, drop as drop_l, replicate, refl, sym, ap, ◌∙◌, subst, arith}
+use Rattle.std.proofs.Common.{◌+◌, ◌≤◌, true, List, [], ◌∷◌, ◌++◌, length, drop as drop_l, refl, arith}
 use seplogic.Ra.Ura.{Ura}
-use mir.Syntax.{Fn, w32}
-use mir.Val.{Val, vint}
-use base.Fraction.{full_share}
-use base.Logic.{SProp, ent, id⊢, never}
-use base.Fml.{GName, fsep, feq, fex}
+use mir.Syntax.{Fn}
+use mir.Val.{Val}
+use base.Logic.{SProp, ent}
 use prog.Memory.{Memory}
 use prog.Routine.{Routine}
 use prog.Wp.{Calls, Loops, WpFn, Tables}
@@ -13,30 +11,23 @@ use contract.Monad.{Fun, fact}
 use contract.Running.{tables, tables_of}
 use sound.WpLaws.{WpFn-mono}
 use types.Logic.{Logic}
-use types.Kit.{‵, raw, ◌⊛◌, later, prop, ◌$◌, ◌∵◌, !, qed, move, drop, use1, use2, use3, split, fsplit, fjoin, fpick, fpack, feq_l, feq_i, flt_l, regoal, rewrite, suffices, await, done}
+use types.Kit.{‵, raw, ◌⊛◌, prop, ◌$◌, ◌∵◌, !, qed, move, drop, use1, split, fsplit, fjoin, regoal, suffices, done}
 use types.Part.{agg}
 use types.Run.{enter, returns, and_then, no_more}
 use types.ByLocal.{alloc_all, pass_all, free_all, look_at, get, sets}
 use denote.Exit.{yes}
 use denote.RattleType.{owns}
-use denote.Builtin.{u32}
-use denote.RawPtr.{block_ptr, in_a_block}
-use denote.RawPtr.Bytes.{bytes}
 use denote.Signature.{plain, types_at}
 use denote.Steps.{nothing, heard}
-use denote.Struct.Tuple.{Tuple}
 use denote.Triple.Clauses.{Clauses, Ended, closing}
 use denote.Triple.Entry.{alive}
 use denote.Triple.Spec.{Meets, triple_of}
 use denote.Triple.Table.{entered}
 use denote.Triple.Walked.{says, Stays, stay_dropped, walk_of, ends_at, walk_Meets}
 use Rattle.std.proofs.alloc.Calls.{Goes-blank}
-use Rattle.block_region.proofs.Walks.{none, two, none_made, two_made, none_had, learns}
-use Rattle.block_region.proofs.Entries.{bounded, Lent, lend, Back, put, joined, Opened, opens, homes-all, dealt, as_run, as_room, as_bytes}
-use Rattle.block_region.specs.Regions.{RegionKey}
-use Rattle.block_region.specs.Ownership.{run_owns, room_of, entries, homes, at_home, ticket, pile}
-use Rattle.block_region.specs.contracts.memory.Run as Run
-use Rattle.block_region.specs.contracts.roster.Roster as Roster
+use Rattle.block_region.proofs.Walks.{none, two, none_made, two_made, none_had}
+use Rattle.block_region.proofs.Entries.{dealt}
+use Rattle.block_region.specs.Ownership.{ticket, pile}
 use Rattle.block_region.specs.contracts.roster.Ticket as Ticket
 use Rattle.block_region.specs.contracts.roster.Pile as Pile
 use Rattle.block_region.specs.contracts.roster.Pile.deal as F

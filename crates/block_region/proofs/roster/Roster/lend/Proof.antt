@@ -1,11 +1,9 @@
 -- `lend` parts the bytes of one block from the others. Assumes `Logic`.
-use Rattle.std.proofs.Common.{◌≡◌, ℕ, ◌+◌, ◌*◌, ◌≤◌, Bool, true, false, List, [], ◌∷◌, ◌++◌, length, take, drop as drop_l, replicate, refl, sym, ap, ◌∙◌, subst, arith}
+use Rattle.std.proofs.Common.{◌≡◌, ◌+◌, ◌*◌, true, false, List, [], ◌∷◌, ◌++◌, refl, sym}
 use seplogic.Ra.Ura.{Ura}
-use mir.Syntax.{Fn, w32}
-use mir.Val.{Val, vint}
-use base.Fraction.{full_share}
-use base.Logic.{SProp, ent, id⊢, never}
-use base.Fml.{GName, fsep, feq, fex}
+use mir.Syntax.{Fn}
+use mir.Val.{Val}
+use base.Logic.{SProp, ent, id⊢}
 use prog.Memory.{Memory}
 use prog.Routine.{Routine}
 use prog.Wp.{Calls, Loops, WpFn, Tables}
@@ -13,15 +11,13 @@ use contract.Monad.{Fun, fact}
 use contract.Running.{tables, tables_of}
 use sound.WpLaws.{WpFn-mono}
 use types.Logic.{Logic}
-use types.Kit.{‵, raw, ◌⊛◌, later, prop, ◌$◌, ◌∵◌, !, qed, move, drop, use1, use2, use3, split, fsplit, fjoin, fpick, fpack, feq_l, feq_i, flt_l, regoal, rewrite, suffices, await, done}
+use types.Kit.{‵, raw, ◌⊛◌, later, prop, ◌$◌, ◌∵◌, !, qed, move, drop, use1, use2, split, fsplit, fjoin, fpick, feq_l, regoal, rewrite, suffices, await, done}
 use types.Part.{agg}
 use types.Run.{enter, returns, and_then, no_more}
 use types.ByLocal.{alloc_all, pass_all, free_all, look_at, get, sets}
 use denote.Exit.{yes}
 use denote.RattleType.{owns}
-use denote.Builtin.{u32}
-use denote.RawPtr.{block_ptr, in_a_block}
-use denote.RawPtr.Bytes.{bytes}
+use denote.RawPtr.{block_ptr}
 use denote.Signature.{plain, types_at}
 use denote.Steps.{nothing, heard}
 use denote.Struct.Tuple.{Tuple}
@@ -31,14 +27,13 @@ use denote.Triple.Spec.{Meets, triple_of}
 use denote.Triple.Table.{entered}
 use denote.Triple.Walked.{says, Stays, stay_dropped, walk_of, ends_at, walk_Meets}
 use Rattle.std.proofs.alloc.Calls.{Goes-blank}
-use Rattle.block_region.proofs.Walks.{none, two, none_made, two_made, none_had, learns}
-use Rattle.block_region.proofs.Entries.{bounded, Lent, lend, Back, put, joined, Opened, opens, homes-all, dealt, as_run, as_room, as_bytes}
-use Rattle.block_region.specs.Regions.{RegionKey}
-use Rattle.block_region.specs.Ownership.{run_owns, room_of, entries, homes, at_home, ticket, pile}
+use Rattle.block_region.proofs.Walks.{none, two, none_made, two_made, none_had}
+use Rattle.block_region.proofs.Entries.{one_less, Lent, lend, as_run}
+use Rattle.block_region.specs.Regions.{RegionKey, marked}
+use Rattle.block_region.specs.Ownership.{run_owns, ticket}
 use Rattle.block_region.specs.contracts.memory.Run as Run
 use Rattle.block_region.specs.contracts.roster.Roster as Roster
 use Rattle.block_region.specs.contracts.roster.Ticket as Ticket
-use Rattle.block_region.specs.contracts.roster.Pile as Pile
 use Rattle.block_region.specs.contracts.roster.Roster.lend as F
 use Rattle.block_region.specs.contracts.roster.Roster.lend.Key.{name as #self}
 use Rattle.block_region.proofs.roster.Roster.lend.Statement as stated
@@ -77,6 +72,7 @@ module _ {M : Type 1} {𝓤 : Ura M} (𝓛 : Logic 𝓤) (at_mem : Memory → SP
         let o = k.start in
         let i = t.number in
         let p = o + i * k.size in
+        let hs = a.0.home in
         let Asked = (t.key ≡ k) × (t.home ≡ true) in
         let off : (Ticket.the_row).Denot = record t { home = false } in
         qed 𝓛 ((raw toks ⊛ ‵ (owns (types_at ended.signature.params z.0.0) a vss)) ∷ raw (fact 𝓤 Asked) ∷ []) ∵
@@ -92,10 +88,8 @@ module _ {M : Type 1} {𝓤 : Ura M} (𝓛 : Logic 𝓤) (at_mem : Memory → SP
         sets ! (agg ! (and_then ! (get ! refl) (and_then ! (get ! refl) (no_more !)))) refl (tt, (tt, ((tt, (tt, tt)), tt))) $
         -- [the ticket; the bytes at home; the tokens; ..]
         rewrite ! 0 (λ (j : RegionKey). ‵ (ticket j.names i t.home)) asked.0 refl $ rewrite ! 0 (λ h. ‵ (ticket gs i h)) asked.1 refl $
-        move ! (1 ∷ []) $ fpick ! (λ hs. fsplit ! $ feq_l ! (λ count.
-        use2 𝓛 (later (‵ (Lent 𝓛 k.size b gs i o p (homes hs)))) (lend 𝓛 k.size b gs hs i o p refl) $ await ! tt $ fpick ! (λ js. fsplit ! $ feq_l ! (λ less. fsplit ! $
-        let left : (Roster.the_row).Denot = record { key = k; home = homes js } in
-        feq_i ! ℕ (homes js) (homes js) refl $ fjoin ! $ fpack ! (List Bool) (λ ks. fsep (feq ℕ (homes ks) (homes js)) (entries k.size gs ks b o)) js $
+        move ! (1 ∷ []) $ use2 𝓛 (later (‵ (Lent 𝓛 k.size b gs hs i o p))) (lend 𝓛 k.size b gs hs i o p refl) $ await ! tt $ fsplit ! $ feq_l ! (λ was. fsplit ! $
+        let left : (Roster.the_row).Denot = record { key = k; home = marked hs i false } in
         none_made ! $ fjoin ! $ move ! (1 ∷ []) $ fsplit ! $ rewrite ! 0 (λ (j : RegionKey). ‵ (ticket j.names i false)) (sym asked.0) refl $ none_made ! $ fjoin ! $
         move ! (1 ∷ []) $ fpick ! (λ xs. fsplit ! $ feq_l ! (λ long.
         let r : (Run.the_row).Denot = record { ptr = block_ptr b p; items = xs } in
@@ -104,8 +98,8 @@ module _ {M : Type 1} {𝓤 : Ura M} (𝓛 : Logic 𝓤) (at_mem : Memory → SP
         use1 𝓛 (‵ ((Tuple (Ticket.the_row ∷ Run.the_row ∷ [])).own_val (off, r) (two none none ∷ []))) (id⊢ 𝓤 _) $ move ! (1 ∷ 0 ∷ []) $
         two_made ! Roster.the_row (Tuple (Ticket.the_row ∷ Run.the_row ∷ [])) left (off, r) none (two none none) $
         returns ! (look_at ! 0 refl) $ free_all ! refl $
-        suffices ! _ (ends_at 𝓛 ended stayed held z (two none (two none none)) (left, (off, r)) (tt, (tt, tt)) (tt, (tt, tt))) $ says ! (refl, omega (arith, less, count), refl, refl, long) $
-        nothing ! $ nothing ! $ fjoin ! $ nothing ! $ fjoin ! $ move ! (2 ∷ 0 ∷ 1 ∷ []) $ done !))))))))))
+        suffices ! _ (ends_at 𝓛 ended stayed held z (two none (two none none)) (left, (off, r)) (tt, (tt, tt)) (tt, (tt, tt))) $ says ! (refl, was, refl, one_less hs i was, refl, refl, long) $
+        nothing ! $ nothing ! $ fjoin ! $ nothing ! $ fjoin ! $ move ! (2 ∷ 0 ∷ 1 ∷ []) $ done !)))))))
 
   meets : (𝓣 : Tables 𝓤 H) → Meets 𝓛 ended.signature (WpFn 𝓤 H 𝓣.C 𝓣.Λ function) (closing 𝓛 ended held)
   meets 𝓣 =

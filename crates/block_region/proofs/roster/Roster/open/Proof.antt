@@ -1,11 +1,10 @@
 -- `open` names each block of a run. Assumes `Logic`.
-use Rattle.std.proofs.Common.{◌≡◌, ℕ, ◌+◌, ◌*◌, ◌≤◌, Bool, true, false, List, [], ◌∷◌, ◌++◌, length, take, drop as drop_l, replicate, refl, sym, ap, ◌∙◌, subst, arith}
+use Rattle.std.proofs.Common.{◌≡◌, ◌*◌, true, List, [], ◌∷◌, ◌++◌, length, replicate, refl}
 use seplogic.Ra.Ura.{Ura}
 use mir.Syntax.{Fn, w32}
 use mir.Val.{Val, vint}
 use base.Fraction.{full_share}
 use base.Logic.{SProp, ent, id⊢, never}
-use base.Fml.{GName, fsep, feq, fex}
 use prog.Memory.{Memory}
 use prog.Routine.{Routine}
 use prog.Wp.{Calls, Loops, WpFn, Tables}
@@ -13,31 +12,29 @@ use contract.Monad.{Fun, fact}
 use contract.Running.{tables, tables_of}
 use sound.WpLaws.{WpFn-mono}
 use types.Logic.{Logic}
-use types.Kit.{‵, raw, ◌⊛◌, later, prop, ◌$◌, ◌∵◌, !, qed, move, drop, use1, use2, use3, split, fsplit, fjoin, fpick, fpack, feq_l, feq_i, flt_l, regoal, rewrite, suffices, await, done}
+use types.Kit.{‵, raw, ◌⊛◌, later, prop, ◌$◌, ◌∵◌, !, qed, move, drop, use1, split, fsplit, fjoin, fpick, feq_l, flt_l, regoal, suffices, await, done}
 use types.Part.{agg}
 use types.Run.{enter, returns, and_then, no_more}
 use types.ByLocal.{alloc_all, pass_all, free_all, look_at, get, sets}
 use denote.Exit.{yes}
 use denote.RattleType.{owns}
 use denote.Builtin.{u32}
-use denote.RawPtr.{block_ptr, in_a_block}
+use denote.RawPtr.{in_a_block}
 use denote.RawPtr.Bytes.{bytes}
 use denote.Signature.{plain, types_at}
 use denote.Steps.{nothing, heard}
-use denote.Struct.Tuple.{Tuple}
 use denote.Triple.Clauses.{Clauses, Ended, closing}
 use denote.Triple.Entry.{alive}
 use denote.Triple.Spec.{Meets, triple_of}
 use denote.Triple.Table.{entered}
 use denote.Triple.Walked.{says, Stays, stay_dropped, walk_of, ends_at, walk_Meets}
 use Rattle.std.proofs.alloc.Calls.{Goes-blank}
-use Rattle.block_region.proofs.Walks.{none, two, none_made, two_made, none_had, learns}
-use Rattle.block_region.proofs.Entries.{bounded, Lent, lend, Back, put, joined, Opened, opens, homes-all, dealt, as_run, as_room, as_bytes}
+use Rattle.block_region.proofs.Walks.{none, two, none_made, two_made, none_had}
+use Rattle.block_region.proofs.Entries.{Opened, opens, homes-all, as_bytes}
 use Rattle.block_region.specs.Regions.{RegionKey}
-use Rattle.block_region.specs.Ownership.{run_owns, room_of, entries, homes, at_home, ticket, pile}
+use Rattle.block_region.specs.Ownership.{run_owns}
 use Rattle.block_region.specs.contracts.memory.Run as Run
 use Rattle.block_region.specs.contracts.roster.Roster as Roster
-use Rattle.block_region.specs.contracts.roster.Ticket as Ticket
 use Rattle.block_region.specs.contracts.roster.Pile as Pile
 use Rattle.block_region.specs.contracts.roster.Roster.open as F
 use Rattle.block_region.specs.contracts.roster.Roster.open.Key.{name as #self}
@@ -89,12 +86,11 @@ module _ {M : Type 1} {𝓤 : Ura M} (𝓛 : Logic 𝓤) (at_mem : Memory → SP
         use1 𝓛 (‵ (bytes full_share xs b o)) (as_bytes 𝓛 xs b o) $
         use1 𝓛 (later (‵ (Opened 𝓛 s b n o))) (opens 𝓛 s b n xs o asked) $ await ! tt $ fpick ! (λ gs. fsplit ! $ feq_l ! (λ count. fsplit ! $
         let k : RegionKey = record { object = b; start = o; size = s; names = gs } in
-        let all : (Roster.the_row).Denot = record { key = k; home = n } in
+        let all : (Roster.the_row).Denot = record { key = k; home = replicate n true } in
         let tickets : (Pile.the_row).Denot = record { key = k; next = 0 } in
-        feq_i ! ℕ (homes (replicate n true)) n (homes-all n) $ fjoin ! $ fpack ! (List Bool) (λ hs. fsep (feq ℕ (homes hs) n) (entries s gs hs b o)) (replicate n true) $
         none_made ! $ fjoin ! $ move ! (1 ∷ []) $ none_made ! $ fjoin ! $ move ! (1 ∷ 0 ∷ []) $ two_made ! Roster.the_row Pile.the_row all tickets none none $
         returns ! (look_at ! 0 refl) $ free_all ! refl $
-        suffices ! _ (ends_at 𝓛 ended stayed held z (two none none) (all, tickets) (tt, (tt, (tt, tt))) (tt, (tt, (tt, tt)))) $ says ! (refl, count, at, refl, refl) $
+        suffices ! _ (ends_at 𝓛 ended stayed held z (two none none) (all, tickets) (tt, (tt, (tt, tt))) (tt, (tt, (tt, tt)))) $ says ! (refl, count, at, refl, homes-all n, refl) $
         nothing ! $ nothing ! $ fjoin ! $ nothing ! $ fjoin ! $ nothing ! $ fjoin ! $ move ! (2 ∷ 0 ∷ 1 ∷ []) $ done !))))))))))
 
   meets : (𝓣 : Tables 𝓤 H) → Meets 𝓛 ended.signature (WpFn 𝓤 H 𝓣.C 𝓣.Λ function) (closing 𝓛 ended held)

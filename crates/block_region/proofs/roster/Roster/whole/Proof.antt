@@ -1,11 +1,9 @@
 -- `whole` joins the bytes of all blocks. Assumes `Logic`.
-use Rattle.std.proofs.Common.{◌≡◌, ℕ, ◌+◌, ◌*◌, ◌≤◌, Bool, true, false, List, [], ◌∷◌, ◌++◌, length, take, drop as drop_l, replicate, refl, sym, ap, ◌∙◌, subst, arith}
+use Rattle.std.proofs.Common.{◌≡◌, ◌*◌, List, [], ◌∷◌, ◌++◌, length, refl}
 use seplogic.Ra.Ura.{Ura}
-use mir.Syntax.{Fn, w32}
-use mir.Val.{Val, vint}
-use base.Fraction.{full_share}
-use base.Logic.{SProp, ent, id⊢, never}
-use base.Fml.{GName, fsep, feq, fex}
+use mir.Syntax.{Fn}
+use mir.Val.{Val}
+use base.Logic.{SProp, ent}
 use prog.Memory.{Memory}
 use prog.Routine.{Routine}
 use prog.Wp.{Calls, Loops, WpFn, Tables}
@@ -13,32 +11,27 @@ use contract.Monad.{Fun, fact}
 use contract.Running.{tables, tables_of}
 use sound.WpLaws.{WpFn-mono}
 use types.Logic.{Logic}
-use types.Kit.{‵, raw, ◌⊛◌, later, prop, ◌$◌, ◌∵◌, !, qed, move, drop, use1, use2, use3, split, fsplit, fjoin, fpick, fpack, feq_l, feq_i, flt_l, regoal, rewrite, suffices, await, done}
+use types.Kit.{‵, raw, ◌⊛◌, prop, ◌$◌, ◌∵◌, !, qed, move, drop, use1, split, fsplit, fjoin, fpick, feq_l, regoal, suffices, done}
 use types.Part.{agg}
-use types.Run.{enter, returns, and_then, no_more}
-use types.ByLocal.{alloc_all, pass_all, free_all, look_at, get, sets}
+use types.Run.{enter, returns, no_more}
+use types.ByLocal.{alloc_all, pass_all, free_all, look_at, sets}
 use denote.Exit.{yes}
 use denote.RattleType.{owns}
-use denote.Builtin.{u32}
-use denote.RawPtr.{block_ptr, in_a_block}
-use denote.RawPtr.Bytes.{bytes}
+use denote.RawPtr.{block_ptr}
 use denote.Signature.{plain, types_at}
 use denote.Steps.{nothing, heard}
-use denote.Struct.Tuple.{Tuple}
 use denote.Triple.Clauses.{Clauses, Ended, closing}
 use denote.Triple.Entry.{alive}
 use denote.Triple.Spec.{Meets, triple_of}
 use denote.Triple.Table.{entered}
 use denote.Triple.Walked.{says, Stays, stay_dropped, walk_of, ends_at, walk_Meets}
 use Rattle.std.proofs.alloc.Calls.{Goes-blank}
-use Rattle.block_region.proofs.Walks.{none, two, none_made, two_made, none_had, learns}
-use Rattle.block_region.proofs.Entries.{bounded, Lent, lend, Back, put, joined, Opened, opens, homes-all, dealt, as_run, as_room, as_bytes}
-use Rattle.block_region.specs.Regions.{RegionKey}
-use Rattle.block_region.specs.Ownership.{run_owns, room_of, entries, homes, at_home, ticket, pile}
+use Rattle.block_region.proofs.Walks.{none, none_made, none_had}
+use Rattle.block_region.proofs.Entries.{joined, as_run}
+use Rattle.block_region.specs.Regions.{homes}
+use Rattle.block_region.specs.Ownership.{run_owns, room_of}
 use Rattle.block_region.specs.contracts.memory.Run as Run
 use Rattle.block_region.specs.contracts.roster.Roster as Roster
-use Rattle.block_region.specs.contracts.roster.Ticket as Ticket
-use Rattle.block_region.specs.contracts.roster.Pile as Pile
 use Rattle.block_region.specs.contracts.roster.Roster.whole as F
 use Rattle.block_region.specs.contracts.roster.Roster.whole.Key.{name as #self}
 use Rattle.block_region.proofs.roster.Roster.whole.Statement as stated
@@ -73,20 +66,20 @@ module _ {M : Type 1} {𝓤 : Ura M} (𝓛 : Logic 𝓤) (at_mem : Memory → SP
         let k = a.0.key in
         let b = k.object in
         let o = k.start in
-        let Asked = a.0.home ≡ length k.names in
+        let hs = a.0.home in
+        let Asked = homes hs ≡ length k.names in
         qed 𝓛 ((raw toks ⊛ ‵ (owns (types_at ended.signature.params z.0.0) a vss)) ∷ raw (fact 𝓤 Asked) ∷ []) ∵
         move ! (1 ∷ []) $ heard ! Asked (λ asked. split ! $ move ! (1 ∷ []) $
         fsplit ! $ fsplit ! $ none_had ! vss.0 (λ is₀. move ! (1 ∷ []) $ drop ! $
         regoal ! (λ (us : List Val). prop (WpFn 𝓤 H C Λ function (us ++ []) Post)) is₀ refl $
         enter ! C Λ function (none ∷ []) Post $ alloc_all ! (λ l. pass_all ! refl ((tt, tt), tt) $
         sets ! (agg ! (no_more !)) refl (tt, tt) $
-        fpick ! (λ hs. fsplit ! $ feq_l ! (λ count.
-        use1 𝓛 (‵ (room_of (length k.names * k.size) b o)) (joined 𝓛 k.size b k.names hs o (count ∙ asked)) $ fpick ! (λ xs. fsplit ! $ feq_l ! (λ long.
+        use1 𝓛 (‵ (room_of (length k.names * k.size) b o)) (joined 𝓛 k.size b k.names hs o asked) $ fpick ! (λ xs. fsplit ! $ feq_l ! (λ long.
         let r : (Run.the_row).Denot = record { ptr = block_ptr b o; items = xs } in
         use1 𝓛 (‵ (run_owns (block_ptr b o) xs)) (as_run 𝓛 xs b o) $ none_made ! $ fjoin ! $
         returns ! (look_at ! 0 refl) $ free_all ! refl $
         suffices ! _ (ends_at 𝓛 ended stayed held z none r (tt, tt) (tt, tt)) $ says ! (refl, long) $
-        nothing ! $ nothing ! $ fjoin ! $ move ! (2 ∷ 0 ∷ 1 ∷ []) $ done !)))))))
+        nothing ! $ nothing ! $ fjoin ! $ move ! (2 ∷ 0 ∷ 1 ∷ []) $ done !)))))
 
   meets : (𝓣 : Tables 𝓤 H) → Meets 𝓛 ended.signature (WpFn 𝓤 H 𝓣.C 𝓣.Λ function) (closing 𝓛 ended held)
   meets 𝓣 =
