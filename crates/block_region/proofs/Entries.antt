@@ -15,7 +15,7 @@ use denote.Builtin.{bool}
 use denote.RawPtr.Bytes.{bytes, bytes_cut, bytes_glue, bytes_apart, bytes_whole}
 use denote.RawPtr.{block_ptr}
 use denote.Steps.{nothing, heard}
-use Rattle.block_region.specs.Regions.{is_home, marked, homes}
+use Rattle.block_region.specs.Regions.{is_home, marked, homes, outs}
 use Rattle.block_region.specs.Ownership.{run_owns, room_of, goes, entries, ticket, pile}
 
 -- one fewer is at home
@@ -34,6 +34,20 @@ one_more (γ ∷ gs) (false ∷ hs) zero same some e = omega arith
 one_more (γ ∷ gs) (true ∷ hs) zero same some e = absurd (true≢false e)
 one_more (γ ∷ gs) (true ∷ hs) (suc n) same some e = omega (arith, one_more gs hs n (omega arith) (omega arith) e)
 one_more (γ ∷ gs) (false ∷ hs) (suc n) same some e = one_more gs hs n (omega arith) (omega arith) e
+
+-- one that is marked counts once, before and after
+pub marked-counts : (hs : List Bool) (n : ℕ) (x : Bool) → homes (marked hs n x) + outs (marked hs n x) ≡ homes hs + outs hs
+marked-counts [] n x = refl
+marked-counts (true ∷ hs) zero true = refl
+marked-counts (true ∷ hs) zero false = omega arith
+marked-counts (false ∷ hs) zero true = omega arith
+marked-counts (false ∷ hs) zero false = refl
+marked-counts (true ∷ hs) (suc n) x = omega (arith, marked-counts hs n x)
+marked-counts (false ∷ hs) (suc n) x = omega (arith, marked-counts hs n x)
+
+pub outs-none : (n : ℕ) → outs (replicate n true) ≡ 0
+outs-none zero = refl
+outs-none (suc n) = outs-none n
 
 at_most : (h : Bool) (hs : List Bool) (n : ℕ) → homes hs ≤ n → homes (h ∷ hs) ≤ suc n
 at_most true hs n le = omega arith

@@ -1,5 +1,5 @@
 -- A region and its blocks as contracts see them.
-use Rattle.std.specs.Prelude.{◌≡◌, ℕ, zero, suc, ◌+◌, ◌-◌, ◌*◌, ◌≤◌, Bool, true, false, List, [], ◌∷◌, ◌++◌, length, replicate, take, drop}
+use Rattle.std.specs.Prelude.{◌≡◌, ℕ, zero, suc, ◌+◌, ◌*◌, ◌≤◌, Bool, true, false, List, [], ◌∷◌, ◌++◌, length, replicate, take, drop}
 use denote.RawPtr.{Ptr, block_ptr}
 
 -- what a region and its blocks have in common: where the region's bytes lie, how many a block has, and one name for each block. No
@@ -43,8 +43,10 @@ homes (true ∷ hs) = suc (homes hs)
 homes (false ∷ hs) = homes hs
 
 -- how many are out
-abbrev pub out : BlockRegion → ℕ
-out r = r.blocks - r.free
+abbrev pub outs : List Bool → ℕ
+outs [] = zero
+outs (true ∷ hs) = outs hs
+outs (false ∷ hs) = suc (outs hs)
 
 abbrev pub AllHome : BlockRegion → Type 0
 AllHome r = r.free ≡ r.blocks

@@ -1,5 +1,5 @@
 ghost use Rattle.std.specs.Prelude.{◌≡◌, ◌+◌, ◌*◌, ◌≤◌, ◌↔◌, false, None, IsNone, IfOk, IfSome, length};
-ghost use Rattle.block_region.specs.Regions.{IsFresh, out, homes, is_home, IsTaken, given_back, AllHome};
+ghost use Rattle.block_region.specs.Regions.{IsFresh, outs, homes, is_home, IsTaken, given_back, AllHome};
 
 use crate::block::Block;
 use crate::memory::{Sole, attach, detach, house, vacate};
@@ -24,13 +24,13 @@ pub struct Region {
 impl Model for Region {
     ghost use Rattle.std.specs.Prelude.{◌≡◌, ◌+◌, ◌*◌, ◌≤◌, true, All, length, vec_capacity};
     ghost use denote.RawPtr.{block_ptr};
-    ghost use Rattle.block_region.specs.Regions.{BlockRegion, homes};
+    ghost use Rattle.block_region.specs.Regions.{BlockRegion, homes, outs};
 
     ghost Value = { BlockRegion };
 
     ghost view = { λ r. record { key = r.roster.key; blocks = r.blocks; home = r.roster.home; free = length r.free.items } };
 
-    ghost invariant = { λ r. (r.base ≡ block_ptr r.roster.key.object r.roster.key.start) × (r.size ≡ r.roster.key.size) × (r.blocks ≡ length r.roster.key.names) × (1 ≤ r.size) × (r.blocks * r.size ≤ 4194304) × (r.bytes.ptr ≡ r.base) × (r.bytes.len ≡ r.blocks * r.size) × (homes r.roster.home ≡ length r.free.items) × (length r.free.items ≤ r.blocks) × (r.blocks ≤ vec_capacity r.free) × All (λ p. (p.ticket.key ≡ r.roster.key) × (p.ticket.home ≡ true) × (p.number + 1 ≤ r.blocks)) r.free.items };
+    ghost invariant = { λ r. (r.base ≡ block_ptr r.roster.key.object r.roster.key.start) × (r.size ≡ r.roster.key.size) × (r.blocks ≡ length r.roster.key.names) × (1 ≤ r.size) × (r.blocks * r.size ≤ 4194304) × (r.bytes.ptr ≡ r.base) × (r.bytes.len ≡ r.blocks * r.size) × (homes r.roster.home ≡ length r.free.items) × (homes r.roster.home + outs r.roster.home ≡ r.blocks) × (length r.free.items ≤ r.blocks) × (r.blocks ≤ vec_capacity r.free) × All (λ p. (p.ticket.key ≡ r.roster.key) × (p.ticket.home ≡ true) × (p.number + 1 ≤ r.blocks)) r.free.items };
 }
 
 // Nothing else reaches what `base` points to.
@@ -97,7 +97,7 @@ impl Region {
     pub fn free(&self) -> u32
         ensures free { result ≡ self.now.free }
         ensures counted { result ≡ homes self.now.home }
-        ensures whole { result + out self.now ≡ self.now.blocks }
+        ensures whole { result + outs self.now.home ≡ self.now.blocks }
     {
         self.free.len() as u32
     }

@@ -1,7 +1,7 @@
 //! Which blocks are at home, and the bytes of those. All here but a block's number is ghost state: at run time it is nothing.
 ghost use Rattle.std.specs.Prelude.{◌≡◌, ℕ, ◌+◌, ◌*◌, ◌≤◌, Bool, true, false, List, length, replicate, drop};
 ghost use denote.RawPtr.{block_ptr};
-ghost use Rattle.block_region.specs.Regions.{RegionKey, is_home, marked, homes};
+ghost use Rattle.block_region.specs.Regions.{RegionKey, is_home, marked, homes, outs};
 ghost use Rattle.block_region.specs.Ownership.{key_code, at_home, ticket, pile};
 
 use crate::memory::Run;
@@ -70,7 +70,7 @@ impl Roster {
         requires { length run.items ≡ blocks * size }
         ensures { (result.0.key.size ≡ size) × (length result.0.key.names ≡ blocks)
             × (run.ptr ≡ block_ptr result.0.key.object result.0.key.start) × (result.0.home ≡ replicate blocks true)
-            × (homes result.0.home ≡ blocks)
+            × (homes result.0.home ≡ blocks) × (outs result.0.home ≡ 0)
             × (result.1 ≡ record { key = result.0.key; next = 0 }) }
     {
         let Run {} = run;
@@ -82,6 +82,7 @@ impl Roster {
         requires { (ticket.key ≡ self.key) × (ticket.home ≡ true) }
         ensures { (result.0.key ≡ self.key) × (is_home self.home ticket.number ≡ true)
             × (result.0.home ≡ marked self.home ticket.number false) × (homes result.0.home + 1 ≡ homes self.home)
+            × (homes result.0.home + outs result.0.home ≡ homes self.home + outs self.home)
             × (result.1.0 ≡ record ticket { home = false })
             × (result.1.1.ptr ≡ block_ptr self.key.object (self.key.start + ticket.number * self.key.size))
             × (length result.1.1.items ≡ self.key.size) }
@@ -98,6 +99,7 @@ impl Roster {
             × (length block.1.items ≡ self.key.size) }
         ensures { (result.0.key ≡ self.key) × (is_home self.home block.0.number ≡ false)
             × (result.0.home ≡ marked self.home block.0.number true) × (homes result.0.home ≡ homes self.home + 1)
+            × (homes result.0.home + outs result.0.home ≡ homes self.home + outs self.home)
             × (homes result.0.home ≤ length self.key.names) × (result.1 ≡ record block.0 { home = true }) }
     {
         let (ticket, run) = block;
@@ -110,6 +112,7 @@ impl Roster {
             × (length run.items ≡ self.key.size) }
         ensures { (result.0.key ≡ self.key) × (is_home self.home ticket.number ≡ false)
             × (result.0.home ≡ marked self.home ticket.number true) × (homes result.0.home ≡ homes self.home + 1)
+            × (homes result.0.home + outs result.0.home ≡ homes self.home + outs self.home)
             × (homes result.0.home ≤ length self.key.names) × (result.1 ≡ record ticket { home = true }) }
     {
         let Roster {} = self;

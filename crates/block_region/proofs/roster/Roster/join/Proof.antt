@@ -27,7 +27,7 @@ use denote.Triple.Table.{entered}
 use denote.Triple.Walked.{says, Stays, stay_dropped, walk_of, ends_at, walk_Meets}
 use Rattle.std.proofs.alloc.Calls.{Goes-blank}
 use Rattle.block_region.proofs.Walks.{none, two, none_made, two_made, none_had, learns}
-use Rattle.block_region.proofs.Entries.{bounded, paired, one_more, Back, put, as_room}
+use Rattle.block_region.proofs.Entries.{marked-counts, bounded, paired, one_more, Back, put, as_room}
 use Rattle.block_region.specs.Regions.{RegionKey, marked, homes}
 use Rattle.block_region.specs.Ownership.{run_owns, room_of, ticket}
 use Rattle.block_region.specs.contracts.memory.Run as Run
@@ -96,7 +96,7 @@ module _ {M : Type 1} {𝓤 : Ura M} (𝓛 : Logic 𝓤) (at_mem : Memory → SP
         none_made ! $ fjoin ! $ move ! (1 ∷ []) $ rewrite ! 0 (λ (j : RegionKey). ‵ (ticket j.names i true)) (sym asked.0) refl $ none_made ! $ fjoin ! $ move ! (1 ∷ 0 ∷ []) $
         two_made ! Roster.the_row Ticket.the_row whole back none none $
         returns ! (look_at ! 0 refl) $ free_all ! refl $
-        suffices ! _ (ends_at 𝓛 ended stayed held z (two none none) (whole, back) (tt, (tt, (tt, tt))) (tt, (tt, (tt, tt)))) $ says ! (refl, was, refl, one_more gs hs i same asked.2 was, most, refl) $
+        suffices ! _ (ends_at 𝓛 ended stayed held z (two none none) (whole, back) (tt, (tt, (tt, tt))) (tt, (tt, (tt, tt)))) $ says ! (refl, was, refl, one_more gs hs i same asked.2 was, marked-counts hs i true, most, refl) $
         nothing ! $ nothing ! $ fjoin ! $ nothing ! $ fjoin ! $ nothing ! $ fjoin ! $ move ! (2 ∷ 0 ∷ 1 ∷ []) $ done !))))))))
 
   meets : (𝓣 : Tables 𝓤 H) → Meets 𝓛 ended.signature (WpFn 𝓤 H 𝓣.C 𝓣.Λ function) (closing 𝓛 ended held)

@@ -28,7 +28,7 @@ use denote.Triple.Table.{entered}
 use denote.Triple.Walked.{says, Stays, stay_dropped, walk_of, ends_at, walk_Meets}
 use Rattle.std.proofs.alloc.Calls.{Goes-blank}
 use Rattle.block_region.proofs.Walks.{none, two, none_made, two_made, none_had}
-use Rattle.block_region.proofs.Entries.{one_less, Lent, lend, as_run}
+use Rattle.block_region.proofs.Entries.{marked-counts, one_less, Lent, lend, as_run}
 use Rattle.block_region.specs.Regions.{RegionKey, marked}
 use Rattle.block_region.specs.Ownership.{run_owns, ticket}
 use Rattle.block_region.specs.contracts.memory.Run as Run
@@ -98,7 +98,7 @@ module _ {M : Type 1} {𝓤 : Ura M} (𝓛 : Logic 𝓤) (at_mem : Memory → SP
         use1 𝓛 (‵ ((Tuple (Ticket.the_row ∷ Run.the_row ∷ [])).own_val (off, r) (two none none ∷ []))) (id⊢ 𝓤 _) $ move ! (1 ∷ 0 ∷ []) $
         two_made ! Roster.the_row (Tuple (Ticket.the_row ∷ Run.the_row ∷ [])) left (off, r) none (two none none) $
         returns ! (look_at ! 0 refl) $ free_all ! refl $
-        suffices ! _ (ends_at 𝓛 ended stayed held z (two none (two none none)) (left, (off, r)) (tt, (tt, tt)) (tt, (tt, tt))) $ says ! (refl, was, refl, one_less hs i was, refl, refl, long) $
+        suffices ! _ (ends_at 𝓛 ended stayed held z (two none (two none none)) (left, (off, r)) (tt, (tt, tt)) (tt, (tt, tt))) $ says ! (refl, was, refl, one_less hs i was, marked-counts hs i false, refl, refl, long) $
         nothing ! $ nothing ! $ fjoin ! $ nothing ! $ fjoin ! $ move ! (2 ∷ 0 ∷ 1 ∷ []) $ done !)))))))
 
   meets : (𝓣 : Tables 𝓤 H) → Meets 𝓛 ended.signature (WpFn 𝓤 H 𝓣.C 𝓣.Λ function) (closing 𝓛 ended held)

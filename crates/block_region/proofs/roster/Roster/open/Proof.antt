@@ -30,7 +30,7 @@ use denote.Triple.Table.{entered}
 use denote.Triple.Walked.{says, Stays, stay_dropped, walk_of, ends_at, walk_Meets}
 use Rattle.std.proofs.alloc.Calls.{Goes-blank}
 use Rattle.block_region.proofs.Walks.{none, two, none_made, two_made, none_had}
-use Rattle.block_region.proofs.Entries.{Opened, opens, homes-all, as_bytes}
+use Rattle.block_region.proofs.Entries.{outs-none, Opened, opens, homes-all, as_bytes}
 use Rattle.block_region.specs.Regions.{RegionKey}
 use Rattle.block_region.specs.Ownership.{run_owns}
 use Rattle.block_region.specs.contracts.memory.Run as Run
@@ -90,7 +90,7 @@ module _ {M : Type 1} {𝓤 : Ura M} (𝓛 : Logic 𝓤) (at_mem : Memory → SP
         let tickets : (Pile.the_row).Denot = record { key = k; next = 0 } in
         none_made ! $ fjoin ! $ move ! (1 ∷ []) $ none_made ! $ fjoin ! $ move ! (1 ∷ 0 ∷ []) $ two_made ! Roster.the_row Pile.the_row all tickets none none $
         returns ! (look_at ! 0 refl) $ free_all ! refl $
-        suffices ! _ (ends_at 𝓛 ended stayed held z (two none none) (all, tickets) (tt, (tt, (tt, tt))) (tt, (tt, (tt, tt)))) $ says ! (refl, count, at, refl, homes-all n, refl) $
+        suffices ! _ (ends_at 𝓛 ended stayed held z (two none none) (all, tickets) (tt, (tt, (tt, tt))) (tt, (tt, (tt, tt)))) $ says ! (refl, count, at, refl, homes-all n, outs-none n, refl) $
         nothing ! $ nothing ! $ fjoin ! $ nothing ! $ fjoin ! $ nothing ! $ fjoin ! $ move ! (2 ∷ 0 ∷ 1 ∷ []) $ done !))))))))))
 
   meets : (𝓣 : Tables 𝓤 H) → Meets 𝓛 ended.signature (WpFn 𝓤 H 𝓣.C 𝓣.Λ function) (closing 𝓛 ended held)
