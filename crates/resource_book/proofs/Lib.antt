@@ -1,3 +1,4 @@
 pub mod Best
 pub mod Changing
+pub mod First
 pub mod Placing

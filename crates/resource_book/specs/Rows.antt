@@ -1,5 +1,5 @@
 -- The rows of components that hold units or wait for some: who is first of those that wait, and who is its victim.
-use Rattle.std.specs.Prelude.{ℕ, ◌<◌, Bool, true, false, not, ◌&&◌, ◌||◌, nat_eq, nat_lt, List, [], ◌∷◌, ◌++◌, length, filter, sum_by, Option, Some, None, is_some, option_and_then, option_map, unwrap_or, if◌then◌else◌}
+use Rattle.std.specs.Prelude.{◌≡◌, ◌⊎◌, ℕ, ◌<◌, Bool, true, false, not, ◌&&◌, ◌||◌, nat_eq, nat_lt, List, [], ◌∷◌, ◌++◌, length, filter, sum_by, Option, Some, None, is_some, option_and_then, option_map, IfSome, unwrap_or, if◌then◌else◌}
 use Rattle.std.specs.List.{find}
 use Rattle.resource_book.specs.declared.row.Held.{Held}
 use Rattle.resource_book.specs.declared.row.Row.{Row}
@@ -56,6 +56,19 @@ module _ {X : Type 0} where
   first_of before [] = None
   first_of before (x ∷ xs) = Some (better before x (first_of before xs))
 
+  abbrev pub IsOneOf : X → List X → Type 0
+  IsOneOf x [] = ⊥
+  IsOneOf x (y ∷ ys) = (x ≡ y) ⊎ IsOneOf x ys
+
+  abbrev pub NoneBefore : (X → X → Bool) → X → List X → Type 0
+  NoneBefore before x [] = Unit {0}
+  NoneBefore before x (y ∷ ys) = (before y x ≡ false) × NoneBefore before x ys
+
+  -- it is one of these, and none of them goes before it
+  pub record GoesFirst (before : X → X → Bool) (xs : List X) (x : X) : Type 0 where
+    pub among : IsOneOf x xs
+    pub first : NoneBefore before x xs
+
 -- of those that wait the one that goes before all others
 abbrev pub first_waiter : List Row → Option Row
 first_waiter rows = first_of is_before (filter is_waiter rows)
@@ -75,6 +88,13 @@ weakest waiter rows = first_of gives_first (filter (is_weaker waiter) rows)
 
 abbrev pub victim : List Row → Option Row
 victim rows = option_and_then (λ waiter. weakest waiter rows) (first_waiter rows)
+
+-- the first waiter is a least one, and its victim a greatest one
+abbrev pub IsFirstToGet : List Row → Type 0
+IsFirstToGet rows = IfSome (first_waiter rows) (GoesFirst is_before (filter is_waiter rows))
+
+abbrev pub IsFirstToGive : List Row → Type 0
+IsFirstToGive rows = IfSome (first_waiter rows) (λ waiter. IfSome (weakest waiter rows) (GoesFirst gives_first (filter (is_weaker waiter) rows)))
 
 -- ---- the row of a component
 

@@ -1,5 +1,5 @@
 ghost use Rattle.std.specs.Prelude.{◌≡◌, ◌<◌, ◌≤◌, ◌^◌, true, false, not, length, filter, option_map, if◌then◌else◌};
-ghost use Rattle.resource_book.specs.Rows.{units_held, is_returning, is_kept, is_waiter, is_of, is_below, is_before, is_weaker, gives_first, better, first_waiter, weakest, victim, row_at, has_place, with_row, AreRising, component_of, given_back, marked_back, left};
+ghost use Rattle.resource_book.specs.Rows.{units_held, is_returning, is_kept, is_waiter, is_of, is_below, is_before, is_weaker, gives_first, better, first_waiter, weakest, victim, IsFirstToGet, IsFirstToGive, row_at, has_place, with_row, AreRising, component_of, given_back, marked_back, left};
 ghost use Rattle.resource_book.specs.declared.row.Row.{Row as RowOf};
 ghost use Rattle.resource_book.specs.Account.{IsSound};
 ghost use Rattle.resource_book.specs.Book.{empty_book, free_units, coming_units, has_room, holds_units, waits, with_changed, answer_to, asked, is_out_of_numbers, waited};
@@ -248,14 +248,16 @@ impl Book {
 
     /// The component that gets units before all others that wait.
     pub fn first_waiter(&self) -> Option<u64>
-        ensures { result ≡ option_map component_of (first_waiter self.now.rows) }
+        ensures answer { result ≡ option_map component_of (first_waiter self.now.rows) }
+        ensures least { IsFirstToGet self.now.rows }
     {
         Some(first_waiter(self.rows.as_slice())?.component)
     }
 
     /// The component that gives its units up for the first waiter.
     pub fn victim(&self) -> Option<u64>
-        ensures { result ≡ option_map component_of (victim self.now.rows) }
+        ensures answer { result ≡ option_map component_of (victim self.now.rows) }
+        ensures greatest { IsFirstToGive self.now.rows }
     {
         let rows = self.rows.as_slice();
         let waiter = first_waiter(rows)?;
