@@ -1,6 +1,6 @@
 -- What a work that is put down comes to, by the layout of its ports, is what it comes to in the machine.
-use Rattle.std.proofs.Common.{◌≡◌, ℕ, ◌+◌, Bool, true, false, ◌&&◌, ◌||◌, nat_lt, List, [], ◌∷◌, ◌++◌, map, length, refl, ap, sym, subst, ◌∙◌, append_assoc, arith}
-use Rattle.std.specs.Prelude.{Option, Some, None, is_none, is_some}
+use Rattle.std.proofs.Common.{◌≡◌, ℕ, Bool, ◌&&◌, ◌||◌, nat_lt, List, ◌++◌, length, refl, ap, sym, subst, ◌∙◌, append_assoc, arith}
+use Rattle.std.specs.Prelude.{Option, is_none, is_some}
 use Rattle.std.specs.List.{list_any}
 use Rattle.std.proofs.lemmas.List.{map-append}
 use Rattle.omx_types.specs.declared.fault.PartFault.{PartFault}
@@ -15,7 +15,6 @@ use Rattle.il_machine.specs.Whole.{PartSeen}
 use Rattle.il_machine.specs.Stepping.{inputs_ended, is_last, is_over}
 use Rattle.il_machine.specs.Finishing.{ends_by, gone_through, notes_after, tells_end}
 use Rattle.il_machine.specs.Stock.{Stocked}
-use Rattle.header_core.specs.BufferHeader.{BufferHeader}
 use Rattle.note_queues.specs.declared.taken.Taken.{Taken}
 use Rattle.note_queues.specs.Queues.{Queues, note_of, notes_of}
 use Rattle.il_flow.specs.declared.layout.Layout.{Layout}

@@ -1,15 +1,15 @@
 -- The layout of a work that comes back, and which of its inputs have ended.
-use Rattle.std.proofs.Common.{◌≡◌, ℕ, zero, suc, ◌+◌, ◌-◌, ◌<◌, ◌≤◌, Bool, true, false, ◌&&◌, nat_eq, List, [], ◌∷◌, length, refl, ap, sym, ◌∙◌, arith, if◌then◌else◌}
+use Rattle.std.proofs.Common.{◌≡◌, ℕ, zero, suc, ◌+◌, ◌-◌, ◌<◌, Bool, true, false, ◌&&◌, nat_eq, List, [], ◌∷◌, refl, ap, sym, arith, if◌then◌else◌}
 use Rattle.std.specs.Prelude.{Option, Some, None}
 use Rattle.std.specs.List.{list_all}
 use Rattle.std.proofs.Math.ListN.{get_or}
 use Rattle.std.proofs.lemmas.Bool.Decides.{nat_tests}
 use Rattle.part_api.specs.Terms.{Terms}
 use Rattle.il_machine.specs.Kinds.{is_source}
-use Rattle.il_machine.specs.Parts.{frames_left, frames_of}
+use Rattle.il_machine.specs.Parts.{frames_of}
 use Rattle.il_machine.specs.World.{Stream}
 use Rattle.il_machine.specs.Finishing.{gone_through}
-use Rattle.il_machine.specs.Stepping.{Done, has_ended_by, inputs_ended, is_over}
+use Rattle.il_machine.specs.Stepping.{Done, has_ended_by, is_over}
 use Rattle.header_core.specs.BufferHeader.{BufferHeader}
 use Rattle.il_flow.specs.declared.layout.Layout.{Layout}
 use Rattle.il_flow.specs.Landed.{AreLaid, lasts_from}

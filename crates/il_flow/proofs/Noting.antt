@@ -3,15 +3,12 @@ use Rattle.std.proofs.Common.{◌≡◌, ℕ, ◌+◌, Bool, true, false, if◌t
 use Rattle.std.specs.Prelude.{Option, Some, None}
 use Rattle.std.proofs.lemmas.List.{map-append}
 use Rattle.omx_types.specs.declared.fault.PartFault.{PartFault}
-use Rattle.omx_types.specs.declared.command.Note.{Note}
 use Rattle.il_machine.specs.declared.port.Mark.{Mark}
 use Rattle.il_machine.specs.World.{Component, Stream}
 use Rattle.il_machine.specs.Claims.{Carried}
-use Rattle.il_machine.specs.Flow.{done_note}
 use Rattle.il_machine.specs.Stepping.{Done}
 use Rattle.il_machine.specs.Finishing.{Landing, Again, Onward, Noted, end_note, fault_note, is_an_input, landing, landing_note, load_after, mark_note, notes_after, notes_of_header, notes_of_headers, tells_end, tells_mark}
 use Rattle.header_core.specs.BufferHeader.{BufferHeader}
-use Rattle.note_queues.specs.declared.taken.Taken.{Taken}
 use Rattle.note_queues.specs.Queues.{note_of}
 use Rattle.il_flow.specs.Landed.{all_taken, end_told, fault_told, taken_after, taken_with, with_load}
 use Rattle.il_flow.specs.Places.{carried, carried_from}

@@ -58,9 +58,10 @@ homeless_same component port (x ∷ a) [] s same h = absurd same
 homeless_same component port (None ∷ a) (None ∷ b) s same h = (tt, homeless_same component (port + 1) a b s same.1 h.1)
 homeless_same component port (None ∷ a) (Some y ∷ b) s same h = absurd same.0
 homeless_same component port (Some x ∷ a) (None ∷ b) s same h = absurd same.0
-homeless_same component port (Some x ∷ a) (Some y ∷ b) s same h =
-    ((h.0.0, outside_same x y s same.0 h.0.1, subst (λ n. holds_at (s.headers.header n) (is_for (key_at component port)) ≡ true) (sym same.0.number) h.0.2),
-    homeless_same component (port + 1) a b s same.1 h.1)
+homeless_same component port (Some x ∷ a) (Some y ∷ b) s same h = (
+  (h.0.0, outside_same x y s same.0 h.0.1, subst (λ n. holds_at (s.headers.header n) (is_for (key_at component port)) ≡ true) (sym same.0.number) h.0.2),
+  homeless_same component (port + 1) a b s same.1 h.1,
+)
 
 others_same : (number port : ℕ) (a b : List (Option BufferHeader)) → AreSame a b → EachFrom (λ port x. IsOther number x) port a → EachFrom (λ port x. IsOther number x) port b
 others_same number port [] [] same h = tt

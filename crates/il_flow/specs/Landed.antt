@@ -7,7 +7,7 @@ use Rattle.il_machine.specs.declared.port.PortKey.{PortKey}
 use Rattle.il_machine.specs.declared.header.Owner.TheVariants as owners
 use Rattle.il_machine.specs.declared.header.Spot.TheVariants.{TodoFront, DoneBack}
 use Rattle.il_machine.specs.Lists.{holds_at}
-use Rattle.il_machine.specs.World.{Component, Load, Stream, number_of, port_of as component_port}
+use Rattle.il_machine.specs.World.{Component, Load, Stream, port_of as component_port}
 use Rattle.il_machine.specs.Ports.{is_joined, returning}
 use Rattle.il_machine.specs.Parts.{terms_of}
 use Rattle.il_machine.specs.Claims.{Carried}

@@ -1,4 +1,4 @@
-use Rattle.std.proofs.Common.{◌≡◌, ◌+◌, ◌<◌, ◌++◌, true, length, sym, subst, arith}
+use Rattle.std.proofs.Common.{◌≡◌, ◌<◌, ◌++◌, true, length, sym, subst, arith}
 use Rattle.std.proofs.Math.ListN.{get_or}
 use Rattle.il_machine.specs.Stepping.{has_ended_by}
 use Rattle.note_queues.specs.Queues.{room}
