@@ -158,6 +158,7 @@ pub fn put_down<P: KindPart, C>(
     requires places { HavePlaces done.headers notes.old }
     ensures part { result.part ≡ done.part }
     ensures fault { result.fault ≡ done.fault }
+    ensures kept { notes.new ≡ record notes.old { notes = notes.new.notes } }
     ensures ended { (input : ℕ) → get_or result.ended input true ≡ has_ended_by (P.terms done.part) 0 (carried_from 0 done.headers) input }
     ensures over { (c : Component) (s : Stream) (took : List ℕ) → IsWorkOf c s took done (P.terms done.part) (shown (P.left done.part) (P.rest done.part) (P.kept done.part) (P.writing done.part)) ways.now
         → result.over ≡ ends_by c s (seen_done took done) }

@@ -1,4 +1,4 @@
-use Rattle.std.proofs.Common.{◌≡◌, ◌<◌, ◌++◌, true, length, sym, subst, arith}
+use Rattle.std.proofs.Common.{◌≡◌, ◌<◌, ◌++◌, true, length, refl, sym, subst, arith}
 use Rattle.std.proofs.Math.ListN.{get_or}
 use Rattle.il_machine.specs.Stepping.{has_ended_by}
 use Rattle.note_queues.specs.Queues.{room}
@@ -110,3 +110,6 @@ returns-clause-notes g c =
 
 pub returns-clause-told : goal.returns-clause-told
 returns-clause-told g c = λ x s took w. told_of x s took c.args.done c.args.notes.now c.tell_end.new.notes (returns-clause-notes g c x s took w)
+
+pub returns-clause-kept : goal.returns-clause-kept
+returns-clause-kept g c = rw c.tell_end.ensures (rw c.bring_places.ensures.notes refl)
