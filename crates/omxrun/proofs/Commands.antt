@@ -7,7 +7,7 @@ use Rattle.omx_types.specs.declared.fault.Status.{Status}
 use Rattle.omxrun.specs.Asked.{IsUnbuilt}
 use Rattle.omxrun.specs.Commands.{HasRun}
 use Rattle.omxrun.specs.Told.{IsTold}
-use Rattle.omxrun.specs.Words.{Asked, to_trace, to_play, to_make, AreWordsOf}
+use Rattle.omxrun.specs.Words.{Asked, to_trace, to_play, to_make, to_clock, to_pack, to_unpack, AreWordsOf}
 use Rattle.omxrun.proofs.Forms.{one-asked}
 
 pub run-asked : (words : List (List ℕ)) (asked : Asked) (old new : Outside) (told told_new : Option (List ℕ)) (before now : ℕ) (status : Status) (found : Asked) → AreWordsOf words found → HasRun found old new told told_new before now status → AreWordsOf words asked → HasRun asked old new told told_new before now status
@@ -18,3 +18,6 @@ pub unbuilt-run : (asked : Asked) (old new : Outside) (told told_new : Option (L
 unbuilt-run (to_trace script) old new told told_new before now status unbuilt run = absurd unbuilt
 unbuilt-run (to_play script workers log) old new told told_new before now status unbuilt run = run.1 unbuilt
 unbuilt-run (to_make seed frames folder) old new told told_new before now status unbuilt run = absurd unbuilt
+unbuilt-run (to_clock script) old new told told_new before now status unbuilt run = absurd unbuilt
+unbuilt-run (to_pack input output) old new told told_new before now status unbuilt run = absurd unbuilt
+unbuilt-run (to_unpack input output) old new told told_new before now status unbuilt run = absurd unbuilt

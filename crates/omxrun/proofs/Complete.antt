@@ -17,7 +17,7 @@ use Rattle.omxrun.specs.Reasons.{ForTunnel, HasReason, IsCaused, IsOfScript, IsO
 use Rattle.omxrun.specs.Script.{IsTunnel}
 use Rattle.omxrun.specs.Told.{IsPrinted, IsTold, status_of, outcome_text}
 use Rattle.omxrun.specs.declared.done.Done.{Done}
-use Rattle.omxrun.specs.declared.done.Done.TheVariants.{Played, Made}
+use Rattle.omxrun.specs.declared.done.Done.TheVariants.{Played, Made, Packed, Unpacked}
 use Rattle.omxrun.proofs.Outcomes.{same-text}
 use Rattle.omxrun.proofs.Tunnels.{tunnel-once}
 
@@ -202,6 +202,8 @@ played-head source sink log old new (Played frames size) bytes held ends =
     let text = ends.copied.of_source in
     (ends.copied.head, subst (λ (b : List ℕ). Reads b (Ok ends.copied.head)) (same-text text.bytes bytes (old.file source) text.held held) text.reads)
 played-head source sink log old new (Made frames) bytes held ends = absurd ends
+played-head source sink log old new (Packed counts) bytes held ends = absurd ends
+played-head source sink log old new (Unpacked counts) bytes held ends = absurd ends
 
 valid-played : (script log : List ℕ) (old new : Outside) (source sink bytes : List ℕ) (done : Done) → IsReadable script log old source sink bytes → IsPlayed script log old new done → (head : WavHead) × Reads bytes (Ok head)
 valid-played script log old new source sink bytes done can played =

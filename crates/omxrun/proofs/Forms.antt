@@ -3,15 +3,21 @@ use Rattle.std.proofs.Common.{◌≡◌, ℕ, ◌<◌, ◌^◌, List, [], ◌∷
 use Rattle.std.specs.Fmt.{decimal}
 use Rattle.std.specs.Str.Parse.{digits_value}
 use Rattle.std.proofs.lemmas.Fmt.{decimal_is_IsNumeral}
-use Rattle.omxrun.specs.Words.{Asked, to_trace, to_play, to_make, AreWordsOf, AreNoForm, IsAllowed, words_for, IsPlay, IsMake}
+use Rattle.omxrun.specs.Words.{Asked, to_trace, to_play, to_make, to_clock, to_pack, to_unpack, AreWordsOf, AreNoForm, IsAllowed, words_for, IsPlay, IsMake, ArePair}
 
 -- the first byte of the first word
 abbrev first_byte : List (List ℕ) → ℕ
 first_byte ((byte ∷ _) ∷ _) = byte
 first_byte _ = 0
 
-play-make : (a b : ℕ) → a ≡ 112 → b ≡ 109 → a ≡ b → ⊥
-play-make a b p m same = omega arith
+-- the second byte of the first word
+abbrev second_byte : List (List ℕ) → ℕ
+second_byte ((_ ∷ byte ∷ _) ∷ _) = byte
+second_byte _ = 0
+
+-- two bytes that aren't the same
+apart : (less more a b : ℕ) → less < more → a ≡ less → b ≡ more → a ≡ b → ⊥
+apart less more a b below is also same = omega (arith, below, is, also, same)
 
 -- a number has one numeral
 pub decimal-injective : (m n : ℕ) → m < 2 ^ 64 → n < 2 ^ 64 → decimal m ≡ decimal n → m ≡ n
@@ -27,12 +33,18 @@ no_play script workers log fits none (to_play s w l) (same, is) =
     let workers_is = decimal-injective w workers (let h : w < 2 ^ 64 = omega (arith, is.few_workers) in h) fits number in
     none (subst (λ (x : List ℕ). IsPlay x workers log) script_is (subst (λ (n : ℕ). IsPlay s n log) workers_is (subst (λ (x : List ℕ). IsPlay s w x) log_is is)))
 no_play script workers log fits none (to_make seed frames folder) (same, _) =
-    play-make _ _ refl refl (ap first_byte same)
+    apart 109 112 _ _ (omega arith) refl refl (sym (ap first_byte same))
+no_play script workers log fits none (to_clock other) (same, _) = cc
+no_play script workers log fits none (to_pack i o) (same, _) = cc
+no_play script workers log fits none (to_unpack i o) (same, _) = cc
 
 pub no_make : (seed frames : ℕ) (folder : List ℕ) → seed < 2 ^ 64 → frames < 2 ^ 64 → (IsMake seed frames folder → ⊥) → AreNoForm (codes "make" ∷ decimal seed ∷ decimal frames ∷ folder ∷ [])
 no_make seed frames folder fits_seed fits_frames none (to_trace other) (same, _) = cc
 no_make seed frames folder fits_seed fits_frames none (to_play s w l) (same, _) =
-    play-make _ _ refl refl (sym (ap first_byte same))
+    apart 109 112 _ _ (omega arith) refl refl (ap first_byte same)
+no_make seed frames folder fits_seed fits_frames none (to_clock other) (same, _) = cc
+no_make seed frames folder fits_seed fits_frames none (to_pack i o) (same, _) = cc
+no_make seed frames folder fits_seed fits_frames none (to_unpack i o) (same, _) = cc
 no_make seed frames folder fits_seed fits_frames none (to_make s f d) (same, is) =
     let seed_numeral : decimal s ≡ decimal seed = cc in
     let frames_numeral : decimal f ≡ decimal frames = cc in
@@ -42,14 +54,23 @@ no_make seed frames folder fits_seed fits_frames none (to_make s f d) (same, is)
     none (subst (λ (n : ℕ). IsMake n frames folder) seed_is (subst (λ (n : ℕ). IsMake s n folder) frames_is (subst (λ (x : List ℕ). IsMake s f x) folder_is is)))
 
 -- the words of one thing are those of no other
-trace-play : (a b : ℕ) → a ≡ 116 → b ≡ 112 → a ≡ b → ⊥
-trace-play a b t p same = omega arith
-
-trace-make : (a b : ℕ) → a ≡ 116 → b ≡ 109 → a ≡ b → ⊥
-trace-make a b t m same = omega arith
-
 one-trace : (script other : List ℕ) → words_for (to_trace script) ≡ words_for (to_trace other) → to_trace script ≡ to_trace other
 one-trace script other same = ap to_trace (let e : script ≡ other = cc in e)
+
+one-clock : (script other : List ℕ) → words_for (to_clock script) ≡ words_for (to_clock other) → to_clock script ≡ to_clock other
+one-clock script other same = ap to_clock (let e : script ≡ other = cc in e)
+
+one-pack : (input other output more : List ℕ) → words_for (to_pack input output) ≡ words_for (to_pack other more) → to_pack input output ≡ to_pack other more
+one-pack input other output more same =
+    let input_is : input ≡ other = cc in
+    let output_is : output ≡ more = cc in
+    ap (λ (i : List ℕ). to_pack i output) input_is ∙ ap (to_pack other) output_is
+
+one-unpack : (input other output more : List ℕ) → words_for (to_unpack input output) ≡ words_for (to_unpack other more) → to_unpack input output ≡ to_unpack other more
+one-unpack input other output more same =
+    let input_is : input ≡ other = cc in
+    let output_is : output ≡ more = cc in
+    ap (λ (i : List ℕ). to_unpack i output) input_is ∙ ap (to_unpack other) output_is
 
 one-play : (script other : List ℕ) (workers count : ℕ) (log more : List ℕ) → IsPlay script workers log → IsPlay other count more → words_for (to_play script workers log) ≡ words_for (to_play other count more) → to_play script workers log ≡ to_play other count more
 one-play script other workers count log more is also same =
@@ -72,12 +93,39 @@ same-words : (one other : Asked) → IsAllowed one → IsAllowed other → words
 same-words (to_trace script) (to_trace other) is also same = one-trace script other same
 same-words (to_play script workers log) (to_play other count more) is also same = one-play script other workers count log more is also same
 same-words (to_make seed frames folder) (to_make other_seed other_frames other) is also same = one-make seed frames other_seed other_frames folder other is also same
-same-words (to_trace script) (to_play other count more) is also same = absurd (trace-play _ _ refl refl (ap first_byte same))
-same-words (to_trace script) (to_make seed frames folder) is also same = absurd (trace-make _ _ refl refl (ap first_byte same))
-same-words (to_play script workers log) (to_trace other) is also same = absurd (trace-play _ _ refl refl (sym (ap first_byte same)))
-same-words (to_play script workers log) (to_make seed frames folder) is also same = absurd (play-make _ _ refl refl (ap first_byte same))
-same-words (to_make seed frames folder) (to_trace other) is also same = absurd (trace-make _ _ refl refl (sym (ap first_byte same)))
-same-words (to_make seed frames folder) (to_play other count more) is also same = absurd (play-make _ _ refl refl (sym (ap first_byte same)))
+same-words (to_clock script) (to_clock other) is also same = one-clock script other same
+same-words (to_trace script) (to_play other count more) is also same = absurd (apart 112 116 _ _ (omega arith) refl refl (sym (ap first_byte same)))
+same-words (to_trace script) (to_make other_seed other_frames other) is also same = absurd (apart 109 116 _ _ (omega arith) refl refl (sym (ap first_byte same)))
+same-words (to_trace script) (to_clock other) is also same = absurd (apart 99 116 _ _ (omega arith) refl refl (sym (ap first_byte same)))
+same-words (to_play script workers log) (to_trace other) is also same = absurd (apart 112 116 _ _ (omega arith) refl refl (ap first_byte same))
+same-words (to_play script workers log) (to_make other_seed other_frames other) is also same = absurd (apart 109 112 _ _ (omega arith) refl refl (sym (ap first_byte same)))
+same-words (to_play script workers log) (to_clock other) is also same = absurd (apart 99 112 _ _ (omega arith) refl refl (sym (ap first_byte same)))
+same-words (to_make seed frames folder) (to_trace other) is also same = absurd (apart 109 116 _ _ (omega arith) refl refl (ap first_byte same))
+same-words (to_make seed frames folder) (to_play other count more) is also same = absurd (apart 109 112 _ _ (omega arith) refl refl (ap first_byte same))
+same-words (to_make seed frames folder) (to_clock other) is also same = absurd (apart 99 109 _ _ (omega arith) refl refl (sym (ap first_byte same)))
+same-words (to_clock script) (to_trace other) is also same = absurd (apart 99 116 _ _ (omega arith) refl refl (ap first_byte same))
+same-words (to_clock script) (to_play other count more) is also same = absurd (apart 99 112 _ _ (omega arith) refl refl (ap first_byte same))
+same-words (to_clock script) (to_make other_seed other_frames other) is also same = absurd (apart 99 109 _ _ (omega arith) refl refl (ap first_byte same))
+same-words (to_pack input output) (to_pack other more) is also same = one-pack input other output more same
+same-words (to_unpack input output) (to_unpack other more) is also same = one-unpack input other output more same
+same-words (to_trace script) (to_pack other more) is also same = absurd (apart 112 116 _ _ (omega arith) refl refl (sym (ap first_byte same)))
+same-words (to_trace script) (to_unpack other more) is also same = absurd (apart 116 117 _ _ (omega arith) refl refl (ap first_byte same))
+same-words (to_play script workers log) (to_pack other more) is also same = absurd (apart 97 108 _ _ (omega arith) refl refl (sym (ap second_byte same)))
+same-words (to_play script workers log) (to_unpack other more) is also same = absurd (apart 112 117 _ _ (omega arith) refl refl (ap first_byte same))
+same-words (to_make seed frames folder) (to_pack other more) is also same = absurd (apart 109 112 _ _ (omega arith) refl refl (ap first_byte same))
+same-words (to_make seed frames folder) (to_unpack other more) is also same = absurd (apart 109 117 _ _ (omega arith) refl refl (ap first_byte same))
+same-words (to_clock script) (to_pack other more) is also same = absurd (apart 99 112 _ _ (omega arith) refl refl (ap first_byte same))
+same-words (to_clock script) (to_unpack other more) is also same = absurd (apart 99 117 _ _ (omega arith) refl refl (ap first_byte same))
+same-words (to_pack input output) (to_trace other) is also same = absurd (apart 112 116 _ _ (omega arith) refl refl (ap first_byte same))
+same-words (to_pack input output) (to_play other count more) is also same = absurd (apart 97 108 _ _ (omega arith) refl refl (ap second_byte same))
+same-words (to_pack input output) (to_make other_seed other_frames other) is also same = absurd (apart 109 112 _ _ (omega arith) refl refl (sym (ap first_byte same)))
+same-words (to_pack input output) (to_clock other) is also same = absurd (apart 99 112 _ _ (omega arith) refl refl (sym (ap first_byte same)))
+same-words (to_pack input output) (to_unpack other more) is also same = absurd (apart 112 117 _ _ (omega arith) refl refl (ap first_byte same))
+same-words (to_unpack input output) (to_trace other) is also same = absurd (apart 116 117 _ _ (omega arith) refl refl (sym (ap first_byte same)))
+same-words (to_unpack input output) (to_play other count more) is also same = absurd (apart 112 117 _ _ (omega arith) refl refl (sym (ap first_byte same)))
+same-words (to_unpack input output) (to_make other_seed other_frames other) is also same = absurd (apart 109 117 _ _ (omega arith) refl refl (sym (ap first_byte same)))
+same-words (to_unpack input output) (to_clock other) is also same = absurd (apart 99 117 _ _ (omega arith) refl refl (sym (ap first_byte same)))
+same-words (to_unpack input output) (to_pack other more) is also same = absurd (apart 112 117 _ _ (omega arith) refl refl (sym (ap first_byte same)))
 
 pub one-asked : (words : List (List ℕ)) (one other : Asked) → AreWordsOf words one → AreWordsOf words other → one ≡ other
 one-asked words one other (is, allowed) (also, other_allowed) = same-words one other allowed other_allowed (sym is ∙ also)

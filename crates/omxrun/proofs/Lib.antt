@@ -1,11 +1,15 @@
 pub mod Causes
+pub mod Clocks
 pub mod Commands
 pub mod Complete
 pub mod Forms
 pub mod Fronts
 pub mod Makes
+pub mod Moves
 pub mod Outcomes
 pub mod Runs
 pub mod Sounds
 pub mod Traces
+pub mod TurnEnds
 pub mod Tunnels
+pub mod Turns

@@ -20,7 +20,7 @@ use Rattle.omxrun.specs.Played.{HasEndsPlayed, EndsLeft, IsOutcome, IsEndsOutcom
 use Rattle.omxrun.specs.Reasons.{CountsStand, ForTunnel, IsCaused, IsOfScript, IsOfEnds, IsOfLog, IsValid}
 use Rattle.omxrun.specs.Script.{IsTunnel, IsNoTunnel}
 use Rattle.omxrun.specs.declared.done.Done.{Done}
-use Rattle.omxrun.specs.declared.done.Done.TheVariants.{Played, Made}
+use Rattle.omxrun.specs.declared.done.Done.TheVariants.{Played, Made, Packed, Unpacked}
 use Rattle.omxrun.proofs.Causes.{later, caused-before}
 use Rattle.omxrun.proofs.Tunnels.{tunnel-short}
 
@@ -52,6 +52,8 @@ log-left source sink log old mid new frames size apart others copied after front
 log-left_by : (source sink log : List ℕ) (old mid new : Outside) (done : Done) → (sink ≡ log → ⊥) → SameBut sink old mid → HasCopied source sink old mid done → SameBut log mid new → IsKeptOrFrontOf (mid.file log) (new.file log) log_text → EndsLeft source sink log old new
 log-left_by source sink log old mid new (Played frames bytes) apart others copied after front = log-left source sink log old mid new frames bytes apart others copied after front
 log-left_by source sink log old mid new (Made frames) apart others copied after front = absurd copied
+log-left_by source sink log old mid new (Packed counts) apart others copied after front = absurd copied
+log-left_by source sink log old mid new (Unpacked counts) apart others copied after front = absurd copied
 
 pub log-outcome : (source sink log : List ℕ) (old mid new : Outside) (done : Done) (refused : Refused) → (sink ≡ log → ⊥) → GoesOn old mid → GoesOn mid new → (IsTrue old.tells → SameBut sink old mid) → (IsTrue old.tells → HasCopied source sink old mid done) → (IsTrue mid.tells → SameBut log mid new) → (IsTrue mid.tells → IsKeptOrFrontOf (mid.file log) (new.file log) log_text) → HasWriteReason log mid new refused → (IsTrue old.tells → IsValid source old) → CountsStand old mid → new.read_faults ≡ mid.read_faults → IsEndsOutcome source sink log old new (Err (fault_of_log refused))
 log-outcome source sink log old mid new done Refusals.Absent apart to_mid to_new others copied after front reason valid stand reads = record {
@@ -86,6 +88,8 @@ played-logged source sink log old mid new (Played frames bytes) apart others cop
   others = λ other no_sink no_log. after other no_log ∙ others other no_sink;
 }
 played-logged source sink log old mid new (Made frames) apart others copied after held = absurd copied
+played-logged source sink log old mid new (Packed counts) apart others copied after held = absurd copied
+played-logged source sink log old mid new (Unpacked counts) apart others copied after held = absurd copied
 
 pub played-outcome : (source sink log : List ℕ) (old mid new : Outside) (done : Done) → (sink ≡ log → ⊥) → GoesOn old mid → (IsTrue old.tells → SameBut sink old mid) → (IsTrue old.tells → HasCopied source sink old mid done) → (IsTrue mid.tells → SameBut log mid new) → (IsTrue mid.tells → new.file log ≡ Some log_text) → IsEndsOutcome source sink log old new (Ok done)
 played-outcome source sink log old mid new done apart to_mid others copied after held = record {
@@ -172,6 +176,8 @@ played-before source sink log old mid new (Played frames bytes) files is = recor
   others = λ other no_sink no_log. at-before other old mid new files (is.others other no_sink no_log);
 }
 played-before source sink log old mid new (Made frames) files is = absurd is
+played-before source sink log old mid new (Packed counts) files is = absurd is
+played-before source sink log old mid new (Unpacked counts) files is = absurd is
 
 kept-before : (source sink : List ℕ) (old mid new : Outside) → mid.file ≡ old.file → IsKeptOrFront source sink mid new → IsKeptOrFront source sink old new
 kept-before source sink old mid new files (inl kept) = inl (at-before sink old mid new files kept)

@@ -24,7 +24,7 @@ use Rattle.omxrun.specs.Copied.{samples_in, text_of, HasCopied, IsKeptOrFront}
 use Rattle.omxrun.specs.Reasons.{IsOfEnds, IsValid}
 use Rattle.omxrun.specs.Sounds.{written_size, HoldsText, HoldsFront, IsOfRun, ended, fault_of_head}
 use Rattle.omxrun.specs.declared.done.Done.{Done}
-use Rattle.omxrun.specs.declared.done.Done.TheVariants.{Played, Made}
+use Rattle.omxrun.specs.declared.done.Done.TheVariants.{Played, Made, Packed, Unpacked}
 use Rattle.omxrun.specs.declared.run_pair.Stop.{Stop}
 
 length-head : (format : Format) (frames : ℕ) → length (head_of format frames) ≡ head_len format
@@ -97,6 +97,8 @@ copied-of source sink bytes head old new (Ok (Played frames size)) held reads (h
   size_is = size_is;
 }
 copied-of source sink bytes head old new (Ok (Made frames)) held reads holds = absurd holds
+copied-of source sink bytes head old new (Ok (Packed counts)) held reads holds = absurd holds
+copied-of source sink bytes head old new (Ok (Unpacked counts)) held reads holds = absurd holds
 copied-of source sink bytes head old new (Err fault) held reads holds = tt
 
 pub left-of : (source sink bytes : List ℕ) (head : WavHead) (old mid new : Outside) (result : Result Done Fault) → mid.file ≡ old.file → old.file source ≡ Some bytes → Reads bytes (Ok head) → OnErr result (HoldsFront sink (text_of bytes head) mid new) → OnErr result (IsKeptOrFront source sink old new)

@@ -37,7 +37,7 @@ front-more old new text more (k, within, is) =
     let longer = length-append text more in
     (k, omega (arith, within, longer), is ∙ ap (append_known old) (sym (take-append-le k text more within)))
 
-front-whole : (old new : Option (List ℕ)) (text : List ℕ) → new ≡ append_known old text → AppendsFront old new text
+pub front-whole : (old new : Option (List ℕ)) (text : List ℕ) → new ≡ append_known old text → AppendsFront old new text
 front-whole old new text is = (length text, omega arith, is ∙ ap (append_known old) (sym (take-length text)))
 
 front-behind : (old mid new : Option (List ℕ)) (text more : List ℕ) → mid ≡ append_known old text → AppendsFront mid new more → AppendsFront old new (text ++ more)

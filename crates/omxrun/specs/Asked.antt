@@ -14,13 +14,16 @@ use Rattle.script_lang.specs.declared.script.Script.{Script}
 use Rattle.wav_form.specs.declared.heads.WavHead.{WavHead}
 use Rattle.wav_form.specs.Reading.{Reads}
 use Rattle.omxrun.specs.Script.{IsTunnel, IsNoTunnel}
-use Rattle.omxrun.specs.Words.{Asked, to_trace, to_play, to_make}
+use Rattle.omxrun.specs.Words.{Asked, to_trace, to_play, to_make, to_clock, to_pack, to_unpack}
 
 -- the forms of words that aren't built yet: a play by workers
 abbrev pub IsUnbuilt : Asked → Type 0
 IsUnbuilt (to_trace script) = ⊥
 IsUnbuilt (to_play script workers log) = 1 ≤ workers
 IsUnbuilt (to_make seed frames folder) = ⊥
+IsUnbuilt (to_clock script) = ⊥
+IsUnbuilt (to_pack input output) = ⊥
+IsUnbuilt (to_unpack input output) = ⊥
 
 -- the told file of that name, which is given to its end
 pub record IsGiven (old : Outside) (name bytes : List ℕ) : Type 0 where

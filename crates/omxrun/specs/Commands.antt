@@ -5,11 +5,15 @@ use Rattle.omx_types.specs.declared.fault.Fault.{Fault}
 use Rattle.omx_types.specs.declared.fault.Fault.TheVariants.{NotBuilt}
 use Rattle.omx_types.specs.declared.fault.Unbuilt.TheVariants as Unbuilts
 use Rattle.omx_types.specs.declared.fault.Status.{Status}
+use Rattle.omxrun.specs.Clocked.{IsClockOutcome}
 use Rattle.omxrun.specs.Making.{IsMakeOutcome}
+use Rattle.rtp_parts.specs.Answers.{StoppedPacking}
+use Rattle.omxrun.specs.Packets.{PacksTo, UnpacksTo, StoppedUnpacking}
 use Rattle.omxrun.specs.Played.{IsOutcome}
 use Rattle.omxrun.specs.Told.{IsPrinted, IsTold, status_of}
 use Rattle.omxrun.specs.Traced.{IsTraceOutcome}
-use Rattle.omxrun.specs.Words.{Asked, to_trace, to_play, to_make}
+use Rattle.omxrun.specs.Turned.{IsTurnOutcome}
+use Rattle.omxrun.specs.Words.{Asked, to_trace, to_play, to_make, to_clock, to_pack, to_unpack}
 use Rattle.omxrun.specs.declared.done.Done.{Done}
 
 -- a play by workers isn't built
@@ -22,3 +26,10 @@ HasRun (to_play script workers log) old new told told_new before now status =
     × (1 ≤ workers → (new ≡ old) × IsTold (Err (NotBuilt Unbuilts.Words)) told told_new before now status)
 HasRun (to_make seed frames folder) old new told told_new before now status =
     (outcome : Result Done Fault) × IsMakeOutcome seed frames folder old new outcome × IsTold outcome told told_new before now status
+HasRun (to_clock script) old new told told_new before now status =
+    (outcome : Result (Unit {0}) Fault) × (text : List ℕ) × IsClockOutcome script old new outcome text
+    × IsPrinted (status_of outcome) text told told_new before now status
+HasRun (to_pack input output) old new told told_new before now status =
+    (outcome : Result Done Fault) × IsTurnOutcome PacksTo StoppedPacking input output old new outcome × IsTold outcome told told_new before now status
+HasRun (to_unpack input output) old new told told_new before now status =
+    (outcome : Result Done Fault) × IsTurnOutcome UnpacksTo StoppedUnpacking input output old new outcome × IsTold outcome told told_new before now status

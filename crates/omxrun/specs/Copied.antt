@@ -6,7 +6,7 @@ use Rattle.wav_form.specs.declared.heads.WavHead.{WavHead}
 use Rattle.wav_form.specs.Reading.{Reads}
 use Rattle.part_forms.specs.Writing.{written}
 use Rattle.omxrun.specs.declared.done.Done.{Done}
-use Rattle.omxrun.specs.declared.done.Done.TheVariants.{Played, Made}
+use Rattle.omxrun.specs.declared.done.Done.TheVariants.{Played, Made, Packed, Unpacked}
 
 -- the bytes of the whole frames behind a head
 abbrev pub samples_in : List ℕ → WavHead → List ℕ
@@ -35,6 +35,8 @@ pub record IsCopied (source sink : List ℕ) (frames size : ℕ) (old new : Outs
 abbrev pub HasCopied : List ℕ → List ℕ → Outside → Outside → Done → Type 0
 HasCopied source sink old new (Played frames bytes) = IsCopied source sink frames bytes old new
 HasCopied source sink old new (Made frames) = ⊥
+HasCopied source sink old new (Packed counts) = ⊥
+HasCopied source sink old new (Unpacked counts) = ⊥
 
 -- the sink's name holds what it held, or a front of the text
 abbrev pub IsKeptOrFront : List ℕ → List ℕ → Outside → Outside → Type 0

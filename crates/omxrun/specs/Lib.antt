@@ -1,9 +1,12 @@
 pub mod Asked
+pub mod Clocked
 pub mod Commands
 pub mod Copied
 pub mod Faults
 pub mod Making
 pub mod Names
+pub mod Opened
+pub mod Packets
 pub mod Played
 pub mod Reasons
 pub mod Script
@@ -12,4 +15,5 @@ pub mod Stopped
 pub mod Texts
 pub mod Told
 pub mod Traced
+pub mod Turned
 pub mod Words

@@ -6,7 +6,7 @@ use Rattle.omxrun.specs.Copied.{IsCopied, IsKeptOrFront}
 use Rattle.omxrun.specs.Reasons.{ForTunnel, HasReason, IsCaused, IsOfEnds, IsOfLog, IsEarly, IsUnlogged}
 use Rattle.omxrun.specs.Script.{IsTunnel}
 use Rattle.omxrun.specs.declared.done.Done.{Done}
-use Rattle.omxrun.specs.declared.done.Done.TheVariants.{Played, Made}
+use Rattle.omxrun.specs.declared.done.Done.TheVariants.{Played, Made, Packed, Unpacked}
 
 -- the log of a play
 abbrev pub log_text : List ℕ
@@ -25,6 +25,8 @@ pub record EndsPlayed (source sink log : List ℕ) (frames size : ℕ) (old new 
 abbrev pub HasEndsPlayed : List ℕ → List ℕ → List ℕ → Outside → Outside → Done → Type 0
 HasEndsPlayed source sink log old new (Played frames bytes) = EndsPlayed source sink log frames bytes old new
 HasEndsPlayed source sink log old new (Made frames) = ⊥
+HasEndsPlayed source sink log old new (Packed counts) = ⊥
+HasEndsPlayed source sink log old new (Unpacked counts) = ⊥
 
 -- the files after a fault: the log is as before, and the sink is kept or holds a front of its text; or the sink's text is
 -- whole, and the log holds a front of its own

@@ -17,7 +17,7 @@ use Rattle.wav_form.specs.declared.heads.WavHead.{WavHead}
 use Rattle.part_forms.specs.Writing.{head_len}
 use Rattle.omxrun.specs.Copied.{text_of}
 use Rattle.omxrun.specs.declared.done.Done.{Done}
-use Rattle.omxrun.specs.declared.done.Done.TheVariants.{Played, Made}
+use Rattle.omxrun.specs.declared.done.Done.TheVariants.{Played, Made, Packed, Unpacked}
 use Rattle.omxrun.specs.declared.run_pair.Stop.{Stop}
 use Rattle.omxrun.specs.declared.run_pair.Stop.TheVariants.{Part, OutOfMemory}
 
@@ -30,6 +30,8 @@ abbrev pub HoldsText : List ℕ → List ℕ → WavHead → Outside → Done �
 HoldsText sink bytes head new (Played frames size) =
     (new.file sink ≡ Some (text_of bytes head)) × (frames ≡ head.frames) × (size ≡ length (text_of bytes head))
 HoldsText sink bytes head new (Made frames) = ⊥
+HoldsText sink bytes head new (Packed counts) = ⊥
+HoldsText sink bytes head new (Unpacked counts) = ⊥
 
 -- a name holds what it held, or a front of the text
 abbrev pub HoldsFront : List ℕ → List ℕ → Outside → Outside → Type 0

@@ -15,6 +15,8 @@ use Rattle.omx_types.specs.declared.fault.AuditWhy.{AuditWhy}
 use Rattle.omx_types.specs.declared.fault.AuditWhy.TheVariants as Audits
 use Rattle.omx_types.specs.declared.fault.Unbuilt.{Unbuilt}
 use Rattle.omx_types.specs.declared.fault.Unbuilt.TheVariants as Unbuilts
+use Rattle.rtp_parts.specs.declared.packing.Packed.{Packed}
+use Rattle.rtp_parts.specs.declared.unpacking.Unpacked.{Unpacked}
 
 abbrev pub which_text : Which → List ℕ
 which_text Script = codes "script"
@@ -73,7 +75,7 @@ unbuilt_text Unbuilts.Script = codes "script"
 -- the line of a fault, without its line feed
 abbrev pub fault_text : Fault → List ℕ
 fault_text (Faults.Script line why) = codes "script line " ++ (decimal line ++ (codes ": " ++ why_text why))
-fault_text Faults.Usage = codes "usage: trace SCRIPT | play SCRIPT WORKERS LOG | make SEED FRAMES DIR"
+fault_text Faults.Usage = codes "usage: trace SCRIPT | play SCRIPT WORKERS LOG | make SEED FRAMES DIR | pack WAV PACKETS | unpack PACKETS WAV | clock SCRIPT"
 fault_text (Faults.BadMedia which fault) = which_text which ++ (codes ": " ++ wav_text fault)
 fault_text Faults.ReadFault = codes "read fault"
 fault_text Faults.WriteFault = codes "write fault"
@@ -97,3 +99,21 @@ played_text frames bytes =
 -- what is printed after files were made
 abbrev pub made_text : ℕ → List ℕ
 made_text frames = codes "made " ++ (decimal frames ++ codes " frames\n")
+
+-- what is printed after a file was packed
+abbrev pub packed_text : Packed → List ℕ
+packed_text counts = codes "packed " ++ (decimal counts.packets ++ (codes " packets " ++ (decimal counts.frames ++ codes " frames\nok\n")))
+
+-- the lines that are printed after one was unpacked
+abbrev pub frames_line : Unpacked → List ℕ
+frames_line counts = codes "unpacked " ++ (decimal counts.frames ++ (codes " frames " ++ (decimal counts.bytes ++ codes " bytes\n")))
+
+abbrev pub taken_text : Unpacked → List ℕ
+taken_text counts =
+    codes "packets " ++ (decimal counts.packets ++ (codes " accepted " ++ (decimal counts.accepted ++ (codes " late " ++ decimal counts.late))))
+
+abbrev pub passed_text : Unpacked → List ℕ
+passed_text counts = codes " repeated " ++ (decimal counts.repeated ++ (codes " skipped " ++ (decimal counts.skipped ++ codes "\nok\n")))
+
+abbrev pub unpacked_text : Unpacked → List ℕ
+unpacked_text counts = frames_line counts ++ (taken_text counts ++ passed_text counts)

@@ -1,3 +1,5 @@
+use rtp_parts::{Packed, Unpacked};
+
 /// What a command that was done whole prints.
 #[derive(Clone, Copy, Debug, PartialEq, Eq)]
 pub enum Done {
@@ -5,4 +7,8 @@ pub enum Done {
     Played { frames: u64, bytes: u64 },
     /// Files of that many frames were made.
     Made { frames: u64 },
+    /// A WAV file was cut into packets.
+    Packed(Packed),
+    /// Packets were put together as a WAV file.
+    Unpacked(Unpacked),
 }

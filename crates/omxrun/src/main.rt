@@ -1,12 +1,15 @@
-//! The program. Its words are a form of `trace`, `play` or `make`, and its exit status is that of what they came to.
+//! The program. Its words are a form of `trace`, `play`, `make`, `clock`, `pack` or `unpack`, and its exit status is that of what they came to.
 #![tactic(auto)]
 
 ghost use Rattle.std.specs.Prelude.{◌≡◌, ◌⊎◌, drop, IfOk, IfErr};
 ghost use Rattle.std.specs.Vec.Iter.{into_iter_items};
 
+mod clock;
 mod done;
 mod files;
 mod making;
+mod packed_texts;
+mod packets;
 mod play;
 mod print;
 mod run;

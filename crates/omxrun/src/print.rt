@@ -2,6 +2,7 @@ ghost use Rattle.std.specs.Prelude.{◌≡◌, ◌≤◌, Result};
 ghost use Rattle.omxrun.specs.Told.{IsTold, outcome_text, status_of as status_of_outcome};
 
 use crate::done::Done;
+use crate::packed_texts::{text_of_packed, text_of_unpacked};
 use crate::text::Text;
 use crate::texts::{text_of_fault, text_of_make, text_of_play};
 use omx_types::{Fault, Status};
@@ -34,6 +35,8 @@ fn text_of(outcome: Result<Done, Fault>) -> Text
     match outcome {
         Ok(Done::Played { frames, bytes }) => text_of_play(frames, bytes),
         Ok(Done::Made { frames }) => text_of_make(frames),
+        Ok(Done::Packed(counts)) => text_of_packed(counts),
+        Ok(Done::Unpacked(counts)) => text_of_unpacked(counts),
         Err(fault) => text_of_fault(fault),
     }
 }

@@ -6,15 +6,21 @@ ghost use Rattle.omx_types.specs.declared.fault.ScriptWhy.{ScriptWhy};
 ghost use Rattle.omx_types.specs.declared.fault.WavFault.{WavFault};
 ghost use Rattle.omxrun.specs.declared.done.Done.{Done};
 ghost use Rattle.omxrun.specs.Asked.{IsUnbuilt, IsUntraced, CanTrace, IsUnplayed, IsFaulty, CanPlay, CanMake, IsFaultless, IsOrMemory};
+ghost use Rattle.omxrun.specs.Clocked.{IsClockOutcome, CanClock, IsUnclocked};
 ghost use Rattle.omxrun.specs.Commands.{HasRun};
 ghost use Rattle.omxrun.specs.Making.{IsMakeOutcome};
+ghost use Rattle.rtp_parts.specs.Answers.{StoppedPacking};
+ghost use Rattle.omxrun.specs.Packets.{PacksTo, UnpacksTo, StoppedUnpacking};
 ghost use Rattle.omxrun.specs.Played.{IsOutcome};
 ghost use Rattle.omxrun.specs.Told.{IsPrinted, IsTold, status_of};
 ghost use Rattle.omxrun.specs.Traced.{IsTraceOutcome};
-ghost use Rattle.omxrun.specs.Words.{Asked, to_trace, to_play, to_make, AreWordsOf, AreNoForm, IsAllowed, asked_by};
+ghost use Rattle.omxrun.specs.Turned.{Written, IsTurnOutcome, CanTurn};
+ghost use Rattle.omxrun.specs.Words.{Asked, to_trace, to_play, to_make, to_clock, to_pack, to_unpack, AreWordsOf, AreNoForm, IsAllowed, asked_by};
 
+use crate::clock::clock_file;
 use crate::done::Done;
 use crate::making::make_files;
+use crate::packets::{pack_file, unpack_file};
 use crate::play::play;
 use crate::print::tell;
 use crate::trace::trace_file;
@@ -59,6 +65,19 @@ pub fn run_words<R: Threads + Wait + Sync, M: Media, O: Sink>(
         × IsMakeOutcome seed frames folder (M.outside media.old) (M.outside media.new) outcome
         × IsTold outcome (O.told out.old) (O.told out.new) (O.faults out.old) (O.faults out.new) result }
 
+    // A clock's script: what its run came to and the text that this asks for, and that the text is printed.
+    ensures clock { (script : List ℕ) → AreWordsOf (map string_bytes words.now) (to_clock script) → (outcome : Result (Unit {0}) Fault) × (text : List ℕ)
+        × IsClockOutcome script (M.outside media.old) (M.outside media.new) outcome text
+        × IsPrinted (status_of outcome) text (O.told out.old) (O.told out.new) (O.faults out.old) (O.faults out.new) result }
+
+    // A file that is packed, or unpacked, into another one: what it came to, and what is printed of that.
+    ensures pack { (input output : List ℕ) → AreWordsOf (map string_bytes words.now) (to_pack input output) → (outcome : Result Done Fault)
+        × IsTurnOutcome PacksTo StoppedPacking input output (M.outside media.old) (M.outside media.new) outcome
+        × IsTold outcome (O.told out.old) (O.told out.new) (O.faults out.old) (O.faults out.new) result }
+    ensures unpack { (input output : List ℕ) → AreWordsOf (map string_bytes words.now) (to_unpack input output) → (outcome : Result Done Fault)
+        × IsTurnOutcome UnpacksTo StoppedUnpacking input output (M.outside media.old) (M.outside media.new) outcome
+        × IsTold outcome (O.told out.old) (O.told out.new) (O.faults out.old) (O.faults out.new) result }
+
     // Where all is told and no count of faults rises, the status is the one that the files ask for, or memory was wanting.
     ensures untraced { (script : List ℕ) (line : ℕ) (why : ScriptWhy) → AreWordsOf (map string_bytes words.now) (to_trace script) →
         IsFaultless (M.outside media.old) (M.outside media.new) (O.faults out.old) (O.faults out.new) →
@@ -78,6 +97,18 @@ pub fn run_words<R: Threads + Wait + Sync, M: Media, O: Sink>(
     ensures complete_make { (seed frames : ℕ) (folder : List ℕ) → AreWordsOf (map string_bytes words.now) (to_make seed frames folder) →
         IsFaultless (M.outside media.old) (M.outside media.new) (O.faults out.old) (O.faults out.new) →
         CanMake folder (M.outside media.old) → IsOrMemory result Status.Ok }
+    ensures unclocked { (script : List ℕ) (line : ℕ) (why : ScriptWhy) → AreWordsOf (map string_bytes words.now) (to_clock script) →
+        IsFaultless (M.outside media.old) (M.outside media.new) (O.faults out.old) (O.faults out.new) →
+        IsUnclocked script (M.outside media.old) line why → IsOrMemory result (Status.Fault (Fault.Script line why)) }
+    ensures complete_clock { (script : List ℕ) → AreWordsOf (map string_bytes words.now) (to_clock script) →
+        IsFaultless (M.outside media.old) (M.outside media.new) (O.faults out.old) (O.faults out.new) →
+        CanClock script (M.outside media.old) → IsOrMemory result Status.Ok }
+    ensures complete_pack { (input output : List ℕ) (answer : Result Written Fault) → AreWordsOf (map string_bytes words.now) (to_pack input output) →
+        IsFaultless (M.outside media.old) (M.outside media.new) (O.faults out.old) (O.faults out.new) →
+        CanTurn PacksTo input output (M.outside media.old) answer → IsOrMemory result (status_of answer) }
+    ensures complete_unpack { (input output : List ℕ) (answer : Result Written Fault) → AreWordsOf (map string_bytes words.now) (to_unpack input output) →
+        IsFaultless (M.outside media.old) (M.outside media.new) (O.faults out.old) (O.faults out.new) →
+        CanTurn UnpacksTo input output (M.outside media.old) answer → IsOrMemory result (status_of answer) }
 {
     one_answer();
     one_outcome();
@@ -117,6 +148,9 @@ fn run_command<M: Media, O: Sink>(
             let outcome = make_files(alloc, media, seed, frames, folder);
             tell(outcome, out)
         }
+        Command::Clock { script } => clock_file(alloc, media, script, out),
+        Command::Pack { input, output } => tell(pack_file(alloc, media, input, output), out),
+        Command::Unpack { input, output } => tell(unpack_file(alloc, media, input, output), out),
     }
 }
 

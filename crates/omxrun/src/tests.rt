@@ -165,7 +165,8 @@ fn check_usage<R: Threads + Wait + Sync + Alloc<A = Global> + Abort>(
     rt: &R,
     words: &[&str],
 ) -> Result<(), AllocError> {
-    let usage = b"usage: trace SCRIPT | play SCRIPT WORKERS LOG | make SEED FRAMES DIR\n";
+    let usage =
+        b"usage: trace SCRIPT | play SCRIPT WORKERS LOG | make SEED FRAMES DIR | pack WAV PACKETS | unpack PACKETS WAV | clock SCRIPT\n";
     check_words(rt, words, SCRIPT, THREE_SAMPLES, usage, 2)
 }
 

@@ -42,12 +42,14 @@ pub fn text_of_make(frames: u64) -> Text
 fn put_fault(text: &mut Text, fault: Fault)
     requires { length text.old ≡ 0 }
     ensures text { text.new ≡ text.old ++ fault_text fault }
-    ensures len { length text.new ≤ 120 }
+    ensures len { length text.new ≤ 130 }
 {
     match fault {
         Fault::Script { line, why } => put_script(text, line, why),
         Fault::Usage => {
-            text.push(b"usage: trace SCRIPT | play SCRIPT WORKERS LOG | make SEED FRAMES DIR")
+            text.push(
+                b"usage: trace SCRIPT | play SCRIPT WORKERS LOG | make SEED FRAMES DIR | pack WAV PACKETS | unpack PACKETS WAV | clock SCRIPT",
+            )
         }
         Fault::BadMedia { which, fault } => put_bad_media(text, which, fault),
         Fault::ReadFault => text.push(b"read fault"),

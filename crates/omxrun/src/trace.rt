@@ -49,7 +49,7 @@ fn script_in<M: Media>(alloc: Global, media: &mut M, name: &str) -> Result<Scrip
 }
 
 /// What a script that wasn't read is for the trace.
-fn unread_fault(unread: Unread) -> Fault
+pub fn unread_fault(unread: Unread) -> Fault
     ensures { result ≡ fault_of_trace_script unread }
 {
     match unread {

@@ -1,7 +1,7 @@
 ghost use Rattle.std.specs.Prelude.{◌≡◌, ◌<◌, ◌↔◌, ◌^◌, ℕ, [], ◌∷◌, map, string_bytes, IsTrue, IfSome, IfNone, codes};
 ghost use Rattle.std.specs.Fmt.{decimal};
 ghost use Rattle.omxrun.specs.Names.{IsName};
-ghost use Rattle.omxrun.specs.Words.{AreWordsOf, AreNoForm, IsPlay, IsMake, asked_by};
+ghost use Rattle.omxrun.specs.Words.{AreWordsOf, AreNoForm, IsPlay, IsMake, ArePair, asked_by};
 
 use line_text::{one_numeral, read_u64};
 
@@ -21,6 +21,17 @@ pub enum Command<'a> {
         frames: u64,
         folder: &'a str,
     },
+    Clock {
+        script: &'a str,
+    },
+    Pack {
+        input: &'a str,
+        output: &'a str,
+    },
+    Unpack {
+        input: &'a str,
+        output: &'a str,
+    },
 }
 
 /// What the words ask for, where they are one of the forms.
@@ -29,18 +40,38 @@ pub fn command_of(words: &[String]) -> Option<Command<'_>>
     ensures none { IfNone result (AreNoForm (map string_bytes words.now)) }
 {
     match words {
-        [verb, script] => trace_of(verb, script),
+        [verb, script] => two_of(verb, script),
+        [verb, input, output] => three_of(verb, input, output),
         [verb, first, second, third] => four_of(verb, first, second, third),
         _ => None,
     }
 }
 
-fn trace_of<'a>(verb: &str, script: &'a str) -> Option<Command<'a>>
+fn two_of<'a>(verb: &str, script: &'a str) -> Option<Command<'a>>
     ensures some { IfSome result (λ command. AreWordsOf (verb.now ∷ script.now ∷ []) (asked_by command)) }
     ensures none { IfNone result (AreNoForm (verb.now ∷ script.now ∷ [])) }
 {
-    if verb == "trace" && is_name(script) {
+    if !is_name(script) {
+        None
+    } else if verb == "trace" {
         Some(Command::Trace { script })
+    } else if verb == "clock" {
+        Some(Command::Clock { script })
+    } else {
+        None
+    }
+}
+
+fn three_of<'a>(verb: &str, input: &'a str, output: &'a str) -> Option<Command<'a>>
+    ensures some { IfSome result (λ command. AreWordsOf (verb.now ∷ input.now ∷ output.now ∷ []) (asked_by command)) }
+    ensures none { IfNone result (AreNoForm (verb.now ∷ input.now ∷ output.now ∷ [])) }
+{
+    if !are_pair(input, output) {
+        None
+    } else if verb == "pack" {
+        Some(Command::Pack { input, output })
+    } else if verb == "unpack" {
+        Some(Command::Unpack { input, output })
     } else {
         None
     }
@@ -110,6 +141,12 @@ fn is_play(script: &str, workers: u64, log: &str) -> bool
     ensures { IsTrue result ↔ IsPlay script.now workers log.now }
 {
     is_name(script) && workers <= 8 && is_name(log) && log != script
+}
+
+fn are_pair(input: &str, output: &str) -> bool
+    ensures { IsTrue result ↔ ArePair input.now output.now }
+{
+    is_name(input) && is_name(output) && output != input
 }
 
 fn is_make(seed: u64, frames: u64, folder: &str) -> bool

@@ -1,8 +1,10 @@
 use Rattle.std.proofs.Common.{map, string_bytes, refl}
-use Rattle.omxrun.specs.Words.{to_trace, to_play, to_make, asked_by}
+use Rattle.omxrun.specs.Words.{to_trace, to_play, to_make, to_clock, to_pack, to_unpack, asked_by}
+use Rattle.omxrun.proofs.Clocks.{complete_clock, unclocked}
 use Rattle.omxrun.proofs.Commands.{run-asked, unbuilt-run}
 use Rattle.omxrun.proofs.Complete.{complete, faulty, unplayed}
 use Rattle.omxrun.proofs.Makes.{complete_make}
+use Rattle.omxrun.proofs.TurnEnds.{complete_pack, complete_unpack}
 use Rattle.omxrun.proofs.Traces.{complete_trace, untraced}
 use Rattle.omxrun.proofs.run.run_words.Goals as goal
 
@@ -37,6 +39,27 @@ returns-in-None-clause-complete g c = λ script log words none can. absurd (c.in
 
 pub returns-in-None-clause-complete_make : goal.returns-in-None-clause-complete_make
 returns-in-None-clause-complete_make g c = λ seed frames folder words none can. absurd (c.in-None.ensures.none (to_make seed frames folder) words)
+
+pub returns-in-None-clause-clock : goal.returns-in-None-clause-clock
+returns-in-None-clause-clock g c = λ script words. absurd (c.in-None.ensures.none (to_clock script) words)
+
+pub returns-in-None-clause-unclocked : goal.returns-in-None-clause-unclocked
+returns-in-None-clause-unclocked g c = λ script line why words none has. absurd (c.in-None.ensures.none (to_clock script) words)
+
+pub returns-in-None-clause-complete_clock : goal.returns-in-None-clause-complete_clock
+returns-in-None-clause-complete_clock g c = λ script words none can. absurd (c.in-None.ensures.none (to_clock script) words)
+
+pub returns-in-None-clause-pack : goal.returns-in-None-clause-pack
+returns-in-None-clause-pack g c = λ input output words. absurd (c.in-None.ensures.none (to_pack input output) words)
+
+pub returns-in-None-clause-complete_pack : goal.returns-in-None-clause-complete_pack
+returns-in-None-clause-complete_pack g c = λ input output answer words none can. absurd (c.in-None.ensures.none (to_pack input output) words)
+
+pub returns-in-None-clause-unpack : goal.returns-in-None-clause-unpack
+returns-in-None-clause-unpack g c = λ input output words. absurd (c.in-None.ensures.none (to_unpack input output) words)
+
+pub returns-in-None-clause-complete_unpack : goal.returns-in-None-clause-complete_unpack
+returns-in-None-clause-complete_unpack g c = λ input output answer words none can. absurd (c.in-None.ensures.none (to_unpack input output) words)
 
 -- ---- a command
 
@@ -89,3 +112,35 @@ pub returns-in-Some-clause-complete_make : goal.returns-in-Some-clause-complete_
 returns-in-Some-clause-complete_make g c = λ seed frames folder words none can.
     let made = run-asked (map string_bytes c.args.words.now) (to_make seed frames folder) (g.M.Media.outside c.args.media.now) (g.M.Media.outside c.run_command.new.media) (g.O.Sink.told c.args.out.now) (g.O.Sink.told c.run_command.new.out) (g.O.Sink.faults c.args.out.now) (g.O.Sink.faults c.run_command.new.out) c.run_command.result (asked_by c.in-Some.command) c.in-Some.ensures.some c.run_command.ensures.run words in
     complete_make seed frames folder (g.M.Media.outside c.args.media.now) (g.M.Media.outside c.run_command.new.media) (g.O.Sink.faults c.args.out.now) (g.O.Sink.faults c.run_command.new.out) (g.O.Sink.told c.args.out.now) (g.O.Sink.told c.run_command.new.out) made.0 c.run_command.result made.1 made.2 none can
+
+pub returns-in-Some-clause-clock : goal.returns-in-Some-clause-clock
+returns-in-Some-clause-clock g c = λ script words.
+    run-asked (map string_bytes c.args.words.now) (to_clock script) (g.M.Media.outside c.args.media.now) (g.M.Media.outside c.run_command.new.media) (g.O.Sink.told c.args.out.now) (g.O.Sink.told c.run_command.new.out) (g.O.Sink.faults c.args.out.now) (g.O.Sink.faults c.run_command.new.out) c.run_command.result (asked_by c.in-Some.command) c.in-Some.ensures.some c.run_command.ensures.run words
+
+pub returns-in-Some-clause-unclocked : goal.returns-in-Some-clause-unclocked
+returns-in-Some-clause-unclocked g c = λ script line why words none has.
+    unclocked script (g.M.Media.outside c.args.media.now) (g.M.Media.outside c.run_command.new.media) (g.O.Sink.told c.args.out.now) (g.O.Sink.told c.run_command.new.out) (g.O.Sink.faults c.args.out.now) (g.O.Sink.faults c.run_command.new.out) line why c.run_command.result
+    (run-asked (map string_bytes c.args.words.now) (to_clock script) (g.M.Media.outside c.args.media.now) (g.M.Media.outside c.run_command.new.media) (g.O.Sink.told c.args.out.now) (g.O.Sink.told c.run_command.new.out) (g.O.Sink.faults c.args.out.now) (g.O.Sink.faults c.run_command.new.out) c.run_command.result (asked_by c.in-Some.command) c.in-Some.ensures.some c.run_command.ensures.run words) none has
+
+pub returns-in-Some-clause-complete_clock : goal.returns-in-Some-clause-complete_clock
+returns-in-Some-clause-complete_clock g c = λ script words none can.
+    complete_clock script (g.M.Media.outside c.args.media.now) (g.M.Media.outside c.run_command.new.media) (g.O.Sink.told c.args.out.now) (g.O.Sink.told c.run_command.new.out) (g.O.Sink.faults c.args.out.now) (g.O.Sink.faults c.run_command.new.out) c.run_command.result
+    (run-asked (map string_bytes c.args.words.now) (to_clock script) (g.M.Media.outside c.args.media.now) (g.M.Media.outside c.run_command.new.media) (g.O.Sink.told c.args.out.now) (g.O.Sink.told c.run_command.new.out) (g.O.Sink.faults c.args.out.now) (g.O.Sink.faults c.run_command.new.out) c.run_command.result (asked_by c.in-Some.command) c.in-Some.ensures.some c.run_command.ensures.run words) none can
+
+pub returns-in-Some-clause-pack : goal.returns-in-Some-clause-pack
+returns-in-Some-clause-pack g c = λ input output words.
+    run-asked (map string_bytes c.args.words.now) (to_pack input output) (g.M.Media.outside c.args.media.now) (g.M.Media.outside c.run_command.new.media) (g.O.Sink.told c.args.out.now) (g.O.Sink.told c.run_command.new.out) (g.O.Sink.faults c.args.out.now) (g.O.Sink.faults c.run_command.new.out) c.run_command.result (asked_by c.in-Some.command) c.in-Some.ensures.some c.run_command.ensures.run words
+
+pub returns-in-Some-clause-complete_pack : goal.returns-in-Some-clause-complete_pack
+returns-in-Some-clause-complete_pack g c = λ input output answer words none can.
+    complete_pack input output (g.M.Media.outside c.args.media.now) (g.M.Media.outside c.run_command.new.media) (g.O.Sink.told c.args.out.now) (g.O.Sink.told c.run_command.new.out) (g.O.Sink.faults c.args.out.now) (g.O.Sink.faults c.run_command.new.out) answer c.run_command.result c.one_answer.ensures.same
+    (run-asked (map string_bytes c.args.words.now) (to_pack input output) (g.M.Media.outside c.args.media.now) (g.M.Media.outside c.run_command.new.media) (g.O.Sink.told c.args.out.now) (g.O.Sink.told c.run_command.new.out) (g.O.Sink.faults c.args.out.now) (g.O.Sink.faults c.run_command.new.out) c.run_command.result (asked_by c.in-Some.command) c.in-Some.ensures.some c.run_command.ensures.run words) none can
+
+pub returns-in-Some-clause-unpack : goal.returns-in-Some-clause-unpack
+returns-in-Some-clause-unpack g c = λ input output words.
+    run-asked (map string_bytes c.args.words.now) (to_unpack input output) (g.M.Media.outside c.args.media.now) (g.M.Media.outside c.run_command.new.media) (g.O.Sink.told c.args.out.now) (g.O.Sink.told c.run_command.new.out) (g.O.Sink.faults c.args.out.now) (g.O.Sink.faults c.run_command.new.out) c.run_command.result (asked_by c.in-Some.command) c.in-Some.ensures.some c.run_command.ensures.run words
+
+pub returns-in-Some-clause-complete_unpack : goal.returns-in-Some-clause-complete_unpack
+returns-in-Some-clause-complete_unpack g c = λ input output answer words none can.
+    complete_unpack input output (g.M.Media.outside c.args.media.now) (g.M.Media.outside c.run_command.new.media) (g.O.Sink.told c.args.out.now) (g.O.Sink.told c.run_command.new.out) (g.O.Sink.faults c.args.out.now) (g.O.Sink.faults c.run_command.new.out) answer c.run_command.result
+    (run-asked (map string_bytes c.args.words.now) (to_unpack input output) (g.M.Media.outside c.args.media.now) (g.M.Media.outside c.run_command.new.media) (g.O.Sink.told c.args.out.now) (g.O.Sink.told c.run_command.new.out) (g.O.Sink.faults c.args.out.now) (g.O.Sink.faults c.run_command.new.out) c.run_command.result (asked_by c.in-Some.command) c.in-Some.ensures.some c.run_command.ensures.run words) none can

@@ -1,0 +1,178 @@
+-- What packing and unpacking the files that were opened come to.
+use Rattle.std.proofs.Common.{◌≡◌, ◌≢◌, ◌⊎◌, inl, inr, ℕ, ◌≤◌, ◌<◌, List, [], length, Option, Some, Result, Ok, Err, OnOk, OnErr, IfOk, IfErr, IsTrue, IsSome, ap, sym, subst, refl, ◌∙◌, arith}
+use Rattle.std.specs.Io.KnownBytes.{append_known}
+use Rattle.outside_io.specs.Causes.{Rose, sum_of_counts}
+use Rattle.outside_io.specs.Files.{Outside, GoesOn, SameBut, IsFrontOf}
+use Rattle.outside_io.specs.Moves.{AppendsFront, WhereTold}
+use Rattle.outside_io.specs.Stops.{GaveNothing}
+use Rattle.outside_io.proofs.Closed.{told_value}
+use Rattle.omx_types.specs.declared.fault.Fault.{Fault}
+use Rattle.omx_types.specs.declared.fault.Fault.TheVariants as Faults
+use Rattle.omx_types.specs.declared.fault.WavFault.{WavFault}
+use Rattle.rtp_parts.specs.Answers.{IfShort, UnlessStopped, Packing, packing_of, counts_of, packets_file, StoppedPacking, unpacked_counts}
+use Rattle.rtp_parts.specs.Ends.{EndsUnpacking}
+use Rattle.rtp_parts.specs.Unpacking.{Unpacking, unpacked, wav_of}
+use Rattle.rtp_parts.specs.declared.fault.RtpFault.{RtpFault}
+use Rattle.rtp_parts.specs.declared.fault.RtpFault.TheVariants as RtpFaults
+use Rattle.rtp_parts.specs.declared.packing.Packed.{Packed}
+use Rattle.rtp_parts.specs.declared.unpacking.Unpacked.{Unpacked}
+use Rattle.wav_form.specs.Reading.{Reads}
+use Rattle.wav_form.specs.declared.heads.WavHead.{WavHead}
+use Rattle.omxrun.specs.Packets.{fault_of_rtp, packing_done, unpacking_done, with_text, PacksTo, UnpacksTo, StoppedUnpacking}
+use Rattle.omxrun.specs.Turned.{Written, Giving, Stopping, text_in}
+use Rattle.omxrun.specs.declared.done.Done.{Done}
+use Rattle.omxrun.proofs.Causes.{later}
+use Rattle.omxrun.proofs.Turns.{IsOfBytes, IsMoved, HasMoveReason, IsClosed, at-name}
+
+-- ---- what the bytes come to
+
+bytes-fault : {A : Type 0} (fault : RtpFault) (wanted : Result A RtpFault) → UnlessStopped (Err fault) (λ (r : Result A RtpFault). r ≡ wanted) → IsOfBytes (fault_of_rtp fault) → wanted ≡ Err fault
+bytes-fault (RtpFaults.Head fault) wanted is of = sym is
+bytes-fault RtpFaults.WrongFormat wanted is of = sym is
+bytes-fault RtpFaults.NotPackets wanted is of = sym is
+bytes-fault RtpFaults.NoPackets wanted is of = sym is
+bytes-fault RtpFaults.TooLong wanted is of = sym is
+bytes-fault RtpFaults.Read wanted is of = absurd of
+bytes-fault RtpFaults.Write wanted is of = absurd of
+bytes-fault (RtpFaults.Short at size) wanted is of = absurd of
+bytes-fault RtpFaults.OutOfMemory wanted is of = absurd of
+
+pack-text : (packing : Result Packing RtpFault) → text_in (with_text (packets_file packing) (packing_done (counts_of packing))) ≡ packets_file packing
+pack-text (Ok packing) = refl
+pack-text (Err fault) = refl
+
+wav-text : (found : Result Unpacking RtpFault) → text_in (with_text (wav_of found) (unpacking_done (unpacked_counts found))) ≡ wav_of found
+wav-text (Ok unpacking) = refl
+wav-text (Err fault) = refl
+
+begun-front : (before told : Option (List ℕ)) (text written : List ℕ) → before ≡ Some [] → written ≡ text → AppendsFront before told text → AppendsFront (Some []) told written
+begun-front before told text written begun same front = subst (λ (t : List ℕ). AppendsFront (Some []) told t) (sym same) (subst (λ (o : Option (List ℕ)). AppendsFront o told text) begun front)
+
+pub pack-moved : (bytes : List ℕ) (before told : Option (List ℕ)) (result : Result Packed RtpFault) (head : Result WavHead WavFault) → Reads bytes head → before ≡ Some [] → UnlessStopped result (λ r. r ≡ counts_of (packing_of bytes head)) → OnOk result (told ≡ append_known before (packets_file (packing_of bytes head))) → AppendsFront before told (packets_file (packing_of bytes head)) → IsMoved PacksTo bytes (packing_done result) told
+pack-moved bytes before told (Ok counts) head reads begun answer file front =
+    let packing = packing_of bytes head in
+    let text = packets_file packing in record {
+      answer = with_text text (packing_done (counts_of packing));
+      gives = (head, reads, refl);
+      whole = (text, ap (λ (r : Result Packed RtpFault). with_text text (packing_done r)) (sym answer), file ∙ ap (λ (o : Option (List ℕ)). append_known o text) begun);
+      fault = tt;
+      front = begun-front before told text _ begun (pack-text packing) front;
+    }
+pack-moved bytes before told (Err fault) head reads begun answer file front =
+    let packing = packing_of bytes head in
+    let text = packets_file packing in record {
+      answer = with_text text (packing_done (counts_of packing));
+      gives = (head, reads, refl);
+      whole = tt;
+      fault = λ of. ap (λ (r : Result Packed RtpFault). with_text text (packing_done r)) (bytes-fault fault (counts_of packing) answer of);
+      front = begun-front before told text _ begun (pack-text packing) front;
+    }
+
+pub unpack-moved : (bytes : List ℕ) (before told : Option (List ℕ)) (result : Result Unpacked RtpFault) → before ≡ Some [] → UnlessStopped result (λ r. r ≡ unpacked_counts (unpacked bytes)) → OnOk result (told ≡ append_known before (wav_of (unpacked bytes))) → AppendsFront before told (wav_of (unpacked bytes)) → IsMoved UnpacksTo bytes (unpacking_done result) told
+unpack-moved bytes before told (Ok counts) begun answer file front =
+    let found = unpacked bytes in
+    let text = wav_of found in record {
+      answer = with_text text (unpacking_done (unpacked_counts found));
+      gives = refl;
+      whole = (text, ap (λ (r : Result Unpacked RtpFault). with_text text (unpacking_done r)) (sym answer), file ∙ ap (λ (o : Option (List ℕ)). append_known o text) begun);
+      fault = tt;
+      front = begun-front before told text _ begun (wav-text found) front;
+    }
+unpack-moved bytes before told (Err fault) begun answer file front =
+    let found = unpacked bytes in
+    let text = wav_of found in record {
+      answer = with_text text (unpacking_done (unpacked_counts found));
+      gives = refl;
+      whole = tt;
+      fault = λ of. ap (λ (r : Result Unpacked RtpFault). with_text text (unpacking_done r)) (bytes-fault fault (unpacked_counts found) answer of);
+      front = begun-front before told text _ begun (wav-text found) front;
+    }
+
+-- ---- why it stopped
+
+-- the input that was opened, and what the counts of the two objects do to those of the media
+pub record IsCounted (input : List ℕ) (old new : Outside) (size : ℕ) (told : Option (List ℕ)) (ends : Option ℕ) (rb rn wb wn : ℕ) : Type 0 where
+  pub told_is : told ≡ old.file input
+  pub ends_are : ends ≡ old.ends input
+  pub there : IsTrue old.tells → IsSome (old.file input)
+  pub sized : WhereTold (old.file input) (λ bytes. size ≡ length bytes)
+  pub read : Rose rb rn → Rose old.read_faults new.read_faults
+  pub write : Rose wb wn → Rose old.write_faults new.write_faults
+
+pub read-rose : (old mid new before now : ℕ) → before ≡ 0 → old ≤ mid → new ≡ sum_of_counts mid now → Rose before now → Rose old new
+read-rose old mid new before now none le is rose = grind (arith, none, le, is, rose)
+
+pub write-rose : (old mid new before now : ℕ) → before ≡ 0 → old ≤ mid → sum_of_counts mid now ≤ new → Rose before now → Rose old new
+write-rose old mid new before now none le is rose = grind (arith, none, le, is, rose)
+
+short-at : (Stops : Stopping) (input : List ℕ) (old new : Outside) (size : ℕ) (told : Option (List ℕ)) (ends : Option ℕ) (rb rn wb wn at whole : ℕ) → IsCounted input old new size told ends rb rn wb wn → Stops size told ends at whole → IsTrue old.tells → (bytes : List ℕ) × (old.file input ≡ Some bytes) × Stops (length bytes) (old.file input) (old.ends input) at whole
+short-at Stops input old new size told ends rb rn wb wn at whole is stops tells =
+    let (bytes, held) = told_value (old.file input) (is.there tells) in (
+      bytes,
+      held,
+      subst (λ (n : ℕ). Stops n (old.file input) (old.ends input) at whole) (is.sized bytes held)
+          (subst (λ (t : Option (List ℕ)). Stops size t (old.ends input) at whole) is.told_is (subst (λ (e : Option ℕ). Stops size told e at whole) is.ends_are stops)),
+    )
+
+rtp-stopped : (Stops : Stopping) (input : List ℕ) (old new : Outside) (size : ℕ) (told : Option (List ℕ)) (ends : Option ℕ) (rb rn wb wn : ℕ) (fault : RtpFault) → IsCounted input old new size told ends rb rn wb wn
+    → (fault ≡ RtpFaults.Read → Rose rb rn) → (fault ≡ RtpFaults.Write → Rose wb wn) → IfShort fault (Stops size told ends) → HasMoveReason Stops input old new (fault_of_rtp fault)
+rtp-stopped Stops input old new size told ends rb rn wb wn RtpFaults.Read is read write short = is.read (read refl)
+rtp-stopped Stops input old new size told ends rb rn wb wn RtpFaults.Write is read write short = is.write (write refl)
+rtp-stopped Stops input old new size told ends rb rn wb wn (RtpFaults.Short at whole) is read write short = short-at Stops input old new size told ends rb rn wb wn at whole is short
+rtp-stopped Stops input old new size told ends rb rn wb wn (RtpFaults.Head fault) is read write short = tt
+rtp-stopped Stops input old new size told ends rb rn wb wn RtpFaults.WrongFormat is read write short = tt
+rtp-stopped Stops input old new size told ends rb rn wb wn RtpFaults.NotPackets is read write short = tt
+rtp-stopped Stops input old new size told ends rb rn wb wn RtpFaults.NoPackets is read write short = tt
+rtp-stopped Stops input old new size told ends rb rn wb wn RtpFaults.TooLong is read write short = tt
+rtp-stopped Stops input old new size told ends rb rn wb wn RtpFaults.OutOfMemory is read write short = tt
+
+pub pack-stopped : (input : List ℕ) (old new : Outside) (size : ℕ) (told : Option (List ℕ)) (ends : Option ℕ) (rb rn wb wn : ℕ) (result : Result Packed RtpFault) → IsCounted input old new size told ends rb rn wb wn
+    → (result ≡ Err RtpFaults.Read → Rose rb rn) → (result ≡ Err RtpFaults.Write → Rose wb wn) → IfErr result (λ fault. IfShort fault (StoppedPacking size told ends)) → IfErr (packing_done result) (HasMoveReason StoppedPacking input old new)
+pack-stopped input old new size told ends rb rn wb wn (Ok counts) is read write short = tt
+pack-stopped input old new size told ends rb rn wb wn (Err fault) is read write short =
+    rtp-stopped StoppedPacking input old new size told ends rb rn wb wn fault is (λ same. read (ap (λ (f : RtpFault). let r : Result Packed RtpFault = Err f in r) same)) (λ same. write (ap (λ (f : RtpFault). let r : Result Packed RtpFault = Err f in r) same)) short
+
+ends-short : (size : ℕ) (told : Option (List ℕ)) (ends : Option ℕ) (rb rn wb wn : ℕ) (fault : RtpFault) → EndsUnpacking size ends rb rn wb wn fault → IfShort fault (StoppedUnpacking size told ends)
+ends-short size told ends rb rn wb wn (RtpFaults.Short at whole) is = is
+ends-short size told ends rb rn wb wn RtpFaults.Read is = tt
+ends-short size told ends rb rn wb wn RtpFaults.Write is = tt
+ends-short size told ends rb rn wb wn (RtpFaults.Head fault) is = tt
+ends-short size told ends rb rn wb wn RtpFaults.WrongFormat is = tt
+ends-short size told ends rb rn wb wn RtpFaults.NotPackets is = tt
+ends-short size told ends rb rn wb wn RtpFaults.NoPackets is = tt
+ends-short size told ends rb rn wb wn RtpFaults.TooLong is = tt
+ends-short size told ends rb rn wb wn RtpFaults.OutOfMemory is = tt
+
+pub unpack-stopped : (input : List ℕ) (old new : Outside) (size : ℕ) (told : Option (List ℕ)) (ends : Option ℕ) (rb rn wb wn : ℕ) (result : Result Unpacked RtpFault) → IsCounted input old new size told ends rb rn wb wn
+    → IfErr result (EndsUnpacking size ends rb rn wb wn) → IfErr (unpacking_done result) (HasMoveReason StoppedUnpacking input old new)
+unpack-stopped input old new size told ends rb rn wb wn (Ok counts) is cause = tt
+unpack-stopped input old new size told ends rb rn wb wn (Err fault) is cause =
+    rtp-stopped StoppedUnpacking input old new size told ends rb rn wb wn fault is (λ same. subst (λ (f : RtpFault). EndsUnpacking size ends rb rn wb wn f) same cause) (λ same. subst (λ (f : RtpFault). EndsUnpacking size ends rb rn wb wn f) same cause) (ends-short size told ends rb rn wb wn fault cause)
+
+-- ---- both files are closed
+
+-- what closing them said
+pub record IsShut (name : List ℕ) (mid new : Outside) (ran outcome : Result Done Fault) (told : Option (List ℕ)) : Type 0 where
+  pub others : SameBut name mid new
+  pub done : IfOk outcome (λ done. (ran ≡ Ok done) × (new.file name ≡ told))
+  pub front : OnErr outcome ((new.file name ≡ told) ⊎ WhereTold told (IsFrontOf (new.file name)))
+  pub fault : IfErr outcome (λ fault. (ran ≡ Err fault) ⊎ ((fault ≡ Faults.WriteFault) × Rose mid.write_faults new.write_faults))
+
+shut-done : (name output : List ℕ) (old new : Outside) (ran outcome : Result Done Fault) (told : Option (List ℕ)) → (IsTrue old.tells → name ≡ output) → IfOk outcome (λ done. (ran ≡ Ok done) × (new.file name ≡ told)) → IfOk outcome (λ done. (ran ≡ Ok done) × (IsTrue old.tells → new.file output ≡ told))
+shut-done name output old new ran (Ok done) told named is = (is.0, λ tells. subst (λ (n : List ℕ). new.file n ≡ told) (named tells) is.1)
+shut-done name output old new ran (Err fault) told named is = tt
+
+shut-fault : (old mid new : Outside) (ran outcome : Result Done Fault) → old.write_faults ≤ mid.write_faults → IfErr outcome (λ fault. (ran ≡ Err fault) ⊎ ((fault ≡ Faults.WriteFault) × Rose mid.write_faults new.write_faults)) → IfErr outcome (λ fault. (ran ≡ Err fault) ⊎ ((fault ≡ Faults.WriteFault) × Rose old.write_faults new.write_faults))
+shut-fault old mid new ran (Ok done) le is = tt
+shut-fault old mid new ran (Err fault) le (inl same) = inl same
+shut-fault old mid new ran (Err fault) le (inr (same, rose)) = inr (same, later old.write_faults mid.write_faults new.write_faults le rose)
+
+pub closed-of : (Gives : Giving) (Stops : Stopping) (name input output : List ℕ) (old mid new : Outside) (ran outcome : Result Done Fault) (told : Option (List ℕ)) → mid.file ≡ old.file → GoesOn old mid → (IsTrue old.tells → name ≡ output) → IsShut name mid new ran outcome told → (IsTrue old.tells → (bytes : List ℕ) × (old.file input ≡ Some bytes) × IsMoved Gives bytes ran told) → IfErr ran (HasMoveReason Stops input old new) → IsClosed Gives Stops input output old new ran outcome told
+closed-of Gives Stops name input output old mid new ran outcome told same on named shut moved stopped = record {
+  others = λ tells other apart. shut.others other (λ (is : other ≡ name). apart (is ∙ named tells)) ∙ at-name other old mid same;
+  moved = moved;
+  done = shut-done name output old new ran outcome told named shut.done;
+  front = λ tells. subst (λ (n : List ℕ). OnErr outcome ((new.file n ≡ told) ⊎ WhereTold told (IsFrontOf (new.file n)))) (named tells) shut.front;
+  fault = shut-fault old mid new ran outcome on.write_faults shut.fault;
+  stopped = stopped;
+}

@@ -1,0 +1,48 @@
+use Rattle.std.proofs.Common.{◌≡◌, ℕ, List, Some, Result, IfErr, IsTrue, ap, sym, subst, ◌∙◌}
+use Rattle.outside_io.proofs.Closed.{told_value}
+use Rattle.rtp_parts.specs.Answers.{StoppedPacking}
+use Rattle.omx_types.specs.declared.fault.Fault.{Fault}
+use Rattle.omxrun.specs.Packets.{PacksTo}
+use Rattle.omxrun.specs.declared.done.Done.{Done}
+use Rattle.omxrun.proofs.Moves.{IsCounted, IsShut, pack-moved, pack-stopped, read-rose, write-rose, closed-of}
+use Rattle.omxrun.proofs.Turns.{IsMoved, HasMoveReason, turned-outcome, unopened-outcome}
+use Rattle.omxrun.proofs.packets.pack_file.Goals as goal
+
+pub returns-in-Err-clause-outcome : goal.returns-in-Err-clause-outcome
+returns-in-Err-clause-outcome g c =
+    unopened-outcome PacksTo StoppedPacking c.args.input.now c.args.output.now (g.M.Media.outside c.args.media.now) (g.M.Media.outside c.open_both.new.media) c.in-Err.fault c.open_both.ensures.files c.in-Err.ensures.reason
+
+pub returns-in-Ok-clause-outcome : goal.returns-in-Ok-clause-outcome
+returns-in-Ok-clause-outcome g c =
+    let old = g.M.Media.outside c.args.media.now in
+    let mid = g.M.Media.outside c.open_both.new.media in
+    let new = g.M.Media.outside c.close_both.new.media in
+    let told = g.M.Snk.Sink.told c.pack-packed.new.snk in
+    let counted : IsCounted c.args.input.now old new _ _ _ _ _ _ _ = record {
+      told_is = c.in-Ok.ensures.told;
+      ends_are = c.in-Ok.ensures.ends;
+      there = c.in-Ok.ensures.there;
+      sized = c.in-Ok.ensures.size;
+      read = read-rose old.read_faults mid.read_faults new.read_faults _ _ c.in-Ok.ensures.unread c.open_both.ensures.goes_on.read_faults c.close_both.ensures.reads;
+      write = write-rose old.write_faults mid.write_faults new.write_faults _ _ c.in-Ok.ensures.unwritten c.open_both.ensures.goes_on.write_faults c.close_both.ensures.writes;
+    } in
+    let moved : IsTrue old.tells → (bytes : List ℕ) × (old.file c.args.input.now ≡ Some bytes) × IsMoved PacksTo bytes c.packed_outcome.result told = λ tells.
+    let held = told_value (old.file c.args.input.now) (c.in-Ok.ensures.there tells) in
+    let there = c.in-Ok.ensures.told ∙ held.1 in
+    let head = c.one_answer.ensures.some held.0 in (
+      held.0,
+      held.1,
+      subst (λ (r : Result Done Fault). IsMoved PacksTo held.0 r told) (sym c.packed_outcome.ensures)
+          (pack-moved held.0 _ told c.pack-packed.result head.0 head.1 (c.in-Ok.ensures.begun tells) (c.pack-packed.ensures.answer held.0 there head.0 head.1) (c.pack-packed.ensures.file held.0 there head.0 head.1) (c.pack-packed.ensures.front held.0 there head.0 head.1)),
+    ) in
+    let stopped = subst (λ (r : Result Done Fault). IfErr r (HasMoveReason StoppedPacking c.args.input.now old new)) (sym c.packed_outcome.ensures)
+    (pack-stopped c.args.input.now old new _ _ _ _ _ _ _ c.pack-packed.result counted c.pack-packed.ensures.read c.pack-packed.ensures.write c.pack-packed.ensures.short) in
+    let shut : IsShut (g.M.Snk.Sink.name c.pack-packed.new.snk) mid new c.packed_outcome.result c.close_both.result told = record {
+      others = c.close_both.ensures.others;
+      done = c.close_both.ensures.done;
+      front = c.close_both.ensures.front;
+      fault = c.close_both.ensures.fault;
+    } in
+    turned-outcome PacksTo StoppedPacking c.args.input.now c.args.output.now old new c.packed_outcome.result c.close_both.result told
+    (closed-of PacksTo StoppedPacking (g.M.Snk.Sink.name c.pack-packed.new.snk) c.args.input.now c.args.output.now old mid new c.packed_outcome.result c.close_both.result told c.open_both.ensures.files c.open_both.ensures.goes_on
+    (λ tells. c.pack-packed.ensures.name ∙ c.in-Ok.ensures.name tells) shut moved stopped)
