@@ -1,5 +1,5 @@
 #!/usr/bin/env bash
-# Runs `rt ci --anew` with these crates (none: all), and prints the processor seconds of each crate's proof, tests, edits and
+# Runs the gate from nothing, with these crates where the kit's `rt ci` takes names (none: all), and prints the processor seconds of each crate's proof, tests, edits and
 # build, the dearest crate first, as rows for docs/BENCH.md. Outside the gate. Its log stays beside it, in /tmp.
 # Usage: bench/gate.sh [NAME ..]
 set -eu
@@ -52,7 +52,10 @@ def sample(top, spent):
 
 log = tempfile.NamedTemporaryFile('wb', prefix='gate-', suffix='.log', delete=False)
 begun, spent = time.time(), {}
-run = subprocess.Popen(['rt', 'ci', '--anew', *sys.argv[1:]], stdin=subprocess.DEVNULL, stdout=log, stderr=log)
+# a kit without --anew keeps nothing from run to run, and takes no names
+help_text = subprocess.run(['rt', 'help'], stdout=subprocess.PIPE, stderr=subprocess.STDOUT).stdout
+words = ['--anew', *sys.argv[1:]] if b'--anew' in help_text else []
+run = subprocess.Popen(['rt', 'ci', *words], stdin=subprocess.DEVNULL, stdout=log, stderr=log)
 while run.poll() is None:
     sample(run.pid, spent)
     time.sleep(0.5)

@@ -11,3 +11,4 @@ pub mod Readiness
 pub mod Reasons
 pub mod Sinking
 pub mod WholeFiles
+mod WholeReads

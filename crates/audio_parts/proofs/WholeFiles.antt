@@ -169,7 +169,7 @@ some_bytes (Alaw rate channels) h = omega (arith, h.some_channel)
 some_bytes (Mulaw rate channels) h = omega (arith, h.some_channel)
 some_bytes Auto h = omega arith
 
-bytes_are : (format : Format) (pieces : List Piece) → AllByRecursion (IsWhole format) pieces → length (bytes_in pieces) ≡ frames_in pieces * frame_bytes_of format
+pub bytes_are : (format : Format) (pieces : List Piece) → AllByRecursion (IsWhole format) pieces → length (bytes_in pieces) ≡ frames_in pieces * frame_bytes_of format
 bytes_are format [] h = omega arith
 bytes_are format (piece ∷ pieces) h =
     length-append piece.bytes (bytes_in pieces)

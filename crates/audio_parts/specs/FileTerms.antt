@@ -1,5 +1,5 @@
 -- What is told by the terms of a part: which file it writes, and which faults it may have.
-use Rattle.std.specs.Prelude.{◌≡◌, ℕ, true, List, [], ◌∷◌, Option, None, Some}
+use Rattle.std.specs.Prelude.{◌≡◌, ℕ, true, [], ◌∷◌, Option, None, Some}
 use Rattle.omx_types.specs.declared.fault.PartFault.{PartFault}
 use Rattle.omx_types.specs.declared.fault.PartFault.TheVariants.{Read, Write, Short}
 use Rattle.omx_types.specs.declared.kind.Kind.{Kind}

@@ -5,4 +5,6 @@ pub mod FileTerms
 pub mod Kinds
 pub mod Ready
 pub mod Shapes
+pub mod Shown
 pub mod WholeFiles
+pub mod WholeReads

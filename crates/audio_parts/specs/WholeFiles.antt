@@ -1,5 +1,6 @@
 -- What a sink's steps write, one after another: the text of a whole file.
 use Rattle.std.specs.Prelude.{◌≡◌, ℕ, ◌+◌, ◌*◌, false, nat_le, if◌then◌else◌, List, [], ◌∷◌, ◌++◌, length, take, Option}
+use Rattle.std.specs.Io.KnownBytes.{append_known}
 use Rattle.omx_types.specs.declared.format.Format.{Format}
 use Rattle.omx_types.specs.Formats.{frame_bytes_of}
 use Rattle.part_forms.specs.Writing.{head_of, pad_of}
@@ -30,6 +31,13 @@ abbrev pub WroteAll : Option Writing → List Piece → List ℕ → Option Writ
 WroteAll before [] text after = (text ≡ []) × (after ≡ before)
 WroteAll before (piece ∷ pieces) text after =
     (between : Option Writing) × (first : List ℕ) × (rest : List ℕ) × (text ≡ first ++ rest) × Wrote before piece first between × WroteAll between pieces rest after
+
+-- steps with these pieces left a file that had the first bytes with the second ones
+abbrev pub KeptAll : Option Writing → Option (List ℕ) → List Piece → Option Writing → Option (List ℕ) → Type 0
+KeptAll before old [] after new = (after ≡ before) × (new ≡ old)
+KeptAll before old (piece ∷ pieces) after new =
+    (between : Option Writing) × (kept : Option (List ℕ)) × (kept ≡ append_known old (writes_of (begun piece.frames before) piece.bytes))
+    × (between ≡ written (begun piece.frames before)) × KeptAll between kept pieces after new
 
 abbrev pub frames_in : List Piece → ℕ
 frames_in [] = 0

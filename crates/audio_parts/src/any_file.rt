@@ -1,5 +1,5 @@
 //! The file of a part of any kind.
-ghost use Rattle.std.specs.Prelude.{◌≡◌, ◌*◌, false, None, Some, option_map, is_some, IfSome};
+ghost use Rattle.std.specs.Prelude.{◌≡◌, ◌*◌, false, None, Some, option_map, is_some, IfSome, MatchOption};
 ghost use Rattle.std.specs.List.{AllByRecursion};
 ghost use Rattle.omx_types.specs.Formats.{frame_bytes_of};
 ghost use Rattle.audio_parts.specs.AnyParts.{MayAttach, OnFrom, OnTo, attached_of, file_of, read_of, written_of};
@@ -27,6 +27,7 @@ impl<S: Source, K: Sink> AnyPart<S, K> {
         ensures left { OnFrom file (λ src format frames. ⟦<AnyPart<S, K> as Part>⟧.left self.new ≡ Some frames) }
         ensures rest { OnFrom file (λ src format frames. ⟦<AnyPart<S, K> as Part>⟧.rest self.new ≡ rest_of (S.told src) (S.place src) (frames * frame_bytes_of format)) }
         ensures kept { OnTo file (λ snk frames. ⟦<AnyPart<S, K> as Part>⟧.kept self.new ≡ K.told snk) }
+        ensures written_anew { OnTo file (λ snk frames. MatchOption (⟦<AnyPart<S, K> as Part>⟧.writing self.new) ⊥ (λ w. w ≡ fresh (K.name snk) w.format frames)) }
         ensures writing { OnTo file (λ snk frames. AllByRecursion (λ port. ⟦<AnyPart<S, K> as Part>⟧.writing self.new ≡ Some (fresh (K.name snk) port frames)) (⟦<AnyPart<S, K> as Part>⟧.terms self.old).inputs) }
     {
         match file {

@@ -1,6 +1,6 @@
 //! A new part of any kind, and what its owner sets.
-ghost use Rattle.std.specs.Prelude.{◌≡◌, ◌+◌, ◌<◌, ◌≤◌, false, length, None, IfOk};
-ghost use Rattle.part_forms.specs.Kinds.{IsSized};
+ghost use Rattle.std.specs.Prelude.{◌≡◌, ◌+◌, ◌<◌, ◌≤◌, true, false, [], length, None, Some, IfOk};
+ghost use Rattle.part_forms.specs.Kinds.{IsSized, is_source};
 ghost use Rattle.audio_parts.specs.AnyParts.{file_of, read_of, written_of};
 ghost use Rattle.part_forms.specs.Effects.{coder_kind};
 ghost use Rattle.audio_parts.specs.Kinds.{MayHave, default_terms, with_format, with_factor};
@@ -75,6 +75,8 @@ impl<S: Source, K: Sink> AnyPart<S, K> {
         ensures file { IfOk result (λ part. file_of part ≡ None) }
         ensures read { IfOk result (λ part. read_of part ≡ None) }
         ensures written { IfOk result (λ part. written_of part ≡ None) }
+        ensures left { IfOk result (λ part. is_source kind ≡ true → ⟦<AnyPart<S, K> as Part>⟧.left part ≡ Some 0) }
+        ensures rest { IfOk result (λ part. is_source kind ≡ true → ⟦<AnyPart<S, K> as Part>⟧.rest part ≡ Some []) }
         ensures kept { IfOk result (λ part. ⟦<AnyPart<S, K> as Part>⟧.kept part ≡ None) }
         ensures writing { IfOk result (λ part. ⟦<AnyPart<S, K> as Part>⟧.writing part ≡ None) }
     {

@@ -7,6 +7,8 @@ ghost use Rattle.part_forms.specs.Writing.{written};
 ghost use Rattle.part_api.specs.Streams.{Incoming};
 ghost use Rattle.part_api.specs.declared.attached.Attached.{Attached};
 ghost use Rattle.part_api.specs.Terms.{Terms, Writing};
+ghost use Rattle.audio_parts.specs.AnyParts.{file_of};
+ghost use Rattle.audio_parts.specs.Shown.{shown_by};
 ghost use Rattle.audio_parts.specs.Kinds.{MayHave, default_terms, with_factor, with_file, with_format};
 ghost use Rattle.part_forms.specs.Mixing.{Reach, mixed_bytes, with_zeros};
 ghost use Rattle.audio_parts.specs.Ready.{AreFitting};
@@ -22,6 +24,27 @@ use part_api::Part;
 /// What a part does is told by what its owner set. The call does nothing.
 pub fn shape_by_terms<S: Source, K: Sink>(part: &AnyPart<S, K>)
     ensures { ⟦<AnyPart<S, K> as Part>⟧.shape part.now ≡ shape_of (⟦<AnyPart<S, K> as Part>⟧.terms part.now) }
+{
+    match part {
+        AnyPart::Source(_) => {}
+        AnyPart::Decoder(_) => {}
+        AnyPart::Encoder(_) => {}
+        AnyPart::Gain(_) => {}
+        AnyPart::Mixer(_) => {}
+        AnyPart::Splitter(_) => {}
+        AnyPart::Sink(_) => {}
+    }
+}
+
+/// What is shown of a part is what its members tell. The call does nothing.
+pub fn law_of_shown<S: Source, K: Sink>(part: &AnyPart<S, K>)
+    ensures terms { (shown_by S.told K.told K.name part.now).terms ≡ ⟦<AnyPart<S, K> as Part>⟧.terms part.now }
+    ensures failed { (shown_by S.told K.told K.name part.now).failed ≡ ⟦<AnyPart<S, K> as Part>⟧.failed part.now }
+    ensures left { (shown_by S.told K.told K.name part.now).left ≡ ⟦<AnyPart<S, K> as Part>⟧.left part.now }
+    ensures rest { (shown_by S.told K.told K.name part.now).rest ≡ ⟦<AnyPart<S, K> as Part>⟧.rest part.now }
+    ensures kept { (shown_by S.told K.told K.name part.now).kept ≡ ⟦<AnyPart<S, K> as Part>⟧.kept part.now }
+    ensures writing { (shown_by S.told K.told K.name part.now).writing ≡ ⟦<AnyPart<S, K> as Part>⟧.writing part.now }
+    ensures file { (shown_by S.told K.told K.name part.now).file ≡ file_of part.now }
 {
     match part {
         AnyPart::Source(_) => {}

@@ -7,6 +7,7 @@ mod any_settings;
 mod any_step;
 mod coder;
 mod effect;
+mod file_laws;
 mod gain;
 mod kind_part;
 mod laws;
@@ -26,10 +27,11 @@ mod writes;
 pub use any_part::AnyPart;
 pub use coder::{Decoding, Encoding, G711Decoder, G711Encoder};
 pub use effect::Effect;
+pub use file_laws::{law_of_keeping, law_of_reading};
 pub use gain::{Gain, Gaining};
 pub use kind_part::KindPart;
 pub use laws::{
-    frames_by_format, law_of_padding, law_of_writing, lawful_terms, shape_by_terms,
+    frames_by_format, law_of_padding, law_of_shown, law_of_writing, lawful_terms, shape_by_terms,
     writes_by_writing,
 };
 pub use mixer::Mixer;

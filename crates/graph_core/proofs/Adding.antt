@@ -16,7 +16,8 @@ use Rattle.il_machine.specs.Look.{Look}
 use Rattle.il_machine.specs.Headers.{Seen, seen, is_for, count_headers, same_key}
 use Rattle.il_machine.specs.Stock.{Stocked, added, removed, keys_from}
 use Rattle.il_machine.specs.Components.{no_progress, is_vacant, with_new_component}
-use Rattle.il_machine.specs.Whole.{Kept, Steps}
+use Rattle.il_machine.specs.Whole.{Kept}
+use Rattle.whole_laws.specs.Bare.{StepsBare}
 use Rattle.il_machine.specs.Sound.{Sound, port_at}
 use Rattle.machine_laws.proofs.Coming.{sound_new}
 use Rattle.machine_laws.proofs.Every.{from_places}
@@ -26,7 +27,6 @@ use Rattle.machine_laws.proofs.Parts.{parts_of, ports_in_list}
 use Rattle.machine_laws.proofs.PortChanges.{none_for}
 use Rattle.whole_laws.proofs.Lists.{get_last}
 use Rattle.whole_laws.proofs.Entries.{held_added}
-use Rattle.whole_laws.specs.Entries.{no_part}
 use Rattle.whole_laws.proofs.Making.{with_component_made, lift_made}
 use Rattle.note_queues.specs.declared.taken.Taken.{Taken}
 use Rattle.note_queues.specs.Queues.{note_of}
@@ -36,7 +36,7 @@ use Rattle.port_stock.specs.Conditions.{IsWithoutPorts, IsUnmade, has_key}
 use Rattle.il_component.specs.Entries.{Entry, component_of, held_in}
 use Rattle.graph_core.specs.Registered.{Registered}
 use Rattle.graph_core.specs.Standing.{HasPorts, IsGraph, SoundWorld}
-use Rattle.graph_core.specs.Entries.{Entries, components_of, no_parts, held_by, noticed_in, progress_at, kept}
+use Rattle.graph_core.specs.Entries.{Entries, components_of, held_by, noticed_in, progress_at, kept}
 use Rattle.graph_core.proofs.Renumbered.{sound_there}
 use Rattle.graph_core.proofs.Replacing.{next_world}
 
@@ -132,7 +132,7 @@ module _ {C : Type 0} (progress : C → Progress) where
         clients = map (progress_at progress) es;
         loads = x.loads;
         noticed = noticed_in es;
-        parts = no_parts es;
+        parts = [];
       }) q
 
   pub graph_restocked : (es : List (Entry C)) (registry : Handles ℕ) (s t : StockKept) (units waits capacity : ℕ) → stocked t ≡ stocked s → IsGraph progress es registry s units waits capacity → IsGraph progress es registry t units waits capacity
@@ -173,7 +173,6 @@ module _ {C : Type 0} (progress : C → Progress) (h : Handle) (kind : Kind) (e 
       let cl : map (progress_at progress) (es ++ e ∷ []) ≡ map (progress_at progress) es ++ Some no_progress ∷ [] = map-append (progress_at progress) es (e ∷ []) ∙ ap (λ (x : Option Progress). map (progress_at progress) es ++ x ∷ []) N.told in
       let hd : held_by e ≡ [] = no_notes_held e.queues.notes (ap (λ (x : Component). x.notes) N.component) in
       let nt : noticed_in (es ++ e ∷ []) ≡ noticed_in es = held_added held_by es e hd in
-      let ps : no_parts (es ++ e ∷ []) ≡ no_parts es ++ Some no_part ∷ [] = map-append (λ (x : Entry C). Some no_part) es (e ∷ []) in
       let K : (stocked t).key ≡ (stocked s).key = ap (λ (x : Stocked). x.key) q ∙ ks in
       let H : (stocked t).headers ≡ (stocked s).headers = ap (λ (x : Stocked). x.headers) q ∙ hs in
       let L : (stocked t).loads ≡ (stocked s).loads = ap (λ (x : Stocked). x.loads) q ∙ ls in
@@ -183,15 +182,15 @@ module _ {C : Type 0} (progress : C → Progress) (h : Handle) (kind : Kind) (e 
         clients = cl j;
         loads = L j;
         noticed = nt j;
-        parts = ps j;
+        parts = [];
       }
 
   pub steps_added : (es : List (Entry C)) (s t : StockKept) (units waits numbered count : ℕ) → stocked t ≡ added numbered count (stocked s) → h.generation ≡ numbered → All (λ d. number_of d < numbered) (components_of es)
-      → Steps (kept progress (record { entries = es; stock = s; units = units; waits = waits; numbered = numbered })) (kept progress (record { entries = es ++ e ∷ []; stock = t; units = units; waits = waits; numbered = numbered + 1 })) (λ w v. v ≡ with_new_component h kind w)
+      → StepsBare (kept progress (record { entries = es; stock = s; units = units; waits = waits; numbered = numbered })) (kept progress (record { entries = es ++ e ∷ []; stock = t; units = units; waits = waits; numbered = numbered + 1 })) (λ w v. v ≡ with_new_component h kind w)
   steps_added es s t units waits numbered count q n below =
       let k = kept progress (record { entries = es; stock = s; units = units; waits = waits; numbered = numbered }) in
-      subst (λ (x : Kept). Steps k x (λ w v. v ≡ with_new_component h kind w)) (sym (kept_added es s t units waits numbered (added numbered count (stocked s)) q refl refl refl refl))
-      (lift_made k (fresh h kind) n refl (length-map es (progress_at progress) ∙ sym (length-map es component_of)) (length-map es (λ (x : Entry C). Some no_part) ∙ sym (length-map es component_of)) below)
+      subst (λ (x : Kept). StepsBare k x (λ w v. v ≡ with_new_component h kind w)) (sym (kept_added es s t units waits numbered (added numbered count (stocked s)) q refl refl refl refl))
+      (lift_made k (fresh h kind) n (length-map es (progress_at progress) ∙ sym (length-map es component_of)) below)
 
   pub worlds_added : (es : List (Entry C)) (s t : StockKept) (units waits numbered count : ℕ) → IsSized kind → stocked t ≡ added numbered count (stocked s) → h.generation ≡ numbered
       → SoundWorld (kept progress (record { entries = es; stock = s; units = units; waits = waits; numbered = numbered })) → SoundWorld (kept progress (record { entries = es ++ e ∷ []; stock = t; units = units; waits = waits; numbered = numbered + 1 }))

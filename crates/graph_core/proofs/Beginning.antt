@@ -4,7 +4,7 @@ use Rattle.il_machine.specs.declared.answer.Progress.{Progress}
 use Rattle.il_machine.specs.World.{no_world}
 use Rattle.il_machine.specs.Look.{look}
 use Rattle.il_machine.specs.Stock.{Stocked, no_stock}
-use Rattle.il_machine.specs.Whole.{Stands}
+use Rattle.whole_laws.specs.Bare.{StandsBare}
 use Rattle.il_machine.specs.Sound.{Sound}
 use Rattle.port_stock.specs.Kept.{Kept as StockKept, stocked}
 use Rattle.registry.specs.Handles.{no_handles}
@@ -29,13 +29,12 @@ no_world_sound key units = record {
 }
 
 module _ {C : Type 0} (progress : C → Progress) where
-  empty_stands : (stock : StockKept) (units : ℕ) → stocked stock ≡ no_stock (stocked stock).key → Stands (kept progress (record { entries = []; stock = stock; units = units; waits = 0; numbered = 0 })) (no_world (stocked stock).key units)
+  empty_stands : (stock : StockKept) (units : ℕ) → stocked stock ≡ no_stock (stocked stock).key → StandsBare (kept progress (record { entries = []; stock = stock; units = units; waits = 0; numbered = 0 })) (no_world (stocked stock).key units)
   empty_stands stock units e = record {
     looks = ap (λ (s : Stocked). record (look (no_world (stocked stock).key units)) { headers = s.headers; made = s.next }) (sym e);
     loads = λ n load h. let q = sym (ap (λ (s : Stocked). s.loads n) e) ∙ h in absurd cc;
     noticed = nothing _;
     progress = λ i c h out. absurd cc;
-    parts = λ i c s e o x. absurd cc;
     streams = refl;
     once = tt;
     given = nothing _;

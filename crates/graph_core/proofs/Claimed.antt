@@ -16,8 +16,8 @@ use Rattle.il_machine.specs.Stock.{Stocked, StandsFor}
 use Rattle.il_machine.specs.Sound.{Sound}
 use Rattle.il_machine.specs.Buffers.{held}
 use Rattle.il_machine.specs.Claims.{all_given_out, carried, claim_idle, must_announce, picked, wanted, with_work, work_of}
-use Rattle.il_machine.specs.Whole.{Always, HasDone, HasParts, HasProgress, IsNoticed, Kept, Noticed, PartSeen, Steps}
-use Rattle.il_machine.specs.Parts.{terms_of}
+use Rattle.il_machine.specs.Whole.{HasProgress, IsNoticed, Kept, Noticed}
+use Rattle.whole_laws.specs.Bare.{AlwaysBare, StepsBare}
 use Rattle.machine_laws.proofs.Claiming.{AreInPorts, claim_passes, headers_in, picked_length, sound_claimed}
 use Rattle.machine_laws.proofs.Finding.{changed_else}
 use Rattle.machine_laws.proofs.Listed.{todo_in}
@@ -54,18 +54,7 @@ working_progress clients w i c work at P = λ j d h out.
     let other : j ≢ i → slice_get clients j ≡ Some (Some (progress_of d w)) = λ q. P j d (sym (get_set_other w.components i j e q) ∙ h) out in
     elim (eqb_tells j i) [ inl q ↦ same q.1 | inr q ↦ other q.1 ]
 
-working_parts : (parts : List (Option PartSeen)) (w : World) (i : ℕ) (c : Component) (work : Work) → slice_get w.components i ≡ Some c → HasParts parts w → HasParts parts (with_component i (working work c) w)
-working_parts parts w i c work at P = λ j x s e out st.
-    let d : Component = working work c in
-    let own : j ≡ i → (y : PartSeen) × (slice_get parts j ≡ Some (Some y)) × HasDone (terms_of x) x.part.failed s y = λ q.
-    let g : Some x ≡ Some d = sym e ∙ rw q (get_set_same w.components i c d at) in
-    let r : x ≡ d = cc in
-    let a : Some work ≡ None = sym (ap (λ (y : Component). y.work) r) ∙ out in
-    absurd cc in
-    let other : j ≢ i → (y : PartSeen) × (slice_get parts j ≡ Some (Some y)) × HasDone (terms_of x) x.part.failed s y = λ q. P j x s (sym (get_set_other w.components i j d q) ∙ e) out st in
-    elim (eqb_tells j i) [ inl q ↦ own q.1 | inr q ↦ other q.1 ]
-
-lift_working : (k : Kept) (i : ℕ) (c : Component) (work : Work) → slice_get k.looks.components i ≡ Some c → Steps k (with_look i (working work c) k) (λ w v. v ≡ with_component i (working work c) w)
+lift_working : (k : Kept) (i : ℕ) (c : Component) (work : Work) → slice_get k.looks.components i ≡ Some c → StepsBare k (with_look i (working work c) k) (λ w v. v ≡ with_component i (working work c) w)
 lift_working k i c work at = λ w S.
     let d : Component = working work c in
     let cs : w.components ≡ k.looks.components = ap (λ (l : Look). l.components) S.looks in
@@ -77,7 +66,6 @@ lift_working k i c work at = λ w S.
         loads = S.loads;
         noticed = S.noticed;
         progress = working_progress k.clients w i c work here S.progress;
-        parts = working_parts k.parts w i c work here S.parts;
         streams = S.streams ∙ sym numbers;
         once = S.once;
         given = S.given;
@@ -149,14 +137,14 @@ module _ {C : Type 0} (progress : C → Progress) (g : Entries C) (i : ℕ) (e d
       let T = out_stands (number_of c) 0 (gives_to a c) c.settings.ports c.ports s.headers s hs S (λ port b. refl) in
       rw goes (subst (λ (xs : List Picked). StandsFor (all_out (number_of c) 0 (map (gives_to a c) (ports_of c)) s) (all_given_out (number_of c) xs hs)) (sym headers_are) T)
 
-  steps_component : Steps (kept progress g) (kept progress (changed_at i d g)) (λ w v. v ≡ with_component i (working work c) w)
-  steps_component = subst (λ (k : Kept). Steps (kept progress g) k (λ w v. v ≡ with_component i (working work c) w)) (sym (kept_changed progress g i e d at N ∙ ap (λ (x : Component). with_look i x (kept progress g)) is))
+  steps_component : StepsBare (kept progress g) (kept progress (changed_at i d g)) (λ w v. v ≡ with_component i (working work c) w)
+  steps_component = subst (λ (k : Kept). StepsBare (kept progress g) k (λ w v. v ≡ with_component i (working work c) w)) (sym (kept_changed progress g i e d at N ∙ ap (λ (x : Component). with_look i x (kept progress g)) is))
       (lift_working (kept progress g) i c work (there progress g i e at))
 
   in_ports : (w : World) → Once w.headers → seen w.headers ≡ s.headers → AreInPorts (number_of c) 0 w.headers work.headers
   in_ports w once look = subst (λ (x : Work). AreInPorts (number_of c) 0 w.headers x.headers) (ap (λ (t : Seen). work_of t c) look ∙ sym picks) (headers_in w.headers c (λ key. todo_in key w.headers once))
 
-  steps_stock : Steps (kept progress (changed_at i d g)) (kept progress then) (λ w v. v ≡ with_headers (out w.headers) (stocked after).next w)
+  steps_stock : StepsBare (kept progress (changed_at i d g)) (kept progress then) (λ w v. v ≡ with_headers (out w.headers) (stocked after).next w)
   steps_stock = lift_stock (kept progress (changed_at i d g)) (stocked after) (λ w. out w.headers) (ap (λ (t : Stocked). t.key) goes ∙ (out_stays (number_of c) 0 (map (gives_to a c) (ports_of c)) s).key)
       (λ w S. stock_stands w.headers (stands_for s (kept progress (changed_at i d g)) w (record { headers = refl; made = refl; loads = refl }) S))
       (λ w S. λ j h b. given_elsewhere (number_of c) _ work.headers w.headers (notice_apart (number_of c) 0 0 w _ work.headers (S.noticed j h b) (in_ports w S.once (ap (λ (l : Look). l.headers) S.looks))))
@@ -164,7 +152,7 @@ module _ {C : Type 0} (progress : C → Progress) (g : Entries C) (i : ℕ) (e d
   next_is : (stocked after).next ≡ s.next
   next_is = ap (λ (t : Stocked). t.next) goes ∙ (out_stays (number_of c) 0 (map (gives_to a c) (ports_of c)) s).next
 
-  pub claimed_steps : Steps (kept progress g) (kept progress then) (λ w v. v ≡ with_work i c (work_of (seen w.headers) c) w)
+  pub claimed_steps : StepsBare (kept progress g) (kept progress then) (λ w v. v ≡ with_work i c (work_of (seen w.headers) c) w)
   claimed_steps = λ w S.
       let x = steps_component w S in
       let y = steps_stock x.0 x.1 in
@@ -178,13 +166,13 @@ module _ {C : Type 0} (progress : C → Progress) (g : Entries C) (i : ℕ) (e d
   claimed_worlds idle = next_world (kept progress g) (kept progress then) (λ w v. v ≡ with_work i c (work_of (seen w.headers) c) w) W claimed_steps
       (λ w v S f sound. subst Sound (sym f) (sound_claimed w i c sound (at_world progress g i e w S at) (ap (λ (l : Look). claim_idle l c) S.looks ∙ idle)))
 
-  pub claimed_returns : MatchOption (component_at i g) ⊥ (λ c. Steps (kept progress g) (kept progress then) (λ w v. v ≡ with_work i c (work_of (seen w.headers) c) w))
+  pub claimed_returns : MatchOption (component_at i g) ⊥ (λ c. StepsBare (kept progress g) (kept progress then) (λ w v. v ≡ with_work i c (work_of (seen w.headers) c) w))
   claimed_returns = rw (there progress g i e at) claimed_steps
 
   pub claimed_ports : (stocked after).ports ≡ (stocked g.stock).ports
   claimed_ports = ap (λ (t : Stocked). t.ports) goes ∙ (out_stays (number_of c) 0 (map (gives_to a c) (ports_of c)) s).ports
 
 -- whoever gets the headers sees what they carry in each world
-pub carried_there : {C : Type 0} (progress : C → Progress) (g : Entries C) (c : Component) (places : List (Option BufferHeader)) → HasFronts c places (stocked g.stock) → Always (kept progress g) (λ w. carried w.headers (work_of (seen w.headers) c).headers ≡ carried_from 0 places)
+pub carried_there : {C : Type 0} (progress : C → Progress) (g : Entries C) (c : Component) (places : List (Option BufferHeader)) → HasFronts c places (stocked g.stock) → AlwaysBare (kept progress g) (λ w. carried w.headers (work_of (seen w.headers) c).headers ≡ carried_from 0 places)
 carried_there progress g c places F = λ w S.
     ap (λ (t : Seen). carried w.headers (work_of t c).headers) (seen_of progress g w S) ∙ work_carried c (stocked g.stock) places F w.headers (stands_for (stocked g.stock) (kept progress g) w (stock_of progress g) S)

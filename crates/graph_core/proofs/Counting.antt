@@ -1,5 +1,5 @@
 -- Sums of units, the first that waits, and the weakest that holds, as loops over the components compute them.
-use Rattle.std.proofs.Common.{◌≡◌, ◌⊎◌, inl, inr, ℕ, zero, suc, ◌+◌, ◌-◌, ◌<◌, ◌≤◌, Bool, true, false, not, ◌&&◌, cond, List, [], ◌∷◌, drop, take, length, filter, sum_by, slice_get, if◌then◌else◌, Option, Some, None, option_and_then, option_map, refl, sym, ◌∙◌, ap, arith}
+use Rattle.std.proofs.Common.{◌≡◌, ℕ, zero, suc, ◌-◌, ◌<◌, ◌≤◌, Bool, true, false, not, ◌&&◌, cond, List, [], ◌∷◌, drop, take, length, filter, sum_by, slice_get, if◌then◌else◌, Option, Some, None, option_and_then, option_map, refl, sym, ◌∙◌, ap, arith}
 use Rattle.std.proofs.lemmas.List.Sums.{sum_by-cons}
 use Rattle.std.proofs.lemmas.Option.{slice_get-map}
 use Rattle.il_machine.specs.Lists.{better, best_of, holds_at}

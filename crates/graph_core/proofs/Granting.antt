@@ -1,5 +1,5 @@
 -- Why no units are granted or taken, and what is true of a graph once they are.
-use Rattle.std.proofs.Common.{◌≡◌, ℕ, ◌+◌, ◌<◌, ◌≤◌, true, false, nat_lt, nat_le, [], ◌∷◌, set, slice_get, MatchOption, Option, Some, None, refl, sym, ◌∙◌, ap, subst, ltb-false, arith}
+use Rattle.std.proofs.Common.{◌≡◌, ℕ, ◌+◌, ◌<◌, ◌≤◌, true, false, nat_lt, nat_le, [], ◌∷◌, slice_get, MatchOption, Option, Some, None, refl, sym, ◌∙◌, ap, subst, ltb-false, arith}
 use Rattle.il_machine.specs.declared.answer.Progress.{Progress}
 use Rattle.il_machine.specs.declared.answer.Why.{Why}
 use Rattle.il_machine.specs.declared.answer.Why.TheVariants as why
@@ -8,10 +8,10 @@ use Rattle.il_machine.specs.Room.{room}
 use Rattle.il_machine.specs.Headers.{weight}
 use Rattle.il_machine.specs.Ports.{is_going_to}
 use Rattle.il_machine.specs.Lists.{first_of_these}
-use Rattle.il_machine.specs.World.{Component, World, with_component}
+use Rattle.il_machine.specs.World.{Component, with_component}
 use Rattle.il_machine.specs.Look.{Look, look}
 use Rattle.il_machine.specs.Units.{need_of, free_units, coming_units, is_waiter, is_before, is_weaker, gives_first, first_waiter, weakest, victim, lacks_places, grant_idle, preempt_idle, granted_units, preempted_units, with_changed}
-use Rattle.il_machine.specs.Whole.{Stands, Steps}
+use Rattle.whole_laws.specs.Bare.{StepsBare}
 use Rattle.il_machine.specs.Sound.{AreRising, IsUnitSound}
 use Rattle.machine_laws.proofs.Units.{resources_of}
 use Rattle.std.proofs.lemmas.Bool.Decides.{nat_tests}
@@ -20,7 +20,7 @@ use Rattle.machine_laws.proofs.Granting.{IsVictim, best_among, changed_there, pr
 use Rattle.whole_laws.specs.Parts.{KeepsPart}
 use Rattle.whole_laws.proofs.Following.{as_change}
 use Rattle.il_component.specs.Entries.{Entry, component_of, KeepsNotices}
-use Rattle.graph_core.specs.Entries.{Entries, components_of, look_of, kept, changed_at}
+use Rattle.graph_core.specs.Entries.{Entries, kept, changed_at}
 use Rattle.graph_core.specs.Standing.{SoundWorld}
 use Rattle.graph_core.proofs.Replacing.{steps_changed}
 use Rattle.graph_core.proofs.Stepping.{at_world}
@@ -105,7 +105,7 @@ units_there progress g i e W at = (resources_of W.world W.sound).each i (compone
 -- the component of the place changes so
 pub units_changed : {C : Type 0} (progress : C → Progress) (g : Entries C) (i : ℕ) (e d : Entry C) (change : Component → Component) → SoundWorld (kept progress g) → slice_get g.entries i ≡ Some e → KeepsNotices e d
     → KeepsPart (component_of e) (component_of d) → component_of d ≡ change (component_of e)
-    → Steps (kept progress g) (kept progress (changed_at i d g)) (λ w v. v ≡ with_changed change (component_of e) w)
+    → StepsBare (kept progress g) (kept progress (changed_at i d g)) (λ w v. v ≡ with_changed change (component_of e) w)
 units_changed progress g i e d change W at N K q =
     as_change (kept progress g) (kept progress (changed_at i d g)) (λ w v. v ≡ with_component i (component_of d) w) (λ w v. v ≡ with_changed change (component_of e) w)
     (steps_changed progress g i e d at N K)

@@ -18,7 +18,7 @@ use Rattle.il_machine.specs.Room.{room}
 use Rattle.il_machine.specs.Ports.{accepting}
 use Rattle.il_machine.specs.Buffers.{client_header, with_header, with_todo, without_header, unpopulated, is_unpopulating, free_buffer_refusal, load_in}
 use Rattle.il_machine.specs.Stock.{Stocked, StandsFor, populated, pushed, withdrawn}
-use Rattle.il_machine.specs.Whole.{Stands, Steps}
+use Rattle.whole_laws.specs.Bare.{StandsBare, StepsBare}
 use Rattle.il_machine.specs.Sound.{Sound, IsOwnedSo}
 use Rattle.machine_laws.proofs.Accepting.{passed}
 use Rattle.machine_laws.proofs.ClientHeaders.{accepts_fewer, sound_made, sound_put, sound_freed}
@@ -76,12 +76,12 @@ module _ {C : Type 0} (progress : C → Progress) (g : Entries C) (i : ℕ) (e :
   s = stocked g.stock
 
   abbrev pub Clause : Entries C → (Component → Port → World → World → Type 0) → Type 0
-  Clause after F = MatchOption (component_at i g) ⊥ (λ c. MatchOption (port_of c index) ⊥ (λ p. Steps (kept progress g) (kept progress after) (F c p)))
+  Clause after F = MatchOption (component_at i g) ⊥ (λ c. MatchOption (port_of c index) ⊥ (λ p. StepsBare (kept progress g) (kept progress after) (F c p)))
 
-  clause_from : (after : Entries C) (F : Component → Port → World → World → Type 0) → Steps (kept progress g) (kept progress after) (F c p) → Clause after F
+  clause_from : (after : Entries C) (F : Component → Port → World → World → Type 0) → StepsBare (kept progress g) (kept progress after) (F c p) → Clause after F
   clause_from after F f = rw (there progress g i e at, port) f
 
-  world_stands : (w : World) → Stands (kept progress g) w → StandsFor s w.headers
+  world_stands : (w : World) → StandsBare (kept progress g) w → StandsFor s w.headers
   world_stands w S = stands_for s (kept progress g) w (stock_of progress g) S
 
   -- ---- a header is made
@@ -90,7 +90,7 @@ module _ {C : Type 0} (progress : C → Progress) (g : Entries C) (i : ℕ) (e :
     abbrev made : HeaderState
     made = client_header s.next p (is_clients store)
 
-    accepts_in : (w : World) → Stands (kept progress g) w → accepting (look w).headers c p ≡ true
+    accepts_in : (w : World) → StandsBare (kept progress g) w → accepting (look w).headers c p ≡ true
     accepts_in w S = ap (λ (x : Seen). accepting x c p) (seen_of progress g w S) ∙ M.accepts
 
     pub few_made : made_in s p.key < 32
@@ -115,7 +115,7 @@ module _ {C : Type 0} (progress : C → Progress) (g : Entries C) (i : ℕ) (e :
       abbrev record_made : HeaderRecord
       record_made = record { state = made; load = empty_load (own_memory store) }
 
-      steps_made : Steps (kept progress g) (kept progress (with_stocked progress after_stock g)) (λ w v. v ≡ with_header (client_header w.made p (is_clients store)) (own_memory store) w)
+      steps_made : StepsBare (kept progress g) (kept progress (with_stocked progress after_stock g)) (λ w v. v ≡ with_header (client_header w.made p (is_clients store)) (own_memory store) w)
       steps_made = stock_steps progress g after_stock (populated made s) (λ w v. v ≡ with_header (client_header w.made p (is_clients store)) (own_memory store) w) now
           (λ w S.
           let free : IsFree s.next s = rw new tt in
@@ -153,7 +153,7 @@ module _ {C : Type 0} (progress : C → Progress) (g : Entries C) (i : ℕ) (e :
     with_client : state.owner ≡ owners.Client
     with_client = is_there.2.0
 
-    found_in : (w : World) → Stands (kept progress g) w → Found n w.headers state
+    found_in : (w : World) → StandsBare (kept progress g) w → Found n w.headers state
     found_in w S = found s w.headers n state (world_stands w S) shown
 
     place_out : state.place ≡ Out
@@ -189,7 +189,7 @@ module _ {C : Type 0} (progress : C → Progress) (g : Entries C) (i : ℕ) (e :
       for_key : is_for p.key state ≡ true
       for_key = made_for (s.headers.header n) p.key state shown for_port
 
-      steps_in : Steps (kept progress g) (kept progress (with_stocked progress after_stock g)) (λ w v. v ≡ with_todo p.key n (loaded (load_in header.held)) w)
+      steps_in : StepsBare (kept progress g) (kept progress (with_stocked progress after_stock g)) (λ w v. v ≡ with_todo p.key n (loaded (load_in header.held)) w)
       steps_in = stock_steps progress g after_stock (pushed p.key TodoBack n (load_in header.held) s) (λ w v. v ≡ with_todo p.key n (loaded (load_in header.held)) w) now
           (λ w S.
           let x = lift_one (kept progress g) s (pushed p.key TodoBack n (load_in header.held) s) n (put p.key TodoBack n (loaded (load_in header.held))) (stock_of progress g) refl free
@@ -214,7 +214,7 @@ module _ {C : Type 0} (progress : C → Progress) (g : Entries C) (i : ℕ) (e :
       abbrev after : Entries C
       after = with_stocked progress after_stock (changed_at i d g)
 
-      steps_freed : Steps (kept progress g) (kept progress after) (λ w v. v ≡ without_header n (with_component i (unpopulated p c) w))
+      steps_freed : StepsBare (kept progress g) (kept progress after) (λ w v. v ≡ without_header n (with_component i (unpopulated p c) w))
       steps_freed = λ w S.
           let x = steps_changed progress g i e d at keeps (part_as c (component_of d) (unpopulated p c) is (part_unpopulated p c)) w S in
           let f = stock_steps progress (changed_at i d g) after_stock (withdrawn n s) (λ w v. v ≡ with_headers (without n w.headers) s.next w) now

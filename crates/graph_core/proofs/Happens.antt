@@ -15,7 +15,8 @@ use Rattle.il_machine.specs.World.{HeaderRecord, World, number_of, with_componen
 use Rattle.il_machine.specs.Look.{Look}
 use Rattle.il_machine.specs.Headers.{Seen, find_header, is_for, is_owned_by, state_of, weight}
 use Rattle.il_machine.specs.Stock.{Stocked}
-use Rattle.il_machine.specs.Whole.{Kept, Steps}
+use Rattle.il_machine.specs.Whole.{Kept}
+use Rattle.whole_laws.specs.Bare.{StepsBare}
 use Rattle.il_machine.specs.Sound.{Sound, IsOwnedSo}
 use Rattle.il_machine.specs.Due.{Thing, due_in, has_due, first_due, happened, Happens}
 use Rattle.machine_laws.proofs.Keys.{there_is}
@@ -118,7 +119,7 @@ module _ {C : Type 0} (progress : C → Progress) where
   abbrev with_waits : ℕ → Kept → Kept
   with_waits waits k = record k { looks = record k.looks { waits = waits } }
 
-  lift_waits : (k : Kept) (waits : ℕ) → Steps k (with_waits waits k) (λ w v. v ≡ record w { waits = waits })
+  lift_waits : (k : Kept) (waits : ℕ) → StepsBare k (with_waits waits k) (λ w v. v ≡ record w { waits = waits })
   lift_waits k waits = λ w S. (
     record w { waits = waits },
     record {
@@ -126,7 +127,6 @@ module _ {C : Type 0} (progress : C → Progress) where
       loads = S.loads;
       noticed = S.noticed;
       progress = S.progress;
-      parts = S.parts;
       streams = S.streams;
       once = S.once;
       given = S.given;
@@ -138,7 +138,7 @@ module _ {C : Type 0} (progress : C → Progress) where
   kept_after g i e d st waits at N = ap (with_waits waits) (kept_changed progress (record g { stock = st }) i e d at N)
 
   pub steps_after : (g : Entries C) (i : ℕ) (e d : Entry C) (st : StockKept) (thing : Thing) (then : ℕ) → slice_get g.entries i ≡ Some e → component.KeepsNotices e d → Happened thing (component_of e) (component_of d) (stocked g.stock) (stocked st) g.waits then
-      → Steps (kept progress g) (kept progress (after g i d st then)) (λ w v. v ≡ happened i (component_of e) thing w)
+      → StepsBare (kept progress g) (kept progress (after g i d st then)) (λ w v. v ≡ happened i (component_of e) thing w)
   steps_after g i e d st thing then at N H =
       let k = kept progress g in
       let s = stocked g.stock in
@@ -147,19 +147,19 @@ module _ {C : Type 0} (progress : C → Progress) where
       let I : IsStock s k = record { headers = refl; made = refl; loads = refl } in
       let a = with_stock t k in
       let b = with_look i (component_of d) a in
-      let A : Steps k a (λ w v. v ≡ with_headers (f w) t.next w) = lift_stock k t f H.stock.key
+      let A : StepsBare k a (λ w v. v ≡ with_headers (f w) t.next w) = lift_stock k t f H.stock.key
       (λ w S. H.stock.stands w.headers (stands_for s k w I S))
       (λ w S. λ j h b. let x = there_is (find_header _ w.headers) _ (S.noticed j h b).1 in H.notices w.headers _ x.0 S.once x.1 x.2.1) in
-      let B : Steps a b (λ w v. v ≡ with_component i (component_of d) w) = lift_component a i (component_of e) (component_of d) (there progress g i e at)
+      let B : StepsBare a b (λ w v. v ≡ with_component i (component_of d) w) = lift_component a i (component_of e) (component_of d) (there progress g i e at)
       H.part (ap (λ (x : Option C). is_none x) N.client) in
-      let E : Steps k (with_waits then b) (λ w v. v ≡ happened i (component_of e) thing w) = λ w S.
+      let E : StepsBare k (with_waits then b) (λ w v. v ≡ happened i (component_of e) thing w) = λ w S.
       let x = A w S in
       let y = B x.0 x.1 in
       let z = lift_waits b then y.0 y.1 in
       let m : t.next ≡ w.made = H.stock.next ∙ sym (ap (λ (l : Look). l.made) S.looks) in
       let n : w.waits ≡ g.waits = ap (λ (l : Look). l.waits) S.looks in
       (z.0, z.1, z.2 ∙ (ap (λ (u : World). record u { waits = then }) (y.2 ∙ (ap (with_component i (component_of d)) x.2 ∙ ap (λ (n : ℕ). with_component i (component_of d) (with_headers (f w) n w)) m)) ∙ sym (H.after i w n))) in
-      subst (λ (x : Kept). Steps k x (λ w v. v ≡ happened i (component_of e) thing w)) (sym (kept_after g i e d st then at N)) E
+      subst (λ (x : Kept). StepsBare k x (λ w v. v ≡ happened i (component_of e) thing w)) (sym (kept_after g i e d st then at N)) E
 
   ports_same : (es : List (Entry C)) (s t : Stocked) (numbered : ℕ) → HasPorts es s numbered → t.ports ≡ s.ports → HasPorts es t numbered
   ports_same es s t numbered P q = record {
@@ -183,7 +183,7 @@ module _ {C : Type 0} (progress : C → Progress) where
       }
 
   pub happens_after : (g : Entries C) (i : ℕ) (e d : Entry C) (st : StockKept) (thing : Thing) (then : ℕ) → slice_get g.entries i ≡ Some e → component.KeepsNotices e d → Happened thing (component_of e) (component_of d) (stocked g.stock) (stocked st) g.waits then
-      → first_due (look_of g) ≡ Some i → due_in (stocked g.stock).headers (component_of e) ≡ Some thing → Steps (kept progress g) (kept progress (after g i d st then)) Happens
+      → first_due (look_of g) ≡ Some i → due_in (stocked g.stock).headers (component_of e) ≡ Some thing → StepsBare (kept progress g) (kept progress (after g i d st then)) Happens
   happens_after g i e d st thing then at N H first due = as_change (kept progress g) (kept progress (after g i d st then)) (λ w v. v ≡ happened i (component_of e) thing w) Happens (steps_after g i e d st thing then at N H)
       (λ w v S f. record {
         place = i;
@@ -195,7 +195,7 @@ module _ {C : Type 0} (progress : C → Progress) where
         after = f;
       })
 
-  pub fewer_after : (g h : Entries C) → SoundWorld (kept progress g) → Steps (kept progress g) (kept progress h) Happens → pending_in (components_of h.entries) < pending_in (components_of g.entries)
+  pub fewer_after : (g h : Entries C) → SoundWorld (kept progress g) → StepsBare (kept progress g) (kept progress h) Happens → pending_in (components_of h.entries) < pending_in (components_of g.entries)
   fewer_after g h W F =
       let x = F W.world W.stands in
       let l = happens_fewer W.world x.0 x.2 in

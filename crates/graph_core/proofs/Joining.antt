@@ -10,7 +10,7 @@ use Rattle.il_machine.specs.declared.port.PortState.{PortState}
 use Rattle.il_machine.specs.World.{Component, World, number_of, same_handle, ports_of, port_of, with_component}
 use Rattle.il_machine.specs.Look.{look}
 use Rattle.il_machine.specs.Tunnels.{joined_to, parted, widened, setup_refusal, drop_refusal, holds_of_both, are_output_and_input, is_joined_with}
-use Rattle.il_machine.specs.Whole.{Steps}
+use Rattle.whole_laws.specs.Bare.{StepsBare}
 use Rattle.il_machine.specs.Sound.{Sound}
 use Rattle.std.proofs.lemmas.Bool.Decides.{nat_tests}
 use Rattle.il_machine.specs.Kinds.{ports_in}
@@ -77,7 +77,7 @@ module _ {C : Type 0} (progress : C → Progress) (i j : ℕ) (e d e' d' : Entry
   still : (es : List (Entry C)) → AreReplaced es i j e d e' d' → slice_get (set es i e') j ≡ Some d
   still es R = get_set_other es i j e' (λ q. R.apart (sym q)) ∙ R.second
 
-  pub steps_both : (g : Entries C) → AreReplaced g.entries i j e d e' d' → Steps (kept progress g) (kept progress (changed_at j d' (changed_at i e' g))) (λ w v. v ≡ both_set w)
+  pub steps_both : (g : Entries C) → AreReplaced g.entries i j e d e' d' → StepsBare (kept progress g) (kept progress (changed_at j d' (changed_at i e' g))) (λ w v. v ≡ both_set w)
   steps_both g R =
       let a = kept progress g in
       let b = kept progress (changed_at i e' g) in
@@ -183,7 +183,7 @@ pub port_below : (c : Component) (s : Stocked) (index : ℕ) (p : Port) → HasA
 port_below c s index p H e = subst (λ (n : ℕ). index < n) H.many (slice_get_within (ports_of c) index p e)
 
 pub both_changed : {C : Type 0} (progress : C → Progress) (g : Entries C) (i j : ℕ) (e d e' d' : Entry C) (c b : Component) → AreReplaced g.entries i j e d e' d' → component_of e' ≡ c → component_of d' ≡ b
-    → Steps (kept progress g) (kept progress (changed_at j d' (changed_at i e' g))) (λ w v. v ≡ with_component j b (with_component i c w))
+    → StepsBare (kept progress g) (kept progress (changed_at j d' (changed_at i e' g))) (λ w v. v ≡ with_component j b (with_component i c w))
 both_changed progress g i j e d e' d' c b R x y =
     as_change (kept progress g) (kept progress (changed_at j d' (changed_at i e' g))) (λ w v. v ≡ both_set progress i j e d e' d' w) (λ w v. v ≡ with_component j b (with_component i c w)) (steps_both progress i j e d e' d' g R)
     (λ w v s f. f ∙ (λ k. with_component j (y k) (with_component i (x k) w)))

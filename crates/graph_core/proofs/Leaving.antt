@@ -14,7 +14,8 @@ use Rattle.il_machine.specs.Ports.{is_joined, unmade}
 use Rattle.il_machine.specs.Due.{each_port}
 use Rattle.il_machine.specs.Stock.{Stocked, removed}
 use Rattle.il_machine.specs.Components.{free_refusal, without_component}
-use Rattle.il_machine.specs.Whole.{Kept, Steps}
+use Rattle.il_machine.specs.Whole.{Kept}
+use Rattle.whole_laws.specs.Bare.{StepsBare}
 use Rattle.il_machine.specs.Sound.{Sound}
 use Rattle.machine_laws.proofs.Accepting.{passed, not_either}
 use Rattle.machine_laws.proofs.Coming.{free_handle_passes, sound_removed}
@@ -24,7 +25,6 @@ use Rattle.machine_laws.proofs.Keys.{key_is}
 use Rattle.machine_laws.proofs.Lookups.{port_at_is, port_parts}
 use Rattle.machine_laws.proofs.Pairs.{apart_numbers}
 use Rattle.whole_laws.proofs.Lists.{map_remove}
-use Rattle.whole_laws.specs.Entries.{no_part}
 use Rattle.whole_laws.proofs.Entries.{held_removed}
 use Rattle.whole_laws.proofs.Noting.{IsOnly}
 use Rattle.whole_laws.proofs.Making.{with_removed, lift_removed}
@@ -33,7 +33,7 @@ use Rattle.port_stock.specs.Kept.{Kept as StockKept, stocked}
 use Rattle.port_stock.specs.Conditions.{IsUnmade, has_key}
 use Rattle.il_component.specs.Entries.{Entry, component_of}
 use Rattle.graph_core.specs.Standing.{HasPorts, SoundWorld}
-use Rattle.graph_core.specs.Entries.{Entries, components_of, no_parts, held_by, noticed_in, progress_at, kept, look_of}
+use Rattle.graph_core.specs.Entries.{Entries, components_of, held_by, noticed_in, progress_at, kept, look_of}
 use Rattle.graph_core.proofs.Adding.{none_made}
 use Rattle.graph_core.proofs.Replacing.{next_world, there}
 
@@ -103,19 +103,18 @@ module _ {C : Type 0} (progress : C → Progress) (g : Entries C) (i : ℕ) (e :
   kept_left t q =
       let cs : components_of (remove g.entries i) ≡ remove (components_of g.entries) i = map_remove component_of g.entries i in
       let cl : map (progress_at progress) (remove g.entries i) ≡ remove (map (progress_at progress) g.entries) i = map_remove (progress_at progress) g.entries i in
-      let ps : no_parts (remove g.entries i) ≡ remove (no_parts g.entries) i = map_remove (λ (x : Entry C). Some no_part) g.entries i in
       λ j. record {
         looks = record { key = (q j).key; components = cs j; headers = (q j).headers; units = g.units; waits = g.waits; numbered = g.numbered; made = (q j).next };
         clients = cl j;
         loads = (q j).loads;
         noticed = noticed_in (remove g.entries i);
-        parts = ps j;
+        parts = [];
       }
 
   pub steps_left : (t : StockKept) → stocked t ≡ removed (number_of (component_of e)) (stocked g.stock)
-      → Steps (kept progress g) (kept progress (record { entries = remove g.entries i; stock = t; units = g.units; waits = g.waits; numbered = g.numbered })) (λ w v. v ≡ without_component i (component_of e) w)
+      → StepsBare (kept progress g) (kept progress (record { entries = remove g.entries i; stock = t; units = g.units; waits = g.waits; numbered = g.numbered })) (λ w v. v ≡ without_component i (component_of e) w)
   steps_left t q =
-      subst (λ (k : Kept). Steps (kept progress g) k (λ w v. v ≡ without_component i (component_of e) w)) (sym (kept_left t q))
+      subst (λ (k : Kept). StepsBare (kept progress g) k (λ w v. v ≡ without_component i (component_of e) w)) (sym (kept_left t q))
       (lift_removed (kept progress g) i (component_of e) (noticed_in (remove g.entries i)) (there progress g i e at) only (λ P A. held_removed held_by P g.entries i A))
 
   pub worlds_left : (t : StockKept) → stocked t ≡ removed (number_of (component_of e)) (stocked g.stock) → SoundWorld (kept progress (record { entries = remove g.entries i; stock = t; units = g.units; waits = g.waits; numbered = g.numbered }))

@@ -30,6 +30,13 @@ pub mod Peers
 pub mod SupplyTests
 pub mod Supplied
 pub mod Released
+pub mod Filing
+pub mod Lent
 pub mod Picked
 pub mod Claimed
 pub mod Carried
+pub mod Landed
+pub mod Ways
+pub mod Returned
+pub mod Finished
+pub mod Announced

@@ -10,7 +10,7 @@ use Rattle.il_machine.specs.Headers.{seen, find_header, is_for, unchanged, Once}
 use Rattle.il_machine.specs.Ports.{is_input_port}
 use Rattle.il_machine.specs.Flow.{front_put, handed_back, handed_over, returned}
 use Rattle.il_machine.specs.Sound.{Sound, port_at}
-use Rattle.il_machine.specs.Whole.{Stands, Steps}
+use Rattle.whole_laws.specs.Bare.{StandsBare, StepsBare}
 use Rattle.machine_laws.proofs.Keys.{there_is}
 use Rattle.machine_laws.proofs.Flowing.{sound_handed_over, sound_returned}
 use Rattle.machine_laws.proofs.Listed.{todo_in, done_in}
@@ -35,24 +35,24 @@ use Rattle.graph_core.proofs.Stepping.{at_world, same_made, stock_of, with_stock
 
 module _ {C : Type 0} (progress : C → Progress) (g : Entries C) (after : StockKept) (change : World → World) (M : Moves change (stocked g.stock) (stocked after)) (alone : (w : World) → change w ≡ record w { headers = (change w).headers })
     (keeps : (w : World) (m : ℕ) → Once w.headers → IsNoted w.headers m → find_header m (change w).headers ≡ find_header m w.headers) where
-  pub moved_steps : Steps (kept progress g) (kept progress (with_stocked progress after g)) (λ w v. v ≡ change w)
+  pub moved_steps : StepsBare (kept progress g) (kept progress (with_stocked progress after g)) (λ w v. v ≡ change w)
   moved_steps = λ w S.
       let x = lift_stock (kept progress g) (stocked after) (λ w. (change w).headers) M.key
       (λ w S. M.stands w (stands_for (stocked g.stock) (kept progress g) w (stock_of progress g) S))
       (λ w S. λ j h b. let r = there_is (find_header _ w.headers) _ (S.noticed j h b).1 in keeps w _ S.once (record { header = r.0; found = r.1; notice = r.2.1 })) w S in
       (x.0, x.1, x.2 ∙ (ap (λ (n : ℕ). with_headers (change w).headers n w) M.next ∙ (same_made progress g w (change w).headers S ∙ sym (alone w))))
 
-  pub moved_worlds : SoundWorld (kept progress g) → ((w : World) → Stands (kept progress g) w → Sound w → Sound (change w)) → SoundWorld (kept progress (with_stocked progress after g))
+  pub moved_worlds : SoundWorld (kept progress g) → ((w : World) → StandsBare (kept progress g) w → Sound w → Sound (change w)) → SoundWorld (kept progress (with_stocked progress after g))
   moved_worlds W sound = next_world (kept progress g) (kept progress (with_stocked progress after g)) (λ w v. v ≡ change w) W moved_steps (λ w v S f h. subst Sound (sym f) (sound w S h))
 
 module _ {C : Type 0} (progress : C → Progress) (g : Entries C) (i : ℕ) (e : Entry C) (index : ℕ) (p : Port) (W : SoundWorld (kept progress g)) (at : slice_get g.entries i ≡ Some e) (port : port_of (component_of e) index ≡ Some p) where
   abbrev pub Clause : Entries C → (Component → Port → World → World) → Type 0
-  Clause after change = MatchOption (component_at i g) ⊥ (λ c. MatchOption (port_of c index) ⊥ (λ p. Steps (kept progress g) (kept progress after) (λ w v. v ≡ change c p w)))
+  Clause after change = MatchOption (component_at i g) ⊥ (λ c. MatchOption (port_of c index) ⊥ (λ p. StepsBare (kept progress g) (kept progress after) (λ w v. v ≡ change c p w)))
 
-  clause_from : (after : Entries C) (change : Component → Port → World → World) → Steps (kept progress g) (kept progress after) (λ w v. v ≡ change (component_of e) p w) → Clause after change
+  clause_from : (after : Entries C) (change : Component → Port → World → World) → StepsBare (kept progress g) (kept progress after) (λ w v. v ≡ change (component_of e) p w) → Clause after change
   clause_from after change f = rw (there progress g i e at, port) f
 
-  clause_to : (after : Entries C) (change : Component → Port → World → World) → Clause after change → Steps (kept progress g) (kept progress after) (λ w v. v ≡ change (component_of e) p w)
+  clause_to : (after : Entries C) (change : Component → Port → World → World) → Clause after change → StepsBare (kept progress g) (kept progress after) (λ w v. v ≡ change (component_of e) p w)
   clause_to after change f = rw (there progress g i e at, port) at f
 
   -- ---- the port isn't joined
@@ -66,7 +66,7 @@ module _ {C : Type 0} (progress : C → Progress) (g : Entries C) (i : ℕ) (e :
   pub noticed_back : p.state.link ≡ None → (after : Entries C) → Clause after (λ c p. handed_back i c p None) → Clause after (λ c p. handed_back i c p p.state.link)
   noticed_back l after f =
       let s = clause_to after (λ c p. handed_back i c p None) f in
-      clause_from after (λ c p. handed_back i c p p.state.link) (subst (λ (o : Option Link). Steps (kept progress g) (kept progress after) (λ w v. v ≡ handed_back i (component_of e) p o w)) (sym l) s)
+      clause_from after (λ c p. handed_back i c p p.state.link) (subst (λ (o : Option Link). StepsBare (kept progress g) (kept progress after) (λ w v. v ≡ handed_back i (component_of e) p o w)) (sym l) s)
 
   -- ---- the port is one end of a tunnel
 

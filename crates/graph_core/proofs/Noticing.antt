@@ -19,7 +19,8 @@ use Rattle.il_machine.specs.Headers.{Seen, seen, find_header, changed, cleared, 
 use Rattle.il_machine.specs.Buffers.{held, load_in}
 use Rattle.il_machine.specs.Flow.{done_note, noticed, handed_back}
 use Rattle.il_machine.specs.Stock.{Stocked, given, pulled, pulled_front, state_out}
-use Rattle.il_machine.specs.Whole.{Kept, Noticed, Stands, Steps, IsNoticed}
+use Rattle.il_machine.specs.Whole.{Kept, Noticed, IsNoticed}
+use Rattle.whole_laws.specs.Bare.{StandsBare, StepsBare}
 use Rattle.il_machine.specs.Sound.{Sound}
 use Rattle.machine_laws.proofs.Facts.{notes_fewer}
 use Rattle.machine_laws.proofs.Finding.{changed_else, changed_same, found_number}
@@ -42,7 +43,7 @@ use Rattle.port_stock.specs.Kept.{Kept as StockKept, stocked}
 use Rattle.port_stock.specs.Conditions.{IsFrom, IsOut, IsOutside, IsHeaderOf}
 use Rattle.graph_core.specs.Standing.{SoundWorld}
 use Rattle.graph_core.specs.Entries.{Entries, components_of, look_of, noticed_in, held_by, progress_at, kept, changed_at, component_at}
-use Rattle.graph_core.proofs.Replacing.{there, next_world, parts_set}
+use Rattle.graph_core.proofs.Replacing.{there, next_world}
 use Rattle.graph_core.proofs.Stepping.{at_world, with_stocked, stock_of, stock_steps, made_is, made_of, seen_of}
 
 -- ---- lists
@@ -104,9 +105,9 @@ module _ {C : Type 0} (progress : C → Progress) (g : Entries C) (i : ℕ) (e :
   s = stocked g.stock
 
   abbrev pub Clause : Entries C → Type 0
-  Clause after = MatchOption (component_at i g) ⊥ (λ c. MatchOption (port_of c index) ⊥ (λ p. Steps (kept progress g) (kept progress after) (λ w v. v ≡ handed_back i c p None w)))
+  Clause after = MatchOption (component_at i g) ⊥ (λ c. MatchOption (port_of c index) ⊥ (λ p. StepsBare (kept progress g) (kept progress after) (λ w v. v ≡ handed_back i c p None w)))
 
-  clause_from : (after : Entries C) → Steps (kept progress g) (kept progress after) (λ w v. v ≡ handed_back i c p None w) → Clause after
+  clause_from : (after : Entries C) → StepsBare (kept progress g) (kept progress after) (λ w v. v ≡ handed_back i c p None w) → Clause after
   clause_from after f = rw (there progress g i e at, port) f
 
   -- ---- todo is empty
@@ -138,7 +139,7 @@ module _ {C : Type 0} (progress : C → Progress) (g : Entries C) (i : ℕ) (e :
     todo_is : s.headers.todo p.key ≡ n ∷ rest
     todo_is = (first_number (s.headers.todo p.key) n front).1
 
-    world_todo : (w : World) → Stands (kept progress g) w → (seen w.headers).todo p.key ≡ n ∷ rest
+    world_todo : (w : World) → StandsBare (kept progress g) w → (seen w.headers).todo p.key ≡ n ∷ rest
     world_todo w S = ap (λ (x : Seen). x.todo p.key) (seen_of progress g w S) ∙ todo_is
 
     pub fewer_notes : header_notes e.queues < 32 * ports_in e.settings.kind
@@ -172,7 +173,7 @@ module _ {C : Type 0} (progress : C → Progress) (g : Entries C) (i : ℕ) (e :
     key_is : after_pull.key ≡ s.key
     key_is = pulled_key p.key (s.headers.todo p.key) s
 
-    steps_stock : Steps (kept progress g) (with_stock after_pull (kept progress g)) (λ w v. v ≡ with_headers (changed n moved w.headers) after_pull.next w)
+    steps_stock : StepsBare (kept progress g) (with_stock after_pull (kept progress g)) (λ w v. v ≡ with_headers (changed n moved w.headers) after_pull.next w)
     steps_stock = lift_one (kept progress g) s after_pull n (changed n moved) (stock_of progress g) key_is free
         (λ hs S. pull_give s hs p.key owner n rest S todo_is)
         (λ hs S. λ m d. changed_else moved (λ r. refl) n m hs d)
@@ -208,11 +209,11 @@ module _ {C : Type 0} (progress : C → Progress) (g : Entries C) (i : ℕ) (e :
           clients = cl j;
           loads = (now j).loads;
           noticed = noticed_in (set g.entries i with_note);
-          parts = parts_set progress g.entries i with_note j;
+          parts = [];
         }
 
     -- the header of the note is the world's
-    header_noticed : (w v : World) → Stands (kept progress g) w → v.key ≡ w.key → v.headers ≡ changed n moved w.headers → IsNoticed v (noticed_of (emptied_header header))
+    header_noticed : (w v : World) → StandsBare (kept progress g) w → v.key ≡ w.key → v.headers ≡ changed n moved w.headers → IsNoticed v (noticed_of (emptied_header header))
     header_noticed w v S own q =
         let T = pull_taken s w.headers p.key n rest (stands_for s (kept progress g) w (stock_of progress g) S) todo_is in
         let r = T.found.it in
@@ -227,7 +228,7 @@ module _ {C : Type 0} (progress : C → Progress) (g : Entries C) (i : ℕ) (e :
         let k : header.key ≡ v.key = outside.0 ∙ (pulled_key p.key (s.headers.todo p.key) s ∙ sym (own ∙ ap (λ (l : Look). l.key) S.looks)) in
         (k, rw f (h, refl, o))
 
-    steps_noted : (after_stock : StockKept) → stocked after_stock ≡ after_pull → Steps (kept progress g) (kept progress (after after_stock)) (λ w v. v ≡ noticed i c p (n ∷ rest) w)
+    steps_noted : (after_stock : StockKept) → stocked after_stock ≡ after_pull → StepsBare (kept progress g) (kept progress (after after_stock)) (λ w v. v ≡ noticed i c p (n ∷ rest) w)
     steps_noted after_stock now = λ w S.
         let x = steps_stock w S in
         let y = lift_component (with_stock after_pull (kept progress g)) i c (machine.noted note c) (there progress g i e at) (record { number = refl; kind = refl; file = refl; failed = refl; work = refl }) refl x.0 x.1 in
@@ -238,7 +239,7 @@ module _ {C : Type 0} (progress : C → Progress) (g : Entries C) (i : ℕ) (e :
         let q : held_by with_note ≡ held_in e.queues.notes ++ noticed_of (emptied_header header) ∷ [] = held_append e.queues.notes (queued ∷ []) ∙ ap (λ (hs : List Noticed). held_in e.queues.notes ++ hs) (held_is p.setting.definition.input (emptied_header header)) in
         subst (λ (hs : List Noticed). All (IsNoticed y.0) hs) (sym q) (All-push (IsNoticed y.0) (held_in e.queues.notes) (noticed_of (emptied_header header)) A own) in
         let N : All (IsNoticed y.0) (noticed_in (set g.entries i with_note)) = held_set held_by (IsNoticed y.0) g.entries i e with_note at more y.1.noticed in
-        (y.0, subst (λ (z : Kept). Stands z y.0) (sym (kept_noted after_stock now)) (renoticed middle (noticed_in (set g.entries i with_note)) y.0 y.1 N), is)
+        (y.0, subst (λ (z : Kept). StandsBare z y.0) (sym (kept_noted after_stock now)) (renoticed middle (noticed_in (set g.entries i with_note)) y.0 y.1 N), is)
 
     noticed_returns : (after_stock : StockKept) → stocked after_stock ≡ after_pull → Clause (after after_stock)
     noticed_returns after_stock now = clause_from (after after_stock) (λ w S.

@@ -55,7 +55,7 @@ pulled_stays : (key : PortKey) (ns : List ℕ) (s : Stocked) → Stays s (pulled
 pulled_stays key [] s = stays s
 pulled_stays key (n ∷ ns) s = record { key = refl; ports = refl; next = refl }
 
-given_stays : (key : PortKey) (ns : List ℕ) (s : Stocked) → Stays s (front_given key ns s)
+pub given_stays : (key : PortKey) (ns : List ℕ) (s : Stocked) → Stays s (front_given key ns s)
 given_stays key [] s = stays s
 given_stays key (n ∷ ns) s = let P = pulled_stays key (s.headers.todo key) s in record { key = P.key; ports = P.ports; next = P.next }
 

@@ -10,7 +10,7 @@ use Rattle.il_machine.specs.Look.{Look}
 use Rattle.il_machine.specs.Ports.{is_supplier, leaving}
 use Rattle.il_machine.specs.Flow.{front_unmade, in_port, release_idle}
 use Rattle.il_machine.specs.Stock.{Stocked, StandsFor, withdrawn}
-use Rattle.il_machine.specs.Whole.{Stands, Steps}
+use Rattle.whole_laws.specs.Bare.{StandsBare, StepsBare}
 use Rattle.il_machine.specs.Sound.{Sound}
 use Rattle.machine_laws.proofs.Accepting.{passed}
 use Rattle.machine_laws.proofs.Finding.{without_else}
@@ -72,7 +72,7 @@ module _ {C : Type 0} (progress : C → Progress) (g : Entries C) (i : ℕ) (e :
     abbrev rest : List ℕ
     rest = (first_number (in_port s.headers p) n front).0
 
-    world_front : (w : World) → Stands (kept progress g) w → in_port (seen w.headers) p ≡ n ∷ rest
+    world_front : (w : World) → StandsBare (kept progress g) w → in_port (seen w.headers) p ≡ n ∷ rest
     world_front w S = ap (λ (x : Seen). in_port x p) (seen_of progress g w S) ∙ (first_number (in_port s.headers p) n front).1
 
     -- the port has the header
@@ -89,7 +89,7 @@ module _ {C : Type 0} (progress : C → Progress) (g : Entries C) (i : ℕ) (e :
     abbrev Change : World → World → Type 0
     Change w v = v ≡ front_unmade (in_port (seen w.headers) p) w
 
-    released_steps : Steps (kept progress g) (kept progress (with_stocked progress after_stock g)) Change
+    released_steps : StepsBare (kept progress g) (kept progress (with_stocked progress after_stock g)) Change
     released_steps = stock_steps progress g after_stock (withdrawn n (front_left p.key s)) Change now
         (λ w S.
         let x = lift_one (kept progress g) s (withdrawn n (front_left p.key s)) n (without n) (stock_of progress g) (left_key p.key (s.headers.todo p.key) (s.headers.done p.key) s refl) free
@@ -100,7 +100,7 @@ module _ {C : Type 0} (progress : C → Progress) (g : Entries C) (i : ℕ) (e :
         ap (λ (m : ℕ). with_headers (without n w.headers) m w) k ∙ made_is progress w (without n w.headers) s.next (made_of progress g w S) in
         (x.0, x.1, x.2 ∙ (y ∙ ap (λ (ns : List ℕ). front_unmade ns w) (sym (world_front w S)))))
 
-    pub released_returns : MatchOption (component_at i g) ⊥ (λ c. MatchOption (port_of c index) ⊥ (λ p. Steps (kept progress g) (kept progress (with_stocked progress after_stock g)) (λ w v. v ≡ front_unmade (in_port (seen w.headers) p) w)))
+    pub released_returns : MatchOption (component_at i g) ⊥ (λ c. MatchOption (port_of c index) ⊥ (λ p. StepsBare (kept progress g) (kept progress (with_stocked progress after_stock g)) (λ w v. v ≡ front_unmade (in_port (seen w.headers) p) w)))
     released_returns = rw (there progress g i e at, port) released_steps
 
     pub released_worlds : SoundWorld (kept progress (with_stocked progress after_stock g))

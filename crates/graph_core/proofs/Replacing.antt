@@ -1,5 +1,5 @@
 -- One component of a graph is replaced: what is kept then, and the worlds that it stands for.
-use Rattle.std.proofs.Common.{◌≡◌, ◌≢◌, inl, inr, MatchOption, IsSomeAnd, ℕ, zero, suc, ◌+◌, Bool, ◌<◌, ◌≤◌, List, [], ◌∷◌, length, set, map, Option, Some, option_map, slice_get, is_none, refl, sym, ◌∙◌, ap, subst, length-set}
+use Rattle.std.proofs.Common.{◌≡◌, ◌≢◌, inl, inr, MatchOption, IsSomeAnd, ℕ, ◌+◌, Bool, ◌<◌, ◌≤◌, List, [], ◌∷◌, length, set, map, Option, Some, option_map, slice_get, is_none, refl, sym, ◌∙◌, ap, subst, length-set}
 use Rattle.std.proofs.lemmas.Option.{slice_get-map, slice_get_within, get_or_from_slice_get}
 use Rattle.std.proofs.lemmas.List.{length-map}
 use Rattle.std.proofs.lemmas.Bool.Decides.{eqb_tells}
@@ -17,27 +17,21 @@ use Rattle.il_machine.specs.Places.{first_place}
 use Rattle.il_machine.proofs.Places.{is_first_place}
 use Rattle.il_machine.specs.Look.{Look, look}
 use Rattle.il_machine.specs.Units.{free_units}
-use Rattle.il_machine.specs.Whole.{Kept, PartSeen, Stands, Steps}
+use Rattle.il_machine.specs.Whole.{Kept}
+use Rattle.whole_laws.specs.Bare.{StandsBare, StepsBare}
 use Rattle.il_machine.specs.Sound.{Sound, IsSound}
 use Rattle.whole_laws.proofs.Lists.{map_set, get_set_same, get_set_other}
 use Rattle.whole_laws.proofs.Entries.{set_same, held_same}
-use Rattle.whole_laws.specs.Entries.{no_part}
 use Rattle.whole_laws.specs.Parts.{KeepsPart}
 use Rattle.whole_laws.proofs.Lifting.{with_look, lift_component}
 use Rattle.il_component.specs.Entries.{Entry, component_of, KeepsNotices}
 use Rattle.graph_core.specs.Standing.{SoundWorld, HasPorts, IsGraph}
 use Rattle.graph_core.proofs.Registering.{set_sound, some_within}
-use Rattle.graph_core.specs.Entries.{Entries, components_of, look_of, no_parts, waiters, noticed_in, held_by, progress_at, kept, changed_at, component_at, entry_place, is_entry_at}
+use Rattle.graph_core.specs.Entries.{Entries, components_of, look_of, waiters, noticed_in, held_by, progress_at, kept, changed_at, component_at, entry_place, is_entry_at}
 
 module _ {C : Type 0} (progress : C → Progress) where
   progress_kept : (e d : Entry C) → KeepsNotices e d → progress_at progress d ≡ progress_at progress e
   progress_kept e d N = ap (λ (x : Option C). option_map progress x) N.client
-
-  -- the parts are alike
-  pub parts_set : (es : List (Entry C)) (i : ℕ) (d : Entry C) → no_parts (set es i d) ≡ no_parts es
-  parts_set [] i d = refl
-  parts_set (e ∷ es) zero d = refl
-  parts_set (e ∷ es) (suc i) d = ap (λ (xs : List (Option PartSeen)). Some no_part ∷ xs) (parts_set es i d)
 
   pub kept_changed : (g : Entries C) (i : ℕ) (e d : Entry C) → slice_get g.entries i ≡ Some e → KeepsNotices e d → kept progress (changed_at i d g) ≡ with_look i (component_of d) (kept progress g)
   kept_changed g i e d at N =
@@ -46,13 +40,12 @@ module _ {C : Type 0} (progress : C → Progress) where
       let cl : map (progress_at progress) (set g.entries i d) ≡ map (progress_at progress) g.entries =
       map_set (progress_at progress) g.entries i d ∙ (ap (λ (x : Option Progress). set (map (progress_at progress) g.entries) i x) (progress_kept e d N) ∙ set_same (map (progress_at progress) g.entries) i (progress_at progress e) there) in
       let ns : noticed_in (set g.entries i d) ≡ noticed_in g.entries = held_same held_by g.entries i e d at N.headers in
-      let ps : no_parts (set g.entries i d) ≡ no_parts g.entries = parts_set g.entries i d in
       λ j. record {
         looks = record (look_of g) { components = cs j };
         clients = cl j;
         loads = (kept progress g).loads;
         noticed = ns j;
-        parts = ps j;
+        parts = [];
       }
 
   pub there : (g : Entries C) (i : ℕ) (e : Entry C) → slice_get g.entries i ≡ Some e → component_at i g ≡ Some (component_of e)
@@ -60,13 +53,13 @@ module _ {C : Type 0} (progress : C → Progress) where
 
   -- the component of the place becomes d's, in each world
   pub steps_changed : (g : Entries C) (i : ℕ) (e d : Entry C) → slice_get g.entries i ≡ Some e → KeepsNotices e d → KeepsPart (component_of e) (component_of d)
-      → Steps (kept progress g) (kept progress (changed_at i d g)) (λ w v. v ≡ with_component i (component_of d) w)
+      → StepsBare (kept progress g) (kept progress (changed_at i d g)) (λ w v. v ≡ with_component i (component_of d) w)
   steps_changed g i e d at N K =
-      subst (λ (k : Kept). Steps (kept progress g) k (λ w v. v ≡ with_component i (component_of d) w)) (sym (kept_changed g i e d at N))
+      subst (λ (k : Kept). StepsBare (kept progress g) k (λ w v. v ≡ with_component i (component_of d) w)) (sym (kept_changed g i e d at N))
       (lift_component (kept progress g) i (component_of e) (component_of d) (there g i e at) K (ap (λ (x : Option C). is_none x) N.client))
 
 -- what a step leaves stands for a sound world, if the step keeps a world sound
-pub next_world : (a b : Kept) (F : World → World → Type 0) → SoundWorld a → Steps a b F → ((w v : World) → Stands a w → F w v → Sound w → Sound v) → SoundWorld b
+pub next_world : (a b : Kept) (F : World → World → Type 0) → SoundWorld a → StepsBare a b F → ((w v : World) → StandsBare a w → F w v → Sound w → Sound v) → SoundWorld b
 next_world a b F S f keeps = let x = f S.world S.stands in record { world = x.0; stands = x.1; sound = keeps S.world x.0 S.stands x.2 S.sound }
 
 -- ---- what is true of a graph stays when one of its components changes
@@ -84,7 +77,7 @@ module _ {C : Type 0} (progress : C → Progress) where
       subst IsSound (get_or_from_slice_get W.world.components i c c h) (W.sound.components i c b)
 
   pub changed_worlds : (g : Entries C) (i : ℕ) (e d : Entry C) → SoundWorld (kept progress g) → slice_get g.entries i ≡ Some e → KeepsNotices e d → KeepsPart (component_of e) (component_of d) → IsChange (component_of e) (component_of d) → IsSound (component_of d)
-      → ((w : World) → Stands (kept progress g) w → Sound w → IsFair (free_units (look w)) w.waits w.waits (component_of e) (component_of d)) → SoundWorld (kept progress (changed_at i d g))
+      → ((w : World) → StandsBare (kept progress g) w → Sound w → IsFair (free_units (look w)) w.waits w.waits (component_of e) (component_of d)) → SoundWorld (kept progress (changed_at i d g))
   changed_worlds g i e d W at N K X S F = next_world (kept progress g) (kept progress (changed_at i d g)) (λ w v. v ≡ with_component i (component_of d) w) W
       (steps_changed progress g i e d at N K)
       (λ w v s f sound.
@@ -107,7 +100,7 @@ module _ {C : Type 0} (progress : C → Progress) where
   }
 
   pub graph_changed : (es : List (Entry C)) (registry : Handles ℕ) (stock : StockKept) (units waits capacity i : ℕ) (e d : Entry C) → IsGraph progress es registry stock units waits capacity → slice_get es i ≡ Some e → KeepsNotices e d → KeepsPart (component_of e) (component_of d) → IsChange (component_of e) (component_of d) → IsSound (component_of d)
-      → ((w : World) → Stands (kept progress (record { entries = es; stock = stock; units = units; waits = waits; numbered = registry.given })) w → Sound w → IsFair (free_units (look w)) w.waits w.waits (component_of e) (component_of d))
+      → ((w : World) → StandsBare (kept progress (record { entries = es; stock = stock; units = units; waits = waits; numbered = registry.given })) w → Sound w → IsFair (free_units (look w)) w.waits w.waits (component_of e) (component_of d))
       → waits + waiters (set es i d) ≤ 18446744073709551615
       → IsGraph progress (set es i d) registry stock units waits capacity
   graph_changed es registry stock units waits capacity i e d G at N K X S F few = record {
@@ -121,8 +114,8 @@ module _ {C : Type 0} (progress : C → Progress) where
 
   -- the clause of a change of one component
   pub returns_changed : (g : Entries C) (i : ℕ) (e d : Entry C) (F : World → Component → Component) → slice_get g.entries i ≡ Some e → KeepsNotices e d → KeepsPart (component_of e) (component_of d)
-      → ((w : World) → Stands (kept progress g) w → component_of d ≡ F w (component_of e))
-      → MatchOption (component_at i g) ⊥ (λ c. Steps (kept progress g) (kept progress (changed_at i d g)) (λ w v. v ≡ with_component i (F w c) w))
+      → ((w : World) → StandsBare (kept progress g) w → component_of d ≡ F w (component_of e))
+      → MatchOption (component_at i g) ⊥ (λ c. StepsBare (kept progress g) (kept progress (changed_at i d g)) (λ w v. v ≡ with_component i (F w c) w))
   returns_changed g i e d F at N K f =
       rw (there progress g i e at) (as_change (kept progress g) (kept progress (changed_at i d g)) (λ w v. v ≡ with_component i (component_of d) w) (λ w v. v ≡ with_component i (F w (component_of e)) w)
       (steps_changed progress g i e d at N K) (λ w v s h. h ∙ ap (λ (c : Component). with_component i c w) (f w s)))

@@ -16,7 +16,8 @@ use Rattle.il_machine.specs.World.{Component, Given, World, number_of, with_comp
 use Rattle.il_machine.specs.Look.{Look}
 use Rattle.il_machine.specs.Components.{noted_by, progress_of, progress_after, is_given_to, no_progress}
 use Rattle.il_machine.specs.Notes.{back_in}
-use Rattle.il_machine.specs.Whole.{Kept, Stands, StepsWhere}
+use Rattle.il_machine.specs.Whole.{Kept}
+use Rattle.whole_laws.specs.Bare.{StandsBare, StepsBareWhere}
 use Rattle.il_machine.specs.Sound.{Sound}
 use Rattle.machine_laws.proofs.Notices.{sound_ended}
 use Rattle.whole_laws.proofs.Entries.{held_same}
@@ -29,7 +30,7 @@ use Rattle.il_component.specs.Entries.{Entry, component_of}
 use Rattle.graph_core.specs.Clients.{IsPortDone}
 use Rattle.graph_core.specs.Standing.{SoundWorld}
 use Rattle.graph_core.specs.Entries.{Entries, components_of, look_of, noticed_in, held_by, progress_at, kept, changed_at, component_at}
-use Rattle.graph_core.proofs.Replacing.{there, parts_set}
+use Rattle.graph_core.proofs.Replacing.{there}
 use Rattle.graph_core.proofs.Stepping.{at_world, only, numbered_before}
 
 -- ---- notes that come to a progress
@@ -130,13 +131,13 @@ all_below n k [] b = All-nil (λ g. g.component < k)
 all_below n k (note ∷ ns) b = All-cons (λ g. g.component < k) (record { component = n; note = note }) (given_as n ns) b (all_below n k ns b)
 
 -- the component's notes were others, which come to the progress
-abbrev given_for : ℕ → Progress → List Given → List Given
+abbrev pub given_for : ℕ → Progress → List Given → List Given
 given_for n p gs = without_own n gs ++ given_as n (notes_for p)
 
-abbrev regiven : ℕ → Progress → World → World
+abbrev pub regiven : ℕ → Progress → World → World
 regiven n p w = record w { given = given_for n p w.given }
 
-own_progress : (c : Component) (p : Progress) (w : World) → IsPortDone p.port → p ≡ progress_of c (regiven (number_of c) p w)
+pub own_progress : (c : Component) (p : Progress) (w : World) → IsPortDone p.port → p ≡ progress_of c (regiven (number_of c) p w)
 own_progress c p w d =
     let n = number_of c in
     let e : filter (is_given_to n) (given_for n p w.given) ≡ given_as n (notes_for p) =
@@ -150,7 +151,7 @@ other_progress d n p w a =
     filter-append (is_given_to m) (without_own n w.given) (given_as n (notes_for p)) ∙ rw (none_own m n (notes_for p) a, others_left m n w.given a) (append-nil _) in
     ap (λ (gs : List Given). progress_after gs no_progress) e
 
-regiven_stands : (k : Kept) (w : World) (i : ℕ) (c : Component) (p : Progress) → Stands k w → slice_get w.components i ≡ Some c → c.client_out ≡ true → IsOnly i c w.components → number_of c < w.numbered → Stands k (regiven (number_of c) p w)
+pub regiven_stands : (k : Kept) (w : World) (i : ℕ) (c : Component) (p : Progress) → StandsBare k w → slice_get w.components i ≡ Some c → c.client_out ≡ true → IsOnly i c w.components → number_of c < w.numbered → StandsBare k (regiven (number_of c) p w)
 regiven_stands k w i c p S at gone one few = record {
   looks = S.looks;
   loads = S.loads;
@@ -163,7 +164,6 @@ regiven_stands k w i c p S at gone one few = record {
         absurd cc
     | inr q ↦ S.progress j d h out ∙ ap (λ (x : Progress). Some (Some x)) (sym (other_progress d (number_of c) p w (one j d h q.1)))
   ];
-  parts = S.parts;
   streams = S.streams;
   once = S.once;
   given = All-append (λ g. g.component < w.numbered) (without_own (number_of c) w.given) (given_as (number_of c) (notes_for p)) (All-filter (λ g. not (is_given_to (number_of c) g)) (λ g. g.component < w.numbered) w.given S.given) (all_below (number_of c) w.numbered (notes_for p) few);
@@ -188,17 +188,17 @@ module _ {C : Type 0} (progress : C → Progress) (g : Entries C) (i : ℕ) (e :
         clients = cl j;
         loads = (kept progress g).loads;
         noticed = ns j;
-        parts = parts_set progress g.entries i put_back j;
+        parts = [];
       }
 
   abbrev Change : Kept → Type 0
-  Change k = StepsWhere (kept progress g) k (λ w. progress client ≡ progress_of c w) (λ w v. v ≡ with_component i (back_in c) w)
+  Change k = StepsBareWhere (kept progress g) k (λ w. progress client ≡ progress_of c w) (λ w v. v ≡ with_component i (back_in c) w)
 
   steps_back : Change (kept progress (changed_at i put_back g))
   steps_back = subst Change (sym kept_back) (lift_ended (kept progress g) i c (progress client) (progress_at progress e) (there progress g i e at) (slice_get-map (progress_at progress) g.entries i ∙ ap (option_map (progress_at progress)) at))
 
   abbrev Clause : Entries C → Type 0
-  Clause after = MatchOption (component_at i g) ⊥ (λ c. StepsWhere (kept progress g) (kept progress after) (λ w. progress client ≡ progress_of c w) (λ w v. v ≡ with_component i (back_in c) w))
+  Clause after = MatchOption (component_at i g) ⊥ (λ c. StepsBareWhere (kept progress g) (kept progress after) (λ w. progress client ≡ progress_of c w) (λ w v. v ≡ with_component i (back_in c) w))
 
   pub back_returns : (d : Entry C) → d ≡ put_back → Clause (changed_at i d g)
   back_returns d q = subst (λ (x : Entry C). Clause (changed_at i x g)) (sym q) (rw (there progress g i e at) steps_back)

@@ -12,7 +12,8 @@ use Rattle.il_machine.specs.World.{Component, HeaderRecord, World, number_of, po
 use Rattle.il_machine.specs.Headers.{seen}
 use Rattle.il_machine.specs.Look.{Look}
 use Rattle.il_machine.specs.Stock.{Stocked}
-use Rattle.il_machine.specs.Whole.{Noticed, Stands, Steps}
+use Rattle.il_machine.specs.Whole.{Noticed}
+use Rattle.whole_laws.specs.Bare.{StandsBare, StepsBare}
 use Rattle.machine_laws.proofs.Lookups.{rises_at, port_parts}
 use Rattle.machine_laws.proofs.Pairs.{apart_numbers}
 use Rattle.machine_laws.proofs.Parts.{parts_of}
@@ -54,7 +55,7 @@ module _ {E : Type 0} (held : E → List Noticed) (P : Noticed → Type 0) where
 -- ---- the worlds of a graph
 
 module _ {C : Type 0} (progress : C → Progress) where
-  pub at_world : (g : Entries C) (i : ℕ) (e : Entry C) (w : World) → Stands (kept progress g) w → slice_get g.entries i ≡ Some e → slice_get w.components i ≡ Some (component_of e)
+  pub at_world : (g : Entries C) (i : ℕ) (e : Entry C) (w : World) → StandsBare (kept progress g) w → slice_get g.entries i ≡ Some e → slice_get w.components i ≡ Some (component_of e)
   at_world g i e w S at = ap (λ (l : Look). slice_get l.components i) S.looks ∙ there progress g i e at
 
   -- no other component has the number
@@ -78,19 +79,19 @@ module _ {C : Type 0} (progress : C → Progress) where
   pub stock_of : (g : Entries C) → IsStock (stocked g.stock) (kept progress g)
   stock_of g = record { headers = refl; made = refl; loads = refl }
 
-  pub stock_steps : (g : Entries C) (s : StockKept) (t : Stocked) (F : World → World → Type 0) → stocked s ≡ t → Steps (kept progress g) (with_stock t (kept progress g)) F → Steps (kept progress g) (kept progress (with_stocked s g)) F
-  stock_steps g s t F e f = subst (λ (x : Stocked). Steps (kept progress g) (with_stock x (kept progress g)) F) (sym e) f
+  pub stock_steps : (g : Entries C) (s : StockKept) (t : Stocked) (F : World → World → Type 0) → stocked s ≡ t → StepsBare (kept progress g) (with_stock t (kept progress g)) F → StepsBare (kept progress g) (kept progress (with_stocked s g)) F
+  stock_steps g s t F e f = subst (λ (x : Stocked). StepsBare (kept progress g) (with_stock x (kept progress g)) F) (sym e) f
 
   pub made_is : (w : World) (hs : List HeaderRecord) (m : ℕ) → w.made ≡ m → with_headers hs m w ≡ record w { headers = hs }
   made_is w hs m e = ap (λ (k : ℕ). with_headers hs k w) (sym e)
 
-  pub made_of : (g : Entries C) (w : World) → Stands (kept progress g) w → w.made ≡ (stocked g.stock).next
+  pub made_of : (g : Entries C) (w : World) → StandsBare (kept progress g) w → w.made ≡ (stocked g.stock).next
   made_of g w S = ap (λ (l : Look). l.made) S.looks
 
-  pub same_made : (g : Entries C) (w : World) (hs : List HeaderRecord) → Stands (kept progress g) w → with_headers hs (stocked g.stock).next w ≡ record w { headers = hs }
+  pub same_made : (g : Entries C) (w : World) (hs : List HeaderRecord) → StandsBare (kept progress g) w → with_headers hs (stocked g.stock).next w ≡ record w { headers = hs }
   same_made g w hs S = made_is w hs (stocked g.stock).next (made_of g w S)
 
-  pub seen_of : (g : Entries C) (w : World) → Stands (kept progress g) w → seen w.headers ≡ (stocked g.stock).headers
+  pub seen_of : (g : Entries C) (w : World) → StandsBare (kept progress g) w → seen w.headers ≡ (stocked g.stock).headers
   seen_of g w S = ap (λ (l : Look). l.headers) S.looks
 
   -- ---- what is true of a graph

@@ -13,7 +13,7 @@ use Rattle.il_machine.specs.Ports.{accepting, is_supplier, is_input_port}
 use Rattle.il_machine.specs.Buffers.{has_no_number}
 use Rattle.il_machine.specs.Flow.{End, other_end, supply_idle, supplied_by, supplied_place, tunnel_header, with_supplied}
 use Rattle.il_machine.specs.Stock.{Stocked, StandsFor}
-use Rattle.il_machine.specs.Whole.{Steps}
+use Rattle.whole_laws.specs.Bare.{StepsBare}
 use Rattle.il_machine.specs.Sound.{Sound}
 use Rattle.machine_laws.proofs.Accepting.{passed, not_not}
 use Rattle.machine_laws.proofs.ClientHeaders.{accepts_fewer}
@@ -156,7 +156,7 @@ module _ {C : Type 0} (progress : C → Progress) (g : Entries C) (i : ℕ) (e :
         ap (λ (k : ℕ). record w { headers = w.headers ++ record_of k ∷ []; made = k + 1 }) (sym m)
         ∙ ap (λ (rs : List HeaderRecord). record w { headers = w.headers ++ rs; made = w.made + 1 }) (sym f)
 
-    supplied_steps : Steps (kept progress g) (kept progress (with_stocked progress after_stock g)) Change
+    supplied_steps : StepsBare (kept progress g) (kept progress (with_stocked progress after_stock g)) Change
     supplied_steps = stock_steps progress g after_stock (with_supply p peer s) Change now
         (λ w S.
         let free : IsFree s.next s = rw new tt in
@@ -165,7 +165,7 @@ module _ {C : Type 0} (progress : C → Progress) (g : Entries C) (i : ℕ) (e :
         (λ hs T. λ m d. push_else m hs (record_of s.next) (λ q. d (sym q))) w S in
         (x.0, x.1, x.2 ∙ supplied_is w (made_of progress g w S)))
 
-    pub supplied_returns : MatchOption (component_at i g) ⊥ (λ c. MatchOption (port_of c index) ⊥ (λ p. Steps (kept progress g) (kept progress (with_stocked progress after_stock g)) (λ w v. v ≡ with_supplied p w)))
+    pub supplied_returns : MatchOption (component_at i g) ⊥ (λ c. MatchOption (port_of c index) ⊥ (λ p. StepsBare (kept progress g) (kept progress (with_stocked progress after_stock g)) (λ w v. v ≡ with_supplied p w)))
     supplied_returns = rw (there progress g i e at, port) supplied_steps
 
     pub supplied_worlds : SoundWorld (kept progress (with_stocked progress after_stock g))

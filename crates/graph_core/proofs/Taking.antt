@@ -15,7 +15,8 @@ use Rattle.il_machine.specs.Census.{note_numbers, times}
 use Rattle.il_machine.specs.Lists.{holds_at}
 use Rattle.il_machine.specs.Notes.{first_taken, with_given, with_client}
 use Rattle.il_machine.specs.Stock.{given}
-use Rattle.il_machine.specs.Whole.{Kept, Noticed, Stands, Steps, IsNoticed}
+use Rattle.il_machine.specs.Whole.{Kept, Noticed, IsNoticed}
+use Rattle.whole_laws.specs.Bare.{StandsBare, StepsBare}
 use Rattle.il_machine.specs.Sound.{Sound}
 use Rattle.machine_laws.proofs.Facts as facts
 use Rattle.machine_laws.proofs.Facts.{noticed_there}
@@ -43,7 +44,7 @@ use Rattle.port_stock.specs.Conditions.{IsOut}
 use Rattle.graph_core.specs.Standing.{SoundWorld}
 use Rattle.graph_core.specs.Changes.{OnNoNote, Takes, TakesNote}
 use Rattle.graph_core.specs.Entries.{Entries, components_of, look_of, noticed_in, held_by, progress_at, kept, changed_at, component_at}
-use Rattle.graph_core.proofs.Replacing.{there, next_world, parts_set}
+use Rattle.graph_core.proofs.Replacing.{there, next_world}
 use Rattle.graph_core.proofs.Stepping.{at_world, only, numbered_before, with_stocked, stock_of, stock_steps, made_is, made_of, seen_of, held_there, held_each}
 
 -- ---- the queue
@@ -107,7 +108,7 @@ module _ {C : Type 0} (progress : C → Progress) (g : Entries C) (i : ℕ) (e :
         clients = cl j;
         loads = (kept progress g).loads;
         noticed = noticed_in after.entries;
-        parts = parts_set progress g.entries i (left e rest) j;
+        parts = [];
       }
 
   less : (P : Noticed → Type 0) (u : Taken) → All P (held_in (u ∷ rest)) → All P (held_in rest)
@@ -119,12 +120,12 @@ module _ {C : Type 0} (progress : C → Progress) (g : Entries C) (i : ℕ) (e :
   held_less P A = less P t (subst (λ (ns : List Taken). All P (held_in ns)) was A)
 
   -- the note is given
-  pub steps_given : Steps (kept progress g) (kept progress after) (λ w v. v ≡ with_given i c (note_of t) w)
+  pub steps_given : StepsBare (kept progress g) (kept progress after) (λ w v. v ≡ with_given i c (note_of t) w)
   steps_given = λ w S.
       let k = with_client_out i (with_look i (first_taken c) (kept progress g)) in
       let x = lift_given (kept progress g) i c (note_of t) (there progress g i e at) (only progress g i e W at) (numbered_before progress g i e W at) w S in
       let N : All (IsNoticed x.0) (noticed_in after.entries) = held_set held_by (IsNoticed x.0) g.entries i e (left e rest) at (held_less (IsNoticed x.0)) x.1.noticed in
-      (x.0, subst (λ (z : Kept). Stands z x.0) (sym kept_left) (renoticed k (noticed_in after.entries) x.0 x.1 N), x.2)
+      (x.0, subst (λ (z : Kept). StandsBare z x.0) (sym kept_left) (renoticed k (noticed_in after.entries) x.0 x.1 N), x.2)
 
   pub given_worlds : (event : Event) → t ≡ Told event → SoundWorld (kept progress after)
   given_worlds event is = next_world (kept progress g) (kept progress after) (λ w v. v ≡ with_given i c (note_of t) w) W steps_given
@@ -193,13 +194,13 @@ module _ {C : Type 0} (progress : C → Progress) (g : Entries C) (i : ℕ) (e :
     abbrev pub after_header : StockKept → Entries C
     after_header after_stock = with_stocked progress after_stock after
 
-    steps_out : (after_stock : StockKept) → stocked after_stock ≡ given n owners.Client (stocked g.stock) → Steps (kept progress after) (kept progress (after_header after_stock)) (λ w v. v ≡ with_headers (changed n (given_to owners.Client) w.headers) (stocked g.stock).next w)
+    steps_out : (after_stock : StockKept) → stocked after_stock ≡ given n owners.Client (stocked g.stock) → StepsBare (kept progress after) (kept progress (after_header after_stock)) (λ w v. v ≡ with_headers (changed n (given_to owners.Client) w.headers) (stocked g.stock).next w)
     steps_out after_stock now = stock_steps progress after after_stock (given n owners.Client (stocked g.stock)) (λ w v. v ≡ with_headers (changed n (given_to owners.Client) w.headers) (stocked g.stock).next w) now
         (lift_taken (kept progress after) (stocked g.stock) (given n owners.Client (stocked g.stock)) n (changed n (given_to owners.Client)) (stock_of progress after) refl others
         (λ hs S. give_stands (stocked g.stock) hs n owners.Client (found_header.header).state S shown out_now)
         (λ hs S. λ m d. changed_else (given_to owners.Client) (λ r. refl) n m hs d))
 
-    pub steps_header : (after_stock : StockKept) → stocked after_stock ≡ given n owners.Client (stocked g.stock) → Steps (kept progress g) (kept progress (after_header after_stock)) (λ w v. v ≡ with_client n (with_given i c (note_of t) w))
+    pub steps_header : (after_stock : StockKept) → stocked after_stock ≡ given n owners.Client (stocked g.stock) → StepsBare (kept progress g) (kept progress (after_header after_stock)) (λ w v. v ≡ with_client n (with_given i c (note_of t) w))
     steps_header after_stock now = λ w S.
         let x = steps_given w S in
         let y = steps_out after_stock now x.0 x.1 in
@@ -221,13 +222,13 @@ module _ {C : Type 0} (progress : C → Progress) (g : Entries C) (i : ℕ) (e :
     | inr q ↦ All-head P (noticed_of header) (held_in rest) (subst (λ (v : Taken). All P (held_in (v ∷ rest))) q A)
   ]
 
-  first_noticed : (header : BufferHeader) → ((t ≡ EmptyDone header) ⊎ (t ≡ FillDone header)) → (w : World) → Stands (kept progress g) w → IsNoticed w (noticed_of header)
+  first_noticed : (header : BufferHeader) → ((t ≡ EmptyDone header) ⊎ (t ≡ FillDone header)) → (w : World) → StandsBare (kept progress g) w → IsNoticed w (noticed_of header)
   first_noticed header k w S =
       let A : All (IsNoticed w) (held_by e) = held_there held_by (IsNoticed w) g.entries i e at S.noticed in
       noticed_first t header k (IsNoticed w) (subst (λ (ns : List Taken). All (IsNoticed w) (held_in ns)) was A)
 
   -- the header in the note is the world's
-  pub header_held : (header : BufferHeader) → ((t ≡ EmptyDone header) ⊎ (t ≡ FillDone header)) → (w : World) → Stands (kept progress g) w → AtHeader header.held.number w (λ r. (held r ≡ header.held) × (r.state.client_memory ≡ is_clients header.store))
+  pub header_held : (header : BufferHeader) → ((t ≡ EmptyDone header) ⊎ (t ≡ FillDone header)) → (w : World) → StandsBare (kept progress g) w → AtHeader header.held.number w (λ r. (held r ≡ header.held) × (r.state.client_memory ≡ is_clients header.store))
   header_held header k w S = held_found (noticed_of header) (find_header header.held.number w.headers) (first_noticed header k w S).1
 
   pub note_number : (header : BufferHeader) → ((t ≡ EmptyDone header) ⊎ (t ≡ FillDone header)) → IsNoteOf (note_of t) header.held.number
@@ -236,7 +237,7 @@ module _ {C : Type 0} (progress : C → Progress) (g : Entries C) (i : ℕ) (e :
     | inr q ↦ subst (λ (u : Taken). IsNoteOf (note_of u) header.held.number) (sym q) (note_filled header.held.number)
   ]
 
-  header_clause : (header : BufferHeader) → ((t ≡ EmptyDone header) ⊎ (t ≡ FillDone header)) → (w v : World) → Stands (kept progress g) w → v ≡ with_client header.held.number (with_given i c (note_of t) w) → TakesNote w i c t v
+  header_clause : (header : BufferHeader) → ((t ≡ EmptyDone header) ⊎ (t ≡ FillDone header)) → (w v : World) → StandsBare (kept progress g) w → v ≡ with_client header.held.number (with_given i c (note_of t) w) → TakesNote w i c t v
   header_clause header k w v S f =
       let h = header_held header k w S in
       let own : header.key ≡ w.key = (first_noticed header k w S).0 in
@@ -249,7 +250,7 @@ module _ {C : Type 0} (progress : C → Progress) (g : Entries C) (i : ℕ) (e :
 
 module _ {C : Type 0} (progress : C → Progress) (g : Entries C) (i : ℕ) (e : Entry C) (W : SoundWorld (kept progress g)) (at : slice_get g.entries i ≡ Some e) where
   abbrev pub Clause : Entries C → Took C → Type 0
-  Clause after result = MatchOption (component_at i g) ⊥ (λ c. Steps (kept progress g) (kept progress after) (λ w v. Takes w i c result v))
+  Clause after result = MatchOption (component_at i g) ⊥ (λ c. StepsBare (kept progress g) (kept progress after) (λ w v. Takes w i c result v))
 
   told_clause : (call : Call C) (rest : List Taken) (event : Event) → e.queues.client ≡ Some call.client → e.queues.notes ≡ call.taken ∷ rest → call.taken ≡ Told event → Clause (changed_at i (left e rest) g) (tooks.Call call)
   told_clause call rest event client was is =
@@ -303,7 +304,7 @@ module _ {C : Type 0} (progress : C → Progress) (g : Entries C) (i : ℕ) (e :
 
   -- no note was taken
   stays : (after : Entries C) (r : Took C) → after ≡ g → ((w : World) → Takes w i (component_of e) r w) → Clause after r
-  stays after r q h = rw (there progress g i e at) (subst (λ (z : Entries C). Steps (kept progress g) (kept progress z) (λ w v. Takes w i (component_of e) r v)) (sym q) (λ w S. (w, S, h w)))
+  stays after r q h = rw (there progress g i e at) (subst (λ (z : Entries C). StepsBare (kept progress g) (kept progress z) (λ w v. Takes w i (component_of e) r v)) (sym q) (λ w S. (w, S, h w)))
 
   nothing_left : (r : Took C) (d : Entry C) → took e.queues ≡ r → (r ≡ tooks.None) ⊎ (r ≡ tooks.Busy) → d ≡ record e { queues = after_taking e.queues } → d ≡ e
   nothing_left r d h k l = elim k [

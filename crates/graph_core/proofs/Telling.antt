@@ -6,7 +6,7 @@ use Rattle.il_machine.specs.declared.answer.Progress.{Progress}
 use Rattle.il_machine.specs.Look.{Look}
 use Rattle.il_machine.specs.Answers.{component_named}
 use Rattle.il_machine.specs.Components.{progress_of}
-use Rattle.il_machine.specs.Whole.{Always}
+use Rattle.whole_laws.specs.Bare.{AlwaysBare}
 use Rattle.il_machine.specs.Sound.{Sound}
 use Rattle.whole_laws.proofs.Seeing.{sound_world}
 use Rattle.il_component.specs.Entries.{Entry, component_of}
@@ -55,7 +55,7 @@ module _ {C : Type 0} (progress : C → Progress) (g : Entries C) where
       let b : Some (Some (progress client)) ≡ Some (Some p) = ap (λ (o : Option C). Some (option_map progress o)) (sym q) ∙ (sym a ∙ h) in
       cc
 
-  pub all_told : Always (kept progress g) (AreTold progress g)
+  pub all_told : AlwaysBare (kept progress g) (AreTold progress g)
   all_told w S h client c =
       let x = and_then_some (λ (o : Option C). o) (client_named h g) client c in
       let N : IsNamed h (Some client) = named_there h (Some client) (x.1 ∙ ap (λ (o : Option C). Some o) x.2) in
@@ -63,5 +63,5 @@ module _ {C : Type 0} (progress : C → Progress) (g : Entries C) where
       let told = S.progress N.place (component_of N.entry) (at_world progress g N.place N.entry w S N.at) (ap (λ (o : Option C). is_none o) N.client) in
       rw named (same_progress N.place N.entry client (progress_of (component_of N.entry) w) N.at N.client told)
 
-  pub all_sound : SoundWorld (kept progress g) → Always (kept progress g) Sound
+  pub all_sound : SoundWorld (kept progress g) → AlwaysBare (kept progress g) Sound
   all_sound W w S = sound_world (kept progress g) W.world w W.stands W.sound S

@@ -4,11 +4,14 @@ use Rattle.il_machine.specs.declared.port.Port.{Port}
 use Rattle.il_machine.specs.declared.port.PortKey.{PortKey}
 use Rattle.il_machine.specs.declared.header.Owner.TheVariants as owners
 use Rattle.il_machine.specs.Headers.{in_todo}
+use Rattle.il_machine.specs.Look.{Look}
+use Rattle.il_machine.specs.Buffers.{AtState}
 use Rattle.il_machine.specs.Stock.{Stocked, given, pulled}
 use Rattle.il_machine.specs.World.{Component, number_of, ports_of}
-use Rattle.il_machine.specs.Claims.{Carried, gives_header, must_announce}
+use Rattle.il_machine.specs.Claims.{gives_header, must_announce}
 use Rattle.header_core.specs.BufferHeader.{BufferHeader}
-use Rattle.port_stock.specs.Conditions.{IsFrom, IsOutside, IsPort, number_of as header_number}
+use Rattle.port_stock.specs.Conditions.{IsFrom, IsHeaderOf, IsOutside, IsPort, number_of as header_number}
+pub use Rattle.work_landing.specs.Places.{AreFree, carried_at, carried_from}
 
 abbrev pub key_at : ℕ → ℕ → PortKey
 key_at component port = record { component = component; port = port }
@@ -42,11 +45,6 @@ abbrev pub IsFrontWhere : Bool → PortKey → Option BufferHeader → Stocked �
 IsFrontWhere true key place s = IsFront key place s
 IsFrontWhere false key place s = place ≡ None
 
--- no place has a header
-abbrev pub AreFree : List (Option BufferHeader) → Type 0
-AreFree [] = Unit {0}
-AreFree (place ∷ places) = (place ≡ None) × AreFree places
-
 -- the headers are those that go out, each at the number of its port
 abbrev pub AreFronts : ℕ → ℕ → List Bool → List (Option BufferHeader) → Stocked → Type 0
 AreFronts component port [] places s = AreFree places
@@ -67,11 +65,12 @@ gives_to announces c p = not announces && gives_header c p
 abbrev pub HasFronts : Component → List (Option BufferHeader) → Stocked → Type 0
 HasFronts c places s = AreFronts (number_of c) 0 (map (gives_to (must_announce c) c) (ports_of c)) places s
 
--- the headers as their holder sees them, by rising port from this one on
-abbrev pub carried_at : ℕ → Option BufferHeader → List Carried → List Carried
-carried_at port None rest = rest
-carried_at port (Some h) rest = record { port = port; header = h.held } ∷ rest
+-- ---- whose they are then
 
-abbrev pub carried_from : ℕ → List (Option BufferHeader) → List Carried
-carried_from port [] = []
-carried_from port (place ∷ places) = carried_at port place (carried_from (port + 1) places)
+-- the header has the graph's key, and is in the work of the component of the number, with its own size and memory
+abbrev pub IsLent : ℕ → BufferHeader → Look → Type 0
+IsLent component h l = (h.key ≡ l.key) × AtState h.held.number l (λ s. (s.owner ≡ owners.Work component) × IsHeaderOf s h)
+
+abbrev pub AreLent : ℕ → List (Option BufferHeader) → Look → Type 0
+AreLent component [] l = Unit {0}
+AreLent component (place ∷ places) l = MatchOption place (Unit {0}) (λ h. IsLent component h l) × AreLent component places l

@@ -1,5 +1,5 @@
 -- What a contract sees of a graph: its components with their queues, in the order of their numbers, and its ports and headers.
-use Rattle.std.specs.Prelude.{ℕ, Bool, List, map, remove, position, slice_get, slice_set, sum_by, Option, Some, option_and_then, option_map}
+use Rattle.std.specs.Prelude.{ℕ, Bool, List, [], map, remove, position, slice_get, slice_set, sum_by, Option, option_and_then, option_map}
 use Rattle.omx_types.specs.declared.handle.Handle.{Handle}
 use Rattle.il_machine.specs.declared.answer.Progress.{Progress}
 use Rattle.il_machine.specs.World.{Component, is_at}
@@ -7,8 +7,8 @@ use Rattle.omx_types.specs.declared.state.State.TheVariants.{WaitForResources}
 use Rattle.il_machine.specs.Look.{Look}
 use Rattle.il_machine.specs.Headers.{weight}
 use Rattle.il_machine.specs.Ports.{is_going_to}
-use Rattle.il_machine.specs.Whole.{Kept, Noticed, PartSeen}
-use Rattle.whole_laws.specs.Entries.{all_held, no_part}
+use Rattle.il_machine.specs.Whole.{Kept, Noticed}
+use Rattle.whole_laws.specs.Entries.{all_held}
 use Rattle.il_component.specs.Entries.{Entry, component_of, held_in}
 use Rattle.port_stock.specs.Kept.{Kept as StockKept, stocked}
 
@@ -39,13 +39,9 @@ module _ {C : Type 0} where
   abbrev pub progress_at : (C → Progress) → Entry C → Option Progress
   progress_at progress e = option_map progress e.queues.client
 
-  -- no component has a file yet
-  abbrev pub no_parts : List (Entry C) → List (Option PartSeen)
-  no_parts entries = map (λ e. Some no_part) entries
-
-  -- what is kept, where the client objects have this progress
+  -- what is kept but for the parts, where the client objects have this progress
   abbrev pub kept : (C → Progress) → Entries C → Kept
-  kept progress g = record { looks = look_of g; clients = map (progress_at progress) g.entries; loads = (stocked g.stock).loads; noticed = noticed_in g.entries; parts = no_parts g.entries }
+  kept progress g = record { looks = look_of g; clients = map (progress_at progress) g.entries; loads = (stocked g.stock).loads; noticed = noticed_in g.entries; parts = [] }
 
   -- ---- the component that a handle names
 

@@ -10,3 +10,4 @@ pub mod Supplying
 pub mod Closing
 pub mod Units
 pub mod Claiming
+pub mod Finishing

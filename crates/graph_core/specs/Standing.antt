@@ -3,7 +3,7 @@
 use Rattle.std.specs.Prelude.{◌≡◌, ◌+◌, ◌<◌, ◌≤◌, ℕ, List, length, All, slice_get, Some}
 use Rattle.il_machine.specs.declared.answer.Progress.{Progress}
 use Rattle.il_machine.specs.World.{World}
-use Rattle.il_machine.specs.Whole.{Stands}
+use Rattle.whole_laws.specs.Bare.{StandsBare}
 use Rattle.il_machine.specs.Whole as machine
 use Rattle.il_machine.specs.Sound.{Sound}
 use Rattle.il_machine.specs.Stock.{Stocked}
@@ -17,7 +17,7 @@ use Rattle.graph_core.specs.Registered.{Registered}
 -- a sound world that what is kept stands for
 pub record SoundWorld (k : machine.Kept) : Type 0 where
   pub world : World
-  pub stands : Stands k world
+  pub stands : StandsBare k world
   pub sound : Sound world
 
 module _ {C : Type 0} where

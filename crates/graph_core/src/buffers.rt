@@ -4,7 +4,7 @@ ghost use Rattle.std.specs.Prelude.{◌≡◌, ◌<◌, None, length, true, Matc
 ghost use Rattle.il_machine.specs.World.{port_of, with_component};
 ghost use Rattle.il_machine.specs.Headers.{is_for, loaded};
 ghost use Rattle.il_machine.specs.Buffers.{allocate_refusal, use_refusal, free_buffer_refusal, empty_refusal, fill_refusal, client_header, with_header, with_todo, without_header, unpopulated, load_in, AtState, IsWithClient};
-ghost use Rattle.il_machine.specs.Whole.{Steps};
+ghost use Rattle.whole_laws.specs.Bare.{StepsBare};
 ghost use Rattle.header_core.specs.BufferHeader.{is_clients, own_memory, fresh as fresh_header};
 ghost use Rattle.graph_core.specs.Entries.{kept, look_of, component_at};
 ghost use Rattle.graph_core.specs.Changes.{IsHandedIn, IsMakable};
@@ -93,7 +93,7 @@ impl<C: Client> Core<C> {
     pub fn make_header(&mut self, place: usize, index: u32, store: Store) -> Header
         requires { IsSomeAnd (component_at place self.old) (λ c. IsSomeAnd (port_of c index) (λ p. IsMakable (look_of self.old) c p store)) }
         ensures header { MatchOption (component_at place self.old) ⊥ (λ c. MatchOption (port_of c index) ⊥ (λ p. result ≡ fresh_header (look_of self.old).key (look_of self.old).made store p.setting.definition.size)) }
-        ensures change { MatchOption (component_at place self.old) ⊥ (λ c. MatchOption (port_of c index) ⊥ (λ p. Steps (kept C.progress self.old) (kept C.progress self.new) (λ w v. v ≡ with_header (client_header w.made p (is_clients store)) (own_memory store) w))) }
+        ensures change { MatchOption (component_at place self.old) ⊥ (λ c. MatchOption (port_of c index) ⊥ (λ p. StepsBare (kept C.progress self.old) (kept C.progress self.new) (λ w v. v ≡ with_header (client_header w.made p (is_clients store)) (own_memory store) w))) }
         ensures clients { KeepsAllClients self.old self.new }
     {
         let component = &self.components[place];
@@ -118,7 +118,7 @@ impl<C: Client> Core<C> {
         requires free { IsSomeAnd (component_at place self.old) (λ c. AtState header.held.number (look_of self.old) (λ s. free_buffer_refusal c (port_of c index) s ≡ None)) }
         ensures store { result ≡ header.store }
         ensures memory { own_memory result ≡ header.held.memory }
-        ensures change { MatchOption (component_at place self.old) ⊥ (λ c. MatchOption (port_of c index) ⊥ (λ p. Steps (kept C.progress self.old) (kept C.progress self.new) (λ w v. v ≡ without_header header.held.number (with_component place (unpopulated p c) w)))) }
+        ensures change { MatchOption (component_at place self.old) ⊥ (λ c. MatchOption (port_of c index) ⊥ (λ p. StepsBare (kept C.progress self.old) (kept C.progress self.new) (λ w v. v ≡ without_header header.held.number (with_component place (unpopulated p c) w)))) }
         ensures clients { KeepsAllClients self.old self.new }
     {
         let component = &mut self.components[place];
@@ -133,7 +133,7 @@ impl<C: Client> Core<C> {
     pub fn take_in(&mut self, place: usize, index: u32, header: Header)
         requires handed { IsHandedIn header (look_of self.old) }
         requires made_for { IsSomeAnd (component_at place self.old) (λ c. IsSomeAnd (port_of c index) (λ p. AtState header.held.number (look_of self.old) (λ s. is_for p.key s ≡ true))) }
-        ensures change { MatchOption (component_at place self.old) ⊥ (λ c. MatchOption (port_of c index) ⊥ (λ p. Steps (kept C.progress self.old) (kept C.progress self.new) (λ w v. v ≡ with_todo p.key header.held.number (loaded (load_in header.held)) w))) }
+        ensures change { MatchOption (component_at place self.old) ⊥ (λ c. MatchOption (port_of c index) ⊥ (λ p. StepsBare (kept C.progress self.old) (kept C.progress self.new) (λ w v. v ≡ with_todo p.key header.held.number (loaded (load_in header.held)) w))) }
         ensures clients { KeepsAllClients self.old self.new }
     {
         let component = &self.components[place];

@@ -2,11 +2,12 @@
 
 ghost use Rattle.std.specs.Prelude.{◌≡◌, ◌<◌, None, length, option_map, MatchOption, IsSomeAnd};
 ghost use Rattle.il_machine.specs.Headers.{seen};
-ghost use Rattle.il_machine.specs.Claims.{carried, claim_idle, with_work, work_of};
-ghost use Rattle.il_machine.specs.Whole.{Always, Steps};
+ghost use Rattle.il_machine.specs.Claims.{carried, claim_idle, must_announce, with_work, work_of};
+ghost use Rattle.il_machine.specs.World.{number_of};
+ghost use Rattle.whole_laws.specs.Bare.{AlwaysBare, StepsBare};
 ghost use Rattle.port_rules.specs.Claiming.{claimed_by};
 ghost use Rattle.port_stock.specs.Kept.{stocked};
-ghost use Rattle.graph_core.specs.Claiming.{HasFronts, carried_from};
+ghost use Rattle.graph_core.specs.Claiming.{AreLent, HasFronts, carried_from};
 ghost use Rattle.graph_core.specs.Entries.{kept, look_of, component_at};
 ghost use Rattle.graph_core.specs.Clients.{KeepsAllClients};
 
@@ -25,13 +26,23 @@ impl<C: Client> Core<C> {
         port_rules::claim_idle(&self.stock, component)
     }
 
+    /// Whether the work of the component at the place is that of a source that has to tell that its output has another format than its file.
+    pub fn must_announce(&self, place: usize) -> bool
+        requires { place < length self.now.entries }
+        ensures { MatchOption (component_at place self.now) ⊥ (λ c. result ≡ must_announce c) }
+    {
+        let component = &self.components[place];
+        port_rules::must_announce(&self.stock, component)
+    }
+
     /// The work of the component at the place goes out, with the front of `todo` of each input that hasn't ended and of each output. An
     /// announcement has no header.
     pub fn claim(&mut self, place: usize) -> Places
         requires { IsSomeAnd (component_at place self.old) (λ c. claim_idle (look_of self.old) c ≡ None) }
-        ensures change { MatchOption (component_at place self.old) ⊥ (λ c. Steps (kept C.progress self.old) (kept C.progress self.new) (λ w v. v ≡ with_work place c (work_of (seen w.headers) c) w)) }
-        ensures carried { MatchOption (component_at place self.old) ⊥ (λ c. Always (kept C.progress self.old) (λ w. carried w.headers (work_of (seen w.headers) c).headers ≡ carried_from 0 result)) }
+        ensures change { MatchOption (component_at place self.old) ⊥ (λ c. StepsBare (kept C.progress self.old) (kept C.progress self.new) (λ w v. v ≡ with_work place c (work_of (seen w.headers) c) w)) }
+        ensures carried { MatchOption (component_at place self.old) ⊥ (λ c. AlwaysBare (kept C.progress self.old) (λ w. carried w.headers (work_of (seen w.headers) c).headers ≡ carried_from 0 result)) }
         ensures headers { MatchOption (component_at place self.old) ⊥ (λ c. HasFronts c result (stocked self.old.stock)) }
+        ensures lent { MatchOption (component_at place self.old) ⊥ (λ c. AreLent (number_of c) result (look_of self.new)) }
         ensures clients { KeepsAllClients self.old self.new }
     {
         let component = &mut self.components[place];

@@ -2,7 +2,7 @@
 
 ghost use Rattle.std.specs.Prelude.{◌≡◌, ◌<◌, ℕ, length, slice_get, position, option_map, None, Some, IfSome};
 ghost use Rattle.il_machine.specs.Due.{has_due, first_due, Happens, ClosesTo};
-ghost use Rattle.il_machine.specs.Whole.{Steps};
+ghost use Rattle.whole_laws.specs.Bare.{StepsBare};
 ghost use Rattle.machine_laws.proofs.Ending.{pending_in};
 ghost use Rattle.il_component.specs.Entries.{Entry, component_of};
 ghost use Rattle.port_stock.specs.Kept.{stocked};
@@ -47,7 +47,7 @@ impl<C: Client> Core<C> {
         requires first { first_due (look_of self.old) ≡ Some place }
         requires due { IsDueAt (look_of self.old).headers self.old.entries place due }
         requires within { place < length self.old.entries }
-        ensures happens { Steps (kept C.progress self.old) (kept C.progress self.new) Happens }
+        ensures happens { StepsBare (kept C.progress self.old) (kept C.progress self.new) Happens }
         ensures fewer { pending_in (components_of self.new.entries) < pending_in (components_of self.old.entries) }
         ensures clients { KeepsAllClients self.old self.new }
     {
@@ -58,7 +58,7 @@ impl<C: Client> Core<C> {
 
     /// While something is due, the first due thing happens.
     pub fn close_out(&mut self)
-        ensures closes { Steps (kept C.progress self.old) (kept C.progress self.new) ClosesTo }
+        ensures closes { StepsBare (kept C.progress self.old) (kept C.progress self.new) ClosesTo }
         ensures settled { first_due (look_of self.new) ≡ None }
         ensures clients { KeepsAllClients self.old self.new }
     {

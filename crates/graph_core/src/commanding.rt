@@ -5,7 +5,7 @@ ghost use Rattle.il_machine.specs.World.{with_component};
 ghost use Rattle.il_machine.specs.Look.{look};
 ghost use Rattle.il_machine.specs.Commands.{send_refusal, lacks_target, sent, run_idle, run_front};
 ghost use Rattle.il_machine.specs.Due.{first_due};
-ghost use Rattle.il_machine.specs.Whole.{Steps};
+ghost use Rattle.whole_laws.specs.Bare.{StepsBare};
 ghost use Rattle.graph_core.specs.Entries.{kept, look_of, component_at};
 ghost use Rattle.graph_core.specs.Clients.{KeepsAllClients};
 
@@ -47,7 +47,7 @@ impl<C: Client> Core<C> {
     /// The component at the place takes the command.
     pub fn send(&mut self, place: usize, command: Command)
         requires { IsSomeAnd (component_at place self.old) (λ c. send_refusal (look_of self.old) c command ≡ None) }
-        ensures change { MatchOption (component_at place self.old) ⊥ (λ c. Steps (kept C.progress self.old) (kept C.progress self.new) (λ w v. v ≡ with_component place (sent command c) w)) }
+        ensures change { MatchOption (component_at place self.old) ⊥ (λ c. StepsBare (kept C.progress self.old) (kept C.progress self.new) (λ w v. v ≡ with_component place (sent command c) w)) }
         ensures clients { KeepsAllClients self.old self.new }
     {
         let component = &mut self.components[place];
@@ -67,7 +67,7 @@ impl<C: Client> Core<C> {
     pub fn run(&mut self, place: usize)
         requires closed { first_due (look_of self.old) ≡ None }
         requires may { IsSomeAnd (component_at place self.old) (λ c. run_idle c c.commands ≡ None) }
-        ensures change { MatchOption (component_at place self.old) ⊥ (λ c. Steps (kept C.progress self.old) (kept C.progress self.new) (λ w v. v ≡ with_component place (run_front (look w) c.commands c) w)) }
+        ensures change { MatchOption (component_at place self.old) ⊥ (λ c. StepsBare (kept C.progress self.old) (kept C.progress self.new) (λ w v. v ≡ with_component place (run_front (look w) c.commands c) w)) }
         ensures clients { KeepsAllClients self.old self.new }
     {
         let free = self.free_units();

@@ -2,7 +2,7 @@
 
 ghost use Rattle.std.specs.Prelude.{◌≡◌, Some, None};
 ghost use Rattle.omx_types.specs.declared.handle.Handle.{Handle};
-ghost use Rattle.il_machine.specs.Whole.{Always};
+ghost use Rattle.whole_laws.specs.Bare.{AlwaysBare};
 ghost use Rattle.il_machine.specs.Sound.{Sound};
 ghost use Rattle.il_machine.specs.Census.{Census, HasRoom};
 ghost use Rattle.graph_core.specs.Entries.{client_named, kept, look_of};
@@ -17,10 +17,10 @@ impl<C: Client> Core<C> {
     /// of all events that were given for its component.
     pub fn law_of_worlds(&self)
         ensures one { SoundWorld (kept C.progress self.now) }
-        ensures sound { Always (kept C.progress self.now) Sound }
-        ensures census { Always (kept C.progress self.now) Census }
-        ensures room { Always (kept C.progress self.now) HasRoom }
-        ensures told { Always (kept C.progress self.now) (AreTold C.progress self.now) }
+        ensures sound { AlwaysBare (kept C.progress self.now) Sound }
+        ensures census { AlwaysBare (kept C.progress self.now) Census }
+        ensures room { AlwaysBare (kept C.progress self.now) HasRoom }
+        ensures told { AlwaysBare (kept C.progress self.now) (AreTold C.progress self.now) }
         ensures out { (h : Handle) → client_named h self.now ≡ Some None → IsOut h (look_of self.now) }
     {
         let _ = &self.components;

@@ -2,12 +2,14 @@
 //! machine that the graph stands for.
 #![tactic(auto)]
 
+mod attaching;
 mod buffers;
 mod claiming;
 mod closing;
 mod commanding;
 mod core_graph;
 mod ending;
+mod finishing;
 mod laws;
 mod looking;
 mod making;

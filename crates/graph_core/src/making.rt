@@ -9,7 +9,7 @@ ghost use Rattle.il_machine.specs.Components.{is_full, is_vacant, no_progress, w
 ghost use Rattle.il_machine.specs.Parameters.{set_parameter_refusal, set_config_refusal, with_value};
 ghost use Rattle.il_machine.specs.Places.{first_place};
 ghost use Rattle.il_machine.specs.Stock.{added};
-ghost use Rattle.il_machine.specs.Whole.{Steps};
+ghost use Rattle.whole_laws.specs.Bare.{StepsBare};
 ghost use Rattle.registry.specs.Handles.{resolved, live, AllGiven};
 ghost use Rattle.il_component.specs.Entries.{component_of};
 ghost use Rattle.port_stock.specs.Kept.{stocked};
@@ -107,7 +107,7 @@ impl<C: Client> Core<C> {
         requires sized { IsSized kind }
         requires room { is_full (look_of self.old) ≡ false }
         requires new { C.progress client ≡ no_progress }
-        ensures made { IfOk result (λ h. Steps (kept C.progress self.old) (kept C.progress self.new) (λ w v. v ≡ with_new_component h kind w)) }
+        ensures made { IfOk result (λ h. StepsBare (kept C.progress self.old) (kept C.progress self.new) (λ w v. v ≡ with_new_component h kind w)) }
         ensures generation { IfOk result (λ h. h.generation ≡ self.old.numbered) }
         ensures vacant { IfOk result (λ h. is_vacant h.slot (components_of self.old.entries) ≡ true) }
         ensures client { IfOk result (λ h. client_of h self.new ≡ Some client) }
@@ -146,7 +146,7 @@ impl<C: Client> Core<C> {
     /// Takes the component at the place out, and answers its client object.
     pub fn free(&mut self, place: usize) -> C
         requires { IsSomeAnd (component_at place self.old) (λ c. free_refusal (look_of self.old).headers c ≡ None) }
-        ensures freed { MatchOption (component_at place self.old) ⊥ (λ c. Steps (kept C.progress self.old) (kept C.progress self.new) (λ w v. v ≡ without_component place c w)) }
+        ensures freed { MatchOption (component_at place self.old) ⊥ (λ c. StepsBare (kept C.progress self.old) (kept C.progress self.new) (λ w v. v ≡ without_component place c w)) }
         ensures client { MatchOption (slice_get self.old.entries place) ⊥ (λ e. e.queues.client ≡ Some result) }
         ensures gone { MatchOption (component_at place self.old) ⊥ (λ c. client_named c.handle self.new ≡ None) }
         ensures clients { MatchOption (component_at place self.old) ⊥ (λ c. KeepsClients c.handle self.old self.new) }
@@ -189,7 +189,7 @@ impl<C: Client> Core<C> {
     /// Sets a parameter or a config of the component at the place, which may be set.
     pub fn set_value(&mut self, place: usize, key: ParamKey, config: bool, value: Param)
         requires { IsSomeAnd (component_at place self.old) (λ c. value_refusal config (look_of self.old).headers c key value ≡ None) }
-        ensures set { MatchOption (component_at place self.old) ⊥ (λ c. Steps (kept C.progress self.old) (kept C.progress self.new) (λ w v. v ≡ with_component place (with_value key value c) w)) }
+        ensures set { MatchOption (component_at place self.old) ⊥ (λ c. StepsBare (kept C.progress self.old) (kept C.progress self.new) (λ w v. v ≡ with_component place (with_value key value c) w)) }
         ensures clients { KeepsAllClients self.old self.new }
     {
         let component = &mut self.components[place];

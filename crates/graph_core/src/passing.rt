@@ -8,7 +8,7 @@ ghost use Rattle.il_machine.specs.Ports.{id_of, is_input_port};
 ghost use Rattle.il_machine.specs.World.{port_of};
 ghost use Rattle.il_machine.specs.Buffers.{is_taking};
 ghost use Rattle.il_machine.specs.Flow.{at_end, back_idle, front_put, handed_back, handed_over, is_giving, other_end, over_idle, returned};
-ghost use Rattle.il_machine.specs.Whole.{Steps};
+ghost use Rattle.whole_laws.specs.Bare.{StepsBare};
 ghost use Rattle.il_machine.specs.declared.answer.Why.TheVariants as why;
 ghost use Rattle.il_machine.specs.declared.header.Spot.TheVariants.{TodoBack};
 ghost use Rattle.il_component.specs.Entries.{component_of};
@@ -168,7 +168,7 @@ impl<C: Client> Core<C> {
     /// where it has none.
     pub fn hand_back(&mut self, place: usize, index: u32)
         requires { IsSomeAnd (component_at place self.old) (λ c. IsSome (port_of c index)) }
-        ensures change { MatchOption (component_at place self.old) ⊥ (λ c. MatchOption (port_of c index) ⊥ (λ p. Steps (kept C.progress self.old) (kept C.progress self.new) (λ w v. v ≡ handed_back place c p p.state.link w))) }
+        ensures change { MatchOption (component_at place self.old) ⊥ (λ c. MatchOption (port_of c index) ⊥ (λ p. StepsBare (kept C.progress self.old) (kept C.progress self.new) (λ w v. v ≡ handed_back place c p p.state.link w))) }
         ensures clients { KeepsAllClients self.old self.new }
     {
         let component = &self.components[place];
@@ -186,7 +186,7 @@ impl<C: Client> Core<C> {
     /// isn't joined, or `done` is empty.
     pub fn hand_over(&mut self, place: usize, index: u32)
         requires { IsSomeAnd (component_at place self.old) (λ c. IsSome (port_of c index)) }
-        ensures change { MatchOption (component_at place self.old) ⊥ (λ c. MatchOption (port_of c index) ⊥ (λ p. Steps (kept C.progress self.old) (kept C.progress self.new) (λ w v. v ≡ handed_over p w))) }
+        ensures change { MatchOption (component_at place self.old) ⊥ (λ c. MatchOption (port_of c index) ⊥ (λ p. StepsBare (kept C.progress self.old) (kept C.progress self.new) (λ w v. v ≡ handed_over p w))) }
         ensures clients { KeepsAllClients self.old self.new }
     {
         let component = &self.components[place];

@@ -8,7 +8,7 @@ ghost use Rattle.il_machine.specs.Headers.{seen};
 ghost use Rattle.il_machine.specs.Ports.{accepting, id_of};
 ghost use Rattle.il_machine.specs.Buffers.{has_no_block};
 ghost use Rattle.il_machine.specs.Flow.{at_end, front_unmade, in_port, other_end, release_idle, supply_idle, with_supplied};
-ghost use Rattle.il_machine.specs.Whole.{Steps};
+ghost use Rattle.whole_laws.specs.Bare.{StepsBare};
 ghost use Rattle.il_component.specs.Entries.{Entry, component_of};
 ghost use Rattle.port_stock.specs.Kept.{stocked};
 ghost use Rattle.port_stock.specs.Conditions.{IsOutside, IsPort, number_of};
@@ -159,7 +159,7 @@ impl<C: Client> Core<C> {
     /// The port, which supplies its tunnel, makes a header of the memory for both ends.
     pub fn supply_header(&mut self, place: usize, index: u32, memory: Memory)
         requires { IsSomeAnd (component_at place self.old) (λ c. IsSomeAnd (port_of c index) (λ p. IsSuppliable (look_of self.old) c p memory)) }
-        ensures change { MatchOption (component_at place self.old) ⊥ (λ c. MatchOption (port_of c index) ⊥ (λ p. Steps (kept C.progress self.old) (kept C.progress self.new) (λ w v. v ≡ with_supplied p w))) }
+        ensures change { MatchOption (component_at place self.old) ⊥ (λ c. MatchOption (port_of c index) ⊥ (λ p. StepsBare (kept C.progress self.old) (kept C.progress self.new) (λ w v. v ≡ with_supplied p w))) }
         ensures clients { KeepsAllClients self.old self.new }
     {
         let component = &self.components[place];
@@ -198,7 +198,7 @@ impl<C: Client> Core<C> {
     /// The port, which supplies its tunnel and is leaving, unmakes the front header of `todo`, or, where that is empty, of `done`.
     pub fn release_front(&mut self, place: usize, index: u32)
         requires { IsSomeAnd (component_at place self.old) (λ c. IsSomeAnd (port_of c index) (λ p. release_idle (look_of self.old) c p ≡ None)) }
-        ensures change { MatchOption (component_at place self.old) ⊥ (λ c. MatchOption (port_of c index) ⊥ (λ p. Steps (kept C.progress self.old) (kept C.progress self.new) (λ w v. v ≡ front_unmade (in_port (seen w.headers) p) w))) }
+        ensures change { MatchOption (component_at place self.old) ⊥ (λ c. MatchOption (port_of c index) ⊥ (λ p. StepsBare (kept C.progress self.old) (kept C.progress self.new) (λ w v. v ≡ front_unmade (in_port (seen w.headers) p) w))) }
         ensures clients { KeepsAllClients self.old self.new }
     {
         let component = &self.components[place];

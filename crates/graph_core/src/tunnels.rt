@@ -3,7 +3,7 @@
 ghost use Rattle.std.specs.Prelude.{◌≡◌, ◌<◌, None, length, IsSomeAnd, MatchOption};
 ghost use Rattle.il_machine.specs.World.{port_of};
 ghost use Rattle.il_machine.specs.Tunnels.{widened, setup_refusal, drop_refusal, both_joined, both_parted, agreed_of, BothPorts};
-ghost use Rattle.il_machine.specs.Whole.{Steps};
+ghost use Rattle.whole_laws.specs.Bare.{StepsBare};
 ghost use Rattle.graph_core.specs.Entries.{kept, look_of, component_at};
 ghost use Rattle.graph_core.specs.Clients.{KeepsAllClients};
 
@@ -60,7 +60,7 @@ impl<C: Client> Core<C> {
     pub fn join(&mut self, giver: usize, output: u32, taker: usize, input: u32) -> Supplier
         requires { IsSomeAnd (component_at giver self.old) (λ c. IsSomeAnd (component_at taker self.old) (λ d. setup_refusal (look_of self.old).headers c d (port_of c output) (port_of d input) ≡ None)) }
         ensures change { MatchOption (component_at giver self.old) ⊥ (λ c. MatchOption (component_at taker self.old) ⊥ (λ d. BothPorts (port_of c output) (port_of d input) (λ p q.
-            (result ≡ agreed_of p q) × Steps (kept C.progress self.old) (kept C.progress self.new) (λ w v. v ≡ both_joined result giver c p taker d q w)))) }
+            (result ≡ agreed_of p q) × StepsBare (kept C.progress self.old) (kept C.progress self.new) (λ w v. v ≡ both_joined result giver c p taker d q w)))) }
         ensures clients { KeepsAllClients self.old self.new }
     {
         let Some(first) = self.components[giver].port(output) else {
@@ -90,7 +90,7 @@ impl<C: Client> Core<C> {
     pub fn part(&mut self, giver: usize, output: u32, taker: usize, input: u32)
         requires { IsSomeAnd (component_at giver self.old) (λ c. IsSomeAnd (component_at taker self.old) (λ d. drop_refusal (look_of self.old).headers (port_of c output) (port_of d input) ≡ None)) }
         ensures change { MatchOption (component_at giver self.old) ⊥ (λ c. MatchOption (component_at taker self.old) ⊥ (λ d. BothPorts (port_of c output) (port_of d input) (λ p q.
-            Steps (kept C.progress self.old) (kept C.progress self.new) (λ w v. v ≡ both_parted giver c p taker d q w)))) }
+            StepsBare (kept C.progress self.old) (kept C.progress self.new) (λ w v. v ≡ both_parted giver c p taker d q w)))) }
         ensures clients { KeepsAllClients self.old self.new }
     {
         self.components[giver].part(output);

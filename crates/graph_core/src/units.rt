@@ -4,7 +4,7 @@ ghost use Rattle.std.specs.Prelude.{◌≡◌, ◌<◌, ◌≤◌, length, slice
 ghost use Rattle.il_machine.specs.Units.{units_held, free_units, coming_units, is_before, gives_first, first_waiter, weakest, victim, grant_idle, preempt_idle, granted_units, preempted_units, with_changed, lacks_places};
 ghost use Rattle.il_machine.specs.Lists.{first_of_these};
 ghost use Rattle.il_component.specs.Entries.{component_of};
-ghost use Rattle.il_machine.specs.Whole.{Steps};
+ghost use Rattle.whole_laws.specs.Bare.{StepsBare};
 ghost use Rattle.graph_core.specs.Entries.{kept, components_of, look_of, component_at};
 ghost use Rattle.graph_core.specs.Units.{units_returning, stays_before};
 ghost use Rattle.graph_core.specs.Clients.{KeepsAllClients};
@@ -146,7 +146,7 @@ impl<C: Client> Core<C> {
     /// The first that waits gets its units, and is the one that is answered.
     pub fn grant(&mut self) -> Handle
         requires { grant_idle (look_of self.old) ≡ None }
-        ensures change { MatchOption (first_waiter (components_of self.old.entries)) ⊥ (λ c. (result ≡ c.handle) × Steps (kept C.progress self.old) (kept C.progress self.new) (λ w v. v ≡ with_changed granted_units c w)) }
+        ensures change { MatchOption (first_waiter (components_of self.old.entries)) ⊥ (λ c. (result ≡ c.handle) × StepsBare (kept C.progress self.old) (kept C.progress self.new) (λ w v. v ≡ with_changed granted_units c w)) }
         ensures clients { KeepsAllClients self.old self.new }
     {
         let Some(place) = first_waiter(&self.components) else {
@@ -186,7 +186,7 @@ impl<C: Client> Core<C> {
     /// The victim loses its units, at once or once it is Idle, and is the one that is answered.
     pub fn preempt(&mut self) -> Handle
         requires { preempt_idle (look_of self.old) ≡ None }
-        ensures change { MatchOption (victim (components_of self.old.entries)) ⊥ (λ c. (result ≡ c.handle) × Steps (kept C.progress self.old) (kept C.progress self.new) (λ w v. v ≡ with_changed preempted_units c w)) }
+        ensures change { MatchOption (victim (components_of self.old.entries)) ⊥ (λ c. (result ≡ c.handle) × StepsBare (kept C.progress self.old) (kept C.progress self.new) (λ w v. v ≡ with_changed preempted_units c w)) }
         ensures clients { KeepsAllClients self.old self.new }
     {
         let Some(place) = self.victim() else {

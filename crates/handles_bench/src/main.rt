@@ -2,7 +2,7 @@
 //! the word `figures`.
 #![tactic(auto)]
 
-use il_graph::Graph;
+use il_graph::{Graph, NoFile};
 use note_queues::ProgressClient;
 use omx_types::{CallError, Handle};
 use std::alloc::{AllocError, Global};
@@ -10,7 +10,7 @@ use std::collections::HashMap;
 use std::time::{Duration, Instant};
 use std::{env, io};
 
-type Components = Graph<ProgressClient>;
+type Components = Graph<NoFile, NoFile, ProgressClient>;
 
 /// How many components, and how many entries, are timed.
 const ROUNDS: u32 = 1_000_000;
@@ -46,7 +46,7 @@ fn made(alloc: Global, graph: &mut Components, name: &str) -> Result<Handle, Cal
 
 fn freed(graph: &mut Components, h: Handle) -> Result<(), CallError> {
     match graph.free_handle(h) {
-        Ok(_client) => Ok(()),
+        Ok(_freed) => Ok(()),
         Err(error) => Err(CallError::Omx(error)),
     }
 }

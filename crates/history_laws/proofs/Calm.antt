@@ -21,10 +21,10 @@ use Rattle.machine_laws.proofs.Granting.{waits_there, preempted_by}
 use Rattle.history_laws.proofs.Cores.{Core, core, IsLasting}
 
 -- a transition happened, or a command was begun: the handle and the client object are as they were
-record KeepsSeat (c d : Component) : Type 0 where
-  handle : d.handle ≡ c.handle
-  out : d.client_out ≡ c.client_out
-  calm : d.state ≡ Invalid → d.pending ≡ None
+pub record KeepsSeat (c d : Component) : Type 0 where
+  pub handle : d.handle ≡ c.handle
+  pub out : d.client_out ≡ c.client_out
+  pub calm : d.state ≡ Invalid → d.pending ≡ None
 
 not_invalid : (s : State) → s ≡ Idle → s ≡ Invalid → ⊥
 not_invalid s e f = let k : Idle ≡ Invalid = sym e ∙ f in absurd cc
@@ -43,7 +43,7 @@ reached_keeps p c r h o n = either (is_by_client p.cause)
     (λ t. rw t (record { handle = h; out = o; calm = λ e. n }))
     (λ f. rw f (record { handle = h; out = o; calm = λ e. n }))
 
-arrived_keeps : (number : ℕ) (target : State) (p : Pending) (c : Component) → p.target ≡ target → KeepsSeat c (arrived_at number target p c)
+pub arrived_keeps : (number : ℕ) (target : State) (p : Pending) (c : Component) → p.target ≡ target → KeepsSeat c (arrived_at number target p c)
 arrived_keeps number Idle p c e = either (is_down c.state)
     (λ t. rw t (record { handle = refl; out = refl; calm = λ i. refl }))
     (λ f.
@@ -57,11 +57,11 @@ arrived_keeps number WaitForResources p c e = record { handle = refl; out = refl
 
 -- ---- commands
 
-record KeepsState (c d : Component) : Type 0 where
-  handle : d.handle ≡ c.handle
-  out : d.client_out ≡ c.client_out
-  state : d.state ≡ c.state
-  pending : c.state ≡ Invalid → d.pending ≡ c.pending
+pub record KeepsState (c d : Component) : Type 0 where
+  pub handle : d.handle ≡ c.handle
+  pub out : d.client_out ≡ c.client_out
+  pub state : d.state ≡ c.state
+  pub pending : c.state ≡ Invalid → d.pending ≡ c.pending
 
 fault_there : (l : Look) (c : Component) (target : State) → c.state ≡ Invalid → is_some (state_fault l c target) ≡ true
 fault_there l c target e = rw e (either (same_state Invalid target) (λ t. rw t refl) (λ f. rw f refl))
@@ -82,7 +82,7 @@ carried_keeps l (commands.PortDisable sel) c = record { handle = refl; out = ref
 carried_keeps l (commands.PortEnable sel) c = record { handle = refl; out = refl; state = refl; pending = λ i. refl }
 carried_keeps l (commands.MarkBuffer port target value) c = record { handle = refl; out = refl; state = refl; pending = λ i. refl }
 
-front_keeps : (l : Look) (cs : List Command) (c : Component) → KeepsState c (run_front l cs c)
+pub front_keeps : (l : Look) (cs : List Command) (c : Component) → KeepsState c (run_front l cs c)
 front_keeps l [] c = record { handle = refl; out = refl; state = refl; pending = λ i. refl }
 front_keeps l (command ∷ rest) c =
     let K = carried_keeps l command (record c { commands = rest }) in
@@ -123,4 +123,5 @@ module _ (Q : Handle → Bool → Type 0) (D : Handle → Type 0) (back : (h : H
         (λ f. (k.0, (λ i. absurd (no i)), k.2))
         (λ t g. (k.0, (λ i. absurd (no i)), k.2))
         (λ t g. (k.0, (λ i. absurd (no i)), k.2));
+    returns = λ c k. k;
   }

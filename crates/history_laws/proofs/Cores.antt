@@ -1,5 +1,5 @@
--- What acts and the close-out leave of each component's handle, client object, state and pending transition.
-use Rattle.std.proofs.Common.{◌≡◌, ◌⊎◌, inl, inr, ℕ, zero, suc, Bool, true, false, nat_eq, List, [], ◌∷◌, set, remove, slice_get, Option, Some, None, All, Ok, refl, sym, subst}
+-- What acts and the close-out leave of each component's handle, client object, state and pending transition, and of whether its work is out.
+use Rattle.std.proofs.Common.{◌≡◌, ◌⊎◌, inl, inr, ℕ, zero, suc, Bool, true, false, nat_eq, List, [], ◌∷◌, ◌++◌, set, remove, slice_get, Option, Some, None, is_some, All, Ok, refl, sym, subst}
 use Rattle.omx_types.specs.declared.state.State.{State}
 use Rattle.omx_types.specs.declared.handle.Handle.{Handle}
 use Rattle.omx_types.specs.declared.command.Command.{Command}
@@ -14,8 +14,10 @@ use Rattle.il_machine.specs.declared.port.Port.{Port}
 use Rattle.il_machine.specs.declared.port.PortKey.{PortKey}
 use Rattle.il_machine.specs.declared.header.Spot.{Spot}
 use Rattle.il_machine.specs.declared.header.Spot.TheVariants.{TodoBack}
-use Rattle.il_machine.specs.World.{changed_at, Component, HeaderRecord, Work, World, number_of, place_of, place_numbered, port_of, stream_of, with_port}
+use Rattle.il_machine.specs.World.{changed_at, Component, HeaderRecord, Work, World, fresh, number_of, place_of, place_numbered, port_of, stream_of, with_port}
 use Rattle.il_machine.specs.Headers.{seen, unchanged, cleared}
+use Rattle.il_machine.specs.Kinds.{kind_of}
+use Rattle.omx_types.specs.declared.kind.Kind.{Kind}
 use Rattle.il_machine.specs.Look.{Look, look}
 use Rattle.il_machine.specs.Ports.{is_input_port}
 use Rattle.il_machine.specs.Due.{Thing, Transition, Flush, PortMode, WaitingMark, arrived, mode_completion, all_told, transition_happened, at_port, flush_happened, mode_happened, mark_happened, happened, Happens, HappenTimes, ClosesTo}
@@ -32,7 +34,7 @@ use Rattle.il_machine.specs.Units.{is_waiter, is_before, first_waiter, victim, w
 use Rattle.il_machine.specs.Sound.{Sound}
 use Rattle.il_machine.specs.Settings.{same_format}
 use Rattle.il_machine.specs.Parts.{file_format}
-use Rattle.il_machine.specs.Claims.{ClaimedWork}
+use Rattle.il_machine.specs.Claims.{ClaimedWork, WorkSeen, work_of}
 use Rattle.il_machine.specs.Stepping.{Done as Finishing}
 use Rattle.il_machine.specs.Finishing.{announced, announced_at, stepped_back, finished_by}
 use Rattle.il_machine.specs.Acts.{Act, Reply}
@@ -41,17 +43,18 @@ use Rattle.il_machine.specs.Effect.{at_named, at_named_port, at_both, effect}
 use Rattle.machine_laws.proofs.Finding.{either}
 use Rattle.machine_laws.proofs.Accepting.{is_not}
 use Rattle.machine_laws.proofs.Granting.{best_among, victim_there}
-use Rattle.machine_laws.proofs.Every.{at_place, from_places, at_set, at_remove}
-use Rattle.history_laws.proofs.Outcome.{turn, Outcome, Nothing, Done}
+use Rattle.machine_laws.proofs.Every.{at_place, from_places, at_push, at_set, at_remove}
+use Rattle.history_laws.proofs.Outcome.{turn, Outcome, Nothing, Done, same_number}
 
 pub record Core : Type 0 where
   pub handle : Handle
   pub out : Bool
   pub state : State
   pub pending : Option Pending
+  pub busy : Bool
 
 abbrev pub core : Component → Core
-core c = record { handle = c.handle; out = c.client_out; state = c.state; pending = c.pending }
+core c = record { handle = c.handle; out = c.client_out; state = c.state; pending = c.pending; busy = is_some c.work }
 
 -- no component is made
 abbrev pub NoneGot : Act → Reply → Type 0
@@ -72,6 +75,11 @@ module _ (P : Core → Type 0) where
     pub ends : (c : Component) → P (core c) → P (core (back_in c))
     pub grants : (c : Component) → is_waiter c ≡ true → P (core c) → P (core (granted_units c))
     pub loses : (c : Component) → is_invalid c.state ≡ false → P (core c) → P (core (preempted_units c))
+    pub returns : (c : Component) → P (core c) → P (core (record c { work = None }))
+
+  -- it stays true of the component whose work the act takes out
+  abbrev pub Goes : Act → Reply → Type 0
+  Goes a r = (h : Handle) (x : WorkSeen) (c : Component) (work : Work) → a ≡ acts.Claim h → r ≡ acts.Claimed (Ok (ClaimedWork x)) → number_of c ≡ h.generation → P (core c) → P (core (record c { work = Some work }))
 
   -- it is true of each component
   abbrev pub Each : World → Type 0
@@ -81,6 +89,12 @@ module _ (P : Core → Type 0) where
   each_set cs i d A p = from_places (λ (c : Component). P (core c)) (set cs i d) (λ j x e. elim (at_set cs i j d x e) [
     | inl here ↦ subst (λ (y : Component). P (core y)) (sym here.1) p
     | inr else ↦ at_place (λ (c : Component). P (core c)) cs j x A else.1
+  ])
+
+  each_push : (cs : List Component) (d : Component) → All (λ (c : Component). P (core c)) cs → P (core d) → All (λ (c : Component). P (core c)) (cs ++ d ∷ [])
+  each_push cs d A p = from_places (λ (c : Component). P (core c)) (cs ++ d ∷ []) (λ j x e. elim (at_push cs j d x e) [
+    | inl old ↦ at_place (λ (c : Component). P (core c)) cs j x A old
+    | inr new ↦ subst (λ (y : Component). P (core y)) (sym new) p
   ])
 
   each_removed : (cs : List Component) (i : ℕ) → All (λ (c : Component). P (core c)) cs → All (λ (c : Component). P (core c)) (remove cs i)
@@ -130,6 +144,11 @@ module _ (P : Core → Type 0) where
     named_each : (h : Handle) (w : World) (change : ℕ → Component → World) → Each w → ((i : ℕ) (c : Component) → P (core c) → Each (change i c)) → Each (at_named h w change)
     named_each h w change E k = changed_each (place_of h w.components) w _ E (λ i p.
         changed_each (slice_get w.components i) w _ E (λ c at. k i c (at_place (λ (d : Component). P (core d)) w.components i c E at)))
+
+    -- with its number
+    at_named_each : (h : Handle) (w : World) (change : ℕ → Component → World) → Each w → ((i : ℕ) (c : Component) → P (core c) → number_of c ≡ h.generation → Each (change i c)) → Each (at_named h w change)
+    at_named_each h w change E k = changed_each (place_of h w.components) w _ E (λ i p.
+        changed_each (slice_get w.components i) w _ E (λ c at. k i c (at_place (λ (d : Component). P (core d)) w.components i c E at) (same_number w h i c p at)))
 
     port_each : (h : Handle) (port : ℕ) (w : World) (change : ℕ → Component → Port → World) → Each w → ((i : ℕ) (c : Component) (p : Port) → P (core c) → Each (change i c p)) → Each (at_named_port h port w change)
     port_each h port w change E k = named_each h w _ E (λ i c p. changed_each (port_of c port) w _ E (λ q e. k i c q p))
@@ -196,49 +215,50 @@ module _ (P : Core → Type 0) where
     finished_each : (i : ℕ) (c : Component) (done : Finishing) (o : Option Work) (w : World) → P (core c) → Each w → Each (finished_by i c done o w)
     finished_each i c done None w p E = E
     finished_each i c done (Some work) w p E = either work.announces
-        (λ t. rw t (each_set w.components i (announced c) E (announced_core (port_of c 0) (record c { work = None }) p)))
-        (λ f. rw f (changed_each (stream_of (number_of c) w) w _ E (λ s e. each_set w.components i (stepped_back c s done) E p)))
+        (λ t. rw t (each_set w.components i (announced c) E (announced_core (port_of c 0) (record c { work = None }) (L.returns c p))))
+        (λ f. rw f (changed_each (stream_of (number_of c) w) w _ E (λ s e. each_set w.components i (stepped_back c s done) E (L.returns c p))))
 
     module _ (w : World) (S : Sound w) (E : Each w) where
       noted_each : (i : ℕ) (c : Component) → P (core (first_taken c)) → Each (record w { components = set w.components i (first_taken c) })
       noted_each i c p = each_set w.components i (first_taken c) E p
 
-      -- an act that takes no note, or one that it outlasts
-      pub effect_each : (a : Act) (r : Reply) → NoneGot a r → (NoneTaken a r ⊎ ((c : Component) → P (core c) → P (core (first_taken c)))) → Each (effect w a r)
-      effect_each (acts.GetHandle name) (acts.Got (Ok h)) n t = absurd n
-      effect_each (acts.FreeHandle h) (acts.Removed (Ok file)) n t = named_each h w _ E (λ i c p. each_removed w.components i E)
-      effect_each (acts.Attach h file) (acts.Plain (Ok done)) n t = named_each h w _ E (λ i c p. each_set w.components i _ E p)
-      effect_each (acts.SetParameter h key value) (acts.Plain (Ok done)) n t = named_each h w _ E (λ i c p. each_set w.components i _ E (value_core key value c p))
-      effect_each (acts.SetConfig h key value) (acts.Plain (Ok done)) n t = named_each h w _ E (λ i c p. each_set w.components i _ E (value_core key value c p))
-      effect_each (acts.SetupTunnel output input) (acts.Joined (Ok supplier)) n t =
+      -- an act that makes no component and takes no note, or of which it is true all the same
+      pub effect_each : (a : Act) (r : Reply) → (NoneGot a r ⊎ ((h : Handle) (kind : Kind) → P (core (fresh h kind)))) → Goes a r → (NoneTaken a r ⊎ ((c : Component) → P (core c) → P (core (first_taken c)))) → Each (effect w a r)
+      effect_each (acts.GetHandle name) (acts.Got (Ok h)) (inl n) m t = absurd n
+      effect_each (acts.GetHandle name) (acts.Got (Ok h)) (inr f) m t = changed_each (kind_of name) w _ E (λ kind e. each_push w.components (fresh h kind) E (f h kind))
+      effect_each (acts.FreeHandle h) (acts.Removed (Ok file)) n m t = named_each h w _ E (λ i c p. each_removed w.components i E)
+      effect_each (acts.Attach h file) (acts.Plain (Ok done)) n m t = named_each h w _ E (λ i c p. each_set w.components i _ E p)
+      effect_each (acts.SetParameter h key value) (acts.Plain (Ok done)) n m t = named_each h w _ E (λ i c p. each_set w.components i _ E (value_core key value c p))
+      effect_each (acts.SetConfig h key value) (acts.Plain (Ok done)) n m t = named_each h w _ E (λ i c p. each_set w.components i _ E (value_core key value c p))
+      effect_each (acts.SetupTunnel output input) (acts.Joined (Ok supplier)) n m t =
           named_each output.handle w _ E (λ i c p. named_each input.handle w _ E (λ j d q. both_each (port_of c output.index) (port_of d input.index) w _ E (λ x y.
           each_set (set w.components i _) j _ (each_set w.components i _ E p) q)))
-      effect_each (acts.DropTunnel output input) (acts.Plain (Ok done)) n t =
+      effect_each (acts.DropTunnel output input) (acts.Plain (Ok done)) n m t =
           named_each output.handle w _ E (λ i c p. named_each input.handle w _ E (λ j d q. both_each (port_of c output.index) (port_of d input.index) w _ E (λ x y.
           each_set (set w.components i _) j _ (each_set w.components i _ E p) q)))
-      effect_each (acts.SendCommand h command) (acts.Plain (Ok done)) n t = named_each h w _ E (λ i c p. each_set w.components i _ E (sent_core command c p))
-      effect_each (acts.RunCommand h) (acts.Acted (Ok Did)) n t = named_each h w _ E (λ i c p. each_set w.components i _ E (L.runs (look w) c.commands c p))
-      effect_each (acts.AllocateBuffer h port) (acts.Allocated (Ok header)) n t = port_each h port w _ E (λ i c q p. E)
-      effect_each (acts.UseBuffer h port bytes) (acts.Used (Ok header)) n t = port_each h port w _ E (λ i c q p. E)
-      effect_each (acts.FreeBuffer h port header) (acts.Freed (Ok memory)) n t = port_each h port w _ E (λ i c q p. each_set w.components i _ E (unpopulated_core q c p))
-      effect_each (acts.EmptyThisBuffer h port header) (acts.Plain (Ok done)) n t = port_each h port w _ E (λ i c q p. E)
-      effect_each (acts.FillThisBuffer h port header) (acts.Plain (Ok done)) n t = port_each h port w _ E (λ i c q p. E)
-      effect_each (acts.TakeNote h) (acts.Took (Ok (TookNote (TakenEvent event)))) n (inr f) = named_each h w _ E (λ i c p. each_set w.components i _ E (f c p))
-      effect_each (acts.TakeNote h) (acts.Took (Ok (TookNote (TakenEmpty header)))) n (inr f) = named_each h w _ E (λ i c p. each_set w.components i _ E (f c p))
-      effect_each (acts.TakeNote h) (acts.Took (Ok (TookNote (TakenFilled header)))) n (inr f) = named_each h w _ E (λ i c p. each_set w.components i _ E (f c p))
-      effect_each (acts.TakeNote h) (acts.Took (Ok (TookNote taken))) n (inl t) = absurd t
-      effect_each (acts.EndNote h progress) acts.Ended n t = named_each h w _ E (λ i c p. each_set w.components i _ E (L.ends c p))
-      effect_each (acts.Supply h port) (acts.Supplied (Ok Did)) n t = port_each h port w _ E (λ i c q p. E)
-      effect_each (acts.Release h port) (acts.Acted (Ok Did)) n t = port_each h port w _ E (λ i c q p. unmade_each (in_port (seen w.headers) q) w E)
-      effect_each (acts.HandOver h port) (acts.Acted (Ok Did)) n t = port_each h port w _ E (λ i c q p. over_each q q.state.link w E)
-      effect_each (acts.HandBack h port) (acts.Acted (Ok Did)) n t = port_each h port w _ E (λ i c q p. back_each i c q q.state.link w p E)
-      effect_each acts.Grant (acts.Granted (granted.Granted h)) n t = granted_each (first_waiter w.components) w refl E
-      effect_each acts.Preempt (acts.Preempted (preempted.Victim h)) n t = preempted_each (victim w.components) w S refl E
-      effect_each (acts.Claim h) (acts.Claimed (Ok (ClaimedWork work))) n t = named_each h w _ E (λ i c p. each_set w.components i _ E p)
-      effect_each (acts.Finish done) acts.Finished n t = changed_each (place_numbered done.component w.components) w _ E (λ i e.
+      effect_each (acts.SendCommand h command) (acts.Plain (Ok done)) n m t = named_each h w _ E (λ i c p. each_set w.components i _ E (sent_core command c p))
+      effect_each (acts.RunCommand h) (acts.Acted (Ok Did)) n m t = named_each h w _ E (λ i c p. each_set w.components i _ E (L.runs (look w) c.commands c p))
+      effect_each (acts.AllocateBuffer h port) (acts.Allocated (Ok header)) n m t = port_each h port w _ E (λ i c q p. E)
+      effect_each (acts.UseBuffer h port bytes) (acts.Used (Ok header)) n m t = port_each h port w _ E (λ i c q p. E)
+      effect_each (acts.FreeBuffer h port header) (acts.Freed (Ok memory)) n m t = port_each h port w _ E (λ i c q p. each_set w.components i _ E (unpopulated_core q c p))
+      effect_each (acts.EmptyThisBuffer h port header) (acts.Plain (Ok done)) n m t = port_each h port w _ E (λ i c q p. E)
+      effect_each (acts.FillThisBuffer h port header) (acts.Plain (Ok done)) n m t = port_each h port w _ E (λ i c q p. E)
+      effect_each (acts.TakeNote h) (acts.Took (Ok (TookNote (TakenEvent event)))) n m (inr f) = named_each h w _ E (λ i c p. each_set w.components i _ E (f c p))
+      effect_each (acts.TakeNote h) (acts.Took (Ok (TookNote (TakenEmpty header)))) n m (inr f) = named_each h w _ E (λ i c p. each_set w.components i _ E (f c p))
+      effect_each (acts.TakeNote h) (acts.Took (Ok (TookNote (TakenFilled header)))) n m (inr f) = named_each h w _ E (λ i c p. each_set w.components i _ E (f c p))
+      effect_each (acts.TakeNote h) (acts.Took (Ok (TookNote taken))) n m (inl t) = absurd t
+      effect_each (acts.EndNote h progress) acts.Ended n m t = named_each h w _ E (λ i c p. each_set w.components i _ E (L.ends c p))
+      effect_each (acts.Supply h port) (acts.Supplied (Ok Did)) n m t = port_each h port w _ E (λ i c q p. E)
+      effect_each (acts.Release h port) (acts.Acted (Ok Did)) n m t = port_each h port w _ E (λ i c q p. unmade_each (in_port (seen w.headers) q) w E)
+      effect_each (acts.HandOver h port) (acts.Acted (Ok Did)) n m t = port_each h port w _ E (λ i c q p. over_each q q.state.link w E)
+      effect_each (acts.HandBack h port) (acts.Acted (Ok Did)) n m t = port_each h port w _ E (λ i c q p. back_each i c q q.state.link w p E)
+      effect_each acts.Grant (acts.Granted (granted.Granted h)) n m t = granted_each (first_waiter w.components) w refl E
+      effect_each acts.Preempt (acts.Preempted (preempted.Victim h)) n m t = preempted_each (victim w.components) w S refl E
+      effect_each (acts.Claim h) (acts.Claimed (Ok (ClaimedWork work))) n m t = at_named_each h w _ E (λ i c p number. each_set w.components i _ E (m h work c (work_of (seen w.headers) c) refl refl number p))
+      effect_each (acts.Finish done) acts.Finished n m t = changed_each (place_numbered done.component w.components) w _ E (λ i e.
           changed_each (slice_get w.components i) w _ E (λ c at. finished_each i c done c.work w (at_place (λ (d : Component). P (core d)) w.components i c E at) E))
-      effect_each _ _ n t = E
+      effect_each _ _ n m t = E
 
-    pub outcome_each : (w : World) (a : Act) (r : Reply) (v : World) → Sound w → NoneGot a r → (NoneTaken a r ⊎ ((c : Component) → P (core c) → P (core (first_taken c)))) → Outcome w (turn w a r) v → Each w → Each v
-    outcome_each w a r v S n t (Nothing e m) E = subst Each (sym e) E
-    outcome_each w a r v S n t (Done C F) E = closes_each (effect w a r) v C (effect_each w S E a r n t)
+    pub outcome_each : (w : World) (a : Act) (r : Reply) (v : World) → Sound w → (NoneGot a r ⊎ ((h : Handle) (kind : Kind) → P (core (fresh h kind)))) → Goes a r → (NoneTaken a r ⊎ ((c : Component) → P (core c) → P (core (first_taken c)))) → Outcome w (turn w a r) v → Each w → Each v
+    outcome_each w a r v S n g t (Nothing e m) E = subst Each (sym e) E
+    outcome_each w a r v S n g t (Done C F) E = closes_each (effect w a r) v C (effect_each w S E a r n g t)

@@ -16,7 +16,7 @@ use Rattle.il_machine.specs.Answers.{plain}
 use Rattle.il_machine.specs.Parts.{factors_by}
 use Rattle.il_machine.specs.Due.{HappenTimes, ClosesTo, Happens}
 use Rattle.il_machine.specs.Buffers.{held}
-use Rattle.il_machine.specs.Claims.{Carried as CarriedHeader, WorkSeen, Claimed, ClaimedWork, Claims, claim_idle, held_test, must_announce, carried, seen_work, terms_in, work_of, with_work}
+use Rattle.il_machine.specs.Claims.{Carried as CarriedHeader, WorkSeen, Claimed, ClaimedWork, Claims, claim_idle, held_test, must_announce, carried, carried_by, seen_work, terms_in, work_of, with_work}
 use Rattle.il_machine.specs.Stepping.{Done as Finishing, IsStep, IsAnnounced, IsDoneOf, IsDoneBy}
 use Rattle.il_machine.specs.Acts.{Act, Reply}
 use Rattle.il_machine.specs.Acts as acts
@@ -25,7 +25,7 @@ use Rattle.il_machine.specs.Trails.{Stop, Unmade, With, Move, moves, moved, is_o
 use Rattle.il_machine.specs.Sound.{Sound}
 use Rattle.il_machine.proofs.Carrying.{held_out, carried_same}
 use Rattle.machine_laws.proofs.Every.{set_there}
-use Rattle.machine_laws.proofs.Finding.{either, push_else, without_else}
+use Rattle.machine_laws.proofs.Finding.{either, found_number, push_else, without_else}
 use Rattle.machine_laws.proofs.Keys.{is_there}
 use Rattle.machine_laws.proofs.Lookups.{rising_set}
 use Rattle.machine_laws.proofs.Accepting.{passed, not_either}
@@ -35,7 +35,7 @@ use Rattle.machine_laws.proofs.Headers.{work_is}
 use Rattle.machine_laws.proofs.Listed.{weighs_one}
 use Rattle.machine_laws.proofs.Claiming.{claim_passes, with_its, sound_claimed}
 use Rattle.machine_laws.proofs.Steps.{sound_step}
-use Rattle.history_laws.specs.Works.{IsHeldOut, returns_work}
+use Rattle.history_laws.specs.Works.{IsHeldOut, HeaderStays, returns_work}
 use Rattle.history_laws.proofs.Named.{named, is_named, named_number, named_there}
 use Rattle.history_laws.proofs.Owners.{IsAway, away_stays}
 use Rattle.history_laws.proofs.Trails.{trail_own}
@@ -58,7 +58,7 @@ times_works : (n : ℕ) (w v : World) → HappenTimes n w v → WorksStay None w
 times_works zero w v e = works_same None w v (ap (λ (x : World). x.components) e) (ap (λ (x : World). x.streams) e)
 times_works (suc n) w v (mid, before, last) = works_on None w mid v (times_works n w mid before) (happens_works mid v last)
 
-times_outs : (n : ℕ) (w v : World) → HappenTimes n w v → Once w.headers → (m : ℕ) → IsAway m w.headers → find_header m v.headers ≡ find_header m w.headers
+pub times_outs : (n : ℕ) (w v : World) → HappenTimes n w v → Once w.headers → (m : ℕ) → IsAway m w.headers → find_header m v.headers ≡ find_header m w.headers
 times_outs zero w v e o m a = ap (λ (x : World). find_header m x.headers) e
 times_outs (suc n) w v (mid, before, last) o m a =
     let e = times_outs n w mid before o m a in
@@ -149,7 +149,7 @@ picked_away w i c work S t e j p f =
     one_at : {b : Bool} → b ≡ true → 1 ≤ weight b
     one_at {b} h = rw h (omega arith)
 
-placed_in : (k : ℕ) (cs : List Component) (c : Component) → named k cs ≡ Some c → (i : ℕ) × (slice_get cs i ≡ Some c)
+pub placed_in : (k : ℕ) (cs : List Component) (c : Component) → named k cs ≡ Some c → (i : ℕ) × (slice_get cs i ≡ Some c)
 placed_in k [] c e = absurd cc
 placed_in k (x ∷ cs) c e = either (is_numbered k x)
     (λ t. let s : Some x ≡ Some c = rw t at e in let q : x ≡ c = cc in (0, ap (λ (y : Component). Some y) q))
@@ -164,6 +164,9 @@ held_kept w v x s H K F = record {
   there = is_named x.component v ∙ K.there;
   out = (K.still).work ∙ H.out;
   announces = H.announces;
+  kind = (K.still).kind ∙ H.kind;
+  file = (K.still).file ∙ H.file;
+  failed = (K.still).failed ∙ H.failed;
   headers = carried_same w.headers v.headers (H.work).headers (λ j p e. ap (option_map held) (F j p e)) ∙ H.headers;
   terms = λ a.
       let t = H.terms a in
@@ -189,20 +192,27 @@ held_closes w v x s S C H =
     held_kept w v x s H (times_works C.steps w v C.by_steps x.component H.component N.0 N.1 (λ e. absurd cc))
     (λ j p e. let r = headers_away w x s H S j p e in times_outs C.steps w v C.by_steps S.once p.number (r.0, x.component, r.1, r.2))
 
+-- no header of the work changes
+outcome_outs : (w : World) (a : Act) (r : Reply) (v : World) (x : WorkSeen) (s : Stream) → Sound w → brought_back a r ≢ Some x.component → Outcome w (turn w a r) v → (H : IsHeldOut w x s)
+    → (j : ℕ) (p : Picked) → slice_get (H.work).headers j ≡ Some p → find_header p.number v.headers ≡ find_header p.number w.headers
+outcome_outs w a r v x s S b (Nothing e m) H j p g = ap (λ (y : World). find_header p.number y.headers) e
+outcome_outs w a r v x s S b (Done C E) H j p g =
+    let t : Turn = turn w a r in
+    let once = carried_once w t.after t.moves S.once (parts_of w S).below E.carried in
+    let h = headers_away w x s H S j p g in
+    let f = carried_outs w t.after t.moves p.number x.component h.0 (parts_of w S).below E.carried h.1 h.2 (λ to z. from_other_work w a r p.number x.component to b z) in
+    times_outs C.steps t.after v C.by_steps once p.number (away_stays p.number w.headers t.after.headers f (h.0, x.component, h.1, h.2)) ∙ f
+
 outcome_held : (w : World) (a : Act) (r : Reply) (v : World) (x : WorkSeen) (s : Stream) → Sound w → brought_back a r ≢ Some x.component → Outcome w (turn w a r) v → IsHeldOut w x s → IsHeldOut v x s
 outcome_held w a r v x s S b (Nothing e m) H = subst (λ (y : World). IsHeldOut y x s) (sym e) H
 outcome_held w a r v x s S b (Done C E) H =
+    let F = outcome_outs w a r v x s S b (Done C E) H in
     let t : Turn = turn w a r in
     let N = named_out w x s H in
     let K = E.works x.component H.component N.0 N.1 b in
     let q : is_some (K.component).work ≡ true = ap (λ (o : Option Work). is_some o) (K.still).work ∙ N.1 in
     let L = times_works C.steps t.after v C.by_steps x.component K.component K.there q (λ e. absurd cc) in
-    let once = carried_once w t.after t.moves S.once (parts_of w S).below E.carried in
-    held_kept w v x s H (record { component = L.component; there = L.there; still = still_on H.component K.component L.component K.still L.still; stream = L.stream ∙ K.stream })
-    (λ j p e.
-    let h = headers_away w x s H S j p e in
-    let f = carried_outs w t.after t.moves p.number x.component h.0 (parts_of w S).below E.carried h.1 h.2 (λ to z. from_other_work w a r p.number x.component to b z) in
-    times_outs C.steps t.after v C.by_steps once p.number (away_stays p.number w.headers t.after.headers f (h.0, x.component, h.1, h.2)) ∙ f)
+    held_kept w v x s H (record { component = L.component; there = L.there; still = still_on H.component K.component L.component K.still L.still; stream = L.stream ∙ K.stream }) F
 
 brought_not : (k : ℕ) (a : Act) (r : Reply) → returns_work k a r ≡ false → brought_back a r ≢ Some k
 brought_not k (acts.Finish done) acts.Finished e b = let q : done.component ≡ k = cc in let z : nat_eq done.component k ≡ true = eq-eqb done.component k q in absurd cc
@@ -210,6 +220,20 @@ brought_not k _ _ e b = absurd cc
 
 pub steps_held : (w : World) (a : Act) (r : Reply) (v : World) (x : WorkSeen) (s : Stream) → Sound w → Meets w a → Step w a r v → returns_work x.component a r ≡ false → IsHeldOut w x s → IsHeldOut v x s
 steps_held w a r v x s S M h n H = outcome_held w a r v x s S (brought_not x.component a r n) (step_comes w a r v S M h) H
+
+carried_unchanged : (hs ks : List HeaderRecord) (ps : List Picked) → ((j : ℕ) (p : Picked) → slice_get ps j ≡ Some p → find_header p.number ks ≡ find_header p.number hs) → All (HeaderStays hs ks) (carried hs ps)
+carried_unchanged hs ks [] h = All-nil (HeaderStays hs ks)
+carried_unchanged hs ks (p ∷ ps) h = at_record (find_header p.number hs) refl (carried_unchanged hs ks ps (λ j q f. h (suc j) q f))
+  where
+    at_record : (o : Option HeaderRecord) → find_header p.number hs ≡ o → All (HeaderStays hs ks) (carried hs ps) → All (HeaderStays hs ks) (carried_by p.port o (carried hs ps))
+    at_record None e A = A
+    at_record (Some r) e A =
+        let n : r.state.number ≡ p.number = found_number p.number hs r e in
+        All-cons (HeaderStays hs ks) (record { port = p.port; header = held r }) (carried hs ps) (subst (λ (k : ℕ). find_header k ks ≡ find_header k hs) (sym n) (h 0 p refl)) A
+
+pub steps_unchanged : (w : World) (a : Act) (r : Reply) (v : World) (x : WorkSeen) (s : Stream) → Sound w → Meets w a → Step w a r v → returns_work x.component a r ≡ false → IsHeldOut w x s → All (HeaderStays w.headers v.headers) x.headers
+steps_unchanged w a r v x s S M h n H =
+    subst (All (HeaderStays w.headers v.headers)) H.headers (carried_unchanged w.headers v.headers (H.work).headers (outcome_outs w a r v x s S (brought_not x.component a r n) (step_comes w a r v S M h) H))
 
 pub runs_held : (w v : World) (xs : List (Act × Reply)) (x : WorkSeen) (s : Stream) → Sound w → Run w xs v → All (λ y. returns_work x.component y.0 y.1 ≡ false) xs → IsHeldOut w x s → IsHeldOut v x s
 runs_held w v [] x s S e A H = subst (λ (y : World). IsHeldOut y x s) (sym e) H
@@ -264,6 +288,9 @@ claimed_out w i c S t e =
         there = is_named (number_of c) mid ∙ there;
         out = refl;
         announces = refl;
+        kind = refl;
+        file = refl;
+        failed = (not_either c.part.ended c.part.failed C.goes).1;
         headers = carried_same w.headers mid.headers work.headers (λ j p f. held_out p.number (number_of c) work.headers w.headers);
         terms = λ a. let K = known_from c (number_of c) 0 c.settings.ports c.ports a ((I.whole).ports ∙ sym I.ports) C.held in (refl, record { held = K.0; formats = K.1 });
         stream = s.1;

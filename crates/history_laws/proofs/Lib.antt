@@ -40,6 +40,7 @@ pub mod Cores
 pub mod MadeFor
 pub mod StillClosed
 pub mod Calm
+pub mod Freed
 pub mod GivenHeaders
 pub mod KeyLaw
 pub mod Memories

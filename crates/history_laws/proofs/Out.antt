@@ -17,16 +17,18 @@ pub record IsStillOut (c d : Component) : Type 0 where
   pub work : d.work ≡ c.work
   pub kind : d.settings.kind ≡ c.settings.kind
   pub file : d.file ≡ c.file
+  pub failed : d.part.failed ≡ c.part.failed
   pub known : AreKnown c → (formats_of d.settings.ports ≡ formats_of c.settings.ports) × AreKnown d
 
 pub still_itself : (c : Component) → IsStillOut c c
-still_itself c = record { work = refl; kind = refl; file = refl; known = λ K. (refl, K) }
+still_itself c = record { work = refl; kind = refl; file = refl; failed = refl; known = λ K. (refl, K) }
 
 pub still_on : (c d e : Component) → IsStillOut c d → IsStillOut d e → IsStillOut c e
 still_on c d e A B = record {
   work = B.work ∙ A.work;
   kind = B.kind ∙ A.kind;
   file = B.file ∙ A.file;
+  failed = B.failed ∙ A.failed;
   known = λ K. let a = A.known K in let b = B.known a.1 in (b.0 ∙ a.0, b.1);
 }
 
@@ -34,8 +36,8 @@ still_on c d e A B = record {
 pub record IsNotHeld (ps qs : List PortState) : Type 0 where
   pub stay : All (λ p. p.held ≡ false) ps → All (λ p. p.held ≡ false) qs
 
-pub still_as : (c d : Component) → d.work ≡ c.work → d.settings.kind ≡ c.settings.kind → d.file ≡ c.file → formats_of d.settings.ports ≡ formats_of c.settings.ports → IsNotHeld c.ports d.ports → IsStillOut c d
-still_as c d w k f s H = record { work = w; kind = k; file = f; known = λ K. (s, record { held = H.stay K.held; formats = rw s K.formats }) }
+pub still_as : (c d : Component) → d.work ≡ c.work → d.settings.kind ≡ c.settings.kind → d.file ≡ c.file → d.part.failed ≡ c.part.failed → formats_of d.settings.ports ≡ formats_of c.settings.ports → IsNotHeld c.ports d.ports → IsStillOut c d
+still_as c d w k f q s H = record { work = w; kind = k; file = f; failed = q; known = λ K. (s, record { held = H.stay K.held; formats = rw s K.formats }) }
 
 pub held_set : (ps : List PortState) (k : ℕ) (new : PortState) → new.held ≡ false → IsNotHeld ps (set ps k new)
 held_set ps k new e = record {

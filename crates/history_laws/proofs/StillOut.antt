@@ -46,20 +46,20 @@ use Rattle.machine_laws.proofs.Granting.{preempted_by}
 use Rattle.history_laws.specs.Works.{AreKnown}
 use Rattle.history_laws.proofs.Out.{IsStillOut, still_itself, still_on, still_as, held_set, held_in_place, held_map}
 
-still_plain : (c d : Component) → d.work ≡ c.work → d.settings ≡ c.settings → d.file ≡ c.file → d.ports ≡ c.ports → IsStillOut c d
-still_plain c d w s f p = still_as c d w (ap (λ (x : Settings). x.kind) s) f (ap (λ (x : Settings). formats_of x.ports) s) (record { stay = λ A. rw p A })
+still_plain : (c d : Component) → d.work ≡ c.work → d.settings ≡ c.settings → d.file ≡ c.file → d.part.failed ≡ c.part.failed → d.ports ≡ c.ports → IsStillOut c d
+still_plain c d w s f q p = still_as c d w (ap (λ (x : Settings). x.kind) s) f q (ap (λ (x : Settings). formats_of x.ports) s) (record { stay = λ A. rw p A })
 
 -- ---- commands
 
 still_told : (events : List Event) (c : Component) → IsStillOut c (all_told events c)
 still_told [] c = still_itself c
-still_told (event ∷ events) c = still_on c (told event c) (all_told events (told event c)) (still_plain c (told event c) refl refl refl refl) (still_told events (told event c))
+still_told (event ∷ events) c = still_on c (told event c) (all_told events (told event c)) (still_plain c (told event c) refl refl refl refl refl) (still_told events (told event c))
 
 still_invalid : (c : Component) → IsStillOut c (told (Error errors.InvalidState) (invalidated c))
-still_invalid c = still_as c (told (Error errors.InvalidState) (invalidated c)) refl refl refl refl (held_map at_rest (λ p e. e) c.ports)
+still_invalid c = still_as c (told (Error errors.InvalidState) (invalidated c)) refl refl refl refl refl (held_map at_rest (λ p e. e) c.ports)
 
 pub still_sent : (command : Command) (c : Component) → IsStillOut c (sent command c)
-still_sent command c = either (is_at_once command) (λ t. rw t (still_invalid c)) (λ f. rw f (still_plain c (record c { commands = c.commands ++ command ∷ [] }) refl refl refl refl))
+still_sent command c = either (is_at_once command) (λ t. rw t (still_invalid c)) (λ f. rw f (still_plain c (record c { commands = c.commands ++ command ∷ [] }) refl refl refl refl refl))
 
 selected_held : (index : ℕ) (sel : PortSel) (change : PortState → PortState) (ps : List PortState) → ((p : PortState) → (change p).held ≡ p.held) → (j : ℕ) (p : PortState) → slice_get (selected_from index sel change ps) j ≡ Some p
     → (x : PortState) × (slice_get ps j ≡ Some x) × (p.held ≡ x.held)
@@ -70,13 +70,13 @@ selected_held index sel change (x ∷ ps) h zero p e = either (is_selected sel i
 selected_held index sel change (x ∷ ps) h (suc j) p e = selected_held (index + 1) sel change ps h j p e
 
 still_selected : (sel : PortSel) (change : PortState → PortState) (c : Component) → ((p : PortState) → (change p).held ≡ p.held) → IsStillOut c (with_selected sel change c)
-still_selected sel change c h = still_as c (with_selected sel change c) refl refl refl refl (record {
+still_selected sel change c h = still_as c (with_selected sel change c) refl refl refl refl refl (record {
   stay = λ A. from_places (λ p. p.held ≡ false) (selected_from 0 sel change c.ports) (λ j p e. let x = selected_held 0 sel change c.ports h j p e in x.2 ∙ at_place (λ y. y.held ≡ false) c.ports j x.0 A x.1);
 })
 
 still_begun : (fault : Option OmxError) (target : State) (c : Component) → IsStillOut c (begun fault target c)
-still_begun (Some error) target c = still_plain c (told (Error error) c) refl refl refl refl
-still_begun None target c = still_plain c (begun None target c) refl refl refl refl
+still_begun (Some error) target c = still_plain c (told (Error error) c) refl refl refl refl refl
+still_begun None target c = still_plain c (begun None target c) refl refl refl refl refl
 
 still_carried : (l : Look) (command : Command) (c : Component) → IsStillOut c (carried_out l command c)
 still_carried l (commands.StateSet target) c = still_begun (state_fault l c target) target c
@@ -89,32 +89,32 @@ pub still_run : (l : Look) (cs : List Command) (c : Component) → IsStillOut c 
 still_run l [] c = still_itself c
 still_run l (command ∷ rest) c =
     let d : Component = record c { commands = rest } in
-    still_on c d (carried_out l command d) (still_plain c d refl refl refl refl) (still_carried l command d)
+    still_on c d (carried_out l command d) (still_plain c d refl refl refl refl refl) (still_carried l command d)
 
 -- ---- units, headers and notes
 
 pub still_granted : (c : Component) → IsStillOut c (granted_units c)
-still_granted c = still_plain c (granted_units c) refl refl refl refl
+still_granted c = still_plain c (granted_units c) refl refl refl refl refl
 
 pub still_preempted : (c : Component) → IsStillOut c (preempted_units c)
-still_preempted c = preempted_by (IsStillOut c) c (λ f. still_plain c (lost c) refl refl refl refl) (λ t g. still_plain c _ refl refl refl refl) (λ t g. still_plain c _ refl refl refl refl)
+still_preempted c = preempted_by (IsStillOut c) c (λ f. still_plain c (lost c) refl refl refl refl refl) (λ t g. still_plain c _ refl refl refl refl refl) (λ t g. still_plain c _ refl refl refl refl refl)
 
 pub still_unpopulated : (p : Port) (c : Component) → IsStillOut c (unpopulated p c)
-still_unpopulated p c = either (is_unpopulating c p) (λ t. rw t (still_plain c (told (Error errors.PortUnpopulated) c) refl refl refl refl)) (λ f. rw f (still_itself c))
+still_unpopulated p c = either (is_unpopulating c p) (λ t. rw t (still_plain c (told (Error errors.PortUnpopulated) c) refl refl refl refl refl)) (λ f. rw f (still_itself c))
 
 pub still_noted : (note : Note) (c : Component) → IsStillOut c (noted note c)
-still_noted note c = still_plain c (noted note c) refl refl refl refl
+still_noted note c = still_plain c (noted note c) refl refl refl refl refl
 
 pub still_back : (c : Component) → IsStillOut c (back_in c)
-still_back c = still_plain c (back_in c) refl refl refl refl
+still_back c = still_plain c (back_in c) refl refl refl refl refl
 
 pub still_taken : (c : Component) → IsStillOut c (first_taken c)
-still_taken c = still_plain c (first_taken c) refl refl refl refl
+still_taken c = still_plain c (first_taken c) refl refl refl refl refl
 
 -- ---- ports
 
 pub still_with_port : (k : ℕ) (new old : PortState) (c : Component) → slice_get c.ports k ≡ Some old → new.held ≡ old.held → IsStillOut c (with_port k new c)
-still_with_port k new old c t e = still_as c (with_port k new c) refl refl refl refl (held_in_place c.ports k new old t e)
+still_with_port k new old c t e = still_as c (with_port k new c) refl refl refl refl refl (held_in_place c.ports k new old t e)
 
 -- another setting of a port, of the same format
 formats_set : (ss : List PortSetting) (k : ℕ) (new : PortSetting) → ((old : PortSetting) → slice_get ss k ≡ Some old → new.definition.format ≡ old.definition.format) → formats_of (set ss k new) ≡ formats_of ss
@@ -132,7 +132,7 @@ still_joined q supplier index p c e =
     let b : Some old ≡ Some p.setting = sym t ∙ a in
     let s : old ≡ p.setting = cc in
     ap (λ (y : PortSetting). y.definition.format) (sym s)) in
-    still_as c (joined_to q supplier p c) refl refl refl f (held_in_place c.ports k _ p.state (state_there c index p e) refl)
+    still_as c (joined_to q supplier p c) refl refl refl refl f (held_in_place c.ports k _ p.state (state_there c index p e) refl)
 
 pub still_parted : (index : ℕ) (p : Port) (c : Component) → port_of c index ≡ Some p → IsStillOut c (parted p c)
 still_parted index p c e = still_with_port p.key.port _ p.state c (state_there c index p e) refl
@@ -230,12 +230,12 @@ kind_kept port (params.Weight n) s = refl
 
 still_unheld : (o : Option Port) (d : Component) → IsStillOut d (unheld_at o d)
 still_unheld None d = still_itself d
-still_unheld (Some p) d = still_as d (with_port p.key.port (record p.state { held = false }) d) refl refl refl refl (held_set d.ports p.key.port _ refl)
+still_unheld (Some p) d = still_as d (with_port p.key.port (record p.state { held = false }) d) refl refl refl refl refl (held_set d.ports p.key.port _ refl)
 
 still_valued : (c : Component) (key : ParamKey) (value : Param) → (AreKnown c → formats_of (changed_by key.port value c.settings).ports ≡ formats_of c.settings.ports) → IsStillOut c (with_value key value c)
 still_valued c key value h =
     let d : Component = record c { settings = changed_by key.port value c.settings } in
-    let A : IsStillOut c d = record { work = refl; kind = kind_kept key.port value c.settings; file = refl; known = λ K. (h K, record { held = K.held; formats = rw (h K) K.formats }) } in
+    let A : IsStillOut c d = record { work = refl; kind = kind_kept key.port value c.settings; file = refl; failed = refl; known = λ K. (h K, record { held = K.held; formats = rw (h K) K.formats }) } in
     let B : IsStillOut c (unheld_at (port_of c key.port) d) = still_on c d (unheld_at (port_of c key.port) d) A (still_unheld (port_of c key.port) d) in
     either (nat_eq key.index 1) (λ t. rw t B) (λ f. rw f A)
 
@@ -266,25 +266,25 @@ still_configured c key value h = let p = config_value c key value h in still_val
 -- ---- happenings
 
 still_client : (p : Pending) (c : Component) → IsStillOut c (completed_for p c)
-still_client p c = either (is_by_client p.cause) (λ t. rw t (still_plain c _ refl refl refl refl)) (λ f. rw f (still_itself c))
+still_client p c = either (is_by_client p.cause) (λ t. rw t (still_plain c _ refl refl refl refl refl)) (λ f. rw f (still_itself c))
 
 still_lost : (p : Pending) (c : Component) → IsStillOut c (lost_by p c)
-still_lost p c = either (c.loss_mark || not (is_by_client p.cause)) (λ t. rw t (still_plain c (lost c) refl refl refl refl)) (λ f. rw f (still_itself c))
+still_lost p c = either (c.loss_mark || not (is_by_client p.cause)) (λ t. rw t (still_plain c (lost c) refl refl refl refl refl)) (λ f. rw f (still_itself c))
 
 still_arrived_at : (number : ℕ) (target : State) (p : Pending) (c : Component) → IsStillOut c (arrived_at number target p c)
 still_arrived_at number Idle p c = either (is_down c.state)
-    (λ t. rw t (still_plain c _ refl refl refl refl))
+    (λ t. rw t (still_plain c _ refl refl refl refl refl))
     (λ f.
     let r : Component = with_part (restarted c) (reached p c) in
     let m : Component = completed_for p r in
-    rw f (still_on c r (lost_by p m) (still_plain c r refl refl refl refl) (still_on r m (lost_by p m) (still_client p r) (still_lost p m))))
+    rw f (still_on c r (lost_by p m) (still_plain c r refl refl refl refl refl) (still_on r m (lost_by p m) (still_client p r) (still_lost p m))))
 still_arrived_at number Loaded p c =
     let d : Component = all_given_back (reached p c) in
-    still_on c d (completed_for p d) (still_as c d refl refl refl refl (held_map unheld (λ x e. refl) c.ports)) (still_client p d)
-still_arrived_at number Invalid p c = still_plain c _ refl refl refl refl
-still_arrived_at number Executing p c = still_plain c _ refl refl refl refl
-still_arrived_at number Pause p c = still_plain c _ refl refl refl refl
-still_arrived_at number WaitForResources p c = still_plain c _ refl refl refl refl
+    still_on c d (completed_for p d) (still_as c d refl refl refl refl refl (held_map unheld (λ x e. refl) c.ports)) (still_client p d)
+still_arrived_at number Invalid p c = still_plain c _ refl refl refl refl refl
+still_arrived_at number Executing p c = still_plain c _ refl refl refl refl refl
+still_arrived_at number Pause p c = still_plain c _ refl refl refl refl refl
+still_arrived_at number WaitForResources p c = still_plain c _ refl refl refl refl refl
 
 pub still_arrived : (number : ℕ) (p : Pending) (c : Component) → IsStillOut c (arrived number p c)
 still_arrived number p c = still_arrived_at number p.target p c

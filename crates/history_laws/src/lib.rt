@@ -24,7 +24,7 @@ ghost use Rattle.il_machine.specs.Acts.{Act, Reply};
 ghost use Rattle.il_machine.specs.Acts as acts;
 ghost use Rattle.il_machine.specs.Claims.{WorkSeen, ClaimedWork};
 ghost use Rattle.il_machine.specs.Stepping.{Done, IsStep, IsAnnounced};
-ghost use Rattle.history_laws.specs.Works.{IsHeldOut, returns_work};
+ghost use Rattle.history_laws.specs.Works.{IsHeldOut, HeaderStays, returns_work, takes_work, has_work_out};
 ghost use Rattle.il_machine.specs.Run.{Step, Meets, Run};
 ghost use Rattle.il_machine.specs.Sound.{Sound};
 ghost use Rattle.il_machine.specs.Effect.{effect};
@@ -182,7 +182,8 @@ pub fn law_of_keys()
 {}
 
 /// A work that was claimed is out, as its holder sees it, until an act brings it back: nobody else moves its headers, what they
-/// carry stays, and so do its part's terms and what went through it. So a holder who did one step of it may bring it back.
+/// carry stays, and so do its part's terms and what went through it. So a holder who did one step of it may bring it back. No act but
+/// a claim takes a work out, and of a component whose work came back none is out.
 pub fn law_of_works()
     ensures claimed { (w : World) (h : Handle) (x : WorkSeen) (v : World)
         → Sound w → Step w (acts.Claim h) (acts.Claimed (Ok (ClaimedWork x))) v
@@ -196,4 +197,12 @@ pub fn law_of_works()
         → IsHeldOut w x s → done.component ≡ x.component → x.announces ≡ false → IsStep x.terms s x.headers done → Meets w (acts.Finish done) }
     ensures told { (w : World) (x : WorkSeen) (s : Stream) (done : Done)
         → IsHeldOut w x s → done.component ≡ x.component → x.announces ≡ true → IsAnnounced done → Meets w (acts.Finish done) }
+    ensures headers { (w : World) (a : Act) (r : Reply) (v : World) (x : WorkSeen) (s : Stream)
+        → Sound w → Meets w a → Step w a r v → returns_work x.component a r ≡ false → IsHeldOut w x s → All (HeaderStays w.headers v.headers) x.headers }
+    ensures first { (w : World) (h : Handle) (x : WorkSeen) (v : World)
+        → Sound w → Step w (acts.Claim h) (acts.Claimed (Ok (ClaimedWork x))) v → has_work_out x.component w ≡ false }
+    ensures comes { (w : World) (a : Act) (r : Reply) (v : World) (number : ℕ)
+        → Sound w → Meets w a → Step w a r v → takes_work number a r ≡ false → has_work_out number w ≡ false → has_work_out number v ≡ false }
+    ensures gone { (w : World) (done : Done) (v : World)
+        → Sound w → Meets w (acts.Finish done) → Step w (acts.Finish done) acts.Finished v → has_work_out done.component v ≡ false }
 {}

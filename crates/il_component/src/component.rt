@@ -1,6 +1,6 @@
-ghost use Rattle.std.specs.Prelude.{◌≡◌, ◌<◌, ◌≤◌, ◌||◌, ◌↔◌, IsTrue, Some, None, IfOk, IfErr, replicate, is_none, is_some, true, false, IsSome};
+ghost use Rattle.std.specs.Prelude.{◌≡◌, ◌<◌, ◌≤◌, ◌||◌, ◌↔◌, IsTrue, Some, None, IfOk, IfErr, replicate, take, All, is_none, is_some, true, false, IsSome};
 ghost use Rattle.il_machine.specs.Kinds.{ports_in};
-ghost use Rattle.il_machine.specs.Settings.{IsSized, set_refusal, value_of, refused_or};
+ghost use Rattle.il_machine.specs.Settings.{IsSized, set_refusal, value_of, refused_or, weights_in};
 ghost use Rattle.il_machine.specs.World.{fresh, fresh_port, port_of, ports_of, told};
 ghost use Rattle.il_machine.specs.Room.{room, used};
 ghost use Rattle.std.specs.List.{list_any};
@@ -11,7 +11,7 @@ ghost use Rattle.il_component.specs.Entries.{component_of, KeepsNotices};
 ghost use Rattle.il_component.specs.Places.{places_of};
 
 use crate::work_out::{WorkOut, work_places};
-use il_machine::{Cause, Mode, Pending, Port, PortKey, PortState};
+use il_machine::{Cause, Mode, Pending, Port, PortKey, PortSetting, PortState};
 use note_queues::Notes;
 use omx_types::{Event, Handle, Kind, OmxError, Param, ParamKey, State};
 use param_store::Params;
@@ -180,9 +180,33 @@ impl<C> Component<C> {
     }
 
     pub fn kind(&self) -> Kind
-        ensures { result ≡ self.now.settings.kind }
+        ensures kind { result ≡ self.now.settings.kind }
+        ensures sized { IsSized result }
     {
         self.params.kind()
+    }
+
+    /// What is set of each port.
+    pub fn settings(&self) -> &[PortSetting]
+        ensures { result.now ≡ self.now.settings.ports }
+    {
+        self.params.settings()
+    }
+
+    /// The gain of a gain, in 4096ths.
+    pub fn gain(&self) -> u32
+        ensures gain { result ≡ self.now.settings.gain }
+        ensures small { result ≤ 65535 }
+    {
+        self.params.gain()
+    }
+
+    /// The weights of a mixer's inputs, in 4096ths, come first.
+    pub fn weights(&self) -> [u32; 8]
+        ensures weights { take (weights_in self.now.settings.kind) result ≡ self.now.settings.weights }
+        ensures small { All (λ weight. weight ≤ 65535) result }
+    {
+        self.params.weights()
     }
 
     /// How many ports it has.

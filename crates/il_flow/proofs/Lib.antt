@@ -1,16 +1,11 @@
-pub mod Backs
 pub mod Bytes
 pub mod Coming
 pub mod Counting
-pub mod Finishes
+pub mod Free
 pub mod Laid
 pub mod Laying
 pub mod Least
-pub mod Noting
-pub mod Picked
 pub mod Plain
-pub mod Room
 pub mod Sameness
 pub mod Stepped
-pub mod Telling
 pub mod Told

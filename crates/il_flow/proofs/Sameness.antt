@@ -4,17 +4,11 @@ use Rattle.std.specs.Prelude.{Option, Some, None, MatchOption}
 use Rattle.part_api.specs.Streams.{Incoming, Shape}
 use Rattle.part_api.specs.Terms.{Terms}
 use Rattle.il_machine.specs.declared.header.HeaderState.{HeaderState}
-use Rattle.il_machine.specs.declared.header.Place.TheVariants.{Out}
-use Rattle.il_machine.specs.Headers.{is_for}
-use Rattle.il_machine.specs.Lists.{holds_at}
-use Rattle.il_machine.specs.Stock.{Stocked}
 use Rattle.header_core.specs.declared.memory.Store.{Store}
 use Rattle.header_core.specs.declared.memory.Store.TheVariants.{Own, Block}
 use Rattle.header_core.specs.BufferHeader.{BufferHeader, is_clients, with_bytes}
-use Rattle.port_stock.specs.Conditions.{IsHeaderOf, IsOutside}
-use Rattle.il_flow.specs.Landed.{AreApart, AreHomeless, IsOther}
-use Rattle.il_flow.specs.Picking.{key_at}
-use Rattle.il_flow.specs.Places.{AreSame, AreWithin, EachFrom, IsSame, carried_from, changed_from}
+use Rattle.port_stock.specs.Conditions.{IsHeaderOf}
+use Rattle.il_flow.specs.Places.{AreHeadersOf, AreSame, AreWithin, IsSame, carried_from, changed_from}
 use Rattle.il_flow.specs.Steps.{stepped_header}
 
 same_store : (bytes : List ℕ) (store : Store) → is_clients (with_bytes bytes store) ≡ is_clients store
@@ -41,46 +35,23 @@ still_within f count port [] h = tt
 still_within f count port (None ∷ places) h = (tt, still_within f count (port + 1) places h.1)
 still_within f count port (Some x ∷ places) h = (h.0, still_within f count (port + 1) places h.1)
 
--- ---- a header that is the same is out where the other one was
+-- ---- a header that is the same is as known as the other one
 
-outside_as : (x y : BufferHeader) (o : Option HeaderState) → IsSame x y → MatchOption o ⊥ (λ h. (h.place ≡ Out) × IsHeaderOf h x) → MatchOption o ⊥ (λ h. (h.place ≡ Out) × IsHeaderOf h y)
-outside_as x y None same h = absurd h
-outside_as x y (Some state) same h = (h.0, record { size = same.size ∙ h.1.size; memory = same.memory ∙ h.1.memory })
+known_as : (x y : BufferHeader) (o : Option HeaderState) → IsSame x y → MatchOption o ⊥ (λ s. IsHeaderOf s x) → MatchOption o ⊥ (λ s. IsHeaderOf s y)
+known_as x y None same h = absurd h
+known_as x y (Some state) same h = record { size = same.size ∙ h.size; memory = same.memory ∙ h.memory }
 
-outside_same : (x y : BufferHeader) (s : Stocked) → IsSame x y → IsOutside x s → IsOutside y s
-outside_same x y s same h =
-    (same.key ∙ h.0, subst (λ n. MatchOption (s.headers.header n) ⊥ (λ h. (h.place ≡ Out) × IsHeaderOf h y)) (sym same.number) (outside_as x y (s.headers.header x.held.number) same h.1))
-
-pub homeless_same : (component port : ℕ) (a b : List (Option BufferHeader)) (s : Stocked) → AreSame a b → AreHomeless component port a s → AreHomeless component port b s
-homeless_same component port [] [] s same h = tt
-homeless_same component port [] (y ∷ b) s same h = absurd same
-homeless_same component port (x ∷ a) [] s same h = absurd same
-homeless_same component port (None ∷ a) (None ∷ b) s same h = (tt, homeless_same component (port + 1) a b s same.1 h.1)
-homeless_same component port (None ∷ a) (Some y ∷ b) s same h = absurd same.0
-homeless_same component port (Some x ∷ a) (None ∷ b) s same h = absurd same.0
-homeless_same component port (Some x ∷ a) (Some y ∷ b) s same h = (
-  (h.0.0, outside_same x y s same.0 h.0.1, subst (λ n. holds_at (s.headers.header n) (is_for (key_at component port)) ≡ true) (sym same.0.number) h.0.2),
-  homeless_same component (port + 1) a b s same.1 h.1,
+pub known_same : (key : ℕ) (headers : ℕ → Option HeaderState) (port : ℕ) (a b : List (Option BufferHeader)) → AreSame a b → AreHeadersOf key headers port a → AreHeadersOf key headers port b
+known_same key headers port [] [] same h = tt
+known_same key headers port [] (y ∷ b) same h = absurd same
+known_same key headers port (x ∷ a) [] same h = absurd same
+known_same key headers port (None ∷ a) (None ∷ b) same h = (tt, known_same key headers (port + 1) a b same.1 h.1)
+known_same key headers port (None ∷ a) (Some y ∷ b) same h = absurd same.0
+known_same key headers port (Some x ∷ a) (None ∷ b) same h = absurd same.0
+known_same key headers port (Some x ∷ a) (Some y ∷ b) same h = (
+  (same.0.key ∙ h.0.0, subst (λ n. MatchOption (headers n) ⊥ (λ s. IsHeaderOf s y)) (sym same.0.number) (known_as x y (headers x.held.number) same.0 h.0.1)),
+  known_same key headers (port + 1) a b same.1 h.1,
 )
-
-others_same : (number port : ℕ) (a b : List (Option BufferHeader)) → AreSame a b → EachFrom (λ port x. IsOther number x) port a → EachFrom (λ port x. IsOther number x) port b
-others_same number port [] [] same h = tt
-others_same number port [] (y ∷ b) same h = absurd same
-others_same number port (x ∷ a) [] same h = absurd same
-others_same number port (None ∷ a) (None ∷ b) same h = (tt, others_same number (port + 1) a b same.1 h.1)
-others_same number port (None ∷ a) (Some y ∷ b) same h = absurd same.0
-others_same number port (Some x ∷ a) (None ∷ b) same h = absurd same.0
-others_same number port (Some x ∷ a) (Some y ∷ b) same h = (subst (λ n. nat_eq n number ≡ false) (sym same.0.number) h.0, others_same number (port + 1) a b same.1 h.1)
-
-pub apart_same : (a b : List (Option BufferHeader)) → AreSame a b → AreApart a → AreApart b
-apart_same [] [] same h = tt
-apart_same [] (y ∷ b) same h = absurd same
-apart_same (x ∷ a) [] same h = absurd same
-apart_same (None ∷ a) (None ∷ b) same h = (tt, apart_same a b same.1 h.1)
-apart_same (None ∷ a) (Some y ∷ b) same h = absurd same.0
-apart_same (Some x ∷ a) (None ∷ b) same h = absurd same.0
-apart_same (Some x ∷ a) (Some y ∷ b) same h =
-    (subst (λ n. EachFrom (λ port x. IsOther n x) 0 b) (sym same.0.number) (others_same x.held.number 0 a b same.1 h.0), apart_same a b same.1 h.1)
 
 pub as_many : (port : ℕ) (a b : List (Option BufferHeader)) → AreSame a b → length (carried_from port b) ≡ length (carried_from port a)
 as_many port [] [] same = refl

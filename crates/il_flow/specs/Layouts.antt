@@ -1,9 +1,11 @@
 -- How the ports of a part are laid out.
-use Rattle.std.specs.Prelude.{◌≡◌, ℕ, ◌+◌, ◌<◌, ◌≤◌, length}
+use Rattle.std.specs.Prelude.{◌≡◌, ℕ, ◌+◌, ◌<◌, ◌≤◌, length, List, Option}
 use Rattle.omx_types.specs.Formats.{frame_bytes_of}
 use Rattle.part_api.specs.Streams.{Shape}
 use Rattle.part_api.specs.Terms.{Terms}
 use Rattle.il_machine.specs.Stepping.{format_at}
+use Rattle.header_core.specs.BufferHeader.{BufferHeader}
+use Rattle.work_landing.specs.Places.{EachFrom}
 use Rattle.il_flow.specs.declared.layout.Layout.{Layout}
 
 abbrev pub ports_of : Terms → ℕ
@@ -24,3 +26,7 @@ pub record IsLaidOut (l : Layout) (t : Terms) (s : Shape) : Type 0 where
   pub output_frame : 1 ≤ s.outputs → s.output_frame ≡ l.output_frame
   pub few_in : 1 ≤ l.inputs → s.channels ≤ l.input_frame
   pub few_out : 1 ≤ s.outputs → s.channels ≤ l.output_frame
+
+-- where there is a header, the layout is that of these ports
+abbrev pub AreLaid : Layout → Terms → ℕ → List (Option BufferHeader) → Type 0
+AreLaid l t port places = EachFrom (λ port h. HasLayout l t) port places

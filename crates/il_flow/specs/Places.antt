@@ -1,35 +1,17 @@
 -- The headers of a work by the numbers of their ports.
-use Rattle.std.specs.Prelude.{◌≡◌, ℕ, ◌+◌, ◌<◌, ◌≤◌, false, List, [], ◌∷◌, Option, Some, None, option_map}
+use Rattle.std.specs.Prelude.{◌≡◌, ℕ, ◌+◌, ◌<◌, ◌≤◌, false, List, [], ◌∷◌, Option, Some, None, option_map, MatchOption}
 use Rattle.part_api.specs.Terms.{Terms}
 use Rattle.il_machine.specs.Claims.{Carried}
 use Rattle.il_machine.specs.Stepping.{frames_at, is_last}
+use Rattle.il_machine.specs.declared.header.HeaderState.{HeaderState}
 use Rattle.header_core.specs.BufferHeader.{BufferHeader, is_clients}
-
-abbrev pub carried : ℕ → BufferHeader → Carried
-carried port h = record { port = port; header = h.held }
-
-abbrev pub carried_at : ℕ → Option BufferHeader → List Carried → List Carried
-carried_at port None rest = rest
-carried_at port (Some h) rest = carried port h ∷ rest
-
--- the headers as their holder sees them, by rising port from this one on
-abbrev pub carried_from : ℕ → List (Option BufferHeader) → List Carried
-carried_from port [] = []
-carried_from port (place ∷ places) = carried_at port place (carried_from (port + 1) places)
+use Rattle.port_stock.specs.Conditions.{IsHeaderOf}
+pub use Rattle.work_landing.specs.Places.{EachAt, EachFrom, carried, carried_at, carried_from}
 
 -- each header changed by its port
 abbrev pub changed_from : (ℕ → BufferHeader → BufferHeader) → ℕ → List (Option BufferHeader) → List (Option BufferHeader)
 changed_from f port [] = []
 changed_from f port (place ∷ places) = option_map (f port) place ∷ changed_from f (port + 1) places
-
-abbrev pub EachAt : (ℕ → BufferHeader → Type 0) → ℕ → Option BufferHeader → Type 0
-EachAt P port None = Unit {0}
-EachAt P port (Some h) = P port h
-
--- of each header by its port
-abbrev pub EachFrom : (ℕ → BufferHeader → Type 0) → ℕ → List (Option BufferHeader) → Type 0
-EachFrom P port [] = Unit {0}
-EachFrom P port (place ∷ places) = EachAt P port place × EachFrom P (port + 1) places
 
 -- there are so many ports
 abbrev pub AreWithin : ℕ → ℕ → List (Option BufferHeader) → Type 0
@@ -58,3 +40,7 @@ AreSame [] [] = Unit {0}
 AreSame (a ∷ as_before) (b ∷ bs) = IsSameAt a b × AreSame as_before bs
 AreSame [] (b ∷ bs) = ⊥
 AreSame (a ∷ as_before) [] = ⊥
+
+-- Each header has the key, and the size and memory that are known of its number.
+abbrev pub AreHeadersOf : ℕ → (ℕ → Option HeaderState) → ℕ → List (Option BufferHeader) → Type 0
+AreHeadersOf key headers port places = EachFrom (λ port h. (h.key ≡ key) × MatchOption (headers h.held.number) ⊥ (λ s. IsHeaderOf s h)) port places

@@ -4,8 +4,7 @@ use Rattle.std.proofs.Math.ListN.{get_or}
 use Rattle.part_api.specs.Terms.{Terms}
 use Rattle.audio_parts.specs.Shapes.{IsLawful}
 use Rattle.header_core.specs.BufferHeader.{BufferHeader, IsSized}
-use Rattle.il_flow.specs.declared.layout.Layout.{Layout}
-use Rattle.il_flow.specs.Layouts.{HasLayout, ports_of}
+use Rattle.il_flow.specs.Layouts.{ports_of}
 use Rattle.il_flow.specs.Places.{AreWithin, EachFrom, carried_from}
 
 -- each output gave a header
@@ -22,10 +21,7 @@ pub record IsSound (t : Terms) (can_step : Type 0) (places : List (Option Buffer
   pub outputs : announces ≡ false → HaveOutputs t places
   pub none : announces ≡ true → carried_from 0 places ≡ []
 
--- Of one that comes back the layout is that of its part's ports.
-pub record IsReturned (l : Layout) (t : Terms) (places : List (Option BufferHeader)) (announces : Bool) : Type 0 where
+-- Of one that comes back what is set of the part is lawful. An announcement has no header.
+pub record IsReturned (t : Terms) (places : List (Option BufferHeader)) (announces : Bool) : Type 0 where
   pub lawful : IsLawful t
-  pub few : length places ≤ 9
-  pub within : AreWithin (ports_of t) 0 places
-  pub laid : announces ≡ false → HasLayout l t
   pub none : announces ≡ true → carried_from 0 places ≡ []

@@ -25,6 +25,7 @@ pub record DoneOf (P : Type 0) : Type 0 where
   pub headers : List (Option BufferHeader)
   pub frames : ℕ
   pub fault : Option PartFault
+  pub announces : Bool
 
 module _ {P : Type 0} where
   -- a work as its holder sees it, by the terms of its part

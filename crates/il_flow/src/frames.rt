@@ -1,10 +1,9 @@
 //! The frames of a step, and what they leave.
 ghost use Rattle.std.specs.Prelude.{◌≡◌, ◌+◌, ◌<◌, ◌≤◌, ℕ, not, ◌||◌, length};
-ghost use Rattle.std.specs.List.{list_all, list_any};
+ghost use Rattle.std.specs.List.{list_all};
 ghost use Rattle.part_api.specs.Terms.{Terms};
 ghost use Rattle.il_machine.specs.Stepping.{all_frames_at, frames_at, has_input, is_drained, is_in, is_last};
-ghost use Rattle.il_flow.specs.Landed.{AreLaid, lasts_from};
-ghost use Rattle.il_flow.specs.Layouts.{HasLayout, ports_of};
+ghost use Rattle.il_flow.specs.Layouts.{AreLaid, HasLayout, ports_of};
 ghost use Rattle.il_flow.specs.Places.{AreWithin, carried, carried_from};
 ghost use Rattle.il_flow.specs.Steps.{frames_by, lower_of, lowest, over_by};
 
@@ -117,35 +116,5 @@ pub(crate) fn is_over(
     match left {
         Some(left) => left.saturating_sub(frames) == 0,
         None => are_last(layout, frames, places, 0),
-    }
-}
-
-/// Whether one of the headers is the last one of its input.
-pub(crate) fn has_last(layout: Layout, places: &[Option<Header>], port: u32) -> bool
-    requires { port + length places.now ≤ 9 }
-    ensures { (t : Terms) → AreLaid layout t port places.now → result ≡ list_any (is_last t 0) (carried_from port places.now) }
-{
-    match places {
-        [] => false,
-        [Some(header), ..] if is_last(layout, 0, port, header) => true,
-        [_, rest @ ..] => has_last(layout, rest, port + 1),
-    }
-}
-
-/// Of each port whether its header is the last one. Of one without a header it is so.
-pub(crate) fn set_last(layout: Layout, places: &[Option<Header>], port: u32, last: &mut [bool])
-    requires ports { port + length places.now ≤ 9 }
-    requires places { length last.old ≡ length places.now }
-    ensures { (t : Terms) → AreLaid layout t port places.now → last.new ≡ lasts_from t port places.now }
-{
-    let [place, places @ ..] = places else {
-        return;
-    };
-    if let Some((first, rest)) = last.split_first_mut() {
-        *first = match place {
-            Some(header) => is_last(layout, 0, port, header),
-            None => true,
-        };
-        set_last(layout, places, port + 1, rest);
     }
 }

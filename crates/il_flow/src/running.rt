@@ -2,7 +2,7 @@
 ghost use Rattle.std.specs.Prelude.{◌≡◌, ◌+◌, ◌*◌, ◌≤◌, ℕ, length, IfSome, is_some};
 ghost use Rattle.audio_parts.specs.Shapes.{IsLawful};
 ghost use Rattle.header_core.specs.BufferHeader.{IsSized};
-ghost use Rattle.il_flow.specs.Layouts.{HasLayout, IsLaidOut, ports_of};
+ghost use Rattle.il_flow.specs.Layouts.{IsLaidOut, ports_of};
 ghost use Rattle.il_flow.specs.Places.{AreSame, AreWithin, EachFrom, Offer, carried_from};
 ghost use Rattle.il_flow.specs.Sound.{HaveOutputs};
 ghost use Rattle.il_flow.specs.Steps.{frames_by, shown};
@@ -55,7 +55,6 @@ pub(crate) fn frames_for<P: KindPart>(
 
 /// What a step came to.
 pub(crate) struct Stepped {
-    pub(crate) layout: Layout,
     pub(crate) frames: u32,
     pub(crate) fault: Option<PartFault>,
 }
@@ -70,7 +69,6 @@ pub(crate) fn do_step<P: KindPart>(part: &mut P, places: &mut [Option<Header>]) 
     requires outputs { HaveOutputs (P.terms part.old) places.old }
     ensures terms { P.terms part.new ≡ P.terms part.old }
     ensures failed { P.failed part.new ≡ is_some result.fault }
-    ensures layout { HasLayout result.layout (P.terms part.old) }
     ensures within { AreWithin (ports_of (P.terms part.old)) 0 places.new }
     ensures same { AreSame places.old places.new }
     ensures step { (component : ℕ) → ComesBack (P.terms part.old) (carried_from 0 places.old) (shown (P.left part.old) (P.rest part.old) (P.kept part.old) (P.writing part.old))
@@ -84,14 +82,12 @@ pub(crate) fn do_step<P: KindPart>(part: &mut P, places: &mut [Option<Header>]) 
     let over = is_over(left, layout, u64::from(frames), places);
     match step_part(part, places, layout, frames, over) {
         Some(fault) => Stepped {
-            layout,
             frames: 0,
             fault: Some(fault),
         },
         None => {
             part.is_by_terms();
             Stepped {
-                layout,
                 frames,
                 fault: None,
             }

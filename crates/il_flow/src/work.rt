@@ -1,5 +1,4 @@
 use crate::done::Done;
-use crate::layout::Layout;
 use crate::running::{Stepped, do_step};
 use audio_parts::KindPart;
 use header_core::Header;
@@ -46,6 +45,7 @@ impl<P: KindPart> Work<P> {
     /// Does the step on the memory of the headers. An announcement does none.
     pub fn run(self) -> Done<P>
         ensures component { result.component ≡ self.component }
+        ensures announces { result.announces ≡ self.announces }
         ensures terms { P.terms result.part ≡ P.terms self.part }
         ensures same { AreSame self.headers result.headers }
         ensures step { self.announces ≡ false → ComesBack (P.terms self.part) (carried_from 0 self.headers) (shown (P.left self.part) (P.rest self.part) (P.kept self.part) (P.writing self.part))
@@ -66,34 +66,19 @@ impl<P: KindPart> Work<P> {
                 component,
                 part,
                 headers,
-                layout: no_layout(),
                 frames: 0,
                 fault: None,
                 announces,
             };
         }
-        let Stepped {
-            layout,
-            frames,
-            fault,
-        } = do_step(&mut part, &mut headers);
+        let Stepped { frames, fault } = do_step(&mut part, &mut headers);
         Done {
             component,
             part,
             headers,
-            layout,
             frames,
             fault,
             announces,
         }
-    }
-}
-
-/// The layout of no part.
-fn no_layout() -> Layout {
-    Layout {
-        inputs: 0,
-        input_frame: 1,
-        output_frame: 1,
     }
 }

@@ -14,7 +14,7 @@ use Rattle.il_machine.specs.Look.{Look, look}
 use Rattle.il_machine.specs.Due.{ClosesTo}
 use Rattle.il_machine.specs.Flow.{OnPort}
 use Rattle.il_machine.specs.Answers.{plain, Acts, ActsOrMemory}
-use Rattle.il_machine.specs.Whole.{Steps}
+use Rattle.whole_laws.specs.Bare.{StepsBare}
 use Rattle.whole_laws.proofs.Answering.{unresolved, no_port, on_port, idle, did, idle_or_memory, act_wants_memory, did_or_memory, then_closes}
 use Rattle.graph_core.specs.Entries.{Entries, look_of, kept, component_at, entry_place}
 use Rattle.graph_core.proofs.Replacing.{entry_place_is}
@@ -33,13 +33,13 @@ some_there o x e = ap is_some e
 
 module _ {C : Type 0} (progress : C → Progress) (g : Entries C) (h : Handle) (port : ℕ) where
   pub unnamed : (T E : Type 0) (refuse : OmxError → E) (X : World → World → ℕ → Component → Port → Type 0) → None ≡ entry_place h g.entries
-      → Steps (kept progress g) (kept progress g) (λ w v. OnPort {T = T} refuse w h port (Err (refuse errors.InvalidComponent)) v (X w v))
+      → StepsBare (kept progress g) (kept progress g) (λ w v. OnPort {T = T} refuse w h port (Err (refuse errors.InvalidComponent)) v (X w v))
   unnamed T E refuse X e = unresolved T E refuse (kept progress g) h
       (λ w v i c. MatchOption (port_of c port) ((Err (refuse errors.InvalidComponent) ≡ Err (refuse errors.BadPortIndex)) × (v ≡ w)) (X w v i c)) (entry_place_is h g.entries ∙ sym e)
 
   module _ (i : ℕ) (F : Found progress g h i) where
     pub without_port : (T E : Type 0) (refuse : OmxError → E) (X : World → World → ℕ → Component → Port → Type 0) → MatchOption (component_at i g) ⊥ (λ c. false ≡ is_some (port_of c port))
-        → Steps (kept progress g) (kept progress g) (λ w v. OnPort {T = T} refuse w h port (Err (refuse errors.BadPortIndex)) v (X w v))
+        → StepsBare (kept progress g) (kept progress g) (λ w v. OnPort {T = T} refuse w h port (Err (refuse errors.BadPortIndex)) v (X w v))
     without_port T E refuse X m =
         let r = at_some (λ c. false ≡ is_some (port_of c port)) (component_at i g) F.component F.at m in
         no_port T E refuse (kept progress g) h i F.component port X F.place F.at (none_is (port_of F.component port) r)
@@ -64,11 +64,11 @@ module _ {C : Type 0} (progress : C → Progress) (g : Entries C) (h : Handle) (
       port_there = and_some (λ c. IsSome (port_of c port)) (component_at i g) F.component F.at (some_there (port_of F.component port) H.it H.there)
 
       named : {T E : Type 0} (refuse : OmxError → E) (k : Entries C) (r : Result T E) (X : World → World → ℕ → Component → Port → Type 0)
-          → Steps (kept progress g) (kept progress k) (λ w v. X w v i F.component H.it) → Steps (kept progress g) (kept progress k) (λ w v. OnPort refuse w h port r v (X w v))
+          → StepsBare (kept progress g) (kept progress k) (λ w v. X w v i F.component H.it) → StepsBare (kept progress g) (kept progress k) (λ w v. OnPort refuse w h port r v (X w v))
       named refuse k r X s = on_port refuse (kept progress g) (kept progress k) h i F.component H.it port r X F.place F.at H.there s
 
-      closes : (m k : Entries C) (After : World → World) → Steps (kept progress g) (kept progress m) (λ w v. v ≡ After w) → Steps (kept progress m) (kept progress k) ClosesTo
-          → Steps (kept progress g) (kept progress k) (λ w v. ClosesTo (After w) v)
+      closes : (m k : Entries C) (After : World → World) → StepsBare (kept progress g) (kept progress m) (λ w v. v ≡ After w) → StepsBare (kept progress m) (kept progress k) ClosesTo
+          → StepsBare (kept progress g) (kept progress k) (λ w v. ClosesTo (After w) v)
       closes m k After s x = then_closes (kept progress g) (kept progress m) (kept progress k) After s x
 
       module _ (R : Look → Component → Port → Option Why) (After : ℕ → Component → Port → World → World) where
@@ -76,7 +76,7 @@ module _ {C : Type 0} (progress : C → Progress) (g : Entries C) (h : Handle) (
         Reason o = MatchOption (component_at i g) ⊥ (λ c. MatchOption (port_of c port) ⊥ (λ p. o ≡ R (look_of g) c p))
 
         abbrev Changes : Entries C → Type 0
-        Changes m = MatchOption (component_at i g) ⊥ (λ c. MatchOption (port_of c port) ⊥ (λ p. Steps (kept progress g) (kept progress m) (λ w v. v ≡ After i c p w)))
+        Changes m = MatchOption (component_at i g) ⊥ (λ c. MatchOption (port_of c port) ⊥ (λ p. StepsBare (kept progress g) (kept progress m) (λ w v. v ≡ After i c p w)))
 
         pub reason_is : (o : Option Why) → Reason o → R (look_of g) F.component H.it ≡ o
         reason_is o m = sym (at_port (λ c p. o ≡ R (look_of g) c p) m)
@@ -84,32 +84,32 @@ module _ {C : Type 0} (progress : C → Progress) (g : Entries C) (h : Handle) (
         pub may_act : Reason None → IsSomeAnd (component_at i g) (λ c. IsSomeAnd (port_of c port) (λ p. R (look_of g) c p ≡ None))
         may_act m = and_port (λ c p. R (look_of g) c p ≡ None) (reason_is None m)
 
-        changes : (m k : Entries C) → Changes m → Steps (kept progress m) (kept progress k) ClosesTo → Steps (kept progress g) (kept progress k) (λ w v. ClosesTo (After i F.component H.it w) v)
-        changes m k s x = closes m k (After i F.component H.it) (at_port (λ c p. Steps (kept progress g) (kept progress m) (λ w v. v ≡ After i c p w)) s) x
+        changes : (m k : Entries C) → Changes m → StepsBare (kept progress m) (kept progress k) ClosesTo → StepsBare (kept progress g) (kept progress k) (λ w v. ClosesTo (After i F.component H.it w) v)
+        changes m k s x = closes m k (After i F.component H.it) (at_port (λ c p. StepsBare (kept progress g) (kept progress m) (λ w v. v ≡ After i c p w)) s) x
 
         pub idle_on : (why : Why) → Reason (Some why)
-            → Steps (kept progress g) (kept progress g) (λ w v. OnPort plain w h port (Ok (acted.Idle why)) v (λ i c p. Acts (R (look w) c p) (Ok (acted.Idle why)) w (After i c p w) v))
+            → StepsBare (kept progress g) (kept progress g) (λ w v. OnPort plain w h port (Ok (acted.Idle why)) v (λ i c p. Acts (R (look w) c p) (Ok (acted.Idle why)) w (After i c p w) v))
         idle_on why m = named plain g (Ok (acted.Idle why)) (λ w v i c p. Acts (R (look w) c p) (Ok (acted.Idle why)) w (After i c p w) v)
             (idle (kept progress g) (λ l. R l F.component H.it) why (After i F.component H.it) (reason_is (Some why) m))
 
-        pub did_on : (m k : Entries C) → Reason None → Changes m → Steps (kept progress m) (kept progress k) ClosesTo
-            → Steps (kept progress g) (kept progress k) (λ w v. OnPort plain w h port (Ok acted.Did) v (λ i c p. Acts (R (look w) c p) (Ok acted.Did) w (After i c p w) v))
+        pub did_on : (m k : Entries C) → Reason None → Changes m → StepsBare (kept progress m) (kept progress k) ClosesTo
+            → StepsBare (kept progress g) (kept progress k) (λ w v. OnPort plain w h port (Ok acted.Did) v (λ i c p. Acts (R (look w) c p) (Ok acted.Did) w (After i c p w) v))
         did_on m k r s x = named plain k (Ok acted.Did) (λ w v i c p. Acts (R (look w) c p) (Ok acted.Did) w (After i c p w) v)
             (did (kept progress g) (kept progress k) (λ l. R l F.component H.it) (After i F.component H.it) (reason_is None r) (changes m k s x))
 
         -- the same of an act that takes memory
 
         pub idle_taking : (why : Why) → Reason (Some why)
-            → Steps (kept progress g) (kept progress g) (λ w v. OnPort Omx w h port (Ok (acted.Idle why)) v (λ i c p. ActsOrMemory (R (look w) c p) (Ok (acted.Idle why)) w (After i c p w) v))
+            → StepsBare (kept progress g) (kept progress g) (λ w v. OnPort Omx w h port (Ok (acted.Idle why)) v (λ i c p. ActsOrMemory (R (look w) c p) (Ok (acted.Idle why)) w (After i c p w) v))
         idle_taking why m = named Omx g (Ok (acted.Idle why)) (λ w v i c p. ActsOrMemory (R (look w) c p) (Ok (acted.Idle why)) w (After i c p w) v)
             (idle_or_memory (kept progress g) (λ l. R l F.component H.it) why (After i F.component H.it) (reason_is (Some why) m))
 
         pub wanting_on : Reason None
-            → Steps (kept progress g) (kept progress g) (λ w v. OnPort {T = Acted} Omx w h port (Err OutOfMemory) v (λ i c p. ActsOrMemory (R (look w) c p) (Err OutOfMemory) w (After i c p w) v))
+            → StepsBare (kept progress g) (kept progress g) (λ w v. OnPort {T = Acted} Omx w h port (Err OutOfMemory) v (λ i c p. ActsOrMemory (R (look w) c p) (Err OutOfMemory) w (After i c p w) v))
         wanting_on r = named Omx g (Err OutOfMemory) (λ w v i c p. ActsOrMemory (R (look w) c p) (Err OutOfMemory) w (After i c p w) v)
             (act_wants_memory (kept progress g) (λ l. R l F.component H.it) (After i F.component H.it) (reason_is None r))
 
-        pub did_taking : (m k : Entries C) → Reason None → Changes m → Steps (kept progress m) (kept progress k) ClosesTo
-            → Steps (kept progress g) (kept progress k) (λ w v. OnPort Omx w h port (Ok acted.Did) v (λ i c p. ActsOrMemory (R (look w) c p) (Ok acted.Did) w (After i c p w) v))
+        pub did_taking : (m k : Entries C) → Reason None → Changes m → StepsBare (kept progress m) (kept progress k) ClosesTo
+            → StepsBare (kept progress g) (kept progress k) (λ w v. OnPort Omx w h port (Ok acted.Did) v (λ i c p. ActsOrMemory (R (look w) c p) (Ok acted.Did) w (After i c p w) v))
         did_taking m k r s x = named Omx k (Ok acted.Did) (λ w v i c p. ActsOrMemory (R (look w) c p) (Ok acted.Did) w (After i c p w) v)
             (did_or_memory (kept progress g) (kept progress k) (λ l. R l F.component H.it) (After i F.component H.it) (reason_is None r) (changes m k s x))

@@ -14,13 +14,13 @@ use Rattle.il_machine.specs.Components.{view_of, viewed, view_answer}
 use Rattle.il_machine.specs.Look.{Look, look}
 use Rattle.il_machine.specs.Due.{ClosesTo}
 use Rattle.il_machine.specs.Answers.{plain, Resolving, Answers, Acts, component_named}
-use Rattle.il_machine.specs.Whole.{Steps}
+use Rattle.whole_laws.specs.Bare.{StepsBare}
 use Rattle.whole_laws.proofs.Answering.{unresolved, resolved, refused, accepted, idle, did, then_closes}
 use Rattle.il_component.specs.Entries.{Entry, component_of}
 use Rattle.graph_core.specs.Entries.{Entries, look_of, kept, component_at, entry_place}
 use Rattle.graph_core.proofs.Replacing.{entry_place_is, there}
 
-there_is : {A : Type 0} (xs : List A) (i : ℕ) → i < length xs → (x : A) × slice_get xs i ≡ Some x
+pub there_is : {A : Type 0} (xs : List A) (i : ℕ) → i < length xs → (x : A) × slice_get xs i ≡ Some x
 there_is [] i b = absurd (omega arith)
 there_is (x ∷ xs) zero b = (x, refl)
 there_is (x ∷ xs) (suc i) b = there_is xs i (omega arith)
@@ -30,6 +30,9 @@ at_some P o x e m = rw e at m
 
 pub and_some : {A : Type 0} (P : A → Type 0) (o : Option A) (x : A) → o ≡ Some x → P x → IsSomeAnd o P
 and_some P o x e p = rw e p
+
+pub and_at : {A : Type 0} (P : A → Type 0) (o : Option A) (x : A) → o ≡ Some x → IsSomeAnd o P → P x
+and_at P o x e m = rw e at m
 
 module _ {C : Type 0} (progress : C → Progress) where
   pub record Found (g : Entries C) (h : Handle) (i : ℕ) : Type 0 where
@@ -44,14 +47,20 @@ module _ {C : Type 0} (progress : C → Progress) where
       let x = there_is g.entries i b in
       record { entry = x.0; component = component_of x.0; place = entry_place_is h g.entries ∙ sym e; at = there progress g i x.0 x.1; entry_at = x.1 }
 
+  -- what is read at the place is the component
+  pub component_is : (g : Entries C) (h : Handle) (i : ℕ) (F : Found g h i) (e : Entry C) → Some e ≡ slice_get g.entries i → F.component ≡ component_of e
+  component_is g h i F e at =
+      let x : Some F.component ≡ Some (component_of e) = sym F.at ∙ there progress g i e (sym at) in
+      cc
+
   pub not_found : (T : Type 0) (g : Entries C) (h : Handle) (X : World → World → ℕ → Component → Type 0) → None ≡ entry_place h g.entries
-      → Steps (kept progress g) (kept progress g) (λ w v. Resolving {T = T} plain w h (Err errors.InvalidComponent) v (X w v))
+      → StepsBare (kept progress g) (kept progress g) (λ w v. Resolving {T = T} plain w h (Err errors.InvalidComponent) v (X w v))
   not_found T g h X e = unresolved T OmxError plain (kept progress g) h X (entry_place_is h g.entries ∙ sym e)
 
   module _ {T : Type 0} (R : Look → Component → Option OmxError) where
     pub refused_at : (g : Entries C) (h : Handle) (i : ℕ) (error : OmxError) (Y : World → World → ℕ → Component → T → Type 0) → Found g h i
         → MatchOption (component_at i g) ⊥ (λ c. Some error ≡ R (look_of g) c)
-        → Steps (kept progress g) (kept progress g) (λ w v. Resolving {T = T} plain w h (Err error) v (λ j c. Answers (R (look w) c) (Err error) w v (Y w v j c)))
+        → StepsBare (kept progress g) (kept progress g) (λ w v. Resolving {T = T} plain w h (Err error) v (λ j c. Answers (R (look w) c) (Err error) w v (Y w v j c)))
     refused_at g h i error Y F m =
         let r = at_some (λ c. Some error ≡ R (look_of g) c) (component_at i g) F.component F.at m in
         resolved plain (kept progress g) (kept progress g) h i F.component (Err error) (λ w v j c. Answers (R (look w) c) (Err error) w v (Y w v j c)) F.place F.at
@@ -59,12 +68,12 @@ module _ {C : Type 0} (progress : C → Progress) where
 
     pub accepted_at : (g m k : Entries C) (h : Handle) (i : ℕ) (x : T) (After : ℕ → Component → World → World) → Found g h i
         → MatchOption (component_at i g) ⊥ (λ c. None ≡ R (look_of g) c)
-        → MatchOption (component_at i g) ⊥ (λ c. Steps (kept progress g) (kept progress m) (λ w v. v ≡ After i c w))
-        → Steps (kept progress m) (kept progress k) ClosesTo
-        → Steps (kept progress g) (kept progress k) (λ w v. Resolving plain w h (Ok x) v (λ j c. Answers (R (look w) c) (Ok x) w v (λ (y : T). ClosesTo (After j c w) v)))
+        → MatchOption (component_at i g) ⊥ (λ c. StepsBare (kept progress g) (kept progress m) (λ w v. v ≡ After i c w))
+        → StepsBare (kept progress m) (kept progress k) ClosesTo
+        → StepsBare (kept progress g) (kept progress k) (λ w v. Resolving plain w h (Ok x) v (λ j c. Answers (R (look w) c) (Ok x) w v (λ (y : T). ClosesTo (After j c w) v)))
     accepted_at g m k h i x After F r s closes =
         let a = at_some (λ c. None ≡ R (look_of g) c) (component_at i g) F.component F.at r in
-        let t = at_some (λ c. Steps (kept progress g) (kept progress m) (λ w v. v ≡ After i c w)) (component_at i g) F.component F.at s in
+        let t = at_some (λ c. StepsBare (kept progress g) (kept progress m) (λ w v. v ≡ After i c w)) (component_at i g) F.component F.at s in
         resolved plain (kept progress g) (kept progress k) h i F.component (Ok x) (λ w v j c. Answers (R (look w) c) (Ok x) w v (λ (y : T). ClosesTo (After j c w) v)) F.place F.at
         (accepted (kept progress g) (kept progress k) (λ l. R l F.component) x (λ w v y. ClosesTo (After i F.component w) v) (sym a)
         (then_closes (kept progress g) (kept progress m) (kept progress k) (After i F.component) t closes))
@@ -75,7 +84,7 @@ module _ {C : Type 0} (progress : C → Progress) where
   module _ (R : Component → Option Why) where
     pub idle_at : (g : Entries C) (h : Handle) (i : ℕ) (why : Why) (After : ℕ → Component → World → World) → Found g h i
         → MatchOption (component_at i g) ⊥ (λ c. Some why ≡ R c)
-        → Steps (kept progress g) (kept progress g) (λ w v. Resolving plain w h (Ok (acted.Idle why)) v (λ j c. Acts (R c) (Ok (acted.Idle why)) w (After j c w) v))
+        → StepsBare (kept progress g) (kept progress g) (λ w v. Resolving plain w h (Ok (acted.Idle why)) v (λ j c. Acts (R c) (Ok (acted.Idle why)) w (After j c w) v))
     idle_at g h i why After F m =
         let r = at_some (λ c. Some why ≡ R c) (component_at i g) F.component F.at m in
         resolved plain (kept progress g) (kept progress g) h i F.component (Ok (acted.Idle why)) (λ w v j c. Acts (R c) (Ok (acted.Idle why)) w (After j c w) v) F.place F.at
@@ -83,12 +92,12 @@ module _ {C : Type 0} (progress : C → Progress) where
 
     pub did_at : (g m k : Entries C) (h : Handle) (i : ℕ) (After : ℕ → Component → World → World) → Found g h i
         → MatchOption (component_at i g) ⊥ (λ c. None ≡ R c)
-        → MatchOption (component_at i g) ⊥ (λ c. Steps (kept progress g) (kept progress m) (λ w v. v ≡ After i c w))
-        → Steps (kept progress m) (kept progress k) ClosesTo
-        → Steps (kept progress g) (kept progress k) (λ w v. Resolving plain w h (Ok acted.Did) v (λ j c. Acts (R c) (Ok acted.Did) w (After j c w) v))
+        → MatchOption (component_at i g) ⊥ (λ c. StepsBare (kept progress g) (kept progress m) (λ w v. v ≡ After i c w))
+        → StepsBare (kept progress m) (kept progress k) ClosesTo
+        → StepsBare (kept progress g) (kept progress k) (λ w v. Resolving plain w h (Ok acted.Did) v (λ j c. Acts (R c) (Ok acted.Did) w (After j c w) v))
     did_at g m k h i After F r s closes =
         let a = at_some (λ c. None ≡ R c) (component_at i g) F.component F.at r in
-        let t = at_some (λ c. Steps (kept progress g) (kept progress m) (λ w v. v ≡ After i c w)) (component_at i g) F.component F.at s in
+        let t = at_some (λ c. StepsBare (kept progress g) (kept progress m) (λ w v. v ≡ After i c w)) (component_at i g) F.component F.at s in
         resolved plain (kept progress g) (kept progress k) h i F.component (Ok acted.Did) (λ w v j c. Acts (R c) (Ok acted.Did) w (After j c w) v) F.place F.at
         (did (kept progress g) (kept progress k) (λ l. R F.component) (After i F.component) (sym a)
         (then_closes (kept progress g) (kept progress m) (kept progress k) (After i F.component) t closes))

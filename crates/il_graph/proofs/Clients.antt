@@ -1,5 +1,5 @@
 -- Whose client object is where, once a call has changed the component that a handle names and the graph has closed.
-use Rattle.std.proofs.Common.{◌≡◌, ℕ, true, List, Option, Some, MatchOption, sym, ◌∙◌, ap, subst}
+use Rattle.std.proofs.Common.{◌≡◌, ℕ, true, List, Option, Some, MatchOption, option_map, option_and_then, slice_get, sym, ◌∙◌, ap, subst}
 use Rattle.omx_types.specs.declared.handle.Handle.{Handle}
 use Rattle.il_machine.specs.declared.answer.Progress.{Progress}
 use Rattle.il_machine.specs.World.{Component, is_at, same_handle}
@@ -27,7 +27,7 @@ module _ {C : Type 0} where
   closes_taken h g m k tooks.Busy t closes = (t.0, closes h ∙ t.1)
 
   module _ (progress : C → Progress) (g m k : Entries C) (h : Handle) (i : ℕ) (F : Found progress g h i) (closes : KeepsAllClients m k) where
-    own : F.component.handle ≡ h
+    pub own : F.component.handle ≡ h
     own =
         let cs = components_of g.entries in
         let x = passes_at (is_at h) cs i (sym (is_first_place (is_at h) cs) ∙ F.place) in
@@ -50,3 +50,11 @@ module _ {C : Type 0} where
 
     pub client_taken : (took : Took C) → MatchOption (component_at i g) ⊥ (λ c. TakesClient c.handle g took m) → TakesClient h g took k
     client_taken took a = closes_taken h g m k took (of_own (λ x. TakesClient x g took m) a) closes
+
+-- the client object of the component that the handle names
+pub own_client : {C : Type 0} (progress : C → Progress) (g : Entries C) (h : Handle) (i : ℕ) (F : Found progress g h i) → Some i ≡ entry_place h g.entries → (client : C) → MatchOption (slice_get g.entries i) ⊥ (λ e. e.queues.client ≡ Some client) → client_of h g ≡ Some client
+own_client {C = C} progress g h i F place client m =
+    let own : (F.entry).queues.client ≡ Some client = at_some (λ e. e.queues.client ≡ Some client) (slice_get g.entries i) F.entry F.entry_at m in
+    let named : client_named h g ≡ Some (F.entry).queues.client
+    = ap (λ (o : Option ℕ). option_map (λ (e : Entry C). e.queues.client) (option_and_then (slice_get g.entries) o)) (sym place) ∙ ap (option_map (λ (e : Entry C). e.queues.client)) F.entry_at in
+    ap (option_and_then (λ (client : Option C). client)) named ∙ own

@@ -14,7 +14,7 @@ use Rattle.il_machine.specs.Look.{Look, look}
 use Rattle.il_machine.specs.Due.{ClosesTo}
 use Rattle.il_machine.specs.Answers.{plain, Resolving, Answers, AnswersOrMemory}
 use Rattle.il_machine.specs.Buffers.{AtState, AtPort, client_header, held_of}
-use Rattle.il_machine.specs.Whole.{Steps, Stands}
+use Rattle.whole_laws.specs.Bare.{StepsBare, StandsBare}
 use Rattle.whole_laws.proofs.Answering.{unresolved, resolved, refused, accepted, refused_or_memory, wants_memory, accepted_or_memory, then_closes, at_state}
 use Rattle.header_core.specs.declared.memory.Store.{Store}
 use Rattle.header_core.specs.declared.memory.Store.TheVariants.{Own, Block}
@@ -43,27 +43,27 @@ goes_back items memory store b e f = sym (mapped items memory) ∙ ap is_some e 
 module _ {C : Type 0} (progress : C → Progress) where
   -- ---- a change at a port, and the close-out
 
-  closes_on : (g m k : Entries C) (o : Option Port) (After : Port → World → World) → MatchOption o ⊥ (λ p. Steps (kept progress g) (kept progress m) (λ w v. v ≡ After p w))
-      → Steps (kept progress m) (kept progress k) ClosesTo → Steps (kept progress g) (kept progress k) (λ w v. AtPort o (λ p. ClosesTo (After p w) v))
+  closes_on : (g m k : Entries C) (o : Option Port) (After : Port → World → World) → MatchOption o ⊥ (λ p. StepsBare (kept progress g) (kept progress m) (λ w v. v ≡ After p w))
+      → StepsBare (kept progress m) (kept progress k) ClosesTo → StepsBare (kept progress g) (kept progress k) (λ w v. AtPort o (λ p. ClosesTo (After p w) v))
   closes_on g m k None After s closes = absurd s
   closes_on g m k (Some p) After s closes = then_closes (kept progress g) (kept progress m) (kept progress k) (After p) s closes
 
   pub changed_on : (g m k : Entries C) (h : Handle) (i port : ℕ) (After : Component → Port → World → World) (F : Found progress g h i)
-      → MatchOption (component_at i g) ⊥ (λ c. MatchOption (port_of c port) ⊥ (λ p. Steps (kept progress g) (kept progress m) (λ w v. v ≡ After c p w)))
-      → Steps (kept progress m) (kept progress k) ClosesTo
-      → Steps (kept progress g) (kept progress k) (λ w v. AtPort (port_of F.component port) (λ p. ClosesTo (After F.component p w) v))
+      → MatchOption (component_at i g) ⊥ (λ c. MatchOption (port_of c port) ⊥ (λ p. StepsBare (kept progress g) (kept progress m) (λ w v. v ≡ After c p w)))
+      → StepsBare (kept progress m) (kept progress k) ClosesTo
+      → StepsBare (kept progress g) (kept progress k) (λ w v. AtPort (port_of F.component port) (λ p. ClosesTo (After F.component p w) v))
   changed_on g m k h i port After F s closes = closes_on g m k (port_of F.component port) (After F.component)
-      (at_some (λ c. MatchOption (port_of c port) ⊥ (λ p. Steps (kept progress g) (kept progress m) (λ w v. v ≡ After c p w))) (component_at i g) F.component F.at s) closes
+      (at_some (λ c. MatchOption (port_of c port) ⊥ (λ p. StepsBare (kept progress g) (kept progress m) (λ w v. v ≡ After c p w))) (component_at i g) F.component F.at s) closes
 
   -- what else is true at the port
-  pub and_said : (g k : Entries C) (o : Option Port) (B : World → Port → Type 0) (X : World → World → Port → Type 0) → ((w : World) → Stands (kept progress g) w → MatchOption o ⊥ (B w))
-      → Steps (kept progress g) (kept progress k) (λ w v. AtPort o (X w v)) → Steps (kept progress g) (kept progress k) (λ w v. AtPort o (λ p. B w p × X w v p))
+  pub and_said : (g k : Entries C) (o : Option Port) (B : World → Port → Type 0) (X : World → World → Port → Type 0) → ((w : World) → StandsBare (kept progress g) w → MatchOption o ⊥ (B w))
+      → StepsBare (kept progress g) (kept progress k) (λ w v. AtPort o (X w v)) → StepsBare (kept progress g) (kept progress k) (λ w v. AtPort o (λ p. B w p × X w v p))
   and_said g k None B X b s = λ w S. absurd (b w S)
   and_said g k (Some p) B X b s = λ w S. let y = s w S in (y.0, y.1, (b w S, y.2))
 
   -- the same of what doesn't speak of the world or the port
   pub and_true : (g k : Entries C) (o : Option Port) (B : Type 0) (X : World → World → Port → Type 0) → B
-      → Steps (kept progress g) (kept progress k) (λ w v. AtPort o (X w v)) → Steps (kept progress g) (kept progress k) (λ w v. AtPort o (λ p. B × X w v p))
+      → StepsBare (kept progress g) (kept progress k) (λ w v. AtPort o (X w v)) → StepsBare (kept progress g) (kept progress k) (λ w v. AtPort o (λ p. B × X w v p))
   and_true g k None B X b s = s
   and_true g k (Some p) B X b s = λ w S. let y = s w S in (y.0, y.1, (b, y.2))
 
@@ -73,7 +73,7 @@ module _ {C : Type 0} (progress : C → Progress) where
     pub refused_with : (g : Entries C) (h : Handle) (i n : ℕ) (s : HeaderState) (error : OmxError) (Y : World → World → ℕ → Component → HeaderState → T → Type 0) → Found progress g h i
         → (look_of g).headers.header n ≡ Some s
         → MatchOption (component_at i g) ⊥ (λ c. AtState n (look_of g) (λ s. Some error ≡ R c s))
-        → Steps (kept progress g) (kept progress g) (λ w v. Resolving {T = T} plain w h (Err error) v (λ j c. AtState n (look w) (λ s. Answers (R c s) (Err error) w v (Y w v j c s))))
+        → StepsBare (kept progress g) (kept progress g) (λ w v. Resolving {T = T} plain w h (Err error) v (λ j c. AtState n (look w) (λ s. Answers (R c s) (Err error) w v (Y w v j c s))))
     refused_with g h i n s error Y F e m =
         let a = at_some (λ c. AtState n (look_of g) (λ s. Some error ≡ R c s)) (component_at i g) F.component F.at m in
         let r : Some error ≡ R F.component s = at_some (λ s. Some error ≡ R F.component s) ((look_of g).headers.header n) s e a in
@@ -84,8 +84,8 @@ module _ {C : Type 0} (progress : C → Progress) where
     pub done_with : (g k : Entries C) (h : Handle) (i n : ℕ) (s : HeaderState) (x : T) (Y : World → World → ℕ → Component → HeaderState → T → Type 0) (F : Found progress g h i)
         → (look_of g).headers.header n ≡ Some s
         → MatchOption (component_at i g) ⊥ (λ c. AtState n (look_of g) (λ s. None ≡ R c s))
-        → Steps (kept progress g) (kept progress k) (λ w v. Y w v i F.component s x)
-        → Steps (kept progress g) (kept progress k) (λ w v. Resolving plain w h (Ok x) v (λ j c. AtState n (look w) (λ s. Answers (R c s) (Ok x) w v (Y w v j c s))))
+        → StepsBare (kept progress g) (kept progress k) (λ w v. Y w v i F.component s x)
+        → StepsBare (kept progress g) (kept progress k) (λ w v. Resolving plain w h (Ok x) v (λ j c. AtState n (look w) (λ s. Answers (R c s) (Ok x) w v (Y w v j c s))))
     done_with g k h i n s x Y F e m y =
         let a = at_some (λ c. AtState n (look_of g) (λ s. None ≡ R c s)) (component_at i g) F.component F.at m in
         let r : None ≡ R F.component s = at_some (λ s. None ≡ R F.component s) ((look_of g).headers.header n) s e a in
@@ -96,21 +96,21 @@ module _ {C : Type 0} (progress : C → Progress) where
   -- ---- calls that make a header
 
   made_at : (g : Entries C) (o : Option Port) (header : BufferHeader) (store : Store) (b : Bool) → MatchOption o ⊥ (λ p. header ≡ fresh (look_of g).key (look_of g).made store p.setting.definition.size)
-      → (w : World) → Stands (kept progress g) w → MatchOption o ⊥ (λ p. header.held ≡ held_of (client_header w.made p b) (empty_load (own_memory store)))
+      → (w : World) → StandsBare (kept progress g) w → MatchOption o ⊥ (λ p. header.held ≡ held_of (client_header w.made p b) (empty_load (own_memory store)))
   made_at g None header store b m = λ w S. absurd m
   made_at g (Some p) header store b m = λ w S. ap (λ x. x.held) m ∙ ap (λ n. empty_held n p.setting.definition.size (own_memory store)) (sym (ap (λ (l : Look). l.made) S.looks))
 
   pub made_header : (g : Entries C) (h : Handle) (i port : ℕ) (header : BufferHeader) (store : Store) (b : Bool) (F : Found progress g h i)
       → MatchOption (component_at i g) ⊥ (λ c. MatchOption (port_of c port) ⊥ (λ p. header ≡ fresh (look_of g).key (look_of g).made store p.setting.definition.size))
-      → (w : World) → Stands (kept progress g) w → MatchOption (port_of F.component port) ⊥ (λ p. header.held ≡ held_of (client_header w.made p b) (empty_load (own_memory store)))
+      → (w : World) → StandsBare (kept progress g) w → MatchOption (port_of F.component port) ⊥ (λ p. header.held ≡ held_of (client_header w.made p b) (empty_load (own_memory store)))
   made_header g h i port header store b F m = made_at g (port_of F.component port) header store b
       (at_some (λ c. MatchOption (port_of c port) ⊥ (λ p. header ≡ fresh (look_of g).key (look_of g).made store p.setting.definition.size)) (component_at i g) F.component F.at m)
 
   module _ {T : Type 0} (R : Look → Component → Option OmxError) where
     pub done_at : (g k : Entries C) (h : Handle) (i : ℕ) (x : T) (Y : World → World → ℕ → Component → T → Type 0) (F : Found progress g h i)
         → MatchOption (component_at i g) ⊥ (λ c. None ≡ R (look_of g) c)
-        → Steps (kept progress g) (kept progress k) (λ w v. Y w v i F.component x)
-        → Steps (kept progress g) (kept progress k) (λ w v. Resolving plain w h (Ok x) v (λ j c. Answers (R (look w) c) (Ok x) w v (Y w v j c)))
+        → StepsBare (kept progress g) (kept progress k) (λ w v. Y w v i F.component x)
+        → StepsBare (kept progress g) (kept progress k) (λ w v. Resolving plain w h (Ok x) v (λ j c. Answers (R (look w) c) (Ok x) w v (Y w v j c)))
     done_at g k h i x Y F m y =
         let r = at_some (λ c. None ≡ R (look_of g) c) (component_at i g) F.component F.at m in
         resolved plain (kept progress g) (kept progress k) h i F.component (Ok x) (λ w v j c. Answers (R (look w) c) (Ok x) w v (Y w v j c)) F.place F.at
@@ -120,7 +120,7 @@ module _ {C : Type 0} (progress : C → Progress) where
 
     pub refused_taking : (g : Entries C) (h : Handle) (i : ℕ) (error : OmxError) (Y : World → World → ℕ → Component → T → Type 0) → Found progress g h i
         → MatchOption (component_at i g) ⊥ (λ c. Some error ≡ R (look_of g) c)
-        → Steps (kept progress g) (kept progress g) (λ w v. Resolving {T = T} Omx w h (Err (Omx error)) v (λ j c. AnswersOrMemory (R (look w) c) (Err (Omx error)) w v (Y w v j c)))
+        → StepsBare (kept progress g) (kept progress g) (λ w v. Resolving {T = T} Omx w h (Err (Omx error)) v (λ j c. AnswersOrMemory (R (look w) c) (Err (Omx error)) w v (Y w v j c)))
     refused_taking g h i error Y F m =
         let r = at_some (λ c. Some error ≡ R (look_of g) c) (component_at i g) F.component F.at m in
         resolved Omx (kept progress g) (kept progress g) h i F.component (Err (Omx error)) (λ w v j c. AnswersOrMemory (R (look w) c) (Err (Omx error)) w v (Y w v j c)) F.place F.at
@@ -128,7 +128,7 @@ module _ {C : Type 0} (progress : C → Progress) where
 
     pub wanting_at : (g : Entries C) (h : Handle) (i : ℕ) (Y : World → World → ℕ → Component → T → Type 0) → Found progress g h i
         → MatchOption (component_at i g) ⊥ (λ c. None ≡ R (look_of g) c)
-        → Steps (kept progress g) (kept progress g) (λ w v. Resolving {T = T} Omx w h (Err OutOfMemory) v (λ j c. AnswersOrMemory (R (look w) c) (Err OutOfMemory) w v (Y w v j c)))
+        → StepsBare (kept progress g) (kept progress g) (λ w v. Resolving {T = T} Omx w h (Err OutOfMemory) v (λ j c. AnswersOrMemory (R (look w) c) (Err OutOfMemory) w v (Y w v j c)))
     wanting_at g h i Y F m =
         let r = at_some (λ c. None ≡ R (look_of g) c) (component_at i g) F.component F.at m in
         resolved Omx (kept progress g) (kept progress g) h i F.component (Err OutOfMemory) (λ w v j c. AnswersOrMemory (R (look w) c) (Err OutOfMemory) w v (Y w v j c)) F.place F.at
@@ -136,13 +136,13 @@ module _ {C : Type 0} (progress : C → Progress) where
 
     pub done_taking : (g k : Entries C) (h : Handle) (i : ℕ) (x : T) (Y : World → World → ℕ → Component → T → Type 0) (F : Found progress g h i)
         → MatchOption (component_at i g) ⊥ (λ c. None ≡ R (look_of g) c)
-        → Steps (kept progress g) (kept progress k) (λ w v. Y w v i F.component x)
-        → Steps (kept progress g) (kept progress k) (λ w v. Resolving Omx w h (Ok x) v (λ j c. AnswersOrMemory (R (look w) c) (Ok x) w v (Y w v j c)))
+        → StepsBare (kept progress g) (kept progress k) (λ w v. Y w v i F.component x)
+        → StepsBare (kept progress g) (kept progress k) (λ w v. Resolving Omx w h (Ok x) v (λ j c. AnswersOrMemory (R (look w) c) (Ok x) w v (Y w v j c)))
     done_taking g k h i x Y F m y =
         let r = at_some (λ c. None ≡ R (look_of g) c) (component_at i g) F.component F.at m in
         resolved Omx (kept progress g) (kept progress k) h i F.component (Ok x) (λ w v j c. AnswersOrMemory (R (look w) c) (Ok x) w v (Y w v j c)) F.place F.at
         (accepted_or_memory (kept progress g) (kept progress k) (λ l. R l F.component) x (λ w v. Y w v i F.component) (sym r) y)
 
   pub not_found_taking : (T : Type 0) (g : Entries C) (h : Handle) (X : World → World → ℕ → Component → Type 0) → None ≡ entry_place h g.entries
-      → Steps (kept progress g) (kept progress g) (λ w v. Resolving {T = T} Omx w h (Err (Omx errors.InvalidComponent)) v (X w v))
+      → StepsBare (kept progress g) (kept progress g) (λ w v. Resolving {T = T} Omx w h (Err (Omx errors.InvalidComponent)) v (X w v))
   not_found_taking T g h X e = unresolved T CallError Omx (kept progress g) h X (entry_place_is h g.entries ∙ sym e)

@@ -8,7 +8,7 @@ use Rattle.il_machine.specs.World.{World}
 use Rattle.il_machine.specs.Look.{Look, look}
 use Rattle.il_machine.specs.Components.{progress_of, progress_answer}
 use Rattle.il_machine.specs.Answers.{component_named}
-use Rattle.il_machine.specs.Whole.{Stands, Always}
+use Rattle.whole_laws.specs.Bare.{StandsBare, AlwaysBare}
 use Rattle.il_component.specs.Entries.{Entry, component_of}
 use Rattle.graph_core.specs.Entries.{Entries, components_of, look_of, kept, progress_at, entry_place, entry_named}
 use Rattle.graph_core.proofs.Replacing.{entry_place_is}
@@ -22,7 +22,7 @@ module _ {C : Type 0} (progress : C → Progress) where
   named_is g h = ap (option_and_then (slice_get (components_of g.entries))) (entry_place_is h g.entries) ∙ named_by g.entries (entry_place h g.entries)
 
   -- what is told by what is kept is told so in each world
-  pub alike : {R : Type 0} (g : Entries C) (answer : Look → R) (r : R) → r ≡ answer (look_of g) → Always (kept progress g) (λ w. r ≡ answer (look w))
+  pub alike : {R : Type 0} (g : Entries C) (answer : Look → R) (r : R) → r ≡ answer (look_of g) → AlwaysBare (kept progress g) (λ w. r ≡ answer (look w))
   alike g answer r e = λ w S. e ∙ sym (ap answer S.looks)
 
   pub named : (g : Entries C) (h : Handle) (o : Option (Entry C)) → o ≡ entry_named h g → component_named h (look_of g).components ≡ option_map component_of o
@@ -38,20 +38,20 @@ module _ {C : Type 0} (progress : C → Progress) where
   told_so_far None p h = refl
   told_so_far (Some x) p h = let s : Some (progress x) ≡ Some p = let r = h refl in cc in sym s
 
-  entry_told : (g : Entries C) (w : World) (i : ℕ) (e : Entry C) → Stands (kept progress g) w → slice_get g.entries i ≡ Some e
+  entry_told : (g : Entries C) (w : World) (i : ℕ) (e : Entry C) → StandsBare (kept progress g) w → slice_get g.entries i ≡ Some e
       → (if is_none e.queues.client then None else Some (progress_of (component_of e) w)) ≡ option_map progress e.queues.client
   entry_told g w i e S at =
       let there : slice_get w.components i ≡ Some (component_of e) = ap (λ (l : Look). slice_get l.components i) S.looks ∙ (slice_get-map component_of g.entries i ∙ ap (option_map component_of) at) in
       let client : slice_get (map (progress_at progress) g.entries) i ≡ Some (progress_at progress e) = slice_get-map (progress_at progress) g.entries i ∙ ap (option_map (progress_at progress)) at in
       told_so_far e.queues.client (progress_of (component_of e) w) (λ (o : is_none e.queues.client ≡ false). sym client ∙ S.progress i (component_of e) there o)
 
-  pub progress_seen : (g : Entries C) (h : Handle) (w : World) (e : Entry C) (r : Option Progress) → Stands (kept progress g) w → Some e ≡ entry_named h g → r ≡ option_map progress e.queues.client → Ok r ≡ progress_answer h w
+  pub progress_seen : (g : Entries C) (h : Handle) (w : World) (e : Entry C) (r : Option Progress) → StandsBare (kept progress g) w → Some e ≡ entry_named h g → r ≡ option_map progress e.queues.client → Ok r ≡ progress_answer h w
   progress_seen g h w e r S n q =
       let x = place_split g.entries (entry_place h g.entries) e n in
       let c : component_named h w.components ≡ Some (component_of e) = ap (λ (l : Look). component_named h l.components) S.looks ∙ named g h (Some e) n in
       rw c (ap Ok (q ∙ sym (entry_told g w x.0 e S x.1)))
 
-  pub no_progress_seen : (g : Entries C) (h : Handle) (w : World) → Stands (kept progress g) w → None ≡ entry_named h g → Err errors.InvalidComponent ≡ progress_answer h w
+  pub no_progress_seen : (g : Entries C) (h : Handle) (w : World) → StandsBare (kept progress g) w → None ≡ entry_named h g → Err errors.InvalidComponent ≡ progress_answer h w
   no_progress_seen g h w S n =
       let c : component_named h w.components ≡ None = ap (λ (l : Look). component_named h l.components) S.looks ∙ named g h None n in
       rw c refl

@@ -11,7 +11,8 @@ use Rattle.il_machine.specs.World.{World}
 use Rattle.il_machine.specs.Look.{Look}
 use Rattle.il_machine.specs.Due.{ClosesTo}
 use Rattle.il_machine.specs.Components.{GetHandle, name_refusals, is_full, is_vacant, get_handle_refusal, with_new_component}
-use Rattle.il_machine.specs.Whole.{Kept, Steps}
+use Rattle.il_machine.specs.Whole.{Kept}
+use Rattle.whole_laws.specs.Bare.{StepsBare}
 use Rattle.il_machine.proofs.Refusals.{first_of_first, first_of_second}
 use Rattle.whole_laws.proofs.Answering.{refused_or_memory, wants_memory, accepted_or_memory, then_closes}
 
@@ -40,17 +41,17 @@ abbrev pub Handled : List ℕ → World → World → Handle → Type 0
 Handled name w v h = (h.generation ≡ w.numbered) × (is_vacant h.slot w.components ≡ true)
     × MatchOption (kind_of name) ⊥ (λ kind. ClosesTo (with_new_component h kind w) v)
 
-pub name_refused : (k : Kept) (name : List ℕ) (error : OmxError) → first_of_these (name_refusals name) ≡ Some error → Steps k k (λ w v. GetHandle w name (Err (Omx error)) v)
+pub name_refused : (k : Kept) (name : List ℕ) (error : OmxError) → first_of_these (name_refusals name) ≡ Some error → StepsBare k k (λ w v. GetHandle w name (Err (Omx error)) v)
 name_refused k name error r = refused_or_memory k (λ l. get_handle_refusal l name) error (Handled name) (refused_name k.looks name error r)
 
-pub full_refused : (k : Kept) (name : List ℕ) → first_of_these (name_refusals name) ≡ None → true ≡ is_full k.looks → Steps k k (λ w v. GetHandle w name (Err (Omx errors.InsufficientResources)) v)
+pub full_refused : (k : Kept) (name : List ℕ) → first_of_these (name_refusals name) ≡ None → true ≡ is_full k.looks → StepsBare k k (λ w v. GetHandle w name (Err (Omx errors.InsufficientResources)) v)
 full_refused k name n f = refused_or_memory k (λ l. get_handle_refusal l name) errors.InsufficientResources (Handled name) (full_or_none k.looks name true n f)
 
-pub memory_wanted : (k : Kept) (name : List ℕ) → first_of_these (name_refusals name) ≡ None → false ≡ is_full k.looks → Steps k k (λ w v. GetHandle w name (Err OutOfMemory) v)
+pub memory_wanted : (k : Kept) (name : List ℕ) → first_of_these (name_refusals name) ≡ None → false ≡ is_full k.looks → StepsBare k k (λ w v. GetHandle w name (Err OutOfMemory) v)
 memory_wanted k name n f = wants_memory k (λ l. get_handle_refusal l name) (Handled name) (full_or_none k.looks name false n f)
 
 pub made : (k m n : Kept) (name : List ℕ) (kind : Kind) (h : Handle) → first_of_these (name_refusals name) ≡ None → kind_of name ≡ Some kind → false ≡ is_full k.looks
-    → h.generation ≡ k.looks.numbered → is_vacant h.slot k.looks.components ≡ true → Steps k m (λ w v. v ≡ with_new_component h kind w) → Steps m n ClosesTo → Steps k n (λ w v. GetHandle w name (Ok h) v)
+    → h.generation ≡ k.looks.numbered → is_vacant h.slot k.looks.components ≡ true → StepsBare k m (λ w v. v ≡ with_new_component h kind w) → StepsBare m n ClosesTo → StepsBare k n (λ w v. GetHandle w name (Ok h) v)
 made k m n name kind h r q f e vacant s closes = accepted_or_memory k n (λ l. get_handle_refusal l name) h (Handled name) (full_or_none k.looks name false r f)
     (λ w S.
     let y = then_closes k m n (with_new_component h kind) s closes w S in

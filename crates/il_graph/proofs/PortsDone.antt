@@ -11,7 +11,7 @@ use Rattle.il_machine.specs.declared.answer.Progress.{Progress}
 use Rattle.il_machine.specs.World.{Component, Given, World, number_of}
 use Rattle.il_machine.specs.Answers.{component_named}
 use Rattle.il_machine.specs.Components.{is_given_to, moved_by, noted_by, no_progress, progress_after, progress_of}
-use Rattle.il_machine.specs.Whole.{Always}
+use Rattle.whole_laws.specs.Bare.{AlwaysBare}
 use Rattle.note_queues.specs.declared.taken.Took.{Took}
 use Rattle.note_queues.specs.declared.taken.Took.TheVariants as tooks
 use Rattle.graph_core.specs.Clients.{AreTold, IsPortDone, TakesClient, WasTold}
@@ -45,7 +45,7 @@ done_in told w None m = absurd m
 done_in told w (Some c) m = subst (λ (p : Progress). IsPortDone p.port) (sym m) (done_after (filter (is_given_to (number_of c)) w.given) no_progress tt)
 
 -- a client object that goes out was told no other
-pub done_taken : {C : Type 0} (progress : C → Progress) (g k : Entries C) (h : Handle) (took : Took C) → SoundWorld (kept progress g) → Always (kept progress g) (AreTold progress g) → TakesClient h g took k → IsTookDone progress took
+pub done_taken : {C : Type 0} (progress : C → Progress) (g k : Entries C) (h : Handle) (took : Took C) → SoundWorld (kept progress g) → AlwaysBare (kept progress g) (AreTold progress g) → TakesClient h g took k → IsTookDone progress took
 done_taken progress g k h (tooks.Call call) W told t =
     let w = W.world in
     let was : WasTold h (progress call.client) w = told w W.stands h call.client t.0 in

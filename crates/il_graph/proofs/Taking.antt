@@ -13,7 +13,7 @@ use Rattle.il_machine.specs.Answers.{plain, Resolving, component_named}
 use Rattle.il_machine.specs.Buffers.{Held, held, AtHeader}
 use Rattle.il_machine.specs.Components.{progress_of}
 use Rattle.il_machine.specs.Notes.{Taken, Took as Answer, TakenEmpty, TakenFilled, TookNote, TakeFrom, TakesHeader, EndNote, with_given, with_client, back_in}
-use Rattle.il_machine.specs.Whole.{Steps, StepsWhere}
+use Rattle.whole_laws.specs.Bare.{StepsBare, StepsBareWhere}
 use Rattle.whole_laws.proofs.Answering.{resolved}
 use Rattle.header_core.specs.BufferHeader.{BufferHeader, is_clients}
 use Rattle.note_queues.specs.declared.taken.Taken.{Taken as Given}
@@ -67,14 +67,14 @@ module _ {C : Type 0} where
     Taking h took w v = Resolving plain w h (Ok (took_of took)) v (λ j c. TakeFrom w j c c.client_out (slice_get c.notes 0) (Ok (took_of took)) v)
 
     abbrev Took_at : ℕ → Took C → Entries C → Entries C → Type 0
-    Took_at i took g m = MatchOption (component_at i g) ⊥ (λ c. Steps (kept progress g) (kept progress m) (λ w v. Takes w i c took v))
+    Took_at i took g m = MatchOption (component_at i g) ⊥ (λ c. StepsBare (kept progress g) (kept progress m) (λ w v. Takes w i c took v))
 
     pub taken_at : (g m k : Entries C) (h : Handle) (i : ℕ) (call : Call C) (F : Found progress g h i) → Took_at i (tooks.Call call) g m
-        → Steps (kept progress m) (kept progress k) ClosesTo
-        → Steps (kept progress g) (kept progress k) (Taking h (tooks.Call call))
+        → StepsBare (kept progress m) (kept progress k) ClosesTo
+        → StepsBare (kept progress g) (kept progress k) (Taking h (tooks.Call call))
     taken_at g m k h i call F s closes =
         let took = tooks.Call call in
-        let t : Steps (kept progress g) (kept progress m) (λ w v. Takes w i F.component took v) = rw F.at at s in
+        let t : StepsBare (kept progress g) (kept progress m) (λ w v. Takes w i F.component took v) = rw F.at at s in
         resolved plain (kept progress g) (kept progress k) h i F.component (Ok (took_of took)) (λ w v j c. TakeFrom w j c c.client_out (slice_get c.notes 0) (Ok (took_of took)) v) F.place F.at
         (λ w S.
         let x = t w S in
@@ -83,9 +83,9 @@ module _ {C : Type 0} where
 
     -- without a note the world stays, and so does all that was due: nothing
     pub none_taken_at : (g m : Entries C) (h : Handle) (i : ℕ) (took : Took C) (F : Found progress g h i) → ((P : Type 0) → OnNoNote took P → P) → Took_at i took g m
-        → Steps (kept progress g) (kept progress m) (Taking h took)
+        → StepsBare (kept progress g) (kept progress m) (Taking h took)
     none_taken_at g m h i took F none s =
-        let t : Steps (kept progress g) (kept progress m) (λ w v. Takes w i F.component took v) = rw F.at at s in
+        let t : StepsBare (kept progress g) (kept progress m) (λ w v. Takes w i F.component took v) = rw F.at at s in
         resolved plain (kept progress g) (kept progress m) h i F.component (Ok (took_of took)) (λ w v j c. TakeFrom w j c c.client_out (slice_get c.notes 0) (Ok (took_of took)) v) F.place F.at
         (λ w S.
         let x = t w S in
@@ -105,11 +105,11 @@ module _ {C : Type 0} where
         subst (λ (x : Option Component). IsSomeAnd x (λ c. c.client_out ≡ true)) c o
 
     pub ended_at : (g m k : Entries C) (h : Handle) (i : ℕ) (told : Progress) (F : Found progress g h i)
-        → MatchOption (component_at i g) ⊥ (λ c. StepsWhere (kept progress g) (kept progress m) (λ w. told ≡ progress_of c w) (λ w v. v ≡ with_component i (back_in c) w))
-        → Steps (kept progress m) (kept progress k) ClosesTo
-        → StepsWhere (kept progress g) (kept progress k) (WasTold h told) (λ w v. EndNote w h v)
+        → MatchOption (component_at i g) ⊥ (λ c. StepsBareWhere (kept progress g) (kept progress m) (λ w. told ≡ progress_of c w) (λ w v. v ≡ with_component i (back_in c) w))
+        → StepsBare (kept progress m) (kept progress k) ClosesTo
+        → StepsBareWhere (kept progress g) (kept progress k) (WasTold h told) (λ w v. EndNote w h v)
     ended_at g m k h i told F s closes = λ w S q.
-        let t : StepsWhere (kept progress g) (kept progress m) (λ w. told ≡ progress_of F.component w) (λ w v. v ≡ with_component i (back_in F.component) w) = rw F.at at s in
+        let t : StepsBareWhere (kept progress g) (kept progress m) (λ w. told ≡ progress_of F.component w) (λ w v. v ≡ with_component i (back_in F.component) w) = rw F.at at s in
         let p : place_of h w.components ≡ Some i = ap (λ (l : Look). place_of h l.components) S.looks ∙ F.place in
         let a : slice_get w.components i ≡ Some F.component = ap (λ (l : Look). slice_get l.components i) S.looks ∙ F.at in
         let n : component_named h w.components ≡ Some F.component = ap (option_and_then (slice_get w.components)) p ∙ a in

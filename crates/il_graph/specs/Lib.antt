@@ -1,9 +1,14 @@
 pub mod Causes
+pub mod Claiming
+pub mod Filed
 pub mod Headers
 pub mod Playing
+pub mod Preparing
 pub mod Sent
+pub mod Shown
 pub mod SinkSteps
 pub mod SourceSteps
 pub mod Stood
 pub mod Streams
 pub mod HandedIn
+pub mod Finishing

@@ -1,11 +1,8 @@
 -- The worlds that a graph stands for, and what its clauses say of a result that hands something back.
-use Rattle.std.specs.Prelude.{Bool, Option, is_some, option_and_then, Result, Ok, Err}
-use Rattle.omx_types.specs.declared.handle.Handle.{Handle}
+use Rattle.std.specs.Prelude.{Bool, Option, is_some, option_map, Result, Ok, Err}
 use Rattle.omx_types.specs.declared.error.CallError.{CallError}
 use Rattle.omx_types.specs.declared.error.CallError.TheVariants.{Omx, OutOfMemory}
 use Rattle.part_api.specs.declared.attached.Attached.{Attached}
-use Rattle.il_machine.specs.Answers.{component_named}
-use Rattle.il_machine.specs.Look.{Look}
 use Rattle.il_machine.specs.Buffers.{Held}
 use Rattle.il_machine.specs.Notes.{Took}
 use Rattle.il_machine.specs.declared.answer.Acted.{Acted}
@@ -18,7 +15,9 @@ use Rattle.header_core.specs.BufferHeader.{BufferHeader}
 use Rattle.note_queues.specs.Queues.{took_of}
 use Rattle.note_queues.specs.declared.taken.Took.{Took as Given}
 use Rattle.note_queues.specs.declared.taken.Took.TheVariants as tooks
+use Rattle.audio_parts.specs.AnyParts.{attached_of}
 use Rattle.graph_core.specs.Clients.{IsPortDone}
+use Rattle.il_graph.specs.declared.freed.Freed.{Freed}
 use Rattle.il_machine.specs.declared.answer.Progress.{Progress}
 
 -- the answer without what it hands back
@@ -26,14 +25,10 @@ abbrev pub plainly : {T E X : Type 0} → Result T (E × X) → Result T E
 plainly (Ok x) = Ok x
 plainly (Err e) = Err e.0
 
--- for which frames the file of the component came that the handle names
-abbrev pub file_of : Handle → Look → Option Attached
-file_of h l = option_and_then (λ c. c.file) (component_named h l.components)
-
--- what is answered on Ok is the file
-abbrev pub with_file : {T E : Type 0} → Option Attached → Result T E → Result (Option Attached) E
-with_file file (Ok x) = Ok file
-with_file file (Err e) = Err e
+-- of a component that was freed, for which frames its file had come
+abbrev pub with_record : {S K C E : Type 0} → Result (Freed S K C) E → Result (Option Attached) E
+with_record (Ok freed) = Ok (option_map attached_of freed.file)
+with_record (Err e) = Err e
 
 -- the header as its holder sees it
 abbrev pub heldly : {E : Type 0} → Result BufferHeader E → Result Held E

@@ -1,54 +1,89 @@
+mod attaching;
 mod buffers;
+mod claiming;
 mod commands;
+mod finishing;
 mod handing;
 mod handles;
 mod laws;
 mod noting;
 mod parameters;
+mod preparing;
 mod supplying;
 mod tunnels;
 mod units;
 
-ghost use Rattle.std.specs.Prelude.{◌≡◌, ◌≢◌, ℕ, Some, None, IfOk};
+ghost use Rattle.std.specs.Prelude.{◌≡◌, ◌≢◌, ℕ, All, Some, None, IfOk, option_and_then};
 ghost use Rattle.omx_types.specs.declared.handle.Handle.{Handle as Named};
 ghost use Rattle.il_machine.specs.Buffers.{IsWithClient};
 ghost use Rattle.il_machine.specs.Components.{state_answer, view_answer, progress_answer, handle_at};
 ghost use Rattle.il_machine.specs.Look.{look};
 ghost use Rattle.il_machine.specs.Whole.{Always, no_kept};
-ghost use Rattle.graph_core.specs.Entries.{client_named, kept, look_of};
+ghost use Rattle.audio_parts.specs.AnyParts.{file_of as part_file};
+ghost use Rattle.graph_core.specs.Entries.{client_named, look_of};
+ghost use Rattle.il_graph.specs.Shown.{kept, file_of};
 
+use audio_parts::AnyPart;
 use graph_core::Core;
 use il_machine::{PortView, Progress};
 use note_queues::Client;
 use omx_types::{Handle, OmxError, State};
+use outside_io::{Sink, Source};
 use std::alloc::{AllocError, Global};
 use std::marker::Model;
 
-/// A graph of components, each with a client object of the type `C`. It is ended by `close`, or by `dispose` where it stops in the middle.
-pub struct Graph<C: Client> {
+/// A graph of components, each with its part and a client object of the type `C`. Sources read files of the type `S`, sinks write such of
+/// the type `K`. It is ended by `close`, or by `dispose` where it stops in the middle.
+pub struct Graph<S: Source, K: Sink, C: Client> {
     pub(crate) core: Core<C>,
+    /// The part of each component, in the order of their numbers, where that isn't out.
+    pub(crate) parts: Vec<Option<AnyPart<S, K>>>,
 }
 
-impl<C: Client> Model for Graph<C> {
-    ghost use Rattle.std.specs.Prelude.{◌≡◌, None};
-    ghost use Rattle.il_machine.specs.Due.{first_due};
-    ghost use Rattle.graph_core.specs.Entries.{Entries, look_of};
+impl<S: Source, K: Sink, C: Client> Model for Graph<S, K, C> {
+    ghost use Rattle.std.specs.Prelude.{◌≤◌, map, option_map, vec_capacity};
+    ghost use Rattle.audio_parts.specs.Shown.{shown_by};
+    ghost use Rattle.il_graph.specs.Shown.{Shown, IsWhole};
 
-    ghost Value = { Entries C };
+    ghost Value = { Shown S K C };
 
-    ghost view = { λ g. g.core };
+    ghost view = { λ g. record { core = g.core; parts = map (option_map (shown_by S.told K.told K.name)) g.parts.items } };
 
-    ghost invariant = { λ g. first_due (look_of g.core) ≡ None };
+    ghost invariant = { λ g. (32 ≤ vec_capacity g.parts) × IsWhole C.progress (record { core = g.core; parts = map (option_map (shown_by S.told K.told K.name)) g.parts.items }) };
 }
 
-impl<C: Client> Graph<C> {
+/// Ends parts that have no file.
+fn end_parts<S: Source, K: Sink>(mut parts: Vec<Option<AnyPart<S, K>>>)
+    requires { All (λ p. option_and_then (λ part. part_file part) p ≡ None) parts.items }
+{
+    while let Some(part) = parts.pop() {
+        let Some(part) = part else {
+            continue;
+        };
+        match part.into_file() {
+            None => {}
+            Some(_) => unreachable!(),
+        }
+    }
+    parts.destroy_empty();
+}
+
+impl<S: Source, K: Sink, C: Client> Graph<S, K, C> {
     /// A graph with no component, and so many free units.
-    pub fn new(alloc: Global, units: u32) -> Result<Graph<C>, AllocError>
-        ensures { IfOk result (λ g. kept C.progress g ≡ no_kept (look_of g).key units) }
+    pub fn new(alloc: Global, units: u32) -> Result<Graph<S, K, C>, AllocError>
+        ensures { IfOk result (λ g. kept C.progress g ≡ no_kept (look_of g.core).key units) }
     {
-        Ok(Graph {
-            core: Core::new(alloc, units)?,
-        })
+        let parts = Vec::with_capacity(alloc, 32)?;
+        match Core::new(alloc, units) {
+            Ok(core) => {
+                core.law_of_worlds();
+                Ok(Graph { core, parts })
+            }
+            Err(error) => {
+                parts.destroy_empty();
+                Err(error)
+            }
+        }
     }
 
     /// A component's state (OpenMAX IL 1.1.2, `OMX_GetState`).
@@ -93,19 +128,25 @@ impl<C: Client> Graph<C> {
     }
 }
 
-impl<C: Client + Drop> Graph<C> {
+impl<S: Source, K: Sink, C: Client + Drop> Graph<S, K, C> {
     /// Ends all components and ports, the headers that are with them, and the client objects. Nothing is out: the client has no
-    /// header, and each client object is in.
+    /// header, each client object is in, and no component has a file.
     pub fn close(self)
-        requires headers { (number : ℕ) → ¬ (IsWithClient number (look_of self)) }
-        requires clients { (h : Named) → client_named h self ≢ Some None }
+        requires headers { (number : ℕ) → ¬ (IsWithClient number (look_of self.core)) }
+        requires clients { (h : Named) → client_named h self.core ≢ Some None }
+        requires files { (number : ℕ) → file_of number self ≡ None }
     {
-        self.dispose();
+        let Graph { core, parts } = self;
+        core.dispose();
+        end_parts(parts);
     }
+}
 
+impl<S: Source + Drop, K: Sink + Drop, C: Client + Drop> Graph<S, K, C> {
     /// Ends a graph in the middle, whatever it holds. Headers that the client has can't be handed in any more.
     pub fn dispose(self) {
-        let Graph { core } = self;
+        let Graph { core, parts } = self;
         core.dispose();
+        let _ = parts;
     }
 }

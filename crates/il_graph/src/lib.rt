@@ -5,14 +5,21 @@
 //! `docs/MACHINE.md` tells it in words.
 #![tactic(auto)]
 
+mod claimed;
+mod freed;
 mod graph;
+mod no_file;
 mod pair;
 #[cfg(test)]
 mod tests;
 
+pub use audio_parts::PartFile;
+pub use claimed::{Claimed, Done, Work};
+pub use freed::Freed;
 pub use graph::Graph;
 pub use header_core::Header;
 pub use il_machine::{Acted, Granted, Mode, PortView, Preempted, Progress, Why};
+pub use no_file::NoFile;
 pub use note_queues::{Call, Client, ProgressClient, Taken, Took};
 pub use omx_types::{
     CallError, Command, Completion, Event, Format, Handle, OmxError, Param, ParamKey,

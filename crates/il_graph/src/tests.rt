@@ -2,12 +2,13 @@ mod buffers;
 mod handles;
 mod tunnels;
 mod units;
+mod works;
 
 ghost use Rattle.graph_core.specs.Clients.{IsPortDone};
-ghost use Rattle.graph_core.specs.Entries.{look_of};
+ghost use Rattle.il_graph.specs.Shown.{look_of};
 ghost use Rattle.il_graph.specs.HandedIn.{StayHandedIn, IsHandedOut};
 
-use crate::Graph;
+use crate::{Freed, Graph, NoFile};
 use header_core::Header;
 use il_machine::{Acted, Progress};
 use note_queues::{Call, Client, ProgressClient, Taken, Took};
@@ -19,7 +20,7 @@ use std::alloc::Global;
 use std::process::Abort;
 use std::test::Fail;
 
-type Plain = Graph<ProgressClient>;
+type Plain = Graph<NoFile, NoFile, ProgressClient>;
 
 fn key(index: u32, port: u32) -> ParamKey {
     ParamKey {
@@ -41,6 +42,12 @@ fn refused(rt: &impl Abort, alloc: Global, graph: &mut Plain, name: &str) -> Cal
         Ok(_) => panic!(rt; "a component is made"),
         Err((error, _)) => error,
     }
+}
+
+/// The client object of a component that is freed.
+fn freed(graph: &mut Plain, h: Handle) -> Result<ProgressClient, OmxError> {
+    let Freed { client, file: _ } = graph.free_handle(h)?;
+    Ok(client)
 }
 
 /// The client object, told the event of the note if it is one.
@@ -155,7 +162,7 @@ fn thirty_two_components(rt: HostRuntime) -> Result<(), Fail> {
     let Some(third) = graph.handle_at(2) else {
         panic!(rt; "no third component");
     };
-    assert_eq!(rt; graph.free_handle(third), Ok(ProgressClient::new()));
+    assert_eq!(rt; freed(&mut graph, third), Ok(ProgressClient::new()));
     let again = made(&rt, rt.alloc(), &mut graph, "OMX.lab.splitter.2");
     assert_eq!(rt; again.slot, third.slot);
     assert_eq!(rt; again.generation, 32);

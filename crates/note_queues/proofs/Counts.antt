@@ -1,5 +1,5 @@
 -- How many events, header notes and places queues have, and how the calls change them.
-use Rattle.std.proofs.Common.{◌≡◌, ℕ, ◌+◌, ◌*◌, ◌≤◌, ◌<◌, Bool, true, false, cond, ◌⊎◌, inl, inr, List, [], ◌∷◌, ◌++◌, length, map, refl, arith, length-append}
+use Rattle.std.proofs.Common.{◌≡◌, ℕ, ◌+◌, ◌*◌, ◌≤◌, ◌<◌, Bool, true, false, cond, ◌⊎◌, inl, inr, List, [], ◌∷◌, ◌++◌, length, map, drop, slice_get, Some, refl, arith, length-append}
 use Rattle.std.proofs.lemmas.Grind.{common_steps}
 use Rattle.std.proofs.lemmas.List.Sums.{sum_by-cons, sum_by_push}
 use Rattle.std.proofs.lemmas.List.{map-append, length-map}
@@ -82,13 +82,17 @@ module _ {C : Type 0} (q : Queues C) (cost_sum event_count : ℕ) (counted : IsC
   places-header places enough few =
       omega (arith, enough, few, counted.within.room, events-and-headers (notes_of q), length-map q.notes note_of)
 
--- ---- the last of notes that have no header
+-- ---- the first of notes that have no header
 
-pub no_header-front : (ts : List Taken) (t : Taken) → length (note_numbers (map note_of (ts ++ t ∷ []))) ≡ 0 → length (note_numbers (map note_of ts)) ≡ 0
-no_header-front ts (Told event) none = omega (arith, none, headers-told ts event)
-no_header-front ts (EmptyDone header) none = omega (arith, none, headers-header ts true header)
-no_header-front ts (FillDone header) none = omega (arith, none, headers-header ts false header)
+pub no_header-rest : (ts : List Taken) → length (note_numbers (map note_of ts)) ≡ 0 → length (note_numbers (map note_of (drop 1 ts))) ≡ 0
+no_header-rest [] none = refl
+no_header-rest (Told event ∷ ts) none = none
+no_header-rest (EmptyDone header ∷ ts) none = absurd (omega arith)
+no_header-rest (FillDone header ∷ ts) none = absurd (omega arith)
 
-pub no_header-last : (ts : List Taken) (t : Taken) → length (note_numbers (map note_of (ts ++ t ∷ []))) ≡ 0 → ((h : BufferHeader) × (t ≡ EmptyDone h)) ⊎ ((h : BufferHeader) × (t ≡ FillDone h)) → ⊥
-no_header-last ts t none (inl p) = let some = rw p.1 at none in omega (arith, some, headers-header ts true p.0)
-no_header-last ts t none (inr p) = let some = rw p.1 at none in omega (arith, some, headers-header ts false p.0)
+pub no_header-first : (ts : List Taken) (t : Taken) → length (note_numbers (map note_of ts)) ≡ 0 → Some t ≡ slice_get ts 0 → ((h : BufferHeader) × (t ≡ EmptyDone h)) ⊎ ((h : BufferHeader) × (t ≡ FillDone h)) → ⊥
+no_header-first [] t none first is = cc
+no_header-first (Told event ∷ ts) t none first (inl p) = let e : Told event ≡ EmptyDone p.0 = cc in cc
+no_header-first (Told event ∷ ts) t none first (inr p) = let e : Told event ≡ FillDone p.0 = cc in cc
+no_header-first (EmptyDone header ∷ ts) t none first is = omega arith
+no_header-first (FillDone header ∷ ts) t none first is = omega arith

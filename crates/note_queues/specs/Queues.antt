@@ -27,7 +27,7 @@ pub record Queues (C : Type 0) : Type 0 where
   -- the component's ports
   pub ports : ℕ
 
--- so many places of two vectors are enough for all commands and notes
+-- so many places of two rings are enough for all commands and notes
 pub record HasPlaces (command_places note_places ports : ℕ) : Type 0 where
   pub commands : 32 ≤ command_places
   pub notes : 256 + 32 * ports ≤ note_places

@@ -1,4 +1,5 @@
-ghost use Rattle.std.specs.Prelude.{◌≡◌, ◌+◌, ◌*◌, ◌<◌, ◌≤◌, ◌∷◌, true, false, length, map, is_none, OnOk, OnErr, IsSome, IfOk, IfErr, option_map, option_copied, vec_len, vec_capacity};
+ghost use Rattle.std.specs.Prelude.{◌≡◌, ◌+◌, ◌*◌, ◌<◌, ◌≤◌, ◌∷◌, ◌++◌, [], true, false, length, map, is_none, OnOk, OnErr, IsSome, IfOk, IfErr, option_map, option_copied};
+ghost use Rattle.circular_buffer.specs.Buffer.{buffer};
 ghost use Rattle.il_machine.specs.Room.{events_in};
 ghost use Rattle.il_machine.specs.Census.{note_numbers};
 ghost use Rattle.note_queues.specs.Queues.{note_of, no_notes, notes_of, header_notes, header_note, costs, room, is_full, fullness, IsWithin, commanded, front_command, without_front, without_commands, holding, noted, with_client, took, after_taking};
@@ -6,6 +7,7 @@ ghost use Rattle.note_queues.specs.Queues.{note_of, no_notes, notes_of, header_n
 use crate::OutOfMemory;
 use crate::client::Client;
 use crate::taken::{Call, Full, QueuedCommand, Taken, Took};
+use circular_buffer::HeapCircularBuffer;
 use header_core::Header;
 use il_machine::Progress;
 use omx_types::{Command, Event};
@@ -25,8 +27,8 @@ const PORT_HEADERS: usize = 32;
 /// The commands and notes of one component, and its client object where that is in. It may hold headers, so it
 /// is ended by `close`.
 pub struct Notes<C> {
-    commands: Vec<QueuedCommand>,
-    notes: Vec<Taken>,
+    commands: HeapCircularBuffer<QueuedCommand>,
+    notes: HeapCircularBuffer<Taken>,
     client: Option<C>,
     places: u32,
     ports: u32,
@@ -37,7 +39,6 @@ pub struct Notes<C> {
 }
 
 impl<C> Model for Notes<C> {
-    ghost use Rattle.std.specs.Prelude.{vec_capacity};
     ghost use Rattle.note_queues.specs.Queues.{Queues, IsCounted, HasPlaces};
 
     ghost Value = { Queues C };
@@ -46,16 +47,29 @@ impl<C> Model for Notes<C> {
 
     ghost invariant = { λ n.
         IsCounted (record { commands = n.commands.items; notes = n.notes.items; client = n.client; places = n.places; ports = n.ports }) n.cost_sum n.event_count
-        × HasPlaces (vec_capacity n.commands) (vec_capacity n.notes) n.ports };
+        × HasPlaces n.commands.capacity n.notes.capacity n.ports };
 }
 
-/// Takes the first item out. There is one.
-fn take_first<T>(items: &mut Vec<T>) -> T
-    requires { 0 < vec_len items.old }
-    ensures items { items.old.items ≡ result ∷ items.new.items }
-    ensures capacity { vec_capacity items.new ≡ vec_capacity items.old }
+/// Takes the oldest item out. There is one.
+fn take_oldest_of<T>(ring: &mut HeapCircularBuffer<T>) -> T
+    requires { 0 < length ring.old.items }
+    ensures { ring.old ≡ buffer (result ∷ ring.new.items) ring.new.capacity }
 {
-    items.remove(0)
+    match ring.pop_front() {
+        Some(item) => item,
+        None => unreachable!(),
+    }
+}
+
+/// Puts an item behind all others. There is a place for it.
+fn put_newest_to<T>(ring: &mut HeapCircularBuffer<T>, item: T)
+    requires { length ring.old.items < ring.old.capacity }
+    ensures { ring.new ≡ buffer (ring.old.items ++ item ∷ []) ring.old.capacity }
+{
+    match ring.try_push_back(item) {
+        Ok(()) => {}
+        Err(_item) => unreachable!(),
+    }
 }
 
 fn note_of_header(input: bool, header: Header) -> Taken
@@ -69,10 +83,10 @@ fn note_of_header(input: bool, header: Header) -> Taken
 }
 
 /// Ends a list of notes in which there is no header.
-fn drop_events(mut notes: Vec<Taken>)
+fn drop_events(mut notes: HeapCircularBuffer<Taken>)
     requires { length (note_numbers (map note_of notes.items)) ≡ 0 }
 {
-    while let Some(taken) = notes.pop() {
+    while let Some(taken) = notes.pop_front() {
         match taken {
             Taken::Told(_) => {}
             Taken::EmptyDone(_header) | Taken::FillDone(_header) => unreachable!(),
@@ -82,8 +96,8 @@ fn drop_events(mut notes: Vec<Taken>)
 }
 
 /// Lets all notes go, with the headers in them.
-fn drop_notes(mut notes: Vec<Taken>) {
-    while let Some(taken) = notes.pop() {
+fn drop_notes(mut notes: HeapCircularBuffer<Taken>) {
+    while let Some(taken) = notes.pop_front() {
         match taken {
             Taken::Told(_) => {}
             Taken::EmptyDone(header) | Taken::FillDone(header) => header.dispose(),
@@ -93,20 +107,18 @@ fn drop_notes(mut notes: Vec<Taken>) {
 }
 
 impl<C> Notes<C> {
-    /// No commands and notes, and the client object in. Each queue has its greatest length reserved.
+    /// No commands and notes, and the client object in. Each queue is a ring of its greatest length.
     pub fn new(alloc: Global, ports: u32, client: C) -> Result<Notes<C>, (OutOfMemory, C)>
         requires { ports ≤ 16 }
         ensures made { IfOk result (λ n. n ≡ no_notes ports client) }
         ensures handed_back { IfErr result (λ refused. refused.1 ≡ client) }
     {
-        let commands = match Vec::with_capacity(alloc, COMMANDS) {
+        let commands = match HeapCircularBuffer::with_capacity(alloc, COMMANDS) {
             Ok(commands) => commands,
             Err(error) => return Err((error, client)),
         };
-        let notes = match Vec::with_capacity(
-            alloc,
-            PLACES as usize + PORT_HEADERS * ports as usize,
-        ) {
+        let places = PLACES as usize + PORT_HEADERS * ports as usize;
+        let notes = match HeapCircularBuffer::with_capacity(alloc, places) {
             Ok(notes) => notes,
             Err(error) => return Err((error, client)),
         };
@@ -155,7 +167,7 @@ impl<C> Notes<C> {
         if queued >= COMMANDS as u32 || room < cost {
             return Err(Full { queued, room });
         }
-        self.commands.push_reserved(QueuedCommand { command, cost });
+        put_newest_to(&mut self.commands, QueuedCommand { command, cost });
         self.cost_sum += cost;
         Ok(())
     }
@@ -164,7 +176,7 @@ impl<C> Notes<C> {
     pub fn front_command(&self) -> Option<&Command>
         ensures { option_copied result ≡ front_command self.now }
     {
-        match self.commands.first() {
+        match self.commands.front() {
             Some(queued) => Some(&queued.command),
             None => None,
         }
@@ -178,7 +190,7 @@ impl<C> Notes<C> {
         if self.commands.is_empty() {
             return None;
         }
-        let queued = take_first(&mut self.commands);
+        let queued = take_oldest_of(&mut self.commands);
         self.cost_sum -= queued.cost;
         Some(queued.command)
     }
@@ -211,7 +223,7 @@ impl<C> Notes<C> {
         requires { 0 < room self.old }
         ensures { self.new ≡ noted (Taken.Told event) self.old }
     {
-        self.notes.push_reserved(Taken::Told(event));
+        put_newest_to(&mut self.notes, Taken::Told(event));
         self.event_count += 1;
     }
 
@@ -221,7 +233,7 @@ impl<C> Notes<C> {
         ensures { self.new ≡ noted (header_note input header) self.old }
     {
         let taken = note_of_header(input, header);
-        self.notes.push_reserved(taken);
+        put_newest_to(&mut self.notes, taken);
     }
 
     /// Takes the oldest note out.
@@ -229,7 +241,7 @@ impl<C> Notes<C> {
         requires { 0 < length self.old.notes }
         ensures { self.old ≡ record self.new { notes = result ∷ self.new.notes } }
     {
-        let taken = take_first(&mut self.notes);
+        let taken = take_oldest_of(&mut self.notes);
         if taken.is_event() {
             self.event_count -= 1;
         }

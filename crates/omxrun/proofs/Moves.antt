@@ -9,6 +9,7 @@ use Rattle.outside_io.proofs.Closed.{told_value}
 use Rattle.omx_types.specs.declared.fault.Fault.{Fault}
 use Rattle.omx_types.specs.declared.fault.Fault.TheVariants as Faults
 use Rattle.omx_types.specs.declared.fault.WavFault.{WavFault}
+use Rattle.omx_types.specs.declared.fault.Which.{Which}
 use Rattle.rtp_parts.specs.Answers.{IfShort, UnlessStopped, Packing, packing_of, counts_of, packets_file, StoppedPacking, unpacked_counts}
 use Rattle.rtp_parts.specs.Ends.{EndsUnpacking}
 use Rattle.rtp_parts.specs.Unpacking.{Unpacking, unpacked, wav_of}
@@ -18,8 +19,9 @@ use Rattle.rtp_parts.specs.declared.packing.Packed.{Packed}
 use Rattle.rtp_parts.specs.declared.unpacking.Unpacked.{Unpacked}
 use Rattle.wav_form.specs.Reading.{Reads}
 use Rattle.wav_form.specs.declared.heads.WavHead.{WavHead}
-use Rattle.omxrun.specs.Packets.{fault_of_rtp, packing_done, unpacking_done, with_text, PacksTo, UnpacksTo, StoppedUnpacking}
-use Rattle.omxrun.specs.Turned.{Written, Giving, Stopping, text_in}
+use Rattle.omxrun.specs.Packets.{IsShortFile, IsWholeOrShort, fault_of_rtp, packing_done, unpacking_done, with_text, PacksTo, UnpacksTo, StoppedUnpacking}
+use Rattle.omxrun.specs.Reasons.{CountsStand}
+use Rattle.omxrun.specs.Turned.{Written, Giving, Stopping, IsAlone, text_in}
 use Rattle.omxrun.specs.declared.done.Done.{Done}
 use Rattle.omxrun.proofs.Causes.{later}
 use Rattle.omxrun.proofs.Turns.{IsOfBytes, IsMoved, HasMoveReason, IsClosed, at-name}
@@ -133,7 +135,7 @@ pack-stopped input old new size told ends rb rn wb wn (Err fault) is read write 
     rtp-stopped StoppedPacking input old new size told ends rb rn wb wn fault is (λ same. read (ap (λ (f : RtpFault). let r : Result Packed RtpFault = Err f in r) same)) (λ same. write (ap (λ (f : RtpFault). let r : Result Packed RtpFault = Err f in r) same)) short
 
 ends-short : (size : ℕ) (told : Option (List ℕ)) (ends : Option ℕ) (rb rn wb wn : ℕ) (fault : RtpFault) → EndsUnpacking size ends rb rn wb wn fault → IfShort fault (StoppedUnpacking size told ends)
-ends-short size told ends rb rn wb wn (RtpFaults.Short at whole) is = is
+ends-short size told ends rb rn wb wn (RtpFaults.Short at whole) is = is.0
 ends-short size told ends rb rn wb wn RtpFaults.Read is = tt
 ends-short size told ends rb rn wb wn RtpFaults.Write is = tt
 ends-short size told ends rb rn wb wn (RtpFaults.Head fault) is = tt
@@ -147,7 +149,7 @@ pub unpack-stopped : (input : List ℕ) (old new : Outside) (size : ℕ) (told :
     → IfErr result (EndsUnpacking size ends rb rn wb wn) → IfErr (unpacking_done result) (HasMoveReason StoppedUnpacking input old new)
 unpack-stopped input old new size told ends rb rn wb wn (Ok counts) is cause = tt
 unpack-stopped input old new size told ends rb rn wb wn (Err fault) is cause =
-    rtp-stopped StoppedUnpacking input old new size told ends rb rn wb wn fault is (λ same. subst (λ (f : RtpFault). EndsUnpacking size ends rb rn wb wn f) same cause) (λ same. subst (λ (f : RtpFault). EndsUnpacking size ends rb rn wb wn f) same cause) (ends-short size told ends rb rn wb wn fault cause)
+    rtp-stopped StoppedUnpacking input old new size told ends rb rn wb wn fault is (λ same. subst (λ (f : RtpFault). EndsUnpacking size ends rb rn wb wn f) same cause) (λ same. (subst (λ (f : RtpFault). EndsUnpacking size ends rb rn wb wn f) same cause).0) (ends-short size told ends rb rn wb wn fault cause)
 
 -- ---- both files are closed
 
@@ -167,12 +169,108 @@ shut-fault old mid new ran (Ok done) le is = tt
 shut-fault old mid new ran (Err fault) le (inl same) = inl same
 shut-fault old mid new ran (Err fault) le (inr (same, rose)) = inr (same, later old.write_faults mid.write_faults new.write_faults le rose)
 
-pub closed-of : (Gives : Giving) (Stops : Stopping) (name input output : List ℕ) (old mid new : Outside) (ran outcome : Result Done Fault) (told : Option (List ℕ)) → mid.file ≡ old.file → GoesOn old mid → (IsTrue old.tells → name ≡ output) → IsShut name mid new ran outcome told → (IsTrue old.tells → (bytes : List ℕ) × (old.file input ≡ Some bytes) × IsMoved Gives bytes ran told) → IfErr ran (HasMoveReason Stops input old new) → IsClosed Gives Stops input output old new ran outcome told
-closed-of Gives Stops name input output old mid new ran outcome told same on named shut moved stopped = record {
+pub closed-of : (Gives : Giving) (Stops : Stopping) (name input output : List ℕ) (old mid new : Outside) (ran outcome : Result Done Fault) (told : Option (List ℕ)) → mid.file ≡ old.file → GoesOn old mid → (IsTrue old.tells → name ≡ output) → IsShut name mid new ran outcome told → (IsTrue old.tells → (bytes : List ℕ) × (old.file input ≡ Some bytes) × IsMoved Gives bytes ran told) → IfErr ran (HasMoveReason Stops input old new) → IfErr outcome (IsAlone old new) → IsClosed Gives Stops input output old new ran outcome told
+closed-of Gives Stops name input output old mid new ran outcome told same on named shut moved stopped alone = record {
   others = λ tells other apart. shut.others other (λ (is : other ≡ name). apart (is ∙ named tells)) ∙ at-name other old mid same;
   moved = moved;
   done = shut-done name output old new ran outcome told named shut.done;
   front = λ tells. subst (λ (n : List ℕ). OnErr outcome ((new.file n ≡ told) ⊎ WhereTold told (IsFrontOf (new.file n)))) (named tells) shut.front;
   fault = shut-fault old mid new ran outcome on.write_faults shut.fault;
   stopped = stopped;
+  alone = alone;
 }
+
+-- ---- which counts rose
+
+-- what a run says of the source's count and the sink's, which were 0: where it was done whole, where its write failed and where it came short
+abbrev pub RanAlone : Result Done Fault → ℕ → ℕ → Type 0
+RanAlone (Ok done) reads writes = reads ≡ 0
+RanAlone (Err Faults.WriteFault) reads writes = reads ≡ 0
+RanAlone (Err (Faults.Short which at size)) reads writes = (reads ≡ 0) × (writes ≡ 0)
+RanAlone (Err other) reads writes = Unit {0}
+
+rtp-alone : (rb rn wb wn : ℕ) (fault : RtpFault) → rb ≡ 0 → wb ≡ 0 → (fault ≡ RtpFaults.Write → rn ≡ rb) → IfShort fault (λ at whole. (rn ≡ rb) × (wn ≡ wb)) → RanAlone (Err (fault_of_rtp fault)) rn wn
+rtp-alone rb rn wb wn RtpFaults.Write unread unwritten write short = write refl ∙ unread
+rtp-alone rb rn wb wn (RtpFaults.Short at whole) unread unwritten write short = (short.0 ∙ unread, short.1 ∙ unwritten)
+rtp-alone rb rn wb wn RtpFaults.Read unread unwritten write short = tt
+rtp-alone rb rn wb wn (RtpFaults.Head fault) unread unwritten write short = tt
+rtp-alone rb rn wb wn RtpFaults.WrongFormat unread unwritten write short = tt
+rtp-alone rb rn wb wn RtpFaults.NotPackets unread unwritten write short = tt
+rtp-alone rb rn wb wn RtpFaults.NoPackets unread unwritten write short = tt
+rtp-alone rb rn wb wn RtpFaults.TooLong unread unwritten write short = tt
+rtp-alone rb rn wb wn RtpFaults.OutOfMemory unread unwritten write short = tt
+
+pub pack-alone : (rb rn wb wn : ℕ) (result : Result Packed RtpFault) → rb ≡ 0 → wb ≡ 0 → OnOk result ((rn ≡ rb) × (wn ≡ wb)) → (result ≡ Err RtpFaults.Write → rn ≡ rb)
+    → IfErr result (λ fault. IfShort fault (λ at whole. (rn ≡ rb) × (wn ≡ wb))) → RanAlone (packing_done result) rn wn
+pack-alone rb rn wb wn (Ok counts) unread unwritten stand write short = stand.0 ∙ unread
+pack-alone rb rn wb wn (Err fault) unread unwritten stand write short =
+    rtp-alone rb rn wb wn fault unread unwritten (λ same. write (ap (λ (f : RtpFault). let r : Result Packed RtpFault = Err f in r) same)) short
+
+ends-alone : (size : ℕ) (ends : Option ℕ) (rb rn wb wn : ℕ) (fault : RtpFault) → EndsUnpacking size ends rb rn wb wn fault → IfShort fault (λ at whole. (rn ≡ rb) × (wn ≡ wb))
+ends-alone size ends rb rn wb wn (RtpFaults.Short at whole) is = (is.1, is.2)
+ends-alone size ends rb rn wb wn RtpFaults.Read is = tt
+ends-alone size ends rb rn wb wn RtpFaults.Write is = tt
+ends-alone size ends rb rn wb wn (RtpFaults.Head fault) is = tt
+ends-alone size ends rb rn wb wn RtpFaults.WrongFormat is = tt
+ends-alone size ends rb rn wb wn RtpFaults.NotPackets is = tt
+ends-alone size ends rb rn wb wn RtpFaults.NoPackets is = tt
+ends-alone size ends rb rn wb wn RtpFaults.TooLong is = tt
+ends-alone size ends rb rn wb wn RtpFaults.OutOfMemory is = tt
+
+pub unpack-alone : (size : ℕ) (ends : Option ℕ) (rb rn wb wn : ℕ) (result : Result Unpacked RtpFault) → rb ≡ 0 → wb ≡ 0 → OnOk result ((rn ≡ rb) × (wn ≡ wb))
+    → IfErr result (EndsUnpacking size ends rb rn wb wn) → RanAlone (unpacking_done result) rn wn
+unpack-alone size ends rb rn wb wn (Ok counts) unread unwritten stand cause = stand.0 ∙ unread
+unpack-alone size ends rb rn wb wn (Err fault) unread unwritten stand cause =
+    rtp-alone rb rn wb wn fault unread unwritten (λ same. (subst (λ (f : RtpFault). EndsUnpacking size ends rb rn wb wn f) same cause).1) (ends-alone size ends rb rn wb wn fault cause)
+
+-- a run that was done whole or came short left the source's count
+whole-alone : (ran : Result Done Fault) (reads writes : ℕ) → RanAlone ran reads writes → IsWholeOrShort ran → reads ≡ 0
+whole-alone (Ok done) reads writes is whole = is
+whole-alone (Err (Faults.Short which at size)) reads writes is whole = is.0
+whole-alone (Err Faults.WriteFault) reads writes is whole = is
+whole-alone (Err Faults.ReadFault) reads writes is whole = absurd whole
+whole-alone (Err Faults.OutOfMemory) reads writes is whole = absurd whole
+whole-alone (Err (Faults.BadMedia which fault)) reads writes is whole = absurd whole
+whole-alone (Err (Faults.Packets why)) reads writes is whole = absurd whole
+whole-alone (Err (Faults.Absent which)) reads writes is whole = absurd whole
+whole-alone (Err (Faults.Script line why)) reads writes is whole = absurd whole
+whole-alone (Err Faults.Usage) reads writes is whole = absurd whole
+whole-alone (Err (Faults.Units have need)) reads writes is whole = absurd whole
+whole-alone (Err (Faults.NotRun line why)) reads writes is whole = absurd whole
+whole-alone (Err (Faults.NotBuilt what)) reads writes is whole = absurd whole
+
+-- what closing both files said of the counts
+pub record IsShutAlone (mid new : Outside) (ran outcome : Result Done Fault) (reads writes : ℕ) : Type 0 where
+  pub closing : IfErr outcome (λ fault. (ran ≡ Err fault) ⊎ ((fault ≡ Faults.WriteFault) × IsWholeOrShort ran))
+  pub unread : reads ≡ 0 → new.read_faults ≡ mid.read_faults
+  pub unwritten : writes ≡ 0 → IfErr outcome (λ fault. IsShortFile fault → new.write_faults ≡ mid.write_faults)
+
+write-alone : (ran : Result Done Fault) (reads writes : ℕ) → RanAlone ran reads writes → (ran ≡ Err Faults.WriteFault) ⊎ ((Faults.WriteFault ≡ Faults.WriteFault) × IsWholeOrShort ran) → reads ≡ 0
+write-alone ran reads writes is (inl same) = subst (λ (r : Result Done Fault). RanAlone r reads writes) same is
+write-alone ran reads writes is (inr (_, whole)) = whole-alone ran reads writes is whole
+
+short-alone : (ran : Result Done Fault) (which : Which) (at size reads writes : ℕ) → RanAlone ran reads writes → (ran ≡ Err (Faults.Short which at size)) ⊎ ((Faults.Short which at size ≡ Faults.WriteFault) × IsWholeOrShort ran)
+    → (reads ≡ 0) × (writes ≡ 0)
+short-alone ran which at size reads writes is (inl same) = subst (λ (r : Result Done Fault). RanAlone r reads writes) same is
+short-alone ran which at size reads writes is (inr (other, _)) = absurd cc
+
+alone-of : (old mid new : Outside) (ran : Result Done Fault) (fault : Fault) (reads writes : ℕ) → CountsStand old mid → RanAlone ran reads writes → (ran ≡ Err fault) ⊎ ((fault ≡ Faults.WriteFault) × IsWholeOrShort ran)
+    → (reads ≡ 0 → new.read_faults ≡ mid.read_faults) → (writes ≡ 0 → IsShortFile fault → new.write_faults ≡ mid.write_faults) → IsAlone old new fault
+alone-of old mid new ran Faults.WriteFault reads writes stand is closing unread unwritten = unread (write-alone ran reads writes is closing) ∙ stand.reads
+alone-of old mid new ran (Faults.Short which at size) reads writes stand is closing unread unwritten =
+    let none = short-alone ran which at size reads writes is closing in
+    record { reads = unread none.0 ∙ stand.reads; writes = unwritten none.1 tt ∙ stand.writes }
+alone-of old mid new ran Faults.ReadFault reads writes stand is closing unread unwritten = tt
+alone-of old mid new ran Faults.OutOfMemory reads writes stand is closing unread unwritten = tt
+alone-of old mid new ran (Faults.BadMedia which fault) reads writes stand is closing unread unwritten = tt
+alone-of old mid new ran (Faults.Packets why) reads writes stand is closing unread unwritten = tt
+alone-of old mid new ran (Faults.Absent which) reads writes stand is closing unread unwritten = tt
+alone-of old mid new ran (Faults.Script line why) reads writes stand is closing unread unwritten = tt
+alone-of old mid new ran Faults.Usage reads writes stand is closing unread unwritten = tt
+alone-of old mid new ran (Faults.Units have need) reads writes stand is closing unread unwritten = tt
+alone-of old mid new ran (Faults.NotRun line why) reads writes stand is closing unread unwritten = tt
+alone-of old mid new ran (Faults.NotBuilt what) reads writes stand is closing unread unwritten = tt
+
+pub shut-alone : (old mid new : Outside) (ran outcome : Result Done Fault) (reads writes : ℕ) → CountsStand old mid → RanAlone ran reads writes → IsShutAlone mid new ran outcome reads writes → IfErr outcome (IsAlone old new)
+shut-alone old mid new ran (Ok done) reads writes stand is shut = tt
+shut-alone old mid new ran (Err fault) reads writes stand is shut = alone-of old mid new ran fault reads writes stand is shut.closing shut.unread shut.unwritten

@@ -10,7 +10,7 @@ use Rattle.omx_types.specs.declared.fault.Fault.{Fault}
 use Rattle.omx_types.specs.declared.fault.Fault.TheVariants as Faults
 use Rattle.omx_types.specs.declared.fault.Which.TheVariants as Files
 use Rattle.omxrun.specs.Opened.{HasOpenReason}
-use Rattle.omxrun.specs.Turned.{Written, Giving, Stopping, text_in, Comes, IsTurned, IsKeptOrBegun, HasTurnReason, IsUnopened, IsTurnOutcome}
+use Rattle.omxrun.specs.Turned.{Written, Giving, Stopping, text_in, Comes, IsTurned, IsKeptOrBegun, HasTurnReason, IsAlone, IsUnopened, IsTurnOutcome}
 use Rattle.omxrun.specs.declared.done.Done.{Done}
 
 -- ---- files that weren't opened
@@ -37,13 +37,14 @@ open-reason Gives Stops input output old new (Faults.NotBuilt what) reason = abs
 pub at-name : (name : List ℕ) (old new : Outside) → new.file ≡ old.file → new.file name ≡ old.file name
 at-name name old new same = ap (λ (f : List ℕ → Option (List ℕ)). f name) same
 
-pub unopened-outcome : (Gives : Giving) (Stops : Stopping) (input output : List ℕ) (old new : Outside) (fault : Fault) → new.file ≡ old.file → HasOpenReason input output old new fault → IsTurnOutcome Gives Stops input output old new (Err fault)
-unopened-outcome Gives Stops input output old new fault same reason = record {
+pub unopened-outcome : (Gives : Giving) (Stops : Stopping) (input output : List ℕ) (old new : Outside) (fault : Fault) → new.file ≡ old.file → HasOpenReason input output old new fault → IsAlone old new fault → IsTurnOutcome Gives Stops input output old new (Err fault)
+unopened-outcome Gives Stops input output old new fault same reason alone = record {
   others = λ tells other apart. at-name other old new same;
   turned = λ tells. tt;
   left = λ tells. inl (at-name output old new same);
   unopened = λ early. same;
   reason = open-reason Gives Stops input output old new fault reason;
+  alone = alone;
 }
 
 -- ---- files that were opened
@@ -81,6 +82,7 @@ pub record IsClosed (Gives : Giving) (Stops : Stopping) (input output : List ℕ
   pub front : IsTrue old.tells → OnErr outcome ((new.file output ≡ told) ⊎ WhereTold told (IsFrontOf (new.file output)))
   pub fault : IfErr outcome (λ fault. (ran ≡ Err fault) ⊎ ((fault ≡ Faults.WriteFault) × Rose old.write_faults new.write_faults))
   pub stopped : IfErr ran (HasMoveReason Stops input old new)
+  pub alone : IfErr outcome (IsAlone old new)
 
 if-ok : {A E : Type 0} (r : Result A E) (a : A) (P : A → Type 0) → r ≡ Ok a → IfOk r P → P a
 if-ok r a P is h = subst (λ (q : Result _ _). IfOk q P) is h
@@ -151,6 +153,7 @@ turned-outcome Gives Stops input output old new ran (Ok done) told is = record {
   left = λ tells. tt;
   unopened = tt;
   reason = tt;
+  alone = tt;
 }
 turned-outcome Gives Stops input output old new ran (Err fault) told is = record {
   others = is.others;
@@ -166,4 +169,5 @@ turned-outcome Gives Stops input output old new ran (Err fault) told is = record
     | inl same ↦ move-reason Gives Stops input output old new fault (if-err ran fault (HasMoveReason Stops input old new) same is.stopped) (of-bytes Gives Stops input output old new fault ran told is.moved same)
     | inr closing ↦ subst (λ (f : Fault). HasTurnReason Gives Stops input output old new f) (sym closing.0) closing.1
   ];
+  alone = is.alone;
 }

@@ -50,6 +50,16 @@ PacksTo bytes answer = (head : Result WavHead WavFault) × Reads bytes head
 abbrev pub UnpacksTo : List ℕ → Result Written Fault → Type 0
 UnpacksTo bytes answer = answer ≡ with_text (wav_of (unpacked bytes)) (unpacking_done (unpacked_counts (unpacked bytes)))
 
+-- where the output's closing failed, that is told of what was done whole or came short
+abbrev pub IsWholeOrShort : Result Done Fault → Type 0
+IsWholeOrShort (Ok done) = Unit {0}
+IsWholeOrShort (Err (Faults.Short which at size)) = Unit {0}
+IsWholeOrShort (Err other) = ⊥
+
+abbrev pub IsShortFile : Fault → Type 0
+IsShortFile (Faults.Short which at size) = Unit {0}
+IsShortFile other = ⊥
+
 -- where a source gave nothing while its packets were read
 abbrev pub StoppedUnpacking : (size : ℕ) (told : Option (List ℕ)) (ends : Option ℕ) (at told_size : ℕ) → Type 0
 StoppedUnpacking size told ends at told_size = GaveNothing size ends 0 at told_size

@@ -7,6 +7,7 @@ use Rattle.omx_types.specs.declared.fault.Fault.{Fault}
 use Rattle.omx_types.specs.declared.fault.Fault.TheVariants as Faults
 use Rattle.omx_types.specs.declared.fault.Which.TheVariants as Files
 use Rattle.omxrun.specs.Asked.{IsGiven}
+use Rattle.omxrun.specs.Reasons.{CountsStand}
 use Rattle.omxrun.specs.declared.done.Done.{Done}
 
 pub record Written : Type 0 where
@@ -54,6 +55,12 @@ HasTurnReason Gives Stops input output old new (Faults.BadMedia Files.Input faul
 HasTurnReason Gives Stops input output old new (Faults.Packets why) = IsTrue old.tells → Comes Gives input old (Err (Faults.Packets why))
 HasTurnReason Gives Stops input output old new other = ⊥
 
+-- a failed write is told only where no read failed, and a short file only where neither did
+abbrev pub IsAlone : Outside → Outside → Fault → Type 0
+IsAlone old new Faults.WriteFault = new.read_faults ≡ old.read_faults
+IsAlone old new (Faults.Short which at size) = CountsStand old new
+IsAlone old new other = Unit {0}
+
 -- faults that come before the output is opened, or with its name
 abbrev pub IsUnopened : Fault → Type 0
 IsUnopened (Faults.Absent which) = Unit {0}
@@ -66,6 +73,7 @@ pub record IsTurnOutcome (Gives : Giving) (Stops : Stopping) (input output : Lis
   pub left : IsTrue old.tells → OnErr outcome (IsKeptOrBegun Gives input output old new)
   pub unopened : IfErr outcome (λ fault. IsUnopened fault → new.file ≡ old.file)
   pub reason : IfErr outcome (HasTurnReason Gives Stops input output old new)
+  pub alone : IfErr outcome (IsAlone old new)
 
 -- the input is told and given whole, its bytes come to this answer, and the output's name isn't refused
 pub record CanTurn (Gives : Giving) (input output : List ℕ) (old : Outside) (answer : Result Written Fault) : Type 0 where

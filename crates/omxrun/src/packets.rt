@@ -4,8 +4,9 @@ ghost use Rattle.outside_io.specs.Files.{GoesOn, SameBut, IsFrontOf};
 ghost use Rattle.outside_io.specs.Moves.{WhereTold};
 ghost use Rattle.rtp_parts.specs.Answers.{StoppedPacking};
 ghost use Rattle.omxrun.specs.Opened.{HasOpenReason, fault_of_input, fault_of_output};
-ghost use Rattle.omxrun.specs.Packets.{PacksTo, UnpacksTo, StoppedUnpacking, fault_of_rtp, packing_done, unpacking_done};
-ghost use Rattle.omxrun.specs.Turned.{IsTurnOutcome};
+ghost use Rattle.omxrun.specs.Packets.{IsShortFile, IsWholeOrShort, PacksTo, UnpacksTo, StoppedUnpacking, fault_of_rtp, packing_done, unpacking_done};
+ghost use Rattle.omxrun.specs.Reasons.{CountsStand};
+ghost use Rattle.omxrun.specs.Turned.{IsAlone, IsTurnOutcome};
 
 use crate::done::Done;
 use omx_types::{Fault, PacketsWhy, Which};
@@ -77,7 +78,10 @@ fn open_both<M: Media>(
     ensures unread { IfOk result (λ opened. M.Src.faults opened.input ≡ 0) }
     ensures unwritten { IfOk result (λ opened. M.Snk.faults opened.output ≡ 0) }
     ensures reason { IfErr result (HasOpenReason input.now output.now (M.outside media.old) (M.outside media.new)) }
+    ensures alone { IfErr result (IsAlone (M.outside media.old) (M.outside media.new)) }
+    ensures stand { OnOk result (CountsStand (M.outside media.old) (M.outside media.new)) }
 {
+    let _read_faults = media.read_faults();
     let source = match media.source(alloc, input) {
         Ok(source) => source,
         Err(refused) => return Err(input_fault(refused)),
@@ -94,7 +98,7 @@ fn open_both<M: Media>(
     }
 }
 
-/// Closes both files. Where the output's closing failed, a command that was done whole wasn't.
+/// Closes both files. Where the output's closing failed, that is told of a command that was done whole or came short.
 fn close_both<M: Media>(
     media: &mut M,
     opened: Opened<M::Src, M::Snk>,
@@ -107,15 +111,20 @@ fn close_both<M: Media>(
         ⊎ WhereTold (M.Snk.told opened.output) (IsFrontOf ((M.outside media.new).file (M.Snk.name opened.output)))) }
     ensures fault { IfErr result (λ fault. (outcome ≡ Err fault)
         ⊎ ((fault ≡ Fault.WriteFault) × Rose (M.outside media.old).write_faults (M.outside media.new).write_faults)) }
+    ensures closing { IfErr result (λ fault. (outcome ≡ Err fault) ⊎ ((fault ≡ Fault.WriteFault) × IsWholeOrShort outcome)) }
+    ensures unread { M.Src.faults opened.input ≡ 0 → (M.outside media.new).read_faults ≡ (M.outside media.old).read_faults }
+    ensures unwritten { M.Snk.faults opened.output ≡ 0 → IfErr result (λ fault. IsShortFile fault →
+        (M.outside media.new).write_faults ≡ (M.outside media.old).write_faults) }
     ensures reads { (M.outside media.new).read_faults ≡ sum_of_counts (M.outside media.old).read_faults (M.Src.faults opened.input) }
     ensures writes { sum_of_counts (M.outside media.old).write_faults (M.Snk.faults opened.output) ≤ (M.outside media.new).write_faults }
 {
+    let _counts = (media.read_faults(), media.write_faults());
     let Opened { input, output } = opened;
     media.close_source(input);
     match media.close_sink(output) {
         Ok(()) => outcome,
         Err(_) => match outcome {
-            Ok(_) => Err(Fault::WriteFault),
+            Ok(_) | Err(Fault::Short { .. }) => Err(Fault::WriteFault),
             Err(fault) => Err(fault),
         },
     }

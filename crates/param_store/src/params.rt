@@ -1,7 +1,7 @@
-ghost use Rattle.std.specs.Prelude.{◌≡◌, ◌<◌, ◌≤◌, Ok, Err, MatchOption, length, take, replicate, ◌++◌, false, true, None, slice_set};
+ghost use Rattle.std.specs.Prelude.{◌≡◌, ◌<◌, ◌≤◌, All, Bool, Ok, Err, MatchOption, length, take, replicate, ◌++◌, false, true, None, slice_set};
 ghost use Rattle.il_machine.specs.Kinds.{ports_in, inputs_of, outputs_of};
 ghost use Rattle.il_machine.specs.Lists.{first_of_these};
-ghost use Rattle.il_machine.specs.Settings.{IsSized, default_settings, default_setting, weights_in, setting_at, is_index_of, is_port_of, get_refusal, get_refusals, value_refusals, set_refusal, value_of, got, is_value_of, is_supported, changed_by, with_setting, fits};
+ghost use Rattle.il_machine.specs.Settings.{IsSized, default_settings, default_setting, weights_in, setting_at, is_index_of, is_port_of, get_refusal, get_refusals, value_refusals, set_refusal, value_of, got, is_value_of, is_good_value, is_supported, changed_by, with_setting, fits};
 
 use crate::{kinds, limits};
 use il_machine::PortSetting;
@@ -19,7 +19,7 @@ pub struct Params {
 }
 
 impl Model for Params {
-    ghost use Rattle.std.specs.Prelude.{◌≡◌, take, length};
+    ghost use Rattle.std.specs.Prelude.{◌≡◌, ◌≤◌, take, length, All};
     ghost use Rattle.il_machine.specs.Kinds.{ports_in};
     ghost use Rattle.il_machine.specs.Settings.{Settings, IsSized, weights_in};
 
@@ -33,7 +33,7 @@ impl Model for Params {
       weights = take (weights_in p.kind) p.weights;
     } };
 
-    ghost invariant = { λ p. (length p.ports ≡ 9) × IsSized p.kind };
+    ghost invariant = { λ p. (length p.ports ≡ 9) × IsSized p.kind × (p.gain ≤ 65535) × All (λ weight. weight ≤ 65535) p.weights };
 }
 
 fn default_ports(kind: Kind) -> [PortSetting; 9]
@@ -79,14 +79,23 @@ impl Params {
     }
 
     pub fn gain(&self) -> u32
-        ensures { result ≡ self.now.gain }
+        ensures gain { result ≡ self.now.gain }
+        ensures small { result ≤ 65535 }
     {
         self.gain
     }
 
+    /// What is set of each port.
+    pub fn settings(&self) -> &[PortSetting]
+        ensures { result.now ≡ self.now.ports }
+    {
+        &self.ports[..kinds::ports(self.kind) as usize]
+    }
+
     /// Its weights come first: those of a mixer's inputs.
     pub fn weights(&self) -> [u32; 8]
-        ensures { take (weights_in self.now.kind) result ≡ self.now.weights }
+        ensures weights { take (weights_in self.now.kind) result ≡ self.now.weights }
+        ensures small { All (λ weight. weight ≤ 65535) result }
     {
         self.weights
     }
@@ -253,7 +262,8 @@ impl Params {
     }
 
     fn set_weight(&mut self, input: u32, weight: u32)
-        requires { input < weights_in self.old.kind }
+        requires input { input < weights_in self.old.kind }
+        requires small { weight ≤ 65535 }
         ensures { self.new ≡ record self.old { weights = slice_set self.old.weights input weight } }
     {
         self.weights[input as usize] = weight;
@@ -262,6 +272,7 @@ impl Params {
     fn change(&mut self, key: ParamKey, config: bool, value: Param)
         requires key { get_refusal self.old key config ≡ None }
         requires value { is_value_of key.index value ≡ true }
+        requires good { (input : Bool) × (is_good_value input value ≡ true) }
         ensures { self.new ≡ changed_by key.port value self.old }
     {
         match value {

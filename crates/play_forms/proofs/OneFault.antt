@@ -1,18 +1,13 @@
 -- A script that has a plan has no fault, and one that has none has one first fault.
 use Rattle.std.proofs.Common.{◌≡◌, ℕ, List, refl, sym, ◌∙◌, ap, subst, arith}
-use Rattle.omx_types.specs.declared.format.Format.{Format}
-use Rattle.omx_types.specs.declared.kind.Kind.{Kind}
-use Rattle.part_forms.specs.Kinds.{is_input_format}
 use Rattle.script_lang.specs.declared.play_line.PartLine.{PartLine}
 use Rattle.script_lang.specs.declared.play_line.LinkLine.{LinkLine}
 use Rattle.play_forms.specs.declared.joint.Joint.{Joint}
 use Rattle.play_forms.specs.declared.plan_fault.PlanFault.{PlanFault}
 use Rattle.play_forms.specs.declared.plan_fault.PlanFault.TheVariants.{Cycle, OpenPort, PortTwice, TooMany, Units, Wrong, Small, Differ, OutOfMemory}
-use Rattle.play_forms.specs.Fitting.{Fits, IsCause}
 use Rattle.play_forms.specs.Joints.{joints_of}
-use Rattle.play_forms.specs.Plans.{IsFit, IsFitFault, IsPlanOf, IsSameFault, IsShapeFault, IsValid, PlanValue}
+use Rattle.play_forms.specs.Plans.{IsPlanOf, IsSameFault, IsShapeFault, IsValid, PlanValue}
 use Rattle.play_forms.proofs.OnePlan.{few_not_many, joined_not_twice, linked_not_open, one_cycle, one_many, one_open, one_twice, order_not_cycle}
-use Rattle.play_forms.proofs.Places.{both}
 
 valid_faultless : (plan : PlanValue) (fault : PlanFault) → IsValid plan → IsShapeFault plan.units plan.parts plan.joints fault → fault ≡ OutOfMemory
 valid_faultless plan (PortTwice line) v f = joined_not_twice plan.parts plan.joints line v.joined f
@@ -71,22 +66,3 @@ one_fault units parts joints (Units have need) (TooMany other) f g is is' = few_
 one_fault units parts joints (Units have need) (Cycle other) f g is is' = order_not_cycle parts joints f.3.0 other f.3.1 g.3
 one_fault units parts joints (Units have need) (Units held needed) f g is is' =
     ap (λ n. Units n need) (f.4 ∙ sym g.4) ∙ ap (Units held) (f.5 ∙ sym g.5)
-
--- ---- what fits has no cause not to
-
-fits_no_cause : (kind : Kind) (joint : Joint) (format first : Format) (fault : PlanFault) → Fits kind joint format first → IsCause kind joint format first fault → ⊥
-fits_no_cause kind joint format first (Wrong line) fits cause = both (is_input_format kind format) fits.taken cause.1
-fits_no_cause kind joint format first (Small line) fits cause = let holds = fits.holds_one in let small = cause.2 in omega arith
-fits_no_cause kind joint format first (Differ line) fits cause = cause.3 fits.same
-fits_no_cause kind joint format first (PortTwice line) fits cause = cause
-fits_no_cause kind joint format first (OpenPort line port) fits cause = cause
-fits_no_cause kind joint format first (TooMany line) fits cause = cause
-fits_no_cause kind joint format first (Cycle line) fits cause = cause
-fits_no_cause kind joint format first (Units have need) fits cause = cause
-fits_no_cause kind joint format first OutOfMemory fits cause = cause
-
-pub fit_faultless : (plan : PlanValue) (fault : PlanFault) → IsFit plan → IsFitFault plan fault → ⊥
-fit_faultless plan fault fit misfit =
-    fits_no_cause _ misfit.joint _ _ fault
-    (fit misfit.turn misfit.place misfit.part misfit.its_turn misfit.there misfit.input misfit.its_input misfit.number misfit.joint misfit.link misfit.taker misfit.taken_at)
-    misfit.cause

@@ -23,7 +23,7 @@ front_of_front [] (suc k) (suc n) below = refl
 front_of_front (x ∷ xs) (suc k) zero below = absurd (omega arith)
 front_of_front (x ∷ xs) (suc k) (suc n) below = ap (λ rest. x ∷ rest) (front_of_front xs k n (omega arith))
 
-in_front : {A : Type 0} (xs : List A) (n k : ℕ) (x : A) → k < n → slice_get xs k ≡ Some x → slice_get (take n xs) k ≡ Some x
+pub in_front : {A : Type 0} (xs : List A) (n k : ℕ) (x : A) → k < n → slice_get xs k ≡ Some x → slice_get (take n xs) k ≡ Some x
 in_front xs zero k x below e = absurd (omega arith)
 in_front [] (suc n) k x below e = absurd cc
 in_front (y ∷ xs) (suc n) zero x below e = e

@@ -14,13 +14,14 @@ pub fn law_of_plain()
     ensures plain { (plan : PlanValue) (samples : List (List ℕ)) → IsValid plan → ArePlain plan samples (plain plan samples) }
 {}
 
-/// A script has one plan or, but for want of memory, one fault; where every link fits there is no fault of fitting.
+/// A script has one plan or, but for want of memory, one fault; a valid plan fits, or has one fault of fitting.
 pub fn law_of_plans()
     ensures planned { (units : ℕ) (parts : List PartLine) (links : List LinkLine) (plan : PlanValue) (fault : PlanFault)
         → IsPlanOf units parts links plan → IsShapeFault units parts (joints_of parts links) fault → fault ≡ OutOfMemory }
     ensures first { (units : ℕ) (parts : List PartLine) (joints : List Joint) (fault other : PlanFault)
         → IsShapeFault units parts joints fault → IsShapeFault units parts joints other → IsSameFault fault other }
     ensures fit { (plan : PlanValue) (fault : PlanFault) → IsFit plan → IsFitFault plan fault → ⊥ }
+    ensures misfit { (plan : PlanValue) (fault other : PlanFault) → IsValid plan → IsFitFault plan fault → IsFitFault plan other → fault ≡ other }
 {}
 
 /// Two plays worked out by hand.

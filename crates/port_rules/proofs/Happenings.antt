@@ -85,10 +85,10 @@ part_at number Pause p c = part_reached Pause p c
 part_at number WaitForResources p c = record { number = refl; kind = refl; file = refl; failed = refl; work = refl }
 part_at number Invalid p c = part_reached Invalid p c
 
-arrived_part : (number : ℕ) (p : Pending) (c : Component) → KeepsPart c (arrived number p c)
+pub arrived_part : (number : ℕ) (p : Pending) (c : Component) → KeepsPart c (arrived number p c)
 arrived_part number p c = part_at number p.target p c
 
-mode_part : (c : Component) (p : Port) (m : Mode) → KeepsPart c (all_told (mode_completion m p.key.port) (with_port p.key.port (record p.state { mode = Steady }) c))
+pub mode_part : (c : Component) (p : Port) (m : Mode) → KeepsPart c (all_told (mode_completion m p.key.port) (with_port p.key.port (record p.state { mode = Steady }) c))
 mode_part c p Steady = record { number = refl; kind = refl; file = refl; failed = refl; work = refl }
 mode_part c p Enabling = record { number = refl; kind = refl; file = refl; failed = refl; work = refl }
 mode_part c p Disabling = record { number = refl; kind = refl; file = refl; failed = refl; work = refl }

@@ -1,5 +1,5 @@
 -- What each change of the entries makes of the flat list of headers.
-use Rattle.std.proofs.Common.{◌≡◌, ℕ, zero, suc, Bool, true, false, ◌&&◌, List, [], ◌∷◌, set, get_or, remove, position, slice_get, Option, Some, None, is_some, IfSome, IsSome, MatchOption, refl, sym, ◌∙◌, ap, subst}
+use Rattle.std.proofs.Common.{◌≡◌, ℕ, zero, suc, Bool, true, false, ◌&&◌, List, [], ◌∷◌, set, get_or, position, slice_get, Option, Some, None, is_some, IfSome, IsSome, MatchOption, option_map, refl, sym, ◌∙◌, ap, subst}
 use Rattle.il_machine.specs.declared.port.PortKey.{PortKey}
 use Rattle.il_machine.specs.declared.header.Owner.{Owner}
 use Rattle.il_machine.specs.declared.header.Place.{Place}
@@ -8,15 +8,15 @@ use Rattle.il_machine.specs.declared.header.Spot.{Spot}
 use Rattle.il_machine.specs.declared.header.Spot.TheVariants.{TodoBack, TodoFront, DoneBack}
 use Rattle.il_machine.specs.declared.header.HeaderState.{HeaderState}
 use Rattle.il_machine.specs.World.{HeaderRecord}
-use Rattle.il_machine.specs.Headers.{changed, find_header, given_to, in_todo, in_done, is_todo, is_done, is_owned_by, is_state, loaded, put, spot_place, state_at, state_given}
+use Rattle.il_machine.specs.Headers.{changed, find_header, given_to, in_todo, in_done, is_todo, is_done, is_owned_by, is_state, spot_place, state_at, state_given, state_of}
 use Rattle.il_machine.specs.Buffers.{load_in}
 use Rattle.stock_laws.proofs.Flat.{find_number}
 use Rattle.header_core.specs.BufferHeader.{BufferHeader}
 use Rattle.port_stock.specs.declared.entry.Entry.{Entry}
 use Rattle.port_stock.specs.Kept.{is_waiting}
 use Rattle.port_stock.specs.Conditions.{IsHeaderOf}
-use Rattle.port_stock.specs.Entries.{AreOf, Each, HasKey, IsKept, IsTaken, KeepsKeys, entry_at, entry_out, headers_of, load_of_kept, record_of, record_out}
-use Rattle.port_stock.proofs.Places.{At, Front, is_numbered, nowhere, Each-at, Each-set, Each-remove, Each-entry_at, headers-entry_at}
+use Rattle.port_stock.specs.Entries.{AreOf, Each, HasKey, IsKept, IsTakenAt, KeepsKeys, entry_out, headers_of, load_of_kept, put_record, record_of, record_out}
+use Rattle.port_stock.proofs.Places.{At, is_numbered, nowhere, Each-at, Each-set}
 
 -- ---- facts of one option
 
@@ -55,6 +55,11 @@ unkept e K o = none_of e.kept (is_waiting e.state.place) K.there (rw o refl)
 pub is_kept : (e : Entry) → IsKept e → is_waiting e.state.place ≡ true → IsSome e.kept
 is_kept e K w = some_of e.kept (is_waiting e.state.place) K.there w
 
+pub at_is : {X : Type 0} (xs : List X) (k : ℕ) (x y : X) → slice_get xs k ≡ Some x → get_or xs k y ≡ x
+at_is [] k x y h = absurd cc
+at_is (z ∷ xs) zero x y h = cc
+at_is (z ∷ xs) (suc k) x y h = at_is xs k x y h
+
 -- ---- a header is put at a spot
 
 pub unkept_at : (es : List Entry) (n k : ℕ) (P : HeaderRecord → Type 0) → At n k es → Each IsKept es → ((r : HeaderRecord) → P r → r.state.place ≡ Out) → MatchOption (find_header n (headers_of es)) ⊥ P
@@ -63,53 +68,49 @@ unkept_at es n k P A E out h =
     let p = out (record_of A.it) (is_there P (find_header n (headers_of es)) (record_of A.it) A.stands.find h) in
     to_there (λ e. e.kept ≡ None) (slice_get es k) A.it A.there (unkept A.it (Each-at IsKept es k A.it E A.there) p)
 
--- how the entry of the number is put at a spot
-pub record Puts (es vs : List Entry) (n k : ℕ) (key : PortKey) (spot : Spot) (header : BufferHeader) : Type 0 where
-  pub at : At n k es
-  pub items : vs ≡ entry_at spot (record { state = state_at key spot at.it.state; kept = Some header }) (remove es k)
-
-pub puts : (es us vs : List Entry) (n k : ℕ) (key : PortKey) (spot : Spot) (header : BufferHeader) (was now : HeaderState) → At n k es → IfSome (slice_get es k) (λ e. was ≡ e.state) → us ≡ remove es k
-    → now ≡ state_at key spot was → vs ≡ entry_at spot (record { state = now; kept = Some header }) us → Puts es vs n k key spot header
-puts es us vs n k key spot header was now A w u s v =
-    let same : was ≡ A.it.state = if_there (λ e. was ≡ e.state) (slice_get es k) A.it A.there w in
-    let state : now ≡ state_at key spot A.it.state = s ∙ ap (state_at key spot) same in
-    record {
-      at = A;
-      items = v ∙ (ap (λ (x : HeaderState). entry_at spot (record { state = x; kept = Some header }) us) state ∙ ap (entry_at spot _) u);
-    }
-
-pub put_headers : (es vs : List Entry) (n k : ℕ) (key : PortKey) (spot : Spot) (header : BufferHeader) → Puts es vs n k key spot header
-    → headers_of vs ≡ put key spot n (loaded (load_in header.held)) (headers_of es)
-put_headers es vs n k key spot header P =
-    let e : Entry = record { state = state_at key spot P.at.it.state; kept = Some header } in
-    ap headers_of P.items ∙ (headers-entry_at spot e (remove es k) ∙ rw (P.at.stands.find, P.at.stands.without) refl)
-
 spot_waits : (spot : Spot) → true ≡ is_waiting (spot_place spot)
 spot_waits TodoBack = refl
 spot_waits TodoFront = refl
 spot_waits DoneBack = refl
 
-pub put_kept : (es vs : List Entry) (n k : ℕ) (key : PortKey) (spot : Spot) (header : BufferHeader) → Puts es vs n k key spot header → header.held.number ≡ n
-    → MatchOption (find_header n (headers_of es)) ⊥ (λ r. (r.state.place ≡ Out) × IsHeaderOf r.state header) → Each IsKept es → Each IsKept vs
-put_kept es vs n k key spot header P num h E =
-    let e : Entry = record { state = state_at key spot P.at.it.state; kept = Some header } in
-    let O = is_there (λ r. (r.state.place ≡ Out) × IsHeaderOf r.state header) (find_header n (headers_of es)) (record_of P.at.it) P.at.stands.find h in
-    let same : P.at.it.state.number ≡ n = find_number n (headers_of es) (record_of P.at.it) P.at.stands.find in
-    let K : IsKept e = record { there = spot_waits spot; header = (num ∙ sym same, record { size = O.1.size; memory = O.1.memory }) } in
-    let Q : List Entry → Type 0 = Each IsKept in
-    subst Q (sym P.items) (Each-entry_at IsKept spot e (remove es k) (Each-remove IsKept es k E) K)
+-- the entry that is written to is that of the number
+pub same_entry : (es : List Entry) (n k : ℕ) (e : Entry) (A : At n k es) → e ≡ get_or es k e → e ≡ A.it
+same_entry es n k e A g = g ∙ at_is es k A.it e A.there
 
-pub put_keys : (es vs : List Entry) (n k : ℕ) (key : PortKey) (spot : Spot) (header : BufferHeader) → Puts es vs n k key spot header → AreOf header.key es → AreOf header.key vs
-put_keys es vs n k key spot header P E =
-    let e : Entry = record { state = state_at key spot P.at.it.state; kept = Some header } in
-    subst (AreOf header.key) (sym P.items) (Each-entry_at (HasKey header.key) spot e (remove es k) (Each-remove (HasKey header.key) es k E) refl)
+pub unkept_entry : (es : List Entry) (n k : ℕ) (P : HeaderRecord → Type 0) (e : Entry) → At n k es → e ≡ get_or es k e → Each IsKept es → ((r : HeaderRecord) → P r → r.state.place ≡ Out) → MatchOption (find_header n (headers_of es)) ⊥ P
+    → e.kept ≡ None
+unkept_entry es n k P e A g E out h =
+    let p = out (record_of A.it) (is_there P (find_header n (headers_of es)) (record_of A.it) A.stands.find h) in
+    ap (λ (x : Entry). x.kept) (same_entry es n k e A g) ∙ unkept A.it (Each-at IsKept es k A.it E A.there) p
+
+pub before_is : (es : List Entry) (n k : ℕ) (s : HeaderState) (A : At n k es) → s ≡ A.it.state → option_map state_of (find_header n (headers_of es)) ≡ Some s
+before_is es n k s A h = ap (option_map state_of) A.stands.find ∙ ap (λ (x : HeaderState). Some x) (sym h)
+
+abbrev put_entry : PortKey → Spot → BufferHeader → Entry → Entry
+put_entry key spot header e = record { state = state_at key spot e.state; kept = Some header }
+
+pub put_headers : (es : List Entry) (n k : ℕ) (key : PortKey) (spot : Spot) (header : BufferHeader) (e x : Entry) (A : At n k es) → e ≡ A.it → x ≡ record { state = state_at key spot e.state; kept = Some header }
+    → headers_of (set es k x) ≡ changed n (put_record key spot (load_in header.held)) (headers_of es)
+put_headers es n k key spot header e x A same q =
+    let y : x ≡ put_entry key spot header A.it = q ∙ ap (put_entry key spot header) same in
+    ap (λ (z : Entry). headers_of (set es k z)) y ∙ A.stands.changed (put_entry key spot header A.it) (put_record key spot (load_in header.held)) refl
+
+pub put_kept : (es : List Entry) (n k : ℕ) (key : PortKey) (spot : Spot) (header : BufferHeader) (e x : Entry) (A : At n k es) → e ≡ A.it → x ≡ record { state = state_at key spot e.state; kept = Some header } → header.held.number ≡ n
+    → MatchOption (find_header n (headers_of es)) ⊥ (λ r. (r.state.place ≡ Out) × IsHeaderOf r.state header) → Each IsKept es → Each IsKept (set es k x)
+put_kept es n k key spot header e x A same q num h E =
+    let y : x ≡ put_entry key spot header A.it = q ∙ ap (put_entry key spot header) same in
+    let O = is_there (λ r. (r.state.place ≡ Out) × IsHeaderOf r.state header) (find_header n (headers_of es)) (record_of A.it) A.stands.find h in
+    let there : A.it.state.number ≡ n = find_number n (headers_of es) (record_of A.it) A.stands.find in
+    let K : IsKept (put_entry key spot header A.it) = record { there = spot_waits spot; header = (num ∙ sym there, record { size = O.1.size; memory = O.1.memory }) } in
+    let Q : Entry → Type 0 = λ z. Each IsKept (set es k z) in
+    subst Q (sym y) (Each-set IsKept es k (put_entry key spot header A.it) E K)
+
+pub put_keys : (es : List Entry) (k : ℕ) (key : PortKey) (spot : Spot) (header : BufferHeader) (e x : Entry) → x ≡ record { state = state_at key spot e.state; kept = Some header } → AreOf header.key es → AreOf header.key (set es k x)
+put_keys es k key spot header e x q E =
+    let Q : Entry → Type 0 = λ z. AreOf header.key (set es k z) in
+    subst Q (sym q) (Each-set (HasKey header.key) es k (put_entry key spot header e) E refl)
 
 -- ---- a header gets an owner
-
-pub at_is : {X : Type 0} (xs : List X) (k : ℕ) (x y : X) → slice_get xs k ≡ Some x → get_or xs k y ≡ x
-at_is [] k x y h = absurd cc
-at_is (z ∷ xs) zero x y h = cc
-at_is (z ∷ xs) (suc k) x y h = at_is xs k x y h
 
 pub give_headers : (es : List Entry) (n k : ℕ) (owner : Owner) (e : Entry) → At n k es → e ≡ get_or es k e → MatchOption (find_header n (headers_of es)) ⊥ (λ r. r.state.place ≡ Out)
     → headers_of (set es k (record { state = record e.state { owner = owner }; kept = e.kept })) ≡ changed n (given_to owner) (headers_of es)
@@ -142,11 +143,12 @@ todo_waits key r h = place_waits_todo r.state.place (and_left (is_todo r.state.p
 pub done_waits : (key : PortKey) (r : HeaderRecord) → is_state (in_done key) r ≡ true → is_waiting r.state.place ≡ true
 done_waits key r h = place_waits_done r.state.place (and_left (is_done r.state.place) (is_owned_by key r.state.owner) h)
 
-pub front_kept : (q : HeaderRecord → Bool) (es : List Entry) (k : ℕ) → Front q k es → Each IsKept es → ((r : HeaderRecord) → q r ≡ true → is_waiting r.state.place ≡ true)
-    → IfSome (slice_get es k) (λ e. IsSome e.kept)
-front_kept q es k F E w = to_there (λ e. IsSome e.kept) (slice_get es k) F.it F.there (is_kept F.it (Each-at IsKept es k F.it E F.there) (w (record_of F.it) F.passes))
+pub waits_kept : (es : List Entry) (n k : ℕ) → At n k es → Each IsKept es → MatchOption (find_header n (headers_of es)) ⊥ (λ r. is_waiting r.state.place ≡ true) → IfSome (slice_get es k) (λ e. IsSome e.kept)
+waits_kept es n k A E h =
+    let w = is_there (λ r. is_waiting r.state.place ≡ true) (find_header n (headers_of es)) (record_of A.it) A.stands.find h in
+    to_there (λ e. IsSome e.kept) (slice_get es k) A.it A.there (is_kept A.it (Each-at IsKept es k A.it E A.there) w)
 
--- how the header of the front leaves
+-- how the header of an entry leaves
 pub record Leaves (es vs : List Entry) (k : ℕ) (it : Entry) (header : BufferHeader) : Type 0 where
   pub was_kept : it.kept ≡ Some header
   pub items : vs ≡ set es k (entry_out it)
@@ -163,15 +165,14 @@ leaves es vs k it header s E h i =
     let fits : P header = subst Q kept K.header in
     record { was_kept = kept; items = if_there (λ e. vs ≡ set es k (entry_out e)) (slice_get es k) it s i; number = fits.0; fits = fits.1 }
 
-pub taken_by : (q : HeaderRecord → Bool) (es vs : List Entry) (k : ℕ) (header : BufferHeader) (F : Front q k es) → Leaves es vs k F.it header → IsTaken q header (headers_of es) (headers_of vs)
-taken_by q es vs k header F L =
-    let load : load_of_kept F.it.kept ≡ load_in header.held = ap load_of_kept L.was_kept in
-    let was : MatchOption (find_header F.it.state.number (headers_of es)) ⊥ (λ r. (q r ≡ true) × (r.load ≡ load_in header.held) × IsHeaderOf r.state header) = rw F.stands.find (F.passes, load, L.fits) in
-    let W : ℕ → Type 0 = λ n. MatchOption (find_header n (headers_of es)) ⊥ (λ r. (q r ≡ true) × (r.load ≡ load_in header.held) × IsHeaderOf r.state header) in
+pub taken_at : (es vs : List Entry) (n k : ℕ) (header : BufferHeader) (A : At n k es) → Leaves es vs k A.it header → IsTakenAt n header (headers_of es) (headers_of vs)
+taken_at es vs n k header A L =
+    let load : load_of_kept A.it.kept ≡ load_in header.held = ap load_of_kept L.was_kept in
+    let num : A.it.state.number ≡ n = find_number n (headers_of es) (record_of A.it) A.stands.find in
     record {
-      front = F.first ∙ ap (λ (n : ℕ). Some n) (sym L.number);
-      was = subst W (sym L.number) was;
-      after = ap headers_of L.items ∙ (F.stands.changed (entry_out F.it) record_out refl ∙ ap (λ (n : ℕ). changed n record_out (headers_of es)) (sym L.number));
+      numbered = L.number ∙ num;
+      was = rw A.stands.find (load, L.fits);
+      after = ap headers_of L.items ∙ A.stands.changed (entry_out A.it) record_out refl;
     }
 
 pub leaves_kept : (es vs : List Entry) (k : ℕ) (it : Entry) (header : BufferHeader) → Each IsKept es → Leaves es vs k it header → Each IsKept vs

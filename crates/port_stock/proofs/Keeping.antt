@@ -1,6 +1,5 @@
 -- Ports are added and taken away, and a stock begins and ends.
-use Rattle.std.proofs.Common.{◌≡◌, ℕ, zero, suc, ◌+◌, ◌*◌, ◌≤◌, Bool, true, false, not, ◌||◌, nat_eq, List, [], ◌∷◌, ◌++◌, length, length-append, filter, Some, None, option_map, refl, sym, ◌∙◌, ap, arith, subst, append_assoc}
-use Rattle.std.proofs.lemmas.List.{length-map}
+use Rattle.std.proofs.Common.{◌≡◌, ℕ, zero, suc, ◌+◌, ◌≤◌, Bool, true, false, not, ◌||◌, nat_eq, List, [], ◌∷◌, ◌++◌, length, filter, Some, None, option_map, refl, sym, ◌∙◌, ap, arith, subst}
 use Rattle.std.proofs.lemmas.Bool.Decides.{nat_tests}
 use Rattle.il_machine.specs.declared.port.PortKey.{PortKey}
 use Rattle.il_machine.specs.World.{HeaderRecord}
@@ -9,27 +8,13 @@ use Rattle.il_machine.specs.Stock.{added, keys_from, no_stock, removed}
 use Rattle.stock_laws.proofs.Flat.{count-without}
 use Rattle.stock_laws.proofs.Keys.{same_key-refl}
 use Rattle.stock_laws.proofs.Leaving.{front_step}
-use Rattle.port_stock.specs.declared.entry.Entry.{Entry}
-use Rattle.port_stock.specs.Kept.{Kept, stocked}
+use Rattle.port_stock.specs.Kept.{Flat, of_flat}
 use Rattle.port_stock.specs.Conditions.{IsPort, IsUnmade, has_key}
-use Rattle.port_stock.specs.Entries.{AreLawful, Each, headers_of}
-use Rattle.port_stock.proofs.Stocking.{kept, reads, stocked-is}
-use Rattle.port_stock.proofs.Calls.{Becomes, count_read, header_read}
+use Rattle.port_stock.specs.Entries.{AreLawful, Each}
+use Rattle.port_stock.proofs.Stocking.{kept, reads, of_flat-is}
+use Rattle.port_stock.proofs.Calls.{Becomes, count_read}
 
 -- ---- ports are added
-
-pub keys_next : (component index count : ℕ) → keys_from component index (suc count) ≡ keys_from component index count ++ record { component = component; port = index + count } ∷ []
-keys_next component index zero = let e : index + 0 ≡ index = omega arith in rw e refl
-keys_next component index (suc count) =
-    let e : index + 1 + count ≡ index + suc count = omega arith in
-    ap (λ (v : List PortKey). record { component = component; port = index } ∷ v) (keys_next component (index + 1) count ∙ rw e refl)
-
-pub push_step : (component i : ℕ) (old now next : List PortKey) → now ≡ old ++ keys_from component 0 i → next ≡ now ++ record { component = component; port = i } ∷ [] → next ≡ old ++ keys_from component 0 (i + 1)
-push_step component i old now next n x =
-    let e : i + 1 ≡ suc i = omega arith in
-    let z : 0 + i ≡ i = omega arith in
-    let k : keys_from component 0 (i + 1) ≡ keys_from component 0 i ++ record { component = component; port = i } ∷ [] = rw e (keys_next component 0 i ∙ rw z refl) in
-    x ∙ (ap (λ (v : List PortKey). v ++ record { component = component; port = i } ∷ []) n ∙ (append_assoc old (keys_from component 0 i) _ ∙ ap (λ (v : List PortKey). old ++ v) (sym k)))
 
 has_more : (key : PortKey) (ports more : List PortKey) → has_key key ports ≡ true → has_key key (ports ++ more) ≡ true
 has_more key [] more h = absurd cc
@@ -39,25 +24,19 @@ placed_more : (ports more : List PortKey) (hs : List HeaderRecord) → Each (λ 
 placed_more ports more [] E = tt
 placed_more ports more (r ∷ hs) E = (has_more r.state.port ports more E.0, placed_more ports more hs E.1)
 
-pub add_becomes : (k : Kept) (ports : List PortKey) (component count : ℕ) → AreLawful k.ports k.next k.headers → ports ≡ k.ports ++ keys_from component 0 count
-    → Becomes k.key ports k.headers k.next (added component count (stocked k))
+pub add_becomes : (k : Flat) (ports : List PortKey) (component count : ℕ) → AreLawful k.ports k.next k.headers → ports ≡ k.ports ++ keys_from component 0 count
+    → Becomes k.key ports k.headers k.next (added component count (of_flat k))
 add_becomes k ports component count L h =
     let R = reads k in
     let P : List PortKey → Type 0 = λ v. AreLawful v k.next k.headers in
     record {
       lawful = subst P (sym h) (record { once = L.once; numbered = L.numbered; placed = placed_more k.ports (keys_from component 0 count) k.headers L.placed; few = L.few; owned = L.owned });
-      is = stocked-is k.key ports k.headers k.next _ (record { key = R.key; ports = h ∙ ap (λ (v : List PortKey). v ++ keys_from component 0 count) R.ports; looks = R.looks; loads = R.loads; next = R.next });
+      is = of_flat-is k.key ports k.headers k.next _ (record { key = R.key; ports = h ∙ ap (λ (v : List PortKey). v ++ keys_from component 0 count) R.ports; looks = R.looks; loads = R.loads; next = R.next });
     }
 
 pub keys_length : (component index count : ℕ) → length (keys_from component index count) ≡ count
 keys_length component index zero = refl
 keys_length component index (suc count) = omega (arith, keys_length component (index + 1) count)
-
-pub add_room : (component count len places : ℕ) (old new : List PortKey) → new ≡ old ++ keys_from component 0 count → len ≡ length old → 32 * (len + count) ≤ places → 32 * length new ≤ places
-add_room component count len places old new h l r =
-    let a : length new ≡ length old + length (keys_from component 0 count) = ap length h ∙ simp length-append in
-    let b = keys_length component 0 count in
-    omega arith
 
 -- ---- ports are taken away
 
@@ -68,7 +47,7 @@ has_left : (component : ℕ) (key : PortKey) (ports : List PortKey) → is_left 
 has_left component key [] l h = absurd cc
 has_left component key (p ∷ ports) l h = grind (arith, nat_tests, has_left component key ports l)
 
-left_length : (component : ℕ) (ports : List PortKey) → length (filter (is_left component) ports) ≤ length ports
+pub left_length : (component : ℕ) (ports : List PortKey) → length (filter (is_left component) ports) ≤ length ports
 left_length component [] = omega arith
 left_length component (p ∷ ports) = let i = left_length component ports in grind (arith, nat_tests)
 
@@ -91,16 +70,16 @@ made_for_port hs n r e =
     let w : weight (is_for r.state.port r.state) ≡ 1 = rw (same_key-refl r.state.port) refl in
     omega arith
 
-left_by : (component : ℕ) (k : Kept) (r : HeaderRecord) → IsUnmade component (stocked k) → has_key r.state.port k.ports ≡ true → 1 ≤ count_headers (is_for r.state.port) k.headers → is_left component r.state.port ≡ true
+left_by : (component : ℕ) (k : Flat) (r : HeaderRecord) → IsUnmade component (of_flat k) → has_key r.state.port k.ports ≡ true → 1 ≤ count_headers (is_for r.state.port) k.headers → is_left component r.state.port ≡ true
 left_by component k r U h m =
-    let p : IsPort r.state.port (stocked k) = sym (ap (has_key r.state.port) (reads k).ports) ∙ h in
+    let p : IsPort r.state.port (of_flat k) = sym (ap (has_key r.state.port) (reads k).ports) ∙ h in
     let no : r.state.port.component ≡ component → ⊥ = λ e.
     let z = U r.state.port p e in
     let c = count_read k (is_for r.state.port) in
     omega arith in
     grind (arith, nat_tests)
 
-left_lawful : (component : ℕ) (k : Kept) → IsUnmade component (stocked k) → AreLawful k.ports k.next k.headers → AreLawful (filter (is_left component) k.ports) k.next k.headers
+left_lawful : (component : ℕ) (k : Flat) → IsUnmade component (of_flat k) → AreLawful k.ports k.next k.headers → AreLawful (filter (is_left component) k.ports) k.next k.headers
 left_lawful component k U L =
     let M : HeaderRecord → Type 0 = λ r. 1 ≤ count_headers (is_for r.state.port) k.headers in
     let H : HeaderRecord → Type 0 = λ r. has_key r.state.port k.ports ≡ true in
@@ -114,36 +93,24 @@ left_lawful component k U L =
       owned = L.owned;
     }
 
-pub remove_becomes : (k : Kept) (ports : List PortKey) (component : ℕ) → AreLawful k.ports k.next k.headers → IsUnmade component (stocked k) → ports ≡ filter (is_left component) k.ports
-    → Becomes k.key ports k.headers k.next (removed component (stocked k))
+pub remove_becomes : (k : Flat) (ports : List PortKey) (component : ℕ) → AreLawful k.ports k.next k.headers → IsUnmade component (of_flat k) → ports ≡ filter (is_left component) k.ports
+    → Becomes k.key ports k.headers k.next (removed component (of_flat k))
 remove_becomes k ports component L U h =
     let R = reads k in
     let P : List PortKey → Type 0 = λ v. AreLawful v k.next k.headers in
     record {
       lawful = subst P (sym h) (left_lawful component k U L);
-      is = stocked-is k.key ports k.headers k.next _ (record { key = R.key; ports = h ∙ ap (filter (is_left component)) R.ports; looks = R.looks; loads = R.loads; next = R.next });
+      is = of_flat-is k.key ports k.headers k.next _ (record { key = R.key; ports = h ∙ ap (filter (is_left component)) R.ports; looks = R.looks; loads = R.loads; next = R.next });
     }
-
-pub left_room : (component places : ℕ) (old new : List PortKey) → new ≡ filter (is_left component) old → 32 * length old ≤ places → 32 * length new ≤ places
-left_room component places old new h r =
-    let a = left_length component old in
-    let b = ap length h in
-    omega arith
 
 -- ---- a stock begins and ends
 
-pub begins : (key : ℕ) → stocked (kept key [] [] 0) ≡ no_stock (stocked (kept key [] [] 0)).key
-begins key = stocked-is key [] [] 0 (no_stock key) (record { key = refl; ports = refl; looks = refl; loads = λ n. refl; next = refl }) ∙ ap no_stock (reads (kept key [] [] 0)).key
+pub begins : (key : ℕ) → of_flat (kept key [] [] 0) ≡ no_stock (of_flat (kept key [] [] 0)).key
+begins key = of_flat-is key [] [] 0 (no_stock key) (record { key = refl; ports = refl; looks = refl; loads = λ n. refl; next = refl }) ∙ ap no_stock (reads (kept key [] [] 0)).key
 
-none_left : (hs : List HeaderRecord) → ((n : ℕ) → option_map state_of (find_header n hs) ≡ None) → hs ≡ []
+pub none_left : (hs : List HeaderRecord) → ((n : ℕ) → option_map state_of (find_header n hs) ≡ None) → hs ≡ []
 none_left [] h = refl
 none_left (r ∷ hs) h =
     let some : find_header r.state.number (r ∷ hs) ≡ Some r = grind (arith, nat_tests) in
     let none : option_map state_of (Some r) ≡ None = sym (ap (option_map state_of) some) ∙ h r.state.number in
     absurd cc
-
-pub ends : (k : Kept) (es : List Entry) (len : ℕ) → k.headers ≡ headers_of es → len ≡ length es → ((n : ℕ) → (stocked k).headers.header n ≡ None) → len ≡ 0
-ends k es len h l none =
-    let e : k.headers ≡ [] = none_left k.headers (λ n. header_read k n ∙ none n) in
-    let a : length es ≡ length k.headers = sym (ap length h ∙ simp length-map) in
-    l ∙ (a ∙ ap length e)

@@ -60,14 +60,14 @@ IsOwned r = IsMadeForOwner r.state
 -- ---- a header goes to an owner
 
 -- to a port that it was made for
-put_owned : (key : PortKey) (spot : Spot) (h : HeaderState) → is_for key h ≡ true → IsMadeForOwner (state_at key spot h)
+pub put_owned : (key : PortKey) (spot : Spot) (h : HeaderState) → is_for key h ≡ true → IsMadeForOwner (state_at key spot h)
 put_owned key spot h f k o = elim (key_tells key k) [
   | inl x ↦ subst (λ (q : PortKey). is_for q h ≡ true) x.1 f
   | inr x ↦ absurd (let z : false ≡ true = sym x.0 ∙ o in cc)
 ]
 
 -- to one that is no port
-no_port_owns : (key : PortKey) (owner : Owner) → is_port owner ≡ false → is_owned_by key owner ≡ true → ⊥
+pub no_port_owns : (key : PortKey) (owner : Owner) → is_port owner ≡ false → is_owned_by key owner ≡ true → ⊥
 no_port_owns key (owners.Port p) f o = absurd cc
 no_port_owns key owners.Client f o = absurd cc
 no_port_owns key (owners.Work u) f o = absurd cc
@@ -81,7 +81,7 @@ home_for h key (homes.Port p) m o = elim (key_tells p key) [
   | inr x ↦ absurd (let z : false ≡ true = sym x.0 ∙ o in cc)
 ]
 
-home_owned : (h : HeaderState) → is_home_among h.port h.peer h.home ≡ true → h.owner ≡ home_owner h.home → IsMadeForOwner h
+pub home_owned : (h : HeaderState) → is_home_among h.port h.peer h.home ≡ true → h.owner ≡ home_owner h.home → IsMadeForOwner h
 home_owned h m e key o = home_for h key h.home m (sym (ap (is_owned_by key) e) ∙ o)
 
 -- ---- a header is put, made and unmade
@@ -162,7 +162,7 @@ find_where q m [] h = refl
 find_where q m (x ∷ hs) h = rw (where_number (q x) x) (elim (has_number m x) as (λ v. (if v then Some x else find_header m hs) ≡ None → (if v then Some (cleared_where (q x) x) else find_header m (map (λ r. cleared_where (q r) r) hs)) ≡ None)
     [ true ↦ λ e. absurd cc | false ↦ λ e. find_where q m hs e ] h)
 
-once_where : (q : HeaderRecord → Bool) (hs : List HeaderRecord) → Once hs → Once (map (λ r. cleared_where (q r) r) hs)
+pub once_where : (q : HeaderRecord → Bool) (hs : List HeaderRecord) → Once hs → Once (map (λ r. cleared_where (q r) r) hs)
 once_where q [] o = tt
 once_where q (x ∷ hs) o = (rw (where_number (q x) x) (find_where q x.state.number hs o.0), once_where q hs o.1)
 
@@ -192,7 +192,7 @@ numbered_more : (next : ℕ) (hs : List HeaderRecord) → Each (IsNumbered next)
 numbered_more next [] E = tt
 numbered_more next (x ∷ hs) E = (omega (arith, E.0), numbered_more next hs E.1)
 
-weight_one : (b : Bool) → weight b ≤ 1
+pub weight_one : (b : Bool) → weight b ≤ 1
 weight_one true = omega arith
 weight_one false = omega arith
 

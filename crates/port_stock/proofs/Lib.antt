@@ -1,8 +1,14 @@
 pub mod Places
 pub mod Changing
 pub mod Looking
+pub mod Finding
 pub mod Stocking
 pub mod Lawful
 pub mod Calls
 pub mod Making
 pub mod Keeping
+pub mod Reading
+pub mod Telling
+pub mod Knowing
+pub mod Turning
+pub mod Adding

@@ -1,45 +1,22 @@
 -- What is found and counted among the entries, and headers that change where they stand.
-use Rattle.std.proofs.Common.{◌≡◌, ℕ, zero, suc, ◌+◌, ◌<◌, Bool, true, false, not, ◌&&◌, List, [], ◌∷◌, ◌++◌, length, map, set, get_or, take, drop, position, slice_get, Option, Some, None, is_some, is_none, option_map, count_by, cond, IsSome, refl, sym, ◌∙◌, ap, arith, add-one, append-nil, subst}
+use Rattle.std.proofs.Common.{◌≡◌, ℕ, zero, suc, ◌+◌, ◌<◌, Bool, true, false, not, ◌==◌, List, [], ◌∷◌, ◌++◌, length, map, set, get_or, take, drop, position, slice_get, Option, Some, None, is_none, is_some, option_map, MatchOption, IsSome, refl, sym, ◌∙◌, ap, arith, add-one, append-nil, subst}
 use Rattle.std.proofs.lemmas.Bool.Decides.{nat_tests}
 use Rattle.std.proofs.lemmas.List.{drop_all, length-map, take_all}
-use Rattle.std.proofs.lemmas.List.Recursion.{is_count_by}
-use Rattle.il_machine.specs.declared.port.PortKey.{PortKey}
 use Rattle.il_machine.specs.declared.port.Mark.{Mark}
 use Rattle.il_machine.specs.declared.header.HeaderState.{HeaderState}
 use Rattle.il_machine.specs.World.{HeaderRecord}
 use Rattle.il_machine.specs.Lists.{is_empty}
-use Rattle.il_machine.specs.Headers.{count_headers, find_header, in_todo, in_unmarked, numbers, state_of}
-use Rattle.il_machine.specs.Due.{first_marked, marked}
-use Rattle.il_machine.specs.Places.{first_place}
-use Rattle.il_machine.proofs.Places.{is_first_place}
+use Rattle.il_machine.specs.Headers.{changed, find_header, state_of}
+use Rattle.il_machine.specs.Due.{marked}
 use Rattle.stock_laws.specs.Changes.{cleared_where}
-use Rattle.stock_laws.proofs.Leaving.{front_some}
 use Rattle.header_core.specs.BufferHeader.{BufferHeader, marked as marked_header}
 use Rattle.port_stock.specs.declared.entry.Entry.{Entry}
-use Rattle.port_stock.specs.Kept.{is_waiting}
-use Rattle.port_stock.specs.Entries.{AreOf, Each, HasKey, IsKept, KeepsKeys, entry_cleared, headers_of, record_of}
-use Rattle.port_stock.proofs.Places.{Front, Each-at, Each-set, at, is_numbered, nowhere}
-use Rattle.port_stock.proofs.Changing.{at_is, is_kept, todo_waits}
+use Rattle.port_stock.specs.Kept.{has_no_mark, is_waiting, unmarked_of}
+use Rattle.port_stock.specs.Entries.{AreOf, Each, HasKey, IsKept, KeepsKeys, entry_cleared, headers_of, load_of_kept, record_of}
+use Rattle.port_stock.proofs.Places.{At, Each-at, Each-set, at, is_numbered, nowhere}
+use Rattle.port_stock.proofs.Changing.{at_is, is_kept, is_there}
 
--- ---- counts and look-ups
-
-pub counted : (test : HeaderState → Bool) (es : List Entry) → count_headers test (headers_of es) ≡ count_by (λ e. test e.state) es
-counted test es = is_count_by (λ es. count_headers test (headers_of es)) (λ e. test e.state) refl (λ x xs. grind (arith, nat_tests)) es
-
-some_mapped : (o : Option ℕ) → is_some (option_map suc o) ≡ is_some o
-some_mapped None = refl
-some_mapped (Some k) = refl
-
-some_first : (q : HeaderRecord → Bool) (es : List Entry) → is_some (first_place (λ e. q (record_of e)) es) ≡ not (is_empty (numbers q (headers_of es)))
-some_first q [] = refl
-some_first q (e ∷ es) =
-    let ns = numbers q (headers_of es) in
-    elim (q (record_of e)) as (λ v. is_some (cond v (Some 0) (option_map suc (first_place (λ e. q (record_of e)) es))) ≡ not (is_empty (cond v (e.state.number ∷ ns) ns)))
-    [ true ↦ refl | false ↦ some_mapped (first_place (λ e. q (record_of e)) es) ∙ some_first q es ]
-
--- some entry passes exactly where the list of the numbers isn't empty
-pub some_is : (q : HeaderRecord → Bool) (es : List Entry) → is_some (position (λ e. q (record_of e)) es) ≡ not (is_empty (numbers q (headers_of es)))
-some_is q es = ap is_some (is_first_place (λ e. q (record_of e)) es) ∙ some_first q es
+-- ---- look-ups
 
 pub state_nowhere : (n : ℕ) (es : List Entry) → position (is_numbered n) es ≡ None → None ≡ option_map state_of (find_header n (headers_of es))
 state_nowhere n es h = rw (nowhere n es h) refl
@@ -57,26 +34,18 @@ mark_record : (mark : Mark) (state : HeaderState) (o : Option BufferHeader) → 
 mark_record mark state None h = absurd cc
 mark_record mark state (Some header) h = refl
 
-and_left : (a b : Bool) → (a && b) ≡ true → a ≡ true
-and_left true b e = refl
-and_left false b e = absurd cc
-
-unmarked_waits : (key : PortKey) (r : HeaderRecord) → in_unmarked key r ≡ true → is_waiting r.state.place ≡ true
-unmarked_waits key r h = todo_waits key r (and_left (in_todo key r.state) (is_none r.load.mark) h)
-
 mark_kept_fits : (mark : Mark) (state : HeaderState) (o : Option BufferHeader) → IsKept (record { state = state; kept = o }) → IsKept (record { state = state; kept = option_map (marked_header mark) o })
 mark_kept_fits mark state None K = record { there = K.there; header = tt }
 mark_kept_fits mark state (Some header) K = record { there = K.there; header = (K.header.0, record { size = K.header.1.size; memory = K.header.1.memory }) }
 
-pub mark_headers : (key : PortKey) (mark : Mark) (k : ℕ) (es : List Entry) (e : Entry) (kept : Option BufferHeader) (F : Front (in_unmarked key) k es) → Each IsKept es → e ≡ F.it → kept ≡ option_map (marked_header mark) e.kept
-    → headers_of (set es k (record { state = e.state; kept = kept })) ≡ first_marked (numbers (in_unmarked key) (headers_of es)) (Some mark) (headers_of es)
-mark_headers key mark k es e kept F E same m =
-    let some = is_kept F.it (Each-at IsKept es k F.it E F.there) (unmarked_waits key (record_of F.it) F.passes) in
-    let list = front_some (numbers (in_unmarked key) (headers_of es)) F.it.state.number F.first in
+pub mark_headers : (n k : ℕ) (mark : Mark) (es : List Entry) (e : Entry) (kept : Option BufferHeader) (A : At n k es) → Each IsKept es → MatchOption (find_header n (headers_of es)) ⊥ (λ r. is_waiting r.state.place ≡ true) → e ≡ A.it
+    → kept ≡ option_map (marked_header mark) e.kept → headers_of (set es k (record { state = e.state; kept = kept })) ≡ changed n (marked (Some mark)) (headers_of es)
+mark_headers n k mark es e kept A E h same m =
+    let w = is_there (λ r. is_waiting r.state.place ≡ true) (find_header n (headers_of es)) (record_of A.it) A.stands.find h in
+    let some = is_kept A.it (Each-at IsKept es k A.it E A.there) w in
     ap (λ (x : Option BufferHeader). headers_of (set es k (record { state = e.state; kept = x }))) m
     ∙ (ap (λ (x : Entry). headers_of (set es k (record { state = x.state; kept = option_map (marked_header mark) x.kept }))) same
-    ∙ (F.stands.changed (record { state = F.it.state; kept = option_map (marked_header mark) F.it.kept }) (marked (Some mark)) (mark_record mark F.it.state F.it.kept some)
-    ∙ ap (λ (ns : List ℕ). first_marked ns (Some mark) (headers_of es)) (sym list.1)))
+    ∙ A.stands.changed (record { state = A.it.state; kept = option_map (marked_header mark) A.it.kept }) (marked (Some mark)) (mark_record mark A.it.state A.it.kept some))
 
 pub mark_each : (mark : Mark) (k : ℕ) (es : List Entry) (e : Entry) (kept : Option BufferHeader) (it : Entry) → Each IsKept es → slice_get es k ≡ Some it → e ≡ it → kept ≡ option_map (marked_header mark) e.kept
     → Each IsKept (set es k (record { state = e.state; kept = kept }))
@@ -95,11 +64,29 @@ mark_keys mark k es e kept at m key E =
     subst (λ (x : Option BufferHeader). AreOf key (set es k (record { state = e.state; kept = x }))) (sym m)
     (Each-set (HasKey key) es k (record { state = e.state; kept = option_map (marked_header mark) e.kept }) E (mark_key key mark e.state e.kept (Each-at (HasKey key) es k e E at)))
 
-pub first_none : (q : HeaderRecord → Bool) (es : List Entry) → position (λ e. q (record_of e)) es ≡ None → false ≡ not (is_empty (numbers q (headers_of es)))
-first_none q es h = ap is_some (sym h) ∙ some_is q es
+-- ---- the first number whose header has no mark
 
-pub first_some : (q : HeaderRecord → Bool) (k : ℕ) (es : List Entry) → position (λ e. q (record_of e)) es ≡ Some k → true ≡ not (is_empty (numbers q (headers_of es)))
-first_some q k es h = ap is_some (sym h) ∙ some_is q es
+pub unmarked_there : (n k : ℕ) (es : List Entry) (e : Entry) (A : At n k es) → e ≡ A.it → is_none (load_of_kept e.kept).mark ≡ has_no_mark (find_header n (headers_of es))
+unmarked_there n k es e A same = ap (λ (x : Entry). is_none (load_of_kept x.kept).mark) same ∙ sym (ap has_no_mark A.stands.find)
+
+pub unmarked_nowhere : (n : ℕ) (es : List Entry) → position (is_numbered n) es ≡ None → false ≡ has_no_mark (find_header n (headers_of es))
+unmarked_nowhere n es h = sym (ap has_no_mark (nowhere n es h))
+
+drop_at : (ns : List ℕ) (i n : ℕ) → slice_get ns i ≡ Some n → drop i ns ≡ n ∷ drop (i + 1) ns
+drop_at [] i n h = absurd cc
+drop_at (m ∷ ns) zero n h = let e : m ≡ n = cc in rw e refl
+drop_at (m ∷ ns) (suc i) n h = rw add-one (drop_at ns i n h ∙ rw add-one refl)
+
+-- those from a place on that isn't one of them are those behind it
+pub unmarked_on : (hs : List HeaderRecord) (ns : List ℕ) (i n : ℕ) → slice_get ns i ≡ Some n → has_no_mark (find_header n hs) ≡ false → unmarked_of hs ns ≡ unmarked_of hs (drop i ns) → unmarked_of hs ns ≡ unmarked_of hs (drop (i + 1) ns)
+unmarked_on hs ns i n h f e =
+    let step : unmarked_of hs (n ∷ drop (i + 1) ns) ≡ unmarked_of hs (drop (i + 1) ns) = rw f refl in
+    e ∙ (ap (unmarked_of hs) (drop_at ns i n h) ∙ step)
+
+pub unmarked_at : (hs : List HeaderRecord) (ns : List ℕ) (i n : ℕ) → slice_get ns i ≡ Some n → has_no_mark (find_header n hs) ≡ true → unmarked_of hs ns ≡ unmarked_of hs (drop i ns) → Some n ≡ slice_get (unmarked_of hs ns) 0
+unmarked_at hs ns i n h t e =
+    let front : unmarked_of hs (n ∷ drop (i + 1) ns) ≡ n ∷ unmarked_of hs (drop (i + 1) ns) = rw t refl in
+    sym (ap (λ (v : List ℕ). slice_get v 0) (e ∙ (ap (unmarked_of hs) (drop_at ns i n h) ∙ front)))
 
 -- ---- all headers of a list are cleared
 
@@ -153,3 +140,11 @@ pub rewritten : (test : HeaderState → Bool) (n : ℕ) (es us : List Entry) →
 rewritten test n es us a u =
     let l : length us ≡ length es = ap length u ∙ simp length-map in
     whole n es us a l ∙ u
+
+pub not_empty : (ns : List ℕ) → not (length ns == 0) ≡ not (is_empty ns)
+not_empty [] = refl
+not_empty (n ∷ ns) = grind (arith, nat_tests)
+
+pub some_front : (ns : List ℕ) → is_some (slice_get ns 0) ≡ not (is_empty ns)
+some_front [] = refl
+some_front (n ∷ ns) = refl

@@ -1,14 +1,13 @@
 -- The entry at the first place that passes a test, and the flat list of headers.
-use Rattle.std.proofs.Common.{◌≡◌, ℕ, zero, suc, Bool, true, false, nat_eq, List, [], ◌∷◌, ◌++◌, set, remove, position, slice_get, Option, Some, None, option_map, cond, refl, sym, ◌∙◌, ap, arith}
+use Rattle.std.proofs.Common.{◌≡◌, ℕ, zero, suc, Bool, true, false, nat_eq, List, [], ◌∷◌, ◌++◌, set, remove, position, slice_get, Option, Some, None, option_map, cond, MatchOption, ◌<◌, length, if◌then◌else◌, refl, sym, ◌∙◌, ap, arith, subst}
+use Rattle.std.proofs.lemmas.Option.{slice_get_within}
 use Rattle.std.proofs.lemmas.Bool.Decides.{nat_tests}
-use Rattle.il_machine.specs.declared.header.Spot.{Spot}
-use Rattle.il_machine.specs.declared.header.Spot.TheVariants.{TodoBack, TodoFront, DoneBack}
 use Rattle.il_machine.specs.World.{HeaderRecord}
-use Rattle.il_machine.specs.Headers.{at_spot, changed, find_header, numbers, without, Once}
-use Rattle.il_machine.specs.Places.{first_place}
-use Rattle.il_machine.proofs.Places.{is_first_place, passes_at}
+use Rattle.il_machine.specs.Headers.{changed, find_header, without, Once}
+use Rattle.il_machine.specs.Places.{first_place, AtMostOne}
+use Rattle.il_machine.proofs.Places.{is_first_place, passes_at, place_at}
 use Rattle.port_stock.specs.declared.entry.Entry.{Entry}
-use Rattle.port_stock.specs.Entries.{Each, entry_at, headers_of, record_of}
+use Rattle.port_stock.specs.Entries.{Each, headers_of, record_of}
 
 -- ---- the first place that passes
 
@@ -20,7 +19,7 @@ mapped_suc : (o : Option ℕ) (i : ℕ) → option_map suc o ≡ Some (suc i) �
 mapped_suc None i h = absurd cc
 mapped_suc (Some k) i h = let e : suc k ≡ suc i = cc in let f : k ≡ i = omega arith in rw f refl
 
-mapped_none : (o : Option ℕ) → option_map suc o ≡ None → o ≡ None
+pub mapped_none : (o : Option ℕ) → option_map suc o ≡ None → o ≡ None
 mapped_none None h = refl
 mapped_none (Some k) h = absurd cc
 
@@ -67,21 +66,7 @@ module _ {X : Type 0} where
   Each-append P [] x E p = (p, tt)
   Each-append P (y ∷ xs) x E p = (E.0, Each-append P xs x E.1 p)
 
-pub Each-entry_at : (P : Entry → Type 0) (spot : Spot) (e : Entry) (es : List Entry) → Each P es → P e → Each P (entry_at spot e es)
-Each-entry_at P TodoBack e es E p = Each-append P es e E p
-Each-entry_at P TodoFront e es E p = (p, E)
-Each-entry_at P DoneBack e es E p = Each-append P es e E p
-
 -- ---- entries as headers
-
-headers-append : (es : List Entry) (e : Entry) → headers_of (es ++ e ∷ []) ≡ headers_of es ++ record_of e ∷ []
-headers-append [] e = refl
-headers-append (x ∷ es) e = ap (λ (v : List HeaderRecord). record_of x ∷ v) (headers-append es e)
-
-pub headers-entry_at : (spot : Spot) (e : Entry) (es : List Entry) → headers_of (entry_at spot e es) ≡ at_spot spot (record_of e) (headers_of es)
-headers-entry_at TodoBack e es = headers-append es e
-headers-entry_at TodoFront e es = refl
-headers-entry_at DoneBack e es = headers-append es e
 
 abbrev pub is_numbered : ℕ → Entry → Bool
 is_numbered n e = nat_eq e.state.number n
@@ -122,65 +107,6 @@ find_none n (y ∷ es) h = let N = first_none (is_numbered n) y es h in let t : 
 pub nowhere : (n : ℕ) (es : List Entry) → position (is_numbered n) es ≡ None → find_header n (headers_of es) ≡ None
 nowhere n es h = find_none n es (sym (is_first_place (is_numbered n) es) ∙ h)
 
--- ---- the first entry that passes a test is the front of its list
-
-none_at : (m k : ℕ) (es : List Entry) (e : Entry) → find_header m (headers_of es) ≡ None → slice_get es k ≡ Some e → is_numbered e.state.number (record { state = record e.state { number = m }; kept = e.kept }) ≡ false
-none_at m k [] e h s = absurd cc
-none_at m zero (y ∷ es) e h s = let same : y ≡ e = cc in grind (arith, nat_tests)
-none_at m (suc k) (y ∷ es) e h s = let f : find_header m (headers_of es) ≡ None = grind (arith, nat_tests) in none_at m k es e f s
-
--- the first place of a test is the first place of the number there, since numbers differ
-number_first : (p : Entry → Bool) (k : ℕ) (es : List Entry) (e : Entry) → Once (headers_of es) → first_place p es ≡ Some k → slice_get es k ≡ Some e → first_place (is_numbered e.state.number) es ≡ Some k
-number_first p k [] e o h s = absurd cc
-number_first p zero (y ∷ es) e o h s = let same : y ≡ e = cc in grind (arith, nat_tests)
-number_first p (suc k) (y ∷ es) e o h s =
-    let L = first_suc p y es k h in
-    let i = number_first p k es e o.1 L.rest s in
-    let d : nat_eq y.state.number e.state.number ≡ false = none_at y.state.number k es e o.0 s in
-    rw (d, i) refl
-
-numbers_front : (q : HeaderRecord → Bool) (k : ℕ) (es : List Entry) (e : Entry) → first_place (λ e. q (record_of e)) es ≡ Some k → slice_get es k ≡ Some e → slice_get (numbers q (headers_of es)) 0 ≡ Some e.state.number
-numbers_front q k [] e h s = absurd cc
-numbers_front q zero (y ∷ es) e h s =
-    let t : q (record_of y) ≡ true = first_zero (λ e. q (record_of e)) y es h in
-    let same : y ≡ e = cc in
-    rw (t, same) refl
-numbers_front q (suc k) (y ∷ es) e h s =
-    let L = first_suc (λ e. q (record_of e)) y es k h in
-    let t : q (record_of y) ≡ false = L.not in
-    rw t (numbers_front q k es e L.rest s)
-
-numbers_none_first : (q : HeaderRecord → Bool) (es : List Entry) → first_place (λ e. q (record_of e)) es ≡ None → numbers q (headers_of es) ≡ []
-numbers_none_first q [] h = refl
-numbers_none_first q (y ∷ es) h =
-    let N = first_none (λ e. q (record_of e)) y es h in
-    let t : q (record_of y) ≡ false = N.not in
-    rw t (numbers_none_first q es N.rest)
-
-pub numbers_none : (q : HeaderRecord → Bool) (es : List Entry) → position (λ e. q (record_of e)) es ≡ None → numbers q (headers_of es) ≡ []
-numbers_none q es h = numbers_none_first q es (sym (is_first_place (λ e. q (record_of e)) es) ∙ h)
-
--- The entry is the front of those that pass the test.
-pub record Front (q : HeaderRecord → Bool) (k : ℕ) (es : List Entry) : Type 0 where
-  pub it : Entry
-  pub there : slice_get es k ≡ Some it
-  pub passes : q (record_of it) ≡ true
-  pub first : slice_get (numbers q (headers_of es)) 0 ≡ Some it.state.number
-  pub stands : Stands it.state.number k es it
-
-pub front : (q : HeaderRecord → Bool) (k : ℕ) (es : List Entry) → Once (headers_of es) → position (λ e. q (record_of e)) es ≡ Some k → Front q k es
-front q k es o h =
-    let p : Entry → Bool = λ e. q (record_of e) in
-    let f : first_place p es ≡ Some k = sym (is_first_place p es) ∙ h in
-    let P = passes_at p es k f in
-    record {
-      it = P.0;
-      there = P.1;
-      passes = P.2;
-      first = numbers_front q k es P.0 f P.1;
-      stands = stands_first P.0.state.number k es P.0 (number_first p k es P.0 o f P.1) P.1;
-    }
-
 -- The entry of the number stands there.
 pub record At (n k : ℕ) (es : List Entry) : Type 0 where
   pub it : Entry
@@ -192,3 +118,40 @@ at n k es h =
     let f : first_place (is_numbered n) es ≡ Some k = sym (is_first_place (is_numbered n) es) ∙ h in
     let P = passes_at (is_numbered n) es k f in
     record { it = P.0; there = P.1; stands = stands_first n k es P.0 f P.1 }
+
+-- ---- numbers differ, so what has the number stands at its place
+
+find_to_place : (n : ℕ) (es : List Entry) → find_header n (headers_of es) ≡ None → first_place (is_numbered n) es ≡ None
+find_to_place n [] h = refl
+find_to_place n (y ∷ es) h = elim (nat_eq y.state.number n) as (λ v. (if v then Some (record_of y) else find_header n (headers_of es)) ≡ None → cond v (Some 0) (option_map suc (first_place (is_numbered n) es)) ≡ None)
+    [ true ↦ λ e. absurd cc | false ↦ λ e. ap (option_map suc) (find_to_place n es e) ] h
+
+once_numbered : (n : ℕ) (es : List Entry) → Once (headers_of es) → AtMostOne (is_numbered n) es
+once_numbered n [] o = tt
+once_numbered n (y ∷ es) o = (
+  (λ t.
+      let e : y.state.number ≡ n = grind (arith, nat_tests) in
+      find_to_place n es (subst (λ (m : ℕ). find_header m (headers_of es) ≡ None) e o.0)),
+  once_numbered n es o.1,
+)
+
+module _ {X : Type 0} where
+  -- What is there, and what holds of it.
+  pub record There (P : X → Type 0) (o : Option X) : Type 0 where
+    pub it : X
+    pub is : o ≡ Some it
+    pub holds : P it
+
+  pub there : (P : X → Type 0) (o : Option X) → MatchOption o ⊥ P → There P o
+  there P None h = absurd h
+  there P (Some x) h = record { it = x; is = refl; holds = h }
+
+pub numbered_place : (n k : ℕ) (es : List Entry) → Once (headers_of es) → MatchOption (slice_get es k) ⊥ (λ e. e.state.number ≡ n) → position (is_numbered n) es ≡ Some k
+numbered_place n k es o h =
+    let T = there (λ (e : Entry). e.state.number ≡ n) (slice_get es k) h in
+    let same = T.holds in
+    let t : is_numbered n T.it ≡ true = grind (arith, nat_tests) in
+    is_first_place (is_numbered n) es ∙ place_at (is_numbered n) es k T.it (once_numbered n es o) T.is t
+
+pub within : (n k : ℕ) (es : List Entry) → MatchOption (slice_get es k) ⊥ (λ e. e.state.number ≡ n) → k < length es
+within n k es h = let T = there (λ (e : Entry). e.state.number ≡ n) (slice_get es k) h in slice_get_within es k T.it T.is

@@ -19,11 +19,11 @@ use Rattle.stock_laws.proofs.Standing.{find_at, find_beside, give_stands, load_f
 use Rattle.stock_laws.proofs.Leaving.{fronts, front_some}
 use Rattle.stock_laws.proofs.Composed.{Taken, pull_taken, send_taken}
 use Rattle.stock_laws.proofs.Clearing.{all_cleared_where, clear_done_stands, clear_todo_stands, emptied-is, find-map, is_in, is_in_none, is_in_passes, mark_stands}
-use Rattle.port_stock.specs.Kept.{Kept, is_waiting, kept_load, stocked}
+use Rattle.port_stock.specs.Kept.{Flat, is_waiting, kept_load, of_flat}
 use Rattle.port_stock.specs.Entries.{record_out}
 use Rattle.port_stock.proofs.Changing.{todo_waits, done_waits}
 
-abbrev pub kept : ℕ → List PortKey → List HeaderRecord → ℕ → Kept
+abbrev pub kept : ℕ → List PortKey → List HeaderRecord → ℕ → Flat
 kept key ports headers next = record { key = key; ports = ports; headers = headers; next = next }
 
 -- ---- what is read
@@ -33,9 +33,9 @@ kept_carries None l h = absurd cc
 kept_carries (Some r) l h = elim (is_waiting r.state.place) as (λ v. (if v then Some r.load else None) ≡ Some l → Some r.load ≡ Some l) [ true ↦ λ e. e | false ↦ λ e. absurd cc ] h
 
 -- the value stands for the very list that is kept
-pub stocked-stands : (k : Kept) → Once k.headers → StandsFor (stocked k) k.headers
-unfolding stocked
-stocked-stands k o = record { looks = refl; loads = λ n l h. kept_carries (find_header n k.headers) l h; once = o }
+pub of_flat-stands : (k : Flat) → Once k.headers → StandsFor (of_flat k) k.headers
+unfolding of_flat
+of_flat-stands k o = record { looks = refl; loads = λ n l h. kept_carries (find_header n k.headers) l h; once = o }
 
 -- The flat list, with the key, the ports and the next number, is read as the value.
 pub record ReadAs (own : ℕ) (keys : List PortKey) (hs : List HeaderRecord) (last : ℕ) (s : Stocked) : Type 0 where
@@ -45,18 +45,18 @@ pub record ReadAs (own : ℕ) (keys : List PortKey) (hs : List HeaderRecord) (la
   pub loads : (n : ℕ) → kept_load (find_header n hs) ≡ s.loads n
   pub next : last ≡ s.next
 
-pub stocked-is : (key : ℕ) (ports : List PortKey) (headers : List HeaderRecord) (next : ℕ) (s : Stocked) → ReadAs key ports headers next s → stocked (kept key ports headers next) ≡ s
-unfolding stocked
-stocked-is key ports headers next s R =
+pub of_flat-is : (key : ℕ) (ports : List PortKey) (headers : List HeaderRecord) (next : ℕ) (s : Stocked) → ReadAs key ports headers next s → of_flat (kept key ports headers next) ≡ s
+unfolding of_flat
+of_flat-is key ports headers next s R =
     let l : (λ n. kept_load (find_header n headers)) ≡ s.loads = fun_ext R.loads in
     λ i. record { key = R.key i; ports = R.ports i; headers = R.looks i; loads = l i; next = R.next i }
 
 -- reading the value back
-pub reads : (k : Kept) → ReadAs k.key k.ports k.headers k.next (stocked k)
-unfolding stocked
+pub reads : (k : Flat) → ReadAs k.key k.ports k.headers k.next (of_flat k)
+unfolding of_flat
 reads k = record { key = refl; ports = refl; looks = refl; loads = λ n. refl; next = refl }
 
-shown : (k : Kept) (n : ℕ) (r : HeaderRecord) → find_header n k.headers ≡ Some r → (stocked k).headers.header n ≡ Some r.state
+shown : (k : Flat) (n : ℕ) (r : HeaderRecord) → find_header n k.headers ≡ Some r → (of_flat k).headers.header n ≡ Some r.state
 shown k n r e = sym (ap (λ (v : Seen). v.header n) (reads k).looks) ∙ ap (option_map state_of) e
 
 -- ---- a header that is in no list is put, given, made or unmade
@@ -77,12 +77,12 @@ put_loads hs key spot n load r once e m =
       | inr x ↦ rw x.0 (ap kept_load (find_beside spot n m y (without n hs) gone num x.1 ∙ find-without_other m n hs x.1))
     ])
 
-pub push_read : (k : Kept) (hs : List HeaderRecord) (key : PortKey) (spot : Spot) (n : ℕ) (load : Load) (r : HeaderRecord) → Once k.headers → find_header n k.headers ≡ Some r → r.state.place ≡ Out
-    → hs ≡ put key spot n (loaded load) k.headers → ReadAs k.key k.ports hs k.next (pushed key spot n load (stocked k))
+pub push_read : (k : Flat) (hs : List HeaderRecord) (key : PortKey) (spot : Spot) (n : ℕ) (load : Load) (r : HeaderRecord) → Once k.headers → find_header n k.headers ≡ Some r → r.state.place ≡ Out
+    → hs ≡ put key spot n (loaded load) k.headers → ReadAs k.key k.ports hs k.next (pushed key spot n load (of_flat k))
 push_read k hs key spot n load r once e o h =
     let R = reads k in
-    let T = push_stands (stocked k) k.headers key spot n load r.state (stocked-stands k once) (shown k n r e) o in
-    let l : (λ m. kept_load (find_header m k.headers)) ≡ (stocked k).loads = fun_ext R.loads in
+    let T = push_stands (of_flat k) k.headers key spot n load r.state (of_flat-stands k once) (shown k n r e) o in
+    let l : (λ m. kept_load (find_header m k.headers)) ≡ (of_flat k).loads = fun_ext R.loads in
     record {
       key = R.key;
       ports = R.ports;
@@ -98,11 +98,11 @@ give_loads hs n owner r e o m = ap kept_load (find-changed m n (given_to owner) 
   | inr x ↦ rw x.0 refl
 ]
 
-pub give_read : (k : Kept) (hs : List HeaderRecord) (n : ℕ) (owner : Owner) (r : HeaderRecord) → Once k.headers → find_header n k.headers ≡ Some r → r.state.place ≡ Out
-    → hs ≡ changed n (given_to owner) k.headers → ReadAs k.key k.ports hs k.next (given n owner (stocked k))
+pub give_read : (k : Flat) (hs : List HeaderRecord) (n : ℕ) (owner : Owner) (r : HeaderRecord) → Once k.headers → find_header n k.headers ≡ Some r → r.state.place ≡ Out
+    → hs ≡ changed n (given_to owner) k.headers → ReadAs k.key k.ports hs k.next (given n owner (of_flat k))
 give_read k hs n owner r once e o h =
     let R = reads k in
-    let T = give_stands (stocked k) k.headers n owner r.state (stocked-stands k once) (shown k n r e) o in
+    let T = give_stands (of_flat k) k.headers n owner r.state (of_flat-stands k once) (shown k n r e) o in
     record {
       key = R.key;
       ports = R.ports;
@@ -111,10 +111,10 @@ give_read k hs n owner r once e o h =
       next = R.next;
     }
 
-pub unnumbered : (k : Kept) → find_header k.next k.headers ≡ None → (stocked k).headers.header (stocked k).next ≡ None
+pub unnumbered : (k : Flat) → find_header k.next k.headers ≡ None → (of_flat k).headers.header (of_flat k).next ≡ None
 unnumbered k gone =
     let R = reads k in
-    sym (ap (λ (v : Seen). v.header (stocked k).next) R.looks) ∙ (ap (λ n. option_map state_of (find_header n k.headers)) (sym R.next) ∙ ap (option_map state_of) gone)
+    sym (ap (λ (v : Seen). v.header (of_flat k).next) R.looks) ∙ (ap (λ n. option_map state_of (find_header n k.headers)) (sym R.next) ∙ ap (option_map state_of) gone)
 
 out_load : (x : HeaderRecord) (b : Bool) (o : Option HeaderRecord) → x.state.place ≡ Out → o ≡ None → kept_load (if b then Some x else o) ≡ kept_load o
 out_load x true o p e = rw (p, e) refl
@@ -126,13 +126,13 @@ made_loads hs x gone o m = ap kept_load (find-append m hs x gone) ∙ elim (eqb_
   | inr t ↦ rw t.0 refl
 ]
 
-pub populate_read : (k : Kept) (hs : List HeaderRecord) (state : HeaderState) → Once k.headers → find_header k.next k.headers ≡ None → state.number ≡ k.next → state.place ≡ Out
-    → hs ≡ k.headers ++ record { state = state; load = empty_load None } ∷ [] → ReadAs k.key k.ports hs (k.next + 1) (populated state (stocked k))
+pub populate_read : (k : Flat) (hs : List HeaderRecord) (state : HeaderState) → Once k.headers → find_header k.next k.headers ≡ None → state.number ≡ k.next → state.place ≡ Out
+    → hs ≡ k.headers ++ record { state = state; load = empty_load None } ∷ [] → ReadAs k.key k.ports hs (k.next + 1) (populated state (of_flat k))
 populate_read k hs state once gone num o h =
     let R = reads k in
     let x : HeaderRecord = record { state = state; load = empty_load None } in
     let g : find_header state.number k.headers ≡ None = rw num gone in
-    let T = populate_stands (stocked k) k.headers state (empty_load None) (stocked-stands k once) (unnumbered k gone) (num ∙ R.next) o in
+    let T = populate_stands (of_flat k) k.headers state (empty_load None) (of_flat-stands k once) (unnumbered k gone) (num ∙ R.next) o in
     record {
       key = R.key;
       ports = R.ports;
@@ -141,11 +141,11 @@ populate_read k hs state once gone num o h =
       next = ap (λ n. n + 1) R.next;
     }
 
-pub withdraw_read : (k : Kept) (hs : List HeaderRecord) (n : ℕ) (r : HeaderRecord) → Once k.headers → find_header n k.headers ≡ Some r → r.state.place ≡ Out
-    → hs ≡ without n k.headers → ReadAs k.key k.ports hs k.next (withdrawn n (stocked k))
+pub withdraw_read : (k : Flat) (hs : List HeaderRecord) (n : ℕ) (r : HeaderRecord) → Once k.headers → find_header n k.headers ≡ Some r → r.state.place ≡ Out
+    → hs ≡ without n k.headers → ReadAs k.key k.ports hs k.next (withdrawn n (of_flat k))
 withdraw_read k hs n r once e o h =
     let R = reads k in
-    let T = withdraw_stands (stocked k) k.headers n r.state (stocked-stands k once) (shown k n r e) o in
+    let T = withdraw_stands (of_flat k) k.headers n r.state (of_flat-stands k once) (shown k n r e) o in
     record {
       key = R.key;
       ports = R.ports;
@@ -170,10 +170,10 @@ out_looks t hs n T =
     let Q : List HeaderRecord → Type 0 = λ v. seen v ≡ t.headers in
     subst Q (changed-changed n out_of_list (loaded (empty_load None)) hs (λ _. refl)) F.looks
 
-pub todo_read : (k : Kept) (key : PortKey) → numbers (is_state (in_todo key)) k.headers ≡ (stocked k).headers.todo key
+pub todo_read : (k : Flat) (key : PortKey) → numbers (is_state (in_todo key)) k.headers ≡ (of_flat k).headers.todo key
 todo_read k key = ap (λ (v : Seen). v.todo key) (reads k).looks
 
-pub done_read : (k : Kept) (key : PortKey) → numbers (is_state (in_done key)) k.headers ≡ (stocked k).headers.done key
+pub done_read : (k : Flat) (key : PortKey) → numbers (is_state (in_done key)) k.headers ≡ (of_flat k).headers.done key
 done_read k key = ap (λ (v : Seen). v.done key) (reads k).looks
 
 pulled_loads : (key : PortKey) (n : ℕ) (ns : List ℕ) (s : Stocked) → s.headers.todo key ≡ n ∷ ns → (pulled key s).loads ≡ at_number n None s.loads
@@ -188,29 +188,29 @@ pulled_key key n ns s e = ap (λ (v : List ℕ). (pulled_front key v s).key) e
 pulled_next : (key : PortKey) (n : ℕ) (ns : List ℕ) (s : Stocked) → s.headers.todo key ≡ n ∷ ns → (pulled key s).next ≡ s.next
 pulled_next key n ns s e = ap (λ (v : List ℕ). (pulled_front key v s).next) e
 
-pub pull_read : (k : Kept) (hs : List HeaderRecord) (key : PortKey) (n : ℕ) → Once k.headers → slice_get (numbers (is_state (in_todo key)) k.headers) 0 ≡ Some n
-    → hs ≡ changed n record_out k.headers → ReadAs k.key k.ports hs k.next (pulled key (stocked k))
+pub pull_read : (k : Flat) (hs : List HeaderRecord) (key : PortKey) (n : ℕ) → Once k.headers → slice_get (numbers (is_state (in_todo key)) k.headers) 0 ≡ Some n
+    → hs ≡ changed n record_out k.headers → ReadAs k.key k.ports hs k.next (pulled key (of_flat k))
 pull_read k hs key n once f h =
     let R = reads k in
     let list = front_some (numbers (is_state (in_todo key)) k.headers) n f in
-    let e : (stocked k).headers.todo key ≡ n ∷ list.0 = sym (todo_read k key) ∙ list.1 in
-    let T = pull_taken (stocked k) k.headers key n list.0 (stocked-stands k once) e in
-    let l : (λ m. kept_load (find_header m k.headers)) ≡ (stocked k).loads = fun_ext R.loads in
+    let e : (of_flat k).headers.todo key ≡ n ∷ list.0 = sym (todo_read k key) ∙ list.1 in
+    let T = pull_taken (of_flat k) k.headers key n list.0 (of_flat-stands k once) e in
+    let l : (λ m. kept_load (find_header m k.headers)) ≡ (of_flat k).loads = fun_ext R.loads in
     record {
-      key = R.key ∙ sym (pulled_key key n list.0 (stocked k) e);
-      ports = R.ports ∙ sym (pulled_ports key n list.0 (stocked k) e);
-      looks = ap seen h ∙ out_looks (pulled key (stocked k)) k.headers n T;
+      key = R.key ∙ sym (pulled_key key n list.0 (of_flat k) e);
+      ports = R.ports ∙ sym (pulled_ports key n list.0 (of_flat k) e);
+      looks = ap seen h ∙ out_looks (pulled key (of_flat k)) k.headers n T;
       loads = λ m. ap (λ (v : List HeaderRecord). kept_load (find_header m v)) h
           ∙ (out_loads k.headers n T.found.it T.found.is m
           ∙ (ap (λ (f : ℕ → Option Load). at_number n None f m) l
-          ∙ sym (ap (λ (f : ℕ → Option Load). f m) (pulled_loads key n list.0 (stocked k) e))));
-      next = R.next ∙ sym (pulled_next key n list.0 (stocked k) e);
+          ∙ sym (ap (λ (f : ℕ → Option Load). f m) (pulled_loads key n list.0 (of_flat k) e))));
+      next = R.next ∙ sym (pulled_next key n list.0 (of_flat k) e);
     }
 
-pub pull_none : (k : Kept) (key : PortKey) → numbers (is_state (in_todo key)) k.headers ≡ [] → stocked k ≡ pulled key (stocked k)
+pub pull_none : (k : Flat) (key : PortKey) → numbers (is_state (in_todo key)) k.headers ≡ [] → of_flat k ≡ pulled key (of_flat k)
 pull_none k key e =
-    let none : (stocked k).headers.todo key ≡ [] = sym (todo_read k key) ∙ e in
-    sym (ap (λ (v : List ℕ). pulled_front key v (stocked k)) none)
+    let none : (of_flat k).headers.todo key ≡ [] = sym (todo_read k key) ∙ e in
+    sym (ap (λ (v : List ℕ). pulled_front key v (of_flat k)) none)
 
 sent_loads : (key : PortKey) (n : ℕ) (ns : List ℕ) (s : Stocked) → s.headers.done key ≡ n ∷ ns → (sent key s).loads ≡ at_number n None s.loads
 sent_loads key n ns s e = ap (λ (v : List ℕ). (sent_front key v s).loads) e
@@ -224,29 +224,29 @@ sent_key key n ns s e = ap (λ (v : List ℕ). (sent_front key v s).key) e
 sent_next : (key : PortKey) (n : ℕ) (ns : List ℕ) (s : Stocked) → s.headers.done key ≡ n ∷ ns → (sent key s).next ≡ s.next
 sent_next key n ns s e = ap (λ (v : List ℕ). (sent_front key v s).next) e
 
-pub send_read : (k : Kept) (hs : List HeaderRecord) (key : PortKey) (n : ℕ) → Once k.headers → slice_get (numbers (is_state (in_done key)) k.headers) 0 ≡ Some n
-    → hs ≡ changed n record_out k.headers → ReadAs k.key k.ports hs k.next (sent key (stocked k))
+pub send_read : (k : Flat) (hs : List HeaderRecord) (key : PortKey) (n : ℕ) → Once k.headers → slice_get (numbers (is_state (in_done key)) k.headers) 0 ≡ Some n
+    → hs ≡ changed n record_out k.headers → ReadAs k.key k.ports hs k.next (sent key (of_flat k))
 send_read k hs key n once f h =
     let R = reads k in
     let list = front_some (numbers (is_state (in_done key)) k.headers) n f in
-    let e : (stocked k).headers.done key ≡ n ∷ list.0 = sym (done_read k key) ∙ list.1 in
-    let T = send_taken (stocked k) k.headers key n list.0 (stocked-stands k once) e in
-    let l : (λ m. kept_load (find_header m k.headers)) ≡ (stocked k).loads = fun_ext R.loads in
+    let e : (of_flat k).headers.done key ≡ n ∷ list.0 = sym (done_read k key) ∙ list.1 in
+    let T = send_taken (of_flat k) k.headers key n list.0 (of_flat-stands k once) e in
+    let l : (λ m. kept_load (find_header m k.headers)) ≡ (of_flat k).loads = fun_ext R.loads in
     record {
-      key = R.key ∙ sym (sent_key key n list.0 (stocked k) e);
-      ports = R.ports ∙ sym (sent_ports key n list.0 (stocked k) e);
-      looks = ap seen h ∙ out_looks (sent key (stocked k)) k.headers n T;
+      key = R.key ∙ sym (sent_key key n list.0 (of_flat k) e);
+      ports = R.ports ∙ sym (sent_ports key n list.0 (of_flat k) e);
+      looks = ap seen h ∙ out_looks (sent key (of_flat k)) k.headers n T;
       loads = λ m. ap (λ (v : List HeaderRecord). kept_load (find_header m v)) h
           ∙ (out_loads k.headers n T.found.it T.found.is m
           ∙ (ap (λ (f : ℕ → Option Load). at_number n None f m) l
-          ∙ sym (ap (λ (f : ℕ → Option Load). f m) (sent_loads key n list.0 (stocked k) e))));
-      next = R.next ∙ sym (sent_next key n list.0 (stocked k) e);
+          ∙ sym (ap (λ (f : ℕ → Option Load). f m) (sent_loads key n list.0 (of_flat k) e))));
+      next = R.next ∙ sym (sent_next key n list.0 (of_flat k) e);
     }
 
-pub send_none : (k : Kept) (key : PortKey) → numbers (is_state (in_done key)) k.headers ≡ [] → stocked k ≡ sent key (stocked k)
+pub send_none : (k : Flat) (key : PortKey) → numbers (is_state (in_done key)) k.headers ≡ [] → of_flat k ≡ sent key (of_flat k)
 send_none k key e =
-    let none : (stocked k).headers.done key ≡ [] = sym (done_read k key) ∙ e in
-    sym (ap (λ (v : List ℕ). sent_front key v (stocked k)) none)
+    let none : (of_flat k).headers.done key ≡ [] = sym (done_read k key) ∙ e in
+    sym (ap (λ (v : List ℕ). sent_front key v (of_flat k)) none)
 
 -- ---- headers are cleared where they stand, and the first without a mark gets one
 
@@ -271,41 +271,41 @@ cleared_loads q hs f once w g m =
     ∙ (ap (λ (o : Option Load). if is_in m (numbers q hs) then option_map unloaded o else o) (g m)
     ∙ sym (emptied-is (numbers q hs) f m)))
 
-pub clear_todo_read : (k : Kept) (hs : List HeaderRecord) (key : PortKey) → Once k.headers → hs ≡ map (λ r. cleared_where (in_todo key r.state) r) k.headers → ReadAs k.key k.ports hs k.next (todo_cleared key (stocked k))
+pub clear_todo_read : (k : Flat) (hs : List HeaderRecord) (key : PortKey) → Once k.headers → hs ≡ map (λ r. cleared_where (in_todo key r.state) r) k.headers → ReadAs k.key k.ports hs k.next (todo_cleared key (of_flat k))
 clear_todo_read k hs key once h =
     let R = reads k in
     let e = todo_read k key in
-    let T = clear_todo_stands (stocked k) k.headers key (stocked-stands k once) in
-    let same : hs ≡ cleared_all ((stocked k).headers.todo key) k.headers
+    let T = clear_todo_stands (of_flat k) k.headers key (of_flat-stands k once) in
+    let same : hs ≡ cleared_all ((of_flat k).headers.todo key) k.headers
     = h ∙ (sym (all_cleared_where (is_state (in_todo key)) k.headers once) ∙ ap (λ (ns : List ℕ). cleared_all ns k.headers) e) in
     record {
       key = R.key;
       ports = R.ports;
       looks = ap seen same ∙ T.looks;
       loads = λ m. ap (λ (v : List HeaderRecord). kept_load (find_header m v)) h
-          ∙ (cleared_loads (is_state (in_todo key)) k.headers (stocked k).loads once (todo_waits key) R.loads m
-          ∙ ap (λ (ns : List ℕ). emptied ns (stocked k).loads m) e);
+          ∙ (cleared_loads (is_state (in_todo key)) k.headers (of_flat k).loads once (todo_waits key) R.loads m
+          ∙ ap (λ (ns : List ℕ). emptied ns (of_flat k).loads m) e);
       next = R.next;
     }
 
-pub clear_done_read : (k : Kept) (hs : List HeaderRecord) (key : PortKey) → Once k.headers → hs ≡ map (λ r. cleared_where (in_done key r.state) r) k.headers → ReadAs k.key k.ports hs k.next (done_cleared key (stocked k))
+pub clear_done_read : (k : Flat) (hs : List HeaderRecord) (key : PortKey) → Once k.headers → hs ≡ map (λ r. cleared_where (in_done key r.state) r) k.headers → ReadAs k.key k.ports hs k.next (done_cleared key (of_flat k))
 clear_done_read k hs key once h =
     let R = reads k in
     let e = done_read k key in
-    let T = clear_done_stands (stocked k) k.headers key (stocked-stands k once) in
-    let same : hs ≡ cleared_all ((stocked k).headers.done key) k.headers
+    let T = clear_done_stands (of_flat k) k.headers key (of_flat-stands k once) in
+    let same : hs ≡ cleared_all ((of_flat k).headers.done key) k.headers
     = h ∙ (sym (all_cleared_where (is_state (in_done key)) k.headers once) ∙ ap (λ (ns : List ℕ). cleared_all ns k.headers) e) in
     record {
       key = R.key;
       ports = R.ports;
       looks = ap seen same ∙ T.looks;
       loads = λ m. ap (λ (v : List HeaderRecord). kept_load (find_header m v)) h
-          ∙ (cleared_loads (is_state (in_done key)) k.headers (stocked k).loads once (done_waits key) R.loads m
-          ∙ ap (λ (ns : List ℕ). emptied ns (stocked k).loads m) e);
+          ∙ (cleared_loads (is_state (in_done key)) k.headers (of_flat k).loads once (done_waits key) R.loads m
+          ∙ ap (λ (ns : List ℕ). emptied ns (of_flat k).loads m) e);
       next = R.next;
     }
 
-pub unmarked_read : (k : Kept) (key : PortKey) → numbers (in_unmarked key) k.headers ≡ (stocked k).headers.unmarked key
+pub unmarked_read : (k : Flat) (key : PortKey) → numbers (in_unmarked key) k.headers ≡ (of_flat k).headers.unmarked key
 unmarked_read k key = ap (λ (v : Seen). v.unmarked key) (reads k).looks
 
 and_left : (a b : Bool) → (a && b) ≡ true → a ≡ true
@@ -344,17 +344,17 @@ mark_front_loads : (key : PortKey) (mark : Mark) (hs : List HeaderRecord) (s : S
 mark_front_loads key mark hs s [] once e g m = g m
 mark_front_loads key mark hs s (n ∷ ns) once e g m = mark_loads key mark hs n ns s.loads once e g m
 
-pub mark_read : (k : Kept) (hs : List HeaderRecord) (key : PortKey) (mark : Mark) → Once k.headers → hs ≡ first_marked (numbers (in_unmarked key) k.headers) (Some mark) k.headers
-    → ReadAs k.key k.ports hs k.next (marked_first key mark (stocked k))
+pub mark_read : (k : Flat) (hs : List HeaderRecord) (key : PortKey) (mark : Mark) → Once k.headers → hs ≡ first_marked (numbers (in_unmarked key) k.headers) (Some mark) k.headers
+    → ReadAs k.key k.ports hs k.next (marked_first key mark (of_flat k))
 mark_read k hs key mark once h =
     let R = reads k in
     let e = unmarked_read k key in
-    let T = mark_stands (stocked k) k.headers key mark (stocked-stands k once) in
-    let same : hs ≡ first_marked ((stocked k).headers.unmarked key) (Some mark) k.headers = h ∙ ap (λ (ns : List ℕ). first_marked ns (Some mark) k.headers) e in
+    let T = mark_stands (of_flat k) k.headers key mark (of_flat-stands k once) in
+    let same : hs ≡ first_marked ((of_flat k).headers.unmarked key) (Some mark) k.headers = h ∙ ap (λ (ns : List ℕ). first_marked ns (Some mark) k.headers) e in
     record {
-      key = R.key ∙ sym (front_marked-key key mark ((stocked k).headers.unmarked key) (stocked k));
-      ports = R.ports ∙ sym (front_marked-ports key mark ((stocked k).headers.unmarked key) (stocked k));
+      key = R.key ∙ sym (front_marked-key key mark ((of_flat k).headers.unmarked key) (of_flat k));
+      ports = R.ports ∙ sym (front_marked-ports key mark ((of_flat k).headers.unmarked key) (of_flat k));
       looks = ap seen same ∙ T.looks;
-      loads = λ m. ap (λ (v : List HeaderRecord). kept_load (find_header m v)) same ∙ mark_front_loads key mark k.headers (stocked k) ((stocked k).headers.unmarked key) once e R.loads m;
-      next = R.next ∙ sym (front_marked-next key mark ((stocked k).headers.unmarked key) (stocked k));
+      loads = λ m. ap (λ (v : List HeaderRecord). kept_load (find_header m v)) same ∙ mark_front_loads key mark k.headers (of_flat k) ((of_flat k).headers.unmarked key) once e R.loads m;
+      next = R.next ∙ sym (front_marked-next key mark ((of_flat k).headers.unmarked key) (of_flat k));
     }

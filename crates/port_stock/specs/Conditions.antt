@@ -10,7 +10,8 @@ use Rattle.il_machine.specs.declared.header.HeaderState.{HeaderState}
 use Rattle.il_machine.specs.Lists.{holds_at}
 use Rattle.il_machine.specs.Headers.{is_for, is_key, is_owned_by, same_key}
 use Rattle.il_machine.specs.Buffers.{load_in}
-use Rattle.il_machine.specs.Stock.{Stocked}
+use Rattle.il_machine.specs.World.{HeaderRecord}
+use Rattle.il_machine.specs.Stock.{StandsFor, Stocked}
 use Rattle.header_core.specs.BufferHeader.{BufferHeader, is_clients}
 
 -- ---- ports
@@ -85,3 +86,7 @@ IsOut number s = MatchOption (s.headers.header number) ⊥ (λ h. h.place ≡ Ou
 abbrev pub IsFrom : (HeaderState → Bool) → BufferHeader → Stocked → Type 0
 IsFrom test header s =
     (holds_at (s.headers.header header.held.number) test ≡ true) × (s.loads header.held.number ≡ Some (load_in header.held))
+
+-- there is one flat list of headers for which it stands: lists, owners and counts are read of that
+abbrev pub IsOfOneList : Stocked → Type 0
+IsOfOneList s = (headers : List HeaderRecord) × StandsFor s headers

@@ -1,10 +1,9 @@
 -- The entries of a stock, as a flat list of headers, and what is true of them.
-use Rattle.std.specs.Prelude.{◌≡◌, ℕ, ◌*◌, ◌<◌, ◌≤◌, Bool, true, false, List, [], ◌∷◌, ◌++◌, map, length, Option, Some, None, is_some, option_map, slice_get, MatchOption}
+use Rattle.std.specs.Prelude.{◌≡◌, ℕ, ◌<◌, ◌≤◌, Bool, true, false, List, [], ◌∷◌, map, Option, Some, None, is_some, option_map, slice_get, MatchOption}
 use Rattle.il_machine.specs.declared.port.PortKey.{PortKey}
 use Rattle.il_machine.specs.declared.header.Spot.{Spot}
-use Rattle.il_machine.specs.declared.header.Spot.TheVariants.{TodoBack, TodoFront, DoneBack}
 use Rattle.il_machine.specs.World.{HeaderRecord, Load}
-use Rattle.il_machine.specs.Headers.{empty_load, Once, count_headers, is_for, loaded, numbers, find_header, changed}
+use Rattle.il_machine.specs.Headers.{empty_load, Once, count_headers, is_for, loaded, numbers, find_header, changed, put_at}
 use Rattle.il_machine.specs.Stock.{state_out}
 use Rattle.il_machine.specs.Buffers.{load_in}
 use Rattle.header_core.specs.BufferHeader.{BufferHeader, cleared as emptied_header}
@@ -23,17 +22,21 @@ record_of e = record { state = e.state; load = load_of_kept e.kept }
 abbrev pub headers_of : List Entry → List HeaderRecord
 headers_of entries = map record_of entries
 
--- appended, or prepended where the spot is the front of todo
-abbrev pub entry_at : Spot → Entry → List Entry → List Entry
-entry_at TodoBack e entries = entries ++ e ∷ []
-entry_at TodoFront e entries = e ∷ entries
-entry_at DoneBack e entries = entries ++ e ∷ []
-
 -- the header is no longer kept, with all that it carries
 abbrev pub record_out : HeaderRecord → HeaderRecord
 record_out r = loaded (empty_load None) (out_of_list r)
 
--- the header at the front of the numbers left its list, and was given out with all that was kept of it
+-- the header is put at the spot of the port, with what it carries
+abbrev pub put_record : PortKey → Spot → Load → HeaderRecord → HeaderRecord
+put_record key spot load r = put_at key spot (loaded load r)
+
+-- the header of the number left its list, and was given out with all that was kept of it
+pub record IsTakenAt (number : ℕ) (header : BufferHeader) (old new : List HeaderRecord) : Type 0 where
+  pub numbered : header.held.number ≡ number
+  pub was : MatchOption (find_header number old) ⊥ (λ r. (r.load ≡ load_in header.held) × IsHeaderOf r.state header)
+  pub after : new ≡ changed number record_out old
+
+-- the same of the front of the numbers of those that pass the test
 pub record IsTaken (test : HeaderRecord → Bool) (header : BufferHeader) (old new : List HeaderRecord) : Type 0 where
   pub front : slice_get (numbers test old) 0 ≡ Some header.held.number
   pub was : MatchOption (find_header header.held.number old) ⊥ (λ r. (test r ≡ true) × (r.load ≡ load_in header.held) × IsHeaderOf r.state header)
@@ -75,10 +78,3 @@ pub record AreLawful (ports : List PortKey) (next : ℕ) (headers : List HeaderR
   pub placed : Each (λ r. has_key r.state.port ports ≡ true) headers
   pub few : (key : PortKey) → count_headers (is_for key) headers ≤ 32
   pub owned : Each (λ r. IsMadeForOwner r.state) headers
-
--- There is a place for each header that can be made.
-pub record IsLawful (key : ℕ) (ports : List PortKey) (entries : List Entry) (next places : ℕ) : Type 0 where
-  pub headers : AreLawful ports next (headers_of entries)
-  pub kept : Each IsKept entries
-  pub keys : AreOf key entries
-  pub room : 32 * length ports ≤ places

@@ -1,4 +1,5 @@
 pub mod Kept
 pub mod Conditions
 pub mod Entries
+pub mod Rings
 pub mod Example

@@ -1,53 +1,53 @@
-//! The flat list of entries. The order of the list is that of each list of a port.
+//! The table of entries, one for each header that is made, by rising number.
 
-ghost use Rattle.std.specs.Prelude.{◌≡◌, ℕ, ◌<◌, ◌+◌, ◌∷◌, ◌++◌, [], length, map, option_map, nat_eq, position, slice_get, slice_set, slice_index_or, remove, Some, None, IfSome, IsSome, MatchOption, is_none, not, ◌&&◌, vec_len, vec_capacity};
+ghost use Rattle.std.specs.Prelude.{◌≡◌, ℕ, ◌<◌, ◌+◌, ◌∷◌, ◌++◌, [], length, map, option_map, nat_eq, position, slice_get, slice_set, remove, Some, None, true, IfSome, IsSome, MatchOption, is_none, vec_len, vec_capacity};
 ghost use Rattle.il_machine.specs.declared.header.Place.TheVariants.{Out};
-ghost use Rattle.il_machine.specs.Headers.{Once, changed, count_headers, find_header, given_to, in_todo, in_done, in_unmarked, is_away, is_for, is_home_of, is_owned_by, is_state, state_of, empty_load, loaded, numbers, put, without};
-ghost use Rattle.il_machine.specs.Lists.{is_empty};
-ghost use Rattle.il_machine.specs.Buffers.{is_block, load_in};
-ghost use Rattle.il_machine.specs.Due.{first_marked};
+ghost use Rattle.il_machine.specs.Headers.{Once, changed, find_header, given_to, in_todo, in_done, state_at, state_of, empty_load, without};
+ghost use Rattle.il_machine.specs.Buffers.{load_in};
+ghost use Rattle.il_machine.specs.Due.{marked as marked_record};
 ghost use Rattle.header_core.specs.BufferHeader.{cleared as emptied_header, marked as marked_header};
 ghost use Rattle.stock_laws.specs.Changes.{cleared_where};
+ghost use Rattle.port_stock.specs.Kept.{has_no_mark, is_waiting, unmarked_of};
 ghost use Rattle.port_stock.specs.Conditions.{IsHeaderOf};
-ghost use Rattle.port_stock.specs.Entries.{AreOf, Each, IsKept, IsTaken, KeepsKeys, entry_at, entry_cleared, entry_out, headers_of, load_of_kept, record_of};
+ghost use Rattle.port_stock.specs.Entries.{AreOf, Each, IsKept, IsTakenAt, KeepsKeys, entry_cleared, entry_out, headers_of, load_of_kept, put_record, record_of};
 
-use crate::entry::{
-    Entry, is_foreign, is_made_for, is_outstanding, put_state, waits_in_done, waits_in_todo,
-};
+use crate::entry::{Entry, put_state, waits_in_done, waits_in_todo};
+use circular_buffer::HeapCircularBuffer;
 use header_core::Header;
 use il_machine::{HeaderState, Mark, Owner, Place, PortKey, Spot};
+use std::mem::replace;
+
+/// The place that the number has where none below it is missing, or that is found by halves. Numbers rise along the table, but this
+/// isn't relied on.
+fn likely_place(entries: &[Entry], number: u64) -> Option<usize>
+    ensures { IfSome result (λ place. MatchOption (slice_get entries.now place) ⊥ (λ e. e.state.number ≡ number)) }
+{
+    let first = entries.first()?.state.number;
+    let steps = number.checked_sub(first)? as usize;
+    if let Some(entry) = entries.get(steps)
+        && entry.state.number == number
+    {
+        return Some(steps);
+    }
+    let place = entries
+        .binary_search_by_key(&number, |e| e.state.number)
+        .ok()?;
+    if entries[place].state.number == number {
+        Some(place)
+    } else {
+        None
+    }
+}
 
 fn number_place(entries: &[Entry], number: u64) -> Option<usize>
+    requires { Once (headers_of entries.now) }
     ensures place { result ≡ position (λ e. nat_eq e.state.number number) entries.now }
     ensures within { IfSome result (λ k. k < length entries.now) }
 {
-    entries.iter().position(|e| e.state.number == number)
-}
-
-fn todo_place(entries: &[Entry], key: PortKey) -> Option<usize>
-    ensures place { result ≡ position (λ e. in_todo key e.state) entries.now }
-    ensures within { IfSome result (λ k. k < length entries.now) }
-{
-    entries.iter().position(|e| waits_in_todo(key, &e.state))
-}
-
-fn done_place(entries: &[Entry], key: PortKey) -> Option<usize>
-    ensures place { result ≡ position (λ e. in_done key e.state) entries.now }
-    ensures within { IfSome result (λ k. k < length entries.now) }
-{
-    entries.iter().position(|e| waits_in_done(key, &e.state))
-}
-
-/// Puts the entry behind or before all others, where there is room.
-fn put_entry(entries: &mut Vec<Entry>, entry: Entry, spot: Spot)
-    requires { vec_len entries.old < vec_capacity entries.old }
-    ensures items { entries.new.items ≡ entry_at spot entry entries.old.items }
-    ensures capacity { vec_capacity entries.new ≡ vec_capacity entries.old }
-{
-    entries.push_reserved(entry);
-    if let Spot::TodoFront = spot {
-        entries.as_mut_slice().rotate_right(1);
+    if let Some(place) = likely_place(entries, number) {
+        return Some(place);
     }
+    entries.iter().position(|e| e.state.number == number)
 }
 
 /// Takes the entry of a header that is in no list.
@@ -81,13 +81,29 @@ fn take_header(entries: &mut Vec<Entry>, place: usize) -> Header
     header
 }
 
-/// Puts a header that is in no list at the spot of the port.
-pub fn put(entries: &mut Vec<Entry>, key: PortKey, header: Header, spot: Spot)
+/// Puts the header into an entry that has none, at the spot of the port, and answers how the entry was.
+fn put_in(entry: &mut Entry, key: PortKey, header: Header, spot: Spot) -> HeaderState
+    requires { entry.old.kept ≡ None }
+    ensures before { result ≡ entry.old.state }
+    ensures entry { entry.new ≡ record { state = state_at key spot entry.old.state; kept = Some header } }
+{
+    let before = entry.state;
+    entry.state = put_state(key, spot, before);
+    match replace(&mut entry.kept, Some(header)) {
+        None => before,
+        Some(_) => unreachable!(),
+    }
+}
+
+/// Puts a header that is in no list at the spot of the port, and answers how it was.
+pub fn put(entries: &mut Vec<Entry>, key: PortKey, header: Header, spot: Spot) -> HeaderState
     requires outside { MatchOption (find_header header.held.number (headers_of entries.old.items))
         ⊥ (λ r. (r.state.place ≡ Out) × IsHeaderOf r.state header) }
+    requires once { Once (headers_of entries.old.items) }
     requires kept { Each IsKept entries.old.items }
+    ensures before { option_map state_of (find_header header.held.number (headers_of entries.old.items)) ≡ Some result }
     ensures headers { headers_of entries.new.items
-        ≡ put key spot header.held.number (loaded (load_in header.held)) (headers_of entries.old.items) }
+        ≡ changed header.held.number (put_record key spot (load_in header.held)) (headers_of entries.old.items) }
     ensures kept { Each IsKept entries.new.items }
     ensures keys { AreOf header.key entries.old.items → AreOf header.key entries.new.items }
     ensures capacity { vec_capacity entries.new ≡ vec_capacity entries.old }
@@ -95,48 +111,25 @@ pub fn put(entries: &mut Vec<Entry>, key: PortKey, header: Header, spot: Spot)
     let Some(place) = number_place(entries, header.id()) else {
         unreachable!()
     };
-    let state = take_entry(entries, place);
-    let entry = Entry {
-        state: put_state(key, spot, state),
-        kept: Some(header),
-    };
-    put_entry(entries, entry, spot);
+    let entry = &mut entries[place];
+    put_in(entry, key, header, spot)
 }
 
-/// Takes the front of `todo` out of it.
-pub fn pull(entries: &mut Vec<Entry>, key: PortKey) -> Option<Header>
+/// Takes the header of the number, which waits in a list, out of it.
+pub fn take(entries: &mut Vec<Entry>, number: u64) -> Header
+    requires waits { MatchOption (find_header number (headers_of entries.old.items)) ⊥ (λ r. is_waiting r.state.place ≡ true) }
     requires once { Once (headers_of entries.old.items) }
     requires kept { Each IsKept entries.old.items }
-    ensures taken { MatchOption result
-        ((numbers (is_state (in_todo key)) (headers_of entries.old.items) ≡ []) × (headers_of entries.new.items ≡ headers_of entries.old.items))
-        (λ header. IsTaken (is_state (in_todo key)) header (headers_of entries.old.items) (headers_of entries.new.items)) }
+    ensures taken { IsTakenAt number result (headers_of entries.old.items) (headers_of entries.new.items) }
     ensures kept { Each IsKept entries.new.items }
     ensures keys { KeepsKeys entries.old.items entries.new.items }
-    ensures own { (key : ℕ) → AreOf key entries.old.items → IfSome result (λ header. header.key ≡ key) }
+    ensures own { (key : ℕ) → AreOf key entries.old.items → result.key ≡ key }
     ensures capacity { vec_capacity entries.new ≡ vec_capacity entries.old }
 {
-    let Some(place) = todo_place(entries, key) else {
-        return None;
+    let Some(place) = number_place(entries, number) else {
+        unreachable!()
     };
-    Some(take_header(entries, place))
-}
-
-/// Takes the front of `done` out of it.
-pub fn send(entries: &mut Vec<Entry>, key: PortKey) -> Option<Header>
-    requires once { Once (headers_of entries.old.items) }
-    requires kept { Each IsKept entries.old.items }
-    ensures taken { MatchOption result
-        ((numbers (is_state (in_done key)) (headers_of entries.old.items) ≡ []) × (headers_of entries.new.items ≡ headers_of entries.old.items))
-        (λ header. IsTaken (is_state (in_done key)) header (headers_of entries.old.items) (headers_of entries.new.items)) }
-    ensures kept { Each IsKept entries.new.items }
-    ensures keys { KeepsKeys entries.old.items entries.new.items }
-    ensures own { (key : ℕ) → AreOf key entries.old.items → IfSome result (λ header. header.key ≡ key) }
-    ensures capacity { vec_capacity entries.new ≡ vec_capacity entries.old }
-{
-    let Some(place) = done_place(entries, key) else {
-        return None;
-    };
-    Some(take_header(entries, place))
+    take_header(entries, place)
 }
 
 /// Adds a header that is in no list, where there is room.
@@ -153,10 +146,12 @@ pub fn add(entries: &mut Vec<Entry>, state: HeaderState)
     entries.push_reserved(Entry { state, kept: None });
 }
 
-/// Takes the header of the number, which is in no list, away.
-pub fn remove(entries: &mut Vec<Entry>, number: u64)
+/// Takes the header of the number, which is in no list, away, and answers how it was.
+pub fn remove(entries: &mut Vec<Entry>, number: u64) -> HeaderState
     requires outside { MatchOption (find_header number (headers_of entries.old.items)) ⊥ (λ r. r.state.place ≡ Out) }
+    requires once { Once (headers_of entries.old.items) }
     requires kept { Each IsKept entries.old.items }
+    ensures before { option_map state_of (find_header number (headers_of entries.old.items)) ≡ Some result }
     ensures headers { headers_of entries.new.items ≡ without number (headers_of entries.old.items) }
     ensures kept { Each IsKept entries.new.items }
     ensures keys { KeepsKeys entries.old.items entries.new.items }
@@ -165,13 +160,15 @@ pub fn remove(entries: &mut Vec<Entry>, number: u64)
     let Some(place) = number_place(entries, number) else {
         unreachable!()
     };
-    take_entry(entries, place);
+    take_entry(entries, place)
 }
 
-/// Gives the header of the number, which is in no list, to the owner.
-pub fn give(entries: &mut Vec<Entry>, number: u64, owner: Owner)
+/// Gives the header of the number, which is in no list, to the owner, and answers how it was.
+pub fn give(entries: &mut Vec<Entry>, number: u64, owner: Owner) -> HeaderState
     requires outside { MatchOption (find_header number (headers_of entries.old.items)) ⊥ (λ r. r.state.place ≡ Out) }
+    requires once { Once (headers_of entries.old.items) }
     requires kept { Each IsKept entries.old.items }
+    ensures before { option_map state_of (find_header number (headers_of entries.old.items)) ≡ Some result }
     ensures headers { headers_of entries.new.items ≡ changed number (given_to owner) (headers_of entries.old.items) }
     ensures kept { Each IsKept entries.new.items }
     ensures keys { KeepsKeys entries.old.items entries.new.items }
@@ -181,7 +178,9 @@ pub fn give(entries: &mut Vec<Entry>, number: u64, owner: Owner)
         unreachable!()
     };
     let entry = &mut entries[place];
+    let before = entry.state;
     entry.state.owner = owner;
+    before
 }
 
 fn clear_kept(kept: &mut Option<Header>)
@@ -248,7 +247,7 @@ pub fn clear_done(entries: &mut Vec<Entry>, key: PortKey)
     clear_done_entries(entries, key);
 }
 
-fn has_no_mark(kept: &Option<Header>) -> bool
+fn is_unmarked(kept: &Option<Header>) -> bool
     ensures { result ≡ is_none (load_of_kept kept.now).mark }
 {
     match kept {
@@ -257,17 +256,32 @@ fn has_no_mark(kept: &Option<Header>) -> bool
     }
 }
 
-fn is_unmarked(entry: &Entry, key: PortKey) -> bool
-    ensures { result ≡ in_unmarked key (record_of entry.now) }
+/// Whether the header of the number is there, and has no mark.
+fn has_unmarked(entries: &[Entry], number: u64) -> bool
+    requires { Once (headers_of entries.now) }
+    ensures { result ≡ has_no_mark (find_header number (headers_of entries.now)) }
 {
-    waits_in_todo(key, &entry.state) && has_no_mark(&entry.kept)
+    let Some(place) = number_place(entries, number) else {
+        return false;
+    };
+    let entry = &entries[place];
+    is_unmarked(&entry.kept)
 }
 
-fn unmarked_place(entries: &[Entry], key: PortKey) -> Option<usize>
-    ensures place { result ≡ position (λ e. in_unmarked key (record_of e)) entries.now }
-    ensures within { IfSome result (λ k. k < length entries.now) }
+/// The first of the numbers whose header has no mark.
+pub fn first_unmarked(entries: &[Entry], todo: &HeapCircularBuffer<u64>) -> Option<u64>
+    requires { Once (headers_of entries.now) }
+    ensures { result ≡ slice_get (unmarked_of (headers_of entries.now) todo.now.items) 0 }
 {
-    entries.iter().position(|e| is_unmarked(e, key))
+    for place in 0..todo.len() {
+        let Some(number) = todo.get(place) else {
+            unreachable!()
+        };
+        if has_unmarked(entries, *number) {
+            return Some(*number);
+        }
+    }
+    None
 }
 
 fn mark_kept(kept: &mut Option<Header>, mark: Mark)
@@ -278,27 +292,26 @@ fn mark_kept(kept: &mut Option<Header>, mark: Mark)
     }
 }
 
-/// Gives the mark to the first header of `todo` without one, and answers whether there was one.
-pub fn mark_first(entries: &mut Vec<Entry>, key: PortKey, mark: Mark) -> bool
+/// Gives the mark to the header of the number, which waits in a list.
+pub fn mark(entries: &mut Vec<Entry>, number: u64, mark: Mark)
+    requires waits { MatchOption (find_header number (headers_of entries.old.items)) ⊥ (λ r. is_waiting r.state.place ≡ true) }
     requires once { Once (headers_of entries.old.items) }
     requires kept { Each IsKept entries.old.items }
-    ensures some { result ≡ not (is_empty (numbers (in_unmarked key) (headers_of entries.old.items))) }
-    ensures headers { headers_of entries.new.items
-        ≡ first_marked (numbers (in_unmarked key) (headers_of entries.old.items)) (Some mark) (headers_of entries.old.items) }
+    ensures headers { headers_of entries.new.items ≡ changed number (marked_record (Some mark)) (headers_of entries.old.items) }
     ensures kept { Each IsKept entries.new.items }
     ensures keys { KeepsKeys entries.old.items entries.new.items }
     ensures capacity { vec_capacity entries.new ≡ vec_capacity entries.old }
 {
-    let Some(place) = unmarked_place(entries, key) else {
-        return false;
+    let Some(place) = number_place(entries, number) else {
+        unreachable!()
     };
     let entry = &mut entries[place];
     mark_kept(&mut entry.kept, mark);
-    true
 }
 
 /// What is known of the header of the number.
 pub fn state_of(entries: &[Entry], number: u64) -> Option<HeaderState>
+    requires { Once (headers_of entries.now) }
     ensures { result ≡ option_map state_of (find_header number (headers_of entries.now)) }
 {
     let Some(place) = number_place(entries, number) else {
@@ -306,56 +319,4 @@ pub fn state_of(entries: &[Entry], number: u64) -> Option<HeaderState>
     };
     let entry = &entries[place];
     Some(entry.state)
-}
-
-pub fn has_todo(entries: &[Entry], key: PortKey) -> bool
-    ensures { result ≡ not (is_empty (numbers (is_state (in_todo key)) (headers_of entries.now))) }
-{
-    todo_place(entries, key).is_some()
-}
-
-pub fn has_done(entries: &[Entry], key: PortKey) -> bool
-    ensures { result ≡ not (is_empty (numbers (is_state (in_done key)) (headers_of entries.now))) }
-{
-    done_place(entries, key).is_some()
-}
-
-pub fn has_unmarked(entries: &[Entry], key: PortKey) -> bool
-    ensures { result ≡ not (is_empty (numbers (in_unmarked key) (headers_of entries.now))) }
-{
-    unmarked_place(entries, key).is_some()
-}
-
-/// How many headers were made for the port.
-pub fn made(entries: &[Entry], key: PortKey) -> usize
-    ensures { result ≡ count_headers (is_for key) (headers_of entries.now) }
-{
-    entries
-        .iter()
-        .filter(|e| is_made_for(key, &e.state))
-        .count()
-}
-
-/// How many of those have an owner that is neither their home nor a notice.
-pub fn outstanding(entries: &[Entry], key: PortKey) -> usize
-    ensures { result ≡ count_headers (λ h. is_for key h && is_away h) (headers_of entries.now) }
-{
-    entries
-        .iter()
-        .filter(|e| is_outstanding(key, &e.state))
-        .count()
-}
-
-/// How many headers are in the port's lists whose home it isn't.
-pub fn foreign(entries: &[Entry], key: PortKey) -> usize
-    ensures { result ≡ count_headers (λ h. is_owned_by key h.owner && not (is_home_of key h.home)) (headers_of entries.now) }
-{
-    entries.iter().filter(|e| is_foreign(key, &e.state)).count()
-}
-
-/// How many headers have a block of the graph.
-pub fn blocks(entries: &[Entry]) -> usize
-    ensures { result ≡ count_headers is_block (headers_of entries.now) }
-{
-    entries.iter().filter(|e| !e.state.client_memory).count()
 }

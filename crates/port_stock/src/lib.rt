@@ -2,8 +2,9 @@
 //! and the headers themselves while they wait.
 //!
 //! Contracts see a stock by `stocked`, which gives the lists, states and counts of `il_machine`'s `Stocked`. The laws that
-//! tie these to the machine's flat lists of headers are those of `stock_laws`. Headers are kept in one flat list here, whose
-//! order is that of each list of a port; nothing of it shows.
+//! tie these to the machine's flat lists of headers are those of `stock_laws`. A port has two rings of the numbers of headers,
+//! and counts of its headers that are kept; the headers themselves stand in a table with 32 places for each port. One flat list,
+//! of which all this tells, is part of what is proved of a stock, and isn't kept.
 //!
 //! No call takes memory but `new` and `add_ports`. A stock must be ended: by `close` where no header is made, by `dispose` whatever
 //! is made.
@@ -11,6 +12,7 @@
 
 mod entries;
 mod entry;
+mod port;
 mod ports;
 mod stock;
 #[cfg(test)]

@@ -1,19 +1,26 @@
-//! The list of ports, and the places for their headers.
+//! The list of ports, and the place of each in it.
 
-ghost use Rattle.std.specs.Prelude.{◌≡◌, ◌+◌, ◌*◌, ◌≤◌, ◌++◌, filter, length, nat_eq, not, vec_capacity, vec_len, OnOk};
-ghost use Rattle.il_machine.specs.Stock.{keys_from};
+ghost use Rattle.std.specs.Prelude.{◌≡◌, ◌+◌, ◌*◌, ◌<◌, ◌≤◌, ◌++◌, true, filter, length, nat_eq, not, position, slice_get, take, vec_capacity, vec_len, IfSome, OnOk, OnErr, MatchOption};
+ghost use Rattle.il_machine.specs.Headers.{same_key};
+ghost use Rattle.port_stock.specs.Conditions.{has_key};
+ghost use Rattle.port_stock.specs.Rings.{Differ, HasCounted, IsKnownBy, Recounts, Replaces, is_at, new_ports, port_at, port_keys, recounted, with_number, without_done, without_todo};
 
 use crate::OutOfMemory;
 use crate::entry::Entry;
-use il_machine::PortKey;
-use std::alloc::AllocError;
+use crate::port::Port;
+use il_machine::{HeaderState, PortKey, Spot};
+use std::alloc::{AllocError, Global};
+use std::collections::HashMap;
 
 /// A port may have so many headers.
 const MOST_HEADERS: usize = 32;
 
+/// Where the first port of each component stands. A place that is told here is looked at before it is believed.
+pub type Firsts = HashMap<u64, usize>;
+
 /// Takes places for so many more ports and for all headers of all ports.
 pub fn reserve(
-    ports: &mut Vec<PortKey>,
+    ports: &mut Vec<Port>,
     entries: &mut Vec<Entry>,
     count: usize,
 ) -> Result<(), OutOfMemory>
@@ -32,19 +39,197 @@ pub fn reserve(
     Ok(())
 }
 
-/// Adds so many ports of the component, for which there is room.
-pub fn push(ports: &mut Vec<PortKey>, component: u64, count: u32)
+/// Adds so many ports of the component, for which there is room. Where memory is wanted, some of them may stand behind the others.
+fn push(ports: &mut Vec<Port>, alloc: Global, component: u64, count: u32) -> Result<(), OutOfMemory>
     requires { vec_len ports.old + count ≤ vec_capacity ports.old }
-    ensures { ports.new.items ≡ ports.old.items ++ keys_from component 0 count }
+    ensures ok { OnOk result (ports.new.items ≡ ports.old.items ++ new_ports component 0 count) }
+    ensures front { take (length ports.old.items) ports.new.items ≡ ports.old.items }
 {
     for port in 0..count {
-        ports.push_reserved(PortKey { component, port });
+        let made = Port::new(alloc, PortKey { component, port })?;
+        ports.push_reserved(made);
+    }
+    Ok(())
+}
+
+/// Adds so many ports of the component, for which there is room, or none where memory is wanted.
+pub fn add(
+    ports: &mut Vec<Port>,
+    firsts: &mut Firsts,
+    alloc: Global,
+    component: u64,
+    count: u32,
+) -> Result<(), OutOfMemory>
+    requires { vec_len ports.old + count ≤ vec_capacity ports.old }
+    ensures ok { OnOk result (ports.new.items ≡ ports.old.items ++ new_ports component 0 count) }
+    ensures err { OnErr result (ports.new.items ≡ ports.old.items) }
+{
+    let first = ports.len();
+    if firsts.insert(component, first).is_err() {
+        return Err(AllocError);
+    }
+    if let Err(refused) = push(ports, alloc, component, count) {
+        ports.truncate(first);
+        return Err(refused);
+    }
+    Ok(())
+}
+
+/// Moves the places that stand behind those of a component which is gone.
+fn forget(firsts: &mut Firsts, component: u64, gone: usize) {
+    let Some(first) = firsts.remove(&component) else {
+        return;
+    };
+    for place in firsts.values_mut() {
+        if *place > first {
+            *place = place.saturating_sub(gone);
+        }
     }
 }
 
 /// Takes the ports of the component away.
-pub fn remove(ports: &mut Vec<PortKey>, component: u64)
-    ensures { ports.new.items ≡ filter (λ key. not (nat_eq key.component component)) ports.old.items }
+pub fn remove(ports: &mut Vec<Port>, firsts: &mut Firsts, component: u64)
+    ensures { ports.new.items ≡ filter (λ p. not (nat_eq p.key.component component)) ports.old.items }
 {
-    ports.retain(|key| key.component != component);
+    let before = ports.len();
+    ports.retain(|port| port.key.component != component);
+    forget(firsts, component, before.saturating_sub(ports.len()));
+}
+
+fn is_of_key(port: &Port, key: PortKey) -> bool
+    ensures { result ≡ is_at key port.now }
+{
+    port.key == key
+}
+
+/// The place that is told for the port, if it stands there.
+fn told_place(firsts: &Firsts, ports: &[Port], key: PortKey) -> Option<usize>
+    ensures { IfSome result (λ place. MatchOption (slice_get ports.now place) ⊥ (λ p. is_at key p ≡ true)) }
+{
+    let first = firsts.get(&key.component)?;
+    let place = first.checked_add(key.port as usize)?;
+    let port = ports.get(place)?;
+    if is_of_key(port, key) {
+        Some(place)
+    } else {
+        None
+    }
+}
+
+fn looked_up_place(ports: &[Port], key: PortKey) -> Option<usize>
+    ensures { result ≡ position (λ p. is_at key p) ports.now }
+{
+    ports.iter().position(|port| is_of_key(port, key))
+}
+
+/// The place of the port.
+fn place_of(firsts: &Firsts, ports: &[Port], key: PortKey) -> usize
+    requires { has_key key (port_keys ports.now) ≡ true }
+    ensures { MatchOption (slice_get ports.now result) ⊥ (λ p. is_at key p ≡ true) }
+{
+    if let Some(place) = told_place(firsts, ports, key) {
+        return place;
+    }
+    match looked_up_place(ports, key) {
+        Some(place) => place,
+        None => unreachable!(),
+    }
+}
+
+/// The port of the key.
+pub fn at<'a>(firsts: &Firsts, ports: &'a [Port], key: PortKey) -> &'a Port
+    requires there { has_key key (port_keys ports.now) ≡ true }
+    requires differ { Differ ports.now }
+    ensures { result.now ≡ port_at key ports.now }
+{
+    let place = place_of(firsts, ports, key);
+    let port = &ports[place];
+    port
+}
+
+/// Puts the number at the spot of the port, for which there is a place.
+pub fn put(firsts: &Firsts, ports: &mut Vec<Port>, key: PortKey, number: u64, spot: Spot)
+    requires there { has_key key (port_keys ports.old.items) ≡ true }
+    requires differ { Differ ports.old.items }
+    requires todo { length (port_at key ports.old.items).todo.items < (port_at key ports.old.items).todo.capacity }
+    requires done { length (port_at key ports.old.items).done.items < (port_at key ports.old.items).done.capacity }
+    ensures { Replaces key (with_number spot number (port_at key ports.old.items)) ports.old.items ports.new.items }
+{
+    let place = place_of(firsts, ports, key);
+    let port = &mut ports[place];
+    port.put(number, spot);
+}
+
+/// Takes the number in front of `todo` out of it.
+pub fn pull(firsts: &Firsts, ports: &mut Vec<Port>, key: PortKey) -> Option<u64>
+    requires there { has_key key (port_keys ports.old.items) ≡ true }
+    requires differ { Differ ports.old.items }
+    ensures front { result ≡ slice_get (port_at key ports.old.items).todo.items 0 }
+    ensures ports { Replaces key (without_todo (port_at key ports.old.items)) ports.old.items ports.new.items }
+{
+    let place = place_of(firsts, ports, key);
+    let port = &mut ports[place];
+    port.todo.pop_front()
+}
+
+/// Takes the number in front of `done` out of it.
+pub fn send(firsts: &Firsts, ports: &mut Vec<Port>, key: PortKey) -> Option<u64>
+    requires there { has_key key (port_keys ports.old.items) ≡ true }
+    requires differ { Differ ports.old.items }
+    ensures front { result ≡ slice_get (port_at key ports.old.items).done.items 0 }
+    ensures ports { Replaces key (without_done (port_at key ports.old.items)) ports.old.items ports.new.items }
+{
+    let place = place_of(firsts, ports, key);
+    let port = &mut ports[place];
+    port.done.pop_front()
+}
+
+fn recount_at(
+    firsts: &Firsts,
+    ports: &mut Vec<Port>,
+    key: PortKey,
+    before: Option<HeaderState>,
+    after: Option<HeaderState>,
+)
+    requires there { has_key key (port_keys ports.old.items) ≡ true }
+    requires differ { Differ ports.old.items }
+    requires counted { HasCounted before (port_at key ports.old.items) }
+    ensures { Replaces key (recounted key before after (port_at key ports.old.items)) ports.old.items ports.new.items }
+{
+    let place = place_of(firsts, ports, key);
+    let port = &mut ports[place];
+    port.recount(before, after);
+}
+
+fn is_same(peer: PortKey, port: PortKey) -> bool
+    ensures { result ≡ same_key peer port }
+{
+    peer == port
+}
+
+/// Counts a header anew, for both ports that it was made for.
+pub fn recount(
+    firsts: &Firsts,
+    ports: &mut Vec<Port>,
+    made_for: (PortKey, Option<PortKey>),
+    before: Option<HeaderState>,
+    after: Option<HeaderState>,
+)
+    requires port { has_key made_for.0 (port_keys ports.old.items) ≡ true }
+    requires peer { MatchOption made_for.1 (Unit {0}) (λ key. has_key key (port_keys ports.old.items) ≡ true) }
+    requires differ { Differ ports.old.items }
+    requires counted { (key : PortKey) → HasCounted before (port_at key ports.old.items) }
+    requires before { IsKnownBy made_for.0 made_for.1 before }
+    requires after { IsKnownBy made_for.0 made_for.1 after }
+    ensures { Recounts before after ports.old.items ports.new.items }
+{
+    let (port, peer) = made_for;
+    recount_at(firsts, ports, port, before, after);
+    let Some(peer) = peer else {
+        return;
+    };
+    if is_same(peer, port) {
+        return;
+    }
+    recount_at(firsts, ports, peer, before, after);
 }

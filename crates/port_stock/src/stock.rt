@@ -1,14 +1,16 @@
 ghost use Rattle.std.specs.Prelude.{◌≡◌, ◌+◌, ◌<◌, ◌≤◌, ◌&&◌, ℕ, length, nat_eq, not, true, false, slice_get, option_map, None, IfOk, IfSome, OnOk, OnErr};
 ghost use Rattle.il_machine.specs.Lists.{is_empty};
-ghost use Rattle.il_machine.specs.Headers.{in_todo, in_done, is_away, is_for, is_home_of, is_owned_by};
+ghost use Rattle.il_machine.specs.Headers.{in_todo, in_done, is_away, is_for, is_home_of, is_owned_by, weight};
 ghost use Rattle.il_machine.specs.Buffers.{is_block, load_in};
 ghost use Rattle.il_machine.specs.Stock.{added, given, made_header, no_stock, populated, pulled, pushed, removed, sent, withdrawn};
 ghost use Rattle.header_core.specs.BufferHeader.{bytes_of, fresh, is_clients, own_memory};
 ghost use Rattle.stock_laws.specs.Changes.{done_cleared, marked_first, todo_cleared};
 ghost use Rattle.port_stock.specs.Kept.{stocked};
-ghost use Rattle.port_stock.specs.Conditions.{AreMadeForOwners, HasFewer, IsFrom, IsMadeFor, IsOut, IsOutside, IsPeer, IsPort, IsUnmade, IsWithoutPorts, is_home_among, is_port, made_in, number_of};
+ghost use Rattle.port_stock.specs.Conditions.{AreMadeForOwners, HasFewer, IsFrom, IsMadeFor, IsOfOneList, IsOut, IsOutside, IsPeer, IsPort, IsUnmade, IsWithoutPorts, is_home_among, is_port, made_in, number_of};
 
-use crate::entry::{Entry, owner_at};
+use crate::entry::{Entry, owner_at, put_state};
+use crate::port::Port;
+use crate::ports::Firsts;
 use crate::{OutOfMemory, entries, ports};
 use header_core::{Header, Key, Store};
 use il_machine::{HeaderState, Home, Mark, Owner, Place, PortKey, Spot};
@@ -18,8 +20,11 @@ use std::marker::Model;
 /// The ports and headers of one graph.
 pub struct Stock {
     key: Key,
-    ports: Vec<PortKey>,
+    ports: Vec<Port>,
+    firsts: Firsts,
     entries: Vec<Entry>,
+    /// How many headers have a block of the graph.
+    blocks: u64,
     next: u64,
 }
 
@@ -29,11 +34,12 @@ impl Model for Stock {
     ghost Value = { Kept };
 
     ghost use Rattle.std.specs.Prelude.{vec_capacity};
-    ghost use Rattle.port_stock.specs.Entries.{IsLawful, headers_of};
+    ghost use Rattle.port_stock.specs.Entries.{headers_of};
+    ghost use Rattle.port_stock.specs.Rings.{IsLawful, shelves_of};
 
-    ghost view = { λ s. record { key = s.key; ports = s.ports.items; headers = headers_of s.entries.items; next = s.next } };
+    ghost view = { λ s. record { key = s.key; ports = shelves_of s.ports.items; headers = headers_of s.entries.items; next = s.next } };
 
-    ghost invariant = { λ s. IsLawful s.key s.ports.items s.entries.items s.next (vec_capacity s.entries) };
+    ghost invariant = { λ s. IsLawful s.key s.ports.items s.entries.items s.blocks s.next (vec_capacity s.entries) };
 }
 
 /// Whether a header gets the number: the last one is never given.
@@ -44,6 +50,30 @@ fn is_given(number: u64) -> bool
     number != u64::MAX
 }
 
+/// So many blocks, with that of the header where it has one.
+fn with_block(blocks: u64, state: &HeaderState) -> u64
+    requires { blocks < 18446744073709551615 }
+    ensures { result ≡ blocks + weight (is_block state.now) }
+{
+    if state.client_memory {
+        blocks
+    } else {
+        blocks + 1
+    }
+}
+
+/// So many blocks, without that of the header where it has one.
+fn without_block(blocks: u64, state: &HeaderState) -> u64
+    requires { weight (is_block state.now) ≤ blocks }
+    ensures { result + weight (is_block state.now) ≡ blocks }
+{
+    if state.client_memory {
+        blocks
+    } else {
+        blocks - 1
+    }
+}
+
 impl Stock {
     /// A stock without ports and headers.
     pub fn new(alloc: Global) -> Result<Stock, OutOfMemory>
@@ -52,7 +82,9 @@ impl Stock {
         Ok(Stock {
             key: Key::new(),
             ports: Vec::new(alloc),
+            firsts: Firsts::new(alloc),
             entries: Vec::new(alloc),
+            blocks: 0,
             next: 0,
         })
     }
@@ -60,7 +92,7 @@ impl Stock {
     /// Adds the ports of a component, numbered from 0: its inputs, then its outputs.
     pub fn add_ports(
         &mut self,
-        _alloc: Global,
+        alloc: Global,
         component: u64,
         inputs: u32,
         outputs: u32,
@@ -73,7 +105,7 @@ impl Stock {
     {
         let count = inputs + outputs;
         ports::reserve(&mut self.ports, &mut self.entries, count as usize)?;
-        ports::push(&mut self.ports, component, count);
+        ports::add(&mut self.ports, &mut self.firsts, alloc, component, count)?;
         Ok(())
     }
 
@@ -82,7 +114,7 @@ impl Stock {
         requires { IsUnmade component (stocked self.old) }
         ensures { stocked self.new ≡ removed component (stocked self.old) }
     {
-        ports::remove(&mut self.ports, component);
+        ports::remove(&mut self.ports, &mut self.firsts, component);
     }
 
     /// Makes a header for the port, and for the other port of its tunnel.
@@ -121,6 +153,14 @@ impl Stock {
             client_memory: store.is_clients(),
         };
         entries::add(&mut self.entries, state);
+        ports::recount(
+            &self.firsts,
+            &mut self.ports,
+            (port, peer),
+            None,
+            Some(state),
+        );
+        self.blocks = with_block(self.blocks, &state);
         self.next += 1;
         Header::new(self.key, number, store, size)
     }
@@ -132,7 +172,10 @@ impl Stock {
         ensures memory { own_memory result ≡ header.held.memory }
         ensures stock { stocked self.new ≡ withdrawn header.held.number (stocked self.old) }
     {
-        entries::remove(&mut self.entries, header.id());
+        let before = entries::remove(&mut self.entries, header.id());
+        let made_for = (before.port, before.peer);
+        ports::recount(&self.firsts, &mut self.ports, made_for, Some(before), None);
+        self.blocks = without_block(self.blocks, &before);
         header.into_store()
     }
 
@@ -144,7 +187,10 @@ impl Stock {
         ensures outside { IfSome result (λ header. IsOutside header (stocked self.new)) }
         ensures stock { stocked self.new ≡ pulled port (stocked self.old) }
     {
-        entries::pull(&mut self.entries, port)
+        let Some(number) = ports::pull(&self.firsts, &mut self.ports, port) else {
+            return None;
+        };
+        Some(entries::take(&mut self.entries, number))
     }
 
     /// The front of `done`, which leaves it.
@@ -155,7 +201,10 @@ impl Stock {
         ensures outside { IfSome result (λ header. IsOutside header (stocked self.new)) }
         ensures stock { stocked self.new ≡ sent port (stocked self.old) }
     {
-        entries::send(&mut self.entries, port)
+        let Some(number) = ports::send(&self.firsts, &mut self.ports, port) else {
+            return None;
+        };
+        Some(entries::take(&mut self.entries, number))
     }
 
     /// Puts a header that is in no list at the spot of a port that it was made for.
@@ -165,7 +214,18 @@ impl Stock {
         requires made_for { IsMadeFor port header (stocked self.old) }
         ensures { stocked self.new ≡ pushed port spot header.held.number (load_in header.held) (stocked self.old) }
     {
-        entries::put(&mut self.entries, port, header, spot);
+        let number = header.id();
+        let before = entries::put(&mut self.entries, port, header, spot);
+        let after = put_state(port, spot, before);
+        ports::put(&self.firsts, &mut self.ports, port, number, spot);
+        let made_for = (before.port, before.peer);
+        ports::recount(
+            &self.firsts,
+            &mut self.ports,
+            made_for,
+            Some(before),
+            Some(after),
+        );
     }
 
     /// Gives a header that is in no list to an owner that is no port.
@@ -174,7 +234,16 @@ impl Stock {
         requires owner { is_port owner ≡ false }
         ensures { stocked self.new ≡ given id owner (stocked self.old) }
     {
-        entries::give(&mut self.entries, id, owner);
+        let before = entries::give(&mut self.entries, id, owner);
+        let after = HeaderState { owner, ..before };
+        let made_for = (before.port, before.peer);
+        ports::recount(
+            &self.firsts,
+            &mut self.ports,
+            made_for,
+            Some(before),
+            Some(after),
+        );
     }
 
     /// Clears every header of `todo` where it stands.
@@ -199,7 +268,12 @@ impl Stock {
         ensures some { result ≡ not (is_empty ((stocked self.old).headers.unmarked port)) }
         ensures stock { stocked self.new ≡ marked_first port mark (stocked self.old) }
     {
-        entries::mark_first(&mut self.entries, port, mark)
+        let todo = &ports::at(&self.firsts, &self.ports, port).todo;
+        let Some(number) = entries::first_unmarked(&self.entries, todo) else {
+            return false;
+        };
+        entries::mark(&mut self.entries, number, mark);
+        true
     }
 
     /// What is known of the header of the number: `None` where no such header is made.
@@ -225,7 +299,7 @@ impl Stock {
         ensures made { result ≡ made_in (stocked self.now) port }
         ensures few { result ≤ 32 }
     {
-        entries::made(&self.entries, port) as u32
+        ports::at(&self.firsts, &self.ports, port).made
     }
 
     /// How many of those have an owner that is neither their home nor a notice.
@@ -233,7 +307,7 @@ impl Stock {
         requires { IsPort port (stocked self.now) }
         ensures { result ≡ (stocked self.now).headers.count (λ h. is_for port h && is_away h) }
     {
-        entries::outstanding(&self.entries, port) as u32
+        ports::at(&self.firsts, &self.ports, port).outstanding
     }
 
     /// How many headers the port has whose home it isn't.
@@ -241,28 +315,28 @@ impl Stock {
         requires { IsPort port (stocked self.now) }
         ensures { result ≡ (stocked self.now).headers.count (λ h. is_owned_by port h.owner && not (is_home_of port h.home)) }
     {
-        entries::foreign(&self.entries, port) as u64
+        ports::at(&self.firsts, &self.ports, port).foreign as u64
     }
 
     /// How many headers have a block of the graph.
     pub fn blocks(&self) -> u64
         ensures { result ≡ (stocked self.now).headers.count is_block }
     {
-        entries::blocks(&self.entries) as u64
+        self.blocks
     }
 
     pub fn has_todo(&self, port: PortKey) -> bool
         requires { IsPort port (stocked self.now) }
         ensures { result ≡ not (is_empty ((stocked self.now).headers.todo port)) }
     {
-        entries::has_todo(&self.entries, port)
+        !ports::at(&self.firsts, &self.ports, port).todo.is_empty()
     }
 
     pub fn has_done(&self, port: PortKey) -> bool
         requires { IsPort port (stocked self.now) }
         ensures { result ≡ not (is_empty ((stocked self.now).headers.done port)) }
     {
-        entries::has_done(&self.entries, port)
+        !ports::at(&self.firsts, &self.ports, port).done.is_empty()
     }
 
     /// Whether `todo` has a header without a mark.
@@ -270,7 +344,8 @@ impl Stock {
         requires { IsPort port (stocked self.now) }
         ensures { result ≡ not (is_empty ((stocked self.now).headers.unmarked port)) }
     {
-        entries::has_unmarked(&self.entries, port)
+        let todo = &ports::at(&self.firsts, &self.ports, port).todo;
+        entries::first_unmarked(&self.entries, todo).is_some()
     }
 
     /// Whether a header can be numbered: fewer than 2^64 - 1 were.
@@ -288,6 +363,13 @@ impl Stock {
         let _ = &self.entries;
     }
 
+    /// Its lists, owners and counts are those of one flat list of headers.
+    pub fn law_of_lists(&self)
+        ensures { IsOfOneList (stocked self.now) }
+    {
+        let _ = &self.entries;
+    }
+
     /// Ends a stock for which no header is made.
     pub fn close(self)
         requires { (number : ℕ) → (stocked self).headers.header number ≡ None }
@@ -295,7 +377,9 @@ impl Stock {
         let Stock {
             key: _,
             ports: _,
+            firsts: _,
             entries,
+            blocks: _,
             next: _,
         } = self;
         entries.destroy_empty();
@@ -306,7 +390,9 @@ impl Stock {
         let Stock {
             key: _,
             ports: _,
+            firsts: _,
             mut entries,
+            blocks: _,
             next: _,
         } = self;
         while let Some(entry) = entries.pop() {

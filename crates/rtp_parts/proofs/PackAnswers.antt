@@ -1,5 +1,5 @@
 -- What `pack` answers, by what the head reads as.
-use Rattle.std.proofs.Common.{◌≡◌, ℕ, ◌+◌, ◌*◌, ◌≤◌, List, ◌++◌, length, take, drop, Option, Some, None, Result, Ok, Err, inr, sym, ap, subst, ◌∙◌, arith, length-drop}
+use Rattle.std.proofs.Common.{◌≡◌, ℕ, ◌+◌, ◌*◌, ◌≤◌, max, List, ◌++◌, length, take, drop, Option, Some, None, Result, Ok, Err, inr, sym, ap, subst, ◌∙◌, arith, length-drop}
 use Rattle.std.proofs.lemmas.List.{length-take}
 use Rattle.std.specs.Io.KnownBytes.{append_known}
 use Rattle.outside_io.specs.Moves.{AppendsFront, WhereTold}
@@ -88,12 +88,12 @@ short_samples size size1 told ends ends1 head place rb rn wb wn (Short at told_s
     inr (
       head,
       reads,
-      omega (arith, nothing.started, same_place),
+      omega (arith, nothing.0.started, same_place),
       record {
-        whole = nothing.whole ∙ same_size;
-        below = omega (arith, nothing.below, same_size);
+        whole = nothing.0.whole ∙ same_size;
+        below = omega (arith, nothing.0.below, same_size);
         started = omega arith;
-        stopped = λ end is. omega (arith, nothing.stopped end (same_ends ∙ is), reached end is, same_place);
+        stopped = λ end is. omega (arith, nothing.0.stopped end (same_ends ∙ is), reached end is, same_place);
       },
     )
 short_samples size size1 told ends ends1 head place rb rn wb wn (Head fault) same_size same_ends same_place reached reads nothing = tt
@@ -104,3 +104,24 @@ short_samples size size1 told ends ends1 head place rb rn wb wn NotPackets same_
 short_samples size size1 told ends ends1 head place rb rn wb wn NoPackets same_size same_ends same_place reached reads nothing = tt
 short_samples size size1 told ends ends1 head place rb rn wb wn TooLong same_size same_ends same_place reached reads nothing = tt
 short_samples size size1 told ends ends1 head place rb rn wb wn OutOfMemory same_size same_ends same_place reached reads nothing = tt
+
+-- what stopped a later part of the move stopped the whole, where no fault came before
+pub stop_later : (size size1 : ℕ) (ends ends1 : Option ℕ) (start later read_before read_mid read_now write_before write_mid write_now : ℕ) (fault : RtpFault) → size1 ≡ size → ends1 ≡ ends → start ≤ later → WhereTold ends (λ end. later ≤ max end start) → read_mid ≡ read_before → write_mid ≡ write_before → IsStop size1 ends1 later read_mid read_now write_mid write_now fault → IsStop size ends start read_before read_now write_before write_now fault
+stop_later size size1 ends ends1 start later rb rm rn wb wm wn Read same_size same_ends further reached read write stop = omega (arith, read, stop)
+stop_later size size1 ends ends1 start later rb rm rn wb wm wn Write same_size same_ends further reached read write stop = (let rose = stop.0 in omega (arith, write, rose), stop.1 ∙ read)
+stop_later size size1 ends ends1 start later rb rm rn wb wm wn (Short at told_size) same_size same_ends further reached read write stop = (
+  record {
+    whole = stop.0.whole ∙ same_size;
+    below = omega (arith, stop.0.below, same_size);
+    started = omega (arith, stop.0.started, further);
+    stopped = λ end is. omega (arith, stop.0.stopped end (same_ends ∙ is), reached end is, further);
+  },
+  stop.1 ∙ read,
+  stop.2 ∙ write,
+)
+stop_later size size1 ends ends1 start later rb rm rn wb wm wn (Head fault) same_size same_ends further reached read write stop = absurd stop
+stop_later size size1 ends ends1 start later rb rm rn wb wm wn WrongFormat same_size same_ends further reached read write stop = absurd stop
+stop_later size size1 ends ends1 start later rb rm rn wb wm wn NotPackets same_size same_ends further reached read write stop = absurd stop
+stop_later size size1 ends ends1 start later rb rm rn wb wm wn NoPackets same_size same_ends further reached read write stop = absurd stop
+stop_later size size1 ends ends1 start later rb rm rn wb wm wn TooLong same_size same_ends further reached read write stop = absurd stop
+stop_later size size1 ends ends1 start later rb rm rn wb wm wn OutOfMemory same_size same_ends further reached read write stop = absurd stop

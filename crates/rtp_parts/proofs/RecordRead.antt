@@ -52,20 +52,23 @@ whole_read x head buffer tail place place1 place2 len n m some front is same sam
     records-whole rest whole ∙ ap (λ (p : List ℕ). Some p ∷ records_in (drop (record_len rest) rest)) content
     ∙ ap (λ (r : List ℕ). Some (take n (buffer ++ tail)) ∷ records_in r) left
 
-by_stop : (size : ℕ) (ends : Option ℕ) (place before mid now : ℕ) (stop : ReadStop) → before ≤ mid → (stop ≡ Failed → Rose mid now) → IsStopOf size ends place stop → WhereTold ends (λ end. place ≤ end) → StopsReading size ends before now (fault_of_stop stop)
-by_stop size ends place before mid now Failed later failed short reached = let r = failed refl in omega (arith, later, r)
-by_stop size ends place before mid now (Stopped at told_size) later failed short reached = record {
-  whole = short.whole;
-  below = short.below;
-  started = omega arith;
-  stopped = λ end is. omega (arith, short.stopped end is, reached end is);
-}
+by_stop : (size : ℕ) (ends : Option ℕ) (place before mid now : ℕ) (stop : ReadStop) → mid ≡ before → (stop ≡ Failed → Rose mid now) → ((stop ≡ Failed → ⊥) → now ≡ mid) → IsStopOf size ends place stop → WhereTold ends (λ end. place ≤ end) → StopsReading size ends before now (fault_of_stop stop)
+by_stop size ends place before mid now Failed same failed stands short reached = let r = failed refl in omega (arith, same, r)
+by_stop size ends place before mid now (Stopped at told_size) same failed stands short reached = (
+  record {
+    whole = short.whole;
+    below = short.below;
+    started = omega arith;
+    stopped = λ end is. omega (arith, short.stopped end is, reached end is);
+  },
+  stands (λ e. cc) ∙ same,
+)
 
 -- a stopped read ends the reading of a list
-pub stop_read : (size size1 : ℕ) (ends ends1 : Option ℕ) (place before mid now : ℕ) (stop : ReadStop) (fault : RtpFault) → fault ≡ fault_of_stop stop → size1 ≡ size → ends1 ≡ ends → before ≤ mid → (stop ≡ Failed → Rose mid now) → IsStopOf size1 ends1 place stop → WhereTold ends (λ end. place ≤ end) → StopsReading size ends before now fault
-stop_read size size1 ends ends1 place before mid now stop fault is same_size same_ends later failed short reached =
+pub stop_read : (size size1 : ℕ) (ends ends1 : Option ℕ) (place before mid now : ℕ) (stop : ReadStop) (fault : RtpFault) → fault ≡ fault_of_stop stop → size1 ≡ size → ends1 ≡ ends → mid ≡ before → (stop ≡ Failed → Rose mid now) → ((stop ≡ Failed → ⊥) → now ≡ mid) → IsStopOf size1 ends1 place stop → WhereTold ends (λ end. place ≤ end) → StopsReading size ends before now fault
+stop_read size size1 ends ends1 place before mid now stop fault is same_size same_ends same failed stands short reached =
     subst (StopsReading size ends before now) (sym is)
-    (by_stop size ends place before mid now stop later failed
+    (by_stop size ends place before mid now stop same failed stands
     (subst (λ (e : Option ℕ). IsStopOf size e place stop) same_ends (subst (λ (s : ℕ). IsStopOf s ends1 place stop) same_size short)) reached)
 
 pub left-ends : (u v : Unpacker) (before after : List ℕ) → u.ended ≡ false → v.ended ≡ true → with_records (course_of u) (records_in before) ≡ course_of v → course_left v after ≡ course_left u before

@@ -102,38 +102,38 @@ unless_stopped (Err Write) P p = tt
 unless_stopped (Err (Short at size)) P p = tt
 unless_stopped (Err OutOfMemory) P p = tt
 
-ends_by : (size : ℕ) (ends : Option ℕ) (read mid now write write_now : ℕ) (fault : RtpFault) → read ≤ mid → EndsUnpacking size ends mid now 0 0 fault → EndsUnpacking size ends read now write write_now fault
-ends_by size ends read mid now write write_now (Head fault) later stop = stop
-ends_by size ends read mid now write write_now Read later stop = omega (arith, later, stop)
-ends_by size ends read mid now write write_now Write later stop = absurd (omega (arith, stop))
-ends_by size ends read mid now write write_now (Short at told_size) later stop = stop
-ends_by size ends read mid now write write_now WrongFormat later stop = stop
-ends_by size ends read mid now write write_now NotPackets later stop = tt
-ends_by size ends read mid now write write_now NoPackets later stop = tt
-ends_by size ends read mid now write write_now TooLong later stop = tt
-ends_by size ends read mid now write write_now OutOfMemory later stop = tt
+ends_by : (size : ℕ) (ends : Option ℕ) (read mid now write write_now : ℕ) (fault : RtpFault) → mid ≡ read → write_now ≡ write → EndsUnpacking size ends mid now 0 0 fault → EndsUnpacking size ends read now write write_now fault
+ends_by size ends read mid now write write_now (Head fault) same unwritten stop = stop
+ends_by size ends read mid now write write_now Read same unwritten stop = omega (arith, same, stop)
+ends_by size ends read mid now write write_now Write same unwritten stop = absurd (omega (arith, stop.0))
+ends_by size ends read mid now write write_now (Short at told_size) same unwritten stop = (stop.0, stop.1 ∙ same, unwritten)
+ends_by size ends read mid now write write_now WrongFormat same unwritten stop = stop
+ends_by size ends read mid now write write_now NotPackets same unwritten stop = tt
+ends_by size ends read mid now write write_now NoPackets same unwritten stop = tt
+ends_by size ends read mid now write write_now TooLong same unwritten stop = tt
+ends_by size ends read mid now write write_now OutOfMemory same unwritten stop = tt
 
 -- what ended a reading ended the whole, before anything was written
-pub ends_later : (size size1 : ℕ) (ends ends1 : Option ℕ) (read mid now write write_now : ℕ) (fault : RtpFault) → size1 ≡ size → ends1 ≡ ends → read ≤ mid → EndsUnpacking size1 ends1 mid now 0 0 fault → EndsUnpacking size ends read now write write_now fault
-ends_later size size1 ends ends1 read mid now write write_now fault same_size same_ends later stop =
-    ends_by size ends read mid now write write_now fault later
+pub ends_later : (size size1 : ℕ) (ends ends1 : Option ℕ) (read mid now write write_now : ℕ) (fault : RtpFault) → size1 ≡ size → ends1 ≡ ends → mid ≡ read → write_now ≡ write → EndsUnpacking size1 ends1 mid now 0 0 fault → EndsUnpacking size ends read now write write_now fault
+ends_later size size1 ends ends1 read mid now write write_now fault same_size same_ends same unwritten stop =
+    ends_by size ends read mid now write write_now fault same unwritten
     (subst (λ (e : Option ℕ). EndsUnpacking size e mid now 0 0 fault) same_ends (subst (λ (s : ℕ). EndsUnpacking s ends1 mid now 0 0 fault) same_size stop))
 
-moving_by : (size : ℕ) (ends : Option ℕ) (read mid now write write_now : ℕ) (fault : RtpFault) → read ≤ mid → StopsMoving size ends mid now write write_now fault → EndsUnpacking size ends read now write write_now fault
-moving_by size ends read mid now write write_now (Head fault) later stop = absurd stop
-moving_by size ends read mid now write write_now Read later stop = omega (arith, later, stop)
-moving_by size ends read mid now write write_now Write later stop = stop
-moving_by size ends read mid now write write_now (Short at told_size) later stop = stop
-moving_by size ends read mid now write write_now WrongFormat later stop = stop
-moving_by size ends read mid now write write_now NotPackets later stop = tt
-moving_by size ends read mid now write write_now NoPackets later stop = tt
-moving_by size ends read mid now write write_now TooLong later stop = tt
-moving_by size ends read mid now write write_now OutOfMemory later stop = tt
+moving_by : (size : ℕ) (ends : Option ℕ) (read mid now write write_now : ℕ) (fault : RtpFault) → mid ≡ read → StopsMoving size ends mid now write write_now fault → EndsUnpacking size ends read now write write_now fault
+moving_by size ends read mid now write write_now (Head fault) same stop = absurd stop
+moving_by size ends read mid now write write_now Read same stop = omega (arith, same, stop)
+moving_by size ends read mid now write write_now Write same stop = (stop.0, stop.1 ∙ same)
+moving_by size ends read mid now write write_now (Short at told_size) same stop = (stop.0, stop.1 ∙ same, stop.2)
+moving_by size ends read mid now write write_now WrongFormat same stop = stop
+moving_by size ends read mid now write write_now NotPackets same stop = tt
+moving_by size ends read mid now write write_now NoPackets same stop = tt
+moving_by size ends read mid now write write_now TooLong same stop = tt
+moving_by size ends read mid now write write_now OutOfMemory same stop = tt
 
 -- and so did what ended the writing
-pub moving_ends : (size size1 : ℕ) (ends ends1 : Option ℕ) (read mid now write write_now : ℕ) (fault : RtpFault) → size1 ≡ size → ends1 ≡ ends → read ≤ mid → StopsMoving size1 ends1 mid now write write_now fault → EndsUnpacking size ends read now write write_now fault
-moving_ends size size1 ends ends1 read mid now write write_now fault same_size same_ends later stop =
-    moving_by size ends read mid now write write_now fault later
+pub moving_ends : (size size1 : ℕ) (ends ends1 : Option ℕ) (read mid now write write_now : ℕ) (fault : RtpFault) → size1 ≡ size → ends1 ≡ ends → mid ≡ read → StopsMoving size1 ends1 mid now write write_now fault → EndsUnpacking size ends read now write write_now fault
+moving_ends size size1 ends ends1 read mid now write write_now fault same_size same_ends same stop =
+    moving_by size ends read mid now write write_now fault same
     (subst (λ (e : Option ℕ). StopsMoving size e mid now write write_now fault) same_ends (subst (λ (s : ℕ). StopsMoving s ends1 mid now write write_now fault) same_size stop))
 
 pub moving_unless : {A : Type 0} (size : ℕ) (ends : Option ℕ) (read now write write_now : ℕ) (fault : RtpFault) (P : Result A RtpFault → Type 0) → StopsMoving size ends read now write write_now fault → UnlessStopped (Err fault) P

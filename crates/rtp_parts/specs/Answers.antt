@@ -1,5 +1,5 @@
 -- What packing and unpacking answer, and why they fail.
-use Rattle.std.specs.Prelude.{◌⊎◌, ◌≤◌, ℕ, List, [], length, take, drop, Option, Some, None, Result, Ok, Err}
+use Rattle.std.specs.Prelude.{◌≡◌, ◌⊎◌, ◌≤◌, ℕ, List, [], length, take, drop, Option, Some, None, Result, Ok, Err}
 use Rattle.outside_io.specs.Moves.{WhereTold}
 use Rattle.outside_io.specs.Stops.{GaveNothing}
 use Rattle.wav_form.specs.declared.heads.WavHead.{WavHead}
@@ -84,11 +84,13 @@ abbrev pub fault_of_stop : ReadStop → RtpFault
 fault_of_stop Failed = Read
 fault_of_stop (Stopped at size) = Short at size
 
--- a move of bytes from `start` on ended by a fault of the source or the sink, or where the source gave nothing
+-- A move of bytes from `start` on ended by a fault of the source, by one of the sink before which the source had none, or where
+-- the source gave nothing and neither had one.
 abbrev pub IsStop : (size : ℕ) → Option ℕ → (start read_before read_now write_before write_now : ℕ) → RtpFault → Type 0
 IsStop size ends start read_before read_now write_before write_now Read = Rose read_before read_now
-IsStop size ends start read_before read_now write_before write_now Write = Rose write_before write_now
-IsStop size ends start read_before read_now write_before write_now (Short at told_size) = GaveNothing size ends start at told_size
+IsStop size ends start read_before read_now write_before write_now Write = Rose write_before write_now × (read_now ≡ read_before)
+IsStop size ends start read_before read_now write_before write_now (Short at told_size) =
+    GaveNothing size ends start at told_size × (read_now ≡ read_before) × (write_now ≡ write_before)
 IsStop size ends start read_before read_now write_before write_now _ = ⊥
 
 -- what is told of what was unpacked

@@ -150,7 +150,7 @@ RecordTakes before after End = Unit {0}
 -- what ends the reading of a list
 abbrev pub StopsReading : (size : ℕ) (ends : Option ℕ) (before now : ℕ) → RtpFault → Type 0
 StopsReading size ends before now Read = Rose before now
-StopsReading size ends before now (Short at told_size) = GaveNothing size ends 0 at told_size
+StopsReading size ends before now (Short at told_size) = GaveNothing size ends 0 at told_size × (now ≡ before)
 StopsReading size ends before now OutOfMemory = Unit {0}
 StopsReading size ends before now _ = ⊥
 
@@ -196,7 +196,8 @@ survey_of bytes = survey_course (whole_course bytes)
 -- what ends the writing of what a list is unpacked to
 abbrev pub StopsMoving : (size : ℕ) (ends : Option ℕ) (read_before read_now write_before write_now : ℕ) → RtpFault → Type 0
 StopsMoving size ends read_before read_now write_before write_now Read = Rose read_before read_now
-StopsMoving size ends read_before read_now write_before write_now Write = Rose write_before write_now
-StopsMoving size ends read_before read_now write_before write_now (Short at told_size) = GaveNothing size ends 0 at told_size
+StopsMoving size ends read_before read_now write_before write_now Write = Rose write_before write_now × (read_now ≡ read_before)
+StopsMoving size ends read_before read_now write_before write_now (Short at told_size) =
+    GaveNothing size ends 0 at told_size × (read_now ≡ read_before) × (write_now ≡ write_before)
 StopsMoving size ends read_before read_now write_before write_now OutOfMemory = Unit {0}
 StopsMoving size ends read_before read_now write_before write_now _ = ⊥

@@ -50,6 +50,9 @@ pub fn pack<S: Source, K: Sink>(src: &mut S, snk: &mut K) -> Result<Packed, RtpF
     ensures name { K.name snk.new ≡ K.name snk.old }
     ensures read_later { S.faults src.old ≤ S.faults src.new }
     ensures write_later { K.faults snk.old ≤ K.faults snk.new }
+    ensures write_alone { result ≡ Err RtpFault.Write → S.faults src.new ≡ S.faults src.old }
+    ensures short_alone { IfErr result (λ fault. IfShort fault (λ _ _. (S.faults src.new ≡ S.faults src.old) × (K.faults snk.new ≡ K.faults snk.old))) }
+    ensures stand { OnOk result ((S.faults src.new ≡ S.faults src.old) × (K.faults snk.new ≡ K.faults snk.old)) }
 {
     let head = match read_head(src) {
         Ok(head) => head,
@@ -94,6 +97,7 @@ fn pack_samples<S: Source, K: Sink>(
     ensures name { K.name snk.new ≡ K.name snk.old }
     ensures read_later { S.faults src.old ≤ S.faults src.new }
     ensures write_later { K.faults snk.old ≤ K.faults snk.new }
+    ensures stand { OnOk result ((S.faults src.new ≡ S.faults src.old) × (K.faults snk.new ≡ K.faults snk.old)) }
 {
     let mut samples = [0u8; SAMPLES];
     let mut records = [0u8; RECORDS];
@@ -145,6 +149,7 @@ fn pack_piece<S: Source, K: Sink>(
     ensures name { K.name snk.new ≡ K.name snk.old }
     ensures read_later { S.faults src.old ≤ S.faults src.new }
     ensures write_later { K.faults snk.old ≤ K.faults snk.new }
+    ensures stand { OnOk result ((S.faults src.new ≡ S.faults src.old) × (K.faults snk.new ≡ K.faults snk.old)) }
 {
     match read_exact(src, samples) {
         Ok(()) => {}

@@ -28,6 +28,7 @@ pub(crate) fn read_record<S: Source>(src: &mut S, buffer: &mut [u8]) -> Result<R
     ensures ends { S.ends src.new ≡ S.ends src.old }
     ensures size { S.size src.new ≡ S.size src.old }
     ensures later { S.faults src.old ≤ S.faults src.new }
+    ensures stands { OnOk result (S.faults src.new ≡ S.faults src.old) }
 {
     let left = src.size() - src.place();
     if left == 0 {

@@ -91,6 +91,7 @@ impl Unpacker {
         ensures ends { S.ends src.new ≡ S.ends src.old }
         ensures size { S.size src.new ≡ S.size src.old }
         ensures later { S.faults src.old ≤ S.faults src.new }
+        ensures stands { OnOk result (S.faults src.new ≡ S.faults src.old) }
     {
         loop {
             match self.window.due(self.ended) {
@@ -151,6 +152,7 @@ impl Unpacker {
         ensures ends { S.ends src.new ≡ S.ends src.old }
         ensures size { S.size src.new ≡ S.size src.old }
         ensures later { S.faults src.old ≤ S.faults src.new }
+        ensures stands { OnOk result (S.faults src.new ≡ S.faults src.old) }
     {
         match read_record(src, buffer) {
             Ok(Record::End) => {

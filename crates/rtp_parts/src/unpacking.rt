@@ -65,6 +65,7 @@ pub fn unpack<S: Source, K: Sink>(
     ensures name { K.name snk.new ≡ K.name snk.old }
     ensures read_later { S.faults src.old ≤ S.faults src.new }
     ensures write_later { K.faults snk.old ≤ K.faults snk.new }
+    ensures stand { OnOk result ((S.faults src.new ≡ S.faults src.old) × (K.faults snk.new ≡ K.faults snk.old)) }
 {
     match check_magic(src) {
         Ok(()) => {}
@@ -101,6 +102,7 @@ fn check_magic<S: Source>(src: &mut S) -> Result<(), RtpFault>
     ensures ends { S.ends src.new ≡ S.ends src.old }
     ensures size { S.size src.new ≡ S.size src.old }
     ensures later { S.faults src.old ≤ S.faults src.new }
+    ensures stands { OnOk result (S.faults src.new ≡ S.faults src.old) }
 {
     let size = src.size();
     if size > MOST_BYTES {
@@ -142,6 +144,7 @@ fn survey<S: Source>(
     ensures ends { S.ends src.new ≡ S.ends src.old }
     ensures size { S.size src.new ≡ S.size src.old }
     ensures later { S.faults src.old ≤ S.faults src.new }
+    ensures stands { OnOk result (S.faults src.new ≡ S.faults src.old) }
 {
     let mut unpacker = Unpacker::new(alloc);
     let mut frames = 0;
@@ -204,6 +207,7 @@ fn write_wav<S: Source, K: Sink>(
     ensures name { K.name snk.new ≡ K.name snk.old }
     ensures read_later { S.faults src.old ≤ S.faults src.new }
     ensures write_later { K.faults snk.old ≤ K.faults snk.new }
+    ensures stand { OnOk result ((S.faults src.new ≡ S.faults src.old) × (K.faults snk.new ≡ K.faults snk.old)) }
 {
     let mut head = [0u8; 58];
     let len = head_bytes(law.format(), frames, &mut head);
@@ -247,6 +251,7 @@ fn write_codes<S: Source, K: Sink>(
     ensures name { K.name snk.new ≡ K.name snk.old }
     ensures read_later { S.faults src.old ≤ S.faults src.new }
     ensures write_later { K.faults snk.old ≤ K.faults snk.new }
+    ensures stand { OnOk result ((S.faults src.new ≡ S.faults src.old) × (K.faults snk.new ≡ K.faults snk.old)) }
 {
     let mut unpacker = Unpacker::new(alloc);
     'pieces: loop {

@@ -7,7 +7,7 @@ use Rattle.act_text.specs.ReadActs.{of_two}
 use Rattle.act_text.specs.Reading.{name_of, port_of}
 use Rattle.line_text.specs.Words.{words_of}
 use Rattle.omx_types.specs.declared.fault.ScriptWhy.TheVariants as whys
-use Rattle.script_lang.specs.Known.{is_known, is_new}
+use Rattle.script_lang.specs.Known.{introduced, is_known, is_new}
 use Rattle.script_lang.specs.ReadForms.{form_of, act_form}
 use Rattle.script_lang.specs.Scripts.{Before, WordsSay, Says, TraceComes, ReadsAs, after, nothing_before, IsUnits, IsFormOf, AreNoForm, units_of}
 use Rattle.line_text.specs.Scripts.{is_skipped}
@@ -45,7 +45,7 @@ units-no_form before words n form units is =
 
 -- what a form says, by the names in it
 abbrev said_of : Before → TraceForm → Said
-said_of before form = if is_known before.lines form then (if is_new before.lines form then Act form else Fault whys.NameTwice) else Fault whys.UnknownName
+said_of before form = if is_known (introduced before.lines) form then (if is_new (introduced before.lines) form then Act form else Fault whys.NameTwice) else Fault whys.UnknownName
 
 abbrev SaysUnits : Before → List (List ℕ) → Said → Type 0
 SaysUnits before words said = (n : ℕ) × IsUnits before words n × (said ≡ Units n)

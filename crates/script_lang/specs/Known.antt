@@ -1,6 +1,6 @@
 -- The names that a line uses and introduces, and those that earlier lines introduced.
-use Rattle.std.specs.Prelude.{ℕ, Bool, true, false, not, ◌&&◌, List, [], ◌∷◌}
-use Rattle.std.specs.List.{list_any}
+use Rattle.std.specs.Prelude.{ℕ, Bool, true, not, ◌&&◌, List, [], ◌∷◌, ◌++◌}
+use Rattle.std.specs.List.{flat_map, list_any}
 use Rattle.std.specs.Str.{bytes_eq}
 use Rattle.act_text.specs.declared.act.TextAct.{TextAct}
 use Rattle.act_text.specs.declared.act.TextAct.TheVariants as acts
@@ -35,29 +35,47 @@ act_components (acts.End component) = component ∷ []
 act_components acts.Grant = []
 act_components acts.Preempt = []
 
--- the line introduces this component
-abbrev pub makes_component : List ℕ → TraceForm → Bool
-makes_component name (Get component kind) = bytes_eq component name
-makes_component name other = false
+-- the names of components and of headers that lines introduced
+pub record Introduced : Type 0 where
+  pub components : List (List ℕ)
+  pub headers : List (List ℕ)
 
--- the line introduces this header
-abbrev pub makes_header : List ℕ → TraceForm → Bool
-makes_header name (Alloc header port) = bytes_eq header name
-makes_header name (UseBuf header port length) = bytes_eq header name
-makes_header name other = false
+-- the component that a line introduces, if it does
+abbrev pub new_components : TraceForm → List (List ℕ)
+new_components (Get component kind) = component ∷ []
+new_components other = []
 
-abbrev pub has_component : List TraceLine → List ℕ → Bool
-has_component before name = list_any (λ line. makes_component name line.form) before
+-- the header that it introduces, if it does
+abbrev pub new_headers : TraceForm → List (List ℕ)
+new_headers (Alloc header port) = header ∷ []
+new_headers (UseBuf header port length) = header ∷ []
+new_headers other = []
 
-abbrev pub has_header : List TraceLine → List ℕ → Bool
-has_header before name = list_any (λ line. makes_header name line.form) before
+abbrev pub introduced : List TraceLine → Introduced
+introduced lines = record {
+  components = flat_map (λ (line : TraceLine). new_components line.form) lines;
+  headers = flat_map (λ (line : TraceLine). new_headers line.form) lines;
+}
 
-abbrev pub has_components : List TraceLine → List (List ℕ) → Bool
+-- with the names of one line more
+abbrev pub with_names : Introduced → TraceForm → Introduced
+with_names before form = record { components = before.components ++ new_components form; headers = before.headers ++ new_headers form }
+
+abbrev pub has_name : List (List ℕ) → List ℕ → Bool
+has_name names name = list_any (λ other. bytes_eq other name) names
+
+abbrev pub has_component : Introduced → List ℕ → Bool
+has_component before name = has_name before.components name
+
+abbrev pub has_header : Introduced → List ℕ → Bool
+has_header before name = has_name before.headers name
+
+abbrev pub has_components : Introduced → List (List ℕ) → Bool
 has_components before [] = true
 has_components before (name ∷ names) = has_component before name && has_components before names
 
 -- each name that the line uses is introduced by an earlier one
-abbrev pub is_known : List TraceLine → TraceForm → Bool
+abbrev pub is_known : Introduced → TraceForm → Bool
 is_known before (Act act) = has_components before (act_components act)
 is_known before (Get component kind) = true
 is_known before (Alloc header port) = has_component before port.component
@@ -67,7 +85,7 @@ is_known before (Etb header port bytes eos) = has_header before header && has_co
 is_known before (Ftb header port) = has_header before header && has_component before port.component
 
 -- the name that the line introduces is introduced by no earlier one
-abbrev pub is_new : List TraceLine → TraceForm → Bool
+abbrev pub is_new : Introduced → TraceForm → Bool
 is_new before (Get component kind) = not (has_component before component)
 is_new before (Alloc header port) = not (has_header before header)
 is_new before (UseBuf header port length) = not (has_header before header)

@@ -9,7 +9,7 @@ use Rattle.line_text.specs.Lists.{spaced}
 use Rattle.std.specs.Str.{bytes_eq}
 use Rattle.omx_types.specs.declared.fault.ScriptWhy.TheVariants as whys
 use Rattle.script_lang.specs.Forms.{form_words, IsForm}
-use Rattle.script_lang.specs.Known.{is_known, is_new}
+use Rattle.script_lang.specs.Known.{introduced, is_known, is_new}
 use Rattle.script_lang.specs.declared.form.TraceForm.{TraceForm}
 use Rattle.script_lang.specs.declared.form.TraceLine.{TraceLine}
 use Rattle.script_lang.specs.declared.saying.Said.{Said}
@@ -56,12 +56,12 @@ pub record AreNoForm (before : Before) (words : List (List ℕ)) : Type 0 where
 abbrev pub WordsSay : Before → List (List ℕ) → Said → Type 0
 WordsSay before words Nothing = IsTrue (is_skipped words)
 WordsSay before words (Units n) = IsFalse (is_skipped words) × IsUnits before words n
-WordsSay before words (Act form) = IsFalse (is_skipped words) × IsFormOf words form × IsTrue (is_known before.lines form) × IsTrue (is_new before.lines form)
+WordsSay before words (Act form) = IsFalse (is_skipped words) × IsFormOf words form × IsTrue (is_known (introduced before.lines) form) × IsTrue (is_new (introduced before.lines) form)
 WordsSay before words (Fault whys.BadWord) = IsFalse (is_skipped words) × AreNoForm before words
 WordsSay before words (Fault whys.UnknownName) =
-    IsFalse (is_skipped words) × ((form : TraceForm) × IsFormOf words form × IsFalse (is_known before.lines form))
+    IsFalse (is_skipped words) × ((form : TraceForm) × IsFormOf words form × IsFalse (is_known (introduced before.lines) form))
 WordsSay before words (Fault whys.NameTwice) =
-    IsFalse (is_skipped words) × ((form : TraceForm) × IsFormOf words form × IsTrue (is_known before.lines form) × IsFalse (is_new before.lines form))
+    IsFalse (is_skipped words) × ((form : TraceForm) × IsFormOf words form × IsTrue (is_known (introduced before.lines) form) × IsFalse (is_new (introduced before.lines) form))
 WordsSay before words (Fault other) = ⊥
 
 -- what a line says after the earlier ones

@@ -1,46 +1,24 @@
 ghost use Rattle.std.specs.Prelude.{◌≡◌};
-ghost use Rattle.script_lang.specs.Known.{makes_component, makes_header, has_component, has_header, has_components, act_components, is_known, is_new};
+ghost use Rattle.script_lang.specs.Known.{has_component, has_header, has_components, act_components, is_known, is_new};
 
-use crate::{TraceForm, TraceLine};
+use crate::TraceForm;
+use crate::names::Names;
 use act_text::{Name, TextAct};
 
-fn makes_component(name: &Name, form: &TraceForm) -> bool
-    ensures { result ≡ makes_component name.now form.now }
-{
-    match form {
-        TraceForm::Get { component, kind: _ } => component.as_bytes() == name.as_bytes(),
-        _ => false,
-    }
-}
-
-fn makes_header(name: &Name, form: &TraceForm) -> bool
-    ensures { result ≡ makes_header name.now form.now }
-{
-    match form {
-        TraceForm::Alloc { header, port: _ } => header.as_bytes() == name.as_bytes(),
-        TraceForm::UseBuf {
-            header,
-            port: _,
-            length: _,
-        } => header.as_bytes() == name.as_bytes(),
-        _ => false,
-    }
-}
-
-fn has_component(before: &[TraceLine], name: &Name) -> bool
+fn has_component(before: &Names, name: &Name) -> bool
     ensures { result ≡ has_component before.now name.now }
 {
-    before.iter().any(|line| makes_component(name, &line.form))
+    before.has_component(name)
 }
 
-fn has_header(before: &[TraceLine], name: &Name) -> bool
+fn has_header(before: &Names, name: &Name) -> bool
     ensures { result ≡ has_header before.now name.now }
 {
-    before.iter().any(|line| makes_header(name, &line.form))
+    before.has_header(name)
 }
 
 /// Whether each component that an act names is there.
-fn is_known_act(before: &[TraceLine], act: &TextAct) -> bool
+fn is_known_act(before: &Names, act: &TextAct) -> bool
     ensures { result ≡ has_components before.now (act_components act.now) }
 {
     match act {
@@ -76,7 +54,7 @@ fn is_known_act(before: &[TraceLine], act: &TextAct) -> bool
 }
 
 /// Whether each name that a line uses is introduced by an earlier one.
-pub fn is_known(before: &[TraceLine], form: &TraceForm) -> bool
+pub fn is_known(before: &Names, form: &TraceForm) -> bool
     ensures { result ≡ is_known before.now form.now }
 {
     match form {
@@ -105,7 +83,7 @@ pub fn is_known(before: &[TraceLine], form: &TraceForm) -> bool
 }
 
 /// Whether the name that a line introduces is introduced by no earlier one.
-pub fn is_new(before: &[TraceLine], form: &TraceForm) -> bool
+pub fn is_new(before: &Names, form: &TraceForm) -> bool
     ensures { result ≡ is_new before.now form.now }
 {
     match form {

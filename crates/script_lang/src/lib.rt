@@ -8,6 +8,7 @@ mod form;
 mod hex;
 mod known;
 mod laws;
+mod names;
 mod play_form;
 mod play_known;
 mod play_line;

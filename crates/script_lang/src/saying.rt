@@ -2,10 +2,12 @@ ghost use Rattle.std.specs.Prelude.{◌≡◌, ◌∷◌, ◌≤◌, [], ℕ, co
 ghost use Rattle.std.specs.Fmt.{decimal};
 ghost use Rattle.line_text.specs.Words.{words_of};
 ghost use Rattle.line_text.specs.Lists.{texts, spaced};
+ghost use Rattle.script_lang.specs.Known.{introduced};
 ghost use Rattle.script_lang.specs.Scripts.{Says, WordsSay, IsUnits, units_of, seen};
 ghost use Rattle.line_text.specs.Scripts.{is_skipped};
 
 use crate::known::{is_known, is_new};
+use crate::names::Names;
 use crate::read_forms::form_in;
 use crate::{OutOfMemory, Text, TraceForm, TraceLine};
 use line_text::{LineWords, is_skipped, next_word, small_number_in};
@@ -27,10 +29,12 @@ pub enum Said {
 pub struct Reading {
     pub units: Option<u32>,
     pub lines: Vec<TraceLine>,
+    pub names: Names,
 }
 
 /// What a line says.
 pub fn says(alloc: Global, before: &Reading, line: &[u8]) -> Result<Said, OutOfMemory>
+    requires { before.now.names ≡ introduced before.now.lines.items }
     ensures { IfOk result (Says (seen before.now) line.now) }
 {
     match str::from_utf8(line) {
@@ -40,6 +44,7 @@ pub fn says(alloc: Global, before: &Reading, line: &[u8]) -> Result<Said, OutOfM
 }
 
 fn text_says(alloc: Global, before: &Reading, line: &[u8]) -> Result<Said, OutOfMemory>
+    requires { before.now.names ≡ introduced before.now.lines.items }
     ensures { IfOk result (WordsSay (seen before.now) (words_of line.now)) }
 {
     if is_skipped(line) {
@@ -52,7 +57,8 @@ fn text_says(alloc: Global, before: &Reading, line: &[u8]) -> Result<Said, OutOf
 }
 
 fn words_say(alloc: Global, before: &Reading, words: &[&[u8]]) -> Result<Said, OutOfMemory>
-    requires { IsFalse (is_skipped (texts words.now)) }
+    requires named { before.now.names ≡ introduced before.now.lines.items }
+    requires counts { IsFalse (is_skipped (texts words.now)) }
     ensures { IfOk result (WordsSay (seen before.now) (texts words.now)) }
 {
     if let Some(units) = units_at(before, words) {
@@ -61,10 +67,10 @@ fn words_say(alloc: Global, before: &Reading, words: &[&[u8]]) -> Result<Said, O
     let Some(form) = form_in(alloc, words)? else {
         return Ok(Said::Fault(ScriptWhy::BadWord));
     };
-    if !is_known(before.lines.as_slice(), &form) {
+    if !is_known(&before.names, &form) {
         return Ok(Said::Fault(ScriptWhy::UnknownName));
     }
-    if !is_new(before.lines.as_slice(), &form) {
+    if !is_new(&before.names, &form) {
         return Ok(Said::Fault(ScriptWhy::NameTwice));
     }
     Ok(Said::Act(form))

@@ -1,10 +1,12 @@
 ghost use Rattle.std.specs.Prelude.{◌≡◌, ◌<◌, ◌∷◌, ◌++◌, [], length, true, false, Ok, Err, OnOk, IfOk, IfErr};
 ghost use Rattle.line_text.specs.Lines.{lines_of};
+ghost use Rattle.script_lang.specs.Known.{introduced};
 ghost use Rattle.script_lang.specs.LineByLine.{ComeTo, GoesOn, IsEnded, ForFault, IsBehind, IsNoBegin, fault_at};
 ghost use Rattle.script_lang.specs.Scripts.{TraceComes, IsScript, IsRefused, IsOfCommand, nothing_before, line_with, seen};
 ghost use Rattle.script_lang.specs.PlayScripts.{PlayComes, IsPlayScript, IsPlayRefused, IsScriptOf, IsRefusedOf, no_play, play_seen};
 ghost use Rattle.script_lang.specs.declared.script.ScriptError.TheVariants as Errors;
 
+use crate::names::Names;
 use crate::play_reading::PlayReading;
 use crate::play_saying::{Taken, read_play_line};
 use crate::saying::{Reading, Said, says, spaced_text};
@@ -141,6 +143,7 @@ fn trace_lines(alloc: Global, text: &[u8]) -> Result<Reading, ScriptError>
     let mut reading = Reading {
         units: None,
         lines: Vec::new(alloc),
+        names: Names::new(alloc),
     };
     let mut rest = text;
     let mut number = 2;
@@ -180,6 +183,8 @@ fn read_line(
     number: u32,
     line: &[u8],
 ) -> Result<(), ScriptError>
+    requires { reading.old.names ≡ introduced reading.old.lines.items }
+    ensures named { OnOk result (reading.new.names ≡ introduced reading.new.lines.items) }
     ensures more { OnOk result (GoesOn TraceComes (seen reading.old) number line.now (seen reading.new)) }
     ensures ended { IfErr result (IsEnded TraceComes (seen reading.old) number line.now) }
 {
@@ -190,6 +195,7 @@ fn read_line(
             Ok(())
         }
         Said::Act(form) => {
+            reading.names.add(&form)?;
             keep(alloc, &mut reading.lines, number, line, form)?;
             Ok(())
         }

@@ -4,7 +4,7 @@
 
 ghost use Rattle.graph_core.specs.Clients.{IsPortDone};
 
-use il_graph::Graph;
+use il_graph::{Graph, NoFile};
 use note_queues::{Call, Client, ProgressClient, Taken, Took};
 use omx_types::{
     CallError, Command, Format, Handle, OmxError, Param, ParamKey, PortDefinition, State, Version,
@@ -13,7 +13,7 @@ use std::alloc::{AllocError, Global};
 use std::time::Instant;
 use std::{env, io};
 
-type Sinks = Graph<ProgressClient>;
+type Sinks = Graph<NoFile, NoFile, ProgressClient>;
 
 /// A state is asked for, set, told, and the client object goes back: four acts.
 const ACTS: u32 = 1_000_000;

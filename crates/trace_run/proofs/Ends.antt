@@ -55,7 +55,7 @@ module _ (components : List NamedComponent) where
 
   pub seated_step : (w : World) (a : Act) (r : Reply) (v : World) → Sound w → Meets w a → Step w a r v → NoneGot a r → NoneTaken a r → All (IsSeated components) w.components → All (IsSeated components) v.components
   seated_step w a r v S M h n t A =
-      seated_of v.components (outcome_each (Fit IsIn Nobody) (lasting IsIn Nobody (λ k out q. (refl, q.1))) w a r v S n (inl t) (step_comes w a r v S M h) (fit_of w.components A))
+      seated_of v.components (outcome_each (Fit IsIn Nobody) (lasting IsIn Nobody (λ k out q. (refl, q.1))) w a r v S (inl n) (λ k x c work e f g p. p) (inl t) (step_comes w a r v S M h) (fit_of w.components A))
 
 some_and : {A : Type 0} (o : Option A) (P : A → Type 0) (x : A) → o ≡ Some x → P x → IsSomeAnd o P
 some_and o P x e p = rw e p

@@ -36,6 +36,9 @@ use Rattle.history_laws.proofs.Steps.{step_comes}
 use Rattle.header_core.specs.BufferHeader.{BufferHeader}
 use Rattle.graph_core.specs.Changes.{IsHandedIn}
 use Rattle.graph_core.specs.Clients.{IsOut}
+use Rattle.audio_parts.specs.declared.part_file.PartFile.{PartFile}
+use Rattle.audio_parts.specs.declared.part_file.PartFile.TheVariants as files
+use Rattle.il_graph.specs.declared.no_file.NoFile.{NoFile}
 use Rattle.trace_run.specs.declared.names.NamedComponent.{NamedComponent}
 use Rattle.trace_run.specs.declared.slots.Slot.{Slot}
 use Rattle.trace_run.specs.Standing.{Parts, slot_numbered, AreRising, Hands, IsNamed, IsSeated, IsOfPort, IsStood}
@@ -227,7 +230,7 @@ module _ (old new : Kept) (front : List Slot) (slot : Slot) (C : CanFree old (fr
         let w = C.world in
         let start : All F w.components = from_places F w.components (λ i c e.
         (tt, (at_place (IsSeated C.components) w.components i c (seated_in old (front ++ slot ∷ []) C) e).1, λ d. at_place (λ (c : Component). c.state ≡ Invalid) w.components i c (invalid_in old (front ++ slot ∷ []) C) e)) in
-        let after = outcome_each (Fit Any Everyone) (lasting Any Everyone (λ k out q. tt)) w a r v C.sound tt (inl tt) (step_comes w a r v C.sound meets step) start in
+        let after = outcome_each (Fit Any Everyone) (lasting Any Everyone (λ k out q. tt)) w a r v C.sound (inl tt) (λ k x c work e f g p. p) (inl tt) (step_comes w a r v C.sound meets step) start in
         subst (All (λ (c : Component). c.state ≡ Invalid)) (ap (λ (l : Look). l.components) B.looks) (from_places (λ (c : Component). c.state ≡ Invalid) v.components (λ i c e. (at_place F v.components i c after e).2 tt))
 
     freed_one : CanFree new front
@@ -375,6 +378,12 @@ ended_all components l n b E i entry at = elim (cases_lt i n) [
   | inl k ↦ E i entry k at
   | inr k ↦ let w = slice_get_within components i entry at in absurd (omega (arith, w, k, b))
 ]
+
+-- there is no file that a graph of a trace could have
+pub no_file : (o : Option (PartFile NoFile NoFile)) → o ≡ None
+no_file None = refl
+no_file (Some (files.From src format frames)) = absurd (elim src [ ])
+no_file (Some (files.To snk frames)) = absurd (elim snk [ ])
 
 -- no client object is out
 named_in : (h : Handle) (cs : List Component) (o : Option ℕ) → All (λ (c : Component). c.client_out ≡ false) cs → IsSomeAnd (option_and_then (slice_get cs) o) (λ c. c.client_out ≡ true) → ⊥

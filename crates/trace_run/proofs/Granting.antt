@@ -5,10 +5,9 @@ use Rattle.il_machine.specs.declared.answer.Granted.{Granted}
 use Rattle.il_machine.specs.declared.answer.Preempted.{Preempted}
 use Rattle.il_machine.specs.declared.answer.Why.{Why}
 use Rattle.il_machine.specs.declared.answer.Why.TheVariants as why
-use Rattle.il_machine.specs.Lists.{first_of_these}
 use Rattle.il_machine.specs.World.{Component, World, number_of}
 use Rattle.il_machine.specs.Look.{Look, look}
-use Rattle.il_machine.specs.Units.{is_waiter, is_before, first_waiter, weakest, victim, at_one, lacks_places, need_of, free_units, coming_units, grant_idle, preempt_idle, Grants, Grant, Preempts, Preempt}
+use Rattle.il_machine.specs.Units.{is_waiter, is_before, first_waiter, weakest, victim, at_one, lacks_places, grant_idle, preempt_idle, Grants, Grant, Preempts, Preempt}
 use Rattle.il_machine.specs.Sound.{Sound}
 use Rattle.machine_laws.proofs.Granting.{best_among, victim_there}
 use Rattle.machine_laws.proofs.Lookups.{rises_at}

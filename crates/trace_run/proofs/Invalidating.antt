@@ -1,5 +1,5 @@
 -- StateSet(Invalid) isn't refused where no note is queued, and makes the component Invalid.
-use Rattle.std.proofs.Common.{◌≡◌, inl, inr, ℕ, zero, suc, true, false, ◌+◌, ◌-◌, ◌≤◌, List, [], ◌∷◌, length, set, slice_get, Option, Some, None, option_map, All, MatchOption, Result, Ok, Err, refl, sym, ◌∙◌, ap, subst, eqb-true, eq-eqb, arith}
+use Rattle.std.proofs.Common.{◌≡◌, inl, inr, ℕ, zero, suc, true, false, ◌-◌, ◌≤◌, List, [], ◌∷◌, length, set, slice_get, Option, Some, None, option_map, All, MatchOption, Result, Ok, Err, refl, sym, ◌∙◌, ap, subst, eqb-true, eq-eqb, arith}
 use Rattle.std.specs.Prelude.{nat_eq, unwrap_or, option_and_then}
 use Rattle.std.proofs.lemmas.Bool.{and_parts}
 use Rattle.std.proofs.lemmas.Bool.Decides.{nat_tests}

@@ -1,5 +1,5 @@
 -- A component that is Invalid stays so over the acts of a trace's end.
-use Rattle.std.proofs.Common.{◌≡◌, inr, Bool, List, All, sym, ap, subst}
+use Rattle.std.proofs.Common.{◌≡◌, inl, inr, Bool, List, All, sym, ap, subst}
 use Rattle.omx_types.specs.declared.handle.Handle.{Handle}
 use Rattle.omx_types.specs.declared.state.State.TheVariants.{Invalid}
 use Rattle.il_machine.specs.World.{Component, World}
@@ -40,7 +40,7 @@ ended_of h k w S A =
 
 pub ending_step : (h : Handle) (w : World) (a : Act) (r : Reply) (v : World) → Sound w → Meets w a → Step w a r v → NoneGot a r → AreEnding h w → AreEnding h v
 ending_step h w a r v S M s n A =
-    outcome_each (Fit Any (λ (k : Handle). k ≡ h)) (lasting Any (λ (k : Handle). k ≡ h) (λ k out q. tt)) w a r v S n (inr (λ c p. p)) (step_comes w a r v S M s) A
+    outcome_each (Fit Any (λ (k : Handle). k ≡ h)) (lasting Any (λ (k : Handle). k ≡ h) (λ k out q. tt)) w a r v S (inl n) (λ k x c work e f g p. p) (inr (λ c p. p)) (step_comes w a r v S M s) A
 
 pub ending_closes : (h : Handle) (w v : World) → ClosesTo w v → AreEnding h w → AreEnding h v
 ending_closes h w v C A = closes_each (Fit Any (λ (k : Handle). k ≡ h)) (lasting Any (λ (k : Handle). k ≡ h) (λ k out q. tt)) w v C A

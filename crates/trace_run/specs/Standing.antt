@@ -25,8 +25,9 @@ use Rattle.il_machine.specs.Run.{Step, Run}
 use Rattle.header_core.specs.BufferHeader.{BufferHeader}
 use Rattle.note_queues.specs.declared.taken.Taken.{Taken}
 use Rattle.note_queues.specs.declared.taken.Taken.TheVariants as notes
-use Rattle.graph_core.specs.Entries.{Entries, kept}
 use Rattle.graph_core.specs.Changes.{IsHandedIn}
+use Rattle.il_graph.specs.Shown.{Shown, kept}
+use Rattle.il_graph.specs.declared.no_file.NoFile.{NoFile}
 use Rattle.act_text.specs.declared.act.TextAct.{TextAct}
 use Rattle.act_text.specs.declared.act.TextAct.TheVariants as lines
 use Rattle.act_text.specs.declared.reply.TextReply.{TextReply}
@@ -52,10 +53,14 @@ pub record Parts : Type 0 where
 abbrev pub client_progress : Progress → Progress
 client_progress client = client
 
-abbrev pub graph_kept : Entries Progress → Kept
+-- of a graph without files
+abbrev pub GraphShown : Type 0
+GraphShown = Shown NoFile NoFile Progress
+
+abbrev pub graph_kept : GraphShown → Kept
 graph_kept graph = kept client_progress graph
 
-abbrev pub parts : Entries Progress → List NamedComponent → List Slot → Parts
+abbrev pub parts : GraphShown → List NamedComponent → List Slot → Parts
 parts graph components slots = record { graph = graph_kept graph; components = components; slots = slots }
 
 abbrev pub held_as : BufferHeader → Held

@@ -12,16 +12,15 @@ use crate::acts::{
     back, drop_tunnel, free, grant, over, port, preempt, release, run, send, set_config,
     set_definition, set_parameter, state, supply, tunnel,
 };
-use crate::client::TraceClient;
+use crate::client::TraceGraph;
 use crate::names::{NamedComponent, handle_of, port_id};
 use act_text::{Name, TextAct, TextReply};
-use il_graph::Graph;
 use omx_types::{Command, Param};
 use std::alloc::Global;
 
 /// Makes the act of a line that isn't `take`.
 pub fn ask(
-    graph: &mut Graph<TraceClient>,
+    graph: &mut TraceGraph,
     components: &[NamedComponent],
     alloc: Global,
     act: &TextAct,
@@ -58,7 +57,7 @@ pub fn ask(
 }
 
 /// Sets what the line says.
-fn set(graph: &mut Graph<TraceClient>, components: &[NamedComponent], act: &TextAct) -> TextReply
+fn set(graph: &mut TraceGraph, components: &[NamedComponent], act: &TextAct) -> TextReply
     requires { IsSetting act.now }
     ensures { (headers : List NamedHeader) → Steps (graph_kept graph.old) (graph_kept graph.new) (AskReplied components.now headers act.now result) }
 {
@@ -93,7 +92,7 @@ fn set(graph: &mut Graph<TraceClient>, components: &[NamedComponent], act: &Text
 }
 
 /// Makes or drops the tunnel that the line says.
-fn join(graph: &mut Graph<TraceClient>, components: &[NamedComponent], act: &TextAct) -> TextReply
+fn join(graph: &mut TraceGraph, components: &[NamedComponent], act: &TextAct) -> TextReply
     requires { IsTunneling act.now }
     ensures { (headers : List NamedHeader) → Steps (graph_kept graph.old) (graph_kept graph.new) (AskReplied components.now headers act.now result) }
 {
@@ -113,11 +112,7 @@ fn join(graph: &mut Graph<TraceClient>, components: &[NamedComponent], act: &Tex
 }
 
 /// Sends the command that the line says.
-fn command(
-    graph: &mut Graph<TraceClient>,
-    components: &[NamedComponent],
-    act: &TextAct,
-) -> TextReply
+fn command(graph: &mut TraceGraph, components: &[NamedComponent], act: &TextAct) -> TextReply
     requires { IsSending act.now }
     ensures { (headers : List NamedHeader) → Steps (graph_kept graph.old) (graph_kept graph.new) (AskReplied components.now headers act.now result) }
 {
@@ -149,7 +144,7 @@ fn command(
 }
 
 fn send_mark(
-    graph: &mut Graph<TraceClient>,
+    graph: &mut TraceGraph,
     components: &[NamedComponent],
     component: &Name,
     port: u32,

@@ -1,7 +1,11 @@
+use il_graph::{Graph, NoFile};
 use il_machine::Progress;
 use note_queues::{Client, ProgressClient};
 use omx_types::Event;
 use std::marker::Model;
+
+/// The graph of a trace: its sources and sinks get no files.
+pub type TraceGraph = Graph<NoFile, NoFile, TraceClient>;
 
 /// The client of a trace: it records its progress alone.
 #[derive(Drop)]

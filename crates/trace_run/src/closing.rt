@@ -2,25 +2,25 @@
 
 ghost use Rattle.std.specs.Prelude.{◌≡◌, ◌<◌, IsTrue, IsFalse};
 ghost use Rattle.il_machine.specs.States.{is_invalid};
-ghost use Rattle.graph_core.specs.Entries.{look_of};
+ghost use Rattle.il_graph.specs.Shown.{look_of};
 ghost use Rattle.trace_run.specs.Standing.{parts, graph_kept, HasStood, IsStood};
 ghost use Rattle.trace_run.specs.Closing.{StayStood, StayEnded, IsEnded, IsMadeInvalid, IsFreeable, IsFreed, CanFree, IsOver, is_note, notes_left};
 
-use crate::client::TraceClient;
+use crate::client::TraceGraph;
 use crate::desk::Desk;
 use crate::names::NamedComponent;
 use crate::notes::take;
 use crate::reply::LineAnswer;
 use crate::slots::Slot;
 use act_text::TextReply;
-use il_graph::Graph;
 use omx_types::{Command, Handle, State};
 
 impl Desk {
-    /// Takes the notes, makes each component Invalid, takes the notes again, frees the headers, and closes the graph. None of these
-    /// acts is refused, so the client has no header then, and each client object is in.
-    pub fn close(self)
+    /// Takes the notes, makes each component Invalid, takes the notes again, frees the headers, and gives the graph back. None of these
+    /// acts is refused.
+    pub fn give_back(self) -> TraceGraph
         requires { IsStood (parts self.graph self.components.items self.slots.items) }
+        ensures { IsOver (look_of result) }
     {
         let Desk {
             mut graph,
@@ -31,13 +31,12 @@ impl Desk {
             end_component(&mut graph, &mut slots, entry.handle);
         }
         free_slots(&mut graph, slots);
-        graph.law_of_worlds();
-        graph.close();
+        graph
     }
 }
 
 /// Takes the notes, makes the component Invalid, and takes the notes again.
-fn end_component(graph: &mut Graph<TraceClient>, slots: &mut Vec<Slot>, h: Handle)
+fn end_component(graph: &mut TraceGraph, slots: &mut Vec<Slot>, h: Handle)
     requires { HasStood (graph_kept graph.old) slots.old.items }
     ensures stood { StayStood (graph_kept graph.old) slots.old.items (graph_kept graph.new) slots.new.items }
     ensures stay { StayEnded (look_of graph.old) (look_of graph.new) }
@@ -48,7 +47,7 @@ fn end_component(graph: &mut Graph<TraceClient>, slots: &mut Vec<Slot>, h: Handl
     take_notes(graph, slots, h);
 }
 
-fn take_notes(graph: &mut Graph<TraceClient>, slots: &mut Vec<Slot>, h: Handle)
+fn take_notes(graph: &mut TraceGraph, slots: &mut Vec<Slot>, h: Handle)
     requires { HasStood (graph_kept graph.old) slots.old.items }
     ensures stood { StayStood (graph_kept graph.old) slots.old.items (graph_kept graph.new) slots.new.items }
     ensures stay { StayEnded (look_of graph.old) (look_of graph.new) }
@@ -58,7 +57,7 @@ fn take_notes(graph: &mut Graph<TraceClient>, slots: &mut Vec<Slot>, h: Handle)
 }
 
 /// Takes the oldest note, and answers whether there was one.
-fn take_next(graph: &mut Graph<TraceClient>, slots: &mut Vec<Slot>, h: Handle) -> bool
+fn take_next(graph: &mut TraceGraph, slots: &mut Vec<Slot>, h: Handle) -> bool
     requires { HasStood (graph_kept graph.old) slots.old.items }
     ensures stood { StayStood (graph_kept graph.old) slots.old.items (graph_kept graph.new) slots.new.items }
     ensures stay { StayEnded (look_of graph.old) (look_of graph.new) }
@@ -80,7 +79,7 @@ fn is_note(answer: LineAnswer) -> bool
 }
 
 /// Sends StateSet(Invalid) to the component, unless it is Invalid already or was freed. With no note queued there is room for it.
-fn make_invalid(graph: &mut Graph<TraceClient>, h: Handle)
+fn make_invalid(graph: &mut TraceGraph, h: Handle)
     requires { notes_left h (look_of graph.old) ≡ 0 }
     ensures { IsMadeInvalid h (graph_kept graph.old) (graph_kept graph.new) }
 {
@@ -103,7 +102,7 @@ fn is_invalid(state: State) -> bool
 }
 
 /// Frees the headers that the client has.
-fn free_slots(graph: &mut Graph<TraceClient>, slots: Vec<Slot>)
+fn free_slots(graph: &mut TraceGraph, slots: Vec<Slot>)
     requires { CanFree (graph_kept graph.old) slots.items }
     ensures { IsOver (look_of graph.new) }
 {
@@ -115,7 +114,7 @@ fn free_slots(graph: &mut Graph<TraceClient>, slots: Vec<Slot>)
 }
 
 /// Unmakes the header that the client has. Its component is Invalid, so there is no event that would want room.
-fn free_slot(graph: &mut Graph<TraceClient>, slot: Slot)
+fn free_slot(graph: &mut TraceGraph, slot: Slot)
     requires { IsFreeable slot (look_of graph.old) }
     ensures { IsFreed slot (graph_kept graph.old) (graph_kept graph.new) }
 {

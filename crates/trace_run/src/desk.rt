@@ -1,18 +1,17 @@
 ghost use Rattle.std.specs.Prelude.{◌≡◌, IfOk};
-ghost use Rattle.graph_core.specs.Entries.{look_of};
+ghost use Rattle.il_graph.specs.Shown.{look_of};
 ghost use Rattle.trace_run.specs.Traced.{beginning};
 ghost use Rattle.trace_run.specs.Standing.{parts, Stood};
 
 use crate::OutOfMemory;
-use crate::client::TraceClient;
+use crate::client::TraceGraph;
 use crate::names::NamedComponent;
 use crate::slots::Slot;
-use il_graph::Graph;
 use std::alloc::Global;
 
 /// A graph with the components and headers that lines have made.
 pub struct Desk {
-    pub graph: Graph<TraceClient>,
+    pub graph: TraceGraph,
     pub components: Vec<NamedComponent>,
     pub slots: Vec<Slot>,
 }
@@ -23,7 +22,7 @@ impl Desk {
         ensures { IfOk result (λ desk. Stood (parts desk.graph desk.components.items desk.slots.items) (beginning (look_of desk.graph).key units)) }
     {
         Ok(Desk {
-            graph: Graph::new(alloc, units)?,
+            graph: TraceGraph::new(alloc, units)?,
             components: Vec::new(alloc),
             slots: Vec::new(alloc),
         })

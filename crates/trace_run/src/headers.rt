@@ -10,11 +10,10 @@ ghost use Rattle.trace_run.specs.Replying.{Plain};
 ghost use Rattle.trace_run.specs.Standing.{parts, IsStood, Leads};
 
 use crate::OutOfMemory;
-use crate::client::TraceClient;
+use crate::client::{TraceClient, TraceGraph};
 use crate::names::{NamedComponent, port_id};
 use crate::slots::{Slot, new_slot, put_hand, take_named};
 use act_text::{Name, PortName, TextReply};
-use il_graph::Graph;
 use omx_types::{CallError, OmxError};
 use std::alloc::{AllocError, Global};
 use std::str;
@@ -32,7 +31,7 @@ fn no_such_kind(kind: &[u8]) -> OmxError
 }
 
 pub fn get(
-    graph: &mut Graph<TraceClient>,
+    graph: &mut TraceGraph,
     components: &mut Vec<NamedComponent>,
     alloc: Global,
     name: &Name,
@@ -59,7 +58,7 @@ pub fn get(
 }
 
 pub fn allocate(
-    graph: &mut Graph<TraceClient>,
+    graph: &mut TraceGraph,
     components: &[NamedComponent],
     slots: &mut Vec<Slot>,
     alloc: Global,
@@ -83,7 +82,7 @@ pub fn allocate(
 
 /// Makes a header over so many zero bytes.
 pub fn use_bytes(
-    graph: &mut Graph<TraceClient>,
+    graph: &mut TraceGraph,
     components: &[NamedComponent],
     slots: &mut Vec<Slot>,
     alloc: Global,
@@ -107,7 +106,7 @@ pub fn use_bytes(
 }
 
 pub fn free(
-    graph: &mut Graph<TraceClient>,
+    graph: &mut TraceGraph,
     components: &[NamedComponent],
     slots: &mut Vec<Slot>,
     name: &Name,
@@ -131,7 +130,7 @@ pub fn free(
 
 /// Gives the header the bytes and the flag, and hands it in to be emptied.
 pub fn empty(
-    graph: &mut Graph<TraceClient>,
+    graph: &mut TraceGraph,
     components: &[NamedComponent],
     slots: &mut Vec<Slot>,
     name: &Name,
@@ -161,7 +160,7 @@ pub fn empty(
 
 /// Hands a header in to be filled.
 pub fn fill(
-    graph: &mut Graph<TraceClient>,
+    graph: &mut TraceGraph,
     components: &[NamedComponent],
     slots: &mut Vec<Slot>,
     name: &Name,

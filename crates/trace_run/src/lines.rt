@@ -8,7 +8,7 @@ ghost use Rattle.trace_run.specs.Writing.{PrintsLine};
 
 use crate::OutOfMemory;
 use crate::asking::ask;
-use crate::client::TraceClient;
+use crate::client::TraceGraph;
 use crate::desk::Desk;
 use crate::headers::{allocate, empty, fill, free, get, use_bytes};
 use crate::names::{NamedComponent, handle_of};
@@ -17,7 +17,6 @@ use crate::printing::{put_end, put_head};
 use crate::reply::LineAnswer;
 use crate::slots::Slot;
 use act_text::{TextAct, TextReply};
-use il_graph::Graph;
 use script_lang::{TraceForm, TraceLine};
 use std::alloc::Global;
 
@@ -76,7 +75,7 @@ fn answer(desk: &mut Desk, alloc: Global, form: &TraceForm) -> Result<LineAnswer
 
 /// Makes the acts of a line that names no header and no kind.
 fn act_answer(
-    graph: &mut Graph<TraceClient>,
+    graph: &mut TraceGraph,
     components: &[NamedComponent],
     slots: &mut Vec<Slot>,
     alloc: Global,
@@ -95,7 +94,7 @@ fn act_answer(
 
 /// Makes the act of a line that names a header.
 fn header_answer(
-    graph: &mut Graph<TraceClient>,
+    graph: &mut TraceGraph,
     components: &[NamedComponent],
     slots: &mut Vec<Slot>,
     alloc: Global,
@@ -129,7 +128,7 @@ fn header_answer(
 
 /// Makes the act of a line that takes a header out of the client's hand.
 fn hand_reply(
-    graph: &mut Graph<TraceClient>,
+    graph: &mut TraceGraph,
     components: &[NamedComponent],
     slots: &mut Vec<Slot>,
     form: &TraceForm,

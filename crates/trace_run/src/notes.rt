@@ -4,22 +4,21 @@ ghost use Rattle.std.specs.Prelude.{◌≡◌, List, Some, position};
 ghost use Rattle.il_machine.specs.Components.{noted_by};
 ghost use Rattle.il_machine.specs.Notes.{EndNote};
 ghost use Rattle.il_machine.specs.Whole.{StepsWhere};
-ghost use Rattle.graph_core.specs.Entries.{look_of};
+ghost use Rattle.il_graph.specs.Shown.{look_of};
 ghost use Rattle.graph_core.specs.Clients.{IsOut, IsPortDone, WasTold};
 ghost use Rattle.trace_run.specs.declared.names.NamedComponent.{NamedComponent as Named};
 ghost use Rattle.trace_run.specs.Standing.{parts, graph_kept, slot_numbered, machine_note, Rehanded, HasEmptySlot, HasSlotFor, KeptSo, HasStood, TakeLeads};
 
-use crate::client::TraceClient;
+use crate::client::{TraceClient, TraceGraph};
 use crate::reply::LineAnswer;
 use crate::slots::{Slot, place_numbered, put_hand};
 use act_text::TextReply;
 use header_core::Header;
-use il_graph::Graph;
 use note_queues::{Call, Client, Taken, Took};
 use omx_types::Handle;
 
 /// Takes the oldest note.
-pub fn take(graph: &mut Graph<TraceClient>, slots: &mut Vec<Slot>, h: Handle) -> LineAnswer
+pub fn take(graph: &mut TraceGraph, slots: &mut Vec<Slot>, h: Handle) -> LineAnswer
     requires { HasStood (graph_kept graph.old) slots.old.items }
     ensures { (components : List Named) → TakeLeads (parts graph.old components slots.old.items) (parts graph.new components slots.new.items) h result }
 {
@@ -34,7 +33,7 @@ pub fn take(graph: &mut Graph<TraceClient>, slots: &mut Vec<Slot>, h: Handle) ->
 
 /// Gives the client object back, told what the note tells, and keeps the header of the note.
 fn end(
-    graph: &mut Graph<TraceClient>,
+    graph: &mut TraceGraph,
     slots: &mut Vec<Slot>,
     h: Handle,
     call: Call<TraceClient>,

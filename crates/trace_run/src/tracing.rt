@@ -50,7 +50,9 @@ fn trace_lines<O: Sink>(
         return Err(Fault::OutOfMemory);
     };
     let written = write_lines(&mut desk, alloc, lines, out);
-    desk.close();
+    let graph = desk.give_back();
+    graph.law_of_worlds();
+    graph.close();
     match written {
         Ok(()) => write(out, b"end\n"),
         Err(fault) => Err(fault),

@@ -12,3 +12,4 @@ pub mod Making
 pub mod Answering
 pub mod Entries
 pub mod Closing
+pub mod Filing

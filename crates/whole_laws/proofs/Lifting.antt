@@ -5,10 +5,11 @@ use Rattle.il_machine.specs.declared.answer.Progress.{Progress}
 use Rattle.il_machine.specs.World.{Component, World, number_of, with_component}
 use Rattle.il_machine.specs.Look.{Look}
 use Rattle.il_machine.specs.Components.{progress_of, progress_after, is_given_to, no_progress}
-use Rattle.il_machine.specs.Whole.{Kept, Steps, HasProgress}
+use Rattle.il_machine.specs.Whole.{Kept, HasProgress}
+use Rattle.whole_laws.specs.Bare.{StepsBare}
 use Rattle.whole_laws.proofs.Lists.{get_set_same, get_set_other}
 use Rattle.whole_laws.specs.Parts.{KeepsPart}
-use Rattle.whole_laws.proofs.Parts.{parts_set, streams_set}
+use Rattle.whole_laws.proofs.Parts.{streams_set}
 
 -- what is kept with another component at the place
 abbrev pub with_look : ℕ → Component → Kept → Kept
@@ -29,7 +30,7 @@ progress_set clients w i c c' at n o P = λ j d h out.
     elim (eqb_tells j i) [ inl e ↦ same e.1 | inr e ↦ other e.1 ]
 
 pub lift_component : (k : Kept) (i : ℕ) (c c' : Component) → slice_get k.looks.components i ≡ Some c → KeepsPart c c' → c'.client_out ≡ c.client_out
-    → Steps k (with_look i c' k) (λ w v. v ≡ with_component i c' w)
+    → StepsBare k (with_look i c' k) (λ w v. v ≡ with_component i c' w)
 lift_component k i c c' at K o = λ w S.
     let cs : w.components ≡ k.looks.components = ap (λ (l : Look). l.components) S.looks in (
       with_component i c' w,
@@ -38,7 +39,6 @@ lift_component k i c c' at K o = λ w S.
         loads = S.loads;
         noticed = S.noticed;
         progress = progress_set k.clients w i c c' (rw cs at) K.number o S.progress;
-        parts = parts_set k.parts w i c c' (rw cs at) K S.parts;
         streams = streams_set w i c c' (rw cs at) K S.streams;
         once = S.once;
         given = S.given;

@@ -1,16 +1,16 @@
 -- Components are made and freed, in each world.
-use Rattle.std.proofs.Common.{◌≡◌, ◌≢◌, inl, inr, ℕ, suc, ◌+◌, ◌<◌, Bool, not, nat_lt, List, [], ◌∷◌, ◌++◌, length, Option, Some, None, All, slice_get, remove, filter, refl, sym, ◌∙◌, ap, subst, arith, if◌then◌else◌}
+use Rattle.std.proofs.Common.{◌≡◌, ◌≢◌, inl, inr, ℕ, suc, ◌+◌, ◌<◌, Bool, not, nat_lt, List, [], ◌∷◌, ◌++◌, length, Option, Some, All, slice_get, remove, filter, refl, sym, ◌∙◌, ap, subst, arith, if◌then◌else◌}
 use Rattle.std.proofs.lemmas.Bool.Decides.{nat_tests}
 use Rattle.std.proofs.lemmas.List.Elements.{All-filter}
 use Rattle.il_machine.specs.declared.answer.Progress.{Progress}
 use Rattle.il_machine.specs.World.{Component, Given, World, number_of}
 use Rattle.il_machine.specs.Look.{Look}
 use Rattle.il_machine.specs.Components.{progress_of, progress_after, is_given_to, no_progress, without_component}
-use Rattle.il_machine.specs.Whole.{Kept, Noticed, Steps, HasProgress, IsNoticed}
+use Rattle.il_machine.specs.Whole.{Kept, Noticed, HasProgress, IsNoticed}
+use Rattle.whole_laws.specs.Bare.{StepsBare}
 use Rattle.whole_laws.proofs.Lists.{get_last, get_before_last, get_at_last, get_removed}
-use Rattle.whole_laws.specs.Entries.{no_part}
 use Rattle.whole_laws.proofs.Noting.{IsOnly}
-use Rattle.whole_laws.proofs.Streams.{with_made, moved_other, parts_made, streams_made, parts_removed, streams_removed}
+use Rattle.whole_laws.proofs.Streams.{with_made, moved_other, streams_made, streams_removed}
 
 none_given : (n : ℕ) (gs : List Given) → All (λ g. g.component < n) gs → filter (is_given_to n) gs ≡ []
 none_given n [] h = refl
@@ -24,7 +24,7 @@ fresh_progress c w n e h = ap (λ (m : ℕ). progress_after (filter (is_given_to
 
 -- what is kept, with one component more
 abbrev pub with_component_made : Component → Kept → Kept
-with_component_made c k = record k { looks = record k.looks { components = k.looks.components ++ c ∷ []; numbered = k.looks.numbered + 1 }; clients = k.clients ++ Some no_progress ∷ []; parts = k.parts ++ Some no_part ∷ [] }
+with_component_made c k = record k { looks = record k.looks { components = k.looks.components ++ c ∷ []; numbered = k.looks.numbered + 1 }; clients = k.clients ++ Some no_progress ∷ [] }
 
 made_progress : (clients : List (Option Progress)) (w : World) (c : Component) → number_of c ≡ w.numbered → length clients ≡ length w.components → All (λ g. g.component < w.numbered) w.given → HasProgress clients w
     → HasProgress (clients ++ Some no_progress ∷ []) (with_made c w)
@@ -35,9 +35,9 @@ made_progress clients w c n l G P = λ j d h out. elim (get_last w.components j 
       rw (e.0, ← l, z) (get_at_last clients (Some no_progress))
 ]
 
-pub lift_made : (k : Kept) (c : Component) → number_of c ≡ k.looks.numbered → c.file ≡ None → length k.clients ≡ length k.looks.components → length k.parts ≡ length k.looks.components → All (λ d. number_of d < k.looks.numbered) k.looks.components
-    → Steps k (with_component_made c k) (λ w v. v ≡ with_made c w)
-lift_made k c n f l q below = λ w S.
+pub lift_made : (k : Kept) (c : Component) → number_of c ≡ k.looks.numbered → length k.clients ≡ length k.looks.components → All (λ d. number_of d < k.looks.numbered) k.looks.components
+    → StepsBare k (with_component_made c k) (λ w v. v ≡ with_made c w)
+lift_made k c n l below = λ w S.
     let cs : w.components ≡ k.looks.components = ap (λ (x : Look). x.components) S.looks in
     let m : w.numbered ≡ k.looks.numbered = ap (λ (x : Look). x.numbered) S.looks in (
       with_made c w,
@@ -46,7 +46,6 @@ lift_made k c n f l q below = λ w S.
         loads = S.loads;
         noticed = S.noticed;
         progress = made_progress k.clients w c (n ∙ sym m) (rw cs l) S.given S.progress;
-        parts = parts_made k.parts w c (n ∙ sym m) f (rw cs q) (rw (m, cs) below) S.streams S.parts;
         streams = streams_made w c (n ∙ sym m) S.streams;
         once = S.once;
         given = λ i d b. let h = S.given i d b in omega arith;
@@ -56,7 +55,7 @@ lift_made k c n f l q below = λ w S.
 
 -- what is kept, without the component of the place
 abbrev pub with_removed : ℕ → List Noticed → Kept → Kept
-with_removed i noticed k = record k { looks = record k.looks { components = remove k.looks.components i }; clients = remove k.clients i; parts = remove k.parts i; noticed = noticed }
+with_removed i noticed k = record k { looks = record k.looks { components = remove k.looks.components i }; clients = remove k.clients i; noticed = noticed }
 
 others_given : (n m : ℕ) (gs : List Given) → n ≢ m → filter (is_given_to n) (filter (λ g. not (is_given_to m g)) gs) ≡ filter (is_given_to n) gs
 others_given n m [] d = refl
@@ -74,7 +73,7 @@ less_given : (n : ℕ) (test : Given → Bool) (gs : List Given) → All (λ g. 
 less_given n test gs h = All-filter test (λ g. g.component < n) gs h
 
 pub lift_removed : (k : Kept) (i : ℕ) (c : Component) (noticed : List Noticed) → slice_get k.looks.components i ≡ Some c → IsOnly i c k.looks.components → ((P : Noticed → Type 0) → All P k.noticed → All P noticed)
-    → Steps k (with_removed i noticed k) (λ w v. v ≡ without_component i c w)
+    → StepsBare k (with_removed i noticed k) (λ w v. v ≡ without_component i c w)
 lift_removed k i c noticed at only less = λ w S.
     let cs : w.components ≡ k.looks.components = ap (λ (x : Look). x.components) S.looks in (
       without_component i c w,
@@ -83,7 +82,6 @@ lift_removed k i c noticed at only less = λ w S.
         loads = S.loads;
         noticed = less (IsNoticed w) S.noticed;
         progress = removed_progress k.clients w i c (subst (IsOnly i c) (sym cs) only) S.progress;
-        parts = parts_removed k.parts w i c (subst (IsOnly i c) (sym cs) only) S.parts;
         streams = streams_removed w i c (rw cs at) (subst (IsOnly i c) (sym cs) only) S.streams;
         once = S.once;
         given = less_given w.numbered (λ g. not (is_given_to (number_of c) g)) w.given S.given;

@@ -9,10 +9,11 @@ use Rattle.il_machine.specs.World.{Component, Given, World, number_of, with_comp
 use Rattle.il_machine.specs.Look.{Look}
 use Rattle.il_machine.specs.Components.{progress_of, progress_after, is_given_to, no_progress}
 use Rattle.il_machine.specs.Notes.{first_taken, with_given, back_in}
-use Rattle.il_machine.specs.Whole.{Kept, Noticed, Stands, Steps, StepsWhere, IsNoticed, HasProgress}
+use Rattle.il_machine.specs.Whole.{Kept, Noticed, IsNoticed, HasProgress}
+use Rattle.whole_laws.specs.Bare.{StandsBare, StepsBare, StepsBareWhere}
 use Rattle.whole_laws.specs.Parts.{IsAlone}
 use Rattle.whole_laws.proofs.Lists.{get_set_same, get_set_other}
-use Rattle.whole_laws.proofs.Parts.{parts_set, streams_set}
+use Rattle.whole_laws.proofs.Parts.{streams_set}
 use Rattle.whole_laws.proofs.Lifting.{with_look, progress_number}
 
 -- ---- the queued notes have another header
@@ -21,8 +22,8 @@ use Rattle.whole_laws.proofs.Lifting.{with_look, progress_number}
 abbrev pub with_noticed : List Noticed → Kept → Kept
 with_noticed hs k = record k { noticed = hs }
 
-pub renoticed : (k : Kept) (hs : List Noticed) (w : World) → Stands k w → All (IsNoticed w) hs → Stands (with_noticed hs k) w
-renoticed k hs w S N = record { looks = S.looks; loads = S.loads; noticed = N; progress = S.progress; parts = S.parts; streams = S.streams; once = S.once; given = S.given }
+pub renoticed : (k : Kept) (hs : List Noticed) (w : World) → StandsBare k w → All (IsNoticed w) hs → StandsBare (with_noticed hs k) w
+renoticed k hs w S N = record { looks = S.looks; loads = S.loads; noticed = N; progress = S.progress; streams = S.streams; once = S.once; given = S.given }
 
 -- ---- a note is taken
 
@@ -55,7 +56,7 @@ taken_progress k w i c note at only P = λ j d h out.
 
 -- an event is taken
 pub lift_given : (k : Kept) (i : ℕ) (c : Component) (note : Note) → slice_get k.looks.components i ≡ Some c → IsOnly i c k.looks.components → number_of c < k.looks.numbered
-    → Steps k (with_client_out i (with_look i (first_taken c) k)) (λ w v. v ≡ with_given i c note w)
+    → StepsBare k (with_client_out i (with_look i (first_taken c) k)) (λ w v. v ≡ with_given i c note w)
 lift_given k i c note at only few = λ w S.
     let cs : w.components ≡ k.looks.components = ap (λ (l : Look). l.components) S.looks in
     let n : w.numbered ≡ k.looks.numbered = ap (λ (l : Look). l.numbered) S.looks in (
@@ -65,7 +66,6 @@ lift_given k i c note at only few = λ w S.
         loads = S.loads;
         noticed = S.noticed;
         progress = taken_progress k w i c note (rw cs at) (subst (IsOnly i c) (sym cs) only) S.progress;
-        parts = parts_set k.parts w i c (first_taken c) (rw cs at) (record { number = refl; kind = refl; file = refl; failed = refl; work = refl }) S.parts;
         streams = streams_set w i c (first_taken c) (rw cs at) (record { number = refl; kind = refl; file = refl; failed = refl; work = refl }) S.streams;
         once = S.once;
         given = All-push (λ g. g.component < w.numbered) w.given (record { component = number_of c; note = note }) S.given (rw n few);
@@ -92,7 +92,7 @@ ended_progress k w i c p x at client is P = λ j d h out.
     elim (eqb_tells j i) [ inl e ↦ same e.1 | inr e ↦ other e.1 ]
 
 pub lift_ended : (k : Kept) (i : ℕ) (c : Component) (p : Progress) (x : Option Progress) → slice_get k.looks.components i ≡ Some c → slice_get k.clients i ≡ Some x
-    → StepsWhere k (with_client_in i p (with_look i (back_in c) k)) (λ w. p ≡ progress_of c w) (λ w v. v ≡ with_component i (back_in c) w)
+    → StepsBareWhere k (with_client_in i p (with_look i (back_in c) k)) (λ w. p ≡ progress_of c w) (λ w v. v ≡ with_component i (back_in c) w)
 lift_ended k i c p x at client = λ w S is.
     let cs : w.components ≡ k.looks.components = ap (λ (l : Look). l.components) S.looks in (
       with_component i (back_in c) w,
@@ -101,7 +101,6 @@ lift_ended k i c p x at client = λ w S is.
         loads = S.loads;
         noticed = S.noticed;
         progress = ended_progress k w i c p x (rw cs at) client is S.progress;
-        parts = parts_set k.parts w i c (back_in c) (rw cs at) (record { number = refl; kind = refl; file = refl; failed = refl; work = refl }) S.parts;
         streams = streams_set w i c (back_in c) (rw cs at) (record { number = refl; kind = refl; file = refl; failed = refl; work = refl }) S.streams;
         once = S.once;
         given = S.given;

@@ -5,7 +5,8 @@ use Rattle.std.proofs.lemmas.List.Elements.{All-get_or}
 use Rattle.il_machine.specs.declared.header.HeaderState.{HeaderState}
 use Rattle.il_machine.specs.World.{Component, HeaderRecord, World, ports_of}
 use Rattle.il_machine.specs.Look.{Look, look}
-use Rattle.il_machine.specs.Whole.{Kept, Stands}
+use Rattle.il_machine.specs.Whole.{Kept}
+use Rattle.whole_laws.specs.Bare.{StandsBare}
 use Rattle.il_machine.specs.Sound.{Sound, IsPlaced, IsConnected, HasFew, AreNoted, AreClaimed, IsSoundWork}
 use Rattle.il_machine.specs.Headers.{Seen, seen, find_header, has_number, Once, state_of}
 
@@ -67,7 +68,7 @@ connected_alike u w c e C =
     }
 
 -- where what is kept stands for one sound world, each world that it stands for is sound
-pub sound_world : (kept : Kept) (u w : World) → Stands kept u → Sound u → Stands kept w → Sound w
+pub sound_world : (kept : Kept) (u w : World) → StandsBare kept u → Sound u → StandsBare kept w → Sound w
 sound_world kept u w U S W =
     let e : look w ≡ look u = W.looks ∙ sym U.looks in
     let cs : w.components ≡ u.components = ap (λ (l : Look). l.components) e in

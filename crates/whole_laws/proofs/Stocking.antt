@@ -5,7 +5,8 @@ use Rattle.il_machine.specs.Headers.{Seen, seen, find_header, is_notice, state_o
 use Rattle.il_machine.specs.Look.{Look}
 use Rattle.il_machine.specs.Stock.{Stocked, StandsFor}
 use Rattle.il_machine.specs.Buffers.{held}
-use Rattle.il_machine.specs.Whole.{Kept, Noticed, Stands, Steps, IsNoticed}
+use Rattle.il_machine.specs.Whole.{Kept, Noticed, IsNoticed}
+use Rattle.whole_laws.specs.Bare.{StandsBare, StepsBare}
 
 -- what is kept, with another stock
 abbrev pub with_stock : Stocked → Kept → Kept
@@ -17,7 +18,7 @@ pub record IsStock (s : Stocked) (k : Kept) : Type 0 where
   pub made : k.looks.made ≡ s.next
   pub loads : k.loads ≡ s.loads
 
-pub stands_for : (s : Stocked) (k : Kept) (w : World) → IsStock s k → Stands k w → StandsFor s w.headers
+pub stands_for : (s : Stocked) (k : Kept) (w : World) → IsStock s k → StandsBare k w → StandsFor s w.headers
 stands_for s k w I S = record {
   looks = ap (λ (l : Look). l.headers) S.looks ∙ I.headers;
   loads = λ n load h. S.loads n load (ap (λ (f : ℕ → Option Load). f n) I.loads ∙ h);
@@ -50,9 +51,9 @@ abbrev pub with_headers : List HeaderRecord → ℕ → World → World
 with_headers hs made w = record w { headers = hs; made = made }
 
 pub lift_stock : (k : Kept) (t : Stocked) (f : World → List HeaderRecord) → t.key ≡ k.looks.key
-    → ((w : World) → Stands k w → StandsFor t (f w))
-    → ((w : World) → Stands k w → All (λ h. find_header h.held.number (f w) ≡ find_header h.held.number w.headers) k.noticed)
-    → Steps k (with_stock t k) (λ w v. v ≡ with_headers (f w) t.next w)
+    → ((w : World) → StandsBare k w → StandsFor t (f w))
+    → ((w : World) → StandsBare k w → All (λ h. find_header h.held.number (f w) ≡ find_header h.held.number w.headers) k.noticed)
+    → StepsBare k (with_stock t k) (λ w v. v ≡ with_headers (f w) t.next w)
 lift_stock k t f key law kept = λ w S.
     let T = law w S in (
       with_headers (f w) t.next w,
@@ -61,7 +62,6 @@ lift_stock k t f key law kept = λ w S.
         loads = T.loads;
         noticed = λ i d b. rw (kept w S i d b) (S.noticed i d b);
         progress = S.progress;
-        parts = S.parts;
         streams = S.streams;
         once = T.once;
         given = S.given;
@@ -81,7 +81,7 @@ unnoticed (Some r) h = h
 pub lift_one : (k : Kept) (s t : Stocked) (n : ℕ) (f : List HeaderRecord → List HeaderRecord) → IsStock s k → t.key ≡ k.looks.key → IsFree n s
     → ((hs : List HeaderRecord) → StandsFor s hs → StandsFor t (f hs))
     → ((hs : List HeaderRecord) → StandsFor s hs → Elsewhere n hs (f hs))
-    → Steps k (with_stock t k) (λ w v. v ≡ with_headers (f w.headers) t.next w)
+    → StepsBare k (with_stock t k) (λ w v. v ≡ with_headers (f w.headers) t.next w)
 lift_one k s t n f I key free law apart = lift_stock k t (λ w. f w.headers) key
     (λ w S. law w.headers (stands_for s k w I S))
     (λ w S.
@@ -94,7 +94,7 @@ lift_one k s t n f I key free law apart = lift_stock k t (λ w. f w.headers) key
 pub lift_taken : (k : Kept) (s t : Stocked) (n : ℕ) (f : List HeaderRecord → List HeaderRecord) → IsStock s k → t.key ≡ k.looks.key → All (λ h. h.held.number ≢ n) k.noticed
     → ((hs : List HeaderRecord) → StandsFor s hs → StandsFor t (f hs))
     → ((hs : List HeaderRecord) → StandsFor s hs → Elsewhere n hs (f hs))
-    → Steps k (with_stock t k) (λ w v. v ≡ with_headers (f w.headers) t.next w)
+    → StepsBare k (with_stock t k) (λ w v. v ≡ with_headers (f w.headers) t.next w)
 lift_taken k s t n f I key others law apart = lift_stock k t (λ w. f w.headers) key
     (λ w S. law w.headers (stands_for s k w I S))
     (λ w S. λ i d b. apart w.headers (stands_for s k w I S) _ (others i d b))

@@ -2,11 +2,11 @@
 use Rattle.std.proofs.Common.{◌≡◌, ◌≢◌, inl, inr, ℕ, zero, suc, ◌+◌, ◌<◌, Bool, true, false, not, nat_lt, List, [], ◌∷◌, ◌++◌, length, map, find, filter, remove, Option, Some, None, All, get_or, slice_get, refl, sym, ◌∙◌, ap, subst, arith, if◌then◌else◌}
 use Rattle.std.proofs.lemmas.Bool.Decides.{nat_tests}
 use Rattle.part_api.specs.Terms.{Terms}
+use Rattle.il_machine.specs.Kinds.{is_source}
 use Rattle.il_machine.specs.World.{Component, Stream, World, number_of, is_stream_of, fresh_stream}
 use Rattle.il_machine.specs.Parts.{terms_of}
 use Rattle.il_machine.specs.Components.{without_component}
 use Rattle.il_machine.specs.Whole.{PartSeen, HasDone, HasParts}
-use Rattle.whole_laws.specs.Entries.{no_part}
 use Rattle.whole_laws.proofs.Lists.{get_last, get_before_last, get_at_last, get_removed}
 use Rattle.whole_laws.proofs.Noting.{IsOnly}
 
@@ -41,10 +41,11 @@ streams_below n (x ∷ xs) (c ∷ cs) e h = λ k. elim k as (λ k. (d : Stream) 
       streams_below n xs cs f (λ j y q. h (suc j) y (omega arith)) k d (omega arith)
 ]
 
-fresh_done : (t : Terms) (f : Bool) (n : ℕ) → t.file ≡ None → HasDone t f (fresh_stream n) no_part
-fresh_done t f n e = record {
-  left = λ h. rw e refl;
-  rest = λ h b. rw e refl;
+-- the part of a component that was just made
+pub fresh_done : (t : Terms) (f : Bool) (n : ℕ) (p : PartSeen) → t.file ≡ None → (is_source t.kind ≡ true → p.left ≡ Some 0) → (is_source t.kind ≡ true → p.rest ≡ Some []) → HasDone t f (fresh_stream n) p
+fresh_done t f n p e l r = record {
+  left = λ h. l h ∙ rw e refl;
+  rest = λ h b. r h ∙ rw e refl;
   kept = λ k h. absurd cc;
   writing = λ k h b. absurd cc;
 }
@@ -52,22 +53,22 @@ fresh_done t f n e = record {
 abbrev pub with_made : Component → World → World
 with_made c w = record w { components = w.components ++ c ∷ []; streams = w.streams ++ fresh_stream w.numbered ∷ []; numbered = w.numbered + 1 }
 
-pub parts_made : (parts : List (Option PartSeen)) (w : World) (c : Component) → number_of c ≡ w.numbered → c.file ≡ None → length parts ≡ length w.components
+pub parts_made : (parts : List (Option PartSeen)) (w : World) (c : Component) (p : PartSeen) → number_of c ≡ w.numbered → HasDone (terms_of c) c.part.failed (fresh_stream w.numbered) p → length parts ≡ length w.components
     → All (λ d. number_of d < w.numbered) w.components → map (λ s. s.component) w.streams ≡ map number_of w.components → HasParts parts w
-    → HasParts (parts ++ Some no_part ∷ []) (with_made c w)
-parts_made parts w c n f l B e P = λ j d s h out st. elim (get_last w.components j c d h) [
+    → HasParts (parts ++ Some p ∷ []) (with_made c w)
+parts_made parts w c p n D l B e P = λ j d s h out st. elim (get_last w.components j c d h) [
   | inl q ↦
       let b = below_at (λ x. number_of x < w.numbered) w.components j d q B in
       let u : number_of d ≢ w.numbered = λ z. absurd (omega arith) in
       let y = P j d s q out (sym (find_before (number_of d) w.numbered w.streams u) ∙ st) in
-      (y.0, get_before_last parts j (Some no_part) (Some y.0) y.1, y.2)
+      (y.0, get_before_last parts j (Some p) (Some y.0) y.1, y.2)
   | inr q ↦
       let u : number_of d ≡ w.numbered = ap number_of q.1 ∙ n in
       let z : Some (fresh_stream w.numbered) ≡ Some s = sym (find_last w.numbered w.streams (streams_below w.numbered w.streams w.components e B)) ∙ (ap (λ (m : ℕ). find (is_stream_of m) (w.streams ++ fresh_stream w.numbered ∷ [])) (sym u) ∙ st) in
       let v : fresh_stream w.numbered ≡ s = cc in (
-        no_part,
-        rw (q.0, ← l) (get_at_last parts (Some no_part)),
-        subst (λ (x : Stream). HasDone (terms_of d) d.part.failed x no_part) v (fresh_done (terms_of d) d.part.failed w.numbered (ap (λ (x : Component). x.file) q.1 ∙ f)),
+        p,
+        rw (q.0, ← l) (get_at_last parts (Some p)),
+        subst (λ (x : Stream). HasDone (terms_of d) d.part.failed x p) v (subst (λ (x : Component). HasDone (terms_of x) x.part.failed (fresh_stream w.numbered) p) (sym q.1) D),
       )
 ]
 

@@ -6,7 +6,8 @@ ghost use Rattle.il_machine.specs.Buffers.{AllocateBuffer, UseBuffer, FreeBuffer
 ghost use Rattle.il_machine.specs.Whole.{Steps};
 ghost use Rattle.header_core.specs.declared.memory.Store.TheVariants.{Own};
 ghost use Rattle.header_core.specs.BufferHeader.{is_clients, own_memory};
-ghost use Rattle.graph_core.specs.Entries.{kept, look_of};
+ghost use Rattle.graph_core.specs.Entries.{look_of};
+ghost use Rattle.il_graph.specs.Shown.{kept, KeepsAllFiles};
 ghost use Rattle.graph_core.specs.Changes.{IsHandedIn};
 ghost use Rattle.graph_core.specs.Clients.{KeepsAllClients};
 ghost use Rattle.il_graph.specs.HandedIn.{StayHandedIn, KeepsOthersHandedIn, IsTakenIn, IsHandedOut};
@@ -16,6 +17,7 @@ use crate::graph::Graph;
 use header_core::{Header, Memory, Store};
 use note_queues::Client;
 use omx_types::{CallError, Handle, OmxError};
+use outside_io::{Sink, Source};
 use std::alloc::{AllocError, Global};
 
 /// A block of so many bytes.
@@ -35,7 +37,7 @@ fn given_back(store: Store) -> Option<Vec<u8>>
     }
 }
 
-impl<C: Client> Graph<C> {
+impl<S: Source, K: Sink, C: Client> Graph<S, K, C> {
     /// A header with a block of the graph's for a client port.
     pub fn allocate_buffer(
         &mut self,
@@ -44,11 +46,12 @@ impl<C: Client> Graph<C> {
         port: u32,
     ) -> Result<Header, CallError>
         ensures step { Steps (kept C.progress self.old) (kept C.progress self.new) (λ w v. AllocateBuffer w h port (heldly result) v) }
-        ensures held { StayHandedIn (look_of self.old) (look_of self.new) }
-        ensures handed { IfOk result (λ header. IsHandedOut (look_of self.old) (look_of self.new) header) }
+        ensures held { StayHandedIn (look_of self.old.core) (look_of self.new.core) }
+        ensures handed { IfOk result (λ header. IsHandedOut (look_of self.old.core) (look_of self.new.core) header) }
         ensures memory { IfOk result (λ header. is_clients header.store ≡ false) }
         ensures unchanged { OnErr result (self.new ≡ self.old) }
-        ensures clients { KeepsAllClients self.old self.new }
+        ensures clients { KeepsAllClients self.old.core self.new.core }
+        ensures files { KeepsAllFiles self.old self.new }
     {
         self.core.law_of_worlds();
         let Some(place) = self.core.place_of(h) else {
@@ -76,12 +79,13 @@ impl<C: Client> Graph<C> {
         bytes: Vec<u8>,
     ) -> Result<Header, (OmxError, Vec<u8>)>
         ensures step { Steps (kept C.progress self.old) (kept C.progress self.new) (λ w v. UseBuffer w h port bytes.items (heldly (plainly result)) v) }
-        ensures held { StayHandedIn (look_of self.old) (look_of self.new) }
-        ensures handed { IfOk result (λ header. IsHandedOut (look_of self.old) (look_of self.new) header) }
+        ensures held { StayHandedIn (look_of self.old.core) (look_of self.new.core) }
+        ensures handed { IfOk result (λ header. IsHandedOut (look_of self.old.core) (look_of self.new.core) header) }
         ensures memory { IfOk result (λ header. header.store ≡ Own bytes.items) }
         ensures handed_back { IfErr result (λ e. e.1 ≡ bytes) }
         ensures unchanged { OnErr result (self.new ≡ self.old) }
-        ensures clients { KeepsAllClients self.old self.new }
+        ensures clients { KeepsAllClients self.old.core self.new.core }
+        ensures files { KeepsAllFiles self.old self.new }
     {
         self.core.law_of_worlds();
         let Some(place) = self.core.place_of(h) else {
@@ -104,14 +108,15 @@ impl<C: Client> Graph<C> {
         port: u32,
         header: Header,
     ) -> Result<Option<Vec<u8>>, (OmxError, Header)>
-        requires handed { IsHandedIn header (look_of self.old) }
+        requires handed { IsHandedIn header (look_of self.old.core) }
         ensures step { Steps (kept C.progress self.old) (kept C.progress self.new) (λ w v. FreeBuffer w h port header.held.number (memory_back (plainly result)) v) }
-        ensures held { KeepsOthersHandedIn header (look_of self.old) (look_of self.new) }
-        ensures taken { OnOk result (IsTakenIn header (look_of self.new)) }
+        ensures held { KeepsOthersHandedIn header (look_of self.old.core) (look_of self.new.core) }
+        ensures taken { OnOk result (IsTakenIn header (look_of self.new.core)) }
         ensures memory { IfOk result (λ bytes. option_map (λ b. b.items) bytes ≡ header.held.memory) }
         ensures handed_back { IfErr result (λ e. e.1 ≡ header) }
         ensures unchanged { OnErr result (self.new ≡ self.old) }
-        ensures clients { KeepsAllClients self.old self.new }
+        ensures clients { KeepsAllClients self.old.core self.new.core }
+        ensures files { KeepsAllFiles self.old self.new }
     {
         self.core.law_of_worlds();
         let Some(place) = self.core.place_of(h) else {
@@ -132,13 +137,14 @@ impl<C: Client> Graph<C> {
         port: u32,
         header: Header,
     ) -> Result<(), (OmxError, Header)>
-        requires handed { IsHandedIn header (look_of self.old) }
+        requires handed { IsHandedIn header (look_of self.old.core) }
         ensures step { Steps (kept C.progress self.old) (kept C.progress self.new) (λ w v. EmptyThisBuffer w h port header.held (plainly result) v) }
-        ensures held { KeepsOthersHandedIn header (look_of self.old) (look_of self.new) }
-        ensures taken { OnOk result (IsTakenIn header (look_of self.new)) }
+        ensures held { KeepsOthersHandedIn header (look_of self.old.core) (look_of self.new.core) }
+        ensures taken { OnOk result (IsTakenIn header (look_of self.new.core)) }
         ensures handed_back { IfErr result (λ e. e.1 ≡ header) }
         ensures unchanged { OnErr result (self.new ≡ self.old) }
-        ensures clients { KeepsAllClients self.old self.new }
+        ensures clients { KeepsAllClients self.old.core self.new.core }
+        ensures files { KeepsAllFiles self.old self.new }
     {
         self.core.law_of_worlds();
         let Some(place) = self.core.place_of(h) else {
@@ -159,13 +165,14 @@ impl<C: Client> Graph<C> {
         port: u32,
         mut header: Header,
     ) -> Result<(), (OmxError, Header)>
-        requires handed { IsHandedIn header (look_of self.old) }
+        requires handed { IsHandedIn header (look_of self.old.core) }
         ensures step { Steps (kept C.progress self.old) (kept C.progress self.new) (λ w v. FillThisBuffer w h port header.held (plainly result) v) }
-        ensures held { KeepsOthersHandedIn header (look_of self.old) (look_of self.new) }
-        ensures taken { OnOk result (IsTakenIn header (look_of self.new)) }
+        ensures held { KeepsOthersHandedIn header (look_of self.old.core) (look_of self.new.core) }
+        ensures taken { OnOk result (IsTakenIn header (look_of self.new.core)) }
         ensures handed_back { IfErr result (λ e. e.1 ≡ header) }
         ensures unchanged { OnErr result (self.new ≡ self.old) }
-        ensures clients { KeepsAllClients self.old self.new }
+        ensures clients { KeepsAllClients self.old.core self.new.core }
+        ensures files { KeepsAllFiles self.old self.new }
     {
         self.core.law_of_worlds();
         let Some(place) = self.core.place_of(h) else {

@@ -3,7 +3,8 @@
 ghost use Rattle.std.specs.Prelude.{◌≡◌, OnErr};
 ghost use Rattle.il_machine.specs.Flow.{HandBack, HandOver};
 ghost use Rattle.il_machine.specs.Whole.{Steps};
-ghost use Rattle.graph_core.specs.Entries.{kept, look_of};
+ghost use Rattle.graph_core.specs.Entries.{look_of};
+ghost use Rattle.il_graph.specs.Shown.{kept, KeepsAllFiles};
 ghost use Rattle.graph_core.specs.Clients.{KeepsAllClients};
 ghost use Rattle.il_graph.specs.HandedIn.{KeepsHandedIn};
 ghost use Rattle.il_graph.specs.Stood.{OnIdle};
@@ -12,13 +13,15 @@ use crate::graph::Graph;
 use il_machine::Acted;
 use note_queues::Client;
 use omx_types::{Handle, OmxError};
+use outside_io::{Sink, Source};
 
-impl<C: Client> Graph<C> {
+impl<S: Source, K: Sink, C: Client> Graph<S, K, C> {
     /// The end that supplies a tunnel hands its next header to the other end: an output one that it filled, an input one to be filled.
     pub fn hand_over(&mut self, h: Handle, port: u32) -> Result<Acted, OmxError>
         ensures step { Steps (kept C.progress self.old) (kept C.progress self.new) (λ w v. HandOver w h port result v) }
-        ensures held { KeepsHandedIn (look_of self.old) (look_of self.new) }
-        ensures clients { KeepsAllClients self.old self.new }
+        ensures held { KeepsHandedIn (look_of self.old.core) (look_of self.new.core) }
+        ensures clients { KeepsAllClients self.old.core self.new.core }
+        ensures files { KeepsAllFiles self.old self.new }
         ensures unchanged { OnErr result (self.new ≡ self.old) }
         ensures idle { OnIdle result (self.new ≡ self.old) }
     {
@@ -41,8 +44,9 @@ impl<C: Client> Graph<C> {
     /// cleared, and only from a port that returns its headers.
     pub fn hand_back(&mut self, h: Handle, port: u32) -> Result<Acted, OmxError>
         ensures step { Steps (kept C.progress self.old) (kept C.progress self.new) (λ w v. HandBack w h port result v) }
-        ensures held { KeepsHandedIn (look_of self.old) (look_of self.new) }
-        ensures clients { KeepsAllClients self.old self.new }
+        ensures held { KeepsHandedIn (look_of self.old.core) (look_of self.new.core) }
+        ensures clients { KeepsAllClients self.old.core self.new.core }
+        ensures files { KeepsAllFiles self.old self.new }
         ensures unchanged { OnErr result (self.new ≡ self.old) }
         ensures idle { OnIdle result (self.new ≡ self.old) }
     {

@@ -4,15 +4,17 @@ ghost use Rattle.std.specs.Prelude.{◌≡◌, true, false, OnErr};
 ghost use Rattle.il_machine.specs.Look.{look};
 ghost use Rattle.il_machine.specs.Parameters.{SetParameter, SetConfig, parameter_answer};
 ghost use Rattle.il_machine.specs.Whole.{Always, Steps};
-ghost use Rattle.graph_core.specs.Entries.{kept, look_of};
+ghost use Rattle.graph_core.specs.Entries.{look_of};
+ghost use Rattle.il_graph.specs.Shown.{kept, KeepsAllFiles};
 ghost use Rattle.graph_core.specs.Clients.{KeepsAllClients};
 ghost use Rattle.il_graph.specs.HandedIn.{KeepsHandedIn};
 
 use crate::graph::Graph;
 use note_queues::Client;
 use omx_types::{Handle, OmxError, Param, ParamKey};
+use outside_io::{Sink, Source};
 
-impl<C: Client> Graph<C> {
+impl<S: Source, K: Sink, C: Client> Graph<S, K, C> {
     /// A parameter of a component.
     pub fn get_parameter(&self, h: Handle, key: ParamKey) -> Result<Param, OmxError>
         ensures { Always (kept C.progress self.now) (λ w. result ≡ parameter_answer h key false (look w)) }
@@ -36,9 +38,10 @@ impl<C: Client> Graph<C> {
     /// Sets a parameter of a component.
     pub fn set_parameter(&mut self, h: Handle, key: ParamKey, value: Param) -> Result<(), OmxError>
         ensures step { Steps (kept C.progress self.old) (kept C.progress self.new) (λ w v. SetParameter w h key value result v) }
-        ensures held { KeepsHandedIn (look_of self.old) (look_of self.new) }
+        ensures held { KeepsHandedIn (look_of self.old.core) (look_of self.new.core) }
         ensures unchanged { OnErr result (self.new ≡ self.old) }
-        ensures clients { KeepsAllClients self.old self.new }
+        ensures clients { KeepsAllClients self.old.core self.new.core }
+        ensures files { KeepsAllFiles self.old self.new }
     {
         self.core.law_of_worlds();
         let Some(place) = self.core.place_of(h) else {
@@ -55,9 +58,10 @@ impl<C: Client> Graph<C> {
     /// Sets a config of a component.
     pub fn set_config(&mut self, h: Handle, key: ParamKey, value: Param) -> Result<(), OmxError>
         ensures step { Steps (kept C.progress self.old) (kept C.progress self.new) (λ w v. SetConfig w h key value result v) }
-        ensures held { KeepsHandedIn (look_of self.old) (look_of self.new) }
+        ensures held { KeepsHandedIn (look_of self.old.core) (look_of self.new.core) }
         ensures unchanged { OnErr result (self.new ≡ self.old) }
-        ensures clients { KeepsAllClients self.old self.new }
+        ensures clients { KeepsAllClients self.old.core self.new.core }
+        ensures files { KeepsAllFiles self.old self.new }
     {
         self.core.law_of_worlds();
         let Some(place) = self.core.place_of(h) else {

@@ -3,7 +3,8 @@
 ghost use Rattle.std.specs.Prelude.{◌≡◌, OnErr};
 ghost use Rattle.il_machine.specs.Flow.{Supply, Release};
 ghost use Rattle.il_machine.specs.Whole.{Steps};
-ghost use Rattle.graph_core.specs.Entries.{kept, look_of};
+ghost use Rattle.graph_core.specs.Entries.{look_of};
+ghost use Rattle.il_graph.specs.Shown.{kept, KeepsAllFiles};
 ghost use Rattle.graph_core.specs.Clients.{KeepsAllClients};
 ghost use Rattle.il_graph.specs.HandedIn.{KeepsHandedIn};
 ghost use Rattle.il_graph.specs.Stood.{OnIdle};
@@ -14,14 +15,16 @@ use header_core::Memory;
 use il_machine::Acted;
 use note_queues::Client;
 use omx_types::{CallError, Handle, OmxError};
+use outside_io::{Sink, Source};
 use std::alloc::Global;
 
-impl<C: Client> Graph<C> {
+impl<S: Source, K: Sink, C: Client> Graph<S, K, C> {
     /// The port makes a header for both ends of its tunnel, with a block of the graph's.
     pub fn supply(&mut self, alloc: Global, h: Handle, port: u32) -> Result<Acted, CallError>
         ensures step { Steps (kept C.progress self.old) (kept C.progress self.new) (λ w v. Supply w h port result v) }
-        ensures held { KeepsHandedIn (look_of self.old) (look_of self.new) }
-        ensures clients { KeepsAllClients self.old self.new }
+        ensures held { KeepsHandedIn (look_of self.old.core) (look_of self.new.core) }
+        ensures clients { KeepsAllClients self.old.core self.new.core }
+        ensures files { KeepsAllFiles self.old self.new }
         ensures unchanged { OnErr result (self.new ≡ self.old) }
         ensures idle { OnIdle result (self.new ≡ self.old) }
     {
@@ -47,8 +50,9 @@ impl<C: Client> Graph<C> {
     /// The port unmakes the front one of the headers that it has, those of todo before those of done.
     pub fn release(&mut self, h: Handle, port: u32) -> Result<Acted, OmxError>
         ensures step { Steps (kept C.progress self.old) (kept C.progress self.new) (λ w v. Release w h port result v) }
-        ensures held { KeepsHandedIn (look_of self.old) (look_of self.new) }
-        ensures clients { KeepsAllClients self.old self.new }
+        ensures held { KeepsHandedIn (look_of self.old.core) (look_of self.new.core) }
+        ensures clients { KeepsAllClients self.old.core self.new.core }
+        ensures files { KeepsAllFiles self.old self.new }
         ensures unchanged { OnErr result (self.new ≡ self.old) }
         ensures idle { OnIdle result (self.new ≡ self.old) }
     {

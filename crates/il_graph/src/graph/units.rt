@@ -3,7 +3,8 @@
 ghost use Rattle.std.specs.Prelude.{◌≡◌};
 ghost use Rattle.il_machine.specs.Units.{Grant, Preempt};
 ghost use Rattle.il_machine.specs.Whole.{Steps};
-ghost use Rattle.graph_core.specs.Entries.{kept, look_of};
+ghost use Rattle.graph_core.specs.Entries.{look_of};
+ghost use Rattle.il_graph.specs.Shown.{kept, KeepsAllFiles};
 ghost use Rattle.graph_core.specs.Clients.{KeepsAllClients};
 ghost use Rattle.il_graph.specs.HandedIn.{KeepsHandedIn};
 ghost use Rattle.il_graph.specs.Stood.{OnNoGrant, OnNoVictim};
@@ -11,14 +12,16 @@ ghost use Rattle.il_graph.specs.Stood.{OnNoGrant, OnNoVictim};
 use crate::graph::Graph;
 use il_machine::{Granted, Preempted};
 use note_queues::Client;
+use outside_io::{Sink, Source};
 
-impl<C: Client> Graph<C> {
+impl<S: Source, K: Sink, C: Client> Graph<S, K, C> {
     /// The first that waits for units gets them, is told so, and goes on to Idle.
     pub fn grant(&mut self) -> Granted
         ensures step { Steps (kept C.progress self.old) (kept C.progress self.new) (λ w v. Grant w result v) }
-        ensures held { KeepsHandedIn (look_of self.old) (look_of self.new) }
+        ensures held { KeepsHandedIn (look_of self.old.core) (look_of self.new.core) }
         ensures idle { OnNoGrant result (self.new ≡ self.old) }
-        ensures clients { KeepsAllClients self.old self.new }
+        ensures clients { KeepsAllClients self.old.core self.new.core }
+        ensures files { KeepsAllFiles self.old self.new }
     {
         self.core.law_of_worlds();
         if let Some(reason) = self.core.grant_idle() {
@@ -33,9 +36,10 @@ impl<C: Client> Graph<C> {
     /// with the greatest loses them, and goes to Loaded.
     pub fn preempt(&mut self) -> Preempted
         ensures step { Steps (kept C.progress self.old) (kept C.progress self.new) (λ w v. Preempt w result v) }
-        ensures held { KeepsHandedIn (look_of self.old) (look_of self.new) }
+        ensures held { KeepsHandedIn (look_of self.old.core) (look_of self.new.core) }
         ensures idle { OnNoVictim result (self.new ≡ self.old) }
-        ensures clients { KeepsAllClients self.old self.new }
+        ensures clients { KeepsAllClients self.old.core self.new.core }
+        ensures files { KeepsAllFiles self.old self.new }
     {
         self.core.law_of_worlds();
         if let Some(reason) = self.core.preempt_idle() {

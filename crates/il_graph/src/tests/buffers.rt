@@ -1,7 +1,7 @@
 //! Headers of a client come back from a flush, each with its memory.
 
 ghost use Rattle.std.specs.Prelude.{◌≢◌};
-ghost use Rattle.graph_core.specs.Entries.{look_of};
+ghost use Rattle.il_graph.specs.Shown.{look_of};
 ghost use Rattle.header_core.specs.BufferHeader.{BufferHeader};
 ghost use Rattle.graph_core.specs.Changes.{IsHandedIn};
 ghost use Rattle.il_graph.specs.HandedIn.{StayHandedIn, IsHandedOut, KeepsOthersHandedIn};

@@ -1,7 +1,7 @@
 //! A handle that was freed, whose slot is used again, is refused by every call, and what was moved in comes back.
 
 use super::buffers::{unemptied, unfilled, unfreed};
-use super::{Plain, allocated, is_busy, key, made, order, spent};
+use super::{Plain, allocated, freed, is_busy, key, made, order, spent};
 use omx_types::{CallError, Command, Handle, OmxError, Param, PortId, PortSel, State};
 use std::alloc::Global;
 use std::process::Abort;
@@ -30,7 +30,7 @@ fn settings_refused(rt: &impl Abort, graph: &mut Plain, a: Handle) {
     let set = graph.set_parameter(a, key(3, 0), Param::Priority(1));
     assert_eq!(rt; set, Err(STALE));
     assert_eq!(rt; graph.set_config(a, key(4, 0), Param::Gain(1)), Err(STALE));
-    assert_eq!(rt; graph.free_handle(a), Err(STALE));
+    assert_eq!(rt; freed(graph, a), Err(STALE));
 }
 
 fn commands_refused(rt: &impl Abort, graph: &mut Plain, a: Handle) {

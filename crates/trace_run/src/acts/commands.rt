@@ -5,19 +5,18 @@ ghost use Rattle.trace_run.specs.declared.names.NamedComponent.{NamedComponent a
 ghost use Rattle.trace_run.specs.Standing.{graph_kept, Replied, IsNamedGraph};
 
 use crate::acts::replies::{answer_reply, plain_reply};
-use crate::client::TraceClient;
+use crate::client::TraceGraph;
 use crate::names::NamedComponent;
 use act_text::TextReply;
-use il_graph::Graph;
 use omx_types::{Command, Handle};
 
-pub fn send(graph: &mut Graph<TraceClient>, h: Handle, command: Command) -> TextReply
+pub fn send(graph: &mut TraceGraph, h: Handle, command: Command) -> TextReply
     ensures { (components : List Named) → Steps (graph_kept graph.old) (graph_kept graph.new) (λ w v. Replied components (acts.SendCommand h command) result w v) }
 {
     plain_reply(graph.send_command(h, command))
 }
 
-pub fn run(graph: &mut Graph<TraceClient>, components: &[NamedComponent], h: Handle) -> TextReply
+pub fn run(graph: &mut TraceGraph, components: &[NamedComponent], h: Handle) -> TextReply
     requires { IsNamedGraph (graph_kept graph.old) components.now }
     ensures { Steps (graph_kept graph.old) (graph_kept graph.new) (λ w v. Replied components.now (acts.RunCommand h) result w v) }
 {

@@ -4,21 +4,20 @@ ghost use Rattle.il_machine.specs.Whole.{Steps};
 ghost use Rattle.trace_run.specs.declared.names.NamedComponent.{NamedComponent as Named};
 ghost use Rattle.trace_run.specs.Standing.{graph_kept, IsAtRest, Replied};
 
-use crate::client::TraceClient;
+use crate::client::TraceGraph;
 use act_text::TextReply;
-use il_graph::Graph;
 use omx_types::Handle;
 
-pub fn free(graph: &mut Graph<TraceClient>, h: Handle) -> TextReply
+pub fn free(graph: &mut TraceGraph, h: Handle) -> TextReply
     ensures { (components : List Named) → Steps (graph_kept graph.old) (graph_kept graph.new) (λ w v. Replied components (acts.FreeHandle h) result w v) }
 {
     match graph.free_handle(h) {
-        Ok(_client) => TextReply::Done,
+        Ok(_freed) => TextReply::Done,
         Err(error) => TextReply::Error(error),
     }
 }
 
-pub fn state(graph: &Graph<TraceClient>, h: Handle) -> TextReply
+pub fn state(graph: &TraceGraph, h: Handle) -> TextReply
     requires { IsAtRest (graph_kept graph.now) }
     ensures { (components : List Named) → Steps (graph_kept graph.now) (graph_kept graph.now) (λ w v. Replied components (acts.GetState h) result w v) }
 {
@@ -28,7 +27,7 @@ pub fn state(graph: &Graph<TraceClient>, h: Handle) -> TextReply
     }
 }
 
-pub fn port(graph: &Graph<TraceClient>, h: Handle, index: u32) -> TextReply
+pub fn port(graph: &TraceGraph, h: Handle, index: u32) -> TextReply
     requires { IsAtRest (graph_kept graph.now) }
     ensures { (components : List Named) → Steps (graph_kept graph.now) (graph_kept graph.now) (λ w v. Replied components (acts.PortView h index) result w v) }
 {

@@ -7,15 +7,14 @@ ghost use Rattle.trace_run.specs.Standing.{graph_kept, Replied, IsNamedGraph};
 
 use crate::OutOfMemory;
 use crate::acts::replies::{acted_reply, answer_reply};
-use crate::client::TraceClient;
+use crate::client::TraceGraph;
 use crate::names::NamedComponent;
 use act_text::TextReply;
-use il_graph::Graph;
 use omx_types::{CallError, PortId};
 use std::alloc::{AllocError, Global};
 
 pub fn supply(
-    graph: &mut Graph<TraceClient>,
+    graph: &mut TraceGraph,
     components: &[NamedComponent],
     alloc: Global,
     at: PortId,
@@ -31,25 +30,21 @@ pub fn supply(
     }
 }
 
-pub fn release(
-    graph: &mut Graph<TraceClient>,
-    components: &[NamedComponent],
-    at: PortId,
-) -> TextReply
+pub fn release(graph: &mut TraceGraph, components: &[NamedComponent], at: PortId) -> TextReply
     requires { IsNamedGraph (graph_kept graph.old) components.now }
     ensures { Steps (graph_kept graph.old) (graph_kept graph.new) (λ w v. Replied components.now (acts.Release at.handle at.index) result w v) }
 {
     answer_reply(components, graph.release(at.handle, at.index))
 }
 
-pub fn over(graph: &mut Graph<TraceClient>, components: &[NamedComponent], at: PortId) -> TextReply
+pub fn over(graph: &mut TraceGraph, components: &[NamedComponent], at: PortId) -> TextReply
     requires { IsNamedGraph (graph_kept graph.old) components.now }
     ensures { Steps (graph_kept graph.old) (graph_kept graph.new) (λ w v. Replied components.now (acts.HandOver at.handle at.index) result w v) }
 {
     answer_reply(components, graph.hand_over(at.handle, at.index))
 }
 
-pub fn back(graph: &mut Graph<TraceClient>, components: &[NamedComponent], at: PortId) -> TextReply
+pub fn back(graph: &mut TraceGraph, components: &[NamedComponent], at: PortId) -> TextReply
     requires { IsNamedGraph (graph_kept graph.old) components.now }
     ensures { Steps (graph_kept graph.old) (graph_kept graph.new) (λ w v. Replied components.now (acts.HandBack at.handle at.index) result w v) }
 {

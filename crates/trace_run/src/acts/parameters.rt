@@ -9,9 +9,8 @@ ghost use Rattle.trace_run.specs.declared.names.NamedComponent.{NamedComponent a
 ghost use Rattle.trace_run.specs.Standing.{graph_kept, Replied};
 
 use crate::acts::replies::plain_reply;
-use crate::client::TraceClient;
+use crate::client::TraceGraph;
 use act_text::TextReply;
-use il_graph::Graph;
 use omx_types::{Format, Handle, Param, ParamKey, PortDefinition, PortId, Version};
 
 fn key(index: u32, port: u32) -> ParamKey
@@ -25,7 +24,7 @@ fn key(index: u32, port: u32) -> ParamKey
 }
 
 /// Whether the port is an input. Where it isn't there, that makes no difference.
-fn is_input(graph: &Graph<TraceClient>, h: Handle, port: u32) -> bool
+fn is_input(graph: &TraceGraph, h: Handle, port: u32) -> bool
     ensures { Always (graph_kept graph.now) (λ w. result ≡ input_side (view_answer h port (look w))) }
 {
     match graph.port_view(h, port) {
@@ -36,7 +35,7 @@ fn is_input(graph: &Graph<TraceClient>, h: Handle, port: u32) -> bool
 
 /// Sets a port's definition, of the direction that the port has.
 pub fn set_definition(
-    graph: &mut Graph<TraceClient>,
+    graph: &mut TraceGraph,
     at: PortId,
     format: Format,
     count: u32,
@@ -55,7 +54,7 @@ pub fn set_definition(
 }
 
 pub fn set_parameter(
-    graph: &mut Graph<TraceClient>,
+    graph: &mut TraceGraph,
     h: Handle,
     index: u32,
     port: u32,
@@ -67,7 +66,7 @@ pub fn set_parameter(
 }
 
 pub fn set_config(
-    graph: &mut Graph<TraceClient>,
+    graph: &mut TraceGraph,
     h: Handle,
     index: u32,
     port: u32,

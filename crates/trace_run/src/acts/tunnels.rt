@@ -6,9 +6,8 @@ ghost use Rattle.trace_run.specs.Standing.{graph_kept, Replied};
 ghost use Rattle.trace_run.specs.Replying.{is_input_end};
 
 use crate::acts::replies::plain_reply;
-use crate::client::TraceClient;
+use crate::client::TraceGraph;
 use act_text::TextReply;
-use il_graph::Graph;
 use omx_types::{PortId, Supplier};
 
 fn is_input_end(supplier: Supplier) -> bool
@@ -21,7 +20,7 @@ fn is_input_end(supplier: Supplier) -> bool
     }
 }
 
-pub fn tunnel(graph: &mut Graph<TraceClient>, output: PortId, input: PortId) -> TextReply
+pub fn tunnel(graph: &mut TraceGraph, output: PortId, input: PortId) -> TextReply
     ensures { (components : List Named) → Steps (graph_kept graph.old) (graph_kept graph.new) (λ w v. Replied components (acts.SetupTunnel output input) result w v) }
 {
     match graph.setup_tunnel(output, input) {
@@ -32,7 +31,7 @@ pub fn tunnel(graph: &mut Graph<TraceClient>, output: PortId, input: PortId) -> 
     }
 }
 
-pub fn drop_tunnel(graph: &mut Graph<TraceClient>, output: PortId, input: PortId) -> TextReply
+pub fn drop_tunnel(graph: &mut TraceGraph, output: PortId, input: PortId) -> TextReply
     ensures { (components : List Named) → Steps (graph_kept graph.old) (graph_kept graph.new) (λ w v. Replied components (acts.DropTunnel output input) result w v) }
 {
     plain_reply(graph.drop_tunnel(output, input))

@@ -6,19 +6,18 @@ ghost use Rattle.il_machine.specs.Whole.{Steps};
 ghost use Rattle.trace_run.specs.Standing.{graph_kept, Replied, IsNamedGraph};
 
 use crate::acts::replies::{granted_reply, preempted_reply};
-use crate::client::TraceClient;
+use crate::client::TraceGraph;
 use crate::names::NamedComponent;
 use act_text::TextReply;
-use il_graph::Graph;
 
-pub fn grant(graph: &mut Graph<TraceClient>, components: &[NamedComponent]) -> TextReply
+pub fn grant(graph: &mut TraceGraph, components: &[NamedComponent]) -> TextReply
     requires { IsNamedGraph (graph_kept graph.old) components.now }
     ensures { Steps (graph_kept graph.old) (graph_kept graph.new) (λ w v. Replied components.now acts.Grant result w v) }
 {
     granted_reply(components, graph.grant())
 }
 
-pub fn preempt(graph: &mut Graph<TraceClient>, components: &[NamedComponent]) -> TextReply
+pub fn preempt(graph: &mut TraceGraph, components: &[NamedComponent]) -> TextReply
     requires { IsNamedGraph (graph_kept graph.old) components.now }
     ensures { Steps (graph_kept graph.old) (graph_kept graph.new) (λ w v. Replied components.now acts.Preempt result w v) }
 {

@@ -1,6 +1,5 @@
 use Rattle.std.proofs.Common.{◌≡◌, ◌-◌, ◌<◌, length, slice_get, Some, refl, sym, ◌∙◌, ap, arith}
 use Rattle.std.proofs.lemmas.Option.{slice_get-get_or}
-use Rattle.il_machine.specs.Lists.{best_of}
 use Rattle.il_machine.specs.Units.{is_weaker, gives_first}
 use Rattle.il_component.specs.Entries.{component_of}
 use Rattle.graph_core.specs.Entries.{components_of}

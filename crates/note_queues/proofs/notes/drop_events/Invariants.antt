@@ -1,4 +1,4 @@
-use Rattle.std.proofs.Common.{◌≡◌, length, map, vec_len}
+use Rattle.std.proofs.Common.{◌≡◌, length, map}
 use Rattle.il_machine.specs.Census.{note_numbers}
 use Rattle.note_queues.specs.Queues.{note_of}
 use Rattle.note_queues.proofs.notes.drop_events.Given as goal
@@ -8,4 +8,4 @@ abbrev pub invariant-loop-taken : goal.invariant-loop-taken
 invariant-loop-taken l = length (note_numbers (map note_of l.notes.items)) ≡ 0
 
 abbrev pub decreases-loop-taken : goal.decreases-loop-taken
-decreases-loop-taken l = vec_len l.notes
+decreases-loop-taken l = length l.notes.items

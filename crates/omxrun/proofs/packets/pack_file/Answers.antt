@@ -4,13 +4,13 @@ use Rattle.rtp_parts.specs.Answers.{StoppedPacking}
 use Rattle.omx_types.specs.declared.fault.Fault.{Fault}
 use Rattle.omxrun.specs.Packets.{PacksTo}
 use Rattle.omxrun.specs.declared.done.Done.{Done}
-use Rattle.omxrun.proofs.Moves.{IsCounted, IsShut, pack-moved, pack-stopped, read-rose, write-rose, closed-of}
+use Rattle.omxrun.proofs.Moves.{IsCounted, IsShut, IsShutAlone, RanAlone, pack-alone, shut-alone, pack-moved, pack-stopped, read-rose, write-rose, closed-of}
 use Rattle.omxrun.proofs.Turns.{IsMoved, HasMoveReason, turned-outcome, unopened-outcome}
 use Rattle.omxrun.proofs.packets.pack_file.Goals as goal
 
 pub returns-in-Err-clause-outcome : goal.returns-in-Err-clause-outcome
 returns-in-Err-clause-outcome g c =
-    unopened-outcome PacksTo StoppedPacking c.args.input.now c.args.output.now (g.M.Media.outside c.args.media.now) (g.M.Media.outside c.open_both.new.media) c.in-Err.fault c.open_both.ensures.files c.in-Err.ensures.reason
+    unopened-outcome PacksTo StoppedPacking c.args.input.now c.args.output.now (g.M.Media.outside c.args.media.now) (g.M.Media.outside c.open_both.new.media) c.in-Err.fault c.open_both.ensures.files c.in-Err.ensures.reason c.in-Err.ensures.alone
 
 pub returns-in-Ok-clause-outcome : goal.returns-in-Ok-clause-outcome
 returns-in-Ok-clause-outcome g c =
@@ -43,6 +43,13 @@ returns-in-Ok-clause-outcome g c =
       front = c.close_both.ensures.front;
       fault = c.close_both.ensures.fault;
     } in
+    let alone : RanAlone c.packed_outcome.result (g.M.Src.Source.faults c.pack-packed.new.src) (g.M.Snk.Sink.faults c.pack-packed.new.snk) = subst (λ (r : Result Done Fault). RanAlone r (g.M.Src.Source.faults c.pack-packed.new.src) (g.M.Snk.Sink.faults c.pack-packed.new.snk)) (sym c.packed_outcome.ensures)
+    (pack-alone _ _ _ _ c.pack-packed.result c.in-Ok.ensures.unread c.in-Ok.ensures.unwritten c.pack-packed.ensures.stand c.pack-packed.ensures.write_alone c.pack-packed.ensures.short_alone) in
+    let shut_alone : IsShutAlone mid new c.packed_outcome.result c.close_both.result (g.M.Src.Source.faults c.pack-packed.new.src) (g.M.Snk.Sink.faults c.pack-packed.new.snk) = record {
+      closing = c.close_both.ensures.closing;
+      unread = c.close_both.ensures.unread;
+      unwritten = c.close_both.ensures.unwritten;
+    } in
     turned-outcome PacksTo StoppedPacking c.args.input.now c.args.output.now old new c.packed_outcome.result c.close_both.result told
     (closed-of PacksTo StoppedPacking (g.M.Snk.Sink.name c.pack-packed.new.snk) c.args.input.now c.args.output.now old mid new c.packed_outcome.result c.close_both.result told c.open_both.ensures.files c.open_both.ensures.goes_on
-    (λ tells. c.pack-packed.ensures.name ∙ c.in-Ok.ensures.name tells) shut moved stopped)
+    (λ tells. c.pack-packed.ensures.name ∙ c.in-Ok.ensures.name tells) shut moved stopped (shut-alone old mid new c.packed_outcome.result c.close_both.result (g.M.Src.Source.faults c.pack-packed.new.src) (g.M.Snk.Sink.faults c.pack-packed.new.snk) c.in-Ok.ensures.stand alone shut_alone))

@@ -3,13 +3,13 @@ use Rattle.outside_io.proofs.Closed.{told_value}
 use Rattle.omx_types.specs.declared.fault.Fault.{Fault}
 use Rattle.omxrun.specs.Packets.{UnpacksTo, StoppedUnpacking}
 use Rattle.omxrun.specs.declared.done.Done.{Done}
-use Rattle.omxrun.proofs.Moves.{IsCounted, IsShut, unpack-moved, unpack-stopped, read-rose, write-rose, closed-of}
+use Rattle.omxrun.proofs.Moves.{IsCounted, IsShut, IsShutAlone, RanAlone, unpack-alone, shut-alone, unpack-moved, unpack-stopped, read-rose, write-rose, closed-of}
 use Rattle.omxrun.proofs.Turns.{IsMoved, HasMoveReason, turned-outcome, unopened-outcome}
 use Rattle.omxrun.proofs.packets.unpack_file.Goals as goal
 
 pub returns-in-Err-clause-outcome : goal.returns-in-Err-clause-outcome
 returns-in-Err-clause-outcome g c =
-    unopened-outcome UnpacksTo StoppedUnpacking c.args.input.now c.args.output.now (g.M.Media.outside c.args.media.now) (g.M.Media.outside c.open_both.new.media) c.in-Err.fault c.open_both.ensures.files c.in-Err.ensures.reason
+    unopened-outcome UnpacksTo StoppedUnpacking c.args.input.now c.args.output.now (g.M.Media.outside c.args.media.now) (g.M.Media.outside c.open_both.new.media) c.in-Err.fault c.open_both.ensures.files c.in-Err.ensures.reason c.in-Err.ensures.alone
 
 pub returns-in-Ok-clause-outcome : goal.returns-in-Ok-clause-outcome
 returns-in-Ok-clause-outcome g c =
@@ -41,6 +41,13 @@ returns-in-Ok-clause-outcome g c =
       front = c.close_both.ensures.front;
       fault = c.close_both.ensures.fault;
     } in
+    let alone : RanAlone c.unpacked_outcome.result (g.M.Src.Source.faults c.unpack-unpacked.new.src) (g.M.Snk.Sink.faults c.unpack-unpacked.new.snk) = subst (λ (r : Result Done Fault). RanAlone r (g.M.Src.Source.faults c.unpack-unpacked.new.src) (g.M.Snk.Sink.faults c.unpack-unpacked.new.snk)) (sym c.unpacked_outcome.ensures)
+    (unpack-alone _ _ _ _ _ _ c.unpack-unpacked.result c.in-Ok.ensures.unread c.in-Ok.ensures.unwritten c.unpack-unpacked.ensures.stand c.unpack-unpacked.ensures.cause) in
+    let shut_alone : IsShutAlone mid new c.unpacked_outcome.result c.close_both.result (g.M.Src.Source.faults c.unpack-unpacked.new.src) (g.M.Snk.Sink.faults c.unpack-unpacked.new.snk) = record {
+      closing = c.close_both.ensures.closing;
+      unread = c.close_both.ensures.unread;
+      unwritten = c.close_both.ensures.unwritten;
+    } in
     turned-outcome UnpacksTo StoppedUnpacking c.args.input.now c.args.output.now old new c.unpacked_outcome.result c.close_both.result told
     (closed-of UnpacksTo StoppedUnpacking (g.M.Snk.Sink.name c.unpack-unpacked.new.snk) c.args.input.now c.args.output.now old mid new c.unpacked_outcome.result c.close_both.result told c.open_both.ensures.files c.open_both.ensures.goes_on
-    (λ tells. c.unpack-unpacked.ensures.name ∙ c.in-Ok.ensures.name tells) shut moved stopped)
+    (λ tells. c.unpack-unpacked.ensures.name ∙ c.in-Ok.ensures.name tells) shut moved stopped (shut-alone old mid new c.unpacked_outcome.result c.close_both.result (g.M.Src.Source.faults c.unpack-unpacked.new.src) (g.M.Snk.Sink.faults c.unpack-unpacked.new.snk) c.in-Ok.ensures.stand alone shut_alone))

@@ -1,5 +1,6 @@
-use Rattle.play_forms.proofs.OneFault.{fit_faultless, one_fault, planned_faultless}
+use Rattle.play_forms.proofs.OneFault.{one_fault, planned_faultless}
+use Rattle.play_forms.proofs.OneMisfit.{fit_faultless, one_misfit}
 use Rattle.play_forms.proofs.laws.law_of_plans.Goals as goal
 
 pub returns : goal.returns
-returns c = record { planned = planned_faultless; first = one_fault; fit = fit_faultless }
+returns c = record { planned = planned_faultless; first = one_fault; fit = fit_faultless; misfit = one_misfit }

@@ -2,7 +2,8 @@ use Rattle.std.proofs.Common.{◌≡◌, None, position, sym, ◌∙◌, ap}
 use Rattle.il_machine.specs.declared.header.Place.TheVariants.{Out}
 use Rattle.port_stock.specs.Entries.{headers_of}
 use Rattle.port_stock.proofs.Places.{at, is_numbered}
-use Rattle.port_stock.proofs.Changing.{unreached, unkept_at}
+use Rattle.port_stock.specs.declared.entry.Entry.{Entry}
+use Rattle.port_stock.proofs.Changing.{before_is, if_there, unreached, unkept_at}
 use Rattle.port_stock.proofs.entries.remove.Goals as goal
 
 pub unreachable-requires : goal.unreachable-requires
@@ -19,3 +20,8 @@ pub returns-clause-headers : goal.returns-clause-headers
 returns-clause-headers c =
     let A = at c.args.number _ _ (rw c.deref.ensures.value at (sym c.number_place.ensures.place ∙ c.in-Some.is)) in
     ap headers_of c.take_entry.ensures.items ∙ A.stands.without
+
+pub returns-clause-before : goal.returns-clause-before
+returns-clause-before c =
+    let A = at c.args.number _ _ (rw c.deref.ensures.value at (sym c.number_place.ensures.place ∙ c.in-Some.is)) in
+    before_is _ _ _ _ A (if_there (λ (e : Entry). c.take_entry.result ≡ e.state) _ A.it A.there c.take_entry.ensures.state)

@@ -3,6 +3,7 @@ use Rattle.std.proofs.lemmas.List.{length-take}
 use Rattle.outside_io.specs.Moves.{AppendsFront}
 use Rattle.std.specs.Io.KnownBytes.{append_known}
 use Rattle.rtp_parts.specs.Packing.{packet_count, texts_of}
+use Rattle.rtp_parts.proofs.PackAnswers.{stop_later}
 use Rattle.rtp_parts.proofs.PackedTexts.{part_read, sent_more, sent_front, front-whole, cut_again}
 use Rattle.rtp_parts.proofs.packing.pack_samples.Goals as goal
 
@@ -52,3 +53,8 @@ returns-clause-front g c = λ bytes is.
     let all : c.loop-done.done ≡ c.args.frames = omega (arith, c.loop-done-test.false, c.loop-done.invariant.within) in
     front-whole _ _ _ (c.loop-done.invariant.sent bytes is
     ∙ ap (λ (n : ℕ). append_known (g.K.Sink.told c.args.snk.now) (texts_of c.args.law (take c.args.frames (drop (g.S.Source.place c.args.src.now) bytes)) 0 (packet_count n))) all)
+
+pub returns-in-Err-clause-stop : goal.returns-in-Err-clause-stop
+returns-in-Err-clause-stop g c =
+    let before = c.loop-done.invariant in
+    stop_later _ _ _ _ _ _ _ _ _ _ _ _ c.in-Err.fault before.size before.ends (omega (arith, before.place)) before.within_end before.read before.write c.in-Err.ensures.stop

@@ -14,10 +14,10 @@ invariant-loop-done g l = record {
   told : g.S.Source.told l.src ≡ g.S.Source.told l.initial.src;
   ends : g.S.Source.ends l.src ≡ g.S.Source.ends l.initial.src;
   size : g.S.Source.size l.src ≡ g.S.Source.size l.initial.src;
-  read : g.S.Source.faults l.initial.src ≤ g.S.Source.faults l.src;
+  read : g.S.Source.faults l.src ≡ g.S.Source.faults l.initial.src;
   within_end : WhereTold (g.S.Source.ends l.initial.src) (λ end. g.S.Source.place l.src ≤ max end (g.S.Source.place l.initial.src));
   name : g.K.Sink.name l.snk ≡ g.K.Sink.name l.initial.snk;
-  write : g.K.Sink.faults l.initial.snk ≤ g.K.Sink.faults l.snk;
+  write : g.K.Sink.faults l.snk ≡ g.K.Sink.faults l.initial.snk;
   sent : WhereTold (g.S.Source.told l.initial.src) (λ bytes. g.K.Sink.told l.snk ≡ append_known (g.K.Sink.told l.initial.snk)
       (texts_of l.law (take l.frames (drop (g.S.Source.place l.initial.src) bytes)) 0 (packet_count l.done)));
 }

@@ -20,7 +20,7 @@ pieces-init g c =
       told = search rules;
       ends = search rules;
       size = search rules;
-      later = search rules;
+      stands = search rules;
     }
 
 pub pieces-preserved : goal.pieces-preserved
@@ -38,7 +38,7 @@ pieces-preserved g c =
       told = c.in-Ok-Some.ensures.told ∙ c.pieces.invariant.told;
       ends = c.in-Ok-Some.ensures.ends ∙ c.pieces.invariant.ends;
       size = c.in-Ok-Some.ensures.size ∙ c.pieces.invariant.size;
-      later = omega (arith, c.in-Ok-Some.ensures.later, c.pieces.invariant.later);
+      stands = c.in-Ok-Some.ensures.stands ∙ c.pieces.invariant.stands;
     }
 
 pub returns-then-frames-gt-MOST_CODES-clause-answer : goal.returns-then-frames-gt-MOST_CODES-clause-answer

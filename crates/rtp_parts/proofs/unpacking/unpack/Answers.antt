@@ -11,7 +11,7 @@ pub returns-in-Err-clause-front : goal.returns-in-Err-clause-front
 returns-in-Err-clause-front g c = λ bytes is. front-none _ _
 
 pub returns-in-Err-clause-cause : goal.returns-in-Err-clause-cause
-returns-in-Err-clause-cause g c = ends_later _ _ _ _ _ _ _ _ _ c.in-Err.fault refl refl (omega arith) c.in-Err.ensures.cause
+returns-in-Err-clause-cause g c = ends_later _ _ _ _ _ _ _ _ _ c.in-Err.fault refl refl refl refl c.in-Err.ensures.cause
 
 pub returns-in_default-clause-front : goal.returns-in_default-clause-front
 returns-in_default-clause-front g c = λ bytes is. front-none _ _
@@ -25,7 +25,7 @@ returns-in-Err-survey-clause-front g c = λ bytes is. front-none _ _
 
 pub returns-in-Err-survey-clause-cause : goal.returns-in-Err-survey-clause-cause
 returns-in-Err-survey-clause-cause g c =
-    ends_later _ _ _ _ _ _ _ _ _ c.in-Err-survey.fault c.in-Ok.ensures.size c.in-Ok.ensures.ends c.in-Ok.ensures.later c.in-Err-survey.ensures.cause
+    ends_later _ _ _ _ _ _ _ _ _ c.in-Err-survey.fault c.in-Ok.ensures.size c.in-Ok.ensures.ends c.in-Ok.ensures.stands refl c.in-Err-survey.ensures.cause
 
 pub returns-in-Err-seek_to-clause-front : goal.returns-in-Err-seek_to-clause-front
 returns-in-Err-seek_to-clause-front g c = λ bytes is. front-none _ _
@@ -69,4 +69,4 @@ returns-clause-front g c = λ bytes is.
 pub returns-clause-cause : goal.returns-clause-cause
 returns-clause-cause g c =
     moving_ends _ _ _ _ _ _ _ _ _ c.in-Err-write_wav.fault (c.in-Ok-seek_to.ensures.size ∙ c.in-Ok-survey.ensures.size ∙ c.in-Ok.ensures.size) (c.in-Ok-seek_to.ensures.ends ∙ c.in-Ok-survey.ensures.ends ∙ c.in-Ok.ensures.ends)
-    (omega (arith, c.in-Ok.ensures.later, c.in-Ok-survey.ensures.later, c.in-Ok-seek_to.ensures.cause.later)) c.in-Err-write_wav.ensures.stop
+    (c.in-Ok-seek_to.ensures.cause.stands ∙ c.in-Ok-survey.ensures.stands ∙ c.in-Ok.ensures.stands) c.in-Err-write_wav.ensures.stop

@@ -1,4 +1,4 @@
-use Rattle.std.proofs.Common.{rules, ℕ, ◌+◌, ◌-◌, ◌≤◌, ◌^◌, ◌++◌, [], replicate, drop, sym, subst, ◌∙◌, arith}
+use Rattle.std.proofs.Common.{rules, ℕ, ◌+◌, ◌-◌, ◌≤◌, ◌^◌, ◌++◌, [], replicate, drop, sym, subst, ◌∙◌}
 use Rattle.outside_io.proofs.Known.{append_known-nil}
 use Rattle.rtp_parts.specs.Packets.{silence_of}
 use Rattle.rtp_parts.specs.Steps.{room_left}
@@ -39,7 +39,7 @@ pieces-preserved g c =
       told = c.in-Ok-Some.ensures.told ∙ c.pieces.invariant.told;
       ends = c.in-Ok-Some.ensures.ends ∙ c.pieces.invariant.ends;
       size = c.in-Ok-Some.ensures.size ∙ c.pieces.invariant.size;
-      read = omega (arith, c.in-Ok-Some.ensures.later, c.pieces.invariant.read);
+      read = c.in-Ok-Some.ensures.stands ∙ c.pieces.invariant.read;
       name = search rules;
       write = search rules;
     }

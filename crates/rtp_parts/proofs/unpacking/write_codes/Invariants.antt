@@ -16,9 +16,9 @@ invariant-pieces g l = record {
   told : g.S.Source.told l.src ≡ g.S.Source.told l.initial.src;
   ends : g.S.Source.ends l.src ≡ g.S.Source.ends l.initial.src;
   size : g.S.Source.size l.src ≡ g.S.Source.size l.initial.src;
-  read : g.S.Source.faults l.initial.src ≤ g.S.Source.faults l.src;
+  read : g.S.Source.faults l.src ≡ g.S.Source.faults l.initial.src;
   name : g.K.Sink.name l.snk ≡ g.K.Sink.name l.initial.snk;
-  write : g.K.Sink.faults l.initial.snk ≤ g.K.Sink.faults l.snk;
+  write : g.K.Sink.faults l.snk ≡ g.K.Sink.faults l.initial.snk;
 }
 
 abbrev pub decreases-pieces : goal.decreases-pieces

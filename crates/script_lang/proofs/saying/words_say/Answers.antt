@@ -6,4 +6,4 @@ use Rattle.script_lang.proofs.saying.words_say.Goals as goal
 
 pub returns-in_default-2 : goal.returns-in_default-2
 returns-in_default-2 c =
-    (c.requires, no-form (seen c.args.before.now) (texts c.args.words.now) (sym c.in_default-2.is ∙ c.in_ok-form.ensures.is) c.in_default.ensures.none)
+    (c.requires.counts, no-form (seen c.args.before.now) (texts c.args.words.now) (sym c.in_default-2.is ∙ c.in_ok-form.ensures.is) c.in_default.ensures.none)

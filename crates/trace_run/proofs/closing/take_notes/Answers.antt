@@ -10,3 +10,6 @@ loop-h-preserved c = record {
   stood = stood_on (graph_kept c.args.graph.now) (graph_kept c.loop-h.graph) (graph_kept c.take_next.new.graph) c.args.slots.now.items c.loop-h.slots.items c.take_next.new.slots.items c.loop-h.invariant.stood c.take_next.ensures.stood;
   stay = λ k e. c.take_next.ensures.stay k (c.loop-h.invariant.stay k e);
 }
+
+pub returns-clause-stood : goal.returns-clause-stood
+returns-clause-stood c = stood_on (graph_kept c.args.graph.now) (graph_kept c.loop-h.graph) (graph_kept c.take_next.new.graph) c.args.slots.now.items c.loop-h.slots.items c.take_next.new.slots.items c.loop-h.invariant.stood c.take_next.ensures.stood

@@ -1,4 +1,4 @@
-use Rattle.graph_core.specs.Entries.{look_of}
+use Rattle.il_graph.specs.Shown.{look_of}
 use Rattle.trace_run.specs.Standing.{graph_kept}
 use Rattle.trace_run.specs.Closing.{StayStood, StayEnded, notes_left}
 use Rattle.trace_run.proofs.closing.take_notes.Given as goal

@@ -37,7 +37,7 @@ returns-in-Ok-Call c components =
     let old = graph_kept c.args.graph.now in
     let mid = graph_kept c.take_note.new.self in
     let step = subst (λ (t : Took Progress). Steps old mid (λ w v. TakeNote w c.args.h (Ok (took_of t)) v)) is c.in-Ok-Call.ensures.step in
-    let client = subst (λ (t : Took Progress). TakesClient c.args.h c.args.graph.now t c.take_note.new.self) is c.in-Ok-Call.ensures.client in
+    let client = subst (λ (t : Took Progress). TakesClient c.args.h c.args.graph.now.core t c.take_note.new.self.core) is c.in-Ok-Call.ensures.client in
     let handed = subst (λ (t : Took Progress). IsTookHandedOut old.looks mid.looks t) is c.in-Ok-Call.ensures.handed in
     call_taken components c.args.slots.now.items c.end.new.slots.items old mid (graph_kept c.end.new.graph) c.args.h call.client call.taken c.end.result
     step (λ w S. c.law_of_worlds.ensures.told w S c.args.h call.client client.0) handed c.end.ensures.step c.end.ensures.kept

@@ -1,4 +1,4 @@
-use Rattle.std.proofs.Common.{◌≡◌, ◌<◌, length, slice_get, None, Option, Some, IsSomeAnd, map, sym, ◌∙◌, ap, subst}
+use Rattle.std.proofs.Common.{◌≡◌, ◌<◌, length, slice_get, None, Option, Some, IsSomeAnd, map, refl, sym, ◌∙◌, ap, subst}
 use Rattle.std.proofs.lemmas.Option.{slice_get-get_or}
 use Rattle.il_machine.specs.World.{Component, Work, number_of, ports_of}
 use Rattle.il_machine.specs.Claims.{claim_idle, must_announce, work_of}
@@ -9,6 +9,7 @@ use Rattle.graph_core.specs.Claiming.{AreFronts, all_out, gives_to}
 use Rattle.graph_core.specs.Entries.{Entries, look_of}
 use Rattle.graph_core.proofs.Claimed.{claimed_ports, claimed_returns, claimed_worlds, carried_there, has_room, working}
 use Rattle.graph_core.proofs.Clients.{clients_set}
+use Rattle.graph_core.proofs.Lent.{fronts_lent}
 use Rattle.graph_core.proofs.Picked.{fronts_are, work_is}
 use Rattle.graph_core.proofs.Replacing.{there, within}
 use Rattle.graph_core.proofs.Setting.{all_ports}
@@ -117,6 +118,23 @@ returns-clause-change g c =
     let is : component_of d ≡ working work k = c.give_work.ensures.component in
     let goes : stocked after ≡ all_out (number_of k) 0 (map (gives_to a k) (ports_of k)) (stocked i.stock) = c.pick_up-headers.ensures.stock in
     rw (← c.self.view_is) (claimed_returns p G c.args.place e d after work a c.self.invariant.worlds at is c.give_work.ensures.kept picks tells goes)
+
+pub returns-clause-lent : goal.returns-clause-lent
+returns-clause-lent g c =
+    let i = c.self.inside in
+    let p = g.C.Client.progress in
+    let e = c.index_mut-component.result.now in
+    let G : Entries (g.row.C.Denot) = record { entries = i.components.items; stock = i.stock; units = i.units; waits = i.waits; numbered = i.registry.given } in
+    let asked = rw (← c.self.view_is) at c.requires in
+    let b : c.args.place < length i.components.items = within p G c.args.place _ asked in
+    let at : slice_get i.components.items c.args.place ≡ Some e = slice_get-get_or i.components.items c.args.place e b ∙ ap Some (sym c.index_mut-component.ensures.value) in
+    let k = component_of e in
+    let a = c.must_announce-announces.result in
+    let idle : claim_idle (look_of G) k ≡ None = subst (λ (o : Option Component). IsSomeAnd o (λ x. claim_idle (look_of G) x ≡ None)) (there p G c.args.place e at) asked in
+    let tells : a ≡ must_announce k = c.must_announce-announces.ensures in
+    let fronts : AreFronts (number_of k) 0 (map (gives_to a k) (ports_of k)) c.pick_up-headers.result (stocked i.stock) = c.pick_up-headers.ensures.fronts in
+    let picks : work_with c.numbers_of.result k ≡ work_of (look_of G).headers k = work_is k (stocked i.stock) c.numbers_of.result c.pick_up-headers.result a c.numbers_of.ensures tells fronts in
+    rw (← c.self.view_is, there p G c.args.place e at) (fronts_lent (number_of k) (map (gives_to a k) (ports_of k)) c.pick_up-headers.result (stocked i.stock) (stocked c.pick_up-headers.new.stock) _ c.pick_up-headers.ensures.stock refl refl c.pick_up-headers.ensures.fronts)
 
 pub returns-clause-headers : goal.returns-clause-headers
 returns-clause-headers g c =

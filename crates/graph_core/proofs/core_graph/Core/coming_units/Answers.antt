@@ -1,4 +1,4 @@
-use Rattle.std.proofs.Common.{◌≡◌, ◌-◌, ◌≤◌, ◌∙◌, sym, subst, ap, arith}
+use Rattle.std.proofs.Common.{◌≡◌, ◌-◌, ◌∙◌, sym, subst, ap, arith}
 use Rattle.il_machine.specs.Units.{units_held, free_units}
 use Rattle.graph_core.specs.Entries.{Entries, components_of, look_of}
 use Rattle.graph_core.specs.Units.{units_returning}

@@ -1,11 +1,11 @@
-use Rattle.std.proofs.Common.{◌≡◌, ◌+◌, ◌≤◌, ◌<◌, List, length, slice_get, option_and_then, Some, None, sym, ◌∙◌, ap, subst}
+use Rattle.std.proofs.Common.{◌≡◌, ◌+◌, ◌≤◌, ◌<◌, List, length, slice_get, Some, sym, ◌∙◌, ap, subst}
 use Rattle.std.proofs.lemmas.Option.{slice_get-get_or}
 use Rattle.omx_types.specs.declared.state.State.TheVariants.{WaitForResources}
 use Rattle.il_machine.specs.World.{Component}
 use Rattle.il_machine.specs.Headers.{weight}
 use Rattle.il_machine.specs.Look.{Look, look}
 use Rattle.il_machine.specs.Ports.{is_going_to}
-use Rattle.il_machine.specs.Units.{need_of, free_units, first_waiter, granted_units, grant_idle}
+use Rattle.il_machine.specs.Units.{need_of, free_units, first_waiter, granted_units}
 use Rattle.il_machine.specs.Sound.{IsSound}
 use Rattle.machine_laws.proofs.Granting.{sound_granted, change_granted, fair_granted}
 use Rattle.machine_laws.proofs.Units.{IsFair, resources_of}

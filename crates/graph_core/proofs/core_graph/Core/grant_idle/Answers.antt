@@ -1,7 +1,6 @@
-use Rattle.std.proofs.Common.{◌≡◌, List, ◌<◌, length, slice_get, Some, None, sym, ◌∙◌, ap, subst}
+use Rattle.std.proofs.Common.{◌≡◌, List, ◌<◌, length, slice_get, Some, sym, ◌∙◌, ap, subst}
 use Rattle.std.proofs.lemmas.Option.{slice_get-get_or}
-use Rattle.il_machine.specs.World.{Component}
-use Rattle.il_machine.specs.Units.{first_waiter, weakest}
+use Rattle.il_machine.specs.Units.{first_waiter}
 use Rattle.il_component.specs.Entries.{Entry, component_of}
 use Rattle.graph_core.specs.Entries.{Entries, components_of, look_of}
 use Rattle.graph_core.proofs.Counting.{component_there}

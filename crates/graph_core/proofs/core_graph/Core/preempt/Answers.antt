@@ -1,16 +1,16 @@
-use Rattle.std.proofs.Common.{◌≡◌, ◌+◌, ◌≤◌, ◌<◌, List, length, slice_get, option_and_then, Some, None, sym, ◌∙◌, ap, subst}
+use Rattle.std.proofs.Common.{◌≡◌, ◌+◌, ◌≤◌, ◌<◌, length, slice_get, Some, sym, ◌∙◌, ap, subst}
 use Rattle.std.proofs.lemmas.Option.{slice_get-get_or}
 use Rattle.omx_types.specs.declared.state.State.TheVariants.{WaitForResources}
 use Rattle.il_machine.specs.World.{Component}
 use Rattle.il_machine.specs.Headers.{weight}
-use Rattle.il_machine.specs.Look.{Look, look}
+use Rattle.il_machine.specs.Look.{look}
 use Rattle.il_machine.specs.Ports.{is_going_to}
-use Rattle.il_machine.specs.Units.{need_of, free_units, victim, preempted_units, preempt_idle}
+use Rattle.il_machine.specs.Units.{free_units, victim, preempted_units}
 use Rattle.il_machine.specs.Sound.{IsSound}
 use Rattle.machine_laws.proofs.Granting.{sound_preempted, change_preempted, fair_preempted}
 use Rattle.machine_laws.proofs.Units.{IsFair, fair_more, resources_of}
 use Rattle.machine_laws.proofs.Change.{out_there}
-use Rattle.il_component.specs.Entries.{Entry, component_of}
+use Rattle.il_component.specs.Entries.{component_of}
 use Rattle.graph_core.specs.Entries.{Entries, components_of, look_of}
 use Rattle.graph_core.proofs.Clients.{clients_set}
 use Rattle.graph_core.proofs.Counting.{component_there}

@@ -2,14 +2,15 @@ use Rattle.std.proofs.Common.{Some, None, Err, true, refl}
 use Rattle.omx_types.specs.declared.error.OmxError.TheVariants as errors
 use Rattle.il_machine.specs.Parameters.{parameter_answer}
 use Rattle.il_graph.proofs.Looking.{alike, named}
+use Rattle.il_graph.proofs.Whole.{always}
 use Rattle.il_graph.proofs.graph.Graph.get_config.Goals as goal
 
 pub returns-in_default : goal.returns-in_default
 returns-in_default g c =
     let p = g.C.Client.progress in
-    rw (← c.self.view_is) (alike p c.self.inside.core (parameter_answer c.args.h c.args.key true) (Err errors.InvalidComponent) (rw (named p c.self.inside.core c.args.h None c.in_default.ensures) refl))
+    rw (← c.self.view_is) (always p _ _ (alike p c.self.inside.core (parameter_answer c.args.h c.args.key true) (Err errors.InvalidComponent) (rw (named p c.self.inside.core c.args.h None c.in_default.ensures) refl)))
 
 pub returns : goal.returns
 returns g c =
     let p = g.C.Client.progress in
-    rw (← c.self.view_is) (alike p c.self.inside.core (parameter_answer c.args.h c.args.key true) c.get.result (rw (named p c.self.inside.core c.args.h (Some c.in-Some.component.now) c.in-Some.ensures) c.get.ensures))
+    rw (← c.self.view_is) (always p _ _ (alike p c.self.inside.core (parameter_answer c.args.h c.args.key true) c.get.result (rw (named p c.self.inside.core c.args.h (Some c.in-Some.component.now) c.in-Some.ensures) c.get.ensures)))

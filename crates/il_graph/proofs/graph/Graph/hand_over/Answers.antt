@@ -13,11 +13,12 @@ use Rattle.il_graph.proofs.Acting.{HasPort, unnamed, without_port, with_port, po
 use Rattle.il_machine.specs.Acts as acts
 use Rattle.il_machine.specs.declared.answer.Acted.TheVariants as acted
 use Rattle.il_graph.proofs.HandedIn.{keeps_over, keeps_same}
+use Rattle.il_graph.proofs.Whole.{whole_over, files_over, is_whole_over}
 use Rattle.il_graph.proofs.graph.Graph.hand_over.Goals as goal
 
 pub returns-in_default-clause-step : goal.returns-in_default-clause-step
-returns-in_default-clause-step g c = rw (← c.self.view_is) (unnamed g.C.Client.progress c.self.inside.core c.args.h c.args.port Acted OmxError plain
-    (λ w v i k q. Acts (over_idle (look w) k q) (Err errors.InvalidComponent) w (handed_over q w) v) c.in_default.ensures.place)
+returns-in_default-clause-step g c = rw (← c.self.view_is) (whole_over g.C.Client.progress _ c.self.inside.core (acts.HandOver c.args.h c.args.port) (acts.Acted _) tt c.self.invariant.1 (λ w B. tt) (unnamed g.C.Client.progress c.self.inside.core c.args.h c.args.port Acted OmxError plain
+    (λ w v i k q. Acts (over_idle (look w) k q) (Err errors.InvalidComponent) w (handed_over q w) v) c.in_default.ensures.place))
 
 pub returns-then-not-has_port-clause-step : goal.returns-then-not-has_port-clause-step
 returns-then-not-has_port-clause-step g c =
@@ -25,8 +26,8 @@ returns-then-not-has_port-clause-step g c =
     let G = c.self.inside.core in
     let F : Found p G c.args.h c.in-Some.place = found p G c.args.h c.in-Some.place c.in-Some.ensures.place c.in-Some.ensures.within in
     let none = subst (λ (b : Bool). MatchOption (component_at c.in-Some.place G) ⊥ (λ k. b ≡ is_some (port_of k c.args.port))) c.if-not-has_port.true c.has_port.ensures in
-    rw (← c.self.view_is) (without_port p G c.args.h c.args.port c.in-Some.place F Acted OmxError plain
-    (λ w v i k q. Acts (over_idle (look w) k q) (Err errors.BadPortIndex) w (handed_over q w) v) none)
+    rw (← c.self.view_is) (whole_over g.C.Client.progress _ c.self.inside.core (acts.HandOver c.args.h c.args.port) (acts.Acted _) tt c.self.invariant.1 (λ w B. tt) (without_port p G c.args.h c.args.port c.in-Some.place F Acted OmxError plain
+    (λ w v i k q. Acts (over_idle (look w) k q) (Err errors.BadPortIndex) w (handed_over q w) v) none))
 
 pub over_idle-requires : goal.over_idle-requires
 over_idle-requires g c =
@@ -44,7 +45,7 @@ returns-in-Some-over_idle-clause-step g c =
     let F : Found p G c.args.h c.in-Some.place = found p G c.args.h c.in-Some.place c.in-Some.ensures.place c.in-Some.ensures.within in
     let one = subst (λ (b : Bool). MatchOption (component_at c.in-Some.place G) ⊥ (λ k. b ≡ is_some (port_of k c.args.port))) c.if-not-has_port.false c.has_port.ensures in
     let H : HasPort p G c.args.h c.args.port c.in-Some.place F = with_port p G c.args.h c.args.port c.in-Some.place F one in
-    rw (← c.self.view_is) (idle_on p G c.args.h c.args.port c.in-Some.place F H over_idle (λ (i : ℕ) (k : Component) (q : Port) (w : World). handed_over q w) c.in-Some-over_idle.reason c.in-Some-over_idle.ensures)
+    rw (← c.self.view_is) (whole_over g.C.Client.progress _ c.self.inside.core (acts.HandOver c.args.h c.args.port) (acts.Acted _) tt c.self.invariant.1 (λ w B. tt) (idle_on p G c.args.h c.args.port c.in-Some.place F H over_idle (λ (i : ℕ) (k : Component) (q : Port) (w : World). handed_over q w) c.in-Some-over_idle.reason c.in-Some-over_idle.ensures))
 
 pub hand_over-requires : goal.hand_over-requires
 hand_over-requires g c =
@@ -62,7 +63,7 @@ returns-clause-step g c =
     let F : Found p G c.args.h c.in-Some.place = found p G c.args.h c.in-Some.place c.in-Some.ensures.place c.in-Some.ensures.within in
     let one = subst (λ (b : Bool). MatchOption (component_at c.in-Some.place G) ⊥ (λ k. b ≡ is_some (port_of k c.args.port))) c.if-not-has_port.false c.has_port.ensures in
     let H : HasPort p G c.args.h c.args.port c.in-Some.place F = with_port p G c.args.h c.args.port c.in-Some.place F one in
-    rw (← c.self.view_is) (did_on p G c.args.h c.args.port c.in-Some.place F H over_idle (λ (i : ℕ) (k : Component) (q : Port) (w : World). handed_over q w) c.hand_over.new.self c.close_out.new.self c.in_default-over_idle.ensures c.hand_over.ensures.change c.close_out.ensures.closes)
+    rw (← c.self.view_is) (whole_over g.C.Client.progress _ c.close_out.new.self (acts.HandOver c.args.h c.args.port) (acts.Acted _) tt c.self.invariant.1 (λ w B. tt) (did_on p G c.args.h c.args.port c.in-Some.place F H over_idle (λ (i : ℕ) (k : Component) (q : Port) (w : World). handed_over q w) c.hand_over.new.self c.close_out.new.self c.in_default-over_idle.ensures c.hand_over.ensures.change c.close_out.ensures.closes))
 
 pub returns-in_default-clause-held : goal.returns-in_default-clause-held
 returns-in_default-clause-held g c = rw (← c.self.view_is) (keeps_same g.C.Client.progress c.self.inside.core)
@@ -76,7 +77,25 @@ returns-in-Some-over_idle-clause-held g c = rw (← c.self.view_is) (keeps_same 
 pub returns-clause-held : goal.returns-clause-held
 returns-clause-held g c =
     let G = c.self.inside.core in
-    rw (← c.self.view_is) (keeps_over g.C.Client.progress G c.close_out.new.self (acts.HandOver c.args.h c.args.port) (acts.Acted (Ok acted.Did)) refl refl (λ w. tt) c.law_of_worlds.ensures.one (rw (← c.self.view_is) at (returns-clause-step g c)))
+    rw (← c.self.view_is) (keeps_over g.C.Client.progress G c.close_out.new.self (acts.HandOver c.args.h c.args.port) (acts.Acted (Ok acted.Did)) refl refl (λ w. tt) c.law_of_worlds.ensures.one (let p = g.C.Client.progress in let G = c.self.inside.core in let F : Found p G c.args.h c.in-Some.place = found p G c.args.h c.in-Some.place c.in-Some.ensures.place c.in-Some.ensures.within in let one = subst (λ (b : Bool). MatchOption (component_at c.in-Some.place G) ⊥ (λ k. b ≡ is_some (port_of k c.args.port))) c.if-not-has_port.false c.has_port.ensures in let H : HasPort p G c.args.h c.args.port c.in-Some.place F = with_port p G c.args.h c.args.port c.in-Some.place F one in did_on p G c.args.h c.args.port c.in-Some.place F H over_idle (λ (i : ℕ) (k : Component) (q : Port) (w : World). handed_over q w) c.hand_over.new.self c.close_out.new.self c.in_default-over_idle.ensures c.hand_over.ensures.change c.close_out.ensures.closes))
 
 pub returns-clause-clients : goal.returns-clause-clients
 returns-clause-clients g c = rw (← c.self.view_is) (λ k. c.close_out.ensures.clients k ∙ c.hand_over.ensures.clients k)
+
+pub invariant_of-self : goal.invariant_of-self
+invariant_of-self g c =
+    let p = g.C.Client.progress in
+    let G = c.self.inside.core in
+    let F : Found p G c.args.h c.in-Some.place = found p G c.args.h c.in-Some.place c.in-Some.ensures.place c.in-Some.ensures.within in
+    let one = subst (λ (b : Bool). MatchOption (component_at c.in-Some.place G) ⊥ (λ k. b ≡ is_some (port_of k c.args.port))) c.if-not-has_port.false c.has_port.ensures in
+    let H : HasPort p G c.args.h c.args.port c.in-Some.place F = with_port p G c.args.h c.args.port c.in-Some.place F one in
+    (c.self.invariant.0, is_whole_over g.C.Client.progress _ c.close_out.new.self (acts.HandOver c.args.h c.args.port) (acts.Acted _) tt c.self.invariant.1 (λ w B. tt) (did_on p G c.args.h c.args.port c.in-Some.place F H over_idle (λ (i : ℕ) (k : Component) (q : Port) (w : World). handed_over q w) c.hand_over.new.self c.close_out.new.self c.in_default-over_idle.ensures c.hand_over.ensures.change c.close_out.ensures.closes) c.close_out.ensures.settled)
+
+pub returns-clause-files : goal.returns-clause-files
+returns-clause-files g c =
+    let p = g.C.Client.progress in
+    let G = c.self.inside.core in
+    let F : Found p G c.args.h c.in-Some.place = found p G c.args.h c.in-Some.place c.in-Some.ensures.place c.in-Some.ensures.within in
+    let one = subst (λ (b : Bool). MatchOption (component_at c.in-Some.place G) ⊥ (λ k. b ≡ is_some (port_of k c.args.port))) c.if-not-has_port.false c.has_port.ensures in
+    let H : HasPort p G c.args.h c.args.port c.in-Some.place F = with_port p G c.args.h c.args.port c.in-Some.place F one in
+    rw (← c.self.view_is) (files_over g.C.Client.progress _ c.close_out.new.self (acts.HandOver c.args.h c.args.port) (acts.Acted _) tt c.self.invariant.1 (λ w B. tt) (did_on p G c.args.h c.args.port c.in-Some.place F H over_idle (λ (i : ℕ) (k : Component) (q : Port) (w : World). handed_over q w) c.hand_over.new.self c.close_out.new.self c.in_default-over_idle.ensures c.hand_over.ensures.change c.close_out.ensures.closes))

@@ -1,18 +1,20 @@
 use Rattle.std.proofs.Common.{◌∙◌, ap}
 use Rattle.il_machine.specs.Due.{first_due}
 use Rattle.machine_laws.proofs.Closing.{closed_rests}
+use Rattle.il_graph.proofs.Whole.{bare}
 use Rattle.il_graph.proofs.graph.Graph.law_of_worlds.Goals as goal
 
 pub returns : goal.returns
 returns g c =
     let laws = c.law_of_worlds.ensures in
+    let p = g.C.Client.progress in
     rw (← c.self.view_is) (record {
-      one = laws.one;
-      sound = laws.sound;
-      census = laws.census;
-      room = laws.room;
-      closed = λ w S. ap first_due S.looks ∙ c.self.invariant;
-      rests = λ w S. closed_rests w (ap first_due S.looks ∙ c.self.invariant);
-      told = laws.told;
+      one = c.self.invariant.1.worlds;
+      sound = λ w S. laws.sound w (bare p _ w S);
+      census = λ w S. laws.census w (bare p _ w S);
+      room = λ w S. laws.room w (bare p _ w S);
+      closed = λ w S. ap first_due S.looks ∙ c.self.invariant.1.closed;
+      rests = λ w S. closed_rests w (ap first_due S.looks ∙ c.self.invariant.1.closed);
+      told = λ w S. laws.told w (bare p _ w S);
       out = laws.out;
     })

@@ -8,24 +8,25 @@ use Rattle.il_machine.specs.Parameters.{set_config_refusal, with_value}
 use Rattle.il_graph.proofs.Calling.{Found, found, not_found, refused_at, accepted_at}
 use Rattle.il_machine.specs.Acts as acts
 use Rattle.il_graph.proofs.HandedIn.{keeps_over, keeps_same}
+use Rattle.il_graph.proofs.Whole.{whole_over, files_over, is_whole_over}
 use Rattle.il_graph.proofs.graph.Graph.set_config.Goals as goal
 
 pub returns-in_default-clause-step : goal.returns-in_default-clause-step
-returns-in_default-clause-step g c = rw (← c.self.view_is) (not_found g.C.Client.progress (Unit {0}) c.self.inside.core c.args.h (λ w v i k. Answers (set_config_refusal k c.args.key c.args.value) (Err errors.InvalidComponent) w v (λ _. ClosesTo (with_component i (with_value c.args.key c.args.value k) w) v)) c.in_default.ensures.place)
+returns-in_default-clause-step g c = rw (← c.self.view_is) (whole_over g.C.Client.progress _ c.self.inside.core (acts.SetConfig c.args.h c.args.key c.args.value) (acts.Plain _) tt c.self.invariant.1 (λ w B. tt) (not_found g.C.Client.progress (Unit {0}) c.self.inside.core c.args.h (λ w v i k. Answers (set_config_refusal k c.args.key c.args.value) (Err errors.InvalidComponent) w v (λ _. ClosesTo (with_component i (with_value c.args.key c.args.value k) w) v)) c.in_default.ensures.place))
 
 pub returns-in-Some-set_config_refusal-clause-step : goal.returns-in-Some-set_config_refusal-clause-step
 returns-in-Some-set_config_refusal-clause-step g c =
     let p = g.C.Client.progress in
     let G = c.self.inside.core in
     let F : Found p G c.args.h c.in-Some.place = found p G c.args.h c.in-Some.place c.in-Some.ensures.place c.in-Some.ensures.within in
-    rw (← c.self.view_is) (refused_at p (λ (l : Look) (k : Component). set_config_refusal k c.args.key c.args.value) G c.args.h c.in-Some.place c.in-Some-set_config_refusal.error (λ w v i k (_ : (Unit {0})). ClosesTo (with_component i (with_value c.args.key c.args.value k) w) v) F c.in-Some-set_config_refusal.ensures)
+    rw (← c.self.view_is) (whole_over g.C.Client.progress _ c.self.inside.core (acts.SetConfig c.args.h c.args.key c.args.value) (acts.Plain _) tt c.self.invariant.1 (λ w B. tt) (refused_at p (λ (l : Look) (k : Component). set_config_refusal k c.args.key c.args.value) G c.args.h c.in-Some.place c.in-Some-set_config_refusal.error (λ w v i k (_ : (Unit {0})). ClosesTo (with_component i (with_value c.args.key c.args.value k) w) v) F c.in-Some-set_config_refusal.ensures))
 
 pub returns-clause-step : goal.returns-clause-step
 returns-clause-step g c =
     let p = g.C.Client.progress in
     let G = c.self.inside.core in
     let F : Found p G c.args.h c.in-Some.place = found p G c.args.h c.in-Some.place c.in-Some.ensures.place c.in-Some.ensures.within in
-    rw (← c.self.view_is) (accepted_at p (λ (l : Look) (k : Component). set_config_refusal k c.args.key c.args.value) G c.set_value.new.self c.close_out.new.self c.args.h c.in-Some.place tt (λ i k w. with_component i (with_value c.args.key c.args.value k) w) F c.in_default-set_config_refusal.ensures c.set_value.ensures.set c.close_out.ensures.closes)
+    rw (← c.self.view_is) (whole_over g.C.Client.progress _ c.close_out.new.self (acts.SetConfig c.args.h c.args.key c.args.value) (acts.Plain _) tt c.self.invariant.1 (λ w B. tt) (accepted_at p (λ (l : Look) (k : Component). set_config_refusal k c.args.key c.args.value) G c.set_value.new.self c.close_out.new.self c.args.h c.in-Some.place tt (λ i k w. with_component i (with_value c.args.key c.args.value k) w) F c.in_default-set_config_refusal.ensures c.set_value.ensures.set c.close_out.ensures.closes))
 
 pub returns-clause-clients : goal.returns-clause-clients
 returns-clause-clients g c = rw (← c.self.view_is) (λ k. c.close_out.ensures.clients k ∙ c.set_value.ensures.clients k)
@@ -39,4 +40,18 @@ returns-in-Some-set_config_refusal-clause-held g c = rw (← c.self.view_is) (ke
 pub returns-clause-held : goal.returns-clause-held
 returns-clause-held g c =
     let G = c.self.inside.core in
-    rw (← c.self.view_is) (keeps_over g.C.Client.progress G c.close_out.new.self (acts.SetConfig c.args.h c.args.key c.args.value) (acts.Plain (Ok tt)) refl refl (λ w. tt) c.law_of_worlds.ensures.one (rw (← c.self.view_is) at (returns-clause-step g c)))
+    rw (← c.self.view_is) (keeps_over g.C.Client.progress G c.close_out.new.self (acts.SetConfig c.args.h c.args.key c.args.value) (acts.Plain (Ok tt)) refl refl (λ w. tt) c.law_of_worlds.ensures.one (let p = g.C.Client.progress in let G = c.self.inside.core in let F : Found p G c.args.h c.in-Some.place = found p G c.args.h c.in-Some.place c.in-Some.ensures.place c.in-Some.ensures.within in accepted_at p (λ (l : Look) (k : Component). set_config_refusal k c.args.key c.args.value) G c.set_value.new.self c.close_out.new.self c.args.h c.in-Some.place tt (λ i k w. with_component i (with_value c.args.key c.args.value k) w) F c.in_default-set_config_refusal.ensures c.set_value.ensures.set c.close_out.ensures.closes))
+
+pub invariant_of-self : goal.invariant_of-self
+invariant_of-self g c =
+    let p = g.C.Client.progress in
+    let G = c.self.inside.core in
+    let F : Found p G c.args.h c.in-Some.place = found p G c.args.h c.in-Some.place c.in-Some.ensures.place c.in-Some.ensures.within in
+    (c.self.invariant.0, is_whole_over g.C.Client.progress _ c.close_out.new.self (acts.SetConfig c.args.h c.args.key c.args.value) (acts.Plain _) tt c.self.invariant.1 (λ w B. tt) (accepted_at p (λ (l : Look) (k : Component). set_config_refusal k c.args.key c.args.value) G c.set_value.new.self c.close_out.new.self c.args.h c.in-Some.place tt (λ i k w. with_component i (with_value c.args.key c.args.value k) w) F c.in_default-set_config_refusal.ensures c.set_value.ensures.set c.close_out.ensures.closes) c.close_out.ensures.settled)
+
+pub returns-clause-files : goal.returns-clause-files
+returns-clause-files g c =
+    let p = g.C.Client.progress in
+    let G = c.self.inside.core in
+    let F : Found p G c.args.h c.in-Some.place = found p G c.args.h c.in-Some.place c.in-Some.ensures.place c.in-Some.ensures.within in
+    rw (← c.self.view_is) (files_over g.C.Client.progress _ c.close_out.new.self (acts.SetConfig c.args.h c.args.key c.args.value) (acts.Plain _) tt c.self.invariant.1 (λ w B. tt) (accepted_at p (λ (l : Look) (k : Component). set_config_refusal k c.args.key c.args.value) G c.set_value.new.self c.close_out.new.self c.args.h c.in-Some.place tt (λ i k w. with_component i (with_value c.args.key c.args.value k) w) F c.in_default-set_config_refusal.ensures c.set_value.ensures.set c.close_out.ensures.closes))

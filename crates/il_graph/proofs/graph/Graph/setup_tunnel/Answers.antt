@@ -7,12 +7,13 @@ use Rattle.il_machine.specs.Look.{Look, look}
 use Rattle.il_machine.specs.Due.{ClosesTo}
 use Rattle.il_machine.specs.Answers.{plain, Resolving, Answers}
 use Rattle.il_machine.specs.Tunnels.{setup_refusal, both_joined, agreed_of, BothPorts}
-use Rattle.il_machine.specs.Whole.{Steps}
+use Rattle.whole_laws.specs.Bare.{StepsBare}
 use Rattle.graph_core.specs.Entries.{kept}
 use Rattle.il_graph.proofs.Calling.{Found, found, not_found}
 use Rattle.il_graph.proofs.Tunnelling.{both_close, at_both, other_not_found, refused_at_both, accepted_at_both}
 use Rattle.il_machine.specs.Acts as acts
 use Rattle.il_graph.proofs.HandedIn.{keeps_over, keeps_same}
+use Rattle.il_graph.proofs.Whole.{whole_over, files_over, is_whole_over}
 use Rattle.il_graph.proofs.graph.Graph.setup_tunnel.Goals as goal
 
 -- why the output of the first component isn't joined to the input of the second
@@ -25,9 +26,9 @@ Joined output input w v i k j d supplier = BothPorts (port_of k output) (port_of
 
 pub returns-in_default-clause-step : goal.returns-in_default-clause-step
 returns-in_default-clause-step g c =
-    rw (← c.self.view_is) (not_found g.C.Client.progress Supplier c.self.inside.core c.args.output.handle
+    rw (← c.self.view_is) (whole_over g.C.Client.progress _ c.self.inside.core (acts.SetupTunnel c.args.output c.args.input) (acts.Joined _) tt c.self.invariant.1 (λ w B. tt) (not_found g.C.Client.progress Supplier c.self.inside.core c.args.output.handle
     (λ w v i k. Resolving plain w c.args.input.handle (Err errors.InvalidComponent) v (λ j d. Answers (refusal c.args.output.index c.args.input.index (look w) k d) (Err errors.InvalidComponent) w v (Joined c.args.output.index c.args.input.index w v i k j d)))
-    c.in_default.ensures.place)
+    c.in_default.ensures.place))
 
 pub returns-in_default-place_of-clause-step : goal.returns-in_default-place_of-clause-step
 returns-in_default-place_of-clause-step g c =
@@ -36,8 +37,8 @@ returns-in_default-place_of-clause-step g c =
     let R = refusal c.args.output.index c.args.input.index in
     let Y = Joined c.args.output.index c.args.input.index in
     let F : Found p G c.args.output.handle c.in-Some.giver = found p G c.args.output.handle c.in-Some.giver c.in-Some.ensures.place c.in-Some.ensures.within in
-    rw (← c.self.view_is) (other_not_found p Supplier G c.args.output.handle c.args.input.handle c.in-Some.giver
-    (λ w v i k j d. Answers (R (look w) k d) (Err errors.InvalidComponent) w v (Y w v i k j d)) F c.in_default-place_of.ensures.place)
+    rw (← c.self.view_is) (whole_over g.C.Client.progress _ c.self.inside.core (acts.SetupTunnel c.args.output c.args.input) (acts.Joined _) tt c.self.invariant.1 (λ w B. tt) (other_not_found p Supplier G c.args.output.handle c.args.input.handle c.in-Some.giver
+    (λ w v i k j d. Answers (R (look w) k d) (Err errors.InvalidComponent) w v (Y w v i k j d)) F c.in_default-place_of.ensures.place))
 
 pub returns-in-Some-setup_refusal-clause-step : goal.returns-in-Some-setup_refusal-clause-step
 returns-in-Some-setup_refusal-clause-step g c =
@@ -47,7 +48,7 @@ returns-in-Some-setup_refusal-clause-step g c =
     let Y = Joined c.args.output.index c.args.input.index in
     let F : Found p G c.args.output.handle c.in-Some.giver = found p G c.args.output.handle c.in-Some.giver c.in-Some.ensures.place c.in-Some.ensures.within in
     let F' : Found p G c.args.input.handle c.in-Some-place_of.taker = found p G c.args.input.handle c.in-Some-place_of.taker c.in-Some-place_of.ensures.place c.in-Some-place_of.ensures.within in
-    rw (← c.self.view_is) (refused_at_both p R G c.args.output.handle c.args.input.handle c.in-Some.giver c.in-Some-place_of.taker c.in-Some-setup_refusal.error Y F F' c.in-Some-setup_refusal.ensures)
+    rw (← c.self.view_is) (whole_over g.C.Client.progress _ c.self.inside.core (acts.SetupTunnel c.args.output c.args.input) (acts.Joined _) tt c.self.invariant.1 (λ w B. tt) (refused_at_both p R G c.args.output.handle c.args.input.handle c.in-Some.giver c.in-Some-place_of.taker c.in-Some-setup_refusal.error Y F F' c.in-Some-setup_refusal.ensures))
 
 pub returns-clause-step : goal.returns-clause-step
 returns-clause-step g c =
@@ -58,11 +59,11 @@ returns-clause-step g c =
     let F : Found p G c.args.output.handle c.in-Some.giver = found p G c.args.output.handle c.in-Some.giver c.in-Some.ensures.place c.in-Some.ensures.within in
     let F' : Found p G c.args.input.handle c.in-Some-place_of.taker = found p G c.args.input.handle c.in-Some-place_of.taker c.in-Some-place_of.ensures.place c.in-Some-place_of.ensures.within in
     let joined = at_both p G c.args.output.handle c.args.input.handle c.in-Some.giver c.in-Some-place_of.taker
-    (λ k d. BothPorts (port_of k c.args.output.index) (port_of d c.args.input.index) (λ a b. (c.join-supplier.result ≡ agreed_of a b) × Steps (kept p G) (kept p c.join-supplier.new.self) (λ w v. v ≡ both_joined c.join-supplier.result c.in-Some.giver k a c.in-Some-place_of.taker d b w)))
+    (λ k d. BothPorts (port_of k c.args.output.index) (port_of d c.args.input.index) (λ a b. (c.join-supplier.result ≡ agreed_of a b) × StepsBare (kept p G) (kept p c.join-supplier.new.self) (λ w v. v ≡ both_joined c.join-supplier.result c.in-Some.giver k a c.in-Some-place_of.taker d b w)))
     F F' c.join-supplier.ensures.change in
     let s = both_close (kept p G) (kept p c.join-supplier.new.self) (kept p c.close_out.new.self) (port_of F.component c.args.output.index) (port_of F'.component c.args.input.index)
     (λ a b. c.join-supplier.result ≡ agreed_of a b) (λ a b w. both_joined c.join-supplier.result c.in-Some.giver F.component a c.in-Some-place_of.taker F'.component b w) joined c.close_out.ensures.closes in
-    rw (← c.self.view_is) (accepted_at_both p R G c.close_out.new.self c.args.output.handle c.args.input.handle c.in-Some.giver c.in-Some-place_of.taker c.join-supplier.result Y F F' c.in_default-setup_refusal.ensures s)
+    rw (← c.self.view_is) (whole_over g.C.Client.progress _ c.close_out.new.self (acts.SetupTunnel c.args.output c.args.input) (acts.Joined _) tt c.self.invariant.1 (λ w B. tt) (accepted_at_both p R G c.close_out.new.self c.args.output.handle c.args.input.handle c.in-Some.giver c.in-Some-place_of.taker c.join-supplier.result Y F F' c.in_default-setup_refusal.ensures s))
 
 pub returns-clause-clients : goal.returns-clause-clients
 returns-clause-clients g c = rw (← c.self.view_is) (λ k. c.close_out.ensures.clients k ∙ c.join-supplier.ensures.clients k)
@@ -79,4 +80,34 @@ returns-in-Some-setup_refusal-clause-held g c = rw (← c.self.view_is) (keeps_s
 pub returns-clause-held : goal.returns-clause-held
 returns-clause-held g c =
     let G = c.self.inside.core in
-    rw (← c.self.view_is) (keeps_over g.C.Client.progress G c.close_out.new.self (acts.SetupTunnel c.args.output c.args.input) (acts.Joined (Ok c.join-supplier.result)) refl refl (λ w. tt) c.law_of_worlds.ensures.one (rw (← c.self.view_is) at (returns-clause-step g c)))
+    rw (← c.self.view_is) (keeps_over g.C.Client.progress G c.close_out.new.self (acts.SetupTunnel c.args.output c.args.input) (acts.Joined (Ok c.join-supplier.result)) refl refl (λ w. tt) c.law_of_worlds.ensures.one (let p = g.C.Client.progress in let G = c.self.inside.core in let R = refusal c.args.output.index c.args.input.index in let Y = Joined c.args.output.index c.args.input.index in let F : Found p G c.args.output.handle c.in-Some.giver = found p G c.args.output.handle c.in-Some.giver c.in-Some.ensures.place c.in-Some.ensures.within in let F' : Found p G c.args.input.handle c.in-Some-place_of.taker = found p G c.args.input.handle c.in-Some-place_of.taker c.in-Some-place_of.ensures.place c.in-Some-place_of.ensures.within in let joined = at_both p G c.args.output.handle c.args.input.handle c.in-Some.giver c.in-Some-place_of.taker (λ k d. BothPorts (port_of k c.args.output.index) (port_of d c.args.input.index) (λ a b. (c.join-supplier.result ≡ agreed_of a b) × StepsBare (kept p G) (kept p c.join-supplier.new.self) (λ w v. v ≡ both_joined c.join-supplier.result c.in-Some.giver k a c.in-Some-place_of.taker d b w))) F F' c.join-supplier.ensures.change in let s = both_close (kept p G) (kept p c.join-supplier.new.self) (kept p c.close_out.new.self) (port_of F.component c.args.output.index) (port_of F'.component c.args.input.index) (λ a b. c.join-supplier.result ≡ agreed_of a b) (λ a b w. both_joined c.join-supplier.result c.in-Some.giver F.component a c.in-Some-place_of.taker F'.component b w) joined c.close_out.ensures.closes in accepted_at_both p R G c.close_out.new.self c.args.output.handle c.args.input.handle c.in-Some.giver c.in-Some-place_of.taker c.join-supplier.result Y F F' c.in_default-setup_refusal.ensures s))
+
+pub invariant_of-self : goal.invariant_of-self
+invariant_of-self g c =
+    let p = g.C.Client.progress in
+    let G = c.self.inside.core in
+    let R = refusal c.args.output.index c.args.input.index in
+    let Y = Joined c.args.output.index c.args.input.index in
+    let F : Found p G c.args.output.handle c.in-Some.giver = found p G c.args.output.handle c.in-Some.giver c.in-Some.ensures.place c.in-Some.ensures.within in
+    let F' : Found p G c.args.input.handle c.in-Some-place_of.taker = found p G c.args.input.handle c.in-Some-place_of.taker c.in-Some-place_of.ensures.place c.in-Some-place_of.ensures.within in
+    let joined = at_both p G c.args.output.handle c.args.input.handle c.in-Some.giver c.in-Some-place_of.taker
+    (λ k d. BothPorts (port_of k c.args.output.index) (port_of d c.args.input.index) (λ a b. (c.join-supplier.result ≡ agreed_of a b) × StepsBare (kept p G) (kept p c.join-supplier.new.self) (λ w v. v ≡ both_joined c.join-supplier.result c.in-Some.giver k a c.in-Some-place_of.taker d b w)))
+    F F' c.join-supplier.ensures.change in
+    let s = both_close (kept p G) (kept p c.join-supplier.new.self) (kept p c.close_out.new.self) (port_of F.component c.args.output.index) (port_of F'.component c.args.input.index)
+    (λ a b. c.join-supplier.result ≡ agreed_of a b) (λ a b w. both_joined c.join-supplier.result c.in-Some.giver F.component a c.in-Some-place_of.taker F'.component b w) joined c.close_out.ensures.closes in
+    (c.self.invariant.0, is_whole_over g.C.Client.progress _ c.close_out.new.self (acts.SetupTunnel c.args.output c.args.input) (acts.Joined _) tt c.self.invariant.1 (λ w B. tt) (accepted_at_both p R G c.close_out.new.self c.args.output.handle c.args.input.handle c.in-Some.giver c.in-Some-place_of.taker c.join-supplier.result Y F F' c.in_default-setup_refusal.ensures s) c.close_out.ensures.settled)
+
+pub returns-clause-files : goal.returns-clause-files
+returns-clause-files g c =
+    let p = g.C.Client.progress in
+    let G = c.self.inside.core in
+    let R = refusal c.args.output.index c.args.input.index in
+    let Y = Joined c.args.output.index c.args.input.index in
+    let F : Found p G c.args.output.handle c.in-Some.giver = found p G c.args.output.handle c.in-Some.giver c.in-Some.ensures.place c.in-Some.ensures.within in
+    let F' : Found p G c.args.input.handle c.in-Some-place_of.taker = found p G c.args.input.handle c.in-Some-place_of.taker c.in-Some-place_of.ensures.place c.in-Some-place_of.ensures.within in
+    let joined = at_both p G c.args.output.handle c.args.input.handle c.in-Some.giver c.in-Some-place_of.taker
+    (λ k d. BothPorts (port_of k c.args.output.index) (port_of d c.args.input.index) (λ a b. (c.join-supplier.result ≡ agreed_of a b) × StepsBare (kept p G) (kept p c.join-supplier.new.self) (λ w v. v ≡ both_joined c.join-supplier.result c.in-Some.giver k a c.in-Some-place_of.taker d b w)))
+    F F' c.join-supplier.ensures.change in
+    let s = both_close (kept p G) (kept p c.join-supplier.new.self) (kept p c.close_out.new.self) (port_of F.component c.args.output.index) (port_of F'.component c.args.input.index)
+    (λ a b. c.join-supplier.result ≡ agreed_of a b) (λ a b w. both_joined c.join-supplier.result c.in-Some.giver F.component a c.in-Some-place_of.taker F'.component b w) joined c.close_out.ensures.closes in
+    rw (← c.self.view_is) (files_over g.C.Client.progress _ c.close_out.new.self (acts.SetupTunnel c.args.output c.args.input) (acts.Joined _) tt c.self.invariant.1 (λ w B. tt) (accepted_at_both p R G c.close_out.new.self c.args.output.handle c.args.input.handle c.in-Some.giver c.in-Some-place_of.taker c.join-supplier.result Y F F' c.in_default-setup_refusal.ensures s))

@@ -13,6 +13,7 @@ use Rattle.il_graph.proofs.Acting.{HasPort, unnamed, without_port, with_port, at
 use Rattle.il_machine.specs.Acts as acts
 use Rattle.il_machine.specs.declared.answer.Acted.TheVariants as acted
 use Rattle.il_graph.proofs.HandedIn.{keeps_over, keeps_same}
+use Rattle.il_graph.proofs.Whole.{whole_over, files_over, is_whole_over}
 use Rattle.il_graph.proofs.graph.Graph.supply.Goals as goal
 
 fits_in : (size most : ℕ) (memory bytes : List ℕ) → size ≡ most → length bytes ≡ size → memory ≡ bytes → most ≤ length memory
@@ -20,16 +21,16 @@ fits_in size most memory bytes e f m = let k : length memory ≡ length bytes = 
 
 pub returns-in_default-clause-step : goal.returns-in_default-clause-step
 returns-in_default-clause-step g c =
-    rw (← c.self.view_is) (unnamed g.C.Client.progress c.self.inside.core c.args.h c.args.port Acted CallError Omx
-    (λ w v i k q. ActsOrMemory (supply_idle (look w) k q) (Err (Omx errors.InvalidComponent)) w (with_supplied q w) v) c.in_default.ensures.place)
+    rw (← c.self.view_is) (whole_over g.C.Client.progress _ c.self.inside.core (acts.Supply c.args.h c.args.port) (acts.Supplied _) tt c.self.invariant.1 (λ w B. tt) (unnamed g.C.Client.progress c.self.inside.core c.args.h c.args.port Acted CallError Omx
+    (λ w v i k q. ActsOrMemory (supply_idle (look w) k q) (Err (Omx errors.InvalidComponent)) w (with_supplied q w) v) c.in_default.ensures.place))
 
 pub returns-then-not-has_port-clause-step : goal.returns-then-not-has_port-clause-step
 returns-then-not-has_port-clause-step g c =
     let p = g.C.Client.progress in
     let G = c.self.inside.core in
     let F : Found p G c.args.h c.in-Some.place = found p G c.args.h c.in-Some.place c.in-Some.ensures.place c.in-Some.ensures.within in
-    rw (← c.self.view_is) (without_port p G c.args.h c.args.port c.in-Some.place F Acted CallError Omx
-    (λ w v i k q. ActsOrMemory (supply_idle (look w) k q) (Err (Omx errors.BadPortIndex)) w (with_supplied q w) v) (rw c.if-not-has_port.true at c.has_port.ensures))
+    rw (← c.self.view_is) (whole_over g.C.Client.progress _ c.self.inside.core (acts.Supply c.args.h c.args.port) (acts.Supplied _) tt c.self.invariant.1 (λ w B. tt) (without_port p G c.args.h c.args.port c.in-Some.place F Acted CallError Omx
+    (λ w v i k q. ActsOrMemory (supply_idle (look w) k q) (Err (Omx errors.BadPortIndex)) w (with_supplied q w) v) (rw c.if-not-has_port.true at c.has_port.ensures)))
 
 pub supply_idle-requires : goal.supply_idle-requires
 supply_idle-requires g c =
@@ -45,7 +46,7 @@ returns-in-Some-supply_idle-clause-step g c =
     let G = c.self.inside.core in
     let F : Found p G c.args.h c.in-Some.place = found p G c.args.h c.in-Some.place c.in-Some.ensures.place c.in-Some.ensures.within in
     let H : HasPort p G c.args.h c.args.port c.in-Some.place F = with_port p G c.args.h c.args.port c.in-Some.place F (rw c.if-not-has_port.false at c.has_port.ensures) in
-    rw (← c.self.view_is) (idle_taking p G c.args.h c.args.port c.in-Some.place F H (λ l k q. supply_idle l k q) (λ i k q w. with_supplied q w) c.in-Some-supply_idle.reason c.in-Some-supply_idle.ensures)
+    rw (← c.self.view_is) (whole_over g.C.Client.progress _ c.self.inside.core (acts.Supply c.args.h c.args.port) (acts.Supplied _) tt c.self.invariant.1 (λ w B. tt) (idle_taking p G c.args.h c.args.port c.in-Some.place F H (λ l k q. supply_idle l k q) (λ i k q w. with_supplied q w) c.in-Some-supply_idle.reason c.in-Some-supply_idle.ensures))
 
 pub port_size-size-requires : goal.port_size-size-requires
 port_size-size-requires g c =
@@ -61,7 +62,7 @@ returns-in_default-block-clause-step g c =
     let G = c.self.inside.core in
     let F : Found p G c.args.h c.in-Some.place = found p G c.args.h c.in-Some.place c.in-Some.ensures.place c.in-Some.ensures.within in
     let H : HasPort p G c.args.h c.args.port c.in-Some.place F = with_port p G c.args.h c.args.port c.in-Some.place F (rw c.if-not-has_port.false at c.has_port.ensures) in
-    rw (← c.self.view_is) (wanting_on p G c.args.h c.args.port c.in-Some.place F H (λ l k q. supply_idle l k q) (λ i k q w. with_supplied q w) c.in_default-supply_idle.ensures)
+    rw (← c.self.view_is) (whole_over g.C.Client.progress _ c.self.inside.core (acts.Supply c.args.h c.args.port) (acts.Supplied _) tt c.self.invariant.1 (λ w B. tt) (wanting_on p G c.args.h c.args.port c.in-Some.place F H (λ l k q. supply_idle l k q) (λ i k q w. with_supplied q w) c.in_default-supply_idle.ensures))
 
 pub supply_header-requires : goal.supply_header-requires
 supply_header-requires g c =
@@ -80,7 +81,7 @@ returns-clause-step g c =
     let G = c.self.inside.core in
     let F : Found p G c.args.h c.in-Some.place = found p G c.args.h c.in-Some.place c.in-Some.ensures.place c.in-Some.ensures.within in
     let H : HasPort p G c.args.h c.args.port c.in-Some.place F = with_port p G c.args.h c.args.port c.in-Some.place F (rw c.if-not-has_port.false at c.has_port.ensures) in
-    rw (← c.self.view_is) (did_taking p G c.args.h c.args.port c.in-Some.place F H (λ l k q. supply_idle l k q) (λ i k q w. with_supplied q w) c.supply_header.new.self c.close_out.new.self c.in_default-supply_idle.ensures c.supply_header.ensures.change c.close_out.ensures.closes)
+    rw (← c.self.view_is) (whole_over g.C.Client.progress _ c.close_out.new.self (acts.Supply c.args.h c.args.port) (acts.Supplied _) tt c.self.invariant.1 (λ w B. tt) (did_taking p G c.args.h c.args.port c.in-Some.place F H (λ l k q. supply_idle l k q) (λ i k q w. with_supplied q w) c.supply_header.new.self c.close_out.new.self c.in_default-supply_idle.ensures c.supply_header.ensures.change c.close_out.ensures.closes))
 
 pub returns-in_default-clause-held : goal.returns-in_default-clause-held
 returns-in_default-clause-held g c = rw (← c.self.view_is) (keeps_same g.C.Client.progress c.self.inside.core)
@@ -97,7 +98,23 @@ returns-in_default-block-clause-held g c = rw (← c.self.view_is) (keeps_same g
 pub returns-clause-held : goal.returns-clause-held
 returns-clause-held g c =
     let G = c.self.inside.core in
-    rw (← c.self.view_is) (keeps_over g.C.Client.progress G c.close_out.new.self (acts.Supply c.args.h c.args.port) (acts.Supplied (Ok acted.Did)) refl refl (λ w. tt) c.law_of_worlds.ensures.one (rw (← c.self.view_is) at (returns-clause-step g c)))
+    rw (← c.self.view_is) (keeps_over g.C.Client.progress G c.close_out.new.self (acts.Supply c.args.h c.args.port) (acts.Supplied (Ok acted.Did)) refl refl (λ w. tt) c.law_of_worlds.ensures.one (let p = g.C.Client.progress in let G = c.self.inside.core in let F : Found p G c.args.h c.in-Some.place = found p G c.args.h c.in-Some.place c.in-Some.ensures.place c.in-Some.ensures.within in let H : HasPort p G c.args.h c.args.port c.in-Some.place F = with_port p G c.args.h c.args.port c.in-Some.place F (rw c.if-not-has_port.false at c.has_port.ensures) in did_taking p G c.args.h c.args.port c.in-Some.place F H (λ l k q. supply_idle l k q) (λ i k q w. with_supplied q w) c.supply_header.new.self c.close_out.new.self c.in_default-supply_idle.ensures c.supply_header.ensures.change c.close_out.ensures.closes))
 
 pub returns-clause-clients : goal.returns-clause-clients
 returns-clause-clients g c = rw (← c.self.view_is) (λ k. c.close_out.ensures.clients k ∙ c.supply_header.ensures.clients k)
+
+pub invariant_of-self : goal.invariant_of-self
+invariant_of-self g c =
+    let p = g.C.Client.progress in
+    let G = c.self.inside.core in
+    let F : Found p G c.args.h c.in-Some.place = found p G c.args.h c.in-Some.place c.in-Some.ensures.place c.in-Some.ensures.within in
+    let H : HasPort p G c.args.h c.args.port c.in-Some.place F = with_port p G c.args.h c.args.port c.in-Some.place F (rw c.if-not-has_port.false at c.has_port.ensures) in
+    (c.self.invariant.0, is_whole_over g.C.Client.progress _ c.close_out.new.self (acts.Supply c.args.h c.args.port) (acts.Supplied _) tt c.self.invariant.1 (λ w B. tt) (did_taking p G c.args.h c.args.port c.in-Some.place F H (λ l k q. supply_idle l k q) (λ i k q w. with_supplied q w) c.supply_header.new.self c.close_out.new.self c.in_default-supply_idle.ensures c.supply_header.ensures.change c.close_out.ensures.closes) c.close_out.ensures.settled)
+
+pub returns-clause-files : goal.returns-clause-files
+returns-clause-files g c =
+    let p = g.C.Client.progress in
+    let G = c.self.inside.core in
+    let F : Found p G c.args.h c.in-Some.place = found p G c.args.h c.in-Some.place c.in-Some.ensures.place c.in-Some.ensures.within in
+    let H : HasPort p G c.args.h c.args.port c.in-Some.place F = with_port p G c.args.h c.args.port c.in-Some.place F (rw c.if-not-has_port.false at c.has_port.ensures) in
+    rw (← c.self.view_is) (files_over g.C.Client.progress _ c.close_out.new.self (acts.Supply c.args.h c.args.port) (acts.Supplied _) tt c.self.invariant.1 (λ w B. tt) (did_taking p G c.args.h c.args.port c.in-Some.place F H (λ l k q. supply_idle l k q) (λ i k q w. with_supplied q w) c.supply_header.new.self c.close_out.new.self c.in_default-supply_idle.ensures c.supply_header.ensures.change c.close_out.ensures.closes))

@@ -1,9 +1,5 @@
-use Rattle.std.proofs.Common.{◌∙◌}
-use Rattle.port_stock.specs.Entries.{headers_of}
-use Rattle.port_stock.proofs.Stocking.{kept}
-use Rattle.il_machine.specs.Buffers.{is_block}
-use Rattle.port_stock.proofs.Calls.{count_read}
+use Rattle.port_stock.proofs.Turning.{blocks_is}
 use Rattle.port_stock.proofs.stock.Stock.blocks.Goals as goal
 
 pub returns : goal.returns
-returns c = rw (← c.self.view_is) ((rw c.deref.ensures.value at c.blocks-2.ensures) ∙ count_read (kept c.self.inside.key c.self.inside.ports.items (headers_of c.self.inside.entries.items) c.self.inside.next) (is_block))
+returns c = rw (← c.self.view_is) (blocks_is c.self.inside.key c.self.inside.ports.items c.self.inside.entries.items c.self.inside.blocks c.self.inside.next _ c.self.invariant)

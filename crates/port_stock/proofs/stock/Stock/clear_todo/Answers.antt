@@ -1,15 +1,14 @@
-use Rattle.port_stock.specs.Kept.{stocked}
-use Rattle.port_stock.specs.Entries.{headers_of}
-use Rattle.port_stock.proofs.Stocking.{kept}
+use Rattle.std.proofs.Common.{vec_capacity}
 use Rattle.stock_laws.specs.Changes.{todo_cleared}
-use Rattle.port_stock.proofs.Calls.{Becomes, clear_todo_becomes}
+use Rattle.port_stock.proofs.Turning.{Turns, clear_todo_turns, old}
+use Rattle.port_stock.specs.Kept.{stocked}
 use Rattle.port_stock.proofs.stock.Stock.clear_todo.Goals as goal
 
-becomes : (c : goal.After-clear_todo) → Becomes c.self.inside.key c.self.inside.ports.items (headers_of c.clear_todo.new.entries.items) c.self.inside.next (todo_cleared c.args.port (stocked (kept c.self.inside.key c.self.inside.ports.items (headers_of c.self.inside.entries.items) c.self.inside.next)))
-becomes c = clear_todo_becomes (kept c.self.inside.key c.self.inside.ports.items (headers_of c.self.inside.entries.items) c.self.inside.next) _ c.args.port c.self.invariant.headers c.clear_todo.ensures.headers
+turns : (c : goal.After-clear_todo) → Turns c.self.inside.key c.self.inside.ports.items c.clear_todo.new.entries.items c.self.inside.blocks c.self.inside.next (vec_capacity c.clear_todo.new.entries) (todo_cleared c.args.port (stocked (old c.self.inside.key c.self.inside.ports.items c.self.inside.entries.items c.self.inside.blocks c.self.inside.next _ c.self.invariant)))
+turns c = clear_todo_turns c.self.inside.key c.self.inside.ports.items c.self.inside.entries.items c.self.inside.blocks c.self.inside.next _ c.self.invariant c.clear_todo.new.entries.items _ c.args.port c.clear_todo.ensures.headers c.clear_todo.ensures.kept (c.clear_todo.ensures.keys c.self.inside.key c.self.invariant.keys) c.clear_todo.ensures.capacity
 
 pub invariant_of-self : goal.invariant_of-self
-invariant_of-self c = record { headers = (becomes c).lawful; kept = c.clear_todo.ensures.kept; keys = c.clear_todo.ensures.keys c.self.inside.key c.self.invariant.keys; room = rw c.clear_todo.ensures.capacity c.self.invariant.room }
+invariant_of-self c = (turns c).lawful
 
 pub returns : goal.returns
-returns c = rw (← c.self.view_is) (becomes c).is
+returns c = rw (← c.self.view_is) (turns c).is

@@ -1,10 +1,13 @@
-use Rattle.std.proofs.Common.{◌∙◌}
-use Rattle.port_stock.specs.Entries.{headers_of}
-use Rattle.port_stock.proofs.Stocking.{kept}
-use Rattle.std.proofs.Common.{◌&&◌, not}
-use Rattle.il_machine.specs.Headers.{is_home_of, is_owned_by}
-use Rattle.port_stock.proofs.Calls.{count_read}
+use Rattle.std.proofs.Common.{◌∙◌, ap}
+use Rattle.port_stock.specs.declared.port.Port.{Port}
+use Rattle.port_stock.proofs.Turning.{foreign_is, port_there}
 use Rattle.port_stock.proofs.stock.Stock.foreign.Goals as goal
 
+pub at-requires-clause-there : goal.at-requires-clause-there
+at-requires-clause-there c = rw c.deref.ensures.value (port_there c.self.inside.key c.self.inside.ports.items c.self.inside.entries.items c.self.inside.blocks c.self.inside.next _ c.self.invariant c.args.port (rw c.self.view_is c.requires))
+
+pub at-requires-clause-differ : goal.at-requires-clause-differ
+at-requires-clause-differ c = rw c.deref.ensures.value c.self.invariant.differ
+
 pub returns : goal.returns
-returns c = rw (← c.self.view_is) ((rw c.deref.ensures.value at c.foreign.ensures) ∙ count_read (kept c.self.inside.key c.self.inside.ports.items (headers_of c.self.inside.entries.items) c.self.inside.next) (λ h. is_owned_by c.args.port h.owner && not (is_home_of c.args.port h.home)))
+returns c = rw (← c.self.view_is) (ap (λ (p : Port). p.foreign) (rw c.deref.ensures.value at c.at.ensures) ∙ foreign_is c.self.inside.key c.self.inside.ports.items c.self.inside.entries.items c.self.inside.blocks c.self.inside.next _ c.self.invariant c.args.port)

@@ -1,9 +1,17 @@
-use Rattle.std.proofs.Common.{◌∙◌, ap, not}
-use Rattle.port_stock.specs.Entries.{headers_of}
-use Rattle.port_stock.proofs.Stocking.{kept}
+use Rattle.std.proofs.Common.{ℕ, List, ◌∙◌, ap, not}
 use Rattle.il_machine.specs.Lists.{is_empty}
-use Rattle.port_stock.proofs.Stocking.{todo_read}
+use Rattle.port_stock.specs.declared.port.Port.{Port}
+use Rattle.port_stock.proofs.Looking.{not_empty}
+use Rattle.port_stock.proofs.Turning.{todo_is, port_there}
 use Rattle.port_stock.proofs.stock.Stock.has_todo.Goals as goal
 
+pub at-requires-clause-there : goal.at-requires-clause-there
+at-requires-clause-there c = rw c.deref.ensures.value (port_there c.self.inside.key c.self.inside.ports.items c.self.inside.entries.items c.self.inside.blocks c.self.inside.next _ c.self.invariant c.args.port (rw c.self.view_is c.requires))
+
+pub at-requires-clause-differ : goal.at-requires-clause-differ
+at-requires-clause-differ c = rw c.deref.ensures.value c.self.invariant.differ
+
 pub returns : goal.returns
-returns c = rw (← c.self.view_is) ((rw c.deref.ensures.value at c.has_todo.ensures) ∙ ap (λ ns. not (is_empty ns)) (todo_read (kept c.self.inside.key c.self.inside.ports.items (headers_of c.self.inside.entries.items) c.self.inside.next) c.args.port))
+returns c =
+    let e = ap (λ (p : Port). p.todo.items) (rw c.deref.ensures.value at c.at.ensures) ∙ todo_is c.self.inside.key c.self.inside.ports.items c.self.inside.entries.items c.self.inside.blocks c.self.inside.next _ c.self.invariant c.args.port in
+    rw (← c.self.view_is) (ap not c.is_empty.ensures ∙ (not_empty c.at.result.now.todo.items ∙ ap (λ (ns : List ℕ). not (is_empty ns)) e))

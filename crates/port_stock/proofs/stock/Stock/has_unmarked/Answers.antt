@@ -1,9 +1,24 @@
-use Rattle.std.proofs.Common.{◌∙◌, ap, not}
-use Rattle.port_stock.specs.Entries.{headers_of}
-use Rattle.port_stock.proofs.Stocking.{kept}
+use Rattle.std.proofs.Common.{ℕ, List, ◌∙◌, ap, not, is_some}
 use Rattle.il_machine.specs.Lists.{is_empty}
-use Rattle.port_stock.proofs.Stocking.{unmarked_read}
+use Rattle.port_stock.specs.Kept.{unmarked_of}
+use Rattle.port_stock.specs.Entries.{headers_of}
+use Rattle.port_stock.specs.declared.port.Port.{Port}
+use Rattle.port_stock.proofs.Looking.{some_front}
+use Rattle.port_stock.proofs.Turning.{unmarked_is, port_there}
 use Rattle.port_stock.proofs.stock.Stock.has_unmarked.Goals as goal
 
+pub at-requires-clause-there : goal.at-requires-clause-there
+at-requires-clause-there c = rw c.deref.ensures.value (port_there c.self.inside.key c.self.inside.ports.items c.self.inside.entries.items c.self.inside.blocks c.self.inside.next _ c.self.invariant c.args.port (rw c.self.view_is c.requires))
+
+pub at-requires-clause-differ : goal.at-requires-clause-differ
+at-requires-clause-differ c = rw c.deref.ensures.value c.self.invariant.differ
+
+pub first_unmarked-requires : goal.first_unmarked-requires
+first_unmarked-requires c = rw c.deref-2.ensures.value c.self.invariant.once
+
 pub returns : goal.returns
-returns c = rw (← c.self.view_is) ((rw c.deref.ensures.value at c.has_unmarked.ensures) ∙ ap (λ ns. not (is_empty ns)) (unmarked_read (kept c.self.inside.key c.self.inside.ports.items (headers_of c.self.inside.entries.items) c.self.inside.next) c.args.port))
+returns c =
+    let p = ap (λ (p : Port). p.todo.items) (rw c.deref.ensures.value at c.at.ensures) in
+    let e = ap (unmarked_of (headers_of c.self.inside.entries.items)) p ∙ unmarked_is c.self.inside.key c.self.inside.ports.items c.self.inside.entries.items c.self.inside.blocks c.self.inside.next _ c.self.invariant c.args.port in
+    let f = rw c.deref-2.ensures.value at c.first_unmarked.ensures in
+    rw (← c.self.view_is) (c.is_some.ensures ∙ (ap is_some f ∙ (some_front _ ∙ ap (λ (ns : List ℕ). not (is_empty ns)) e)))

@@ -1,9 +1,18 @@
-use Rattle.std.proofs.Common.{◌∙◌}
-use Rattle.port_stock.specs.Entries.{headers_of}
-use Rattle.port_stock.proofs.Stocking.{kept}
-use Rattle.il_machine.specs.Headers.{is_for}
-use Rattle.port_stock.proofs.Calls.{count_read}
+use Rattle.std.proofs.Common.{◌∙◌, ap, arith}
+use Rattle.port_stock.specs.declared.port.Port.{Port}
+use Rattle.port_stock.proofs.Turning.{made_is, port_there}
 use Rattle.port_stock.proofs.stock.Stock.made.Goals as goal
 
+pub at-requires-clause-there : goal.at-requires-clause-there
+at-requires-clause-there c = rw c.deref.ensures.value (port_there c.self.inside.key c.self.inside.ports.items c.self.inside.entries.items c.self.inside.blocks c.self.inside.next _ c.self.invariant c.args.port (rw c.self.view_is c.requires))
+
+pub at-requires-clause-differ : goal.at-requires-clause-differ
+at-requires-clause-differ c = rw c.deref.ensures.value c.self.invariant.differ
+
 pub returns-clause-made : goal.returns-clause-made
-returns-clause-made c = rw (← c.self.view_is) ((rw c.deref.ensures.value at c.made.ensures) ∙ count_read (kept c.self.inside.key c.self.inside.ports.items (headers_of c.self.inside.entries.items) c.self.inside.next) (is_for c.args.port))
+returns-clause-made c = rw (← c.self.view_is) (ap (λ (p : Port). p.made) (rw c.deref.ensures.value at c.at.ensures) ∙ made_is c.self.inside.key c.self.inside.ports.items c.self.inside.entries.items c.self.inside.blocks c.self.inside.next _ c.self.invariant c.args.port)
+
+pub returns-clause-few : goal.returns-clause-few
+returns-clause-few c =
+    let e = ap (λ (p : Port). p.made) (rw c.deref.ensures.value at c.at.ensures) in
+    omega (arith, e, (c.self.invariant.tells.port c.args.port).made, c.self.invariant.headers.few c.args.port)

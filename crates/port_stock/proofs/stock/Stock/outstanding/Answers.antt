@@ -1,17 +1,13 @@
-use Rattle.std.proofs.Common.{◌∙◌}
-use Rattle.port_stock.specs.Entries.{headers_of}
-use Rattle.port_stock.proofs.Stocking.{kept}
-use Rattle.std.proofs.Common.{◌&&◌}
-use Rattle.il_machine.specs.Headers.{is_away, is_for}
-use Rattle.std.proofs.Common.{arith}
-use Rattle.port_stock.proofs.Calls.{count_read}
-use Rattle.port_stock.proofs.Lawful.{count_and}
+use Rattle.std.proofs.Common.{◌∙◌, ap}
+use Rattle.port_stock.specs.declared.port.Port.{Port}
+use Rattle.port_stock.proofs.Turning.{outstanding_is, port_there}
 use Rattle.port_stock.proofs.stock.Stock.outstanding.Goals as goal
 
-pub returns : goal.returns
-returns c = rw (← c.self.view_is) ((rw c.deref.ensures.value at c.outstanding.ensures) ∙ count_read (kept c.self.inside.key c.self.inside.ports.items (headers_of c.self.inside.entries.items) c.self.inside.next) (λ h. is_for c.args.port h && is_away h))
+pub at-requires-clause-there : goal.at-requires-clause-there
+at-requires-clause-there c = rw c.deref.ensures.value (port_there c.self.inside.key c.self.inside.ports.items c.self.inside.entries.items c.self.inside.blocks c.self.inside.next _ c.self.invariant c.args.port (rw c.self.view_is c.requires))
 
-pub overflow_cast-result : goal.overflow_cast-result
-overflow_cast-result c =
-    let all = rw c.deref.ensures.value at c.outstanding.ensures in
-    omega (arith, all, count_and (is_for c.args.port) is_away (headers_of c.self.inside.entries.items), c.self.invariant.headers.few c.args.port)
+pub at-requires-clause-differ : goal.at-requires-clause-differ
+at-requires-clause-differ c = rw c.deref.ensures.value c.self.invariant.differ
+
+pub returns : goal.returns
+returns c = rw (← c.self.view_is) (ap (λ (p : Port). p.outstanding) (rw c.deref.ensures.value at c.at.ensures) ∙ outstanding_is c.self.inside.key c.self.inside.ports.items c.self.inside.entries.items c.self.inside.blocks c.self.inside.next _ c.self.invariant c.args.port)

@@ -1,19 +1,42 @@
-use Rattle.port_stock.specs.Kept.{stocked}
-use Rattle.port_stock.specs.Entries.{headers_of}
-use Rattle.port_stock.proofs.Stocking.{kept}
+use Rattle.std.proofs.Common.{vec_capacity, ℕ, List, Some, slice_get, sym, ◌∙◌, ap}
 use Rattle.il_machine.specs.Headers.{in_todo}
 use Rattle.il_machine.specs.Stock.{pulled}
-use Rattle.port_stock.proofs.Calls.{Becomes, TakesFront, pull_becomes, pull_takes}
+use Rattle.port_stock.specs.Kept.{stocked}
+use Rattle.port_stock.specs.Entries.{headers_of}
+use Rattle.port_stock.proofs.Calls.{TakesFront}
+use Rattle.port_stock.proofs.Reading.{view}
+use Rattle.port_stock.proofs.Turning.{Turns, todo_is, old, port_there, pull_gives, pull_none_turns, pull_turns, pull_waits}
 use Rattle.port_stock.proofs.stock.Stock.pull_work.Goals as goal
 
-becomes : (c : goal.After-pull) → Becomes c.self.inside.key c.self.inside.ports.items (headers_of c.pull.new.entries.items) c.self.inside.next (pulled c.args.port (stocked (kept c.self.inside.key c.self.inside.ports.items (headers_of c.self.inside.entries.items) c.self.inside.next)))
-becomes c = pull_becomes (kept c.self.inside.key c.self.inside.ports.items (headers_of c.self.inside.entries.items) c.self.inside.next) _ c.args.port c.pull.result c.self.invariant.headers c.pull.ensures.taken
+pub pull-requires-clause-there : goal.pull-requires-clause-there
+pull-requires-clause-there c = port_there c.self.inside.key c.self.inside.ports.items c.self.inside.entries.items c.self.inside.blocks c.self.inside.next _ c.self.invariant c.args.port (rw c.self.view_is c.requires)
 
-takes : (c : goal.After-pull) → TakesFront (in_todo c.args.port) ((stocked (kept c.self.inside.key c.self.inside.ports.items (headers_of c.self.inside.entries.items) c.self.inside.next)).headers.todo c.args.port) (stocked (kept c.self.inside.key c.self.inside.ports.items (headers_of c.self.inside.entries.items) c.self.inside.next)) (stocked (kept c.self.inside.key c.self.inside.ports.items (headers_of c.pull.new.entries.items) c.self.inside.next)) c.pull.result
-takes c = pull_takes (kept c.self.inside.key c.self.inside.ports.items (headers_of c.self.inside.entries.items) c.self.inside.next) _ c.args.port c.pull.result (c.pull.ensures.own c.self.inside.key c.self.invariant.keys) c.pull.ensures.taken
+pub pull-requires-clause-differ : goal.pull-requires-clause-differ
+pull-requires-clause-differ c = c.self.invariant.differ
 
 pub invariant_of-self : goal.invariant_of-self
-invariant_of-self c = record { headers = (becomes c).lawful; kept = c.pull.ensures.kept; keys = c.pull.ensures.keys c.self.inside.key c.self.invariant.keys; room = rw c.pull.ensures.capacity c.self.invariant.room }
+invariant_of-self c = (pull_none_turns c.self.inside.key c.self.inside.ports.items c.self.inside.entries.items c.self.inside.blocks c.self.inside.next _ c.self.invariant c.pull.new.ports.items c.args.port (sym c.in_default.is ∙ c.pull.ensures.front) c.pull.ensures.ports).lawful
+
+pub returns-in_default-clause-front : goal.returns-in_default-clause-front
+returns-in_default-clause-front c = rw (← c.self.view_is) (sym c.in_default.is ∙ (c.pull.ensures.front ∙ ap (λ (ns : List ℕ). slice_get ns 0) (todo_is c.self.inside.key c.self.inside.ports.items c.self.inside.entries.items c.self.inside.blocks c.self.inside.next _ c.self.invariant c.args.port)))
+
+pub returns-in_default-clause-stock : goal.returns-in_default-clause-stock
+returns-in_default-clause-stock c = rw (← c.self.view_is) (pull_none_turns c.self.inside.key c.self.inside.ports.items c.self.inside.entries.items c.self.inside.blocks c.self.inside.next _ c.self.invariant c.pull.new.ports.items c.args.port (sym c.in_default.is ∙ c.pull.ensures.front) c.pull.ensures.ports).is
+
+pub take-requires-clause-waits : goal.take-requires-clause-waits
+take-requires-clause-waits c = pull_waits c.self.inside.key c.self.inside.ports.items c.self.inside.entries.items c.self.inside.blocks c.self.inside.next _ c.self.invariant c.args.port c.in-Some.number (sym c.in-Some.is ∙ c.pull.ensures.front)
+
+turns : (c : goal.After-take) → Turns c.self.inside.key c.pull.new.ports.items c.take.new.entries.items c.self.inside.blocks c.self.inside.next (vec_capacity c.take.new.entries) (pulled c.args.port (stocked (old c.self.inside.key c.self.inside.ports.items c.self.inside.entries.items c.self.inside.blocks c.self.inside.next _ c.self.invariant)))
+turns c =
+    pull_turns c.self.inside.key c.self.inside.ports.items c.self.inside.entries.items c.self.inside.blocks c.self.inside.next _ c.self.invariant c.pull.new.ports.items c.take.new.entries.items _ c.args.port c.in-Some.number c.take.result (sym c.in-Some.is ∙ c.pull.ensures.front) c.take.ensures.taken c.take.ensures.kept
+    (c.take.ensures.keys c.self.inside.key c.self.invariant.keys) c.pull.ensures.ports c.take.ensures.capacity
+
+takes : (c : goal.After-take) → TakesFront (in_todo c.args.port) ((stocked (old c.self.inside.key c.self.inside.ports.items c.self.inside.entries.items c.self.inside.blocks c.self.inside.next _ c.self.invariant)).headers.todo c.args.port) (stocked (old c.self.inside.key c.self.inside.ports.items c.self.inside.entries.items c.self.inside.blocks c.self.inside.next _ c.self.invariant)) (stocked (view c.self.inside.key c.pull.new.ports.items (headers_of c.take.new.entries.items) c.self.inside.next)) (Some c.take.result)
+takes c =
+    pull_gives c.self.inside.key c.self.inside.ports.items c.self.inside.entries.items c.self.inside.blocks c.self.inside.next _ c.self.invariant c.pull.new.ports.items c.take.new.entries.items _ c.args.port c.in-Some.number c.take.result (sym c.in-Some.is ∙ c.pull.ensures.front) c.take.ensures.taken (c.take.ensures.own c.self.inside.key c.self.invariant.keys) (turns c)
+
+pub invariant_of-self-2 : goal.invariant_of-self-2
+invariant_of-self-2 c = (turns c).lawful
 
 pub returns-clause-front : goal.returns-clause-front
 returns-clause-front c = rw (← c.self.view_is) (takes c).front
@@ -25,4 +48,4 @@ pub returns-clause-outside : goal.returns-clause-outside
 returns-clause-outside c = (takes c).outside
 
 pub returns-clause-stock : goal.returns-clause-stock
-returns-clause-stock c = rw (← c.self.view_is) (becomes c).is
+returns-clause-stock c = rw (← c.self.view_is) (turns c).is

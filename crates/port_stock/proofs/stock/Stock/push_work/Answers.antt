@@ -1,31 +1,65 @@
-use Rattle.port_stock.specs.Kept.{Kept, stocked}
-use Rattle.std.proofs.Common.{◌≡◌, sym, ◌∙◌, subst}
-use Rattle.port_stock.specs.Entries.{AreOf, headers_of}
-use Rattle.port_stock.proofs.Stocking.{kept, reads}
+use Rattle.std.proofs.Common.{vec_capacity, ℕ, sym, subst}
 use Rattle.il_machine.specs.Buffers.{load_in}
 use Rattle.il_machine.specs.Stock.{pushed}
+use Rattle.port_stock.specs.Kept.{stocked}
 use Rattle.port_stock.specs.Conditions.{IsOutside}
-use Rattle.port_stock.proofs.Calls.{Becomes, outside_flat, push_becomes}
+use Rattle.port_stock.specs.Entries.{AreOf}
+use Rattle.port_stock.proofs.Knowing.{counted_behind, known_put}
+use Rattle.port_stock.proofs.Turning.{Turns, before_for, count_all, count_before, count_peer, count_port, old, own_key, port_there, push_turns, put_done_room, put_todo_room, table_out}
 use Rattle.port_stock.proofs.stock.Stock.push_work.Goals as goal
 
-pub put-requires-clause-outside : goal.put-requires-clause-outside
-put-requires-clause-outside c = outside_flat (kept c.self.inside.key c.self.inside.ports.items (headers_of c.self.inside.entries.items) c.self.inside.next) c.args.header (rw (c.self.view_is) c.requires.outside)
+pub put-before-requires-clause-outside : goal.put-before-requires-clause-outside
+put-before-requires-clause-outside c = table_out c.self.inside.key c.self.inside.ports.items c.self.inside.entries.items c.self.inside.blocks c.self.inside.next _ c.self.invariant c.args.header (rw c.self.view_is c.requires.outside)
 
-old : goal.After-put → Kept
-old c = kept c.self.inside.key c.self.inside.ports.items (headers_of c.self.inside.entries.items) c.self.inside.next
+pub put-before-requires-clause-once : goal.put-before-requires-clause-once
+put-before-requires-clause-once c = c.self.invariant.once
 
-becomes : (c : goal.After-put) → Becomes c.self.inside.key c.self.inside.ports.items (headers_of c.put.new.entries.items) c.self.inside.next (pushed c.args.port c.args.spot c.args.header.held.number (load_in c.args.header.held) (stocked (kept c.self.inside.key c.self.inside.ports.items (headers_of c.self.inside.entries.items) c.self.inside.next)))
-becomes c = push_becomes (kept c.self.inside.key c.self.inside.ports.items (headers_of c.self.inside.entries.items) c.self.inside.next) _ c.args.port c.args.spot c.args.header c.self.invariant.headers (rw (c.self.view_is) c.requires.outside) (rw (c.self.view_is) c.requires.made_for) c.put.ensures.headers
+pub put-before-requires-clause-kept : goal.put-before-requires-clause-kept
+put-before-requires-clause-kept c = c.self.invariant.kept
 
--- the header that is put has the key of those that are there
-kept_keys : (c : goal.After-put) → AreOf c.self.inside.key c.put.new.entries.items
-kept_keys c =
-    let outside : IsOutside c.args.header (stocked (kept c.self.inside.key c.self.inside.ports.items (headers_of c.self.inside.entries.items) c.self.inside.next)) = rw (c.self.view_is) c.requires.outside in
-    let own : c.args.header.key ≡ c.self.inside.key = outside.0 ∙ sym (reads (kept c.self.inside.key c.self.inside.ports.items (headers_of c.self.inside.entries.items) c.self.inside.next)).key in
-    subst (λ k. AreOf k c.put.new.entries.items) own (c.put.ensures.keys (subst (λ k. AreOf k c.self.inside.entries.items) (sym own) c.self.invariant.keys))
+pub put-requires-clause-there : goal.put-requires-clause-there
+put-requires-clause-there c = port_there c.self.inside.key c.self.inside.ports.items c.self.inside.entries.items c.self.inside.blocks c.self.inside.next _ c.self.invariant c.args.port (rw c.self.view_is c.requires.port)
+
+pub put-requires-clause-differ : goal.put-requires-clause-differ
+put-requires-clause-differ c = c.self.invariant.differ
+
+pub put-requires-clause-todo : goal.put-requires-clause-todo
+put-requires-clause-todo c = put_todo_room c.self.inside.key c.self.inside.ports.items c.self.inside.entries.items c.self.inside.blocks c.self.inside.next _ c.self.invariant c.args.header c.args.port c.put-before.result (rw c.self.view_is c.requires.outside) (rw c.self.view_is c.requires.made_for) c.put-before.ensures.before
+
+pub put-requires-clause-done : goal.put-requires-clause-done
+put-requires-clause-done c = put_done_room c.self.inside.key c.self.inside.ports.items c.self.inside.entries.items c.self.inside.blocks c.self.inside.next _ c.self.invariant c.args.header c.args.port c.put-before.result (rw c.self.view_is c.requires.outside) (rw c.self.view_is c.requires.made_for) c.put-before.ensures.before
+
+pub recount-requires-clause-port : goal.recount-requires-clause-port
+recount-requires-clause-port c = rw c.put.ensures.keys (count_port c.self.inside.key c.self.inside.ports.items c.self.inside.entries.items c.self.inside.blocks c.self.inside.next _ c.self.invariant c.args.header.held.number c.put-before.result c.put-before.ensures.before)
+
+pub recount-requires-clause-peer : goal.recount-requires-clause-peer
+recount-requires-clause-peer c = rw c.put.ensures.keys (count_peer c.self.inside.key c.self.inside.ports.items c.self.inside.entries.items c.self.inside.blocks c.self.inside.next _ c.self.invariant c.args.header.held.number c.put-before.result c.put-before.ensures.before)
+
+pub recount-requires-clause-differ : goal.recount-requires-clause-differ
+recount-requires-clause-differ c = c.put.ensures.differ
+
+pub recount-requires-clause-counted : goal.recount-requires-clause-counted
+recount-requires-clause-counted c =
+    counted_behind c.args.port c.args.spot _ _ c.self.inside.ports.items c.put.new.ports.items (count_all c.self.inside.key c.self.inside.ports.items c.self.inside.entries.items c.self.inside.blocks c.self.inside.next _ c.self.invariant c.args.header.held.number c.put-before.result c.put-before.ensures.before) c.put.ensures
+
+pub recount-requires-clause-before : goal.recount-requires-clause-before
+recount-requires-clause-before c = count_before c.self.inside.key c.self.inside.ports.items c.self.inside.entries.items c.self.inside.blocks c.self.inside.next _ c.self.invariant c.args.header.held.number c.put-before.result c.put-before.ensures.before
+
+pub recount-requires-clause-after : goal.recount-requires-clause-after
+recount-requires-clause-after c =
+    rw c.put_state-after.ensures
+    (known_put c.args.port c.args.spot c.put-before.result (before_for c.self.inside.key c.self.inside.ports.items c.self.inside.entries.items c.self.inside.blocks c.self.inside.next _ c.self.invariant c.args.header c.args.port c.put-before.result c.put-before.ensures.before (rw c.self.view_is c.requires.made_for)))
+
+turns : (c : goal.After-recount) → Turns c.self.inside.key c.recount.new.ports.items c.put-before.new.entries.items c.self.inside.blocks c.self.inside.next (vec_capacity c.put-before.new.entries) (pushed c.args.port c.args.spot c.args.header.held.number (load_in c.args.header.held) (stocked (old c.self.inside.key c.self.inside.ports.items c.self.inside.entries.items c.self.inside.blocks c.self.inside.next _ c.self.invariant)))
+turns c =
+    let outside : IsOutside c.args.header (stocked (old c.self.inside.key c.self.inside.ports.items c.self.inside.entries.items c.self.inside.blocks c.self.inside.next _ c.self.invariant)) = rw c.self.view_is c.requires.outside in
+    let own = own_key c.self.inside.key c.self.inside.ports.items c.self.inside.entries.items c.self.inside.blocks c.self.inside.next _ c.self.invariant c.args.header outside in
+    let keys : AreOf c.self.inside.key c.put-before.new.entries.items = subst (λ (k : ℕ). AreOf k c.put-before.new.entries.items) own (c.put-before.ensures.keys (subst (λ (k : ℕ). AreOf k c.self.inside.entries.items) (sym own) c.self.invariant.keys)) in
+    push_turns c.self.inside.key c.self.inside.ports.items c.self.inside.entries.items c.self.inside.blocks c.self.inside.next _ c.self.invariant c.put.new.ports.items c.recount.new.ports.items c.put-before.new.entries.items _ c.args.port c.args.spot c.args.header c.put-before.result c.put_state-after.result
+    outside (rw c.self.view_is c.requires.made_for) c.put-before.ensures.before c.put_state-after.ensures c.put-before.ensures.headers c.put-before.ensures.kept keys (rw c.id-number.ensures at c.put.ensures) c.recount.ensures c.put-before.ensures.capacity
 
 pub invariant_of-self : goal.invariant_of-self
-invariant_of-self c = record { headers = (becomes c).lawful; kept = c.put.ensures.kept; keys = kept_keys c; room = rw c.put.ensures.capacity c.self.invariant.room }
+invariant_of-self c = (turns c).lawful
 
 pub returns : goal.returns
-returns c = rw (← c.self.view_is) (becomes c).is
+returns c = rw (← c.self.view_is) (turns c).is

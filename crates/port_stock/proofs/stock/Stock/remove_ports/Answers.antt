@@ -1,16 +1,15 @@
-use Rattle.port_stock.specs.Kept.{stocked}
-use Rattle.port_stock.specs.Entries.{headers_of}
-use Rattle.port_stock.proofs.Stocking.{kept}
+use Rattle.std.proofs.Common.{vec_capacity}
 use Rattle.il_machine.specs.Stock.{removed}
-use Rattle.port_stock.proofs.Calls.{Becomes}
-use Rattle.port_stock.proofs.Keeping.{left_room, remove_becomes}
+use Rattle.port_stock.specs.Kept.{stocked}
+use Rattle.port_stock.proofs.Turning.{Turns, old}
+use Rattle.port_stock.proofs.Adding.{remove_turns}
 use Rattle.port_stock.proofs.stock.Stock.remove_ports.Goals as goal
 
-becomes : (c : goal.After-remove) → Becomes c.self.inside.key c.remove.new.ports.items (headers_of c.self.inside.entries.items) c.self.inside.next (removed c.args.component (stocked (kept c.self.inside.key c.self.inside.ports.items (headers_of c.self.inside.entries.items) c.self.inside.next)))
-becomes c = remove_becomes (kept c.self.inside.key c.self.inside.ports.items (headers_of c.self.inside.entries.items) c.self.inside.next) _ c.args.component c.self.invariant.headers (rw (c.self.view_is) c.requires) c.remove.ensures
+turns : (c : goal.After-remove) → Turns c.self.inside.key c.remove.new.ports.items c.self.inside.entries.items c.self.inside.blocks c.self.inside.next (vec_capacity c.self.inside.entries) (removed c.args.component (stocked (old c.self.inside.key c.self.inside.ports.items c.self.inside.entries.items c.self.inside.blocks c.self.inside.next _ c.self.invariant)))
+turns c = remove_turns c.self.inside.key c.self.inside.ports.items c.self.inside.entries.items c.self.inside.blocks c.self.inside.next _ c.self.invariant c.remove.new.ports.items c.args.component c.remove.ensures (rw (c.self.view_is) c.requires)
 
 pub invariant_of-self : goal.invariant_of-self
-invariant_of-self c = record { headers = (becomes c).lawful; kept = c.self.invariant.kept; keys = c.self.invariant.keys; room = left_room c.args.component _ _ _ c.remove.ensures c.self.invariant.room }
+invariant_of-self c = (turns c).lawful
 
 pub returns : goal.returns
-returns c = rw (← c.self.view_is) (becomes c).is
+returns c = rw (← c.self.view_is) (turns c).is

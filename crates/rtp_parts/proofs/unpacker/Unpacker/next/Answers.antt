@@ -53,5 +53,5 @@ loop-held-preserved g c =
       told = c.in-Ok.ensures.told ∙ c.loop-held.invariant.told;
       ends = c.in-Ok.ensures.ends ∙ c.loop-held.invariant.ends;
       size = c.in-Ok.ensures.size ∙ c.loop-held.invariant.size;
-      later = omega (arith, c.in-Ok.ensures.later, c.loop-held.invariant.later);
+      stands = c.in-Ok.ensures.stands ∙ c.loop-held.invariant.stands;
     }

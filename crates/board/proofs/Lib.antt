@@ -1,0 +1,11 @@
+pub mod Bare
+pub mod Owning
+pub mod Going
+pub mod Serves
+pub mod LastCall
+pub mod Seats
+pub mod Showings
+pub mod Openings
+pub mod Ending
+pub mod Calling
+pub mod OneRun

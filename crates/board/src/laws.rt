@@ -1,0 +1,26 @@
+//! What the machine's laws say of a history of turns, stated on a function that does nothing.
+ghost use Rattle.std.specs.Prelude.{ℕ, List};
+ghost use Rattle.il_machine.specs.World.{World, no_world};
+ghost use Rattle.il_machine.specs.Acts.{Act as MachineAct, Reply as MachineReply};
+ghost use Rattle.il_machine.specs.Run.{Run};
+ghost use Rattle.il_machine.specs.Whole.{Stands};
+ghost use Rattle.il_graph.specs.Shown.{kept};
+ghost use Rattle.turnstile.specs.declared.entry.Entry.{Entry};
+ghost use Rattle.graph_acts.specs.Plain.{sight_of};
+ghost use Rattle.board.specs.declared.asked.Asked.{Asked};
+ghost use Rattle.board.specs.declared.asked.Told.{Told};
+ghost use Rattle.board.specs.declared.watched.Watched.{Watched};
+ghost use Rattle.board.specs.Asking.{bare_log, plain_log};
+ghost use Rattle.board.specs.Histories.{Legal, graph_of};
+ghost use Rattle.board.specs.Together.{AreOneRun};
+
+use note_queues::Client;
+use outside_io::{Sink, Source};
+
+/// A legal history of turns, behind any acts that lead from a graph without components to a world that the board's first graph stood for, is
+/// one run of the machine with them.
+pub fn law_of_histories<S: Source, K: Sink, C: Client>()
+    ensures { (key units : ℕ) (xs : List (MachineAct × MachineReply)) (w : World) (first : Watched S K C) (log : List (Entry (Asked S K C) (Told S K C)))
+        → Run (no_world key units) xs w → Stands (kept C.progress (graph_of first)) w → Legal (sight_of C.progress S.place S.size S.told K.told) first log
+        → AreOneRun key units xs (plain_log (sight_of C.progress S.place S.size S.told K.told) (bare_log log)) }
+{}

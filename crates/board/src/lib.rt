@@ -1,0 +1,21 @@
+//! A graph of components that several threads use in turns, and whose states they read without waiting.
+#![tactic(auto)]
+
+mod asked;
+mod boards;
+mod calls;
+mod laws;
+mod making;
+mod pass;
+mod serving;
+mod showing;
+mod threads;
+mod watched;
+
+pub use asked::{Asked, Told};
+pub use boards::Board;
+pub use graph_acts::{Act, Reply};
+pub use laws::law_of_histories;
+pub use making::OutOfMemory;
+pub use pass::BoardPass;
+pub use watched::Watched;

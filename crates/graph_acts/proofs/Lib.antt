@@ -1,0 +1,4 @@
+pub mod Worlds
+pub mod Acts
+pub mod HeaderActs
+pub mod ClientActs

@@ -1,0 +1,18 @@
+use Rattle.graph_acts.proofs.Acts.{headers_stay}
+use Rattle.graph_acts.proofs.ClientActs.{freed_clients, freed_leaves}
+use Rattle.graph_acts.proofs.served.Served.free_handle.Goals as goal
+
+pub returns : goal.returns
+returns g c =
+    let e = c.free_handle.ensures in
+    let l = c.law_of_worlds.ensures in
+    let old = c.args.self.now.graph in
+    let new = c.free_handle.new.self in record {
+      step = λ w s m. e.step w s;
+      replied = tt;
+      sized = tt;
+      headers = headers_stay old new e.held;
+      clients = freed_clients c.args.h c.free_handle.result old new e.client e.gone e.clients e.unchanged;
+      leaves = λ k gone w s. freed_leaves g.C.Client.progress c.args.h c.free_handle.result old k w s (l.sound w s) (l.told w s) l.out e.client gone;
+      told = tt;
+    }

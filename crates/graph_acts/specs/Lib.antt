@@ -1,0 +1,4 @@
+pub mod Plain
+pub mod Replying
+pub mod Holding
+pub mod Moving

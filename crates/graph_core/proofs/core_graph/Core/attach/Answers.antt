@@ -1,0 +1,48 @@
+use Rattle.std.proofs.Common.{◌≡◌, ◌<◌, None, length, slice_get, Some, sym, ◌∙◌, ap}
+use Rattle.std.proofs.lemmas.Option.{slice_get-get_or}
+use Rattle.il_machine.specs.World.{Component}
+use Rattle.il_machine.specs.Files.{attached}
+use Rattle.il_component.specs.Entries.{component_of}
+use Rattle.il_component.specs.Files.{offered}
+use Rattle.graph_core.specs.Entries.{Entries}
+use Rattle.graph_core.proofs.Clients.{clients_set}
+use Rattle.graph_core.proofs.Replacing.{there, within}
+use Rattle.graph_core.proofs.Filing.{attached_is, filed, steps_filed, graph_filed}
+use Rattle.graph_core.proofs.core_graph.Core.attach.Goals as goal
+
+pub invariant_of-self : goal.invariant_of-self
+invariant_of-self g c =
+    let i = c.self.inside in
+    let p = g.C.Client.progress in
+    let e = c.index_mut-component.result.now in
+    let G : Entries (g.row.C.Denot) = record { entries = i.components.items; stock = i.stock; units = i.units; waits = i.waits; numbered = i.registry.given } in
+    let asked = rw (← c.self.view_is) at c.requires in
+    let b : c.args.place < length i.components.items = within p G c.args.place _ asked.1 in
+    let at : slice_get i.components.items c.args.place ≡ Some e = slice_get-get_or i.components.items c.args.place e b ∙ ap Some (sym c.index_mut-component.ensures.value) in
+    let r = rw (there p G c.args.place e at) at asked.1 in
+    let q : component_of c.attach.new.self ≡ filed (attached (offered c.args.file asked.0 None)) (component_of e) = rw (attached_is c.args.file asked.0 None) c.attach.ensures.component in
+    graph_filed p i.components.items i.registry i.stock i.units i.waits i.components.cap c.args.place e c.attach.new.self (offered c.args.file asked.0 None) c.self.invariant at c.attach.ensures.kept q r
+
+pub returns-clause-change : goal.returns-clause-change
+returns-clause-change g c =
+    let i = c.self.inside in
+    let p = g.C.Client.progress in
+    let e = c.index_mut-component.result.now in
+    let G : Entries (g.row.C.Denot) = record { entries = i.components.items; stock = i.stock; units = i.units; waits = i.waits; numbered = i.registry.given } in
+    let asked = rw (← c.self.view_is) at c.requires in
+    let b : c.args.place < length i.components.items = within p G c.args.place _ asked.1 in
+    let at : slice_get i.components.items c.args.place ≡ Some e = slice_get-get_or i.components.items c.args.place e b ∙ ap Some (sym c.index_mut-component.ensures.value) in
+    λ size known.
+    let q : component_of c.attach.new.self ≡ filed (attached (offered c.args.file size known)) (component_of e) = rw (attached_is c.args.file size known) c.attach.ensures.component in
+    rw (← c.self.view_is, there p G c.args.place e at) (steps_filed p G c.args.place e c.attach.new.self (offered c.args.file size known) at c.attach.ensures.kept q)
+
+pub returns-clause-clients : goal.returns-clause-clients
+returns-clause-clients g c =
+    let i = c.self.inside in
+    let p = g.C.Client.progress in
+    let e = c.index_mut-component.result.now in
+    let G : Entries (g.row.C.Denot) = record { entries = i.components.items; stock = i.stock; units = i.units; waits = i.waits; numbered = i.registry.given } in
+    let asked = rw (← c.self.view_is) at c.requires in
+    let b : c.args.place < length i.components.items = within p G c.args.place _ asked.1 in
+    let at : slice_get i.components.items c.args.place ≡ Some e = slice_get-get_or i.components.items c.args.place e b ∙ ap Some (sym c.index_mut-component.ensures.value) in
+    rw (← c.self.view_is) (clients_set i.components.items c.args.place e c.attach.new.self at (ap (λ (x : Component). x.handle) c.attach.ensures.component) c.attach.ensures.kept.client)

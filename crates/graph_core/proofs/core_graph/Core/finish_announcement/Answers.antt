@@ -1,0 +1,58 @@
+use Rattle.std.proofs.Common.{◌≡◌, ◌<◌, true, length, slice_get, Option, Some, IsSomeAnd, refl, sym, ◌∙◌, ap, subst}
+use Rattle.std.proofs.lemmas.Option.{slice_get-get_or}
+use Rattle.il_machine.specs.World.{Component}
+use Rattle.il_component.specs.Entries.{component_of}
+use Rattle.graph_core.specs.Entries.{Entries}
+use Rattle.graph_core.proofs.Announced.{announcing_by, graph_told, told_handle, told_returns, there_announcing}
+use Rattle.graph_core.proofs.Clients.{clients_set}
+use Rattle.graph_core.proofs.Replacing.{there, within}
+use Rattle.graph_core.proofs.core_graph.Core.finish_announcement.Goals as goal
+
+pub announce-requires : goal.announce-requires
+announce-requires g c =
+    let i = c.self.inside in
+    let p = g.C.Client.progress in
+    let e = c.index_mut-component.result.now in
+    let G : Entries (g.row.C.Denot) = record { entries = i.components.items; stock = i.stock; units = i.units; waits = i.waits; numbered = i.registry.given } in
+    let asked = rw (← c.self.view_is) at c.requires in
+    let b : c.args.place < length i.components.items = within p G c.args.place _ asked in
+    let at : slice_get i.components.items c.args.place ≡ Some e = slice_get-get_or i.components.items c.args.place e b ∙ ap Some (sym c.index_mut-component.ensures.value) in
+    let A = announcing_by (component_of e) e.work refl (subst (λ (o : Option Component). IsSomeAnd o (λ x. IsSomeAnd x.work (λ work. work.announces ≡ true))) (there p G c.args.place e at) asked) in
+    there_announcing (component_of e) A
+
+pub invariant_of-self : goal.invariant_of-self
+invariant_of-self g c =
+    let i = c.self.inside in
+    let p = g.C.Client.progress in
+    let e = c.index_mut-component.result.now in
+    let G : Entries (g.row.C.Denot) = record { entries = i.components.items; stock = i.stock; units = i.units; waits = i.waits; numbered = i.registry.given } in
+    let asked = rw (← c.self.view_is) at c.requires in
+    let b : c.args.place < length i.components.items = within p G c.args.place _ asked in
+    let at : slice_get i.components.items c.args.place ≡ Some e = slice_get-get_or i.components.items c.args.place e b ∙ ap Some (sym c.index_mut-component.ensures.value) in
+    let A = announcing_by (component_of e) e.work refl (subst (λ (o : Option Component). IsSomeAnd o (λ x. IsSomeAnd x.work (λ work. work.announces ≡ true))) (there p G c.args.place e at) asked) in
+    graph_told p i.components.items i.registry i.stock i.units i.waits i.components.cap c.args.place e c.announce.new.self c.self.invariant at A c.announce.ensures.component c.announce.ensures.kept
+
+pub returns-clause-change : goal.returns-clause-change
+returns-clause-change g c =
+    let i = c.self.inside in
+    let p = g.C.Client.progress in
+    let e = c.index_mut-component.result.now in
+    let G : Entries (g.row.C.Denot) = record { entries = i.components.items; stock = i.stock; units = i.units; waits = i.waits; numbered = i.registry.given } in
+    let asked = rw (← c.self.view_is) at c.requires in
+    let b : c.args.place < length i.components.items = within p G c.args.place _ asked in
+    let at : slice_get i.components.items c.args.place ≡ Some e = slice_get-get_or i.components.items c.args.place e b ∙ ap Some (sym c.index_mut-component.ensures.value) in
+    let A = announcing_by (component_of e) e.work refl (subst (λ (o : Option Component). IsSomeAnd o (λ x. IsSomeAnd x.work (λ work. work.announces ≡ true))) (there p G c.args.place e at) asked) in
+    λ done. rw (← c.self.view_is) (told_returns p G c.args.place e c.announce.new.self at A c.announce.ensures.component c.announce.ensures.kept done)
+
+pub returns-clause-clients : goal.returns-clause-clients
+returns-clause-clients g c =
+    let i = c.self.inside in
+    let p = g.C.Client.progress in
+    let e = c.index_mut-component.result.now in
+    let G : Entries (g.row.C.Denot) = record { entries = i.components.items; stock = i.stock; units = i.units; waits = i.waits; numbered = i.registry.given } in
+    let asked = rw (← c.self.view_is) at c.requires in
+    let b : c.args.place < length i.components.items = within p G c.args.place _ asked in
+    let at : slice_get i.components.items c.args.place ≡ Some e = slice_get-get_or i.components.items c.args.place e b ∙ ap Some (sym c.index_mut-component.ensures.value) in
+    let A = announcing_by (component_of e) e.work refl (subst (λ (o : Option Component). IsSomeAnd o (λ x. IsSomeAnd x.work (λ work. work.announces ≡ true))) (there p G c.args.place e at) asked) in
+    let same : (c.announce.new.self).handle ≡ e.handle = ap (λ (x : Component). x.handle) c.announce.ensures.component ∙ told_handle (component_of e) in
+    rw (← c.self.view_is) (clients_set i.components.items c.args.place e c.announce.new.self at same c.announce.ensures.kept.client)

@@ -1,5 +1,0 @@
-use Rattle.std.proofs.Common.{length}
-use Rattle.il_flow.proofs.picking.+pick_ports.Given as goal
-
-abbrev pub decreases-pick_ports : goal.decreases-pick_ports
-decreases-pick_ports l = length l.gives.now

@@ -1,5 +1,0 @@
-use Rattle.std.proofs.Common.{length}
-use Rattle.il_flow.proofs.returning.+mark_from.Given as goal
-
-abbrev pub decreases-mark_from : goal.decreases-mark_from
-decreases-mark_from l = length l.places.now

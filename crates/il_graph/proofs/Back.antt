@@ -1,0 +1,412 @@
+-- A component's work comes back to a graph, with its part.
+use Rattle.std.proofs.Common.{◌≡◌, ◌≢◌, inl, inr, ℕ, zero, suc, ◌+◌, ◌<◌, Bool, true, false, ◌||◌, List, [], ◌∷◌, length, map, set, Option, Some, None, MatchOption, IsSomeAnd, option_map, option_and_then, slice_get, ◌&&◌, nat_eq, refl, sym, ◌∙◌, ap, subst, arith, eqb-true, length-set}
+use Rattle.std.specs.Prelude.{is_some, unwrap_or}
+use Rattle.std.proofs.lemmas.List.{length-map}
+use Rattle.std.proofs.lemmas.Option.{slice_get-map}
+use Rattle.omx_types.specs.declared.fault.PartFault.{PartFault}
+use Rattle.omx_types.specs.declared.handle.Handle.{Handle}
+use Rattle.part_api.specs.declared.attached.Attached.{Attached}
+use Rattle.part_api.specs.declared.attached.Attached.TheVariants.{From, To}
+use Rattle.part_api.specs.Terms.{Terms, Writing}
+use Rattle.il_machine.specs.declared.answer.Progress.{Progress}
+use Rattle.il_machine.specs.declared.port.Port.{Port}
+use Rattle.il_machine.specs.Acts as acts
+use Rattle.il_machine.specs.Answers.{component_named}
+use Rattle.il_machine.specs.Due.{first_due, ClosesTo}
+use Rattle.il_machine.specs.Effect.{at_numbered}
+use Rattle.il_machine.specs.Finishing.{announced, announced_at, Finish, finished, gone_through, part_after, part_by, stepped_back, with_landed}
+use Rattle.il_machine.specs.Kinds.{is_source}
+use Rattle.il_machine.specs.Look.{Look}
+use Rattle.il_machine.specs.Parts.{file_format, frames_left, terms_of}
+use Rattle.il_machine.specs.Run.{Meets, Step}
+use Rattle.il_machine.specs.Settings.{same_format}
+use Rattle.il_machine.specs.Sound.{Sound}
+use Rattle.il_machine.specs.Stepping.{Done, IsDoneBy, IsDoneOf}
+use Rattle.il_machine.specs.Whole.{HasDone, HasParts, IsBack, PartSeen, Stands, StepsWhere}
+use Rattle.il_machine.specs.World.{Component, Stream, Work, World, component_numbered, is_at, number_of, place_numbered, place_of, port_of, same_handle, stream_of, with_component}
+use Rattle.il_machine.specs.Places.{first_place}
+use Rattle.il_machine.proofs.Places.{is_first_place, passes_at}
+use Rattle.machine_laws.proofs.Finding.{either}
+use Rattle.machine_laws.proofs.Granting.{placed_there}
+use Rattle.machine_laws.proofs.Keys.{there_is}
+use Rattle.machine_laws.proofs.Pairs.{apart_numbers}
+use Rattle.machine_laws.proofs.Steps.{sound_after}
+use Rattle.whole_laws.specs.Bare.{StandsBare, StepsBare, StepsBareWhere}
+use Rattle.whole_laws.proofs.Lists.{get_set_same, map_set}
+use Rattle.whole_laws.proofs.Works.{done_less, parts_landed, parts_told, through_nothing}
+use Rattle.header_core.specs.BufferHeader.{BufferHeader}
+use Rattle.work_landing.specs.declared.step.Step.{Step as Stepped}
+use Rattle.work_landing.specs.Landed.{IsLeft, done_by}
+use Rattle.work_landing.specs.Places.{carried_from}
+use Rattle.graph_core.specs.Entries.{Entries, component_at, components_of, look_of}
+use Rattle.graph_core.specs.Entries as core
+use Rattle.graph_core.specs.Finishing.{ComesBack}
+use Rattle.graph_core.specs.Standing.{SoundWorld}
+use Rattle.graph_core.proofs.Announced.{told_is}
+use Rattle.graph_core.proofs.Finished.{finished_is}
+use Rattle.audio_parts.specs.declared.any_part.AnyPart.{AnyPart}
+use Rattle.audio_parts.specs.declared.any_part.AnyPart.TheVariants as parts
+use Rattle.audio_parts.specs.declared.part_file.PartFile.{PartFile}
+use Rattle.audio_parts.specs.declared.part_file.PartFile.TheVariants as files
+use Rattle.audio_parts.specs.declared.sink_file.SinkFile.{SinkFile}
+use Rattle.audio_parts.specs.declared.source_file.SourceFile.{SourceFile}
+use Rattle.audio_parts.specs.AnyParts.{attached_of, file_of as part_file}
+use Rattle.audio_parts.specs.Shapes.{IsLawful}
+use Rattle.audio_parts.specs.Shown.{ShownPart, shown_by, terms_by}
+use Rattle.il_flow.specs.Steps.{shown}
+use Rattle.il_flow.specs.Works.{DoneOf, seen_done}
+use Rattle.il_graph.specs.Finishing.{IsItsOwn, Returns, failed_by}
+use Rattle.il_graph.specs.HandedIn.{KeepsHandedIn}
+use Rattle.il_graph.specs.Shown.{Shown, IsWhole, IsPartOf, ArePartsOf, KeepsFiles, seen_of, seen_parts, file_at, file_of, kept}
+use Rattle.il_graph.proofs.Calling.{at_some}
+use Rattle.il_graph.proofs.HandedIn.{keeps_at}
+use Rattle.il_graph.proofs.Filing.{number_placed, parts_set, placed_set}
+use Rattle.il_graph.proofs.PartsStay.{PartsStay, after_effect, has_parts_stay, part_of}
+use Rattle.il_graph.proofs.Places.{told_set}
+use Rattle.il_graph.proofs.Whole.{bare, count_alike, parts_alike, places_alike, sound_in, whole}
+
+-- ---- what is known of a world in which the work comes back
+
+pub record IsReturn (w : World) (c : Component) (done : Done) (p : PartSeen) : Type 0 where
+  pub work : Work
+  pub is : c.work ≡ Some work
+  pub comes : IsDoneOf w c work done
+  pub stream : Stream
+  pub flows : stream_of (number_of c) w ≡ Some stream
+  pub gone : HasDone (terms_of c) (is_some done.fault) (gone_through done stream) p
+
+pub return_of : (w : World) (i : ℕ) (c : Component) (done : Done) (p : PartSeen) → Sound w → slice_get w.components i ≡ Some c → done.component ≡ number_of c → Returns w done p → IsReturn w c done p
+return_of w i c done p S t n R =
+    let named : component_numbered done.component w ≡ Some c = ap (λ (k : ℕ). component_numbered k w) n ∙ (ap (option_and_then (slice_get w.components)) (placed_there w.numbered i w.components c S.rising t) ∙ t) in
+    let m : MatchOption c.work ⊥ (λ work. IsDoneOf w c work done) = rw named at R.0 in
+    let b : MatchOption (stream_of done.component w) ⊥ (λ s. HasDone (terms_of c) (is_some done.fault) (gone_through done s) p) = rw named at R.1 in
+    let x = there_is c.work (λ work. IsDoneOf w c work done) m in
+    let y = there_is (stream_of done.component w) (λ s. HasDone (terms_of c) (is_some done.fault) (gone_through done s) p) b in
+    record { work = x.0; is = x.1; comes = x.2; stream = y.0; flows = ap (λ (k : ℕ). stream_of k w) (sym n) ∙ y.1; gone = y.2 }
+
+-- the work's end, by the component of the place
+pub finish_by : (w v : World) (i : ℕ) (c : Component) (done : Done) → Sound w → slice_get w.components i ≡ Some c → done.component ≡ number_of c → ClosesTo (finished i c done w) v → Finish w done v
+finish_by w v i c done S t n h =
+    let p : place_numbered done.component w.components ≡ Some i = ap (λ (k : ℕ). place_numbered k w.components) n ∙ placed_there w.numbered i w.components c S.rising t in
+    rw (p, t) h
+
+numbered_is : (w : World) (i : ℕ) (c : Component) (done : Done) → Sound w → slice_get w.components i ≡ Some c → done.component ≡ number_of c → at_numbered done.component w (λ i c. finished i c done w) ≡ finished i c done w
+numbered_is w i c done S t n =
+    let p : place_numbered done.component w.components ≡ Some i = ap (λ (k : ℕ). place_numbered k w.components) n ∙ placed_there w.numbered i w.components c S.rising t in
+    rw (p, t) refl
+
+-- ---- the core
+
+some_of : (o : Option Work) (work : Work) (announces : Bool) → o ≡ Some work → IsSomeAnd o (λ work. work.announces ≡ announces) → work.announces ≡ announces
+some_of None work announces e h = absurd h
+some_of (Some x) work announces e h = let q : x ≡ work = cc in ap (λ (y : Work). y.announces) (sym q) ∙ h
+
+pub comes_back : (w : World) (c : Component) (places : List (Option BufferHeader)) (step : Stepped) (took : List ℕ) (p : PartSeen) → IsSomeAnd c.work (λ work. work.announces ≡ false) → step.left ≡ unwrap_or p.left 0
+    → IsReturn w c (done_by (number_of c) places step took) p → ComesBack w c places step took
+comes_back w c places step took p a l R =
+    let d : Done = done_by (number_of c) places step took in
+    let left : (s : Stream) → stream_of (number_of c) w ≡ Some s → IsLeft c s d step = λ s e source.
+    let z : Some R.stream ≡ Some s = sym R.flows ∙ e in
+    let q : R.stream ≡ s = cc in
+    l ∙ (ap (λ (o : Option ℕ). unwrap_or o 0) (R.gone.left source) ∙ ap (λ (x : Stream). frames_left (terms_of c) (gone_through d x)) q) in
+    subst (λ (o : Option Work). MatchOption o ⊥ (λ work. (work.announces ≡ false) × IsDoneOf w c work d × ((s : Stream) → stream_of (number_of c) w ≡ Some s → IsLeft c s d step))) (sym R.is)
+    (some_of c.work R.work false R.is a, R.comes, left)
+
+module _ {C : Type 0} (progress : C → Progress) (g m k : Entries C) (i : ℕ) (c : Component) (at : component_at i g ≡ Some c) (sound : (w : World) → StandsBare (core.kept progress g) w → Sound w)
+    (closes : StepsBare (core.kept progress m) (core.kept progress k) ClosesTo) where
+  in_world : (w : World) → StandsBare (core.kept progress g) w → slice_get w.components i ≡ Some c
+  in_world w B = ap (λ (l : Look). slice_get l.components i) B.looks ∙ at
+
+  -- from a step
+  pub step_returns : (places : List (Option BufferHeader)) (step : Stepped) (p : PartSeen) → IsSomeAnd c.work (λ work. work.announces ≡ false) → step.left ≡ unwrap_or p.left 0
+      → ((took : List ℕ) → MatchOption (component_at i g) ⊥ (λ c. StepsBareWhere (core.kept progress g) (core.kept progress m) (λ w. ComesBack w c places step took) (λ w v. v ≡ finished i c (done_by (number_of c) places step took) w)))
+      → (took : List ℕ) → StepsBareWhere (core.kept progress g) (core.kept progress k) (λ w. Returns w (done_by (number_of c) places step took) p) (λ w v. Finish w (done_by (number_of c) places step took) v)
+  step_returns places step p a l s took = λ w B R.
+      let d : Done = done_by (number_of c) places step took in
+      let t = at_some (λ c. StepsBareWhere (core.kept progress g) (core.kept progress m) (λ w. ComesBack w c places step took) (λ w v. v ≡ finished i c (done_by (number_of c) places step took) w)) (component_at i g) c at (s took) in
+      let K = return_of w i c d p (sound w B) (in_world w B) refl R in
+      let x = t w B (comes_back w c places step took p a l K) in
+      let y = closes x.0 x.1 in
+      (y.0, y.1, finish_by w y.0 i c d (sound w B) (in_world w B) refl (subst (λ (u : World). ClosesTo u y.0) x.2 y.2))
+
+  -- from an announcement
+  pub told_returns : (done : Done) (p : PartSeen) → done.component ≡ number_of c → ((done : Done) → MatchOption (component_at i g) ⊥ (λ c. StepsBare (core.kept progress g) (core.kept progress m) (λ w v. v ≡ finished i c done w)))
+      → StepsBareWhere (core.kept progress g) (core.kept progress k) (λ w. Returns w done p) (λ w v. Finish w done v)
+  told_returns done p n s = λ w B R.
+      let t = at_some (λ c. StepsBare (core.kept progress g) (core.kept progress m) (λ w v. v ≡ finished i c done w)) (component_at i g) c at (s done) in
+      let x = t w B in
+      let y = closes x.0 x.1 in
+      (y.0, y.1, finish_by w y.0 i c done (sound w B) (in_world w B) n (subst (λ (u : World). ClosesTo u y.0) x.2 y.2))
+
+-- ---- the component, and the parts
+
+-- nothing of what ties an announcement's part changes
+record KeepsTied (c d : Component) : Type 0 where
+  number : number_of d ≡ number_of c
+  kind : d.settings.kind ≡ c.settings.kind
+  file : d.file ≡ c.file
+  part : d.part ≡ c.part
+
+tied_at : (c : Component) (o : Option Port) → KeepsTied c (announced_at o (record c { work = None }))
+tied_at c None = record { number = refl; kind = refl; file = refl; part = refl }
+tied_at c (Some p) = either (same_format p.setting.definition.format (file_format c.file))
+    (λ t. rw t (record { number = refl; kind = refl; file = refl; part = refl }))
+    (λ f. rw f (record { number = refl; kind = refl; file = refl; part = refl }))
+
+or_false : (b : Bool) → (b || false) ≡ b
+or_false true = refl
+or_false false = refl
+
+or_true : (b : Bool) → (b || true) ≡ true
+or_true true = refl
+or_true false = refl
+
+failed_then : (c : Component) (s : Stream) (done : Done) (o : Option PartFault) → (c.part.failed || is_some o) ≡ (part_by c s done o).failed
+failed_then c s done None = or_false c.part.failed
+failed_then c s done (Some fault) = or_true c.part.failed
+
+module _ {A B : Type 0} where
+  -- what the end makes of the component and of the world's parts
+  pub record IsEnded (w : World) (i : ℕ) (c : Component) (done : Done) (parts : List (Option PartSeen)) (q : ShownPart A B) : Type 0 where
+    pub to : Component
+    pub components : (finished i c done w).components ≡ set w.components i to
+    pub number : number_of to ≡ number_of c
+    pub tied : IsPartOf to q
+    pub kept : HasParts (set parts i (Some (seen_of q))) (finished i c done w)
+
+  tied_from : (c d : Component) (fault : Option PartFault) (q : ShownPart A B) → d.settings.kind ≡ c.settings.kind → d.file ≡ c.file → (c.part.failed || is_some fault) ≡ d.part.failed → IsPartOf (failed_by fault c) q → IsPartOf d q
+  tied_from c d fault q k f p P = record { kind = P.kind ∙ sym k; lawful = P.lawful; file = P.file ∙ sym f; attached = P.attached ∙ sym f; failed = P.failed ∙ p }
+
+  module _ (w : World) (S : Sound w) (i : ℕ) (c : Component) (at : slice_get w.components i ≡ Some c) (done : Done) (parts : List (Option PartSeen)) (p : Option PartSeen) (there : slice_get parts i ≡ Some p) (q : ShownPart A B)
+      (R : IsReturn w c done (seen_of q)) (P : HasParts parts w) (own : IsPartOf (failed_by done.fault c) q) where
+    only : (j : ℕ) (d : Component) → slice_get w.components j ≡ Some d → j ≢ i → number_of d ≢ number_of c
+    only j d t a = apart_numbers w.numbered j i w.components d c S.rising t at a
+
+    by_step : R.work.announces ≡ false → IsEnded w i c done parts q
+    by_step a =
+        let s = R.stream in
+        let e = finished_is i c done w R.work s R.is a R.flows in
+        record {
+          to = stepped_back c s done;
+          components = ap (λ (x : World). x.components) e;
+          number = refl;
+          tied = tied_from c (stepped_back c s done) done.fault q refl refl (failed_then c s done done.fault) own;
+          kept = subst (HasParts (set parts i (Some (seen_of q)))) (sym e) (parts_landed parts w i c done s p (seen_of q) at only there R.flows R.gone P);
+        }
+
+    by_announcement : R.work.announces ≡ true → IsEnded w i c done parts q
+    by_announcement a =
+        let s = R.stream in
+        let e = told_is i c done w R.work R.is a in
+        let T = tied_at c (port_of c 0) in
+        let x : IsDoneBy true w c R.work done = subst (λ (b : Bool). IsDoneBy b w c R.work done) a R.comes in
+        let none : is_some done.fault ≡ false = ap is_some x.1 in
+        let still : gone_through done s ≡ s = through_nothing done s x.0 x.3 in
+        let H : HasDone (terms_of c) false s (seen_of q) = subst (λ (b : Bool). HasDone (terms_of c) b s (seen_of q)) none (subst (λ (y : Stream). HasDone (terms_of c) (is_some done.fault) y (seen_of q)) still R.gone) in
+        let f : (c.part.failed || is_some done.fault) ≡ (announced c).part.failed = ap (λ (b : Bool). c.part.failed || b) none ∙ (or_false c.part.failed ∙ ap (λ y. y.failed) (sym T.part)) in
+        record {
+          to = announced c;
+          components = ap (λ (y : World). y.components) e;
+          number = T.number;
+          tied = tied_from c (announced c) done.fault q T.kind T.file f own;
+          kept = subst (HasParts (set parts i (Some (seen_of q)))) (sym e)
+              (parts_told parts w i c s p (seen_of q) at only there R.flows (done_less (terms_of c) false c.part.failed s (seen_of q) (λ y. refl) H) P);
+        }
+
+    pub ended : IsEnded w i c done parts q
+    ended = either R.work.announces by_announcement by_step
+
+-- ---- the graph with the part
+
+module _ {S K C : Type 0} (progress : C → Progress) (g : Shown S K C) (k : Entries C) (i : ℕ) (c : Component) (done : List ℕ → Done) (q : ShownPart S K) (I : IsWhole progress g) (at : slice_get (components_of g.core.entries) i ≡ Some c)
+    (own : (took : List ℕ) → (done took).component ≡ number_of c) (p : Option (ShownPart S K)) (here : slice_get g.parts i ≡ Some p) (tied : (took : List ℕ) → IsPartOf (failed_by (done took).fault c) q)
+    (T : (took : List ℕ) → StepsBareWhere (core.kept progress g.core) (core.kept progress k) (λ w. Returns w (done took) (seen_of q)) (λ w v. Finish w (done took) v)) where
+  abbrev pub back : Shown S K C
+  back = record { core = k; parts = set g.parts i (Some q) }
+
+  module _ (took : List ℕ) (w : World) (s : Stands (kept progress g) w) (R : Returns w (done took) (seen_of q)) where
+    abbrev B : StandsBare (core.kept progress g.core) w
+    B = bare progress g w s
+
+    sound : Sound w
+    sound = sound_in progress g I w B
+
+    here_in : slice_get w.components i ≡ Some c
+    here_in = ap (λ (l : Look). slice_get l.components i) B.looks ∙ at
+
+    pub after : (v : World) × StandsBare (core.kept progress k) v × Finish w (done took) v
+    after = T took w B R
+
+    end : IsEnded w i c (done took) (seen_parts g.parts) q
+    end = ended w sound i c here_in (done took) (seen_parts g.parts) (option_map seen_of p) (slice_get-map (option_map seen_of) g.parts i ∙ ap (option_map (option_map seen_of)) here) q
+        (return_of w i c (done took) (seen_of q) sound here_in (own took) R) s.parts (tied took)
+
+    stay : PartsStay (finished i c (done took) w) after.0
+    stay = subst (λ (u : World). PartsStay u after.0) (numbered_is w i c (done took) sound here_in (own took)) (after_effect w sound (acts.Finish (done took)) acts.Finished after.0 R.0 after.2)
+
+    pub stands : Stands (kept progress back) after.0
+    stands = whole progress back after.0 after.1
+        (subst (λ (ps : List (Option PartSeen)). HasParts ps after.0) (sym (map_set (option_map seen_of) g.parts i (Some q)))
+        (has_parts_stay (set (seen_parts g.parts) i (Some (seen_of q))) (finished i c (done took) w) after.0 stay end.kept))
+
+    alike : map part_of (components_of k.entries) ≡ map part_of (set (components_of g.core.entries) i end.to)
+    alike =
+        ap (λ (l : Look). map part_of l.components) (sym after.1.looks)
+        ∙ (stay.parts ∙ (ap (map part_of) end.components ∙ ap (λ (l : Look). map part_of (set l.components i end.to)) B.looks))
+
+    pub is_whole : first_due (look_of k) ≡ None → IsWhole progress back
+    is_whole closed = record {
+      closed = closed;
+      count = length-set g.parts i (Some q) ∙ (I.count ∙ (sym (length-set (components_of g.core.entries) i end.to) ∙ count_alike (set (components_of g.core.entries) i end.to) (components_of k.entries) alike));
+      parts = parts_alike (set (components_of g.core.entries) i end.to) (components_of k.entries) (set g.parts i (Some q)) alike (parts_set (components_of g.core.entries) g.parts i c end.to p q at here end.tied I.parts);
+      worlds = record { world = after.0; stands = stands; sound = sound_after w after.0 (acts.Finish (done took)) acts.Finished R.0 after.2 sound };
+    }
+
+    -- the numbers stand where they stood
+    numbers : (n : ℕ) → place_numbered n (components_of k.entries) ≡ place_numbered n (components_of g.core.entries)
+    numbers n =
+        places_alike n (components_of k.entries) (set (components_of g.core.entries) i end.to) alike ∙ placed_set n (components_of g.core.entries) i c end.to at end.number
+
+    placed : place_numbered (number_of c) (components_of g.core.entries) ≡ Some i
+    placed = ap (λ (l : Look). place_numbered (number_of c) l.components) (sym B.looks) ∙ placed_there w.numbered i w.components c sound.rising here_in
+
+    -- the file that came along
+    pub file_back : (n : ℕ) → n ≡ number_of c → file_of n back ≡ q.file
+    file_back n e =
+        ap (option_and_then (λ j. option_and_then (option_and_then (λ (x : ShownPart S K). x.file)) (slice_get (set g.parts i (Some q)) j))) (numbers n ∙ (ap (λ (m : ℕ). place_numbered m (components_of g.core.entries)) e ∙ placed))
+        ∙ ap (option_and_then (option_and_then (λ (x : ShownPart S K). x.file))) (get_set_same g.parts i p (Some q) here)
+
+    pub files_stay : (n : ℕ) → n ≡ number_of c → KeepsFiles n g back
+    files_stay n e m apart =
+        let f : Option (ShownPart S K) → Option (PartFile S K) = option_and_then (λ (x : ShownPart S K). x.file) in
+        ap (option_and_then (λ j. option_and_then f (slice_get (set g.parts i (Some q)) j))) (numbers m)
+        ∙ told_set f g.parts i (Some q) (place_numbered m (components_of g.core.entries)) (λ z. apart (sym (number_placed m (components_of g.core.entries) i c z at) ∙ sym e))
+
+  -- each world in which the work comes back goes on to one
+  pub back_whole : (took : List ℕ) → StepsWhere (kept progress g) (kept progress back) (λ w. Returns w (done took) (seen_of q)) (λ w v. Finish w (done took) v)
+  back_whole took = λ w s R. ((after took w s R).0, stands took w s R, (after took w s R).2)
+
+  -- the client has what it had
+  pub held_back : (took : List ℕ) (w : World) (s : Stands (kept progress g) w) (R : Returns w (done took) (seen_of q)) → KeepsHandedIn (look_of g.core) (look_of k)
+  held_back took w s R = keeps_at progress g.core k (acts.Finish (done took)) acts.Finished refl refl w (B took w s R) (sound took w s R) R.0 (after took w s R).0 (after took w s R).1 (after took w s R).2
+
+-- ---- the call
+
+second : (a b : Bool) → (a && b) ≡ true → b ≡ true
+second true b e = e
+second false b e = absurd cc
+
+-- the component that the handle names has its number
+pub number_named : (h : Handle) (cs : List Component) (i : ℕ) (c : Component) → place_of h cs ≡ Some i → slice_get cs i ≡ Some c → number_of c ≡ h.generation
+number_named h cs i c e at =
+    let x = passes_at (is_at h) cs i (sym (is_first_place (is_at h) cs) ∙ e) in
+    let z : Some x.0 ≡ Some c = sym x.1 ∙ at in
+    let q : x.0 ≡ c = cc in
+    let t : same_handle c.handle h ≡ true = ap (is_at h) (sym q) ∙ x.2 in
+    eqb-true c.handle.generation h.generation (second (nat_eq c.handle.slot h.slot) (nat_eq c.handle.generation h.generation) t)
+
+pub named_is : (h : Handle) (cs : List Component) (i : ℕ) (c : Component) → place_of h cs ≡ Some i → slice_get cs i ≡ Some c → component_named h cs ≡ Some c
+named_is h cs i c p t = rw (p, t) refl
+
+pub some_at : {X : Type 0} (xs : List X) (i : ℕ) → i < length xs → (x : X) × (slice_get xs i ≡ Some x)
+some_at [] i b = absurd (omega arith)
+some_at (x ∷ xs) zero b = (x, refl)
+some_at (x ∷ xs) (suc i) b = some_at xs i (omega arith)
+
+pub map_back : {X Y : Type 0} (f : X → Y) (items : List (Option X)) (i : ℕ) (o : Option X) (x : X) → o ≡ Some x → map (option_map f) (set items i o) ≡ set (map (option_map f) items) i (Some (f x))
+map_back f items i o x e = map_set (option_map f) items i o ∙ ap (λ z. set (map (option_map f) items) i (option_map f z)) e
+
+-- what is shown, by what the part's members tell
+pub seen_as : {A B : Type 0} (q : ShownPart A B) (l : Option ℕ) (r k : Option (List ℕ)) (w : Option Writing) → q.left ≡ l → q.rest ≡ r → q.kept ≡ k → q.writing ≡ w → shown l r k w ≡ seen_of q
+seen_as q l r k w a b c d = λ i. record { left = sym a i; rest = sym b i; kept = sym c i; writing = sym d i }
+
+from_source : {A : Type 0} (B : Type 0) (o : Option (SourceFile A)) → option_map (λ it. From it.format it.attached) o ≡ option_map (attached_of {S = A} {K = B}) (option_map (λ it. files.From it.source it.format it.attached) o)
+from_source B None = refl
+from_source B (Some it) = refl
+
+to_sink : (A : Type 0) {B : Type 0} (o : Option (SinkFile B)) → option_map (λ it. To it.planned) o ≡ option_map (attached_of {S = A} {K = B}) (option_map (λ it. files.To it.sink it.planned) o)
+to_sink A None = refl
+to_sink A (Some it) = refl
+
+module _ {A B : Type 0} {s : _} {k : _} where
+  -- the file of a part is that of its terms
+  pub terms_file : (part : AnyPart A B s k) → (terms_by part).file ≡ option_map attached_of (part_file part)
+  terms_file (parts.Source it) = from_source B it.file
+  terms_file (parts.Sink it) = to_sink A it.file
+  terms_file (parts.Decoder it) = refl
+  terms_file (parts.Encoder it) = refl
+  terms_file (parts.Gain it) = refl
+  terms_file (parts.Mixer it) = refl
+  terms_file (parts.Splitter it) = refl
+
+  -- the part is the component's, as the step left it
+  pub own_part : (told : A → Option (List ℕ)) (keeps : B → Option (List ℕ)) (name : B → List ℕ) (part : AnyPart A B s k) (c : Component) (announces : Bool) (fault : Option PartFault) (t : Terms) (failed : Bool)
+      → (shown_by told keeps name part).terms ≡ t → (shown_by told keeps name part).failed ≡ failed → IsLawful t → IsItsOwn c announces fault t failed (option_map attached_of (part_file part)) → IsPartOf (failed_by fault c) (shown_by told keeps name part)
+  own_part told keeps name part c announces fault t failed e f lawful O = record {
+    kind = ap (λ (x : Terms). x.kind) e ∙ O.kind;
+    lawful = subst IsLawful (sym e) lawful;
+    file = O.its_file;
+    attached = terms_file part ∙ O.its_file;
+    failed = f ∙ O.so_failed;
+  }
+
+  -- the place had no file
+  pub no_file : (told : A → Option (List ℕ)) (keeps : B → Option (List ℕ)) (name : B → List ℕ) (old : Option (AnyPart A B s k)) → option_and_then (λ (p : ShownPart A B). p.file) (option_map (shown_by told keeps name) old) ≡ None
+      → option_and_then (λ part. part_file part) old ≡ None
+  no_file told keeps name None e = refl
+  no_file told keeps name (Some part) e = e
+
+file_there : {A B C : Type 0} (g : Shown A B C) (n i : ℕ) (p : Option (ShownPart A B)) → place_numbered n (components_of g.core.entries) ≡ Some i → slice_get g.parts i ≡ Some p → file_of n g ≡ option_and_then (λ (x : ShownPart A B). x.file) p
+file_there g n i p e h = ap (option_and_then (file_at g)) e ∙ ap (option_and_then (option_and_then (λ x. x.file))) h
+
+-- the part that was at the place has no file
+pub old_file : {A B C : Type 0} (progress : C → Progress) (g : Shown A B C) (i : ℕ) (c : Component) (n : ℕ) (p : Option (ShownPart A B)) → IsWhole progress g → slice_get (components_of g.core.entries) i ≡ Some c → number_of c ≡ n → slice_get g.parts i ≡ Some p → file_of n g ≡ None
+    → option_and_then (λ (x : ShownPart A B). x.file) p ≡ None
+old_file progress g i c n p I at own here none =
+    let w = I.worlds.world in
+    let B = bare progress g w I.worlds.stands in
+    let t : slice_get w.components i ≡ Some c = ap (λ (l : Look). slice_get l.components i) B.looks ∙ at in
+    let e : place_numbered n (components_of g.core.entries) ≡ Some i = ap (λ (m : ℕ). place_numbered m (components_of g.core.entries)) (sym own) ∙ (ap (λ (l : Look). place_numbered (number_of c) l.components) (sym B.looks) ∙ placed_there w.numbered i w.components c I.worlds.sound.rising t) in
+    sym (file_there g n i p e here) ∙ none
+
+-- what the step brings back is the work's
+pub brought_done : {P : Type 0} (d : DoneOf P) (n : ℕ) (headers : List (Option BufferHeader)) (frames : ℕ) (fault : Option PartFault) (left : ℕ) (took : List ℕ) → n ≡ d.component.generation → headers ≡ d.headers → frames ≡ d.frames → fault ≡ d.fault
+    → done_by n headers (record { frames = frames; fault = fault; left = left }) took ≡ seen_done took d
+brought_done d n headers frames fault left took a b e f = λ i. record { component = a i; frames = e i; fault = f i; headers = carried_from 0 (b i); took = took }
+
+-- ---- what the call has
+
+and_at : {A : Type 0} (P : A → Type 0) (o : Option A) (x : A) → o ≡ Some x → IsSomeAnd o P → P x
+and_at P None x e m = absurd cc
+and_at P (Some y) x e m = let q : y ≡ x = cc in subst P q m
+
+and_none : {A : Type 0} (P : A → Type 0) (o : Option A) → o ≡ None → IsSomeAnd o P → ⊥
+and_none P None e m = m
+and_none P (Some y) e m = absurd cc
+
+pub own_is : {announces : Bool} {fault : Option PartFault} {t : Terms} {failed : Bool} {file : Option Attached} (h m : Handle) (cs : List Component) (i : ℕ) (c : Component) → h ≡ m → place_of h cs ≡ Some i → slice_get cs i ≡ Some c
+    → IsSomeAnd (component_named m cs) (λ c. IsItsOwn c announces fault t failed file) → IsItsOwn c announces fault t failed file
+own_is {announces = announces} {fault = fault} {t = t} {failed = failed} {file = file} h m cs i c e p at J =
+    and_at (λ c. IsItsOwn c announces fault t failed file) (component_named m cs) c (subst (λ (x : Handle). component_named x cs ≡ Some c) e (named_is h cs i c p at)) J
+
+pub own_none : (announces : Bool) (fault : Option PartFault) (t : Terms) (failed : Bool) (file : Option Attached) (h m : Handle) (cs : List Component) → h ≡ m → place_of h cs ≡ None
+    → IsSomeAnd (component_named m cs) (λ c. IsItsOwn c announces fault t failed file) → ⊥
+own_none announces fault t failed file h m cs e p J =
+    and_none (λ c. IsItsOwn c announces fault t failed file) (component_named m cs) (subst (λ (x : Handle). component_named x cs ≡ None) e (ap (option_and_then (slice_get cs)) p)) J
+
+pub works_so : (c : Component) (a b : Bool) → a ≡ b → IsSomeAnd c.work (λ work. work.announces ≡ a) → IsSomeAnd c.work (λ work. work.announces ≡ b)
+works_so c a b e h = subst (λ (x : Bool). IsSomeAnd c.work (λ work. work.announces ≡ x)) e h
+
+pub items_within : {X Y Z W : Type 0} (f : X → Y) (k : Z → W) (items : List X) (entries : List Z) (i : ℕ) → length (map f items) ≡ length (map k entries) → i < length entries → i < length items
+items_within f k items entries i e b = subst (λ n. i < n) (sym (length-map entries k) ∙ (sym e ∙ length-map items f)) b
+
+pub brought_is : {B : Type 0} (o : Option B) (b x : B) → o ≡ Some b → o ≡ Some x → b ≡ x
+brought_is o b x e f = let z : Some b ≡ Some x = sym e ∙ f in let q : b ≡ x = cc in q
+
+pub is_told : {B : Type 0} (a : Bool) (o : Option B) (x : B) → (a ≡ false → o ≡ Some x) → o ≡ None → a ≡ true
+is_told true o x h e = refl
+is_told false o x h e = let z : None ≡ Some x = sym e ∙ h refl in absurd cc
+
+pub is_brought : {B : Type 0} (a : Bool) (o : Option B) (b : B) → (a ≡ true → o ≡ None) → o ≡ Some b → a ≡ false
+is_brought false o b h e = refl
+is_brought true o b h e = let z : None ≡ Some b = sym (h refl) ∙ e in absurd cc

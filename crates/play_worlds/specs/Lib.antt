@@ -1,0 +1,5 @@
+pub mod Cast
+pub mod Standing
+pub mod Telling
+pub mod Wiring
+pub mod Worlds

@@ -1,6 +1,0 @@
-use Rattle.std.proofs.Common.{rules}
-use Rattle.port_stock.proofs.Looking.{counted}
-use Rattle.port_stock.proofs.entries.foreign.Goals as goal
-
-pub returns : goal.returns
-returns c = rw counted (search rules)

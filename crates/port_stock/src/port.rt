@@ -1,0 +1,101 @@
+//! One port: the numbers of the headers in its two lists, and how many headers there are.
+
+ghost use Rattle.std.specs.Prelude.{◌≡◌, ◌&&◌, ◌<◌, not, length, IfOk};
+ghost use Rattle.il_machine.specs.Headers.{is_away, is_for};
+ghost use Rattle.il_machine.specs.Stock.{times_passed};
+ghost use Rattle.port_stock.specs.Rings.{HasCounted, is_away_from, is_guest, no_port, recounted, with_number, without_done, without_todo};
+
+use crate::OutOfMemory;
+use crate::entry::{is_foreign, is_made_for, is_outstanding};
+use circular_buffer::HeapCircularBuffer;
+use il_machine::{HeaderState, PortKey, Spot};
+use std::alloc::Global;
+
+/// So many headers are made for a port at most.
+const MOST_HEADERS: usize = 32;
+
+/// A port's lists are rings of the numbers of headers, with a place for each header that may be made for it. Beside them stands how
+/// many headers are made for it, how many of those are away, and how many it has whose home it isn't.
+#[derive(Drop)]
+pub struct Port {
+    pub key: PortKey,
+    pub todo: HeapCircularBuffer<u64>,
+    pub done: HeapCircularBuffer<u64>,
+    pub made: u32,
+    pub outstanding: u32,
+    pub foreign: u32,
+}
+
+fn times_made(key: PortKey, state: Option<HeaderState>) -> u32
+    ensures { result ≡ times_passed (is_for key) state }
+{
+    match state {
+        Some(state) if is_made_for(key, &state) => 1,
+        _ => 0,
+    }
+}
+
+fn times_outstanding(key: PortKey, state: Option<HeaderState>) -> u32
+    ensures { result ≡ times_passed (is_away_from key) state }
+{
+    match state {
+        Some(state) if is_outstanding(key, &state) => 1,
+        _ => 0,
+    }
+}
+
+fn times_foreign(key: PortKey, state: Option<HeaderState>) -> u32
+    ensures { result ≡ times_passed (is_guest key) state }
+{
+    match state {
+        Some(state) if is_foreign(key, &state) => 1,
+        _ => 0,
+    }
+}
+
+impl Port {
+    /// A port without headers.
+    pub fn new(alloc: Global, key: PortKey) -> Result<Port, OutOfMemory>
+        ensures { IfOk result (λ p. p ≡ no_port key) }
+    {
+        let todo = HeapCircularBuffer::with_capacity(alloc, MOST_HEADERS)?;
+        let done = HeapCircularBuffer::with_capacity(alloc, MOST_HEADERS)?;
+        Ok(Port {
+            key,
+            todo,
+            done,
+            made: 0,
+            outstanding: 0,
+            foreign: 0,
+        })
+    }
+
+    /// Puts a number at the spot, for which there is a place.
+    pub fn put(&mut self, number: u64, spot: Spot)
+        requires todo { length self.old.todo.items < self.old.todo.capacity }
+        requires done { length self.old.done.items < self.old.done.capacity }
+        ensures { self.new ≡ with_number spot number self.old }
+    {
+        let put = match spot {
+            Spot::TodoBack => self.todo.try_push_back(number),
+            Spot::TodoFront => self.todo.try_push_front(number),
+            Spot::DoneBack => self.done.try_push_back(number),
+        };
+        match put {
+            Ok(()) => {}
+            Err(_) => unreachable!(),
+        }
+    }
+
+    /// Counts a header anew that was so before, and is so after.
+    pub fn recount(&mut self, before: Option<HeaderState>, after: Option<HeaderState>)
+        requires { HasCounted before self.old }
+        ensures { self.new ≡ recounted self.old.key before after self.old }
+    {
+        let key = self.key;
+        self.made = self.made - times_made(key, before) + times_made(key, after);
+        self.outstanding = self.outstanding - times_outstanding(key, before)
+            + times_outstanding(key, after);
+        self.foreign = self.foreign - times_foreign(key, before) + times_foreign(key, after);
+    }
+}

@@ -1,0 +1,4 @@
+pub mod Joining
+pub mod Naming
+pub mod Delivering
+pub mod Objects
