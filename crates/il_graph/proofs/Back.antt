@@ -5,7 +5,6 @@ use Rattle.std.proofs.lemmas.List.{length-map}
 use Rattle.std.proofs.lemmas.Option.{slice_get-map}
 use Rattle.omx_types.specs.declared.fault.PartFault.{PartFault}
 use Rattle.omx_types.specs.declared.handle.Handle.{Handle}
-use Rattle.part_api.specs.declared.attached.Attached.{Attached}
 use Rattle.part_api.specs.declared.attached.Attached.TheVariants.{From, To}
 use Rattle.part_api.specs.Terms.{Terms, Writing}
 use Rattle.il_machine.specs.declared.answer.Progress.{Progress}
@@ -153,7 +152,7 @@ tied_at c (Some p) = either (same_format p.setting.definition.format (file_forma
     (λ t. rw t (record { number = refl; kind = refl; file = refl; part = refl }))
     (λ f. rw f (record { number = refl; kind = refl; file = refl; part = refl }))
 
-or_false : (b : Bool) → (b || false) ≡ b
+pub or_false : (b : Bool) → (b || false) ≡ b
 or_false true = refl
 or_false false = refl
 
@@ -330,7 +329,7 @@ to_sink A (Some it) = refl
 
 module _ {A B : Type 0} {s : _} {k : _} where
   -- the file of a part is that of its terms
-  pub terms_file : (part : AnyPart A B s k) → (terms_by part).file ≡ option_map attached_of (part_file part)
+  terms_file : (part : AnyPart A B s k) → (terms_by part).file ≡ option_map attached_of (part_file part)
   terms_file (parts.Source it) = from_source B it.file
   terms_file (parts.Sink it) = to_sink A it.file
   terms_file (parts.Decoder it) = refl
@@ -341,12 +340,12 @@ module _ {A B : Type 0} {s : _} {k : _} where
 
   -- the part is the component's, as the step left it
   pub own_part : (told : A → Option (List ℕ)) (keeps : B → Option (List ℕ)) (name : B → List ℕ) (part : AnyPart A B s k) (c : Component) (announces : Bool) (fault : Option PartFault) (t : Terms) (failed : Bool)
-      → (shown_by told keeps name part).terms ≡ t → (shown_by told keeps name part).failed ≡ failed → IsLawful t → IsItsOwn c announces fault t failed (option_map attached_of (part_file part)) → IsPartOf (failed_by fault c) (shown_by told keeps name part)
+      → (shown_by told keeps name part).terms ≡ t → (shown_by told keeps name part).failed ≡ failed → IsLawful t → IsItsOwn c announces fault t failed → IsPartOf (failed_by fault c) (shown_by told keeps name part)
   own_part told keeps name part c announces fault t failed e f lawful O = record {
     kind = ap (λ (x : Terms). x.kind) e ∙ O.kind;
     lawful = subst IsLawful (sym e) lawful;
-    file = O.its_file;
-    attached = terms_file part ∙ O.its_file;
+    file = sym (terms_file part) ∙ (ap (λ (x : Terms). x.file) e ∙ O.its_file);
+    attached = ap (λ (x : Terms). x.file) e ∙ O.its_file;
     failed = f ∙ O.so_failed;
   }
 
@@ -384,15 +383,19 @@ and_none : {A : Type 0} (P : A → Type 0) (o : Option A) → o ≡ None → IsS
 and_none P None e m = m
 and_none P (Some y) e m = absurd cc
 
-pub own_is : {announces : Bool} {fault : Option PartFault} {t : Terms} {failed : Bool} {file : Option Attached} (h m : Handle) (cs : List Component) (i : ℕ) (c : Component) → h ≡ m → place_of h cs ≡ Some i → slice_get cs i ≡ Some c
-    → IsSomeAnd (component_named m cs) (λ c. IsItsOwn c announces fault t failed file) → IsItsOwn c announces fault t failed file
-own_is {announces = announces} {fault = fault} {t = t} {failed = failed} {file = file} h m cs i c e p at J =
-    and_at (λ c. IsItsOwn c announces fault t failed file) (component_named m cs) c (subst (λ (x : Handle). component_named x cs ≡ Some c) e (named_is h cs i c p at)) J
+pub own_is : {announces : Bool} {fault : Option PartFault} {t : Terms} {failed : Bool} (h m : Handle) (cs : List Component) (i : ℕ) (c : Component) → h ≡ m → place_of h cs ≡ Some i → slice_get cs i ≡ Some c
+    → IsSomeAnd (component_named m cs) (λ c. IsItsOwn c announces fault t failed) → IsItsOwn c announces fault t failed
+own_is {announces = announces} {fault = fault} {t = t} {failed = failed} h m cs i c e p at J =
+    and_at (λ c. IsItsOwn c announces fault t failed) (component_named m cs) c (subst (λ (x : Handle). component_named x cs ≡ Some c) e (named_is h cs i c p at)) J
 
-pub own_none : (announces : Bool) (fault : Option PartFault) (t : Terms) (failed : Bool) (file : Option Attached) (h m : Handle) (cs : List Component) → h ≡ m → place_of h cs ≡ None
-    → IsSomeAnd (component_named m cs) (λ c. IsItsOwn c announces fault t failed file) → ⊥
-own_none announces fault t failed file h m cs e p J =
-    and_none (λ c. IsItsOwn c announces fault t failed file) (component_named m cs) (subst (λ (x : Handle). component_named x cs ≡ None) e (ap (option_and_then (slice_get cs)) p)) J
+pub own_none : (announces : Bool) (fault : Option PartFault) (t : Terms) (failed : Bool) (h m : Handle) (cs : List Component) → h ≡ m → place_of h cs ≡ None
+    → IsSomeAnd (component_named m cs) (λ c. IsItsOwn c announces fault t failed) → ⊥
+own_none announces fault t failed h m cs e p J =
+    and_none (λ c. IsItsOwn c announces fault t failed) (component_named m cs) (subst (λ (x : Handle). component_named x cs ≡ None) e (ap (option_and_then (slice_get cs)) p)) J
+
+-- the same told otherwise
+pub own_as : (c : Component) (announces : Bool) (fault : Option PartFault) (t u : Terms) (f g : Bool) → t ≡ u → f ≡ g → IsItsOwn c announces fault t f → IsItsOwn c announces fault u g
+own_as c announces fault t u f g e d O = record { work = O.work; kind = ap (λ (x : Terms). x.kind) (sym e) ∙ O.kind; its_file = ap (λ (x : Terms). x.file) (sym e) ∙ O.its_file; so_failed = sym d ∙ O.so_failed }
 
 pub works_so : (c : Component) (a b : Bool) → a ≡ b → IsSomeAnd c.work (λ work. work.announces ≡ a) → IsSomeAnd c.work (λ work. work.announces ≡ b)
 works_so c a b e h = subst (λ (x : Bool). IsSomeAnd c.work (λ work. work.announces ≡ x)) e h

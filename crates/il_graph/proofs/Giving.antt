@@ -4,7 +4,7 @@ use Rattle.std.proofs.lemmas.Option.{slice_get-map}
 use Rattle.omx_types.specs.declared.handle.Handle.{Handle}
 use Rattle.part_api.specs.Terms.{Terms, Writing}
 use Rattle.il_machine.specs.declared.answer.Progress.{Progress}
-use Rattle.il_machine.specs.World.{Component, Stream, World, number_of, place_of, ports_of, stream_of}
+use Rattle.il_machine.specs.World.{Component, Stream, Work, World, number_of, place_of, ports_of, stream_of}
 use Rattle.il_machine.specs.Answers.{component_named}
 use Rattle.il_machine.specs.Look.{Look}
 use Rattle.il_machine.specs.Parts.{factors_by, terms_of}
@@ -24,10 +24,14 @@ use Rattle.il_flow.specs.Places.{AreWithin, carried_from}
 use Rattle.il_flow.specs.Sound.{HaveOutputs}
 use Rattle.il_flow.specs.Steps.{shown}
 use Rattle.il_graph.specs.Claiming.{AreTermsOf, IsSoFar}
+use Rattle.il_graph.specs.Finishing.{IsItsOwn}
 use Rattle.il_graph.specs.Preparing.{prepared, prepared_where, with_formats}
 use Rattle.il_graph.specs.Shown.{IsPartOf, IsWhole, Shown, kept, seen_of, seen_parts}
+use Rattle.il_graph.proofs.Back.{or_false}
+use Rattle.il_graph.proofs.Calling.{and_some}
 use Rattle.il_graph.proofs.Going.{prepared_done}
 use Rattle.il_graph.proofs.Lending.{lent_none, lent_outputs, lent_within}
+use Rattle.il_graph.proofs.PartsStay.{PartOf, part_of}
 use Rattle.il_graph.proofs.Prepared.{only_factors, only_formats}
 use Rattle.il_graph.proofs.Ready.{set_lawful, set_ready, set_terms}
 
@@ -59,6 +63,10 @@ module _ {A B : Type 0} (l : Look) (c : Component) (S : IsSound c) (ok : claim_i
   failed_by : (a : Bool) → (prepared_where a c q).failed ≡ q.failed
   failed_by true = refl
   failed_by false = (only_factors 0 (factors_by c.settings.kind c.settings.gain c.settings.weights) (with_formats 0 c.settings.ports q)).failed ∙ (only_formats 0 c.settings.ports q).failed
+
+  attached_by : (a : Bool) → a ≡ must_announce c → (prepared_where a c q).terms.file ≡ c.file
+  attached_by true e = T.attached
+  attached_by false e = ap (λ (t : Terms). t.file) (set_terms l c S ok (sym e) q T)
 
   ready_by : (a : Bool) → a ≡ must_announce c → a ≡ false → IsReady (prepared_where a c q).terms (prepared_where a c q).failed
   ready_by true e n = absurd cc
@@ -95,6 +103,18 @@ module _ {A B : Type 0} (l : Look) (c : Component) (S : IsSound c) (ok : claim_i
 
     pub given_file : p.file ≡ q.file
     given_file = subst (λ (x : ShownPart A B). x.file ≡ q.file) (sym is) (file_by a)
+
+    pub given_failed : p.failed ≡ c.part.failed
+    given_failed = subst (λ (x : ShownPart A B). x.failed ≡ c.part.failed) (sym is) (failed_by a ∙ T.failed)
+
+    -- it is that of the component as it is once its work is out
+    pub given_own : (d : Component) (work : Work) → part_of d ≡ part_of (record c { work = Some work }) → work.announces ≡ a → IsItsOwn d a None p.terms p.failed
+    given_own d work e n = record {
+      work = and_some (λ (x : Work). x.announces ≡ a) d.work work (ap (λ (x : PartOf). x.work) e) n;
+      kind = given_kind ∙ sym (ap (λ (x : PartOf). x.kind) e);
+      its_file = subst (λ (x : ShownPart A B). x.terms.file ≡ c.file) (sym is) (attached_by a tells) ∙ sym (ap (λ (x : PartOf). x.file) e);
+      so_failed = given_failed ∙ (sym (ap (λ (x : PartOf). x.failed) e) ∙ sym (or_false d.part.failed));
+    }
 
     pub given_done : (t : Terms) (f : Bool) (x : Stream) → HasDone t f x (seen_of q) → HasDone t f x (seen_of p)
     given_done t f x D = subst (λ (y : ShownPart A B). HasDone t f x (seen_of y)) (sym is) (done_by a t f x D)

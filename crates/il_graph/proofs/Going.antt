@@ -22,9 +22,12 @@ use Rattle.whole_laws.proofs.Answering.{resolved, then_closes}
 use Rattle.whole_laws.proofs.Lists.{map_set, get_set_same, get_set_other}
 use Rattle.whole_laws.proofs.Works.{parts_claimed}
 use Rattle.machine_laws.proofs.Granting.{placed_there}
+use Rattle.machine_laws.proofs.Pairs.{apart_numbers}
 use Rattle.header_core.specs.BufferHeader.{BufferHeader}
 use Rattle.graph_core.specs.Claiming.{carried_from as core_carried}
-use Rattle.graph_core.specs.Entries.{Entries, component_at, components_of, look_of}
+use Rattle.il_component.specs.Entries.{Entry, component_of}
+use Rattle.graph_core.specs.Clients.{KeepsAllClients}
+use Rattle.graph_core.specs.Entries.{Entries, component_at, components_of, entry_named, look_of}
 use Rattle.graph_core.specs.Entries as core
 use Rattle.audio_parts.specs.declared.part_file.PartFile.{PartFile}
 use Rattle.audio_parts.specs.Shown.{ShownPart}
@@ -36,8 +39,10 @@ use Rattle.il_graph.specs.declared.claimed.Claimed.{Claimed as Answer}
 use Rattle.il_graph.specs.Claiming.{IsSoFar, answer_of, told_by}
 use Rattle.il_graph.specs.Preparing.{prepared, with_factors, with_formats, with_port_format}
 use Rattle.il_graph.specs.Shown.{Shown, IsWhole, IsPartOf, ArePartsOf, KeepsFiles, seen_parts, file_at, file_of, kept, seen_of}
+use Rattle.il_graph.proofs.Back.{number_named}
 use Rattle.il_graph.proofs.Calling.{Found, at_some}
-use Rattle.il_graph.proofs.PartsStay.{LeavesParts, PartsStay, part_of, after_effect, has_parts_stay}
+use Rattle.il_graph.proofs.Looking.{named_is}
+use Rattle.il_graph.proofs.PartsStay.{LeavesParts, PartOf, PartsStay, part_of, after_effect, has_parts_stay, stayed}
 use Rattle.il_graph.proofs.Whole.{places_alike, bare, whole, sound_in, changed_alike, changed_is_whole}
 use Rattle.il_graph.proofs.Places.{told_set}
 use Rattle.il_graph.proofs.Leaving.{at_named_is}
@@ -140,6 +145,21 @@ module _ {A B : Type 0} where
 
 -- ---- the graph without the part
 
+still_there : {A B D : Type 0} (f : A → B) (q : A → D) (o p : Option A) (b : B) → option_map f o ≡ Some b → option_map q p ≡ option_map q o → (a : A) × (p ≡ Some a)
+still_there f q None p b e s = absurd cc
+still_there f q (Some x) None b e s = absurd cc
+still_there f q (Some x) (Some y) b e s = (y, refl)
+
+-- what is at a place once one was set is that one, if it was at no other
+set_own : {A : Type 0} (xs : List A) (i j : ℕ) (x y b : A) → slice_get xs i ≡ Some x → slice_get (set xs i y) j ≡ Some b → (j ≢ i → slice_get xs j ≡ Some b → ⊥) → b ≡ y
+set_own xs i j x y b at t other =
+    let own : j ≡ i → b ≡ y = λ e. let z : Some b ≡ Some y = sym t ∙ rw e (get_set_same xs i x y at) in cc in
+    elim (eqb_tells j i) [ inl e ↦ own e.1 | inr e ↦ absurd (other e.1 (sym (get_set_other xs i j y e.1) ∙ t)) ]
+
+pub placed_at : {A : Type 0} (xs : List A) (o : Option ℕ) (x : A) → option_and_then (slice_get xs) o ≡ Some x → (j : ℕ) × (o ≡ Some j) × (slice_get xs j ≡ Some x)
+placed_at xs None x e = absurd cc
+placed_at xs (Some j) x e = (j, refl, e)
+
 part_gone : {S K : Type 0} (cs : List Component) (parts : List (Option (ShownPart S K))) (i : ℕ) (c d : Component) (work : Work) → slice_get cs i ≡ Some c → d.work ≡ Some work
     → ArePartsOf cs parts → ArePartsOf (set cs i d) (set parts i None)
 part_gone {S = S} {K = K} cs parts i c d work at out P j x t none =
@@ -202,6 +222,23 @@ module _ {S K C : Type 0} (progress : C → Progress) (g : Shown S K C) (k : Ent
   numbers n =
       let alike = changed_alike progress g k (acts.Claim h) (acts.Claimed (Ok (ClaimedWork x))) I (λ w B. tt) T mid (set (components_of g.core.entries) i out) (set g.parts i None) stay there parts in
       places_alike n (components_of k.entries) (set (components_of g.core.entries) i out) alike ∙ placed_set n (components_of g.core.entries) i c out at refl
+
+  -- the component that the handle names has its work out, and its part is tied to it as before
+  pub gone_named : KeepsAllClients g.core k → (d : Component) × (component_named h (components_of k.entries) ≡ Some d) × (part_of d ≡ part_of out)
+  gone_named clients =
+      let before : option_map component_of (entry_named h g.core) ≡ Some c = sym (named_is progress g.core h) ∙ (ap (option_and_then (slice_get (components_of g.core.entries))) place ∙ at) in
+      let e = still_there component_of (λ (x : Entry C). x.queues.client) (entry_named h g.core) (entry_named h k) c before (clients h) in
+      let d : Component = component_of e.0 in
+      let named : component_named h (components_of k.entries) ≡ Some d = named_is progress k h ∙ ap (option_map component_of) e.1 in
+      let j = placed_at (components_of k.entries) (place_of h (components_of k.entries)) d named in
+      let alike = changed_alike progress g k (acts.Claim h) (acts.Claimed (Ok (ClaimedWork x))) I (λ w B. tt) T mid (set (components_of g.core.entries) i out) (set g.parts i None) stay there parts in
+      let b = stayed (set (components_of g.core.entries) i out) (components_of k.entries) j.0 d alike j.2 in
+      let w = I.worlds.world in
+      let B = bare progress g w I.worlds.stands in
+      let in_world : (n : ℕ) (y : Component) → slice_get (components_of g.core.entries) n ≡ Some y → slice_get w.components n ≡ Some y = λ n y t. ap (λ (xs : List Component). slice_get xs n) (same w B) ∙ t in
+      let n : number_of b.0 ≡ number_of c = ap (λ (p : PartOf). p.number) b.2 ∙ (number_named h (components_of k.entries) j.0 d j.1 j.2 ∙ sym (number_named h (components_of g.core.entries) i c place at)) in
+      let r : b.0 ≡ out = set_own (components_of g.core.entries) i j.0 c out b.0 at b.1 (λ q t. apart_numbers w.numbered j.0 i w.components b.0 c I.worlds.sound.rising (in_world j.0 b.0 t) (in_world i c at) q n) in
+      (d, named, sym b.2 ∙ ap part_of r)
 
   placed : number_of c ≡ h.generation → place_numbered h.generation (components_of g.core.entries) ≡ Some i
   placed own =

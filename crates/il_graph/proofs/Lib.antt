@@ -37,3 +37,4 @@ pub mod Beginning
 pub mod Coming
 pub mod Ending
 pub mod Back
+pub mod Returning

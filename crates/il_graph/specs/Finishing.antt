@@ -1,7 +1,6 @@
 -- A component's work comes back to a graph, with its part.
 use Rattle.std.specs.Prelude.{◌≡◌, Bool, ◌||◌, Option, is_some, IsSomeAnd}
 use Rattle.omx_types.specs.declared.fault.PartFault.{PartFault}
-use Rattle.part_api.specs.declared.attached.Attached.{Attached}
 use Rattle.part_api.specs.Terms.{Terms}
 use Rattle.il_machine.specs.World.{Component, World}
 use Rattle.il_machine.specs.Acts as acts
@@ -17,10 +16,9 @@ Returns w done p = Meets w (acts.Finish done) × IsBack w done p
 abbrev pub failed_by : Option PartFault → Component → Component
 failed_by fault c = record c { part = record c.part { failed = c.part.failed || is_some fault } }
 
--- The work that comes back is the component's, an announcement or not, and so is its part: of its kind, with its file, and failed where it
--- failed.
-pub record IsItsOwn (c : Component) (announces : Bool) (fault : Option PartFault) (t : Terms) (failed : Bool) (file : Option Attached) : Type 0 where
+-- The work is the component's, an announcement or not, and so is its part: of its kind, with its file, and failed where it failed.
+pub record IsItsOwn (c : Component) (announces : Bool) (fault : Option PartFault) (t : Terms) (failed : Bool) : Type 0 where
   pub work : IsSomeAnd c.work (λ work. work.announces ≡ announces)
   pub kind : t.kind ≡ c.settings.kind
-  pub its_file : file ≡ c.file
+  pub its_file : t.file ≡ c.file
   pub so_failed : failed ≡ (c.part.failed || is_some fault)

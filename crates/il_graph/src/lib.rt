@@ -10,8 +10,6 @@ mod freed;
 mod graph;
 mod no_file;
 mod pair;
-#[cfg(test)]
-mod tests;
 
 pub use audio_parts::PartFile;
 pub use claimed::{Claimed, Done, Work};

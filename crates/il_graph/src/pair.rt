@@ -260,6 +260,3 @@ impl<S: Source, K: Sink> Pair<S, K> {
         (source, sink)
     }
 }
-
-#[cfg(test)]
-mod tests;

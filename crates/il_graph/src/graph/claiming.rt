@@ -1,7 +1,8 @@
 //! A component's work goes out.
 
-ghost use Rattle.std.specs.Prelude.{◌≡◌, false, None};
+ghost use Rattle.std.specs.Prelude.{◌≡◌, false, None, IsSomeAnd};
 ghost use Rattle.part_api.specs.Terms.{Terms};
+ghost use Rattle.il_machine.specs.Answers.{component_named};
 ghost use Rattle.il_machine.specs.Claims.{Claim};
 ghost use Rattle.il_machine.specs.Whole.{Steps};
 ghost use Rattle.audio_parts.specs.AnyParts.{file_of as part_file};
@@ -9,6 +10,7 @@ ghost use Rattle.graph_core.specs.Clients.{KeepsAllClients};
 ghost use Rattle.graph_core.specs.Claiming.{AreLent};
 ghost use Rattle.il_flow.specs.Steps.{shown};
 ghost use Rattle.il_graph.specs.Claiming.{AreTermsOf, IsSoFar, OnNoWork, OnWork, claimed_as};
+ghost use Rattle.il_graph.specs.Finishing.{IsItsOwn};
 ghost use Rattle.il_graph.specs.HandedIn.{KeepsHandedIn};
 ghost use Rattle.il_graph.specs.Shown.{kept, look_of, file_of, KeepsFiles};
 
@@ -28,6 +30,8 @@ impl<S: Source, K: Sink, C: Client> Graph<S, K, C> {
         ensures step { (t : Terms) → AreTermsOf h (look_of self.old) t → Steps (kept C.progress self.old) (kept C.progress self.new) (λ w v. Claim w h (claimed_as t result) v
             × OnWork result (λ work. IsSoFar t v work.component.generation (shown (⟦<AnyPart<S, K> as Part>⟧.left work.part) (⟦<AnyPart<S, K> as Part>⟧.rest work.part) (⟦<AnyPart<S, K> as Part>⟧.kept work.part) (⟦<AnyPart<S, K> as Part>⟧.writing work.part)))) }
         ensures terms { (t : Terms) → AreTermsOf h (look_of self.old) t → OnWork result (λ work. work.announces ≡ false → ⟦<AnyPart<S, K> as Part>⟧.terms work.part ≡ t) }
+        ensures its { OnWork result (λ work. IsSomeAnd (component_named h (look_of self.new).components) (λ c. IsItsOwn c work.announces None (⟦<AnyPart<S, K> as Part>⟧.terms work.part) (⟦<AnyPart<S, K> as Part>⟧.failed work.part))) }
+        ensures whole { OnWork result (λ work. ⟦<AnyPart<S, K> as Part>⟧.failed work.part ≡ false) }
         ensures component { OnWork result (λ work. work.component ≡ h) }
         ensures lent { OnWork result (λ work. AreLent h.generation work.headers (look_of self.new)) }
         ensures file { OnWork result (λ work. part_file work.part ≡ file_of h.generation self.old) }

@@ -1,11 +1,11 @@
 //! A component's work comes back.
 
-ghost use Rattle.std.specs.Prelude.{◌≡◌, ℕ, List, None, option_and_then, option_map, IsSomeAnd};
+ghost use Rattle.std.specs.Prelude.{◌≡◌, ℕ, List, None, option_and_then, IsSomeAnd};
 ghost use Rattle.il_machine.specs.Answers.{component_named};
 ghost use Rattle.il_machine.specs.Finishing.{Finish};
 ghost use Rattle.il_machine.specs.Whole.{Stands, StepsWhere};
 ghost use Rattle.il_machine.specs.World.{World};
-ghost use Rattle.audio_parts.specs.AnyParts.{attached_of, file_of as part_file};
+ghost use Rattle.audio_parts.specs.AnyParts.{file_of as part_file};
 ghost use Rattle.graph_core.specs.Clients.{KeepsAllClients};
 ghost use Rattle.graph_core.specs.Finishing.{AreHandedBack};
 ghost use Rattle.il_flow.specs.Steps.{shown};
@@ -41,7 +41,7 @@ impl<S: Source, K: Sink, C: Client> Graph<S, K, C> {
     /// The work of a component comes back, from its step or as an announcement, and its part with its file.
     pub fn finish(&mut self, done: Done<S, K>)
         requires comes { (w : World) × (took : List ℕ) × (Stands (kept C.progress self.old) w × Returns w (seen_done took done) (shown (⟦<AnyPart<S, K> as Part>⟧.left done.part) (⟦<AnyPart<S, K> as Part>⟧.rest done.part) (⟦<AnyPart<S, K> as Part>⟧.kept done.part) (⟦<AnyPart<S, K> as Part>⟧.writing done.part))) }
-        requires its { IsSomeAnd (component_named done.component (look_of self.old).components) (λ c. IsItsOwn c done.announces done.fault (⟦<AnyPart<S, K> as Part>⟧.terms done.part) (⟦<AnyPart<S, K> as Part>⟧.failed done.part) (option_map attached_of (part_file done.part))) }
+        requires its { IsSomeAnd (component_named done.component (look_of self.old).components) (λ c. IsItsOwn c done.announces done.fault (⟦<AnyPart<S, K> as Part>⟧.terms done.part) (⟦<AnyPart<S, K> as Part>⟧.failed done.part)) }
         requires gone { file_of done.component.generation self.old ≡ None }
         requires handed { AreHandedBack done.headers (look_of self.old) }
         ensures step { (took : List ℕ) → StepsWhere (kept C.progress self.old) (kept C.progress self.new)

@@ -7,6 +7,7 @@ use Rattle.il_machine.specs.World.{Component, World, number_of, stream_of}
 use Rattle.il_machine.specs.Headers.{seen}
 use Rattle.il_machine.specs.Look.{look}
 use Rattle.il_machine.specs.Parts.{terms_of}
+use Rattle.il_machine.specs.Answers.{component_named}
 use Rattle.il_machine.specs.Claims.{Claim, Claimed, ClaimedWork, Claims, WorkSeen, claim_idle, must_announce, with_work, work_of}
 use Rattle.il_machine.specs.Whole.{Stands}
 use Rattle.il_machine.specs.Acts as acts
@@ -17,7 +18,7 @@ use Rattle.port_stock.specs.Kept.{stocked}
 use Rattle.il_component.specs.Entries.{component_of}
 use Rattle.whole_laws.specs.Bare.{StepsBare}
 use Rattle.graph_core.specs.Claiming.{AreLent, HasFronts}
-use Rattle.graph_core.specs.Entries.{component_at, look_of, kept as core_kept}
+use Rattle.graph_core.specs.Entries.{component_at, components_of, look_of, kept as core_kept}
 use Rattle.audio_parts.specs.declared.any_part.AnyPart.{AnyPart}
 use Rattle.il_flow.specs.Places.{carried_from}
 use Rattle.il_flow.specs.Works.{seen_work}
@@ -25,10 +26,11 @@ use Rattle.audio_parts.specs.Shown.{shown_by, terms_by}
 use Rattle.il_graph.specs.Claiming.{IsSoFar, answer_of}
 use Rattle.il_graph.specs.Preparing.{MaySet, prepared_where}
 use Rattle.il_graph.specs.Shown.{IsPartOf, kept, seen_of}
-use Rattle.il_graph.proofs.Calling.{Found, found, at_some, component_is, not_found}
+use Rattle.il_graph.proofs.Back.{own_as}
+use Rattle.il_graph.proofs.Calling.{Found, found, and_some, at_some, component_is, not_found}
 use Rattle.il_graph.proofs.Clients.{own}
-use Rattle.il_graph.proofs.Giving.{given_done, given_file, given_lawful, given_none, given_outputs, given_ready, given_terms, given_within, shown_done, terms_named, was_so_far}
-use Rattle.il_graph.proofs.Going.{claimed_at, gone_file, gone_is_whole, gone_others, gone_own, gone_whole, idle_cases, lent_work, no_claim, no_work, told_so}
+use Rattle.il_graph.proofs.Giving.{given_done, given_failed, given_file, given_lawful, given_none, given_outputs, given_own, given_ready, given_terms, given_within, shown_done, terms_named, was_so_far}
+use Rattle.il_graph.proofs.Going.{claimed_at, gone_file, gone_is_whole, gone_named, gone_others, gone_own, gone_whole, idle_cases, lent_work, no_claim, no_work, told_so}
 use Rattle.il_graph.proofs.HandedIn.{keeps_over}
 use Rattle.il_graph.proofs.Holding.{holds_it, holds_part, is_sound, items_within, part_within}
 use Rattle.il_graph.proofs.Lasting.{lent_over}
@@ -371,6 +373,63 @@ returns-clause-terms g c =
     rw (← c.self.view_is, c.make_work.ensures.part) (λ t A e.
     let is_terms : t ≡ terms_of F.component = terms_named c.args.h (look_of G) F.component i t F.place F.at A in
     sym c.law_of_shown.ensures.terms ∙ (given_terms (look_of G) F.component S ok places (stocked G.stock) refl fronts (f part) T c.lawful_terms.ensures.format c.lawful_terms.ensures.factor announces tells q is (sym c.make_work.ensures.announces ∙ e) ∙ sym is_terms))
+
+pub returns-clause-its : goal.returns-clause-its
+returns-clause-its g c =
+    let p = g.C.Client.progress in
+    let G = c.self.inside.core in
+    let items = c.self.inside.parts.items in
+    let f = shown_by g.S.Source.told g.K.Sink.told g.K.Sink.name in
+    let i = c.in-Some.place in
+    let F : Found p G c.args.h i = found p G c.args.h i c.in-Some.ensures.place c.in-Some.ensures.within in
+    let I = c.self.invariant.1 in
+    let ok : claim_idle (look_of G) F.component ≡ None = sym (at_some (λ k. None ≡ claim_idle (look_of G) k) (component_at i G) F.component F.at c.in_default-claim_idle.ensures) in
+    let M = claim_passes (look_of G) F.component ok in
+    let S = is_sound p _ I i F.component F.at in
+    let b : i < length items = items_within f items i (part_within p _ I i F.component F.at) in
+    let here : slice_get items i ≡ Some c.index_mut.result.now = slice_get-get_or items i c.index_mut.result.now b ∙ ap Some (sym c.index_mut.ensures.value) in
+    let part = c.in-Some-take.part in
+    let there : slice_get items i ≡ Some (Some part) = here ∙ ap Some (sym c.take.ensures.value ∙ c.in-Some-take.is) in
+    let T : IsPartOf F.component (f part) = holds_it p _ I i F.component F.at f items refl M.free part there in
+    let same : F.component ≡ component_of c.in-Some-at.component.now = component_is p G c.args.h i F c.in-Some-at.component.now (rw c.in-Some-at.is at c.at.ensures) in
+    let announces = c.must_announce-announces.result in
+    let tells : announces ≡ must_announce F.component = at_some (λ k. announces ≡ must_announce k) (component_at i G) F.component F.at c.must_announce-announces.ensures in
+    let places = c.claim-headers.result in
+    let fronts : HasFronts F.component places (stocked G.stock) = at_some (λ k. HasFronts k places (stocked G.stock)) (component_at i G) F.component F.at c.claim-headers.ensures.headers in
+    let q = f c.prepare.new.part in
+    let is : q ≡ prepared_where announces F.component (f part) = c.prepare.ensures ∙ ap (λ (k : Component). prepared_where announces k (f part)) (sym same) in
+    let X = claimed_at p G c.args.h i F c.claim-headers.new.self c.close_out.new.self places c.in_default-claim_idle.ensures c.claim-headers.ensures.change c.claim-headers.ensures.carried c.close_out.ensures.closes in
+    let D = gone_named p _ c.close_out.new.self c.args.h i F.component (lent_work F.component places) I F.place F.at X (λ n. c.close_out.ensures.clients n ∙ c.claim-headers.ensures.clients n) in
+    let law = c.law_of_shown.ensures in
+    rw (c.make_work.ensures.part, c.make_work.ensures.announces) (and_some _ (component_named c.args.h (components_of c.close_out.new.self.entries)) D.0 D.1 (own_as D.0 announces None q.terms _ q.failed _ law.terms law.failed
+    (given_own (look_of G) F.component S ok places (stocked G.stock) refl fronts (f part) T c.lawful_terms.ensures.format c.lawful_terms.ensures.factor announces tells q is D.0 (work_of (look_of G).headers F.component) D.2 (sym tells))))
+
+pub returns-clause-whole : goal.returns-clause-whole
+returns-clause-whole g c =
+    let p = g.C.Client.progress in
+    let G = c.self.inside.core in
+    let items = c.self.inside.parts.items in
+    let f = shown_by g.S.Source.told g.K.Sink.told g.K.Sink.name in
+    let i = c.in-Some.place in
+    let F : Found p G c.args.h i = found p G c.args.h i c.in-Some.ensures.place c.in-Some.ensures.within in
+    let I = c.self.invariant.1 in
+    let ok : claim_idle (look_of G) F.component ≡ None = sym (at_some (λ k. None ≡ claim_idle (look_of G) k) (component_at i G) F.component F.at c.in_default-claim_idle.ensures) in
+    let M = claim_passes (look_of G) F.component ok in
+    let S = is_sound p _ I i F.component F.at in
+    let b : i < length items = items_within f items i (part_within p _ I i F.component F.at) in
+    let here : slice_get items i ≡ Some c.index_mut.result.now = slice_get-get_or items i c.index_mut.result.now b ∙ ap Some (sym c.index_mut.ensures.value) in
+    let part = c.in-Some-take.part in
+    let there : slice_get items i ≡ Some (Some part) = here ∙ ap Some (sym c.take.ensures.value ∙ c.in-Some-take.is) in
+    let T : IsPartOf F.component (f part) = holds_it p _ I i F.component F.at f items refl M.free part there in
+    let same : F.component ≡ component_of c.in-Some-at.component.now = component_is p G c.args.h i F c.in-Some-at.component.now (rw c.in-Some-at.is at c.at.ensures) in
+    let announces = c.must_announce-announces.result in
+    let tells : announces ≡ must_announce F.component = at_some (λ k. announces ≡ must_announce k) (component_at i G) F.component F.at c.must_announce-announces.ensures in
+    let places = c.claim-headers.result in
+    let fronts : HasFronts F.component places (stocked G.stock) = at_some (λ k. HasFronts k places (stocked G.stock)) (component_at i G) F.component F.at c.claim-headers.ensures.headers in
+    let q = f c.prepare.new.part in
+    let is : q ≡ prepared_where announces F.component (f part) = c.prepare.ensures ∙ ap (λ (k : Component). prepared_where announces k (f part)) (sym same) in
+    let failed : F.component.part.failed ≡ false = (either_of F.component.part.ended F.component.part.failed M.goes).1 in
+    rw c.make_work.ensures.part (sym c.law_of_shown.ensures.failed ∙ (given_failed (look_of G) F.component S ok places (stocked G.stock) refl fronts (f part) T c.lawful_terms.ensures.format c.lawful_terms.ensures.factor announces tells q is ∙ failed))
 
 pub returns-clause-lent : goal.returns-clause-lent
 returns-clause-lent g c =

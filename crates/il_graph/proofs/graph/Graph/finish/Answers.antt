@@ -33,7 +33,7 @@ use Rattle.il_graph.proofs.graph.Graph.finish.Goals as goal
 
 pub unreachable-requires : goal.unreachable-requires
 unreachable-requires g c =
-    own_none _ _ _ _ _ c.component.result c.args.done.component (components_of c.self.inside.core.entries) c.component.ensures (entry_place_is c.component.result c.self.inside.core.entries ∙ sym c.in_default.ensures.place) (rw (← c.self.view_is) at c.requires.its)
+    own_none _ _ _ _ c.component.result c.args.done.component (components_of c.self.inside.core.entries) c.component.ensures (entry_place_is c.component.result c.self.inside.core.entries ∙ sym c.in_default.ensures.place) (rw (← c.self.view_is) at c.requires.its)
 
 pub finish_announcement-requires : goal.finish_announcement-requires
 finish_announcement-requires g c =
