@@ -1,15 +1,17 @@
 mod buffers;
 mod handles;
+mod pair;
 mod tunnels;
 mod units;
+mod working;
 mod works;
 
 ghost use Rattle.graph_core.specs.Clients.{IsPortDone};
 ghost use Rattle.il_graph.specs.Shown.{look_of};
 ghost use Rattle.il_graph.specs.HandedIn.{StayHandedIn, IsHandedOut};
 
-use crate::{Freed, Graph, NoFile};
 use header_core::Header;
+use il_graph::{Freed, Graph, NoFile};
 use il_machine::{Acted, Progress};
 use note_queues::{Call, Client, ProgressClient, Taken, Took};
 use omx_types::{

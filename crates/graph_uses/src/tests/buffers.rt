@@ -24,7 +24,7 @@ struct Sink {
     y: Header,
 }
 
-fn emptied(rt: &impl Abort, graph: &mut Plain, h: Handle, header: Header)
+pub fn emptied(rt: &impl Abort, graph: &mut Plain, h: Handle, header: Header)
     requires { IsHandedIn header (look_of graph.old) }
     ensures { KeepsOthersHandedIn header (look_of graph.old) (look_of graph.new) }
 {
@@ -136,7 +136,7 @@ fn sink_over(rt: &impl Abort, alloc: Global, graph: &mut Plain, a: Vec<u8>, b: V
 }
 
 /// The header in the component's oldest note.
-fn came_back(rt: &impl Abort, graph: &mut Plain, h: Handle) -> Header
+pub fn came_back(rt: &impl Abort, graph: &mut Plain, h: Handle) -> Header
     ensures held { StayHandedIn (look_of graph.old) (look_of graph.new) }
     ensures handed { IsHandedIn result (look_of graph.new) }
     ensures other { (before : BufferHeader) → IsHandedIn before (look_of graph.old) → before.held.number ≢ result.held.number }

@@ -1,8 +1,10 @@
+//! What a source and a sink with two headers between them leave in a file.
+
 ghost use Rattle.std.specs.Prelude.{◌≡◌, ◌*◌, ◌≤◌, length, IfOk};
 ghost use Rattle.omx_types.specs.Formats.{IsWithinLimits, frame_bytes_of};
 ghost use Rattle.part_forms.specs.Writing.{written};
 
-use super::Pair;
+use il_graph::Pair;
 use omx_types::Format;
 use outside_io::{MemorySink, MemorySource};
 use std::alloc::{AllocError, Global};

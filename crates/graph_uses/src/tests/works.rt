@@ -1,9 +1,9 @@
 //! Files come and go with their components, and works are claimed.
 
 use super::{Plain, allocated, key, made, noted, order, reach, told};
-use crate::{Claimed, Freed, Graph, NoFile, PartFile, Work};
 use header_core::Header;
 use il_flow::Brought;
+use il_graph::{Claimed, Freed, Graph, NoFile, PartFile, Work};
 use note_queues::ProgressClient;
 use omx_types::{Command, Completion, Format, Handle, OmxError, Param, PortDefinition, State};
 use outside_io::{MemorySink, MemorySource};
@@ -92,7 +92,7 @@ fn spent(work: Work<NoFile, NoFile>) -> (u32, bool) {
 }
 
 /// What a claim answers.
-fn claimed(graph: &mut Plain, h: Handle) -> Result<(u32, bool), &'static str> {
+pub fn claimed(graph: &mut Plain, h: Handle) -> Result<(u32, bool), &'static str> {
     let work = match graph.claim(h) {
         Ok(Claimed::Work(work)) => work,
         Ok(Claimed::Busy) => return Err("busy"),

@@ -5,7 +5,7 @@ use Rattle.omx_types.specs.Formats.{frame_bytes_of}
 use Rattle.outside_io.specs.Memory.{source_bytes, source_place, sink_bytes}
 use Rattle.part_forms.specs.Writing.{written}
 use Rattle.il_graph.specs.Playing.{sink_of, due}
-use Rattle.il_graph.proofs.pair.tests.played.Goals as goal
+use Rattle.graph_uses.proofs.tests.pair.played.Goals as goal
 
 pub returns-in-Ok-played : goal.returns-in-Ok-played
 returns-in-Ok-played c =
