@@ -82,7 +82,7 @@ own_stepped c announces told fault t u failed now O whole a e b =
     }
 
 -- what is set of the component that the handle names; where it names none, any will do
-terms_by : Option Component → Terms
+abbrev terms_by : Option Component → Terms
 terms_by None = record { kind = kinds.Gain; inputs = []; outputs = []; factors = []; file = None }
 terms_by (Some c) = terms_of c
 
@@ -90,7 +90,7 @@ terms_are : (o : Option Component) → IfSome o (λ c. terms_by o ≡ terms_of c
 terms_are None = tt
 terms_are (Some c) = refl
 
-pub terms_at : Handle → Look → Terms
+abbrev pub terms_at : Handle → Look → Terms
 terms_at h l = terms_by (component_named h l.components)
 
 pub are_terms_at : (h : Handle) (l : Look) → AreTermsOf h l (terms_at h l)

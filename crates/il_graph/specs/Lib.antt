@@ -12,3 +12,4 @@ pub mod Stood
 pub mod Streams
 pub mod HandedIn
 pub mod Finishing
+pub mod NoFiles

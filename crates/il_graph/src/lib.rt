@@ -17,7 +17,7 @@ pub use freed::Freed;
 pub use graph::Graph;
 pub use header_core::Header;
 pub use il_machine::{Acted, Granted, Mode, PortView, Preempted, Progress, Why};
-pub use no_file::NoFile;
+pub use no_file::{EmptyFile, NoFile, Nothing};
 pub use note_queues::{Call, Client, ProgressClient, Taken, Took};
 pub use omx_types::{
     CallError, Command, Completion, Event, Format, Handle, OmxError, Param, ParamKey,

@@ -1,14 +1,31 @@
 //! The files of a graph whose sources and sinks get none.
 
-ghost use Rattle.std.specs.Prelude.{None, []};
+ghost use Rattle.std.specs.Prelude.{◌≡◌, None, []};
 
 use outside_io::{Failed, Sink, Source};
 
-/// No file. A graph of such files is one without any.
+/// A type without values.
 #[derive(Drop)]
-pub enum NoFile {}
+pub enum Nothing {}
 
-impl Source for NoFile {
+/// A file without bytes, which doesn't tell what it takes. It is made of a value of any type.
+#[derive(Drop)]
+pub struct EmptyFile<T> {
+    of: T,
+}
+
+/// No file, since none can be made. A graph of such files is one without any.
+pub type NoFile = EmptyFile<Nothing>;
+
+impl<T> EmptyFile<T> {
+    pub fn new(of: T) -> EmptyFile<T>
+        ensures { result.of ≡ of }
+    {
+        EmptyFile { of }
+    }
+}
+
+impl<T> Source for EmptyFile<T> {
     ghost told = { λ file. None };
 
     ghost ends = { λ file. None };
@@ -22,27 +39,27 @@ impl Source for NoFile {
     ghost faults = { λ file. 0 };
 
     fn size(&self) -> u64 {
-        match *self {}
+        0
     }
 
     fn place(&self) -> u64 {
-        match *self {}
+        0
     }
 
     fn faults(&self) -> u64 {
-        match *self {}
+        0
     }
 
     fn read(&mut self, _buf: &mut [u8]) -> Result<usize, Failed> {
-        match *self {}
+        Ok(0)
     }
 
     fn seek_to(&mut self, _to: u64) -> Result<(), Failed> {
-        match *self {}
+        Ok(())
     }
 }
 
-impl Sink for NoFile {
+impl<T> Sink for EmptyFile<T> {
     ghost told = { λ file. None };
 
     ghost name = { λ file. [] };
@@ -50,10 +67,10 @@ impl Sink for NoFile {
     ghost faults = { λ file. 0 };
 
     fn faults(&self) -> u64 {
-        match *self {}
+        0
     }
 
-    fn write(&mut self, _piece: &[u8]) -> Result<usize, Failed> {
-        match *self {}
+    fn write(&mut self, piece: &[u8]) -> Result<usize, Failed> {
+        Ok(piece.len())
     }
 }

@@ -38,7 +38,7 @@ use Rattle.graph_core.specs.Changes.{IsHandedIn}
 use Rattle.graph_core.specs.Clients.{IsOut}
 use Rattle.audio_parts.specs.declared.part_file.PartFile.{PartFile}
 use Rattle.audio_parts.specs.declared.part_file.PartFile.TheVariants as files
-use Rattle.il_graph.specs.declared.no_file.NoFile.{NoFile}
+use Rattle.il_graph.specs.NoFiles.{NoFile}
 use Rattle.trace_run.specs.declared.names.NamedComponent.{NamedComponent}
 use Rattle.trace_run.specs.declared.slots.Slot.{Slot}
 use Rattle.trace_run.specs.Standing.{Parts, slot_numbered, AreRising, Hands, IsNamed, IsSeated, IsOfPort, IsStood}
@@ -382,8 +382,8 @@ ended_all components l n b E i entry at = elim (cases_lt i n) [
 -- there is no file that a graph of a trace could have
 pub no_file : (o : Option (PartFile NoFile NoFile)) → o ≡ None
 no_file None = refl
-no_file (Some (files.From src format frames)) = absurd (elim src [ ])
-no_file (Some (files.To snk frames)) = absurd (elim snk [ ])
+no_file (Some (files.From src format frames)) = absurd (elim src.of [ ])
+no_file (Some (files.To snk frames)) = absurd (elim snk.of [ ])
 
 -- no client object is out
 named_in : (h : Handle) (cs : List Component) (o : Option ℕ) → All (λ (c : Component). c.client_out ≡ false) cs → IsSomeAnd (option_and_then (slice_get cs) o) (λ c. c.client_out ≡ true) → ⊥

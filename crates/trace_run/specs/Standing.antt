@@ -27,7 +27,7 @@ use Rattle.note_queues.specs.declared.taken.Taken.{Taken}
 use Rattle.note_queues.specs.declared.taken.Taken.TheVariants as notes
 use Rattle.graph_core.specs.Changes.{IsHandedIn}
 use Rattle.il_graph.specs.Shown.{Shown, kept}
-use Rattle.il_graph.specs.declared.no_file.NoFile.{NoFile}
+use Rattle.il_graph.specs.NoFiles.{NoFile}
 use Rattle.act_text.specs.declared.act.TextAct.{TextAct}
 use Rattle.act_text.specs.declared.act.TextAct.TheVariants as lines
 use Rattle.act_text.specs.declared.reply.TextReply.{TextReply}
