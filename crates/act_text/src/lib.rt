@@ -27,6 +27,3 @@ pub use reply::{TextReply, TextWhy};
 pub use text::{ActText, put_act, put_reply, read_act};
 
 pub type OutOfMemory = AllocError;
-
-#[cfg(test)]
-mod tests;

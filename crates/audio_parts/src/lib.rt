@@ -44,10 +44,5 @@ pub use splitter::{Splitter, Splitting};
 pub use wav_sink::WavSink;
 pub use wav_source::WavSource;
 
-#[cfg(test)]
-mod any_tests;
-#[cfg(test)]
-mod tests;
-
 /// Want of memory.
 pub type OutOfMemory = std::alloc::AllocError;

@@ -19,6 +19,3 @@ pub use clock::Clock;
 pub use laws::law_of_calls;
 pub use motion::Motion;
 pub use run::run_clock;
-
-#[cfg(test)]
-mod tests;

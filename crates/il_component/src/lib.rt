@@ -10,8 +10,6 @@ mod files;
 mod formats;
 mod part_changes;
 mod port_changes;
-#[cfg(test)]
-mod tests;
 mod units;
 mod work_out;
 mod works;

@@ -6,6 +6,3 @@ mod samples;
 mod script;
 
 pub use making::make;
-
-#[cfg(test)]
-mod tests;

@@ -19,6 +19,3 @@ pub use law::Law;
 pub use laws::{deliveries_again, nearest_number};
 pub use packing::{Packed, pack};
 pub use unpacking::{Unpacked, unpack};
-
-#[cfg(test)]
-mod tests;

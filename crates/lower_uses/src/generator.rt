@@ -1,4 +1,4 @@
-use super::*;
+use load_gen::make;
 use omx_types::{Fault, Which};
 use outside_io::{Fail, FailKind, MemoryMedia};
 use std::alloc::Global;

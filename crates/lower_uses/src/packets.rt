@@ -1,6 +1,6 @@
-use super::*;
 use omx_types::WavFault;
 use outside_io::{Fail, FailKind, Media, MemoryMedia, MemorySink, MemorySource};
+use rtp_parts::{Packed, RtpFault, Unpacked, pack, unpack};
 use std::alloc::{AllocError, Global};
 use std::test::Fail as Failure;
 

@@ -1,4 +1,4 @@
-use super::*;
+use act_text::{ActText, Name, TextAct, TextReply, port_in, put_act, put_reply, read_act};
 use line_text::BadWord;
 use omx_types::{Completion, Event, Format};
 use std::test::Fail;

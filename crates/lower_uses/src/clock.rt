@@ -1,4 +1,4 @@
-use super::*;
+use clock_core::{Clock, ClockAct, ClockRefusal, Fulfilled};
 
 /// Makes a call, if its numbers are those of a clock, and answers how many notes came, or the refusal.
 fn called(

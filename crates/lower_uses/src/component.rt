@@ -1,4 +1,4 @@
-use crate::Component;
+use il_component::Component;
 use note_queues::ProgressClient;
 use omx_types::{Handle, Kind, State};
 use std::test::Fail;
