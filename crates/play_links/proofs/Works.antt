@@ -20,15 +20,15 @@ use Rattle.play_links.proofs.Same.{stock_of, stands_of, in_append, map_push, fil
 
 -- ---- a header goes out
 
-record IsGiven (key : PortKey) (n : ℕ) (ns : List ℕ) (hs ks : List HeaderRecord) : Type 0 where
-  once : Once ks
-  gone : (seen ks).todo key ≡ ns
-  todo : (k : PortKey) → same_key k key ≡ false → (seen ks).todo k ≡ (seen hs).todo k
-  done : (k : PortKey) → (seen ks).done k ≡ (seen hs).done k
-  loads : (m : ℕ) → load_at m ks ≡ load_at m hs
+pub record IsGiven (key : PortKey) (n : ℕ) (ns : List ℕ) (hs ks : List HeaderRecord) : Type 0 where
+  pub once : Once ks
+  pub gone : (seen ks).todo key ≡ ns
+  pub todo : (k : PortKey) → same_key k key ≡ false → (seen ks).todo k ≡ (seen hs).todo k
+  pub done : (k : PortKey) → (seen ks).done k ≡ (seen hs).done k
+  pub loads : (m : ℕ) → load_at m ks ≡ load_at m hs
 
 module _ (owner : Owner) (key : PortKey) (n : ℕ) (ns : List ℕ) (hs : List HeaderRecord) (o : Once hs) (e : (seen hs).todo key ≡ n ∷ ns) where
-  is_given : IsGiven key n ns hs (changed n (given_to owner) hs)
+  pub is_given : IsGiven key n ns hs (changed n (given_to owner) hs)
   is_given =
       let ks : List HeaderRecord = changed n (given_to owner) hs in
       let F : Fronts (is_state (in_todo key)) n hs = fronts (is_state (in_todo key)) n ns hs o e in

@@ -63,7 +63,7 @@ transition_due x p w i a t W e n h = elim (due_where (seen w.headers) a t h) [
 
 -- ---- what is pending
 
-pending_of : (phase stage : ℕ) (test : Pending → Bool) → holds_at (pending_at phase stage) test ≡ true → (stage ≡ 2) × (test (pending_to (target phase)) ≡ true)
+pub pending_of : (phase stage : ℕ) (test : Pending → Bool) → holds_at (pending_at phase stage) test ≡ true → (stage ≡ 2) × (test (pending_to (target phase)) ≡ true)
 pending_of phase zero test h = absurd cc
 pending_of phase (suc zero) test h = absurd cc
 pending_of phase (suc (suc zero)) test h = (refl, h)
@@ -71,19 +71,20 @@ pending_of phase (suc (suc (suc n))) test h = absurd cc
 
 -- ---- a link of the component
 
-record IsLinkEnd (x : Cast) (p : Play) (w : World) (l : ℕ) (a : Component) : Type 0 where
-  index : ℕ
-  key : PortKey
-  port : Port
-  link : Link
-  has : port_of a index ≡ Some port
-  keyed : port.key ≡ key
-  state : port.state ≡ joined_state link
-  count : port.setting.definition.count ≡ ((x.layout).network).count l
-  many : (seen w.headers).count (is_for key) ≡ made p l
+pub record IsLinkEnd (x : Cast) (p : Play) (w : World) (l : ℕ) (a : Component) : Type 0 where
+  pub index : ℕ
+  pub key : PortKey
+  pub port : Port
+  pub link : Link
+  pub has : port_of a index ≡ Some port
+  pub keyed : port.key ≡ key
+  pub state : port.state ≡ joined_state link
+  pub count : port.setting.definition.count ≡ ((x.layout).network).count l
+  pub many : (seen w.headers).count (is_for key) ≡ made p l
+  pub end : (key ≡ output_at x l) ⊎ (key ≡ input_at x l)
 
-end_of_link : (x : Cast) (p : Play) (w : World) (l c : ℕ) (a : Component) (key peer : PortKey) (input : Bool) → IsAt x p w l c key peer input → slice_get w.components (script_place x c) ≡ Some a → (seen w.headers).count (is_for key) ≡ made p l → IsLinkEnd x p w l a
-end_of_link x p w l c a key peer input E e m =
+end_of_link : (x : Cast) (p : Play) (w : World) (l c : ℕ) (a : Component) (key peer : PortKey) (input : Bool) → IsAt x p w l c key peer input → slice_get w.components (script_place x c) ≡ Some a → (seen w.headers).count (is_for key) ≡ made p l → ((key ≡ output_at x l) ⊎ (key ≡ input_at x l)) → IsLinkEnd x p w l a
+end_of_link x p w l c a key peer input E e m d =
     let s : Some E.component ≡ Some a = sym E.there ∙ e in
     let is : E.component ≡ a = cc in
     record {
@@ -96,15 +97,16 @@ end_of_link x p w l c a key peer input E e m =
       state = (E.end).state;
       count = (E.end).count;
       many = m;
+      end = d;
     }
 
-link_end : (x : Cast) (p : Play) (w : World) (l c : ℕ) (a : Component) → IsPlayWorld x p w → slice_get w.components (script_place x c) ≡ Some a → IsLinkOf (x.layout).network c l → IsLinkEnd x p w l a
+pub link_end : (x : Cast) (p : Play) (w : World) (l c : ℕ) (a : Component) → IsPlayWorld x p w → slice_get w.components (script_place x c) ≡ Some a → IsLinkOf (x.layout).network c l → IsLinkEnd x p w l a
 link_end x p w l c a W e (inl I) =
     let E = subst (λ (k : ℕ). IsAt x p w l k (input_at x l) (output_at x l) true) I.taken_by (input_is x p w W l I.below) in
-    end_of_link x p w l c a (input_at x l) (output_at x l) true E e (made_input x p w W l I.below)
+    end_of_link x p w l c a (input_at x l) (output_at x l) true E e (made_input x p w W l I.below) (inr refl)
 link_end x p w l c a W e (inr O) =
     let E = subst (λ (k : ℕ). IsAt x p w l k (output_at x l) (input_at x l) false) O.given_by (output_is x p w W l O.below) in
-    end_of_link x p w l c a (output_at x l) (input_at x l) false E e (made_output x p w W l O.below)
+    end_of_link x p w l c a (output_at x l) (input_at x l) false E e (made_output x p w W l O.below) (inl refl)
 
 -- ---- due is due in the model
 
@@ -155,7 +157,7 @@ untold_other : (a b t : Bool) → a ≡ false → (a && b && not t) ≡ false
 untold_other a b t e = rw e refl
 
 -- no sink's end waits to be told
-nothing_untold : (x : Cast) (p : Play) (w : World) (c : ℕ) (a : Component) → IsPlayWorld x p w → IsActor x p w c a → p.stage c ≡ 2 → ends_untold x p c ≡ false
+pub nothing_untold : (x : Cast) (p : Play) (w : World) (c : ℕ) (a : Component) → IsPlayWorld x p w → IsActor x p w c a → p.stage c ≡ 2 → ends_untold x p c ≡ false
 nothing_untold x p w c a W A z =
     let sink : Bool = (x.layout).is_sink c in
     let ended : Bool = (p.flow).ended c in
@@ -204,7 +206,7 @@ never_held x p w i a W e n = unheld_all a.ports (λ k s f.
 down_same : (a : Component) → map unheld a.ports ≡ a.ports → came_down a ≡ came 4 a
 down_same a e = λ i. told (CmdComplete (completions.State (target 4))) (record a { state = target 4; pending = None; holds = false; waiting = None; ports = e i })
 
-reached_told : (phase : ℕ) → last_told phase 3 ≡ last_told phase 2
+pub reached_told : (phase : ℕ) → last_told phase 3 ≡ last_told phase 2
 reached_told zero = refl
 reached_told (suc n) = refl
 

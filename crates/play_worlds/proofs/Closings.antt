@@ -6,7 +6,7 @@ use Rattle.play_model.specs.Play.{Layout, Play}
 use Rattle.play_model.specs.Acts.{Act, CanAct, CanActs, acted, all_acted}
 use Rattle.play_worlds.specs.Cast.{Cast}
 use Rattle.play_worlds.specs.Worlds.{IsPlayWorld, HappensTo, happenings}
-use Rattle.play_worlds.proofs.Arrivals.{happens_leads}
+use Rattle.play_worlds.proofs.Happenings.{happens_all}
 
 can_push : (w : Layout) (p : Play) (acts : List Act) (a : Act) → CanActs w p acts → CanAct w (all_acted w acts p) a → CanActs w p (acts ++ a ∷ [])
 can_push w p [] a C D = (D, tt)
@@ -20,18 +20,14 @@ happenings_push : (cs : List ℕ) (c : ℕ) → happenings (cs ++ c ∷ []) ≡ 
 happenings_push [] c = refl
 happenings_push (d ∷ cs) c = ap (λ (l : List Act). Act.Happen d ∷ l) (happenings_push cs c)
 
-phase_stays : (w : Layout) (p : Play) (cs : List ℕ) → (all_acted w (happenings cs) p).phase ≡ p.phase
-phase_stays w p [] = refl
-phase_stays w p (c ∷ cs) = phase_stays w (acted w (Act.Happen c) p) cs
-
-pub times_lead : (x : Cast) (p : Play) (n : ℕ) (w v : World) → IsPlayWorld x p w → HappenTimes n w v → p.phase ≢ 3 → HappensTo x p v
-times_lead x p zero w v W h d = record { places = []; can = tt; play = subst (λ (y : World). IsPlayWorld x p y) (sym h) W }
-times_lead x p (suc n) w v W h d =
+pub times_lead : (x : Cast) (p : Play) (n : ℕ) (w v : World) → IsPlayWorld x p w → HappenTimes n w v → HappensTo x p v
+times_lead x p zero w v W h = record { places = []; can = tt; play = subst (λ (y : World). IsPlayWorld x p y) (sym h) W }
+times_lead x p (suc n) w v W h =
     let mid : World = h.0 in
-    let B : HappensTo x p mid = times_lead x p n w mid W h.1 d in
+    let B : HappensTo x p mid = times_lead x p n w mid W h.1 in
     let acts : List Act = happenings B.places in
     let q : Play = all_acted x.layout acts p in
-    let L = happens_leads x q mid v B.play h.2 (λ e. d (sym (phase_stays x.layout p B.places) ∙ e)) in
+    let L = happens_all x q mid v B.play h.2 in
     let c : ℕ = L.0 in
     let push = happenings_push B.places c in
     record {
@@ -40,5 +36,5 @@ times_lead x p (suc n) w v W h d =
       play = subst (λ (y : Play). IsPlayWorld x y v) (sym (ap (λ (l : List Act). all_acted x.layout l p) push ∙ all_push x.layout p acts (Act.Happen c))) L.2;
     }
 
-pub closes_lead : (x : Cast) (p : Play) (w v : World) → IsPlayWorld x p w → ClosesTo w v → p.phase ≢ 3 → HappensTo x p v
-closes_lead x p w v W C d = times_lead x p C.steps w v W C.by_steps d
+pub closes_lead : (x : Cast) (p : Play) (w v : World) → IsPlayWorld x p w → ClosesTo w v → HappensTo x p v
+closes_lead x p w v W C = times_lead x p C.steps w v W C.by_steps

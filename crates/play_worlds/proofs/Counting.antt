@@ -29,7 +29,7 @@ use Rattle.play_worlds.proofs.Flowing.{not_worked_by, sum_fewer}
 
 -- ---- the tunnel of a link
 
-worked_there : (x : Cast) (p : Play) (w : World) (l c : ℕ) (key peer : PortKey) (input : Bool) → IsPlayWorld x p w → IsAt x p w l c key peer input → IsWorkedAt w.components key (work_in w.components key)
+pub worked_there : (x : Cast) (p : Play) (w : World) (l c : ℕ) (key peer : PortKey) (input : Bool) → IsPlayWorld x p w → IsAt x p w l c key peer input → IsWorkedAt w.components key (work_in w.components key)
 worked_there x p w l c key peer input W E = record {
   place = key.component;
   component = E.component;
@@ -63,7 +63,7 @@ module _ (x : Cast) (p : Play) (w : World) (W : IsPlayWorld x p w) (l : ℕ) (b 
 
 -- ---- counts that agree
 
-count_same : (f g : HeaderState → Bool) (rs : List HeaderRecord) → Once rs → ((n : ℕ) (r : HeaderRecord) → find_header n rs ≡ Some r → f r.state ≡ g r.state) → count_headers f rs ≡ count_headers g rs
+pub count_same : (f g : HeaderState → Bool) (rs : List HeaderRecord) → Once rs → ((n : ℕ) (r : HeaderRecord) → find_header n rs ≡ Some r → f r.state ≡ g r.state) → count_headers f rs ≡ count_headers g rs
 count_same f g [] o h = refl
 count_same f g (r ∷ rs) o h =
     let here : weight (f r.state) ≡ weight (g r.state) = ap weight (h r.state.number r (found_head r.state.number r rs refl)) in
@@ -72,7 +72,7 @@ count_same f g (r ∷ rs) o h =
     h n y (found_tail n r rs apart ∙ e)) in
     omega arith
 
-same_tests : (b c : Bool) → (b ≡ true → c ≡ true) → (c ≡ true → b ≡ true) → b ≡ c
+pub same_tests : (b c : Bool) → (b ≡ true → c ≡ true) → (c ≡ true → b ≡ true) → b ≡ c
 same_tests true c f g = sym (f refl)
 same_tests false true f g = g refl
 same_tests false false f g = refl

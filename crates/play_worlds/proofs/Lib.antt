@@ -10,6 +10,7 @@ pub mod Runs
 pub mod Terms
 pub mod Ends
 pub mod Flowing
+pub mod Folds
 pub mod Passing
 pub mod Handing
 pub mod Notes
@@ -23,3 +24,7 @@ pub mod Closings
 pub mod Leftovers
 pub mod Releasing
 pub mod Resting
+pub mod Resetting
+pub mod Settling
+pub mod Idling
+pub mod Happenings

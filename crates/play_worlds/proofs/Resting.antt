@@ -27,23 +27,24 @@ use Rattle.play_worlds.proofs.Supplying.{populated_by}
 use Rattle.play_worlds.proofs.Arrivals.{populated_test, unmade_by}
 use Rattle.play_worlds.proofs.Sends.{actor_there}
 
-all_true : {X : Type 0} (test : X → Bool) (xs : List X) → ((k : ℕ) (y : X) → slice_get xs k ≡ Some y → test y ≡ true) → list_all test xs ≡ true
+pub all_true : {X : Type 0} (test : X → Bool) (xs : List X) → ((k : ℕ) (y : X) → slice_get xs k ≡ Some y → test y ≡ true) → list_all test xs ≡ true
 all_true test [] h = refl
 all_true test (y ∷ xs) h = rw (h 0 y refl) (all_true test xs (λ k z e. h (suc k) z e))
 
 -- ---- a port of a component is an end of one of its links
 
-record IsItsEnd (x : Cast) (p : Play) (w : World) (c : ℕ) (q : Port) : Type 0 where
-  link : ℕ
-  of_link : IsLinkOf (x.layout).network c link
-  to : Link
-  state : q.state ≡ joined_state to
-  count : q.setting.definition.count ≡ ((x.layout).network).count link
-  many : (seen w.headers).count (is_for q.key) ≡ made p link
+pub record IsItsEnd (x : Cast) (p : Play) (w : World) (c : ℕ) (q : Port) : Type 0 where
+  pub link : ℕ
+  pub of_link : IsLinkOf (x.layout).network c link
+  pub to : Link
+  pub state : q.state ≡ joined_state to
+  pub count : q.setting.definition.count ≡ ((x.layout).network).count link
+  pub many : (seen w.headers).count (is_for q.key) ≡ made p link
+  pub which : (q.key ≡ output_at x link) ⊎ (q.key ≡ input_at x link)
 
 same_end : (x : Cast) (p : Play) (w : World) (l c : ℕ) (key peer : PortKey) (input : Bool) (a : Component) (k : ℕ) (q : Port) → IsAt x p w l c key peer input → slice_get w.components (script_place x c) ≡ Some a → port_of a k ≡ Some q → q.key ≡ key
-    → IsLinkOf (x.layout).network c l → (seen w.headers).count (is_for key) ≡ made p l → IsItsEnd x p w c q
-same_end x p w l c key peer input a k q E e f h L m =
+    → IsLinkOf (x.layout).network c l → (seen w.headers).count (is_for key) ≡ made p l → ((q.key ≡ output_at x l) ⊎ (q.key ≡ input_at x l)) → IsItsEnd x p w c q
+same_end x p w l c key peer input a k q E e f h L m d =
     let s : Some E.component ≡ Some a = sym E.there ∙ e in
     let is : E.component ≡ a = cc in
     let index : k ≡ key.port = sym (ap (λ (z : PortKey). z.port) (port_parts a k q f).key) ∙ ap (λ (z : PortKey). z.port) h in
@@ -57,9 +58,10 @@ same_end x p w l c key peer input a k q E e f h L m =
       state = subst (λ (z : Port). z.state ≡ joined_state (link_to x l peer)) same (E.end).state;
       count = subst (λ (z : Port). z.setting.definition.count ≡ ((x.layout).network).count l) same (E.end).count;
       many = ap (λ (z : PortKey). (seen w.headers).count (is_for z)) h ∙ m;
+      which = d;
     }
 
-its_end : (x : Cast) (p : Play) (w : World) (c : ℕ) (a : Component) (k : ℕ) (q : Port) → IsPlayWorld x p w → c < components_of x → slice_get w.components (script_place x c) ≡ Some a → IsActor x p w c a → port_of a k ≡ Some q → IsItsEnd x p w c q
+pub its_end : (x : Cast) (p : Play) (w : World) (c : ℕ) (a : Component) (k : ℕ) (q : Port) → IsPlayWorld x p w → c < components_of x → slice_get w.components (script_place x c) ≡ Some a → IsActor x p w c a → port_of a k ≡ Some q → IsItsEnd x p w c q
 its_end x p w c a k q W l e A f =
     let E : IsSomeEnd x q.key = W.ends (script_place x c) k a q e f in
     let n : (q.key).component ≡ script_place x c = ap (λ (z : PortKey). z.component) (port_parts a k q f).key ∙ A.number in
@@ -70,11 +72,11 @@ its_end x p w c a k q W l e A f =
       | inl h ↦
           let s : giver_of x E.link ≡ c = (W.cast).apart (giver_of x E.link) c (omega arith) l (sym (ap (λ (z : PortKey). z.component) h) ∙ n) in
           let T = subst (λ (j : ℕ). IsAt x p w E.link j (output_at x E.link) (input_at x E.link) false) s (output_is x p w W E.link E.below) in
-          same_end x p w E.link c (output_at x E.link) (input_at x E.link) false a k q T e f h (inr (record { below = E.below; given_by = s })) (made_output x p w W E.link E.below)
+          same_end x p w E.link c (output_at x E.link) (input_at x E.link) false a k q T e f h (inr (record { below = E.below; given_by = s })) (made_output x p w W E.link E.below) (inl h)
       | inr h ↦
           let s : taker_of x E.link ≡ c = (W.cast).apart (taker_of x E.link) c i l (sym (ap (λ (z : PortKey). z.component) h) ∙ n) in
           let T = subst (λ (j : ℕ). IsAt x p w E.link j (input_at x E.link) (output_at x E.link) true) s (input_is x p w W E.link E.below) in
-          same_end x p w E.link c (input_at x E.link) (output_at x E.link) true a k q T e f h (inl (record { below = E.below; taken_by = s })) (made_input x p w W E.link E.below)
+          same_end x p w E.link c (input_at x E.link) (output_at x E.link) true a k q T e f h (inl (record { below = E.below; taken_by = s })) (made_input x p w W E.link E.below) (inr h)
     ]
 
 -- ---- what the model can do is due
@@ -98,7 +100,7 @@ module _ (x : Cast) (p : Play) (w : World) (W : IsPlayWorld x p w) (c : ℕ) (a 
   due_so (suc (suc (suc (suc zero)))) h i j n s D = let t = unmade_all (D.unmade h) in rw t refl
   due_so (suc (suc (suc (suc (suc k))))) h i j n s D = absurd (omega arith)
 
-first_there : (t : Bool) (rest : Option Thing) → t ≡ true → (if t then Some Transition else rest) ≡ None → ⊥
+pub first_there : (t : Bool) (rest : Option Thing) → t ≡ true → (if t then Some Transition else rest) ≡ None → ⊥
 first_there true rest e h = cc
 first_there false rest e h = cc
 

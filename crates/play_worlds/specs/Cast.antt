@@ -1,7 +1,7 @@
 -- What a play's worlds are read by: the layout of the play, which ports its links join, and what goes through them. The
 -- model names components by their place in the order of placing; the world's list has them in the order of the script, and
 -- their numbers are their places in it.
-use Rattle.std.specs.Prelude.{◌≡◌, ◌≢◌, ℕ, ◌*◌, ◌<◌, ◌≤◌, Bool, true, false}
+use Rattle.std.specs.Prelude.{◌≡◌, ◌≢◌, ℕ, ◌*◌, ◌/◌, ◌<◌, ◌≤◌, Bool, true, false}
 use Rattle.omx_types.specs.declared.param.Supplier.{Supplier}
 use Rattle.omx_types.specs.declared.param.Supplier.TheVariants as suppliers
 use Rattle.il_machine.specs.declared.port.PortKey.{PortKey}
@@ -69,4 +69,5 @@ pub record IsCast (x : Cast) : Type 0 where
   pub beside : (k l : ℕ) → k < links_of x → l < links_of x → output_at x k ≢ input_at x l
   -- a frame has bytes, and so many frames fit a header
   pub units : (l : ℕ) → l < links_of x → 0 < x.unit l
+  pub fits : (l : ℕ) → l < links_of x → ((x.layout).network).fits l ≡ x.size l / x.unit l
   pub few : all_headers (x.layout).network ≤ 1024

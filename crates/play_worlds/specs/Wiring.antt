@@ -1,5 +1,6 @@
 -- The ports of a play's components, each of which is an end of a link, and the headers that a work has of them.
 use Rattle.std.specs.Prelude.{◌≡◌, ◌≢◌, ℕ, ◌<◌, ◌⊎◌, Bool, true, false, List, slice_get, Option, None, Some, option_and_then}
+use Rattle.omx_types.specs.Formats.{frame_bytes_of, is_auto}
 use Rattle.il_machine.specs.declared.port.PortKey.{PortKey}
 use Rattle.il_machine.specs.declared.port.Link.{Link}
 use Rattle.il_machine.specs.declared.port.Mode.TheVariants.{Steady}
@@ -32,6 +33,8 @@ pub record IsEnd (x : Cast) (l : ℕ) (at peer : PortKey) (input : Bool) (p : Po
   pub direction : is_input_port p ≡ input
   pub count : p.setting.definition.count ≡ ((x.layout).network).count l
   pub size : p.setting.definition.size ≡ x.size l
+  pub unit : frame_bytes_of p.setting.definition.format ≡ x.unit l
+  pub known : is_auto p.setting.definition.format ≡ false
 
 pub record IsWired (x : Cast) (ports : PortKey → Option Port) (l : ℕ) : Type 0 where
   pub output : Port

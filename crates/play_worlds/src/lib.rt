@@ -100,16 +100,16 @@ pub fn law_of_supplies()
         → Supply w h (home_at x l).port result v → result ≡ Ok Did → CanAct x.layout p (Act.Supply l) }
 {}
 
-/// Before the second Idle is begun and after all have reached it, what happens in the close-out is a happening of the model,
-/// so a whole close-out is a list of them, and in a closed world the model can make none.
+/// What happens in the close-out is a happening of the model, so a whole close-out is a list of them, and in a closed world the
+/// model can make none.
 pub fn law_of_happenings()
     ensures one { (x : Cast) (p : Play) (w v : World)
-        → IsPlayWorld x p w → Happens w v → p.phase ≢ 3
+        → IsPlayWorld x p w → Happens w v
         → (c : ℕ) × CanAct x.layout p (Act.Happen c) × IsPlayWorld x (acted x.layout (Act.Happen c) p) v }
     ensures closing { (x : Cast) (p : Play) (w v : World)
-        → IsPlayWorld x p w → ClosesTo w v → p.phase ≢ 3 → HappensTo x p v }
+        → IsPlayWorld x p w → ClosesTo w v → HappensTo x p v }
     ensures none { (x : Cast) (p : Play) (w : World) (c : ℕ)
-        → IsPlayWorld x p w → IsClosed w → p.phase ≢ 3 → CanAct x.layout p (Act.Happen c) → ⊥ }
+        → IsPlayWorld x p w → IsClosed w → CanAct x.layout p (Act.Happen c) → ⊥ }
 {}
 
 /// The supplier of a link unmakes a header exactly where the model can.
