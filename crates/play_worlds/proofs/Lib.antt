@@ -11,6 +11,10 @@ pub mod Terms
 pub mod Ends
 pub mod Flowing
 pub mod Folds
+pub mod Wanted
+pub mod Claimable
+pub mod Picks
+pub mod Claims
 pub mod Passing
 pub mod Handing
 pub mod Notes

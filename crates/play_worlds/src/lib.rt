@@ -3,7 +3,7 @@
 //! nothing; the play stands on them.
 #![tactic(auto)]
 
-ghost use Rattle.std.specs.Prelude.{◌≡◌, ◌≢◌, ℕ, ◌<◌, ◌⊎◌, true, false, Result, Ok, Err, slice_get, Some};
+ghost use Rattle.std.specs.Prelude.{Bool, None, ◌≡◌, ◌≢◌, ℕ, ◌<◌, ◌⊎◌, true, false, Result, Ok, Err, slice_get, Some};
 ghost use Rattle.omx_types.specs.declared.handle.Handle.{Handle};
 ghost use Rattle.omx_types.specs.declared.command.Command.TheVariants.{StateSet};
 ghost use Rattle.omx_types.specs.declared.error.OmxError.{OmxError};
@@ -11,7 +11,8 @@ ghost use Rattle.omx_types.specs.declared.error.CallError.{CallError};
 ghost use Rattle.omx_types.specs.declared.error.CallError.TheVariants.{OutOfMemory};
 ghost use Rattle.il_machine.specs.declared.answer.Acted.{Acted};
 ghost use Rattle.il_machine.specs.declared.answer.Acted.TheVariants.{Did};
-ghost use Rattle.il_machine.specs.World.{Component, World};
+ghost use Rattle.il_machine.specs.World.{Component, Work, World};
+ghost use Rattle.il_machine.specs.Claims.{Claim, Claimed, ClaimedBusy, ClaimedWork, WorkSeen};
 ghost use Rattle.il_machine.specs.Due.{ClosesTo, Happens, IsClosed};
 ghost use Rattle.il_machine.specs.Flow.{HandBack, HandOver, Release, Supply};
 ghost use Rattle.il_machine.specs.Headers.{seen};
@@ -110,6 +111,22 @@ pub fn law_of_happenings()
         → IsPlayWorld x p w → ClosesTo w v → HappensTo x p v }
     ensures none { (x : Cast) (p : Play) (w : World) (c : ℕ)
         → IsPlayWorld x p w → IsClosed w → CanAct x.layout p (Act.Happen c) → ⊥ }
+{}
+
+/// A claim is nothing for the play: a header of a work stands as if it were still in its port. A component of which no work is
+/// out gets one exactly where the model can make a step of it.
+pub fn law_of_claims()
+    ensures taken { (x : Cast) (p : Play) (w : World) (c : ℕ) (h : Handle) (result : Result Claimed OmxError) (v : World)
+        → IsPlayWorld x p w → c < components_of x → Names x w c h → Claim w h result v → (v ≡ w) ⊎ LeadsTo x p v }
+    ensures done { (x : Cast) (p : Play) (w : World) (c n : ℕ) (last : Bool) (h : Handle) (result : Result Claimed OmxError) (v : World) (a : Component)
+        → IsPlayWorld x p w → CanAct x.layout p (Act.Step c n last) → Names x w c h → slice_get w.components (script_place x c) ≡ Some a
+        → a.work ≡ None → Claim w h result v → (work : WorkSeen) × (result ≡ Ok (ClaimedWork work)) × LeadsTo x p v }
+    ensures can { (x : Cast) (p : Play) (w : World) (c : ℕ) (h : Handle) (result : Result Claimed OmxError) (v : World) (work : WorkSeen)
+        → IsPlayWorld x p w → c < components_of x → Names x w c h → Claim w h result v → result ≡ Ok (ClaimedWork work)
+        → (n : ℕ) × (last : Bool) × CanAct x.layout p (Act.Step c n last) }
+    ensures busy { (x : Cast) (p : Play) (w : World) (c : ℕ) (h : Handle) (result : Result Claimed OmxError) (v : World) (a : Component) (work : Work)
+        → IsPlayWorld x p w → c < components_of x → Names x w c h → slice_get w.components (script_place x c) ≡ Some a
+        → a.work ≡ Some work → Claim w h result v → (result ≡ Ok ClaimedBusy) × (v ≡ w) }
 {}
 
 /// The supplier of a link unmakes a header exactly where the model can.
