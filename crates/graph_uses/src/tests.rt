@@ -1,4 +1,5 @@
 mod buffers;
+mod files;
 mod handles;
 mod pair;
 mod tunnels;
