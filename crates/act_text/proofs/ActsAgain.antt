@@ -23,7 +23,7 @@ use Rattle.line_text.specs.ReadNumbers.{small_number}
 use Rattle.act_text.specs.ReadActs.{act_of, state_of, supplier_of, ports_of}
 use Rattle.act_text.specs.declared.name.PortName.{PortName}
 use Rattle.act_text.specs.declared.act.TextAct.{TextAct}
-use Rattle.act_text.specs.declared.act.TextAct.TheVariants.{Free, State, Port, SetPort, SetSupplier, SetPriority, Gain, Weight, Tunnel, DropTunnel, SendState, SendFlush, SendDisable, SendEnable, SendMark, Run, Supply, Release, Over, Back, Take, End, Grant, Preempt}
+use Rattle.act_text.specs.declared.act.TextAct.TheVariants.{Free, State, Port, SetPort, SetSupplier, SetPriority, Gain, Weight, Tunnel, DropTunnel, SendState, SendFlush, SendDisable, SendEnable, SendMark, Run, Claim, Finish, Supply, Release, Over, Back, Take, End, Grant, Preempt}
 use Rattle.act_text.proofs.Dots.{name_of-name, port_of-port, name-bytes, name_of-other}
 use Rattle.line_text.proofs.Numerals.{number_below-decimal, decimal-digits}
 
@@ -91,6 +91,8 @@ act-again (SendDisable component ports) is = rw (name_of-name component is.0, po
 act-again (SendEnable component ports) is = rw (name_of-name component is.0, ports-again ports is.1) refl
 act-again (SendMark component port target value) is = rw (name_of-name component is.0, small-again port is.1, name_of-name target is.2, number_below-decimal (2 ^ 64) value is.3 is.3) refl
 act-again (Run component) is = rw (name_of-name component is) refl
+act-again (Claim component) is = rw (name_of-name component is) refl
+act-again (Finish component) is = rw (name_of-name component is) refl
 act-again (Supply port) is = rw (name_of-port port, port_of-port port is) refl
 act-again (Release port) is = rw (name_of-port port, port_of-port port is) refl
 act-again (Over port) is = rw (name_of-port port, port_of-port port is) refl

@@ -74,6 +74,8 @@ pub act-plain : (act : TextAct) → IsAct act → list_all plain (act_words act)
 act-plain (acts.Free component) is = rw (name-plain component is) refl
 act-plain (acts.State component) is = rw (name-plain component is) refl
 act-plain (acts.Run component) is = rw (name-plain component is) refl
+act-plain (acts.Claim component) is = rw (name-plain component is) refl
+act-plain (acts.Finish component) is = rw (name-plain component is) refl
 act-plain (acts.Take component) is = rw (name-plain component is) refl
 act-plain (acts.End component) is = rw (name-plain component is) refl
 act-plain (acts.Port port) is = rw (port-plain port is) refl
@@ -128,6 +130,12 @@ why-plain (whys.Short have need) is = rw (small-plain have is.0, small-plain nee
 why-plain (whys.Enough have need) is = rw (small-plain have is.0, small-plain need is.1) refl
 why-plain whys.NoVictim is = refl
 why-plain (whys.Events room need) is = rw (small-plain room is.0, small-plain need is.1) refl
+why-plain whys.WorkOut is = refl
+why-plain whys.ComponentNotRunning is = refl
+why-plain whys.PartEnded is = refl
+why-plain (whys.PortHeld port) is = rw (small-plain port is) refl
+why-plain (whys.NoData port) is = rw (small-plain port is) refl
+why-plain (whys.NoRoom port) is = rw (small-plain port is) refl
 
 side-plain : (input : Bool) → plain (side_word input) ≡ true
 side-plain true = refl
@@ -153,6 +161,8 @@ reply-plain (replies.State state) is = rw (state-plain state) refl
 reply-plain (replies.Port view) is = view-plain view.input view.enabled view.mode view.flushing view.made view.count is.0 is.1
 reply-plain (replies.Supplier input) is = rw (side-plain input) refl
 reply-plain replies.Did is = refl
+reply-plain replies.Work is = refl
+reply-plain (replies.Finished frames) is = rw (small-plain frames is) refl
 reply-plain (replies.Idle why) is = why-plain why is
 reply-plain replies.NoNote is = refl
 reply-plain replies.Busy is = refl

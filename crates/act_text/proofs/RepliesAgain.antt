@@ -14,7 +14,7 @@ use Rattle.omx_types.specs.Names.{state_name, error_name}
 use Rattle.act_text.specs.ReadReplies.{reply_of, error_of}
 use Rattle.act_text.specs.Replies.{reply_words, event_words, why_words, view_words, IsReply, IsEvent, IsWhy}
 use Rattle.act_text.specs.declared.reply.TextReply.{TextReply}
-use Rattle.act_text.specs.declared.reply.TextReply.TheVariants.{Done, Error, State, Port, Supplier, Did, Idle, NoNote, Busy, Event, NotHeld, TooLong, NotOut, Granted, Victim}
+use Rattle.act_text.specs.declared.reply.TextReply.TheVariants.{Done, Error, State, Port, Supplier, Did, Work, Finished, Idle, NoNote, Busy, Event, NotHeld, TooLong, NotOut, Granted, Victim}
 use Rattle.act_text.specs.declared.reply.TextWhy.{TextWhy}
 use Rattle.act_text.specs.declared.reply.TextWhy.TheVariants as whys
 use Rattle.act_text.proofs.ActsAgain.{small-again, state-again}
@@ -95,6 +95,12 @@ idle-again (whys.Short have need) is = rw (small-again have is.0, small-again ne
 idle-again (whys.Enough have need) is = rw (small-again have is.0, small-again need is.1) refl
 idle-again whys.NoVictim is = refl
 idle-again (whys.Events room need) is = rw (small-again room is.0, small-again need is.1) refl
+idle-again whys.WorkOut is = refl
+idle-again whys.ComponentNotRunning is = refl
+idle-again whys.PartEnded is = refl
+idle-again (whys.PortHeld port) is = rw (small-again port is) refl
+idle-again (whys.NoData port) is = rw (small-again port is) refl
+idle-again (whys.NoRoom port) is = rw (small-again port is) refl
 
 told-again : (event : EventType) → IsEvent event → reply_of (codes "event" ∷ event_words event) ≡ Some (Event event)
 told-again (events.CmdComplete (completions.State state)) is = rw (state-again state) refl
@@ -116,6 +122,8 @@ reply-again (Port view) is = view-again view.input view.enabled view.mode view.f
 reply-again (Supplier true) is = refl
 reply-again (Supplier false) is = refl
 reply-again Did is = refl
+reply-again Work is = refl
+reply-again (Finished frames) is = rw (small-again frames is) refl
 reply-again (Idle why) is = idle-again why is
 reply-again NoNote is = refl
 reply-again Busy is = refl

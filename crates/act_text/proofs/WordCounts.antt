@@ -18,6 +18,8 @@ act-counted : (act : TextAct) → (0 < length (act_words act)) × (length (act_w
 act-counted (acts.Free _) = (omega arith, omega arith)
 act-counted (acts.State _) = (omega arith, omega arith)
 act-counted (acts.Run _) = (omega arith, omega arith)
+act-counted (acts.Claim _) = (omega arith, omega arith)
+act-counted (acts.Finish _) = (omega arith, omega arith)
 act-counted (acts.Take _) = (omega arith, omega arith)
 act-counted (acts.End _) = (omega arith, omega arith)
 act-counted (acts.Port _) = (omega arith, omega arith)
@@ -79,6 +81,12 @@ why-short (whys.Short _ _) = omega arith
 why-short (whys.Enough _ _) = omega arith
 why-short whys.NoVictim = omega arith
 why-short (whys.Events _ _) = omega arith
+why-short whys.WorkOut = omega arith
+why-short whys.ComponentNotRunning = omega arith
+why-short whys.PartEnded = omega arith
+why-short (whys.PortHeld _) = omega arith
+why-short (whys.NoData _) = omega arith
+why-short (whys.NoRoom _) = omega arith
 
 view-counted : (view : PortView) → (flushing : Bool) → view.flushing ≡ flushing → (0 < length (view_words view)) × (length (view_words view) ≤ 7)
 view-counted view true is = rw is (omega arith, omega arith)
@@ -91,6 +99,8 @@ reply-counted (replies.State _) = (omega arith, omega arith)
 reply-counted (replies.Port view) = view-counted view view.flushing refl
 reply-counted (replies.Supplier _) = (omega arith, omega arith)
 reply-counted replies.Did = (omega arith, omega arith)
+reply-counted replies.Work = (omega arith, omega arith)
+reply-counted (replies.Finished _) = (omega arith, omega arith)
 reply-counted (replies.Idle why) = (omega arith, omega (arith, why-short why))
 reply-counted replies.NoNote = (omega arith, omega arith)
 reply-counted replies.Busy = (omega arith, omega arith)

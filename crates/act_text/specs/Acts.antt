@@ -12,7 +12,7 @@ use Rattle.omx_types.specs.Names.{state_name}
 use Rattle.act_text.specs.Names.{IsName}
 use Rattle.act_text.specs.Ports.{IsPortName, port_word}
 use Rattle.act_text.specs.declared.act.TextAct.{TextAct}
-use Rattle.act_text.specs.declared.act.TextAct.TheVariants.{Free, State, Port, SetPort, SetSupplier, SetPriority, Gain, Weight, Tunnel, DropTunnel, SendState, SendFlush, SendDisable, SendEnable, SendMark, Run, Supply, Release, Over, Back, Take, End, Grant, Preempt}
+use Rattle.act_text.specs.declared.act.TextAct.TheVariants.{Free, State, Port, SetPort, SetSupplier, SetPriority, Gain, Weight, Tunnel, DropTunnel, SendState, SendFlush, SendDisable, SendEnable, SendMark, Run, Claim, Finish, Supply, Release, Over, Back, Take, End, Grant, Preempt}
 
 -- a format that isn't known has neither rate nor channels
 abbrev pub format_words : Format → List (List ℕ)
@@ -52,6 +52,8 @@ act_words (SendEnable component ports) = codes "send" ∷ component ∷ codes "e
 act_words (SendMark component port target value) =
     codes "send" ∷ component ∷ codes "mark" ∷ decimal port ∷ target ∷ decimal value ∷ []
 act_words (Run component) = codes "run" ∷ component ∷ []
+act_words (Claim component) = codes "claim" ∷ component ∷ []
+act_words (Finish component) = codes "finish" ∷ component ∷ []
 act_words (Supply port) = codes "supply" ∷ port_word port ∷ []
 act_words (Release port) = codes "release" ∷ port_word port ∷ []
 act_words (Over port) = codes "over" ∷ port_word port ∷ []
@@ -90,6 +92,8 @@ IsAct (SendDisable component ports) = IsName component × ArePorts ports
 IsAct (SendEnable component ports) = IsName component × ArePorts ports
 IsAct (SendMark component port target value) = IsName component × FitsWord port × IsName target × (value < 2 ^ 64)
 IsAct (Run component) = IsName component
+IsAct (Claim component) = IsName component
+IsAct (Finish component) = IsName component
 IsAct (Supply port) = IsPortName port
 IsAct (Release port) = IsPortName port
 IsAct (Over port) = IsPortName port

@@ -13,7 +13,7 @@ use Rattle.act_text.specs.Reading.{both, name_of, port_of}
 use Rattle.line_text.specs.ReadNumbers.{number_below, small_number}
 use Rattle.act_text.specs.declared.name.PortName.{PortName}
 use Rattle.act_text.specs.declared.act.TextAct.{TextAct}
-use Rattle.act_text.specs.declared.act.TextAct.TheVariants.{Free, State, Port, SetPort, SetSupplier, SetPriority, Gain, Weight, Tunnel, DropTunnel, SendState, SendFlush, SendDisable, SendEnable, SendMark, Run, Supply, Release, Over, Back, Take, End, Grant, Preempt}
+use Rattle.act_text.specs.declared.act.TextAct.TheVariants.{Free, State, Port, SetPort, SetSupplier, SetPriority, Gain, Weight, Tunnel, DropTunnel, SendState, SendFlush, SendDisable, SendEnable, SendMark, Run, Claim, Finish, Supply, Release, Over, Back, Take, End, Grant, Preempt}
 
 abbrev pub state_of : List ℕ → Option StateType
 state_of word =
@@ -48,6 +48,8 @@ of_component verb component =
     if bytes_eq verb (codes "free") then Some (Free component)
     else if bytes_eq verb (codes "state") then Some (State component)
     else if bytes_eq verb (codes "run") then Some (Run component)
+    else if bytes_eq verb (codes "claim") then Some (Claim component)
+    else if bytes_eq verb (codes "finish") then Some (Finish component)
     else if bytes_eq verb (codes "take") then Some (Take component)
     else if bytes_eq verb (codes "end") then Some (End component)
     else None

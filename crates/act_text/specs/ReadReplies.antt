@@ -12,7 +12,7 @@ use Rattle.act_text.specs.Reading.{both, name_of, port_of}
 use Rattle.line_text.specs.ReadNumbers.{number_below, small_number}
 use Rattle.act_text.specs.ReadActs.{state_of}
 use Rattle.act_text.specs.declared.reply.TextReply.{TextReply}
-use Rattle.act_text.specs.declared.reply.TextReply.TheVariants.{Done, Error, State, Port, Supplier, Did, Idle, NoNote, Busy, Event, NotHeld, TooLong, NotOut, Granted, Victim}
+use Rattle.act_text.specs.declared.reply.TextReply.TheVariants.{Done, Error, State, Port, Supplier, Did, Work, Finished, Idle, NoNote, Busy, Event, NotHeld, TooLong, NotOut, Granted, Victim}
 use Rattle.act_text.specs.declared.reply.TextWhy.{TextWhy}
 use Rattle.act_text.specs.declared.reply.TextWhy.TheVariants as whys
 
@@ -84,12 +84,20 @@ nothing_of what =
     else if bytes_eq what (codes "victim") then Some whys.NoVictim
     else None
 
+-- what isn't so
+abbrev pub not_of : List ℕ → Option TextWhy
+not_of what =
+    if bytes_eq what (codes "supplier") then Some whys.NotSupplier
+    else if bytes_eq what (codes "leaving") then Some whys.NotLeaving
+    else if bytes_eq what (codes "running") then Some whys.ComponentNotRunning
+    else None
+
 abbrev pub why_of_two : List ℕ → List ℕ → Option TextWhy
 why_of_two one two =
     if bytes_eq one (codes "no") then nothing_of two
     else if bytes_eq one (codes "pending") then option_map whys.Pending (state_of two)
-    else if bytes_eq one (codes "not")
-    then (if bytes_eq two (codes "supplier") then Some whys.NotSupplier else if bytes_eq two (codes "leaving") then Some whys.NotLeaving else None)
+    else if bytes_eq one (codes "held") then option_map whys.PortHeld (small_number two)
+    else if bytes_eq one (codes "not") then not_of two
     else None
 
 -- a why of two numbers
@@ -112,14 +120,30 @@ port_why what port =
     else if bytes_eq what (codes "running") then option_map whys.NotRunning (port_of port)
     else None
 
+-- which port has nothing for a step
+abbrev pub wanting_why : List ℕ → Option ℕ → Option TextWhy
+wanting_why what None = None
+wanting_why what (Some port) =
+    if bytes_eq what (codes "data") then Some (whys.NoData port)
+    else if bytes_eq what (codes "room") then Some (whys.NoRoom port)
+    else None
+
 abbrev pub why_of_three : List ℕ → List ℕ → List ℕ → Option TextWhy
 why_of_three one two three =
     if bytes_eq one (codes "not") then port_why two three
     else if bytes_eq one (codes "port") then (if bytes_eq two (codes "busy") then option_map whys.PortBusy (small_number three) else None)
+    else if bytes_eq one (codes "no") then wanting_why two (small_number three)
     else numbers_why_at one (small_number two) (small_number three)
 
+abbrev pub why_of_one : List ℕ → Option TextWhy
+why_of_one one =
+    if bytes_eq one (codes "supplier") then Some whys.IsSupplier
+    else if bytes_eq one (codes "busy") then Some whys.WorkOut
+    else if bytes_eq one (codes "ended") then Some whys.PartEnded
+    else None
+
 abbrev pub why_of : List (List ℕ) → Option TextWhy
-why_of (one ∷ []) = if bytes_eq one (codes "supplier") then Some whys.IsSupplier else None
+why_of (one ∷ []) = why_of_one one
 why_of (one ∷ two ∷ []) = why_of_two one two
 why_of (one ∷ two ∷ three ∷ []) = why_of_three one two three
 why_of words = None
@@ -128,6 +152,7 @@ abbrev pub reply_of_one : List ℕ → Option TextReply
 reply_of_one word =
     if bytes_eq word (codes "ok") then Some Done
     else if bytes_eq word (codes "did") then Some Did
+    else if bytes_eq word (codes "work") then Some Work
     else if bytes_eq word (codes "none") then Some NoNote
     else if bytes_eq word (codes "busy") then Some Busy
     else if bytes_eq word (codes "input") then Some (Supplier true)
@@ -148,6 +173,7 @@ reply_of_two one two =
     else if bytes_eq one (codes "not")
     then (if bytes_eq two (codes "held") then Some NotHeld else if bytes_eq two (codes "out") then Some NotOut else None)
     else if bytes_eq one (codes "too") then (if bytes_eq two (codes "long") then Some TooLong else None)
+    else if bytes_eq one (codes "did") then option_map (λ frames. Finished frames) (small_number two)
     else reply_of_name one (name_of two)
 
 abbrev pub side_of : List ℕ → Option Bool

@@ -13,7 +13,7 @@ use Rattle.act_text.specs.Acts.{FitsWord}
 use Rattle.act_text.specs.Names.{IsName}
 use Rattle.act_text.specs.Ports.{IsPortName, port_word}
 use Rattle.act_text.specs.declared.reply.TextReply.{TextReply}
-use Rattle.act_text.specs.declared.reply.TextReply.TheVariants.{Done, Error, State, Port, Supplier, Did, Idle, NoNote, Busy, Event, NotHeld, TooLong, NotOut, Granted, Victim}
+use Rattle.act_text.specs.declared.reply.TextReply.TheVariants.{Done, Error, State, Port, Supplier, Did, Work, Finished, Idle, NoNote, Busy, Event, NotHeld, TooLong, NotOut, Granted, Victim}
 use Rattle.act_text.specs.declared.reply.TextWhy.{TextWhy}
 use Rattle.act_text.specs.declared.reply.TextWhy.TheVariants as whys
 
@@ -66,6 +66,12 @@ why_words (whys.Short have need) = codes "short" ∷ decimal have ∷ decimal ne
 why_words (whys.Enough have need) = codes "enough" ∷ decimal have ∷ decimal need ∷ []
 why_words whys.NoVictim = codes "no" ∷ codes "victim" ∷ []
 why_words (whys.Events room need) = codes "events" ∷ decimal room ∷ decimal need ∷ []
+why_words whys.WorkOut = codes "busy" ∷ []
+why_words whys.ComponentNotRunning = codes "not" ∷ codes "running" ∷ []
+why_words whys.PartEnded = codes "ended" ∷ []
+why_words (whys.PortHeld port) = codes "held" ∷ decimal port ∷ []
+why_words (whys.NoData port) = codes "no" ∷ codes "data" ∷ decimal port ∷ []
+why_words (whys.NoRoom port) = codes "no" ∷ codes "room" ∷ decimal port ∷ []
 
 abbrev pub reply_words : TextReply → List (List ℕ)
 reply_words Done = codes "ok" ∷ []
@@ -74,6 +80,8 @@ reply_words (State state) = state_name state ∷ []
 reply_words (Port view) = view_words view
 reply_words (Supplier input) = side_word input ∷ []
 reply_words Did = codes "did" ∷ []
+reply_words Work = codes "work" ∷ []
+reply_words (Finished frames) = codes "did" ∷ decimal frames ∷ []
 reply_words (Idle why) = codes "idle" ∷ why_words why
 reply_words NoNote = codes "none" ∷ []
 reply_words Busy = codes "busy" ∷ []
@@ -106,11 +114,15 @@ IsWhy (whys.NotRunning port) = IsPortName port
 IsWhy (whys.Short have need) = FitsWord have × FitsWord need
 IsWhy (whys.Enough have need) = FitsWord have × FitsWord need
 IsWhy (whys.Events room need) = FitsWord room × FitsWord need
+IsWhy (whys.PortHeld port) = FitsWord port
+IsWhy (whys.NoData port) = FitsWord port
+IsWhy (whys.NoRoom port) = FitsWord port
 IsWhy other = Unit {0}
 
 -- the names are names, and the numbers are within their limits
 abbrev pub IsReply : TextReply → Type 0
 IsReply (Port view) = FitsWord view.made × FitsWord view.count
+IsReply (Finished frames) = FitsWord frames
 IsReply (Idle why) = IsWhy why
 IsReply (Event event) = IsEvent event
 IsReply (Granted component) = IsName component

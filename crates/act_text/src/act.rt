@@ -60,6 +60,10 @@ pub enum TextAct {
         value: u64,
     },
     Run(Name),
+    /// Headers of a component go out for one step of its part.
+    Claim(Name),
+    /// They come back from the step.
+    Finish(Name),
     Supply(PortName),
     Release(PortName),
     Over(PortName),

@@ -114,6 +114,8 @@ fn law_of_acts(act: &TextAct)
         TextAct::Free(component)
         | TextAct::State(component)
         | TextAct::Run(component)
+        | TextAct::Claim(component)
+        | TextAct::Finish(component)
         | TextAct::Take(component)
         | TextAct::End(component)
         | TextAct::SendState { component, .. } => is_name(component),
@@ -169,6 +171,8 @@ fn law_of_replies(reply: &TextReply)
         TextReply::State(_) => {}
         TextReply::Supplier { input: _ } => {}
         TextReply::Did => {}
+        TextReply::Work => {}
+        TextReply::Finished { frames } => fits(*frames),
         TextReply::NoNote => {}
         TextReply::Busy => {}
         TextReply::NotHeld => {}
@@ -183,7 +187,10 @@ fn law_of_whys(why: &TextWhy)
     match why {
         TextWhy::NotAccepting(port) => is_port(port),
         TextWhy::NotRunning(port) => is_port(port),
-        TextWhy::PortBusy(port) => fits(*port),
+        TextWhy::PortBusy(port)
+        | TextWhy::PortHeld(port)
+        | TextWhy::NoData(port)
+        | TextWhy::NoRoom(port) => fits(*port),
         TextWhy::Short { have, need } => {
             fits(*have);
             fits(*need);
@@ -206,6 +213,9 @@ fn law_of_whys(why: &TextWhy)
         TextWhy::NoHeader => {}
         TextWhy::NoWaiter => {}
         TextWhy::NoVictim => {}
+        TextWhy::WorkOut => {}
+        TextWhy::ComponentNotRunning => {}
+        TextWhy::PartEnded => {}
     }
 }
 

@@ -45,6 +45,8 @@ pub fn put_act_words(act: &TextAct, out: &mut Vec<u8>) -> Result<(), OutOfMemory
             value,
         } => put_mark(component, *port, target, *value, out),
         TextAct::Run(component) => put_two(b"run", named(component), out),
+        TextAct::Claim(component) => put_two(b"claim", named(component), out),
+        TextAct::Finish(component) => put_two(b"finish", named(component), out),
         TextAct::Supply(port) => put_two(b"supply", Word::Port(port), out),
         TextAct::Release(port) => put_two(b"release", Word::Port(port), out),
         TextAct::Over(port) => put_two(b"over", Word::Port(port), out),

@@ -24,6 +24,8 @@ pub fn put_reply_words(reply: &TextReply, out: &mut Vec<u8>) -> Result<(), OutOf
         TextReply::Port(view) => put_view(view, out),
         TextReply::Supplier { input } => put_words(&[Word::Bytes(side_bytes(*input))], out),
         TextReply::Did => put_words(&[Word::Bytes(b"did")], out),
+        TextReply::Work => put_words(&[Word::Bytes(b"work")], out),
+        TextReply::Finished { frames } => put_words(&[Word::Bytes(b"did"), number(*frames)], out),
         TextReply::Idle(why) => put_why(why, out),
         TextReply::NoNote => put_words(&[Word::Bytes(b"none")], out),
         TextReply::Busy => put_words(&[Word::Bytes(b"busy")], out),
@@ -139,7 +141,7 @@ fn put_why(why: &TextWhy, out: &mut Vec<u8>) -> Result<(), OutOfMemory>
         TextWhy::Pending(state) => put_idle(b"pending", state.name().as_bytes(), out),
         TextWhy::PortBusy(port) => put_idle_at(b"port", b"busy", number(*port), out),
         TextWhy::NotSupplier => put_idle(b"not", b"supplier", out),
-        TextWhy::IsSupplier => put_words(&[Word::Bytes(b"idle"), Word::Bytes(b"supplier")], out),
+        TextWhy::IsSupplier => put_idle_word(b"supplier", out),
         TextWhy::NotAccepting(port) => put_idle_at(b"not", b"accepting", Word::Port(port), out),
         TextWhy::NoBlock => put_idle(b"no", b"block", out),
         TextWhy::NoNumber => put_idle(b"no", b"number", out),
@@ -151,7 +153,30 @@ fn put_why(why: &TextWhy, out: &mut Vec<u8>) -> Result<(), OutOfMemory>
         TextWhy::Enough { have, need } => put_numbers(b"enough", *have, *need, out),
         TextWhy::NoVictim => put_idle(b"no", b"victim", out),
         TextWhy::Events { room, need } => put_numbers(b"events", *room, *need, out),
+        TextWhy::WorkOut => put_idle_word(b"busy", out),
+        TextWhy::ComponentNotRunning => put_idle(b"not", b"running", out),
+        TextWhy::PartEnded => put_idle_word(b"ended", out),
+        TextWhy::PortHeld(port) => put_idle_port(b"held", *port, out),
+        TextWhy::NoData(port) => put_idle_at(b"no", b"data", number(*port), out),
+        TextWhy::NoRoom(port) => put_idle_at(b"no", b"room", number(*port), out),
     }
+}
+
+fn put_idle_word(word: &[u8], out: &mut Vec<u8>) -> Result<(), OutOfMemory>
+    ensures ok { OnOk result (out.new.items ≡ out.old.items ++ spaced (codes "idle" ∷ word.now ∷ [])) }
+    ensures err { OnErr result (IsGrown out.old.items out.new.items) }
+{
+    put_words(&[Word::Bytes(b"idle"), Word::Bytes(word)], out)
+}
+
+fn put_idle_port(word: &[u8], port: u32, out: &mut Vec<u8>) -> Result<(), OutOfMemory>
+    ensures ok { OnOk result (out.new.items ≡ out.old.items ++ spaced (codes "idle" ∷ word.now ∷ decimal port ∷ [])) }
+    ensures err { OnErr result (IsGrown out.old.items out.new.items) }
+{
+    put_words(
+        &[Word::Bytes(b"idle"), Word::Bytes(word), number(port)],
+        out,
+    )
 }
 
 fn put_idle<'a>(one: &'a [u8], two: &'a [u8], out: &mut Vec<u8>) -> Result<(), OutOfMemory>

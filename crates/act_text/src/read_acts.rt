@@ -75,6 +75,10 @@ fn of_component(verb: &[u8], component: Name) -> Option<TextAct>
         Some(TextAct::State(component))
     } else if verb == b"run".as_slice() {
         Some(TextAct::Run(component))
+    } else if verb == b"claim".as_slice() {
+        Some(TextAct::Claim(component))
+    } else if verb == b"finish".as_slice() {
+        Some(TextAct::Finish(component))
     } else if verb == b"take".as_slice() {
         Some(TextAct::Take(component))
     } else if verb == b"end".as_slice() {

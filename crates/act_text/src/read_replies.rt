@@ -24,6 +24,8 @@ fn reply_of_one(word: &[u8]) -> Option<TextReply>
         Some(TextReply::Done)
     } else if word == b"did".as_slice() {
         Some(TextReply::Did)
+    } else if word == b"work".as_slice() {
+        Some(TextReply::Work)
     } else if word == b"none".as_slice() {
         Some(TextReply::NoNote)
     } else if word == b"busy".as_slice() {
@@ -72,6 +74,11 @@ fn reply_of_two(one: &[u8], two: &[u8]) -> Option<TextReply>
         } else {
             None
         }
+    } else if one == b"did".as_slice() {
+        let Some(frames) = small_number_in(two) else {
+            return None;
+        };
+        Some(TextReply::Finished { frames })
     } else {
         reply_of_name(one, two)
     }

@@ -2,7 +2,7 @@ ghost use Rattle.std.specs.Prelude.{◌≡◌, ◌∷◌, [], ℕ, List, IfSome,
 ghost use Rattle.std.specs.Fmt.{decimal};
 ghost use Rattle.line_text.specs.ReadNumbers.{small_number};
 ghost use Rattle.act_text.specs.Replies.{why_words, IsWhy};
-ghost use Rattle.act_text.specs.ReadReplies.{nothing_of, why_of_two, numbers_why, port_why, why_of_three, why_of};
+ghost use Rattle.act_text.specs.ReadReplies.{nothing_of, not_of, why_of_two, numbers_why, port_why, wanting_why, why_of_three, why_of};
 ghost use Rattle.line_text.specs.Lists.{texts};
 
 use crate::TextWhy;
@@ -45,14 +45,30 @@ fn why_of_two(one: &[u8], two: &[u8]) -> Option<TextWhy>
             return None;
         };
         Some(TextWhy::Pending(state))
+    } else if one == b"held".as_slice() {
+        let Some(port) = small_number_in(two) else {
+            return None;
+        };
+        Some(TextWhy::PortHeld(port))
     } else if one == b"not".as_slice() {
-        if two == b"supplier".as_slice() {
-            Some(TextWhy::NotSupplier)
-        } else if two == b"leaving".as_slice() {
-            Some(TextWhy::NotLeaving)
-        } else {
-            None
-        }
+        not_in(two)
+    } else {
+        None
+    }
+}
+
+/// What isn't so.
+fn not_in(what: &[u8]) -> Option<TextWhy>
+    ensures some { IfSome result (λ why. codes "not" ∷ what.now ∷ [] ≡ why_words why) }
+    ensures why { IfSome result IsWhy }
+    ensures is { result ≡ not_of what.now }
+{
+    if what == b"supplier".as_slice() {
+        Some(TextWhy::NotSupplier)
+    } else if what == b"leaving".as_slice() {
+        Some(TextWhy::NotLeaving)
+    } else if what == b"running".as_slice() {
+        Some(TextWhy::ComponentNotRunning)
     } else {
         None
     }
@@ -105,6 +121,24 @@ fn port_why(what: &[u8], port: &[u8]) -> Option<TextWhy>
     }
 }
 
+/// Which port has nothing for a step.
+fn wanting_why(what: &[u8], port: &[u8]) -> Option<TextWhy>
+    ensures some { IfSome result (λ why. codes "no" ∷ what.now ∷ port.now ∷ [] ≡ why_words why) }
+    ensures why { IfSome result IsWhy }
+    ensures is { result ≡ wanting_why what.now (small_number port.now) }
+{
+    let Some(port) = small_number_in(port) else {
+        return None;
+    };
+    if what == b"data".as_slice() {
+        Some(TextWhy::NoData(port))
+    } else if what == b"room".as_slice() {
+        Some(TextWhy::NoRoom(port))
+    } else {
+        None
+    }
+}
+
 fn busy_why(busy: &[u8], port: &[u8]) -> Option<TextWhy>
     ensures some { IfSome result (λ why. codes "port" ∷ busy.now ∷ port.now ∷ [] ≡ why_words why) }
     ensures why { IfSome result IsWhy }
@@ -130,6 +164,9 @@ fn why_of_three(one: &[u8], two: &[u8], three: &[u8]) -> Option<TextWhy>
     if one == b"port".as_slice() {
         return busy_why(two, three);
     }
+    if one == b"no".as_slice() {
+        return wanting_why(two, three);
+    }
     let Some(first) = small_number_in(two) else {
         return None;
     };
@@ -146,6 +183,10 @@ fn lone_why(one: &[u8]) -> Option<TextWhy>
 {
     if one == b"supplier".as_slice() {
         Some(TextWhy::IsSupplier)
+    } else if one == b"busy".as_slice() {
+        Some(TextWhy::WorkOut)
+    } else if one == b"ended".as_slice() {
+        Some(TextWhy::PartEnded)
     } else {
         None
     }

@@ -21,6 +21,18 @@ pub enum TextWhy {
     Enough { have: u32, need: u32 },
     NoVictim,
     Events { room: u32, need: u32 },
+    /// A work of the component is out.
+    WorkOut,
+    /// The component isn't Executing, or one of its ports isn't open.
+    ComponentNotRunning,
+    /// The part has ended.
+    PartEnded,
+    /// The port's format is to be set first.
+    PortHeld(u32),
+    /// The input has no header to take frames from.
+    NoData(u32),
+    /// The output has no header to put frames into.
+    NoRoom(u32),
 }
 
 /// A reply that names no header.
@@ -35,6 +47,10 @@ pub enum TextReply {
     Supplier { input: bool },
     /// A component did something.
     Did,
+    /// A component's work is out.
+    Work,
+    /// A work came back, with the frames that its step did.
+    Finished { frames: u32 },
     Idle(TextWhy),
     /// No note waits.
     NoNote,
