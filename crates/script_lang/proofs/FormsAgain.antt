@@ -34,6 +34,8 @@ act-no-other : (act : TextAct) → other_form_of (act_words act) ≡ None
 act-no-other (acts.Free _) = refl
 act-no-other (acts.State _) = refl
 act-no-other (acts.Run _) = refl
+act-no-other (acts.Claim _) = refl
+act-no-other (acts.Finish _) = refl
 act-no-other (acts.Take _) = refl
 act-no-other (acts.End _) = refl
 act-no-other (acts.Port _) = refl

@@ -31,6 +31,8 @@ fn is_known_act(before: &Names, act: &TextAct) -> bool
         | TextAct::SendDisable { component, .. }
         | TextAct::SendEnable { component, .. }
         | TextAct::Run(component)
+        | TextAct::Claim(component)
+        | TextAct::Finish(component)
         | TextAct::Take(component)
         | TextAct::End(component) => has_component(before, component),
         TextAct::Port(port)
