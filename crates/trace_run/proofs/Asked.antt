@@ -1,4 +1,4 @@
--- A line that names neither a header nor a kind, and takes no note, makes one act that makes nothing.
+-- A line that names neither a header nor a kind, and takes no note, makes one act that makes nothing, unless it moves a work.
 use Rattle.std.proofs.Common.{◌≡◌, ℕ, List, [], ◌∷◌, map, Some, None, refl, sym, ◌∙◌, ap, subst}
 use Rattle.il_machine.specs.World.{World}
 use Rattle.il_machine.specs.Acts.{Act, Reply}
@@ -45,6 +45,8 @@ makes_nothing at (lines.SendDisable component ports) r P = record { meets = tt; 
 makes_nothing at (lines.SendEnable component ports) r P = record { meets = tt; got = tt; made = refl; taken = refl; notes = tt }
 makes_nothing at (lines.SendMark component port target value) r P = record { meets = tt; got = tt; made = refl; taken = refl; notes = tt }
 makes_nothing at (lines.Run component) r P = record { meets = tt; got = tt; made = refl; taken = refl; notes = tt }
+makes_nothing at (lines.Claim component) r P = absurd P
+makes_nothing at (lines.Finish component) r P = absurd P
 makes_nothing at (lines.Supply port) r P = record { meets = tt; got = tt; made = refl; taken = refl; notes = tt }
 makes_nothing at (lines.Release port) r P = record { meets = tt; got = tt; made = refl; taken = refl; notes = tt }
 makes_nothing at (lines.Over port) r P = record { meets = tt; got = tt; made = refl; taken = refl; notes = tt }
@@ -71,6 +73,8 @@ act_line at (lines.SendDisable component ports) r reply P e = (r, record { one =
 act_line at (lines.SendEnable component ports) r reply P e = (r, record { one = refl; says = e }, refl)
 act_line at (lines.SendMark component port target value) r reply P e = (r, record { one = refl; says = e }, refl)
 act_line at (lines.Run component) r reply P e = (r, record { one = refl; says = e }, refl)
+act_line at (lines.Claim component) r reply P e = absurd P
+act_line at (lines.Finish component) r reply P e = absurd P
 act_line at (lines.Supply port) r reply P e = (r, record { one = refl; says = e }, refl)
 act_line at (lines.Release port) r reply P e = (r, record { one = refl; says = e }, refl)
 act_line at (lines.Over port) r reply P e = (r, record { one = refl; says = e }, refl)
@@ -132,28 +136,31 @@ take_leads old new h component answer e (reply, means, f) = (
 
 -- ---- what is left of the acts
 
-pub plain_unless : (act : TextAct) → ((component : List ℕ) → act ≡ lines.Take component → ⊥) → ((component : List ℕ) → act ≡ lines.End component → ⊥) → IsPlain act
-plain_unless (lines.Free component) t e = tt
-plain_unless (lines.State component) t e = tt
-plain_unless (lines.Port port) t e = tt
-plain_unless (lines.SetPort port format count size) t e = tt
-plain_unless (lines.SetSupplier port supplier) t e = tt
-plain_unless (lines.SetPriority component priority) t e = tt
-plain_unless (lines.Gain component gain) t e = tt
-plain_unless (lines.Weight port weight) t e = tt
-plain_unless (lines.Tunnel first second) t e = tt
-plain_unless (lines.DropTunnel first second) t e = tt
-plain_unless (lines.SendState component state) t e = tt
-plain_unless (lines.SendFlush component ports) t e = tt
-plain_unless (lines.SendDisable component ports) t e = tt
-plain_unless (lines.SendEnable component ports) t e = tt
-plain_unless (lines.SendMark component port target value) t e = tt
-plain_unless (lines.Run component) t e = tt
-plain_unless (lines.Supply port) t e = tt
-plain_unless (lines.Release port) t e = tt
-plain_unless (lines.Over port) t e = tt
-plain_unless (lines.Back port) t e = tt
-plain_unless (lines.Take component) t e = t component refl
-plain_unless (lines.End component) t e = e component refl
-plain_unless lines.Grant t e = tt
-plain_unless lines.Preempt t e = tt
+pub plain_unless : (act : TextAct) → ((component : List ℕ) → act ≡ lines.Take component → ⊥) → ((component : List ℕ) → act ≡ lines.Claim component → ⊥) → ((component : List ℕ) → act ≡ lines.Finish component → ⊥) → ((component : List ℕ) → act ≡ lines.End component → ⊥)
+    → IsPlain act
+plain_unless (lines.Free component) t k f e = tt
+plain_unless (lines.State component) t k f e = tt
+plain_unless (lines.Port port) t k f e = tt
+plain_unless (lines.SetPort port format count size) t k f e = tt
+plain_unless (lines.SetSupplier port supplier) t k f e = tt
+plain_unless (lines.SetPriority component priority) t k f e = tt
+plain_unless (lines.Gain component gain) t k f e = tt
+plain_unless (lines.Weight port weight) t k f e = tt
+plain_unless (lines.Tunnel first second) t k f e = tt
+plain_unless (lines.DropTunnel first second) t k f e = tt
+plain_unless (lines.SendState component state) t k f e = tt
+plain_unless (lines.SendFlush component ports) t k f e = tt
+plain_unless (lines.SendDisable component ports) t k f e = tt
+plain_unless (lines.SendEnable component ports) t k f e = tt
+plain_unless (lines.SendMark component port target value) t k f e = tt
+plain_unless (lines.Run component) t k f e = tt
+plain_unless (lines.Claim component) t k f e = k component refl
+plain_unless (lines.Finish component) t k f e = f component refl
+plain_unless (lines.Supply port) t k f e = tt
+plain_unless (lines.Release port) t k f e = tt
+plain_unless (lines.Over port) t k f e = tt
+plain_unless (lines.Back port) t k f e = tt
+plain_unless (lines.Take component) t k f e = t component refl
+plain_unless (lines.End component) t k f e = e component refl
+plain_unless lines.Grant t k f e = tt
+plain_unless lines.Preempt t k f e = tt

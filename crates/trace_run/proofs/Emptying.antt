@@ -37,7 +37,7 @@ use Rattle.trace_run.specs.Closing.{StayStood, StayEnded, is_event, is_note, not
 use Rattle.trace_run.proofs.Standing.{world_rests}
 use Rattle.trace_run.proofs.Taken.{WasTaken, was_taken, named_before, named_then}
 use Rattle.trace_run.proofs.Ends.{seated_there}
-use Rattle.trace_run.proofs.Lasting.{AreEnding, ending_of, ended_of, ending_step}
+use Rattle.trace_run.proofs.Lasting.{AreEnding, HaveNone, ending_of, ended_of, ending_step, none_step, none_there, none_here}
 
 -- ---- the answer tells whether there was a note
 
@@ -161,6 +161,7 @@ record RanSo (h : Handle) (w u : World) (noted : Bool) : Type 0 where
   fewer : noted ≡ true → notes_left h (look u) < notes_left h (look w)
   none : noted ≡ false → notes_left h (look u) ≡ 0
   stay : (k : Handle) → AreEnding k w → AreEnding k u
+  works : HaveNone w → HaveNone u
 
 module _ (components : List NamedComponent) (h : Handle) (w u : World) (progress : Progress) (S : Sound w) (closed : IsClosed w) (A : All (IsSeated components) w.components) where
   ran_none : (result : Result Took OmxError) → had_note result ≡ false → Run w ((acts.TakeNote h, acts.Took result) ∷ []) u → RanSo h w u false
@@ -168,6 +169,7 @@ module _ (components : List NamedComponent) (h : Handle) (w u : World) (progress
     fewer = λ b. absurd cc;
     none = λ b. ap (λ (y : World). notes_left h (look y)) e ∙ none_left components w h result v A n t;
     stay = λ k E. subst (AreEnding k) (sym e) (ending_step k w (acts.TakeNote h) (acts.Took result) v S tt t tt E);
+    works = λ A. subst HaveNone (sym e) (none_step w (acts.TakeNote h) (acts.Took result) v S tt t (λ n. refl) A);
   }
 
   ran : (result : Result Took OmxError) → Run w (taking h result progress) u → RanSo h w u (had_note result)
@@ -178,6 +180,7 @@ module _ (components : List NamedComponent) (h : Handle) (w u : World) (progress
         fewer = λ b. subst (λ (y : World). notes_left h (look y) < notes_left h (look w)) (sym is) (fewer_left w h taken v x S closed T e);
         none = λ b. absurd cc;
         stay = λ k E. subst (AreEnding k) (sym is) (ending_step k v (acts.EndNote h progress) acts.Ended x Z N e tt (ending_step k w (acts.TakeNote h) (acts.Took (Ok (TookNote taken))) v S tt t tt E));
+        works = λ A. subst HaveNone (sym is) (none_step v (acts.EndNote h progress) acts.Ended x Z N e (λ n. refl) (none_step w (acts.TakeNote h) (acts.Took (Ok (TookNote taken))) v S tt t (λ n. refl) A));
       }
   ran (Ok TookNone) R = ran_none (Ok TookNone) refl R
   ran (Ok TookBusy) R = ran_none (Ok TookBusy) refl R
@@ -210,7 +213,10 @@ module _ (old new : Kept) (slots news : List Slot) (h : Handle) (answer : LineAn
       record {
         fewer = λ e. let l = R.fewer (sym told ∙ e) in omega (arith, l, before, now);
         none = λ e. sym now ∙ R.none (sym told ∙ e);
-        stay = λ k E. ended_of k new u Z.world (R.stay k (ending_of components k old w S.world S.ends.seated E));
+        stay = record {
+          ended = λ k E. ended_of k new u Z.world (R.stay k (ending_of components k old w S.world S.ends.seated E));
+          works = λ A. none_here new u Z.world (R.works (none_there old w S.world A));
+        };
       }
 
   pub took_stood : StayStood old slots new news
@@ -220,6 +226,9 @@ module _ (old new : Kept) (slots news : List Slot) (h : Handle) (answer : LineAn
 
 pub stood_on : (a b c : Kept) (r s t : List Slot) → StayStood a r b s → StayStood b s c t → StayStood a r c t
 stood_on a b c r s t A B components S = B components (A components S)
+
+pub stay_on : (l m n : Look) → StayEnded l m → StayEnded m n → StayEnded l n
+stay_on l m n A B = record { ended = λ h e. B.ended h (A.ended h e); works = λ w. B.works (A.works w) }
 
 pub has_then : (a b : Kept) (r s : List Slot) → StayStood a r b s → HasStood a r → HasStood b s
 has_then a b r s A (components, S) = (components, A components S)

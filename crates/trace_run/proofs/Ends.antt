@@ -57,10 +57,10 @@ module _ (components : List NamedComponent) where
   seated_step w a r v S M h n t A =
       seated_of v.components (outcome_each (Fit IsIn Nobody) (lasting IsIn Nobody (λ k out q. (refl, q.1))) w a r v S (inl n) (λ k x c work e f g p. p) (inl t) (step_comes w a r v S M h) (fit_of w.components A))
 
-some_and : {A : Type 0} (o : Option A) (P : A → Type 0) (x : A) → o ≡ Some x → P x → IsSomeAnd o P
+pub some_and : {A : Type 0} (o : Option A) (P : A → Type 0) (x : A) → o ≡ Some x → P x → IsSomeAnd o P
 some_and o P x e p = rw e p
 
-and_some : {A : Type 0} (o : Option A) (P : A → Type 0) → IsSomeAnd o P → (x : A) × (o ≡ Some x) × P x
+pub and_some : {A : Type 0} (o : Option A) (P : A → Type 0) → IsSomeAnd o P → (x : A) × (o ≡ Some x) × P x
 and_some None P h = absurd h
 and_some (Some x) P h = (x, refl, h)
 

@@ -42,21 +42,14 @@ use Rattle.il_graph.specs.NoFiles.{NoFile}
 use Rattle.trace_run.specs.declared.names.NamedComponent.{NamedComponent}
 use Rattle.trace_run.specs.declared.slots.Slot.{Slot}
 use Rattle.trace_run.specs.Standing.{Parts, slot_numbered, AreRising, Hands, IsNamed, IsSeated, IsOfPort, IsStood}
-use Rattle.trace_run.specs.Closing.{IsEnded, StayEnded, IsFreeable, IsFreed, IsInHand, CanFree, IsOver}
-use Rattle.trace_run.proofs.Ends.{none_comes, taken_away, port_kept, seated_there, ends_with}
+use Rattle.trace_run.specs.Closing.{HaveNoWork, IsEnded, StayEnded, IsFreeable, IsFreed, IsInHand, CanFree, IsOver}
+use Rattle.trace_run.proofs.Ends.{and_some, some_and, none_comes, taken_away, port_kept, seated_there, ends_with}
 use Rattle.trace_run.proofs.Handed.{when_some}
 use Rattle.trace_run.proofs.Invalidating.{named_there}
-use Rattle.trace_run.proofs.Lasting.{Any}
+use Rattle.trace_run.proofs.Lasting.{Any, none_step, none_there, none_here}
 use Rattle.trace_run.proofs.SlotLists.{rising_more, rising_below, rising_front}
 use Rattle.trace_run.proofs.Standing.{keeps_others, looks_grow}
 use Rattle.trace_run.proofs.Taking.{same_number}
-
-some_of : {A : Type 0} (o : Option A) (P : A → Type 0) → IsSomeAnd o P → (x : A) × (o ≡ Some x) × P x
-some_of None P h = absurd h
-some_of (Some x) P h = (x, refl, h)
-
-some_so : {A : Type 0} (o : Option A) (P : A → Type 0) (x : A) → o ≡ Some x → P x → IsSomeAnd o P
-some_so o P x e p = rw e p
 
 -- ---- a header that is with the client, in a sound world
 
@@ -105,8 +98,8 @@ module _ (graph : Kept) (slots : List Slot) (C : CanFree graph slots) where
   -- the two handles were given to lines, and have one number
   one_handle : (g h : Handle) → IsNamed C.components g → IsNamed C.components h → g.generation ≡ h.generation → g ≡ h
   one_handle g h (i, a) (j, b) e =
-      let x = some_of (slice_get C.components i) _ a in
-      let y = some_of (slice_get C.components j) _ b in
+      let x = and_some (slice_get C.components i) _ a in
+      let y = and_some (slice_get C.components j) _ b in
       sym x.2 ∙ (C.ends.apart.one i j x.0 y.0 x.1 y.1 (ap (λ (z : Handle). z.generation) x.2 ∙ (e ∙ sym (ap (λ (z : Handle). z.generation) y.2))) ∙ y.2)
 
   freeable_of : (slot : Slot) (header : BufferHeader) → header.held.number ≡ slot.number → IsHandedIn header graph.looks → IsOfPort C.components graph.looks slot
@@ -168,9 +161,9 @@ hands_front front slot l H = record {
 -- in the hand of another slot
 in_front : (front : List Slot) (slot : Slot) (number : ℕ) → IsInHand number (front ++ slot ∷ []) → ¬ ((slot.number ≡ number) × IsSome slot.hand) → IsInHand number front
 in_front front slot number (place, h) n =
-    let x = some_of (slice_get (front ++ slot ∷ []) place) _ h in
+    let x = and_some (slice_get (front ++ slot ∷ []) place) _ h in
     elim (at_push front place slot x.0 x.1) [
-      | inl old ↦ (place, some_so (slice_get front place) _ x.0 old x.2)
+      | inl old ↦ (place, some_and (slice_get front place) _ x.0 old x.2)
       | inr new ↦ absurd (n (subst (λ (s : Slot). (s.number ≡ number) × IsSome s.hand) new x.2))
     ]
 
@@ -185,6 +178,7 @@ module _ (old new : Kept) (front : List Slot) (slot : Slot) (C : CanFree old (fr
     hands = hands_front front slot old.looks C.hands;
     ends = record { seated = C.ends.seated; apart = C.ends.apart; slots = λ i s at. C.ends.slots i s (push_there front i slot s at) };
     invalid = C.invalid;
+    works = C.works;
     all = λ number H. in_front front slot number (C.all number H) (λ h. let some : IsSome {T = BufferHeader} None = subst (λ (o : Option BufferHeader). IsSome o) none h.1 in cc);
   })
 
@@ -245,6 +239,7 @@ module _ (old new : Kept) (front : List Slot) (slot : Slot) (C : CanFree old (fr
           front (λ i s at. port_kept old new C.world a r v C.stands B C.sound meets step C.components s
           (rising_below 0 (old.looks).made i front s fronts.rising at) (λ e. absurd cc) (C.ends.slots i s (push_there front i slot s at)));
       invalid = freed_invalid;
+      works = none_here new v B (none_step C.world a r v C.sound meets step (λ n. refl) (none_there old C.world C.stands C.works));
       all = λ number H. in_front front slot number (C.all number (none_comes old new C.world a r v C.stands B C.sound meets step number (λ e. absurd cc) H)) (λ h.
           taken_away old new C.world a r v C.stands B C.sound meets step number (ap Some (its_hand.0 ∙ h.0)) H);
     }
@@ -260,6 +255,7 @@ module _ (old new : Kept) (front : List Slot) (slot : Slot) (C : CanFree old (fr
 
 pub all_over : (graph : Kept) → CanFree graph [] → IsOver graph.looks
 all_over graph C = record {
+  works = C.works;
   headers = λ number H. let x = C.all number H in x.1;
   clients = from_places (λ (c : Component). c.client_out ≡ false) (graph.looks).components (λ i c e. (at_place (IsSeated C.components) (graph.looks).components i c C.ends.seated e).0.0);
 }
@@ -270,7 +266,7 @@ some_there : {A : Type 0} (o : Option A) → IsSome o → (x : A) × (o ≡ Some
 some_there None h = absurd cc
 some_there (Some x) h = (x, refl)
 
-module _ (kept : Parts) (S : IsStood kept) (E : (i : ℕ) (entry : NamedComponent) → slice_get kept.components i ≡ Some entry → IsEnded entry.handle (kept.graph).looks) where
+module _ (kept : Parts) (S : IsStood kept) (E : (i : ℕ) (entry : NamedComponent) → slice_get kept.components i ≡ Some entry → IsEnded entry.handle (kept.graph).looks) (N : HaveNoWork (kept.graph).looks) where
   abbrev at_world : World
   at_world = S.at.world
 
@@ -279,7 +275,7 @@ module _ (kept : Parts) (S : IsStood kept) (E : (i : ℕ) (entry : NamedComponen
       let cs = (kept.graph).looks.components in
       from_places (λ (c : Component). c.state ≡ Invalid) cs (λ i c e.
       let seat = at_place (IsSeated kept.components) cs i c S.stood.ends.seated e in
-      let x = some_of (slice_get kept.components seat.0.1.0) _ seat.0.1.1 in
+      let x = and_some (slice_get kept.components seat.0.1.0) _ seat.0.1.1 in
       at_place (λ (d : Component). d.handle ≡ (x.0).handle → d.state ≡ Invalid) cs i c (E seat.0.1.0 x.0 x.1) e (sym x.2))
 
   hand_there : (number place : ℕ) (slot : Slot) (o : Option BufferHeader) → slot.hand ≡ o → slice_get kept.slots place ≡ Some slot → slot.number ≡ number → IsWithClient number (kept.graph).looks → IsSome o
@@ -295,7 +291,7 @@ module _ (kept : Parts) (S : IsStood kept) (E : (i : ℕ) (entry : NamedComponen
       let p = some_there (position (slot_numbered number) kept.slots) (S.stood.known number x.0 known home.home) in
       let y = passes_at (slot_numbered number) kept.slots p.0 (sym (is_first_place (slot_numbered number) kept.slots) ∙ p.1) in
       let n = same_number kept.slots number p.0 y.0 p.1 y.1 in
-      (p.0, some_so (slice_get kept.slots p.0) _ y.0 y.1 (n, hand_there number p.0 y.0 (y.0).hand refl y.1 n H))
+      (p.0, some_and (slice_get kept.slots p.0) _ y.0 y.1 (n, hand_there number p.0 y.0 (y.0).hand refl y.1 n H))
 
   pub can_free : CanFree kept.graph kept.slots
   can_free = record {
@@ -306,6 +302,7 @@ module _ (kept : Parts) (S : IsStood kept) (E : (i : ℕ) (entry : NamedComponen
     hands = S.stood.hands;
     ends = S.stood.ends;
     invalid = all_invalid;
+    works = N;
     all = all_in_hand;
   }
 
@@ -369,7 +366,7 @@ module _ (components : List NamedComponent) (l m : Look) (n : ℕ) where
         let there : slice_get components n ≡ Some entry = ap (slice_get components) (sym e) ∙ at in
         let same : last ≡ entry = is ∙ get_or_from_slice_get components n entry last there in
         subst (λ (x : NamedComponent). IsEnded x.handle m) same ended
-    | inr a ↦ stay entry.handle (E i entry (omega (arith, below, a)) at)
+    | inr a ↦ stay.ended entry.handle (E i entry (omega (arith, below, a)) at)
   ]
 
 pub ended_all : (components : List NamedComponent) (l : Look) (n : ℕ) → length components ≤ n → ((i : ℕ) (entry : NamedComponent) → i < n → slice_get components i ≡ Some entry → IsEnded entry.handle l)
@@ -389,7 +386,7 @@ no_file (Some (files.To snk frames)) = absurd (elim snk.of [ ])
 named_in : (h : Handle) (cs : List Component) (o : Option ℕ) → All (λ (c : Component). c.client_out ≡ false) cs → IsSomeAnd (option_and_then (slice_get cs) o) (λ c. c.client_out ≡ true) → ⊥
 named_in h cs None A n = absurd n
 named_in h cs (Some i) A n =
-    let x = some_of (slice_get cs i) _ n in
+    let x = and_some (slice_get cs i) _ n in
     let e : true ≡ false = sym x.2 ∙ at_place (λ (c : Component). c.client_out ≡ false) cs i x.0 A x.1 in
     cc
 

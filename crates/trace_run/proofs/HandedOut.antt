@@ -44,6 +44,7 @@ use Rattle.trace_run.specs.Naming.{Moment, Names, NamedHeader, handle_in, handle
 use Rattle.trace_run.specs.Replying.{LineReply, Plain}
 use Rattle.trace_run.specs.Lines.{Entry, Line, Answered}
 use Rattle.trace_run.specs.Standing.{Parts, as_header, names_in, AreNamed, IsNamed, IsSeated, AreApart, Stood, Leads}
+use Rattle.trace_run.proofs.Seats.{handle_is}
 use Rattle.trace_run.proofs.Ends.{seated_there, seated_here, seated_new, apart_push, ports_kept, ports_named, ports_push, ends_with}
 use Rattle.trace_run.proofs.Made.{made_by}
 use Rattle.history_laws.proofs.Cores.{NoneGot, NoneTaken}
@@ -121,13 +122,6 @@ got old graph components name kind h e steps =
     subst (λ (cs : List NamedComponent). Leads old (record { graph = graph; components = cs; slots = old.slots }) (forms.Get name kind) (Plain texts.Done)) (sym e) (got_named old graph name kind h steps)
 
 -- ---- a header
-
-handle_is : (a b : Handle) → same_handle a b ≡ true → a ≡ b
-handle_is a b s =
-    let p = and_parts (nat_eq a.slot b.slot) (nat_eq a.generation b.generation) s in
-    let x : a.slot ≡ b.slot = eqb-true _ _ p.0 in
-    let y : a.generation ≡ b.generation = eqb-true _ _ p.1 in
-    λ i. record { slot = x i; generation = y i }
 
 for_itself : (key : PortKey) → (same_key key key || false) ≡ true
 for_itself key =

@@ -18,6 +18,7 @@ use Rattle.il_machine.specs.Components.{state_answer}
 use Rattle.il_machine.specs.Commands.{SendCommand, send_refusal, sent, invalidated}
 use Rattle.il_machine.specs.Room.{used, events_in, work_places, room}
 use Rattle.il_machine.specs.Due.{ClosesTo}
+use Rattle.il_machine.specs.Acts.{Act, Reply}
 use Rattle.il_machine.specs.Acts as acts
 use Rattle.il_machine.specs.Sound.{Sound, IsSound, IsConnected, ArePicked, AreRising}
 use Rattle.il_machine.specs.Whole.{Kept, Stands}
@@ -35,13 +36,13 @@ use Rattle.trace_run.specs.declared.slots.Slot.{Slot}
 use Rattle.trace_run.specs.Standing.{Parts, IsSeated, HasStood, IsStood}
 use Rattle.trace_run.specs.Closing.{StayStood, StayEnded, IsEnded, IsMadeInvalid, notes_left}
 use Rattle.trace_run.proofs.Ends.{seated_there}
-use Rattle.trace_run.proofs.Lasting.{Any, AreEnding, ending_of, ended_of, ending_step, ending_closes}
+use Rattle.trace_run.proofs.Lasting.{Any, AreEnding, ending_of, ended_of, ending_step, ending_closes, none_step, none_there, none_here}
 use Rattle.trace_run.proofs.Seats.{found, named_found}
 use Rattle.trace_run.proofs.Standing.{stood_after}
 
 -- ---- the component of a handle
 
-handle_itself : (a h : Handle) → a ≡ h → same_handle a h ≡ true
+pub handle_itself : (a h : Handle) → a ≡ h → same_handle a h ≡ true
 handle_itself a h e =
     let s : nat_eq a.slot h.slot ≡ true = eq-eqb a.slot h.slot (ap (λ (x : Handle). x.slot) e) in
     let g : nat_eq a.generation h.generation ≡ true = eq-eqb a.generation h.generation (ap (λ (x : Handle). x.generation) e) in
@@ -218,13 +219,18 @@ module _ (old new : Kept) (slots : List Slot) (h : Handle) (M : IsMadeInvalid h 
 
   module _ (has : HasStood old slots) where
     pub made_stay : StayEnded old.looks new.looks
-    made_stay k E = elim M [
-      | inl m ↦ subst (λ (x : Kept). IsEnded k x.looks) (sym m.0) E
+    made_stay = elim M [
+      | inl m ↦ subst (λ (x : Kept). StayEnded old.looks x.looks) (sym m.0) (record { ended = λ k E. E; works = λ A. A })
       | inr steps ↦
           let S = (has.1).stood in
           let w = (has.1).at.world in
           let x = steps w S.world in
-          ended_of k new x.0 x.1 (ending_step k w (acts.SendCommand h (StateSet Invalid)) (acts.Plain (Ok tt)) x.0 S.sound tt x.2 tt (ending_of has.0 k old w S.world S.ends.seated E))
+          let a : Act = acts.SendCommand h (StateSet Invalid) in
+          let r : Reply = acts.Plain (Ok tt) in
+          record {
+            ended = λ k E. ended_of k new x.0 x.1 (ending_step k w a r x.0 S.sound tt x.2 tt (ending_of has.0 k old w S.world S.ends.seated E));
+            works = λ A. none_here new x.0 x.1 (none_step w a r x.0 S.sound tt x.2 (λ n. refl) (none_there old w S.world A));
+          }
     ]
 
     pub made_ended : IsEnded h new.looks

@@ -1,4 +1,6 @@
 mod Asked
+mod Backs
+mod Claims
 mod Closed
 mod Emptying
 mod Ends
@@ -8,6 +10,8 @@ mod Granting
 mod Handed
 mod HandedIn
 mod HandedOut
+mod Held
+mod HeldLines
 mod Invalidating
 mod KindNames
 mod Lasting

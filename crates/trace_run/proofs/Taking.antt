@@ -25,7 +25,7 @@ use Rattle.graph_core.specs.Changes.{IsHandedIn}
 use Rattle.graph_core.specs.Clients.{IsOut, WasTold}
 use Rattle.il_graph.specs.HandedIn.{IsHandedOut, IsNoteHandedOut}
 use Rattle.history_laws.proofs.Cores.{NoneTaken}
-use Rattle.trace_run.proofs.Ends.{seated_there, seated_here, apart_here, ports_kept, ports_given}
+use Rattle.trace_run.proofs.Ends.{some_and, seated_there, seated_here, apart_here, ports_kept, ports_given}
 use Rattle.trace_run.proofs.Made.{IsHome}
 use Rattle.trace_run.proofs.Numbered.{numbered_step}
 use Rattle.trace_run.proofs.Reseated.{seated_taken}
@@ -42,9 +42,6 @@ use Rattle.trace_run.specs.Standing.{Parts, names_in, slot_numbered, holding, ma
 use Rattle.trace_run.proofs.SlotLists.{first_passes, first_changes, hands_with}
 use Rattle.trace_run.proofs.Standing.{Between, between_of, between_after, stood_with, stood_after, known_set, known_home}
 use Rattle.trace_run.proofs.Taken.{note_of, AtHeaderIn, WasTaken, was_taken, named_before, IsOutNow, out_now, progress_now, taken_home}
-
-some_and : {A : Type 0} (o : Option A) (P : A → Type 0) (x : A) → o ≡ Some x → P x → IsSomeAnd o P
-some_and o P x e p = rw e p
 
 -- ---- a header comes into the hand of its slot
 

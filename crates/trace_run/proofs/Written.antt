@@ -14,7 +14,7 @@ use Rattle.script_lang.specs.declared.script.Script.TheVariants.{Trace}
 use Rattle.trace_run.specs.Naming.{Moment}
 use Rattle.trace_run.specs.Replying.{LineReply}
 use Rattle.trace_run.specs.Lines.{Answered}
-use Rattle.trace_run.specs.Standing.{Parts, Stood}
+use Rattle.trace_run.specs.Works.{OnDesk, StoodAll}
 use Rattle.trace_run.specs.Traced.{line_text, Lead, beginning, GotTrace, GotFront, GotLines, IsStopped}
 use Rattle.trace_run.specs.Writing.{PrintsLine, GotBody, IsBroken, FromEach}
 
@@ -44,20 +44,20 @@ lead_then number at (first ∷ lines) text last line reply next (said, then, res
     )
 
 -- From each moment that was stood for the lines lead to one that is stood for now, and their text was written.
-abbrev pub Carries : Parts → Parts → List TraceLine → Option (List ℕ) → Option (List ℕ) → Type 0
-Carries from now lines old new = (at : Moment) → Stood from at → (text : List ℕ) × (last : Moment) × Stood now last × Lead 1 at lines text last × (new ≡ append_known old text)
+abbrev pub Carries : OnDesk → OnDesk → List TraceLine → Option (List ℕ) → Option (List ℕ) → Type 0
+Carries from now lines old new = (at : Moment) → StoodAll from at → (text : List ℕ) × (last : Moment) × StoodAll now last × Lead 1 at lines text last × (new ≡ append_known old text)
 
-pub carries_none : (from : Parts) (lines : List TraceLine) (old : Option (List ℕ)) → Carries from from (take 0 lines) old old
+pub carries_none : (from : OnDesk) (lines : List TraceLine) (old : Option (List ℕ)) → Carries from from (take 0 lines) old old
 carries_none from [] old at S = ([], at, S, (refl, refl), sym (append_known-nil old))
 carries_none from (line ∷ lines) old at S = ([], at, S, (refl, refl), sym (append_known-nil old))
 
 -- a line's text behind those of the lines before
-pub record Prints (now next : Parts) (lines : List TraceLine) (line : TraceLine) (piece : List ℕ) (at : Moment) (text : List ℕ) : Type 0 where
+pub record Prints (now next : OnDesk) (lines : List TraceLine) (line : TraceLine) (piece : List ℕ) (at : Moment) (text : List ℕ) : Type 0 where
   pub last : Moment
-  pub stood : Stood next last
+  pub stood : StoodAll next last
   pub lead : Lead 1 at (lines ++ line ∷ []) (text ++ piece) last
 
-prints_more : (now next : Parts) (lines : List TraceLine) (number : ℕ) (line : TraceLine) (before piece : List ℕ) (at : Moment) (text : List ℕ) (last : Moment) → Stood now last → Lead 1 at lines text last
+prints_more : (now next : OnDesk) (lines : List TraceLine) (number : ℕ) (line : TraceLine) (before piece : List ℕ) (at : Moment) (text : List ℕ) (last : Moment) → StoodAll now last → Lead 1 at lines text last
     → number ≡ length lines + 1 → before ≡ [] → PrintsLine now next number line before piece → Prints now next lines line piece at text
 prints_more now next lines number line before piece at text last S lead count empty (reply, leads, is) =
     let x = leads last S in
@@ -69,7 +69,7 @@ prints_more now next lines number line before piece at text last S lead count em
       lead = subst (λ (p : List ℕ). Lead 1 at (lines ++ line ∷ []) (text ++ p) x.0) same (lead_then 1 at lines text last line reply x.0 lead x.2);
     }
 
-pub carries_more : (from now next : Parts) (lines : List TraceLine) (number : ℕ) (line : TraceLine) (before piece : List ℕ) (old mid new : Option (List ℕ)) → Carries from now lines old mid
+pub carries_more : (from now next : OnDesk) (lines : List TraceLine) (number : ℕ) (line : TraceLine) (before piece : List ℕ) (old mid new : Option (List ℕ)) → Carries from now lines old mid
     → number ≡ length lines + 1 → before ≡ [] → PrintsLine now next number line before piece → new ≡ append_known mid piece → Carries from next (lines ++ line ∷ []) old new
 carries_more from now next lines number line before piece old mid new carries count empty prints is at S =
     let c = carries at S in
@@ -95,7 +95,7 @@ ok_so (Err error) h f = tt
 
 -- ---- the end of the lines
 
-pub carried_all : (from now : Parts) (lines all : List TraceLine) (old new : Option (List ℕ)) → Carries from now lines old new → lines ≡ all → FromEach from (λ at. GotBody at all old new)
+pub carried_all : (from now : OnDesk) (lines all : List TraceLine) (old new : Option (List ℕ)) → Carries from now lines old new → lines ≡ all → FromEach from (λ at. GotBody at all old new)
 carried_all from now lines all old new carries same at S =
     let c = carries at S in
     let text = c.0 in
@@ -106,7 +106,7 @@ carried_all from now lines all old new carries same at S =
     (text, last, subst (λ (l : List TraceLine). Lead 1 at l text last) same lead, got)
 
 -- memory was wanting for the next line
-pub carried_some : (from now : Parts) (all : List TraceLine) (place : ℕ) (old new : Option (List ℕ)) (before after : ℕ) → Carries from now (take place all) old new → FromEach from (λ at. IsBroken at all old new before after OutOfMemory)
+pub carried_some : (from now : OnDesk) (all : List TraceLine) (place : ℕ) (old new : Option (List ℕ)) (before after : ℕ) → Carries from now (take place all) old new → FromEach from (λ at. IsBroken at all old new before after OutOfMemory)
 carried_some from now all place old new before after carries at S =
     let c = carries at S in
     let text = c.0 in
@@ -117,7 +117,7 @@ carried_some from now all place old new before after carries at S =
     (place, (text, last, lead, got))
 
 -- a front of the next line's text was written
-pub carried_front : (from now next : Parts) (all : List TraceLine) (place number : ℕ) (line : TraceLine) (cleared piece : List ℕ) (old mid new : Option (List ℕ)) (before after : ℕ) (fault : Fault)
+pub carried_front : (from now next : OnDesk) (all : List TraceLine) (place number : ℕ) (line : TraceLine) (cleared piece : List ℕ) (old mid new : Option (List ℕ)) (before after : ℕ) (fault : Fault)
     → Carries from now (take place all) old mid → number ≡ length (take place all) + 1 → cleared ≡ [] → take place all ++ line ∷ [] ≡ take (place + 1) all → PrintsLine now next number line cleared piece → AppendsFront mid new piece
     → Rose before after → fault ≡ WriteFault → FromEach from (λ at. IsBroken at all old new before after fault)
 carried_front from now next all place number line cleared piece old mid new before after fault carries count empty more prints front rose is at S =

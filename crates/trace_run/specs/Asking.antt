@@ -26,7 +26,7 @@ input_side (Err error) = false
 abbrev pub is_input : Moment → PortName → Bool
 is_input at port = input_side (view_answer (handle_of at.names port.component) port.index (look at.world))
 
--- `take` asks for the oldest note. `end` is no line of a trace, so its row is never asked.
+-- `take` asks for the oldest note. `end` is no line of a trace, and `finish` hands a work in: their rows are never asked.
 abbrev pub asked : Moment → TextAct → Act
 asked at (lines.Free component) = acts.FreeHandle (handle_of at.names component)
 asked at (lines.State component) = acts.GetState (handle_of at.names component)
@@ -47,6 +47,8 @@ asked at (lines.SendEnable component ports) = acts.SendCommand (handle_of at.nam
 asked at (lines.SendMark component port target value) =
     acts.SendCommand (handle_of at.names component) (MarkBuffer port (handle_of at.names target) value)
 asked at (lines.Run component) = acts.RunCommand (handle_of at.names component)
+asked at (lines.Claim component) = acts.Claim (handle_of at.names component)
+asked at (lines.Finish component) = acts.Progress (handle_of at.names component)
 asked at (lines.Supply port) = acts.Supply (handle_of at.names port.component) port.index
 asked at (lines.Release port) = acts.Release (handle_of at.names port.component) port.index
 asked at (lines.Over port) = acts.HandOver (handle_of at.names port.component) port.index

@@ -45,8 +45,14 @@ notes_left h l = unwrap_or (option_map (λ c. length c.notes) (component_named h
 abbrev pub IsEnded : Handle → Look → Type 0
 IsEnded h l = All (λ c. c.handle ≡ h → c.state ≡ states.Invalid) l.components
 
-abbrev pub StayEnded : Look → Look → Type 0
-StayEnded l m = (h : Handle) → IsEnded h l → IsEnded h m
+-- no component's work is out
+abbrev pub HaveNoWork : Look → Type 0
+HaveNoWork l = All (λ c. c.work ≡ None) l.components
+
+-- a component that is Invalid stays so, and where no work is out, none comes
+pub record StayEnded (l m : Look) : Type 0 where
+  pub ended : (h : Handle) → IsEnded h l → IsEnded h m
+  pub works : HaveNoWork l → HaveNoWork m
 
 -- it was so, and nothing changed; or StateSet(Invalid) was sent to it, and wasn't refused
 abbrev pub IsMadeInvalid : Handle → Kept → Kept → Type 0
@@ -77,9 +83,11 @@ pub record CanFree (graph : Kept) (slots : List Slot) : Type 0 where
   pub hands : Hands slots graph.looks
   pub ends : CanEnd (record { graph = graph; components = components; slots = slots })
   pub invalid : All (λ c. c.state ≡ states.Invalid) graph.looks.components
+  pub works : HaveNoWork graph.looks
   pub all : (number : ℕ) → IsWithClient number graph.looks → IsInHand number slots
 
--- The client has no header, and each client object is in.
+-- The client has no header, no work is out, and each client object is in.
 pub record IsOver (l : Look) : Type 0 where
+  pub works : All (λ c. c.work ≡ None) l.components
   pub headers : (number : ℕ) → ¬ (IsWithClient number l)
   pub clients : All (λ c. c.client_out ≡ false) l.components

@@ -7,3 +7,5 @@ pub mod Standing
 pub mod InHand
 pub mod Writing
 pub mod Closing
+pub mod Works
+pub mod Desks

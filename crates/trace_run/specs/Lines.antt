@@ -1,11 +1,14 @@
 -- What one line of a trace does: the acts that it makes, the reply that is printed, and what names then stand for.
-use Rattle.std.specs.Prelude.{◌≡◌, ℕ, Bool, true, false, nat_lt, List, [], ◌∷◌, replicate, length, Some, Result, Ok, MatchOption, if◌then◌else◌}
+use Rattle.std.specs.Prelude.{◌≡◌, ℕ, Bool, true, false, nat_lt, List, [], ◌∷◌, replicate, length, Option, Some, None, option_and_then, Result, Ok, MatchOption, if◌then◌else◌}
 use Rattle.omx_types.specs.declared.handle.Handle.{Handle}
 use Rattle.omx_types.specs.declared.error.CallError.{CallError}
 use Rattle.omx_types.specs.declared.error.OmxError.{OmxError}
 use Rattle.il_machine.specs.declared.answer.Progress.{Progress}
+use Rattle.il_machine.specs.World.{Work}
+use Rattle.il_machine.specs.Answers.{component_named}
 use Rattle.il_machine.specs.Buffers.{Held}
 use Rattle.il_machine.specs.Notes.{Took, TookNote}
+use Rattle.il_machine.specs.Stepping.{Done}
 use Rattle.il_machine.specs.Acts.{Act, Reply}
 use Rattle.il_machine.specs.Acts as acts
 use Rattle.il_machine.specs.Run.{Run}
@@ -43,11 +46,28 @@ pub record Takes (names : Names) (h : Handle) (result : Result Took OmxError) (p
   pub both : entries ≡ taking h result progress
   pub says : printed names (acts.Took result) ≡ Some reply
 
+-- the work of the component of the name, where it is out
+abbrev pub work_out : Moment → List ℕ → Option Work
+work_out at name = option_and_then (λ c. c.work) (component_named (handle_of at.names name) at.world.components)
+
+-- The work did one step of its part, in which nothing failed, since no part has a file. The line tells the frames of the step.
+pub record Finishes (names : Names) (component : List ℕ) (done : Done) (entries : List Entry) (reply : LineReply) : Type 0 where
+  pub one : entries ≡ (acts.Finish done, acts.Finished) ∷ []
+  pub component_is : done.component ≡ (handle_of names component).generation
+  pub whole : done.fault ≡ None
+  pub says : reply ≡ Plain (texts.Finished done.frames)
+
+-- Where no work of the component is out no act is made.
+abbrev pub FinishLine : Moment → List ℕ → List Entry → LineReply → Names → Type 0
+FinishLine at component entries reply next = MatchOption (work_out at component) (IsNoAct at.names (Plain texts.NotOut) entries reply next) (λ work.
+    (done : Done) × Finishes at.names component done entries reply × (next ≡ at.names))
+
 -- a line that names no header and no kind
 abbrev pub ActLine : Moment → TextAct → List Entry → LineReply → Names → Type 0
 ActLine at (lines.Take component) entries reply next =
     (result : Result Took OmxError) × (progress : Progress) × Takes at.names (handle_of at.names component) result progress entries reply
     × (next ≡ after_taking result at.names)
+ActLine at (lines.Finish component) entries reply next = FinishLine at component entries reply next
 ActLine at (lines.End component) entries reply next = IsNoAct at.names (Plain texts.NotOut) entries reply next
 ActLine at act entries reply next = (r : Reply) × IsAct at.names (asked at act) r entries reply × (next ≡ at.names)
 

@@ -13,6 +13,7 @@ use Rattle.il_machine.specs.declared.answer.Granted.{Granted}
 use Rattle.il_machine.specs.declared.answer.Granted.TheVariants as grants
 use Rattle.il_machine.specs.declared.answer.Preempted.{Preempted}
 use Rattle.il_machine.specs.declared.answer.Preempted.TheVariants as losses
+use Rattle.il_machine.specs.Claims.{Claimed, ClaimedWork, ClaimedBusy, ClaimedNotRunning, ClaimedEnded, ClaimedHeld, ClaimedNoData, ClaimedNoRoom, ClaimedEvents}
 use Rattle.il_machine.specs.Components.{has_eos}
 use Rattle.il_machine.specs.Notes.{Took, TookNote, TookNone, TookBusy, TakenEvent, TakenEmpty, TakenFilled}
 use Rattle.il_machine.specs.Acts.{Reply}
@@ -83,6 +84,17 @@ abbrev pub preempted_reply : List NamedComponent → Preempted → Option LineRe
 preempted_reply components (losses.Victim h) = option_map taken_from (component_name components h.generation)
 preempted_reply components (losses.Idle why) = option_map idle_reply (named_why components why)
 
+-- a work is out, or why none is
+abbrev pub claimed_reply : Claimed → TextReply
+claimed_reply (ClaimedWork work) = texts.Work
+claimed_reply ClaimedBusy = texts.Idle whys.WorkOut
+claimed_reply ClaimedNotRunning = texts.Idle whys.ComponentNotRunning
+claimed_reply ClaimedEnded = texts.Idle whys.PartEnded
+claimed_reply (ClaimedHeld port) = texts.Idle (whys.PortHeld port)
+claimed_reply (ClaimedNoData port) = texts.Idle (whys.NoData port)
+claimed_reply (ClaimedNoRoom port) = texts.Idle (whys.NoRoom port)
+claimed_reply (ClaimedEvents room need) = texts.Idle (whys.Events room need)
+
 -- which end of a tunnel makes its headers
 abbrev pub is_input_end : Supplier → Bool
 is_input_end suppliers.Input = true
@@ -124,8 +136,8 @@ printed names (acts.Freed result) = or_error (λ memory. done) result
 printed names (acts.Took result) = or_error (took_reply names) result
 printed names (acts.Granted answer) = granted_reply names.components answer
 printed names (acts.Preempted answer) = preempted_reply names.components answer
--- no line asks for these
-printed names (acts.Claimed result) = None
+printed names (acts.Claimed result) = or_error (λ claimed. Some (Plain (claimed_reply claimed))) result
+-- what a finish did its act says, and no line asks for the others
 printed names acts.Finished = None
 printed names (acts.Progressed result) = None
 printed names (acts.Parameter result) = None

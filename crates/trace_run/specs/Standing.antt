@@ -263,8 +263,10 @@ moment_of w components headers = record { world = w; names = record { components
 abbrev pub AskReplied : List NamedComponent → List NamedHeader → TextAct → TextReply → World → World → Type 0
 AskReplied components headers act reply w v = Replied components (asked (moment_of w components headers) act) reply w v
 
--- the line makes one act, and takes no note
+-- the line makes one act, takes no note, and moves no work
 abbrev pub IsPlain : TextAct → Type 0
+IsPlain (lines.Claim component) = ⊥
+IsPlain (lines.Finish component) = ⊥
 IsPlain (lines.Take component) = ⊥
 IsPlain (lines.End component) = ⊥
 IsPlain other = Unit {0}

@@ -9,11 +9,11 @@ use Rattle.script_lang.specs.declared.form.TraceLine.{TraceLine}
 use Rattle.trace_run.specs.Naming.{Moment}
 use Rattle.trace_run.specs.Replying.{LineReply}
 use Rattle.trace_run.specs.Traced.{line_text, Lead}
-use Rattle.trace_run.specs.Standing.{Parts, Stood, Leads}
+use Rattle.trace_run.specs.Works.{OnDesk, StoodAll, LeadsAll}
 
 -- the line is answered, and its text was appended
-abbrev pub PrintsLine : Parts → Parts → ℕ → TraceLine → List ℕ → List ℕ → Type 0
-PrintsLine old new number line before after = (reply : LineReply) × Leads old new line.form reply × (after ≡ before ++ line_text number line reply)
+abbrev pub PrintsLine : OnDesk → OnDesk → ℕ → TraceLine → List ℕ → List ℕ → Type 0
+PrintsLine old new number line before after = (reply : LineReply) × LeadsAll old new line.form reply × (after ≡ before ++ line_text number line reply)
 
 -- the text of the lines was appended
 abbrev pub GotBody : Moment → List TraceLine → Option (List ℕ) → Option (List ℕ) → Type 0
@@ -27,5 +27,5 @@ IsBroken at lines old new before now OutOfMemory = (count : ℕ) × GotBody at (
 IsBroken at lines old new before now other = ⊥
 
 -- what holds of each moment that is stood for
-abbrev pub FromEach : Parts → (Moment → Type 0) → Type 0
-FromEach kept P = (at : Moment) → Stood kept at → P at
+abbrev pub FromEach : OnDesk → (Moment → Type 0) → Type 0
+FromEach kept P = (at : Moment) → StoodAll kept at → P at

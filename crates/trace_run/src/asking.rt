@@ -18,7 +18,7 @@ use act_text::{Name, TextAct, TextReply};
 use omx_types::{Command, Param};
 use std::alloc::Global;
 
-/// Makes the act of a line that isn't `take`.
+/// Makes the act of a line that takes no note and moves no work.
 pub fn ask(
     graph: &mut TraceGraph,
     components: &[NamedComponent],
@@ -52,7 +52,9 @@ pub fn ask(
         TextAct::Back(at) => Ok(back(graph, components, port_id(components, at))),
         TextAct::Grant => Ok(grant(graph, components)),
         TextAct::Preempt => Ok(preempt(graph, components)),
-        TextAct::Take(_) | TextAct::End(_) => Ok(TextReply::NotOut),
+        TextAct::Claim(_) | TextAct::Finish(_) | TextAct::Take(_) | TextAct::End(_) => {
+            Ok(TextReply::NotOut)
+        }
     }
 }
 

@@ -1,9 +1,11 @@
 //! The end of a trace: everything goes back, by acts that aren't printed.
 
-ghost use Rattle.std.specs.Prelude.{◌≡◌, ◌<◌, IsTrue, IsFalse};
+ghost use Rattle.std.specs.Prelude.{◌≡◌, ◌<◌, [], IsTrue, IsFalse};
 ghost use Rattle.il_machine.specs.States.{is_invalid};
 ghost use Rattle.il_graph.specs.Shown.{look_of};
-ghost use Rattle.trace_run.specs.Standing.{parts, graph_kept, HasStood, IsStood};
+ghost use Rattle.trace_run.specs.Standing.{graph_kept, HasStood};
+ghost use Rattle.trace_run.specs.Desks.{on_desk};
+ghost use Rattle.trace_run.specs.Works.{HasStoodAll, BringAllBack, IsStoodAll};
 ghost use Rattle.trace_run.specs.Closing.{StayStood, StayEnded, IsEnded, IsMadeInvalid, IsFreeable, IsFreed, CanFree, IsOver, is_note, notes_left};
 
 use crate::client::TraceGraph;
@@ -12,27 +14,42 @@ use crate::names::NamedComponent;
 use crate::notes::take;
 use crate::reply::LineAnswer;
 use crate::slots::Slot;
+use crate::works::{TraceWork, bring_back};
 use act_text::TextReply;
 use omx_types::{Command, Handle, State};
 
 impl Desk {
-    /// Takes the notes, makes each component Invalid, takes the notes again, frees the headers, and gives the graph back. None of these
-    /// acts is refused.
+    /// Brings each work back, takes the notes, makes each component Invalid, takes the notes again, frees the headers, and gives the
+    /// graph back. None of these acts is refused.
     pub fn give_back(self) -> TraceGraph
-        requires { IsStood (parts self.graph self.components.items self.slots.items) }
+        requires { IsStoodAll (on_desk self) }
         ensures { IsOver (look_of result) }
     {
         let Desk {
             mut graph,
             components,
             mut slots,
+            works,
         } = self;
+        bring_all_back(&mut graph, works);
         for entry in &components {
             end_component(&mut graph, &mut slots, entry.handle);
         }
         free_slots(&mut graph, slots);
         graph
     }
+}
+
+/// Runs and brings back each work that is held.
+fn bring_all_back(graph: &mut TraceGraph, works: Vec<TraceWork>)
+    requires { HasStoodAll (graph_kept graph.old) works.items }
+    ensures { BringAllBack (graph_kept graph.old) works.items (graph_kept graph.new) [] }
+{
+    let mut rest = works;
+    while let Some(work) = rest.pop() {
+        bring_back(graph, work);
+    }
+    rest.destroy_empty();
 }
 
 /// Takes the notes, makes the component Invalid, and takes the notes again.

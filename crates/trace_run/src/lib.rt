@@ -14,6 +14,7 @@ mod printing;
 mod reply;
 mod slots;
 mod tracing;
+mod works;
 
 pub use tracing::trace;
 

@@ -3,6 +3,8 @@
 ghost use Rattle.std.specs.Prelude.{◌≡◌, IfOk, OnOk, OnErr};
 ghost use Rattle.script_lang.specs.declared.form.TraceForm.TheVariants as forms;
 ghost use Rattle.trace_run.specs.Standing.{parts, IsStood, Leads, LeadsTo, NamesHeader, TakesHeader};
+ghost use Rattle.trace_run.specs.Desks.{on_desk, desk_of};
+ghost use Rattle.trace_run.specs.Works.{IsStoodAll, LeadsAllTo};
 ghost use Rattle.trace_run.specs.Replying.{Plain};
 ghost use Rattle.trace_run.specs.Writing.{PrintsLine};
 
@@ -16,6 +18,7 @@ use crate::notes::take;
 use crate::printing::{put_end, put_head};
 use crate::reply::LineAnswer;
 use crate::slots::Slot;
+use crate::works::{TraceWork, claim, finish};
 use act_text::{TextAct, TextReply};
 use script_lang::{TraceForm, TraceLine};
 use std::alloc::Global;
@@ -28,12 +31,12 @@ pub fn put_line(
     line: &TraceLine,
     text: &mut Vec<u8>,
 ) -> Result<(), OutOfMemory>
-    requires { IsStood (parts desk.old.graph desk.old.components.items desk.old.slots.items) }
+    requires { IsStoodAll (on_desk desk.old) }
     ensures prints { OnOk result (PrintsLine
-        (parts desk.old.graph desk.old.components.items desk.old.slots.items)
-        (parts desk.new.graph desk.new.components.items desk.new.slots.items)
+        (on_desk desk.old)
+        (on_desk desk.new)
         number line.now text.old.items text.new.items) }
-    ensures stood { IsStood (parts desk.new.graph desk.new.components.items desk.new.slots.items) }
+    ensures stood { IsStoodAll (on_desk desk.new) }
 {
     put_head(number, line.text.as_bytes(), text)?;
     match answer(desk, alloc, &line.form) {
@@ -44,15 +47,16 @@ pub fn put_line(
 
 /// Makes the acts of a line.
 fn answer(desk: &mut Desk, alloc: Global, form: &TraceForm) -> Result<LineAnswer, OutOfMemory>
-    requires { IsStood (parts desk.old.graph desk.old.components.items desk.old.slots.items) }
-    ensures leads { IfOk result (LeadsTo (parts desk.old.graph desk.old.components.items desk.old.slots.items) (parts desk.new.graph desk.new.components.items desk.new.slots.items) form.now) }
-    ensures unchanged { OnErr result (parts desk.new.graph desk.new.components.items desk.new.slots.items ≡ parts desk.old.graph desk.old.components.items desk.old.slots.items) }
+    requires { IsStoodAll (on_desk desk.old) }
+    ensures leads { IfOk result (LeadsAllTo (on_desk desk.old) (on_desk desk.new) form.now) }
+    ensures unchanged { OnErr result (on_desk desk.new ≡ on_desk desk.old) }
 {
     match form {
         TraceForm::Act(act) => act_answer(
             &mut desk.graph,
             desk.components.as_slice(),
             &mut desk.slots,
+            &mut desk.works,
             alloc,
             act,
         ),
@@ -78,15 +82,24 @@ fn act_answer(
     graph: &mut TraceGraph,
     components: &[NamedComponent],
     slots: &mut Vec<Slot>,
+    works: &mut Vec<TraceWork>,
     alloc: Global,
     act: &TextAct,
 ) -> Result<LineAnswer, OutOfMemory>
-    requires { IsStood (parts graph.old components.now slots.old.items) }
-    ensures leads { IfOk result (LeadsTo (parts graph.old components.now slots.old.items) (parts graph.new components.now slots.new.items) (forms.Act act.now)) }
-    ensures unchanged { OnErr result (parts graph.new components.now slots.new.items ≡ parts graph.old components.now slots.old.items) }
+    requires { IsStoodAll (desk_of graph.old components.now slots.old.items works.old.items) }
+    ensures leads { IfOk result (LeadsAllTo (desk_of graph.old components.now slots.old.items works.old.items) (desk_of graph.new components.now slots.new.items works.new.items) (forms.Act act.now)) }
+    ensures unchanged { OnErr result (desk_of graph.new components.now slots.new.items works.new.items ≡ desk_of graph.old components.now slots.old.items works.old.items) }
 {
     match act {
         TextAct::Take(component) => Ok(take(graph, slots, handle_of(components, component))),
+        TextAct::Claim(component) => {
+            let reply = claim(graph, works, handle_of(components, component))?;
+            Ok(LineAnswer::Plain(reply))
+        }
+        TextAct::Finish(component) => {
+            let reply = finish(graph, works, handle_of(components, component));
+            Ok(LineAnswer::Plain(reply))
+        }
         TextAct::End(_) => Ok(LineAnswer::Plain(TextReply::NotOut)),
         _ => Ok(LineAnswer::Plain(ask(graph, components, alloc, act)?)),
     }

@@ -89,3 +89,43 @@ end
     check_trace(&rt, script, text);
     Ok(())
 }
+
+#[test]
+fn a_work_is_out_at_the_end(rt: HostRuntime) -> Result<(), Fail> {
+    let script = b"omx 1 trace
+get a OMX.lab.sink.wav
+set a.0 port pcm 8000 1 2 4
+finish a
+send a state Idle
+run a
+alloc x a.0
+alloc y a.0
+send a state Executing
+run a
+claim a
+etb x a.0 0100ffff -
+claim a
+finish a
+etb y a.0 - eos
+claim a
+";
+    let text = b"1: get a OMX.lab.sink.wav = ok
+2: set a.0 port pcm 8000 1 2 4 = ok
+3: finish a = not out
+4: send a state Idle = ok
+5: run a = did
+6: alloc x a.0 = ok
+7: alloc y a.0 = ok
+8: send a state Executing = ok
+9: run a = did
+10: claim a = idle no data 0
+11: etb x a.0 0100ffff - = ok
+12: claim a = work
+13: finish a = did 2
+14: etb y a.0 - eos = ok
+15: claim a = work
+end
+";
+    check_trace(&rt, script, text);
+    Ok(())
+}

@@ -6,7 +6,8 @@ ghost use Rattle.outside_io.specs.Moves.{AppendsFront};
 ghost use Rattle.script_lang.specs.Scripts.{IsOfCommand};
 ghost use Rattle.script_lang.specs.declared.script.Script.TheVariants.{Trace};
 ghost use Rattle.trace_run.specs.Traced.{GotTrace, IsStopped};
-ghost use Rattle.trace_run.specs.Standing.{parts, IsStood};
+ghost use Rattle.trace_run.specs.Desks.{on_desk};
+ghost use Rattle.trace_run.specs.Works.{IsStoodAll};
 ghost use Rattle.trace_run.specs.Writing.{GotBody, IsBroken, FromEach};
 
 use crate::desk::Desk;
@@ -80,12 +81,12 @@ fn write_lines<O: Sink>(
     lines: &[TraceLine],
     out: &mut O,
 ) -> Result<(), Fault>
-    requires { IsStood (parts desk.old.graph desk.old.components.items desk.old.slots.items) }
-    ensures whole { OnOk result (FromEach (parts desk.old.graph desk.old.components.items desk.old.slots.items) (λ at.
+    requires { IsStoodAll (on_desk desk.old) }
+    ensures whole { OnOk result (FromEach (on_desk desk.old) (λ at.
         GotBody at lines.now (O.told out.old) (O.told out.new))) }
-    ensures broken { IfErr result (λ fault. FromEach (parts desk.old.graph desk.old.components.items desk.old.slots.items) (λ at.
+    ensures broken { IfErr result (λ fault. FromEach (on_desk desk.old) (λ at.
         IsBroken at lines.now (O.told out.old) (O.told out.new) (O.faults out.old) (O.faults out.new) fault)) }
-    ensures stood { IsStood (parts desk.new.graph desk.new.components.items desk.new.slots.items) }
+    ensures stood { IsStoodAll (on_desk desk.new) }
     ensures later { O.faults out.old ≤ O.faults out.new }
     ensures name { O.name out.new ≡ O.name out.old }
 {

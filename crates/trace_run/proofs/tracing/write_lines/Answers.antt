@@ -7,7 +7,7 @@ use Rattle.omx_types.specs.declared.fault.Fault.TheVariants.{WriteFault}
 use Rattle.outside_io.specs.Causes.{Rose}
 use Rattle.outside_io.specs.Moves.{AppendsFront}
 use Rattle.script_lang.specs.declared.form.TraceLine.{TraceLine}
-use Rattle.trace_run.specs.Standing.{parts}
+use Rattle.trace_run.specs.Desks.{on_desk}
 use Rattle.trace_run.specs.Writing.{PrintsLine}
 use Rattle.trace_run.proofs.Written.{Carries, next_line, err_then, carries_more, carried_all, carried_front, rose_later}
 use Rattle.trace_run.proofs.tracing.write_lines.Goals as goal
@@ -20,9 +20,9 @@ returns-in_err-write-clause-broken g c =
     let start = c.args.desk.now in
     let was = c.loop-place.desk in
     let desk = c.put_line.new.desk in
-    let from = parts start.graph start.components.items start.slots.items in
-    let now = parts was.graph was.components.items was.slots.items in
-    let next = parts desk.graph desk.components.items desk.slots.items in
+    let from = on_desk start in
+    let now = on_desk was in
+    let next = on_desk desk in
     let below : k < length lines = omega arith in
     let count : k + 1 ≡ length (take k lines) + 1 = omega (arith, length-take k lines) in
     let prints : PrintsLine now next (k + 1) line c.clear.new.self.items c.put_line.new.text.items = search rules in
@@ -45,9 +45,9 @@ loop-place-preserved g c =
     let start = c.args.desk.now in
     let was = c.loop-place.desk in
     let desk = c.put_line.new.desk in
-    let from = parts start.graph start.components.items start.slots.items in
-    let now = parts was.graph was.components.items was.slots.items in
-    let next = parts desk.graph desk.components.items desk.slots.items in
+    let from = on_desk start in
+    let now = on_desk was in
+    let next = on_desk desk in
     let below : k < length lines = omega arith in
     let count : k + 1 ≡ length (take k lines) + 1 = omega (arith, length-take k lines) in
     let prints : PrintsLine now next (k + 1) line c.clear.new.self.items c.put_line.new.text.items = search rules in
@@ -69,7 +69,7 @@ returns-clause-whole g c =
     let k = c.loop-place.place in
     let start = c.args.desk.now in
     let was = c.loop-place.desk in
-    let from = parts start.graph start.components.items start.slots.items in
-    let now = parts was.graph was.components.items was.slots.items in
+    let from = on_desk start in
+    let now = on_desk was in
     let past : length lines ≤ k = omega arith in
     carried_all from now (take k lines) lines (g.O.Sink.told c.args.out.now) (g.O.Sink.told c.loop-place.out) c.loop-place.invariant.carries (take_all k lines past)
