@@ -1,6 +1,5 @@
 -- Lines whose act makes a component or a header, and those whose act is refused.
-use Rattle.std.proofs.Common.{◌≡◌, ℕ, ◌+◌, ◌≤◌, Bool, true, false, List, [], ◌∷◌, ◌++◌, map, length, slice_get, Option, Some, None, Result, Ok, Err, MatchOption, nat_eq, ◌||◌, le-ltb, eqb-true, eq-eqb, replicate, refl, sym, ◌∙◌, ap, subst, arith}
-use Rattle.std.proofs.lemmas.Bool.{and_parts}
+use Rattle.std.proofs.Common.{◌≡◌, ℕ, ◌+◌, ◌≤◌, Bool, true, false, List, [], ◌∷◌, ◌++◌, map, length, slice_get, Option, Some, None, Result, Ok, Err, MatchOption, nat_eq, ◌||◌, le-ltb, eq-eqb, replicate, refl, sym, ◌∙◌, ap, subst, arith}
 use Rattle.omx_types.specs.declared.error.CallError.{CallError}
 use Rattle.omx_types.specs.declared.error.CallError.TheVariants.{Omx}
 use Rattle.omx_types.specs.declared.error.OmxError.{OmxError}
@@ -18,7 +17,7 @@ use Rattle.machine_laws.proofs.Every.{at_place as at_place_of}
 use Rattle.machine_laws.proofs.Lookups.{port_parts}
 use Rattle.history_laws.proofs.GivenHeaders.{made_clients}
 use Rattle.il_machine.specs.Look.{Look, look}
-use Rattle.il_machine.specs.World.{Component, World, place_of, port_of, is_at, same_handle}
+use Rattle.il_machine.specs.World.{Component, World, place_of, port_of, is_at}
 use Rattle.il_machine.specs.Answers.{plain, Resolving, Answers, AnswersOrMemory}
 use Rattle.il_machine.specs.Buffers.{Held, held_of, AllocateBuffer, UseBuffer, allocate_refusal, use_refusal, client_header, with_header as header_made}
 use Rattle.il_machine.specs.Components.{GetHandle, get_handle_refusal, is_bad_name}

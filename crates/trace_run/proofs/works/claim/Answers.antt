@@ -1,5 +1,4 @@
-use Rattle.std.proofs.Common.{◌≡◌, ℕ, Result, Ok, Err, Some, refl, sym, ◌∙◌, ap, subst}
-use Rattle.omx_types.specs.declared.error.OmxError.{OmxError}
+use Rattle.std.proofs.Common.{Ok, Err, Some, refl, ap}
 use Rattle.il_graph.specs.Shown.{look_of}
 use Rattle.il_graph.specs.Claiming.{told_by}
 use Rattle.il_graph.specs.declared.claimed.Claimed.TheVariants as answers
@@ -7,7 +6,7 @@ use Rattle.il_graph.proofs.Returning.{are_terms_at, terms_at}
 use Rattle.act_text.specs.declared.reply.TextReply.{TextReply}
 use Rattle.act_text.specs.declared.reply.TextReply.TheVariants as texts
 use Rattle.trace_run.specs.Standing.{graph_kept}
-use Rattle.trace_run.specs.Replying.{LineReply, Plain}
+use Rattle.trace_run.specs.Replying.{Plain}
 use Rattle.trace_run.proofs.Claims.{answered, none_taken, work_taken}
 use Rattle.trace_run.proofs.works.claim.Goals as goal
 
