@@ -1,5 +1,5 @@
 -- A component of a play's world, as the play and the world change around it, and as it goes from stage to stage.
-use Rattle.std.proofs.Common.{◌≡◌, ℕ, ◌≤◌, true, List, [], ◌∷◌, ◌++◌, map, find, Some, MatchOption, refl, sym, ◌∙◌, ap, subst}
+use Rattle.std.proofs.Common.{◌≡◌, ℕ, ◌≤◌, true, List, [], ◌∷◌, ◌++◌, map, find, Option, MatchOption, refl, sym, ◌∙◌, ap, subst}
 use Rattle.omx_types.specs.declared.command.Note.{Note}
 use Rattle.il_machine.specs.declared.port.Port.{Port}
 use Rattle.il_machine.specs.Kinds.{is_source, is_sink, is_late}
@@ -49,7 +49,7 @@ module _ (x : Cast) (p q : Play) (c : ℕ) (E : IsSameFor x p q c) where
     ports = W.ports;
   }
 
-  pub actor_same : (w v : World) (a : Component) → notes_given (number_of a) v ≡ notes_given (number_of a) w → v.streams ≡ w.streams → IsActor x p w c a → IsActor x q v c a
+  pub actor_same : (w v : World) (a : Component) → notes_given (number_of a) v ≡ notes_given (number_of a) w → stream_of (number_of a) v ≡ stream_of (number_of a) w → IsActor x p w c a → IsActor x q v c a
   actor_same w v a g s A =
       let said : notes_at q.phase (q.stage c) (ends_untold x q c) ≡ notes_at p.phase (p.stage c) (ends_untold x p c) = rw (E.phase, E.stage, E.ended, E.told) refl in
       let knows : progress_at q.phase (q.stage c) (q.told c) ≡ progress_at p.phase (p.stage c) (p.told c) = rw (E.phase, E.stage, E.told) refl in
@@ -65,7 +65,7 @@ module _ (x : Cast) (p q : Play) (c : ℕ) (E : IsSameFor x p q c) where
         heard = ap (λ (l : List Note). progress_by (heard_of a.client_out l) no_progress) g ∙ (A.heard ∙ sym knows);
         out = λ e. let o = A.out e in (o.0, ap last_note g ∙ o.1);
         part = part_same a.part A.part;
-        done = subst (λ (o : List Stream). MatchOption (find (is_stream_of (number_of a)) o) ⊥ (λ z. z.frames ≡ (q.flow).done c)) (sym s)
+        done = subst (λ (o : Option Stream). MatchOption o ⊥ (λ z. z.frames ≡ (q.flow).done c)) (sym s)
             (subst (λ (d : ℕ). MatchOption (stream_of (number_of a) w) ⊥ (λ z. z.frames ≡ d)) (sym E.done) A.done);
         work = λ work e. work_same a work (A.work work e);
         running = λ e l. E.ended ∙ A.running (sym E.phase ∙ e) (subst (λ (k : ℕ). k ≤ 2) E.stage l);

@@ -1,40 +1,36 @@
 -- What is due at a component of a play's world, and what then happens, but for the second Idle.
-use Rattle.std.proofs.Common.{◌≡◌, ◌≢◌, ◌⊎◌, inl, inr, ℕ, zero, suc, ◌+◌, ◌<◌, ◌≤◌, Bool, true, false, not, ◌&&◌, ◌||◌, nat_eq, nat_le, if◌then◌else◌, List, [], ◌∷◌, ◌++◌, map, set, slice_get, Option, Some, None, refl, sym, ◌∙◌, ap, subst, eqb-true, ne_eqb, leb-true, leb-false, append_assoc, arith}
+use Rattle.std.proofs.Common.{◌≡◌, ◌≢◌, ◌⊎◌, inl, inr, ℕ, zero, suc, ◌<◌, ◌≤◌, Bool, true, false, not, ◌&&◌, ◌||◌, nat_eq, nat_le, List, [], ◌∷◌, ◌++◌, map, slice_get, Option, Some, None, refl, sym, ◌∙◌, ap, subst, eqb-true, ne_eqb, leb-true, leb-false, append_assoc, arith}
 use Rattle.std.proofs.lemmas.Bool.{cases_eq}
 use Rattle.std.proofs.lemmas.Option.{slice_get_within}
-use Rattle.std.specs.List.{list_all}
 use Rattle.omx_types.specs.declared.command.Completion.TheVariants as completions
 use Rattle.omx_types.specs.declared.command.Event.TheVariants.{CmdComplete}
 use Rattle.omx_types.specs.declared.command.Note.{Note}
 use Rattle.omx_types.specs.declared.command.Note.TheVariants.{Told}
-use Rattle.omx_types.specs.declared.state.State.{State}
 use Rattle.il_machine.specs.declared.answer.Pending.{Pending}
 use Rattle.il_machine.specs.declared.port.PortKey.{PortKey}
 use Rattle.il_machine.specs.declared.port.Link.{Link}
 use Rattle.il_machine.specs.declared.port.Port.{Port}
 use Rattle.il_machine.specs.declared.port.PortState.{PortState}
 use Rattle.il_machine.specs.Lists.{holds_at}
-use Rattle.il_machine.specs.States.{is_down}
 use Rattle.il_machine.specs.World.{Component, World, number_of, ports_of, port_of, with_component, told}
 use Rattle.il_machine.specs.Headers.{Seen, seen, is_for}
-use Rattle.il_machine.specs.Look.{look}
 use Rattle.il_machine.specs.Ports.{populated, unmade}
 use Rattle.il_machine.specs.Queued.{notes_given}
-use Rattle.il_machine.specs.Due.{Thing, Transition, Flush, PortMode, WaitingMark, Happens, is_due_to, is_transition_due, due_in, arrived, transition_happened, happened, waits_after, unheld, each_port}
+use Rattle.il_machine.specs.Due.{Thing, Transition, Flush, PortMode, WaitingMark, Happens, is_due_to, is_transition_due, due_in, arrived, transition_happened, happened, unheld, each_port}
 use Rattle.il_machine.specs.Finishing.{end_note}
 use Rattle.il_machine.specs.Sound.{Sound}
 use Rattle.machine_laws.proofs.Every.{all_pass}
 use Rattle.machine_laws.proofs.Finding.{either}
 use Rattle.machine_laws.proofs.Happening.{IsDueAt, due_where, sound_happened}
 use Rattle.stock_laws.proofs.Leaving.{and_false_right}
-use Rattle.flow_model.specs.Network.{IsInput, IsOutput, Flow}
+use Rattle.flow_model.specs.Network.{Flow}
 use Rattle.flow_model.specs.Progress.{IsLinkOf}
 use Rattle.play_model.specs.Play.{Play, IsDue, made}
 use Rattle.play_model.specs.Acts.{Act, CanAct, acted}
 use Rattle.play_model.proofs.Handing.{act_reaches}
-use Rattle.play_worlds.specs.Cast.{Cast, components_of, links_of, script_place, giver_of, taker_of, output_at, input_at}
-use Rattle.play_worlds.specs.Standing.{target, before, state_at, pending_at, pending_to, holds_at as holds_now, standing}
-use Rattle.play_worlds.specs.Telling.{out_of, unheard, heard, state_note, notes_at, progress_at, last_told}
+use Rattle.play_worlds.specs.Cast.{Cast, components_of, script_place, output_at, input_at}
+use Rattle.play_worlds.specs.Standing.{target, before, pending_at, pending_to, holds_at as holds_now, standing}
+use Rattle.play_worlds.specs.Telling.{out_of, notes_at, progress_at, last_told}
 use Rattle.play_worlds.specs.Wiring.{joined_state, link_to}
 use Rattle.play_worlds.specs.Worlds.{ends_untold, IsActor, IsPlayWorld}
 use Rattle.play_worlds.proofs.Ends.{IsAt, output_is, input_is}

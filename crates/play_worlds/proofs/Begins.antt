@@ -1,15 +1,14 @@
 -- The conductor begins the next StateSet, which changes nothing of the world.
 use Rattle.std.proofs.lemmas.Bool.{cases_eq, lt-leb}
-use Rattle.std.proofs.Common.{◌≡◌, inl, inr, ℕ, zero, suc, ◌+◌, ◌-◌, ◌<◌, ◌≤◌, Bool, true, false, not, ◌&&◌, nat_le, if◌then◌else◌, slice_get, Some, refl, sym, ◌∙◌, ap, subst, arith}
+use Rattle.std.proofs.Common.{◌≡◌, inl, inr, ℕ, zero, suc, ◌+◌, ◌<◌, ◌≤◌, true, false, nat_le, if◌then◌else◌, refl, sym, ◌∙◌, subst, arith}
 use Rattle.il_machine.specs.World.{Component, PartState, Work, World}
-use Rattle.flow_model.specs.Network.{IsInput}
-use Rattle.flow_model.specs.Progress.{sum_to, all_headers}
+use Rattle.flow_model.specs.Progress.{sum_to}
 use Rattle.play_model.specs.Play.{Play}
-use Rattle.play_model.specs.Acts.{Act, CanAct, CanBegin, acted}
+use Rattle.play_model.specs.Acts.{Act, CanBegin, acted}
 use Rattle.play_model.proofs.Handing.{act_reaches}
-use Rattle.play_worlds.specs.Cast.{Cast, components_of, links_of, script_place}
+use Rattle.play_worlds.specs.Cast.{Cast, components_of, links_of}
 use Rattle.play_worlds.specs.Standing.{standing}
-use Rattle.play_worlds.specs.Telling.{state_note, notes_at, progress_at, last_told}
+use Rattle.play_worlds.specs.Telling.{notes_at, progress_at}
 use Rattle.play_worlds.specs.Worlds.{ends_untold, IsBeforeRest, IsPart, IsWork, IsActor, IsPlayWorld, to_make}
 use Rattle.play_worlds.proofs.Stages.{begin_stands, begin_told}
 

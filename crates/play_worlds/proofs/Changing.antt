@@ -1,24 +1,23 @@
 -- A play's world in which one component gave way to another with the same ports and work, and all headers stayed.
-use Rattle.std.proofs.Common.{◌≡◌, ◌≢◌, inl, inr, ℕ, ◌+◌, ◌-◌, ◌<◌, ◌≤◌, List, length, set, slice_get, sum_by, nat_le, if◌then◌else◌, Option, Some, refl, sym, ◌∙◌, ap, subst, arith}
+use Rattle.std.proofs.Common.{◌≡◌, ◌≢◌, inl, inr, ℕ, ◌-◌, ◌<◌, List, find, length, set, slice_get, sum_by, nat_le, if◌then◌else◌, Option, Some, sym, ◌∙◌, ap, subst, arith}
 use Rattle.std.proofs.lemmas.List.{length-set}
-use Rattle.std.proofs.Math.Path.{fun_ext}
 use Rattle.il_machine.specs.declared.port.PortKey.{PortKey}
 use Rattle.il_machine.specs.declared.port.Port.{Port}
 use Rattle.il_machine.specs.Queued.{notes_given}
 use Rattle.il_machine.specs.Units.{units_of, need_of}
 use Rattle.il_machine.specs.Settings.{Settings}
 use Rattle.il_machine.specs.Sound.{Sound}
-use Rattle.il_machine.specs.World.{Component, HeaderRecord, World, number_of, port_of}
+use Rattle.il_machine.specs.World.{Component, HeaderRecord, World, is_stream_of, number_of, port_of}
 use Rattle.il_machine.specs.Headers.{find_header}
 use Rattle.machine_laws.proofs.Every.{at_set}
 use Rattle.flow_model.specs.Network.{Flow, headers_of}
-use Rattle.flow_model.specs.Progress.{sum_to, all_headers}
-use Rattle.play_model.specs.Play.{Play, made}
+use Rattle.flow_model.specs.Progress.{sum_to}
+use Rattle.play_model.specs.Play.{Play}
 use Rattle.play_model.specs.Reached.{IsReached}
-use Rattle.play_links.specs.View.{LinkEnds, link_view}
+use Rattle.play_links.specs.View.{link_view}
 use Rattle.play_worlds.specs.Cast.{Cast, script_place, components_of, links_of}
 use Rattle.play_worlds.specs.Wiring.{port_in, work_in, IsWired, IsSomeEnd, ends_of}
-use Rattle.play_worlds.specs.Worlds.{IsActor, IsPlayWorld, HasLink, to_make}
+use Rattle.play_worlds.specs.Worlds.{IsActor, IsPlayWorld, to_make}
 use Rattle.play_worlds.proofs.Lists.{sum_same}
 use Rattle.play_worlds.proofs.Ports.{KeepsPorts, port_kept, ports_same, works_same}
 use Rattle.play_worlds.proofs.Actors.{IsSameFor, actor_same}
@@ -67,7 +66,7 @@ module _ (x : Cast) (p q : Play) (w v : World) (c : ℕ) (a b : Component) (W : 
             let A = W.actors k d l s.1 in
             let n : k ≢ c = λ same. s.0 (ap (λ (j : ℕ). script_place x j) same) in
             let g : notes_given (number_of d) v ≡ notes_given (number_of d) w = C.given (number_of d) (λ same. s.0 (sym A.number ∙ same)) in
-            actor_same x p q k (same_for k n) w v d g C.streams A
+            actor_same x p q k (same_for k n) w v d g (ap (find (is_stream_of (number_of d))) C.streams) A
       ]
 
   ends_stay : (j port : ℕ) (d : Component) (y : Port) → slice_get v.components j ≡ Some d → port_of d port ≡ Some y → IsSomeEnd x y.key

@@ -1,42 +1,39 @@
 -- Where a component of a play may claim: the machine's tests, and the model's.
-use Rattle.std.proofs.Common.{◌≡◌, ◌≢◌, ◌⊎◌, inl, inr, ℕ, zero, suc, ◌+◌, ◌-◌, ◌<◌, ◌≤◌, Bool, true, false, not, ◌&&◌, ◌||◌, nat_lt, if◌then◌else◌, List, [], ◌∷◌, ◌++◌, length, filter, map, slice_get, Option, Some, None, is_some, refl, sym, ◌∙◌, ap, subst, le-ltb, arith}
-use Rattle.std.proofs.lemmas.Bool.{cases_eq}
-use Rattle.omx_types.specs.declared.command.Command.{Command}
+use Rattle.std.proofs.Common.{◌≡◌, ◌⊎◌, inl, inr, ℕ, zero, suc, ◌+◌, ◌<◌, ◌≤◌, Bool, true, false, not, ◌&&◌, ◌||◌, nat_lt, if◌then◌else◌, List, [], ◌∷◌, ◌++◌, length, filter, map, slice_get, Option, Some, None, is_some, refl, sym, ◌∙◌, ap, subst, le-ltb, arith}
 use Rattle.omx_types.specs.declared.kind.Kind.{Kind}
 use Rattle.omx_types.specs.declared.kind.Kind.TheVariants as kinds
 use Rattle.il_machine.specs.declared.port.PortKey.{PortKey}
 use Rattle.il_machine.specs.declared.port.Port.{Port}
 use Rattle.il_machine.specs.declared.port.PortSetting.{PortSetting}
 use Rattle.il_machine.specs.declared.port.PortState.{PortState}
-use Rattle.il_machine.specs.Kinds.{ports_in, is_auto}
+use Rattle.il_machine.specs.Kinds.{ports_in}
 use Rattle.part_forms.specs.Kinds.{IsSized}
 use Rattle.il_machine.specs.Lists.{first_of_these, is_empty}
-use Rattle.il_machine.specs.World.{Component, Work, World, ports_from, ports_of, port_of}
+use Rattle.il_machine.specs.World.{Component, World, ports_from, ports_of}
 use Rattle.il_machine.specs.Headers.{seen}
 use Rattle.il_machine.specs.Look.{look}
 use Rattle.il_machine.specs.Ports.{is_at_rest, is_input_port, is_open}
-use Rattle.il_machine.specs.Room.{room, used}
-use Rattle.il_machine.specs.States.{is_executing}
+use Rattle.il_machine.specs.Room.{room}
 use Rattle.il_machine.specs.Due.{each_port}
-use Rattle.il_machine.specs.Claims.{Claimed, ClaimedBusy, ClaimedNotRunning, ClaimedEnded, ClaimedEvents, has_ended, must_announce, wanted, is_output_port, is_claimable, held_test, data_test, room_test, places_for, claim_idle}
-use Rattle.machine_laws.proofs.Accepting.{passed, not_either, both_of, is_not}
+use Rattle.il_machine.specs.Claims.{Claimed, ClaimedBusy, ClaimedNotRunning, ClaimedEnded, ClaimedEvents, has_ended, wanted, is_output_port, is_claimable, held_test, data_test, room_test, places_for, claim_idle}
+use Rattle.machine_laws.proofs.Accepting.{passed, not_either}
 use Rattle.machine_laws.proofs.Claiming.{IsClaimable}
 use Rattle.machine_laws.proofs.Finding.{either}
 use Rattle.machine_laws.proofs.Parts.{parts_of}
 use Rattle.flow_model.specs.Network.{Filled, LinkState, IsInput, IsOutput}
-use Rattle.flow_model.specs.Moves.{Move, IsFront, IsOpen, CanClaim}
+use Rattle.flow_model.specs.Moves.{IsFront, CanClaim}
 use Rattle.flow_model.proofs.Claims.{claim_steps}
 use Rattle.play_model.specs.Play.{Play, IsRunning, HasPorts}
 use Rattle.play_model.specs.Acts.{Act, CanAct}
 use Rattle.play_links.specs.View.{filled, worked_at}
-use Rattle.play_worlds.specs.Cast.{Cast, components_of, links_of, script_place, output_at, input_at}
-use Rattle.play_worlds.specs.Standing.{commands_at, standing}
-use Rattle.play_worlds.specs.Wiring.{work_in, IsEnd}
+use Rattle.play_worlds.specs.Cast.{Cast, components_of, script_place, output_at, input_at}
+use Rattle.play_worlds.specs.Standing.{commands_at}
+use Rattle.play_worlds.specs.Wiring.{work_in}
 use Rattle.play_worlds.specs.Worlds.{IsBeforeRest, IsActor, IsPlayWorld}
 use Rattle.play_worlds.proofs.Terms.{runs, runs_back}
 use Rattle.play_worlds.proofs.Rooms.{few_events, calm_ports, used_at_rest}
 use Rattle.play_worlds.proofs.Resting.{all_true}
-use Rattle.play_worlds.proofs.Wanted.{filter_in, filter_from, end_at, IsLinkAt, end_place, IsPlayPort, HasPort, has_port_at, play_port, no_announcement, wanted_at, wanted_from}
+use Rattle.play_worlds.proofs.Wanted.{filter_in, filter_from, end_at, IsLinkAt, end_place, play_port, no_announcement, wanted_at, wanted_from}
 
 -- ---- lists of tests
 
@@ -102,7 +99,7 @@ none_at_rest : {A : Type 0} (o : Option A) → is_some o ≡ false → o ≡ Non
 none_at_rest None h = refl
 none_at_rest (Some x) h = absurd cc
 
-at_rest_none : (a : Component) → is_at_rest a ≡ true → a.pending ≡ None
+pub at_rest_none : (a : Component) → is_at_rest a ≡ true → a.pending ≡ None
 at_rest_none a h = elim (none_or a.pending) [ inl n ↦ n | inr k ↦ let z : false ≡ true = rw k.1 at h in absurd cc ]
   where
     none_or : {A : Type 0} (o : Option A) → (o ≡ None) ⊎ ((x : A) × (o ≡ Some x))
@@ -207,27 +204,30 @@ module _ (x : Cast) (p : Play) (w : World) (c : ℕ) (a : Component) (W : IsPlay
         let two : p.phase ≡ 2 = elim R [
           | inl h ↦ h.0
           | inr h ↦ let t = (W.reached).ended (omega (arith, h.0)) c b in absurd cc
-        ] in
-        (R, two, record {
-          inside = b;
-          going = going;
-          inputs = λ l O.
-              let V = wanted_at x p w c a W e b A true l B O.input O.open_ in
-              let H = V.0 in
-              let k = filter_in is_input_port (wanted a) V.1 H.port V.2 (H.end).direction in
-              let t = map_first (data_test (seen w.headers)) (filter is_input_port (wanted a)) k.0 H.port I.filled k.1 in
-              let g : is_empty ((seen w.headers).todo (input_at x l)) ≡ false = ap (λ (z : PortKey). is_empty ((seen w.headers).todo z)) (sym (H.end).key) ∙ t in
-              subst (λ (hs : List Filled). IsFront (λ h. Unit {0}) hs) (sym (held_is l O.input)) (some_front (filled (x.unit l) w.headers) _ g);
-          outputs = λ l O.
-              let V = wanted_at x p w c a W e b A false l B O refl in
-              let H = V.0 in
-              let k = filter_in is_output_port (wanted a) V.1 H.port V.2 (ap not (H.end).direction) in
-              let t = map_first (room_test (seen w.headers)) (filter is_output_port (wanted a)) k.0 H.port I.space k.1 in
-              let g : is_empty ((seen w.headers).todo (output_at x l)) ≡ false = ap (λ (z : PortKey). is_empty ((seen w.headers).todo z)) (sym (H.end).key) ∙ t in
-              let n = length_some ((seen w.headers).todo (output_at x l)) g in
-              let r = ready_is l O in
-              omega arith;
-        })
+        ] in (
+          R,
+          two,
+          record {
+            inside = b;
+            going = going;
+            inputs = λ l O.
+                let V = wanted_at x p w c a W e b A true l B O.input O.open_ in
+                let H = V.0 in
+                let k = filter_in is_input_port (wanted a) V.1 H.port V.2 (H.end).direction in
+                let t = map_first (data_test (seen w.headers)) (filter is_input_port (wanted a)) k.0 H.port I.filled k.1 in
+                let g : is_empty ((seen w.headers).todo (input_at x l)) ≡ false = ap (λ (z : PortKey). is_empty ((seen w.headers).todo z)) (sym (H.end).key) ∙ t in
+                subst (λ (hs : List Filled). IsFront (λ h. Unit {0}) hs) (sym (held_is l O.input)) (some_front (filled (x.unit l) w.headers) _ g);
+            outputs = λ l O.
+                let V = wanted_at x p w c a W e b A false l B O refl in
+                let H = V.0 in
+                let k = filter_in is_output_port (wanted a) V.1 H.port V.2 (ap not (H.end).direction) in
+                let t = map_first (room_test (seen w.headers)) (filter is_output_port (wanted a)) k.0 H.port I.space k.1 in
+                let g : is_empty ((seen w.headers).todo (output_at x l)) ≡ false = ap (λ (z : PortKey). is_empty ((seen w.headers).todo z)) (sym (H.end).key) ∙ t in
+                let n = length_some ((seen w.headers).todo (output_at x l)) g in
+                let r = ready_is l O in
+                omega arith;
+          },
+        )
 
   -- a step that may be claimed can be made
   pub step_can : IsRunning p c → p.phase ≡ 2 → CanClaim (x.layout).network p.flow c → (n : ℕ) × (last : Bool) × CanAct x.layout p (Act.Step c n last)

@@ -1,11 +1,10 @@
 -- A component's work is claimed: for the play nothing has changed.
-use Rattle.std.proofs.Common.{◌≡◌, ◌≢◌, ◌⊎◌, inl, inr, ℕ, zero, suc, ◌<◌, ◌≤◌, Bool, true, false, not, ◌||◌, nat_lt, if◌then◌else◌, is_some, List, [], ◌∷◌, ◌++◌, filter, length, map, set, slice_get, sum_by, option_and_then, Option, Some, None, Result, Ok, refl, sym, ◌∙◌, ap, subst, arith}
+use Rattle.std.proofs.Common.{◌≡◌, ◌≢◌, ◌⊎◌, inl, inr, ℕ, ◌<◌, Bool, true, false, not, ◌||◌, nat_lt, if◌then◌else◌, is_some, List, [], ◌∷◌, ◌++◌, filter, length, map, slice_get, option_and_then, Option, Some, None, Result, Ok, refl, sym, ◌∙◌, ap, subst, arith}
 use Rattle.std.proofs.lemmas.Bool.{cases_eq}
 use Rattle.std.proofs.lemmas.List.{length-set}
 use Rattle.std.proofs.Math.Path.{fun_ext}
 use Rattle.omx_types.specs.declared.handle.Handle.{Handle}
 use Rattle.omx_types.specs.declared.error.OmxError.{OmxError}
-use Rattle.il_machine.specs.declared.header.Owner.{Owner}
 use Rattle.il_machine.specs.declared.header.Owner.TheVariants as owners
 use Rattle.il_machine.specs.declared.port.PortKey.{PortKey}
 use Rattle.il_machine.specs.declared.port.Port.{Port}
@@ -20,7 +19,7 @@ use Rattle.il_machine.specs.Answers.{plain}
 use Rattle.il_machine.specs.Claims.{Claim, Claimed, ClaimedWork, ClaimedBusy, ClaimedNotRunning, ClaimedEnded, ClaimedEvents, Claims, WorkSeen, is_output_port, is_claimable, held_test, data_test, room_test, places_for, wanted, work_of, with_work, all_given_out, claim_idle, seen_work}
 use Rattle.il_machine.specs.Due.{ClosesTo}
 use Rattle.il_machine.specs.Sound.{Sound, ArePicked}
-use Rattle.machine_laws.proofs.Claiming.{IsClaimable, claim_passes, sound_claimed}
+use Rattle.machine_laws.proofs.Claiming.{claim_passes, sound_claimed}
 use Rattle.machine_laws.proofs.Every.{at_set, set_there}
 use Rattle.machine_laws.proofs.Finding.{either}
 use Rattle.machine_laws.proofs.Listed.{todo_in, first_in}
@@ -28,23 +27,21 @@ use Rattle.machine_laws.proofs.Keys.{none_or_some, key_same}
 use Rattle.machine_laws.proofs.Lookups.{port_parts}
 use Rattle.machine_laws.proofs.Parts.{parts_of}
 use Rattle.machine_laws.proofs.Replacing.{replaced_changed}
-use Rattle.flow_model.specs.Network.{LinkState}
 use Rattle.flow_model.specs.Moves.{CanClaim}
 use Rattle.play_model.specs.Play.{Play, IsRunning}
 use Rattle.play_model.specs.Acts.{Act, CanAct}
 use Rattle.play_links.specs.View.{link_view, picked_at}
 use Rattle.play_links.proofs.Counts.{keys_apart}
-use Rattle.play_links.proofs.Works.{IsGiven, is_given, claim_output, claim_input, claim_beside}
+use Rattle.play_links.proofs.Works.{is_given, claim_output, claim_input, claim_beside}
 use Rattle.play_worlds.specs.Cast.{Cast, components_of, links_of, script_place, output_at, input_at}
 use Rattle.play_worlds.specs.Wiring.{port_in, work_in, IsWired, ends_of}
 use Rattle.play_worlds.specs.Worlds.{IsBeforeRest, IsWork, IsActor, IsPlayWorld, HasLink, LeadsTo, Names}
 use Rattle.play_worlds.proofs.Lists.{sum_same, got_set, resolved}
 use Rattle.play_worlds.proofs.Actors.{actor_same}
-use Rattle.play_worlds.proofs.Ends.{IsAt}
 use Rattle.play_worlds.proofs.Flowing.{key_not, link_kept}
 use Rattle.play_worlds.proofs.Sends.{actor_there}
 use Rattle.play_worlds.proofs.Folds.{all_made, AreReady, ready_from, fold_beside, fold_here, fold_stays}
-use Rattle.play_worlds.proofs.Wanted.{end_at, IsLinkAt, end_place, no_announcement, wanted_from}
+use Rattle.play_worlds.proofs.Wanted.{end_at, end_place, no_announcement, wanted_from}
 use Rattle.play_worlds.proofs.Claimable.{before_rest, own_works, filled_by, claim_goes, claim_can, step_can}
 use Rattle.play_worlds.proofs.Picks.{picked_ports, picked_todo, picks_rise, picked_none, picked_one, works_here, works_else, ends_with, seen_with, IsPick, pick_key, key_is_end, beside_ends, links_differ, pick_link, link_picked}
 
@@ -184,6 +181,7 @@ module _ (x : Cast) (p : Play) (w : World) (c : ℕ) (a : Component) (W : IsPlay
         works_here w.components i a d e (end_at input x k) place ∙ (ap (λ (z : ℕ). picked_at z xs) (sym P.port) ∙ picked_one 0 (length a.ports) xs j y rising P.there),
         own_works x p w c a W e b A (end_at input x k) place ∙ rw free refl,
       )
+
   view_picked : (input : Bool) (k : ℕ) (m : k < links_of x) (j : ℕ) (y : Picked) → IsPick x p c xs j y k input → link_view (ends_of x (work_in v.components) p k) v.headers ≡ link_view (ends_of x (work_in w.components) p k) w.headers
   view_picked false k m j y P =
       let D = W.wired k m in

@@ -1,8 +1,7 @@
 -- How many headers a play's world has: for each link, and in all.
-use Rattle.std.proofs.Common.{◌≡◌, ◌≢◌, inl, inr, ℕ, zero, suc, ◌+◌, ◌<◌, ◌≤◌, Bool, true, false, nat_eq, List, [], ◌∷◌, slice_get, option_and_then, Option, Some, None, option_map, refl, sym, ◌∙◌, ap, subst, eqb-true, arith}
+use Rattle.std.proofs.Common.{◌≡◌, ◌≢◌, inl, inr, ℕ, zero, suc, ◌+◌, ◌<◌, ◌≤◌, Bool, true, false, nat_eq, List, [], ◌∷◌, slice_get, option_and_then, Option, Some, None, option_map, refl, sym, ◌∙◌, ap, eqb-true, arith}
 use Rattle.std.proofs.lemmas.Bool.{eqb-false}
 use Rattle.il_machine.specs.declared.port.PortKey.{PortKey}
-use Rattle.il_machine.specs.declared.port.Port.{Port}
 use Rattle.il_machine.specs.declared.port.PortState.{PortState}
 use Rattle.il_machine.specs.declared.header.HeaderState.{HeaderState}
 use Rattle.il_machine.specs.Lists.{holds_at}
@@ -20,10 +19,9 @@ use Rattle.play_model.specs.Play.{Play, made}
 use Rattle.play_links.specs.View.{worked_at, is_in}
 use Rattle.play_links.specs.Tunnel.{IsTunnel, IsWorkedAt}
 use Rattle.play_links.proofs.Counts.{made_for_link, to_input, to_output}
-use Rattle.play_links.proofs.Counted.{both}
 use Rattle.play_worlds.specs.Cast.{Cast, links_of, giver_of, taker_of, output_at, input_at, supplier_of}
-use Rattle.play_worlds.specs.Wiring.{work_in, ends_of, link_to}
-use Rattle.play_worlds.specs.Worlds.{IsPlayWorld, HasLink}
+use Rattle.play_worlds.specs.Wiring.{work_in, ends_of}
+use Rattle.play_worlds.specs.Worlds.{IsPlayWorld}
 use Rattle.play_worlds.proofs.Ends.{IsAt, output_is, input_is, port_at_there, number_there}
 use Rattle.play_worlds.proofs.Flowing.{not_worked_by, sum_fewer}
 

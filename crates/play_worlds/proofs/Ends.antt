@@ -1,22 +1,19 @@
 -- The two ends of a link in a play's world: the components, their ports, and what the machine's acts find of them.
-use Rattle.std.proofs.Common.{◌≡◌, ◌≢◌, inl, inr, ℕ, zero, suc, ◌<◌, ◌≤◌, Bool, true, false, not, ◌&&◌, cond, List, [], ◌∷◌, slice_get, position, Option, Some, None, option_map, option_and_then, refl, sym, ◌∙◌, ap, subst, eq-eqb, ne_eqb, arith}
+use Rattle.std.proofs.Common.{◌≡◌, ℕ, zero, suc, ◌<◌, Bool, true, false, not, List, [], ◌∷◌, slice_get, Some, refl, sym, ◌∙◌, subst, eq-eqb, ne_eqb, arith}
 use Rattle.il_machine.specs.declared.port.PortKey.{PortKey}
 use Rattle.il_machine.specs.declared.port.Port.{Port}
 use Rattle.il_machine.specs.Places.{first_place}
 use Rattle.il_machine.specs.World.{Component, World, number_of, is_numbered, place_numbered, port_of}
-use Rattle.il_machine.specs.Headers.{same_key}
 use Rattle.il_machine.specs.declared.port.Link.{Link}
 use Rattle.il_machine.specs.Ports.{is_open, is_supplied_by, is_supplier}
-use Rattle.il_machine.specs.Flow.{End, end_in, end_of, other_end}
+use Rattle.il_machine.specs.Flow.{end_of, other_end}
 use Rattle.il_machine.specs.Sound.{AreRising, port_at}
 use Rattle.il_machine.proofs.Places.{is_first_place}
 use Rattle.machine_laws.proofs.Finding.{either}
 use Rattle.machine_laws.proofs.Lookups.{rises_at, port_at_is}
-use Rattle.machine_laws.proofs.Parts.{ports_in_list}
-use Rattle.play_links.specs.Tunnel.{IsTunnel}
 use Rattle.play_model.specs.Play.{Play, supplier, other_component}
-use Rattle.play_worlds.specs.Cast.{Cast, components_of, links_of, script_place, giver_of, taker_of, output_at, input_at, home_by, home_at, away_at, supplier_by, supplier_of}
-use Rattle.play_worlds.specs.Wiring.{port_in, link_to, joined_state, IsEnd, IsWired}
+use Rattle.play_worlds.specs.Cast.{Cast, components_of, links_of, script_place, giver_of, taker_of, output_at, input_at, home_at, away_at, supplier_by}
+use Rattle.play_worlds.specs.Wiring.{port_in, link_to, IsEnd}
 use Rattle.play_worlds.specs.Worlds.{IsActor, IsPlayWorld}
 use Rattle.play_worlds.proofs.Sends.{actor_there}
 

@@ -1,32 +1,29 @@
 -- A play's world in which headers changed, and no component.
-use Rattle.std.proofs.Common.{◌≡◌, ◌≢◌, inl, inr, ℕ, zero, suc, ◌+◌, ◌-◌, ◌*◌, ◌/◌, ◌<◌, ◌≤◌, Bool, true, false, ◌||◌, nat_eq, nat_le, if◌then◌else◌, List, [], ◌∷◌, length, map, sum_by, slice_get, option_and_then, Option, Some, None, option_map, refl, sym, ◌∙◌, ap, subst, eqb-true, eq-eqb, arith}
+use Rattle.std.proofs.Common.{◌≡◌, ◌≢◌, inl, inr, ℕ, zero, suc, ◌+◌, ◌*◌, ◌/◌, ◌<◌, ◌≤◌, false, nat_eq, List, [], ◌∷◌, find, length, map, sum_by, slice_get, option_and_then, Option, Some, None, option_map, refl, sym, ◌∙◌, ap, subst, eqb-true, eq-eqb, arith}
 use Rattle.std.proofs.lemmas.Bool.{cases_eq}
 use Rattle.il_machine.specs.declared.port.PortKey.{PortKey}
-use Rattle.il_machine.specs.declared.header.Owner.{Owner}
 use Rattle.il_machine.specs.declared.header.Owner.TheVariants as owners
-use Rattle.il_machine.specs.declared.header.HeaderState.{HeaderState}
 use Rattle.il_machine.specs.declared.header.Spot.{Spot}
 use Rattle.il_machine.specs.Lists.{holds_at}
 use Rattle.il_machine.specs.Queued.{notes_given}
 use Rattle.il_machine.specs.Sound.{Sound, is_in_work_of}
 use Rattle.il_machine.specs.Units.{need_of}
-use Rattle.il_machine.specs.World.{Component, Given, HeaderRecord, Picked, Work, World, number_of}
+use Rattle.il_machine.specs.World.{Component, Given, HeaderRecord, Picked, Work, World, is_stream_of, number_of}
 use Rattle.il_machine.specs.Headers.{find_header, state_of, same_key, put, put_at, weight, Once}
 use Rattle.il_machine.specs.Census.{times, work_numbers}
 use Rattle.machine_laws.proofs.Finding.{either}
 use Rattle.machine_laws.proofs.Keys.{key_is}
-use Rattle.machine_laws.proofs.Listed.{times_cons, times_self}
+use Rattle.machine_laws.proofs.Listed.{times_cons}
 use Rattle.machine_laws.proofs.Parts.{parts_of}
-use Rattle.machine_laws.proofs.Replacing.{IsReplaced, replaced_put}
-use Rattle.flow_model.specs.Network.{IsInput}
+use Rattle.machine_laws.proofs.Replacing.{replaced_put}
 use Rattle.flow_model.specs.Progress.{sum_to, all_headers}
 use Rattle.play_model.specs.Play.{Play, made}
 use Rattle.play_model.specs.Reached.{IsReached}
 use Rattle.play_links.specs.View.{AreApart, link_view, picked_at, worked_at, is_in}
-use Rattle.play_worlds.specs.Cast.{Cast, IsCast, components_of, links_of, script_place, output_at, input_at}
+use Rattle.play_worlds.specs.Cast.{Cast, IsCast, links_of, script_place, output_at, input_at}
 use Rattle.play_worlds.specs.Wiring.{port_in, work_in, IsWired, ends_of}
-use Rattle.play_worlds.specs.Worlds.{IsActor, IsPlayWorld, HasLink, to_make}
-use Rattle.play_worlds.proofs.Actors.{IsSameFor, actor_same}
+use Rattle.play_worlds.specs.Worlds.{IsPlayWorld, HasLink, to_make}
+use Rattle.play_worlds.proofs.Actors.{actor_same}
 
 -- ---- what stays
 
@@ -56,7 +53,7 @@ flow_changed x p q w v W C R S = record {
   actors = λ c a l e.
       let A = W.actors c a l (subst (λ (cs : List Component). slice_get cs (script_place x c) ≡ Some a) C.components e) in
       actor_same x p q c (record { phase = C.phase; stage = C.stage c; told = C.told c; ended = C.ended c; done = C.done c; closed = λ l I. C.closed l }) w v a
-      (ap (λ (g : List Given). notes_given (number_of a) (record w { given = g })) C.given) C.streams A;
+      (ap (λ (g : List Given). notes_given (number_of a) (record w { given = g })) C.given) (ap (find (is_stream_of (number_of a))) C.streams) A;
   wired = λ l h. subst (λ (cs : List Component). IsWired x (port_in cs) l) (sym C.components) (W.wired l h);
   ends = λ i port a y e f. W.ends i port a y (subst (λ (cs : List Component). slice_get cs i ≡ Some a) C.components e) f;
   viewed = λ l h. subst (λ (cs : List Component). (q.flow).link l ≡ link_view (ends_of x (work_in cs) q l) v.headers) (sym C.components) (C.viewed l h);

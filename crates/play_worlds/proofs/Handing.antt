@@ -1,29 +1,27 @@
 -- hand_over, and hand_back of a header of done, in a play's world.
-use Rattle.std.proofs.Common.{◌≡◌, ◌≢◌, ◌⊎◌, inl, inr, ℕ, suc, ◌+◌, ◌<◌, ◌≤◌, Bool, true, false, not, ◌&&◌, ◌||◌, List, [], ◌∷◌, length, map, slice_get, Option, Some, None, Result, Ok, MatchOption, refl, sym, ◌∙◌, ap, subst, arith}
+use Rattle.std.proofs.Common.{◌≡◌, inl, ℕ, suc, ◌<◌, Bool, true, false, not, ◌&&◌, List, [], ◌∷◌, length, map, Some, None, Result, Ok, refl, sym, ◌∙◌, ap, subst, arith}
 use Rattle.omx_types.specs.declared.handle.Handle.{Handle}
 use Rattle.omx_types.specs.declared.error.OmxError.{OmxError}
 use Rattle.il_machine.specs.declared.answer.Acted.{Acted}
 use Rattle.il_machine.specs.declared.answer.Acted.TheVariants as acted_as
-use Rattle.il_machine.specs.declared.answer.Why.{Why}
-use Rattle.il_machine.specs.declared.answer.Why.TheVariants as why
 use Rattle.il_machine.specs.declared.port.PortKey.{PortKey}
 use Rattle.il_machine.specs.declared.port.Link.{Link}
 use Rattle.il_machine.specs.declared.port.Port.{Port}
 use Rattle.il_machine.specs.declared.header.Spot.TheVariants.{TodoBack}
-use Rattle.il_machine.specs.States.{is_executing, is_running, is_invalid}
+use Rattle.il_machine.specs.States.{is_executing, is_running}
 use Rattle.il_machine.specs.Lists.{is_empty}
-use Rattle.il_machine.specs.World.{Component, World, port_of}
+use Rattle.il_machine.specs.World.{Component, World}
 use Rattle.il_machine.specs.Headers.{seen, put, unchanged}
 use Rattle.il_machine.specs.Look.{look}
-use Rattle.il_machine.specs.Ports.{is_at_rest, is_open, is_supplier, id_of}
+use Rattle.il_machine.specs.Ports.{is_at_rest, is_open, is_supplier}
 use Rattle.il_machine.specs.Buffers.{is_taking}
 use Rattle.il_machine.specs.Answers.{plain, Acts}
-use Rattle.il_machine.specs.Flow.{End, HandOver, is_giving, other_end, over_idle, handed_over}
+use Rattle.il_machine.specs.Flow.{HandOver, is_giving, other_end, over_idle, handed_over}
 use Rattle.il_machine.specs.Sound.{Sound}
 use Rattle.machine_laws.proofs.Accepting.{passed, not_not, both_of}
 use Rattle.machine_laws.proofs.Flowing.{sound_handed_over}
 use Rattle.flow_model.specs.Network.{Filled, LinkState}
-use Rattle.flow_model.specs.Moves.{Move, IsFront, moved}
+use Rattle.flow_model.specs.Moves.{IsFront, moved}
 use Rattle.play_model.specs.Changes.{IsSteadyPort}
 use Rattle.play_model.specs.Play.{Play, HasDone, IsRunning, supplier, other_component}
 use Rattle.play_model.specs.Reached.{IsReached}
@@ -34,7 +32,7 @@ use Rattle.play_worlds.specs.Wiring.{link_to, joined_state}
 use Rattle.play_worlds.specs.Worlds.{IsPlayWorld, LeadsTo, Names}
 use Rattle.play_worlds.proofs.Lists.{resolved_port}
 use Rattle.play_worlds.proofs.Terms.{runs, runs_back, running_is}
-use Rattle.play_worlds.proofs.Ends.{IsAt, AreEnds, ends_there, is_open_there, end_there, other_there, home_supplies}
+use Rattle.play_worlds.proofs.Ends.{AreEnds, ends_there, is_open_there, end_there, home_supplies}
 use Rattle.play_worlds.proofs.Passing.{goes_on, comes_back}
 use Rattle.play_worlds.proofs.Runs.{did, did_none}
 

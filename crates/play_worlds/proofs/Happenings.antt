@@ -1,13 +1,11 @@
 -- What happens in the close-out of a play's world, in every phase; and that a closed world has no happening left.
-use Rattle.std.proofs.Common.{◌≡◌, ◌≢◌, ◌⊎◌, inl, inr, ℕ, zero, suc, ◌<◌, ◌≤◌, Bool, true, false, ◌&&◌, if◌then◌else◌, is_none, List, [], ◌∷◌, slice_get, Option, Some, None, refl, sym, ◌∙◌, ap, subst, eq-eqb, arith}
+use Rattle.std.proofs.Common.{◌≡◌, ◌≢◌, inl, inr, ℕ, ◌<◌, true, ◌&&◌, is_none, slice_get, Option, Some, None, refl, sym, ◌∙◌, ap, subst, arith}
 use Rattle.std.proofs.lemmas.Bool.{cases_eq}
 use Rattle.std.proofs.lemmas.Option.{slice_get_within}
 use Rattle.omx_types.specs.declared.state.State.TheVariants as states
-use Rattle.il_machine.specs.declared.port.PortKey.{PortKey}
-use Rattle.il_machine.specs.declared.port.Port.{Port}
 use Rattle.il_machine.specs.Lists.{holds_at}
-use Rattle.il_machine.specs.World.{Component, Work, World, number_of, ports_of}
-use Rattle.il_machine.specs.Headers.{Seen, seen, is_for, is_away}
+use Rattle.il_machine.specs.World.{Component, Work, World, ports_of}
+use Rattle.il_machine.specs.Headers.{Seen, seen}
 use Rattle.il_machine.specs.Ports.{settled}
 use Rattle.il_machine.specs.Due.{Thing, Transition, Happens, IsClosed, is_due_to, is_transition_due, due_in, happened, each_port}
 use Rattle.il_machine.specs.Sound.{Sound}
@@ -18,9 +16,9 @@ use Rattle.machine_laws.proofs.Keys.{none_or_some}
 use Rattle.flow_model.specs.Progress.{IsLinkOf}
 use Rattle.play_model.specs.Play.{Play, IsDue}
 use Rattle.play_model.specs.Acts.{Act, CanAct, acted}
-use Rattle.play_worlds.specs.Cast.{Cast, components_of, links_of, script_place}
-use Rattle.play_worlds.specs.Standing.{target, before, pending_at, standing}
-use Rattle.play_worlds.specs.Worlds.{IsActor, IsPlayWorld}
+use Rattle.play_worlds.specs.Cast.{Cast, links_of, script_place}
+use Rattle.play_worlds.specs.Standing.{target, pending_at, standing}
+use Rattle.play_worlds.specs.Worlds.{IsPlayWorld}
 use Rattle.play_worlds.proofs.Arrivals.{transition_due, pending_of, happens_leads}
 use Rattle.play_worlds.proofs.Sends.{actor_there}
 use Rattle.play_worlds.proofs.Settling.{all_settled, port_settled}

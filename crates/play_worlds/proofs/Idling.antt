@@ -1,5 +1,5 @@
 -- A component of a play's world reaches the second Idle.
-use Rattle.std.proofs.Common.{◌≡◌, ◌≢◌, ◌⊎◌, inl, inr, ℕ, zero, suc, ◌+◌, ◌<◌, ◌≤◌, Bool, true, false, not, ◌&&◌, nat_eq, if◌then◌else◌, is_none, List, [], ◌∷◌, ◌++◌, find, length, set, slice_get, sum_by, Option, Some, None, MatchOption, refl, sym, ◌∙◌, ap, subst, eq-eqb, ne_eqb, append_assoc, arith}
+use Rattle.std.proofs.Common.{◌≡◌, ◌≢◌, inl, inr, ℕ, ◌<◌, ◌≤◌, Bool, true, false, not, ◌&&◌, if◌then◌else◌, List, [], ◌∷◌, ◌++◌, slice_get, Option, Some, None, MatchOption, refl, sym, ◌∙◌, ap, subst, eq-eqb, ne_eqb, append_assoc, arith}
 use Rattle.std.proofs.lemmas.Bool.{cases_eq}
 use Rattle.std.proofs.lemmas.List.{length-set}
 use Rattle.omx_types.specs.declared.command.Completion.TheVariants as completions
@@ -11,23 +11,21 @@ use Rattle.il_machine.specs.declared.answer.Pending.{Pending}
 use Rattle.il_machine.specs.declared.port.PortKey.{PortKey}
 use Rattle.il_machine.specs.declared.port.Port.{Port}
 use Rattle.il_machine.specs.Queued.{notes_given}
-use Rattle.il_machine.specs.World.{Component, HeaderRecord, Stream, Work, World, number_of, is_stream_of, stream_of, ports_of, port_of, with_component, told}
-use Rattle.il_machine.specs.Headers.{seen, same_key, Once}
+use Rattle.il_machine.specs.World.{Component, HeaderRecord, World, number_of, stream_of, ports_of, port_of, with_component, told}
+use Rattle.il_machine.specs.Headers.{seen, same_key}
 use Rattle.il_machine.specs.Ports.{is_supplier, is_input_port, settled}
 use Rattle.il_machine.specs.Units.{need_of}
 use Rattle.il_machine.specs.States.{is_down}
-use Rattle.il_machine.specs.Due.{Transition, arrived, happened, is_due_to, restarted, reset_on, reset_ports, transition_happened, each_port}
+use Rattle.il_machine.specs.Due.{Transition, arrived, happened, restarted, reset_on, reset_ports, transition_happened, each_port}
 use Rattle.il_machine.specs.Finishing.{end_note}
 use Rattle.il_machine.specs.Sound.{Sound}
-use Rattle.machine_laws.proofs.Accepting.{both_of}
 use Rattle.machine_laws.proofs.Every.{at_set}
 use Rattle.machine_laws.proofs.Finding.{either}
 use Rattle.machine_laws.proofs.Keys.{key_is, key_same}
 use Rattle.machine_laws.proofs.Lookups.{port_parts}
-use Rattle.flow_model.specs.Network.{Flow, LinkState, IsInput, headers_of}
-use Rattle.flow_model.specs.Progress.{IsLinkOf, sum_to, all_headers}
-use Rattle.play_model.specs.Play.{Play, IsDue, supplier, other_component, made}
-use Rattle.play_model.specs.Reached.{IsReached}
+use Rattle.flow_model.specs.Network.{Flow, LinkState, headers_of}
+use Rattle.flow_model.specs.Progress.{IsLinkOf}
+use Rattle.play_model.specs.Play.{Play, supplier, other_component}
 use Rattle.play_model.specs.Acts.{Act, CanAct, acted, reset_all, reset_link}
 use Rattle.play_model.proofs.Handing.{act_reaches}
 use Rattle.play_model.proofs.Reaching.{reset_headers}
@@ -35,20 +33,20 @@ use Rattle.play_links.specs.View.{LinkEnds, link_view}
 use Rattle.stock_laws.proofs.Keys.{same_key-sym}
 use Rattle.play_links.proofs.Counts.{keys_apart}
 use Rattle.play_worlds.specs.Cast.{Cast, components_of, links_of, script_place, giver_of, taker_of, output_at, input_at, home_by, home_at, away_at}
-use Rattle.play_worlds.specs.Standing.{target, before, pending_to, standing}
-use Rattle.play_worlds.specs.Telling.{out_of, unheard, heard, notes_at, progress_at, last_told}
-use Rattle.play_worlds.specs.Wiring.{port_in, work_in, IsWired, ends_of}
-use Rattle.play_worlds.specs.Worlds.{ends_untold, IsActor, IsPlayWorld, HasLink, to_make}
+use Rattle.play_worlds.specs.Standing.{target, pending_to, standing}
+use Rattle.play_worlds.specs.Telling.{out_of, unheard, notes_at, progress_at}
+use Rattle.play_worlds.specs.Wiring.{work_in, IsWired, ends_of}
+use Rattle.play_worlds.specs.Worlds.{ends_untold, IsActor, IsPlayWorld}
 use Rattle.play_worlds.proofs.Lists.{sum_same}
 use Rattle.play_worlds.proofs.Ports.{KeepsPorts, ports_same, works_same}
 use Rattle.play_worlds.proofs.Actors.{actor_same}
-use Rattle.play_worlds.proofs.Ends.{IsAt, AreEnds, ends_there, home_supplies}
-use Rattle.play_worlds.proofs.Flowing.{key_not, makes_same}
+use Rattle.play_worlds.proofs.Ends.{IsAt, ends_there, home_supplies}
+use Rattle.play_worlds.proofs.Flowing.{makes_same}
 use Rattle.play_worlds.proofs.Passing.{view_as}
 use Rattle.play_worlds.proofs.Linking.{no_works}
 use Rattle.play_worlds.proofs.Sends.{stage_else, stage_here}
 use Rattle.play_worlds.proofs.Arrivals.{nothing_untold, reached_told}
-use Rattle.play_worlds.proofs.Settling.{IsEmptyAway, all_settled}
+use Rattle.play_worlds.proofs.Settling.{all_settled}
 use Rattle.play_worlds.proofs.Resetting.{reset_if, IsHome, Fits, reset_at, reset_off, hits_some, fit_each, ports_cleared, links_cleared}
 
 abbrev rested : Component → Component

@@ -1,5 +1,5 @@
 -- hand_back of a header that was not used, in a play's world: exactly where the model can.
-use Rattle.std.proofs.Common.{◌≡◌, ◌≢◌, ◌⊎◌, inl, inr, ℕ, zero, suc, ◌+◌, ◌-◌, ◌*◌, ◌/◌, ◌<◌, ◌≤◌, Bool, true, false, not, ◌&&◌, ◌||◌, if◌then◌else◌, List, [], ◌∷◌, ◌++◌, length, map, Option, Some, None, Result, Ok, refl, sym, ◌∙◌, ap, subst, arith}
+use Rattle.std.proofs.Common.{◌≡◌, ◌≢◌, inl, inr, ℕ, zero, suc, ◌+◌, ◌<◌, Bool, true, false, not, ◌&&◌, ◌||◌, if◌then◌else◌, List, [], ◌∷◌, length, map, Some, None, Result, Ok, refl, sym, ◌∙◌, ap, subst, arith}
 use Rattle.std.proofs.lemmas.Bool.{cases_eq}
 use Rattle.std.proofs.Math.Nat.{zero-div}
 use Rattle.omx_types.specs.declared.handle.Handle.{Handle}
@@ -13,7 +13,6 @@ use Rattle.il_machine.specs.declared.port.PortState.{PortState}
 use Rattle.il_machine.specs.declared.port.Link.{Link}
 use Rattle.il_machine.specs.declared.port.Port.{Port}
 use Rattle.il_machine.specs.declared.header.Spot.{Spot}
-use Rattle.il_machine.specs.declared.header.Spot.TheVariants.{TodoBack, DoneBack}
 use Rattle.il_machine.specs.States.{is_executing, same_state}
 use Rattle.il_machine.specs.Lists.{holds_at, is_empty}
 use Rattle.il_machine.specs.World.{Component, HeaderRecord, World}
@@ -23,28 +22,25 @@ use Rattle.il_machine.specs.Ports.{is_going_to, is_supplier, is_input_port, retu
 use Rattle.il_machine.specs.Flow.{HandBack, back_idle, handed_back, unused_spot}
 use Rattle.il_machine.specs.Sound.{Sound}
 use Rattle.machine_laws.proofs.Accepting.{passed, both_of}
-use Rattle.machine_laws.proofs.Finding.{either}
 use Rattle.machine_laws.proofs.Flowing.{sound_returned}
 use Rattle.machine_laws.proofs.Listed.{IsIn, todo_in, first_in}
 use Rattle.flow_model.specs.Network.{Filled, LinkState, headers_of}
-use Rattle.flow_model.specs.Moves.{IsFront, with_link}
-use Rattle.flow_model.specs.Progress.{sum_to, all_headers}
+use Rattle.flow_model.specs.Moves.{IsFront}
 use Rattle.play_model.specs.Changes.{Change, port_at, IsDisabling}
 use Rattle.play_model.specs.Play.{Play, HasUnused, IsReturning, made, other_component}
-use Rattle.play_model.specs.Reached.{IsReached}
-use Rattle.play_model.specs.Acts.{Act, CanAct, acted, back_held, given_unused, other_port}
+use Rattle.play_model.specs.Acts.{Act, CanAct, acted, back_held, given_unused}
 use Rattle.play_model.proofs.Handing.{act_reaches, unused_headers}
 use Rattle.play_links.specs.View.{LinkEnds, filled, link_view, is_in}
 use Rattle.play_links.proofs.Counts.{keys_apart}
 use Rattle.play_links.proofs.Same.{link_same}
 use Rattle.play_links.proofs.Unused.{from_input, from_output, input_beside, output_beside}
 use Rattle.play_worlds.specs.Cast.{Cast, links_of, script_place, output_at, input_at, home_by, home_at, away_at}
-use Rattle.play_worlds.specs.Standing.{target, state_at, pending_at}
+use Rattle.play_worlds.specs.Standing.{pending_at}
 use Rattle.play_worlds.specs.Wiring.{work_in, ends_of, link_to, joined_state}
-use Rattle.play_worlds.specs.Worlds.{IsActor, IsPlayWorld, HasLink, LeadsTo, Names, to_make}
+use Rattle.play_worlds.specs.Worlds.{IsActor, IsPlayWorld, HasLink, LeadsTo, Names}
 use Rattle.play_worlds.proofs.Terms.{executes, is_executing_back}
-use Rattle.play_worlds.proofs.Ends.{IsAt, AreEnds, ends_there, home_supplies}
-use Rattle.play_worlds.proofs.Flowing.{links_apart, link_kept, put_links, makes_same}
+use Rattle.play_worlds.proofs.Ends.{ends_there, home_supplies}
+use Rattle.play_worlds.proofs.Flowing.{links_apart, put_links, makes_same}
 use Rattle.play_worlds.proofs.Passing.{changed_here, changed_else}
 use Rattle.play_worlds.proofs.Linking.{link_changed, no_works}
 use Rattle.play_worlds.proofs.Handing.{not_empty, steady}

@@ -15,6 +15,15 @@ pub mod Wanted
 pub mod Claimable
 pub mod Picks
 pub mod Claims
+pub mod Worked
+pub mod Numbers
+pub mod Lengths
+pub mod Pieces
+pub mod Landings
+pub mod Outgoing
+pub mod Steps
+pub mod Told
+pub mod Finishes
 pub mod Passing
 pub mod Handing
 pub mod Notes

@@ -1,5 +1,5 @@
 -- A play's world in which the headers of one link changed.
-use Rattle.std.proofs.Common.{◌≡◌, ◌≢◌, inl, inr, ℕ, ◌+◌, ◌<◌, ◌≤◌, List, [], slice_get, length, option_and_then, Option, Some, None, refl, sym, ◌∙◌, ap, subst, arith}
+use Rattle.std.proofs.Common.{◌≡◌, ◌≢◌, inl, inr, ℕ, ◌+◌, ◌<◌, ◌≤◌, List, [], slice_get, option_and_then, Option, Some, None, refl, sym, ◌∙◌, ap, subst, arith}
 use Rattle.std.proofs.lemmas.Bool.{cases_eq}
 use Rattle.std.proofs.lemmas.Option.{slice_get_within}
 use Rattle.il_machine.specs.declared.port.PortKey.{PortKey}
@@ -13,7 +13,7 @@ use Rattle.flow_model.specs.Progress.{sum_to, all_headers}
 use Rattle.play_model.specs.Play.{Play}
 use Rattle.play_model.specs.Reached.{IsReached}
 use Rattle.play_links.specs.View.{LinkEnds, link_view, worked_at}
-use Rattle.play_worlds.specs.Cast.{Cast, components_of, links_of, script_place}
+use Rattle.play_worlds.specs.Cast.{Cast, links_of}
 use Rattle.play_worlds.specs.Wiring.{work_in, ends_of}
 use Rattle.play_worlds.specs.Worlds.{IsPlayWorld, HasLink, to_make}
 use Rattle.play_worlds.proofs.Flowing.{flow_changed}

@@ -1,5 +1,5 @@
 -- supply in a play's world: what it makes.
-use Rattle.std.proofs.Common.{◌≡◌, ◌≢◌, ◌⊎◌, inl, inr, ℕ, zero, suc, ◌+◌, ◌-◌, ◌*◌, ◌/◌, ◌<◌, ◌≤◌, Bool, true, false, not, nat_le, if◌then◌else◌, List, [], ◌∷◌, ◌++◌, length, Option, Some, None, Result, Ok, Err, refl, sym, ◌∙◌, ap, subst, le-leb, arith}
+use Rattle.std.proofs.Common.{◌≡◌, ◌≢◌, ◌⊎◌, inl, inr, ℕ, ◌+◌, ◌*◌, ◌/◌, ◌<◌, ◌≤◌, Bool, true, false, not, nat_le, List, [], ◌∷◌, ◌++◌, Option, Some, None, Result, Ok, Err, refl, sym, ◌∙◌, ap, subst, le-leb, arith}
 use Rattle.std.proofs.lemmas.Bool.{cases_eq}
 use Rattle.std.proofs.Math.Nat.{zero-div}
 use Rattle.omx_types.specs.declared.handle.Handle.{Handle}
@@ -13,22 +13,20 @@ use Rattle.il_machine.specs.declared.port.PortState.{PortState}
 use Rattle.il_machine.specs.declared.port.Link.{Link}
 use Rattle.il_machine.specs.declared.port.Port.{Port}
 use Rattle.il_machine.specs.World.{HeaderRecord, World}
-use Rattle.il_machine.specs.Headers.{seen, find_header, in_todo, in_done, is_for, is_todo, is_done, same_key, empty_load}
+use Rattle.il_machine.specs.Headers.{find_header, in_todo, in_done, is_for, is_todo, is_done, same_key, empty_load}
 use Rattle.il_machine.specs.Look.{look}
 use Rattle.il_machine.specs.Ports.{is_input_port}
 use Rattle.il_machine.specs.Answers.{ActsOrMemory}
 use Rattle.il_machine.specs.Due.{ClosesTo}
-use Rattle.il_machine.specs.Flow.{Supply, supply_idle, supplied_by, supplied_place, tunnel_header, with_supplied}
+use Rattle.il_machine.specs.Flow.{Supply, supply_idle, supplied_place, tunnel_header, with_supplied}
 use Rattle.il_machine.specs.Sound.{Sound}
 use Rattle.machine_laws.proofs.Finding.{push_last, push_else}
 use Rattle.machine_laws.proofs.Flowing.{sound_supplied}
 use Rattle.machine_laws.proofs.Keys.{key_same, for_port, for_peer}
 use Rattle.stock_laws.proofs.Leaving.{and_false_right}
 use Rattle.flow_model.specs.Network.{LinkState, headers_of}
-use Rattle.flow_model.specs.Moves.{with_link}
 use Rattle.flow_model.specs.Progress.{sum_to, all_headers}
 use Rattle.play_model.specs.Play.{Play, made, supplier}
-use Rattle.play_model.specs.Reached.{IsReached}
 use Rattle.play_model.specs.Acts.{Act, CanAct, acted, supplied}
 use Rattle.play_model.proofs.Handing.{act_reaches}
 use Rattle.play_model.proofs.Reaching.{more_supplied}
@@ -39,7 +37,7 @@ use Rattle.play_worlds.specs.Cast.{Cast, links_of, script_place, output_at, inpu
 use Rattle.play_worlds.specs.Wiring.{work_in, ends_of, link_to}
 use Rattle.play_worlds.specs.Worlds.{IsPlayWorld, HasLink, LeadsTo, Names, to_make}
 use Rattle.play_worlds.proofs.Lists.{resolved_port}
-use Rattle.play_worlds.proofs.Ends.{IsAt, AreEnds, ends_there}
+use Rattle.play_worlds.proofs.Ends.{AreEnds, ends_there}
 use Rattle.play_worlds.proofs.Flowing.{key_not}
 use Rattle.play_worlds.proofs.Passing.{changed_here, changed_else}
 use Rattle.play_worlds.proofs.Linking.{link_changed}

@@ -1,5 +1,5 @@
 -- A note is taken, which is nothing for the play; its client object is given back, and then it was told.
-use Rattle.std.proofs.Common.{◌≡◌, ◌≢◌, ◌⊎◌, inl, inr, ℕ, zero, suc, ◌+◌, ◌<◌, ◌≤◌, Bool, true, false, not, ◌&&◌, ◌||◌, nat_eq, if◌then◌else◌, List, [], ◌∷◌, ◌++◌, map, filter, drop, slice_get, Option, Some, None, Result, Ok, MatchOption, refl, sym, ◌∙◌, ap, subst, eq-eqb, ne_eqb, append-nil, arith}
+use Rattle.std.proofs.Common.{◌≡◌, ◌≢◌, ◌⊎◌, inl, inr, ℕ, zero, suc, ◌<◌, ◌≤◌, Bool, true, false, not, ◌&&◌, nat_eq, if◌then◌else◌, List, [], ◌∷◌, ◌++◌, map, filter, drop, slice_get, Option, Some, None, Result, MatchOption, refl, sym, ◌∙◌, ap, subst, eq-eqb, ne_eqb, append-nil, arith}
 use Rattle.std.proofs.lemmas.Bool.{cases_eq}
 use Rattle.omx_types.specs.declared.handle.Handle.{Handle}
 use Rattle.omx_types.specs.declared.error.OmxError.{OmxError}
@@ -25,7 +25,7 @@ use Rattle.play_model.specs.Play.{Play}
 use Rattle.play_model.specs.Acts.{Act, CanAct, acted}
 use Rattle.play_model.specs.Reached.{IsReached}
 use Rattle.play_model.proofs.Handing.{act_reaches}
-use Rattle.play_worlds.specs.Cast.{Cast, components_of, links_of, script_place}
+use Rattle.play_worlds.specs.Cast.{Cast, components_of, script_place}
 use Rattle.play_worlds.specs.Standing.{target, standing}
 use Rattle.play_worlds.specs.Telling.{last_note, earlier_notes, out_of, heard_of, unheard, heard, progress_by, state_note, notes_at, progress_at, last_told}
 use Rattle.play_worlds.specs.Worlds.{ends_untold, IsActor, IsPlayWorld, LeadsTo, Names}

@@ -1,5 +1,5 @@
 -- A header goes on, or comes back, in a play's world: the model's two moves.
-use Rattle.std.proofs.Common.{◌≡◌, ◌≢◌, inl, inr, ℕ, suc, ◌+◌, ◌<◌, ◌≤◌, Bool, true, false, nat_eq, if◌then◌else◌, List, [], ◌∷◌, ◌++◌, length, map, Some, refl, sym, ◌∙◌, ap, subst, eq-eqb, ne_eqb, arith}
+use Rattle.std.proofs.Common.{◌≡◌, ◌≢◌, inl, inr, ℕ, ◌<◌, Bool, false, List, [], ◌∷◌, Some, refl, sym, ◌∙◌, ap, subst, eq-eqb, ne_eqb, arith}
 use Rattle.std.proofs.lemmas.Bool.{cases_eq}
 use Rattle.il_machine.specs.declared.port.PortKey.{PortKey}
 use Rattle.il_machine.specs.declared.header.Spot.TheVariants.{TodoBack}
@@ -8,17 +8,17 @@ use Rattle.il_machine.specs.World.{HeaderRecord, World}
 use Rattle.il_machine.specs.Headers.{seen, find_header, put, put_at, unchanged, same_key, Once}
 use Rattle.machine_laws.proofs.Listed.{done_in, first_in}
 use Rattle.flow_model.specs.Network.{Filled, LinkState, Flow, headers_of}
-use Rattle.flow_model.specs.Moves.{Move, Can, moved, with_link, sent_on, sent_back, IsFront}
+use Rattle.flow_model.specs.Moves.{Move, Can, moved, with_link, sent_on, sent_back}
 use Rattle.flow_model.proofs.Full.{move_headers}
 use Rattle.play_model.specs.Play.{Play}
 use Rattle.play_model.specs.Reached.{IsReached}
-use Rattle.play_links.specs.View.{LinkEnds, filled, link_view, is_in}
+use Rattle.play_links.specs.View.{LinkEnds, link_view, is_in}
 use Rattle.play_links.proofs.Counts.{keys_apart}
 use Rattle.play_links.proofs.Hands.{hand_on, hand_back, on_beside, back_beside}
 use Rattle.play_worlds.specs.Cast.{Cast, links_of, output_at, input_at}
 use Rattle.play_worlds.specs.Wiring.{work_in, ends_of}
-use Rattle.play_worlds.specs.Worlds.{IsPlayWorld, HasLink, to_make}
-use Rattle.play_worlds.proofs.Flowing.{IsFlowChange, flow_changed, links_apart, not_worked, link_kept, put_links, makes_same}
+use Rattle.play_worlds.specs.Worlds.{IsPlayWorld, HasLink}
+use Rattle.play_worlds.proofs.Flowing.{flow_changed, links_apart, not_worked, link_kept, put_links, makes_same}
 
 on_closed : (q : List Filled) (y : LinkState) → (sent_on q y).closed ≡ y.closed
 on_closed [] y = refl

@@ -1,17 +1,16 @@
 -- The headers of a component's work by the links that they belong to.
-use Rattle.std.proofs.Common.{◌≡◌, ◌≢◌, ◌⊎◌, inl, inr, ℕ, zero, suc, ◌<◌, ◌≤◌, Bool, true, false, not, ◌&&◌, nat_eq, List, [], ◌∷◌, length, map, set, slice_get, Option, Some, None, option_and_then, refl, sym, ◌∙◌, ap, subst, eq-eqb, ne_eqb, arith}
+use Rattle.std.proofs.Common.{◌≡◌, ◌≢◌, ◌⊎◌, inl, inr, ℕ, zero, suc, ◌<◌, ◌≤◌, Bool, true, false, ◌&&◌, List, [], ◌∷◌, map, set, slice_get, Option, Some, option_and_then, refl, sym, ◌∙◌, ap, subst, eq-eqb, ne_eqb, arith}
 use Rattle.std.proofs.lemmas.Bool.{cases_eq}
 use Rattle.il_machine.specs.declared.port.PortKey.{PortKey}
 use Rattle.il_machine.specs.declared.port.Port.{Port}
-use Rattle.il_machine.specs.World.{Component, HeaderRecord, Picked, Work, World}
+use Rattle.il_machine.specs.World.{Component, HeaderRecord, Picked, World}
 use Rattle.il_machine.specs.Headers.{Seen, same_key}
 use Rattle.il_machine.specs.Lists.{is_empty}
 use Rattle.il_machine.specs.Claims.{first_picked, picked, wanted}
 use Rattle.il_machine.specs.Sound.{ArePicked}
 use Rattle.machine_laws.proofs.Every.{set_there, set_else}
 use Rattle.machine_laws.proofs.Finding.{either}
-use Rattle.machine_laws.proofs.Keys.{key_same}
-use Rattle.flow_model.specs.Network.{IsInput, IsOutput}
+use Rattle.flow_model.specs.Network.{IsInput}
 use Rattle.play_model.specs.Play.{Play}
 use Rattle.play_links.specs.View.{LinkEnds, link_view, picked_at, worked_at}
 use Rattle.play_worlds.specs.Cast.{Cast, IsCast, components_of, links_of, script_place, giver_of, taker_of, output_at, input_at}
@@ -125,7 +124,7 @@ pub record IsPick (x : Cast) (p : Play) (c : ℕ) (xs : List Picked) (j : ℕ) (
 abbrev pub pick_key : Cast → ℕ → Picked → PortKey
 pick_key x c y = record { component = script_place x c; port = y.port }
 
-ends_differ : (x : Cast) (C : IsCast x) (s t : Bool) (k l : ℕ) → k < links_of x → l < links_of x → k ≢ l → end_at s x k ≢ end_at t x l
+pub ends_differ : (x : Cast) (C : IsCast x) (s t : Bool) (k l : ℕ) → k < links_of x → l < links_of x → k ≢ l → end_at s x k ≢ end_at t x l
 ends_differ x C true true k l a b n e = n (C.inputs k l a b e)
 ends_differ x C true false k l a b n e = C.beside l k b a (sym e)
 ends_differ x C false true k l a b n e = C.beside k l a b e

@@ -1,7 +1,6 @@
 -- The ports and works of a list of components in which one gave way to another with the same ports and work.
 use Rattle.std.proofs.Common.{◌≡◌, ℕ, List, set, slice_get, Option, Some, option_and_then, ap}
 use Rattle.std.proofs.Math.Path.{fun_ext}
-use Rattle.il_machine.specs.declared.port.PortKey.{PortKey}
 use Rattle.il_machine.specs.World.{Component, Work, number_of, ports_from, port_of}
 use Rattle.play_links.specs.View.{worked_at}
 use Rattle.play_worlds.specs.Wiring.{port_in, work_in}

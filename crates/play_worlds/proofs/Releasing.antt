@@ -1,5 +1,5 @@
 -- A header of a link is unmade in a play's world: exactly where the model can.
-use Rattle.std.proofs.Common.{◌≡◌, ◌≢◌, ◌⊎◌, inl, inr, ℕ, zero, suc, ◌+◌, ◌-◌, ◌<◌, ◌≤◌, Bool, true, false, not, ◌&&◌, ◌||◌, nat_le, if◌then◌else◌, List, [], ◌∷◌, ◌++◌, length, length-append, map, Option, Some, None, Result, Ok, refl, sym, ◌∙◌, ap, subst, arith}
+use Rattle.std.proofs.Common.{◌≡◌, ◌≢◌, ◌⊎◌, inl, inr, ℕ, zero, suc, ◌+◌, ◌-◌, ◌<◌, ◌≤◌, Bool, true, false, not, nat_le, if◌then◌else◌, List, [], ◌∷◌, ◌++◌, length, length-append, map, Some, None, Result, Ok, refl, sym, ◌∙◌, ap, subst, arith}
 use Rattle.std.proofs.lemmas.Bool.{cases_eq, lt-leb}
 use Rattle.omx_types.specs.declared.handle.Handle.{Handle}
 use Rattle.omx_types.specs.declared.state.State.TheVariants as states
@@ -19,10 +19,9 @@ use Rattle.il_machine.specs.Answers.{plain, Acts}
 use Rattle.il_machine.specs.Flow.{Release, release_idle, in_port, front_unmade}
 use Rattle.il_machine.specs.Sound.{Sound}
 use Rattle.machine_laws.proofs.Accepting.{passed, not_not}
-use Rattle.machine_laws.proofs.Finding.{either, without_else, without_same}
+use Rattle.machine_laws.proofs.Finding.{without_else, without_same}
 use Rattle.machine_laws.proofs.Flowing.{sound_released}
 use Rattle.flow_model.specs.Network.{Filled, LinkState}
-use Rattle.flow_model.specs.Moves.{with_link}
 use Rattle.flow_model.specs.Progress.{sum_to, all_headers}
 use Rattle.play_model.specs.Changes.{Change, port_at, IsDisabling}
 use Rattle.play_model.specs.Play.{Play, HasHome, IsLeaving, supplier}
@@ -33,15 +32,15 @@ use Rattle.play_links.proofs.Counts.{keys_apart}
 use Rattle.play_links.proofs.Same.{length_map, link_same}
 use Rattle.play_links.proofs.Made.{unmade_ready, unmade_sent, unmade_held, unmade_spent, todo_beside, done_beside}
 use Rattle.play_worlds.specs.Cast.{Cast, links_of, script_place, output_at, input_at, home_by, home_at, away_at}
-use Rattle.play_worlds.specs.Standing.{target, state_at, pending_at}
-use Rattle.play_worlds.specs.Wiring.{work_in, ends_of, link_to, joined_state}
-use Rattle.play_worlds.specs.Worlds.{IsActor, IsPlayWorld, HasLink, LeadsTo, Names, to_make}
+use Rattle.play_worlds.specs.Standing.{pending_at}
+use Rattle.play_worlds.specs.Wiring.{work_in, ends_of}
+use Rattle.play_worlds.specs.Worlds.{IsPlayWorld, HasLink, LeadsTo, Names, to_make}
 use Rattle.play_worlds.proofs.Lists.{resolved_port}
 use Rattle.play_worlds.proofs.Terms.{state_is}
 use Rattle.play_worlds.proofs.Ends.{IsAt, AreEnds, ends_there, home_supplies}
 use Rattle.play_worlds.proofs.Flowing.{key_not, sum_fewer}
 use Rattle.play_worlds.proofs.Linking.{link_changed, no_works}
-use Rattle.play_worlds.proofs.Handing.{not_empty, steady}
+use Rattle.play_worlds.proofs.Handing.{steady}
 use Rattle.play_worlds.proofs.Returns.{state_valid}
 use Rattle.play_worlds.proofs.Runs.{did, did_none}
 

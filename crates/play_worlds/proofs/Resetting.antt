@@ -1,5 +1,5 @@
 -- The headers at home of a component are reset as it reaches the second Idle: each link that it supplies, and no other.
-use Rattle.std.proofs.Common.{◌≡◌, ◌≢◌, ◌⊎◌, inl, inr, ℕ, zero, suc, ◌+◌, ◌*◌, ◌/◌, ◌<◌, ◌≤◌, Bool, true, false, not, ◌&&◌, ◌||◌, if◌then◌else◌, List, [], ◌∷◌, ◌++◌, length, map, slice_get, Option, Some, None, refl, sym, ◌∙◌, ap, subst, arith}
+use Rattle.std.proofs.Common.{◌≡◌, ◌⊎◌, inl, inr, ℕ, zero, suc, Bool, true, false, not, ◌||◌, List, [], ◌∷◌, slice_get, Some, refl, sym, ◌∙◌, ap, subst, arith}
 use Rattle.std.proofs.Math.Nat.{zero-div}
 use Rattle.std.proofs.lemmas.Bool.{cases_eq}
 use Rattle.il_machine.specs.declared.port.PortKey.{PortKey}
@@ -7,13 +7,13 @@ use Rattle.il_machine.specs.declared.port.Port.{Port}
 use Rattle.il_machine.specs.declared.header.Spot.{Spot}
 use Rattle.il_machine.specs.declared.header.Spot.TheVariants.{TodoBack, DoneBack}
 use Rattle.il_machine.specs.World.{HeaderRecord, Load}
-use Rattle.il_machine.specs.Headers.{Seen, seen, find_header, changed, cleared, cleared_all, put, put_at, put_all, reset, same_key, unloaded, Once}
+use Rattle.il_machine.specs.Headers.{seen, find_header, changed, cleared, cleared_all, put, put_at, put_all, reset, same_key, unloaded, Once}
 use Rattle.il_machine.specs.Ports.{is_supplier, is_input_port}
 use Rattle.il_machine.specs.Due.{reset_port, reset_ports}
 use Rattle.machine_laws.proofs.Finding.{either, changed_same, changed_else, changed_nothing, once_changed}
-use Rattle.machine_laws.proofs.Keys.{key_is, key_same, none_or_some}
+use Rattle.machine_laws.proofs.Keys.{key_is, none_or_some}
 use Rattle.machine_laws.proofs.Replacing.{IsReplaced, replaced_put, put_nothing}
-use Rattle.flow_model.specs.Network.{Filled, LinkState}
+use Rattle.flow_model.specs.Network.{LinkState}
 use Rattle.play_model.specs.Acts.{reset_link}
 use Rattle.play_links.specs.View.{LinkEnds, link_view}
 use Rattle.play_links.proofs.Same.{link_same}

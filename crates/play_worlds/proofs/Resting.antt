@@ -1,24 +1,22 @@
 -- In a closed world of a play nothing can happen, but for the second Idle.
-use Rattle.std.proofs.Common.{◌≡◌, ◌≢◌, ◌⊎◌, inl, inr, ℕ, zero, suc, ◌<◌, ◌≤◌, Bool, true, false, not, ◌&&◌, ◌||◌, nat_eq, if◌then◌else◌, List, [], ◌∷◌, slice_get, Option, Some, None, refl, sym, ◌∙◌, ap, subst, eq-eqb, arith}
+use Rattle.std.proofs.Common.{◌≡◌, ◌≢◌, ◌⊎◌, inl, inr, ℕ, zero, suc, ◌<◌, ◌≤◌, Bool, true, false, not, ◌||◌, if◌then◌else◌, List, [], ◌∷◌, slice_get, Option, Some, None, refl, sym, ◌∙◌, ap, subst, eq-eqb, arith}
 use Rattle.std.specs.List.{list_all}
 use Rattle.std.proofs.lemmas.Bool.{cases_eq}
 use Rattle.il_machine.specs.declared.port.PortKey.{PortKey}
 use Rattle.il_machine.specs.declared.port.Link.{Link}
 use Rattle.il_machine.specs.declared.port.Port.{Port}
 use Rattle.il_machine.specs.Lists.{holds_at}
-use Rattle.il_machine.specs.World.{Component, World, number_of, ports_of, port_of}
-use Rattle.il_machine.specs.Headers.{Seen, seen, is_for}
-use Rattle.il_machine.specs.Look.{look}
+use Rattle.il_machine.specs.World.{Component, World, ports_of, port_of}
+use Rattle.il_machine.specs.Headers.{seen, is_for}
 use Rattle.il_machine.specs.Ports.{populated, unmade}
-use Rattle.il_machine.specs.Due.{Thing, Transition, IsClosed, is_due_to, is_transition_due, due_in, things_of, each_port}
+use Rattle.il_machine.specs.Due.{Thing, Transition, IsClosed, is_due_to, is_transition_due, due_in, each_port}
 use Rattle.machine_laws.proofs.Closing.{closed_rests}
 use Rattle.machine_laws.proofs.Lookups.{port_parts}
-use Rattle.flow_model.specs.Network.{IsInput, IsOutput}
 use Rattle.flow_model.specs.Progress.{IsLinkOf}
 use Rattle.play_model.specs.Play.{Play, IsDue, made}
 use Rattle.play_model.specs.Acts.{Act, CanAct}
-use Rattle.play_worlds.specs.Cast.{Cast, components_of, links_of, script_place, giver_of, taker_of, output_at, input_at}
-use Rattle.play_worlds.specs.Standing.{target, before, pending_at, pending_to, standing}
+use Rattle.play_worlds.specs.Cast.{Cast, components_of, script_place, giver_of, taker_of, output_at, input_at}
+use Rattle.play_worlds.specs.Standing.{target, before, standing}
 use Rattle.play_worlds.specs.Wiring.{IsSomeEnd, joined_state, link_to}
 use Rattle.play_worlds.specs.Worlds.{IsActor, IsPlayWorld}
 use Rattle.play_worlds.proofs.Ends.{IsAt, output_is, input_is}

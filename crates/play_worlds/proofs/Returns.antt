@@ -1,37 +1,36 @@
 -- hand_back in a play's world: of the front of done where there is one, else of a header that was not used.
-use Rattle.std.proofs.Common.{◌≡◌, ◌≢◌, ◌⊎◌, inl, inr, ℕ, zero, suc, ◌+◌, ◌-◌, ◌<◌, ◌≤◌, Bool, true, false, not, ◌&&◌, ◌||◌, if◌then◌else◌, List, [], ◌∷◌, ◌++◌, length, map, Option, Some, None, Result, Ok, refl, sym, ◌∙◌, ap, subst, arith}
+use Rattle.std.proofs.Common.{◌≡◌, ℕ, zero, suc, ◌<◌, Bool, true, false, not, ◌&&◌, ◌||◌, if◌then◌else◌, List, ◌∷◌, Some, None, Result, Ok, refl, sym, ◌∙◌, ap, subst}
 use Rattle.omx_types.specs.declared.handle.Handle.{Handle}
 use Rattle.omx_types.specs.declared.state.State.TheVariants as states
 use Rattle.omx_types.specs.declared.error.OmxError.{OmxError}
 use Rattle.il_machine.specs.declared.answer.Acted.{Acted}
 use Rattle.il_machine.specs.declared.answer.Acted.TheVariants as acted_as
-use Rattle.il_machine.specs.declared.answer.Why.{Why}
 use Rattle.il_machine.specs.declared.answer.Why.TheVariants as why
 use Rattle.il_machine.specs.declared.port.PortKey.{PortKey}
 use Rattle.il_machine.specs.declared.port.Link.{Link}
 use Rattle.il_machine.specs.declared.port.Port.{Port}
 use Rattle.il_machine.specs.declared.port.PortState.{PortState}
-use Rattle.il_machine.specs.declared.header.Spot.TheVariants.{TodoBack, DoneBack}
-use Rattle.il_machine.specs.States.{is_executing, is_invalid, same_state}
-use Rattle.il_machine.specs.Lists.{holds_at, is_empty}
+use Rattle.il_machine.specs.declared.header.Spot.TheVariants.{TodoBack}
+use Rattle.il_machine.specs.States.{is_executing, is_invalid}
+use Rattle.il_machine.specs.Lists.{is_empty}
 use Rattle.il_machine.specs.World.{Component, World}
-use Rattle.il_machine.specs.Headers.{seen, put, cleared, unchanged, load_at, find_header}
+use Rattle.il_machine.specs.Headers.{seen, put, unchanged}
 use Rattle.il_machine.specs.Look.{look}
-use Rattle.il_machine.specs.Ports.{is_going_to, is_supplier, is_input_port, returning, id_of}
+use Rattle.il_machine.specs.Ports.{is_going_to, is_supplier, returning, id_of}
 use Rattle.il_machine.specs.Answers.{plain, Acts}
-use Rattle.il_machine.specs.Flow.{HandBack, back_idle, handed_back, returned}
+use Rattle.il_machine.specs.Flow.{HandBack, back_idle, handed_back}
 use Rattle.il_machine.specs.Sound.{Sound}
-use Rattle.machine_laws.proofs.Accepting.{passed, both_of}
+use Rattle.machine_laws.proofs.Accepting.{passed}
 use Rattle.machine_laws.proofs.Finding.{either}
 use Rattle.machine_laws.proofs.Flowing.{sound_returned}
 use Rattle.flow_model.specs.Network.{LinkState}
 use Rattle.flow_model.specs.Moves.{moved}
-use Rattle.play_model.specs.Play.{Play, HasDone, IsExecuting, IsReturning, other_component}
+use Rattle.play_model.specs.Play.{Play, HasDone, IsExecuting, other_component}
 use Rattle.play_model.specs.Reached.{IsReached}
 use Rattle.play_model.specs.Acts.{Act, CanAct, acted, hand}
 use Rattle.play_model.proofs.Handing.{act_reaches}
 use Rattle.play_worlds.specs.Cast.{Cast, links_of, script_place, output_at, input_at, home_by, home_at, away_at}
-use Rattle.play_worlds.specs.Standing.{target, before, state_at, pending_at}
+use Rattle.play_worlds.specs.Standing.{target, state_at}
 use Rattle.play_worlds.specs.Wiring.{link_to, joined_state}
 use Rattle.play_worlds.specs.Worlds.{IsPlayWorld, LeadsTo, Names}
 use Rattle.play_worlds.proofs.Lists.{resolved_port}

@@ -1,25 +1,22 @@
 -- A component of a play's world has few notes and no busy port, so there is room for events.
-use Rattle.std.proofs.Common.{◌≡◌, inl, inr, ℕ, zero, suc, ◌+◌, ◌-◌, ◌<◌, ◌≤◌, Bool, true, false, nat_lt, List, [], ◌∷◌, ◌++◌, length, length-append, slice_get, Some, None, sum_by, refl, sym, ◌∙◌, ap, subst, le-ltb, arith}
+use Rattle.std.proofs.Common.{◌≡◌, inl, inr, ℕ, zero, suc, ◌+◌, ◌≤◌, Bool, true, false, List, [], length, length-append, slice_get, Some, None, sum_by, refl, sym, ◌∙◌, ap, subst, arith}
 use Rattle.std.proofs.lemmas.Option.{slice_get_within}
 use Rattle.std.proofs.lemmas.List.Sums.{count_by-le-length}
-use Rattle.omx_types.specs.declared.command.Note.{Note}
 use Rattle.il_machine.specs.declared.port.Port.{Port}
 use Rattle.il_machine.specs.declared.port.PortKey.{PortKey}
 use Rattle.il_machine.specs.Sound.{Sound}
-use Rattle.il_machine.specs.declared.port.PortSetting.{PortSetting}
 use Rattle.il_machine.specs.declared.port.PortState.{PortState}
 use Rattle.il_machine.specs.World.{Component, World, number_of, port_of}
 use Rattle.il_machine.specs.Queued.{notes_given}
-use Rattle.il_machine.specs.Room.{is_event, events_in, port_places, used, room}
+use Rattle.il_machine.specs.Room.{is_event, events_in, port_places, used}
 use Rattle.il_machine.specs.Finishing.{end_note}
 use Rattle.il_machine.proofs.Joined.{port_there}
-use Rattle.machine_laws.proofs.Every.{at_place}
 use Rattle.machine_laws.proofs.Parts.{parts_of}
 use Rattle.machine_laws.proofs.Lookups.{port_parts}
 use Rattle.play_model.specs.Play.{Play}
-use Rattle.play_worlds.specs.Cast.{Cast, script_place, components_of, output_at, input_at}
-use Rattle.play_worlds.specs.Telling.{out_of, state_note, notes_at, unheard}
-use Rattle.play_worlds.specs.Wiring.{port_in, link_to, joined_state, IsEnd, IsWired, IsSomeEnd}
+use Rattle.play_worlds.specs.Cast.{Cast, output_at, input_at}
+use Rattle.play_worlds.specs.Telling.{out_of, state_note}
+use Rattle.play_worlds.specs.Wiring.{port_in, IsEnd, IsSomeEnd}
 use Rattle.play_worlds.specs.Worlds.{ends_untold, IsActor, IsPlayWorld}
 use Rattle.play_worlds.proofs.Lists.{get_there, sum_none}
 

@@ -1,5 +1,5 @@
 -- A component runs the command that is queued at it: so it does at stage 1, and there alone.
-use Rattle.std.proofs.Common.{◌≡◌, ◌≢◌, inl, inr, ℕ, zero, suc, ◌+◌, ◌-◌, ◌<◌, ◌≤◌, Bool, true, false, cond, List, [], ◌∷◌, slice_get, sum_by, Option, Some, None, Result, Ok, refl, sym, ◌∙◌, ap, subst, arith}
+use Rattle.std.proofs.Common.{◌≡◌, inl, inr, ℕ, ◌<◌, ◌≤◌, true, false, cond, slice_get, Option, Some, None, Result, Ok, refl, sym, ◌∙◌, ap, subst, arith}
 use Rattle.std.proofs.lemmas.Bool.{cases_eq}
 use Rattle.omx_types.specs.declared.handle.Handle.{Handle}
 use Rattle.omx_types.specs.declared.error.OmxError.{OmxError}
@@ -13,7 +13,7 @@ use Rattle.il_machine.specs.Answers.{plain, Acts}
 use Rattle.il_machine.specs.Due.{ClosesTo}
 use Rattle.il_machine.specs.Commands.{RunCommand, run_front, run_idle}
 use Rattle.il_machine.specs.Sound.{Sound}
-use Rattle.il_machine.specs.Units.{need_of, units_of, units_held, free_units}
+use Rattle.il_machine.specs.Units.{need_of, units_of, free_units}
 use Rattle.machine_laws.proofs.Parts.{parts_of}
 use Rattle.machine_laws.proofs.Change.{sound_taking_units, out_there}
 use Rattle.machine_laws.proofs.Running.{sound_run, change_run, fair_run}
@@ -24,7 +24,7 @@ use Rattle.play_model.proofs.Handing.{act_reaches}
 use Rattle.play_worlds.specs.Cast.{Cast, components_of, script_place}
 use Rattle.play_worlds.specs.Standing.{standing}
 use Rattle.play_worlds.specs.Telling.{notes_at, progress_at}
-use Rattle.play_worlds.specs.Worlds.{ends_untold, IsActor, IsPlayWorld, IsWork, LeadsTo, Names}
+use Rattle.play_worlds.specs.Worlds.{ends_untold, IsActor, IsPlayWorld, LeadsTo, Names}
 use Rattle.play_worlds.proofs.Lists.{resolved, sum_spare}
 use Rattle.play_worlds.proofs.Stages.{ran, run_waits, run_goes, run_is, run_stands, run_told}
 use Rattle.play_worlds.proofs.Actors.{IsGoing, actor_goes}

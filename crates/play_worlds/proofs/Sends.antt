@@ -1,17 +1,17 @@
 -- The conductor's StateSet is sent to a component: it is accepted, and queued.
-use Rattle.std.proofs.Common.{◌≡◌, ◌≢◌, inl, inr, ℕ, zero, suc, ◌+◌, ◌<◌, ◌≤◌, Bool, true, false, ◌||◌, nat_eq, nat_le, nat_lt, if◌then◌else◌, List, [], ◌∷◌, ◌++◌, length, slice_get, Option, Some, None, Result, Ok, Err, refl, sym, ◌∙◌, ap, subst, eq-eqb, ne_eqb, le-ltb, arith}
+use Rattle.std.proofs.Common.{◌≡◌, ◌≢◌, inl, inr, ℕ, zero, suc, ◌<◌, ◌≤◌, Bool, false, ◌||◌, nat_eq, nat_le, nat_lt, if◌then◌else◌, [], length, slice_get, Option, Some, None, Result, Ok, Err, refl, sym, ◌∙◌, ap, subst, eq-eqb, ne_eqb, le-ltb, arith}
 use Rattle.omx_types.specs.declared.handle.Handle.{Handle}
 use Rattle.omx_types.specs.declared.command.Command.{Command}
 use Rattle.omx_types.specs.declared.command.Command.TheVariants.{StateSet}
 use Rattle.omx_types.specs.declared.error.OmxError.{OmxError}
 use Rattle.omx_types.specs.declared.error.OmxError.TheVariants as errors
-use Rattle.il_machine.specs.World.{Component, Work, World, number_of, with_component}
+use Rattle.il_machine.specs.World.{Component, World, with_component}
 use Rattle.il_machine.specs.Look.{look}
 use Rattle.il_machine.specs.States.{is_invalid}
 use Rattle.il_machine.specs.Answers.{plain, Answers}
 use Rattle.il_machine.specs.Due.{ClosesTo}
-use Rattle.il_machine.specs.Room.{room, used, port_places, events_in}
-use Rattle.il_machine.specs.Commands.{SendCommand, sent, send_refusal, lacks_place, is_at_once}
+use Rattle.il_machine.specs.Room.{room, used}
+use Rattle.il_machine.specs.Commands.{SendCommand, sent, send_refusal, lacks_place}
 use Rattle.il_machine.specs.Sound.{Sound}
 use Rattle.machine_laws.proofs.Keys.{none_or_some}
 use Rattle.machine_laws.proofs.Parts.{parts_of}
@@ -24,9 +24,9 @@ use Rattle.play_model.proofs.Handing.{act_reaches}
 use Rattle.play_worlds.specs.Cast.{Cast, components_of, script_place}
 use Rattle.play_worlds.specs.Standing.{target, before, standing}
 use Rattle.play_worlds.specs.Telling.{notes_at, progress_at}
-use Rattle.play_worlds.specs.Worlds.{ends_untold, IsActor, IsPlayWorld, IsWork, LeadsTo, Names}
+use Rattle.play_worlds.specs.Worlds.{ends_untold, IsActor, IsPlayWorld, LeadsTo, Names}
 use Rattle.play_worlds.proofs.Lists.{get_there, resolved}
-use Rattle.play_worlds.proofs.Stages.{queued, not_at_once, sent_is, send_stands, send_told, commands_are}
+use Rattle.play_worlds.proofs.Stages.{queued, not_at_once, sent_is, send_stands, send_told}
 use Rattle.play_worlds.proofs.Rooms.{few_events, calm_ports, used_at_rest}
 use Rattle.play_worlds.proofs.Actors.{IsGoing, actor_goes}
 use Rattle.play_worlds.proofs.Changing.{IsOneChange, one_changed}

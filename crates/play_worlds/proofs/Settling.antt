@@ -1,15 +1,13 @@
 -- Where a component may reach the second Idle every header of its links is at home.
-use Rattle.std.proofs.Common.{◌≡◌, ◌≢◌, ◌⊎◌, inl, inr, ℕ, zero, suc, ◌+◌, ◌<◌, ◌≤◌, Bool, true, false, not, ◌&&◌, ◌||◌, nat_eq, List, [], ◌∷◌, ◌++◌, length, map, slice_get, Option, Some, None, refl, sym, ◌∙◌, ap, subst, eqb-true, eq-eqb, arith}
+use Rattle.std.proofs.Common.{◌≡◌, ◌≢◌, ◌⊎◌, inl, inr, ℕ, ◌+◌, ◌<◌, Bool, true, false, not, ◌&&◌, List, [], ◌∷◌, ◌++◌, length, map, slice_get, Some, refl, sym, ◌∙◌, ap, subst, eqb-true, eq-eqb, arith}
 use Rattle.il_machine.specs.declared.port.PortKey.{PortKey}
 use Rattle.il_machine.specs.declared.port.PortState.{PortState}
 use Rattle.il_machine.specs.declared.port.Port.{Port}
-use Rattle.il_machine.specs.declared.header.HeaderState.{HeaderState}
-use Rattle.il_machine.specs.World.{Component, World, ports_of, port_of}
-use Rattle.il_machine.specs.Headers.{Seen, seen, is_for, is_away, count_headers}
+use Rattle.il_machine.specs.World.{Component, World, ports_of}
+use Rattle.il_machine.specs.Headers.{Seen, seen, is_for, is_away}
 use Rattle.il_machine.specs.Ports.{settled}
 use Rattle.il_machine.specs.Due.{each_port}
 use Rattle.machine_laws.proofs.Every.{all_pass}
-use Rattle.machine_laws.proofs.Finding.{either}
 use Rattle.machine_laws.proofs.Parts.{parts_of, ports_in_list}
 use Rattle.flow_model.specs.Network.{LinkState}
 use Rattle.flow_model.specs.Progress.{IsLinkOf}
@@ -19,12 +17,12 @@ use Rattle.play_links.specs.Tunnel.{IsTunnel, Supplies}
 use Rattle.play_links.proofs.Counts.{to_input, to_output}
 use Rattle.play_links.proofs.Away.{away_in_lists}
 use Rattle.play_worlds.specs.Cast.{Cast, links_of, script_place, output_at, input_at, home_by, home_at, away_at, supplier_of}
-use Rattle.play_worlds.specs.Wiring.{work_in, link_to}
+use Rattle.play_worlds.specs.Wiring.{work_in}
 use Rattle.play_worlds.specs.Worlds.{IsPlayWorld}
-use Rattle.play_worlds.proofs.Ends.{IsAt, AreEnds, ends_there, home_supplies, port_at_there}
+use Rattle.play_worlds.proofs.Ends.{ends_there, home_supplies, port_at_there}
 use Rattle.play_worlds.proofs.Counting.{tunnel, worked_there, count_same, same_tests}
 use Rattle.play_worlds.proofs.Linking.{no_works}
-use Rattle.play_worlds.proofs.Arrivals.{IsLinkEnd, link_end}
+use Rattle.play_worlds.proofs.Arrivals.{link_end}
 
 no_length : {A : Type 0} (xs : List A) → length xs ≡ 0 → xs ≡ []
 no_length [] e = refl

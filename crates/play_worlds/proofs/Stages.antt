@@ -1,18 +1,17 @@
 -- The machine's changes of a component are steps from stage to stage.
-use Rattle.std.proofs.Common.{◌≡◌, ◌≢◌, ℕ, zero, suc, ◌+◌, ◌<◌, ◌≤◌, Bool, true, false, ◌||◌, List, [], ◌∷◌, ◌++◌, Some, None, refl, sym, ◌∙◌, ap, subst, le-ltb, arith}
+use Rattle.std.proofs.Common.{◌≡◌, ◌≢◌, ℕ, zero, suc, ◌+◌, ◌<◌, ◌≤◌, true, false, ◌||◌, [], ◌∷◌, ◌++◌, Some, None, refl, sym, ◌∙◌, ap, subst, le-ltb, arith}
 use Rattle.omx_types.specs.declared.state.State.{State}
-use Rattle.omx_types.specs.declared.state.State.TheVariants.{Loaded, Idle}
+use Rattle.omx_types.specs.declared.state.State.TheVariants.{Idle}
 use Rattle.omx_types.specs.declared.command.Command.{Command}
 use Rattle.omx_types.specs.declared.command.Command.TheVariants.{StateSet}
-use Rattle.omx_types.specs.declared.error.OmxError.{OmxError}
 use Rattle.il_machine.specs.declared.answer.Why.TheVariants as why
 use Rattle.il_machine.specs.States.{same_state}
 use Rattle.il_machine.specs.Settings.{fits}
 use Rattle.il_machine.specs.World.{Component}
 use Rattle.il_machine.specs.Look.{Look}
 use Rattle.il_machine.specs.Units.{units_of, free_units}
-use Rattle.il_machine.specs.Commands.{is_at_once, sent, begun, state_fault, run_idle, run_front}
-use Rattle.play_worlds.specs.Standing.{target, before, state_at, commands_at, pending_to, standing}
+use Rattle.il_machine.specs.Commands.{is_at_once, sent, state_fault, run_idle, run_front}
+use Rattle.play_worlds.specs.Standing.{target, before, commands_at, pending_to, standing}
 use Rattle.play_worlds.specs.Telling.{last_told}
 
 -- ---- begun

@@ -1,13 +1,7 @@
 -- A header of a link is made in a play's world: exactly where the model can.
-use Rattle.std.proofs.Common.{◌≡◌, ◌≢◌, ◌⊎◌, inl, inr, ℕ, zero, suc, ◌+◌, ◌-◌, ◌*◌, ◌/◌, ◌<◌, ◌≤◌, Bool, true, false, not, ◌&&◌, ◌||◌, nat_eq, nat_le, if◌then◌else◌, is_none, List, [], ◌∷◌, ◌++◌, length, Option, Some, None, Result, Ok, Err, MatchResult, refl, sym, ◌∙◌, ap, subst, eq-eqb, ne_eqb, eqb-true, arith}
+use Rattle.std.proofs.Common.{◌≡◌, ◌≢◌, inl, inr, ℕ, zero, suc, ◌<◌, ◌≤◌, Bool, true, false, not, ◌&&◌, ◌||◌, nat_eq, if◌then◌else◌, is_none, Some, None, refl, sym, ◌∙◌, ap, subst, ne_eqb, arith}
 use Rattle.std.proofs.lemmas.Bool.{eqb-false, lt-leb}
-use Rattle.std.proofs.Math.Nat.{zero-div}
-use Rattle.omx_types.specs.declared.handle.Handle.{Handle}
 use Rattle.omx_types.specs.declared.state.State.TheVariants as states
-use Rattle.omx_types.specs.declared.error.CallError.{CallError}
-use Rattle.omx_types.specs.declared.error.CallError.TheVariants.{Omx, OutOfMemory}
-use Rattle.il_machine.specs.declared.answer.Acted.{Acted}
-use Rattle.il_machine.specs.declared.answer.Acted.TheVariants as acted_as
 use Rattle.il_machine.specs.declared.answer.Why.TheVariants as why
 use Rattle.il_machine.specs.declared.port.PortKey.{PortKey}
 use Rattle.il_machine.specs.declared.port.Port.{Port}

@@ -1,13 +1,11 @@
 -- The machine's tests of where a component stands are the model's terms.
-use Rattle.std.proofs.Common.{◌≡◌, ◌⊎◌, inl, inr, ℕ, zero, suc, ◌≤◌, Bool, true, false, ◌&&◌, is_none, sym, refl, ◌∙◌, ap, subst, arith}
-use Rattle.omx_types.specs.declared.state.State.{State}
+use Rattle.std.proofs.Common.{◌≡◌, ◌⊎◌, inl, inr, ℕ, zero, suc, ◌≤◌, true, is_none, sym, refl, ◌∙◌, ap, arith}
 use Rattle.il_machine.specs.States.{is_executing, is_running}
 use Rattle.il_machine.specs.World.{Component, World}
 use Rattle.il_machine.specs.Ports.{is_at_rest}
-use Rattle.machine_laws.proofs.Accepting.{both_of}
 use Rattle.play_model.specs.Play.{Play, IsRunning, IsExecuting}
 use Rattle.play_worlds.specs.Cast.{Cast}
-use Rattle.play_worlds.specs.Standing.{target, before, state_at, pending_at, standing}
+use Rattle.play_worlds.specs.Standing.{target, before, state_at, pending_at}
 use Rattle.play_worlds.specs.Worlds.{IsActor}
 
 target_executing : (phase : ℕ) → is_executing (target phase) ≡ true → phase ≡ 2

@@ -1,12 +1,10 @@
 -- The ports of a play's component by the links that they are ends of, and which of them give a header to its work.
-use Rattle.std.proofs.Common.{◌≡◌, ◌≢◌, ◌⊎◌, inl, inr, ℕ, zero, suc, ◌<◌, ◌≤◌, Bool, true, false, not, ◌&&◌, List, [], ◌∷◌, ◌++◌, filter, map, slice_get, Option, Some, None, option_map, option_and_then, refl, sym, ◌∙◌, ap, subst, arith}
+use Rattle.std.proofs.Common.{◌≡◌, inl, inr, ℕ, zero, suc, ◌<◌, Bool, true, false, not, ◌&&◌, List, [], ◌∷◌, filter, map, slice_get, Some, None, option_map, refl, sym, ◌∙◌, ap, subst, arith}
 use Rattle.std.specs.List.{list_any}
-use Rattle.std.proofs.lemmas.Bool.{cases_eq}
 use Rattle.std.proofs.lemmas.Option.{slice_get-map}
 use Rattle.il_machine.specs.declared.port.PortKey.{PortKey}
 use Rattle.il_machine.specs.declared.port.Port.{Port}
-use Rattle.il_machine.specs.World.{Component, Picked, Work, World, ports_of, port_of}
-use Rattle.il_machine.specs.Ports.{is_input_port}
+use Rattle.il_machine.specs.World.{Component, Picked, World, ports_of, port_of}
 use Rattle.il_machine.specs.Claims.{has_ended, is_unannounced, must_announce, gives_header, wanted}
 use Rattle.machine_laws.proofs.Finding.{either}
 use Rattle.machine_laws.proofs.Keys.{none_or_some}
@@ -14,7 +12,7 @@ use Rattle.machine_laws.proofs.Lookups.{port_parts}
 use Rattle.machine_laws.proofs.Accepting.{is_not}
 use Rattle.flow_model.specs.Network.{Network, IsInput, IsOutput}
 use Rattle.play_model.specs.Play.{Play}
-use Rattle.play_worlds.specs.Cast.{Cast, components_of, links_of, script_place, giver_of, taker_of, output_at, input_at}
+use Rattle.play_worlds.specs.Cast.{Cast, components_of, script_place, giver_of, taker_of, output_at, input_at}
 use Rattle.play_worlds.specs.Wiring.{IsEnd, IsSomeEnd}
 use Rattle.play_worlds.specs.Worlds.{IsBeforeRest, IsActor, IsPlayWorld}
 use Rattle.play_worlds.proofs.Ends.{IsAt, output_is, input_is}

@@ -1,7 +1,7 @@
 -- What a play's worlds are read by: the layout of the play, which ports its links join, and what goes through them. The
 -- model names components by their place in the order of placing; the world's list has them in the order of the script, and
 -- their numbers are their places in it.
-use Rattle.std.specs.Prelude.{◌≡◌, ◌≢◌, ℕ, ◌*◌, ◌/◌, ◌<◌, ◌≤◌, Bool, true, false}
+use Rattle.std.specs.Prelude.{◌≡◌, ◌≢◌, ℕ, ◌/◌, ◌<◌, ◌≤◌, Bool, true, false}
 use Rattle.omx_types.specs.declared.param.Supplier.{Supplier}
 use Rattle.omx_types.specs.declared.param.Supplier.TheVariants as suppliers
 use Rattle.il_machine.specs.declared.port.PortKey.{PortKey}

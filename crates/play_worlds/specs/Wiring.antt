@@ -6,7 +6,7 @@ use Rattle.il_machine.specs.declared.port.Link.{Link}
 use Rattle.il_machine.specs.declared.port.Mode.TheVariants.{Steady}
 use Rattle.il_machine.specs.declared.port.Port.{Port}
 use Rattle.il_machine.specs.declared.port.PortState.{PortState}
-use Rattle.il_machine.specs.World.{Component, Work, port_of}
+use Rattle.il_machine.specs.World.{Component, port_of}
 use Rattle.il_machine.specs.Ports.{is_input_port}
 use Rattle.play_model.specs.Play.{Play}
 use Rattle.play_links.specs.View.{LinkEnds, worked_at}

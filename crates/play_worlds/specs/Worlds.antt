@@ -1,7 +1,7 @@
 -- The worlds of a play: how the machine stands while the play is where the model has it. The play is read from the plan (in
 -- the cast), from what the conductor has begun and sent (phase, and stage 0), and from the world; only what an input has
 -- taken is told by no world.
-use Rattle.std.specs.Prelude.{◌≡◌, ◌≢◌, ℕ, ◌+◌, ◌-◌, ◌*◌, ◌/◌, ◌<◌, ◌≤◌, Bool, true, false, not, ◌&&◌, nat_le, List, [], ◌∷◌, length, map, sum_by, slice_get, slice_index_or, Option, Some, None, MatchOption, if◌then◌else◌}
+use Rattle.std.specs.Prelude.{◌≡◌, ℕ, ◌+◌, ◌-◌, ◌*◌, ◌/◌, ◌<◌, ◌≤◌, Bool, true, false, not, ◌&&◌, nat_le, List, [], ◌∷◌, length, map, sum_by, slice_get, slice_index_or, Some, None, MatchOption, if◌then◌else◌}
 use Rattle.omx_types.specs.declared.command.Note.{Note}
 use Rattle.il_machine.specs.declared.port.Port.{Port}
 use Rattle.il_machine.specs.Queued.{notes_given}

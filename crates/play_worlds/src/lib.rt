@@ -12,6 +12,8 @@ ghost use Rattle.omx_types.specs.declared.error.CallError.TheVariants.{OutOfMemo
 ghost use Rattle.il_machine.specs.declared.answer.Acted.{Acted};
 ghost use Rattle.il_machine.specs.declared.answer.Acted.TheVariants.{Did};
 ghost use Rattle.il_machine.specs.World.{Component, Work, World};
+ghost use Rattle.il_machine.specs.Stepping.{Done, IsDoneOf};
+ghost use Rattle.il_machine.specs.Finishing.{Finish};
 ghost use Rattle.il_machine.specs.Claims.{Claim, Claimed, ClaimedBusy, ClaimedWork, WorkSeen};
 ghost use Rattle.il_machine.specs.Due.{ClosesTo, Happens, IsClosed};
 ghost use Rattle.il_machine.specs.Flow.{HandBack, HandOver, Release, Supply};
@@ -21,6 +23,7 @@ ghost use Rattle.il_machine.specs.Notes.{EndNote, TakeNote, Took};
 ghost use Rattle.il_machine.specs.Commands.{RunCommand, SendCommand};
 ghost use Rattle.play_model.specs.Play.{Play, other_component, supplier};
 ghost use Rattle.play_model.specs.Acts.{Act, CanAct, acted};
+ghost use Rattle.play_loop.specs.Turns.{HasActed, IsAtRest};
 ghost use Rattle.play_worlds.specs.Cast.{Cast, away_at, components_of, home_at, links_of, script_place};
 ghost use Rattle.play_worlds.specs.Standing.{target};
 ghost use Rattle.play_worlds.specs.Worlds.{HappensTo, IsPlayWorld, LeadsTo, Names};
@@ -113,6 +116,16 @@ pub fn law_of_happenings()
         → IsPlayWorld x p w → IsClosed w → CanAct x.layout p (Act.Happen c) → ⊥ }
 {}
 
+/// An act of the machine with its close-out is that act of the model and as many happenings as are due; then nothing is. What is
+/// nothing for the play stays so with its close-out.
+pub fn law_of_closings()
+    ensures acted { (x : Cast) (p : Play) (a : Act) (v : World)
+        → CanAct x.layout p a → LeadsTo x (acted x.layout a p) v
+        → (q : Play) × HasActed x.layout p q × IsAtRest x.layout q × IsPlayWorld x q v }
+    ensures idle { (x : Cast) (p : Play) (w v : World)
+        → IsPlayWorld x p w → IsClosed w → LeadsTo x p v → IsPlayWorld x p v × IsClosed v }
+{}
+
 /// A claim is nothing for the play: a header of a work stands as if it were still in its port. A component of which no work is
 /// out gets one exactly where the model can make a step of it.
 pub fn law_of_claims()
@@ -127,6 +140,18 @@ pub fn law_of_claims()
     ensures busy { (x : Cast) (p : Play) (w : World) (c : ℕ) (h : Handle) (result : Result Claimed OmxError) (v : World) (a : Component) (work : Work)
         → IsPlayWorld x p w → c < components_of x → Names x w c h → slice_get w.components (script_place x c) ≡ Some a
         → a.work ≡ Some work → Claim w h result v → (result ≡ Ok ClaimedBusy) × (v ≡ w) }
+{}
+
+/// A work that is out comes back without a fault: that is a step of its component in the model, and as long as it is out the
+/// model can make one.
+pub fn law_of_finishes()
+    ensures done { (x : Cast) (p : Play) (w : World) (c : ℕ) (a : Component) (work : Work) (done : Done) (v : World)
+        → IsPlayWorld x p w → c < components_of x → slice_get w.components (script_place x c) ≡ Some a → a.work ≡ Some work
+        → done.component ≡ script_place x c → IsDoneOf w a work done → done.fault ≡ None → Finish w done v
+        → (last : Bool) × CanAct x.layout p (Act.Step c done.frames last) × LeadsTo x (acted x.layout (Act.Step c done.frames last) p) v }
+    ensures can { (x : Cast) (p : Play) (w : World) (c : ℕ) (a : Component) (work : Work)
+        → IsPlayWorld x p w → c < components_of x → slice_get w.components (script_place x c) ≡ Some a → a.work ≡ Some work
+        → (n : ℕ) × (last : Bool) × CanAct x.layout p (Act.Step c n last) }
 {}
 
 /// The supplier of a link unmakes a header exactly where the model can.

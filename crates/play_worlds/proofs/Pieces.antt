@@ -1,0 +1,119 @@
+-- What comes into a step of a play, and what it gives: whole frames.
+use Rattle.std.proofs.Common.{◌≡◌, ℕ, ◌+◌, ◌-◌, ◌*◌, ◌<◌, ◌≤◌, Bool, true, false, nat_lt, if◌then◌else◌, List, ◌∷◌, find, length, take, slice_get, Option, Some, None, option_map, refl, sym, ◌∙◌, ap, subst, eqb-true, lt-ltb, arith}
+use Rattle.std.proofs.Math.Nat.{div-mul-le_self, mul-le-mul_right, zero-mul}
+use Rattle.std.proofs.lemmas.List.{length-replicate, length-take-le}
+use Rattle.std.proofs.lemmas.Option.{slice_get-map, get_or_from_slice_get}
+use Rattle.omx_types.specs.declared.kind.Kind.{Kind}
+use Rattle.omx_types.specs.declared.kind.Kind.TheVariants as kinds
+use Rattle.omx_types.specs.Formats.{frame_bytes_of}
+use Rattle.part_api.specs.declared.attached.Attached.{Attached}
+use Rattle.part_api.specs.declared.attached.Attached.TheVariants.{From, To}
+use Rattle.part_api.specs.Streams.{Shape, HasFrames}
+use Rattle.part_api.specs.Terms.{Terms}
+use Rattle.part_forms.specs.Shapes.{shape_of}
+use Rattle.audio_parts.specs.Shapes.{IsFrame, HasFramesOf}
+use Rattle.part_sizes.proofs.Sizes.{sized}
+use Rattle.il_machine.specs.declared.port.PortSetting.{PortSetting}
+use Rattle.il_machine.specs.Files.{file_port_format}
+use Rattle.il_machine.specs.Kinds.{inputs_of, ports_in, is_input, is_source}
+use Rattle.il_machine.specs.Parts.{file_format, frames_left, frames_of, bytes_given}
+use Rattle.il_machine.specs.Settings.{default_setting, formats_of}
+use Rattle.il_machine.specs.Sound.{may_have}
+use Rattle.il_machine.specs.World.{Component, Stream, Work, World, number_of, stream_of}
+use Rattle.il_machine.specs.Claims.{Carried, carried, terms_in}
+use Rattle.il_machine.specs.Stepping.{format_at, bytes_at, is_last, frames_in, frames_for, frames_at, all_frames_at, step_frames, front_of, is_for_port, incoming, zeros_at, made_at, IsTold, Gives, GivesBy}
+use Rattle.machine_laws.proofs.Finding.{either}
+use Rattle.machine_laws.proofs.Fitting.{source_format}
+use Rattle.machine_laws.proofs.Parts.{parts_of}
+use Rattle.play_model.specs.Play.{Play}
+use Rattle.play_worlds.specs.Cast.{Cast, components_of, script_place}
+use Rattle.play_worlds.specs.Worlds.{IsActor, IsPlayWorld}
+use Rattle.play_worlds.proofs.Lists.{get_there}
+use Rattle.play_worlds.proofs.Wanted.{IsLinkAt}
+use Rattle.play_worlds.proofs.Numbers.{least_low, offered, number_low, source_number}
+use Rattle.play_worlds.proofs.Lengths.{at_all, drop_at, found_at, source_early, lawful, frames_of_ports, output_unit, input_frames}
+
+-- ---- what comes into a step, and what it gives
+
+told_long : (known : Option (List ℕ)) (place count : ℕ) (piece : List ℕ) → IsTold known place count piece → length piece ≡ count
+told_long None place count piece T = T
+told_long (Some all) place count piece T = T.0
+
+none_alike : (n j k : ℕ) → n ≡ 0 → n * j ≡ n * k
+none_alike n j k z = ap (λ (u : ℕ). u * j) z ∙ (zero-mul j ∙ (sym (zero-mul k) ∙ ap (λ (u : ℕ). u * k) (sym z)))
+
+module _ (x : Cast) (p : Play) (w : World) (c : ℕ) (a : Component) (W : IsPlayWorld x p w) (e : slice_get w.components (script_place x c) ≡ Some a) (b : c < components_of x) (A : IsActor x p w c a) (work : Work) (f : a.work ≡ Some work)
+    (s : Stream) (g : stream_of (number_of a) w ≡ Some s) where
+  abbrev t : Terms
+  t = terms_in a work
+
+  abbrev zs : List Carried
+  zs = carried w.headers work.headers
+
+  abbrev n : ℕ
+  n = step_frames t s zs
+
+  abbrev shape : Shape
+  shape = shape_of t
+
+  ports : HasFramesOf t.inputs t.outputs shape
+  ports = frames_of_ports x p w c a W e b A work f
+
+  zeros_long : (i : ℕ) → i < length t.inputs → length (zeros_at t i n) ≡ n * shape.input_frame
+  zeros_long i l = length-replicate (bytes_at t i n) 0 ∙ ap (λ (k : ℕ). n * k) (input_frames x p w c a W e b A work f i l)
+
+  found_long : (i : ℕ) → i < length t.inputs → (o : Option Carried) → find (is_for_port i) zs ≡ o → length (front_of t i n o) ≡ n * shape.input_frame
+  found_long i l None h = zeros_long i l
+  found_long i l (Some z) h = either (is_last t 0 z)
+      (λ d. ap (λ (q : Bool). length (if q then zeros_at t i n else take (bytes_at t i n) z.header.content)) d ∙ zeros_long i l)
+      (λ d.
+      let r = found_at (is_for_port i) zs z h in
+      let port : z.port ≡ i = eqb-true _ _ r.2 in
+      let k = offered x p w c a W e b A work f s g r.0 z r.1 d in
+      let low = number_low x p w c a W e b A work f s g k.0 (frames_at t z) k.1 in
+      let inside : nat_lt z.port (length t.inputs) ≡ true = lt-ltb z.port (length t.inputs) (omega arith) in
+      let v : frames_at t z ≡ frames_in t z = ap (λ (q : Bool). if q then frames_in t z else frames_for t z) inside in
+      let fb : ℕ = frame_bytes_of (format_at t z.port) in
+      let small = div-mul-le_self (length z.header.content) fb in
+      let most = mul-le-mul_right fb (let m : n ≤ frames_in t z = omega arith in m) in
+      let same : bytes_at t i n ≡ n * fb = ap (λ (q : ℕ). n * frame_bytes_of (format_at t q)) (sym port) in
+      ap (λ (q : Bool). length (if q then zeros_at t i n else take (bytes_at t i n) z.header.content)) d
+      ∙ (length-take-le (bytes_at t i n) z.header.content (omega arith) ∙ ap (λ (q : ℕ). n * q) (input_frames x p w c a W e b A work f i l)))
+
+  file_unit : (o : Option Attached) → a.file ≡ o → is_source a.settings.kind ≡ true → n ≤ frames_of o → n * frame_bytes_of (file_format o) ≡ n * shape.output_frame
+  file_unit None h q l = none_alike n (frame_bytes_of (file_format None)) shape.output_frame (omega arith)
+  file_unit (Some (To planned)) h q l =
+      let k = source_early a.settings.kind q A.early_source in
+      let m = ((parts_of w W.sound).components (script_place x c) a e).file (To planned) h in
+      let z : false ≡ true = subst (λ (u : Kind). may_have u (file_port_format a) (To planned) ≡ true) k m in
+      absurd cc
+  file_unit (Some (From format frames)) h q l =
+      let k = source_early a.settings.kind q A.early_source in
+      let S = (parts_of w W.sound).components (script_place x c) a e in
+      let m : may_have kinds.Source (file_port_format a) (From format frames) ≡ true = subst (λ (u : Kind). may_have u (file_port_format a) (From format frames) ≡ true) k (S.file (From format frames) h) in
+      let is = source_format (file_port_format a) format frames m in
+      let none : inputs_of a.settings.kind ≡ 0 = ap inputs_of k in
+      let one : length a.settings.ports ≡ 1 = (S.whole).ports ∙ ap ports_in k in
+      let st = get_there a.settings.ports 0 (omega arith) in
+      let at : file_port_format a ≡ (st.0).definition.format = ap (λ (u : PortSetting). u.definition.format) (get_or_from_slice_get a.settings.ports 0 st.0 (default_setting a.settings.kind (is_input a.settings.kind 0)) st.1) in
+      let first : slice_get (formats_of a.settings.ports) 0 ≡ Some (st.0).definition.format = slice_get-map (λ (u : PortSetting). u.definition.format) a.settings.ports 0 ∙ ap (option_map (λ (u : PortSetting). u.definition.format)) st.1 in
+      let there : slice_get t.outputs 0 ≡ Some (st.0).definition.format =
+      drop_at (inputs_of a.settings.kind) (formats_of a.settings.ports) 0 ∙ (let y : inputs_of a.settings.kind + 0 ≡ 0 = omega arith in ap (slice_get (formats_of a.settings.ports)) y ∙ first) in
+      let F = at_all (IsFrame shape.channels shape.output_frame) t.outputs 0 (st.0).definition.format ports.output there in
+      ap (λ (u : ℕ). n * u) (ap frame_bytes_of (is ∙ at) ∙ F.size)
+
+  module _ (piece : List ℕ) (G : Gives t s n piece) where
+    file_long : is_source a.settings.kind ≡ true → length piece ≡ n * shape.output_frame
+    file_long q =
+        let T : IsTold s.known (bytes_given t s) (n * frame_bytes_of (file_format a.file)) piece = subst (λ (u : Bool). GivesBy u t s n piece) q G in
+        let m = source_number x p w c a W e b A work f s g q in
+        let low = least_low (frames_left t s ∷ all_frames_at t zs) 0 (frames_left t s) refl in
+        told_long s.known (bytes_given t s) (n * frame_bytes_of (file_format a.file)) piece T ∙ file_unit a.file refl q (omega arith)
+
+    -- whole frames in, and as many out
+    pub made_long : (port l : ℕ) → IsLinkAt false (x.layout).network c l → length (made_at t (incoming t n zs piece) port) ≡ n * x.unit l
+    made_long port l I =
+        let S = (parts_of w W.sound).components (script_place x c) a e in
+        let H : HasFrames shape n (incoming t n zs piece) = record { input = λ i d. found_long i (let k = ports.input_count in omega arith) (find (is_for_port i) zs) refl } in
+        sized t n (incoming t n zs piece) (port - length t.inputs) (S.whole).sized (lawful x p w c a W e b A work f) H file_long
+        ∙ ap (λ (u : ℕ). n * u) (output_unit x p w c a W e b A work f l I)
