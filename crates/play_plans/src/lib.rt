@@ -1,0 +1,44 @@
+//! A plan as the cast of a play, and the conductor of a play in the model's phases. Stated on functions that do nothing; the
+//! play stands on them.
+#![tactic(auto)]
+
+ghost use Rattle.std.specs.Prelude.{◌≡◌, ℕ, ◌+◌, List, [], Option};
+ghost use Rattle.omx_types.specs.declared.state.State.{State};
+ghost use Rattle.il_machine.specs.declared.answer.Progress.{Progress};
+ghost use Rattle.il_machine.specs.World.{World};
+ghost use Rattle.conductor.specs.declared.phase.ChangeStep.{ChangeStep};
+ghost use Rattle.conductor.specs.declared.phase.Phase.TheVariants.{Change, Failed, Over, Send, Wait};
+ghost use Rattle.conductor.specs.Hearing.{ConductorValue, heard};
+ghost use Rattle.conductor.specs.Phases.{Conducts};
+ghost use Rattle.play_model.specs.Play.{Play};
+ghost use Rattle.play_model.specs.Reached.{IsOver};
+ghost use Rattle.play_model.specs.Acts.{Act, CanAct, acted};
+ghost use Rattle.play_worlds.specs.Cast.{Cast};
+ghost use Rattle.play_worlds.specs.Standing.{target};
+ghost use Rattle.play_worlds.specs.Worlds.{IsPlayWorld};
+ghost use Rattle.play_plans.specs.Conducting.{HasSinks, HasViews, IsConductorOf};
+
+/// A conductor that has heard what the components told sends the next state exactly where the model begins one, and says that
+/// all is over exactly where it is. It never fails, and it changes nothing where no source is late.
+pub fn law_of_conductors()
+    ensures hears { (x : Cast) (p : Play) (w : World) (value : ConductorValue) (views : List (Option Progress))
+        → IsPlayWorld x p w → HasSinks x value → HasViews x w value views → value.lates ≡ [] → value.sends ≡ p.phase
+        → IsConductorOf x p (heard value views) }
+    ensures sends { (x : Cast) (p : Play) (w : World) (value next : ConductorValue) (state : State)
+        → IsPlayWorld x p w → IsConductorOf x p value → Conducts value (Send state) next
+        → CanAct x.layout p Act.Begin × (state ≡ target (p.phase + 1)) × IsConductorOf x (acted x.layout Act.Begin p) next }
+    ensures begins { (x : Cast) (p : Play) (w : World) (value : ConductorValue)
+        → IsPlayWorld x p w → IsConductorOf x p value → CanAct x.layout p Act.Begin
+        → Conducts value (Send (target (p.phase + 1))) (record value { sends = value.sends + 1 }) }
+    ensures over { (x : Cast) (p : Play) (w : World) (value next : ConductorValue)
+        → IsPlayWorld x p w → IsConductorOf x p value → Conducts value Over next → IsOver x.layout p × (next ≡ value) }
+    ensures ends { (x : Cast) (p : Play) (w : World) (value : ConductorValue)
+        → IsPlayWorld x p w → IsConductorOf x p value → IsOver x.layout p → Conducts value Over value }
+    ensures waits { (x : Cast) (p : Play) (w : World) (value next : ConductorValue)
+        → IsPlayWorld x p w → IsConductorOf x p value → Conducts value Wait next
+        → (CanAct x.layout p Act.Begin → ⊥) × (IsOver x.layout p → ⊥) × (next ≡ value) }
+    ensures whole { (x : Cast) (p : Play) (w : World) (value next : ConductorValue)
+        → IsPlayWorld x p w → IsConductorOf x p value → Conducts value Failed next → ⊥ }
+    ensures steady { (x : Cast) (p : Play) (w : World) (value next : ConductorValue) (component : ℕ) (step : ChangeStep)
+        → IsPlayWorld x p w → IsConductorOf x p value → Conducts value (Change component step) next → ⊥ }
+{}
