@@ -24,6 +24,7 @@ pub mod Outgoing
 pub mod Steps
 pub mod Told
 pub mod Finishes
+pub mod Openings
 pub mod Passing
 pub mod Handing
 pub mod Notes

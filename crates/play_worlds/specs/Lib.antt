@@ -1,4 +1,5 @@
 pub mod Cast
+pub mod Openings
 pub mod Standing
 pub mod Telling
 pub mod Wiring

@@ -25,8 +25,14 @@ ghost use Rattle.play_model.specs.Play.{Play, other_component, supplier};
 ghost use Rattle.play_model.specs.Acts.{Act, CanAct, acted};
 ghost use Rattle.play_loop.specs.Turns.{HasActed, IsAtRest};
 ghost use Rattle.play_worlds.specs.Cast.{Cast, away_at, components_of, home_at, links_of, script_place};
+ghost use Rattle.play_worlds.specs.Openings.{opening, IsOpeningWorld};
 ghost use Rattle.play_worlds.specs.Standing.{target};
 ghost use Rattle.play_worlds.specs.Worlds.{HappensTo, IsPlayWorld, LeadsTo, Names};
+
+/// The world in which a play begins is a world of the play, where nothing was begun, made or done.
+pub fn law_of_openings()
+    ensures { (x : Cast) (w : World) → IsOpeningWorld x w → IsPlayWorld x opening w }
+{}
 
 /// The conductor begins the next StateSet: the world stays. What it then sends to a component is accepted.
 pub fn law_of_sends()
