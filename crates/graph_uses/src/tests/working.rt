@@ -37,7 +37,7 @@ fn half(rt: &impl Abort, alloc: Global, graph: &mut Plain) -> Handle {
 
 /// The header with the bytes and the end of the stream.
 fn last(rt: &impl Abort, mut header: Header, bytes: &[u8]) -> Header
-    ensures { (l : Look) → IsHandedIn header l → IsHandedIn result l }
+    ensures handed { (l : Look) → IsHandedIn header l → IsHandedIn result l }
     ensures number { result.held.number ≡ header.held.number }
 {
     assert!(rt; header.fill(bytes, 1).is_ok());
