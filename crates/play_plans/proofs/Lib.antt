@@ -1,1 +1,3 @@
+pub mod Casting
 pub mod Conducting
+pub mod Turns

@@ -13,10 +13,21 @@ ghost use Rattle.conductor.specs.Phases.{Conducts};
 ghost use Rattle.play_model.specs.Play.{Play};
 ghost use Rattle.play_model.specs.Reached.{IsOver};
 ghost use Rattle.play_model.specs.Acts.{Act, CanAct, acted};
-ghost use Rattle.play_worlds.specs.Cast.{Cast};
+ghost use Rattle.wav_form.specs.declared.heads.WavHead.{WavHead};
+ghost use Rattle.play_forms.specs.Flows.{AreFlows, AreFrames};
+ghost use Rattle.play_forms.specs.Plans.{IsFit, IsValid, PlanValue};
+ghost use Rattle.play_worlds.specs.Cast.{Cast, IsCast};
 ghost use Rattle.play_worlds.specs.Standing.{target};
 ghost use Rattle.play_worlds.specs.Worlds.{IsPlayWorld};
+ghost use Rattle.play_plans.specs.Casting.{IsCastOf, IsInLimits};
 ghost use Rattle.play_plans.specs.Conducting.{HasSinks, HasViews, IsConductorOf};
+
+/// The cast of a valid plan that fits the heads of its files, whoever supplies the headers of its links.
+pub fn law_of_casts()
+    ensures { (plan : PlanValue) (heads : List WavHead) (x : Cast) → IsValid plan
+        → AreFlows plan.parts plan.joints heads plan.flows → AreFrames plan.parts plan.joints heads plan.flows plan.frames
+        → IsFit plan → IsInLimits plan → IsCastOf plan x → IsCast x }
+{}
 
 /// A conductor that has heard what the components told sends the next state exactly where the model begins one, and says that
 /// all is over exactly where it is. It never fails, and it changes nothing where no source is late.

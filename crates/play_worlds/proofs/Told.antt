@@ -65,7 +65,7 @@ stream_else w v k j change keeps h d = ap (find (is_stream_of j)) h ∙ find_els
 
 -- ---- tests of a list
 
-any_there : {X : Type 0} (test : X → Bool) (xs : List X) (i : ℕ) (y : X) → slice_get xs i ≡ Some y → test y ≡ true → list_any test xs ≡ true
+pub any_there : {X : Type 0} (test : X → Bool) (xs : List X) (i : ℕ) (y : X) → slice_get xs i ≡ Some y → test y ≡ true → list_any test xs ≡ true
 any_there test [] i y e t = absurd cc
 any_there test (z ∷ xs) zero y e t = let s : z ≡ y = cc in let u : test z ≡ true = ap test s ∙ t in rw u refl
 any_there test (z ∷ xs) (suc i) y e t = let r = any_there test xs i y e t in either (test z) (λ u. rw u refl) (λ u. rw u r)
