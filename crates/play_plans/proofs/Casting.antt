@@ -21,7 +21,7 @@ use Rattle.flow_model.specs.Progress.{sum_to}
 use Rattle.play_forms.specs.declared.flow.Flow.{Flow}
 use Rattle.play_forms.specs.declared.joint.Joint.{Joint}
 use Rattle.play_forms.specs.Flows.{AreFlows, AreFrames, flow_at, most_frames, no_flow}
-use Rattle.play_forms.specs.Joints.{headers_of, is_joint, names_port, shares_port}
+use Rattle.play_forms.specs.Joints.{AllJoin, headers_of, is_joint, names_port, shares_port}
 use Rattle.play_forms.specs.Parts.{kind_of, has_input, has_output, passes_at}
 use Rattle.play_forms.specs.Placing.{IsOrder, has_place, is_fed}
 use Rattle.play_forms.specs.Plans.{PlanValue, IsFit, IsValid}
@@ -90,6 +90,14 @@ or_right false b h = h
 there : (parts : List PartLine) (test : Kind → Bool) (place : ℕ) (o : Option PartLine) → slice_get parts place ≡ o → passes_at test o ≡ true → (part : PartLine) × (slice_get parts place ≡ Some part) × (test (kind_of part.form) ≡ true)
 there parts test place None e h = absurd cc
 there parts test place (Some part) e h = (part, e, h)
+
+-- a taker is a component
+pub takers_within : (parts : List PartLine) (joints : List Joint) → AllJoin parts joints → (k : ℕ) (joint : Joint) → slice_get joints k ≡ Some joint → joint.taker < length parts
+takers_within parts joints all k joint e =
+    let can = both_of (is_joint parts joint) (not (list_any (shares_port joint) (take k joints))) (all k joint e) in
+    let ends = both_of (passes_at (has_output joint.output) (slice_get parts joint.giver)) (passes_at (has_input joint.input) (slice_get parts joint.taker)) can.0 in
+    let p = there parts (has_input joint.input) joint.taker (slice_get parts joint.taker) refl ends.1 in
+    slice_get_within parts joint.taker p.0 p.1
 
 sum_is : (n : ℕ) (f : ℕ → ℕ) (joints : List Joint) → n ≡ length joints → ((l : ℕ) (joint : Joint) → slice_get joints l ≡ Some joint → f l ≡ joint.count) → sum_to n f ≡ headers_of joints
 sum_is n f joints e h = ap (λ (k : ℕ). sum_to k f) e ∙ by_list f joints h

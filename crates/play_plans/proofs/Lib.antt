@@ -1,3 +1,4 @@
 pub mod Casting
+pub mod Casts
 pub mod Conducting
 pub mod Turns

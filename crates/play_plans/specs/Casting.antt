@@ -1,11 +1,13 @@
 -- A plan as the cast of a play. The model names components by their place in the order of placing, and links by their number.
-use Rattle.std.specs.Prelude.{◌≡◌, ℕ, ◌/◌, ◌<◌, ◌≤◌, length, slice_get, Some}
+use Rattle.std.specs.Prelude.{◌≡◌, ℕ, ◌/◌, ◌<◌, ◌≤◌, ◌==◌, Bool, length, slice_get, slice_index_or, Some}
+use Rattle.std.specs.List.{position_or_len}
 use Rattle.omx_types.specs.Formats.{frame_bytes_of}
 use Rattle.part_forms.specs.Kinds.{IsSized, is_late, is_source}
 use Rattle.il_machine.specs.Kinds.{is_sink}
 use Rattle.script_lang.specs.declared.play_line.PartLine.{PartLine}
 use Rattle.play_forms.specs.declared.flow.Flow.{Flow}
 use Rattle.play_forms.specs.declared.joint.Joint.{Joint}
+use Rattle.play_forms.specs.Flows.{no_flow}
 use Rattle.play_forms.specs.Parts.{kind_of, passes_at}
 use Rattle.play_forms.specs.Plans.{PlanValue}
 use Rattle.play_worlds.specs.Cast.{Cast, components_of, links_of, script_place, giver_of, taker_of}
@@ -41,3 +43,45 @@ pub record IsInLimits (plan : PlanValue) : Type 0 where
   pub parts : (place : ℕ) (part : PartLine) → slice_get plan.parts place ≡ Some part → IsSized (kind_of part.form)
   pub joints : (l : ℕ) (joint : Joint) → slice_get plan.joints l ≡ Some joint → 1 ≤ joint.count
   pub flows : (l : ℕ) (flow : Flow) → slice_get plan.flows l ≡ Some flow → 1 ≤ frame_bytes_of flow.format
+
+-- ---- the cast of a plan, with the ends that supply its links
+
+abbrev pub no_joint : Joint
+no_joint = record { line = 0; giver = 0; output = 0; taker = 0; input = 0; count = 0; size = 0 }
+
+abbrev pub joint_of : PlanValue → ℕ → Joint
+joint_of plan l = slice_index_or plan.joints l no_joint
+
+abbrev pub flow_of : PlanValue → ℕ → Flow
+flow_of plan l = slice_index_or plan.flows l no_flow
+
+-- the place of the component that has its turn then, and the turn of the one at a place
+abbrev pub place_of : PlanValue → ℕ → ℕ
+place_of plan c = slice_index_or plan.order c 0
+
+abbrev pub turn_of : PlanValue → ℕ → ℕ
+turn_of plan place = position_or_len (λ (other : ℕ). other == place) plan.order
+
+abbrev pub cast_of : (ℕ → Bool) → PlanValue → Cast
+cast_of by_output plan = record {
+  layout = record {
+    network = record {
+      components = length plan.parts;
+      links = length plan.joints;
+      giver = λ l. turn_of plan (joint_of plan l).giver;
+      taker = λ l. turn_of plan (joint_of plan l).taker;
+      count = λ l. (joint_of plan l).count;
+      fits = λ l. (joint_of plan l).size / frame_bytes_of (flow_of plan l).format;
+      is_source = λ c. passes_at is_source (slice_get plan.parts (place_of plan c));
+      frames = λ c. slice_index_or plan.frames (place_of plan c) 0;
+    };
+    by_output = by_output;
+    is_sink = λ c. passes_at is_sink (slice_get plan.parts (place_of plan c));
+    is_late = λ l. passes_at is_late (slice_get plan.parts (joint_of plan l).giver);
+    place = place_of plan;
+  };
+  output_port = λ l. (joint_of plan l).output;
+  input_port = λ l. (joint_of plan l).input;
+  unit = λ l. frame_bytes_of (flow_of plan l).format;
+  size = λ l. (joint_of plan l).size;
+}

@@ -2,7 +2,7 @@
 //! play stands on them.
 #![tactic(auto)]
 
-ghost use Rattle.std.specs.Prelude.{◌≡◌, ℕ, ◌+◌, List, [], Option};
+ghost use Rattle.std.specs.Prelude.{◌≡◌, ℕ, ◌+◌, Bool, List, [], Option};
 ghost use Rattle.omx_types.specs.declared.state.State.{State};
 ghost use Rattle.il_machine.specs.declared.answer.Progress.{Progress};
 ghost use Rattle.il_machine.specs.World.{World};
@@ -19,12 +19,13 @@ ghost use Rattle.play_forms.specs.Plans.{IsFit, IsValid, PlanValue};
 ghost use Rattle.play_worlds.specs.Cast.{Cast, IsCast};
 ghost use Rattle.play_worlds.specs.Standing.{target};
 ghost use Rattle.play_worlds.specs.Worlds.{IsPlayWorld};
-ghost use Rattle.play_plans.specs.Casting.{IsCastOf, IsInLimits};
+ghost use Rattle.play_plans.specs.Casting.{IsCastOf, IsInLimits, cast_of};
 ghost use Rattle.play_plans.specs.Conducting.{HasSinks, HasViews, IsConductorOf};
 
-/// The cast of a valid plan that fits the heads of its files, whoever supplies the headers of its links.
+/// A valid plan has a cast, whoever supplies the headers of its links. Where it fits the heads of its files, that is one of a play.
 pub fn law_of_casts()
-    ensures { (plan : PlanValue) (heads : List WavHead) (x : Cast) → IsValid plan
+    ensures some { (plan : PlanValue) (by_output : ℕ → Bool) → IsValid plan → IsCastOf plan (cast_of by_output plan) }
+    ensures cast { (plan : PlanValue) (heads : List WavHead) (x : Cast) → IsValid plan
         → AreFlows plan.parts plan.joints heads plan.flows → AreFrames plan.parts plan.joints heads plan.flows plan.frames
         → IsFit plan → IsInLimits plan → IsCastOf plan x → IsCast x }
 {}
