@@ -7,19 +7,23 @@ use note_queues::ProgressClient;
 use omx_types::{CallError, Handle};
 use std::alloc::{AllocError, Global};
 use std::collections::HashMap;
-use std::time::{Duration, Instant};
+use std::time::Instant;
 use std::{env, io};
 
 type Components = Graph<NoFile, NoFile, ProgressClient>;
 
-/// How many components, and how many entries, are timed.
-const ROUNDS: u32 = 1_000_000;
+/// How many components, and how many entries, are timed in a turn.
+const ROUNDS: u32 = 100_000;
+
+/// How often each case is timed.
+const TURNS: u32 = 9;
 
 /// Why no figure can be given.
 #[derive(Clone, Copy, Debug)]
 enum Stopped {
     Memory,
     Refused,
+    Clock,
 }
 
 impl From<AllocError> for Stopped {
@@ -34,6 +38,12 @@ impl From<CallError> for Stopped {
             CallError::OutOfMemory => Stopped::Memory,
             CallError::Omx(_) => Stopped::Refused,
         }
+    }
+}
+
+impl From<io::Error> for Stopped {
+    fn from(_error: io::Error) -> Stopped {
+        Stopped::Clock
     }
 }
 
@@ -86,81 +96,103 @@ enum Order {
     Oldest,
 }
 
-fn make_all(
-    alloc: Global,
-    graph: &mut Components,
-    name: &str,
+/// Components of a name that are made and freed beside so many others.
+#[derive(Clone, Copy)]
+struct Case {
+    name: &'static str,
     others: u32,
     order: Order,
-) -> Result<(), CallError> {
-    for _ in 0..others {
-        made(alloc, graph, name)?;
+}
+
+/// A case, of those from 0 to 4.
+fn case_at(place: usize) -> Case {
+    let (name, others, order) = match place {
+        0 => ("OMX.lab.gain", 0, Order::Newest),
+        1 => ("OMX.lab.gain", 31, Order::Newest),
+        2 => ("OMX.lab.gain", 31, Order::Oldest),
+        3 => ("OMX.lab.mixer.8", 31, Order::Newest),
+        _ => ("OMX.lab.mixer.8", 31, Order::Oldest),
+    };
+    Case {
+        name,
+        others,
+        order,
     }
-    match order {
-        Order::Newest => make_newest(alloc, graph, name),
-        Order::Oldest => make_oldest(alloc, graph, name),
+}
+
+/// The nanoseconds of the pairs on the graph.
+fn time_pairs(rt: &HostRuntime, graph: &mut Components, case: Case) -> Result<u128, Stopped> {
+    let alloc = rt.alloc();
+    for _ in 0..case.others {
+        made(alloc, graph, case.name)?;
     }
-}
-
-/// Components of the name are made and freed beside so many others. The graph is ended on every path.
-fn run_components(alloc: Global, name: &str, others: u32, order: Order) -> Result<(), Stopped> {
-    let mut graph = Components::new(alloc, 128)?;
-    let outcome = make_all(alloc, &mut graph, name, others, order);
-    graph.dispose();
-    outcome?;
-    Ok(())
-}
-
-fn run_entries(alloc: Global) -> Result<(), Stopped> {
-    let mut map = HashMap::new(alloc);
-    put_entries(&mut map)?;
-    Ok(())
-}
-
-/// A pair's nanoseconds, and how many hundredths of an entry's they are.
-fn report(rt: &HostRuntime, name: &str, entry: Duration, time: Duration) -> io::Result<()> {
-    let pair = time.as_nanos() / u128::from(ROUNDS);
-    let ratio = time.as_nanos().saturating_mul(100) / entry.as_nanos().max(1);
-    println!(rt; "{name}: {pair} ns a pair, {ratio} hundredths of an entry")
-}
-
-fn time_components(
-    rt: &HostRuntime,
-    text: &str,
-    entry: Duration,
-    case: (&str, u32, Order),
-) -> io::Result<()> {
-    let (name, others, order) = case;
     let start = Instant::now(rt)?;
-    let outcome = run_components(rt.alloc(), name, others, order);
-    let time = start.elapsed(rt)?;
-    match outcome {
-        Ok(()) => report(rt, text, entry, time),
-        Err(_) => println!(rt; "{text}: memory was wanting, or a call was refused"),
+    match case.order {
+        Order::Newest => make_newest(alloc, graph, case.name)?,
+        Order::Oldest => make_oldest(alloc, graph, case.name)?,
     }
+    Ok(start.elapsed(rt)?.as_nanos())
+}
+
+/// The same on a graph of its own, which is ended on every path.
+fn time_case(rt: &HostRuntime, case: Case) -> Result<u128, Stopped> {
+    let mut graph = Components::new(rt.alloc(), 128)?;
+    let timed = time_pairs(rt, &mut graph, case);
+    graph.dispose();
+    timed
+}
+
+fn time_entries(rt: &HostRuntime) -> Result<u128, Stopped> {
+    let mut map = HashMap::new(rt.alloc());
+    let start = Instant::now(rt)?;
+    put_entries(&mut map)?;
+    Ok(start.elapsed(rt)?.as_nanos())
+}
+
+/// The best times.
+#[derive(Clone, Copy)]
+struct Times {
+    entries: u128,
+    cases: [u128; 5],
+}
+
+/// The entries and the cases take turns.
+fn best_times(rt: &HostRuntime) -> Result<Times, Stopped> {
+    let mut entries = u128::MAX;
+    let mut cases = [u128::MAX; 5];
+    for _ in 0..TURNS {
+        entries = entries.min(time_entries(rt)?);
+        for place in 0..5 {
+            cases[place] = cases[place].min(time_case(rt, case_at(place))?);
+        }
+    }
+    Ok(Times { entries, cases })
+}
+
+fn hundredths(time: u128, of: u128) -> u128 {
+    time.saturating_mul(100) / of.max(1)
+}
+
+/// A pair's nanoseconds, and how many hundredths of an entry's and of a lone gain's they are.
+fn report(rt: &HostRuntime, times: Times, text: &str, time: u128) -> io::Result<()> {
+    let pair = time / u128::from(ROUNDS);
+    let of_entry = hundredths(time, times.entries);
+    let of_gain = hundredths(time, times.cases[0]);
+    println!(rt;
+        "{text}: {pair} ns a pair, {of_entry} hundredths of an entry, {of_gain} of a gain alone"
+    )
 }
 
 fn figures(rt: &HostRuntime) -> io::Result<()> {
-    let start = Instant::now(rt)?;
-    let outcome = run_entries(rt.alloc());
-    let entry = start.elapsed(rt)?;
-    match outcome {
-        Ok(()) => report(rt, "map entry", entry, entry)?,
-        Err(_) => println!(rt; "map entry: memory was wanting")?,
-    }
-    time_components(rt, "gain, alone", entry, ("OMX.lab.gain", 0, Order::Newest))?;
-    time_components(
-        rt,
-        "mixer of 8, newest of 32",
-        entry,
-        ("OMX.lab.mixer.8", 31, Order::Newest),
-    )?;
-    time_components(
-        rt,
-        "mixer of 8, oldest of 32",
-        entry,
-        ("OMX.lab.mixer.8", 31, Order::Oldest),
-    )
+    let Ok(times) = best_times(rt) else {
+        return println!(rt; "memory was wanting, or a call was refused");
+    };
+    report(rt, times, "map entry", times.entries)?;
+    report(rt, times, "gain, alone", times.cases[0])?;
+    report(rt, times, "gain, newest of 32", times.cases[1])?;
+    report(rt, times, "gain, oldest of 32", times.cases[2])?;
+    report(rt, times, "mixer of 8, newest of 32", times.cases[3])?;
+    report(rt, times, "mixer of 8, oldest of 32", times.cases[4])
 }
 
 fn main(rt: HostRuntime) -> io::Result<()> {
