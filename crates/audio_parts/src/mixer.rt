@@ -4,6 +4,7 @@ ghost use Rattle.omx_types.specs.Formats.{channels_of};
 ghost use Rattle.omx_types.specs.declared.kind.Kind.TheVariants as kinds;
 ghost use Rattle.pcm_ops.specs.Samples.{samples, bytes, mixed, clamped, IsSum};
 ghost use Rattle.part_forms.specs.Mixing.{mixing, Carries};
+ghost use Rattle.audio_parts.specs.Ready.{IsReady};
 
 use crate::OutOfMemory;
 use omx_types::{Format, PartFault};
@@ -170,7 +171,7 @@ impl Part for Mixer {
 
     ghost failed = { λ mixer. false };
 
-    ghost is_ready = { λ mixer. Unit {0} };
+    ghost is_ready = { λ mixer. IsReady (record { kind = kinds.Mixer (vec_len mixer.weights); inputs = mixer.inputs.items; outputs = mixer.output ∷ []; factors = mixer.weights.items; file = None }) false };
 
     ghost can_take = { λ mixer input. (input < length mixer.weights.items) × (slice_index_or mixer.taken.items input true ≡ false) };
 

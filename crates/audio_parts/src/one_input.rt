@@ -1,5 +1,6 @@
 ghost use Rattle.std.specs.Prelude.{◌≡◌, ◌+◌, ◌*◌, ◌<◌, ◌≤◌, false, length, take, vec_len, IfOk, None, []};
 ghost use Rattle.audio_parts.specs.Kinds.{with_format};
+ghost use Rattle.audio_parts.specs.Ready.{IsReady};
 ghost use Rattle.part_forms.specs.Manners.{through};
 
 use crate::OutOfMemory;
@@ -67,7 +68,7 @@ impl<E: Effect> Part for OneInput<E> {
 
     ghost failed = { λ part. false };
 
-    ghost is_ready = { λ part. Unit {0} };
+    ghost is_ready = { λ part. IsReady (E.terms part.effect) false };
 
     ghost can_take = { λ part input. input < 1 };
 

@@ -17,6 +17,7 @@ use Rattle.block_region.specs.contracts.memory.Sole as Sole
 use Rattle.block_region.specs.contracts.memory.Sole.TheInside as Inside
 use Rattle.block_region.specs.contracts.roster.Roster as Roster
 use Rattle.block_region.specs.contracts.roster.Ticket as Ticket
+use Rattle.block_region.specs.contracts.seal.Seal as Seal
 use Rattle.block_region.specs.Ownership.{run_owns, room_of, entry, entries, ticket}
 
 pub u8-send : IsSend u8
@@ -71,3 +72,6 @@ roster-send = owning_send Roster.the_type tt (λ r. entries-keyless r.key.size r
 
 pub ticket-send : IsSend Ticket.the_row
 ticket-send = owning_send Ticket.the_type tt (λ t. ticket-keyless t.key.names t.number t.home) (λ k x w. tt)
+
+pub seal-send : IsSend Seal.the_row
+seal-send = owning_send Seal.the_type tt (λ s. tt) (λ k x w. tt)

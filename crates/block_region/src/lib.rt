@@ -11,9 +11,11 @@ mod block;
 mod memory;
 mod region;
 mod roster;
+mod seal;
 #[cfg(test)]
 mod tests;
 mod threads;
 
 pub use block::Block;
 pub use region::{OutOfMemory, Region};
+pub use seal::Seal;

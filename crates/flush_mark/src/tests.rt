@@ -1,15 +1,16 @@
 ghost use Rattle.std.specs.Prelude.{◌≡◌, ◌<◌, ◌+◌, length, true, IfOk, Some};
 ghost use Rattle.il_machine.specs.declared.header.Home.TheVariants as homes;
 ghost use Rattle.port_stock.specs.Kept.{stocked};
-ghost use Rattle.port_stock.specs.Conditions.{is_home_among};
+ghost use Rattle.port_stock.specs.Conditions.{IsOutside, is_home_among};
 ghost use Rattle.flush_mark.specs.Example.{HasBoth, IsEnd, IsFilled, IsTunnel, input, output};
 
 use crate::{attach_mark, flush_settled, reset_home};
-use header_core::{Header, Memory, Store};
+use header_core::{Header, Memory};
 use il_machine::{Home, Link, Mark, Mode, Port, PortKey, PortSetting, PortState, Spot};
 use omx_types::{Format, Handle, PortDefinition, Supplier};
 use port_stock::{OutOfMemory, Stock};
 use std::alloc::{AllocError, Global};
+use std::process::Abort;
 use std::test::Fail;
 
 const INPUT: PortKey = PortKey {
@@ -107,22 +108,31 @@ fn place(stock: &mut Stock, bytes: Vec<u8>, home: PortKey, at: (PortKey, Spot), 
     ensures tunnel { IsTunnel (stocked stock.new) }
     ensures next { (stocked stock.new).next ≡ (stocked stock.old).next + 1 }
 {
-    let store = Store::Block(Memory::new(bytes));
-    let mut header = stock.populate(INPUT, Some(OUTPUT), Home::Port(home), store, 4);
+    let memory = Some(Memory::new(bytes));
+    let mut header = stock.populate(INPUT, Some(OUTPUT), Home::Port(home), memory, 4);
     fill(&mut header, mark);
     stock.push_work(at.0, header, at.1);
 }
 
-/// What the header carries, which then goes.
-fn spend(header: Header) -> Carried {
+/// What the header carries, which then is unmade.
+fn spend(stock: &mut Stock, header: Header) -> Carried
+    requires ports { HasBoth (stocked stock.old) }
+    requires outside { IsOutside header (stocked stock.old) }
+    ensures { HasBoth (stocked stock.new) }
+{
     let carried = (
         header.id(),
         header.content().len(),
         header.flags(),
         header.mark(),
     );
-    header.dispose();
+    let _memory = stock.withdraw(header);
     carried
+}
+
+fn end_stock(rt: &impl Abort, stock: Stock) {
+    assert!(rt; stock.all_wait());
+    stock.close();
 }
 
 fn next_todo(stock: &mut Stock, key: PortKey) -> Option<Carried>
@@ -131,7 +141,7 @@ fn next_todo(stock: &mut Stock, key: PortKey) -> Option<Carried>
     ensures { HasBoth (stocked stock.new) }
 {
     match stock.pull_work(key) {
-        Some(header) => Some(spend(header)),
+        Some(header) => Some(spend(stock, header)),
         None => None,
     }
 }
@@ -142,7 +152,7 @@ fn next_done(stock: &mut Stock, key: PortKey) -> Option<Carried>
     ensures { HasBoth (stocked stock.new) }
 {
     match stock.send_front(key) {
-        Some(header) => Some(spend(header)),
+        Some(header) => Some(spend(stock, header)),
         None => None,
     }
 }
@@ -185,7 +195,7 @@ fn flushes_a_supplying_output(rt: HostRuntime) -> Result<(), Fail> {
     let third = next_todo(&mut stock, OUTPUT);
     let rest = (next_todo(&mut stock, OUTPUT), next_done(&mut stock, OUTPUT));
     let away = next_todo(&mut stock, INPUT);
-    stock.dispose();
+    end_stock(&rt, stock);
     assert_eq!(rt; settled, (true, false));
     assert_eq!(rt; first, Some((2, 0, 0, None)));
     assert_eq!(rt; second, Some((0, 0, 0, None)));
@@ -208,7 +218,7 @@ fn flushes_a_supplying_input(rt: HostRuntime) -> Result<(), Fail> {
     let third = next_done(&mut stock, INPUT);
     let rest = (next_done(&mut stock, INPUT), next_todo(&mut stock, INPUT));
     let away = next_todo(&mut stock, OUTPUT);
-    stock.dispose();
+    end_stock(&rt, stock);
     assert_eq!(rt; settled, (true, false));
     assert_eq!(rt; first, Some((2, 0, 0, None)));
     assert_eq!(rt; second, Some((0, 0, 0, None)));
@@ -226,7 +236,7 @@ fn resets_nothing_of_the_other_end(rt: HostRuntime) -> Result<(), Fail> {
     let done = next_done(&mut stock, OUTPUT);
     let todo = next_todo(&mut stock, OUTPUT);
     let away = next_todo(&mut stock, INPUT);
-    stock.dispose();
+    end_stock(&rt, stock);
     assert_eq!(rt; done, Some((0, 2, 1, Some(mark_of(7)))));
     assert_eq!(rt; todo, Some((2, 2, 1, None)));
     assert_eq!(rt; away, Some((3, 2, 1, None)));
@@ -242,7 +252,7 @@ fn marks_the_first_that_has_none(rt: HostRuntime) -> Result<(), Fail> {
     let first = next_todo(&mut stock, INPUT);
     let next = (next_todo(&mut stock, INPUT), next_todo(&mut stock, INPUT));
     let away = next_todo(&mut stock, OUTPUT);
-    stock.dispose();
+    end_stock(&rt, stock);
     assert_eq!(rt; (second, third, none), (true, true, false));
     assert_eq!(rt; first, Some((0, 2, 1, Some(mark_of(7)))));
     assert_eq!(rt;

@@ -17,7 +17,7 @@ impl<S: Source, K: Sink, C: Client> Served<S, K, C> {
     pub(crate) fn allocate_buffer(&mut self, h: Handle, port: u32) -> Reply<S, K, C>
         ensures { Moved (sight_of C.progress S.place S.size S.told K.told) (asks.AllocateBuffer h port) result self.old.graph self.new.graph }
     {
-        Reply::AllocateBuffer(self.graph.allocate_buffer(self.alloc, h, port))
+        Reply::AllocateBuffer(self.graph.allocate_buffer(h, port))
     }
 
     pub(crate) fn use_buffer(&mut self, h: Handle, port: u32, bytes: Vec<u8>) -> Reply<S, K, C>

@@ -51,7 +51,7 @@ impl<S: Source, K: Sink, C: Client> Served<S, K, C> {
     pub(crate) fn supply(&mut self, h: Handle, port: u32) -> Reply<S, K, C>
         ensures { Moved (sight_of C.progress S.place S.size S.told K.told) (asks.Supply h port) result self.old.graph self.new.graph }
     {
-        Reply::Supply(self.graph.supply(self.alloc, h, port))
+        Reply::Supply(self.graph.supply(h, port))
     }
 
     pub(crate) fn release(&mut self, h: Handle, port: u32) -> Reply<S, K, C>

@@ -1,5 +1,5 @@
 -- Headers of client ports are made, unmade and handed in.
-use Rattle.std.proofs.Common.{◌≡◌, ℕ, ◌+◌, ◌<◌, ◌≤◌, true, false, not, ◌&&◌, nat_eq, [], ◌∷◌, ◌++◌, Option, Some, None, MatchOption, slice_get, refl, sym, ◌∙◌, ap, subst, arith}
+use Rattle.std.proofs.Common.{◌≡◌, ℕ, ◌+◌, ◌<◌, ◌≤◌, true, false, not, ◌&&◌, nat_eq, List, [], ◌∷◌, ◌++◌, is_some, Option, Some, None, MatchOption, slice_get, refl, sym, ◌∙◌, ap, subst, arith}
 use Rattle.std.proofs.lemmas.Bool.Decides.{nat_tests}
 use Rattle.omx_types.specs.declared.error.OmxError.TheVariants as errors
 use Rattle.il_machine.specs.declared.answer.Progress.{Progress}
@@ -16,7 +16,7 @@ use Rattle.il_machine.specs.Look.{look}
 use Rattle.il_machine.specs.Lists.{holds_at}
 use Rattle.il_machine.specs.Room.{room}
 use Rattle.il_machine.specs.Ports.{accepting}
-use Rattle.il_machine.specs.Buffers.{client_header, with_header, with_todo, without_header, unpopulated, is_unpopulating, free_buffer_refusal, load_in}
+use Rattle.il_machine.specs.Buffers.{has_no_block, client_header, with_header, with_todo, without_header, unpopulated, is_unpopulating, free_buffer_refusal, load_in}
 use Rattle.il_machine.specs.Stock.{Stocked, StandsFor, populated, pushed, withdrawn}
 use Rattle.whole_laws.specs.Bare.{StandsBare, StepsBare}
 use Rattle.il_machine.specs.Sound.{Sound, IsOwnedSo}
@@ -30,11 +30,10 @@ use Rattle.machine_laws.proofs.Parts.{parts_of}
 use Rattle.machine_laws.proofs.Replacing.{replaced_put}
 use Rattle.stock_laws.proofs.Standing.{Found, found, push_stands, populate_stands, withdraw_stands}
 use Rattle.whole_laws.proofs.Stocking.{lift_one, with_headers, stands_for, IsFree}
-use Rattle.header_core.specs.declared.memory.Store.{Store}
-use Rattle.header_core.specs.BufferHeader.{BufferHeader, is_clients, own_memory}
+use Rattle.header_core.specs.BufferHeader.{BufferHeader}
 use Rattle.il_component.specs.Entries.{Entry, component_of, KeepsNotices}
 use Rattle.port_stock.specs.Kept.{Kept as StockKept, stocked}
-use Rattle.port_stock.specs.Conditions.{IsOutside, IsHeaderOf, made_in}
+use Rattle.port_stock.specs.Conditions.{HasBlockFor, IsOutside, IsHeaderOf, made_in}
 use Rattle.graph_core.specs.Standing.{SoundWorld}
 use Rattle.graph_core.specs.Changes.{IsHandedIn, IsMakable}
 use Rattle.graph_core.specs.Entries.{Entries, look_of, kept, changed_at, component_at}
@@ -68,6 +67,11 @@ pub port_needed : {C : Type 0} (progress : C → Progress) (g : Entries C) (i : 
     → MatchOption ((look_of g).headers.header header.held.number) ⊥ (λ h. free_buffer_refusal (component_of e) None h ≡ None) → ⊥
 port_needed progress g i e W at header handed x = needs_port ((look_of g).headers.header header.held.number) (component_of e) (λ h. (h.owner ≡ owners.Client) × IsHeaderOf h header) handed.1 x
 
+-- a block is free, where one is needed
+pub block_for : (memory : Option (List ℕ)) (s : Stocked) → (memory ≡ None → has_no_block s.headers ≡ false) → HasBlockFor memory s
+block_for None s h = let q = h refl in grind (arith, nat_tests)
+block_for (Some bytes) s h = tt
+
 module _ {C : Type 0} (progress : C → Progress) (g : Entries C) (i : ℕ) (e : Entry C) (index : ℕ) (p : Port) (W : SoundWorld (kept progress g)) (at : slice_get g.entries i ≡ Some e) (port : port_of (component_of e) index ≡ Some p) where
   abbrev c : Component
   c = component_of e
@@ -86,9 +90,9 @@ module _ {C : Type 0} (progress : C → Progress) (g : Entries C) (i : ℕ) (e :
 
   -- ---- a header is made
 
-  module _ (store : Store) (M : IsMakable (look_of g) c p store) where
+  module _ (memory : Option (List ℕ)) (M : IsMakable (look_of g) c p memory) where
     abbrev made : HeaderState
-    made = client_header s.next p (is_clients store)
+    made = client_header s.next p (is_some memory)
 
     accepts_in : (w : World) → StandsBare (kept progress g) w → accepting (look w).headers c p ≡ true
     accepts_in w S = ap (λ (x : Seen). accepting x c p) (seen_of progress g w S) ∙ M.accepts
@@ -113,24 +117,24 @@ module _ {C : Type 0} (progress : C → Progress) (g : Entries C) (i : ℕ) (e :
 
     module _ (new : s.headers.header s.next ≡ None) (after_stock : StockKept) (now : stocked after_stock ≡ populated made s) where
       abbrev record_made : HeaderRecord
-      record_made = record { state = made; load = empty_load (own_memory store) }
+      record_made = record { state = made; load = empty_load memory }
 
-      steps_made : StepsBare (kept progress g) (kept progress (with_stocked progress after_stock g)) (λ w v. v ≡ with_header (client_header w.made p (is_clients store)) (own_memory store) w)
-      steps_made = stock_steps progress g after_stock (populated made s) (λ w v. v ≡ with_header (client_header w.made p (is_clients store)) (own_memory store) w) now
+      steps_made : StepsBare (kept progress g) (kept progress (with_stocked progress after_stock g)) (λ w v. v ≡ with_header (client_header w.made p (is_some memory)) memory w)
+      steps_made = stock_steps progress g after_stock (populated made s) (λ w v. v ≡ with_header (client_header w.made p (is_some memory)) memory w) now
           (λ w S.
           let free : IsFree s.next s = rw new tt in
           let x = lift_one (kept progress g) s (populated made s) s.next (λ hs. hs ++ record_made ∷ []) (stock_of progress g) refl free
-          (λ hs T. populate_stands s hs made (empty_load (own_memory store)) T new refl refl)
+          (λ hs T. populate_stands s hs made (empty_load memory) T new refl refl)
           (λ hs T. λ m d. push_else m hs record_made (λ q. d (sym q))) w S in
           let m : w.made ≡ s.next = made_of progress g w S in
-          (x.0, x.1, x.2 ∙ ap (λ (k : ℕ). record w { headers = w.headers ++ record { state = client_header k p (is_clients store); load = empty_load (own_memory store) } ∷ []; made = k + 1 }) (sym m)))
+          (x.0, x.1, x.2 ∙ ap (λ (k : ℕ). record w { headers = w.headers ++ record { state = client_header k p (is_some memory); load = empty_load memory } ∷ []; made = k + 1 }) (sym m)))
 
-      pub made_returns : Clause (with_stocked progress after_stock g) (λ c p w v. v ≡ with_header (client_header w.made p (is_clients store)) (own_memory store) w)
-      made_returns = clause_from (with_stocked progress after_stock g) (λ c p w v. v ≡ with_header (client_header w.made p (is_clients store)) (own_memory store) w) steps_made
+      pub made_returns : Clause (with_stocked progress after_stock g) (λ c p w v. v ≡ with_header (client_header w.made p (is_some memory)) memory w)
+      made_returns = clause_from (with_stocked progress after_stock g) (λ c p w v. v ≡ with_header (client_header w.made p (is_some memory)) memory w) steps_made
 
       pub made_worlds : SoundWorld (kept progress (with_stocked progress after_stock g))
-      made_worlds = next_world (kept progress g) (kept progress (with_stocked progress after_stock g)) (λ w v. v ≡ with_header (client_header w.made p (is_clients store)) (own_memory store) w) W steps_made
-          (λ w v S f sound. subst Sound (sym f) (sound_made w i c index p (is_clients store) (own_memory store) sound (at_world progress g i e w S at) port (accepts_in w S) M.alone))
+      made_worlds = next_world (kept progress g) (kept progress (with_stocked progress after_stock g)) (λ w v. v ≡ with_header (client_header w.made p (is_some memory)) memory w) W steps_made
+          (λ w v S f sound. subst Sound (sym f) (sound_made w i c index p (is_some memory) memory sound (at_world progress g i e w S at) port (accepts_in w S) M.alone))
 
   -- ---- a header that the client has
 

@@ -40,3 +40,4 @@ pub mod Ways
 pub mod Returned
 pub mod Finished
 pub mod Announced
+pub mod Unmaking

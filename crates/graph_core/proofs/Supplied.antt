@@ -10,7 +10,7 @@ use Rattle.il_machine.specs.World.{Component, HeaderRecord, World, port_of}
 use Rattle.il_machine.specs.Headers.{Seen, count_headers, is_for, at_spot, put_at, spot_place, empty_load}
 use Rattle.il_machine.specs.Look.{Look, look}
 use Rattle.il_machine.specs.Ports.{accepting, is_supplier, is_input_port}
-use Rattle.il_machine.specs.Buffers.{has_no_number}
+use Rattle.il_machine.specs.Buffers.{has_no_block, has_no_number}
 use Rattle.il_machine.specs.Flow.{End, other_end, supply_idle, supplied_by, supplied_place, tunnel_header, with_supplied}
 use Rattle.il_machine.specs.Stock.{Stocked, StandsFor}
 use Rattle.whole_laws.specs.Bare.{StepsBare}
@@ -28,10 +28,11 @@ use Rattle.il_component.specs.Entries.{Entry, component_of}
 use Rattle.port_stock.specs.Kept.{Kept as StockKept, stocked}
 use Rattle.port_stock.specs.Conditions.{made_in}
 use Rattle.graph_core.specs.Standing.{SoundWorld, HasPorts}
-use Rattle.graph_core.specs.Supplying.{HasRoom, IsSuppliable, supplied_header, supplied_spot, with_supply}
+use Rattle.graph_core.specs.Supplying.{HasRoom, supplied_header, supplied_spot, with_supply}
 use Rattle.graph_core.specs.Entries.{Entries, look_of, kept, component_at}
 use Rattle.graph_core.proofs.Replacing.{there, next_world}
 use Rattle.graph_core.proofs.Stepping.{at_world, with_stocked, stock_of, stock_steps, made_of, seen_of, port_kept}
+use Rattle.graph_core.proofs.Handing.{block_for}
 use Rattle.graph_core.proofs.Peers as peers
 
 -- ---- what a port that supplies has passed
@@ -39,6 +40,7 @@ use Rattle.graph_core.proofs.Peers as peers
 pub record MaySupply (l : Look) (c : Component) (p : Port) (e : End) : Type 0 where
   pub accepts : accepting l.headers c p ≡ true
   pub peer_accepts : accepting l.headers e.component e.port ≡ true
+  pub block : has_no_block l.headers ≡ false
   pub numbers : has_no_number l ≡ false
 
 pub may_supply : (l : Look) (c : Component) (p : Port) (e : End) → other_end l.components p ≡ Some e → supply_idle l c p ≡ None → MaySupply l c p e
@@ -51,6 +53,7 @@ may_supply l c p e o h =
     record {
       accepts = not_not (accepting l.headers c p) b.0;
       peer_accepts = not_not (accepting l.headers e.component e.port) d.0;
+      block = n.0;
       numbers = (passed (has_no_number l) _ _ n.1).0;
     }
 
@@ -71,7 +74,7 @@ at_back : (input : Bool) (r : HeaderRecord) (hs : List HeaderRecord) → at_spot
 at_back true r hs = refl
 at_back false r hs = refl
 
-module _ {C : Type 0} (progress : C → Progress) (g : Entries C) (i : ℕ) (e : Entry C) (index : ℕ) (p : Port) (link : Link) (memory : List ℕ) (W : SoundWorld (kept progress g)) (at : slice_get g.entries i ≡ Some e) (port : port_of (component_of e) index ≡ Some p) (joined : p.state.link ≡ Some link) (M : IsSuppliable (look_of g) (component_of e) p memory) where
+module _ {C : Type 0} (progress : C → Progress) (g : Entries C) (i : ℕ) (e : Entry C) (index : ℕ) (p : Port) (link : Link) (W : SoundWorld (kept progress g)) (at : slice_get g.entries i ≡ Some e) (port : port_of (component_of e) index ≡ Some p) (joined : p.state.link ≡ Some link) (M : supply_idle (look_of g) (component_of e) p ≡ None) where
   abbrev c : Component
   c = component_of e
 
@@ -91,7 +94,7 @@ module _ {C : Type 0} (progress : C → Progress) (g : Entries C) (i : ℕ) (e :
   far_key = (peers.other progress g i e index p link W at port joined).key
 
   may : MaySupply (look_of g) c p far
-  may = may_supply (look_of g) c p far (peers.far_is progress g i e index p link W at port joined) M.may
+  may = may_supply (look_of g) c p far (peers.far_is progress g i e index p link W at port joined) M
 
   -- ---- both ends have room for a header
 
@@ -118,7 +121,7 @@ module _ {C : Type 0} (progress : C → Progress) (g : Entries C) (i : ℕ) (e :
       let most = (port_limits far_has.component peer.port d (P.components far_has.place far_has.component far_has.there) far_has.port).most_count in
       subst (λ (k : PortKey). made_in s k < 32) far_key (few_at far.component d may.peer_accepts few most)
 
-  pub room : HasPorts g.entries s g.numbered → HasRoom p peer memory s
+  pub room : HasPorts g.entries s g.numbered → HasRoom p peer s
   room P =
       let D = port_limits c index p ((parts_of W.world W.sound).components i c (at_world progress g i e W.world W.stands at)) port in
       record {
@@ -126,7 +129,7 @@ module _ {C : Type 0} (progress : C → Progress) (g : Entries C) (i : ℕ) (e :
         peer_there = peers.peer_kept progress g i e index p link W at port joined P;
         some = D.least_size;
         limit = D.most_size;
-        fits = M.fits;
+        block = block_for None s (λ _. may.block);
         few = few_made;
         few_of_peer = few_of_peer;
       }
@@ -171,5 +174,5 @@ module _ {C : Type 0} (progress : C → Progress) (g : Entries C) (i : ℕ) (e :
     pub supplied_worlds : SoundWorld (kept progress (with_stocked progress after_stock g))
     supplied_worlds = next_world (kept progress g) (kept progress (with_stocked progress after_stock g)) Change W supplied_steps
         (λ w v S f sound.
-        let a : supply_idle (look w) c p ≡ None = ap (λ (l : Look). supply_idle l c p) S.looks ∙ M.may in
+        let a : supply_idle (look w) c p ≡ None = ap (λ (l : Look). supply_idle l c p) S.looks ∙ M in
         subst Sound (sym f) (sound_supplied w i c index p sound (at_world progress g i e w S at) port a))

@@ -1,31 +1,31 @@
 -- What the changes of a graph say of what they answer.
-use Rattle.std.specs.Prelude.{◌≡◌, ◌≤◌, ℕ, true, false, length, Some, None, slice_get}
+use Rattle.std.specs.Prelude.{◌≡◌, ℕ, true, false, List, Option, Some, None, slice_get}
 use Rattle.omx_types.specs.declared.command.Note.TheVariants as notes
 use Rattle.il_machine.specs.World.{Component, World}
 use Rattle.il_machine.specs.Look.{Look}
 use Rattle.il_machine.specs.Ports.{accepting}
 use Rattle.il_machine.specs.declared.port.Port.{Port}
-use Rattle.header_core.specs.declared.memory.Store.{Store}
-use Rattle.il_machine.specs.Buffers.{AtHeader, AtState, held, has_no_number}
+use Rattle.il_machine.specs.Buffers.{AtHeader, AtState, held, has_no_block, has_no_number}
 use Rattle.il_machine.specs.declared.header.Owner.TheVariants as owners
 use Rattle.il_machine.specs.Notes.{with_given, with_client}
-use Rattle.header_core.specs.BufferHeader.{BufferHeader, bytes_of, is_clients}
+use Rattle.header_core.specs.BufferHeader.{BufferHeader, is_clients}
 use Rattle.note_queues.specs.declared.taken.Taken.{Taken}
 use Rattle.note_queues.specs.declared.taken.Taken.TheVariants.{Told, EmptyDone, FillDone}
 use Rattle.note_queues.specs.declared.taken.Took.{Took}
 use Rattle.note_queues.specs.declared.taken.Took.TheVariants as tooks
-use Rattle.port_stock.specs.Conditions.{IsHeaderOf}
+use Rattle.port_stock.specs.Conditions.{Fits, IsHeaderOf}
 
 -- The header has the graph's key, and is one of the client's, with its own size and memory: the condition of each call that is given it.
 abbrev pub IsHandedIn : BufferHeader → Look → Type 0
 IsHandedIn header l = (header.key ≡ l.key) × AtState header.held.number l (λ s. (s.owner ≡ owners.Client) × IsHeaderOf s header)
 
--- A header of the memory may be made for the client port: what `allocate_refusal` and `use_refusal` leave.
-pub record IsMakable (l : Look) (c : Component) (p : Port) (store : Store) : Type 0 where
+-- A header of the client's memory, or of a block, may be made for the client port: what `use_refusal` and `allocate_refusal` leave.
+pub record IsMakable (l : Look) (c : Component) (p : Port) (memory : Option (List ℕ)) : Type 0 where
   pub alone : p.state.link ≡ None
   pub accepts : accepting l.headers c p ≡ true
   pub numbers : has_no_number l ≡ false
-  pub fits : p.setting.definition.size ≤ length (bytes_of store)
+  pub fits : Fits memory p.setting.definition.size
+  pub block : memory ≡ None → has_no_block l.headers ≡ false
 
 -- the note was the oldest one, and what it takes along is the world's, with the world's key
 abbrev pub TakesNote : World → ℕ → Component → Taken → World → Type 0

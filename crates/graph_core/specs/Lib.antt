@@ -1,3 +1,4 @@
+pub mod Ending
 pub mod Entries
 pub mod Registered
 pub mod Standing

@@ -12,20 +12,19 @@ use Rattle.il_machine.specs.Look.{Look}
 use Rattle.il_machine.specs.Ports.{is_input_port}
 use Rattle.il_machine.specs.Flow.{supply_idle}
 use Rattle.il_machine.specs.Stock.{Stocked, made_header, populated, pulled, pushed, sent}
-use Rattle.port_stock.specs.Conditions.{IsPort, made_in}
+use Rattle.port_stock.specs.Conditions.{HasBlockFor, IsPort, made_in}
 
--- A header of the memory may be made for the tunnel of the port.
-pub record IsSuppliable (l : Look) (c : Component) (p : Port) (memory : List ℕ) : Type 0 where
+-- A header may be made for the tunnel of the port.
+pub record IsSuppliable (l : Look) (c : Component) (p : Port) : Type 0 where
   pub may : supply_idle l c p ≡ None
-  pub fits : p.setting.definition.size ≤ length memory
 
--- The stock takes a header of the memory for the port and its peer.
-pub record HasRoom (p : Port) (peer : PortKey) (memory : List ℕ) (s : Stocked) : Type 0 where
+-- The stock takes a header of a block for the port and its peer.
+pub record HasRoom (p : Port) (peer : PortKey) (s : Stocked) : Type 0 where
   pub port_there : IsPort p.key s
   pub peer_there : IsPort peer s
   pub some : 1 ≤ p.setting.definition.size
   pub limit : p.setting.definition.size ≤ 4096
-  pub fits : p.setting.definition.size ≤ length memory
+  pub block : HasBlockFor None s
   pub few : made_in s p.key < 32
   pub few_of_peer : made_in s peer < 32
 

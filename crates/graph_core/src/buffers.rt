@@ -1,6 +1,6 @@
 //! Headers of client ports: they are made, unmade, and handed in.
 
-ghost use Rattle.std.specs.Prelude.{◌≡◌, ◌<◌, None, length, true, MatchOption, IsSomeAnd, IsSome};
+ghost use Rattle.std.specs.Prelude.{◌≡◌, ◌<◌, None, is_some, length, true, MatchOption, IsSomeAnd, IsSome};
 ghost use Rattle.il_machine.specs.World.{port_of, with_component};
 ghost use Rattle.il_machine.specs.Headers.{is_for, loaded};
 ghost use Rattle.il_machine.specs.Buffers.{allocate_refusal, use_refusal, free_buffer_refusal, empty_refusal, fill_refusal, client_header, with_header, with_todo, without_header, unpopulated, load_in, AtState, IsWithClient};
@@ -11,7 +11,7 @@ ghost use Rattle.graph_core.specs.Changes.{IsHandedIn, IsMakable};
 ghost use Rattle.graph_core.specs.Clients.{KeepsAllClients};
 
 use crate::core_graph::Core;
-use header_core::{Header, Store};
+use header_core::{Header, Memory};
 use il_machine::{Home, Spot};
 use note_queues::Client;
 use omx_types::OmxError;
@@ -77,23 +77,12 @@ impl<C: Client> Core<C> {
         fill_fault(component, index, state)
     }
 
-    /// How many bytes a header of the port has.
-    pub fn port_size(&self, place: usize, index: u32) -> u32
-        requires { IsSomeAnd (component_at place self.now) (λ c. IsSome (port_of c index)) }
-        ensures { MatchOption (component_at place self.now) ⊥ (λ c. MatchOption (port_of c index) ⊥ (λ p. result ≡ p.setting.definition.size)) }
-    {
-        let component = &self.components[place];
-        let Some(port) = component.port(index) else {
-            unreachable!()
-        };
-        port.setting.definition.size
-    }
-
-    /// Makes a header of the memory for the port.
-    pub fn make_header(&mut self, place: usize, index: u32, store: Store) -> Header
-        requires { IsSomeAnd (component_at place self.old) (λ c. IsSomeAnd (port_of c index) (λ p. IsMakable (look_of self.old) c p store)) }
-        ensures header { MatchOption (component_at place self.old) ⊥ (λ c. MatchOption (port_of c index) ⊥ (λ p. result ≡ fresh_header (look_of self.old).key (look_of self.old).made store p.setting.definition.size)) }
-        ensures change { MatchOption (component_at place self.old) ⊥ (λ c. MatchOption (port_of c index) ⊥ (λ p. StepsBare (kept C.progress self.old) (kept C.progress self.new) (λ w v. v ≡ with_header (client_header w.made p (is_clients store)) (own_memory store) w))) }
+    /// Makes a header for the port, of the client's memory, or of a block where there is none.
+    pub fn make_header(&mut self, place: usize, index: u32, memory: Option<Memory>) -> Header
+        requires { IsSomeAnd (component_at place self.old) (λ c. IsSomeAnd (port_of c index) (λ p. IsMakable (look_of self.old) c p memory)) }
+        ensures header { MatchOption (component_at place self.old) ⊥ (λ c. MatchOption (port_of c index) ⊥ (λ p. result ≡ fresh_header (look_of self.old).key (look_of self.old).made result.store p.setting.definition.size)) }
+        ensures memory { own_memory result.store ≡ memory }
+        ensures change { MatchOption (component_at place self.old) ⊥ (λ c. MatchOption (port_of c index) ⊥ (λ p. StepsBare (kept C.progress self.old) (kept C.progress self.new) (λ w v. v ≡ with_header (client_header w.made p (is_some memory)) memory w))) }
         ensures clients { KeepsAllClients self.old self.new }
     {
         let component = &self.components[place];
@@ -107,17 +96,17 @@ impl<C: Client> Core<C> {
             port.key,
             None,
             Home::Client,
-            store,
+            memory,
             port.setting.definition.size,
         )
     }
 
-    /// Unmakes the header of the port, and gives its memory back. The component tells where it needs the header.
-    pub fn unmake_header(&mut self, place: usize, index: u32, header: Header) -> Store
+    /// Unmakes the header of the port, and gives the client's memory back. The component tells where it needs the header.
+    pub fn unmake_header(&mut self, place: usize, index: u32, header: Header) -> Option<Memory>
         requires handed { IsHandedIn header (look_of self.old) }
         requires free { IsSomeAnd (component_at place self.old) (λ c. AtState header.held.number (look_of self.old) (λ s. free_buffer_refusal c (port_of c index) s ≡ None)) }
-        ensures store { result ≡ header.store }
-        ensures memory { own_memory result ≡ header.held.memory }
+        ensures memory { result ≡ header.held.memory }
+        ensures own { is_some result ≡ is_clients header.store }
         ensures change { MatchOption (component_at place self.old) ⊥ (λ c. MatchOption (port_of c index) ⊥ (λ p. StepsBare (kept C.progress self.old) (kept C.progress self.new) (λ w v. v ≡ without_header header.held.number (with_component place (unpopulated p c) w)))) }
         ensures clients { KeepsAllClients self.old self.new }
     {

@@ -19,7 +19,7 @@ ghost use Rattle.port_rules.specs.Tests.{HasAllPorts};
 
 use crate::core_graph::Core;
 use crate::other_end::other_end;
-use header_core::{Header, Memory, Store};
+use header_core::Header;
 use il_component::Component;
 use il_machine::{Home, Port, PortKey, Spot, Why};
 use note_queues::Client;
@@ -91,9 +91,9 @@ pub fn supplied_spot(input: bool) -> Spot
     }
 }
 
-/// Makes a header of the memory for the port, which supplies its tunnel, and for the peer.
-fn make_for_both(stock: &mut Stock, port: Port, peer: PortKey, memory: Memory)
-    requires room { HasRoom port peer memory (stocked stock.old) }
+/// Makes a header of a block for the port, which supplies its tunnel, and for the peer.
+fn make_for_both(stock: &mut Stock, port: Port, peer: PortKey)
+    requires room { HasRoom port peer (stocked stock.old) }
     requires numbers { (stocked stock.old).next < 18446744073709551615 }
     ensures new_number { (stocked stock.old).headers.header (stocked stock.old).next ≡ None }
     ensures stock { stocked stock.new ≡ with_supply port peer (stocked stock.old) }
@@ -102,7 +102,7 @@ fn make_for_both(stock: &mut Stock, port: Port, peer: PortKey, memory: Memory)
         port.key,
         Some(peer),
         Home::Port(port.key),
-        Store::Block(memory),
+        None,
         port.setting.definition.size,
     );
     stock.push_work(
@@ -122,13 +122,6 @@ fn take_front(stock: &mut Stock, key: PortKey) -> Option<Header>
     match stock.pull_work(key) {
         Some(header) => Some(header),
         None => stock.send_front(key),
-    }
-}
-
-/// Lets the memory of a header go.
-fn let_go(store: Store) {
-    match store {
-        Store::Own(_memory) | Store::Block(_memory) => {}
     }
 }
 
@@ -156,9 +149,9 @@ impl<C: Client> Core<C> {
         shortage(&self.stock)
     }
 
-    /// The port, which supplies its tunnel, makes a header of the memory for both ends.
-    pub fn supply_header(&mut self, place: usize, index: u32, memory: Memory)
-        requires { IsSomeAnd (component_at place self.old) (λ c. IsSomeAnd (port_of c index) (λ p. IsSuppliable (look_of self.old) c p memory)) }
+    /// The port, which supplies its tunnel, makes a header of a block for both ends.
+    pub fn supply_header(&mut self, place: usize, index: u32)
+        requires { IsSomeAnd (component_at place self.old) (λ c. IsSomeAnd (port_of c index) (λ p. IsSuppliable (look_of self.old) c p)) }
         ensures change { MatchOption (component_at place self.old) ⊥ (λ c. MatchOption (port_of c index) ⊥ (λ p. StepsBare (kept C.progress self.old) (kept C.progress self.new) (λ w v. v ≡ with_supplied p w))) }
         ensures clients { KeepsAllClients self.old self.new }
     {
@@ -172,7 +165,7 @@ impl<C: Client> Core<C> {
         if !self.stock.numbers_left() {
             unreachable!()
         }
-        make_for_both(&mut self.stock, port, link.peer, memory);
+        make_for_both(&mut self.stock, port, link.peer);
     }
 
     /// Why the port of the component at the place unmakes no header, if it doesn't.
@@ -208,7 +201,6 @@ impl<C: Client> Core<C> {
         let Some(header) = take_front(&mut self.stock, port.key) else {
             unreachable!()
         };
-        let store = self.stock.withdraw(header);
-        let_go(store);
+        let _memory = self.stock.withdraw(header);
     }
 }

@@ -7,9 +7,11 @@ mod units;
 mod working;
 mod works;
 
+ghost use Rattle.std.specs.Prelude.{◌≡◌};
+ghost use Rattle.graph_core.specs.Changes.{IsHandedIn};
 ghost use Rattle.graph_core.specs.Clients.{IsPortDone};
 ghost use Rattle.il_graph.specs.Shown.{look_of};
-ghost use Rattle.il_graph.specs.HandedIn.{StayHandedIn, IsHandedOut};
+ghost use Rattle.il_graph.specs.HandedIn.{StayHandedIn, KeepsOthersHandedIn, IsHandedOut};
 
 use header_core::Header;
 use il_graph::{Freed, Graph, NoFile};
@@ -19,6 +21,7 @@ use omx_types::{
     CallError, Command, Completion, Event, Format, Handle, Note, OmxError, Param, ParamKey,
     PortDefinition, PortSel, State, Version,
 };
+use outside_io::{Sink, Source};
 use std::alloc::Global;
 use std::process::Abort;
 use std::test::Fail;
@@ -68,7 +71,7 @@ fn told_of(client: ProgressClient, taken: &Taken) -> ProgressClient
     }
 }
 
-/// The component's oldest note. Its client object, which was told it, is in again, and a header in it is let go.
+/// The component's oldest note, which has no header. Its client object, which was told it, is in again.
 fn noted(rt: &impl Abort, graph: &mut Plain, h: Handle) -> Option<Note>
     ensures { StayHandedIn (look_of graph.old) (look_of graph.new) }
 {
@@ -81,35 +84,29 @@ fn noted(rt: &impl Abort, graph: &mut Plain, h: Handle) -> Option<Note>
     let client = told_of(client, &taken);
     let note = match taken {
         Taken::Told(event) => Note::Told(event),
-        Taken::EmptyDone(header) => Note::EmptyDone(spent(header)),
-        Taken::FillDone(header) => Note::FillDone(spent(header)),
+        Taken::EmptyDone(_header) | Taken::FillDone(_header) => panic!(rt; "a header"),
     };
     graph.law_of_worlds();
     graph.end_note(h, client);
     Some(note)
 }
 
-/// Whether the client object is out as a note is taken, which is let go with it.
-fn is_busy(graph: &mut Plain, h: Handle) -> Result<bool, OmxError> {
-    let call = match graph.take_note(h) {
-        Ok(Took::Call(call)) => call,
-        Ok(Took::None) => return Ok(false),
-        Ok(Took::Busy) => return Ok(true),
-        Err(error) => return Err(error),
-    };
-    let Call { client: _, taken } = call;
-    match taken {
-        Taken::Told(_) => {}
-        Taken::EmptyDone(header) | Taken::FillDone(header) => header.dispose(),
+/// Whether the client object of the component, which has no note, is out.
+fn is_busy(rt: &impl Abort, graph: &mut Plain, h: Handle) -> Result<bool, OmxError>
+    ensures { graph.new ≡ graph.old }
+{
+    match graph.take_note(h) {
+        Ok(Took::Call(_call)) => panic!(rt; "a note"),
+        Ok(Took::None) => Ok(false),
+        Ok(Took::Busy) => Ok(true),
+        Err(error) => Err(error),
     }
-    Ok(false)
 }
 
-/// The number of a header, which is let go.
-fn spent(header: Header) -> u64 {
-    let id = header.id();
-    header.dispose();
-    id
+/// The graph, which has everything, ends.
+fn ended<S: Source, K: Sink>(rt: &impl Abort, graph: Graph<S, K, ProgressClient>) {
+    assert!(rt; graph.is_all_in());
+    graph.close();
 }
 
 fn told(completion: Completion) -> Option<Note> {
@@ -133,13 +130,25 @@ fn reach(rt: &impl Abort, graph: &mut Plain, h: Handle, state: State)
 }
 
 /// A header of the port.
-fn allocated(rt: &impl Abort, alloc: Global, graph: &mut Plain, h: Handle, port: u32) -> Header
+fn allocated(rt: &impl Abort, graph: &mut Plain, h: Handle, port: u32) -> Header
     ensures held { StayHandedIn (look_of graph.old) (look_of graph.new) }
     ensures handed { IsHandedOut (look_of graph.old) (look_of graph.new) result }
 {
-    match graph.allocate_buffer(alloc, h, port) {
+    match graph.allocate_buffer(h, port) {
         Ok(header) => header,
         Err(_) => panic!(rt; "no header"),
+    }
+}
+
+/// A header with a block is unmade.
+fn let_go(rt: &impl Abort, graph: &mut Plain, h: Handle, port: u32, header: Header)
+    requires { IsHandedIn header (look_of graph.old) }
+    ensures { KeepsOthersHandedIn header (look_of graph.old) (look_of graph.new) }
+{
+    match graph.free_buffer(h, port, header) {
+        Ok(None) => {}
+        Ok(Some(_)) => panic!(rt; "memory of the client's"),
+        Err((_, _header)) => panic!(rt; "not freed"),
     }
 }
 
@@ -150,7 +159,7 @@ fn names_refused(rt: HostRuntime) -> Result<(), Fail> {
     assert_eq!(rt; empty, CallError::Omx(OmxError::InvalidComponentName));
     let nine = refused(&rt, rt.alloc(), &mut graph, "OMX.lab.mixer.9");
     assert_eq!(rt; nine, CallError::Omx(OmxError::ComponentNotFound));
-    graph.dispose();
+    ended(&rt, graph);
     Ok(())
 }
 
@@ -171,7 +180,7 @@ fn thirty_two_components(rt: HostRuntime) -> Result<(), Fail> {
     assert_eq!(rt; again.generation, 32);
     assert_eq!(rt; graph.handle_at(31), Some(again));
     assert_eq!(rt; graph.get_state(third), Err(OmxError::InvalidComponent));
-    graph.dispose();
+    ended(&rt, graph);
     Ok(())
 }
 
@@ -206,7 +215,7 @@ fn parameters_refused(rt: HostRuntime) -> Result<(), Fail> {
         Ok(())
     );
     assert_eq!(rt; graph.get_config(gain, key(4, 0)), Ok(Param::Gain(2048)));
-    graph.dispose();
+    ended(&rt, graph);
     Ok(())
 }
 
@@ -227,7 +236,7 @@ fn idle_without_ports(rt: HostRuntime) -> Result<(), Fail> {
     assert_eq!(rt; graph.get_state(gain), Ok(State::Loaded));
     assert_eq!(rt; graph.run_command(gain), Ok(Acted::Did));
     assert_eq!(rt; graph.get_state(gain), Ok(State::Idle));
-    graph.dispose();
+    ended(&rt, graph);
     Ok(())
 }
 
@@ -255,7 +264,7 @@ fn notes_told(rt: HostRuntime) -> Result<(), Fail> {
         port: Some(Completion::Disable(1)),
     };
     assert_eq!(rt; graph.progress(gain), Ok(Some(progress)));
-    graph.dispose();
+    ended(&rt, graph);
     Ok(())
 }
 
@@ -264,10 +273,25 @@ fn notes_told(rt: HostRuntime) -> Result<(), Fail> {
 fn busy_until_the_end(rt: HostRuntime) -> Result<(), Fail> {
     let mut graph = Plain::new(rt.alloc(), 8)?;
     let gain = made(&rt, rt.alloc(), &mut graph, "OMX.lab.gain");
-    order(&rt, &mut graph, gain, Command::Flush(PortSel::All));
-    assert_eq!(rt; is_busy(&mut graph, gain), Ok(false));
-    assert_eq!(rt; is_busy(&mut graph, gain), Ok(true));
+    let disable = Command::PortDisable(PortSel::One(0));
+    order(&rt, &mut graph, gain, disable);
+    let call = match graph.take_note(gain) {
+        Ok(Took::Call(call)) => call,
+        Ok(Took::None | Took::Busy) | Err(_) => panic!(rt; "no note"),
+    };
+    let Call { client, taken } = call;
+    let client = told_of(client, &taken);
+    match taken {
+        Taken::Told(event) => {
+            assert_eq!(rt; event, Event::CmdComplete(Completion::Disable(0)));
+        }
+        Taken::EmptyDone(_header) | Taken::FillDone(_header) => panic!(rt; "a header"),
+    }
+    assert_eq!(rt; is_busy(&rt, &mut graph, gain), Ok(true));
     assert_eq!(rt; graph.progress(gain), Ok(None));
-    graph.dispose();
+    graph.law_of_worlds();
+    graph.end_note(gain, client);
+    assert_eq!(rt; is_busy(&rt, &mut graph, gain), Ok(false));
+    ended(&rt, graph);
     Ok(())
 }

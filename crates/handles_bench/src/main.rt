@@ -7,10 +7,17 @@ use note_queues::ProgressClient;
 use omx_types::{CallError, Handle};
 use std::alloc::{AllocError, Global};
 use std::collections::HashMap;
-use std::time::Instant;
-use std::{env, io};
+use std::rt::Clock;
+use std::sync::Wait;
+use std::time::{Duration, Instant};
+use std::{env, io, thread};
 
 type Components = Graph<NoFile, NoFile, ProgressClient>;
+
+/// What the benchmark needs of its machine.
+trait Host: Alloc<A = Global> + Clock + Print + Wait {}
+
+impl<R: Alloc<A = Global> + Clock + Print + Wait> Host for R {}
 
 /// How many components, and how many entries, are timed in a turn.
 const ROUNDS: u32 = 100_000;
@@ -121,7 +128,7 @@ fn case_at(place: usize) -> Case {
 }
 
 /// The nanoseconds of the pairs on the graph.
-fn time_pairs(rt: &HostRuntime, graph: &mut Components, case: Case) -> Result<u128, Stopped> {
+fn time_pairs<R: Host>(rt: &R, graph: &mut Components, case: Case) -> Result<u128, Stopped> {
     let alloc = rt.alloc();
     for _ in 0..case.others {
         made(alloc, graph, case.name)?;
@@ -134,15 +141,28 @@ fn time_pairs(rt: &HostRuntime, graph: &mut Components, case: Case) -> Result<u1
     Ok(start.elapsed(rt)?.as_nanos())
 }
 
+/// Ends a graph of which nothing is out. One that can't be ended can't be let go either: the program says so, and stands still.
+fn end<R: Host>(rt: &R, graph: Components) {
+    if graph.is_all_in() {
+        graph.close();
+        return;
+    }
+    let _told = println!(rt; "a graph can't be ended: stop this program");
+    for _ in rt.forever() {
+        thread::sleep(rt, Duration::from_secs(60));
+    }
+    unreachable!()
+}
+
 /// The same on a graph of its own, which is ended on every path.
-fn time_case(rt: &HostRuntime, case: Case) -> Result<u128, Stopped> {
+fn time_case<R: Host>(rt: &R, case: Case) -> Result<u128, Stopped> {
     let mut graph = Components::new(rt.alloc(), 128)?;
     let timed = time_pairs(rt, &mut graph, case);
-    graph.dispose();
+    end(rt, graph);
     timed
 }
 
-fn time_entries(rt: &HostRuntime) -> Result<u128, Stopped> {
+fn time_entries<R: Host>(rt: &R) -> Result<u128, Stopped> {
     let mut map = HashMap::new(rt.alloc());
     let start = Instant::now(rt)?;
     put_entries(&mut map)?;
@@ -157,7 +177,7 @@ struct Times {
 }
 
 /// The entries and the cases take turns.
-fn best_times(rt: &HostRuntime) -> Result<Times, Stopped> {
+fn best_times<R: Host>(rt: &R) -> Result<Times, Stopped> {
     let mut entries = u128::MAX;
     let mut cases = [u128::MAX; 5];
     for _ in 0..TURNS {
@@ -174,7 +194,7 @@ fn hundredths(time: u128, of: u128) -> u128 {
 }
 
 /// A pair's nanoseconds, and how many hundredths of an entry's and of a lone gain's they are.
-fn report(rt: &HostRuntime, times: Times, text: &str, time: u128) -> io::Result<()> {
+fn report<R: Host>(rt: &R, times: Times, text: &str, time: u128) -> io::Result<()> {
     let pair = time / u128::from(ROUNDS);
     let of_entry = hundredths(time, times.entries);
     let of_gain = hundredths(time, times.cases[0]);
@@ -183,7 +203,7 @@ fn report(rt: &HostRuntime, times: Times, text: &str, time: u128) -> io::Result<
     )
 }
 
-fn figures(rt: &HostRuntime) -> io::Result<()> {
+fn figures<R: Host>(rt: &R) -> io::Result<()> {
     let Ok(times) = best_times(rt) else {
         return println!(rt; "memory was wanting, or a call was refused");
     };

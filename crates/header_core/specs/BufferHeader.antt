@@ -5,7 +5,8 @@ use Rattle.il_machine.specs.Buffers.{Held}
 use Rattle.il_machine.specs.Lists.{overwritten}
 use Rattle.header_core.specs.Rewriting.{rewritten}
 use Rattle.header_core.specs.declared.memory.Store.{Store}
-use Rattle.header_core.specs.declared.memory.Store.TheVariants.{Own, Block}
+use Rattle.header_core.specs.declared.memory.Store.TheVariants.{Own, Region}
+use Rattle.header_core.specs.Keys.{key_number}
 
 pub record BufferHeader : Type 0 where
   -- the headers of one graph have one, and those of two aren't known to have the same
@@ -19,20 +20,25 @@ pub record BufferHeader : Type 0 where
 -- every byte of the memory, whether a header's content has it or not
 abbrev pub bytes_of : Store → List ℕ
 bytes_of (Own bytes) = bytes
-bytes_of (Block bytes) = bytes
+bytes_of (Region block) = block.bytes
 
 abbrev pub is_clients : Store → Bool
 is_clients (Own bytes) = true
-is_clients (Block bytes) = false
+is_clients (Region block) = false
 
 -- the bytes where the memory is the client's own
 abbrev pub own_memory : Store → Option (List ℕ)
 own_memory (Own bytes) = Some bytes
-own_memory (Block bytes) = None
+own_memory (Region block) = None
 
 abbrev pub with_bytes : List ℕ → Store → Store
 with_bytes bytes (Own old) = Own bytes
-with_bytes bytes (Block old) = Block bytes
+with_bytes bytes (Region block) = Region (record block { bytes = bytes })
+
+-- a block is one of the region that has the key
+abbrev pub IsOfKey : ℕ → Store → Type 0
+IsOfKey key (Own bytes) = Unit {0}
+IsOfKey key (Region block) = key_number block.key ≡ key
 
 -- ---- headers
 

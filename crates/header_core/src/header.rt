@@ -1,10 +1,14 @@
-ghost use Rattle.std.specs.Prelude.{◌≡◌, ◌<◌, ◌≤◌, length, Ok, Err, OnOk, OnErr};
+ghost use Rattle.std.specs.Prelude.{◌≡◌, ◌+◌, ◌<◌, ◌≤◌, is_some, length, not, Ok, Err, OnOk, OnErr};
 ghost use Rattle.std.specs.Borrow.{sem};
+ghost use Rattle.il_machine.specs.Headers.{weight};
+ghost use Rattle.header_core.specs.Blocks.{IsSameRegion};
+ghost use Rattle.header_core.specs.Keys.{key_number};
 ghost use Rattle.header_core.specs.LendingHeader.{lends_content};
-ghost use Rattle.header_core.specs.BufferHeader.{bytes_of, is_clients, own_memory, fresh, filled, cleared, marked, with_mark, advanced, IsSized};
+ghost use Rattle.header_core.specs.BufferHeader.{bytes_of, is_clients, own_memory, fresh, filled, cleared, marked, with_mark, advanced, IsOfKey, IsSized};
 
 use crate::key::Key;
-use crate::memory::Store;
+use crate::memory::{Memory, Store};
+use block_region::Region;
 use il_machine::Mark;
 use std::marker::Model;
 
@@ -14,7 +18,7 @@ pub struct TooLong {
     pub size: u32,
 }
 
-/// A buffer's header with its memory (OpenMAX IL 1.1.2, `OMX_BUFFERHEADERTYPE`). It is spent by `into_store`, or by `dispose`.
+/// A buffer's header with its memory (OpenMAX IL 1.1.2, `OMX_BUFFERHEADERTYPE`). It is spent by `into_memory`, or by `into_store`.
 pub struct Header {
     key: Key,
     number: u64,
@@ -28,7 +32,7 @@ pub struct Header {
 
 impl Model for Header {
     ghost use Rattle.std.specs.Prelude.{◌≤◌, length, slice_range};
-    ghost use Rattle.header_core.specs.BufferHeader.{BufferHeader, bytes_of, own_memory};
+    ghost use Rattle.header_core.specs.BufferHeader.{BufferHeader, IsOfKey, bytes_of, own_memory};
 
     ghost Value = { BufferHeader };
 
@@ -38,7 +42,7 @@ impl Model for Header {
       store = h.store;
     } };
 
-    ghost invariant = { λ h. (1 ≤ h.size) × (h.size ≤ 4096) × (h.size ≤ length (bytes_of h.store)) × (h.start ≤ h.used) × (h.used ≤ h.size) };
+    ghost invariant = { λ h. (1 ≤ h.size) × (h.size ≤ 4096) × (h.size ≤ length (bytes_of h.store)) × (h.start ≤ h.used) × (h.used ≤ h.size) × IsOfKey h.key h.store };
 }
 
 impl Header {
@@ -47,6 +51,7 @@ impl Header {
         requires some { 1 ≤ size }
         requires limit { size ≤ 4096 }
         requires room { size ≤ length (bytes_of store) }
+        requires of_key { IsOfKey key store }
         ensures { result ≡ fresh key id store size }
     {
         Header {
@@ -170,6 +175,7 @@ impl Header {
     pub fn into_store(self) -> Store
         ensures store { result ≡ self.store }
         ensures memory { own_memory result ≡ self.held.memory }
+        ensures of_key { IsOfKey self.key result }
     {
         let Header {
             key: _,
@@ -184,10 +190,20 @@ impl Header {
         store
     }
 
-    /// Spends the header and lets its memory go.
-    pub fn dispose(self) {
+    /// Spends the header. Its block goes home, and memory of the client's own comes back.
+    pub fn into_memory(self, region: &mut Region) -> Option<Memory>
+        requires { self.key ≡ key_number region.old.key }
+        ensures memory { result ≡ self.held.memory }
+        ensures own { is_some result ≡ is_clients self.store }
+        ensures same { IsSameRegion region.old region.new }
+        ensures free { region.new.free ≡ region.old.free + weight (not (is_clients self.store)) }
+    {
         match self.into_store() {
-            Store::Own(_memory) | Store::Block(_memory) => {}
+            Store::Own(memory) => Some(memory),
+            Store::Region(block) => {
+                region.give(block);
+                None
+            }
         }
     }
 }

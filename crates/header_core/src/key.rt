@@ -1,25 +1,32 @@
+ghost use Rattle.std.specs.Prelude.{◌≡◌};
+ghost use Rattle.header_core.specs.Keys.{key_number};
+
+use block_region::{Region, Seal};
 use std::marker::Model;
 
-/// What the headers of one graph have in common. Nothing is known of the number that contracts see, so no caller can
-/// show that a header of one graph has the key of another one.
-#[derive(Clone, Copy)]
+/// What the headers of one graph have in common: it is that of the region of the graph's blocks. So no caller can show that a header
+/// of one graph has the key of another one. At run time it is nothing.
+#[derive(Drop)]
 pub struct Key {
-    number: u64,
+    seal: Seal,
 }
 
 impl Model for Key {
     ghost use Rattle.std.specs.Prelude.{ℕ};
+    ghost use Rattle.header_core.specs.Keys.{key_number};
 
     ghost Value = { ℕ };
 
-    ghost view = { λ key. key.number };
-
-    ghost inverse = { λ number. record { number = number } };
+    ghost view = { λ key. key_number key.seal.key };
 }
 
 impl Key {
-    /// A key that isn't known to be that of any graph. At run time no key is ever looked at, so all are alike.
-    pub fn new() -> Key {
-        Key { number: 0 }
+    /// The key of the headers whose blocks are of the region.
+    pub fn of(region: &Region) -> Key
+        ensures { result ≡ key_number region.now.key }
+    {
+        Key {
+            seal: Seal::of(region),
+        }
     }
 }

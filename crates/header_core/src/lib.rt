@@ -1,7 +1,6 @@
 //! The header of a buffer: a value that can't be let go and must be spent. Contracts see its content as a list.
 //!
-//! A header keeps its memory from `new` until `into_store` gives it back or `dispose` lets it go: the client's own, or
-//! a block of the graph. A block is as yet a memory of its own; later it is one of a region, and `Store::Block` holds that.
+//! A header keeps its memory from `new` until `into_store` gives it back: the client's own, or a block of the graph's region.
 //! No call takes memory.
 #![tactic(auto)]
 

@@ -2,10 +2,12 @@ ghost use Rattle.std.specs.Prelude.{◌≡◌, ◌≤◌, length};
 ghost use Rattle.std.specs.Borrow.{sem};
 ghost use Rattle.il_machine.specs.Lists.{overwritten};
 ghost use Rattle.header_core.specs.Lending.{lends_memory};
+ghost use Rattle.header_core.specs.Blocks.{block_over};
 
+use block_region::{Block, Region};
 use std::marker::Model;
 
-/// The bytes of one buffer.
+/// The bytes of a client's buffer.
 #[derive(Drop)]
 pub struct Memory {
     bytes: Vec<u8>,
@@ -62,15 +64,47 @@ fn overwrite_front(bytes: &mut [u8], front: &[u8])
     bytes[..front.len()].copy_from_slice(front);
 }
 
-/// A header's memory: the client's own, or a block of the graph. It isn't dropped by itself: who has one takes it apart.
+/// Writes the bytes over the front of the block.
+fn overwrite_block(block: &mut Block, front: &[u8])
+    requires { length front.now ≤ length block.old.bytes }
+    ensures { block.new ≡ block_over front.now block.old }
+{
+    overwrite_front(block.bytes_mut(), front);
+}
+
+/// A header's memory: the client's own, or a block of the graph's region. It can't be let go: who has one takes it apart, and a block
+/// goes back to its region.
 pub enum Store {
     Own(Memory),
-    Block(Memory),
+    Region(Block),
 }
 
 impl Store {
-    ghost use Rattle.header_core.specs.BufferHeader.{bytes_of, is_clients, with_bytes};
+    ghost use Rattle.std.specs.Prelude.{◌+◌, ◌<◌, is_some, not, MatchOption, None};
+    ghost use Rattle.il_machine.specs.Headers.{weight};
+    ghost use Rattle.header_core.specs.Blocks.{IsSameRegion};
+    ghost use Rattle.header_core.specs.Keys.{key_number};
+    ghost use Rattle.header_core.specs.BufferHeader.{IsOfKey, bytes_of, is_clients, own_memory, with_bytes};
     ghost use Rattle.header_core.specs.LendingStore.{lends_store};
+
+    /// The client's own memory, or a free block of the region where there is none.
+    pub fn of(region: &mut Region, memory: Option<Memory>) -> Store
+        requires { memory ≡ None → 0 < region.old.free }
+        ensures own { own_memory result ≡ memory }
+        ensures clients { is_clients result ≡ is_some memory }
+        ensures bytes { MatchOption memory (length (bytes_of result) ≡ region.old.key.size) (λ bytes. bytes_of result ≡ bytes) }
+        ensures of_key { IsOfKey (key_number region.old.key) result }
+        ensures same { IsSameRegion region.old region.new }
+        ensures free { region.new.free + weight (not (is_some memory)) ≡ region.old.free }
+    {
+        match memory {
+            Some(memory) => Store::Own(memory),
+            None => match region.take() {
+                Some(block) => Store::Region(block),
+                None => unreachable!(),
+            },
+        }
+    }
 
     /// All its bytes, to be written.
     pub(crate) fn bytes_mut(&mut self) -> &mut [u8]
@@ -79,7 +113,7 @@ impl Store {
     {
         match self {
             Store::Own(memory) => memory.as_mut_slice(),
-            Store::Block(memory) => memory.as_mut_slice(),
+            Store::Region(block) => block.bytes_mut(),
         }
     }
 
@@ -88,7 +122,7 @@ impl Store {
     {
         match self {
             Store::Own(_) => true,
-            Store::Block(_) => false,
+            Store::Region(_) => false,
         }
     }
 
@@ -97,7 +131,8 @@ impl Store {
         ensures { result.now ≡ bytes_of self.now }
     {
         match self {
-            Store::Own(memory) | Store::Block(memory) => memory.as_slice(),
+            Store::Own(memory) => memory.as_slice(),
+            Store::Region(block) => block.bytes(),
         }
     }
 
@@ -108,7 +143,7 @@ impl Store {
     {
         match self {
             Store::Own(memory) => memory.overwrite(front),
-            Store::Block(memory) => memory.overwrite(front),
+            Store::Region(block) => overwrite_block(block, front),
         }
     }
 }

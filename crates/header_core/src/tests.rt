@@ -1,7 +1,11 @@
-ghost use Rattle.std.specs.Prelude.{◌≡◌, ◌<◌, ◌≤◌, [], ◌∷◌, ◌++◌, length, vec_len, vec_capacity, IfOk};
-ghost use Rattle.header_core.specs.BufferHeader.{bytes_of, fresh};
+ghost use Rattle.std.specs.Prelude.{◌≡◌, ◌+◌, ◌<◌, length, false, IfOk};
+ghost use Rattle.block_region.specs.Regions.{IsFresh};
+ghost use Rattle.header_core.specs.Keys.{key_number};
+ghost use Rattle.header_core.specs.BufferHeader.{bytes_of, fresh, is_clients};
+ghost use Rattle.header_core.specs.declared.memory.Store.TheVariants.{Own};
 
 use crate::{Header, Key, Memory, Store, TooLong};
+use block_region::Region;
 use il_machine::Mark;
 use omx_types::Handle;
 use std::alloc::{AllocError, Global};
@@ -25,42 +29,31 @@ fn eight(alloc: Global) -> Result<Vec<u8>, AllocError>
 /// A header of six bytes over the client's own memory.
 fn header_over(key: Key, id: u64, bytes: Vec<u8>) -> Header
     requires { length bytes.items ≡ 8 }
-    ensures { result ≡ fresh key id (Store.Own bytes.items) 6 }
+    ensures { result ≡ fresh key id (Own bytes.items) 6 }
 {
     Header::new(key, id, Store::Own(Memory::new(bytes)), 6)
 }
 
-/// Spends the header and gives back the bytes of its memory.
-fn spend(header: Header) -> Vec<u8>
-    ensures { result.items ≡ bytes_of header.store }
+/// A header of six bytes over a block of the region.
+fn header_in(region: &mut Region) -> Header
+    requires some { 0 < region.old.free }
+    requires size { region.old.key.size ≡ 8 }
+    ensures key { (result.key ≡ key_number region.old.key) × (region.new.key ≡ region.old.key) }
+    ensures out { (region.new.blocks ≡ region.old.blocks) × (region.new.free + 1 ≡ region.old.free) }
+    ensures block { is_clients result.store ≡ false }
 {
-    match header.into_store() {
-        Store::Own(memory) | Store::Block(memory) => memory.into_bytes(),
-    }
-}
-
-/// Keeps the header in a place that was reserved.
-fn keep(headers: &mut Vec<Header>, header: Header)
-    requires { vec_len headers.old < vec_capacity headers.old }
-    ensures kept { headers.new.items ≡ headers.old.items ++ header ∷ [] }
-    ensures places { vec_capacity headers.old ≤ vec_capacity headers.new }
-{
-    if let Err(refused) = headers.push(header) {
-        spend(refused.value);
-    }
-}
-
-/// Spends them, from the last to the first.
-fn spend_all(mut headers: Vec<Header>) {
-    while let Some(header) = headers.pop() {
-        spend(header);
-    }
-    headers.destroy_empty();
+    let key = Key::of(region);
+    let store = Store::of(region, None);
+    Header::new(key, 0, store, 6)
 }
 
 #[test]
 fn fills_and_spends(rt: HostRuntime) -> Result<(), Fail> {
-    let mut header = header_over(Key::new(), 4, eight(rt.alloc())?);
+    let bytes = eight(rt.alloc())?;
+    let region = Region::new(rt.alloc(), 1, 8)?;
+    let key = Key::of(&region);
+    region.close();
+    let mut header = header_over(key, 4, bytes);
     let filled = header.fill(&[1, 2, 3], 1);
     header.mark_with(MARK);
     header.advance(1);
@@ -70,7 +63,10 @@ fn fills_and_spends(rt: HostRuntime) -> Result<(), Fail> {
     header.clear();
     let cleared = (header.content().len(), header.flags(), header.mark());
     let own = header.is_clients_memory();
-    let bytes = spend(header);
+    let bytes = match header.into_store() {
+        Store::Own(memory) => memory.into_bytes(),
+        Store::Region(_block) => unreachable!(),
+    };
     assert_eq!(rt; filled, Ok(()));
     assert_eq!(rt; seen, (4, 6, 1, Some(MARK)));
     assert_eq!(rt; left?.as_slice(), [2, 3].as_slice());
@@ -82,19 +78,19 @@ fn fills_and_spends(rt: HostRuntime) -> Result<(), Fail> {
 }
 
 #[test]
-fn keeps_three(rt: HostRuntime) -> Result<(), Fail> {
-    let alloc = rt.alloc();
-    let (first, second, third) = (eight(alloc)?, eight(alloc)?, eight(alloc)?);
-    let mut headers = Vec::with_capacity(alloc, 3)?;
-    let key = Key::new();
-    keep(&mut headers, header_over(key, 0, first));
-    keep(&mut headers, header_over(key, 1, second));
-    keep(&mut headers, header_over(key, 2, third));
-    let middle = headers.remove(1);
-    let number = middle.id();
-    let memory = spend(middle);
-    let left = headers.len();
-    spend_all(headers);
-    assert_eq!(rt; (number, memory.len(), left), (1, 8, 2));
+fn has_a_block(rt: HostRuntime) -> Result<(), Fail> {
+    let mut region = Region::new(rt.alloc(), 1, 8)?;
+    let mut header = header_in(&mut region);
+    let filled = header.fill(&[1, 2, 3], 0);
+    let left = header.content().to_vec(rt.alloc());
+    let own = header.is_clients_memory();
+    let out = region.free();
+    let memory = header.into_memory(&mut region);
+    let home = region.free();
+    region.close();
+    assert_eq!(rt; filled, Ok(()));
+    assert_eq!(rt; left?.as_slice(), [1, 2, 3].as_slice());
+    assert!(rt; !own && memory.is_none());
+    assert_eq!(rt; (out, home), (0, 1));
     Ok(())
 }

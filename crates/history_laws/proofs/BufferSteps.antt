@@ -36,7 +36,7 @@ use Rattle.history_laws.proofs.Carried.{Still, Made, Gone, Moved}
 use Rattle.history_laws.proofs.Out.{works_same, works_set}
 use Rattle.history_laws.proofs.StillOut.{still_unpopulated, still_taken}
 use Rattle.history_laws.proofs.Homes.{found_state, set_in, client_home, noted_owner}
-use Rattle.history_laws.proofs.Outcome.{turn, Turn, Outcome, done, Nothing, IsNamed, answers, answers_or_memory, resolving}
+use Rattle.history_laws.proofs.Outcome.{turn, Turn, Outcome, done, Nothing, IsNamed, answers, answers_as, resolving}
 use Rattle.history_laws.proofs.HeaderActs.{named_key}
 
 -- the port that the handle and the index name, for the effect of an act
@@ -59,7 +59,7 @@ pub allocate_buffer : (w : World) (h : Handle) (port : ℕ) (result : Result Hel
 allocate_buffer w h port result v a =
     let ms : Result Held CallError → Turn = λ r. turn w (acts.AllocateBuffer h port) (acts.Allocated r) in
     resolving Omx w h result v _ a ms (λ e. refl) (λ i c named b.
-    answers_or_memory (allocate_refusal (look w) c (port_of c port)) result w v ms
+    answers_as Omx (allocate_refusal (look w) c (port_of c port)) result w v ms
     (λ header. AtPort (port_of c port) (λ p. (header ≡ held_of (client_header w.made p false) (empty_load None)) × ClosesTo (with_header (client_header w.made p false) None w) v)) (λ e. refl) b
     (λ n header e x. let p = there_is (port_of c port) _ x in made_for w v _ p.0 false None header (named_port_is w h i c port p.0 (λ i c p. with_header (client_header w.made p false) None w) named p.1) (p.2).0 (p.2).1))
 

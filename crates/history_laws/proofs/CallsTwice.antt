@@ -34,7 +34,7 @@ use Rattle.il_machine.specs.Acts as acts
 use Rattle.machine_laws.proofs.Closing.{closes_once}
 use Rattle.history_laws.specs.Determined.{AreAlike, FirstWants, SecondWants}
 use Rattle.history_laws.proofs.NewHandles.{alike}
-use Rattle.history_laws.proofs.Twice.{IsSame, both_there, nothing_twice, closed_twice, resolving_twice, on_port_twice, answers_twice, answers_or_memory_twice, acts_twice, acts_or_memory_twice}
+use Rattle.history_laws.proofs.Twice.{IsSame, both_there, nothing_twice, closed_twice, resolving_twice, on_port_twice, answers_twice, answers_as_twice, acts_twice}
 
 -- ---- components, parameters, tunnels and commands
 
@@ -89,16 +89,12 @@ end_note_twice w h v u a b =
 
 -- ---- headers of client ports
 
-pub allocate_buffer_twice : (w : World) (h : Handle) (port : ℕ) (x y : Result Held CallError) (v u : World) → AllocateBuffer w h port x v → AllocateBuffer w h port y u → AreAlike w (acts.Allocated x) v (acts.Allocated y) u
-allocate_buffer_twice w h port x y v u a b =
-    let same : IsSame x y v u → AreAlike w (acts.Allocated x) v (acts.Allocated y) u = alike (λ r. acts.Allocated r) w x y v u in
-    resolving_twice Omx w h x y v u _ _ (AreAlike w (acts.Allocated x) v (acts.Allocated y) u) a b same (λ i c p q.
-    answers_or_memory_twice (allocate_refusal (look w) c (port_of c port)) w x y v u _ _ (AreAlike w (acts.Allocated x) v (acts.Allocated y) u) p q same
-    (λ e s. FirstWants (rw e tt) s)
-    (λ e s. SecondWants (rw e tt) s)
-    (λ k l e f m n. both_there (port_of c port) _ _ m n (λ g at hm hn.
+pub allocate_buffer_twice : (w : World) (h : Handle) (port : ℕ) (x y : Result Held CallError) (v u : World) → AllocateBuffer w h port x v → AllocateBuffer w h port y u → IsSame x y v u
+allocate_buffer_twice w h port x y v u a b = resolving_twice Omx w h x y v u _ _ (IsSame x y v u) a b (λ s. s) (λ i c p q.
+    answers_as_twice Omx (allocate_refusal (look w) c (port_of c port)) w x y v u _ _ (IsSame x y v u) p q (λ s. s) (λ k l e f m n.
+    both_there (port_of c port) _ _ m n (λ g at hm hn.
     let s = client_header w.made g false in
-    same (closed_twice (with_header s None w) (Ok (held_of s (empty_load None))) x y v u (e ∙ rw hm.0 refl) hm.1 (f ∙ rw hn.0 refl) hn.1))))
+    closed_twice (with_header s None w) (Ok (held_of s (empty_load None))) x y v u (e ∙ rw hm.0 refl) hm.1 (f ∙ rw hn.0 refl) hn.1)))
 
 pub use_buffer_twice : (w : World) (h : Handle) (port : ℕ) (bytes : List ℕ) (x y : Result Held OmxError) (v u : World) → UseBuffer w h port bytes x v → UseBuffer w h port bytes y u → IsSame x y v u
 use_buffer_twice w h port bytes x y v u a b = resolving_twice plain w h x y v u _ _ (IsSame x y v u) a b (λ s. s) (λ i c p q.
@@ -142,13 +138,9 @@ take_note_twice w h x y v u a b = resolving_twice plain w h x y v u _ _ (IsSame 
 
 -- ---- acts on a port
 
-pub supply_twice : (w : World) (h : Handle) (port : ℕ) (x y : Result Acted CallError) (v u : World) → Supply w h port x v → Supply w h port y u → AreAlike w (acts.Supplied x) v (acts.Supplied y) u
-supply_twice w h port x y v u a b =
-    let same : IsSame x y v u → AreAlike w (acts.Supplied x) v (acts.Supplied y) u = alike (λ r. acts.Supplied r) w x y v u in
-    on_port_twice Omx w h port x y v u _ _ (AreAlike w (acts.Supplied x) v (acts.Supplied y) u) a b same (λ i c p m n.
-    acts_or_memory_twice (supply_idle (look w) c p) w (with_supplied p w) x y v u (AreAlike w (acts.Supplied x) v (acts.Supplied y) u) m n same
-    (λ e s. FirstWants (rw e tt) s)
-    (λ e s. SecondWants (rw e tt) s))
+pub supply_twice : (w : World) (h : Handle) (port : ℕ) (x y : Result Acted CallError) (v u : World) → Supply w h port x v → Supply w h port y u → IsSame x y v u
+supply_twice w h port x y v u a b = on_port_twice Omx w h port x y v u _ _ (IsSame x y v u) a b (λ s. s) (λ i c p m n.
+    acts_twice (supply_idle (look w) c p) w (with_supplied p w) x y v u m n)
 
 pub release_twice : (w : World) (h : Handle) (port : ℕ) (x y : Result Acted OmxError) (v u : World) → Release w h port x v → Release w h port y u → IsSame x y v u
 release_twice w h port x y v u a b = on_port_twice plain w h port x y v u _ _ (IsSame x y v u) a b (λ s. s) (λ i c p m n.

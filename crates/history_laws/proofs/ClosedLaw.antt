@@ -18,7 +18,7 @@ use Rattle.il_machine.specs.Headers.{find_header}
 use Rattle.il_machine.specs.Look.{look}
 use Rattle.il_machine.specs.Kinds.{kind_of}
 use Rattle.il_machine.specs.Due.{ClosesTo, IsClosed}
-use Rattle.il_machine.specs.Answers.{plain, Resolving, Answers, AnswersOrMemory, Acts, ActsOrMemory, Looks}
+use Rattle.il_machine.specs.Answers.{plain, Resolving, Answers, AnswersAs, AnswersOrMemory, Acts, Looks}
 use Rattle.il_machine.specs.Components.{get_handle_refusal, free_refusal, with_new_component, state_answer, view_answer, progress_answer}
 use Rattle.il_machine.specs.Parameters.{set_parameter_refusal, set_config_refusal, parameter_answer}
 use Rattle.il_machine.specs.Tunnels.{setup_refusal, drop_refusal}
@@ -58,24 +58,22 @@ module _ {T E : Type 0} (refuse : OmxError → E) (w v : World) (h : Handle) (re
   on_port port Then a k = resolving (λ i c. MatchOption (port_of c port) ((result ≡ Err (refuse errors.BadPortIndex)) × (v ≡ w)) (λ p. Then i c p)) a
       (λ i c b. at_the_port (port_of c port) (result ≡ Err (refuse errors.BadPortIndex)) (λ p. Then i c p) b (λ p x. k i c p x))
 
+answers_as : {T E : Type 0} (refuse : OmxError → E) (o : Option OmxError) (result : Result T E) (w v : World) (Accepted : T → Type 0) → AnswersAs refuse o result w v Accepted → IsClosed w → ((x : T) → Accepted x → IsClosed v) → IsClosed v
+answers_as refuse (Some error) result w v Accepted a C k = stays w v a.1 C
+answers_as refuse None (Ok x) w v Accepted a C k = k x a
+answers_as refuse None (Err error) w v Accepted a C k = absurd a
+
 answers : {T : Type 0} (o : Option OmxError) (result : Result T OmxError) (w v : World) (Accepted : T → Type 0) → Answers o result w v Accepted → IsClosed w → ((x : T) → Accepted x → IsClosed v) → IsClosed v
-answers (Some error) result w v Accepted a C k = stays w v a.1 C
-answers None (Ok x) w v Accepted a C k = k x a
-answers None (Err error) w v Accepted a C k = absurd a
+answers o result w v Accepted a C k = answers_as plain o result w v Accepted a C k
 
 answers_or_memory : {T : Type 0} (o : Option OmxError) (result : Result T CallError) (w v : World) (Accepted : T → Type 0) → AnswersOrMemory o result w v Accepted → IsClosed w → ((x : T) → Accepted x → IsClosed v) → IsClosed v
 answers_or_memory (Some error) result w v Accepted a C k = stays w v a.1 C
 answers_or_memory None (Ok x) w v Accepted a C k = k x a
 answers_or_memory None (Err error) w v Accepted a C k = stays w v a.1 C
 
-acts_close : (o : Option Why) (result : Result Acted OmxError) (w after v : World) → Acts o result w after v → IsClosed w → IsClosed v
+acts_close : {E : Type 0} (o : Option Why) (result : Result Acted E) (w after v : World) → Acts o result w after v → IsClosed w → IsClosed v
 acts_close (Some reason) result w after v a C = stays w v a.1 C
 acts_close None result w after v a C = (a.1).closed
-
-acts_or_memory : (o : Option Why) (result : Result Acted CallError) (w after v : World) → ActsOrMemory o result w after v → IsClosed w → IsClosed v
-acts_or_memory (Some reason) result w after v a C = stays w v a.1 C
-acts_or_memory None (Ok done) w after v a C = (a.1).closed
-acts_or_memory None (Err error) w after v a C = stays w v a.1 C
 
 looks : {T : Type 0} (answer result : Result T OmxError) (w v : World) → Looks answer result w v → IsClosed w → IsClosed v
 looks (Ok x) result w v a C = (a.1).closed
@@ -141,7 +139,7 @@ step_closed w (acts.SendCommand h command) (acts.Plain result) v C s = resolving
 step_closed w (acts.RunCommand h) (acts.Acted result) v C s = resolving plain w v h result C _ s (λ i c a.
     acts_close (run_idle c c.commands) result w (with_component i (run_front (look w) c.commands c) w) v a C)
 step_closed w (acts.AllocateBuffer h port) (acts.Allocated result) v C s = resolving Omx w v h result C _ s (λ i c a.
-    answers_or_memory (allocate_refusal (look w) c (port_of c port)) result w v _ a C (λ x b. let p = there_is (port_of c port) _ b in ((p.2).1).closed))
+    answers_as Omx (allocate_refusal (look w) c (port_of c port)) result w v _ a C (λ x b. let p = there_is (port_of c port) _ b in ((p.2).1).closed))
 step_closed w (acts.UseBuffer h port bytes) (acts.Used result) v C s = resolving plain w v h result C _ s (λ i c a.
     answers (use_refusal (look w) c (port_of c port) (length bytes)) result w v _ a C (λ x b. let p = there_is (port_of c port) _ b in ((p.2).1).closed))
 step_closed w (acts.FreeBuffer h port header) (acts.Freed result) v C s = resolving plain w v h result C _ s (λ i c a.
@@ -158,7 +156,7 @@ step_closed w (acts.EndNote h progress) acts.Ended v C s =
     let i = there_is (place_of h w.components) _ s in
     let c = there_is (slice_get w.components i.0) _ i.2 in
     (c.2).closed
-step_closed w (acts.Supply h port) (acts.Supplied result) v C s = on_port Omx w v h result C port _ s (λ i c p a. acts_or_memory (supply_idle (look w) c p) result w (with_supplied p w) v a C)
+step_closed w (acts.Supply h port) (acts.Supplied result) v C s = on_port Omx w v h result C port _ s (λ i c p a. acts_close (supply_idle (look w) c p) result w (with_supplied p w) v a C)
 step_closed w (acts.Release h port) (acts.Acted result) v C s = on_port plain w v h result C port _ s (λ i c p a.
     acts_close (release_idle (look w) c p) result w (front_unmade (in_port (seen w.headers) p) w) v a C)
 step_closed w (acts.HandOver h port) (acts.Acted result) v C s = on_port plain w v h result C port _ s (λ i c p a. acts_close (over_idle (look w) c p) result w (handed_over p w) v a C)

@@ -102,7 +102,7 @@ get_config_again w h key x v _ u p q = absurd q
 -- ---- headers and notes
 
 allocate_buffer_again : (w : World) (h : Handle) (port : ℕ) (x : Result Held CallError) (v : World) (s : Reply) (u : World) → AllocateBuffer w h port x v → Step w (acts.AllocateBuffer h port) s u → AreAlike w (acts.Allocated x) v s u
-allocate_buffer_again w h port x v (acts.Allocated y) u p q = allocate_buffer_twice w h port x y v u p q
+allocate_buffer_again w h port x v (acts.Allocated y) u p q = alike (λ r. acts.Allocated r) w x y v u (allocate_buffer_twice w h port x y v u p q)
 allocate_buffer_again w h port x v _ u p q = absurd q
 
 use_buffer_again : (w : World) (h : Handle) (port : ℕ) (bytes : List ℕ) (x : Result Held OmxError) (v : World) (s : Reply) (u : World) → UseBuffer w h port bytes x v → Step w (acts.UseBuffer h port bytes) s u → AreAlike w (acts.Used x) v s u
@@ -126,7 +126,7 @@ take_note_again w h x v (acts.Took y) u p q = alike (λ r. acts.Took r) w x y v 
 take_note_again w h x v _ u p q = absurd q
 
 supply_again : (w : World) (h : Handle) (port : ℕ) (x : Result Acted CallError) (v : World) (s : Reply) (u : World) → Supply w h port x v → Step w (acts.Supply h port) s u → AreAlike w (acts.Supplied x) v s u
-supply_again w h port x v (acts.Supplied y) u p q = supply_twice w h port x y v u p q
+supply_again w h port x v (acts.Supplied y) u p q = alike (λ r. acts.Supplied r) w x y v u (supply_twice w h port x y v u p q)
 supply_again w h port x v _ u p q = absurd q
 
 release_again : (w : World) (h : Handle) (port : ℕ) (x : Result Acted OmxError) (v : World) (s : Reply) (u : World) → Release w h port x v → Step w (acts.Release h port) s u → AreAlike w (acts.Acted x) v s u

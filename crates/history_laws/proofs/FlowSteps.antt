@@ -27,7 +27,7 @@ use Rattle.history_laws.proofs.Out.{works_same}
 use Rattle.history_laws.proofs.Homes.{set_in, supplier_joined, supplier_home}
 use Rattle.history_laws.proofs.BufferSteps.{named_port_is}
 use Rattle.history_laws.proofs.HeaderActs.{front_ends, in_port_of, over_moves, over_silent, back_moves, back_silent, unmade_silent, unmade_works, over_works, back_works, named_port, named_key, key_component}
-use Rattle.history_laws.proofs.Outcome.{turn, Turn, Outcome, done, acts as acts_come, acts_or_memory, on_port}
+use Rattle.history_laws.proofs.Outcome.{turn, Turn, Outcome, done, acts as acts_come, on_port}
 
 -- what supplies or releases is the supplier
 supply_supplies : (l : Look) (c : Component) (p : Port) → supply_idle l c p ≡ None → is_supplier p ≡ true
@@ -42,7 +42,7 @@ pub supply : (w : World) (h : Handle) (port : ℕ) (result : Result Acted CallEr
 supply w h port result v a =
     let ms : Result Acted CallError → Turn = λ r. turn w (acts.Supply h port) (acts.Supplied r) in
     on_port Omx w h port result v _ a ms (λ e. refl) (λ i c p named e b.
-    acts_or_memory (supply_idle (look w) c p) result w (with_supplied p w) v ms (λ y. refl) (λ y. refl) b (λ n C.
+    acts_come (supply_idle (look w) c p) result w (with_supplied p w) v ms (λ y. refl) b (λ n C.
     let supplies = supply_supplies (look w) c p n in
     let link = supplier_joined p supplies in
     let mid = with_supplied p w in

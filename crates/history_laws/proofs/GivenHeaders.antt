@@ -14,7 +14,7 @@ use Rattle.il_machine.specs.World.{Component, HeaderRecord, World, number_of, pl
 use Rattle.il_machine.specs.Headers.{find_header, state_of, state_given, given_to, empty_load, Once}
 use Rattle.il_machine.specs.Look.{look}
 use Rattle.il_machine.specs.Due.{ClosesTo}
-use Rattle.il_machine.specs.Answers.{plain, Resolving, Answers, AnswersOrMemory}
+use Rattle.il_machine.specs.Answers.{plain, Resolving, Answers, AnswersAs}
 use Rattle.il_machine.specs.Buffers.{Held, held, held_of, AtState, allocate_refusal, use_refusal, client_header, with_header}
 use Rattle.il_machine.specs.Notes.{Taken, TakenEvent, TakenEmpty, TakenFilled, Took, TookNote, TakeFrom, with_given, with_client}
 use Rattle.il_machine.specs.Census.{note_numbers}
@@ -52,9 +52,9 @@ pub accepted : {T : Type 0} (o : Option OmxError) (x : T) (w v : World) (Accepte
 accepted (Some error) x w v Accepted a = let e = a.0 in absurd cc
 accepted None x w v Accepted a = a
 
-accepted_or_memory : {T : Type 0} (o : Option OmxError) (x : T) (w v : World) (Accepted : T → Type 0) → AnswersOrMemory o (Ok x) w v Accepted → Accepted x
-accepted_or_memory (Some error) x w v Accepted a = let e = a.0 in absurd cc
-accepted_or_memory None x w v Accepted a = a
+accepted_as : {T E : Type 0} (refuse : OmxError → E) (o : Option OmxError) (x : T) (w v : World) (Accepted : T → Type 0) → AnswersAs refuse o (Ok x) w v Accepted → Accepted x
+accepted_as refuse (Some error) x w v Accepted a = let e = a.0 in absurd cc
+accepted_as refuse None x w v Accepted a = a
 
 -- the close-out leaves each header its memory
 pub closed_memory : (w v : World) (number : ℕ) (memory : Option (List ℕ)) → Once w.headers → ClosesTo w v → HasMemory w number memory → HasMemory v number memory
@@ -94,7 +94,7 @@ none_before w p client_memory memory header S e was H =
 allocated : (w : World) (h : Handle) (port : ℕ) (header : Held) (v : World) → Sound w → Sound v → Step w (acts.AllocateBuffer h port) (acts.Allocated (Ok header)) v → IsGiven w (acts.AllocateBuffer h port) v header
 allocated w h port header v S Z a =
     let x = resolved Omx w v h header _ a in
-    let y = accepted_or_memory (allocate_refusal (look w) x.1 (port_of x.1 port)) header w v _ x.3 in
+    let y = accepted_as Omx (allocate_refusal (look w) x.1 (port_of x.1 port)) header w v _ x.3 in
     let p = there_is (port_of x.1 port) _ y in
     record {
       state = client_header w.made p.0 false;

@@ -12,7 +12,7 @@ use Rattle.il_machine.specs.declared.answer.Acted.TheVariants as acted
 use Rattle.il_machine.specs.declared.answer.Why.{Why}
 use Rattle.il_machine.specs.declared.port.Port.{Port}
 use Rattle.il_machine.specs.World.{Component, World, number_of, place_of, is_at, port_of}
-use Rattle.il_machine.specs.Answers.{Resolving, Answers, AnswersOrMemory, Acts, ActsOrMemory, Looks}
+use Rattle.il_machine.specs.Answers.{plain, Resolving, Answers, AnswersAs, AnswersOrMemory, Acts, Looks}
 use Rattle.il_machine.specs.Flow.{OnPort}
 use Rattle.il_machine.specs.Due.{ClosesTo}
 use Rattle.il_machine.specs.Acts.{Act, Reply}
@@ -72,14 +72,18 @@ pub nothing_by : {R : Type 0} (w v : World) (ms : R → Turn) (result r : R) →
 nothing_by w v ms result r e m s = Nothing s (ap ms e ∙ m)
 
 module _ {T : Type 0} where
-  ok_and : (result : Result T OmxError) (w v : World) (ms : Result T OmxError → Turn) (Accepted : T → Type 0) → IsOkAnd result Accepted → ((x : T) → result ≡ Ok x → Accepted x → Outcome w (ms (Ok x)) v) → Outcome w (ms result) v
+  ok_and : {E : Type 0} (result : Result T E) (w v : World) (ms : Result T E → Turn) (Accepted : T → Type 0) → IsOkAnd result Accepted → ((x : T) → result ≡ Ok x → Accepted x → Outcome w (ms (Ok x)) v) → Outcome w (ms result) v
   ok_and (Ok x) w v ms Accepted a h = h x refl a
   ok_and (Err e) w v ms Accepted a h = absurd a
 
+  pub answers_as : {E : Type 0} (refuse : OmxError → E) (refusal : Option OmxError) (result : Result T E) (w v : World) (ms : Result T E → Turn) (Accepted : T → Type 0) → ((e : E) → ms (Err e) ≡ no_turn w) → AnswersAs refuse refusal result w v Accepted
+      → (refusal ≡ None → (x : T) → result ≡ Ok x → Accepted x → Outcome w (ms (Ok x)) v) → Outcome w (ms result) v
+  answers_as refuse (Some error) result w v ms Accepted n a h = nothing_by w v ms result (Err (refuse error)) a.0 (n (refuse error)) a.1
+  answers_as refuse None result w v ms Accepted n a h = ok_and result w v ms Accepted a (h refl)
+
   pub answers : (refusal : Option OmxError) (result : Result T OmxError) (w v : World) (ms : Result T OmxError → Turn) (Accepted : T → Type 0) → ((e : OmxError) → ms (Err e) ≡ no_turn w) → Answers refusal result w v Accepted
       → (refusal ≡ None → (x : T) → result ≡ Ok x → Accepted x → Outcome w (ms (Ok x)) v) → Outcome w (ms result) v
-  answers (Some error) result w v ms Accepted n a h = nothing_by w v ms result (Err error) a.0 (n error) a.1
-  answers None result w v ms Accepted n a h = ok_and result w v ms Accepted a (h refl)
+  answers refusal result w v ms Accepted n a h = answers_as plain refusal result w v ms Accepted n a h
 
   memory : (result : Result T CallError) (w v : World) (ms : Result T CallError → Turn) (Accepted : T → Type 0) → ((e : CallError) → ms (Err e) ≡ no_turn w) → MatchResult result Accepted (λ error. (error ≡ OutOfMemory) × (v ≡ w))
       → ((x : T) → result ≡ Ok x → Accepted x → Outcome w (ms (Ok x)) v) → Outcome w (ms result) v
@@ -91,20 +95,10 @@ module _ {T : Type 0} where
   answers_or_memory (Some error) result w v ms Accepted n a h = nothing_by w v ms result (Err (Omx error)) a.0 (n (Omx error)) a.1
   answers_or_memory None result w v ms Accepted n a h = memory result w v ms Accepted n a (h refl)
 
-pub acts : (reason : Option Why) (result : Result Acted OmxError) (w after v : World) (ms : Result Acted OmxError → Turn) → ((why : Why) → ms (Ok (acted.Idle why)) ≡ no_turn w) → Acts reason result w after v
+pub acts : {E : Type 0} (reason : Option Why) (result : Result Acted E) (w after v : World) (ms : Result Acted E → Turn) → ((why : Why) → ms (Ok (acted.Idle why)) ≡ no_turn w) → Acts reason result w after v
     → (reason ≡ None → ClosesTo after v → Outcome w (ms (Ok acted.Did)) v) → Outcome w (ms result) v
 acts (Some reason) result w after v ms n a h = nothing_by w v ms result (Ok (acted.Idle reason)) a.0 (n reason) a.1
 acts None result w after v ms n a h = subst (λ r. Outcome w (ms r) v) (sym a.0) (h refl a.1)
-
-did_or_memory : (result : Result Acted CallError) (w after v : World) (ms : Result Acted CallError → Turn) → ((e : CallError) → ms (Err e) ≡ no_turn w)
-    → MatchResult result (λ done. (done ≡ acted.Did) × ClosesTo after v) (λ error. (error ≡ OutOfMemory) × (v ≡ w)) → (ClosesTo after v → Outcome w (ms (Ok acted.Did)) v) → Outcome w (ms result) v
-did_or_memory (Ok x) w after v ms n a h = subst (λ (y : Acted). Outcome w (ms (Ok y)) v) (sym a.0) (h a.1)
-did_or_memory (Err e) w after v ms n a h = Nothing a.1 (n e)
-
-pub acts_or_memory : (reason : Option Why) (result : Result Acted CallError) (w after v : World) (ms : Result Acted CallError → Turn) → ((why : Why) → ms (Ok (acted.Idle why)) ≡ no_turn w) → ((e : CallError) → ms (Err e) ≡ no_turn w)
-    → ActsOrMemory reason result w after v → (reason ≡ None → ClosesTo after v → Outcome w (ms (Ok acted.Did)) v) → Outcome w (ms result) v
-acts_or_memory (Some reason) result w after v ms n m a h = nothing_by w v ms result (Ok (acted.Idle reason)) a.0 (n reason) a.1
-acts_or_memory None result w after v ms n m a h = did_or_memory result w after v ms m a (h refl)
 
 -- ---- the component that a handle names
 

@@ -11,7 +11,7 @@ use Rattle.il_machine.specs.declared.answer.Acted.TheVariants as acted
 use Rattle.il_machine.specs.declared.answer.Why.{Why}
 use Rattle.il_machine.specs.declared.port.Port.{Port}
 use Rattle.il_machine.specs.World.{Component, World, place_of, port_of}
-use Rattle.il_machine.specs.Answers.{Resolving, Answers, AnswersOrMemory, Acts, ActsOrMemory, Looks}
+use Rattle.il_machine.specs.Answers.{plain, Resolving, Answers, AnswersAs, AnswersOrMemory, Acts, Looks}
 use Rattle.il_machine.specs.Flow.{OnPort}
 use Rattle.il_machine.specs.Due.{ClosesTo}
 use Rattle.machine_laws.proofs.Closing.{closes_once}
@@ -58,15 +58,19 @@ module _ {T E : Type 0} where
       (λ i c p q. port_twice refuse w x y v u (A i c) (B i c) C (port_of c port) p q same (λ r s t. k i c r s t))
 
 module _ {T : Type 0} where
-  ok_twice : (x y : Result T OmxError) (A B : T → Type 0) (C : Type 0) → IsOkAnd x A → IsOkAnd y B → ((s t : T) → x ≡ Ok s → y ≡ Ok t → A s → B t → C) → C
+  ok_twice : {E : Type 0} (x y : Result T E) (A B : T → Type 0) (C : Type 0) → IsOkAnd x A → IsOkAnd y B → ((s t : T) → x ≡ Ok s → y ≡ Ok t → A s → B t → C) → C
   ok_twice (Ok s) (Ok t) A B C a b k = k s t refl refl a b
   ok_twice (Ok s) (Err e) A B C a b k = absurd b
   ok_twice (Err e) y A B C a b k = absurd a
 
+  pub answers_as_twice : {E : Type 0} (refuse : OmxError → E) (refusal : Option OmxError) (w : World) (x y : Result T E) (v u : World) (A B : T → Type 0) (C : Type 0) → AnswersAs refuse refusal x w v A → AnswersAs refuse refusal y w u B
+      → (IsSame x y v u → C) → ((s t : T) → x ≡ Ok s → y ≡ Ok t → A s → B t → C) → C
+  answers_as_twice refuse (Some error) w x y v u A B C a b same k = same (nothing_twice w (Err (refuse error)) x y v u a.0 a.1 b.0 b.1)
+  answers_as_twice refuse None w x y v u A B C a b same k = ok_twice x y A B C a b k
+
   pub answers_twice : (refusal : Option OmxError) (w : World) (x y : Result T OmxError) (v u : World) (A B : T → Type 0) (C : Type 0) → Answers refusal x w v A → Answers refusal y w u B
       → (IsSame x y v u → C) → ((s t : T) → x ≡ Ok s → y ≡ Ok t → A s → B t → C) → C
-  answers_twice (Some error) w x y v u A B C a b same k = same (nothing_twice w (Err error) x y v u a.0 a.1 b.0 b.1)
-  answers_twice None w x y v u A B C a b same k = ok_twice x y A B C a b k
+  answers_twice refusal w x y v u A B C a b same k = answers_as_twice plain refusal w x y v u A B C a b same k
 
   -- the first or the second wants memory, or neither
   memory_twice : (w : World) (x y : Result T CallError) (v u : World) (A B : T → Type 0) (C : Type 0)
@@ -86,13 +90,6 @@ module _ {T : Type 0} where
   looks_twice (Ok z) x y w v u a b = closed_twice w (Ok z) x y v u a.0 a.1 b.0 b.1
   looks_twice (Err e) x y w v u a b = nothing_twice w (Err e) x y v u a.0 a.1 b.0 b.1
 
-pub acts_twice : (reason : Option Why) (w after : World) (x y : Result Acted OmxError) (v u : World) → Acts reason x w after v → Acts reason y w after u → IsSame x y v u
+pub acts_twice : {E : Type 0} (reason : Option Why) (w after : World) (x y : Result Acted E) (v u : World) → Acts reason x w after v → Acts reason y w after u → IsSame x y v u
 acts_twice (Some why) w after x y v u a b = nothing_twice w (Ok (acted.Idle why)) x y v u a.0 a.1 b.0 b.1
 acts_twice None w after x y v u a b = closed_twice after (Ok acted.Did) x y v u a.0 a.1 b.0 b.1
-
-pub acts_or_memory_twice : (reason : Option Why) (w after : World) (x y : Result Acted CallError) (v u : World) (C : Type 0) → ActsOrMemory reason x w after v → ActsOrMemory reason y w after u
-    → (IsSame x y v u → C) → (x ≡ Err OutOfMemory → v ≡ w → C) → (y ≡ Err OutOfMemory → u ≡ w → C) → C
-acts_or_memory_twice (Some why) w after x y v u C a b same first second = same (nothing_twice w (Ok (acted.Idle why)) x y v u a.0 a.1 b.0 b.1)
-acts_or_memory_twice None w after x y v u C a b same first second =
-    memory_twice w x y v u (λ done. (done ≡ acted.Did) × ClosesTo after v) (λ done. (done ≡ acted.Did) × ClosesTo after u) C a b first second
-    (λ s t e f p q. same (closed_twice after (Ok acted.Did) x y v u (e ∙ rw p.0 refl) p.1 (f ∙ rw q.0 refl) q.1))

@@ -8,8 +8,6 @@ use Rattle.il_machine.specs.Acts as acts
 
 abbrev pub WantsMemory : Reply → Type 0
 WantsMemory (acts.Got (Err OutOfMemory)) = Unit {0}
-WantsMemory (acts.Allocated (Err OutOfMemory)) = Unit {0}
-WantsMemory (acts.Supplied (Err OutOfMemory)) = Unit {0}
 WantsMemory _ = ⊥
 
 -- the component, with the slot if the handle is its own

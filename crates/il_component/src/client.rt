@@ -65,29 +65,6 @@ impl<C> Component<C> {
         notes.close()
     }
 
-    /// Ends the component whatever is queued, and gives its client object back where it is in.
-    pub fn dispose(self) -> Option<C>
-        ensures { result ≡ self.queues.client }
-    {
-        let Component {
-            handle: _,
-            params: _,
-            state: _,
-            pending: _,
-            loss_mark: _,
-            holds: _,
-            waiting: _,
-            work: _,
-            file: _,
-            ended_inputs: _,
-            ended: _,
-            failed: _,
-            ports: _,
-            notes,
-        } = self;
-        notes.dispose()
-    }
-
     /// The value of a parameter, or of a config.
     pub fn get(&self, key: ParamKey, config: bool) -> Result<Param, OmxError>
         ensures { result ≡ refused_or (get_parameter_refusal (component_of self.now) key config) (value_of self.now.settings key) }

@@ -5,7 +5,7 @@ use Rattle.part_api.specs.Streams.{Incoming, Shape}
 use Rattle.part_api.specs.Terms.{Terms}
 use Rattle.il_machine.specs.declared.header.HeaderState.{HeaderState}
 use Rattle.header_core.specs.declared.memory.Store.{Store}
-use Rattle.header_core.specs.declared.memory.Store.TheVariants.{Own, Block}
+use Rattle.header_core.specs.declared.memory.Store.TheVariants.{Own, Region}
 use Rattle.header_core.specs.BufferHeader.{BufferHeader, is_clients, with_bytes}
 use Rattle.port_stock.specs.Conditions.{IsHeaderOf}
 use Rattle.il_flow.specs.Places.{AreHeadersOf, AreSame, AreWithin, IsSame, carried_from, changed_from}
@@ -13,7 +13,7 @@ use Rattle.il_flow.specs.Steps.{stepped_header}
 
 same_store : (bytes : List ℕ) (store : Store) → is_clients (with_bytes bytes store) ≡ is_clients store
 same_store bytes (Own old) = refl
-same_store bytes (Block old) = refl
+same_store bytes (Region old) = refl
 
 same_by : (t : Terms) (s : Shape) (n : ℕ) (came : Incoming) (over : Bool) (port : ℕ) (h : BufferHeader) (inside : Bool) → nat_lt port (length t.inputs) ≡ inside
     → IsSame h (stepped_header t s n came over port h)

@@ -3,7 +3,8 @@ use Rattle.std.proofs.Common.{◌≡◌, ℕ, true, false, Option, Some, None, i
 use Rattle.omx_types.specs.declared.handle.Handle.{Handle}
 use Rattle.omx_types.specs.declared.error.OmxError.{OmxError}
 use Rattle.omx_types.specs.declared.error.OmxError.TheVariants as errors
-use Rattle.omx_types.specs.declared.error.CallError.TheVariants.{Omx, OutOfMemory}
+use Rattle.omx_types.specs.declared.error.CallError.{CallError}
+use Rattle.omx_types.specs.declared.error.CallError.TheVariants.{Omx}
 use Rattle.il_machine.specs.declared.answer.Acted.{Acted}
 use Rattle.il_machine.specs.declared.answer.Acted.TheVariants as acted
 use Rattle.il_machine.specs.declared.answer.Why.{Why}
@@ -13,9 +14,9 @@ use Rattle.il_machine.specs.World.{Component, World, port_of}
 use Rattle.il_machine.specs.Look.{Look, look}
 use Rattle.il_machine.specs.Due.{ClosesTo}
 use Rattle.il_machine.specs.Flow.{OnPort}
-use Rattle.il_machine.specs.Answers.{plain, Acts, ActsOrMemory}
+use Rattle.il_machine.specs.Answers.{plain, Acts}
 use Rattle.whole_laws.specs.Bare.{StepsBare}
-use Rattle.whole_laws.proofs.Answering.{unresolved, no_port, on_port, idle, did, idle_or_memory, act_wants_memory, did_or_memory, then_closes}
+use Rattle.whole_laws.proofs.Answering.{unresolved, no_port, on_port, idle, did, idle_as, did_as, then_closes}
 use Rattle.graph_core.specs.Entries.{Entries, look_of, kept, component_at, entry_place}
 use Rattle.graph_core.proofs.Replacing.{entry_place_is}
 use Rattle.il_graph.proofs.Calling.{Found, at_some, and_some}
@@ -88,28 +89,23 @@ module _ {C : Type 0} (progress : C → Progress) (g : Entries C) (h : Handle) (
         changes m k s x = closes m k (After i F.component H.it) (at_port (λ c p. StepsBare (kept progress g) (kept progress m) (λ w v. v ≡ After i c p w)) s) x
 
         pub idle_on : (why : Why) → Reason (Some why)
-            → StepsBare (kept progress g) (kept progress g) (λ w v. OnPort plain w h port (Ok (acted.Idle why)) v (λ i c p. Acts (R (look w) c p) (Ok (acted.Idle why)) w (After i c p w) v))
-        idle_on why m = named plain g (Ok (acted.Idle why)) (λ w v i c p. Acts (R (look w) c p) (Ok (acted.Idle why)) w (After i c p w) v)
+            → StepsBare (kept progress g) (kept progress g) (λ w v. OnPort plain w h port (Ok (acted.Idle why)) v (λ i c p. Acts {E = OmxError} (R (look w) c p) (Ok (acted.Idle why)) w (After i c p w) v))
+        idle_on why m = named plain g (Ok (acted.Idle why)) (λ w v i c p. Acts {E = OmxError} (R (look w) c p) (Ok (acted.Idle why)) w (After i c p w) v)
             (idle (kept progress g) (λ l. R l F.component H.it) why (After i F.component H.it) (reason_is (Some why) m))
 
         pub did_on : (m k : Entries C) → Reason None → Changes m → StepsBare (kept progress m) (kept progress k) ClosesTo
-            → StepsBare (kept progress g) (kept progress k) (λ w v. OnPort plain w h port (Ok acted.Did) v (λ i c p. Acts (R (look w) c p) (Ok acted.Did) w (After i c p w) v))
-        did_on m k r s x = named plain k (Ok acted.Did) (λ w v i c p. Acts (R (look w) c p) (Ok acted.Did) w (After i c p w) v)
+            → StepsBare (kept progress g) (kept progress k) (λ w v. OnPort plain w h port (Ok acted.Did) v (λ i c p. Acts {E = OmxError} (R (look w) c p) (Ok acted.Did) w (After i c p w) v))
+        did_on m k r s x = named plain k (Ok acted.Did) (λ w v i c p. Acts {E = OmxError} (R (look w) c p) (Ok acted.Did) w (After i c p w) v)
             (did (kept progress g) (kept progress k) (λ l. R l F.component H.it) (After i F.component H.it) (reason_is None r) (changes m k s x))
 
-        -- the same of an act that takes memory
+        -- the same of an act with errors of other causes
 
-        pub idle_taking : (why : Why) → Reason (Some why)
-            → StepsBare (kept progress g) (kept progress g) (λ w v. OnPort Omx w h port (Ok (acted.Idle why)) v (λ i c p. ActsOrMemory (R (look w) c p) (Ok (acted.Idle why)) w (After i c p w) v))
-        idle_taking why m = named Omx g (Ok (acted.Idle why)) (λ w v i c p. ActsOrMemory (R (look w) c p) (Ok (acted.Idle why)) w (After i c p w) v)
-            (idle_or_memory (kept progress g) (λ l. R l F.component H.it) why (After i F.component H.it) (reason_is (Some why) m))
+        pub idle_by : (why : Why) → Reason (Some why)
+            → StepsBare (kept progress g) (kept progress g) (λ w v. OnPort Omx w h port (Ok (acted.Idle why)) v (λ i c p. Acts {E = CallError} (R (look w) c p) (Ok (acted.Idle why)) w (After i c p w) v))
+        idle_by why m = named Omx g (Ok (acted.Idle why)) (λ w v i c p. Acts {E = CallError} (R (look w) c p) (Ok (acted.Idle why)) w (After i c p w) v)
+            (idle_as CallError (kept progress g) (λ l. R l F.component H.it) why (After i F.component H.it) (reason_is (Some why) m))
 
-        pub wanting_on : Reason None
-            → StepsBare (kept progress g) (kept progress g) (λ w v. OnPort {T = Acted} Omx w h port (Err OutOfMemory) v (λ i c p. ActsOrMemory (R (look w) c p) (Err OutOfMemory) w (After i c p w) v))
-        wanting_on r = named Omx g (Err OutOfMemory) (λ w v i c p. ActsOrMemory (R (look w) c p) (Err OutOfMemory) w (After i c p w) v)
-            (act_wants_memory (kept progress g) (λ l. R l F.component H.it) (After i F.component H.it) (reason_is None r))
-
-        pub did_taking : (m k : Entries C) → Reason None → Changes m → StepsBare (kept progress m) (kept progress k) ClosesTo
-            → StepsBare (kept progress g) (kept progress k) (λ w v. OnPort Omx w h port (Ok acted.Did) v (λ i c p. ActsOrMemory (R (look w) c p) (Ok acted.Did) w (After i c p w) v))
-        did_taking m k r s x = named Omx k (Ok acted.Did) (λ w v i c p. ActsOrMemory (R (look w) c p) (Ok acted.Did) w (After i c p w) v)
-            (did_or_memory (kept progress g) (kept progress k) (λ l. R l F.component H.it) (After i F.component H.it) (reason_is None r) (changes m k s x))
+        pub did_by : (m k : Entries C) → Reason None → Changes m → StepsBare (kept progress m) (kept progress k) ClosesTo
+            → StepsBare (kept progress g) (kept progress k) (λ w v. OnPort Omx w h port (Ok acted.Did) v (λ i c p. Acts {E = CallError} (R (look w) c p) (Ok acted.Did) w (After i c p w) v))
+        did_by m k r s x = named Omx k (Ok acted.Did) (λ w v i c p. Acts {E = CallError} (R (look w) c p) (Ok acted.Did) w (After i c p w) v)
+            (did_as CallError (kept progress g) (kept progress k) (λ l. R l F.component H.it) (After i F.component H.it) (reason_is None r) (changes m k s x))

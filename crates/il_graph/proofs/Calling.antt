@@ -84,21 +84,21 @@ module _ {C : Type 0} (progress : C → Progress) where
   module _ (R : Component → Option Why) where
     pub idle_at : (g : Entries C) (h : Handle) (i : ℕ) (why : Why) (After : ℕ → Component → World → World) → Found g h i
         → MatchOption (component_at i g) ⊥ (λ c. Some why ≡ R c)
-        → StepsBare (kept progress g) (kept progress g) (λ w v. Resolving plain w h (Ok (acted.Idle why)) v (λ j c. Acts (R c) (Ok (acted.Idle why)) w (After j c w) v))
+        → StepsBare (kept progress g) (kept progress g) (λ w v. Resolving plain w h (Ok (acted.Idle why)) v (λ j c. Acts {E = OmxError} (R c) (Ok (acted.Idle why)) w (After j c w) v))
     idle_at g h i why After F m =
         let r = at_some (λ c. Some why ≡ R c) (component_at i g) F.component F.at m in
-        resolved plain (kept progress g) (kept progress g) h i F.component (Ok (acted.Idle why)) (λ w v j c. Acts (R c) (Ok (acted.Idle why)) w (After j c w) v) F.place F.at
+        resolved plain (kept progress g) (kept progress g) h i F.component (Ok (acted.Idle why)) (λ w v j c. Acts {E = OmxError} (R c) (Ok (acted.Idle why)) w (After j c w) v) F.place F.at
         (idle (kept progress g) (λ l. R F.component) why (After i F.component) (sym r))
 
     pub did_at : (g m k : Entries C) (h : Handle) (i : ℕ) (After : ℕ → Component → World → World) → Found g h i
         → MatchOption (component_at i g) ⊥ (λ c. None ≡ R c)
         → MatchOption (component_at i g) ⊥ (λ c. StepsBare (kept progress g) (kept progress m) (λ w v. v ≡ After i c w))
         → StepsBare (kept progress m) (kept progress k) ClosesTo
-        → StepsBare (kept progress g) (kept progress k) (λ w v. Resolving plain w h (Ok acted.Did) v (λ j c. Acts (R c) (Ok acted.Did) w (After j c w) v))
+        → StepsBare (kept progress g) (kept progress k) (λ w v. Resolving plain w h (Ok acted.Did) v (λ j c. Acts {E = OmxError} (R c) (Ok acted.Did) w (After j c w) v))
     did_at g m k h i After F r s closes =
         let a = at_some (λ c. None ≡ R c) (component_at i g) F.component F.at r in
         let t = at_some (λ c. StepsBare (kept progress g) (kept progress m) (λ w v. v ≡ After i c w)) (component_at i g) F.component F.at s in
-        resolved plain (kept progress g) (kept progress k) h i F.component (Ok acted.Did) (λ w v j c. Acts (R c) (Ok acted.Did) w (After j c w) v) F.place F.at
+        resolved plain (kept progress g) (kept progress k) h i F.component (Ok acted.Did) (λ w v j c. Acts {E = OmxError} (R c) (Ok acted.Did) w (After j c w) v) F.place F.at
         (did (kept progress g) (kept progress k) (λ l. R F.component) (After i F.component) (sym a)
         (then_closes (kept progress g) (kept progress m) (kept progress k) (After i F.component) t closes))
 

@@ -23,7 +23,6 @@ use Rattle.history_laws.proofs.ClientHeaders.{clients_after, closing_clients}
 use Rattle.history_laws.proofs.KeyLaw.{key_after, closing_key}
 use Rattle.history_laws.proofs.ComingHeaders.{comes_to_client, leaves_client, closing_comes}
 use Rattle.history_laws.proofs.GivenHeaders.{gives_after}
-use Rattle.header_core.specs.declared.memory.Store.{Store}
 use Rattle.header_core.specs.BufferHeader.{BufferHeader, is_clients, fresh}
 use Rattle.note_queues.specs.declared.taken.Taken.{Taken}
 use Rattle.note_queues.specs.declared.taken.Taken.TheVariants.{Told, EmptyDone, FillDone}
@@ -252,20 +251,12 @@ module _ {C : Type 0} (progress : C → Progress) where
       }
 
   -- the key of a header that was made
-  pub made_key : (g : Entries C) (h : Handle) (i port : ℕ) (header : BufferHeader) (store : Store) (F : Found progress g h i)
-      → MatchOption (component_at i g) ⊥ (λ c. MatchOption (port_of c port) ⊥ (λ p. header ≡ fresh (look_of g).key (look_of g).made store p.setting.definition.size)) → header.key ≡ (look_of g).key
-  made_key g h i port header store F m =
-      let a = at_some (λ c. MatchOption (port_of c port) ⊥ (λ p. header ≡ fresh (look_of g).key (look_of g).made store p.setting.definition.size)) (component_at i g) F.component F.at m in
-      let p = there_is (port_of F.component port) (λ p. header ≡ fresh (look_of g).key (look_of g).made store p.setting.definition.size) a in
+  pub made_key : (g : Entries C) (h : Handle) (i port : ℕ) (header : BufferHeader) (F : Found progress g h i)
+      → MatchOption (component_at i g) ⊥ (λ c. MatchOption (port_of c port) ⊥ (λ p. header ≡ fresh (look_of g).key (look_of g).made header.store p.setting.definition.size)) → header.key ≡ (look_of g).key
+  made_key g h i port header F m =
+      let a = at_some (λ c. MatchOption (port_of c port) ⊥ (λ p. header ≡ fresh (look_of g).key (look_of g).made header.store p.setting.definition.size)) (component_at i g) F.component F.at m in
+      let p = there_is (port_of F.component port) (λ p. header ≡ fresh (look_of g).key (look_of g).made header.store p.setting.definition.size) a in
       ap (λ (x : BufferHeader). x.key) p.2
-
-  -- the memory of a header that was made
-  pub made_store : (g : Entries C) (h : Handle) (i port : ℕ) (header : BufferHeader) (store : Store) (F : Found progress g h i)
-      → MatchOption (component_at i g) ⊥ (λ c. MatchOption (port_of c port) ⊥ (λ p. header ≡ fresh (look_of g).key (look_of g).made store p.setting.definition.size)) → header.store ≡ store
-  made_store g h i port header store F m =
-      let a = at_some (λ c. MatchOption (port_of c port) ⊥ (λ p. header ≡ fresh (look_of g).key (look_of g).made store p.setting.definition.size)) (component_at i g) F.component F.at m in
-      let p = there_is (port_of F.component port) (λ p. header ≡ fresh (look_of g).key (look_of g).made store p.setting.definition.size) a in
-      ap (λ (x : BufferHeader). x.store) p.2
 
   pub allocated_out : (old new : Entries C) (h : Handle) (port : ℕ) (header : BufferHeader) → header.key ≡ (look_of old).key → is_clients header.store ≡ false → SoundWorld (kept progress old)
       → StepsBare (kept progress old) (kept progress new) (λ w v. Step w (acts.AllocateBuffer h port) (acts.Allocated (Ok header.held)) v) → IsHandedOut (look_of old) (look_of new) header

@@ -4,7 +4,7 @@ use Rattle.omx_types.specs.declared.handle.Handle.{Handle}
 use Rattle.omx_types.specs.declared.error.OmxError.{OmxError}
 use Rattle.omx_types.specs.declared.error.OmxError.TheVariants as errors
 use Rattle.omx_types.specs.declared.error.CallError.{CallError}
-use Rattle.omx_types.specs.declared.error.CallError.TheVariants.{Omx, OutOfMemory}
+use Rattle.omx_types.specs.declared.error.CallError.TheVariants.{Omx}
 use Rattle.il_machine.specs.declared.answer.Progress.{Progress}
 use Rattle.il_machine.specs.declared.header.HeaderState.{HeaderState}
 use Rattle.il_machine.specs.declared.port.Port.{Port}
@@ -12,12 +12,12 @@ use Rattle.il_machine.specs.World.{Component, World, port_of}
 use Rattle.il_machine.specs.Headers.{empty_load}
 use Rattle.il_machine.specs.Look.{Look, look}
 use Rattle.il_machine.specs.Due.{ClosesTo}
-use Rattle.il_machine.specs.Answers.{plain, Resolving, Answers, AnswersOrMemory}
+use Rattle.il_machine.specs.Answers.{plain, Resolving, Answers, AnswersAs}
 use Rattle.il_machine.specs.Buffers.{AtState, AtPort, client_header, held_of}
 use Rattle.whole_laws.specs.Bare.{StepsBare, StandsBare}
-use Rattle.whole_laws.proofs.Answering.{unresolved, resolved, refused, accepted, refused_or_memory, wants_memory, accepted_or_memory, then_closes, at_state}
+use Rattle.whole_laws.proofs.Answering.{unresolved, resolved, refused, accepted, refused_as, accepted_as, then_closes, at_state}
 use Rattle.header_core.specs.declared.memory.Store.{Store}
-use Rattle.header_core.specs.declared.memory.Store.TheVariants.{Own, Block}
+use Rattle.header_core.specs.declared.memory.Store.TheVariants.{Own, Region}
 use Rattle.header_core.specs.BufferHeader.{BufferHeader, is_clients, own_memory, empty_held, fresh}
 use Rattle.graph_core.specs.Entries.{Entries, look_of, kept, component_at, entry_place}
 use Rattle.graph_core.proofs.Replacing.{entry_place_is}
@@ -35,10 +35,13 @@ mapped f (Some x) = refl
 
 owned : (store : Store) → is_some (own_memory store) ≡ is_clients store
 owned (Own bytes) = refl
-owned (Block bytes) = refl
+owned (Region block) = refl
 
-pub goes_back : {B : Type 0} (items : B → List ℕ) (memory : Option B) (store : Store) (b : Bool) → option_map items memory ≡ own_memory store → is_clients store ≡ b → is_some memory ≡ b
-goes_back items memory store b e f = sym (mapped items memory) ∙ ap is_some e ∙ owned store ∙ f
+pub goes_back : {B : Type 0} (items : B → List ℕ) (memory : Option B) (back : Option (List ℕ)) (own b : Bool) → option_map items memory ≡ back → is_some back ≡ own → own ≡ b → is_some memory ≡ b
+goes_back items memory back own b e o f = sym (mapped items memory) ∙ ap is_some e ∙ o ∙ f
+
+pub clients_of : (store : Store) (memory : Option (List ℕ)) → own_memory store ≡ memory → is_clients store ≡ is_some memory
+clients_of store memory e = sym (owned store) ∙ ap is_some e
 
 module _ {C : Type 0} (progress : C → Progress) where
   -- ---- a change at a port, and the close-out
@@ -95,16 +98,17 @@ module _ {C : Type 0} (progress : C → Progress) where
 
   -- ---- calls that make a header
 
-  made_at : (g : Entries C) (o : Option Port) (header : BufferHeader) (store : Store) (b : Bool) → MatchOption o ⊥ (λ p. header ≡ fresh (look_of g).key (look_of g).made store p.setting.definition.size)
-      → (w : World) → StandsBare (kept progress g) w → MatchOption o ⊥ (λ p. header.held ≡ held_of (client_header w.made p b) (empty_load (own_memory store)))
-  made_at g None header store b m = λ w S. absurd m
-  made_at g (Some p) header store b m = λ w S. ap (λ x. x.held) m ∙ ap (λ n. empty_held n p.setting.definition.size (own_memory store)) (sym (ap (λ (l : Look). l.made) S.looks))
+  made_at : (g : Entries C) (o : Option Port) (header : BufferHeader) (memory : Option (List ℕ)) (b : Bool) → own_memory header.store ≡ memory → MatchOption o ⊥ (λ p. header ≡ fresh (look_of g).key (look_of g).made header.store p.setting.definition.size)
+      → (w : World) → StandsBare (kept progress g) w → MatchOption o ⊥ (λ p. header.held ≡ held_of (client_header w.made p b) (empty_load memory))
+  made_at g None header memory b e m = λ w S. absurd m
+  made_at g (Some p) header memory b e m = λ w S.
+      ap (λ x. x.held) m ∙ (ap (λ n. empty_held n p.setting.definition.size (own_memory header.store)) (sym (ap (λ (l : Look). l.made) S.looks)) ∙ ap (λ (x : Option (List ℕ)). empty_held w.made p.setting.definition.size x) e)
 
-  pub made_header : (g : Entries C) (h : Handle) (i port : ℕ) (header : BufferHeader) (store : Store) (b : Bool) (F : Found progress g h i)
-      → MatchOption (component_at i g) ⊥ (λ c. MatchOption (port_of c port) ⊥ (λ p. header ≡ fresh (look_of g).key (look_of g).made store p.setting.definition.size))
-      → (w : World) → StandsBare (kept progress g) w → MatchOption (port_of F.component port) ⊥ (λ p. header.held ≡ held_of (client_header w.made p b) (empty_load (own_memory store)))
-  made_header g h i port header store b F m = made_at g (port_of F.component port) header store b
-      (at_some (λ c. MatchOption (port_of c port) ⊥ (λ p. header ≡ fresh (look_of g).key (look_of g).made store p.setting.definition.size)) (component_at i g) F.component F.at m)
+  pub made_header : (g : Entries C) (h : Handle) (i port : ℕ) (header : BufferHeader) (memory : Option (List ℕ)) (b : Bool) (F : Found progress g h i) → own_memory header.store ≡ memory
+      → MatchOption (component_at i g) ⊥ (λ c. MatchOption (port_of c port) ⊥ (λ p. header ≡ fresh (look_of g).key (look_of g).made header.store p.setting.definition.size))
+      → (w : World) → StandsBare (kept progress g) w → MatchOption (port_of F.component port) ⊥ (λ p. header.held ≡ held_of (client_header w.made p b) (empty_load memory))
+  made_header g h i port header memory b F e m = made_at g (port_of F.component port) header memory b e
+      (at_some (λ c. MatchOption (port_of c port) ⊥ (λ p. header ≡ fresh (look_of g).key (look_of g).made header.store p.setting.definition.size)) (component_at i g) F.component F.at m)
 
   module _ {T : Type 0} (R : Look → Component → Option OmxError) where
     pub done_at : (g k : Entries C) (h : Handle) (i : ℕ) (x : T) (Y : World → World → ℕ → Component → T → Type 0) (F : Found progress g h i)
@@ -116,33 +120,25 @@ module _ {C : Type 0} (progress : C → Progress) where
         resolved plain (kept progress g) (kept progress k) h i F.component (Ok x) (λ w v j c. Answers (R (look w) c) (Ok x) w v (Y w v j c)) F.place F.at
         (accepted (kept progress g) (kept progress k) (λ l. R l F.component) x (λ w v. Y w v i F.component) (sym r) y)
 
-    -- ---- the same of calls that take memory
+    -- ---- the same of a call with errors of other causes
 
-    pub refused_taking : (g : Entries C) (h : Handle) (i : ℕ) (error : OmxError) (Y : World → World → ℕ → Component → T → Type 0) → Found progress g h i
+    pub refused_by : (g : Entries C) (h : Handle) (i : ℕ) (error : OmxError) (Y : World → World → ℕ → Component → T → Type 0) → Found progress g h i
         → MatchOption (component_at i g) ⊥ (λ c. Some error ≡ R (look_of g) c)
-        → StepsBare (kept progress g) (kept progress g) (λ w v. Resolving {T = T} Omx w h (Err (Omx error)) v (λ j c. AnswersOrMemory (R (look w) c) (Err (Omx error)) w v (Y w v j c)))
-    refused_taking g h i error Y F m =
+        → StepsBare (kept progress g) (kept progress g) (λ w v. Resolving {T = T} Omx w h (Err (Omx error)) v (λ j c. AnswersAs Omx (R (look w) c) (Err (Omx error)) w v (Y w v j c)))
+    refused_by g h i error Y F m =
         let r = at_some (λ c. Some error ≡ R (look_of g) c) (component_at i g) F.component F.at m in
-        resolved Omx (kept progress g) (kept progress g) h i F.component (Err (Omx error)) (λ w v j c. AnswersOrMemory (R (look w) c) (Err (Omx error)) w v (Y w v j c)) F.place F.at
-        (refused_or_memory (kept progress g) (λ l. R l F.component) error (λ w v. Y w v i F.component) (sym r))
+        resolved Omx (kept progress g) (kept progress g) h i F.component (Err (Omx error)) (λ w v j c. AnswersAs Omx (R (look w) c) (Err (Omx error)) w v (Y w v j c)) F.place F.at
+        (refused_as Omx (kept progress g) (λ l. R l F.component) error (λ w v. Y w v i F.component) (sym r))
 
-    pub wanting_at : (g : Entries C) (h : Handle) (i : ℕ) (Y : World → World → ℕ → Component → T → Type 0) → Found progress g h i
-        → MatchOption (component_at i g) ⊥ (λ c. None ≡ R (look_of g) c)
-        → StepsBare (kept progress g) (kept progress g) (λ w v. Resolving {T = T} Omx w h (Err OutOfMemory) v (λ j c. AnswersOrMemory (R (look w) c) (Err OutOfMemory) w v (Y w v j c)))
-    wanting_at g h i Y F m =
-        let r = at_some (λ c. None ≡ R (look_of g) c) (component_at i g) F.component F.at m in
-        resolved Omx (kept progress g) (kept progress g) h i F.component (Err OutOfMemory) (λ w v j c. AnswersOrMemory (R (look w) c) (Err OutOfMemory) w v (Y w v j c)) F.place F.at
-        (wants_memory (kept progress g) (λ l. R l F.component) (λ w v. Y w v i F.component) (sym r))
-
-    pub done_taking : (g k : Entries C) (h : Handle) (i : ℕ) (x : T) (Y : World → World → ℕ → Component → T → Type 0) (F : Found progress g h i)
+    pub done_by : (g k : Entries C) (h : Handle) (i : ℕ) (x : T) (Y : World → World → ℕ → Component → T → Type 0) (F : Found progress g h i)
         → MatchOption (component_at i g) ⊥ (λ c. None ≡ R (look_of g) c)
         → StepsBare (kept progress g) (kept progress k) (λ w v. Y w v i F.component x)
-        → StepsBare (kept progress g) (kept progress k) (λ w v. Resolving Omx w h (Ok x) v (λ j c. AnswersOrMemory (R (look w) c) (Ok x) w v (Y w v j c)))
-    done_taking g k h i x Y F m y =
+        → StepsBare (kept progress g) (kept progress k) (λ w v. Resolving Omx w h (Ok x) v (λ j c. AnswersAs Omx (R (look w) c) (Ok x) w v (Y w v j c)))
+    done_by g k h i x Y F m y =
         let r = at_some (λ c. None ≡ R (look_of g) c) (component_at i g) F.component F.at m in
-        resolved Omx (kept progress g) (kept progress k) h i F.component (Ok x) (λ w v j c. AnswersOrMemory (R (look w) c) (Ok x) w v (Y w v j c)) F.place F.at
-        (accepted_or_memory (kept progress g) (kept progress k) (λ l. R l F.component) x (λ w v. Y w v i F.component) (sym r) y)
+        resolved Omx (kept progress g) (kept progress k) h i F.component (Ok x) (λ w v j c. AnswersAs Omx (R (look w) c) (Ok x) w v (Y w v j c)) F.place F.at
+        (accepted_as Omx (kept progress g) (kept progress k) (λ l. R l F.component) x (λ w v. Y w v i F.component) (sym r) y)
 
-  pub not_found_taking : (T : Type 0) (g : Entries C) (h : Handle) (X : World → World → ℕ → Component → Type 0) → None ≡ entry_place h g.entries
+  pub not_found_by : (T : Type 0) (g : Entries C) (h : Handle) (X : World → World → ℕ → Component → Type 0) → None ≡ entry_place h g.entries
       → StepsBare (kept progress g) (kept progress g) (λ w v. Resolving {T = T} Omx w h (Err (Omx errors.InvalidComponent)) v (X w v))
-  not_found_taking T g h X e = unresolved T CallError Omx (kept progress g) h X (entry_place_is h g.entries ∙ sym e)
+  not_found_by T g h X e = unresolved T CallError Omx (kept progress g) h X (entry_place_is h g.entries ∙ sym e)

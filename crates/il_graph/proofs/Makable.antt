@@ -14,8 +14,6 @@ use Rattle.il_machine.specs.States.{is_invalid}
 use Rattle.il_machine.specs.World.{Component, port_of}
 use Rattle.il_machine.specs.Buffers.{allocate_refusal, has_no_block, has_no_number, is_bad_length, use_refusal}
 use Rattle.machine_laws.proofs.Accepting.{not_not, passed}
-use Rattle.header_core.specs.declared.memory.Store.{Store}
-use Rattle.header_core.specs.declared.memory.Store.TheVariants.{Own, Block}
 use Rattle.header_core.specs.BufferHeader.{BufferHeader, cleared, is_clients}
 use Rattle.port_stock.specs.Conditions.{IsHeaderOf}
 use Rattle.graph_core.specs.Changes.{IsHandedIn, IsMakable}
@@ -27,7 +25,7 @@ none_of : {A : Type 0} (o : Option A) → is_some o ≡ false → o ≡ None
 none_of None h = refl
 none_of (Some x) h = absurd cc
 
-use_makable : (l : Look) (c : Component) (o : Option Port) (bytes : List ℕ) → use_refusal l c o (length bytes) ≡ None → IsSomeAnd o (λ p. IsMakable l c p (Own bytes))
+use_makable : (l : Look) (c : Component) (o : Option Port) (bytes : List ℕ) → use_refusal l c o (length bytes) ≡ None → IsSomeAnd o (λ p. IsMakable l c p (Some bytes))
 use_makable l c None bytes h =
     let a = passed (is_invalid c.state) errors.InvalidState _ h in
     absurd (let z = a.1 in cc)
@@ -38,31 +36,31 @@ use_makable l c (Some p) bytes h =
     let f = passed (has_no_number l) errors.InsufficientResources _ e.1 in
     let x = either_of (is_joined p) (is_bad_length (length bytes) p) d.0 in
     let y = either_of (nat_lt (length bytes) p.setting.definition.size) (nat_lt 4096 (length bytes)) x.1 in
-    record { alone = none_of p.state.link x.0; accepts = not_not (accepting l.headers c p) e.0; numbers = f.0; fits = ltb-false (length bytes) p.setting.definition.size y.0 }
+    record { alone = none_of p.state.link x.0; accepts = not_not (accepting l.headers c p) e.0; numbers = f.0; fits = ltb-false (length bytes) p.setting.definition.size y.0; block = λ e. absurd cc }
 
-allocate_makable : (l : Look) (c : Component) (o : Option Port) (bytes : List ℕ) (size : ℕ) → allocate_refusal l c o ≡ None → MatchOption o ⊥ (λ p. size ≡ p.setting.definition.size) → length bytes ≡ size → IsSomeAnd o (λ p. IsMakable l c p (Block bytes))
-allocate_makable l c None bytes size h m e = absurd m
-allocate_makable l c (Some p) bytes size h m e =
+allocate_makable : (l : Look) (c : Component) (o : Option Port) → allocate_refusal l c o ≡ None → IsSomeAnd o (λ p. IsMakable l c p None)
+allocate_makable l c None h =
+    let a = passed (is_invalid c.state) errors.InvalidState _ h in
+    absurd (let z = a.1 in cc)
+allocate_makable l c (Some p) h =
     let a = passed (is_invalid c.state) errors.InvalidState _ h in
     let d = passed (is_joined p) errors.BadParameter _ a.1 in
     let f = passed (not (accepting l.headers c p)) errors.IncorrectStateOperation _ d.1 in
     let g = passed (has_no_block l.headers || has_no_number l) errors.InsufficientResources _ f.1 in
     let x = either_of (has_no_block l.headers) (has_no_number l) g.0 in
-    let s : size ≡ p.setting.definition.size = m in
-    record { alone = none_of p.state.link d.0; accepts = not_not (accepting l.headers c p) f.0; numbers = x.1; fits = omega (arith, s, e) }
+    record { alone = none_of p.state.link d.0; accepts = not_not (accepting l.headers c p) f.0; numbers = x.1; fits = tt; block = λ _. x.0 }
 
 module _ {C : Type 0} (progress : C → Progress) (g : Entries C) (h : Handle) (i : ℕ) (F : Found progress g h i) (port : ℕ) (bytes : List ℕ) where
-  pub may_use : MatchOption (component_at i g) ⊥ (λ c. None ≡ use_refusal (look_of g) c (port_of c port) (length bytes)) → IsSomeAnd (component_at i g) (λ c. IsSomeAnd (port_of c port) (λ p. IsMakable (look_of g) c p (Own bytes)))
+  pub may_use : MatchOption (component_at i g) ⊥ (λ c. None ≡ use_refusal (look_of g) c (port_of c port) (length bytes)) → IsSomeAnd (component_at i g) (λ c. IsSomeAnd (port_of c port) (λ p. IsMakable (look_of g) c p (Some bytes)))
   may_use m =
       let r = at_some (λ c. None ≡ use_refusal (look_of g) c (port_of c port) (length bytes)) (component_at i g) F.component F.at m in
-      and_some (λ c. IsSomeAnd (port_of c port) (λ p. IsMakable (look_of g) c p (Own bytes))) (component_at i g) F.component F.at (use_makable (look_of g) F.component (port_of F.component port) bytes (sym r))
+      and_some (λ c. IsSomeAnd (port_of c port) (λ p. IsMakable (look_of g) c p (Some bytes))) (component_at i g) F.component F.at (use_makable (look_of g) F.component (port_of F.component port) bytes (sym r))
 
-  pub may_allocate : (size : ℕ) → MatchOption (component_at i g) ⊥ (λ c. None ≡ allocate_refusal (look_of g) c (port_of c port)) → MatchOption (component_at i g) ⊥ (λ c. MatchOption (port_of c port) ⊥ (λ p. size ≡ p.setting.definition.size))
-      → length bytes ≡ size → IsSomeAnd (component_at i g) (λ c. IsSomeAnd (port_of c port) (λ p. IsMakable (look_of g) c p (Block bytes)))
-  may_allocate size m n e =
+module _ {C : Type 0} (progress : C → Progress) (g : Entries C) (h : Handle) (i : ℕ) (F : Found progress g h i) (port : ℕ) where
+  pub may_allocate : MatchOption (component_at i g) ⊥ (λ c. None ≡ allocate_refusal (look_of g) c (port_of c port)) → IsSomeAnd (component_at i g) (λ c. IsSomeAnd (port_of c port) (λ p. IsMakable (look_of g) c p None))
+  may_allocate m =
       let r = at_some (λ c. None ≡ allocate_refusal (look_of g) c (port_of c port)) (component_at i g) F.component F.at m in
-      let s = at_some (λ c. MatchOption (port_of c port) ⊥ (λ p. size ≡ p.setting.definition.size)) (component_at i g) F.component F.at n in
-      and_some (λ c. IsSomeAnd (port_of c port) (λ p. IsMakable (look_of g) c p (Block bytes))) (component_at i g) F.component F.at (allocate_makable (look_of g) F.component (port_of F.component port) bytes size (sym r) s e)
+      and_some (λ c. IsSomeAnd (port_of c port) (λ p. IsMakable (look_of g) c p None)) (component_at i g) F.component F.at (allocate_makable (look_of g) F.component (port_of F.component port) (sym r))
 
 -- one that is cleared is still handed in
 same_state : (o : Option HeaderState) (h : BufferHeader) → MatchOption o ⊥ (λ s. (s.owner ≡ owners.Client) × IsHeaderOf s h) → MatchOption o ⊥ (λ s. (s.owner ≡ owners.Client) × IsHeaderOf s (cleared h))

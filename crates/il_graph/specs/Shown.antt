@@ -65,6 +65,10 @@ module _ {S K C : Type 0} where
   abbrev pub file_of : ℕ → Shown S K C → Option (PartFile S K)
   file_of number g = option_and_then (file_at g) (place_numbered number (components_of g.core.entries))
 
+  -- the file object of a component whose work isn't out is of the file that the component has
+  abbrev pub HaveTheirFiles : Shown S K C → Type 0
+  HaveTheirFiles g = (i : ℕ) (c : Component) → slice_get (components_of g.core.entries) i ≡ Some c → c.work ≡ None → option_map attached_of (file_at g i) ≡ c.file
+
   -- each component has the file object that it had
   abbrev pub KeepsAllFiles : Shown S K C → Shown S K C → Type 0
   KeepsAllFiles old new = (number : ℕ) → file_of number new ≡ file_of number old

@@ -61,6 +61,11 @@ abbrev pub OnRefusal : CallError → Type 0 → Type 0
 OnRefusal (Omx error) P = P
 OnRefusal OutOfMemory P = Unit {0}
 
+-- the error is a refusal, and not want of memory
+abbrev pub IsRefusal : CallError → Type 0
+IsRefusal (Omx error) = Unit {0}
+IsRefusal OutOfMemory = ⊥
+
 -- a note as the machine tells it
 abbrev pub tookly : {C E : Type 0} → Result (Given C) E → Result Took E
 tookly (Ok took) = Ok (took_of took)

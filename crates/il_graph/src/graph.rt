@@ -13,15 +13,14 @@ mod supplying;
 mod tunnels;
 mod units;
 
-ghost use Rattle.std.specs.Prelude.{◌≡◌, ◌≢◌, ℕ, All, Some, None, IfOk, option_and_then};
-ghost use Rattle.omx_types.specs.declared.handle.Handle.{Handle as Named};
-ghost use Rattle.il_machine.specs.Buffers.{IsWithClient};
+ghost use Rattle.std.specs.Prelude.{◌≡◌, ◌↔◌, true, All, None, IfOk, option_and_then};
 ghost use Rattle.il_machine.specs.Components.{state_answer, view_answer, progress_answer, handle_at};
 ghost use Rattle.il_machine.specs.Look.{look};
 ghost use Rattle.il_machine.specs.Whole.{Always, no_kept};
 ghost use Rattle.audio_parts.specs.AnyParts.{file_of as part_file};
-ghost use Rattle.graph_core.specs.Entries.{client_named, look_of};
-ghost use Rattle.il_graph.specs.Shown.{kept, file_of};
+ghost use Rattle.graph_core.specs.Ending.{IsAllIn};
+ghost use Rattle.graph_core.specs.Entries.{look_of};
+ghost use Rattle.il_graph.specs.Shown.{kept};
 
 use audio_parts::AnyPart;
 use graph_core::Core;
@@ -33,7 +32,7 @@ use std::alloc::{AllocError, Global};
 use std::marker::Model;
 
 /// A graph of components, each with its part and a client object of the type `C`. Sources read files of the type `S`, sinks write such of
-/// the type `K`. It is ended by `close`, or by `dispose` where it stops in the middle.
+/// the type `K`. It is ended by `close`.
 pub struct Graph<S: Source, K: Sink, C: Client> {
     pub(crate) core: Core<C>,
     /// The part of each component, in the order of their numbers, where that isn't out.
@@ -126,27 +125,23 @@ impl<S: Source, K: Sink, C: Client> Graph<S, K, C> {
         let component = self.core.at(place as usize)?;
         Some(component.handle())
     }
-}
 
-impl<S: Source, K: Sink, C: Client + Drop> Graph<S, K, C> {
-    /// Ends all components and ports, the headers that are with them, and the client objects. Nothing is out: the client has no
-    /// header, each client object is in, and no component has a file.
-    pub fn close(self)
-        requires headers { (number : ℕ) → ¬ (IsWithClient number (look_of self.core)) }
-        requires clients { (h : Named) → client_named h self.core ≢ Some None }
-        requires files { (number : ℕ) → file_of number self ≡ None }
+    /// Whether the graph can be closed: the client has no header, no client object and no work is out, and no component has a file.
+    pub fn is_all_in(&self) -> bool
+        ensures { (result ≡ true) ↔ IsAllIn (look_of self.now.core) }
     {
-        let Graph { core, parts } = self;
-        core.dispose();
-        end_parts(parts);
+        self.core.is_all_in()
     }
 }
 
-impl<S: Source + Drop, K: Sink + Drop, C: Client + Drop> Graph<S, K, C> {
-    /// Ends a graph in the middle, whatever it holds. Headers that the client has can't be handed in any more.
-    pub fn dispose(self) {
+impl<S: Source, K: Sink, C: Client + Drop> Graph<S, K, C> {
+    /// Ends all components and ports, the headers that are with them, and the client objects. The client has no header, no client object
+    /// and no work is out, and no component has a file.
+    pub fn close(self)
+        requires { IsAllIn (look_of self.core) }
+    {
         let Graph { core, parts } = self;
-        core.dispose();
-        let _ = parts;
+        core.close();
+        end_parts(parts);
     }
 }

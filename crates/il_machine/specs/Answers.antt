@@ -21,9 +21,12 @@ Resolving refuse w h result v Then =
     (λ i. MatchOption (slice_get w.components i) ⊥ (λ c. Then i c))
 
 -- A refused call answers the refusal, and leaves the world as it was.
+abbrev pub AnswersAs : {T E : Type 0} → (OmxError → E) → Option OmxError → Result T E → World → World → (T → Type 0) → Type 0
+AnswersAs refuse (Some error) result w v Accepted = (result ≡ Err (refuse error)) × (v ≡ w)
+AnswersAs refuse None result w v Accepted = IsOkAnd result Accepted
+
 abbrev pub Answers : {T : Type 0} → Option OmxError → Result T OmxError → World → World → (T → Type 0) → Type 0
-Answers (Some error) result w v Accepted = (result ≡ Err error) × (v ≡ w)
-Answers None result w v Accepted = IsOkAnd result Accepted
+Answers refusal result w v Accepted = AnswersAs plain refusal result w v Accepted
 
 -- The same of a call that takes memory: it may also want memory, and then leaves the world as it was.
 abbrev pub AnswersOrMemory : {T : Type 0} → Option OmxError → Result T CallError → World → World → (T → Type 0) → Type 0
@@ -31,15 +34,9 @@ AnswersOrMemory (Some error) result w v Accepted = (result ≡ Err (Omx error)) 
 AnswersOrMemory None result w v Accepted = MatchResult result Accepted (λ error. (error ≡ OutOfMemory) × (v ≡ w))
 
 -- An answer Idle says why, and leaves the world as it was. Else the act is done, and the close-out follows.
-abbrev pub Acts : Option Why → Result Acted OmxError → World → World → World → Type 0
+abbrev pub Acts : {E : Type 0} → Option Why → Result Acted E → World → World → World → Type 0
 Acts (Some reason) result w after v = (result ≡ Ok (acted.Idle reason)) × (v ≡ w)
 Acts None result w after v = (result ≡ Ok acted.Did) × ClosesTo after v
-
--- The same of an act that takes memory.
-abbrev pub ActsOrMemory : Option Why → Result Acted CallError → World → World → World → Type 0
-ActsOrMemory (Some reason) result w after v = (result ≡ Ok (acted.Idle reason)) × (v ≡ w)
-ActsOrMemory None result w after v =
-    MatchResult result (λ done. (done ≡ acted.Did) × ClosesTo after v) (λ error. (error ≡ OutOfMemory) × (v ≡ w))
 
 -- ---- a call that looks: its answer is a function of the world
 

@@ -27,7 +27,7 @@ use Rattle.il_machine.specs.Headers.{Seen, seen, changed, put, cleared, unchange
 use Rattle.il_machine.specs.Look.{Look, look}
 use Rattle.il_machine.specs.Ports.{accepting, returning, leaving, is_open, is_at_rest, is_supplier, is_input_port, id_of}
 use Rattle.il_machine.specs.Buffers.{has_no_block, has_no_number, is_taking, without_header}
-use Rattle.il_machine.specs.Answers.{plain, Resolving, Acts, ActsOrMemory}
+use Rattle.il_machine.specs.Answers.{plain, Resolving, Acts}
 
 -- the other end of a tunnel: the component's place, the component, the port
 pub record End : Type 0 where
@@ -94,7 +94,7 @@ abbrev pub with_supplied : Port → World → World
 with_supplied p w = record w { headers = w.headers ++ supplied_by w.made p p.state.link; made = w.made + 1 }
 
 abbrev pub Supply : World → Handle → ℕ → Result Acted CallError → World → Type 0
-Supply w h port result v = OnPort Omx w h port result v (λ i c p. ActsOrMemory (supply_idle (look w) c p) result w (with_supplied p w) v)
+Supply w h port result v = OnPort Omx w h port result v (λ i c p. Acts (supply_idle (look w) c p) result w (with_supplied p w) v)
 
 -- ---- release
 

@@ -1,6 +1,5 @@
 ghost use Rattle.std.specs.Prelude.{◌≡◌, ◌<◌, ◌≤◌, length, IfSome, IfNone};
 ghost use Rattle.line_text.specs.Words.{words_of};
-ghost use Rattle.line_text.specs.Lists.{texts, held_words};
 
 use crate::next_word;
 
@@ -12,13 +11,15 @@ const ROOM: usize = 16;
 pub struct LineWords<'a> {
     room: [&'a [u8]; ROOM],
     count: usize,
+    ghost within: { count ≤ 16 },
 }
 
 impl<'a> LineWords<'a> {
+    ghost use Rattle.line_text.specs.Lists.{texts, held_words};
+
     /// The words of a line, where they are 16 at most.
     pub fn of(line: &'a [u8]) -> Option<LineWords<'a>>
         ensures some { IfSome result (λ words. held_words words ≡ words_of line.now) }
-        ensures within { IfSome result (λ words. words.count ≤ 16) }
         ensures none { IfNone result (16 < length (words_of line.now)) }
     {
         let mut room = [line; ROOM];
@@ -36,7 +37,6 @@ impl<'a> LineWords<'a> {
     }
 
     pub fn as_slice(&self) -> &[&'a [u8]]
-        requires { self.now.count ≤ 16 }
         ensures { texts result.now ≡ held_words self.now }
     {
         &self.room[..self.count]

@@ -8,7 +8,7 @@ use Rattle.il_machine.specs.declared.answer.Acted.{Acted}
 use Rattle.il_machine.specs.declared.answer.Why.{Why}
 use Rattle.il_machine.specs.declared.port.Port.{Port}
 use Rattle.il_machine.specs.World.{Component, World, place_of, port_of}
-use Rattle.il_machine.specs.Answers.{Resolving, Answers, AnswersOrMemory, Acts, ActsOrMemory, Looks}
+use Rattle.il_machine.specs.Answers.{plain, Resolving, Answers, AnswersAs, AnswersOrMemory, Acts, Looks}
 use Rattle.il_machine.specs.Flow.{OnPort}
 use Rattle.il_machine.specs.Sound.{Sound}
 use Rattle.machine_laws.proofs.Happening.{sound_closes}
@@ -38,11 +38,15 @@ module _ {T E : Type 0} (refuse : OmxError → E) (w v : World) (h : Handle) (re
   on_port_keeps port Then S r k = resolving_keeps (λ i c. MatchOption (port_of c port) ((result ≡ Err (refuse errors.BadPortIndex)) × (v ≡ w)) (λ p. Then i c p)) S r (λ i c t m.
       on_port i c (port_of c port) (result ≡ Err (refuse errors.BadPortIndex)) (λ p. Then i c p) m S (λ p e x. k i c p t e x))
 
+pub answers_as_keep : {T E : Type 0} (refuse : OmxError → E) (o : Option OmxError) (result : Result T E) (w v : World) (Accepted : T → Type 0) → AnswersAs refuse o result w v Accepted → Sound w
+    → ((x : T) → o ≡ None → Accepted x → Sound v) → Sound v
+answers_as_keep refuse (Some error) result w v Accepted h S k = stays_sound w v h.1 S
+answers_as_keep refuse None (Ok x) w v Accepted h S k = k x refl h
+answers_as_keep refuse None (Err error) w v Accepted h S k = absurd h
+
 pub answers_keep : {T : Type 0} (o : Option OmxError) (result : Result T OmxError) (w v : World) (Accepted : T → Type 0) → Answers o result w v Accepted → Sound w
     → ((x : T) → o ≡ None → Accepted x → Sound v) → Sound v
-answers_keep (Some error) result w v Accepted h S k = stays_sound w v h.1 S
-answers_keep None (Ok x) w v Accepted h S k = k x refl h
-answers_keep None (Err error) w v Accepted h S k = absurd h
+answers_keep o result w v Accepted h S k = answers_as_keep plain o result w v Accepted h S k
 
 pub answers_or_memory_keep : {T : Type 0} (o : Option OmxError) (result : Result T CallError) (w v : World) (Accepted : T → Type 0) → AnswersOrMemory o result w v Accepted → Sound w
     → ((x : T) → o ≡ None → Accepted x → Sound v) → Sound v
@@ -50,14 +54,9 @@ answers_or_memory_keep (Some error) result w v Accepted h S k = stays_sound w v 
 answers_or_memory_keep None (Ok x) w v Accepted h S k = k x refl h
 answers_or_memory_keep None (Err error) w v Accepted h S k = stays_sound w v h.1 S
 
-pub acts_keep : (o : Option Why) (result : Result Acted OmxError) (w after v : World) → Acts o result w after v → Sound w → (o ≡ None → Sound after) → Sound v
+pub acts_keep : {E : Type 0} (o : Option Why) (result : Result Acted E) (w after v : World) → Acts o result w after v → Sound w → (o ≡ None → Sound after) → Sound v
 acts_keep (Some reason) result w after v h S k = stays_sound w v h.1 S
 acts_keep None result w after v h S k = sound_closes after v h.1 (k refl)
-
-pub acts_or_memory_keep : (o : Option Why) (result : Result Acted CallError) (w after v : World) → ActsOrMemory o result w after v → Sound w → (o ≡ None → Sound after) → Sound v
-acts_or_memory_keep (Some reason) result w after v h S k = stays_sound w v h.1 S
-acts_or_memory_keep None (Ok done) w after v h S k = sound_closes after v h.1 (k refl)
-acts_or_memory_keep None (Err error) w after v h S k = stays_sound w v h.1 S
 
 pub looks_keep : {T : Type 0} (answer result : Result T OmxError) (w v : World) → Looks answer result w v → Sound w → Sound v
 looks_keep (Ok x) result w v h S = sound_closes w v h.1 S

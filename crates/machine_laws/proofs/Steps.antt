@@ -56,7 +56,7 @@ use Rattle.machine_laws.proofs.Happening.{sound_closes}
 use Rattle.machine_laws.proofs.Granting.{grant_keeps, preempt_keeps}
 use Rattle.machine_laws.proofs.Flowing.{sound_supplied, sound_released, sound_handed_over, sound_returned}
 use Rattle.machine_laws.proofs.Tunnels.{sound_joined, sound_parted}
-use Rattle.machine_laws.proofs.Forms.{stays_sound, resolving_keeps, on_port_keeps, answers_keep, answers_or_memory_keep, acts_keep, acts_or_memory_keep, looks_keep}
+use Rattle.machine_laws.proofs.Forms.{stays_sound, resolving_keeps, on_port_keeps, answers_as_keep, answers_keep, answers_or_memory_keep, acts_keep, looks_keep}
 
 -- ---- components
 
@@ -98,7 +98,7 @@ run_keeps w v h result r S = resolving_keeps plain w v h result _ S r (λ i c t 
 -- ---- headers of client ports
 
 allocate_keeps : (w v : World) (h : Handle) (port : ℕ) (result : Result Held CallError) → AllocateBuffer w h port result v → Sound w → Sound v
-allocate_keeps w v h port result r S = resolving_keeps Omx w v h result _ S r (λ i c t a. answers_or_memory_keep (allocate_refusal (look w) c (port_of c port)) result w v _ a S (λ x n b.
+allocate_keeps w v h port result r S = resolving_keeps Omx w v h result _ S r (λ i c t a. answers_as_keep Omx (allocate_refusal (look w) c (port_of c port)) result w v _ a S (λ x n b.
     let p = there_is (port_of c port) (λ p. let s = client_header w.made p false in (x ≡ held_of s (empty_load None)) × ClosesTo (with_header s None w) v) b in
     sound_closes (with_header (client_header w.made p.0 false) None w) v (p.2).1 (sound_allocated w i c port p.0 S t p.1 n)))
 
@@ -180,7 +180,7 @@ end_keeps w v h e S =
 -- ---- headers of tunnels
 
 supply_keeps : (w v : World) (h : Handle) (port : ℕ) (result : Result Acted CallError) → Supply w h port result v → Sound w → Sound v
-supply_keeps w v h port result r S = on_port_keeps Omx w v h result port _ S r (λ i c p t e a. acts_or_memory_keep (supply_idle (look w) c p) result w (with_supplied p w) v a S (λ n. sound_supplied w i c port p S t e n))
+supply_keeps w v h port result r S = on_port_keeps Omx w v h result port _ S r (λ i c p t e a. acts_keep (supply_idle (look w) c p) result w (with_supplied p w) v a S (λ n. sound_supplied w i c port p S t e n))
 
 release_keeps : (w v : World) (h : Handle) (port : ℕ) (result : Result Acted OmxError) → Release w h port result v → Sound w → Sound v
 release_keeps w v h port result r S = on_port_keeps plain w v h result port _ S r (λ i c p t e a. acts_keep (release_idle (look w) c p) result w (front_unmade (in_port (seen w.headers) p) w) v a S (λ n. sound_released w p S))

@@ -95,17 +95,6 @@ fn drop_events(mut notes: HeapCircularBuffer<Taken>)
     notes.destroy_empty();
 }
 
-/// Lets all notes go, with the headers in them.
-fn drop_notes(mut notes: HeapCircularBuffer<Taken>) {
-    while let Some(taken) = notes.pop_front() {
-        match taken {
-            Taken::Told(_) => {}
-            Taken::EmptyDone(header) | Taken::FillDone(header) => header.dispose(),
-        }
-    }
-    notes.destroy_empty();
-}
-
 impl<C> Notes<C> {
     /// No commands and notes, and the client object in. Each queue is a ring of its greatest length.
     pub fn new(alloc: Global, ports: u32, client: C) -> Result<Notes<C>, (OutOfMemory, C)>
@@ -303,25 +292,6 @@ impl<C> Notes<C> {
             Some(client) => client,
             None => unreachable!(),
         }
-    }
-}
-
-impl<C> Notes<C> {
-    /// Ends the queues whatever is queued, and gives the client object back where it is in. The headers in notes go.
-    pub fn dispose(self) -> Option<C>
-        ensures { result ≡ self.client }
-    {
-        let Notes {
-            commands: _,
-            notes,
-            client,
-            places: _,
-            ports: _,
-            cost_sum: _,
-            event_count: _,
-        } = self;
-        drop_notes(notes);
-        client
     }
 }
 

@@ -3,10 +3,12 @@ ghost use Rattle.il_machine.specs.Components.{moved_by, no_progress};
 ghost use Rattle.note_queues.specs.Queues.{no_notes};
 
 use crate::{Call, Client, Full, Notes, OutOfMemory, ProgressClient, Taken, Took};
+use block_region::Region;
 use header_core::{Header, Key, Memory, Store};
 use il_machine::Progress;
 use omx_types::{Command, Completion, Event, OmxError, State};
 use std::alloc::Global;
+use std::process::Abort;
 use std::test::Fail;
 
 const IDLE: Event = Event::CmdComplete(Completion::State(State::Idle));
@@ -27,17 +29,18 @@ fn after<C: Client>(client: &mut C, event: Event) -> Progress
 }
 
 /// The event, or the number of the header, which is spent.
-fn told_or_spent(taken: Taken) -> Result<Event, u64> {
+fn told_or_spent(rt: &impl Abort, taken: Taken) -> Result<Event, u64> {
     match taken {
         Taken::Told(event) => Ok(event),
-        Taken::EmptyDone(header) | Taken::FillDone(header) => Err(spend(header)),
+        Taken::EmptyDone(header) | Taken::FillDone(header) => Err(spend(rt, header)),
     }
 }
 
-fn spend(header: Header) -> u64 {
+fn spend(rt: &impl Abort, header: Header) -> u64 {
     let id = header.id();
     match header.into_store() {
-        Store::Own(_) | Store::Block(_) => id,
+        Store::Own(_) => id,
+        Store::Region(_block) => panic!(rt; "a block"),
     }
 }
 
@@ -114,7 +117,7 @@ fn reserves_for_commands(rt: HostRuntime) -> Result<(), Fail> {
 }
 
 /// Takes the oldest note, tells it to the client where it is an event, and puts the client back.
-fn give_oldest(notes: &mut Notes<ProgressClient>) -> Option<Result<Event, u64>>
+fn give_oldest(rt: &impl Abort, notes: &mut Notes<ProgressClient>) -> Option<Result<Event, u64>>
     requires { IsSome notes.old.client }
     ensures client { IsSome notes.new.client }
     ensures rest { notes.new.notes ≡ drop 1 notes.old.notes }
@@ -122,7 +125,7 @@ fn give_oldest(notes: &mut Notes<ProgressClient>) -> Option<Result<Event, u64>>
     match notes.take_call() {
         Took::Call(call) => {
             let Call { mut client, taken } = call;
-            let given = told_or_spent(taken);
+            let given = told_or_spent(rt, taken);
             if let Ok(event) = given {
                 client.told(event);
             }
@@ -136,15 +139,18 @@ fn give_oldest(notes: &mut Notes<ProgressClient>) -> Option<Result<Event, u64>>
 #[test]
 fn gives_the_oldest_note_first(rt: HostRuntime) -> Result<(), Fail> {
     let bytes = vec![in rt.alloc(); 9; 8]?;
+    let region = Region::new(rt.alloc(), 1, 8)?;
+    let key = Key::of(&region);
+    region.close();
     let mut notes = one_port(rt.alloc())?;
     notes.push_header(
         false,
-        Header::new(Key::new(), 7, Store::Own(Memory::new(bytes)), 8),
+        Header::new(key, 7, Store::Own(Memory::new(bytes)), 8),
     );
     notes.push_event(IDLE);
-    let first = give_oldest(&mut notes);
-    let second = give_oldest(&mut notes);
-    let third = give_oldest(&mut notes);
+    let first = give_oldest(&rt, &mut notes);
+    let second = give_oldest(&rt, &mut notes);
+    let third = give_oldest(&rt, &mut notes);
     let progress = notes.progress();
     notes.close();
     assert_eq!(rt; first, Some(Err(7)));

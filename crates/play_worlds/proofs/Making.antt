@@ -16,7 +16,7 @@ use Rattle.il_machine.specs.World.{HeaderRecord, World}
 use Rattle.il_machine.specs.Headers.{find_header, in_todo, in_done, is_for, is_todo, is_done, same_key, empty_load}
 use Rattle.il_machine.specs.Look.{look}
 use Rattle.il_machine.specs.Ports.{is_input_port}
-use Rattle.il_machine.specs.Answers.{ActsOrMemory}
+use Rattle.il_machine.specs.Answers.{Acts}
 use Rattle.il_machine.specs.Due.{ClosesTo}
 use Rattle.il_machine.specs.Flow.{Supply, supply_idle, supplied_place, tunnel_header, with_supplied}
 use Rattle.il_machine.specs.Sound.{Sound}
@@ -210,22 +210,21 @@ module _ (x : Cast) (p : Play) (w : World) (W : IsPlayWorld x p w) (l : ℕ) (b 
 
 -- ---- the act
 
-made_or_wants : (o : Option Why) (result : Result Acted CallError) (w u v : World) → o ≡ None → ActsOrMemory o result w u v → ((result ≡ Ok acted_as.Did) × ClosesTo u v) ⊎ ((result ≡ Err OutOfMemory) × (v ≡ w))
-made_or_wants (Some y) result w u v n h = absurd cc
-made_or_wants None (Ok done) w u v n h = let d = h.0 in inl (cc, h.1)
-made_or_wants None (Err e) w u v n h = let d = h.0 in inr (cc, h.1)
+made_so : (o : Option Why) (result : Result Acted CallError) (w u v : World) → o ≡ None → Acts o result w u v → (result ≡ Ok acted_as.Did) × ClosesTo u v
+made_so (Some y) result w u v n h = absurd cc
+made_so None result w u v n h = h
 
-made_none : (o : Option Why) (result : Result Acted CallError) (w u v : World) → ActsOrMemory o result w u v → result ≡ Ok acted_as.Did → o ≡ None
+made_none : (o : Option Why) (result : Result Acted CallError) (w u v : World) → Acts o result w u v → result ≡ Ok acted_as.Did → o ≡ None
 made_none None result w u v h e = refl
 made_none (Some y) result w u v h e = let idle = h.0 in absurd cc
 
 supply_acts : (x : Cast) (p : Play) (w : World) (l : ℕ) (h : Handle) (result : Result Acted CallError) (v : World) (E : AreEnds x p w l) → Names x w (supplier x.layout l) h → Supply w h (home_at x l).port result v
-    → ActsOrMemory (supply_idle (look w) (E.home).component (E.home).port) result w (with_supplied (E.home).port w) v
+    → Acts (supply_idle (look w) (E.home).component (E.home).port) result w (with_supplied (E.home).port w) v
 supply_acts x p w l h result v E N s =
-    resolved_port Omx w h (home_at x l).port result v (λ i c q. ActsOrMemory (supply_idle (look w) c q) result w (with_supplied q w) v) (script_place x (supplier x.layout l)) (E.home).component (E.home).port N (E.home).there (E.home).has s
+    resolved_port Omx w h (home_at x l).port result v (λ i c q. Acts (supply_idle (look w) c q) result w (with_supplied q w) v) (script_place x (supplier x.layout l)) (E.home).component (E.home).port N (E.home).there (E.home).has s
 
 pub supply_leads : (x : Cast) (p : Play) (w : World) (l : ℕ) (h : Handle) (result : Result Acted CallError) (v : World) → IsPlayWorld x p w → CanAct x.layout p (Act.Supply l) → Names x w (supplier x.layout l) h
-    → Supply w h (home_at x l).port result v → ((result ≡ Ok acted_as.Did) × LeadsTo x (acted x.layout (Act.Supply l) p) v) ⊎ ((result ≡ Err OutOfMemory) × (v ≡ w))
+    → Supply w h (home_at x l).port result v → (result ≡ Ok acted_as.Did) × LeadsTo x (acted x.layout (Act.Supply l) p) v
 supply_leads x p w l h result v W C N s =
     let b = C.0 in
     let E = ends_there x p w l W b in
@@ -235,10 +234,8 @@ supply_leads x p w l h result v W C N s =
     let goes = supply_goes x p w W l b E C.1 C.2 C.3 in
     let T = sound_supplied w (script_place x (supplier x.layout l)) (E.home).component (home_at x l).port q W.sound (E.home).there (E.home).has goes in
     let P = by_either x p w W l b C q ((x.layout).by_output l) refl ((E.home).end).key ((E.home).end).direction ((E.home).end).size (subst Sound is T) in
-    elim (made_or_wants (supply_idle (look w) (E.home).component q) result w (with_supplied q w) v goes (supply_acts x p w l h result v E N s)) [
-      | inl t ↦ inl (t.0, record { effect = with_supplied q w; play = subst (λ (y : World). IsPlayWorld x (acted x.layout (Act.Supply l) p) y) (sym is) P; closes = t.1 })
-      | inr t ↦ inr t
-    ]
+    let t = made_so (supply_idle (look w) (E.home).component q) result w (with_supplied q w) v goes (supply_acts x p w l h result v E N s) in
+    (t.0, record { effect = with_supplied q w; play = subst (λ (y : World). IsPlayWorld x (acted x.layout (Act.Supply l) p) y) (sym is) P; closes = t.1 })
 
 pub supply_can : (x : Cast) (p : Play) (w : World) (l : ℕ) (h : Handle) (result : Result Acted CallError) (v : World) → IsPlayWorld x p w → l < links_of x → Names x w (supplier x.layout l) h
     → Supply w h (home_at x l).port result v → result ≡ Ok acted_as.Did → CanAct x.layout p (Act.Supply l)

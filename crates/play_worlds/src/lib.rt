@@ -99,12 +99,12 @@ pub fn law_of_hand_backs()
         → is_empty ((seen w.headers).done (away_at x l)) ≡ true → CanAct x.layout p (Act.HandUnused l) }
 {}
 
-/// The supplier of a link makes a header exactly where the model can, but for want of memory.
+/// The supplier of a link makes a header exactly where the model can.
 pub fn law_of_supplies()
     ensures done { (x : Cast) (p : Play) (w : World) (l : ℕ) (h : Handle) (result : Result Acted CallError) (v : World)
         → IsPlayWorld x p w → CanAct x.layout p (Act.Supply l) → Names x w (supplier x.layout l) h
         → Supply w h (home_at x l).port result v
-        → ((result ≡ Ok Did) × LeadsTo x (acted x.layout (Act.Supply l) p) v) ⊎ ((result ≡ Err OutOfMemory) × (v ≡ w)) }
+        → (result ≡ Ok Did) × LeadsTo x (acted x.layout (Act.Supply l) p) v }
     ensures can { (x : Cast) (p : Play) (w : World) (l : ℕ) (h : Handle) (result : Result Acted CallError) (v : World)
         → IsPlayWorld x p w → l < links_of x → Names x w (supplier x.layout l) h
         → Supply w h (home_at x l).port result v → result ≡ Ok Did → CanAct x.layout p (Act.Supply l) }

@@ -307,14 +307,14 @@ no_headers = record {
   counted = λ test. refl;
 }
 
-pub begun : (key places : ℕ) → IsLawful key [] [] 0 0 places
-begun key places = record {
+pub begun : (key blocks places : ℕ) → blocks ≡ 0 → IsLawful key [] [] blocks 0 places
+begun key blocks places none = record {
   flat = [];
   tells = no_headers;
   headers = record { once = tt; numbered = tt; placed = tt; few = λ k. omega arith; owned = tt };
   differ = λ k. tt;
   once = tt;
-  blocked = refl;
+  blocked = none;
   kept = tt;
   keys = tt;
   room = omega arith;
@@ -322,9 +322,3 @@ begun key places = record {
 
 pub begun_is : (key : ℕ) → stocked (view key [] [] 0) ≡ no_stock (stocked (view key [] [] 0)).key
 begun_is key = let e = told key [] [] [] 0 no_headers tt in e ∙ (begins key ∙ ap (λ (s : Stocked). no_stock s.key) (sym e))
-
-pub ended : (k : Kept) (es : List Entry) (len : ℕ) → k.headers ≡ headers_of es → len ≡ length es → ((n : ℕ) → (stocked k).headers.header n ≡ None) → len ≡ 0
-ended k es len h l none =
-    let e : k.headers ≡ [] = none_left k.headers (λ n. header_shown k n ∙ none n) in
-    let a : length es ≡ length k.headers = sym (ap length h ∙ simp length-map) in
-    l ∙ (a ∙ ap length e)

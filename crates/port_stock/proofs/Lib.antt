@@ -1,14 +1,16 @@
-pub mod Places
-pub mod Changing
-pub mod Looking
-pub mod Finding
-pub mod Stocking
-pub mod Lawful
-pub mod Calls
-pub mod Making
-pub mod Keeping
-pub mod Reading
-pub mod Telling
-pub mod Knowing
-pub mod Turning
 pub mod Adding
+mod Blocks
+pub mod Calls
+pub mod Changing
+mod Ending
+pub mod Finding
+pub mod Keeping
+pub mod Knowing
+pub mod Lawful
+pub mod Looking
+pub mod Making
+pub mod Places
+pub mod Reading
+pub mod Stocking
+pub mod Telling
+pub mod Turning

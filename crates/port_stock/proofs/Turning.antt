@@ -213,6 +213,13 @@ module _ (key : ℕ) (ps : List Port) (es : List Entry) (blocks next places : �
       let same : fewer ≡ count_headers is_block flat = let x = count-without is_block n L.flat F.it F.is in let y = L.blocked in omega arith in
       turned qs vs flat fewer next room _ _ C.keys C.differ (subst P (sym h) T) (subst Once (sym h) (once-without n (headers_of es) L.once)) B same E K r (ap (withdrawn n) (sym told_old))
 
+  -- a header that is handed in has the memory that is known of it
+  pub before_header : (header : BufferHeader) (before : HeaderState) → IsOutside header (stocked old) → option_map state_of (find_header header.held.number (headers_of es)) ≡ Some before → IsHeaderOf before header
+  before_header header before o b =
+      let T = there (λ (r : HeaderRecord). (r.state.place ≡ Out) × IsHeaderOf r.state header) (find_header header.held.number (headers_of es)) (table_out header o) in
+      let s : T.it.state ≡ before = some_same T.it.state before (sym (ap (option_map state_of) T.is) ∙ b) in
+      subst (λ (x : HeaderState). IsHeaderOf x header) s T.holds.1
+
   pub block_there : (n : ℕ) (before : HeaderState) → option_map state_of (find_header n (headers_of es)) ≡ Some before → weight (is_block before) ≤ blocks
   block_there n before b =
       let F = before_known n before b in

@@ -1,5 +1,5 @@
 -- What calls ask of the ports and headers that they are given, and what they say of those that they answer.
-use Rattle.std.specs.Prelude.{◌≡◌, ◌≢◌, ℕ, ◌<◌, Bool, true, false, ◌||◌, List, [], ◌∷◌, Option, Some, None, MatchOption}
+use Rattle.std.specs.Prelude.{◌≡◌, ◌≢◌, ℕ, ◌<◌, ◌≤◌, Bool, length, true, false, ◌||◌, List, [], ◌∷◌, Option, Some, None, MatchOption}
 use Rattle.il_machine.specs.declared.port.PortKey.{PortKey}
 use Rattle.il_machine.specs.declared.header.Home.{Home}
 use Rattle.il_machine.specs.declared.header.Home.TheVariants as homes
@@ -9,10 +9,11 @@ use Rattle.il_machine.specs.declared.header.Place.TheVariants.{Out}
 use Rattle.il_machine.specs.declared.header.HeaderState.{HeaderState}
 use Rattle.il_machine.specs.Lists.{holds_at}
 use Rattle.il_machine.specs.Headers.{is_for, is_key, is_owned_by, same_key}
-use Rattle.il_machine.specs.Buffers.{load_in}
+use Rattle.il_machine.specs.Buffers.{is_block, load_in}
 use Rattle.il_machine.specs.World.{HeaderRecord}
 use Rattle.il_machine.specs.Stock.{StandsFor, Stocked}
 use Rattle.header_core.specs.BufferHeader.{BufferHeader, is_clients}
+use Rattle.port_stock.specs.Kept.{is_waiting}
 
 -- ---- ports
 
@@ -53,6 +54,18 @@ abbrev pub is_port : Owner → Bool
 is_port (owners.Port key) = true
 is_port _ = false
 
+-- ---- memory
+
+-- the client's own memory has so many bytes
+abbrev pub Fits : Option (List ℕ) → ℕ → Type 0
+Fits None size = Unit {0}
+Fits (Some bytes) size = size ≤ length bytes
+
+-- a block is free, where the client gives no memory
+abbrev pub HasBlockFor : Option (List ℕ) → Stocked → Type 0
+HasBlockFor None s = s.headers.count is_block < 1024
+HasBlockFor (Some bytes) s = Unit {0}
+
 -- ---- headers
 
 -- The header has the size and the memory that are known of its number.
@@ -90,3 +103,17 @@ IsFrom test header s =
 -- there is one flat list of headers for which it stands: lists, owners and counts are read of that
 abbrev pub IsOfOneList : Stocked → Type 0
 IsOfOneList s = (headers : List HeaderRecord) × StandsFor s headers
+
+-- each header that is made waits in a list
+abbrev pub AllWait : Stocked → Type 0
+AllWait s = (number : ℕ) → MatchOption (s.headers.header number) (Unit {0}) (λ h. is_waiting h.place ≡ true)
+
+-- it is with a port or in a note, and not with the client or in a work
+abbrev pub is_inside : Owner → Bool
+is_inside owners.Client = false
+is_inside (owners.Port key) = true
+is_inside (owners.Work component) = false
+is_inside (owners.Notice component) = true
+
+abbrev pub AllInside : Stocked → Type 0
+AllInside s = (number : ℕ) → MatchOption (s.headers.header number) (Unit {0}) (λ h. is_inside h.owner ≡ true)

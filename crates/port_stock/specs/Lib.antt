@@ -3,3 +3,5 @@ pub mod Conditions
 pub mod Entries
 pub mod Rings
 pub mod Example
+pub mod Blocks
+pub mod Ending

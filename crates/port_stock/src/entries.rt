@@ -1,6 +1,7 @@
 //! The table of entries, one for each header that is made, by rising number.
 
 ghost use Rattle.std.specs.Prelude.{◌≡◌, ℕ, ◌<◌, ◌+◌, ◌∷◌, ◌++◌, [], length, map, option_map, nat_eq, position, slice_get, slice_set, remove, Some, None, true, IfSome, IsSome, MatchOption, is_none, vec_len, vec_capacity};
+ghost use Rattle.std.specs.List.{list_all};
 ghost use Rattle.il_machine.specs.declared.header.Place.TheVariants.{Out};
 ghost use Rattle.il_machine.specs.Headers.{Once, changed, find_header, given_to, in_todo, in_done, state_at, state_of, empty_load, without};
 ghost use Rattle.il_machine.specs.Buffers.{load_in};
@@ -8,10 +9,10 @@ ghost use Rattle.il_machine.specs.Due.{marked as marked_record};
 ghost use Rattle.header_core.specs.BufferHeader.{cleared as emptied_header, marked as marked_header};
 ghost use Rattle.stock_laws.specs.Changes.{cleared_where};
 ghost use Rattle.port_stock.specs.Kept.{has_no_mark, is_waiting, unmarked_of};
-ghost use Rattle.port_stock.specs.Conditions.{IsHeaderOf};
+ghost use Rattle.port_stock.specs.Conditions.{IsHeaderOf, is_inside};
 ghost use Rattle.port_stock.specs.Entries.{AreOf, Each, IsKept, IsTakenAt, KeepsKeys, entry_cleared, entry_out, headers_of, load_of_kept, put_record, record_of};
 
-use crate::entry::{Entry, put_state, waits_in_done, waits_in_todo};
+use crate::entry::{Entry, is_in_list, is_kept_by, put_state, waits_in_done, waits_in_todo};
 use circular_buffer::HeapCircularBuffer;
 use header_core::Header;
 use il_machine::{HeaderState, Mark, Owner, Place, PortKey, Spot};
@@ -37,6 +38,20 @@ fn likely_place(entries: &[Entry], number: u64) -> Option<usize>
     } else {
         None
     }
+}
+
+/// Whether each header waits in a list.
+pub fn all_wait(entries: &[Entry]) -> bool
+    ensures { result ≡ list_all (λ e. is_waiting e.state.place) entries.now }
+{
+    entries.iter().all(|e| is_in_list(e.state.place))
+}
+
+/// Whether each header is with a port or in a note.
+pub fn all_inside(entries: &[Entry]) -> bool
+    ensures { result ≡ list_all (λ e. is_inside e.state.owner) entries.now }
+{
+    entries.iter().all(|e| is_kept_by(e.state.owner))
 }
 
 fn number_place(entries: &[Entry], number: u64) -> Option<usize>

@@ -1,6 +1,8 @@
 ghost use Rattle.std.specs.Prelude.{◌≡◌, ◌&&◌, not, is_none};
 ghost use Rattle.il_machine.specs.Headers.{in_todo, in_done, is_away, is_at_home, is_for, is_home_of, is_home_owner, is_key, is_notice, is_owned_by, same_key, spot_place, state_at};
 ghost use Rattle.il_machine.specs.Stock.{home_owner};
+ghost use Rattle.port_stock.specs.Kept.{is_waiting};
+ghost use Rattle.port_stock.specs.Conditions.{is_inside};
 
 use header_core::Header;
 use il_machine::{HeaderState, Home, Owner, Place, PortKey, Spot};
@@ -9,17 +11,6 @@ use il_machine::{HeaderState, Home, Owner, Place, PortKey, Spot};
 pub struct Entry {
     pub state: HeaderState,
     pub kept: Option<Header>,
-}
-
-impl Entry {
-    /// Lets the entry go, with its header where that waits in a list.
-    pub fn dispose(self) {
-        let Entry { state: _, kept } = self;
-        match kept {
-            Some(header) => header.dispose(),
-            None => {}
-        }
-    }
 }
 
 fn is_peer(key: PortKey, peer: Option<PortKey>) -> bool
@@ -126,4 +117,17 @@ pub fn owner_at(home: Home) -> Owner
         Home::Client => Owner::Client,
         Home::Port(key) => Owner::Port(key),
     }
+}
+
+pub fn is_in_list(place: Place) -> bool
+    ensures { result ≡ is_waiting place }
+{
+    matches!(place, Place::Todo | Place::Done)
+}
+
+/// Whether the owner is a port or a note.
+pub fn is_kept_by(owner: Owner) -> bool
+    ensures { result ≡ is_inside owner }
+{
+    matches!(owner, Owner::Port(_) | Owner::Notice(_))
 }

@@ -6,8 +6,8 @@
 //! and counts of its headers that are kept; the headers themselves stand in a table with 32 places for each port. One flat list,
 //! of which all this tells, is part of what is proved of a stock, and isn't kept.
 //!
-//! No call takes memory but `new` and `add_ports`. A stock must be ended: by `close` where no header is made, by `dispose` whatever
-//! is made.
+//! A stock has the region of the graph's blocks: a header that is made of none of the client's memory gets one, and gives it back as it
+//! is unmade. No call takes memory but `new` and `add_ports`. A stock must be ended by `close`.
 #![tactic(auto)]
 
 mod entries;

@@ -1,30 +1,37 @@
-ghost use Rattle.std.specs.Prelude.{◌≡◌, ◌+◌, ◌<◌, ◌≤◌, ◌&&◌, ℕ, length, nat_eq, not, true, false, slice_get, option_map, None, IfOk, IfSome, OnOk, OnErr};
+ghost use Rattle.std.specs.Prelude.{◌≡◌, ◌↔◌, ◌+◌, ◌<◌, ◌≤◌, ◌&&◌, nat_eq, not, true, false, is_some, slice_get, option_map, None, IfOk, IfSome, OnOk, OnErr};
 ghost use Rattle.il_machine.specs.Lists.{is_empty};
 ghost use Rattle.il_machine.specs.Headers.{in_todo, in_done, is_away, is_for, is_home_of, is_owned_by, weight};
 ghost use Rattle.il_machine.specs.Buffers.{is_block, load_in};
 ghost use Rattle.il_machine.specs.Stock.{added, given, made_header, no_stock, populated, pulled, pushed, removed, sent, withdrawn};
-ghost use Rattle.header_core.specs.BufferHeader.{bytes_of, fresh, is_clients, own_memory};
+ghost use Rattle.header_core.specs.BufferHeader.{fresh, is_clients, own_memory};
 ghost use Rattle.stock_laws.specs.Changes.{done_cleared, marked_first, todo_cleared};
+ghost use Rattle.header_core.specs.Blocks.{IsSameRegion};
 ghost use Rattle.port_stock.specs.Kept.{stocked};
-ghost use Rattle.port_stock.specs.Conditions.{AreMadeForOwners, HasFewer, IsFrom, IsMadeFor, IsOfOneList, IsOut, IsOutside, IsPeer, IsPort, IsUnmade, IsWithoutPorts, is_home_among, is_port, made_in, number_of};
+ghost use Rattle.port_stock.specs.Blocks.{key_of};
+ghost use Rattle.port_stock.specs.Ending.{AreEnding, IsEnding};
+ghost use Rattle.port_stock.specs.Conditions.{AllInside, AllWait, AreMadeForOwners, Fits, HasBlockFor, HasFewer, IsFrom, IsMadeFor, IsOfOneList, IsOut, IsOutside, IsPeer, IsPort, IsUnmade, IsWithoutPorts, is_home_among, is_port, made_in, number_of};
 
 use crate::entry::{Entry, owner_at, put_state};
 use crate::port::Port;
 use crate::ports::Firsts;
 use crate::{OutOfMemory, entries, ports};
-use header_core::{Header, Key, Store};
+use block_region::Region;
+use header_core::{Header, Key, Memory, Store};
 use il_machine::{HeaderState, Home, Mark, Owner, Place, PortKey, Spot};
 use std::alloc::Global;
 use std::marker::Model;
 
-/// The ports and headers of one graph.
+/// How many blocks a graph has, and how many bytes each.
+const BLOCKS: u32 = 1024;
+
+const BLOCK_BYTES: u32 = 4096;
+
+/// The ports and headers of one graph, with the region of its blocks.
 pub struct Stock {
-    key: Key,
+    region: Region,
     ports: Vec<Port>,
     firsts: Firsts,
     entries: Vec<Entry>,
-    /// How many headers have a block of the graph.
-    blocks: u64,
     next: u64,
 }
 
@@ -36,10 +43,11 @@ impl Model for Stock {
     ghost use Rattle.std.specs.Prelude.{vec_capacity};
     ghost use Rattle.port_stock.specs.Entries.{headers_of};
     ghost use Rattle.port_stock.specs.Rings.{IsLawful, shelves_of};
+    ghost use Rattle.port_stock.specs.Blocks.{HasBlocks, blocks_out, key_of};
 
-    ghost view = { λ s. record { key = s.key; ports = shelves_of s.ports.items; headers = headers_of s.entries.items; next = s.next } };
+    ghost view = { λ s. record { key = key_of s.region; ports = shelves_of s.ports.items; headers = headers_of s.entries.items; next = s.next } };
 
-    ghost invariant = { λ s. IsLawful s.key s.ports.items s.entries.items s.blocks s.next (vec_capacity s.entries) };
+    ghost invariant = { λ s. IsLawful (key_of s.region) s.ports.items s.entries.items (blocks_out s.region) s.next (vec_capacity s.entries) × HasBlocks s.region };
 }
 
 /// Whether a header gets the number: the last one is never given.
@@ -50,41 +58,38 @@ fn is_given(number: u64) -> bool
     number != u64::MAX
 }
 
-/// So many blocks, with that of the header where it has one.
-fn with_block(blocks: u64, state: &HeaderState) -> u64
-    requires { blocks < 18446744073709551615 }
-    ensures { result ≡ blocks + weight (is_block state.now) }
+/// Takes an entry off whose header waits in a list.
+fn end_entry(region: &mut Region, entry: Entry)
+    requires { IsEnding (key_of region.old) entry }
+    ensures same { IsSameRegion region.old region.new }
+    ensures free { region.new.free ≡ region.old.free + weight (is_block entry.state) }
 {
-    if state.client_memory {
-        blocks
-    } else {
-        blocks + 1
-    }
+    let Entry { state: _, kept } = entry;
+    let Some(header) = kept else { unreachable!() };
+    let _memory = header.into_memory(region);
 }
 
-/// So many blocks, without that of the header where it has one.
-fn without_block(blocks: u64, state: &HeaderState) -> u64
-    requires { weight (is_block state.now) ≤ blocks }
-    ensures { result + weight (is_block state.now) ≡ blocks }
+/// Ends headers that all wait in lists, and then the region.
+fn end_all(mut region: Region, mut entries: Vec<Entry>)
+    requires { AreEnding region entries.items }
 {
-    if state.client_memory {
-        blocks
-    } else {
-        blocks - 1
+    while let Some(entry) = entries.pop() {
+        end_entry(&mut region, entry);
     }
+    entries.destroy_empty();
+    region.close();
 }
 
 impl Stock {
-    /// A stock without ports and headers.
+    /// A stock without ports and headers. It takes the memory of all its blocks.
     pub fn new(alloc: Global) -> Result<Stock, OutOfMemory>
         ensures { IfOk result (λ s. stocked s ≡ no_stock (stocked s).key) }
     {
         Ok(Stock {
-            key: Key::new(),
+            region: Region::new(alloc, BLOCKS, BLOCK_BYTES)?,
             ports: Vec::new(alloc),
             firsts: Firsts::new(alloc),
             entries: Vec::new(alloc),
-            blocks: 0,
             next: 0,
         })
     }
@@ -117,13 +122,13 @@ impl Stock {
         ports::remove(&mut self.ports, &mut self.firsts, component);
     }
 
-    /// Makes a header for the port, and for the other port of its tunnel.
+    /// Makes a header for the port, and for the other port of its tunnel, of the client's own memory or of a free block.
     pub fn populate(
         &mut self,
         port: PortKey,
         peer: Option<PortKey>,
         home: Home,
-        store: Store,
+        memory: Option<Memory>,
         size: u32,
     ) -> Header
         requires port { IsPort port (stocked self.old) }
@@ -131,17 +136,20 @@ impl Stock {
         requires home { is_home_among port peer home ≡ true }
         requires some { 1 ≤ size }
         requires limit { size ≤ 4096 }
-        requires fits { size ≤ length (bytes_of store) }
+        requires fits { Fits memory size }
+        requires block { HasBlockFor memory (stocked self.old) }
         requires few { made_in (stocked self.old) port < 32 }
         requires few_of_peer { HasFewer (made_in (stocked self.old)) peer }
         requires numbers { (stocked self.old).next < 18446744073709551615 }
-        ensures header { result ≡ fresh (stocked self.old).key (stocked self.old).next store size }
+        ensures header { result ≡ fresh (stocked self.old).key (stocked self.old).next result.store size }
+        ensures memory { own_memory result.store ≡ memory }
         ensures new_number { (stocked self.old).headers.header (stocked self.old).next ≡ None }
         ensures outside { IsOutside result (stocked self.new) }
         ensures stock { stocked self.new
-            ≡ populated (made_header (stocked self.old).next port peer home size (is_clients store)) (stocked self.old) }
+            ≡ populated (made_header (stocked self.old).next port peer home size (is_some memory)) (stocked self.old) }
     {
         let number = self.next;
+        let store = Store::of(&mut self.region, memory);
         let state = HeaderState {
             number,
             port,
@@ -160,23 +168,21 @@ impl Stock {
             None,
             Some(state),
         );
-        self.blocks = with_block(self.blocks, &state);
         self.next += 1;
-        Header::new(self.key, number, store, size)
+        Header::new(Key::of(&self.region), number, store, size)
     }
 
-    /// Unmakes a header and gives its memory back.
-    pub fn withdraw(&mut self, header: Header) -> Store
+    /// Unmakes a header. Its block is free again, and memory of the client's own comes back.
+    pub fn withdraw(&mut self, header: Header) -> Option<Memory>
         requires { IsOutside header (stocked self.old) }
-        ensures store { result ≡ header.store }
-        ensures memory { own_memory result ≡ header.held.memory }
+        ensures memory { result ≡ header.held.memory }
+        ensures own { is_some result ≡ is_clients header.store }
         ensures stock { stocked self.new ≡ withdrawn header.held.number (stocked self.old) }
     {
         let before = entries::remove(&mut self.entries, header.id());
         let made_for = (before.port, before.peer);
         ports::recount(&self.firsts, &mut self.ports, made_for, Some(before), None);
-        self.blocks = without_block(self.blocks, &before);
-        header.into_store()
+        header.into_memory(&mut self.region)
     }
 
     /// The front of `todo`, which leaves it.
@@ -322,7 +328,7 @@ impl Stock {
     pub fn blocks(&self) -> u64
         ensures { result ≡ (stocked self.now).headers.count is_block }
     {
-        self.blocks
+        u64::from(BLOCKS - self.region.free())
     }
 
     pub fn has_todo(&self, port: PortKey) -> bool
@@ -356,6 +362,20 @@ impl Stock {
         is_given(self.next)
     }
 
+    /// Whether each header that is made waits in a list, so that the stock can be closed.
+    pub fn all_wait(&self) -> bool
+        ensures { (result ≡ true) ↔ AllWait (stocked self.now) }
+    {
+        entries::all_wait(&self.entries)
+    }
+
+    /// Whether each header that is made is with a port or in a note, and none with the client or in a work.
+    pub fn all_inside(&self) -> bool
+        ensures { (result ≡ true) ↔ AllInside (stocked self.now) }
+    {
+        entries::all_inside(&self.entries)
+    }
+
     /// Each header that a port has was made for that port.
     pub fn law_of_owners(&self)
         ensures { AreMadeForOwners (stocked self.now) }
@@ -370,34 +390,17 @@ impl Stock {
         let _ = &self.entries;
     }
 
-    /// Ends a stock for which no header is made.
+    /// Ends a stock of which each header that is made waits in a list, and gives all its memory back.
     pub fn close(self)
-        requires { (number : ℕ) → (stocked self).headers.header number ≡ None }
+        requires { AllWait (stocked self) }
     {
         let Stock {
-            key: _,
+            region,
             ports: _,
             firsts: _,
             entries,
-            blocks: _,
             next: _,
         } = self;
-        entries.destroy_empty();
-    }
-
-    /// Ends a stock whatever is made. The headers that wait in its lists go.
-    pub fn dispose(self) {
-        let Stock {
-            key: _,
-            ports: _,
-            firsts: _,
-            mut entries,
-            blocks: _,
-            next: _,
-        } = self;
-        while let Some(entry) = entries.pop() {
-            entry.dispose();
-        }
-        entries.destroy_empty();
+        end_all(region, entries);
     }
 }

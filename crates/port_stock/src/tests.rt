@@ -1,11 +1,10 @@
 ghost use Rattle.std.specs.Prelude.{◌≡◌, length, None, IfOk};
-ghost use Rattle.header_core.specs.BufferHeader.{bytes_of};
 ghost use Rattle.port_stock.specs.Kept.{stocked};
 ghost use Rattle.port_stock.specs.Conditions.{IsOutside};
 ghost use Rattle.port_stock.specs.Example.{IsLeft, one_header, two_ports};
 
 use crate::{OutOfMemory, Stock};
-use header_core::{Header, Memory, Store};
+use header_core::{Header, Memory};
 use il_machine::{Home, Mark, Owner, PortKey, Spot};
 use omx_types::Handle;
 use std::alloc::{AllocError, Global};
@@ -53,7 +52,7 @@ fn make(stock: &mut Stock, bytes: Vec<u8>) -> Header
     ensures mark { result.held.mark ≡ None }
     ensures stock { stocked stock.new ≡ one_header (stocked stock.old).key }
 {
-    stock.populate(INPUT, None, Home::Client, Store::Own(Memory::new(bytes)), 6)
+    stock.populate(INPUT, None, Home::Client, Some(Memory::new(bytes)), 6)
 }
 
 /// The header waits in `todo`, is marked there, and leaves it.
@@ -104,18 +103,28 @@ fn look(stock: &mut Stock) -> (bool, u64, Option<Owner>)
 }
 
 /// The header is unmade, and the stock ends.
-fn finish(mut stock: Stock, header: Header) -> Vec<u8>
+fn finish(mut stock: Stock, header: Header) -> Option<Memory>
     requires outside { IsOutside header (stocked stock) }
     requires number { header.held.number ≡ 0 }
     requires left { IsLeft (stocked stock) }
-    ensures { result.items ≡ bytes_of header.store }
+    ensures { result ≡ header.held.memory }
 {
-    let store = stock.withdraw(header);
+    let memory = stock.withdraw(header);
     stock.remove_ports(3);
     stock.close();
-    match store {
-        Store::Own(memory) | Store::Block(memory) => memory.into_bytes(),
-    }
+    memory
+}
+
+/// A header of a block waits in `todo`, and the stock ends. It answers how many blocks were out.
+fn end_waiting(mut stock: Stock) -> u64
+    requires { stocked stock ≡ two_ports (stocked stock).key }
+{
+    let header = stock.populate(INPUT, None, Home::Client, None, 6);
+    let own = header.is_clients_memory();
+    stock.push_work(INPUT, header, Spot::TodoBack);
+    let out = stock.blocks();
+    stock.close();
+    if own { 0 } else { out }
 }
 
 #[test]
@@ -128,13 +137,13 @@ fn marks_what_waits(rt: HostRuntime) -> Result<(), Fail> {
     let owner = stock.owner(0);
     let (header, marked) = pass_todo(&mut stock, header);
     let seen = (header.id(), header.size(), header.mark());
-    let memory = finish(stock, header);
+    let memory = finish(stock, header).map(Memory::into_bytes);
     assert!(rt; left);
     assert_eq!(rt; made, (1, 0, 0));
     assert_eq!(rt; owner, Some(Owner::Client));
     assert!(rt; marked);
     assert_eq!(rt; seen, (0, 6, Some(MARK)));
-    assert_eq!(rt; memory.len(), 8);
+    assert_eq!(rt; memory.map(|bytes| bytes.len()), Some(8));
     Ok(())
 }
 
@@ -147,11 +156,20 @@ fn clears_what_waits(rt: HostRuntime) -> Result<(), Fail> {
     let filled = header.fill(&[1, 2], 1);
     let (header, waits) = pass_done(&mut stock, header);
     let seen = (header.content().len(), header.flags());
-    let memory = finish(stock, header);
+    let Some(memory) = finish(stock, header) else {
+        panic!(rt; "no memory")
+    };
     assert_eq!(rt; empty, (false, 0, None));
     assert_eq!(rt; filled, Ok(()));
     assert!(rt; waits);
     assert_eq!(rt; seen, (0, 0));
     assert_eq!(rt; memory.as_slice(), [1, 2, 9, 9, 9, 9, 9, 9].as_slice());
+    Ok(())
+}
+
+#[test]
+fn ends_with_a_block_out(rt: HostRuntime) -> Result<(), Fail> {
+    let stock = begin(rt.alloc())?;
+    assert_eq!(rt; end_waiting(stock), 1);
     Ok(())
 }

@@ -5,15 +5,14 @@ ghost use Rattle.il_machine.specs.Look.{Look};
 ghost use Rattle.graph_core.specs.Changes.{IsHandedIn};
 ghost use Rattle.il_graph.specs.Shown.{look_of};
 
-use crate::client::{Back, end, key, let_go, made, noted, reach, set_port, take};
-use crate::stopped::Stopped;
+use crate::client::{Back, end, key, made, noted, reach, set_port, take};
+use crate::stopped::{Host, Stopped, stand_still};
 use crate::working::{no_work, work};
 use header_core::Header;
 use il_graph::{Graph, NoFile};
 use note_queues::ProgressClient;
 use omx_types::{Command, Handle, Param, PortSel, State};
 use pcm_ops::{bytes_of, gain_into};
-use std::alloc::Global;
 use std::io;
 use std::time::{Duration, Instant};
 
@@ -41,7 +40,13 @@ fn full(mut header: Header, bytes: &[u8]) -> Header
 }
 
 /// The header goes to its port, one of the input with the bytes.
-fn hand_in(graph: &mut Gains, h: Handle, back: Back, bytes: &[u8]) -> Result<(), Stopped>
+fn hand_in<R: Host>(
+    rt: &R,
+    graph: &mut Gains,
+    h: Handle,
+    back: Back,
+    bytes: &[u8],
+) -> Result<(), Stopped>
     requires { IsHandedIn back.header (look_of graph.old) }
 {
     let Back { header, emptied } = back;
@@ -52,16 +57,13 @@ fn hand_in(graph: &mut Gains, h: Handle, back: Back, bytes: &[u8]) -> Result<(),
     };
     match answer {
         Ok(()) => Ok(()),
-        Err((error, header)) => {
-            let_go(header);
-            Err(Stopped::from(error))
-        }
+        Err((_error, header)) => Err(stand_still(rt, header)),
     }
 }
 
 /// The port, which was disabled, is enabled with its one header, which waits there.
-fn open(
-    alloc: Global,
+fn open<R: Host>(
+    rt: &R,
     graph: &mut Gains,
     h: Handle,
     port: u32,
@@ -69,43 +71,43 @@ fn open(
 ) -> Result<(), Stopped> {
     graph.send_command(h, Command::PortEnable(PortSel::One(port)))?;
     graph.run_command(h)?;
-    let header = graph.allocate_buffer(alloc, h, port)?;
+    let header = graph.allocate_buffer(h, port)?;
     let back = Back {
         header,
         emptied: port == 0,
     };
-    hand_in(graph, h, back, bytes)?;
-    take(graph, h)?;
+    hand_in(rt, graph, h, back, bytes)?;
+    take(rt, graph, h)?;
     Ok(())
 }
 
 /// A gain that is Executing, with a header of 4,096 bytes at each port, that of the input full.
-fn start(alloc: Global, graph: &mut Gains, bytes: &[u8]) -> Result<Handle, Stopped> {
-    let h = made(alloc, graph, "OMX.lab.gain")?;
+fn start<R: Host>(rt: &R, graph: &mut Gains, bytes: &[u8]) -> Result<Handle, Stopped> {
+    let h = made(rt.alloc(), graph, "OMX.lab.gain")?;
     graph.set_config(h, key(4, 0), Param::Gain(FACTOR))?;
     set_port(graph, h, 0, true, (1, 4096))?;
     set_port(graph, h, 1, false, (1, 4096))?;
     graph.send_command(h, Command::PortDisable(PortSel::All))?;
     graph.run_command(h)?;
-    take(graph, h)?;
-    take(graph, h)?;
-    reach(graph, h, State::Idle)?;
-    reach(graph, h, State::Executing)?;
-    open(alloc, graph, h, 0, bytes)?;
-    open(alloc, graph, h, 1, bytes)?;
+    take(rt, graph, h)?;
+    take(rt, graph, h)?;
+    reach(rt, graph, h, State::Idle)?;
+    reach(rt, graph, h, State::Executing)?;
+    open(rt, graph, h, 0, bytes)?;
+    open(rt, graph, h, 1, bytes)?;
     Ok(h)
 }
 
 /// The header in the component's oldest note goes to its port again.
-fn send_again(graph: &mut Gains, h: Handle, bytes: &[u8]) -> Result<(), Stopped> {
+fn send_again<R: Host>(rt: &R, graph: &mut Gains, h: Handle, bytes: &[u8]) -> Result<(), Stopped> {
     match noted(graph, h)? {
-        Some(back) => hand_in(graph, h, back, bytes),
+        Some(back) => hand_in(rt, graph, h, back, bytes),
         None => Err(Stopped::Refused),
     }
 }
 
 /// The time of the blocks. Between two of them the headers come back and are handed in, which isn't timed.
-fn work_all(rt: &HostRuntime, graph: &mut Gains, h: Handle, bytes: &[u8]) -> Result<u128, Stopped> {
+fn work_all<R: Host>(rt: &R, graph: &mut Gains, h: Handle, bytes: &[u8]) -> Result<u128, Stopped> {
     let mut time = Duration::ZERO;
     for _ in 0..BLOCKS {
         let start = Instant::now(rt)?;
@@ -114,25 +116,25 @@ fn work_all(rt: &HostRuntime, graph: &mut Gains, h: Handle, bytes: &[u8]) -> Res
         if laps.is_none() {
             return Err(Stopped::Refused);
         }
-        send_again(graph, h, bytes)?;
-        send_again(graph, h, bytes)?;
+        send_again(rt, graph, h, bytes)?;
+        send_again(rt, graph, h, bytes)?;
     }
     Ok(time.as_nanos())
 }
 
 /// The same on a graph of its own, which is ended on every path.
-fn time_works(rt: &HostRuntime, bytes: &[u8]) -> Result<u128, Stopped> {
+fn time_works<R: Host>(rt: &R, bytes: &[u8]) -> Result<u128, Stopped> {
     let mut graph = Gains::new(rt.alloc(), 128)?;
-    let timed = match start(rt.alloc(), &mut graph, bytes) {
+    let timed = match start(rt, &mut graph, bytes) {
         Ok(h) => work_all(rt, &mut graph, h, bytes),
         Err(stopped) => Err(stopped),
     };
-    end(graph);
+    end(rt, graph);
     timed
 }
 
 /// The same readings of the clock, with nothing between them.
-fn time_readings(rt: &HostRuntime) -> Result<u128, Stopped> {
+fn time_readings<R: Host>(rt: &R) -> Result<u128, Stopped> {
     let mut time = Duration::ZERO;
     for _ in 0..BLOCKS {
         let start = Instant::now(rt)?;
@@ -143,7 +145,7 @@ fn time_readings(rt: &HostRuntime) -> Result<u128, Stopped> {
 }
 
 /// The kernel alone on as many blocks.
-fn time_kernel(rt: &HostRuntime, from: &[i16], to: &mut [i16]) -> Result<u128, Stopped>
+fn time_kernel<R: Host>(rt: &R, from: &[i16], to: &mut [i16]) -> Result<u128, Stopped>
     requires { length from.now ≡ length to.old }
 {
     let start = Instant::now(rt)?;
@@ -162,8 +164,8 @@ struct Times {
 }
 
 /// The cases take turns.
-fn take_turns(
-    rt: &HostRuntime,
+fn take_turns<R: Host>(
+    rt: &R,
     samples: &[i16],
     to: &mut [i16],
     bytes: &[u8],
@@ -184,7 +186,7 @@ fn take_turns(
 }
 
 /// The best times.
-fn best_times(rt: &HostRuntime) -> Result<Times, Stopped> {
+fn best_times<R: Host>(rt: &R) -> Result<Times, Stopped> {
     let mut samples = vec![in rt.alloc(); 0_i16; SAMPLES]?;
     for i in 0..samples.len() {
         samples[i] = (i as u16).wrapping_mul(40_503).cast_signed();
@@ -195,7 +197,7 @@ fn best_times(rt: &HostRuntime) -> Result<Times, Stopped> {
     take_turns(rt, &samples, &mut to, &bytes)
 }
 
-fn report(rt: &HostRuntime, times: Times) -> io::Result<()> {
+fn report<R: Host>(rt: &R, times: Times) -> io::Result<()> {
     let blocks = u128::from(BLOCKS);
     let works = times.works.saturating_sub(times.readings);
     println!(rt;
@@ -206,7 +208,7 @@ fn report(rt: &HostRuntime, times: Times) -> io::Result<()> {
     )
 }
 
-pub(crate) fn figures(rt: &HostRuntime) -> io::Result<()> {
+pub(crate) fn figures<R: Host>(rt: &R) -> io::Result<()> {
     match best_times(rt) {
         Ok(times) => report(rt, times),
         Err(_) => println!(rt; "blocks: memory was wanting, or a call was refused"),

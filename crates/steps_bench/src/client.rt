@@ -6,7 +6,7 @@ ghost use Rattle.graph_core.specs.Changes.{IsHandedIn};
 ghost use Rattle.il_graph.specs.Shown.{look_of};
 ghost use Rattle.il_graph.specs.HandedIn.{StayHandedIn};
 
-use crate::stopped::Stopped;
+use crate::stopped::{Host, Stopped, stand_still};
 use header_core::Header;
 use il_graph::Graph;
 use note_queues::{Call, Client, ProgressClient, Taken, Took};
@@ -111,27 +111,27 @@ pub(crate) fn noted<S: Source, K: Sink>(
     Ok(back)
 }
 
-/// Ends a header that no port took.
-pub(crate) fn let_go(header: Header) {
-    header.dispose();
+/// Ends a graph of which nothing is out.
+pub(crate) fn end<S: Source, K: Sink, R: Host>(rt: &R, graph: Graph<S, K, ProgressClient>) {
+    if graph.is_all_in() {
+        graph.close();
+    } else {
+        let _stopped = stand_still(rt, graph);
+    }
 }
 
-/// Ends a graph whose headers are all with its ports.
-pub(crate) fn end<S: Source + Drop, K: Sink + Drop>(graph: Graph<S, K, ProgressClient>) {
-    graph.dispose();
-}
-
-/// Takes the oldest note. A header in it is let go.
-pub(crate) fn take<S: Source, K: Sink>(
+/// Takes the oldest note, which has no header in it.
+pub(crate) fn take<S: Source, K: Sink, R: Host>(
+    rt: &R,
     graph: &mut Graph<S, K, ProgressClient>,
     h: Handle,
-) -> Result<(), OmxError>
+) -> Result<(), Stopped>
     ensures { StayHandedIn (look_of graph.old) (look_of graph.new) }
 {
-    if let Some(Back { header, emptied: _ }) = noted(graph, h)? {
-        let_go(header);
+    match noted(graph, h)? {
+        None => Ok(()),
+        Some(back) => Err(stand_still(rt, back)),
     }
-    Ok(())
 }
 
 /// Orders a state.
@@ -148,13 +148,14 @@ pub(crate) fn order<S: Source, K: Sink>(
 }
 
 /// Orders a state that is reached at once, and takes the note of that.
-pub(crate) fn reach<S: Source, K: Sink>(
+pub(crate) fn reach<S: Source, K: Sink, R: Host>(
+    rt: &R,
     graph: &mut Graph<S, K, ProgressClient>,
     h: Handle,
     state: State,
-) -> Result<(), OmxError>
+) -> Result<(), Stopped>
     ensures { StayHandedIn (look_of graph.old) (look_of graph.new) }
 {
     order(graph, h, state)?;
-    take(graph, h)
+    take(rt, graph, h)
 }

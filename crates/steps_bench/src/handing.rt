@@ -1,7 +1,7 @@
 //! Headers that go round in a tunnel from a sink to a source and back, beside numbers that go through a queue.
 
 use crate::client::{MONO, end, made, order, reach, set_port, take};
-use crate::stopped::Stopped;
+use crate::stopped::{Host, Stopped};
 use crate::working::{no_work, work};
 use il_graph::{Graph, PartFile};
 use note_queues::ProgressClient;
@@ -54,22 +54,22 @@ fn join(alloc: Global, graph: &mut Files, headers: u32) -> Result<Ends, Stopped>
 }
 
 /// Both ends are Executing, and the sink has the headers.
-fn start(alloc: Global, graph: &mut Files, headers: u32) -> Result<Ends, Stopped> {
-    let ends = join(alloc, graph, headers)?;
+fn start<R: Host>(rt: &R, graph: &mut Files, headers: u32) -> Result<Ends, Stopped> {
+    let ends = join(rt.alloc(), graph, headers)?;
     order(graph, ends.source, State::Idle)?;
     order(graph, ends.sink, State::Idle)?;
     for _ in 0..headers {
-        graph.supply(alloc, ends.sink, 0)?;
+        graph.supply(ends.sink, 0)?;
     }
-    take(graph, ends.source)?;
-    take(graph, ends.sink)?;
-    reach(graph, ends.source, State::Executing)?;
-    reach(graph, ends.sink, State::Executing)?;
+    take(rt, graph, ends.source)?;
+    take(rt, graph, ends.sink)?;
+    reach(rt, graph, ends.source, State::Executing)?;
+    reach(rt, graph, ends.sink, State::Executing)?;
     Ok(ends)
 }
 
 /// The sink's first header goes to the source, whose work fills it, and back. What that takes, but for the step.
-fn send(rt: &HostRuntime, graph: &mut Files, ends: Ends) -> Result<Duration, Stopped> {
+fn send<R: Host>(rt: &R, graph: &mut Files, ends: Ends) -> Result<Duration, Stopped> {
     let start = Instant::now(rt)?;
     graph.hand_over(ends.sink, 0)?;
     let Some(laps) = work(rt, graph, ends.source)? else {
@@ -80,7 +80,7 @@ fn send(rt: &HostRuntime, graph: &mut Files, ends: Ends) -> Result<Duration, Sto
 }
 
 /// The time of a header of one round. The sink's work empties it between rounds, which isn't timed.
-fn send_all(rt: &HostRuntime, graph: &mut Files, ends: Ends) -> Result<u128, Stopped> {
+fn send_all<R: Host>(rt: &R, graph: &mut Files, ends: Ends) -> Result<u128, Stopped> {
     let mut time = Duration::ZERO;
     for _ in 0..ROUNDS {
         time = time.saturating_add(send(rt, graph, ends)?);
@@ -106,23 +106,23 @@ fn part(graph: &mut Files, ends: Ends, headers: u32) -> Result<(), Stopped> {
 }
 
 /// What the headers take on a graph that is there.
-fn time_on(rt: &HostRuntime, graph: &mut Files, headers: u32) -> Result<u128, Stopped> {
-    let ends = start(rt.alloc(), graph, headers)?;
+fn time_on<R: Host>(rt: &R, graph: &mut Files, headers: u32) -> Result<u128, Stopped> {
+    let ends = start(rt, graph, headers)?;
     let time = send_all(rt, graph, ends)?;
     part(graph, ends, headers)?;
     Ok(time)
 }
 
 /// The same on a graph of its own, which is ended on every path.
-fn time_headers(rt: &HostRuntime, headers: u32) -> Result<u128, Stopped> {
+fn time_headers<R: Host>(rt: &R, headers: u32) -> Result<u128, Stopped> {
     let mut graph = Files::new(rt.alloc(), 128)?;
     let timed = time_on(rt, &mut graph, headers);
-    end(graph);
+    end(rt, graph);
     timed
 }
 
 /// The same readings of the clock, with nothing between them.
-fn time_readings(rt: &HostRuntime) -> Result<u128, Stopped> {
+fn time_readings<R: Host>(rt: &R) -> Result<u128, Stopped> {
     let mut time = Duration::ZERO;
     for _ in 0..ROUNDS {
         let start = Instant::now(rt)?;
@@ -133,7 +133,7 @@ fn time_readings(rt: &HostRuntime) -> Result<u128, Stopped> {
 }
 
 /// A number goes to the back of a queue and the one at its front out, as often.
-fn time_numbers(rt: &HostRuntime) -> Result<u128, Stopped> {
+fn time_numbers<R: Host>(rt: &R) -> Result<u128, Stopped> {
     let mut queue = VecDeque::new(rt.alloc());
     let start = Instant::now(rt)?;
     let mut sum: u64 = 0;
@@ -161,7 +161,7 @@ struct Times {
 }
 
 /// The cases take turns.
-fn best_times(rt: &HostRuntime) -> Result<Times, Stopped> {
+fn best_times<R: Host>(rt: &R) -> Result<Times, Stopped> {
     let mut best = Times {
         readings: u128::MAX,
         numbers: u128::MAX,
@@ -182,7 +182,7 @@ fn tenths(time: u128) -> u128 {
     time.saturating_mul(10) / u128::from(ROUNDS)
 }
 
-fn report(rt: &HostRuntime, times: Times) -> io::Result<()> {
+fn report<R: Host>(rt: &R, times: Times) -> io::Result<()> {
     let few = times.few.saturating_sub(times.readings);
     let many = times.many.saturating_sub(times.readings);
     println!(rt;
@@ -205,7 +205,7 @@ fn report(rt: &HostRuntime, times: Times) -> io::Result<()> {
     )
 }
 
-pub(crate) fn figures(rt: &HostRuntime) -> io::Result<()> {
+pub(crate) fn figures<R: Host>(rt: &R) -> io::Result<()> {
     match best_times(rt) {
         Ok(times) => report(rt, times),
         Err(_) => println!(rt; "headers: memory was wanting, or a call was refused"),

@@ -10,8 +10,9 @@ mod stopped;
 mod working;
 
 use std::{env, io};
+use stopped::Host;
 
-fn figures(rt: &HostRuntime) -> io::Result<()> {
+fn figures<R: Host>(rt: &R) -> io::Result<()> {
     acts::figures(rt)?;
     handing::figures(rt)?;
     blocks::figures(rt)

@@ -1,6 +1,6 @@
 //! A component's work goes out, is done and comes back, with readings of the clock.
 
-use crate::stopped::Stopped;
+use crate::stopped::{Host, Stopped};
 use il_graph::{Claimed, Graph};
 use note_queues::Client;
 use omx_types::Handle;
@@ -23,8 +23,8 @@ impl Laps {
 }
 
 /// The work of a component, or None where it has none.
-pub(crate) fn work<S: Source, K: Sink, C: Client>(
-    rt: &HostRuntime,
+pub(crate) fn work<S: Source, K: Sink, C: Client, R: Host>(
+    rt: &R,
     graph: &mut Graph<S, K, C>,
     h: Handle,
 ) -> Result<Option<Laps>, Stopped> {
@@ -51,7 +51,7 @@ pub(crate) fn work<S: Source, K: Sink, C: Client>(
 }
 
 /// The readings alone.
-pub(crate) fn no_work(rt: &HostRuntime) -> Result<Laps, Stopped> {
+pub(crate) fn no_work<R: Host>(rt: &R) -> Result<Laps, Stopped> {
     Ok(Laps {
         claimed: Instant::now(rt)?,
         ran: Instant::now(rt)?,

@@ -2,6 +2,7 @@
 use Rattle.std.proofs.Common.{◌≡◌, ℕ, Bool, List, [], ◌∷◌, ◌++◌, Option, Some, None, MatchOption, option_map, option_and_then, slice_get, Result, Ok, Err, refl}
 use Rattle.std.specs.Prelude.{not, ◌&&◌, ◌||◌, IsSome, IfOk}
 use Rattle.omx_types.specs.declared.error.OmxError.{OmxError}
+use Rattle.omx_types.specs.declared.error.CallError.{CallError}
 use Rattle.omx_types.specs.declared.handle.Handle.{Handle}
 use Rattle.il_machine.specs.declared.answer.Acted.{Acted}
 use Rattle.il_machine.specs.declared.answer.Acted.TheVariants as acted
@@ -15,7 +16,6 @@ use Rattle.il_machine.specs.Look.{look}
 use Rattle.il_machine.specs.Ports.{accepting, returning, leaving, is_supplier, id_of}
 use Rattle.il_machine.specs.Buffers.{has_no_block, has_no_number, is_taking}
 use Rattle.il_machine.specs.Commands.{RunCommand}
-use Rattle.il_machine.specs.Answers.{ActsOrMemory}
 use Rattle.il_machine.specs.Flow.{End, end_at, end_in, end_of, other_end, at_end, supply_idle, Supply, in_port, release_idle, Release, is_giving, over_idle, HandOver, back_idle, HandBack}
 use Rattle.il_machine.specs.Sound.{Sound}
 use Rattle.machine_laws.proofs.Finding.{either}
@@ -131,34 +131,25 @@ module _ (components : List NamedComponent) where
         ∷ (is_empty (headers.done p.key) && (not (returning c p) || is_empty (headers.todo p.key)), why.NoHeader) ∷ [])
         (refl, (not_running i c p at, (refl, tt)))
 
-    memory_named : (o : Option Why) (x : Acted) (after v : World) → IsNamedWhy components o → ActsOrMemory o (Ok x) w after v → IsNamedAnswer components x
-    memory_named (Some reason) x after v M a =
-        let e = a.0 in
-        let is : x ≡ acted.Idle reason = cc in
-        rw is M
-    memory_named None x after v M a =
-        let is : x ≡ acted.Did = a.0 in
-        rw is tt
-
     pub supply_named : (h : Handle) (port : ℕ) (x : Acted) (v : World) → Supply w h port (Ok x) v → IsNamedAnswer components x
     supply_named h port x v a =
         let k = at_place w port x v _ _ _ (place_of h w.components) a in
-        memory_named (supply_idle (look w) k.component k.port) x _ v (supply_reason k.place k.component k.port k.there) k.then
+        acts_named components CallError (supply_idle (look w) k.component k.port) x w _ v (supply_reason k.place k.component k.port k.there) k.then
 
     release_named : (h : Handle) (port : ℕ) (x : Acted) (v : World) → Release w h port (Ok x) v → IsNamedAnswer components x
     release_named h port x v a =
         let k = at_place w port x v _ _ _ (place_of h w.components) a in
-        acts_named components (release_idle (look w) k.component k.port) x w _ v (release_reason k.component k.port) k.then
+        acts_named components OmxError (release_idle (look w) k.component k.port) x w _ v (release_reason k.component k.port) k.then
 
     over_named : (h : Handle) (port : ℕ) (x : Acted) (v : World) → HandOver w h port (Ok x) v → IsNamedAnswer components x
     over_named h port x v a =
         let k = at_place w port x v _ _ _ (place_of h w.components) a in
-        acts_named components (over_idle (look w) k.component k.port) x w _ v (over_reason k.place k.component k.port k.there) k.then
+        acts_named components OmxError (over_idle (look w) k.component k.port) x w _ v (over_reason k.place k.component k.port k.there) k.then
 
     back_named : (h : Handle) (port : ℕ) (x : Acted) (v : World) → HandBack w h port (Ok x) v → IsNamedAnswer components x
     back_named h port x v a =
         let k = at_place w port x v _ _ _ (place_of h w.components) a in
-        acts_named components (back_idle (look w) k.component k.port) x w _ v (back_reason k.place k.component k.port k.there) k.then
+        acts_named components OmxError (back_idle (look w) k.component k.port) x w _ v (back_reason k.place k.component k.port k.there) k.then
 
     -- ---- of any result
 

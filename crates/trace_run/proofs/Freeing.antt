@@ -2,7 +2,7 @@
 use Rattle.std.proofs.Common.{◌≡◌, ◌≢◌, inl, inr, ℕ, ◌+◌, ◌<◌, ◌≤◌, Bool, true, false, ◌&&◌, ◌||◌, List, [], ◌∷◌, ◌++◌, length, position, slice_get, get_or, Option, Some, None, All, MatchOption, Result, Ok, Err, refl, sym, ◌∙◌, ap, subst, arith}
 use Rattle.std.proofs.lemmas.Bool.{cases_eq, cases_lt}
 use Rattle.std.proofs.lemmas.Option.{get_or_from_slice_get, slice_get_within}
-use Rattle.std.specs.Prelude.{IsSome, IsSomeAnd, IfSome, option_and_then}
+use Rattle.std.specs.Prelude.{IsSome, IsSomeAnd, IfSome, option_and_then, option_map}
 use Rattle.omx_types.specs.declared.handle.Handle.{Handle}
 use Rattle.omx_types.specs.declared.error.OmxError.{OmxError}
 use Rattle.omx_types.specs.declared.error.OmxError.TheVariants as errors
@@ -35,13 +35,15 @@ use Rattle.history_laws.proofs.Homes.{found_state, set_in}
 use Rattle.history_laws.proofs.Steps.{step_comes}
 use Rattle.header_core.specs.BufferHeader.{BufferHeader}
 use Rattle.graph_core.specs.Changes.{IsHandedIn}
-use Rattle.graph_core.specs.Clients.{IsOut}
+use Rattle.graph_core.specs.Ending.{IsAllIn}
+use Rattle.audio_parts.specs.AnyParts.{attached_of}
 use Rattle.audio_parts.specs.declared.part_file.PartFile.{PartFile}
 use Rattle.audio_parts.specs.declared.part_file.PartFile.TheVariants as files
 use Rattle.il_graph.specs.NoFiles.{NoFile}
+use Rattle.il_graph.specs.Shown.{HaveTheirFiles, file_at, look_of}
 use Rattle.trace_run.specs.declared.names.NamedComponent.{NamedComponent}
 use Rattle.trace_run.specs.declared.slots.Slot.{Slot}
-use Rattle.trace_run.specs.Standing.{Parts, slot_numbered, AreRising, Hands, IsNamed, IsSeated, IsOfPort, IsStood}
+use Rattle.trace_run.specs.Standing.{GraphShown, Parts, slot_numbered, AreRising, Hands, IsNamed, IsSeated, IsOfPort, IsStood}
 use Rattle.trace_run.specs.Closing.{HaveNoWork, IsEnded, StayEnded, IsFreeable, IsFreed, IsInHand, CanFree, IsOver}
 use Rattle.trace_run.proofs.Ends.{and_some, some_and, none_comes, taken_away, port_kept, seated_there, ends_with}
 use Rattle.trace_run.proofs.Handed.{when_some}
@@ -382,13 +384,12 @@ no_file None = refl
 no_file (Some (files.From src format frames)) = absurd (elim src.of [ ])
 no_file (Some (files.To snk frames)) = absurd (elim snk.of [ ])
 
--- no client object is out
-named_in : (h : Handle) (cs : List Component) (o : Option ℕ) → All (λ (c : Component). c.client_out ≡ false) cs → IsSomeAnd (option_and_then (slice_get cs) o) (λ c. c.client_out ≡ true) → ⊥
-named_in h cs None A n = absurd n
-named_in h cs (Some i) A n =
-    let x = and_some (slice_get cs i) _ n in
-    let e : true ≡ false = sym x.2 ∙ at_place (λ (c : Component). c.client_out ≡ false) cs i x.0 A x.1 in
-    cc
-
-pub none_out : (h : Handle) (l : Look) → All (λ (c : Component). c.client_out ≡ false) l.components → IsOut h l → ⊥
-none_out h l A n = named_in h l.components (place_of h l.components) A n
+-- nothing of the graph is out, then, and no component has a file
+pub all_in : (g : GraphShown) → IsOver (look_of g) → HaveTheirFiles g → IsAllIn (look_of g)
+all_in g O F = record {
+  headers = O.headers;
+  clients = O.clients;
+  works = O.works;
+  files = from_places (λ (c : Component). c.file ≡ None) (look_of g).components (λ i c at.
+      sym (F i c at (at_place (λ (x : Component). x.work ≡ None) (look_of g).components i c O.works at)) ∙ ap (option_map attached_of) (no_file (file_at g i)));
+}

@@ -13,7 +13,7 @@ use Rattle.il_machine.specs.Whole.{Kept, Stands, Steps}
 use Rattle.machine_laws.proofs.Finding.{either}
 use Rattle.machine_laws.proofs.Keys.{is_there, there_is}
 use Rattle.header_core.specs.declared.memory.Store.{Store}
-use Rattle.header_core.specs.declared.memory.Store.TheVariants.{Own, Block}
+use Rattle.header_core.specs.declared.memory.Store.TheVariants.{Own, Region}
 use Rattle.header_core.specs.BufferHeader.{BufferHeader, filled}
 use Rattle.port_stock.specs.Conditions.{IsHeaderOf}
 use Rattle.graph_core.specs.Changes.{IsHandedIn}
@@ -48,7 +48,7 @@ held_by_client header k w S l h =
 -- filled with bytes it is the same header
 filled_of : (s : HeaderState) (bytes : List ℕ) (flags : ℕ) (header : BufferHeader) → IsHeaderOf s header → (store : Store) → header.store ≡ store → IsHeaderOf s (filled bytes flags header)
 filled_of s bytes flags header H (Own own) e = record { size = H.size; memory = rw e (rw e at H.memory) }
-filled_of s bytes flags header H (Block block) e = record { size = H.size; memory = rw e (rw e at H.memory) }
+filled_of s bytes flags header H (Region block) e = record { size = H.size; memory = rw e (rw e at H.memory) }
 
 filled_in : (header : BufferHeader) (bytes : List ℕ) (flags : ℕ) (l : Look) → IsHandedIn header l → IsHandedIn (filled bytes flags header) l
 filled_in header bytes flags l h =

@@ -18,7 +18,7 @@ use Rattle.machine_laws.proofs.Lookups.{port_parts}
 use Rattle.history_laws.proofs.GivenHeaders.{made_clients}
 use Rattle.il_machine.specs.Look.{Look, look}
 use Rattle.il_machine.specs.World.{Component, World, place_of, port_of, is_at}
-use Rattle.il_machine.specs.Answers.{plain, Resolving, Answers, AnswersOrMemory}
+use Rattle.il_machine.specs.Answers.{plain, Resolving, AnswersAs, AnswersOrMemory}
 use Rattle.il_machine.specs.Buffers.{Held, held_of, AllocateBuffer, UseBuffer, allocate_refusal, use_refusal, client_header, with_header as header_made}
 use Rattle.il_machine.specs.Components.{GetHandle, get_handle_refusal, is_bad_name}
 use Rattle.il_machine.specs.Kinds.{kind_of}
@@ -161,13 +161,9 @@ module _ {T E : Type 0} (refuse : OmxError → E) (w v : World) (h : Handle) (x 
   resolved : (Then : ℕ → Component → Type 0) → Resolving refuse w h (Ok x) v Then → Resolved Then
   resolved Then a = at_place (place_of h w.components) Then refl a
 
-accepted : {T : Type 0} (o : Option OmxError) (x : T) (w v : World) (Accepted : T → Type 0) → Answers o (Ok x) w v Accepted → Accepted x
-accepted (Some error) x w v Accepted a = let e = a.0 in absurd cc
-accepted None x w v Accepted a = a
-
-accepted_or_memory : {T : Type 0} (o : Option OmxError) (x : T) (w v : World) (Accepted : T → Type 0) → AnswersOrMemory o (Ok x) w v Accepted → Accepted x
-accepted_or_memory (Some error) x w v Accepted a = let e = a.0 in absurd cc
-accepted_or_memory None x w v Accepted a = a
+accepted : {T E : Type 0} (refuse : OmxError → E) (o : Option OmxError) (x : T) (w v : World) (Accepted : T → Type 0) → AnswersAs refuse o (Ok x) w v Accepted → Accepted x
+accepted refuse (Some error) x w v Accepted a = let e = a.0 in absurd cc
+accepted refuse None x w v Accepted a = a
 
 module _ (w v : World) (h : Handle) (port : ℕ) (header : Held) (S : Sound w) (Z : Sound v) where
   next_of : (i : ℕ) (c : Component) (p : Port) (client_memory : Bool) (memory : Option (List ℕ)) → slice_get w.components i ≡ Some c → c.handle ≡ h → port_of c port ≡ Some p → header ≡ held_of (client_header w.made p client_memory) (empty_load memory) → ClosesTo (header_made (client_header w.made p client_memory) memory w) v → IsNext w h port header v
@@ -188,14 +184,14 @@ module _ (w v : World) (h : Handle) (port : ℕ) (header : Held) (S : Sound w) (
   allocated_next : AllocateBuffer w h port (Ok header) v → IsNext w h port header v
   allocated_next a =
       let x = resolved Omx w v h header _ a in
-      let y = accepted_or_memory (allocate_refusal (look w) x.component (port_of x.component port)) header w v _ x.then in
+      let y = accepted Omx (allocate_refusal (look w) x.component (port_of x.component port)) header w v _ x.then in
       let p = there_is (port_of x.component port) _ y in
       next_of x.place x.component p.0 false None x.there x.named p.1 p.2.0 p.2.1
 
   used_next : (bytes : List ℕ) → UseBuffer w h port bytes (Ok header) v → IsNext w h port header v
   used_next bytes a =
       let x = resolved plain w v h header _ a in
-      let y = accepted (use_refusal (look w) x.component (port_of x.component port) (length bytes)) header w v _ x.then in
+      let y = accepted plain (use_refusal (look w) x.component (port_of x.component port) (length bytes)) header w v _ x.then in
       let p = there_is (port_of x.component port) _ y in
       next_of x.place x.component p.0 true (Some bytes) x.there x.named p.1 p.2.0 p.2.1
 

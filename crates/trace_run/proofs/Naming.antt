@@ -5,6 +5,7 @@ use Rattle.omx_types.specs.declared.command.Command.{Command}
 use Rattle.omx_types.specs.declared.command.Command.TheVariants as commands
 use Rattle.omx_types.specs.declared.command.PortSel.{PortSel}
 use Rattle.omx_types.specs.declared.command.PortSel.TheVariants as sels
+use Rattle.omx_types.specs.declared.error.OmxError.{OmxError}
 use Rattle.omx_types.specs.declared.error.OmxError.TheVariants as errors
 use Rattle.omx_types.specs.declared.handle.Handle.{Handle}
 use Rattle.il_machine.specs.declared.answer.Acted.{Acted}
@@ -49,23 +50,23 @@ module _ (components : List NamedComponent) where
   idle_named c [] = refl
   idle_named c (command ∷ rest) = reason_named c command
 
-  pub acts_named : (o : Option Why) (x : Acted) (w after v : World) → IsNamedWhy o → Acts o (Ok x) w after v → IsNamedAnswer components x
-  acts_named (Some reason) x w after v N a =
+  pub acts_named : (E : Type 0) (o : Option Why) (x : Acted) (w after v : World) → IsNamedWhy o → Acts {E = E} o (Ok x) w after v → IsNamedAnswer components x
+  acts_named E (Some reason) x w after v N a =
       let e = a.0 in
       let is : x ≡ acted.Idle reason = cc in
       rw is N
-  acts_named None x w after v N a =
+  acts_named E None x w after v N a =
       let e = a.0 in
       let is : x ≡ acted.Did = cc in
       rw is tt
 
   run_at : (w : World) (h : Handle) (x : Acted) (v : World) (o : Option ℕ) → MatchOption o ((Ok x ≡ Err errors.InvalidComponent) × (v ≡ w)) (λ i. MatchOption (slice_get w.components i) ⊥ (λ c.
-      Acts (run_idle c c.commands) (Ok x) w (with_component i (run_front (look w) c.commands c) w) v)) → IsNamedAnswer components x
+      Acts {E = OmxError} (run_idle c c.commands) (Ok x) w (with_component i (run_front (look w) c.commands c) w) v)) → IsNamedAnswer components x
   run_at w h x v None a = let e = a.0 in absurd cc
   run_at w h x v (Some i) a =
       let k = there_is (slice_get w.components i) _ a in
       let c = k.0 in
-      acts_named (run_idle c c.commands) x w (with_component i (run_front (look w) c.commands c) w) v (idle_named c c.commands) k.2
+      acts_named OmxError (run_idle c c.commands) x w (with_component i (run_front (look w) c.commands c) w) v (idle_named c c.commands) k.2
 
   -- a command that isn't run names no port of another component
   pub run_named : (w : World) (h : Handle) (x : Acted) (v : World) → RunCommand w h (Ok x) v → IsNamedAnswer components x

@@ -1,13 +1,12 @@
 //! The lines that name neither a header nor the kind of a component.
 
-ghost use Rattle.std.specs.Prelude.{◌≡◌, List, IfOk, OnErr};
+ghost use Rattle.std.specs.Prelude.{List};
 ghost use Rattle.il_machine.specs.Whole.{Steps};
 ghost use Rattle.il_machine.specs.Acts as acts;
 ghost use Rattle.omx_types.specs.declared.command.Command.TheVariants.{MarkBuffer};
 ghost use Rattle.trace_run.specs.Naming.{NamedHeader, handle_in};
 ghost use Rattle.trace_run.specs.Standing.{graph_kept, AskReplied, IsNamedGraph, IsPlain, IsSetting, IsTunneling, IsSending, Replied};
 
-use crate::OutOfMemory;
 use crate::acts::{
     back, drop_tunnel, free, grant, over, port, preempt, release, run, send, set_config,
     set_definition, set_parameter, state, supply, tunnel,
@@ -16,44 +15,37 @@ use crate::client::TraceGraph;
 use crate::names::{NamedComponent, handle_of, port_id};
 use act_text::{Name, TextAct, TextReply};
 use omx_types::{Command, Param};
-use std::alloc::Global;
 
 /// Makes the act of a line that takes no note and moves no work.
-pub fn ask(
-    graph: &mut TraceGraph,
-    components: &[NamedComponent],
-    alloc: Global,
-    act: &TextAct,
-) -> Result<TextReply, OutOfMemory>
+pub fn ask(graph: &mut TraceGraph, components: &[NamedComponent], act: &TextAct) -> TextReply
     requires plain { IsPlain act.now }
     requires named { IsNamedGraph (graph_kept graph.old) components.now }
-    ensures replied { IfOk result (λ reply. (headers : List NamedHeader) → Steps (graph_kept graph.old) (graph_kept graph.new) (AskReplied components.now headers act.now reply)) }
-    ensures unchanged { OnErr result (graph_kept graph.new ≡ graph_kept graph.old) }
+    ensures { (headers : List NamedHeader) → Steps (graph_kept graph.old) (graph_kept graph.new) (AskReplied components.now headers act.now result) }
 {
     match act {
-        TextAct::Free(component) => Ok(free(graph, handle_of(components, component))),
-        TextAct::State(component) => Ok(state(graph, handle_of(components, component))),
-        TextAct::Port(at) => Ok(port(graph, handle_of(components, &at.component), at.index)),
+        TextAct::Free(component) => free(graph, handle_of(components, component)),
+        TextAct::State(component) => state(graph, handle_of(components, component)),
+        TextAct::Port(at) => port(graph, handle_of(components, &at.component), at.index),
         TextAct::SetPort { .. }
         | TextAct::SetSupplier { .. }
         | TextAct::SetPriority { .. }
         | TextAct::Gain { .. }
-        | TextAct::Weight { .. } => Ok(set(graph, components, act)),
-        TextAct::Tunnel { .. } | TextAct::DropTunnel { .. } => Ok(join(graph, components, act)),
+        | TextAct::Weight { .. } => set(graph, components, act),
+        TextAct::Tunnel { .. } | TextAct::DropTunnel { .. } => join(graph, components, act),
         TextAct::SendState { .. }
         | TextAct::SendFlush { .. }
         | TextAct::SendDisable { .. }
         | TextAct::SendEnable { .. }
-        | TextAct::SendMark { .. } => Ok(command(graph, components, act)),
-        TextAct::Run(component) => Ok(run(graph, components, handle_of(components, component))),
-        TextAct::Supply(at) => supply(graph, components, alloc, port_id(components, at)),
-        TextAct::Release(at) => Ok(release(graph, components, port_id(components, at))),
-        TextAct::Over(at) => Ok(over(graph, components, port_id(components, at))),
-        TextAct::Back(at) => Ok(back(graph, components, port_id(components, at))),
-        TextAct::Grant => Ok(grant(graph, components)),
-        TextAct::Preempt => Ok(preempt(graph, components)),
+        | TextAct::SendMark { .. } => command(graph, components, act),
+        TextAct::Run(component) => run(graph, components, handle_of(components, component)),
+        TextAct::Supply(at) => supply(graph, components, port_id(components, at)),
+        TextAct::Release(at) => release(graph, components, port_id(components, at)),
+        TextAct::Over(at) => over(graph, components, port_id(components, at)),
+        TextAct::Back(at) => back(graph, components, port_id(components, at)),
+        TextAct::Grant => grant(graph, components),
+        TextAct::Preempt => preempt(graph, components),
         TextAct::Claim(_) | TextAct::Finish(_) | TextAct::Take(_) | TextAct::End(_) => {
-            Ok(TextReply::NotOut)
+            TextReply::NotOut
         }
     }
 }

@@ -61,7 +61,6 @@ pub fn allocate(
     graph: &mut TraceGraph,
     components: &[NamedComponent],
     slots: &mut Vec<Slot>,
-    alloc: Global,
     name: &Name,
     port: &PortName,
 ) -> Result<TextReply, OutOfMemory>
@@ -70,13 +69,13 @@ pub fn allocate(
 {
     let port = port_id(components, port);
     slots.reserve(1)?;
-    match graph.allocate_buffer(alloc, port.handle, port.index) {
+    match graph.allocate_buffer(port.handle, port.index) {
         Ok(header) => {
             slots.push_reserved(new_slot(*name, port, header));
             Ok(TextReply::Done)
         }
         Err(CallError::Omx(error)) => Ok(TextReply::Error(error)),
-        Err(CallError::OutOfMemory) => Err(AllocError),
+        Err(CallError::OutOfMemory) => unreachable!(),
     }
 }
 

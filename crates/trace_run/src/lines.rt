@@ -57,7 +57,6 @@ fn answer(desk: &mut Desk, alloc: Global, form: &TraceForm) -> Result<LineAnswer
             desk.components.as_slice(),
             &mut desk.slots,
             &mut desk.works,
-            alloc,
             act,
         ),
         TraceForm::Get { component, kind } => Ok(LineAnswer::Plain(get(
@@ -83,7 +82,6 @@ fn act_answer(
     components: &[NamedComponent],
     slots: &mut Vec<Slot>,
     works: &mut Vec<TraceWork>,
-    alloc: Global,
     act: &TextAct,
 ) -> Result<LineAnswer, OutOfMemory>
     requires { IsStoodAll (desk_of graph.old components.now slots.old.items works.old.items) }
@@ -101,7 +99,7 @@ fn act_answer(
             Ok(LineAnswer::Plain(reply))
         }
         TextAct::End(_) => Ok(LineAnswer::Plain(TextReply::NotOut)),
-        _ => Ok(LineAnswer::Plain(ask(graph, components, alloc, act)?)),
+        _ => Ok(LineAnswer::Plain(ask(graph, components, act))),
     }
 }
 
@@ -120,7 +118,7 @@ fn header_answer(
 {
     match form {
         TraceForm::Alloc { header, port } => {
-            let reply = allocate(graph, components, slots, alloc, header, port)?;
+            let reply = allocate(graph, components, slots, header, port)?;
             Ok(LineAnswer::Plain(reply))
         }
         TraceForm::UseBuf {

@@ -12,7 +12,7 @@ use Rattle.il_machine.specs.World.{Component, World, place_of, port_of}
 use Rattle.il_machine.specs.Flow.{OnPort}
 use Rattle.il_machine.specs.Look.{Look, look}
 use Rattle.il_machine.specs.Due.{ClosesTo}
-use Rattle.il_machine.specs.Answers.{Resolving, Answers, AnswersOrMemory, Acts, ActsOrMemory}
+use Rattle.il_machine.specs.Answers.{Resolving, Answers, AnswersAs, AnswersOrMemory, Acts}
 use Rattle.il_machine.specs.Buffers.{AtState}
 use Rattle.il_machine.specs.Whole.{Kept}
 use Rattle.whole_laws.specs.Bare.{StepsBare}
@@ -47,6 +47,14 @@ module _ {T : Type 0} where
       → StepsBare k k' (λ w v. Y w v x) → StepsBare k k' (λ w v. Answers (refusal (look w)) (Ok x) w v (Y w v))
   accepted k k' refusal x Y e s = λ w S. let y = s w S in (y.0, y.1, rw (ap refusal S.looks ∙ e) y.2)
 
+  pub refused_as : {E : Type 0} (refuse : OmxError → E) (k : Kept) (refusal : Look → Option OmxError) (error : OmxError) (Y : World → World → T → Type 0) → refusal k.looks ≡ Some error
+      → StepsBare k k (λ w v. AnswersAs refuse (refusal (look w)) (Err (refuse error)) w v (Y w v))
+  refused_as refuse k refusal error Y e = λ w S. (w, S, rw (ap refusal S.looks ∙ e) (refl, refl))
+
+  pub accepted_as : {E : Type 0} (refuse : OmxError → E) (k k' : Kept) (refusal : Look → Option OmxError) (x : T) (Y : World → World → T → Type 0) → refusal k.looks ≡ None
+      → StepsBare k k' (λ w v. Y w v x) → StepsBare k k' (λ w v. AnswersAs refuse (refusal (look w)) (Ok x) w v (Y w v))
+  accepted_as refuse k k' refusal x Y e s = λ w S. let y = s w S in (y.0, y.1, rw (ap refusal S.looks ∙ e) y.2)
+
   pub refused_or_memory : (k : Kept) (refusal : Look → Option OmxError) (error : OmxError) (Y : World → World → T → Type 0) → refusal k.looks ≡ Some error
       → StepsBare k k (λ w v. AnswersOrMemory (refusal (look w)) (Err (Omx error)) w v (Y w v))
   refused_or_memory k refusal error Y e = λ w S. (w, S, rw (ap refusal S.looks ∙ e) (refl, refl))
@@ -61,25 +69,21 @@ module _ {T : Type 0} where
 
 -- ---- acts
 
+pub idle_as : (E : Type 0) (k : Kept) (reason : Look → Option Why) (why : Why) (after : World → World) → reason k.looks ≡ Some why
+    → StepsBare k k (λ w v. Acts {E = E} (reason (look w)) (Ok (acted.Idle why)) w (after w) v)
+idle_as E k reason why after e = λ w S. (w, S, rw (ap reason S.looks ∙ e) (refl, refl))
+
+pub did_as : (E : Type 0) (k k' : Kept) (reason : Look → Option Why) (after : World → World) → reason k.looks ≡ None
+    → StepsBare k k' (λ w v. ClosesTo (after w) v) → StepsBare k k' (λ w v. Acts {E = E} (reason (look w)) (Ok acted.Did) w (after w) v)
+did_as E k k' reason after e s = λ w S. let y = s w S in (y.0, y.1, rw (ap reason S.looks ∙ e) (refl, y.2))
+
 pub idle : (k : Kept) (reason : Look → Option Why) (why : Why) (after : World → World) → reason k.looks ≡ Some why
-    → StepsBare k k (λ w v. Acts (reason (look w)) (Ok (acted.Idle why)) w (after w) v)
-idle k reason why after e = λ w S. (w, S, rw (ap reason S.looks ∙ e) (refl, refl))
+    → StepsBare k k (λ w v. Acts {E = OmxError} (reason (look w)) (Ok (acted.Idle why)) w (after w) v)
+idle k reason why after e = idle_as OmxError k reason why after e
 
 pub did : (k k' : Kept) (reason : Look → Option Why) (after : World → World) → reason k.looks ≡ None
-    → StepsBare k k' (λ w v. ClosesTo (after w) v) → StepsBare k k' (λ w v. Acts (reason (look w)) (Ok acted.Did) w (after w) v)
-did k k' reason after e s = λ w S. let y = s w S in (y.0, y.1, rw (ap reason S.looks ∙ e) (refl, y.2))
-
-pub idle_or_memory : (k : Kept) (reason : Look → Option Why) (why : Why) (after : World → World) → reason k.looks ≡ Some why
-    → StepsBare k k (λ w v. ActsOrMemory (reason (look w)) (Ok (acted.Idle why)) w (after w) v)
-idle_or_memory k reason why after e = λ w S. (w, S, rw (ap reason S.looks ∙ e) (refl, refl))
-
-pub act_wants_memory : (k : Kept) (reason : Look → Option Why) (after : World → World) → reason k.looks ≡ None
-    → StepsBare k k (λ w v. ActsOrMemory (reason (look w)) (Err OutOfMemory) w (after w) v)
-act_wants_memory k reason after e = λ w S. (w, S, rw (ap reason S.looks ∙ e) (refl, refl))
-
-pub did_or_memory : (k k' : Kept) (reason : Look → Option Why) (after : World → World) → reason k.looks ≡ None
-    → StepsBare k k' (λ w v. ClosesTo (after w) v) → StepsBare k k' (λ w v. ActsOrMemory (reason (look w)) (Ok acted.Did) w (after w) v)
-did_or_memory k k' reason after e s = λ w S. let y = s w S in (y.0, y.1, rw (ap reason S.looks ∙ e) (refl, y.2))
+    → StepsBare k k' (λ w v. ClosesTo (after w) v) → StepsBare k k' (λ w v. Acts {E = OmxError} (reason (look w)) (Ok acted.Did) w (after w) v)
+did k k' reason after e s = did_as OmxError k k' reason after e s
 
 -- ---- the change of an act, and then the close-out
 

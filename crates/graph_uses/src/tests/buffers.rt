@@ -6,7 +6,7 @@ ghost use Rattle.header_core.specs.BufferHeader.{BufferHeader};
 ghost use Rattle.graph_core.specs.Changes.{IsHandedIn};
 ghost use Rattle.il_graph.specs.HandedIn.{StayHandedIn, IsHandedOut, KeepsOthersHandedIn};
 
-use super::{Plain, key, made, noted, order, reach, told};
+use super::{Plain, ended, key, made, noted, order, reach, told};
 use header_core::Header;
 use il_machine::Acted;
 use note_queues::{Call, Taken, Took};
@@ -30,10 +30,7 @@ pub fn emptied(rt: &impl Abort, graph: &mut Plain, h: Handle, header: Header)
 {
     match graph.empty_this_buffer(h, 0, header) {
         Ok(()) => {}
-        Err((_, header)) => {
-            header.dispose();
-            panic!(rt; "not taken in")
-        }
+        Err((_, _header)) => panic!(rt; "not taken in"),
     }
 }
 
@@ -163,10 +160,7 @@ fn freed_own(rt: &impl Abort, graph: &mut Plain, h: Handle, header: Header, byte
     match graph.free_buffer(h, 0, header) {
         Ok(Some(bytes)) => assert_eq!(rt; bytes.as_slice(), [byte; 8].as_slice()),
         Ok(None) => panic!(rt; "no memory"),
-        Err((_, header)) => {
-            header.dispose();
-            panic!(rt; "not freed")
-        }
+        Err((_, _header)) => panic!(rt; "not freed"),
     }
 }
 
@@ -188,6 +182,6 @@ fn own_memory_back(rt: HostRuntime) -> Result<(), Fail> {
     let y = came_back(&rt, &mut graph, h);
     freed_own(&rt, &mut graph, h, x, 1);
     freed_own(&rt, &mut graph, h, y, 2);
-    graph.dispose();
+    ended(&rt, graph);
     Ok(())
 }

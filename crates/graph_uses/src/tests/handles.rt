@@ -1,7 +1,7 @@
 //! A handle that was freed, whose slot is used again, is refused by every call, and what was moved in comes back.
 
 use super::buffers::{unemptied, unfilled, unfreed};
-use super::{Plain, allocated, freed, is_busy, key, made, order, spent};
+use super::{Plain, allocated, ended, freed, is_busy, key, let_go, made, order};
 use omx_types::{CallError, Command, Handle, OmxError, Param, PortId, PortSel, State};
 use std::alloc::Global;
 use std::process::Abort;
@@ -37,7 +37,7 @@ fn commands_refused(rt: &impl Abort, graph: &mut Plain, a: Handle) {
     let sent = graph.send_command(a, Command::Flush(PortSel::All));
     assert_eq!(rt; sent, Err(STALE));
     assert_eq!(rt; graph.run_command(a), Err(STALE));
-    assert_eq!(rt; is_busy(graph, a), Err(STALE));
+    assert_eq!(rt; is_busy(rt, graph, a), Err(STALE));
 }
 
 #[test]
@@ -48,7 +48,7 @@ fn stale_in_calls_of_components(rt: HostRuntime) -> Result<(), Fail> {
     settings_refused(&rt, &mut graph, a);
     commands_refused(&rt, &mut graph, a);
     assert_eq!(rt; graph.get_state(b), Ok(State::Loaded));
-    graph.dispose();
+    ended(&rt, graph);
     Ok(())
 }
 
@@ -59,8 +59,8 @@ fn tunnels_refused(rt: &impl Abort, graph: &mut Plain, gone: PortId, here: PortI
     assert_eq!(rt; graph.drop_tunnel(here, gone), Err(STALE));
 }
 
-fn passing_refused(rt: &impl Abort, alloc: Global, graph: &mut Plain, a: Handle) {
-    assert_eq!(rt; graph.supply(alloc, a, 0), Err(CallError::Omx(STALE)));
+fn passing_refused(rt: &impl Abort, graph: &mut Plain, a: Handle) {
+    assert_eq!(rt; graph.supply(a, 0), Err(CallError::Omx(STALE)));
     assert_eq!(rt; graph.release(a, 0), Err(STALE));
     assert_eq!(rt; graph.hand_over(a, 0), Err(STALE));
     assert_eq!(rt; graph.hand_back(a, 0), Err(STALE));
@@ -79,25 +79,19 @@ fn stale_in_calls_of_tunnels(rt: HostRuntime) -> Result<(), Fail> {
         index: 1,
     };
     tunnels_refused(&rt, &mut graph, gone, here);
-    passing_refused(&rt, rt.alloc(), &mut graph, a);
-    graph.dispose();
+    passing_refused(&rt, &mut graph, a);
+    ended(&rt, graph);
     Ok(())
 }
 
 /// No header is made for the component of the handle, and the memory comes back.
-fn headers_refused(rt: &impl Abort, alloc: Global, graph: &mut Plain, a: Handle, own: Vec<u8>) {
-    match graph.allocate_buffer(alloc, a, 0) {
-        Ok(header) => {
-            header.dispose();
-            panic!(rt; "a header is made")
-        }
+fn headers_refused(rt: &impl Abort, graph: &mut Plain, a: Handle, own: Vec<u8>) {
+    match graph.allocate_buffer(a, 0) {
+        Ok(_header) => panic!(rt; "a header is made"),
         Err(error) => assert_eq!(rt; error, CallError::Omx(STALE)),
     }
     match graph.use_buffer(a, 0, own) {
-        Ok(header) => {
-            header.dispose();
-            panic!(rt; "a header is made")
-        }
+        Ok(_header) => panic!(rt; "a header is made"),
         Err((error, own)) => {
             assert_eq!(rt; error, STALE);
             assert_eq!(rt; own.len(), 4096);
@@ -110,14 +104,15 @@ fn stale_in_calls_of_headers(rt: HostRuntime) -> Result<(), Fail> {
     let own = vec![in rt.alloc(); 7; 4096]?;
     let mut graph = Plain::new(rt.alloc(), 8)?;
     let (a, b) = stale(&rt, rt.alloc(), &mut graph);
-    headers_refused(&rt, rt.alloc(), &mut graph, a, own);
+    headers_refused(&rt, &mut graph, a, own);
     order(&rt, &mut graph, b, Command::StateSet(State::Idle));
-    let x = allocated(&rt, rt.alloc(), &mut graph, b, 0);
+    let x = allocated(&rt, &mut graph, b, 0);
     let id = x.id();
     let x = unfreed(&rt, &mut graph, a, x, STALE);
     let x = unemptied(&rt, &mut graph, a, x, STALE);
     let x = unfilled(&rt, &mut graph, a, x, STALE);
-    assert_eq!(rt; spent(x), id);
-    graph.dispose();
+    assert_eq!(rt; x.id(), id);
+    let_go(&rt, &mut graph, b, 0, x);
+    ended(&rt, graph);
     Ok(())
 }

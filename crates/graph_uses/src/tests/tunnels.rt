@@ -1,6 +1,6 @@
 //! The header of a tunnel is made and unmade by the end that supplies it.
 
-use super::{Plain, key, made, noted, order, reach, told};
+use super::{Plain, ended, key, made, noted, order, reach, told};
 use il_machine::{Acted, Why};
 use omx_types::{
     Command, Completion, Format, Handle, Param, PortDefinition, PortId, State, Supplier,
@@ -45,12 +45,9 @@ fn joined(rt: &impl Abort, alloc: Global, graph: &mut Plain) -> (Handle, Handle)
 fn supplied(rt: &impl Abort, alloc: Global, graph: &mut Plain) -> (Handle, Handle) {
     let (a, b) = joined(rt, alloc, graph);
     let full = Why::NotAccepting(first_port(b));
-    assert_eq!(rt;
-        graph.supply(alloc, a, 0),
-        Ok(Acted::Idle(Why::NotSupplier))
-    );
-    assert_eq!(rt; graph.supply(alloc, b, 0), Ok(Acted::Did));
-    assert_eq!(rt; graph.supply(alloc, b, 0), Ok(Acted::Idle(full)));
+    assert_eq!(rt; graph.supply(a, 0), Ok(Acted::Idle(Why::NotSupplier)));
+    assert_eq!(rt; graph.supply(b, 0), Ok(Acted::Did));
+    assert_eq!(rt; graph.supply(b, 0), Ok(Acted::Idle(full)));
     assert_eq!(rt; noted(rt, graph, a), told(Completion::State(State::Idle)));
     assert_eq!(rt; noted(rt, graph, b), told(Completion::State(State::Idle)));
     (a, b)
@@ -73,6 +70,6 @@ fn released_on_the_way_to_loaded(rt: HostRuntime) -> Result<(), Fail> {
     reach(&rt, &mut graph, a, State::Loaded);
     let parted = graph.drop_tunnel(first_port(a), first_port(b));
     assert_eq!(rt; parted, Ok(()));
-    graph.dispose();
+    ended(&rt, graph);
     Ok(())
 }

@@ -1,6 +1,6 @@
 //! Units that are waited for, granted and lost.
 
-use super::{Plain, key, made, noted, order, reach, told};
+use super::{Plain, ended, key, made, noted, order, reach, told};
 use il_machine::{Granted, Preempted, Why};
 use omx_types::{Command, Completion, Event, Handle, Note, OmxError, Param, PortSel, State};
 use std::alloc::Global;
@@ -50,7 +50,7 @@ fn units_all_held(rt: HostRuntime) -> Result<(), Fail> {
     order(&rt, &mut graph, a, Command::StateSet(State::Idle));
     let fault = noted(&rt, &mut graph, a);
     assert_eq!(rt; fault, failed(OmxError::InsufficientResources));
-    graph.dispose();
+    ended(&rt, graph);
     Ok(())
 }
 
@@ -63,7 +63,7 @@ fn least_priority_number_first(rt: HostRuntime) -> Result<(), Fail> {
     let c = waiting(&rt, rt.alloc(), &mut graph, 7);
     assert_eq!(rt; graph.grant(), Granted::Granted(b));
     assert_eq!(rt; graph.grant(), Granted::Granted(c));
-    graph.dispose();
+    ended(&rt, graph);
     Ok(())
 }
 
@@ -84,7 +84,7 @@ fn greatest_priority_number_loses(rt: HostRuntime) -> Result<(), Fail> {
     assert_eq!(rt; graph.grant(), Granted::Granted(c));
     let acquired = noted(&rt, &mut graph, c);
     assert_eq!(rt; acquired, Some(Note::Told(Event::ResourcesAcquired)));
-    graph.dispose();
+    ended(&rt, graph);
     Ok(())
 }
 
@@ -102,7 +102,7 @@ fn loses_working(rt: &impl Abort, alloc: Global, state: State) -> Result<(), Fai
     assert_eq!(rt; noted(rt, &mut graph, a), None);
     assert_eq!(rt; graph.get_state(a), Ok(State::Loaded));
     assert_eq!(rt; graph.grant(), Granted::Granted(b));
-    graph.dispose();
+    ended(rt, graph);
     Ok(())
 }
 
@@ -131,6 +131,6 @@ fn loses_on_the_way(rt: HostRuntime) -> Result<(), Fail> {
     assert_eq!(rt; graph.preempt(), Preempted::Victim(b));
     assert_eq!(rt; graph.get_state(b), Ok(State::Loaded));
     assert_eq!(rt; graph.grant(), Granted::Granted(c));
-    graph.dispose();
+    ended(&rt, graph);
     Ok(())
 }

@@ -6,8 +6,8 @@ ghost use Rattle.il_graph.specs.Shown.{look_of};
 ghost use Rattle.graph_core.specs.Changes.{IsHandedIn};
 
 use super::buffers::{came_back, emptied};
-use super::works::claimed;
-use super::{Plain, allocated, key, made, noted, order, told};
+use super::works::lacked;
+use super::{Plain, allocated, ended, key, let_go, made, noted, order, told};
 use crate::work_once;
 use header_core::Header;
 use omx_types::{Command, Completion, Event, Format, Handle, Note, Param, PortDefinition, State};
@@ -49,10 +49,7 @@ fn filled(rt: &impl Abort, graph: &mut Plain, h: Handle, header: Header)
 {
     match graph.fill_this_buffer(h, 1, header) {
         Ok(()) => {}
-        Err((_, header)) => {
-            header.dispose();
-            panic!(rt; "not taken in")
-        }
+        Err((_, _header)) => panic!(rt; "not taken in"),
     }
 }
 
@@ -60,8 +57,8 @@ fn filled(rt: &impl Abort, graph: &mut Plain, h: Handle, header: Header)
 fn waiting(rt: &impl Abort, alloc: Global, graph: &mut Plain) -> Handle {
     let h = half(rt, alloc, graph);
     order(rt, graph, h, Command::StateSet(State::Idle));
-    let x = allocated(rt, alloc, graph, h, 0);
-    let y = allocated(rt, alloc, graph, h, 1);
+    let x = allocated(rt, graph, h, 0);
+    let y = allocated(rt, graph, h, 1);
     order(rt, graph, h, Command::StateSet(State::Executing));
     let mark = Command::MarkBuffer {
         port: 0,
@@ -91,14 +88,14 @@ fn gain_and_marks(rt: HostRuntime) -> Result<(), Fail> {
     assert_eq!(rt; marked, Some(Note::Told(Event::Mark(7))));
     let x = came_back(&rt, &mut graph, h);
     assert_eq!(rt; x.id(), 0);
-    x.dispose();
     let y = came_back(&rt, &mut graph, h);
     assert_eq!(rt; y.content(), [0, 0, 0xff, 0xff].as_slice());
     assert_eq!(rt; y.flags(), 1);
-    y.dispose();
     assert_eq!(rt; noted(&rt, &mut graph, h), None);
+    let_go(&rt, &mut graph, h, 0, x);
+    let_go(&rt, &mut graph, h, 1, y);
     assert_eq!(rt; work_once(&mut graph, h), Ok(None));
-    assert_eq!(rt; claimed(&mut graph, h), Err("ended"));
-    graph.dispose();
+    assert_eq!(rt; lacked(&rt, &mut graph, h), "ended");
+    ended(&rt, graph);
     Ok(())
 }

@@ -1,9 +1,12 @@
 //! Files come and go with their components, and works are claimed.
 
-use super::{Plain, allocated, key, made, noted, order, reach, told};
+ghost use Rattle.std.specs.Prelude.{◌≡◌};
+ghost use Rattle.il_graph.specs.Shown.{look_of};
+ghost use Rattle.graph_core.specs.Changes.{IsHandedIn};
+
+use super::{Plain, allocated, ended, key, let_go, made, noted, order, reach, told};
 use header_core::Header;
-use il_flow::Brought;
-use il_graph::{Claimed, Freed, Graph, NoFile, PartFile, Work};
+use il_graph::{Claimed, Freed, Graph, PartFile};
 use note_queues::ProgressClient;
 use omx_types::{Command, Completion, Format, Handle, OmxError, Param, PortDefinition, State};
 use outside_io::{MemorySink, MemorySource};
@@ -56,55 +59,38 @@ fn file_comes_back(rt: HostRuntime) -> Result<(), Fail> {
         ) => assert_eq!(rt; (format, frames), (MONO, 4)),
         Ok(_) | Err(_) => panic!(rt; "no file"),
     }
-    graph.dispose();
+    ended(&rt, graph);
     Ok(())
 }
 
-fn let_go(header: Option<Header>) {
-    if let Some(header) = header {
-        header.dispose();
+/// Why the component has no work.
+pub fn lacked(rt: &impl Abort, graph: &mut Plain, h: Handle) -> &'static str
+    ensures { graph.new ≡ graph.old }
+{
+    match graph.claim(h) {
+        Ok(Claimed::Work(_work)) => panic!(rt; "a work"),
+        Ok(Claimed::Busy) => "busy",
+        Ok(Claimed::NotRunning) => "not running",
+        Ok(Claimed::Ended) => "ended",
+        Ok(Claimed::Held(_)) => "held",
+        Ok(Claimed::NoData(_)) => "no data",
+        Ok(Claimed::NoRoom(_)) => "no room",
+        Ok(Claimed::Events { room: _, need: _ }) => "events",
+        Err(_) => "no component",
     }
 }
 
-/// The frames of a work that is run and let go, and whether it brings headers.
-fn spent(work: Work<NoFile, NoFile>) -> (u32, bool) {
-    let done = work.run();
-    let frames = done.frames();
-    let (_part, brought) = done.into_parts();
-    let Some(brought) = brought else {
-        return (frames, false);
-    };
-    let Brought {
-        headers: [a, b, c, d, e, f, g, h, i],
-        frames: _,
-        fault: _,
-    } = brought;
-    let_go(a);
-    let_go(b);
-    let_go(c);
-    let_go(d);
-    let_go(e);
-    let_go(f);
-    let_go(g);
-    let_go(h);
-    let_go(i);
-    (frames, true)
-}
-
-/// What a claim answers.
-pub fn claimed(graph: &mut Plain, h: Handle) -> Result<(u32, bool), &'static str> {
+/// The component's work is without headers and frames, and there is no other while it is out.
+fn announced(rt: &impl Abort, graph: &mut Plain, h: Handle) {
+    graph.law_of_worlds();
     let work = match graph.claim(h) {
         Ok(Claimed::Work(work)) => work,
-        Ok(Claimed::Busy) => return Err("busy"),
-        Ok(Claimed::NotRunning) => return Err("not running"),
-        Ok(Claimed::Ended) => return Err("ended"),
-        Ok(Claimed::Held(_)) => return Err("held"),
-        Ok(Claimed::NoData(_)) => return Err("no data"),
-        Ok(Claimed::NoRoom(_)) => return Err("no room"),
-        Ok(Claimed::Events { room: _, need: _ }) => return Err("events"),
-        Err(_) => return Err("no component"),
+        Ok(_) | Err(_) => panic!(rt; "no work"),
     };
-    Ok(spent(work))
+    assert_eq!(rt; lacked(rt, graph, h), "busy");
+    let done = work.run();
+    assert_eq!(rt; done.frames(), 0);
+    graph.finish(done);
 }
 
 fn port(input: bool, format: Format) -> Param {
@@ -116,52 +102,52 @@ fn port(input: bool, format: Format) -> Param {
     })
 }
 
-/// A source that is Executing, with one header that the client keeps.
+/// A source that is Executing, with the header of its port.
+struct Running {
+    h: Handle,
+    header: Header,
+}
+
 fn executing(
     rt: &impl Abort,
     alloc: Global,
     graph: &mut Plain,
     name: &str,
     format: Format,
-) -> Handle {
-    let source = made(rt, alloc, graph, name);
+) -> Running
+    ensures { IsHandedIn result.header (look_of graph.new) }
+{
+    let h = made(rt, alloc, graph, name);
     assert_eq!(rt;
-        graph.set_parameter(source, key(1, 0), port(false, format)),
+        graph.set_parameter(h, key(1, 0), port(false, format)),
         Ok(())
     );
-    order(rt, graph, source, Command::StateSet(State::Idle));
-    let header = allocated(rt, alloc, graph, source, 0);
-    header.dispose();
-    assert_eq!(rt;
-        noted(rt, graph, source),
-        told(Completion::State(State::Idle))
-    );
-    assert_eq!(rt; claimed(graph, source), Err("not running"));
-    reach(rt, graph, source, State::Executing);
-    source
+    order(rt, graph, h, Command::StateSet(State::Idle));
+    let header = allocated(rt, graph, h, 0);
+    assert_eq!(rt; noted(rt, graph, h), told(Completion::State(State::Idle)));
+    assert_eq!(rt; lacked(rt, graph, h), "not running");
+    reach(rt, graph, h, State::Executing);
+    Running { h, header }
 }
 
 #[test]
 fn late_source_announces(rt: HostRuntime) -> Result<(), Fail> {
     let mut graph = Plain::new(rt.alloc(), 8)?;
-    let late = executing(
-        &rt,
-        rt.alloc(),
-        &mut graph,
-        "OMX.lab.source.late",
-        Format::Auto,
-    );
-    assert_eq!(rt; claimed(&mut graph, late), Ok((0, false)));
-    assert_eq!(rt; claimed(&mut graph, late), Err("busy"));
-    graph.dispose();
+    let name = "OMX.lab.source.late";
+    let Running { h, header } = executing(&rt, rt.alloc(), &mut graph, name, Format::Auto);
+    let_go(&rt, &mut graph, h, 0, header);
+    announced(&rt, &mut graph, h);
+    ended(&rt, graph);
     Ok(())
 }
 
 #[test]
 fn no_room_without_a_header(rt: HostRuntime) -> Result<(), Fail> {
     let mut graph = Plain::new(rt.alloc(), 8)?;
-    let source = executing(&rt, rt.alloc(), &mut graph, "OMX.lab.source.wav", MONO);
-    assert_eq!(rt; claimed(&mut graph, source), Err("no room"));
-    graph.dispose();
+    let name = "OMX.lab.source.wav";
+    let Running { h, header } = executing(&rt, rt.alloc(), &mut graph, name, MONO);
+    assert_eq!(rt; lacked(&rt, &mut graph, h), "no room");
+    let_go(&rt, &mut graph, h, 0, header);
+    ended(&rt, graph);
     Ok(())
 }

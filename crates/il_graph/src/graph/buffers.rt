@@ -1,54 +1,42 @@
 //! Headers of client ports (OpenMAX IL 1.1.2, `OMX_AllocateBuffer`, `OMX_UseBuffer`, `OMX_FreeBuffer`, `OMX_EmptyThisBuffer`,
 //! `OMX_FillThisBuffer`).
 
-ghost use Rattle.std.specs.Prelude.{◌≡◌, OnOk, OnErr, IfOk, IfErr, false, length, option_map};
+ghost use Rattle.std.specs.Prelude.{◌≡◌, OnOk, OnErr, IfOk, IfErr, false, option_map};
 ghost use Rattle.il_machine.specs.Buffers.{AllocateBuffer, UseBuffer, FreeBuffer, EmptyThisBuffer, FillThisBuffer};
 ghost use Rattle.il_machine.specs.Whole.{Steps};
 ghost use Rattle.header_core.specs.declared.memory.Store.TheVariants.{Own};
-ghost use Rattle.header_core.specs.BufferHeader.{is_clients, own_memory};
+ghost use Rattle.header_core.specs.BufferHeader.{is_clients};
 ghost use Rattle.graph_core.specs.Entries.{look_of};
 ghost use Rattle.il_graph.specs.Shown.{kept, KeepsAllFiles};
 ghost use Rattle.graph_core.specs.Changes.{IsHandedIn};
 ghost use Rattle.graph_core.specs.Clients.{KeepsAllClients};
 ghost use Rattle.il_graph.specs.HandedIn.{StayHandedIn, KeepsOthersHandedIn, IsTakenIn, IsHandedOut};
-ghost use Rattle.il_graph.specs.Stood.{plainly, heldly, memory_back};
+ghost use Rattle.il_graph.specs.Stood.{plainly, heldly, memory_back, IsRefusal};
 
 use crate::graph::Graph;
-use header_core::{Header, Memory, Store};
+use header_core::{Header, Memory};
 use note_queues::Client;
 use omx_types::{CallError, Handle, OmxError};
 use outside_io::{Sink, Source};
-use std::alloc::{AllocError, Global};
 
-/// A block of so many bytes.
-pub fn block(alloc: Global, size: u32) -> Result<Vec<u8>, AllocError>
-    ensures { IfOk result (λ bytes. length bytes.items ≡ size) }
+/// The client's own memory goes back to it.
+fn given_back(memory: Option<Memory>) -> Option<Vec<u8>>
+    ensures { option_map (λ bytes. bytes.items) result ≡ memory }
 {
-    vec![in alloc; 0; size as usize]
-}
-
-/// The client's own memory goes back to it, and a block is let go.
-fn given_back(store: Store) -> Option<Vec<u8>>
-    ensures { option_map (λ bytes. bytes.items) result ≡ own_memory store }
-{
-    match store {
-        Store::Own(memory) => Some(memory.into_bytes()),
-        Store::Block(_memory) => None,
+    match memory {
+        Some(memory) => Some(memory.into_bytes()),
+        None => None,
     }
 }
 
 impl<S: Source, K: Sink, C: Client> Graph<S, K, C> {
     /// A header with a block of the graph's for a client port.
-    pub fn allocate_buffer(
-        &mut self,
-        alloc: Global,
-        h: Handle,
-        port: u32,
-    ) -> Result<Header, CallError>
+    pub fn allocate_buffer(&mut self, h: Handle, port: u32) -> Result<Header, CallError>
         ensures step { Steps (kept C.progress self.old) (kept C.progress self.new) (λ w v. AllocateBuffer w h port (heldly result) v) }
         ensures held { StayHandedIn (look_of self.old.core) (look_of self.new.core) }
         ensures handed { IfOk result (λ header. IsHandedOut (look_of self.old.core) (look_of self.new.core) header) }
         ensures memory { IfOk result (λ header. is_clients header.store ≡ false) }
+        ensures refusal { IfErr result IsRefusal }
         ensures unchanged { OnErr result (self.new ≡ self.old) }
         ensures clients { KeepsAllClients self.old.core self.new.core }
         ensures files { KeepsAllFiles self.old self.new }
@@ -60,13 +48,7 @@ impl<S: Source, K: Sink, C: Client> Graph<S, K, C> {
         if let Some(error) = self.core.allocate_refusal(place, port) {
             return Err(CallError::Omx(error));
         }
-        let size = self.core.port_size(place, port);
-        let Ok(bytes) = block(alloc, size) else {
-            return Err(CallError::OutOfMemory);
-        };
-        let header = self
-            .core
-            .make_header(place, port, Store::Block(Memory::new(bytes)));
+        let header = self.core.make_header(place, port, None);
         self.core.close_out();
         Ok(header)
     }
@@ -94,9 +76,7 @@ impl<S: Source, K: Sink, C: Client> Graph<S, K, C> {
         if let Some(error) = self.core.use_refusal(place, port, bytes.len()) {
             return Err((error, bytes));
         }
-        let header = self
-            .core
-            .make_header(place, port, Store::Own(Memory::new(bytes)));
+        let header = self.core.make_header(place, port, Some(Memory::new(bytes)));
         self.core.close_out();
         Ok(header)
     }
@@ -125,9 +105,9 @@ impl<S: Source, K: Sink, C: Client> Graph<S, K, C> {
         if let Some(error) = self.core.free_buffer_refusal(place, port, header.id()) {
             return Err((error, header));
         }
-        let store = self.core.unmake_header(place, port, header);
+        let memory = self.core.unmake_header(place, port, header);
         self.core.close_out();
-        Ok(given_back(store))
+        Ok(given_back(memory))
     }
 
     /// The header goes to the back of the input port's todo. Its content is of whole frames of the port's format, else it is refused.

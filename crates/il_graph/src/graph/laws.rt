@@ -8,16 +8,18 @@ ghost use Rattle.il_machine.specs.Census.{Census, HasRoom};
 ghost use Rattle.il_machine.specs.Due.{IsClosed};
 ghost use Rattle.machine_laws.specs.Laws.{NothingDue};
 ghost use Rattle.graph_core.specs.Entries.{client_named, look_of};
-ghost use Rattle.il_graph.specs.Shown.{kept, SoundWhole};
+ghost use Rattle.il_graph.specs.Runs.{AreReturnedWhereSettled, HasLegalTrails, WereAllDue};
+ghost use Rattle.il_graph.specs.Shown.{kept, HaveTheirFiles, SoundWhole};
 ghost use Rattle.graph_core.specs.Clients.{AreTold, IsOut};
 
 use crate::graph::Graph;
+use history_laws::{law_of_queues, law_of_settled, law_of_trails};
 use note_queues::Client;
 use outside_io::{Sink, Source};
 
 impl<S: Source, K: Sink, C: Client> Graph<S, K, C> {
     /// There is a world that the graph stands for. Each is sound, has its census and its room, and has nothing due; and each client object that is
-    /// in has the progress of all events that were given for its component.
+    /// in has the progress of all events that were given for its component. A component whose work isn't out has its file object.
     pub fn law_of_worlds(&self)
         ensures one { SoundWhole (kept C.progress self.now) }
         ensures sound { Always (kept C.progress self.now) Sound }
@@ -26,8 +28,21 @@ impl<S: Source, K: Sink, C: Client> Graph<S, K, C> {
         ensures closed { Always (kept C.progress self.now) IsClosed }
         ensures rests { Always (kept C.progress self.now) NothingDue }
         ensures told { Always (kept C.progress self.now) (AreTold C.progress self.now.core) }
+        ensures files { HaveTheirFiles self.now }
         ensures out { (h : Handle) → client_named h self.now.core ≡ Some None → IsOut h (look_of self.now.core) }
     {
         self.core.law_of_worlds();
+    }
+
+    /// What the machine's laws say of each run from the world without components to a world that the graph stands for, whatever
+    /// calls it was made of. The graph stays as it is.
+    pub fn law_of_runs(&self)
+        ensures trails { Always (kept C.progress self.now) HasLegalTrails }
+        ensures due { Always (kept C.progress self.now) WereAllDue }
+        ensures returned { Always (kept C.progress self.now) AreReturnedWhereSettled }
+    {
+        law_of_trails();
+        law_of_queues();
+        law_of_settled();
     }
 }

@@ -1,27 +1,25 @@
 //! The end that supplies a tunnel makes and unmakes its headers.
 
-ghost use Rattle.std.specs.Prelude.{◌≡◌, OnErr};
+ghost use Rattle.std.specs.Prelude.{◌≡◌, OnErr, IfErr};
 ghost use Rattle.il_machine.specs.Flow.{Supply, Release};
 ghost use Rattle.il_machine.specs.Whole.{Steps};
 ghost use Rattle.graph_core.specs.Entries.{look_of};
 ghost use Rattle.il_graph.specs.Shown.{kept, KeepsAllFiles};
 ghost use Rattle.graph_core.specs.Clients.{KeepsAllClients};
 ghost use Rattle.il_graph.specs.HandedIn.{KeepsHandedIn};
-ghost use Rattle.il_graph.specs.Stood.{OnIdle};
+ghost use Rattle.il_graph.specs.Stood.{IsRefusal, OnIdle};
 
 use crate::graph::Graph;
-use crate::graph::buffers::block;
-use header_core::Memory;
 use il_machine::Acted;
 use note_queues::Client;
 use omx_types::{CallError, Handle, OmxError};
 use outside_io::{Sink, Source};
-use std::alloc::Global;
 
 impl<S: Source, K: Sink, C: Client> Graph<S, K, C> {
     /// The port makes a header for both ends of its tunnel, with a block of the graph's.
-    pub fn supply(&mut self, alloc: Global, h: Handle, port: u32) -> Result<Acted, CallError>
+    pub fn supply(&mut self, h: Handle, port: u32) -> Result<Acted, CallError>
         ensures step { Steps (kept C.progress self.old) (kept C.progress self.new) (λ w v. Supply w h port result v) }
+        ensures refusal { IfErr result IsRefusal }
         ensures held { KeepsHandedIn (look_of self.old.core) (look_of self.new.core) }
         ensures clients { KeepsAllClients self.old.core self.new.core }
         ensures files { KeepsAllFiles self.old self.new }
@@ -38,11 +36,7 @@ impl<S: Source, K: Sink, C: Client> Graph<S, K, C> {
         if let Some(reason) = self.core.supply_idle(place, port) {
             return Ok(Acted::Idle(reason));
         }
-        let size = self.core.port_size(place, port);
-        let Ok(bytes) = block(alloc, size) else {
-            return Err(CallError::OutOfMemory);
-        };
-        self.core.supply_header(place, port, Memory::new(bytes));
+        self.core.supply_header(place, port);
         self.core.close_out();
         Ok(Acted::Did)
     }

@@ -1,32 +1,23 @@
 //! The acts of a component on one of its ports.
 
-ghost use Rattle.std.specs.Prelude.{◌≡◌, IfOk, OnErr};
 ghost use Rattle.il_machine.specs.Acts as acts;
 ghost use Rattle.il_machine.specs.Whole.{Steps};
 ghost use Rattle.trace_run.specs.Standing.{graph_kept, Replied, IsNamedGraph};
 
-use crate::OutOfMemory;
 use crate::acts::replies::{acted_reply, answer_reply};
 use crate::client::TraceGraph;
 use crate::names::NamedComponent;
 use act_text::TextReply;
 use omx_types::{CallError, PortId};
-use std::alloc::{AllocError, Global};
 
-pub fn supply(
-    graph: &mut TraceGraph,
-    components: &[NamedComponent],
-    alloc: Global,
-    at: PortId,
-) -> Result<TextReply, OutOfMemory>
+pub fn supply(graph: &mut TraceGraph, components: &[NamedComponent], at: PortId) -> TextReply
     requires { IsNamedGraph (graph_kept graph.old) components.now }
-    ensures replied { IfOk result (λ reply. Steps (graph_kept graph.old) (graph_kept graph.new) (λ w v. Replied components.now (acts.Supply at.handle at.index) reply w v)) }
-    ensures unchanged { OnErr result (graph_kept graph.new ≡ graph_kept graph.old) }
+    ensures { Steps (graph_kept graph.old) (graph_kept graph.new) (λ w v. Replied components.now (acts.Supply at.handle at.index) result w v) }
 {
-    match graph.supply(alloc, at.handle, at.index) {
-        Ok(acted) => Ok(acted_reply(components, acted)),
-        Err(CallError::Omx(error)) => Ok(TextReply::Error(error)),
-        Err(CallError::OutOfMemory) => Err(AllocError),
+    match graph.supply(at.handle, at.index) {
+        Ok(acted) => acted_reply(components, acted),
+        Err(CallError::Omx(error)) => TextReply::Error(error),
+        Err(CallError::OutOfMemory) => unreachable!(),
     }
 }
 

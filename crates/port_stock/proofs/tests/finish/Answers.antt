@@ -8,4 +8,4 @@ pub remove_ports-requires : goal.remove_ports-requires
 remove_ports-requires c = λ key p e.
     let s = stocked c.args.stock in
     let now : (withdrawn 0 s).headers.count (is_for key) ≡ 0 = omega (arith, c.requires.left.counted (is_for key)) in
-    rw (c.withdraw-store.ensures.stock, c.requires.number) now
+    rw (c.withdraw-memory.ensures.stock, c.requires.number) now

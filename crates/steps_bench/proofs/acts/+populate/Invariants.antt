@@ -1,4 +1,4 @@
 use Rattle.steps_bench.proofs.acts.+populate.Given as goal
 
 abbrev pub decreases-populate : goal.decreases-populate
-decreases-populate l = l.count
+decreases-populate g l = l.count

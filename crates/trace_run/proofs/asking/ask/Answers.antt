@@ -4,51 +4,51 @@ use Rattle.il_machine.specs.Acts as acts
 use Rattle.il_machine.specs.Whole.{Steps}
 use Rattle.trace_run.specs.Naming.{NamedHeader, handle_in, port_in}
 use Rattle.trace_run.specs.Standing.{graph_kept, AskReplied}
-use Rattle.trace_run.proofs.Replying.{at_name, as_asked, ok_then}
+use Rattle.trace_run.proofs.Replying.{at_name, as_asked}
 use Rattle.trace_run.proofs.asking.ask.Goals as goal
 
-pub returns-in-Free-clause-replied : goal.returns-in-Free-clause-replied
-returns-in-Free-clause-replied c headers = as_asked c.args.components.now headers c.free.result (graph_kept c.args.graph.now) (graph_kept c.free.new.graph) c.args.act.now _ c.in-Free.is
+pub returns-in-Free : goal.returns-in-Free
+returns-in-Free c headers = as_asked c.args.components.now headers c.free.result (graph_kept c.args.graph.now) (graph_kept c.free.new.graph) c.args.act.now _ c.in-Free.is
     (at_name c.args.components.now (λ w x. acts.FreeHandle x) c.free.result (graph_kept c.args.graph.now) (graph_kept c.free.new.graph) c.handle_of.result (handle_in c.args.components.now c.in-Free.component) c.handle_of.ensures
     (c.free.ensures c.args.components.now))
 
-pub returns-in-State-clause-replied : goal.returns-in-State-clause-replied
-returns-in-State-clause-replied c headers = as_asked c.args.components.now headers c.state.result (graph_kept c.args.graph.now) (graph_kept c.args.graph.now) c.args.act.now _ c.in-State.is
+pub returns-in-State : goal.returns-in-State
+returns-in-State c headers = as_asked c.args.components.now headers c.state.result (graph_kept c.args.graph.now) (graph_kept c.args.graph.now) c.args.act.now _ c.in-State.is
     (at_name c.args.components.now (λ w x. acts.GetState x) c.state.result (graph_kept c.args.graph.now) (graph_kept c.args.graph.now) c.handle_of-in-State.result (handle_in c.args.components.now c.in-State.component) c.handle_of-in-State.ensures
     (c.state.ensures c.args.components.now))
 
-pub returns-in-Port-clause-replied : goal.returns-in-Port-clause-replied
-returns-in-Port-clause-replied c headers = as_asked c.args.components.now headers c.port.result (graph_kept c.args.graph.now) (graph_kept c.args.graph.now) c.args.act.now _ c.in-Port.is
+pub returns-in-Port : goal.returns-in-Port
+returns-in-Port c headers = as_asked c.args.components.now headers c.port.result (graph_kept c.args.graph.now) (graph_kept c.args.graph.now) c.args.act.now _ c.in-Port.is
     (at_name c.args.components.now (λ w x. acts.PortView x c.in-Port.at.index) c.port.result (graph_kept c.args.graph.now) (graph_kept c.args.graph.now) c.handle_of-in-Port.result (handle_in c.args.components.now c.in-Port.at.component) c.handle_of-in-Port.ensures
     (c.port.ensures c.args.components.now))
 
-pub returns-in-Run-clause-replied : goal.returns-in-Run-clause-replied
-returns-in-Run-clause-replied c headers = as_asked c.args.components.now headers c.run.result (graph_kept c.args.graph.now) (graph_kept c.run.new.graph) c.args.act.now _ c.in-Run.is
+pub returns-in-Run : goal.returns-in-Run
+returns-in-Run c headers = as_asked c.args.components.now headers c.run.result (graph_kept c.args.graph.now) (graph_kept c.run.new.graph) c.args.act.now _ c.in-Run.is
     (at_name c.args.components.now (λ w x. acts.RunCommand x) c.run.result (graph_kept c.args.graph.now) (graph_kept c.run.new.graph) c.handle_of-in-Run.result (handle_in c.args.components.now c.in-Run.component) c.handle_of-in-Run.ensures
     c.run.ensures)
 
-pub returns-in-Supply-clause-replied : goal.returns-in-Supply-clause-replied
-returns-in-Supply-clause-replied c = ok_then _ (λ reply. (headers : List NamedHeader) → Steps (graph_kept c.args.graph.now) (graph_kept c.supply.new.graph) (AskReplied c.args.components.now headers c.args.act.now reply)) c.supply.result c.supply.ensures.replied (λ reply said headers.
-    as_asked c.args.components.now headers reply (graph_kept c.args.graph.now) (graph_kept c.supply.new.graph) c.args.act.now _ c.in-Supply.is
-    (at_name c.args.components.now (λ w x. acts.Supply x.handle x.index) reply (graph_kept c.args.graph.now) (graph_kept c.supply.new.graph) c.port_id.result (port_in c.args.components.now c.in-Supply.at) c.port_id.ensures said))
+pub returns-in-Supply : goal.returns-in-Supply
+returns-in-Supply c headers = as_asked c.args.components.now headers c.supply.result (graph_kept c.args.graph.now) (graph_kept c.supply.new.graph) c.args.act.now _ c.in-Supply.is
+    (at_name c.args.components.now (λ w x. acts.Supply x.handle x.index) c.supply.result (graph_kept c.args.graph.now) (graph_kept c.supply.new.graph) c.port_id.result (port_in c.args.components.now c.in-Supply.at) c.port_id.ensures
+    c.supply.ensures)
 
-pub returns-in-Release-clause-replied : goal.returns-in-Release-clause-replied
-returns-in-Release-clause-replied c headers = as_asked c.args.components.now headers c.release.result (graph_kept c.args.graph.now) (graph_kept c.release.new.graph) c.args.act.now _ c.in-Release.is
+pub returns-in-Release : goal.returns-in-Release
+returns-in-Release c headers = as_asked c.args.components.now headers c.release.result (graph_kept c.args.graph.now) (graph_kept c.release.new.graph) c.args.act.now _ c.in-Release.is
     (at_name c.args.components.now (λ w x. acts.Release x.handle x.index) c.release.result (graph_kept c.args.graph.now) (graph_kept c.release.new.graph) c.port_id-in-Release.result (port_in c.args.components.now c.in-Release.at) c.port_id-in-Release.ensures
     c.release.ensures)
 
-pub returns-in-Over-clause-replied : goal.returns-in-Over-clause-replied
-returns-in-Over-clause-replied c headers = as_asked c.args.components.now headers c.over.result (graph_kept c.args.graph.now) (graph_kept c.over.new.graph) c.args.act.now _ c.in-Over.is
+pub returns-in-Over : goal.returns-in-Over
+returns-in-Over c headers = as_asked c.args.components.now headers c.over.result (graph_kept c.args.graph.now) (graph_kept c.over.new.graph) c.args.act.now _ c.in-Over.is
     (at_name c.args.components.now (λ w x. acts.HandOver x.handle x.index) c.over.result (graph_kept c.args.graph.now) (graph_kept c.over.new.graph) c.port_id-in-Over.result (port_in c.args.components.now c.in-Over.at) c.port_id-in-Over.ensures
     c.over.ensures)
 
-pub returns-in-Back-clause-replied : goal.returns-in-Back-clause-replied
-returns-in-Back-clause-replied c headers = as_asked c.args.components.now headers c.back.result (graph_kept c.args.graph.now) (graph_kept c.back.new.graph) c.args.act.now _ c.in-Back.is
+pub returns-in-Back : goal.returns-in-Back
+returns-in-Back c headers = as_asked c.args.components.now headers c.back.result (graph_kept c.args.graph.now) (graph_kept c.back.new.graph) c.args.act.now _ c.in-Back.is
     (at_name c.args.components.now (λ w x. acts.HandBack x.handle x.index) c.back.result (graph_kept c.args.graph.now) (graph_kept c.back.new.graph) c.port_id-in-Back.result (port_in c.args.components.now c.in-Back.at) c.port_id-in-Back.ensures
     c.back.ensures)
 
-pub returns-in-Grant-clause-replied : goal.returns-in-Grant-clause-replied
-returns-in-Grant-clause-replied c headers = as_asked c.args.components.now headers c.grant.result (graph_kept c.args.graph.now) (graph_kept c.grant.new.graph) c.args.act.now _ c.in-Grant.is c.grant.ensures
+pub returns-in-Grant : goal.returns-in-Grant
+returns-in-Grant c headers = as_asked c.args.components.now headers c.grant.result (graph_kept c.args.graph.now) (graph_kept c.grant.new.graph) c.args.act.now _ c.in-Grant.is c.grant.ensures
 
-pub returns-in-Preempt-clause-replied : goal.returns-in-Preempt-clause-replied
-returns-in-Preempt-clause-replied c headers = as_asked c.args.components.now headers c.preempt.result (graph_kept c.args.graph.now) (graph_kept c.preempt.new.graph) c.args.act.now _ c.in-Preempt.is c.preempt.ensures
+pub returns-in-Preempt : goal.returns-in-Preempt
+returns-in-Preempt c headers = as_asked c.args.components.now headers c.preempt.result (graph_kept c.args.graph.now) (graph_kept c.preempt.new.graph) c.args.act.now _ c.in-Preempt.is c.preempt.ensures

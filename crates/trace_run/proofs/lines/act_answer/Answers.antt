@@ -54,14 +54,14 @@ returns-in-End-clause-leads c =
     let desk = desk_of c.args.graph.now c.args.components.now c.args.slots.now.items c.args.works.now.items in
     subst (λ (a : TextAct). LeadsAllTo desk desk (forms.Act a) (answers.Plain texts.NotOut)) (sym c.in-End.is) (end_to desk c.in-End.field-0)
 
-pub returns-in_ok-ask-in_default-clause-leads : goal.returns-in_ok-ask-in_default-clause-leads
-returns-in_ok-ask-in_default-clause-leads c =
+pub returns-in_default-clause-leads : goal.returns-in_default-clause-leads
+returns-in_default-clause-leads c =
     let cs = c.args.components.now in
     let works = c.args.works.now.items in
     let act = c.args.act.now in
     let old = parts c.args.graph.now cs c.args.slots.now.items in
     let new = parts c.ask.new.graph cs c.args.slots.now.items in
-    let reply = c.in_ok-ask-in_default.field-0 in
+    let reply = c.ask.result in
     let d = c.in_default in
     still_to old new works (forms.Act act) (answers.Plain reply) (still_unless act d.not-Claim d.not-Finish) (keeps_named old new (forms.Act act) refl)
-    (Plain reply, refl, asked_leads old (graph_kept c.ask.new.graph) act reply (plain_unless act d.not-Take d.not-Claim d.not-Finish d.not-End) c.in_ok-ask-in_default.ensures.replied)
+    (Plain reply, refl, asked_leads old (graph_kept c.ask.new.graph) act reply (plain_unless act d.not-Take d.not-Claim d.not-Finish d.not-End) c.ask.ensures)

@@ -3,9 +3,9 @@ use Rattle.omx_types.specs.declared.fault.Fault.{Fault}
 use Rattle.omx_types.specs.declared.fault.Fault.TheVariants.{WriteFault}
 use Rattle.outside_io.specs.Causes.{Rose}
 use Rattle.script_lang.specs.declared.script.Script.TheVariants.{Trace}
-use Rattle.il_graph.specs.Shown.{file_of, look_of}
+use Rattle.il_graph.specs.Shown.{look_of}
 use Rattle.trace_run.specs.Traced.{beginning, IsStopped}
-use Rattle.trace_run.proofs.Freeing.{no_file, none_out}
+use Rattle.trace_run.proofs.Freeing.{all_in}
 use Rattle.trace_run.proofs.Written.{err_then, ok_so, got_trace, end_broken, lines_broken}
 use Rattle.trace_run.proofs.tracing.trace_lines.Goals as goal
 
@@ -37,8 +37,5 @@ returns-in-Err-clause-stopped g c =
     let after = g.O.Sink.faults c.write_lines-written.new.out in
     lines_broken (look_of c.in-Ok.desk.graph).key c.args.units c.args.lines.now old new before after c.in-Err.fault (c.in-Err.ensures.broken (beginning (look_of c.in-Ok.desk.graph).key c.args.units) c.in-Ok.ensures)
 
-pub close-requires-clause-clients : goal.close-requires-clause-clients
-close-requires-clause-clients g c h e = none_out h (look_of c.give_back-graph.result) c.give_back-graph.ensures.clients (c.law_of_worlds.ensures.out h e)
-
-pub close-requires-clause-files : goal.close-requires-clause-files
-close-requires-clause-files g c number = no_file (file_of number c.give_back-graph.result)
+pub close-requires : goal.close-requires
+close-requires g c = all_in c.give_back-graph.result c.give_back-graph.ensures c.law_of_worlds.ensures.files

@@ -8,7 +8,7 @@ use Rattle.graph_core.specs.Changes.{IsMakable}
 use Rattle.graph_core.specs.Entries.{Entries, look_of}
 use Rattle.graph_core.proofs.Replacing.{there, within}
 use Rattle.graph_core.proofs.Stepping.{graph_stocked, port_kept}
-use Rattle.graph_core.proofs.Handing.{few_made, least_size, most_size, made_returns, made_worlds}
+use Rattle.graph_core.proofs.Handing.{block_for, few_made, least_size, most_size, made_returns, made_worlds}
 use Rattle.graph_core.proofs.core_graph.Core.make_header.Goals as goal
 
 pub populate-requires-clause-port : goal.populate-requires-clause-port
@@ -33,8 +33,8 @@ populate-requires-clause-some g c =
     let b : c.args.place < length i.components.items = within g.C.Client.progress G c.args.place _ asked in
     let at : slice_get i.components.items c.args.place ≡ Some e = slice_get-get_or i.components.items c.args.place e b ∙ ap Some (sym c.index-component.ensures) in
     let here : port_of (component_of e) c.args.index ≡ Some p = sym c.port.ensures ∙ c.in-Some.is in
-    let M : IsMakable (look_of G) (component_of e) p c.args.store = rw (there g.C.Client.progress G c.args.place e at, here) at asked in
-    least_size g.C.Client.progress G c.args.place e c.args.index p c.self.invariant.worlds at here c.args.store M
+    let M : IsMakable (look_of G) (component_of e) p c.args.memory = rw (there g.C.Client.progress G c.args.place e at, here) at asked in
+    least_size g.C.Client.progress G c.args.place e c.args.index p c.self.invariant.worlds at here c.args.memory M
 
 pub populate-requires-clause-limit : goal.populate-requires-clause-limit
 populate-requires-clause-limit g c =
@@ -46,8 +46,8 @@ populate-requires-clause-limit g c =
     let b : c.args.place < length i.components.items = within g.C.Client.progress G c.args.place _ asked in
     let at : slice_get i.components.items c.args.place ≡ Some e = slice_get-get_or i.components.items c.args.place e b ∙ ap Some (sym c.index-component.ensures) in
     let here : port_of (component_of e) c.args.index ≡ Some p = sym c.port.ensures ∙ c.in-Some.is in
-    let M : IsMakable (look_of G) (component_of e) p c.args.store = rw (there g.C.Client.progress G c.args.place e at, here) at asked in
-    most_size g.C.Client.progress G c.args.place e c.args.index p c.self.invariant.worlds at here c.args.store M
+    let M : IsMakable (look_of G) (component_of e) p c.args.memory = rw (there g.C.Client.progress G c.args.place e at, here) at asked in
+    most_size g.C.Client.progress G c.args.place e c.args.index p c.self.invariant.worlds at here c.args.memory M
 
 pub populate-requires-clause-fits : goal.populate-requires-clause-fits
 populate-requires-clause-fits g c =
@@ -59,8 +59,21 @@ populate-requires-clause-fits g c =
     let b : c.args.place < length i.components.items = within g.C.Client.progress G c.args.place _ asked in
     let at : slice_get i.components.items c.args.place ≡ Some e = slice_get-get_or i.components.items c.args.place e b ∙ ap Some (sym c.index-component.ensures) in
     let here : port_of (component_of e) c.args.index ≡ Some p = sym c.port.ensures ∙ c.in-Some.is in
-    let M : IsMakable (look_of G) (component_of e) p c.args.store = rw (there g.C.Client.progress G c.args.place e at, here) at asked in
+    let M : IsMakable (look_of G) (component_of e) p c.args.memory = rw (there g.C.Client.progress G c.args.place e at, here) at asked in
     M.fits
+
+pub populate-requires-clause-block : goal.populate-requires-clause-block
+populate-requires-clause-block g c =
+    let i = c.self.inside in
+    let e = c.index-component.result.now in
+    let p = c.in-Some.port in
+    let G : Entries (g.row.C.Denot) = record { entries = i.components.items; stock = i.stock; units = i.units; waits = i.waits; numbered = i.registry.given } in
+    let asked = rw (← c.self.view_is) at c.requires in
+    let b : c.args.place < length i.components.items = within g.C.Client.progress G c.args.place _ asked in
+    let at : slice_get i.components.items c.args.place ≡ Some e = slice_get-get_or i.components.items c.args.place e b ∙ ap Some (sym c.index-component.ensures) in
+    let here : port_of (component_of e) c.args.index ≡ Some p = sym c.port.ensures ∙ c.in-Some.is in
+    let M : IsMakable (look_of G) (component_of e) p c.args.memory = rw (there g.C.Client.progress G c.args.place e at, here) at asked in
+    block_for c.args.memory (stocked i.stock) M.block
 
 pub populate-requires-clause-few : goal.populate-requires-clause-few
 populate-requires-clause-few g c =
@@ -72,8 +85,8 @@ populate-requires-clause-few g c =
     let b : c.args.place < length i.components.items = within g.C.Client.progress G c.args.place _ asked in
     let at : slice_get i.components.items c.args.place ≡ Some e = slice_get-get_or i.components.items c.args.place e b ∙ ap Some (sym c.index-component.ensures) in
     let here : port_of (component_of e) c.args.index ≡ Some p = sym c.port.ensures ∙ c.in-Some.is in
-    let M : IsMakable (look_of G) (component_of e) p c.args.store = rw (there g.C.Client.progress G c.args.place e at, here) at asked in
-    few_made g.C.Client.progress G c.args.place e c.args.index p c.self.invariant.worlds at here c.args.store M
+    let M : IsMakable (look_of G) (component_of e) p c.args.memory = rw (there g.C.Client.progress G c.args.place e at, here) at asked in
+    few_made g.C.Client.progress G c.args.place e c.args.index p c.self.invariant.worlds at here c.args.memory M
 
 pub invariant_of-self : goal.invariant_of-self
 invariant_of-self g c =
@@ -85,9 +98,9 @@ invariant_of-self g c =
     let b : c.args.place < length i.components.items = within g.C.Client.progress G c.args.place _ asked in
     let at : slice_get i.components.items c.args.place ≡ Some e = slice_get-get_or i.components.items c.args.place e b ∙ ap Some (sym c.index-component.ensures) in
     let here : port_of (component_of e) c.args.index ≡ Some p = sym c.port.ensures ∙ c.in-Some.is in
-    let M : IsMakable (look_of G) (component_of e) p c.args.store = rw (there g.C.Client.progress G c.args.place e at, here) at asked in
+    let M : IsMakable (look_of G) (component_of e) p c.args.memory = rw (there g.C.Client.progress G c.args.place e at, here) at asked in
     graph_stocked g.C.Client.progress i.components.items i.registry i.stock c.populate.new.self i.units i.waits i.components.cap c.self.invariant (ap (λ (s : Stocked). s.ports) c.populate.ensures.stock)
-    (made_worlds g.C.Client.progress G c.args.place e c.args.index p c.self.invariant.worlds at here c.args.store M c.populate.ensures.new_number c.populate.new.self c.populate.ensures.stock)
+    (made_worlds g.C.Client.progress G c.args.place e c.args.index p c.self.invariant.worlds at here c.args.memory M c.populate.ensures.new_number c.populate.new.self c.populate.ensures.stock)
 
 pub returns-clause-header : goal.returns-clause-header
 returns-clause-header g c =
@@ -111,8 +124,8 @@ returns-clause-change g c =
     let b : c.args.place < length i.components.items = within g.C.Client.progress G c.args.place _ asked in
     let at : slice_get i.components.items c.args.place ≡ Some e = slice_get-get_or i.components.items c.args.place e b ∙ ap Some (sym c.index-component.ensures) in
     let here : port_of (component_of e) c.args.index ≡ Some p = sym c.port.ensures ∙ c.in-Some.is in
-    let M : IsMakable (look_of G) (component_of e) p c.args.store = rw (there g.C.Client.progress G c.args.place e at, here) at asked in
-    rw (← c.self.view_is) (made_returns g.C.Client.progress G c.args.place e c.args.index p c.self.invariant.worlds at here c.args.store M c.populate.ensures.new_number c.populate.new.self c.populate.ensures.stock)
+    let M : IsMakable (look_of G) (component_of e) p c.args.memory = rw (there g.C.Client.progress G c.args.place e at, here) at asked in
+    rw (← c.self.view_is) (made_returns g.C.Client.progress G c.args.place e c.args.index p c.self.invariant.worlds at here c.args.memory M c.populate.ensures.new_number c.populate.new.self c.populate.ensures.stock)
 
 pub unreachable-requires-then-not-numbers_left : goal.unreachable-requires-then-not-numbers_left
 unreachable-requires-then-not-numbers_left g c =
@@ -124,7 +137,7 @@ unreachable-requires-then-not-numbers_left g c =
     let b : c.args.place < length i.components.items = within g.C.Client.progress G c.args.place _ asked in
     let at : slice_get i.components.items c.args.place ≡ Some e = slice_get-get_or i.components.items c.args.place e b ∙ ap Some (sym c.index-component.ensures) in
     let here : port_of (component_of e) c.args.index ≡ Some p = sym c.port.ensures ∙ c.in-Some.is in
-    let M : IsMakable (look_of G) (component_of e) p c.args.store = rw (there g.C.Client.progress G c.args.place e at, here) at asked in
+    let M : IsMakable (look_of G) (component_of e) p c.args.memory = rw (there g.C.Client.progress G c.args.place e at, here) at asked in
     let left = c.numbers_left.ensures.left ∙ ap (λ (b : Bool). not b) M.numbers in
     let none = c.if-not-numbers_left.true in
     let z : true ≡ false = sym left ∙ none in

@@ -52,9 +52,9 @@ invariant_of-self g c =
     let header = c.in-Some-take_front.header in
     let n = header.held.number in
     let front : Some n ≡ slice_get (in_port (stocked i.stock).headers p) 0 = sym (ap (option_map number_of) c.in-Some-take_front.is) ∙ c.take_front.ensures.front in
-    let now : stocked c.withdraw-store.new.self ≡ withdrawn n (front_left p.key (stocked i.stock)) = c.withdraw-store.ensures.stock ∙ ap (withdrawn n) c.take_front.ensures.stock in
-    graph_stocked g.C.Client.progress i.components.items i.registry i.stock c.withdraw-store.new.self i.units i.waits i.components.cap c.self.invariant (ap (λ (s : Stocked). s.ports) now ∙ front_left_ports p.key (stocked i.stock))
-    (released_worlds g.C.Client.progress G c.args.place e c.args.index p n c.self.invariant.worlds at here front c.withdraw-store.new.self now)
+    let now : stocked c.withdraw-memory.new.self ≡ withdrawn n (front_left p.key (stocked i.stock)) = c.withdraw-memory.ensures.stock ∙ ap (withdrawn n) c.take_front.ensures.stock in
+    graph_stocked g.C.Client.progress i.components.items i.registry i.stock c.withdraw-memory.new.self i.units i.waits i.components.cap c.self.invariant (ap (λ (s : Stocked). s.ports) now ∙ front_left_ports p.key (stocked i.stock))
+    (released_worlds g.C.Client.progress G c.args.place e c.args.index p n c.self.invariant.worlds at here front c.withdraw-memory.new.self now)
 
 pub returns-clause-change : goal.returns-clause-change
 returns-clause-change g c =
@@ -69,8 +69,8 @@ returns-clause-change g c =
     let header = c.in-Some-take_front.header in
     let n = header.held.number in
     let front : Some n ≡ slice_get (in_port (stocked i.stock).headers p) 0 = sym (ap (option_map number_of) c.in-Some-take_front.is) ∙ c.take_front.ensures.front in
-    let now : stocked c.withdraw-store.new.self ≡ withdrawn n (front_left p.key (stocked i.stock)) = c.withdraw-store.ensures.stock ∙ ap (withdrawn n) c.take_front.ensures.stock in
-    rw (← c.self.view_is) (released_returns g.C.Client.progress G c.args.place e c.args.index p n c.self.invariant.worlds at here front c.withdraw-store.new.self now)
+    let now : stocked c.withdraw-memory.new.self ≡ withdrawn n (front_left p.key (stocked i.stock)) = c.withdraw-memory.ensures.stock ∙ ap (withdrawn n) c.take_front.ensures.stock in
+    rw (← c.self.view_is) (released_returns g.C.Client.progress G c.args.place e c.args.index p n c.self.invariant.worlds at here front c.withdraw-memory.new.self now)
 
 pub returns-clause-clients : goal.returns-clause-clients
 returns-clause-clients g c = rw (← c.self.view_is) (λ k. refl)

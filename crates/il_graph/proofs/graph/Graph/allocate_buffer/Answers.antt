@@ -1,42 +1,32 @@
-use Rattle.std.proofs.Common.{◌≡◌, false, None, Err, ◌∙◌, Ok, ap, refl, length}
+use Rattle.std.proofs.Common.{◌≡◌, false, None, Err, ◌∙◌, Ok, refl}
 use Rattle.omx_types.specs.declared.error.OmxError.TheVariants as errors
 use Rattle.omx_types.specs.declared.error.CallError.TheVariants.{Omx}
 use Rattle.il_machine.specs.World.{Component, port_of}
 use Rattle.il_machine.specs.Headers.{empty_load}
 use Rattle.il_machine.specs.Look.{Look, look}
 use Rattle.il_machine.specs.Due.{ClosesTo}
-use Rattle.il_machine.specs.Answers.{AnswersOrMemory}
+use Rattle.il_machine.specs.Answers.{AnswersAs}
 use Rattle.il_machine.specs.Buffers.{AtPort, Held, allocate_refusal, client_header, with_header, held_of}
-use Rattle.header_core.specs.declared.memory.Store.TheVariants.{Block}
-use Rattle.header_core.specs.BufferHeader.{is_clients}
 use Rattle.il_graph.proofs.Calling.{Found, found}
-use Rattle.il_graph.proofs.Handing.{changed_on, and_said, made_header, not_found_taking, refused_taking, wanting_at, done_taking}
+use Rattle.il_graph.proofs.Handing.{clients_of, changed_on, and_said, made_header, not_found_by, refused_by, done_by}
 use Rattle.il_machine.specs.Acts as acts
-use Rattle.il_graph.proofs.HandedIn.{stays_over, stays_same, made_key, made_store, allocated_out}
+use Rattle.il_graph.proofs.HandedIn.{stays_over, stays_same, made_key, allocated_out}
 use Rattle.il_graph.proofs.Whole.{whole_over, files_over, is_whole_over}
 use Rattle.il_graph.proofs.Makable.{may_allocate}
 use Rattle.il_graph.proofs.graph.Graph.allocate_buffer.Goals as goal
 
 pub returns-in_default-clause-step : goal.returns-in_default-clause-step
 returns-in_default-clause-step g c =
-    rw (← c.self.view_is) (whole_over g.C.Client.progress _ c.self.inside.core (acts.AllocateBuffer c.args.h c.args.port) (acts.Allocated _) tt c.self.invariant.1 (λ w B. tt) (not_found_taking g.C.Client.progress Held c.self.inside.core c.args.h
-    (λ w v i k. AnswersOrMemory (allocate_refusal (look w) k (port_of k c.args.port)) (Err (Omx errors.InvalidComponent)) w v (λ x. AtPort (port_of k c.args.port) (λ q. (x ≡ held_of (client_header w.made q false) (empty_load None)) × ClosesTo (with_header (client_header w.made q false) None w) v))) c.in_default.ensures.place))
+    rw (← c.self.view_is) (whole_over g.C.Client.progress _ c.self.inside.core (acts.AllocateBuffer c.args.h c.args.port) (acts.Allocated _) tt c.self.invariant.1 (λ w B. tt) (not_found_by g.C.Client.progress Held c.self.inside.core c.args.h
+    (λ w v i k. AnswersAs Omx (allocate_refusal (look w) k (port_of k c.args.port)) (Err (Omx errors.InvalidComponent)) w v (λ x. AtPort (port_of k c.args.port) (λ q. (x ≡ held_of (client_header w.made q false) (empty_load None)) × ClosesTo (with_header (client_header w.made q false) None w) v))) c.in_default.ensures.place))
 
 pub returns-in-Some-allocate_refusal-clause-step : goal.returns-in-Some-allocate_refusal-clause-step
 returns-in-Some-allocate_refusal-clause-step g c =
     let p = g.C.Client.progress in
     let G = c.self.inside.core in
     let F : Found p G c.args.h c.in-Some.place = found p G c.args.h c.in-Some.place c.in-Some.ensures.place c.in-Some.ensures.within in
-    rw (← c.self.view_is) (whole_over g.C.Client.progress _ c.self.inside.core (acts.AllocateBuffer c.args.h c.args.port) (acts.Allocated _) tt c.self.invariant.1 (λ w B. tt) (refused_taking p (λ (l : Look) (k : Component). allocate_refusal l k (port_of k c.args.port)) G c.args.h c.in-Some.place c.in-Some-allocate_refusal.error
+    rw (← c.self.view_is) (whole_over g.C.Client.progress _ c.self.inside.core (acts.AllocateBuffer c.args.h c.args.port) (acts.Allocated _) tt c.self.invariant.1 (λ w B. tt) (refused_by p (λ (l : Look) (k : Component). allocate_refusal l k (port_of k c.args.port)) G c.args.h c.in-Some.place c.in-Some-allocate_refusal.error
     (λ w v i k (x : Held). AtPort (port_of k c.args.port) (λ q. (x ≡ held_of (client_header w.made q false) (empty_load None)) × ClosesTo (with_header (client_header w.made q false) None w) v)) F c.in-Some-allocate_refusal.ensures))
-
-pub returns-in_default-block-clause-step : goal.returns-in_default-block-clause-step
-returns-in_default-block-clause-step g c =
-    let p = g.C.Client.progress in
-    let G = c.self.inside.core in
-    let F : Found p G c.args.h c.in-Some.place = found p G c.args.h c.in-Some.place c.in-Some.ensures.place c.in-Some.ensures.within in
-    rw (← c.self.view_is) (whole_over g.C.Client.progress _ c.self.inside.core (acts.AllocateBuffer c.args.h c.args.port) (acts.Allocated _) tt c.self.invariant.1 (λ w B. tt) (wanting_at p (λ (l : Look) (k : Component). allocate_refusal l k (port_of k c.args.port)) G c.args.h c.in-Some.place
-    (λ w v i k (x : Held). AtPort (port_of k c.args.port) (λ q. (x ≡ held_of (client_header w.made q false) (empty_load None)) × ClosesTo (with_header (client_header w.made q false) None w) v)) F c.in_default-allocate_refusal.ensures))
 
 pub returns-clause-step : goal.returns-clause-step
 returns-clause-step g c =
@@ -45,8 +35,8 @@ returns-clause-step g c =
     let F : Found p G c.args.h c.in-Some.place = found p G c.args.h c.in-Some.place c.in-Some.ensures.place c.in-Some.ensures.within in
     let step = changed_on p G c.make_header-header.new.self c.close_out.new.self c.args.h c.in-Some.place c.args.port (λ k q w. with_header (client_header w.made q false) None w) F c.make_header-header.ensures.change c.close_out.ensures.closes in
     let said = and_said p G c.close_out.new.self (port_of F.component c.args.port) (λ w q. c.make_header-header.result.held ≡ held_of (client_header w.made q false) (empty_load None)) (λ w v q. ClosesTo (with_header (client_header w.made q false) None w) v)
-    (made_header p G c.args.h c.in-Some.place c.args.port c.make_header-header.result (Block c.new.result) false F c.make_header-header.ensures.header) step in
-    rw (← c.self.view_is) (whole_over g.C.Client.progress _ c.close_out.new.self (acts.AllocateBuffer c.args.h c.args.port) (acts.Allocated _) tt c.self.invariant.1 (λ w B. tt) (done_taking p (λ (l : Look) (k : Component). allocate_refusal l k (port_of k c.args.port)) G c.close_out.new.self c.args.h c.in-Some.place c.make_header-header.result.held
+    (made_header p G c.args.h c.in-Some.place c.args.port c.make_header-header.result None false F c.make_header-header.ensures.memory c.make_header-header.ensures.header) step in
+    rw (← c.self.view_is) (whole_over g.C.Client.progress _ c.close_out.new.self (acts.AllocateBuffer c.args.h c.args.port) (acts.Allocated _) tt c.self.invariant.1 (λ w B. tt) (done_by p (λ (l : Look) (k : Component). allocate_refusal l k (port_of k c.args.port)) G c.close_out.new.self c.args.h c.in-Some.place c.make_header-header.result.held
     (λ w v i k (x : Held). AtPort (port_of k c.args.port) (λ q. (x ≡ held_of (client_header w.made q false) (empty_load None)) × ClosesTo (with_header (client_header w.made q false) None w) v)) F c.in_default-allocate_refusal.ensures said))
 
 pub returns-clause-clients : goal.returns-clause-clients
@@ -58,13 +48,10 @@ returns-in_default-clause-held g c = rw (← c.self.view_is) (stays_same g.C.Cli
 pub returns-in-Some-allocate_refusal-clause-held : goal.returns-in-Some-allocate_refusal-clause-held
 returns-in-Some-allocate_refusal-clause-held g c = rw (← c.self.view_is) (stays_same g.C.Client.progress c.self.inside.core)
 
-pub returns-in_default-block-clause-held : goal.returns-in_default-block-clause-held
-returns-in_default-block-clause-held g c = rw (← c.self.view_is) (stays_same g.C.Client.progress c.self.inside.core)
-
 pub returns-clause-held : goal.returns-clause-held
 returns-clause-held g c =
     let G = c.self.inside.core in
-    rw (← c.self.view_is) (stays_over g.C.Client.progress G c.close_out.new.self (acts.AllocateBuffer c.args.h c.args.port) (acts.Allocated (Ok c.make_header-header.result.held)) refl (λ w. tt) c.law_of_worlds.ensures.one (let p = g.C.Client.progress in let G = c.self.inside.core in let F : Found p G c.args.h c.in-Some.place = found p G c.args.h c.in-Some.place c.in-Some.ensures.place c.in-Some.ensures.within in let step = changed_on p G c.make_header-header.new.self c.close_out.new.self c.args.h c.in-Some.place c.args.port (λ k q w. with_header (client_header w.made q false) None w) F c.make_header-header.ensures.change c.close_out.ensures.closes in let said = and_said p G c.close_out.new.self (port_of F.component c.args.port) (λ w q. c.make_header-header.result.held ≡ held_of (client_header w.made q false) (empty_load None)) (λ w v q. ClosesTo (with_header (client_header w.made q false) None w) v) (made_header p G c.args.h c.in-Some.place c.args.port c.make_header-header.result (Block c.new.result) false F c.make_header-header.ensures.header) step in done_taking p (λ (l : Look) (k : Component). allocate_refusal l k (port_of k c.args.port)) G c.close_out.new.self c.args.h c.in-Some.place c.make_header-header.result.held
+    rw (← c.self.view_is) (stays_over g.C.Client.progress G c.close_out.new.self (acts.AllocateBuffer c.args.h c.args.port) (acts.Allocated (Ok c.make_header-header.result.held)) refl (λ w. tt) c.law_of_worlds.ensures.one (let p = g.C.Client.progress in let G = c.self.inside.core in let F : Found p G c.args.h c.in-Some.place = found p G c.args.h c.in-Some.place c.in-Some.ensures.place c.in-Some.ensures.within in let step = changed_on p G c.make_header-header.new.self c.close_out.new.self c.args.h c.in-Some.place c.args.port (λ k q w. with_header (client_header w.made q false) None w) F c.make_header-header.ensures.change c.close_out.ensures.closes in let said = and_said p G c.close_out.new.self (port_of F.component c.args.port) (λ w q. c.make_header-header.result.held ≡ held_of (client_header w.made q false) (empty_load None)) (λ w v q. ClosesTo (with_header (client_header w.made q false) None w) v) (made_header p G c.args.h c.in-Some.place c.args.port c.make_header-header.result None false F c.make_header-header.ensures.memory c.make_header-header.ensures.header) step in done_by p (λ (l : Look) (k : Component). allocate_refusal l k (port_of k c.args.port)) G c.close_out.new.self c.args.h c.in-Some.place c.make_header-header.result.held
     (λ w v i k (x : Held). AtPort (port_of k c.args.port) (λ q. (x ≡ held_of (client_header w.made q false) (empty_load None)) × ClosesTo (with_header (client_header w.made q false) None w) v)) F c.in_default-allocate_refusal.ensures said))
 
 pub returns-clause-handed : goal.returns-clause-handed
@@ -72,9 +59,9 @@ returns-clause-handed g c =
     let p = g.C.Client.progress in
     let G = c.self.inside.core in
     let F : Found p G c.args.h c.in-Some.place = found p G c.args.h c.in-Some.place c.in-Some.ensures.place c.in-Some.ensures.within in
-    let memory = ap is_clients (made_store p G c.args.h c.in-Some.place c.args.port c.make_header-header.result (Block c.new.result) F c.make_header-header.ensures.header) in
-    let own = made_key p G c.args.h c.in-Some.place c.args.port c.make_header-header.result (Block c.new.result) F c.make_header-header.ensures.header in
-    rw (← c.self.view_is) (allocated_out p G c.close_out.new.self c.args.h c.args.port c.make_header-header.result own memory c.law_of_worlds.ensures.one (let p = g.C.Client.progress in let G = c.self.inside.core in let F : Found p G c.args.h c.in-Some.place = found p G c.args.h c.in-Some.place c.in-Some.ensures.place c.in-Some.ensures.within in let step = changed_on p G c.make_header-header.new.self c.close_out.new.self c.args.h c.in-Some.place c.args.port (λ k q w. with_header (client_header w.made q false) None w) F c.make_header-header.ensures.change c.close_out.ensures.closes in let said = and_said p G c.close_out.new.self (port_of F.component c.args.port) (λ w q. c.make_header-header.result.held ≡ held_of (client_header w.made q false) (empty_load None)) (λ w v q. ClosesTo (with_header (client_header w.made q false) None w) v) (made_header p G c.args.h c.in-Some.place c.args.port c.make_header-header.result (Block c.new.result) false F c.make_header-header.ensures.header) step in done_taking p (λ (l : Look) (k : Component). allocate_refusal l k (port_of k c.args.port)) G c.close_out.new.self c.args.h c.in-Some.place c.make_header-header.result.held
+    let memory = clients_of c.make_header-header.result.store None c.make_header-header.ensures.memory in
+    let own = made_key p G c.args.h c.in-Some.place c.args.port c.make_header-header.result F c.make_header-header.ensures.header in
+    rw (← c.self.view_is) (allocated_out p G c.close_out.new.self c.args.h c.args.port c.make_header-header.result own memory c.law_of_worlds.ensures.one (let p = g.C.Client.progress in let G = c.self.inside.core in let F : Found p G c.args.h c.in-Some.place = found p G c.args.h c.in-Some.place c.in-Some.ensures.place c.in-Some.ensures.within in let step = changed_on p G c.make_header-header.new.self c.close_out.new.self c.args.h c.in-Some.place c.args.port (λ k q w. with_header (client_header w.made q false) None w) F c.make_header-header.ensures.change c.close_out.ensures.closes in let said = and_said p G c.close_out.new.self (port_of F.component c.args.port) (λ w q. c.make_header-header.result.held ≡ held_of (client_header w.made q false) (empty_load None)) (λ w v q. ClosesTo (with_header (client_header w.made q false) None w) v) (made_header p G c.args.h c.in-Some.place c.args.port c.make_header-header.result None false F c.make_header-header.ensures.memory c.make_header-header.ensures.header) step in done_by p (λ (l : Look) (k : Component). allocate_refusal l k (port_of k c.args.port)) G c.close_out.new.self c.args.h c.in-Some.place c.make_header-header.result.held
     (λ w v i k (x : Held). AtPort (port_of k c.args.port) (λ q. (x ≡ held_of (client_header w.made q false) (empty_load None)) × ClosesTo (with_header (client_header w.made q false) None w) v)) F c.in_default-allocate_refusal.ensures said))
 
 pub invariant_of-self : goal.invariant_of-self
@@ -84,9 +71,9 @@ invariant_of-self g c =
     let F : Found p G c.args.h c.in-Some.place = found p G c.args.h c.in-Some.place c.in-Some.ensures.place c.in-Some.ensures.within in
     let step = changed_on p G c.make_header-header.new.self c.close_out.new.self c.args.h c.in-Some.place c.args.port (λ k q w. with_header (client_header w.made q false) None w) F c.make_header-header.ensures.change c.close_out.ensures.closes in
     let said = and_said p G c.close_out.new.self (port_of F.component c.args.port) (λ w q. c.make_header-header.result.held ≡ held_of (client_header w.made q false) (empty_load None)) (λ w v q. ClosesTo (with_header (client_header w.made q false) None w) v)
-    (made_header p G c.args.h c.in-Some.place c.args.port c.make_header-header.result (Block c.new.result) false F c.make_header-header.ensures.header) step in (
+    (made_header p G c.args.h c.in-Some.place c.args.port c.make_header-header.result None false F c.make_header-header.ensures.memory c.make_header-header.ensures.header) step in (
       c.self.invariant.0,
-      is_whole_over g.C.Client.progress _ c.close_out.new.self (acts.AllocateBuffer c.args.h c.args.port) (acts.Allocated _) tt c.self.invariant.1 (λ w B. tt) (done_taking p (λ (l : Look) (k : Component). allocate_refusal l k (port_of k c.args.port)) G c.close_out.new.self c.args.h c.in-Some.place c.make_header-header.result.held
+      is_whole_over g.C.Client.progress _ c.close_out.new.self (acts.AllocateBuffer c.args.h c.args.port) (acts.Allocated _) tt c.self.invariant.1 (λ w B. tt) (done_by p (λ (l : Look) (k : Component). allocate_refusal l k (port_of k c.args.port)) G c.close_out.new.self c.args.h c.in-Some.place c.make_header-header.result.held
           (λ w v i k (x : Held). AtPort (port_of k c.args.port) (λ q. (x ≡ held_of (client_header w.made q false) (empty_load None)) × ClosesTo (with_header (client_header w.made q false) None w) v)) F c.in_default-allocate_refusal.ensures said) c.close_out.ensures.settled,
     )
 
@@ -97,8 +84,8 @@ returns-clause-files g c =
     let F : Found p G c.args.h c.in-Some.place = found p G c.args.h c.in-Some.place c.in-Some.ensures.place c.in-Some.ensures.within in
     let step = changed_on p G c.make_header-header.new.self c.close_out.new.self c.args.h c.in-Some.place c.args.port (λ k q w. with_header (client_header w.made q false) None w) F c.make_header-header.ensures.change c.close_out.ensures.closes in
     let said = and_said p G c.close_out.new.self (port_of F.component c.args.port) (λ w q. c.make_header-header.result.held ≡ held_of (client_header w.made q false) (empty_load None)) (λ w v q. ClosesTo (with_header (client_header w.made q false) None w) v)
-    (made_header p G c.args.h c.in-Some.place c.args.port c.make_header-header.result (Block c.new.result) false F c.make_header-header.ensures.header) step in
-    rw (← c.self.view_is) (files_over g.C.Client.progress _ c.close_out.new.self (acts.AllocateBuffer c.args.h c.args.port) (acts.Allocated _) tt c.self.invariant.1 (λ w B. tt) (done_taking p (λ (l : Look) (k : Component). allocate_refusal l k (port_of k c.args.port)) G c.close_out.new.self c.args.h c.in-Some.place c.make_header-header.result.held
+    (made_header p G c.args.h c.in-Some.place c.args.port c.make_header-header.result None false F c.make_header-header.ensures.memory c.make_header-header.ensures.header) step in
+    rw (← c.self.view_is) (files_over g.C.Client.progress _ c.close_out.new.self (acts.AllocateBuffer c.args.h c.args.port) (acts.Allocated _) tt c.self.invariant.1 (λ w B. tt) (done_by p (λ (l : Look) (k : Component). allocate_refusal l k (port_of k c.args.port)) G c.close_out.new.self c.args.h c.in-Some.place c.make_header-header.result.held
     (λ w v i k (x : Held). AtPort (port_of k c.args.port) (λ q. (x ≡ held_of (client_header w.made q false) (empty_load None)) × ClosesTo (with_header (client_header w.made q false) None w) v)) F c.in_default-allocate_refusal.ensures said))
 
 pub make_header-header-requires : goal.make_header-header-requires
@@ -106,4 +93,4 @@ make_header-header-requires g c =
     let p = g.C.Client.progress in
     let G = c.self.inside.core in
     let F : Found p G c.args.h c.in-Some.place = found p G c.args.h c.in-Some.place c.in-Some.ensures.place c.in-Some.ensures.within in
-    may_allocate p G c.args.h c.in-Some.place F c.args.port c.new.result c.port_size-size.result c.in_default-allocate_refusal.ensures c.port_size-size.ensures (ap length c.new.ensures ∙ c.in-Ok.ensures)
+    may_allocate p G c.args.h c.in-Some.place F c.args.port c.in_default-allocate_refusal.ensures

@@ -1,4 +1,6 @@
-use Rattle.std.proofs.Common.{◌∙◌, ap}
+use Rattle.std.proofs.Common.{◌∙◌, ap, Option, option_map, option_and_then}
+use Rattle.audio_parts.specs.AnyParts.{attached_of}
+use Rattle.audio_parts.specs.Shown.{ShownPart}
 use Rattle.il_machine.specs.Due.{first_due}
 use Rattle.machine_laws.proofs.Closing.{closed_rests}
 use Rattle.il_graph.proofs.Whole.{bare}
@@ -16,5 +18,8 @@ returns g c =
       closed = λ w S. ap first_due S.looks ∙ c.self.invariant.1.closed;
       rests = λ w S. closed_rests w (ap first_due S.looks ∙ c.self.invariant.1.closed);
       told = λ w S. laws.told w (bare p _ w S);
+      files = λ i x at none.
+          let p = c.self.invariant.1.parts i x at none in
+          ap (λ (o : Option (Option (ShownPart (g.row.S.Denot) (g.row.K.Denot)))). option_map attached_of (option_and_then (option_and_then (λ (q : ShownPart (g.row.S.Denot) (g.row.K.Denot)). q.file)) o)) p.1 ∙ (p.2).file;
       out = laws.out;
     })

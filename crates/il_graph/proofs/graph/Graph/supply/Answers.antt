@@ -1,28 +1,25 @@
-use Rattle.std.proofs.Common.{◌≡◌, ℕ, ◌≤◌, List, length, Err, None, ap, arith, Ok, refl, ◌∙◌}
+use Rattle.std.proofs.Common.{◌≡◌, Err, None, Ok, refl, ◌∙◌}
 use Rattle.omx_types.specs.declared.error.OmxError.TheVariants as errors
 use Rattle.omx_types.specs.declared.error.CallError.{CallError}
 use Rattle.omx_types.specs.declared.error.CallError.TheVariants.{Omx}
 use Rattle.il_machine.specs.declared.answer.Acted.{Acted}
 use Rattle.il_machine.specs.Look.{look}
-use Rattle.il_machine.specs.Answers.{ActsOrMemory}
+use Rattle.il_machine.specs.Answers.{Acts}
 use Rattle.il_machine.specs.Flow.{supply_idle, with_supplied}
 use Rattle.graph_core.specs.Supplying.{IsSuppliable}
 use Rattle.graph_core.specs.Entries.{look_of}
 use Rattle.il_graph.proofs.Calling.{Found, found}
-use Rattle.il_graph.proofs.Acting.{HasPort, unnamed, without_port, with_port, at_port, and_port, port_there, reason_is, idle_taking, wanting_on, did_taking}
+use Rattle.il_graph.proofs.Acting.{HasPort, unnamed, without_port, with_port, and_port, port_there, reason_is, idle_by, did_by}
 use Rattle.il_machine.specs.Acts as acts
 use Rattle.il_machine.specs.declared.answer.Acted.TheVariants as acted
 use Rattle.il_graph.proofs.HandedIn.{keeps_over, keeps_same}
 use Rattle.il_graph.proofs.Whole.{whole_over, files_over, is_whole_over}
 use Rattle.il_graph.proofs.graph.Graph.supply.Goals as goal
 
-fits_in : (size most : ℕ) (memory bytes : List ℕ) → size ≡ most → length bytes ≡ size → memory ≡ bytes → most ≤ length memory
-fits_in size most memory bytes e f m = let k : length memory ≡ length bytes = ap length m in omega arith
-
 pub returns-in_default-clause-step : goal.returns-in_default-clause-step
 returns-in_default-clause-step g c =
     rw (← c.self.view_is) (whole_over g.C.Client.progress _ c.self.inside.core (acts.Supply c.args.h c.args.port) (acts.Supplied _) tt c.self.invariant.1 (λ w B. tt) (unnamed g.C.Client.progress c.self.inside.core c.args.h c.args.port Acted CallError Omx
-    (λ w v i k q. ActsOrMemory (supply_idle (look w) k q) (Err (Omx errors.InvalidComponent)) w (with_supplied q w) v) c.in_default.ensures.place))
+    (λ w v i k q. Acts {E = CallError} (supply_idle (look w) k q) (Err (Omx errors.InvalidComponent)) w (with_supplied q w) v) c.in_default.ensures.place))
 
 pub returns-then-not-has_port-clause-step : goal.returns-then-not-has_port-clause-step
 returns-then-not-has_port-clause-step g c =
@@ -30,7 +27,7 @@ returns-then-not-has_port-clause-step g c =
     let G = c.self.inside.core in
     let F : Found p G c.args.h c.in-Some.place = found p G c.args.h c.in-Some.place c.in-Some.ensures.place c.in-Some.ensures.within in
     rw (← c.self.view_is) (whole_over g.C.Client.progress _ c.self.inside.core (acts.Supply c.args.h c.args.port) (acts.Supplied _) tt c.self.invariant.1 (λ w B. tt) (without_port p G c.args.h c.args.port c.in-Some.place F Acted CallError Omx
-    (λ w v i k q. ActsOrMemory (supply_idle (look w) k q) (Err (Omx errors.BadPortIndex)) w (with_supplied q w) v) (rw c.if-not-has_port.true at c.has_port.ensures)))
+    (λ w v i k q. Acts {E = CallError} (supply_idle (look w) k q) (Err (Omx errors.BadPortIndex)) w (with_supplied q w) v) (rw c.if-not-has_port.true at c.has_port.ensures)))
 
 pub supply_idle-requires : goal.supply_idle-requires
 supply_idle-requires g c =
@@ -46,23 +43,7 @@ returns-in-Some-supply_idle-clause-step g c =
     let G = c.self.inside.core in
     let F : Found p G c.args.h c.in-Some.place = found p G c.args.h c.in-Some.place c.in-Some.ensures.place c.in-Some.ensures.within in
     let H : HasPort p G c.args.h c.args.port c.in-Some.place F = with_port p G c.args.h c.args.port c.in-Some.place F (rw c.if-not-has_port.false at c.has_port.ensures) in
-    rw (← c.self.view_is) (whole_over g.C.Client.progress _ c.self.inside.core (acts.Supply c.args.h c.args.port) (acts.Supplied _) tt c.self.invariant.1 (λ w B. tt) (idle_taking p G c.args.h c.args.port c.in-Some.place F H (λ l k q. supply_idle l k q) (λ i k q w. with_supplied q w) c.in-Some-supply_idle.reason c.in-Some-supply_idle.ensures))
-
-pub port_size-size-requires : goal.port_size-size-requires
-port_size-size-requires g c =
-    let p = g.C.Client.progress in
-    let G = c.self.inside.core in
-    let F : Found p G c.args.h c.in-Some.place = found p G c.args.h c.in-Some.place c.in-Some.ensures.place c.in-Some.ensures.within in
-    let H : HasPort p G c.args.h c.args.port c.in-Some.place F = with_port p G c.args.h c.args.port c.in-Some.place F (rw c.if-not-has_port.false at c.has_port.ensures) in
-    port_there p G c.args.h c.args.port c.in-Some.place F H
-
-pub returns-in_default-block-clause-step : goal.returns-in_default-block-clause-step
-returns-in_default-block-clause-step g c =
-    let p = g.C.Client.progress in
-    let G = c.self.inside.core in
-    let F : Found p G c.args.h c.in-Some.place = found p G c.args.h c.in-Some.place c.in-Some.ensures.place c.in-Some.ensures.within in
-    let H : HasPort p G c.args.h c.args.port c.in-Some.place F = with_port p G c.args.h c.args.port c.in-Some.place F (rw c.if-not-has_port.false at c.has_port.ensures) in
-    rw (← c.self.view_is) (whole_over g.C.Client.progress _ c.self.inside.core (acts.Supply c.args.h c.args.port) (acts.Supplied _) tt c.self.invariant.1 (λ w B. tt) (wanting_on p G c.args.h c.args.port c.in-Some.place F H (λ l k q. supply_idle l k q) (λ i k q w. with_supplied q w) c.in_default-supply_idle.ensures))
+    rw (← c.self.view_is) (whole_over g.C.Client.progress _ c.self.inside.core (acts.Supply c.args.h c.args.port) (acts.Supplied _) tt c.self.invariant.1 (λ w B. tt) (idle_by p G c.args.h c.args.port c.in-Some.place F H (λ l k q. supply_idle l k q) (λ i k q w. with_supplied q w) c.in-Some-supply_idle.reason c.in-Some-supply_idle.ensures))
 
 pub supply_header-requires : goal.supply_header-requires
 supply_header-requires g c =
@@ -71,9 +52,7 @@ supply_header-requires g c =
     let F : Found p G c.args.h c.in-Some.place = found p G c.args.h c.in-Some.place c.in-Some.ensures.place c.in-Some.ensures.within in
     let H : HasPort p G c.args.h c.args.port c.in-Some.place F = with_port p G c.args.h c.args.port c.in-Some.place F (rw c.if-not-has_port.false at c.has_port.ensures) in
     let may : supply_idle (look_of G) F.component H.it ≡ None = reason_is p G c.args.h c.args.port c.in-Some.place F H (λ l k q. supply_idle l k q) (λ i k q w. with_supplied q w) None c.in_default-supply_idle.ensures in
-    let size : c.port_size-size.result ≡ H.it.setting.definition.size = at_port p G c.args.h c.args.port c.in-Some.place F H (λ k q. c.port_size-size.result ≡ q.setting.definition.size) c.port_size-size.ensures in
-    let fits : H.it.setting.definition.size ≤ length c.new.result = fits_in c.port_size-size.result H.it.setting.definition.size c.new.result c.in-Ok.bytes.items size c.in-Ok.ensures c.new.ensures in
-    and_port p G c.args.h c.args.port c.in-Some.place F H (λ k q. IsSuppliable (look_of G) k q c.new.result) (record { may = may; fits = fits })
+    and_port p G c.args.h c.args.port c.in-Some.place F H (λ k q. IsSuppliable (look_of G) k q) (record { may = may })
 
 pub returns-clause-step : goal.returns-clause-step
 returns-clause-step g c =
@@ -81,7 +60,7 @@ returns-clause-step g c =
     let G = c.self.inside.core in
     let F : Found p G c.args.h c.in-Some.place = found p G c.args.h c.in-Some.place c.in-Some.ensures.place c.in-Some.ensures.within in
     let H : HasPort p G c.args.h c.args.port c.in-Some.place F = with_port p G c.args.h c.args.port c.in-Some.place F (rw c.if-not-has_port.false at c.has_port.ensures) in
-    rw (← c.self.view_is) (whole_over g.C.Client.progress _ c.close_out.new.self (acts.Supply c.args.h c.args.port) (acts.Supplied _) tt c.self.invariant.1 (λ w B. tt) (did_taking p G c.args.h c.args.port c.in-Some.place F H (λ l k q. supply_idle l k q) (λ i k q w. with_supplied q w) c.supply_header.new.self c.close_out.new.self c.in_default-supply_idle.ensures c.supply_header.ensures.change c.close_out.ensures.closes))
+    rw (← c.self.view_is) (whole_over g.C.Client.progress _ c.close_out.new.self (acts.Supply c.args.h c.args.port) (acts.Supplied _) tt c.self.invariant.1 (λ w B. tt) (did_by p G c.args.h c.args.port c.in-Some.place F H (λ l k q. supply_idle l k q) (λ i k q w. with_supplied q w) c.supply_header.new.self c.close_out.new.self c.in_default-supply_idle.ensures c.supply_header.ensures.change c.close_out.ensures.closes))
 
 pub returns-in_default-clause-held : goal.returns-in_default-clause-held
 returns-in_default-clause-held g c = rw (← c.self.view_is) (keeps_same g.C.Client.progress c.self.inside.core)
@@ -92,13 +71,10 @@ returns-then-not-has_port-clause-held g c = rw (← c.self.view_is) (keeps_same 
 pub returns-in-Some-supply_idle-clause-held : goal.returns-in-Some-supply_idle-clause-held
 returns-in-Some-supply_idle-clause-held g c = rw (← c.self.view_is) (keeps_same g.C.Client.progress c.self.inside.core)
 
-pub returns-in_default-block-clause-held : goal.returns-in_default-block-clause-held
-returns-in_default-block-clause-held g c = rw (← c.self.view_is) (keeps_same g.C.Client.progress c.self.inside.core)
-
 pub returns-clause-held : goal.returns-clause-held
 returns-clause-held g c =
     let G = c.self.inside.core in
-    rw (← c.self.view_is) (keeps_over g.C.Client.progress G c.close_out.new.self (acts.Supply c.args.h c.args.port) (acts.Supplied (Ok acted.Did)) refl refl (λ w. tt) c.law_of_worlds.ensures.one (let p = g.C.Client.progress in let G = c.self.inside.core in let F : Found p G c.args.h c.in-Some.place = found p G c.args.h c.in-Some.place c.in-Some.ensures.place c.in-Some.ensures.within in let H : HasPort p G c.args.h c.args.port c.in-Some.place F = with_port p G c.args.h c.args.port c.in-Some.place F (rw c.if-not-has_port.false at c.has_port.ensures) in did_taking p G c.args.h c.args.port c.in-Some.place F H (λ l k q. supply_idle l k q) (λ i k q w. with_supplied q w) c.supply_header.new.self c.close_out.new.self c.in_default-supply_idle.ensures c.supply_header.ensures.change c.close_out.ensures.closes))
+    rw (← c.self.view_is) (keeps_over g.C.Client.progress G c.close_out.new.self (acts.Supply c.args.h c.args.port) (acts.Supplied (Ok acted.Did)) refl refl (λ w. tt) c.law_of_worlds.ensures.one (let p = g.C.Client.progress in let G = c.self.inside.core in let F : Found p G c.args.h c.in-Some.place = found p G c.args.h c.in-Some.place c.in-Some.ensures.place c.in-Some.ensures.within in let H : HasPort p G c.args.h c.args.port c.in-Some.place F = with_port p G c.args.h c.args.port c.in-Some.place F (rw c.if-not-has_port.false at c.has_port.ensures) in did_by p G c.args.h c.args.port c.in-Some.place F H (λ l k q. supply_idle l k q) (λ i k q w. with_supplied q w) c.supply_header.new.self c.close_out.new.self c.in_default-supply_idle.ensures c.supply_header.ensures.change c.close_out.ensures.closes))
 
 pub returns-clause-clients : goal.returns-clause-clients
 returns-clause-clients g c = rw (← c.self.view_is) (λ k. c.close_out.ensures.clients k ∙ c.supply_header.ensures.clients k)
@@ -109,7 +85,7 @@ invariant_of-self g c =
     let G = c.self.inside.core in
     let F : Found p G c.args.h c.in-Some.place = found p G c.args.h c.in-Some.place c.in-Some.ensures.place c.in-Some.ensures.within in
     let H : HasPort p G c.args.h c.args.port c.in-Some.place F = with_port p G c.args.h c.args.port c.in-Some.place F (rw c.if-not-has_port.false at c.has_port.ensures) in
-    (c.self.invariant.0, is_whole_over g.C.Client.progress _ c.close_out.new.self (acts.Supply c.args.h c.args.port) (acts.Supplied _) tt c.self.invariant.1 (λ w B. tt) (did_taking p G c.args.h c.args.port c.in-Some.place F H (λ l k q. supply_idle l k q) (λ i k q w. with_supplied q w) c.supply_header.new.self c.close_out.new.self c.in_default-supply_idle.ensures c.supply_header.ensures.change c.close_out.ensures.closes) c.close_out.ensures.settled)
+    (c.self.invariant.0, is_whole_over g.C.Client.progress _ c.close_out.new.self (acts.Supply c.args.h c.args.port) (acts.Supplied _) tt c.self.invariant.1 (λ w B. tt) (did_by p G c.args.h c.args.port c.in-Some.place F H (λ l k q. supply_idle l k q) (λ i k q w. with_supplied q w) c.supply_header.new.self c.close_out.new.self c.in_default-supply_idle.ensures c.supply_header.ensures.change c.close_out.ensures.closes) c.close_out.ensures.settled)
 
 pub returns-clause-files : goal.returns-clause-files
 returns-clause-files g c =
@@ -117,4 +93,4 @@ returns-clause-files g c =
     let G = c.self.inside.core in
     let F : Found p G c.args.h c.in-Some.place = found p G c.args.h c.in-Some.place c.in-Some.ensures.place c.in-Some.ensures.within in
     let H : HasPort p G c.args.h c.args.port c.in-Some.place F = with_port p G c.args.h c.args.port c.in-Some.place F (rw c.if-not-has_port.false at c.has_port.ensures) in
-    rw (← c.self.view_is) (files_over g.C.Client.progress _ c.close_out.new.self (acts.Supply c.args.h c.args.port) (acts.Supplied _) tt c.self.invariant.1 (λ w B. tt) (did_taking p G c.args.h c.args.port c.in-Some.place F H (λ l k q. supply_idle l k q) (λ i k q w. with_supplied q w) c.supply_header.new.self c.close_out.new.self c.in_default-supply_idle.ensures c.supply_header.ensures.change c.close_out.ensures.closes))
+    rw (← c.self.view_is) (files_over g.C.Client.progress _ c.close_out.new.self (acts.Supply c.args.h c.args.port) (acts.Supplied _) tt c.self.invariant.1 (λ w B. tt) (did_by p G c.args.h c.args.port c.in-Some.place F H (λ l k q. supply_idle l k q) (λ i k q w. with_supplied q w) c.supply_header.new.self c.close_out.new.self c.in_default-supply_idle.ensures c.supply_header.ensures.change c.close_out.ensures.closes))

@@ -1,8 +1,8 @@
-use Rattle.std.proofs.Common.{refl}
-use Rattle.port_stock.specs.Entries.{headers_of}
-use Rattle.port_stock.proofs.Reading.{view}
-use Rattle.port_stock.proofs.Adding.{ended}
+use Rattle.std.proofs.Common.{vec_capacity}
+use Rattle.port_stock.proofs.Ending.{all_end}
 use Rattle.port_stock.proofs.stock.Stock.close.Goals as goal
 
-pub destroy_empty-requires : goal.destroy_empty-requires
-destroy_empty-requires c = ended (view c.self.inside.key c.self.inside.ports.items (headers_of c.self.inside.entries.items) c.self.inside.next) c.self.inside.entries.items _ refl c.self.inside.entries.ok.0 (rw (c.self.view_is) c.requires)
+pub end_all-requires : goal.end_all-requires
+end_all-requires c =
+    let i = c.self.inside in
+    all_end i.region i.ports.items i.entries.items i.next (vec_capacity i.entries) c.self.invariant.0 c.self.invariant.1 (rw c.self.view_is c.requires)

@@ -1,5 +1,6 @@
+use Rattle.port_stock.specs.Blocks.{blocks_out, key_of}
 use Rattle.port_stock.proofs.Turning.{one_list}
 use Rattle.port_stock.proofs.stock.Stock.law_of_lists.Goals as goal
 
 pub returns : goal.returns
-returns c = rw (← c.self.view_is) (one_list c.self.inside.key c.self.inside.ports.items c.self.inside.entries.items c.self.inside.blocks c.self.inside.next _ c.self.invariant)
+returns c = rw (← c.self.view_is) (one_list (key_of c.self.inside.region) c.self.inside.ports.items c.self.inside.entries.items (blocks_out c.self.inside.region) c.self.inside.next _ c.self.invariant.0)

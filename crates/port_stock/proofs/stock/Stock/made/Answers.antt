@@ -1,18 +1,19 @@
 use Rattle.std.proofs.Common.{◌∙◌, ap, arith}
+use Rattle.port_stock.specs.Blocks.{blocks_out, key_of}
 use Rattle.port_stock.specs.declared.port.Port.{Port}
 use Rattle.port_stock.proofs.Turning.{made_is, port_there}
 use Rattle.port_stock.proofs.stock.Stock.made.Goals as goal
 
 pub at-requires-clause-there : goal.at-requires-clause-there
-at-requires-clause-there c = rw c.deref.ensures.value (port_there c.self.inside.key c.self.inside.ports.items c.self.inside.entries.items c.self.inside.blocks c.self.inside.next _ c.self.invariant c.args.port (rw c.self.view_is c.requires))
+at-requires-clause-there c = rw c.deref.ensures.value (port_there (key_of c.self.inside.region) c.self.inside.ports.items c.self.inside.entries.items (blocks_out c.self.inside.region) c.self.inside.next _ c.self.invariant.0 c.args.port (rw c.self.view_is c.requires))
 
 pub at-requires-clause-differ : goal.at-requires-clause-differ
-at-requires-clause-differ c = rw c.deref.ensures.value c.self.invariant.differ
+at-requires-clause-differ c = rw c.deref.ensures.value c.self.invariant.0.differ
 
 pub returns-clause-made : goal.returns-clause-made
-returns-clause-made c = rw (← c.self.view_is) (ap (λ (p : Port). p.made) (rw c.deref.ensures.value at c.at.ensures) ∙ made_is c.self.inside.key c.self.inside.ports.items c.self.inside.entries.items c.self.inside.blocks c.self.inside.next _ c.self.invariant c.args.port)
+returns-clause-made c = rw (← c.self.view_is) (ap (λ (p : Port). p.made) (rw c.deref.ensures.value at c.at.ensures) ∙ made_is (key_of c.self.inside.region) c.self.inside.ports.items c.self.inside.entries.items (blocks_out c.self.inside.region) c.self.inside.next _ c.self.invariant.0 c.args.port)
 
 pub returns-clause-few : goal.returns-clause-few
 returns-clause-few c =
     let e = ap (λ (p : Port). p.made) (rw c.deref.ensures.value at c.at.ensures) in
-    omega (arith, e, (c.self.invariant.tells.port c.args.port).made, c.self.invariant.headers.few c.args.port)
+    omega (arith, e, (c.self.invariant.0.tells.port c.args.port).made, c.self.invariant.0.headers.few c.args.port)

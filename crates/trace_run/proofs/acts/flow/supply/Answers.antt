@@ -15,12 +15,12 @@ acted_reply-requires c =
     let x = c.in-Ok.ensures.step c.requires.world c.requires.stands in
     supply_named c.args.components.now c.requires.world c.requires.sound c.requires.named c.args.at.handle c.args.at.index c.in-Ok.acted x.0 x.2
 
-pub returns-in-Ok-clause-replied : goal.returns-in-Ok-clause-replied
-returns-in-Ok-clause-replied c = replied c.args.components.now (acts.Supply c.args.at.handle c.args.at.index) (acts.Supplied (Ok c.in-Ok.acted)) c.acted_reply.result (graph_kept c.args.graph.now) (graph_kept c.supply.new.self)
+pub returns-in-Ok : goal.returns-in-Ok
+returns-in-Ok c = replied c.args.components.now (acts.Supply c.args.at.handle c.args.at.index) (acts.Supplied (Ok c.in-Ok.acted)) c.acted_reply.result (graph_kept c.args.graph.now) (graph_kept c.supply.new.self)
     (λ headers. c.acted_reply.ensures) c.in-Ok.ensures.step
 
-pub returns-in-Err-Omx-clause-replied : goal.returns-in-Err-Omx-clause-replied
-returns-in-Err-Omx-clause-replied c =
+pub returns-in-Err-Omx : goal.returns-in-Err-Omx
+returns-in-Err-Omx c =
     let old = graph_kept c.args.graph.now in
     let new = graph_kept c.supply.new.self in
     let is : c.in-Err-Omx.field-0 ≡ Omx c.in-Err-Omx.error = c.in-Err-Omx.field-0-is in
