@@ -39,14 +39,14 @@ nothing_long [] e = refl
 nothing_long (byte ∷ bytes) e = absurd (omega arith)
 
 -- a file that no frames are left of was read whole
-pub read_whole : (told : Option (List ℕ)) (place frames : ℕ) (format : Format) (pieces : List Piece) (after : Remaining) → AllByRecursion (IsWhole format) pieces
-    → ReadAll (unread told place format frames) pieces after → after.left ≡ 0 → WhereTold told (λ bytes. bytes_in pieces ≡ take (frames * frame_bytes_of format) (drop place bytes))
-read_whole told place frames format pieces after whole read over bytes is =
+pub read_whole : (told : Option (List ℕ)) (offset frames : ℕ) (format : Format) (pieces : List Piece) (after : Remaining) → AllByRecursion (IsWhole format) pieces
+    → ReadAll (unread told offset format frames) pieces after → after.left ≡ 0 → WhereTold told (λ bytes. bytes_in pieces ≡ take (frames * frame_bytes_of format) (drop offset bytes))
+read_whole told offset frames format pieces after whole read over bytes is =
     let size = frames * frame_bytes_of format in
-    let joined = read_joined (unread told place format frames) after pieces read (take size (drop place bytes)) (ap (λ (o : Option (List ℕ)). rest_of o place size) is) in
-    let count : frames ≡ frames_in pieces = frames_read (unread told place format frames) after pieces read ∙ (let e : frames_in pieces + after.left ≡ frames_in pieces = omega (arith, over) in e) in
+    let joined = read_joined (unread told offset format frames) after pieces read (take size (drop offset bytes)) (ap (λ (o : Option (List ℕ)). rest_of o offset size) is) in
+    let count : frames ≡ frames_in pieces = frames_read (unread told offset format frames) after pieces read ∙ (let e : frames_in pieces + after.left ≡ frames_in pieces = omega (arith, over) in e) in
     let long : length (bytes_in pieces) ≡ size = bytes_are format pieces whole ∙ ap (λ n. n * frame_bytes_of format) (sym count) in
-    let most : length (take size (drop place bytes)) ≤ size = omega (arith, length-take size (drop place bytes)) in
+    let most : length (take size (drop offset bytes)) ≤ size = omega (arith, length-take size (drop offset bytes)) in
     let none : length joined.0 ≡ 0 = omega (arith, long, most, ap length joined.2, length-append (bytes_in pieces) joined.0) in
     sym (joined.2 ∙ ap (λ l. bytes_in pieces ++ l) (nothing_long joined.0 none) ∙ append-nil (bytes_in pieces))
 

@@ -31,8 +31,8 @@ attached_of (files.To snk frames) = To frames
 
 -- a source reads a file, whose frames need no more bytes than there are; a sink writes one
 abbrev pub MayAttach : {S K : Type 0} → (S → ℕ) → (S → ℕ) → Kind → PartFile S K → Type 0
-MayAttach place size kind (files.From src format frames) = (is_source kind ≡ true) × (place src + frames * frame_bytes_of format ≤ size src)
-MayAttach place size kind (files.To snk frames) = kind ≡ kinds.Sink
+MayAttach offset size kind (files.From src format frames) = (is_source kind ≡ true) × (offset src + frames * frame_bytes_of format ≤ size src)
+MayAttach offset size kind (files.To snk frames) = kind ≡ kinds.Sink
 
 -- of a file that is read
 abbrev pub OnFrom : {S K : Type 0} → PartFile S K → (S → Format → ℕ → Type 0) → Type 0

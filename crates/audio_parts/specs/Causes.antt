@@ -17,7 +17,7 @@ HasWriteCause before now Read = ⊥
 HasWriteCause before now Write = Rose before now
 HasWriteCause before now (Short at told_size) = ⊥
 
--- between two states of the file of a source, if there is one: its size, its told end, its place and its count are given
+-- between two states of the file of a source, if there is one: its size, its told end, its offset and its count are given
 abbrev pub ReadCause : {F : Type 0} → (F → ℕ) → (F → Option ℕ) → (F → ℕ) → (F → ℕ) → Option F → Option F → PartFault → Type 0
 ReadCause size ends next faults None now fault = ⊥
 ReadCause size ends next faults (Some before) None fault = ⊥

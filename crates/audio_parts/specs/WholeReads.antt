@@ -11,9 +11,9 @@ pub record Remaining : Type 0 where
   pub rest : Option (List ℕ)
   pub left : ℕ
 
--- a file of so many frames, from a place on
+-- a file of so many frames, from an offset on
 abbrev pub unread : Option (List ℕ) → ℕ → Format → ℕ → Remaining
-unread told place format frames = record { rest = rest_of told place (frames * frame_bytes_of format); left = frames }
+unread told offset format frames = record { rest = rest_of told offset (frames * frame_bytes_of format); left = frames }
 
 -- a step read this piece
 pub record ReadPiece (before : Remaining) (piece : Piece) (after : Remaining) : Type 0 where

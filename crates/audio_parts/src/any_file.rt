@@ -18,14 +18,14 @@ impl<S: Source, K: Sink> AnyPart<S, K> {
     /// begun is given up.
     pub fn attach(&mut self, file: PartFile<S, K>)
         requires free { (⟦<AnyPart<S, K> as Part>⟧.terms self.old).file ≡ None }
-        requires may { MayAttach S.place S.size (⟦<AnyPart<S, K> as Part>⟧.terms self.old).kind file }
+        requires may { MayAttach S.offset S.size (⟦<AnyPart<S, K> as Part>⟧.terms self.old).kind file }
         ensures terms { ⟦<AnyPart<S, K> as Part>⟧.terms self.new ≡ with_file (⟦<AnyPart<S, K> as Part>⟧.terms self.old) (Some (attached_of file)) }
         ensures failed { ⟦<AnyPart<S, K> as Part>⟧.failed self.new ≡ ⟦<AnyPart<S, K> as Part>⟧.failed self.old }
         ensures file { file_of self.new ≡ Some file }
-        ensures read { OnFrom file (λ src format frames. read_of self.new ≡ Some (record { source = src; format = format; attached = frames; left = frames; next = S.place src })) }
+        ensures read { OnFrom file (λ src format frames. read_of self.new ≡ Some (record { source = src; format = format; attached = frames; left = frames; next = S.offset src })) }
         ensures written { OnTo file (λ snk frames. written_of self.new ≡ Some (record { sink = snk; planned = frames; left = frames; headed = false })) }
         ensures left { OnFrom file (λ src format frames. ⟦<AnyPart<S, K> as Part>⟧.left self.new ≡ Some frames) }
-        ensures rest { OnFrom file (λ src format frames. ⟦<AnyPart<S, K> as Part>⟧.rest self.new ≡ rest_of (S.told src) (S.place src) (frames * frame_bytes_of format)) }
+        ensures rest { OnFrom file (λ src format frames. ⟦<AnyPart<S, K> as Part>⟧.rest self.new ≡ rest_of (S.told src) (S.offset src) (frames * frame_bytes_of format)) }
         ensures kept { OnTo file (λ snk frames. ⟦<AnyPart<S, K> as Part>⟧.kept self.new ≡ K.told snk) }
         ensures written_anew { OnTo file (λ snk frames. MatchOption (⟦<AnyPart<S, K> as Part>⟧.writing self.new) ⊥ (λ w. w ≡ fresh (K.name snk) w.format frames)) }
         ensures writing { OnTo file (λ snk frames. AllByRecursion (λ port. ⟦<AnyPart<S, K> as Part>⟧.writing self.new ≡ Some (fresh (K.name snk) port frames)) (⟦<AnyPart<S, K> as Part>⟧.terms self.old).inputs) }

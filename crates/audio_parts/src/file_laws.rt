@@ -15,9 +15,9 @@ ghost use Rattle.audio_parts.specs.WholeReads.{ReadAll, Remaining, unread};
 pub fn law_of_reading()
     ensures joined { (before after : Remaining) (pieces : List Piece) → ReadAll before pieces after
         → WhereTold before.rest (λ all. (rest : List ℕ) × (after.rest ≡ Some rest) × (all ≡ bytes_in pieces ++ rest)) }
-    ensures whole { (told : Option (List ℕ)) (place frames : ℕ) (format : Format) (pieces : List Piece) (after : Remaining)
-        → AllByRecursion (IsWhole format) pieces → ReadAll (unread told place format frames) pieces after → after.left ≡ 0
-        → WhereTold told (λ bytes. bytes_in pieces ≡ take (frames * frame_bytes_of format) (drop place bytes)) }
+    ensures whole { (told : Option (List ℕ)) (offset frames : ℕ) (format : Format) (pieces : List Piece) (after : Remaining)
+        → AllByRecursion (IsWhole format) pieces → ReadAll (unread told offset format frames) pieces after → after.left ≡ 0
+        → WhereTold told (λ bytes. bytes_in pieces ≡ take (frames * frame_bytes_of format) (drop offset bytes)) }
 {}
 
 /// As soon as all planned frames were given, a sink's file has kept the one file of these behind what it had. The call

@@ -6,22 +6,22 @@ ghost use Rattle.audio_parts.specs.Causes.{HasReadCause};
 use omx_types::PartFault;
 use outside_io::{Failed, ReadStop, Source, read_exact};
 
-/// Lets the source stand at that place. It stands elsewhere only after a fault.
-fn stand_at<S: Source>(source: &mut S, place: u64) -> Result<(), Failed>
-    requires { place ≤ S.size source.old }
-    ensures reached { OnOk result (S.place source.new ≡ place) }
+/// Lets the source stand at that offset. It stands elsewhere only after a fault.
+fn stand_at<S: Source>(source: &mut S, offset: u64) -> Result<(), Failed>
+    requires { offset ≤ S.size source.old }
+    ensures reached { OnOk result (S.offset source.new ≡ offset) }
     ensures told { S.told source.new ≡ S.told source.old }
     ensures ends { S.ends source.new ≡ S.ends source.old }
     ensures size { S.size source.new ≡ S.size source.old }
     ensures cause { HasCause (S.faults source.old) (S.faults source.new) result }
 {
-    if source.place() == place {
+    if source.offset() == offset {
         return Ok(());
     }
-    source.seek_to(place)
+    source.seek_to(offset)
 }
 
-/// Reads the bytes of whole frames from that place on to the front of the buffer, and answers the place behind them.
+/// Reads the bytes of whole frames from that offset on to the front of the buffer, and answers the offset behind them.
 pub(crate) fn read_frames<S: Source>(
     source: &mut S,
     from: u64,
@@ -46,7 +46,7 @@ pub(crate) fn read_frames<S: Source>(
         Err(_) => return Err(PartFault::Read),
     }
     match read_exact(source, &mut buffer[..count]) {
-        Ok(()) => Ok(source.place()),
+        Ok(()) => Ok(source.offset()),
         Err(stop) => match stop {
             ReadStop::Failed => Err(PartFault::Read),
             ReadStop::Short { at, size } => Err(PartFault::Short { at, size }),

@@ -20,7 +20,7 @@ pub struct SourceFile<S> {
     pub(crate) attached: u64,
     /// How many of them are left.
     pub(crate) left: u64,
-    /// The place of the next one.
+    /// The offset of the next one.
     pub(crate) next: u64,
 }
 
@@ -31,9 +31,9 @@ impl<S: Source> SourceFile<S> {
         ensures format { result.format ≡ format }
         ensures attached { result.attached ≡ frames }
         ensures left { result.left ≡ frames }
-        ensures next { result.next ≡ S.place source }
+        ensures next { result.next ≡ S.offset source }
     {
-        let next = source.place();
+        let next = source.offset();
         SourceFile {
             source,
             format,

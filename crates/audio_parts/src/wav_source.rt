@@ -97,8 +97,8 @@ impl<S: Source> WavSource<S> {
     /// Gives it a file, from where that stands. A step that was begun is given up.
     pub(crate) fn attach(&mut self, source: S, format: Format, frames: u64)
         requires free { self.old.file ≡ None }
-        requires there { S.place source + frames * frame_bytes_of format ≤ S.size source }
-        ensures file { self.new.file ≡ Some (record { source = source; format = format; attached = frames; left = frames; next = S.place source }) }
+        requires there { S.offset source + frames * frame_bytes_of format ≤ S.size source }
+        ensures file { self.new.file ≡ Some (record { source = source; format = format; attached = frames; left = frames; next = S.offset source }) }
         ensures late { self.new.late ≡ self.old.late }
         ensures format { self.new.format ≡ self.old.format }
         ensures failed { self.new.failed ≡ self.old.failed }

@@ -21,6 +21,6 @@ use outside_io::{Sink, Source};
 /// one run of the machine with them.
 pub fn law_of_histories<S: Source, K: Sink, C: Client>()
     ensures { (key units : ℕ) (xs : List (MachineAct × MachineReply)) (w : World) (first : Watched S K C) (log : List (Entry (Asked S K C) (Told S K C)))
-        → Run (no_world key units) xs w → Stands (kept C.progress (graph_of first)) w → Legal (sight_of C.progress S.place S.size S.told K.told) first log
-        → AreOneRun key units xs (plain_log (sight_of C.progress S.place S.size S.told K.told) (bare_log log)) }
+        → Run (no_world key units) xs w → Stands (kept C.progress (graph_of first)) w → Legal (sight_of C.progress S.offset S.size S.told K.told) first log
+        → AreOneRun key units xs (plain_log (sight_of C.progress S.offset S.size S.told K.told) (bare_log log)) }
 {}

@@ -159,7 +159,7 @@ impl<S: Source, K: Sink, C: Client> Board<S, K, C> {
         requires pass { IsOf self.now pass × Clear C.progress (own_calls pass) }
         ensures root { IsOf self.now root.new × ((pass_view root.new).number ≡ 0) × ((pass_view root.new).splits ≡ (pass_view root.old).splits) × ((pass_view root.new).mine ≡ (pass_view root.old).mine) }
         ensures listed { (pass_view root.new).joined ≡ (pass_view root.old).joined ++ ((pass_view pass).number, (pass_view pass).mine) ∷ [] }
-        ensures history { Joined (Legal (sight_of C.progress S.place S.size S.told K.told)) (MayAsk C.progress C.HEADERS) (first_of self.now) (pass_view root.old) (pass_view pass) (pass_view root.new) }
+        ensures history { Joined (Legal (sight_of C.progress S.offset S.size S.told K.told)) (MayAsk C.progress C.HEADERS) (first_of self.now) (pass_view root.old) (pass_view pass) (pass_view root.new) }
         ensures known { Within (seen_states root.old) (seen_states root.new) × Within (seen_states pass) (seen_states root.new) }
     {
         let BoardPass { turn, reader } = pass;
@@ -178,7 +178,7 @@ impl<S: Source, K: Sink, C: Client> Board<S, K, C> {
     pub fn close(self, root: BoardPass<S, K, C>) -> Graph<S, K, C>
         requires root { IsOf self root × ((pass_view root).number ≡ 0) × Clear C.progress (own_calls root) }
         requires joined { length (pass_view root).joined ≡ (pass_view root).splits }
-        ensures closed { Closed (sight_of C.progress S.place S.size S.told K.told) C.HEADERS (first_of self) (pass_view root) result }
+        ensures closed { Closed (sight_of C.progress S.offset S.size S.told K.told) C.HEADERS (first_of self) (pass_view root) result }
         ensures whole { IsWhole (first_graph self) → IsWhole result }
     {
         let Board {

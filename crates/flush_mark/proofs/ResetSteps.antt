@@ -3,12 +3,12 @@ use Rattle.std.proofs.Common.{◌≡◌, ℕ, Bool, true, false, nat_eq, List, [
 use Rattle.std.proofs.lemmas.Bool.Decides.{nat_tests}
 use Rattle.il_machine.specs.declared.port.PortKey.{PortKey}
 use Rattle.il_machine.specs.declared.header.HeaderState.{HeaderState}
-use Rattle.il_machine.specs.declared.header.Place.TheVariants.{Out}
+use Rattle.il_machine.specs.declared.header.Queue.TheVariants.{Out}
 use Rattle.il_machine.specs.declared.header.Spot.TheVariants.{TodoBack, DoneBack}
 use Rattle.il_machine.specs.World.{HeaderRecord, Load}
 use Rattle.il_machine.specs.Lists.{holds_at}
 use Rattle.il_machine.specs.Headers.{Seen, is_for, put, put_all, cleared, cleared_all, reset, unloaded}
-use Rattle.il_machine.specs.Stock.{Stocked, StandsFor, is_out, pulled, pulled_front, todo_without, sent, sent_front, done_without, pushed, at_number, state_out}
+use Rattle.il_machine.specs.Stock.{Stocked, StandsFor, is_out, todo_pulled, todo_front_pulled, todo_without, done_pulled, done_front_pulled, done_without, pushed, at_number, state_out}
 use Rattle.stock_laws.specs.Changes.{todo_cleared, done_cleared}
 use Rattle.stock_laws.proofs.Composed.{pull_put_cleared, send_put_cleared}
 use Rattle.stock_laws.proofs.Clearing.{clear_todo_stands, clear_done_stands}
@@ -69,15 +69,15 @@ begun_todo s key = record {
   next = refl;
 }
 
-pub pulled_is : (s : Stocked) (key : PortKey) (n : ℕ) (ns : List ℕ) → s.headers.todo key ≡ n ∷ ns → pulled key s ≡ is_out n (todo_without key n ns s)
-pulled_is s key n ns e = ap (λ (xs : List ℕ). pulled_front key xs s) e
+pub pulled_is : (s : Stocked) (key : PortKey) (n : ℕ) (ns : List ℕ) → s.headers.todo key ≡ n ∷ ns → todo_pulled key s ≡ is_out n (todo_without key n ns s)
+pulled_is s key n ns e = ap (λ (xs : List ℕ). todo_front_pulled key xs s) e
 
-pub todo_left : (s : Stocked) (key : PortKey) (n : ℕ) (ns : List ℕ) (load : Load) → s.headers.todo key ≡ n ∷ ns → (pushed key DoneBack n (unloaded load) (pulled key s)).headers.todo key ≡ ns
+pub todo_left : (s : Stocked) (key : PortKey) (n : ℕ) (ns : List ℕ) (load : Load) → s.headers.todo key ≡ n ∷ ns → (pushed key DoneBack n (unloaded load) (todo_pulled key s)).headers.todo key ≡ ns
 todo_left s key n ns load e = rw (pulled_is s key n ns e, key_same key) refl
 
 pub todo_step : (change : List HeaderRecord → List HeaderRecord) (old s : Stocked) (key : PortKey) (n : ℕ) (ns : List ℕ) (load : Load) → s.headers.todo key ≡ n ∷ ns → s.loads n ≡ Some load
     → Begun change (put_all key DoneBack (s.headers.todo key)) old s
-    → Begun change (put_all key DoneBack ((pushed key DoneBack n (unloaded load) (pulled key s)).headers.todo key)) old (pushed key DoneBack n (unloaded load) (pulled key s))
+    → Begun change (put_all key DoneBack ((pushed key DoneBack n (unloaded load) (todo_pulled key s)).headers.todo key)) old (pushed key DoneBack n (unloaded load) (todo_pulled key s))
 todo_step change old s key n ns load e l B = record {
   stands = λ hs S.
       let x = B.stands hs S in
@@ -106,15 +106,15 @@ begun_done s key = record {
   next = refl;
 }
 
-pub sent_is : (s : Stocked) (key : PortKey) (n : ℕ) (ns : List ℕ) → s.headers.done key ≡ n ∷ ns → sent key s ≡ is_out n (done_without key ns s)
-sent_is s key n ns e = ap (λ (xs : List ℕ). sent_front key xs s) e
+pub sent_is : (s : Stocked) (key : PortKey) (n : ℕ) (ns : List ℕ) → s.headers.done key ≡ n ∷ ns → done_pulled key s ≡ is_out n (done_without key ns s)
+sent_is s key n ns e = ap (λ (xs : List ℕ). done_front_pulled key xs s) e
 
-pub done_left : (s : Stocked) (key : PortKey) (n : ℕ) (ns : List ℕ) (load : Load) → s.headers.done key ≡ n ∷ ns → (pushed key TodoBack n (unloaded load) (sent key s)).headers.done key ≡ ns
+pub done_left : (s : Stocked) (key : PortKey) (n : ℕ) (ns : List ℕ) (load : Load) → s.headers.done key ≡ n ∷ ns → (pushed key TodoBack n (unloaded load) (done_pulled key s)).headers.done key ≡ ns
 done_left s key n ns load e = rw (sent_is s key n ns e, key_same key) refl
 
 pub done_step : (change : List HeaderRecord → List HeaderRecord) (old s : Stocked) (key : PortKey) (n : ℕ) (ns : List ℕ) (load : Load) → s.headers.done key ≡ n ∷ ns → s.loads n ≡ Some load
     → Begun change (put_all key TodoBack (s.headers.done key)) old s
-    → Begun change (put_all key TodoBack ((pushed key TodoBack n (unloaded load) (sent key s)).headers.done key)) old (pushed key TodoBack n (unloaded load) (sent key s))
+    → Begun change (put_all key TodoBack ((pushed key TodoBack n (unloaded load) (done_pulled key s)).headers.done key)) old (pushed key TodoBack n (unloaded load) (done_pulled key s))
 done_step change old s key n ns load e l B = record {
   stands = λ hs S.
       let x = B.stands hs S in
@@ -138,7 +138,7 @@ made_out n key o test f k t = let q : nat_eq n n ≡ true = grind (arith, nat_te
   | Some h ↦ λ k t. k h refl t
 ] k t)
 
-outside_match : (o : Option HeaderState) (header : BufferHeader) → MatchOption o ⊥ (λ h. (h.place ≡ Out) × IsHeaderOf h header) → MatchOption o ⊥ (λ h. (h.place ≡ Out) × IsHeaderOf h (headers.cleared header))
+outside_match : (o : Option HeaderState) (header : BufferHeader) → MatchOption o ⊥ (λ h. (h.queue ≡ Out) × IsHeaderOf h header) → MatchOption o ⊥ (λ h. (h.queue ≡ Out) × IsHeaderOf h (headers.cleared header))
 outside_match None header x = x
 outside_match (Some h) header x = (x.0, record { size = (x.1).size; memory = (x.1).memory })
 

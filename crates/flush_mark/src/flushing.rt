@@ -31,10 +31,10 @@ fn todo_to_done(stock: &mut Stock, key: PortKey)
     ensures { Leads (reset true key) (stocked stock.old) (stocked stock.new) }
 {
     stock.clear_done(key);
-    while let Some(mut header) = stock.pull_work(key) {
+    while let Some(mut header) = stock.pull_todo(key) {
         stock.law_of_owners();
         header.clear();
-        stock.push_work(key, header, Spot::DoneBack);
+        stock.push_header(key, header, Spot::DoneBack);
     }
 }
 
@@ -44,10 +44,10 @@ fn done_to_todo(stock: &mut Stock, key: PortKey)
     ensures { Leads (reset false key) (stocked stock.old) (stocked stock.new) }
 {
     stock.clear_todo(key);
-    while let Some(mut sent) = stock.send_front(key) {
+    while let Some(mut sent) = stock.pull_done(key) {
         stock.law_of_owners();
         sent.clear();
-        stock.push_work(key, sent, Spot::TodoBack);
+        stock.push_header(key, sent, Spot::TodoBack);
     }
 }
 

@@ -109,9 +109,9 @@ fn place(stock: &mut Stock, bytes: Vec<u8>, home: PortKey, at: (PortKey, Spot), 
     ensures next { (stocked stock.new).next ≡ (stocked stock.old).next + 1 }
 {
     let memory = Some(Memory::new(bytes));
-    let mut header = stock.populate(INPUT, Some(OUTPUT), Home::Port(home), memory, 4);
+    let mut header = stock.make_header(INPUT, Some(OUTPUT), Home::Port(home), memory, 4);
     fill(&mut header, mark);
-    stock.push_work(at.0, header, at.1);
+    stock.push_header(at.0, header, at.1);
 }
 
 /// What the header carries, which then is unmade.
@@ -126,7 +126,7 @@ fn spend(stock: &mut Stock, header: Header) -> Carried
         header.flags(),
         header.mark(),
     );
-    let _memory = stock.withdraw(header);
+    let _memory = stock.unmake_header(header);
     carried
 }
 
@@ -140,7 +140,7 @@ fn next_todo(stock: &mut Stock, key: PortKey) -> Option<Carried>
     requires key { IsEnd key }
     ensures { HasBoth (stocked stock.new) }
 {
-    match stock.pull_work(key) {
+    match stock.pull_todo(key) {
         Some(header) => Some(spend(stock, header)),
         None => None,
     }
@@ -151,7 +151,7 @@ fn next_done(stock: &mut Stock, key: PortKey) -> Option<Carried>
     requires key { IsEnd key }
     ensures { HasBoth (stocked stock.new) }
 {
-    match stock.send_front(key) {
+    match stock.pull_done(key) {
         Some(header) => Some(spend(stock, header)),
         None => None,
     }

@@ -19,7 +19,7 @@ impl<S: Source, K: Sink, C: Client> Served<S, K, C> {
     /// Makes the graph's call for the act.
     pub fn answer(&mut self, act: Act<S, K, C>) -> Reply<S, K, C>
         requires lawful { Can C.progress self.old.graph act }
-        ensures { Moved (sight_of C.progress S.place S.size S.told K.told) act result self.old.graph self.new.graph }
+        ensures { Moved (sight_of C.progress S.offset S.size S.told K.told) act result self.old.graph self.new.graph }
     {
         match act {
             Act::GetHandle(name, client) => self.get_handle(name, client),

@@ -31,7 +31,7 @@ use Rattle.whole_laws.proofs.Making.{with_component_made, lift_made}
 use Rattle.note_queues.specs.declared.taken.Taken.{Taken}
 use Rattle.note_queues.specs.Queues.{note_of}
 use Rattle.registry.specs.Handles.{Handles, entry_at, resolved}
-use Rattle.port_stock.specs.Kept.{Kept as StockKept, stocked}
+use Rattle.port_stock.specs.Kept.{StockKept, stocked}
 use Rattle.port_stock.specs.Conditions.{IsWithoutPorts, IsUnmade, has_key}
 use Rattle.il_component.specs.Entries.{Entry, component_of, held_in}
 use Rattle.graph_core.specs.Registered.{Registered}

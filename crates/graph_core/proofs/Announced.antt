@@ -13,7 +13,7 @@ use Rattle.il_machine.specs.Look.{Look}
 use Rattle.il_machine.specs.Parts.{file_format}
 use Rattle.il_machine.specs.Settings.{same_format}
 use Rattle.il_machine.specs.Sound.{Sound}
-use Rattle.il_machine.specs.Stepping.{Done, IsDoneBy, IsDoneOf}
+use Rattle.il_machine.specs.Stepping.{WorkDone, IsDoneBy, IsDoneOf}
 use Rattle.il_machine.specs.Whole.{HasProgress, Kept}
 use Rattle.il_machine.specs.World.{Component, Stream, Work, World, changed_at as world_changed, number_of, port_of, stream_of, with_component}
 use Rattle.machine_laws.proofs.Arriving.{change_let_go, state_there}
@@ -25,7 +25,7 @@ use Rattle.whole_laws.proofs.Entries.{set_same}
 use Rattle.whole_laws.proofs.Lifting.{progress_number, with_look}
 use Rattle.whole_laws.proofs.Lists.{get_set_same, get_set_other, map_set}
 use Rattle.registry.specs.Handles.{Handles}
-use Rattle.port_stock.specs.Kept.{Kept as StockKept, stocked}
+use Rattle.port_stock.specs.Kept.{StockKept, stocked}
 use Rattle.il_component.specs.Entries.{Entry, component_of, KeepsNotices}
 use Rattle.graph_core.specs.Entries.{Entries, changed_at, component_at, kept}
 use Rattle.graph_core.specs.Standing.{IsGraph}
@@ -100,12 +100,12 @@ lift_told k i c d at n o = λ w S.
 -- ---- the world
 
 -- what the end of an announcement makes of the world
-pub told_is : (i : ℕ) (c : Component) (done : Done) (w : World) (work : Work) → c.work ≡ Some work → work.announces ≡ true → finished i c done w ≡ with_component i (announced c) w
+pub told_is : (i : ℕ) (c : Component) (done : WorkDone) (w : World) (work : Work) → c.work ≡ Some work → work.announces ≡ true → finished i c done w ≡ with_component i (announced c) w
 told_is i c done w work e f =
     ap (λ (o : Option Work). finished_by i c done o w) e
     ∙ ap (λ (b : Bool). if b then with_component i (announced c) w else world_changed (stream_of (number_of c) w) w (λ x. with_landed i c done x w)) f
 
-abbrev nothing_done : Done
+abbrev nothing_done : WorkDone
 nothing_done = record { component = 0; frames = 0; fault = None; headers = []; took = [] }
 
 sound_told : (w : World) (i : ℕ) (c : Component) (work : Work) → Sound w → slice_get w.components i ≡ Some c → c.work ≡ Some work → work.announces ≡ true → Sound (with_component i (announced c) w)
@@ -137,7 +137,7 @@ module _ {C : Type 0} (progress : C → Progress) (g : Entries C) (i : ℕ) (e d
       (sym (kept_changed progress g i e d at N ∙ ap (λ (x : Component). with_look i x (kept progress g)) is))
       (lift_told (kept progress g) i c (announced c) (there progress g i e at) (ap (λ h. h.generation) T.change.handle) T.client)
 
-  pub told_returns : (done : Done) → MatchOption (component_at i g) ⊥ (λ c. StepsBare (kept progress g) (kept progress (changed_at i d g)) (λ w v. v ≡ finished i c done w))
+  pub told_returns : (done : WorkDone) → MatchOption (component_at i g) ⊥ (λ c. StepsBare (kept progress g) (kept progress (changed_at i d g)) (λ w v. v ≡ finished i c done w))
   told_returns done = rw (there progress g i e at) (λ w S. let x = told_steps w S in (x.0, x.1, x.2 ∙ sym (told_is i c done w A.work A.is A.tells)))
 
 module _ {C : Type 0} (progress : C → Progress) where

@@ -6,7 +6,7 @@ use Rattle.il_machine.specs.Look.{look}
 use Rattle.il_machine.specs.Stock.{Stocked, no_stock}
 use Rattle.whole_laws.specs.Bare.{StandsBare}
 use Rattle.il_machine.specs.Sound.{Sound}
-use Rattle.port_stock.specs.Kept.{Kept as StockKept, stocked}
+use Rattle.port_stock.specs.Kept.{StockKept, stocked}
 use Rattle.registry.specs.Handles.{no_handles}
 use Rattle.graph_core.specs.Entries.{kept}
 use Rattle.graph_core.specs.Standing.{IsGraph}

@@ -8,9 +8,9 @@ use Rattle.il_machine.specs.declared.header.Owner.TheVariants as owners
 use Rattle.il_machine.specs.declared.header.HeaderState.{HeaderState}
 use Rattle.il_machine.specs.World.{Component, HeaderRecord, Picked, number_of, ports_from}
 use Rattle.il_machine.specs.Headers.{Seen, changed, find_header, given_to, load_of}
-use Rattle.il_machine.specs.Stock.{Stocked, StandsFor, pulled, state_out}
+use Rattle.il_machine.specs.Stock.{Stocked, StandsFor, todo_pulled, state_out}
 use Rattle.il_machine.specs.Buffers.{held, load_in}
-use Rattle.il_machine.specs.Claims.{Carried, carried, carried_by, first_picked, must_announce, picked, work_of}
+use Rattle.il_machine.specs.Claims.{CarriedHeader, carried, carried_by, first_picked, must_announce, picked, work_of}
 use Rattle.il_machine.proofs.Carrying.{carried_same, held_out}
 use Rattle.machine_laws.proofs.Finding.{found_number}
 use Rattle.stock_laws.proofs.Composed.{pull_give_on, pull_taken}
@@ -32,8 +32,8 @@ front_shown s hs key n ns h S e m F =
     let T = pull_taken s hs key n ns S e in
     let r = T.found.it in
     let number : r.state.number ≡ h.held.number = found_number n hs r T.found.is ∙ sym m in
-    let there : (pulled key s).headers.header h.held.number ≡ Some (state_out T.state) = ap (λ (k : ℕ). (pulled key s).headers.header k) m ∙ T.shown in
-    let size : r.state.size ≡ h.held.size = ap (λ (x : HeaderState). x.size) T.found.state ∙ sym (outside_size ((pulled key s).headers.header h.held.number) (state_out T.state) h there F.1.1) in
+    let there : (todo_pulled key s).headers.header h.held.number ≡ Some (state_out T.state) = ap (λ (k : ℕ). (todo_pulled key s).headers.header k) m ∙ T.shown in
+    let size : r.state.size ≡ h.held.size = ap (λ (x : HeaderState). x.size) T.found.state ∙ sym (outside_size ((todo_pulled key s).headers.header h.held.number) (state_out T.state) h there F.1.1) in
     let load : s.loads n ≡ Some (load_in h.held) = ap s.loads (sym m) ∙ F.0.1 in
     let same : Some r.load ≡ Some (load_in h.held) = ap (option_map load_of) (sym T.found.is) ∙ S.loads n (load_in h.held) load in
     let l : r.load ≡ load_in h.held = cc in
@@ -52,7 +52,7 @@ given_same component n port hs xs = carried_same hs (changed n (given_to (owners
 abbrev Later : ℕ → ℕ → List Port → List (Option BufferHeader) → Stocked → Seen → Type 0
 Later component port ports places s t = (hs : List HeaderRecord) → StandsFor s hs → Agree component port s t → carried hs (picked t ports) ≡ carried_from port places
 
-found_carried : (n port : ℕ) (hs : List HeaderRecord) (h : BufferHeader) (rest : List Carried) → Shown n hs h → carried_by port (find_header n hs) rest ≡ record { port = port; header = h.held } ∷ rest
+found_carried : (n port : ℕ) (hs : List HeaderRecord) (h : BufferHeader) (rest : List CarriedHeader) → Shown n hs h → carried_by port (find_header n hs) rest ≡ record { port = port; header = h.held } ∷ rest
 found_carried n port hs h rest F = rw (F.found, F.shows) refl
 
 first_carried : (component index : ℕ) (p : Port) (place : Option BufferHeader) (ports : List Port) (places : List (Option BufferHeader)) (s : Stocked) (hs : List HeaderRecord) (t : Seen) (ns : List ℕ) → p.key.port ≡ index → StandsFor s hs

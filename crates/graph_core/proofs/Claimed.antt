@@ -10,7 +10,7 @@ use Rattle.il_machine.specs.declared.header.Owner.TheVariants as owners
 use Rattle.il_machine.specs.World.{Component, HeaderRecord, Picked, Work, World, number_of, ports_of, with_component}
 use Rattle.il_machine.specs.Headers.{Seen, seen, find_header, changed, given_to, is_notice, Once}
 use Rattle.il_machine.specs.Look.{Look, look}
-use Rattle.il_machine.specs.Room.{used, work_places}
+use Rattle.il_machine.specs.Room.{used, work_reserve}
 use Rattle.il_machine.specs.Components.{progress_of}
 use Rattle.il_machine.specs.Stock.{Stocked, StandsFor}
 use Rattle.il_machine.specs.Sound.{Sound}
@@ -27,7 +27,7 @@ use Rattle.whole_laws.proofs.Lifting.{progress_number, with_look}
 use Rattle.whole_laws.proofs.Stocking.{lift_stock, stands_for, with_headers}
 use Rattle.il_component.specs.Entries.{Entry, component_of, KeepsNotices}
 use Rattle.il_component.proofs.Fit.{same_costs}
-use Rattle.port_stock.specs.Kept.{Kept as StockKept, stocked}
+use Rattle.port_stock.specs.Kept.{StockKept, stocked}
 use Rattle.header_core.specs.BufferHeader.{BufferHeader}
 use Rattle.graph_core.specs.Claiming.{HasFronts, all_out, carried_from, gives_to}
 use Rattle.graph_core.proofs.Carried.{work_carried}
@@ -104,7 +104,7 @@ notice_apart k from m w h (x ∷ xs) N A =
 
 pub used_working : (c : Component) (work : Work) → c.work ≡ None → used (working work c) ≡ used c + (length work.headers + 2)
 used_working c work e =
-    let n : work_places c.work ≡ 0 = ap work_places e in
+    let n : work_reserve c.work ≡ 0 = ap work_reserve e in
     omega (arith, n, same_costs (working work c) c refl c.commands)
 
 pub has_room : (l : Look) (c : Component) (work : Work) → claim_idle l c ≡ None → work.headers ≡ picked l.headers (wanted c) → used (working work c) ≤ 256

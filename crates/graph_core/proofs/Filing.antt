@@ -11,7 +11,7 @@ use Rattle.il_machine.specs.Whole.{Kept}
 use Rattle.machine_laws.proofs.Attaching.{sound_attached}
 use Rattle.machine_laws.proofs.Change.{IsChange}
 use Rattle.registry.specs.Handles.{Handles}
-use Rattle.port_stock.specs.Kept.{Kept as StockKept, stocked}
+use Rattle.port_stock.specs.Kept.{StockKept, stocked}
 use Rattle.whole_laws.specs.Bare.{StepsBare}
 use Rattle.whole_laws.proofs.Lifting.{with_look}
 use Rattle.whole_laws.proofs.Filing.{lift_filed}

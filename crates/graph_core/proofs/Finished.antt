@@ -5,9 +5,9 @@ use Rattle.std.proofs.lemmas.Option.{slice_get-map}
 use Rattle.std.proofs.lemmas.List.Elements.{All-append}
 use Rattle.il_machine.specs.declared.answer.Progress.{Progress}
 use Rattle.il_machine.specs.declared.header.HeaderState.{HeaderState}
-use Rattle.il_machine.specs.declared.header.Place.TheVariants.{Out}
+use Rattle.il_machine.specs.declared.header.Queue.TheVariants.{Out}
 use Rattle.il_machine.specs.Census.{note_numbers, times}
-use Rattle.il_machine.specs.Claims.{Carried}
+use Rattle.il_machine.specs.Claims.{CarriedHeader}
 use Rattle.il_machine.specs.Components.{progress_of}
 use Rattle.il_machine.specs.Finishing.{all_landed as machine_landed, announced, finished, finished_by, gone_through, notes_after, stepped_back, with_landed}
 use Rattle.il_machine.specs.Headers.{Seen, seen, find_header, is_notice, state_of, weight}
@@ -16,7 +16,7 @@ use Rattle.il_machine.specs.Look.{Look, look}
 use Rattle.il_machine.specs.Parts.{terms_of}
 use Rattle.il_machine.specs.Buffers.{held}
 use Rattle.il_machine.specs.Sound.{IsPickedFor, IsSound, Sound}
-use Rattle.il_machine.specs.Stepping.{Done, IsDoneBy, IsDoneOf}
+use Rattle.il_machine.specs.Stepping.{WorkDone, IsDoneBy, IsDoneOf}
 use Rattle.il_machine.specs.Stock.{Stocked, StandsFor}
 use Rattle.il_machine.specs.Whole.{HasProgress, IsNoticed, Kept, Noticed}
 use Rattle.il_machine.specs.World.{Component, HeaderRecord, Picked, Stream, Work, World, changed_at as world_changed, number_of, stream_of, with_component}
@@ -39,7 +39,7 @@ use Rattle.whole_laws.proofs.Works.{streams_kept}
 use Rattle.header_core.specs.BufferHeader.{BufferHeader}
 use Rattle.il_component.specs.Entries.{Entry, component_of, held_in}
 use Rattle.port_stock.specs.Conditions.{IsHeaderOf, IsOutside, IsPort}
-use Rattle.port_stock.specs.Kept.{Kept as StockKept, kept_load, stocked}
+use Rattle.port_stock.specs.Kept.{StockKept, kept_load, stocked}
 use Rattle.work_landing.specs.declared.step.Step.{Step}
 use Rattle.work_landing.specs.Landed.{AreHomeless, AreUnkept, AreWithin, IsLeft, all_landed, all_notices, done_by}
 use Rattle.work_landing.specs.Places.{AreApart, EachFrom, carried_from}
@@ -70,7 +70,7 @@ comes_by : (w : World) (c : Component) (places : List (Option BufferHeader)) (st
     × ((s : Stream) → stream_of (number_of c) w ≡ Some s → IsLeft c s (done_by (number_of c) places step took) step)) → Comes w c places step took
 comes_by w c places step took None e h = absurd h
 comes_by w c places step took (Some work) e h =
-    let d : Done = done_by (number_of c) places step took in
+    let d : WorkDone = done_by (number_of c) places step took in
     let x : IsDoneBy false w c work d = subst (λ (b : Bool). IsDoneBy b w c work d) h.0 h.1 in
     let s = there_is (stream_of (number_of c) w) _ x in
     record { work = work; is = e; steps = h.0; comes = h.1; stream = s.0; flows = s.1; left = h.2 s.0 s.1 }
@@ -79,7 +79,7 @@ pub comes_of : (w : World) (c : Component) (places : List (Option BufferHeader))
 comes_of w c places step took B = comes_by w c places step took c.work refl B
 
 -- what the work's end makes of the world
-pub finished_is : (i : ℕ) (c : Component) (done : Done) (w : World) (work : Work) (s : Stream) → c.work ≡ Some work → work.announces ≡ false → stream_of (number_of c) w ≡ Some s → finished i c done w ≡ with_landed i c done s w
+pub finished_is : (i : ℕ) (c : Component) (done : WorkDone) (w : World) (work : Work) (s : Stream) → c.work ≡ Some work → work.announces ≡ false → stream_of (number_of c) w ≡ Some s → finished i c done w ≡ with_landed i c done s w
 finished_is i c done w work s e f g =
     ap (λ (o : Option Work). finished_by i c done o w) e
     ∙ (ap (λ (b : Bool). if b then with_component i (announced c) w else world_changed (stream_of (number_of c) w) w (λ x. with_landed i c done x w)) f
@@ -87,7 +87,7 @@ finished_is i c done w work s e f g =
 
 -- ---- a header that is out is kept without what it carries
 
-out_unkept : (o : Option HeaderRecord) (h : BufferHeader) → MatchOption (option_map state_of o) ⊥ (λ s. (s.place ≡ Out) × IsHeaderOf s h) → kept_load o ≡ None
+out_unkept : (o : Option HeaderRecord) (h : BufferHeader) → MatchOption (option_map state_of o) ⊥ (λ s. (s.queue ≡ Out) × IsHeaderOf s h) → kept_load o ≡ None
 out_unkept None h m = refl
 out_unkept (Some r) h m = rw m.0 refl
 
@@ -110,7 +110,7 @@ module _ {C : Type 0} (progress : C → Progress) (g : Entries C) (i : ℕ) (e :
   abbrev k : ℕ
   k = number_of c
 
-  abbrev done : List ℕ → Done
+  abbrev done : List ℕ → WorkDone
   done took = done_by k places step took
 
   module _ (w : World) (S : StandsBare (kept progress g) w) (took : List ℕ) (K : Comes w c places step took) where
@@ -129,7 +129,7 @@ module _ {C : Type 0} (progress : C → Progress) (g : Entries C) (i : ℕ) (e :
     picked : (j : ℕ) (p : Picked) → slice_get K.work.headers j ≡ Some p → IsPickedFor (seen w.headers) k p
     picked j p f = at_place (IsPickedFor (seen w.headers) k) K.work.headers j p (((parts_of w sound).works).made i c K.work here K.is) f
 
-    abbrev these : List Carried
+    abbrev these : List CarriedHeader
     these = carried_from 0 places
 
     are : AreOf K.work.headers these

@@ -10,7 +10,7 @@ use Rattle.il_machine.specs.Ports.{is_going_to}
 use Rattle.il_machine.specs.Lists.{first_of_these}
 use Rattle.il_machine.specs.World.{Component, with_component}
 use Rattle.il_machine.specs.Look.{Look, look}
-use Rattle.il_machine.specs.Units.{need_of, free_units, coming_units, is_waiter, is_before, is_weaker, gives_first, first_waiter, weakest, victim, lacks_places, grant_idle, preempt_idle, granted_units, preempted_units, with_changed}
+use Rattle.il_machine.specs.Units.{need_of, free_units, coming_units, is_waiter, is_before, is_weaker, gives_first, first_waiter, weakest, victim, lacks_event_room, grant_idle, preempt_idle, granted_units, preempted_units, with_changed}
 use Rattle.whole_laws.specs.Bare.{StepsBare}
 use Rattle.il_machine.specs.Sound.{AreRising, IsUnitSound}
 use Rattle.machine_laws.proofs.Units.{resources_of}
@@ -44,7 +44,7 @@ module _ (l : Look) (c : Component) (waiter : first_waiter l.components ≡ Some
   pub short_is : have ≡ free_units l → have < need → Some (why.Short have need) ≡ grant_idle l
   short_is f t = let u : nat_lt (free_units l) (need_of c) ≡ true = rw (← f, ← n) (less have need t) in rw (waiter, u, f, n) refl
 
-  pub lacks_is : (o : Option Why) → have ≡ free_units l → need ≤ have → o ≡ first_of_these (lacks_places c ∷ []) → o ≡ grant_idle l
+  pub lacks_is : (o : Option Why) → have ≡ free_units l → need ≤ have → o ≡ first_of_these (lacks_event_room c ∷ []) → o ≡ grant_idle l
   lacks_is o f t p = let u : nat_lt (free_units l) (need_of c) ≡ false = rw (← f, ← n) (not_less have need t) in rw (waiter, u) p
 
   pub enough_is : have ≡ coming_units l → need ≤ have → Some (why.Enough have need) ≡ preempt_idle l
@@ -53,7 +53,7 @@ module _ (l : Look) (c : Component) (waiter : first_waiter l.components ≡ Some
   pub no_victim_is : have ≡ coming_units l → have < need → weakest c l.components ≡ None → Some why.NoVictim ≡ preempt_idle l
   no_victim_is f t w = let u : nat_le (need_of c) (coming_units l) ≡ false = rw (← f, ← n) (not_most need have t) in rw (waiter, u, w) refl
 
-  pub victim_lacks_is : (d : Component) (o : Option Why) → have ≡ coming_units l → have < need → weakest c l.components ≡ Some d → o ≡ first_of_these (lacks_places d ∷ []) → o ≡ preempt_idle l
+  pub victim_lacks_is : (d : Component) (o : Option Why) → have ≡ coming_units l → have < need → weakest c l.components ≡ Some d → o ≡ first_of_these (lacks_event_room d ∷ []) → o ≡ preempt_idle l
   victim_lacks_is d o f t w p = let u : nat_le (need_of c) (coming_units l) ≡ false = rw (← f, ← n) (not_most need have t) in rw (waiter, u, w) p
 
 -- ---- what is true of the component that changes

@@ -8,7 +8,7 @@ use Rattle.il_machine.specs.declared.port.Port.{Port}
 use Rattle.il_machine.specs.declared.header.HeaderState.{HeaderState}
 use Rattle.il_machine.specs.declared.header.Owner.{Owner}
 use Rattle.il_machine.specs.declared.header.Owner.TheVariants as owners
-use Rattle.il_machine.specs.declared.header.Place.TheVariants.{Out}
+use Rattle.il_machine.specs.declared.header.Queue.TheVariants.{Out}
 use Rattle.il_machine.specs.declared.header.Spot.TheVariants.{TodoBack}
 use Rattle.il_machine.specs.World.{Component, HeaderRecord, World, port_of, with_component}
 use Rattle.il_machine.specs.Headers.{Seen, seen, count_headers, is_for, is_notice, put, loaded, without, empty_load}
@@ -17,7 +17,7 @@ use Rattle.il_machine.specs.Lists.{holds_at}
 use Rattle.il_machine.specs.Room.{room}
 use Rattle.il_machine.specs.Ports.{accepting}
 use Rattle.il_machine.specs.Buffers.{has_no_block, client_header, with_header, with_todo, without_header, unpopulated, is_unpopulating, free_buffer_refusal, load_in}
-use Rattle.il_machine.specs.Stock.{Stocked, StandsFor, populated, pushed, withdrawn}
+use Rattle.il_machine.specs.Stock.{Stocked, StandsFor, header_made, pushed, header_unmade}
 use Rattle.whole_laws.specs.Bare.{StandsBare, StepsBare}
 use Rattle.il_machine.specs.Sound.{Sound, IsOwnedSo}
 use Rattle.machine_laws.proofs.Accepting.{passed}
@@ -28,11 +28,11 @@ use Rattle.machine_laws.proofs.Keys.{there_is, at_there}
 use Rattle.machine_laws.proofs.Lookups.{port_there_at}
 use Rattle.machine_laws.proofs.Parts.{parts_of}
 use Rattle.machine_laws.proofs.Replacing.{replaced_put}
-use Rattle.stock_laws.proofs.Standing.{Found, found, push_stands, populate_stands, withdraw_stands}
+use Rattle.stock_laws.proofs.Standing.{Found, found, push_stands, make_stands, unmake_stands}
 use Rattle.whole_laws.proofs.Stocking.{lift_one, with_headers, stands_for, IsFree}
 use Rattle.header_core.specs.BufferHeader.{BufferHeader}
 use Rattle.il_component.specs.Entries.{Entry, component_of, KeepsNotices}
-use Rattle.port_stock.specs.Kept.{Kept as StockKept, stocked}
+use Rattle.port_stock.specs.Kept.{StockKept, stocked}
 use Rattle.port_stock.specs.Conditions.{HasBlockFor, IsOutside, IsHeaderOf, made_in}
 use Rattle.graph_core.specs.Standing.{SoundWorld}
 use Rattle.graph_core.specs.Changes.{IsHandedIn, IsMakable}
@@ -115,16 +115,16 @@ module _ {C : Type 0} (progress : C → Progress) (g : Entries C) (i : ℕ) (e :
     pub most_size : p.setting.definition.size ≤ 4096
     most_size = (port_limits c index p ((parts_of W.world W.sound).components i c (at_world progress g i e W.world W.stands at)) port).most_size
 
-    module _ (new : s.headers.header s.next ≡ None) (after_stock : StockKept) (now : stocked after_stock ≡ populated made s) where
+    module _ (new : s.headers.header s.next ≡ None) (after_stock : StockKept) (now : stocked after_stock ≡ header_made made s) where
       abbrev record_made : HeaderRecord
       record_made = record { state = made; load = empty_load memory }
 
       steps_made : StepsBare (kept progress g) (kept progress (with_stocked progress after_stock g)) (λ w v. v ≡ with_header (client_header w.made p (is_some memory)) memory w)
-      steps_made = stock_steps progress g after_stock (populated made s) (λ w v. v ≡ with_header (client_header w.made p (is_some memory)) memory w) now
+      steps_made = stock_steps progress g after_stock (header_made made s) (λ w v. v ≡ with_header (client_header w.made p (is_some memory)) memory w) now
           (λ w S.
           let free : IsFree s.next s = rw new tt in
-          let x = lift_one (kept progress g) s (populated made s) s.next (λ hs. hs ++ record_made ∷ []) (stock_of progress g) refl free
-          (λ hs T. populate_stands s hs made (empty_load memory) T new refl refl)
+          let x = lift_one (kept progress g) s (header_made made s) s.next (λ hs. hs ++ record_made ∷ []) (stock_of progress g) refl free
+          (λ hs T. make_stands s hs made (empty_load memory) T new refl refl)
           (λ hs T. λ m d. push_else m hs record_made (λ q. d (sym q))) w S in
           let m : w.made ≡ s.next = made_of progress g w S in
           (x.0, x.1, x.2 ∙ ap (λ (k : ℕ). record w { headers = w.headers ++ record { state = client_header k p (is_some memory); load = empty_load memory } ∷ []; made = k + 1 }) (sym m)))
@@ -160,7 +160,7 @@ module _ {C : Type 0} (progress : C → Progress) (g : Entries C) (i : ℕ) (e :
     found_in : (w : World) → StandsBare (kept progress g) w → Found n w.headers state
     found_in w S = found s w.headers n state (world_stands w S) shown
 
-    place_out : state.place ≡ Out
+    place_out : state.queue ≡ Out
     place_out =
         let F = found_in W.world W.stands in
         let O = ((parts_of W.world W.sound).tied.placed n F.it F.is).owner in
@@ -214,16 +214,16 @@ module _ {C : Type 0} (progress : C → Progress) (g : Entries C) (i : ℕ) (e :
 
     -- it is unmade
 
-    module _ (allowed : free_buffer_refusal c (Some p) state ≡ None) (d : Entry C) (is : component_of d ≡ unpopulated p c) (keeps : KeepsNotices e d) (after_stock : StockKept) (now : stocked after_stock ≡ withdrawn n s) where
+    module _ (allowed : free_buffer_refusal c (Some p) state ≡ None) (d : Entry C) (is : component_of d ≡ unpopulated p c) (keeps : KeepsNotices e d) (after_stock : StockKept) (now : stocked after_stock ≡ header_unmade n s) where
       abbrev after : Entries C
       after = with_stocked progress after_stock (changed_at i d g)
 
       steps_freed : StepsBare (kept progress g) (kept progress after) (λ w v. v ≡ without_header n (with_component i (unpopulated p c) w))
       steps_freed = λ w S.
           let x = steps_changed progress g i e d at keeps (part_as c (component_of d) (unpopulated p c) is (part_unpopulated p c)) w S in
-          let f = stock_steps progress (changed_at i d g) after_stock (withdrawn n s) (λ w v. v ≡ with_headers (without n w.headers) s.next w) now
-          (lift_one (kept progress (changed_at i d g)) s (withdrawn n s) n (without n) (stock_of progress (changed_at i d g)) refl free
-          (λ hs T. withdraw_stands s hs n state T shown place_out)
+          let f = stock_steps progress (changed_at i d g) after_stock (header_unmade n s) (λ w v. v ≡ with_headers (without n w.headers) s.next w) now
+          (lift_one (kept progress (changed_at i d g)) s (header_unmade n s) n (without n) (stock_of progress (changed_at i d g)) refl free
+          (λ hs T. unmake_stands s hs n state T shown place_out)
           (λ hs T. λ m q. without_else n m hs q)) in
           let y = f x.0 x.1 in
           let to : World → World = λ u. with_headers (without n u.headers) s.next u in

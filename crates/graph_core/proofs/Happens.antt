@@ -31,7 +31,7 @@ use Rattle.whole_laws.proofs.Following.{as_change}
 use Rattle.il_component.specs.Entries.{Entry, component_of}
 use Rattle.il_component.specs.Entries as component
 use Rattle.registry.specs.Handles.{Handles}
-use Rattle.port_stock.specs.Kept.{Kept as StockKept, stocked}
+use Rattle.port_stock.specs.Kept.{StockKept, stocked}
 use Rattle.port_stock.specs.Conditions.{AreMadeForOwners, has_key}
 use Rattle.graph_core.specs.Entries.{Entries, components_of, look_of, kept, waits_next}
 use Rattle.graph_core.specs.Standing.{SoundWorld, HasPorts, IsGraph}

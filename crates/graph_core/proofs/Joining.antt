@@ -23,7 +23,7 @@ use Rattle.machine_laws.proofs.Facts.{peer_there}
 use Rattle.machine_laws.proofs.Keys.{key_is}
 use Rattle.machine_laws.proofs.Lookups.{port_parts}
 use Rattle.registry.specs.Handles.{Handles}
-use Rattle.port_stock.specs.Kept.{Kept as StockKept, stocked}
+use Rattle.port_stock.specs.Kept.{StockKept, stocked}
 use Rattle.whole_laws.proofs.Lists.{get_set_other}
 use Rattle.whole_laws.proofs.Following.{as_change}
 use Rattle.il_component.specs.Entries.{Entry, component_of, KeepsNotices}

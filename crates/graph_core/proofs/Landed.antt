@@ -8,8 +8,8 @@ use Rattle.il_machine.specs.declared.header.Spot.TheVariants.{TodoFront, DoneBac
 use Rattle.il_machine.specs.World.{Component, HeaderRecord, Load, Stream, number_of}
 use Rattle.il_machine.specs.Headers.{find_header, given_to, loaded, is_notice, put_at, Once}
 use Rattle.il_machine.specs.Buffers.{held}
-use Rattle.il_machine.specs.Claims.{Carried}
-use Rattle.il_machine.specs.Stepping.{Done}
+use Rattle.il_machine.specs.Claims.{CarriedHeader}
+use Rattle.il_machine.specs.Stepping.{WorkDone}
 use Rattle.il_machine.specs.Finishing.{Landing, Again, Onward, Noted, all_landed, key_at, landed_at, landing, load_after}
 use Rattle.il_machine.specs.Whole.{Noticed}
 use Rattle.machine_laws.proofs.Finding.{found_number}
@@ -26,7 +26,7 @@ pub record IsLanded (to : Landing) (c : Component) (load : Load) (n : ℕ) (r : 
   pub replaced : IsReplaced n r now hs ks
   pub noted : to ≡ Noted → now ≡ given_to (owners.Notice (number_of c)) (loaded load r)
 
-one_landed : (to : Landing) (c : Component) (x : Carried) (load : Load) (hs : List HeaderRecord) (r : HeaderRecord) → Once hs → find_header x.header.number hs ≡ Some r
+one_landed : (to : Landing) (c : Component) (x : CarriedHeader) (load : Load) (hs : List HeaderRecord) (r : HeaderRecord) → Once hs → find_header x.header.number hs ≡ Some r
     → IsLanded to c load x.header.number r hs (landed_at to c x load hs)
 one_landed Again c x load hs r o f = record {
   now = put_at (key_at c x) TodoFront (loaded load r);
@@ -68,7 +68,7 @@ still_of key n r s hs ks port first (None ∷ places) R others A = (tt, still_of
 still_of key n r s hs ks port first (Some x ∷ places) R others A =
     (still_one key n r s hs ks x R others.0 A.0, still_of key n r s hs ks (port + 1) (first + 1) places R others.1 A.1)
 
-module _ (c : Component) (s : Stream) (done : Done) (key : ℕ) where
+module _ (c : Component) (s : Stream) (done : WorkDone) (key : ℕ) where
   abbrev after : ℕ → List (Option BufferHeader) → List HeaderRecord → List HeaderRecord
   after port places hs = all_landed c s done (carried_from port places) hs
 

@@ -10,7 +10,7 @@ use Rattle.il_machine.specs.States.{is_loaded, is_invalid}
 use Rattle.il_machine.specs.World.{Component, World, number_of, ports_of, port_of}
 use Rattle.il_machine.specs.Look.{Look, look}
 use Rattle.il_machine.specs.Headers.{Seen, seen, is_for, same_key}
-use Rattle.il_machine.specs.Ports.{is_joined, unmade}
+use Rattle.il_machine.specs.Ports.{is_joined, has_no_header}
 use Rattle.il_machine.specs.Due.{each_port}
 use Rattle.il_machine.specs.Stock.{Stocked, removed}
 use Rattle.il_machine.specs.Components.{free_refusal, without_component}
@@ -29,7 +29,7 @@ use Rattle.whole_laws.proofs.Entries.{held_removed}
 use Rattle.whole_laws.proofs.Noting.{IsOnly}
 use Rattle.whole_laws.proofs.Making.{with_removed, lift_removed}
 use Rattle.note_queues.specs.Queues.{header_notes}
-use Rattle.port_stock.specs.Kept.{Kept as StockKept, stocked}
+use Rattle.port_stock.specs.Kept.{StockKept, stocked}
 use Rattle.port_stock.specs.Conditions.{IsUnmade, has_key}
 use Rattle.il_component.specs.Entries.{Entry, component_of}
 use Rattle.graph_core.specs.Standing.{HasPorts, SoundWorld}
@@ -61,7 +61,7 @@ client_in headers c h =
     let a = (passed _ errors.IncorrectStateOperation None h).0 in
     let b = not_either (not (is_loaded c.state || is_invalid c.state)) _ a in
     let d = not_either (is_some c.pending) _ b.1 in
-    let e = not_either (not (each_port c (unmade headers))) _ d.1 in
+    let e = not_either (not (each_port c (has_no_header headers))) _ d.1 in
     let f = not_either (list_any is_joined (ports_of c)) _ e.1 in
     let h = not_either (is_some c.work) _ f.1 in
     (not_either c.client_out false h.1).0
@@ -74,7 +74,7 @@ no_header_at : (w : World) (i : ℕ) (c : Component) (key : PortKey) → Sound w
     → (o : Option Port) → port_of c key.port ≡ o → (seen w.headers).count (is_for key) ≡ 0
 no_header_at w i c key S t h n None e = none_made w key S (port_at_is w.numbered i key w.components c S.rising t n ∙ e)
 no_header_at w i c key S t h n (Some p) e =
-    let u = all_pass (unmade (look w).headers) (ports_of c) key.port p (free_handle_passes (look w).headers c h).0 e in
+    let u = all_pass (has_no_header (look w).headers) (ports_of c) key.port p (free_handle_passes (look w).headers c h).0 e in
     let k : p.key ≡ key = (port_parts c key.port p e).key ∙ ap (λ (m : ℕ). record { component = m; port = key.port }) n in
     subst (λ (x : PortKey). (seen w.headers).count (is_for x) ≡ 0) k (eqb-true ((seen w.headers).count (is_for p.key)) 0 u)
 

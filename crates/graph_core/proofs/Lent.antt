@@ -3,11 +3,11 @@ use Rattle.std.proofs.Common.{◌≡◌, ◌≢◌, ℕ, ◌+◌, Bool, true, fa
 use Rattle.il_machine.specs.declared.port.PortKey.{PortKey}
 use Rattle.il_machine.specs.declared.header.HeaderState.{HeaderState}
 use Rattle.il_machine.specs.declared.header.Owner.TheVariants as owners
-use Rattle.il_machine.specs.declared.header.Place.TheVariants.{Out}
+use Rattle.il_machine.specs.declared.header.Queue.TheVariants.{Out}
 use Rattle.il_machine.specs.Lists.{holds_at}
 use Rattle.il_machine.specs.Headers.{Seen, in_todo, state_given}
 use Rattle.il_machine.specs.Look.{Look}
-use Rattle.il_machine.specs.Stock.{Stocked, given, pulled, pulled_front}
+use Rattle.il_machine.specs.Stock.{Stocked, header_given, todo_pulled, todo_front_pulled}
 use Rattle.header_core.specs.BufferHeader.{BufferHeader}
 use Rattle.port_stock.specs.Conditions.{IsHeaderOf, IsOutside}
 use Rattle.graph_core.specs.Claiming.{AreFree, AreFronts, AreLent, IsFront, IsFrontWhere, all_out, front_given, goes_out, key_at, out_where}
@@ -15,34 +15,34 @@ use Rattle.graph_core.proofs.Picked.{given_stays}
 
 -- the header is in the work, and in no list
 abbrev pub LentIn : ℕ → BufferHeader → Stocked → Type 0
-LentIn component h s = (h.key ≡ s.key) × MatchOption (s.headers.header h.held.number) ⊥ (λ t. (t.owner ≡ owners.Work component) × (t.place ≡ Out) × IsHeaderOf t h)
+LentIn component h s = (h.key ≡ s.key) × MatchOption (s.headers.header h.held.number) ⊥ (λ t. (t.owner ≡ owners.Work component) × (t.queue ≡ Out) × IsHeaderOf t h)
 
 -- ---- the front that goes out
 
-given_lent : (component : ℕ) (h : BufferHeader) (o : Option HeaderState) → MatchOption o ⊥ (λ t. (t.place ≡ Out) × IsHeaderOf t h)
-    → MatchOption (option_map (state_given (owners.Work component)) o) ⊥ (λ t. (t.owner ≡ owners.Work component) × (t.place ≡ Out) × IsHeaderOf t h)
+given_lent : (component : ℕ) (h : BufferHeader) (o : Option HeaderState) → MatchOption o ⊥ (λ t. (t.queue ≡ Out) × IsHeaderOf t h)
+    → MatchOption (option_map (state_given (owners.Work component)) o) ⊥ (λ t. (t.owner ≡ owners.Work component) × (t.queue ≡ Out) × IsHeaderOf t h)
 given_lent component h None m = absurd m
 given_lent component h (Some t) m = (refl, refl, record { size = m.1.size; memory = m.1.memory })
 
 same_number : (n m : ℕ) → Some n ≡ Some m → n ≡ m
 same_number n m e = cc
 
-out_lent : (key : PortKey) (h : BufferHeader) (s : Stocked) (ns : List ℕ) → Some h.held.number ≡ slice_get ns 0 → IsOutside h (pulled key s) → LentIn key.component h (front_given key ns s)
+out_lent : (key : PortKey) (h : BufferHeader) (s : Stocked) (ns : List ℕ) → Some h.held.number ≡ slice_get ns 0 → IsOutside h (todo_pulled key s) → LentIn key.component h (front_given key ns s)
 out_lent key h s [] e O = absurd cc
 out_lent key h s (n ∷ ns) e O =
     let q : h.held.number ≡ n = same_number h.held.number n e in
     let t : nat_eq h.held.number n ≡ true = eq-eqb h.held.number n q in
-    let g = given_lent key.component h ((pulled key s).headers.header h.held.number) O.1 in
-    (O.0, rw t (subst (λ (m : ℕ). MatchOption (option_map (state_given (owners.Work key.component)) ((pulled key s).headers.header m)) ⊥ (λ x. (x.owner ≡ owners.Work key.component) × (x.place ≡ Out) × IsHeaderOf x h)) q g))
+    let g = given_lent key.component h ((todo_pulled key s).headers.header h.held.number) O.1 in
+    (O.0, rw t (subst (λ (m : ℕ). MatchOption (option_map (state_given (owners.Work key.component)) ((todo_pulled key s).headers.header m)) ⊥ (λ x. (x.owner ≡ owners.Work key.component) × (x.queue ≡ Out) × IsHeaderOf x h)) q g))
 
 -- ---- those that are out stay
 
 -- a header in a list isn't out
-apart_of : (o : Option HeaderState) (key : PortKey) (P : HeaderState → Type 0) → MatchOption o ⊥ (λ t. P t × (t.place ≡ Out)) → holds_at o (in_todo key) ≡ true → ⊥
+apart_of : (o : Option HeaderState) (key : PortKey) (P : HeaderState → Type 0) → MatchOption o ⊥ (λ t. P t × (t.queue ≡ Out)) → holds_at o (in_todo key) ≡ true → ⊥
 apart_of None key P m e = m
 apart_of (Some t) key P m e = let p = m.1 in let z : in_todo key t ≡ false = rw p refl in absurd (let y = z in cc)
 
-pulled_else : (key : PortKey) (ns : List ℕ) (s : Stocked) (m : ℕ) → MatchOption (slice_get ns 0) (Unit {0}) (λ n. m ≢ n) → (pulled_front key ns s).headers.header m ≡ s.headers.header m
+pulled_else : (key : PortKey) (ns : List ℕ) (s : Stocked) (m : ℕ) → MatchOption (slice_get ns 0) (Unit {0}) (λ n. m ≢ n) → (todo_front_pulled key ns s).headers.header m ≡ s.headers.header m
 pulled_else key [] s m a = refl
 pulled_else key (n ∷ ns) s m a = let t : nat_eq m n ≡ false = ne_eqb m n a in rw t refl
 
@@ -52,15 +52,15 @@ given_else key (n ∷ ns) s m e a =
     let t : nat_eq m n ≡ false = ne_eqb m n a in
     rw t (pulled_else key (s.headers.todo key) s m (rw e a))
 
-front_number : (key : PortKey) (place : Option BufferHeader) (s : Stocked) (m : ℕ) (P : HeaderState → Type 0) → IsFront key place s → MatchOption (s.headers.header m) ⊥ (λ t. P t × (t.place ≡ Out))
+front_number : (key : PortKey) (place : Option BufferHeader) (s : Stocked) (m : ℕ) (P : HeaderState → Type 0) → IsFront key place s → MatchOption (s.headers.header m) ⊥ (λ t. P t × (t.queue ≡ Out))
     → MatchOption (slice_get (s.headers.todo key) 0) (Unit {0}) (λ n. m ≢ n)
 front_number key None s m P F L = subst (λ (o : Option ℕ). MatchOption o (Unit {0}) (λ n. m ≢ n)) F.0 tt
 front_number key (Some x) s m P F L =
     subst (λ (o : Option ℕ). MatchOption o (Unit {0}) (λ n. m ≢ n)) F.0
-    (λ e. apart_of (s.headers.header x.held.number) key P (subst (λ (n : ℕ). MatchOption (s.headers.header n) ⊥ (λ t. P t × (t.place ≡ Out))) e L) F.1.0.0)
+    (λ e. apart_of (s.headers.header x.held.number) key P (subst (λ (n : ℕ). MatchOption (s.headers.header n) ⊥ (λ t. P t × (t.queue ≡ Out))) e L) F.1.0.0)
 
-swapped : (o : Option HeaderState) (component : ℕ) (h : BufferHeader) → MatchOption o ⊥ (λ t. (t.owner ≡ owners.Work component) × (t.place ≡ Out) × IsHeaderOf t h)
-    → MatchOption o ⊥ (λ t. ((t.owner ≡ owners.Work component) × IsHeaderOf t h) × (t.place ≡ Out))
+swapped : (o : Option HeaderState) (component : ℕ) (h : BufferHeader) → MatchOption o ⊥ (λ t. (t.owner ≡ owners.Work component) × (t.queue ≡ Out) × IsHeaderOf t h)
+    → MatchOption o ⊥ (λ t. ((t.owner ≡ owners.Work component) × IsHeaderOf t h) × (t.queue ≡ Out))
 swapped None component h m = m
 swapped (Some t) component h m = ((m.0, m.2), m.1)
 
@@ -73,7 +73,7 @@ out_stays_lent component h true key place s F L =
     let w = swapped (s.headers.header h.held.number) component h L.1 in
     let a = front_number key place s h.held.number (λ t. (t.owner ≡ owners.Work component) × IsHeaderOf t h) F w in
     let e : (goes_out key s).headers.header h.held.number ≡ s.headers.header h.held.number = given_else key (s.headers.todo key) s h.held.number refl a in
-    (L.0 ∙ sym (key_stays key s), subst (λ (o : Option HeaderState). MatchOption o ⊥ (λ t. (t.owner ≡ owners.Work component) × (t.place ≡ Out) × IsHeaderOf t h)) (sym e) L.1)
+    (L.0 ∙ sym (key_stays key s), subst (λ (o : Option HeaderState). MatchOption o ⊥ (λ t. (t.owner ≡ owners.Work component) × (t.queue ≡ Out) × IsHeaderOf t h)) (sym e) L.1)
 
 all_stay : (component port : ℕ) (flags : List Bool) (places : List (Option BufferHeader)) (s : Stocked) (h : BufferHeader) → AreFronts component port flags places s → LentIn component h s → LentIn component h (all_out component port flags s)
 all_stay component port [] places s h F L = L
@@ -104,7 +104,7 @@ all_lent component port (gives ∷ flags) (Some h ∷ places) s F =
     let t = out_where gives (key_at component port) s in
     (all_stay component (port + 1) flags places t h F.1 (first_lent component port gives h s F.0), all_lent component (port + 1) flags places t F.1)
 
-seen_lent : (component : ℕ) (h : BufferHeader) (o : Option HeaderState) → MatchOption o ⊥ (λ t. (t.owner ≡ owners.Work component) × (t.place ≡ Out) × IsHeaderOf t h)
+seen_lent : (component : ℕ) (h : BufferHeader) (o : Option HeaderState) → MatchOption o ⊥ (λ t. (t.owner ≡ owners.Work component) × (t.queue ≡ Out) × IsHeaderOf t h)
     → MatchOption o ⊥ (λ t. (t.owner ≡ owners.Work component) × IsHeaderOf t h)
 seen_lent component h None m = m
 seen_lent component h (Some t) m = (m.0, m.2)

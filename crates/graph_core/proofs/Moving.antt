@@ -9,7 +9,7 @@ use Rattle.il_machine.specs.Lists.{holds_at}
 use Rattle.il_machine.specs.Headers.{Seen, seen, find_header, is_for, in_todo, in_done, unloaded, put, cleared, unchanged, Once}
 use Rattle.il_machine.specs.Buffers.{load_in}
 use Rattle.il_machine.specs.Flow.{front_put, returned, unused_spot}
-use Rattle.il_machine.specs.Stock.{Stocked, StandsFor, pushed, pulled, pulled_front, sent, sent_front}
+use Rattle.il_machine.specs.Stock.{Stocked, StandsFor, pushed, todo_pulled, todo_front_pulled, done_pulled, done_front_pulled}
 use Rattle.machine_laws.proofs.Replacing.{replaced_put}
 use Rattle.machine_laws.proofs.Listed.{AreIn}
 use Rattle.stock_laws.proofs.Composed.{pull_put_cleared, send_put_back}
@@ -52,10 +52,10 @@ stays change s t q same = subst (λ (x : Stocked). Moves change s x) (sym q) (re
   next = refl;
 })
 
-pub none_sent : (s : Stocked) (key : PortKey) → s.headers.done key ≡ [] → sent key s ≡ s
-none_sent s key e = ap (λ (ns : List ℕ). sent_front key ns s) e
+pub none_sent : (s : Stocked) (key : PortKey) → s.headers.done key ≡ [] → done_pulled key s ≡ s
+none_sent s key e = ap (λ (ns : List ℕ). done_front_pulled key ns s) e
 
-pub none_on : (s t : Stocked) (key peer : PortKey) → t ≡ sent key s → None ≡ slice_get (s.headers.done key) 0 → Moves (λ w. front_put peer TodoBack unchanged ((seen w.headers).done key) w) s t
+pub none_on : (s t : Stocked) (key peer : PortKey) → t ≡ done_pulled key s → None ≡ slice_get (s.headers.done key) 0 → Moves (λ w. front_put peer TodoBack unchanged ((seen w.headers).done key) w) s t
 none_on s t key peer q front =
     let e : s.headers.done key ≡ [] = no_front (s.headers.done key) front in
     stays (λ w. front_put peer TodoBack unchanged ((seen w.headers).done key) w) s t (q ∙ none_sent s key e)
@@ -76,11 +76,11 @@ module _ (s : Stocked) (key peer : PortKey) (B : AreShared key peer s) (header :
   world_done : (w : World) → StandsFor s w.headers → (seen w.headers).done key ≡ n ∷ rest
   world_done w S = ap (λ (x : Seen). x.done key) S.looks ∙ done_is
 
-  pub sent_for_peer : holds_at ((sent key s).headers.header n) (is_for peer) ≡ true
+  pub sent_for_peer : holds_at ((done_pulled key s).headers.header n) (is_for peer) ≡ true
   sent_for_peer = rw (sent_is s key n rest done_is) (made_out n peer (s.headers.header n) (in_done key) s.headers.header (λ h x y. B n h x (and_parts _ _ y).1) was.0)
 
   abbrev after_sent : Stocked
-  after_sent = pushed peer TodoBack n (load_in header.held) (sent key s)
+  after_sent = pushed peer TodoBack n (load_in header.held) (done_pulled key s)
 
   stands_sent : (w : World) → StandsFor s w.headers → StandsFor after_sent (put peer TodoBack n unchanged w.headers)
   stands_sent w S = send_put_back s w.headers key peer TodoBack n rest (load_in header.held) S done_is was.1
@@ -113,10 +113,10 @@ module _ (s : Stocked) (key supplier : PortKey) (input : Bool) (none : s.headers
   unsent : (w : World) → StandsFor s w.headers → back w ≡ front_put supplier (unused_spot input) cleared ((seen w.headers).todo key) w
   unsent w S = ap (λ (ns : List ℕ). returned supplier input ns ((seen w.headers).todo key) w) (ap (λ (x : Seen). x.done key) S.looks ∙ none)
 
-  pub none_back : (t : Stocked) → t ≡ pulled key s → None ≡ slice_get (s.headers.todo key) 0 → Moves back s t
+  pub none_back : (t : Stocked) → t ≡ todo_pulled key s → None ≡ slice_get (s.headers.todo key) 0 → Moves back s t
   none_back t q front =
       let e : s.headers.todo key ≡ [] = no_front (s.headers.todo key) front in
-      stays back s t (q ∙ ap (λ (ns : List ℕ). pulled_front key ns s) e)
+      stays back s t (q ∙ ap (λ (ns : List ℕ). todo_front_pulled key ns s) e)
       (λ w S. unsent w S ∙ ap (λ (ns : List ℕ). front_put supplier (unused_spot input) cleared ns w) (ap (λ (x : Seen). x.todo key) S.looks ∙ e))
 
   module _ (B : AreShared key supplier s) (header : BufferHeader) (front : Some header.held.number ≡ slice_get (s.headers.todo key) 0) (was : IsFrom (in_todo key) header s) where
@@ -129,19 +129,19 @@ module _ (s : Stocked) (key supplier : PortKey) (input : Bool) (none : s.headers
     todo_is : s.headers.todo key ≡ m ∷ left
     todo_is = front_is (s.headers.todo key) m front
 
-    pub pulled_for_supplier : holds_at ((pulled key s).headers.header m) (is_for supplier) ≡ true
+    pub pulled_for_supplier : holds_at ((todo_pulled key s).headers.header m) (is_for supplier) ≡ true
     pulled_for_supplier = rw (pulled_is s key m left todo_is) (made_out m supplier (s.headers.header m) (in_todo key) s.headers.header (λ h x y. B m h x (and_parts _ _ y).1) was.0)
 
     abbrev after_pull : Stocked
-    after_pull = pushed supplier (unused_spot input) m (unloaded (load_in header.held)) (pulled key s)
+    after_pull = pushed supplier (unused_spot input) m (unloaded (load_in header.held)) (todo_pulled key s)
 
-    pushed_key : (spot : Spot) → (pushed supplier spot m (unloaded (load_in header.held)) (pulled key s)).key ≡ s.key
+    pushed_key : (spot : Spot) → (pushed supplier spot m (unloaded (load_in header.held)) (todo_pulled key s)).key ≡ s.key
     pushed_key spot = ap (λ (x : Stocked). x.key) (pulled_is s key m left todo_is)
 
-    pushed_ports : (spot : Spot) → (pushed supplier spot m (unloaded (load_in header.held)) (pulled key s)).ports ≡ s.ports
+    pushed_ports : (spot : Spot) → (pushed supplier spot m (unloaded (load_in header.held)) (todo_pulled key s)).ports ≡ s.ports
     pushed_ports spot = ap (λ (x : Stocked). x.ports) (pulled_is s key m left todo_is)
 
-    pushed_next : (spot : Spot) → (pushed supplier spot m (unloaded (load_in header.held)) (pulled key s)).next ≡ s.next
+    pushed_next : (spot : Spot) → (pushed supplier spot m (unloaded (load_in header.held)) (todo_pulled key s)).next ≡ s.next
     pushed_next spot = ap (λ (x : Stocked). x.next) (pulled_is s key m left todo_is)
 
     pub unused_back : (t : Stocked) → t ≡ after_pull → Moves back s t

@@ -21,7 +21,7 @@ use Rattle.stock_laws.proofs.Standing.{found}
 use Rattle.whole_laws.proofs.Following.{stay}
 use Rattle.whole_laws.proofs.Stocking.{lift_stock, with_headers, stands_for}
 use Rattle.il_component.specs.Entries.{Entry, component_of}
-use Rattle.port_stock.specs.Kept.{Kept as StockKept, stocked}
+use Rattle.port_stock.specs.Kept.{StockKept, stocked}
 use Rattle.graph_core.specs.Standing.{SoundWorld}
 use Rattle.graph_core.specs.Moving.{AreShared, Moves}
 use Rattle.graph_core.specs.Entries.{Entries, kept, component_at}

@@ -10,15 +10,15 @@ use Rattle.il_machine.specs.declared.port.Port.{Port}
 use Rattle.il_machine.specs.declared.header.HeaderState.{HeaderState}
 use Rattle.il_machine.specs.declared.header.Owner.{Owner}
 use Rattle.il_machine.specs.declared.header.Owner.TheVariants as owners
-use Rattle.il_machine.specs.declared.header.Place.TheVariants.{Out}
+use Rattle.il_machine.specs.declared.header.Queue.TheVariants.{Out}
 use Rattle.il_machine.specs.Kinds.{ports_in}
 use Rattle.il_machine.specs.World.{Component, HeaderRecord, World, number_of, port_of, with_component}
 use Rattle.il_machine.specs.World as machine
 use Rattle.il_machine.specs.Look.{Look}
 use Rattle.il_machine.specs.Headers.{Seen, seen, find_header, changed, cleared, given_to, in_todo, is_notice, load_of}
 use Rattle.il_machine.specs.Buffers.{held, load_in}
-use Rattle.il_machine.specs.Flow.{done_note, noticed, handed_back}
-use Rattle.il_machine.specs.Stock.{Stocked, given, pulled, pulled_front, state_out}
+use Rattle.il_machine.specs.Flow.{done_note, front_noticed, handed_back}
+use Rattle.il_machine.specs.Stock.{Stocked, header_given, todo_pulled, todo_front_pulled, state_out}
 use Rattle.il_machine.specs.Whole.{Kept, Noticed, IsNoticed}
 use Rattle.whole_laws.specs.Bare.{StandsBare, StepsBare}
 use Rattle.il_machine.specs.Sound.{Sound}
@@ -39,7 +39,7 @@ use Rattle.note_queues.specs.declared.taken.Taken.{Taken as Queued}
 use Rattle.note_queues.specs.declared.taken.Taken.TheVariants.{Told, EmptyDone, FillDone}
 use Rattle.note_queues.specs.Queues.{note_of, header_note, header_notes, noted}
 use Rattle.il_component.specs.Entries.{Entry, component_of, noticed_of, held_in}
-use Rattle.port_stock.specs.Kept.{Kept as StockKept, stocked}
+use Rattle.port_stock.specs.Kept.{StockKept, stocked}
 use Rattle.port_stock.specs.Conditions.{IsFrom, IsOut, IsOutside, IsHeaderOf}
 use Rattle.graph_core.specs.Standing.{SoundWorld}
 use Rattle.graph_core.specs.Entries.{Entries, components_of, look_of, noticed_in, held_by, progress_at, kept, changed_at, component_at}
@@ -70,30 +70,30 @@ held_is : (b : Bool) (h : BufferHeader) → held_in (header_note b h ∷ []) ≡
 held_is true h = refl
 held_is false h = refl
 
-pub pulled_ports : (key : PortKey) (ns : List ℕ) (s : Stocked) → (pulled_front key ns s).ports ≡ s.ports
+pub pulled_ports : (key : PortKey) (ns : List ℕ) (s : Stocked) → (todo_front_pulled key ns s).ports ≡ s.ports
 pulled_ports key [] s = refl
 pulled_ports key (n ∷ ns) s = refl
 
-pulled_key : (key : PortKey) (ns : List ℕ) (s : Stocked) → (pulled_front key ns s).key ≡ s.key
+pulled_key : (key : PortKey) (ns : List ℕ) (s : Stocked) → (todo_front_pulled key ns s).key ≡ s.key
 pulled_key key [] s = refl
 pulled_key key (n ∷ ns) s = refl
 
-pulled_next : (key : PortKey) (ns : List ℕ) (s : Stocked) → (pulled_front key ns s).next ≡ s.next
+pulled_next : (key : PortKey) (ns : List ℕ) (s : Stocked) → (todo_front_pulled key ns s).next ≡ s.next
 pulled_next key [] s = refl
 pulled_next key (n ∷ ns) s = refl
 
-outside_out : (o : Option HeaderState) (header : BufferHeader) → MatchOption o ⊥ (λ h. (h.place ≡ Out) × IsHeaderOf h header) → MatchOption o ⊥ (λ h. h.place ≡ Out)
+outside_out : (o : Option HeaderState) (header : BufferHeader) → MatchOption o ⊥ (λ h. (h.queue ≡ Out) × IsHeaderOf h header) → MatchOption o ⊥ (λ h. h.queue ≡ Out)
 outside_out None header x = x
 outside_out (Some h) header x = x.0
 
 pub out_of : (s : Stocked) (header : BufferHeader) → IsOutside header s → IsOut header.held.number s
 out_of s header x = outside_out (s.headers.header header.held.number) header x.1
 
-pub outside_size : (o : Option HeaderState) (s : HeaderState) (header : BufferHeader) → o ≡ Some s → MatchOption o ⊥ (λ h. (h.place ≡ Out) × IsHeaderOf h header) → header.held.size ≡ s.size
+pub outside_size : (o : Option HeaderState) (s : HeaderState) (header : BufferHeader) → o ≡ Some s → MatchOption o ⊥ (λ h. (h.queue ≡ Out) × IsHeaderOf h header) → header.held.size ≡ s.size
 outside_size None s header e x = absurd x
 outside_size (Some h) s header e x = let q : h ≡ s = cc in x.1.size ∙ ap (λ (y : HeaderState). y.size) q
 
-outside_memory : (o : Option HeaderState) (s : HeaderState) (header : BufferHeader) → o ≡ Some s → MatchOption o ⊥ (λ h. (h.place ≡ Out) × IsHeaderOf h header) → is_clients header.store ≡ s.client_memory
+outside_memory : (o : Option HeaderState) (s : HeaderState) (header : BufferHeader) → o ≡ Some s → MatchOption o ⊥ (λ h. (h.queue ≡ Out) × IsHeaderOf h header) → is_clients header.store ≡ s.client_memory
 outside_memory None s header e x = absurd x
 outside_memory (Some h) s header e x = let q : h ≡ s = cc in x.1.memory ∙ ap (λ (y : HeaderState). y.client_memory) q
 
@@ -112,24 +112,24 @@ module _ {C : Type 0} (progress : C → Progress) (g : Entries C) (i : ℕ) (e :
 
   -- ---- todo is empty
 
-  pub nothing_returns : (after_stock : StockKept) → stocked after_stock ≡ pulled p.key s → None ≡ slice_get (s.headers.todo p.key) 0 → Clause (with_stocked progress after_stock g)
+  pub nothing_returns : (after_stock : StockKept) → stocked after_stock ≡ todo_pulled p.key s → None ≡ slice_get (s.headers.todo p.key) 0 → Clause (with_stocked progress after_stock g)
   nothing_returns after_stock now none =
       let t : s.headers.todo p.key ≡ [] = no_number (s.headers.todo p.key) none in
-      let q : stocked after_stock ≡ s = now ∙ ap (λ (ns : List ℕ). pulled_front p.key ns s) t in
+      let q : stocked after_stock ≡ s = now ∙ ap (λ (ns : List ℕ). todo_front_pulled p.key ns s) t in
       clause_from (with_stocked progress after_stock g) (stock_steps progress g after_stock s (λ w v. v ≡ handed_back i c p None w) q
       (λ w S.
       let z : (seen w.headers).todo p.key ≡ [] = ap (λ (x : Seen). x.todo p.key) (seen_of progress g w S) ∙ t in
-      (w, S, sym (ap (λ (ns : List ℕ). noticed i c p ns w) z))))
+      (w, S, sym (ap (λ (ns : List ℕ). front_noticed i c p ns w) z))))
 
-  pub nothing_worlds : (after_stock : StockKept) → stocked after_stock ≡ pulled p.key s → None ≡ slice_get (s.headers.todo p.key) 0 → SoundWorld (kept progress (with_stocked progress after_stock g))
+  pub nothing_worlds : (after_stock : StockKept) → stocked after_stock ≡ todo_pulled p.key s → None ≡ slice_get (s.headers.todo p.key) 0 → SoundWorld (kept progress (with_stocked progress after_stock g))
   nothing_worlds after_stock now none =
       let t : s.headers.todo p.key ≡ [] = no_number (s.headers.todo p.key) none in
-      let q : stocked after_stock ≡ s = now ∙ ap (λ (ns : List ℕ). pulled_front p.key ns s) t in
+      let q : stocked after_stock ≡ s = now ∙ ap (λ (ns : List ℕ). todo_front_pulled p.key ns s) t in
       next_world (kept progress g) (kept progress (with_stocked progress after_stock g)) (λ w v. v ≡ w) W (stock_steps progress g after_stock s (λ w v. v ≡ w) q (λ w S. (w, S, refl))) (λ w v S f sound. subst Sound (sym f) sound)
 
   -- ---- the front of todo
 
-  module _ (header : BufferHeader) (front : Some header.held.number ≡ slice_get (s.headers.todo p.key) 0) (was : IsFrom (in_todo p.key) header s) (outside : IsOutside header (pulled p.key s)) where
+  module _ (header : BufferHeader) (front : Some header.held.number ≡ slice_get (s.headers.todo p.key) 0) (was : IsFrom (in_todo p.key) header s) (outside : IsOutside header (todo_pulled p.key s)) where
     abbrev n : ℕ
     n = header.held.number
 
@@ -148,8 +148,8 @@ module _ {C : Type 0} (progress : C → Progress) (g : Entries C) (i : ℕ) (e :
         let I : IsIn p.key w.headers n = first_in p.key w.headers ((seen w.headers).todo p.key) rest n (todo_in p.key w.headers W.stands.once) (world_todo w W.stands) in
         notes_fewer w i c W.sound (at_world progress g i e w W.stands at) index p n port client I
 
-    pub out_now : IsOut n (pulled p.key s)
-    out_now = out_of (pulled p.key s) header outside
+    pub out_now : IsOut n (todo_pulled p.key s)
+    out_now = out_of (todo_pulled p.key s) header outside
 
     abbrev owner : Owner
     owner = owners.Notice (number_of c)
@@ -158,7 +158,7 @@ module _ {C : Type 0} (progress : C → Progress) (g : Entries C) (i : ℕ) (e :
     moved r = given_to owner (cleared r)
 
     abbrev after_pull : Stocked
-    after_pull = given n owner (pulled p.key s)
+    after_pull = header_given n owner (todo_pulled p.key s)
 
     free : IsFree n s
     free =
@@ -219,20 +219,20 @@ module _ {C : Type 0} (progress : C → Progress) (g : Entries C) (i : ℕ) (e :
         let r = T.found.it in
         let f : find_header n v.headers ≡ Some (moved r) = ap (find_header n) q ∙ changed_same moved (λ r. refl) n w.headers r T.found.is in
         let m : r.state.number ≡ n = found_number n w.headers r T.found.is in
-        let z : r.state.size ≡ header.held.size = ap (λ (x : HeaderState). x.size) T.found.state ∙ sym (outside_size ((pulled p.key s).headers.header n) (state_out T.state) header T.shown outside.1) in
+        let z : r.state.size ≡ header.held.size = ap (λ (x : HeaderState). x.size) T.found.state ∙ sym (outside_size ((todo_pulled p.key s).headers.header n) (state_out T.state) header T.shown outside.1) in
         let carried : Some r.load ≡ Some (load_in header.held) = ap (option_map load_of) (sym T.found.is) ∙ S.loads n (load_in header.held) was.1 in
         let l : r.load ≡ load_in header.held = cc in
         let h : held (moved r) ≡ empty_held n header.held.size header.held.memory = λ j. record { number = m j; size = z j; content = []; flags = 0; mark = None; memory = (l j).memory } in
         let o : r.state.client_memory ≡ is_clients header.store =
-        ap (λ (x : HeaderState). x.client_memory) T.found.state ∙ sym (outside_memory ((pulled p.key s).headers.header n) (state_out T.state) header T.shown outside.1) in
+        ap (λ (x : HeaderState). x.client_memory) T.found.state ∙ sym (outside_memory ((todo_pulled p.key s).headers.header n) (state_out T.state) header T.shown outside.1) in
         let k : header.key ≡ v.key = outside.0 ∙ (pulled_key p.key (s.headers.todo p.key) s ∙ sym (own ∙ ap (λ (l : Look). l.key) S.looks)) in
         (k, rw f (h, refl, o))
 
-    steps_noted : (after_stock : StockKept) → stocked after_stock ≡ after_pull → StepsBare (kept progress g) (kept progress (after after_stock)) (λ w v. v ≡ noticed i c p (n ∷ rest) w)
+    steps_noted : (after_stock : StockKept) → stocked after_stock ≡ after_pull → StepsBare (kept progress g) (kept progress (after after_stock)) (λ w v. v ≡ front_noticed i c p (n ∷ rest) w)
     steps_noted after_stock now = λ w S.
         let x = steps_stock w S in
         let y = lift_component (with_stock after_pull (kept progress g)) i c (machine.noted note c) (there progress g i e at) (record { number = refl; kind = refl; file = refl; failed = refl; work = refl }) refl x.0 x.1 in
-        let is : y.0 ≡ noticed i c p (n ∷ rest) w =
+        let is : y.0 ≡ front_noticed i c p (n ∷ rest) w =
         y.2 ∙ ap (with_component i (machine.noted note c)) (x.2 ∙ (ap (λ (k : ℕ). with_headers (changed n moved w.headers) k w) next_is ∙ made_is progress w (changed n moved w.headers) s.next (made_of progress g w S))) in
         let own : IsNoticed y.0 (noticed_of (emptied_header header)) = header_noticed w y.0 S (ap (λ (u : World). u.key) is) (ap (λ (u : World). u.headers) is) in
         let more : All (IsNoticed y.0) (held_by e) → All (IsNoticed y.0) (held_by with_note) = λ A.
@@ -244,18 +244,18 @@ module _ {C : Type 0} (progress : C → Progress) (g : Entries C) (i : ℕ) (e :
     noticed_returns : (after_stock : StockKept) → stocked after_stock ≡ after_pull → Clause (after after_stock)
     noticed_returns after_stock now = clause_from (after after_stock) (λ w S.
         let x = steps_noted after_stock now w S in
-        (x.0, x.1, x.2 ∙ sym (ap (λ (ns : List ℕ). noticed i c p ns w) (world_todo w S))))
+        (x.0, x.1, x.2 ∙ sym (ap (λ (ns : List ℕ). front_noticed i c p ns w) (world_todo w S))))
 
     noticed_worlds : (after_stock : StockKept) → stocked after_stock ≡ after_pull → SoundWorld (kept progress (after after_stock))
-    noticed_worlds after_stock now = next_world (kept progress g) (kept progress (after after_stock)) (λ w v. v ≡ noticed i c p (n ∷ rest) w) W (steps_noted after_stock now)
-        (λ w v S f sound. subst Sound (sym (f ∙ sym (ap (λ (ns : List ℕ). noticed i c p ns w) (world_todo w S)))) (sound_noticed w i c index p sound (at_world progress g i e w S at) port client))
+    noticed_worlds after_stock now = next_world (kept progress g) (kept progress (after after_stock)) (λ w v. v ≡ front_noticed i c p (n ∷ rest) w) W (steps_noted after_stock now)
+        (λ w v S f sound. subst Sound (sym (f ∙ sym (ap (λ (ns : List ℕ). front_noticed i c p ns w) (world_todo w S)))) (sound_noticed w i c index p sound (at_world progress g i e w S at) port client))
 
     -- the owner in the code's words
-    owner_is : (after_stock : StockKept) → stocked after_stock ≡ given n (owners.Notice p.key.component) (pulled p.key s) → stocked after_stock ≡ after_pull
-    owner_is after_stock now = now ∙ ap (λ (k : PortKey). given n (owners.Notice k.component) (pulled p.key s)) (port_parts c index p port).key
+    owner_is : (after_stock : StockKept) → stocked after_stock ≡ header_given n (owners.Notice p.key.component) (todo_pulled p.key s) → stocked after_stock ≡ after_pull
+    owner_is after_stock now = now ∙ ap (λ (k : PortKey). header_given n (owners.Notice k.component) (todo_pulled p.key s)) (port_parts c index p port).key
 
-    pub given_returns : (d : Entry C) (after_stock : StockKept) → d ≡ with_note → stocked after_stock ≡ given n (owners.Notice p.key.component) (pulled p.key s) → Clause (with_stocked progress after_stock (changed_at i d g))
+    pub given_returns : (d : Entry C) (after_stock : StockKept) → d ≡ with_note → stocked after_stock ≡ header_given n (owners.Notice p.key.component) (todo_pulled p.key s) → Clause (with_stocked progress after_stock (changed_at i d g))
     given_returns d after_stock q now = subst (λ (x : Entry C). Clause (with_stocked progress after_stock (changed_at i x g))) (sym q) (noticed_returns after_stock (owner_is after_stock now))
 
-    pub given_worlds : (d : Entry C) (after_stock : StockKept) → d ≡ with_note → stocked after_stock ≡ given n (owners.Notice p.key.component) (pulled p.key s) → SoundWorld (kept progress (with_stocked progress after_stock (changed_at i d g)))
+    pub given_worlds : (d : Entry C) (after_stock : StockKept) → d ≡ with_note → stocked after_stock ≡ header_given n (owners.Notice p.key.component) (todo_pulled p.key s) → SoundWorld (kept progress (with_stocked progress after_stock (changed_at i d g)))
     given_worlds d after_stock q now = subst (λ (x : Entry C). SoundWorld (kept progress (with_stocked progress after_stock (changed_at i x g)))) (sym q) (noticed_worlds after_stock (owner_is after_stock now))

@@ -9,7 +9,7 @@ use Rattle.il_machine.specs.declared.port.PortState.{PortState}
 use Rattle.il_machine.specs.declared.header.Owner.TheVariants as owners
 use Rattle.il_machine.specs.World.{Component, HeaderRecord, Picked, number_of, ports_from, ports_of}
 use Rattle.il_machine.specs.Headers.{Seen, changed, given_to, same_key}
-use Rattle.il_machine.specs.Stock.{Stocked, StandsFor, given, pulled, pulled_front}
+use Rattle.il_machine.specs.Stock.{Stocked, StandsFor, header_given, todo_pulled, todo_front_pulled}
 use Rattle.il_machine.specs.Claims.{all_given_out, first_picked, gives_header, must_announce, picked, wanted, work_of}
 use Rattle.stock_laws.proofs.Composed.{pull_give_on}
 use Rattle.header_core.specs.BufferHeader.{BufferHeader}
@@ -19,7 +19,7 @@ use Rattle.graph_core.specs.Claiming.{AreFree, AreFronts, ArePorts, HasFronts, I
 
 -- ---- the lists of other ports stay
 
-pulled_todo : (key k : PortKey) (ns : List ℕ) (s : Stocked) → same_key k key ≡ false → (pulled_front key ns s).headers.todo k ≡ s.headers.todo k
+pulled_todo : (key k : PortKey) (ns : List ℕ) (s : Stocked) → same_key k key ≡ false → (todo_front_pulled key ns s).headers.todo k ≡ s.headers.todo k
 pulled_todo key k [] s a = refl
 pulled_todo key k (n ∷ ns) s a = rw a refl
 
@@ -51,7 +51,7 @@ pub record Stays (s t : Stocked) : Type 0 where
 stays : (s : Stocked) → Stays s s
 stays s = record { key = refl; ports = refl; next = refl }
 
-pulled_stays : (key : PortKey) (ns : List ℕ) (s : Stocked) → Stays s (pulled_front key ns s)
+pulled_stays : (key : PortKey) (ns : List ℕ) (s : Stocked) → Stays s (todo_front_pulled key ns s)
 pulled_stays key [] s = stays s
 pulled_stays key (n ∷ ns) s = record { key = refl; ports = refl; next = refl }
 
@@ -80,7 +80,7 @@ first_stands : (component index : ℕ) (p : Port) (flags : List Bool) (ports : L
     → StandsFor (all_out component (index + 1) flags (front_given (key_at component index) ns s)) (all_given_out component (first_picked p ns (picked t ports)) hs)
 first_stands component index p flags ports s hs t [] S e A rest = rest s hs S A
 first_stands component index p flags ports s hs t (n ∷ ns) S e A rest =
-    rest (given n (owners.Work component) (pulled (key_at component index) s)) (changed n (given_to (owners.Work component)) hs) (pull_give_on s hs (key_at component index) (owners.Work component) n ns S e) A
+    rest (header_given n (owners.Work component) (todo_pulled (key_at component index) s)) (changed n (given_to (owners.Work component)) hs) (pull_give_on s hs (key_at component index) (owners.Work component) n ns S e) A
 
 port_stands : (component index : ℕ) (b : Bool) (p : Port) (flags : List Bool) (ports : List Port) (s : Stocked) (hs : List HeaderRecord) (t : Seen) → p.key ≡ key_at component index → StandsFor s hs → Agree component index s t
     → Rest component (index + 1) flags ports t

@@ -9,7 +9,7 @@ use Rattle.il_machine.specs.Lists.{is_empty}
 use Rattle.il_machine.specs.Look.{Look}
 use Rattle.il_machine.specs.Ports.{is_supplier, leaving}
 use Rattle.il_machine.specs.Flow.{front_unmade, in_port, release_idle}
-use Rattle.il_machine.specs.Stock.{Stocked, StandsFor, withdrawn}
+use Rattle.il_machine.specs.Stock.{Stocked, StandsFor, header_unmade}
 use Rattle.whole_laws.specs.Bare.{StandsBare, StepsBare}
 use Rattle.il_machine.specs.Sound.{Sound}
 use Rattle.machine_laws.proofs.Accepting.{passed}
@@ -19,7 +19,7 @@ use Rattle.machine_laws.proofs.Listed.{AreIn, IsIn, both_in, done_in, first_in, 
 use Rattle.stock_laws.proofs.Composed.{pull_unmade, send_unmade}
 use Rattle.whole_laws.proofs.Stocking.{lift_one, with_headers, IsFree}
 use Rattle.il_component.specs.Entries.{Entry, component_of}
-use Rattle.port_stock.specs.Kept.{Kept as StockKept, stocked}
+use Rattle.port_stock.specs.Kept.{StockKept, stocked}
 use Rattle.graph_core.specs.Standing.{SoundWorld}
 use Rattle.graph_core.specs.Supplying.{front_left, left_from}
 use Rattle.graph_core.specs.Entries.{Entries, kept, component_at}
@@ -58,17 +58,17 @@ left_key key (t ∷ ts) ds s e = elim (s.headers.todo key) as (λ ns. s.headers.
 pub front_left_ports : (key : PortKey) (s : Stocked) → (front_left key s).ports ≡ s.ports
 front_left_ports key s = left_ports key (s.headers.todo key) (s.headers.done key) s refl
 
-unmade_stands : (s : Stocked) (hs : List HeaderRecord) (key : PortKey) (n : ℕ) (ts : List ℕ) → StandsFor s hs → s.headers.todo key ≡ ts → Some n ≡ slice_get (ts ++ s.headers.done key) 0 → StandsFor (withdrawn n (left_from key ts s)) (without n hs)
+unmade_stands : (s : Stocked) (hs : List HeaderRecord) (key : PortKey) (n : ℕ) (ts : List ℕ) → StandsFor s hs → s.headers.todo key ≡ ts → Some n ≡ slice_get (ts ++ s.headers.done key) 0 → StandsFor (header_unmade n (left_from key ts s)) (without n hs)
 unmade_stands s hs key n [] S e f = let x = first_number (s.headers.done key) n f in send_unmade s hs key n x.0 S x.1
 unmade_stands s hs key n (m ∷ ms) S e f =
     let q : m ≡ n = cc in
-    subst (λ (k : ℕ). StandsFor (withdrawn k (left_from key (m ∷ ms) s)) (without k hs)) q (pull_unmade s hs key m ms S e)
+    subst (λ (k : ℕ). StandsFor (header_unmade k (left_from key (m ∷ ms) s)) (without k hs)) q (pull_unmade s hs key m ms S e)
 
 module _ {C : Type 0} (progress : C → Progress) (g : Entries C) (i : ℕ) (e : Entry C) (index : ℕ) (p : Port) (n : ℕ) (W : SoundWorld (kept progress g)) (at : slice_get g.entries i ≡ Some e) (port : port_of (component_of e) index ≡ Some p) where
   abbrev s : Stocked
   s = stocked g.stock
 
-  module _ (front : Some n ≡ slice_get (in_port s.headers p) 0) (after_stock : StockKept) (now : stocked after_stock ≡ withdrawn n (front_left p.key s)) where
+  module _ (front : Some n ≡ slice_get (in_port s.headers p) 0) (after_stock : StockKept) (now : stocked after_stock ≡ header_unmade n (front_left p.key s)) where
     abbrev rest : List ℕ
     rest = (first_number (in_port s.headers p) n front).0
 
@@ -90,13 +90,13 @@ module _ {C : Type 0} (progress : C → Progress) (g : Entries C) (i : ℕ) (e :
     Change w v = v ≡ front_unmade (in_port (seen w.headers) p) w
 
     released_steps : StepsBare (kept progress g) (kept progress (with_stocked progress after_stock g)) Change
-    released_steps = stock_steps progress g after_stock (withdrawn n (front_left p.key s)) Change now
+    released_steps = stock_steps progress g after_stock (header_unmade n (front_left p.key s)) Change now
         (λ w S.
-        let x = lift_one (kept progress g) s (withdrawn n (front_left p.key s)) n (without n) (stock_of progress g) (left_key p.key (s.headers.todo p.key) (s.headers.done p.key) s refl) free
+        let x = lift_one (kept progress g) s (header_unmade n (front_left p.key s)) n (without n) (stock_of progress g) (left_key p.key (s.headers.todo p.key) (s.headers.done p.key) s refl) free
         (λ hs T. unmade_stands s hs p.key n (s.headers.todo p.key) T refl front)
         (λ hs T. λ m q. without_else n m hs q) w S in
-        let k : (withdrawn n (front_left p.key s)).next ≡ s.next = left_next p.key (s.headers.todo p.key) (s.headers.done p.key) s refl in
-        let y : with_headers (without n w.headers) (withdrawn n (front_left p.key s)).next w ≡ front_unmade (n ∷ rest) w =
+        let k : (header_unmade n (front_left p.key s)).next ≡ s.next = left_next p.key (s.headers.todo p.key) (s.headers.done p.key) s refl in
+        let y : with_headers (without n w.headers) (header_unmade n (front_left p.key s)).next w ≡ front_unmade (n ∷ rest) w =
         ap (λ (m : ℕ). with_headers (without n w.headers) m w) k ∙ made_is progress w (without n w.headers) s.next (made_of progress g w S) in
         (x.0, x.1, x.2 ∙ (y ∙ ap (λ (ns : List ℕ). front_unmade ns w) (sym (world_front w S)))))
 

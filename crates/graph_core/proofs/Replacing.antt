@@ -7,7 +7,7 @@ use Rattle.omx_types.specs.declared.handle.Handle.{Handle}
 use Rattle.il_machine.specs.Stock.{Stocked}
 use Rattle.machine_laws.proofs.Change.{IsChange, link_of, sound_taking_units}
 use Rattle.machine_laws.proofs.Units.{IsFair}
-use Rattle.port_stock.specs.Kept.{Kept as StockKept, stocked}
+use Rattle.port_stock.specs.Kept.{StockKept, stocked}
 use Rattle.port_stock.specs.Conditions.{IsPort}
 use Rattle.registry.specs.Handles.{Handles}
 use Rattle.whole_laws.proofs.Following.{as_change}

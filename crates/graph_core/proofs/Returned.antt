@@ -5,7 +5,7 @@ use Rattle.il_machine.specs.declared.port.PortKey.{PortKey}
 use Rattle.il_machine.specs.declared.header.HeaderState.{HeaderState}
 use Rattle.il_machine.specs.declared.header.Owner.{Owner}
 use Rattle.il_machine.specs.declared.header.Owner.TheVariants as owners
-use Rattle.il_machine.specs.declared.header.Place.TheVariants.{Out}
+use Rattle.il_machine.specs.declared.header.Queue.TheVariants.{Out}
 use Rattle.il_machine.specs.Lists.{holds_at}
 use Rattle.il_machine.specs.World.{HeaderRecord, Picked}
 use Rattle.il_machine.specs.Headers.{Seen, seen, find_header, is_for, is_notice, is_work_of, state_of, weight}

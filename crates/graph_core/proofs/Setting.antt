@@ -16,7 +16,7 @@ use Rattle.machine_laws.proofs.Values.{sound_set, sound_configured}
 use Rattle.machine_laws.proofs.Facts.{ports_number}
 use Rattle.il_machine.specs.declared.answer.Progress.{Progress}
 use Rattle.registry.specs.Handles.{Handles}
-use Rattle.port_stock.specs.Kept.{Kept as StockKept, stocked}
+use Rattle.port_stock.specs.Kept.{StockKept, stocked}
 use Rattle.il_component.specs.Entries.{Entry, component_of}
 use Rattle.port_rules.proofs.Passing.{left_passes}
 use Rattle.graph_core.specs.Entries.{Entries}

@@ -22,7 +22,7 @@ use Rattle.whole_laws.proofs.Lists.{get_set_same, get_set_other}
 use Rattle.whole_laws.proofs.Noting.{IsOnly}
 use Rattle.whole_laws.proofs.Stocking.{with_stock, IsStock, with_headers}
 use Rattle.il_component.specs.Entries.{Entry, component_of}
-use Rattle.port_stock.specs.Kept.{Kept as StockKept, stocked}
+use Rattle.port_stock.specs.Kept.{StockKept, stocked}
 use Rattle.port_stock.specs.Conditions.{IsPort}
 use Rattle.registry.specs.Handles.{Handles}
 use Rattle.graph_core.specs.Standing.{SoundWorld, HasPorts, IsGraph}

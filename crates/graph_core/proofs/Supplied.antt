@@ -5,13 +5,13 @@ use Rattle.il_machine.specs.declared.port.PortKey.{PortKey}
 use Rattle.il_machine.specs.declared.port.Link.{Link}
 use Rattle.il_machine.specs.declared.port.Port.{Port}
 use Rattle.il_machine.specs.declared.header.HeaderState.{HeaderState}
-use Rattle.il_machine.specs.declared.header.Place.{Place}
+use Rattle.il_machine.specs.declared.header.Queue.{Queue}
 use Rattle.il_machine.specs.World.{Component, HeaderRecord, World, port_of}
-use Rattle.il_machine.specs.Headers.{Seen, count_headers, is_for, at_spot, put_at, spot_place, empty_load}
+use Rattle.il_machine.specs.Headers.{Seen, count_headers, is_for, at_spot, put_at, spot_queue, empty_load}
 use Rattle.il_machine.specs.Look.{Look, look}
 use Rattle.il_machine.specs.Ports.{accepting, is_supplier, is_input_port}
 use Rattle.il_machine.specs.Buffers.{has_no_block, has_no_number}
-use Rattle.il_machine.specs.Flow.{End, other_end, supply_idle, supplied_by, supplied_place, tunnel_header, with_supplied}
+use Rattle.il_machine.specs.Flow.{End, other_end, supply_idle, supplied_by, supplied_queue, tunnel_header, with_supplied}
 use Rattle.il_machine.specs.Stock.{Stocked, StandsFor}
 use Rattle.whole_laws.specs.Bare.{StepsBare}
 use Rattle.il_machine.specs.Sound.{Sound}
@@ -22,10 +22,10 @@ use Rattle.machine_laws.proofs.Finding.{push_else}
 use Rattle.machine_laws.proofs.Flowing.{sound_supplied}
 use Rattle.machine_laws.proofs.Lookups.{HasPort, port_there_at}
 use Rattle.machine_laws.proofs.Parts.{parts_of}
-use Rattle.stock_laws.proofs.Composed.{populate_put}
+use Rattle.stock_laws.proofs.Composed.{make_put}
 use Rattle.whole_laws.proofs.Stocking.{lift_one, with_headers, IsFree}
 use Rattle.il_component.specs.Entries.{Entry, component_of}
-use Rattle.port_stock.specs.Kept.{Kept as StockKept, stocked}
+use Rattle.port_stock.specs.Kept.{StockKept, stocked}
 use Rattle.port_stock.specs.Conditions.{made_in}
 use Rattle.graph_core.specs.Standing.{SoundWorld, HasPorts}
 use Rattle.graph_core.specs.Supplying.{HasRoom, supplied_header, supplied_spot, with_supply}
@@ -66,7 +66,7 @@ supplies_joined l c p h n =
 
 -- ---- the header's place
 
-spot_is : (input : Bool) → spot_place (supplied_spot input) ≡ supplied_place input
+spot_is : (input : Bool) → spot_queue (supplied_spot input) ≡ supplied_queue input
 spot_is true = refl
 spot_is false = refl
 
@@ -147,7 +147,7 @@ module _ {C : Type 0} (progress : C → Progress) (g : Entries C) (i : ℕ) (e :
 
   placed : (hs : List HeaderRecord) → at_spot (supplied_spot (is_input_port p)) (put_at p.key (supplied_spot (is_input_port p)) (record { state = made; load = empty_load None })) hs ≡ hs ++ record_of s.next ∷ []
   placed hs = at_back (is_input_port p) (put_at p.key (supplied_spot (is_input_port p)) (record { state = made; load = empty_load None })) hs
-      ∙ ap (λ (x : Place). hs ++ record { state = record (tunnel_header s.next p peer) { place = x }; load = empty_load None } ∷ []) (spot_is (is_input_port p))
+      ∙ ap (λ (x : Queue). hs ++ record { state = record (tunnel_header s.next p peer) { queue = x }; load = empty_load None } ∷ []) (spot_is (is_input_port p))
 
   module _ (new : s.headers.header s.next ≡ None) (after_stock : StockKept) (now : stocked after_stock ≡ with_supply p peer s) where
     abbrev Change : World → World → Type 0
@@ -164,7 +164,7 @@ module _ {C : Type 0} (progress : C → Progress) (g : Entries C) (i : ℕ) (e :
         (λ w S.
         let free : IsFree s.next s = rw new tt in
         let x = lift_one (kept progress g) s (with_supply p peer s) s.next (λ hs. hs ++ record_of s.next ∷ []) (stock_of progress g) refl free
-        (λ hs T. subst (λ (ks : List HeaderRecord). StandsFor (with_supply p peer s) ks) (placed hs) (populate_put s hs made p.key (supplied_spot (is_input_port p)) (empty_load None) T new refl refl))
+        (λ hs T. subst (λ (ks : List HeaderRecord). StandsFor (with_supply p peer s) ks) (placed hs) (make_put s hs made p.key (supplied_spot (is_input_port p)) (empty_load None) T new refl refl))
         (λ hs T. λ m d. push_else m hs (record_of s.next) (λ q. d (sym q))) w S in
         (x.0, x.1, x.2 ∙ supplied_is w (made_of progress g w S)))
 

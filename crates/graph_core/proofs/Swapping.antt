@@ -8,7 +8,7 @@ use Rattle.il_machine.specs.Look.{look}
 use Rattle.il_machine.specs.Stock.{Stocked}
 use Rattle.il_machine.specs.Sound.{Sound}
 use Rattle.registry.specs.Handles.{Handles}
-use Rattle.port_stock.specs.Kept.{Kept as StockKept, stocked}
+use Rattle.port_stock.specs.Kept.{StockKept, stocked}
 use Rattle.port_stock.specs.Conditions.{IsPort}
 use Rattle.whole_laws.specs.Parts.{KeepsPart}
 use Rattle.whole_laws.proofs.Lists.{get_set_same, get_set_other}

@@ -7,14 +7,14 @@ use Rattle.omx_types.specs.declared.command.Note.{Note}
 use Rattle.omx_types.specs.declared.command.Note.TheVariants as notes
 use Rattle.il_machine.specs.declared.answer.Progress.{Progress}
 use Rattle.il_machine.specs.declared.header.Owner.TheVariants as owners
-use Rattle.il_machine.specs.declared.header.Place.TheVariants.{Out}
+use Rattle.il_machine.specs.declared.header.Queue.TheVariants.{Out}
 use Rattle.il_machine.specs.World.{Component, HeaderRecord, World, number_of}
 use Rattle.il_machine.specs.Headers.{Seen, seen, find_header, changed, given_to, is_notice, is_notice_of, weight}
 use Rattle.il_machine.specs.Buffers.{held, AtHeader}
 use Rattle.il_machine.specs.Census.{note_numbers, times}
 use Rattle.il_machine.specs.Lists.{holds_at}
 use Rattle.il_machine.specs.Notes.{first_taken, with_given, with_client}
-use Rattle.il_machine.specs.Stock.{given}
+use Rattle.il_machine.specs.Stock.{header_given}
 use Rattle.il_machine.specs.Whole.{Kept, Noticed, IsNoticed}
 use Rattle.whole_laws.specs.Bare.{StandsBare, StepsBare}
 use Rattle.il_machine.specs.Sound.{Sound}
@@ -39,7 +39,7 @@ use Rattle.note_queues.specs.declared.taken.Took.{Took}
 use Rattle.note_queues.specs.declared.taken.Took.TheVariants as tooks
 use Rattle.note_queues.specs.Queues.{Queues, note_of, notes_of, took, took_from, after_taking}
 use Rattle.il_component.specs.Entries.{Entry, component_of, noticed_of, held_in}
-use Rattle.port_stock.specs.Kept.{Kept as StockKept, stocked}
+use Rattle.port_stock.specs.Kept.{StockKept, stocked}
 use Rattle.port_stock.specs.Conditions.{IsOut}
 use Rattle.graph_core.specs.Standing.{SoundWorld}
 use Rattle.graph_core.specs.Changes.{OnNoNote, Takes, TakesNote}
@@ -149,7 +149,7 @@ module _ {C : Type 0} (progress : C → Progress) (g : Entries C) (i : ℕ) (e :
     shown : (stocked g.stock).headers.header n ≡ Some (found_header.header).state
     shown = sym (ap (λ (s : Seen). s.header n) (seen_of progress g W.world W.stands)) ∙ rw found_header.found refl
 
-    out_now : (found_header.header).state.place ≡ Out
+    out_now : (found_header.header).state.queue ≡ Out
     out_now = found_header.owned.0
 
     pub is_out : IsOut n (stocked g.stock)
@@ -194,13 +194,13 @@ module _ {C : Type 0} (progress : C → Progress) (g : Entries C) (i : ℕ) (e :
     abbrev pub after_header : StockKept → Entries C
     after_header after_stock = with_stocked progress after_stock after
 
-    steps_out : (after_stock : StockKept) → stocked after_stock ≡ given n owners.Client (stocked g.stock) → StepsBare (kept progress after) (kept progress (after_header after_stock)) (λ w v. v ≡ with_headers (changed n (given_to owners.Client) w.headers) (stocked g.stock).next w)
-    steps_out after_stock now = stock_steps progress after after_stock (given n owners.Client (stocked g.stock)) (λ w v. v ≡ with_headers (changed n (given_to owners.Client) w.headers) (stocked g.stock).next w) now
-        (lift_taken (kept progress after) (stocked g.stock) (given n owners.Client (stocked g.stock)) n (changed n (given_to owners.Client)) (stock_of progress after) refl others
+    steps_out : (after_stock : StockKept) → stocked after_stock ≡ header_given n owners.Client (stocked g.stock) → StepsBare (kept progress after) (kept progress (after_header after_stock)) (λ w v. v ≡ with_headers (changed n (given_to owners.Client) w.headers) (stocked g.stock).next w)
+    steps_out after_stock now = stock_steps progress after after_stock (header_given n owners.Client (stocked g.stock)) (λ w v. v ≡ with_headers (changed n (given_to owners.Client) w.headers) (stocked g.stock).next w) now
+        (lift_taken (kept progress after) (stocked g.stock) (header_given n owners.Client (stocked g.stock)) n (changed n (given_to owners.Client)) (stock_of progress after) refl others
         (λ hs S. give_stands (stocked g.stock) hs n owners.Client (found_header.header).state S shown out_now)
         (λ hs S. λ m d. changed_else (given_to owners.Client) (λ r. refl) n m hs d))
 
-    pub steps_header : (after_stock : StockKept) → stocked after_stock ≡ given n owners.Client (stocked g.stock) → StepsBare (kept progress g) (kept progress (after_header after_stock)) (λ w v. v ≡ with_client n (with_given i c (note_of t) w))
+    pub steps_header : (after_stock : StockKept) → stocked after_stock ≡ header_given n owners.Client (stocked g.stock) → StepsBare (kept progress g) (kept progress (after_header after_stock)) (λ w v. v ≡ with_client n (with_given i c (note_of t) w))
     steps_header after_stock now = λ w S.
         let x = steps_given w S in
         let y = steps_out after_stock now x.0 x.1 in
@@ -208,7 +208,7 @@ module _ {C : Type 0} (progress : C → Progress) (g : Entries C) (i : ℕ) (e :
         let m : w.made ≡ (stocked g.stock).next = made_of progress g w S in
         (y.0, y.1, y.2 ∙ (ap to x.2 ∙ made_is progress (with_given i c (note_of t) w) (changed n (given_to owners.Client) w.headers) (stocked g.stock).next m))
 
-    pub header_worlds : (after_stock : StockKept) → stocked after_stock ≡ given n owners.Client (stocked g.stock) → SoundWorld (kept progress (after_header after_stock))
+    pub header_worlds : (after_stock : StockKept) → stocked after_stock ≡ header_given n owners.Client (stocked g.stock) → SoundWorld (kept progress (after_header after_stock))
     header_worlds after_stock now = next_world (kept progress g) (kept progress (after_header after_stock)) (λ w v. v ≡ with_client n (with_given i c (note_of t) w)) W (steps_header after_stock now)
         (λ w v S f sound. subst Sound (sym f) (sound_taken w i c (note_of t) n sound (at_world progress g i e w S at) first_note noted))
 
@@ -261,7 +261,7 @@ module _ {C : Type 0} (progress : C → Progress) (g : Entries C) (i : ℕ) (e :
       (steps_given progress g i e call.taken rest W at was)
       (λ w v S f. (out, subst (λ (u : Taken). TakesNote w i (component_of e) u v) (sym is) (first, f ∙ ap (λ (x : Note). with_given i (component_of e) x w) n))))
 
-  header_returns : (call : Call C) (rest : List Taken) (header : BufferHeader) (after_stock : StockKept) → e.queues.client ≡ Some call.client → (was : e.queues.notes ≡ call.taken ∷ rest) → ((call.taken ≡ EmptyDone header) ⊎ (call.taken ≡ FillDone header)) → stocked after_stock ≡ given header.held.number owners.Client (stocked g.stock)
+  header_returns : (call : Call C) (rest : List Taken) (header : BufferHeader) (after_stock : StockKept) → e.queues.client ≡ Some call.client → (was : e.queues.notes ≡ call.taken ∷ rest) → ((call.taken ≡ EmptyDone header) ⊎ (call.taken ≡ FillDone header)) → stocked after_stock ≡ header_given header.held.number owners.Client (stocked g.stock)
       → Clause (with_stocked progress after_stock (changed_at i (left e rest) g)) (tooks.Call call)
   header_returns call rest header after_stock client was k now =
       let out : is_none e.queues.client ≡ false = rw client refl in
@@ -277,7 +277,7 @@ module _ {C : Type 0} (progress : C → Progress) (g : Entries C) (i : ℕ) (e :
       subst (λ (y : Entry C). Clause (changed_at i y g) (tooks.Call call)) (sym q) (told_clause call x.rest event x.client x.notes is)
 
   pub done_returns : (call : Call C) (header : BufferHeader) (d : Entry C) (after_stock : StockKept) → took e.queues ≡ tooks.Call call → d ≡ record e { queues = after_taking e.queues } → ((call.taken ≡ EmptyDone header) ⊎ (call.taken ≡ FillDone header))
-      → stocked after_stock ≡ given header.held.number owners.Client (stocked g.stock) → Clause (with_stocked progress after_stock (changed_at i d g)) (tooks.Call call)
+      → stocked after_stock ≡ header_given header.held.number owners.Client (stocked g.stock) → Clause (with_stocked progress after_stock (changed_at i d g)) (tooks.Call call)
   done_returns call header d after_stock h l k now =
       let x = was_taken e.queues call h in
       let q : d ≡ left e x.rest = l ∙ after_call e call h in
@@ -290,7 +290,7 @@ module _ {C : Type 0} (progress : C → Progress) (g : Entries C) (i : ℕ) (e :
       subst (λ (y : Entry C). SoundWorld (kept progress (changed_at i y g))) (sym q) (given_worlds progress g i e call.taken x.rest W at x.notes event is)
 
   pub done_worlds : (call : Call C) (header : BufferHeader) (d : Entry C) (after_stock : StockKept) → took e.queues ≡ tooks.Call call → d ≡ record e { queues = after_taking e.queues } → ((call.taken ≡ EmptyDone header) ⊎ (call.taken ≡ FillDone header))
-      → stocked after_stock ≡ given header.held.number owners.Client (stocked g.stock) → SoundWorld (kept progress (with_stocked progress after_stock (changed_at i d g)))
+      → stocked after_stock ≡ header_given header.held.number owners.Client (stocked g.stock) → SoundWorld (kept progress (with_stocked progress after_stock (changed_at i d g)))
   done_worlds call header d after_stock h l k now =
       let x = was_taken e.queues call h in
       let q : d ≡ left e x.rest = l ∙ after_call e call h in

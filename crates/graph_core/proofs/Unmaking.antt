@@ -9,8 +9,8 @@ use Rattle.std.proofs.lemmas.List.{append-nil, append_assoc}
 use Rattle.il_machine.specs.declared.answer.Progress.{Progress}
 use Rattle.il_machine.specs.declared.header.Owner.{Owner}
 use Rattle.il_machine.specs.declared.header.Owner.TheVariants as owners
-use Rattle.il_machine.specs.declared.header.Place.{Place}
-use Rattle.il_machine.specs.declared.header.Place.TheVariants.{Out, Todo, Done}
+use Rattle.il_machine.specs.declared.header.Queue.{Queue}
+use Rattle.il_machine.specs.declared.header.Queue.TheVariants.{Out, Todo, Done}
 use Rattle.il_machine.specs.declared.header.HeaderState.{HeaderState}
 use Rattle.il_machine.specs.World.{Component, HeaderRecord, Work, World, number_of}
 use Rattle.il_machine.specs.Lists.{holds_at}
@@ -18,7 +18,7 @@ use Rattle.il_machine.specs.Headers.{Seen, seen, find_header, is_notice, is_noti
 use Rattle.il_machine.specs.Buffers.{held}
 use Rattle.il_machine.specs.Census.{note_numbers, times, work_numbers}
 use Rattle.il_machine.specs.Look.{Look}
-use Rattle.il_machine.specs.Stock.{Stocked, withdrawn}
+use Rattle.il_machine.specs.Stock.{Stocked, header_unmade}
 use Rattle.il_machine.specs.Sound.{IsMadeFor, IsOwnedSo, port_at}
 use Rattle.il_machine.specs.Whole.{Noticed, IsNoticed}
 use Rattle.machine_laws.proofs.Every.{at_place, from_places}
@@ -90,16 +90,16 @@ none_named n [] h = tt
 none_named n (x ∷ xs) h = (weight_none (nat_eq x.held.number n) (omega arith), none_named n xs (omega arith))
 
 abbrev KnownAs : Noticed → HeaderState → Type 0
-KnownAs h x = (x.place ≡ Out) × (h.held.size ≡ x.size) × (h.client_memory ≡ x.client_memory)
+KnownAs h x = (x.queue ≡ Out) × (h.held.size ≡ x.size) × (h.client_memory ≡ x.client_memory)
 
-still_held : (n : ℕ) (s : Stocked) (h : Noticed) → IsHeldOut s h → nat_eq h.held.number n ≡ false → IsHeldOut (withdrawn n s) h
+still_held : (n : ℕ) (s : Stocked) (h : Noticed) → IsHeldOut s h → nat_eq h.held.number n ≡ false → IsHeldOut (header_unmade n s) h
 still_held n s h k e =
     let P : Bool → Type 0 = λ b. MatchOption (if b then None else s.headers.header h.held.number) ⊥ (KnownAs h) in
     (k.0, subst P (sym e) k.1)
 
 -- of those that are left, each number stands once more
 left_once : (n m : ℕ) (s : Stocked) (xs ys : List Noticed) (h : Noticed) → h.held.number ≡ n → ((k : ℕ) → held_times k (xs ++ h ∷ ys) ≡ weight (holds_at (s.headers.header k) is_outside))
-    → held_times m (xs ++ ys) ≡ weight (holds_at ((withdrawn n s).headers.header m) is_outside)
+    → held_times m (xs ++ ys) ≡ weight (holds_at ((header_unmade n s).headers.header m) is_outside)
 left_once n m s xs ys h is once =
     let a = times_both m xs (h ∷ ys) in
     let b = times_both m xs ys in
@@ -116,7 +116,7 @@ left_once n m s xs ys h is once =
           omega arith
     ] refl
 
-pub one_less : (s : Stocked) (xs ys : List Noticed) (h : Noticed) → AreOutside (xs ++ h ∷ ys) s → AreOutside (xs ++ ys) (withdrawn h.held.number s)
+pub one_less : (s : Stocked) (xs ys : List Noticed) (h : Noticed) → AreOutside (xs ++ h ∷ ys) s → AreOutside (xs ++ ys) (header_unmade h.held.number s)
 one_less s xs ys h A =
     let n = h.held.number in
     let once = λ (m : ℕ). left_once n m s xs ys h refl A.once in
@@ -124,11 +124,11 @@ one_less s xs ys h A =
     let back = each_right (IsHeldOut s) xs (h ∷ ys) A.each in
     let there = each_both (IsHeldOut s) xs ys (each_left (IsHeldOut s) xs (h ∷ ys) A.each) back.1 in
     record {
-      each = each_map (IsHeldOut s) (λ x. nat_eq x.held.number n ≡ false) (IsHeldOut (withdrawn n s)) (xs ++ ys) (λ x k e. still_held n s x k e) there (none_named n (xs ++ ys) gone);
+      each = each_map (IsHeldOut s) (λ x. nat_eq x.held.number n ≡ false) (IsHeldOut (header_unmade n s)) (xs ++ ys) (λ x k e. still_held n s x k e) there (none_named n (xs ++ ys) gone);
       once = once;
     }
 
-known_header : (o : Option HeaderState) (header : BufferHeader) → MatchOption o ⊥ (KnownAs (noticed_of header)) → MatchOption o ⊥ (λ x. (x.place ≡ Out) × IsHeaderOf x header)
+known_header : (o : Option HeaderState) (header : BufferHeader) → MatchOption o ⊥ (KnownAs (noticed_of header)) → MatchOption o ⊥ (λ x. (x.queue ≡ Out) × IsHeaderOf x header)
 known_header None header k = k
 known_header (Some x) header k = (k.0, record { size = k.1; memory = k.2 })
 
@@ -153,14 +153,14 @@ without_front s xs (FillDone header) ts A = one_less s xs (held_in ts) (noticed_
 
 -- ---- none is left
 
-waits_where : (p : Place) → weight (not (is_waiting p)) ≡ 0 → is_waiting p ≡ true
+waits_where : (p : Queue) → weight (not (is_waiting p)) ≡ 0 → is_waiting p ≡ true
 waits_where Out h = absurd (omega arith)
 waits_where Todo h = refl
 waits_where Done h = refl
 
-waits_at : (o : Option HeaderState) → weight (holds_at o is_outside) ≡ 0 → MatchOption o (Unit {0}) (λ x. is_waiting x.place ≡ true)
+waits_at : (o : Option HeaderState) → weight (holds_at o is_outside) ≡ 0 → MatchOption o (Unit {0}) (λ x. is_waiting x.queue ≡ true)
 waits_at None h = tt
-waits_at (Some x) h = waits_where x.place h
+waits_at (Some x) h = waits_where x.queue h
 
 pub all_wait : (s : Stocked) → AreOutside [] s → AllWait s
 all_wait s A = λ n. waits_at (s.headers.header n) (sym (A.once n))
@@ -220,7 +220,7 @@ notice_weighs k m owner o e = rw (o, e, eq-eqb k k refl) refl
 notice_away : (k m : ℕ) (owner : Owner) → owner ≡ owners.Notice k → k ≢ m → weight (is_notice_of m owner) ≡ 0
 notice_away k m owner o a = rw (o, ne_eqb k m a) refl
 
-in_list : (p : Place) → p ≢ Out → weight (not (is_waiting p)) ≡ 0
+in_list : (p : Queue) → p ≢ Out → weight (not (is_waiting p)) ≡ 0
 in_list Out h = absurd (h refl)
 in_list Todo h = refl
 in_list Done h = refl
@@ -244,9 +244,9 @@ module _ (cs : List Component) (hs : List HeaderRecord) (numbered made : ℕ) (P
 
   by_owner : (r : HeaderRecord) (owner : Owner) → find_header n hs ≡ Some r → r.state.owner ≡ owner → IsOwnedSo r.state owner → is_inside owner ≡ true → times n (all_notes cs) ≡ weight (is_outside r.state)
   by_owner r owners.Client f o O inside = absurd cc
-  by_owner r (owners.Port key) f o O inside = notes_none n cs (λ i c t. note_count i c r t f ∙ ap (λ (x : Owner). weight (is_notice_of (number_of c) x)) o) ∙ sym (in_list r.state.place O.1)
+  by_owner r (owners.Port key) f o O inside = notes_none n cs (λ i c t. note_count i c r t f ∙ ap (λ (x : Owner). weight (is_notice_of (number_of c) x)) o) ∙ sym (in_list r.state.queue O.1)
   by_owner r (owners.Work k) f o O inside = absurd cc
-  by_owner r (owners.Notice k) f o O inside = one_note r k f o ∙ sym (ap (λ (p : Place). weight (not (is_waiting p))) O.0)
+  by_owner r (owners.Notice k) f o O inside = one_note r k f o ∙ sym (ap (λ (p : Queue). weight (not (is_waiting p))) O.0)
 
   abbrev Inside : Option HeaderState → Type 0
   Inside o = MatchOption o (Unit {0}) (λ h. is_inside h.owner ≡ true)
@@ -261,7 +261,7 @@ module _ (cs : List Component) (hs : List HeaderRecord) (numbered made : ℕ) (P
         by_owner r r.state.owner f refl (P.tied.placed n r f).owner i ∙ rw f refl
   ]
 
-out_by : (s : HeaderState) (owner : Owner) → IsOwnedSo s owner → is_notice owner ≡ true → s.place ≡ Out
+out_by : (s : HeaderState) (owner : Owner) → IsOwnedSo s owner → is_notice owner ≡ true → s.queue ≡ Out
 out_by s owners.Client O h = absurd cc
 out_by s (owners.Port key) O h = absurd cc
 out_by s (owners.Work k) O h = absurd cc

@@ -6,7 +6,7 @@ use Rattle.il_machine.specs.declared.header.Owner.TheVariants as owners
 use Rattle.il_machine.specs.Headers.{in_todo}
 use Rattle.il_machine.specs.Look.{Look}
 use Rattle.il_machine.specs.Buffers.{AtState}
-use Rattle.il_machine.specs.Stock.{Stocked, given, pulled}
+use Rattle.il_machine.specs.Stock.{Stocked, header_given, todo_pulled}
 use Rattle.il_machine.specs.World.{Component, number_of, ports_of}
 use Rattle.il_machine.specs.Claims.{gives_header, must_announce}
 use Rattle.header_core.specs.BufferHeader.{BufferHeader}
@@ -18,7 +18,7 @@ key_at component port = record { component = component; port = port }
 
 abbrev pub front_given : PortKey → List ℕ → Stocked → Stocked
 front_given key [] s = s
-front_given key (number ∷ rest) s = given number (owners.Work key.component) (pulled key s)
+front_given key (number ∷ rest) s = header_given number (owners.Work key.component) (todo_pulled key s)
 
 -- the front of the port's todo goes out with the work of its component
 abbrev pub goes_out : PortKey → Stocked → Stocked
@@ -35,7 +35,7 @@ all_out component port (gives ∷ flags) s = all_out component (port + 1) flags 
 
 -- the header was in the port's todo, with all that it carries, and is out of it
 abbrev pub IsFromTodo : PortKey → Stocked → BufferHeader → Type 0
-IsFromTodo key s h = IsFrom (in_todo key) h s × IsOutside h (pulled key s)
+IsFromTodo key s h = IsFrom (in_todo key) h s × IsOutside h (todo_pulled key s)
 
 -- the front of the port's todo, where there is one
 abbrev pub IsFront : PortKey → Option BufferHeader → Stocked → Type 0

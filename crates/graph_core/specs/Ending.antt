@@ -1,12 +1,12 @@
 -- A graph ends: the headers in notes are unmade, and those that wait in lists go with the stock.
 use Rattle.std.specs.Prelude.{◌≡◌, ℕ, ◌+◌, Bool, false, not, ◌&&◌, nat_eq, List, [], ◌∷◌, ◌++◌, All, None, is_none, is_some, MatchOption}
 use Rattle.il_machine.specs.declared.header.HeaderState.{HeaderState}
-use Rattle.il_machine.specs.declared.header.Place.TheVariants.{Out}
+use Rattle.il_machine.specs.declared.header.Queue.TheVariants.{Out}
 use Rattle.il_machine.specs.Buffers.{IsWithClient}
 use Rattle.il_machine.specs.Headers.{weight}
 use Rattle.il_machine.specs.Lists.{holds_at}
 use Rattle.il_machine.specs.Look.{Look}
-use Rattle.il_machine.specs.Stock.{Stocked, withdrawn}
+use Rattle.il_machine.specs.Stock.{Stocked, header_unmade}
 use Rattle.il_machine.specs.Whole.{Noticed}
 use Rattle.header_core.specs.BufferHeader.{BufferHeader}
 use Rattle.note_queues.specs.declared.taken.Taken.{Taken}
@@ -31,10 +31,10 @@ is_in e = not (is_none e.queues.client) && not (is_some e.work) && is_none e.fil
 
 -- the header is one of the stock's, in no list
 abbrev pub IsHeldOut : Stocked → Noticed → Type 0
-IsHeldOut s h = (h.key ≡ s.key) × MatchOption (s.headers.header h.held.number) ⊥ (λ x. (x.place ≡ Out) × (h.held.size ≡ x.size) × (h.client_memory ≡ x.client_memory))
+IsHeldOut s h = (h.key ≡ s.key) × MatchOption (s.headers.header h.held.number) ⊥ (λ x. (x.queue ≡ Out) × (h.held.size ≡ x.size) × (h.client_memory ≡ x.client_memory))
 
 abbrev pub is_outside : HeaderState → Bool
-is_outside x = not (is_waiting x.place)
+is_outside x = not (is_waiting x.queue)
 
 -- how often the number is one of theirs
 abbrev pub held_times : ℕ → List Noticed → ℕ
@@ -64,5 +64,5 @@ OnHeader (FillDone header) P = P header
 -- its header, if it has one, is unmade
 abbrev pub without_taken : Taken → Stocked → Stocked
 without_taken (Told event) s = s
-without_taken (EmptyDone header) s = withdrawn header.held.number s
-without_taken (FillDone header) s = withdrawn header.held.number s
+without_taken (EmptyDone header) s = header_unmade header.held.number s
+without_taken (FillDone header) s = header_unmade header.held.number s

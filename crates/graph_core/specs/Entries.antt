@@ -10,7 +10,7 @@ use Rattle.il_machine.specs.Ports.{is_going_to}
 use Rattle.il_machine.specs.Whole.{Kept, Noticed}
 use Rattle.whole_laws.specs.Entries.{all_held}
 use Rattle.il_component.specs.Entries.{Entry, component_of, held_in}
-use Rattle.port_stock.specs.Kept.{Kept as StockKept, stocked}
+use Rattle.port_stock.specs.Kept.{StockKept, stocked}
 
 pub record Entries (C : Type 0) : Type 0 where
   pub entries : List (Entry C)

@@ -8,7 +8,7 @@ use Rattle.il_machine.specs.Whole as machine
 use Rattle.il_machine.specs.Sound.{Sound}
 use Rattle.il_machine.specs.Stock.{Stocked}
 use Rattle.il_component.specs.Entries.{Entry, component_of}
-use Rattle.port_stock.specs.Kept.{Kept, stocked}
+use Rattle.port_stock.specs.Kept.{StockKept, stocked}
 use Rattle.port_rules.specs.Tests.{HasPortsOf}
 use Rattle.registry.specs.Handles.{Handles}
 use Rattle.graph_core.specs.Entries.{kept, waiters}
@@ -26,7 +26,7 @@ module _ {C : Type 0} where
     pub there : (i : ℕ) (e : Entry C) → slice_get entries i ≡ Some e → HasPortsOf (component_of e) s
     pub below : All (λ key. key.component < numbered) s.ports
 
-  pub record IsGraph (progress : C → Progress) (entries : List (Entry C)) (registry : Handles ℕ) (stock : Kept) (units waits capacity : ℕ) : Type 0 where
+  pub record IsGraph (progress : C → Progress) (entries : List (Entry C)) (registry : Handles ℕ) (stock : StockKept) (units waits capacity : ℕ) : Type 0 where
     pub registered : Registered entries registry
     pub roomy : 32 ≤ capacity
     pub few : length entries ≤ 32

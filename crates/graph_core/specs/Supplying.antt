@@ -11,7 +11,7 @@ use Rattle.il_machine.specs.Headers.{empty_load}
 use Rattle.il_machine.specs.Look.{Look}
 use Rattle.il_machine.specs.Ports.{is_input_port}
 use Rattle.il_machine.specs.Flow.{supply_idle}
-use Rattle.il_machine.specs.Stock.{Stocked, made_header, populated, pulled, pushed, sent}
+use Rattle.il_machine.specs.Stock.{Stocked, made_header, header_made, todo_pulled, pushed, done_pulled}
 use Rattle.port_stock.specs.Conditions.{HasBlockFor, IsPort, made_in}
 
 -- A header may be made for the tunnel of the port.
@@ -38,11 +38,11 @@ abbrev pub supplied_header : Port → PortKey → ℕ → HeaderState
 supplied_header p peer number = made_header number p.key (Some peer) (homes.Port p.key) p.setting.definition.size false
 
 abbrev pub with_supply : Port → PortKey → Stocked → Stocked
-with_supply p peer s = pushed p.key (supplied_spot (is_input_port p)) s.next (empty_load None) (populated (supplied_header p peer s.next) s)
+with_supply p peer s = pushed p.key (supplied_spot (is_input_port p)) s.next (empty_load None) (header_made (supplied_header p peer s.next) s)
 
 abbrev pub left_from : PortKey → List ℕ → Stocked → Stocked
-left_from key [] s = sent key s
-left_from key (number ∷ rest) s = pulled key s
+left_from key [] s = done_pulled key s
+left_from key (number ∷ rest) s = todo_pulled key s
 
 -- the front of todo leaves it, or, where todo is empty, that of done
 abbrev pub front_left : PortKey → Stocked → Stocked

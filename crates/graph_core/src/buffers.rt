@@ -16,7 +16,7 @@ use il_machine::{Home, Spot};
 use note_queues::Client;
 use omx_types::OmxError;
 use port_rules::{
-    allocate_fault, empty_fault, fill_fault, free_buffer_fault, unpopulate, use_fault,
+    allocate_refusal, empty_refusal, fill_refusal, free_buffer_refusal, unpopulate, use_refusal,
 };
 
 impl<C: Client> Core<C> {
@@ -26,7 +26,7 @@ impl<C: Client> Core<C> {
         ensures { MatchOption (component_at place self.now) ⊥ (λ c. result ≡ allocate_refusal (look_of self.now) c (port_of c index)) }
     {
         let component = &self.components[place];
-        allocate_fault(&self.stock, component, index)
+        allocate_refusal(&self.stock, component, index)
     }
 
     /// Why the client's memory of so many bytes isn't taken for the port.
@@ -35,7 +35,7 @@ impl<C: Client> Core<C> {
         ensures { MatchOption (component_at place self.now) ⊥ (λ c. result ≡ use_refusal (look_of self.now) c (port_of c index) bytes) }
     {
         let component = &self.components[place];
-        use_fault(&self.stock, component, index, bytes)
+        use_refusal(&self.stock, component, index, bytes)
     }
 
     /// Why the header of the number, which the client has, isn't unmade.
@@ -48,7 +48,7 @@ impl<C: Client> Core<C> {
         let Some(state) = self.stock.state(number) else {
             unreachable!()
         };
-        free_buffer_fault(component, index, state)
+        free_buffer_refusal(component, index, state)
     }
 
     /// Why the header isn't taken in by the input port.
@@ -61,7 +61,7 @@ impl<C: Client> Core<C> {
         let Some(state) = self.stock.state(header.id()) else {
             unreachable!()
         };
-        empty_fault(component, index, state, header)
+        empty_refusal(component, index, state, header)
     }
 
     /// Why the header isn't taken in by the output port.
@@ -74,7 +74,7 @@ impl<C: Client> Core<C> {
         let Some(state) = self.stock.state(header.id()) else {
             unreachable!()
         };
-        fill_fault(component, index, state)
+        fill_refusal(component, index, state)
     }
 
     /// Makes a header for the port, of the client's memory, or of a block where there is none.
@@ -92,7 +92,7 @@ impl<C: Client> Core<C> {
         if !self.stock.numbers_left() {
             unreachable!()
         }
-        self.stock.populate(
+        self.stock.make_header(
             port.key,
             None,
             Home::Client,
@@ -102,7 +102,7 @@ impl<C: Client> Core<C> {
     }
 
     /// Unmakes the header of the port, and gives the client's memory back. The component tells where it needs the header.
-    pub fn unmake_header(&mut self, place: usize, index: u32, header: Header) -> Option<Memory>
+    pub fn free_buffer(&mut self, place: usize, index: u32, header: Header) -> Option<Memory>
         requires handed { IsHandedIn header (look_of self.old) }
         requires free { IsSomeAnd (component_at place self.old) (λ c. AtState header.held.number (look_of self.old) (λ s. free_buffer_refusal c (port_of c index) s ≡ None)) }
         ensures memory { result ≡ header.held.memory }
@@ -115,7 +115,7 @@ impl<C: Client> Core<C> {
             unreachable!()
         };
         unpopulate(component, port);
-        self.stock.withdraw(header)
+        self.stock.unmake_header(header)
     }
 
     /// The header goes to the back of the port's todo, with what it carries.
@@ -129,6 +129,6 @@ impl<C: Client> Core<C> {
         let Some(port) = component.port(index) else {
             unreachable!()
         };
-        self.stock.push_work(port.key, header, Spot::TodoBack);
+        self.stock.push_header(port.key, header, Spot::TodoBack);
     }
 }

@@ -12,7 +12,7 @@ ghost use Rattle.graph_core.specs.Entries.{kept, look_of, component_at};
 ghost use Rattle.graph_core.specs.Clients.{KeepsAllClients};
 
 use crate::core_graph::Core;
-use crate::picking::{Places, numbers_of, pick_up};
+use crate::picking::{WorkHeaders, numbers_of, pick_up};
 use note_queues::Client;
 use port_rules::{NoWork, must_announce};
 
@@ -37,7 +37,7 @@ impl<C: Client> Core<C> {
 
     /// The work of the component at the place goes out, with the front of `todo` of each input that hasn't ended and of each output. An
     /// announcement has no header.
-    pub fn claim(&mut self, place: usize) -> Places
+    pub fn claim(&mut self, place: usize) -> WorkHeaders
         requires { IsSomeAnd (component_at place self.old) (λ c. claim_idle (look_of self.old) c ≡ None) }
         ensures change { MatchOption (component_at place self.old) ⊥ (λ c. StepsBare (kept C.progress self.old) (kept C.progress self.new) (λ w v. v ≡ with_work place c (work_of (seen w.headers) c) w)) }
         ensures carried { MatchOption (component_at place self.old) ⊥ (λ c. AlwaysBare (kept C.progress self.old) (λ w. carried w.headers (work_of (seen w.headers) c).headers ≡ carried_from 0 result)) }

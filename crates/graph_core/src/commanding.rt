@@ -27,7 +27,7 @@ impl<C: Client> Core<C> {
             Some(OmxError::BadPortIndex)
         } else if self.lacks_target(command) {
             Some(OmxError::BadParameter)
-        } else if component.lacks_place(command) {
+        } else if component.lacks_command_room(command) {
             Some(OmxError::InsufficientResources)
         } else {
             None
@@ -45,7 +45,7 @@ impl<C: Client> Core<C> {
     }
 
     /// The component at the place takes the command.
-    pub fn send(&mut self, place: usize, command: Command)
+    pub fn send_command(&mut self, place: usize, command: Command)
         requires { IsSomeAnd (component_at place self.old) (λ c. send_refusal (look_of self.old) c command ≡ None) }
         ensures change { MatchOption (component_at place self.old) ⊥ (λ c. StepsBare (kept C.progress self.old) (kept C.progress self.new) (λ w v. v ≡ with_component place (sent command c) w)) }
         ensures clients { KeepsAllClients self.old self.new }
@@ -64,7 +64,7 @@ impl<C: Client> Core<C> {
     }
 
     /// The component at the place carries out its first command. Nothing is due before: then none waits for its number.
-    pub fn run(&mut self, place: usize)
+    pub fn run_command(&mut self, place: usize)
         requires closed { first_due (look_of self.old) ≡ None }
         requires may { IsSomeAnd (component_at place self.old) (λ c. run_idle c c.commands ≡ None) }
         ensures change { MatchOption (component_at place self.old) ⊥ (λ c. StepsBare (kept C.progress self.old) (kept C.progress self.new) (λ w v. v ≡ with_component place (run_front (look w) c.commands c) w)) }

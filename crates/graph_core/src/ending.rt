@@ -20,7 +20,7 @@ fn end_taken(stock: &mut Stock, taken: Taken)
     match taken {
         Taken::Told(_) => {}
         Taken::EmptyDone(header) | Taken::FillDone(header) => {
-            let _memory = stock.withdraw(header);
+            let _memory = stock.unmake_header(header);
         }
     }
 }

@@ -6,7 +6,7 @@ ghost use Rattle.il_machine.specs.Finishing.{finished};
 ghost use Rattle.il_machine.specs.Kinds.{ports_in};
 ghost use Rattle.il_machine.specs.Ports.{returning};
 ghost use Rattle.il_machine.specs.Sound.{IsSound};
-ghost use Rattle.il_machine.specs.Stepping.{Done};
+ghost use Rattle.il_machine.specs.Stepping.{WorkDone};
 ghost use Rattle.il_machine.specs.World.{World, number_of, ports_of};
 ghost use Rattle.whole_laws.specs.Bare.{StandsBare, StepsBare, StepsBareWhere};
 ghost use Rattle.il_component.specs.Entries.{component_of};
@@ -16,7 +16,7 @@ ghost use Rattle.graph_core.specs.Clients.{KeepsAllClients};
 ghost use Rattle.graph_core.specs.Finishing.{AreHandedBack, ComesBack};
 
 use crate::core_graph::Core;
-use crate::picking::Places;
+use crate::picking::WorkHeaders;
 use il_component::Component;
 use il_machine::Port;
 use note_queues::Client;
@@ -63,7 +63,7 @@ fn ways_of<C>(component: &Component<C>) -> [Way; 9]
 
 impl<C: Client> Core<C> {
     /// The work of the component at the place comes back from a step: its headers land, marks and what ended are told, and the part goes on.
-    pub fn finish(&mut self, place: usize, headers: Places, step: Step)
+    pub fn finish(&mut self, place: usize, headers: WorkHeaders, step: Step)
         requires comes { IsSomeAnd (component_at place self.old) (λ c. (w : World) × (took : List ℕ) × (StandsBare (kept C.progress self.old) w × ComesBack w c headers step took)) }
         requires handed { AreHandedBack headers (look_of self.old) }
         ensures change { (took : List ℕ) → MatchOption (component_at place self.old) ⊥ (λ c. StepsBareWhere (kept C.progress self.old) (kept C.progress self.new) (λ w. ComesBack w c headers step took) (λ w v. v ≡ finished place c (done_by (number_of c) headers step took) w)) }
@@ -79,7 +79,7 @@ impl<C: Client> Core<C> {
     /// format of the file by now.
     pub fn finish_announcement(&mut self, place: usize)
         requires { IsSomeAnd (component_at place self.old) (λ c. IsSomeAnd c.work (λ work. work.announces ≡ true)) }
-        ensures change { (done : Done) → MatchOption (component_at place self.old) ⊥ (λ c. StepsBare (kept C.progress self.old) (kept C.progress self.new) (λ w v. v ≡ finished place c done w)) }
+        ensures change { (done : WorkDone) → MatchOption (component_at place self.old) ⊥ (λ c. StepsBare (kept C.progress self.old) (kept C.progress self.new) (λ w v. v ≡ finished place c done w)) }
         ensures clients { KeepsAllClients self.old self.new }
     {
         let component = &mut self.components[place];

@@ -22,4 +22,4 @@ mod tunnels;
 mod units;
 
 pub use core_graph::Core;
-pub use picking::Places;
+pub use picking::WorkHeaders;

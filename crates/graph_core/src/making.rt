@@ -23,7 +23,7 @@ use crate::core_graph::Core;
 use il_component::Component;
 use note_queues::Client;
 use omx_types::{Handle, Kind, OmxError, Param, ParamKey};
-use port_rules::{free_fault, parameter_fault};
+use port_rules::{free_refusal, set_parameter_refusal};
 use port_stock::Stock;
 use registry::Registry;
 use std::alloc::Global;
@@ -140,11 +140,11 @@ impl<C: Client> Core<C> {
         ensures { MatchOption (component_at place self.now) ⊥ (λ c. result ≡ free_refusal (look_of self.now).headers c) }
     {
         let component = &self.components[place];
-        free_fault(&self.stock, component)
+        free_refusal(&self.stock, component)
     }
 
     /// Takes the component at the place out, and answers its client object.
-    pub fn free(&mut self, place: usize) -> C
+    pub fn free_handle(&mut self, place: usize) -> C
         requires { IsSomeAnd (component_at place self.old) (λ c. free_refusal (look_of self.old).headers c ≡ None) }
         ensures freed { MatchOption (component_at place self.old) ⊥ (λ c. StepsBare (kept C.progress self.old) (kept C.progress self.new) (λ w v. v ≡ without_component place c w)) }
         ensures client { MatchOption (slice_get self.old.entries place) ⊥ (λ e. e.queues.client ≡ Some result) }
@@ -174,7 +174,7 @@ impl<C: Client> Core<C> {
         ensures { MatchOption (component_at place self.now) ⊥ (λ c. result ≡ set_parameter_refusal (look_of self.now).headers c key value) }
     {
         let component = &self.components[place];
-        parameter_fault(&self.stock, component, key, value)
+        set_parameter_refusal(&self.stock, component, key, value)
     }
 
     /// Why a config of the component at the place isn't set.

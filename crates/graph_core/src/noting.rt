@@ -16,7 +16,7 @@ use note_queues::{Client, Taken, Took};
 
 impl<C: Client> Core<C> {
     /// Takes the oldest note of the component at the place out, with its client object. A header in it is the client's from then on.
-    pub fn take(&mut self, place: usize) -> Took<C>
+    pub fn take_note(&mut self, place: usize) -> Took<C>
         requires { place < length self.old.entries }
         ensures change { MatchOption (component_at place self.old) ⊥ (λ c. StepsBare (kept C.progress self.old) (kept C.progress self.new) (λ w v. Takes w place c result v)) }
         ensures unchanged { OnNoNote result (self.new ≡ self.old) }
@@ -28,7 +28,7 @@ impl<C: Client> Core<C> {
         if let Took::Call(call) = &took {
             match &call.taken {
                 Taken::EmptyDone(header) | Taken::FillDone(header) => {
-                    self.stock.set_out(header.id(), Owner::Client);
+                    self.stock.give_header(header.id(), Owner::Client);
                 }
                 Taken::Told(_) => {}
             }
@@ -59,12 +59,12 @@ impl<C: Client> Core<C> {
         let Some(port) = component.port(index) else {
             unreachable!()
         };
-        let Some(mut header) = self.stock.pull_work(port.key) else {
+        let Some(mut header) = self.stock.pull_todo(port.key) else {
             return;
         };
         header.clear();
         self.stock
-            .set_out(header.id(), Owner::Notice(port.key.component));
+            .give_header(header.id(), Owner::Notice(port.key.component));
         component.put_header(port.setting.definition.input, header);
     }
 }

@@ -111,10 +111,10 @@ fn pass_on(stock: &mut Stock, key: PortKey, peer: PortKey)
     requires shared { AreShared key peer (stocked stock.old) }
     ensures { Moves (λ w. front_put peer TodoBack unchanged ((seen w.headers).done key) w) (stocked stock.old) (stocked stock.new) }
 {
-    let Some(header) = stock.send_front(key) else {
+    let Some(header) = stock.pull_done(key) else {
         return;
     };
-    stock.push_work(peer, header, Spot::TodoBack);
+    stock.push_header(peer, header, Spot::TodoBack);
 }
 
 /// The front of `done` goes to the back of the supplier's `todo`. Where `done` is empty the front of `todo` goes back, cleared.
@@ -124,15 +124,15 @@ fn give_back(stock: &mut Stock, port: Port, supplier: PortKey)
     requires shared { AreShared port.key supplier (stocked stock.old) }
     ensures { Moves (λ w. returned supplier (is_input_port port) ((seen w.headers).done port.key) ((seen w.headers).todo port.key) w) (stocked stock.old) (stocked stock.new) }
 {
-    if let Some(header) = stock.send_front(port.key) {
-        stock.push_work(supplier, header, Spot::TodoBack);
+    if let Some(header) = stock.pull_done(port.key) {
+        stock.push_header(supplier, header, Spot::TodoBack);
         return;
     }
-    let Some(mut header) = stock.pull_work(port.key) else {
+    let Some(mut header) = stock.pull_todo(port.key) else {
         return;
     };
     header.clear();
-    stock.push_work(
+    stock.push_header(
         supplier,
         header,
         supplied_spot(!port.setting.definition.input),

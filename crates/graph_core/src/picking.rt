@@ -16,7 +16,7 @@ use port_stock::Stock;
 use std::mem::replace;
 
 /// A header for each port of a component that gives one.
-pub type Places = [Option<Header>; 9];
+pub type WorkHeaders = [Option<Header>; 9];
 
 /// Moves the front of a port's `todo`, where there is one, to a free place.
 fn pick_front(stock: &mut Stock, port: PortKey, place: &mut Option<Header>)
@@ -25,10 +25,10 @@ fn pick_front(stock: &mut Stock, port: PortKey, place: &mut Option<Header>)
     ensures front { IsFront port place.new (stocked stock.old) }
     ensures stock { stocked stock.new ≡ goes_out port (stocked stock.old) }
 {
-    let Some(header) = stock.pull_work(port) else {
+    let Some(header) = stock.pull_todo(port) else {
         return;
     };
-    stock.set_out(header.id(), Owner::Work(port.component));
+    stock.give_header(header.id(), Owner::Work(port.component));
     match replace(place, Some(header)) {
         None => {}
         Some(_) => unreachable!(),
@@ -71,7 +71,7 @@ fn pick_ports(
     }
 }
 
-fn no_headers() -> Places
+fn no_headers() -> WorkHeaders
     ensures free { AreFree result }
     ensures places { length result ≡ 9 }
 {
@@ -101,7 +101,11 @@ fn giving<C>(stock: &Stock, component: &Component<C>, announces: bool) -> [bool;
 }
 
 /// The headers of the component's work go out.
-pub(crate) fn pick_up<C>(stock: &mut Stock, component: &Component<C>, announces: bool) -> Places
+pub(crate) fn pick_up<C>(
+    stock: &mut Stock,
+    component: &Component<C>,
+    announces: bool,
+) -> WorkHeaders
     requires { HasAllPorts (component_of component.now) (stocked stock.old) }
     ensures fronts { AreFronts component.now.handle.generation 0 (map (gives_to announces (component_of component.now)) (ports_of (component_of component.now))) result (stocked stock.old) }
     ensures stock { stocked stock.new ≡ all_out component.now.handle.generation 0 (map (gives_to announces (component_of component.now)) (ports_of (component_of component.now))) (stocked stock.old) }
@@ -133,7 +137,7 @@ fn note_numbers(places: &[Option<Header>], numbers: &mut [Option<u64>])
 }
 
 /// The numbers of the headers, by their ports.
-pub(crate) fn numbers_of(places: &Places) -> [Option<u64>; 9]
+pub(crate) fn numbers_of(places: &WorkHeaders) -> [Option<u64>; 9]
     ensures { result ≡ map (option_map number_of) places.now }
 {
     let mut numbers = [None; 9];

@@ -98,14 +98,14 @@ fn make_for_both(stock: &mut Stock, port: Port, peer: PortKey)
     ensures new_number { (stocked stock.old).headers.header (stocked stock.old).next ≡ None }
     ensures stock { stocked stock.new ≡ with_supply port peer (stocked stock.old) }
 {
-    let header = stock.populate(
+    let header = stock.make_header(
         port.key,
         Some(peer),
         Home::Port(port.key),
         None,
         port.setting.definition.size,
     );
-    stock.push_work(
+    stock.push_header(
         port.key,
         header,
         supplied_spot(port.setting.definition.input),
@@ -119,9 +119,9 @@ fn take_front(stock: &mut Stock, key: PortKey) -> Option<Header>
     ensures outside { IfSome result (λ header. IsOutside header (stocked stock.new)) }
     ensures stock { stocked stock.new ≡ front_left key (stocked stock.old) }
 {
-    match stock.pull_work(key) {
+    match stock.pull_todo(key) {
         Some(header) => Some(header),
-        None => stock.send_front(key),
+        None => stock.pull_done(key),
     }
 }
 
@@ -150,7 +150,7 @@ impl<C: Client> Core<C> {
     }
 
     /// The port, which supplies its tunnel, makes a header of a block for both ends.
-    pub fn supply_header(&mut self, place: usize, index: u32)
+    pub fn supply(&mut self, place: usize, index: u32)
         requires { IsSomeAnd (component_at place self.old) (λ c. IsSomeAnd (port_of c index) (λ p. IsSuppliable (look_of self.old) c p)) }
         ensures change { MatchOption (component_at place self.old) ⊥ (λ c. MatchOption (port_of c index) ⊥ (λ p. StepsBare (kept C.progress self.old) (kept C.progress self.new) (λ w v. v ≡ with_supplied p w))) }
         ensures clients { KeepsAllClients self.old self.new }
@@ -189,7 +189,7 @@ impl<C: Client> Core<C> {
     }
 
     /// The port, which supplies its tunnel and is leaving, unmakes the front header of `todo`, or, where that is empty, of `done`.
-    pub fn release_front(&mut self, place: usize, index: u32)
+    pub fn release(&mut self, place: usize, index: u32)
         requires { IsSomeAnd (component_at place self.old) (λ c. IsSomeAnd (port_of c index) (λ p. release_idle (look_of self.old) c p ≡ None)) }
         ensures change { MatchOption (component_at place self.old) ⊥ (λ c. MatchOption (port_of c index) ⊥ (λ p. StepsBare (kept C.progress self.old) (kept C.progress self.new) (λ w v. v ≡ front_unmade (in_port (seen w.headers) p) w))) }
         ensures clients { KeepsAllClients self.old self.new }
@@ -201,6 +201,6 @@ impl<C: Client> Core<C> {
         let Some(header) = take_front(&mut self.stock, port.key) else {
             unreachable!()
         };
-        let _memory = self.stock.withdraw(header);
+        let _memory = self.stock.unmake_header(header);
     }
 }

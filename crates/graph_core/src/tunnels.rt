@@ -11,7 +11,7 @@ use crate::core_graph::Core;
 use il_machine::Link;
 use note_queues::Client;
 use omx_types::{OmxError, Supplier};
-use port_rules::{drop_fault, setup_fault, widened};
+use port_rules::{drop_refusal, setup_refusal, widened};
 
 impl<C: Client> Core<C> {
     /// Why the output of the first place isn't joined to the input of the second.
@@ -26,7 +26,7 @@ impl<C: Client> Core<C> {
         requires taker { taker < length self.now.entries }
         ensures { MatchOption (component_at giver self.now) ⊥ (λ c. MatchOption (component_at taker self.now) ⊥ (λ d. result ≡ setup_refusal (look_of self.now).headers c d (port_of c output) (port_of d input))) }
     {
-        setup_fault(
+        setup_refusal(
             &self.stock,
             &self.components[giver],
             &self.components[taker],
@@ -47,7 +47,7 @@ impl<C: Client> Core<C> {
         requires taker { taker < length self.now.entries }
         ensures { MatchOption (component_at giver self.now) ⊥ (λ c. MatchOption (component_at taker self.now) ⊥ (λ d. result ≡ drop_refusal (look_of self.now).headers (port_of c output) (port_of d input))) }
     {
-        drop_fault(
+        drop_refusal(
             &self.stock,
             &self.components[giver],
             &self.components[taker],
@@ -57,7 +57,7 @@ impl<C: Client> Core<C> {
     }
 
     /// Joins the output of the first place to the input of the second, and answers which end makes the headers.
-    pub fn join(&mut self, giver: usize, output: u32, taker: usize, input: u32) -> Supplier
+    pub fn setup_tunnel(&mut self, giver: usize, output: u32, taker: usize, input: u32) -> Supplier
         requires { IsSomeAnd (component_at giver self.old) (λ c. IsSomeAnd (component_at taker self.old) (λ d. setup_refusal (look_of self.old).headers c d (port_of c output) (port_of d input) ≡ None)) }
         ensures change { MatchOption (component_at giver self.old) ⊥ (λ c. MatchOption (component_at taker self.old) ⊥ (λ d. BothPorts (port_of c output) (port_of d input) (λ p q.
             (result ≡ agreed_of p q) × StepsBare (kept C.progress self.old) (kept C.progress self.new) (λ w v. v ≡ both_joined result giver c p taker d q w)))) }
@@ -87,7 +87,7 @@ impl<C: Client> Core<C> {
     }
 
     /// Parts the output of the first place from the input of the second.
-    pub fn part(&mut self, giver: usize, output: u32, taker: usize, input: u32)
+    pub fn drop_tunnel(&mut self, giver: usize, output: u32, taker: usize, input: u32)
         requires { IsSomeAnd (component_at giver self.old) (λ c. IsSomeAnd (component_at taker self.old) (λ d. drop_refusal (look_of self.old).headers (port_of c output) (port_of d input) ≡ None)) }
         ensures change { MatchOption (component_at giver self.old) ⊥ (λ c. MatchOption (component_at taker self.old) ⊥ (λ d. BothPorts (port_of c output) (port_of d input) (λ p q.
             StepsBare (kept C.progress self.old) (kept C.progress self.new) (λ w v. v ≡ both_parted giver c p taker d q w)))) }

@@ -1,7 +1,7 @@
 //! Units are granted to the first that waits for them, and taken from the weakest that holds some.
 
 ghost use Rattle.std.specs.Prelude.{◌≡◌, ◌<◌, ◌≤◌, length, slice_get, Some, None, MatchOption, option_and_then, IfSome, [], ◌∷◌};
-ghost use Rattle.il_machine.specs.Units.{units_held, free_units, coming_units, is_before, gives_first, first_waiter, weakest, victim, grant_idle, preempt_idle, granted_units, preempted_units, with_changed, lacks_places};
+ghost use Rattle.il_machine.specs.Units.{units_held, free_units, coming_units, is_before, gives_first, first_waiter, weakest, victim, grant_idle, preempt_idle, granted_units, preempted_units, with_changed, lacks_event_room};
 ghost use Rattle.il_machine.specs.Lists.{first_of_these};
 ghost use Rattle.il_component.specs.Entries.{component_of};
 ghost use Rattle.whole_laws.specs.Bare.{StepsBare};
@@ -101,8 +101,8 @@ fn weakest<C>(components: &[Component<C>], waiter: usize) -> Option<usize>
 }
 
 /// Whether the component has no room for two events.
-fn lacks_places<C>(component: &Component<C>) -> Option<Why>
-    ensures { result ≡ first_of_these (lacks_places (component_of component.now) ∷ []) }
+fn lacks_event_room<C>(component: &Component<C>) -> Option<Why>
+    ensures { result ≡ first_of_these (lacks_event_room (component_of component.now) ∷ []) }
 {
     let room = component.room();
     if room < 2 {
@@ -140,7 +140,7 @@ impl<C: Client> Core<C> {
         if have < need {
             return Some(Why::Short { have, need });
         }
-        lacks_places(waiter)
+        lacks_event_room(waiter)
     }
 
     /// The first that waits gets its units, and is the one that is answered.
@@ -178,7 +178,7 @@ impl<C: Client> Core<C> {
             return Some(Why::Enough { have, need });
         }
         match weakest(&self.components, waiter) {
-            Some(place) => lacks_places(&self.components[place]),
+            Some(place) => lacks_event_room(&self.components[place]),
             None => Some(Why::NoVictim),
         }
     }

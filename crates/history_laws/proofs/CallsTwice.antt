@@ -28,7 +28,7 @@ use Rattle.il_machine.specs.Buffers.{held}
 use Rattle.il_machine.specs.Flow.{Supply, Release, HandOver, HandBack, supply_idle, release_idle, over_idle, back_idle, with_supplied, in_port, front_unmade, handed_over, handed_back}
 use Rattle.il_machine.specs.Files.{Offered, Attach, attach_refusal, with_file}
 use Rattle.il_machine.specs.Claims.{Claimed, ClaimedWork, Claim, Claims, claim_idle, seen_work, work_of, with_work}
-use Rattle.il_machine.specs.Stepping.{Done as Finishing}
+use Rattle.il_machine.specs.Stepping.{WorkDone}
 use Rattle.il_machine.specs.Finishing.{Finish, finished}
 use Rattle.il_machine.specs.Acts as acts
 use Rattle.machine_laws.proofs.Closing.{closes_once}
@@ -165,7 +165,7 @@ claims_twice w i c None x y v u p q =
 pub claim_twice : (w : World) (h : Handle) (x y : Result Claimed OmxError) (v u : World) → Claim w h x v → Claim w h y u → IsSame x y v u
 claim_twice w h x y v u a b = resolving_twice plain w h x y v u _ _ (IsSame x y v u) a b (λ s. s) (λ i c p q. claims_twice w i c (claim_idle (look w) c) x y v u p q)
 
-pub finish_twice : (w : World) (done : Finishing) (v u : World) → Finish w done v → Finish w done u → u ≡ v
+pub finish_twice : (w : World) (done : WorkDone) (v u : World) → Finish w done v → Finish w done u → u ≡ v
 finish_twice w done v u a b =
     both_there (place_numbered done.component w.components) _ _ a b (λ i e p q.
     both_there (slice_get w.components i) _ _ p q (λ c f C D. closes_once (finished i c done w) u v D C))

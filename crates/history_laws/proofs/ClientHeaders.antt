@@ -5,7 +5,7 @@ use Rattle.std.proofs.lemmas.List.Elements.{All-head, All-tail}
 use Rattle.il_machine.specs.declared.header.HeaderState.{HeaderState}
 use Rattle.il_machine.specs.declared.header.Owner.{Owner}
 use Rattle.il_machine.specs.declared.header.Owner.TheVariants as owners
-use Rattle.il_machine.specs.declared.header.Place.TheVariants.{Out}
+use Rattle.il_machine.specs.declared.header.Queue.TheVariants.{Out}
 use Rattle.il_machine.specs.declared.port.Link.{Link}
 use Rattle.il_machine.specs.declared.port.Port.{Port}
 use Rattle.il_machine.specs.World.{Component, HeaderRecord, Stream, World, component_numbered, stream_of}
@@ -14,13 +14,13 @@ use Rattle.il_machine.specs.Look.{look}
 use Rattle.il_machine.specs.Due.{ClosesTo}
 use Rattle.il_machine.specs.Notes.{TakenEmpty, TakenFilled, TookNote}
 use Rattle.il_machine.specs.declared.answer.Acted.TheVariants.{Did}
-use Rattle.il_machine.specs.Claims.{Carried as CarriedHeader, ClaimedWork}
-use Rattle.il_machine.specs.Stepping.{Done as Finishing}
+use Rattle.il_machine.specs.Claims.{CarriedHeader, ClaimedWork}
+use Rattle.il_machine.specs.Stepping.{WorkDone}
 use Rattle.il_machine.specs.Acts.{Act, Reply}
 use Rattle.il_machine.specs.Acts as acts
 use Rattle.il_machine.specs.Run.{Step, Meets, Run}
 use Rattle.il_machine.specs.Sound.{Sound, IsOwnedSo}
-use Rattle.il_machine.specs.Trails.{Stop, Unmade, With, Move, moves, moved, front_move, client_stop, released, over, handed, back, handed_back, port_named, claimed_move, finished_move, finished_moves}
+use Rattle.il_machine.specs.Trails.{Stop, Unmade, With, Move, moves, moved, front_move, client_stop, release_moves, over, over_moves, back, back_moves, port_named, claimed_move, finished_move, finished_moves}
 use Rattle.machine_laws.proofs.Finding.{found_number, push_else, without_else, once_push, once_without}
 use Rattle.machine_laws.proofs.Parts.{parts_of}
 use Rattle.machine_laws.proofs.Steps.{HandsIn, hands_in, sound_after, sound_step}
@@ -45,7 +45,7 @@ not_moved number from to end (n ∷ ns) a e =
     let x : Move = record { header = number; from = client_stop; to = end } in
     a (ap (λ (y : Move). y.from) (first_move m x e))
 
-not_released : (w : World) (o : Option Port) (number : ℕ) (end : Stop) → released w o ≢ moved number client_stop end
+not_released : (w : World) (o : Option Port) (number : ℕ) (end : Stop) → release_moves w o ≢ moved number client_stop end
 not_released w None number end e = absurd cc
 not_released w (Some p) number end e = not_moved number _ _ end _ (λ k. absurd cc) e
 
@@ -53,7 +53,7 @@ not_over : (w : World) (p : Port) (link : Option Link) (number : ℕ) (end : Sto
 not_over w p None number end e = absurd cc
 not_over w p (Some link) number end e = not_moved number _ _ end _ (λ k. absurd cc) e
 
-not_handed : (w : World) (o : Option Port) (number : ℕ) (end : Stop) → handed w o ≢ moved number client_stop end
+not_handed : (w : World) (o : Option Port) (number : ℕ) (end : Stop) → over_moves w o ≢ moved number client_stop end
 not_handed w None number end e = absurd cc
 not_handed w (Some p) number end e = not_over w p p.state.link number end e
 
@@ -61,7 +61,7 @@ not_back : (w : World) (p : Port) (link : Option Link) (number : ℕ) (end : Sto
 not_back w p None number end e = not_moved number _ _ end _ (λ k. absurd cc) e
 not_back w p (Some link) number end e = not_moved number _ _ end _ (λ k. absurd cc) e
 
-not_handed_back : (w : World) (o : Option Port) (number : ℕ) (end : Stop) → handed_back w o ≢ moved number client_stop end
+not_handed_back : (w : World) (o : Option Port) (number : ℕ) (end : Stop) → back_moves w o ≢ moved number client_stop end
 not_handed_back w None number end e = absurd cc
 not_handed_back w (Some p) number end e = not_back w p p.state.link number end e
 
@@ -72,14 +72,14 @@ not_claimed k (x ∷ xs) number end e =
     let f = ap (λ (y : Move). y.from) s in
     cc
 
-not_landed : (c : Component) (s : Stream) (done : Finishing) (xs : List CarriedHeader) (number : ℕ) (end : Stop) → map (finished_move c s done) xs ≡ moved number client_stop end → ⊥
+not_landed : (c : Component) (s : Stream) (done : WorkDone) (xs : List CarriedHeader) (number : ℕ) (end : Stop) → map (finished_move c s done) xs ≡ moved number client_stop end → ⊥
 not_landed c s done [] number end e = cc
 not_landed c s done (x ∷ xs) number end e =
     let q : finished_move c s done x ≡ record { header = number; from = client_stop; to = end } = cc in
     let f = ap (λ (y : Move). y.from) q in
     cc
 
-not_finished : (c : Option Component) (s : Option Stream) (done : Finishing) (number : ℕ) (end : Stop) → finished_moves c s done ≡ moved number client_stop end → ⊥
+not_finished : (c : Option Component) (s : Option Stream) (done : WorkDone) (number : ℕ) (end : Stop) → finished_moves c s done ≡ moved number client_stop end → ⊥
 not_finished None s done number end e = cc
 not_finished (Some c) None done number end e = cc
 not_finished (Some c) (Some s) done number end e = not_landed c s done done.headers number end e
@@ -152,7 +152,7 @@ carried_once w v ms o B (Several M) = (M.headers).once
 -- ---- and over the close-out
 
 -- a header of a sound world that is with the client is in no list
-pub client_out : (w : World) (number : ℕ) (r : HeaderRecord) → Sound w → find_header number w.headers ≡ Some r → r.state.owner ≡ owners.Client → r.state.place ≡ Out
+pub client_out : (w : World) (number : ℕ) (r : HeaderRecord) → Sound w → find_header number w.headers ≡ Some r → r.state.owner ≡ owners.Client → r.state.queue ≡ Out
 client_out w number r S f o =
     let own : IsOwnedSo r.state owners.Client = subst (λ (x : Owner). IsOwnedSo r.state x) o (set_in w number r S f).owner in
     own.0
@@ -162,20 +162,20 @@ settled_found number r None e = absurd cc
 settled_found number r (Some s) e = let q : stand_of s ≡ stand_of r = cc in (s, refl, q)
 
 -- the same number, the same place, and all else
-pub same_state : (s t : HeaderState) → s.number ≡ t.number → s.place ≡ t.place → stand_in s ≡ stand_in t → s ≡ t
+pub same_state : (s t : HeaderState) → s.number ≡ t.number → s.queue ≡ t.queue → stand_in s ≡ stand_in t → s ≡ t
 same_state s t n p e = λ i. record {
   number = n i;
   port = (e i).port;
   peer = (e i).peer;
   home = (e i).home;
   owner = (e i).owner;
-  place = p i;
+  queue = p i;
   size = (e i).size;
   client_memory = (e i).client_memory;
 }
 
 -- a header that is with the client before the close-out
-pub settled_clients : (w v : World) (number : ℕ) (r : HeaderRecord) → Sound v → Settles w.headers v.headers → find_header number w.headers ≡ Some r → r.state.owner ≡ owners.Client → r.state.place ≡ Out → IsClients (look v) number r.state
+pub settled_clients : (w v : World) (number : ℕ) (r : HeaderRecord) → Sound v → Settles w.headers v.headers → find_header number w.headers ≡ Some r → r.state.owner ≡ owners.Client → r.state.queue ≡ Out → IsClients (look v) number r.state
 settled_clients w v number r S T f o p =
     let x = settled_found number r (find_header number v.headers) (T.stands number ∙ ap (option_map stand_of) f) in
     let q : x.0.state.owner ≡ owners.Client = ap (λ (y : Stand). y.owner) x.2 ∙ o in

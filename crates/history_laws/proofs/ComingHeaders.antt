@@ -5,7 +5,7 @@ use Rattle.std.proofs.lemmas.List.Elements.{All-head, All-tail}
 use Rattle.il_machine.specs.declared.header.HeaderState.{HeaderState}
 use Rattle.il_machine.specs.declared.header.Owner.{Owner}
 use Rattle.il_machine.specs.declared.header.Owner.TheVariants as owners
-use Rattle.il_machine.specs.declared.header.Place.TheVariants.{Out}
+use Rattle.il_machine.specs.declared.header.Queue.TheVariants.{Out}
 use Rattle.il_machine.specs.declared.port.Link.{Link}
 use Rattle.il_machine.specs.declared.port.Port.{Port}
 use Rattle.il_machine.specs.World.{Component, HeaderRecord, Stream, World, component_numbered, stream_of}
@@ -14,14 +14,14 @@ use Rattle.il_machine.specs.Look.{look}
 use Rattle.il_machine.specs.Due.{ClosesTo}
 use Rattle.il_machine.specs.Notes.{TakenEmpty, TakenFilled, TookNote}
 use Rattle.il_machine.specs.declared.answer.Acted.TheVariants.{Did}
-use Rattle.il_machine.specs.Claims.{Carried as CarriedHeader, ClaimedWork}
-use Rattle.il_machine.specs.Stepping.{Done as Finishing}
+use Rattle.il_machine.specs.Claims.{CarriedHeader, ClaimedWork}
+use Rattle.il_machine.specs.Stepping.{WorkDone}
 use Rattle.il_machine.specs.Finishing.{Landing, Again, Onward, Noted, landing}
 use Rattle.il_machine.specs.Acts.{Act, Reply}
 use Rattle.il_machine.specs.Acts as acts
 use Rattle.il_machine.specs.Run.{Step, Meets, Run}
 use Rattle.il_machine.specs.Sound.{Sound}
-use Rattle.il_machine.specs.Trails.{Stop, Unmade, With, Move, moves, moved, front_move, client_stop, released, over, handed, back, handed_back, port_named, trail, claimed_move, finished_move, finished_moves, landed_owner}
+use Rattle.il_machine.specs.Trails.{Stop, Unmade, With, Move, moves, moved, front_move, client_stop, release_moves, over, over_moves, back, back_moves, port_named, trail, claimed_move, finished_move, finished_moves, landed_owner}
 use Rattle.machine_laws.proofs.Finding.{found_number, push_last, push_else, without_else, without_same}
 use Rattle.machine_laws.proofs.Parts.{parts_of}
 use Rattle.machine_laws.proofs.Steps.{HandsIn, hands_in, sound_after, sound_step}
@@ -45,7 +45,7 @@ not_given : (number : ℕ) (from to start : Stop) (ns : List ℕ) → to ≢ cli
 not_given number from to start [] a e = absurd cc
 not_given number from to start (n ∷ ns) a e = a (ap (λ (y : Move). y.to) (first_move (one_move n from to) (one_move number start client_stop) e))
 
-none_released : (w : World) (o : Option Port) (number : ℕ) (start : Stop) → released w o ≢ moved number start client_stop
+none_released : (w : World) (o : Option Port) (number : ℕ) (start : Stop) → release_moves w o ≢ moved number start client_stop
 none_released w None number start e = absurd cc
 none_released w (Some p) number start e = not_given number _ _ start _ (λ k. absurd cc) e
 
@@ -53,7 +53,7 @@ none_over : (w : World) (p : Port) (link : Option Link) (number : ℕ) (start : 
 none_over w p None number start e = absurd cc
 none_over w p (Some link) number start e = not_given number _ _ start _ (λ k. absurd cc) e
 
-none_handed : (w : World) (o : Option Port) (number : ℕ) (start : Stop) → handed w o ≢ moved number start client_stop
+none_handed : (w : World) (o : Option Port) (number : ℕ) (start : Stop) → over_moves w o ≢ moved number start client_stop
 none_handed w None number start e = absurd cc
 none_handed w (Some p) number start e = none_over w p p.state.link number start e
 
@@ -61,7 +61,7 @@ none_back : (w : World) (p : Port) (link : Option Link) (number : ℕ) (start : 
 none_back w p None number start e = not_given number _ _ start _ (λ k. absurd cc) e
 none_back w p (Some link) number start e = not_given number _ _ start _ (λ k. absurd cc) e
 
-none_handed_back : (w : World) (o : Option Port) (number : ℕ) (start : Stop) → handed_back w o ≢ moved number start client_stop
+none_handed_back : (w : World) (o : Option Port) (number : ℕ) (start : Stop) → back_moves w o ≢ moved number start client_stop
 none_handed_back w None number start e = absurd cc
 none_handed_back w (Some p) number start e = none_back w p p.state.link number start e
 
@@ -77,13 +77,13 @@ lands_apart Again c x e = cc
 lands_apart Onward c x e = cc
 lands_apart Noted c x e = cc
 
-none_landed : (c : Component) (s : Stream) (done : Finishing) (xs : List CarriedHeader) (number : ℕ) (start : Stop) → map (finished_move c s done) xs ≡ moved number start client_stop → ⊥
+none_landed : (c : Component) (s : Stream) (done : WorkDone) (xs : List CarriedHeader) (number : ℕ) (start : Stop) → map (finished_move c s done) xs ≡ moved number start client_stop → ⊥
 none_landed c s done [] number start e = cc
 none_landed c s done (x ∷ xs) number start e =
     let q : finished_move c s done x ≡ record { header = number; from = start; to = client_stop } = cc in
     lands_apart (landing c s done x) c x (ap (λ (y : Move). y.to) q)
 
-none_finished : (c : Option Component) (s : Option Stream) (done : Finishing) (number : ℕ) (start : Stop) → finished_moves c s done ≡ moved number start client_stop → ⊥
+none_finished : (c : Option Component) (s : Option Stream) (done : WorkDone) (number : ℕ) (start : Stop) → finished_moves c s done ≡ moved number start client_stop → ⊥
 none_finished None s done number start e = cc
 none_finished (Some c) None done number start e = cc
 none_finished (Some c) (Some s) done number start e = none_landed c s done done.headers number start e
@@ -196,7 +196,7 @@ record StoodSo (w : World) (number : ℕ) (s : HeaderState) : Type 0 where
   same : now.state ≡ s
   stands : stand_of was ≡ stand_of now
   number_is : now.state.number ≡ number
-  out : now.state.place ≡ Out
+  out : now.state.queue ≡ Out
 
 stood_so : (w v : World) (number : ℕ) (s : HeaderState) → Sound v → Settles w.headers v.headers → IsClients (look v) number s → StoodSo w number s
 stood_so w v number s Z T H =

@@ -20,7 +20,7 @@ use Rattle.il_machine.specs.declared.answer.Acted.{Acted}
 use Rattle.il_machine.specs.States.{is_loaded, is_invalid, is_running}
 use Rattle.il_machine.specs.World.{changed_at, Component, Work, World, number_of, place_of, fresh, with_component, ports_of, port_of, told}
 use Rattle.il_machine.specs.Headers.{Seen}
-use Rattle.il_machine.specs.Ports.{is_joined, unmade}
+use Rattle.il_machine.specs.Ports.{is_joined, has_no_header}
 use Rattle.il_machine.specs.Look.{Look, look}
 use Rattle.il_machine.specs.Due.{each_port, ClosesTo}
 use Rattle.il_machine.specs.Answers.{plain}
@@ -87,10 +87,10 @@ get_handle w name result v S a = answers_or_memory (get_handle_refusal (look w) 
 -- a component that is freed has no work out
 freed_without : (headers : Seen) (c : Component) → free_refusal headers c ≡ None → is_some c.work ≡ false
 freed_without headers c h =
-    let a = (passed (not (is_loaded c.state || is_invalid c.state) || (is_some c.pending || (not (each_port c (unmade headers)) || (list_any is_joined (ports_of c) || (is_some c.work || (c.client_out || false)))))) _ _ h).0 in
+    let a = (passed (not (is_loaded c.state || is_invalid c.state) || (is_some c.pending || (not (each_port c (has_no_header headers)) || (list_any is_joined (ports_of c) || (is_some c.work || (c.client_out || false)))))) _ _ h).0 in
     let b = not_either (not (is_loaded c.state || is_invalid c.state)) _ a in
     let d = not_either (is_some c.pending) _ b.1 in
-    let e = not_either (not (each_port c (unmade headers))) _ d.1 in
+    let e = not_either (not (each_port c (has_no_header headers))) _ d.1 in
     let f = not_either (list_any is_joined (ports_of c)) _ e.1 in
     (not_either (is_some c.work) _ f.1).0
 

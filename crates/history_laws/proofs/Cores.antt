@@ -26,7 +26,7 @@ use Rattle.il_machine.specs.Parameters.{unheld_at, with_value}
 use Rattle.il_machine.specs.Commands.{is_at_once, invalidated, sent, run_front}
 use Rattle.il_machine.specs.Buffers.{is_unpopulating, unpopulated}
 use Rattle.il_machine.specs.Notes.{TakenEvent, TakenEmpty, TakenFilled, TookNote, first_taken, back_in}
-use Rattle.il_machine.specs.Flow.{in_port, front_unmade, front_put, at_link, handed_back, returned, unused_spot, noticed}
+use Rattle.il_machine.specs.Flow.{in_port, front_unmade, front_put, at_link, handed_back, returned, unused_spot, front_noticed}
 use Rattle.il_machine.specs.declared.answer.Granted.TheVariants as granted
 use Rattle.il_machine.specs.declared.answer.Preempted.TheVariants as preempted
 use Rattle.il_machine.specs.States.{is_invalid}
@@ -35,7 +35,7 @@ use Rattle.il_machine.specs.Sound.{Sound}
 use Rattle.il_machine.specs.Settings.{same_format}
 use Rattle.il_machine.specs.Parts.{file_format}
 use Rattle.il_machine.specs.Claims.{ClaimedWork, WorkSeen, work_of}
-use Rattle.il_machine.specs.Stepping.{Done as Finishing}
+use Rattle.il_machine.specs.Stepping.{WorkDone}
 use Rattle.il_machine.specs.Finishing.{announced, announced_at, stepped_back, finished_by}
 use Rattle.il_machine.specs.Acts.{Act, Reply}
 use Rattle.il_machine.specs.Acts as acts
@@ -172,7 +172,7 @@ module _ (P : Core → Type 0) where
     returned_each key input [] todo w E = put_each key (unused_spot input) cleared todo w E
     returned_each key input (n ∷ ns) todo w E = E
 
-    noticed_each : (i : ℕ) (c : Component) (p : Port) (todo : List ℕ) (w : World) → P (core c) → Each w → Each (noticed i c p todo w)
+    noticed_each : (i : ℕ) (c : Component) (p : Port) (todo : List ℕ) (w : World) → P (core c) → Each w → Each (front_noticed i c p todo w)
     noticed_each i c p [] w k E = E
     noticed_each i c p (n ∷ ns) w k E = each_set w.components i _ E k
 
@@ -212,7 +212,7 @@ module _ (P : Core → Type 0) where
     announced_core None c p = p
     announced_core (Some q) c p = either (same_format q.setting.definition.format (file_format c.file)) (λ t. rw t p) (λ f. rw f p)
 
-    finished_each : (i : ℕ) (c : Component) (done : Finishing) (o : Option Work) (w : World) → P (core c) → Each w → Each (finished_by i c done o w)
+    finished_each : (i : ℕ) (c : Component) (done : WorkDone) (o : Option Work) (w : World) → P (core c) → Each w → Each (finished_by i c done o w)
     finished_each i c done None w p E = E
     finished_each i c done (Some work) w p E = either work.announces
         (λ t. rw t (each_set w.components i (announced c) E (announced_core (port_of c 0) (record c { work = None }) (L.returns c p))))

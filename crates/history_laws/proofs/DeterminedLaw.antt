@@ -28,7 +28,7 @@ use Rattle.il_machine.specs.Flow.{Supply, Release, HandOver, HandBack}
 use Rattle.il_machine.specs.Units.{Grant, Preempt}
 use Rattle.il_machine.specs.Files.{Offered, Attach}
 use Rattle.il_machine.specs.Claims.{Claimed, Claim}
-use Rattle.il_machine.specs.Stepping.{Done as Finishing}
+use Rattle.il_machine.specs.Stepping.{WorkDone}
 use Rattle.il_machine.specs.Finishing.{Finish}
 use Rattle.il_machine.specs.Acts.{Act, Reply}
 use Rattle.il_machine.specs.Acts as acts
@@ -151,7 +151,7 @@ claim_again : (w : World) (h : Handle) (x : Result Claimed OmxError) (v : World)
 claim_again w h x v (acts.Claimed y) u p q = alike (λ r. acts.Claimed r) w x y v u (claim_twice w h x y v u p q)
 claim_again w h x v _ u p q = absurd q
 
-finish_again : (w : World) (done : Finishing) (v : World) (s : Reply) (u : World) → Finish w done v → Step w (acts.Finish done) s u → AreAlike w acts.Finished v s u
+finish_again : (w : World) (done : WorkDone) (v : World) (s : Reply) (u : World) → Finish w done v → Step w (acts.Finish done) s u → AreAlike w acts.Finished v s u
 finish_again w done v acts.Finished u p q = Equal refl (finish_twice w done v u p q)
 finish_again w done v _ u p q = absurd q
 

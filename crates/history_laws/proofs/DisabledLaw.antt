@@ -8,7 +8,7 @@ use Rattle.il_machine.specs.declared.port.Port.{Port}
 use Rattle.il_machine.specs.Lists.{first_of_these}
 use Rattle.il_machine.specs.World.{Component, World, ports_of, port_of}
 use Rattle.il_machine.specs.Headers.{Seen, seen, is_for, count_headers}
-use Rattle.il_machine.specs.Ports.{unmade}
+use Rattle.il_machine.specs.Ports.{has_no_header}
 use Rattle.il_machine.specs.Due.{Thing, Transition, Flush, PortMode, WaitingMark, is_transition_due, is_flush_due, is_mode_due, is_mark_due, things_of, due_in}
 use Rattle.il_machine.specs.declared.header.HeaderState.{HeaderState}
 use Rattle.il_machine.specs.Look.{look}
@@ -65,27 +65,27 @@ mode_due_at headers c port e =
     let n : m.place ≡ port = sym k ∙ m.number in
     (m.found, subst (λ (x : ℕ). port_of c x ≡ Some m.found) n m.there, m.due)
 
-disabling_unmade : (headers : Seen) (c : Component) (p : Port) (mode : Mode) → mode ≡ Disabling → is_mode_due headers c p mode ≡ true → unmade headers p ≡ true
+disabling_unmade : (headers : Seen) (c : Component) (p : Port) (mode : Mode) → mode ≡ Disabling → is_mode_due headers c p mode ≡ true → has_no_header headers p ≡ true
 disabling_unmade headers c p mode e d = rw e at d
 
-unmade_at : (headers : Seen) (c : Component) (port : ℕ) → due_in headers c ≡ Some (PortMode port) → WasIn Disabling (port_of c port) → MatchOption (port_of c port) ⊥ (λ p. unmade headers p ≡ true)
+unmade_at : (headers : Seen) (c : Component) (port : ℕ) → due_in headers c ≡ Some (PortMode port) → WasIn Disabling (port_of c port) → MatchOption (port_of c port) ⊥ (λ p. has_no_header headers p ≡ true)
 unmade_at headers c port e W =
     let m = mode_due_at headers c port e in
     let w = there_is (port_of c port) _ W in
     let s : Some w.0 ≡ Some m.0 = sym w.1 ∙ m.1 in
     let is : w.0 ≡ m.0 = cc in
     let mode : (m.0).state.mode ≡ Disabling = rw is at w.2 in
-    is_there (port_of c port) (λ p. unmade headers p ≡ true) m.0 m.1 (disabling_unmade headers c m.0 (m.0).state.mode mode m.2)
+    is_there (port_of c port) (λ p. has_no_header headers p ≡ true) m.0 m.1 (disabling_unmade headers c m.0 (m.0).state.mode mode m.2)
 
-tells_unmade : (headers : Seen) (c : Component) (thing : Thing) (port : ℕ) → due_in headers c ≡ Some thing → Tells c thing (completions.Disable port) → MatchOption (port_of c port) ⊥ (λ p. unmade headers p ≡ true)
+tells_unmade : (headers : Seen) (c : Component) (thing : Thing) (port : ℕ) → due_in headers c ≡ Some thing → Tells c thing (completions.Disable port) → MatchOption (port_of c port) ⊥ (λ p. has_no_header headers p ≡ true)
 tells_unmade headers c Transition port e T = absurd T
 tells_unmade headers c (Flush x) port e T = absurd T
 tells_unmade headers c (WaitingMark x) port e T = absurd T
-tells_unmade headers c (PortMode x) port e T = subst (λ (k : ℕ). MatchOption (port_of c k) ⊥ (λ p. unmade headers p ≡ true)) T.0 (unmade_at headers c x e T.1)
+tells_unmade headers c (PortMode x) port e T = subst (λ (k : ℕ). MatchOption (port_of c k) ⊥ (λ p. has_no_header headers p ≡ true)) T.0 (unmade_at headers c x e T.1)
 
 -- ---- what had been made for the port
 
-all_back : (w : World) (ms : List Move) (p : Port) → HaveTrails w ms → unmade (seen w.headers) p ≡ true → AreAllBack w ms p.key
+all_back : (w : World) (ms : List Move) (p : Port) → HaveTrails w ms → has_no_header (seen w.headers) p ≡ true → AreAllBack w ms p.key
 all_back w ms p T h = λ number. elim (none_or_some ((look w).headers.header number)) [
   | inl none ↦
       let t : IsTrailOfNone (trail number ms) = subst (λ (o : Option HeaderState). HasTrail o (trail number ms)) none (T.each number) in
@@ -116,6 +116,6 @@ disabled_unmade w old a r v number port D S T M s =
     let ms = old ++ moves w a r in
     let x = trails_after w old a r v S T M s in
     let before = times_trails D.earlier (effect w a r) D.before ms D.reached x.1 x.0 in
-    both_at (port_of h.component port) (λ p. unmade (seen (D.before).headers) p ≡ true) (λ p. AreAllBack D.before ms p.key)
+    both_at (port_of h.component port) (λ p. has_no_header (seen (D.before).headers) p ≡ true) (λ p. AreAllBack D.before ms p.key)
     (tells_unmade (seen (D.before).headers) h.component h.thing port h.due D.tells)
     (λ p u. all_back D.before ms p before u)

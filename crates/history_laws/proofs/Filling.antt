@@ -14,13 +14,13 @@ use Rattle.il_machine.specs.Buffers.{held}
 use Rattle.il_machine.specs.Notes.{TakenEmpty, TakenFilled, TookNote}
 use Rattle.il_machine.specs.Due.{ClosesTo}
 use Rattle.il_machine.specs.Census.{note_numbers, times}
-use Rattle.il_machine.specs.Claims.{Carried as CarriedHeader, ClaimedWork, carried, terms_in}
-use Rattle.il_machine.specs.Stepping.{Done as Finishing, is_in, stepped, IsStepBy, IsAnnounced}
+use Rattle.il_machine.specs.Claims.{CarriedHeader, ClaimedWork, carried, terms_in}
+use Rattle.il_machine.specs.Stepping.{WorkDone, is_in, stepped, IsStepBy, IsAnnounced}
 use Rattle.il_machine.specs.Finishing.{Landing, landing, is_an_input, is_cleared, is_finished, load_after, landed_at, all_landed, announced, with_landed, finished_by, finished}
 use Rattle.il_machine.specs.Acts.{Act, Reply}
 use Rattle.il_machine.specs.Acts as acts
 use Rattle.il_machine.specs.Run.{Step, Meets}
-use Rattle.il_machine.specs.Trails.{Stop, Unmade, With, Move, moves, moved, front_move, client_stop, is_of, trail, released, over, handed, back, handed_back, port_named, claimed_move}
+use Rattle.il_machine.specs.Trails.{Stop, Unmade, With, Move, moves, moved, front_move, client_stop, is_of, trail, release_moves, over, over_moves, back, back_moves, port_named, claimed_move}
 use Rattle.il_machine.specs.Sound.{Sound, IsPickedFor}
 use Rattle.machine_laws.proofs.Every.{at_place}
 use Rattle.machine_laws.proofs.Finding.{either, found_number}
@@ -53,7 +53,7 @@ not_front : (number : ℕ) (from to : Stop) (ns : List ℕ) (k : ℕ) (end : Sto
 not_front number from to [] k end a e = none_moved (record { header = number; from = With (owners.Work k); to = end }) e
 not_front number from to (n ∷ ns) k end a e = not_this number (record { header = n; from = from; to = to }) k end a e
 
-not_released : (w : World) (o : Option Port) (number k : ℕ) (end : Stop) → trail number (released w o) ≡ moved number (With (owners.Work k)) end → ⊥
+not_released : (w : World) (o : Option Port) (number k : ℕ) (end : Stop) → trail number (release_moves w o) ≡ moved number (With (owners.Work k)) end → ⊥
 not_released w None number k end e = none_moved (record { header = number; from = With (owners.Work k); to = end }) e
 not_released w (Some p) number k end e = not_front number _ _ _ k end (λ q. absurd cc) e
 
@@ -61,7 +61,7 @@ not_over : (w : World) (p : Port) (o : Option Link) (number k : ℕ) (end : Stop
 not_over w p None number k end e = none_moved (record { header = number; from = With (owners.Work k); to = end }) e
 not_over w p (Some link) number k end e = not_front number _ _ _ k end (λ q. absurd cc) e
 
-not_handed : (w : World) (o : Option Port) (number k : ℕ) (end : Stop) → trail number (handed w o) ≡ moved number (With (owners.Work k)) end → ⊥
+not_handed : (w : World) (o : Option Port) (number k : ℕ) (end : Stop) → trail number (over_moves w o) ≡ moved number (With (owners.Work k)) end → ⊥
 not_handed w None number k end e = none_moved (record { header = number; from = With (owners.Work k); to = end }) e
 not_handed w (Some p) number k end e = not_over w p p.state.link number k end e
 
@@ -69,7 +69,7 @@ not_back : (w : World) (p : Port) (o : Option Link) (number k : ℕ) (end : Stop
 not_back w p None number k end e = not_front number _ _ _ k end (λ q. absurd cc) e
 not_back w p (Some link) number k end e = not_front number _ _ _ k end (λ q. absurd cc) e
 
-not_handed_back : (w : World) (o : Option Port) (number k : ℕ) (end : Stop) → trail number (handed_back w o) ≡ moved number (With (owners.Work k)) end → ⊥
+not_handed_back : (w : World) (o : Option Port) (number k : ℕ) (end : Stop) → trail number (back_moves w o) ≡ moved number (With (owners.Work k)) end → ⊥
 not_handed_back w None number k end e = none_moved (record { header = number; from = With (owners.Work k); to = end }) e
 not_handed_back w (Some p) number k end e = not_back w p p.state.link number k end e
 
@@ -153,7 +153,7 @@ fills_else : (failed : Bool) (c : Component) (n : ℕ) (x : CarriedHeader) (xs :
 fills_else true c n x xs d = refl
 fills_else false c n x xs d = rw (ne_eqb x.header.number n d) refl
 
-memory_of_load : (c : Component) (s : Stream) (done : Finishing) (x : CarriedHeader) → (load_after c s done x).memory ≡ x.header.memory
+memory_of_load : (c : Component) (s : Stream) (done : WorkDone) (x : CarriedHeader) → (load_after c s done x).memory ≡ x.header.memory
 memory_of_load c s done x = either (is_cleared c s done x) (λ t. rw t refl) (λ f. rw f (either (is_finished c s done x) (λ t. rw t refl) (λ g. rw g refl)))
 
 filled_kept : (c : Component) (failed : Bool) (n : ℕ) (ks ls : List HeaderRecord) (xs : List CarriedHeader) → times n (map (λ x. x.header.number) xs) ≡ 0 → ((m : ℕ) → m ≢ n → find_header m ls ≡ find_header m ks)
@@ -173,7 +173,7 @@ one_memory : (o : Option (Option (List ℕ))) (a b : Option (List ℕ)) → o �
 one_memory o a b e f = let s : Some a ≡ Some b = sym e ∙ f in cc
 
 module _ (ports : PortKey → Option Port) (c : Component) (there : (port : ℕ) (p : Port) → ports (record { component = number_of c; port = port }) ≡ Some p → port_of c port ≡ Some p) (hs : List HeaderRecord) (failed : Bool) where
-  landed_memory : (ks : List HeaderRecord) (notes : List ℕ) (s : Stream) (done : Finishing) (xs : List CarriedHeader) → Shifted ports (number_of c) hs notes (map (λ x. x.header.number) xs) ks → AreMade (number_of c) hs xs
+  landed_memory : (ks : List HeaderRecord) (notes : List ℕ) (s : Stream) (done : WorkDone) (xs : List CarriedHeader) → Shifted ports (number_of c) hs notes (map (λ x. x.header.number) xs) ks → AreMade (number_of c) hs xs
       → AreFilled c failed ks xs → (n : ℕ) (m : Option (List ℕ)) → memory_at n ks ≡ Some m → memory_at n (all_landed c s done xs ks) ≡ Some (with_front (fills failed c xs n) m)
   landed_memory ks notes s done [] A M Q n m e = e ∙ ap (λ (o : Option (List ℕ)). Some (with_front o m)) (sym (fills_absent failed c n [] refl))
   landed_memory ks notes s done (x ∷ xs) A M Q n m e =
@@ -227,20 +227,20 @@ broken_filled hs c k (p ∷ ps) h =
     let r = header_there (find_header p.number hs) (λ s. is_for (record { component = k; port = p.port }) s ≡ true) (h 0 p refl) in
     rw r.1 ((memory_of r.0, found_memory hs p.number r.0 r.1 (found_number p.number hs r.0 r.1), refl), broken_filled hs c k ps (λ j q e. h (suc j) q e))
 
-step_filled : (o : Option PartFault) (hs : List HeaderRecord) (c : Component) (work : Work) (s : Stream) (done : Finishing) (k : ℕ) → IsStepBy o (terms_in c work) s (carried hs work.headers) done
+step_filled : (o : Option PartFault) (hs : List HeaderRecord) (c : Component) (work : Work) (s : Stream) (done : WorkDone) (k : ℕ) → IsStepBy o (terms_in c work) s (carried hs work.headers) done
     → ((j : ℕ) (p : Picked) → slice_get work.headers j ≡ Some p → IsPickedFor (seen hs) k p) → AreFilled c (is_some o) hs done.headers
 step_filled None hs c work s done k h picked = let e = h.3 in rw e (whole_filled hs c work _ _ _ k work.headers picked)
 step_filled (Some fault) hs c work s done k h picked = let e = h.2 in rw e (broken_filled hs c k work.headers picked)
 
 -- ---- a work that comes back
 
-filled_is : (w : World) (done : Finishing) (i : ℕ) (c : Component) (work : Work) (number : ℕ) → IsBackOf w done i c work → filled_in w (acts.Finish done) number ≡ fills (is_some done.fault) c done.headers number
+filled_is : (w : World) (done : WorkDone) (i : ℕ) (c : Component) (work : Work) (number : ℕ) → IsBackOf w done i c work → filled_in w (acts.Finish done) number ≡ fills (is_some done.fault) c done.headers number
 filled_is w done i c work number B = ap (λ (o : Option Component). filled_by o done number) (numbered_there w done i c work B)
 
 closed_as : (m v : World) (number : ℕ) (memory after : Option (List ℕ)) → Once m.headers → ClosesTo m v → HasMemory m number memory → HasMemory v number after → after ≡ memory
 closed_as m v number memory after o C H K = one_memory (memory_at number v.headers) after memory K (closed_memory m v number memory o C H)
 
-announced_memory : (w : World) (done : Finishing) (v : World) (i : ℕ) (c : Component) (work : Work) (number : ℕ) (before after : Option (List ℕ)) → Sound w → IsBackOf w done i c work → work.announces ≡ true → ClosesTo (finished i c done w) v
+announced_memory : (w : World) (done : WorkDone) (v : World) (i : ℕ) (c : Component) (work : Work) (number : ℕ) (before after : Option (List ℕ)) → Sound w → IsBackOf w done i c work → work.announces ≡ true → ClosesTo (finished i c done w) v
     → HasMemory w number before → HasMemory v number after → after ≡ with_front (filled_in w (acts.Finish done) number) before
 announced_memory w done v i c work number before after S B a C H K =
     let D : IsAnnounced done = rw a at B.meets in
@@ -249,7 +249,7 @@ announced_memory w done v i c work number before after S B a C H K =
     let none : fills (is_some done.fault) c done.headers number ≡ None = ap (λ (xs : List CarriedHeader). fills (is_some done.fault) c xs number) D.2 ∙ fills_absent (is_some done.fault) c number [] refl in
     closed_as mid v number before after S.once (subst (λ (x : World). ClosesTo x v) e C) H K ∙ ap (λ (o : Option (List ℕ)). with_front o before) (sym (filled_is w done i c work number B ∙ none))
 
-lands_memory : (w : World) (done : Finishing) (v : World) (i : ℕ) (c : Component) (work : Work) (number : ℕ) (before after : Option (List ℕ)) → Sound w → IsBackOf w done i c work → work.announces ≡ false → ClosesTo (finished i c done w) v
+lands_memory : (w : World) (done : WorkDone) (v : World) (i : ℕ) (c : Component) (work : Work) (number : ℕ) (before after : Option (List ℕ)) → Sound w → IsBackOf w done i c work → work.announces ≡ false → ClosesTo (finished i c done w) v
     → HasMemory w number before → HasMemory v number after → after ≡ with_front (filled_in w (acts.Finish done) number) before
 lands_memory w done v i c work number before after S B n C H K =
     let P = parts_of w S in
@@ -268,7 +268,7 @@ lands_memory w done v i c work number before after S B n C H K =
     closed_as mid v number (with_front (fills (is_some done.fault) c done.headers number) before) after A.once (subst (λ (x : World). ClosesTo x v) e C) m K
     ∙ ap (λ (o : Option (List ℕ)). with_front o before) (sym (filled_is w done i c work number B))
 
-pub finished_memory : (w : World) (done : Finishing) (v : World) (number : ℕ) (before after : Option (List ℕ)) → Sound w → Meets w (acts.Finish done) → Step w (acts.Finish done) acts.Finished v → HasMemory w number before → HasMemory v number after
+pub finished_memory : (w : World) (done : WorkDone) (v : World) (number : ℕ) (before after : Option (List ℕ)) → Sound w → Meets w (acts.Finish done) → Step w (acts.Finish done) acts.Finished v → HasMemory w number before → HasMemory v number after
     → after ≡ with_front (filled_in w (acts.Finish done) number) before
 finished_memory w done v number before after S M h H K =
     let x = back_of w done v M h in

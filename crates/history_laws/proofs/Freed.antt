@@ -12,7 +12,7 @@ use Rattle.il_machine.specs.Commands.{run_front}
 use Rattle.il_machine.specs.Look.{look}
 use Rattle.il_machine.specs.Answers.{plain}
 use Rattle.il_machine.specs.Claims.{Claimed, ClaimedWork, Claims, WorkSeen, claim_idle, seen_work, work_of}
-use Rattle.il_machine.specs.Stepping.{Done as Finishing}
+use Rattle.il_machine.specs.Stepping.{WorkDone}
 use Rattle.il_machine.specs.Finishing.{announced, announced_at, stepped_back, with_landed, finished_by, finished}
 use Rattle.il_machine.specs.Acts.{Act, Reply}
 use Rattle.il_machine.specs.Acts as acts
@@ -112,7 +112,7 @@ free_set w v i c d S t e o =
       | inr else ↦ absurd (else.0 (same_place 0 w.numbered j i w.components x c S.rising else.1 t g))
     ]))
 
-free_finished : (w : World) (done : Finishing) (i : ℕ) (c : Component) (work : Work) → Sound w → IsBackOf w done i c work → AreFree (number_of c) (finished i c done w)
+free_finished : (w : World) (done : WorkDone) (i : ℕ) (c : Component) (work : Work) → Sound w → IsBackOf w done i c work → AreFree (number_of c) (finished i c done w)
 free_finished w done i c work S B =
     let e = ap (λ (o : Option Work). finished_by i c done o w) B.out in
     subst (AreFree (number_of c)) (sym e) (either work.announces
@@ -123,7 +123,7 @@ free_finished w done i c work S B =
     let f : stream_of (number_of c) w ≡ Some s = ap (λ (k : ℕ). stream_of k w) B.number ∙ L.found in
     subst (AreFree (number_of c)) (sym (stepped_is w done i c work s n f)) (free_set w (with_landed i c done s w) i c (stepped_back c s done) S B.there refl refl)))
 
-pub none_left : (w : World) (done : Finishing) (v : World) → Sound w → Meets w (acts.Finish done) → Step w (acts.Finish done) acts.Finished v → has_work_out done.component v ≡ false
+pub none_left : (w : World) (done : WorkDone) (v : World) → Sound w → Meets w (acts.Finish done) → Step w (acts.Finish done) acts.Finished v → has_work_out done.component v ≡ false
 none_left w done v S M F =
     let x = back_of w done v M F in
     let mid = finished x.0 x.1 done w in

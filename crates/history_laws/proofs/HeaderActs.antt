@@ -14,7 +14,7 @@ use Rattle.il_machine.specs.World.{Component, HeaderRecord, World, number_of, po
 use Rattle.il_machine.specs.Headers.{seen, is_for, find_header, put_at, cleared, unchanged, given_to, Once}
 use Rattle.il_machine.specs.Ports.{is_input_port}
 use Rattle.il_machine.specs.Queued.{completions_in}
-use Rattle.il_machine.specs.Flow.{front_put, at_link, in_port, front_unmade, done_note, noticed, returned, handed_back as put_back}
+use Rattle.il_machine.specs.Flow.{front_put, at_link, in_port, front_unmade, done_note, front_noticed, returned, handed_back as put_back}
 use Rattle.il_machine.specs.Trails.{Unmade, With, front_move, port_stop, home_stop, key_of, port_named, over, back}
 use Rattle.machine_laws.proofs.Replacing.{replaced_changed, replaced_put}
 use Rattle.machine_laws.proofs.Lookups.{port_parts}
@@ -52,7 +52,7 @@ front_moves w key peer spot change (n ∷ ns) keeps remembers o A =
 
 -- it goes into a note
 noted_header : (i : ℕ) (c : Component) (p : Port) (w : World) (ns : List ℕ) → Once w.headers → AreIn p.key ns w.headers → p.key.component ≡ number_of c
-    → Carried w (front_move (port_stop p.key) (With (owners.Notice p.key.component)) ns) (noticed i c p ns w)
+    → Carried w (front_move (port_stop p.key) (With (owners.Notice p.key.component)) ns) (front_noticed i c p ns w)
 noted_header i c p w [] o A k = Still (record { headers = refl; made = refl; moves = refl })
 noted_header i c p w (n ∷ ns) o A k =
     let r = (A.0).0 in
@@ -107,11 +107,11 @@ no_completion : (b : Bool) (n : ℕ) (x : Completion) → Contains (completions_
 no_completion true n x h = none_in x h
 no_completion false n x h = none_in x h
 
-noted_silent : (i : ℕ) (c : Component) (p : Port) (w : World) (ns : List ℕ) → slice_get w.components i ≡ Some c → TellsNothing w (noticed i c p ns w)
+noted_silent : (i : ℕ) (c : Component) (p : Port) (w : World) (ns : List ℕ) → slice_get w.components i ≡ Some c → TellsNothing w (front_noticed i c p ns w)
 noted_silent i c p w [] at = silent_itself w
 noted_silent i c p w (n ∷ ns) at =
     let note = done_note (is_input_port p) n in
-    silent_set i w (noticed i c p (n ∷ ns) w) c (noted note c) at refl refl refl (grows_by Silent note c (no_completion (is_input_port p) n)) (inl refl)
+    silent_set i w (front_noticed i c p (n ∷ ns) w) c (noted note c) at refl refl refl (grows_by Silent note c (no_completion (is_input_port p) n)) (inl refl)
 
 put_silent : (w : World) (peer : PortKey) (spot : Spot) (change : HeaderRecord → HeaderRecord) (ns : List ℕ) → TellsNothing w (front_put peer spot change ns w)
 put_silent w peer spot change [] = silent_itself w
@@ -147,11 +147,11 @@ returned_works : (w : World) (peer : PortKey) (b : Bool) (done todo : List ℕ) 
 returned_works w peer b [] todo = put_works w peer _ cleared todo
 returned_works w peer b (n ∷ done) todo = put_works w peer TodoBack unchanged (n ∷ done)
 
-noted_works : (i : ℕ) (c : Component) (p : Port) (w : World) (ns : List ℕ) → slice_get w.components i ≡ Some c → WorksStay None w (noticed i c p ns w)
+noted_works : (i : ℕ) (c : Component) (p : Port) (w : World) (ns : List ℕ) → slice_get w.components i ≡ Some c → WorksStay None w (front_noticed i c p ns w)
 noted_works i c p w [] at = works_same None w w refl refl
 noted_works i c p w (n ∷ ns) at =
     let note = done_note (is_input_port p) n in
-    works_set None i w (noticed i c p (n ∷ ns) w) c (noted note c) at refl refl refl (λ o. still_noted note c)
+    works_set None i w (front_noticed i c p (n ∷ ns) w) c (noted note c) at refl refl refl (λ o. still_noted note c)
 
 pub back_works : (i : ℕ) (c : Component) (p : Port) (w : World) (link : Option Link) → slice_get w.components i ≡ Some c → WorksStay None w (put_back i c p link w)
 back_works i c p w None at = noted_works i c p w ((seen w.headers).todo p.key) at

@@ -16,8 +16,8 @@ use Rattle.il_machine.specs.Answers.{plain}
 use Rattle.il_machine.specs.Parts.{factors_by}
 use Rattle.il_machine.specs.Due.{HappenTimes, ClosesTo, Happens}
 use Rattle.il_machine.specs.Buffers.{held}
-use Rattle.il_machine.specs.Claims.{Carried as CarriedHeader, WorkSeen, Claimed, ClaimedWork, Claims, claim_idle, held_test, must_announce, carried, carried_by, seen_work, terms_in, work_of, with_work}
-use Rattle.il_machine.specs.Stepping.{Done as Finishing, IsStep, IsAnnounced, IsDoneOf, IsDoneBy}
+use Rattle.il_machine.specs.Claims.{CarriedHeader, WorkSeen, Claimed, ClaimedWork, Claims, claim_idle, held_test, must_announce, carried, carried_by, seen_work, terms_in, work_of, with_work}
+use Rattle.il_machine.specs.Stepping.{WorkDone, IsStep, IsAnnounced, IsDoneOf, IsDoneBy}
 use Rattle.il_machine.specs.Acts.{Act, Reply}
 use Rattle.il_machine.specs.Acts as acts
 use Rattle.il_machine.specs.Run.{Step, Meets, Run}
@@ -67,7 +67,7 @@ times_outs (suc n) w v (mid, before, last) o m a =
 -- ---- the act
 
 -- no act but a finish of this component moves a header from its work
-not_landed : (j : ℕ) (c : Component) (s : Stream) (done : Finishing) (xs : List CarriedHeader) (number k : ℕ) (end : Stop) → number_of c ≡ j → j ≢ k → trail number (map (finished_move c s done) xs) ≡ moved number (With (owners.Work k)) end → ⊥
+not_landed : (j : ℕ) (c : Component) (s : Stream) (done : WorkDone) (xs : List CarriedHeader) (number k : ℕ) (end : Stop) → number_of c ≡ j → j ≢ k → trail number (map (finished_move c s done) xs) ≡ moved number (With (owners.Work k)) end → ⊥
 not_landed j c s done [] number k end n a e = none_moved (record { header = number; from = With (owners.Work k); to = end }) e
 not_landed j c s done (x ∷ xs) number k end n a e =
     let m : Move = finished_move c s done x in
@@ -80,7 +80,7 @@ not_landed j c s done (x ∷ xs) number k end n a e =
     a (sym n ∙ q))
     (λ g. not_landed j c s done xs number k end n a (rw g at e))
 
-not_finished : (j : ℕ) (o : Option Component) (s : Option Stream) (done : Finishing) (number k : ℕ) (end : Stop) → ((c : Component) → o ≡ Some c → number_of c ≡ j) → j ≢ k → trail number (finished_moves o s done) ≡ moved number (With (owners.Work k)) end → ⊥
+not_finished : (j : ℕ) (o : Option Component) (s : Option Stream) (done : WorkDone) (number k : ℕ) (end : Stop) → ((c : Component) → o ≡ Some c → number_of c ≡ j) → j ≢ k → trail number (finished_moves o s done) ≡ moved number (With (owners.Work k)) end → ⊥
 not_finished j None s done number k end n a e = none_moved (record { header = number; from = With (owners.Work k); to = end }) e
 not_finished j (Some c) None done number k end n a e = none_moved (record { header = number; from = With (owners.Work k); to = end }) e
 not_finished j (Some c) (Some s) done number k end n a e = not_landed j c s done done.headers number k end (n c refl) a e
@@ -318,7 +318,7 @@ claims_held w h x v S a =
 
 -- ---- to its finish
 
-pub held_meets : (w : World) (x : WorkSeen) (s : Stream) (done : Finishing) → IsHeldOut w x s → done.component ≡ x.component → x.announces ≡ false → IsStep x.terms s x.headers done → Meets w (acts.Finish done)
+pub held_meets : (w : World) (x : WorkSeen) (s : Stream) (done : WorkDone) → IsHeldOut w x s → done.component ≡ x.component → x.announces ≡ false → IsStep x.terms s x.headers done → Meets w (acts.Finish done)
 held_meets w x s done H e n T =
     let there : component_numbered done.component w ≡ Some H.component = ap (λ (k : ℕ). component_numbered k w) e ∙ H.there in
     let st : stream_of done.component w ≡ Some s = ap (λ (k : ℕ). stream_of k w) e ∙ H.stream in
@@ -330,7 +330,7 @@ held_meets w x s done H e n T =
     let D' : IsDoneOf w H.component H.work done = subst (λ (b : Bool). IsDoneBy b w H.component H.work done) (sym a) D in
     is_there (component_numbered done.component w) _ H.component there (is_there (H.component).work (λ work. IsDoneOf w H.component work done) H.work o D')
 
-pub held_tells : (w : World) (x : WorkSeen) (s : Stream) (done : Finishing) → IsHeldOut w x s → done.component ≡ x.component → x.announces ≡ true → IsAnnounced done → Meets w (acts.Finish done)
+pub held_tells : (w : World) (x : WorkSeen) (s : Stream) (done : WorkDone) → IsHeldOut w x s → done.component ≡ x.component → x.announces ≡ true → IsAnnounced done → Meets w (acts.Finish done)
 held_tells w x s done H e n T =
     let there : component_numbered done.component w ≡ Some H.component = ap (λ (k : ℕ). component_numbered k w) e ∙ H.there in
     let o = H.out in

@@ -13,14 +13,14 @@ use Rattle.il_machine.specs.Headers.{seen, unchanged, cleared}
 use Rattle.il_machine.specs.Due.{Thing, Transition, Flush, PortMode, WaitingMark, at_port, transition_happened, flush_happened, mode_happened, mark_happened, happened, Happens, HappenTimes, ClosesTo}
 use Rattle.il_machine.specs.Kinds.{kind_of}
 use Rattle.il_machine.specs.Notes.{TakenEvent, TakenEmpty, TakenFilled, TookNote}
-use Rattle.il_machine.specs.Flow.{in_port, front_unmade, front_put, handed_over, at_link, handed_back, returned, unused_spot, noticed}
+use Rattle.il_machine.specs.Flow.{in_port, front_unmade, front_put, handed_over, at_link, handed_back, returned, unused_spot, front_noticed}
 use Rattle.il_machine.specs.Ports.{is_input_port}
 use Rattle.il_machine.specs.Effect.{at_named, at_named_port, at_both, effect}
 use Rattle.il_machine.specs.declared.answer.Granted.TheVariants as granted
 use Rattle.il_machine.specs.declared.answer.Preempted.TheVariants as preempted
 use Rattle.il_machine.specs.Units.{first_waiter, victim, with_changed, granted_units, preempted_units}
 use Rattle.il_machine.specs.Claims.{ClaimedWork}
-use Rattle.il_machine.specs.Stepping.{Done as Finishing}
+use Rattle.il_machine.specs.Stepping.{WorkDone}
 use Rattle.il_machine.specs.Finishing.{with_landed, finished, finished_by}
 use Rattle.il_machine.specs.Acts.{Act, Reply}
 use Rattle.il_machine.specs.Acts as acts
@@ -114,7 +114,7 @@ returned_stays : (key : PortKey) (input : Bool) (done todo : List ℕ) (w : Worl
 returned_stays key input [] todo w = put_stays key (unused_spot input) cleared todo w
 returned_stays key input (n ∷ ns) todo w = (refl, refl)
 
-noticed_stays : (i : ℕ) (c : Component) (p : Port) (todo : List ℕ) (w : World) → Stays w (noticed i c p todo w)
+noticed_stays : (i : ℕ) (c : Component) (p : Port) (todo : List ℕ) (w : World) → Stays w (front_noticed i c p todo w)
 noticed_stays i c p [] w = stays w
 noticed_stays i c p (n ∷ ns) w = (refl, refl)
 
@@ -125,7 +125,7 @@ back_stays i c p (Some link) w = returned_stays link.peer (is_input_port p) ((se
 changed_stays : (change : Component → Component) (o : Option Component) (w : World) → Stays w (changed_at o w (λ c. with_changed change c w))
 changed_stays change o w = at_there Stays stays o w _ (λ c. at_there Stays stays (place_numbered (number_of c) w.components) w _ (λ i. (refl, refl)))
 
-finished_stays : (i : ℕ) (c : Component) (done : Finishing) (o : Option Work) (w : World) → Stays w (finished_by i c done o w)
+finished_stays : (i : ℕ) (c : Component) (done : WorkDone) (o : Option Work) (w : World) → Stays w (finished_by i c done o w)
 finished_stays i c done None w = stays w
 finished_stays i c done (Some work) w = either work.announces
     (λ t. rw t (refl, refl))

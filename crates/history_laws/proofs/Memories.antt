@@ -10,7 +10,7 @@ use Rattle.il_machine.specs.declared.header.Owner.{Owner}
 use Rattle.il_machine.specs.declared.header.Owner.TheVariants as owners
 use Rattle.il_machine.specs.declared.header.Spot.TheVariants.{TodoBack}
 use Rattle.il_machine.specs.World.{Component, HeaderRecord, Load, World, component_numbered, port_of}
-use Rattle.il_machine.specs.Claims.{Carried}
+use Rattle.il_machine.specs.Claims.{CarriedHeader}
 use Rattle.il_machine.specs.Headers.{find_header, without, state_of, loaded, unloaded, Once}
 use Rattle.il_machine.specs.Look.{look}
 use Rattle.il_machine.specs.Due.{ClosesTo}
@@ -185,7 +185,7 @@ runs_memory w v (x ∷ xs) number before after S (mid, M, h, more) H K A =
 unfilled : (w : World) (number : ℕ) (a : Act) → brings number a ≡ false → filled_in w a number ≡ None
 unfilled w number (acts.Finish done) h = by_component (component_numbered done.component w)
   where
-    none_of_it : (c : Component) (xs : List Carried) → list_any (λ x. nat_eq x.header.number number) xs ≡ false → content_of c xs number ≡ None
+    none_of_it : (c : Component) (xs : List CarriedHeader) → list_any (λ x. nat_eq x.header.number number) xs ≡ false → content_of c xs number ≡ None
     none_of_it c [] e = refl
     none_of_it c (x ∷ xs) e = let p = not_either (nat_eq x.header.number number) (list_any (λ y. nat_eq y.header.number number) xs) e in rw p.0 (none_of_it c xs p.1)
 

@@ -143,10 +143,10 @@ listed key test T (x ∷ hs) o = either (test x.state)
     (λ f. rw f (further key (numbers (is_state test) hs) x hs o.0 (listed key test T hs o.1)))
 
 pub in_todo_of : (key : PortKey) (hs : List HeaderRecord) → Once hs → AreIn key ((seen hs).todo key) hs
-in_todo_of key hs o = listed key (in_todo key) (λ s t. owned_is key s.owner (and_parts (is_todo s.place) (is_owned_by key s.owner) t).1) hs o
+in_todo_of key hs o = listed key (in_todo key) (λ s t. owned_is key s.owner (and_parts (is_todo s.queue) (is_owned_by key s.owner) t).1) hs o
 
 pub in_done_of : (key : PortKey) (hs : List HeaderRecord) → Once hs → AreIn key ((seen hs).done key) hs
-in_done_of key hs o = listed key (in_done key) (λ s t. owned_is key s.owner (and_parts (is_done s.place) (is_owned_by key s.owner) t).1) hs o
+in_done_of key hs o = listed key (in_done key) (λ s t. owned_is key s.owner (and_parts (is_done s.queue) (is_owned_by key s.owner) t).1) hs o
 
 -- ---- the reset
 
@@ -269,7 +269,7 @@ unmarked_outs key [] mark m hs A w = refl
 unmarked_outs key (n ∷ ns) mark m hs A w =
     let L = A.0 in
     let t : in_todo key (L.header).state ≡ true = (and_parts (in_todo key (L.header).state) (is_none (L.header).load.mark) L.passes).0 in
-    let o : (L.header).state.owner ≡ owners.Port key = owned_is key (L.header).state.owner (and_parts (is_todo (L.header).state.place) (is_owned_by key (L.header).state.owner) t).1 in
+    let o : (L.header).state.owner ≡ owners.Port key = owned_is key (L.header).state.owner (and_parts (is_todo (L.header).state.queue) (is_owned_by key (L.header).state.owner) t).1 in
     changed_else (marked mark) (λ r. refl) n m hs (away_apart m n key hs w (L.header, L.found, o))
 
 pub mark_outs : (key : PortKey) (mark : Option Mark) (m : ℕ) (hs : List HeaderRecord) → Once hs → IsAway m hs → find_header m (first_marked ((seen hs).unmarked key) mark hs) ≡ find_header m hs

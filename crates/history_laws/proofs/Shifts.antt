@@ -9,8 +9,8 @@ use Rattle.il_machine.specs.declared.header.Spot.TheVariants.{TodoFront, DoneBac
 use Rattle.il_machine.specs.World.{Component, HeaderRecord, Load, Picked, Stream, number_of, port_of}
 use Rattle.il_machine.specs.Headers.{find_header, is_for, changed, given_to, loaded, put_at, Once}
 use Rattle.il_machine.specs.Census.{times}
-use Rattle.il_machine.specs.Claims.{Carried as CarriedHeader, all_given_out}
-use Rattle.il_machine.specs.Stepping.{Done as Finishing}
+use Rattle.il_machine.specs.Claims.{CarriedHeader, all_given_out}
+use Rattle.il_machine.specs.Stepping.{WorkDone}
 use Rattle.il_machine.specs.Finishing.{Landing, Again, Onward, Noted, landing, load_after, key_at, landed_at, all_landed}
 use Rattle.il_machine.specs.Trails.{With, Move, trail, claimed_move, finished_move, landed_owner}
 use Rattle.machine_laws.proofs.Replacing.{IsReplaced, replaced_changed, replaced_put}
@@ -178,7 +178,7 @@ landed_one c x Noted load r ks o f = record {
   made_for = λ key. refl;
 }
 
-none_left : (n : ℕ) (c : Component) (s : Stream) (done : Finishing) (xs : List CarriedHeader) → times n (map (λ x. x.header.number) xs) ≡ 0 → trail n (map (finished_move c s done) xs) ≡ []
+none_left : (n : ℕ) (c : Component) (s : Stream) (done : WorkDone) (xs : List CarriedHeader) → times n (map (λ x. x.header.number) xs) ≡ 0 → trail n (map (finished_move c s done) xs) ≡ []
 none_left n c s done [] e = refl
 none_left n c s done (x ∷ xs) e = elim (cases_eq x.header.number n) [
   | inl is ↦
@@ -189,7 +189,7 @@ none_left n c s done (x ∷ xs) e = elim (cases_eq x.header.number n) [
 ]
 
 module _ (ports : PortKey → Option Port) (c : Component) (there : (port : ℕ) (p : Port) → ports (record { component = number_of c; port = port }) ≡ Some p → port_of c port ≡ Some p) (hs : List HeaderRecord) where
-  pub finish_passed_on : (ks : List HeaderRecord) (notes : List ℕ) (s : Stream) (done : Finishing) (xs : List CarriedHeader) → Shifted ports (number_of c) hs notes (map (λ x. x.header.number) xs) ks → AreMade (number_of c) hs xs
+  pub finish_passed_on : (ks : List HeaderRecord) (notes : List ℕ) (s : Stream) (done : WorkDone) (xs : List CarriedHeader) → Shifted ports (number_of c) hs notes (map (λ x. x.header.number) xs) ks → AreMade (number_of c) hs xs
       → ArePassedOn ks (map (finished_move c s done) xs) (all_landed c s done xs ks)
   finish_passed_on ks notes s done [] A M = none_passed_on ks A.once
   finish_passed_on ks notes s done (x ∷ xs) A M =

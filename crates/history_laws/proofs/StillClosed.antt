@@ -116,5 +116,5 @@ given_alike n component r hs f o m =
       made = λ key. count_changed change n r (is_for key) refl hs f;
       away = λ key. count_changed change n r (λ s. is_for key s && is_away s) (rw (was, now) refl) hs f;
       owned = λ key. count_changed change n r (λ s. is_owned_by key s.owner && not (is_home_of key s.home)) (rw (unowned key) refl) hs f;
-      unmarked = λ key. numbers_changed change n r (in_unmarked key) refl (rw (unowned key) (unmarked_not (is_todo r.state.place) _)) hs f;
+      unmarked = λ key. numbers_changed change n r (in_unmarked key) refl (rw (unowned key) (unmarked_not (is_todo r.state.queue) _)) hs f;
     }

@@ -33,7 +33,7 @@ use Rattle.il_machine.specs.Room.{is_by_client}
 use Rattle.il_machine.specs.Due.{completed_for, lost, lost_by, restarted, with_part, unheld, all_given_back, reached, arrived, arrived_at, all_told}
 use Rattle.il_machine.specs.Parameters.{is_settable, keeps_format, is_off_file, is_format_fixed, is_format_free, set_parameter_refusal, set_config_refusal, unheld_at, with_value}
 use Rattle.il_machine.specs.Tunnels.{widened, joined_to, parted}
-use Rattle.il_machine.specs.Commands.{at_rest, invalidated, is_at_once, sent, begun, state_fault, is_selected, selected_from, with_selected, flushing, disabling, enabling, waiting, carried_out, run_front}
+use Rattle.il_machine.specs.Commands.{calmed, invalidated, is_at_once, sent, begun, state_fault, is_selected, selected_from, with_selected, flushing, disabling, enabling, awaiting_mark, carried_out, run_front}
 use Rattle.il_machine.specs.Buffers.{is_unpopulating, unpopulated}
 use Rattle.il_machine.specs.Notes.{first_taken, back_in}
 use Rattle.il_machine.specs.Units.{granted_units, preempted_units}
@@ -56,7 +56,7 @@ still_told [] c = still_itself c
 still_told (event ∷ events) c = still_on c (told event c) (all_told events (told event c)) (still_plain c (told event c) refl refl refl refl refl) (still_told events (told event c))
 
 still_invalid : (c : Component) → IsStillOut c (told (Error errors.InvalidState) (invalidated c))
-still_invalid c = still_as c (told (Error errors.InvalidState) (invalidated c)) refl refl refl refl refl (held_map at_rest (λ p e. e) c.ports)
+still_invalid c = still_as c (told (Error errors.InvalidState) (invalidated c)) refl refl refl refl refl (held_map calmed (λ p e. e) c.ports)
 
 pub still_sent : (command : Command) (c : Component) → IsStillOut c (sent command c)
 still_sent command c = either (is_at_once command) (λ t. rw t (still_invalid c)) (λ f. rw f (still_plain c (record c { commands = c.commands ++ command ∷ [] }) refl refl refl refl refl))
@@ -83,7 +83,7 @@ still_carried l (commands.StateSet target) c = still_begun (state_fault l c targ
 still_carried l (commands.Flush sel) c = still_selected sel flushing c (λ p. refl)
 still_carried l (commands.PortDisable sel) c = still_selected sel disabling c (λ p. refl)
 still_carried l (commands.PortEnable sel) c = still_selected sel enabling c (λ p. refl)
-still_carried l (commands.MarkBuffer port target value) c = still_selected _ (waiting target value) c (λ p. refl)
+still_carried l (commands.MarkBuffer port target value) c = still_selected _ (awaiting_mark target value) c (λ p. refl)
 
 pub still_run : (l : Look) (cs : List Command) (c : Component) → IsStillOut c (run_front l cs c)
 still_run l [] c = still_itself c

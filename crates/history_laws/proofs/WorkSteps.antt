@@ -26,8 +26,8 @@ use Rattle.il_machine.specs.States.{is_invalid}
 use Rattle.il_machine.specs.Lists.{any_of}
 use Rattle.il_machine.specs.Parameters.{is_settable}
 use Rattle.il_machine.specs.Files.{Offered, Attach, is_for_kind, is_bad_file, file_port_format, attach_refusal, attached, stream_with, with_file}
-use Rattle.il_machine.specs.Claims.{Carried as CarriedHeader, Claimed, ClaimedWork, ClaimedBusy, ClaimedNotRunning, ClaimedEnded, ClaimedHeld, ClaimedNoData, ClaimedNoRoom, ClaimedEvents, Claim, Claims, claim_idle, held_test, data_test, room_test, wanted, is_output_port, is_claimable, places_for, carried, seen_work, terms_in, work_of, with_work}
-use Rattle.il_machine.specs.Stepping.{Done as Finishing, IsDoneOf, IsDoneBy, IsAnnounced, IsStep}
+use Rattle.il_machine.specs.Claims.{CarriedHeader, Claimed, ClaimedWork, ClaimedBusy, ClaimedNotRunning, ClaimedEnded, ClaimedHeld, ClaimedNoData, ClaimedNoRoom, ClaimedEvents, Claim, Claims, claim_idle, held_test, data_test, room_test, wanted, is_output_port, is_claimable, reserve_for, carried, seen_work, terms_in, work_of, with_work}
+use Rattle.il_machine.specs.Stepping.{WorkDone, IsDoneOf, IsDoneBy, IsAnnounced, IsStep}
 use Rattle.il_machine.specs.Finishing.{Landing, Again, Onward, Noted, landing, tells_mark, is_an_input, mark_note, landing_note, notes_of_header, notes_of_headers, end_note, tells_end, fault_note, notes_after, gone_through, announced, announced_at, stepped_back, with_landed, finished_by, finished, Finish}
 use Rattle.il_machine.specs.Queued.{completions_in}
 use Rattle.il_machine.specs.Acts as acts
@@ -108,7 +108,7 @@ claim_is_idle l c idle e =
     let held : List (Bool × Claimed) = map (held_test c) (ports_of c) in
     let filled : List (Bool × Claimed) = map (data_test l.headers) (filter is_input_port (wanted c)) in
     let space : List (Bool × Claimed) = map (room_test l.headers) (filter is_output_port (wanted c)) in
-    let last : List (Bool × Claimed) = (nat_lt (room c) (places_for (wanted c)), ClaimedEvents (room c) (places_for (wanted c))) ∷ [] in
+    let last : List (Bool × Claimed) = (nat_lt (room c) (reserve_for (wanted c)), ClaimedEvents (room c) (reserve_for (wanted c))) ∷ [] in
     let both : AreIdle (held ++ filled) = idle_both held filled (idle_each (held_test c) (λ p. tt) (ports_of c)) (idle_each (data_test l.headers) (λ p. tt) (filter is_input_port (wanted c))) in
     let three : AreIdle (held ++ filled ++ space) = idle_both (held ++ filled) space both (idle_each (room_test l.headers) (λ p. tt) (filter is_output_port (wanted c))) in
     let four : AreIdle (held ++ filled ++ space ++ last) = idle_both (held ++ filled ++ space) last three (tt, tt) in
@@ -168,14 +168,14 @@ none_landed Noted c x = none_done (is_an_input c x) x.header.number
 both_none : (xs ys : List Note) → completions_in xs ≡ [] → completions_in ys ≡ [] → completions_in (xs ++ ys) ≡ []
 both_none xs ys a b = completions_append xs ys ∙ (rw (a, b) refl)
 
-none_of_header : (c : Component) (s : Stream) (done : Finishing) (x : CarriedHeader) → completions_in (notes_of_header c s done x) ≡ []
+none_of_header : (c : Component) (s : Stream) (done : WorkDone) (x : CarriedHeader) → completions_in (notes_of_header c s done x) ≡ []
 none_of_header c s done x =
     let l = none_landed (landing c s done x) c x in
     either (tells_mark c s done x)
     (λ t. rw t (both_none (mark_note x.header.mark) (landing_note (landing c s done x) c x) (none_marked x.header.mark) l))
     (λ f. rw f l)
 
-none_of_headers : (c : Component) (s : Stream) (done : Finishing) (xs : List CarriedHeader) → completions_in (notes_of_headers c s done xs) ≡ []
+none_of_headers : (c : Component) (s : Stream) (done : WorkDone) (xs : List CarriedHeader) → completions_in (notes_of_headers c s done xs) ≡ []
 none_of_headers c s done [] = refl
 none_of_headers c s done (x ∷ xs) = both_none (notes_of_header c s done x) (notes_of_headers c s done xs) (none_of_header c s done x) (none_of_headers c s done xs)
 
@@ -187,12 +187,12 @@ none_of_fault : (o : Option PartFault) → completions_in (fault_note o) ≡ []
 none_of_fault None = refl
 none_of_fault (Some fault) = refl
 
-none_after : (c : Component) (s : Stream) (done : Finishing) → completions_in (notes_after c s done) ≡ []
+none_after : (c : Component) (s : Stream) (done : WorkDone) → completions_in (notes_after c s done) ≡ []
 none_after c s done = both_none (notes_of_headers c s done done.headers ++ end_note (tells_end c done)) (fault_note done.fault)
     (both_none (notes_of_headers c s done done.headers) (end_note (tells_end c done)) (none_of_headers c s done done.headers) (none_of_end (tells_end c done)))
     (none_of_fault done.fault)
 
-back_grows : (c : Component) (s : Stream) (done : Finishing) → Grows Silent c (stepped_back c s done)
+back_grows : (c : Component) (s : Stream) (done : WorkDone) → Grows Silent c (stepped_back c s done)
 back_grows c s done = record { number = refl; added = notes_after c s done; notes = refl; tells = λ x h. none_in x (subst (λ (l : List Completion). Contains l x) (none_after c s done) h) }
 
 -- what an announcement that comes back leaves of its component
@@ -212,7 +212,7 @@ announced_grows c =
     record { grows = grows_on Silent c (record c { work = None }) (announced c) (grows_not Silent c (record c { work = None }) refl refl) A.grows; state = A.state }
 
 -- the component whose work comes back
-pub record IsBackOf (w : World) (done : Finishing) (i : ℕ) (c : Component) (work : Work) : Type 0 where
+pub record IsBackOf (w : World) (done : WorkDone) (i : ℕ) (c : Component) (work : Work) : Type 0 where
   pub place : place_numbered done.component w.components ≡ Some i
   pub there : slice_get w.components i ≡ Some c
   pub out : c.work ≡ Some work
@@ -227,7 +227,7 @@ numbered_is k w i c p t =
     let h : is_numbered k c ≡ true = rw (← is) x.2 in
     eqb-true _ _ h
 
-pub back_of : (w : World) (done : Finishing) (v : World) → Meets w (acts.Finish done) → Finish w done v → (i : ℕ) × (c : Component) × (work : Work) × IsBackOf w done i c work × ClosesTo (finished i c done w) v
+pub back_of : (w : World) (done : WorkDone) (v : World) → Meets w (acts.Finish done) → Finish w done v → (i : ℕ) × (c : Component) × (work : Work) × IsBackOf w done i c work × ClosesTo (finished i c done w) v
 back_of w done v M F =
     let i = there_is (place_numbered done.component w.components) _ F in
     let c = there_is (slice_get w.components i.0) (λ c. ClosesTo (finished i.0 c done w) v) i.2 in
@@ -235,28 +235,28 @@ back_of w done v M F =
     let x = there_is (c.0).work (λ work. IsDoneOf w c.0 work done) m in
     (i.0, c.0, x.0, record { place = i.1; there = c.1; out = x.1; number = numbered_is done.component w i.0 c.0 i.1 c.1; meets = x.2 }, c.2)
 
-pub numbered_there : (w : World) (done : Finishing) (i : ℕ) (c : Component) (work : Work) → IsBackOf w done i c work → component_numbered done.component w ≡ Some c
+pub numbered_there : (w : World) (done : WorkDone) (i : ℕ) (c : Component) (work : Work) → IsBackOf w done i c work → component_numbered done.component w ≡ Some c
 numbered_there w done i c work B = let p = B.place in rw p B.there
 
-effect_is : (w : World) (done : Finishing) (i : ℕ) (c : Component) (work : Work) → IsBackOf w done i c work → effect w (acts.Finish done) acts.Finished ≡ finished_by i c done (Some work) w
+effect_is : (w : World) (done : WorkDone) (i : ℕ) (c : Component) (work : Work) → IsBackOf w done i c work → effect w (acts.Finish done) acts.Finished ≡ finished_by i c done (Some work) w
 effect_is w done i c work B =
     let p = B.place in
     let t = B.there in
     let a : effect w (acts.Finish done) acts.Finished ≡ finished i c done w = rw (p, t) refl in
     a ∙ ap (λ (o : Option Work). finished_by i c done o w) B.out
 
-no_moves : (o : Option Component) (s : Option Stream) (done : Finishing) → done.headers ≡ [] → finished_moves o s done ≡ []
+no_moves : (o : Option Component) (s : Option Stream) (done : WorkDone) → done.headers ≡ [] → finished_moves o s done ≡ []
 no_moves None s done e = refl
 no_moves (Some c) None done e = refl
 no_moves (Some c) (Some s) done e = rw e refl
 
-pub stepped_is : (w : World) (done : Finishing) (i : ℕ) (c : Component) (work : Work) (s : Stream) → work.announces ≡ false → stream_of (number_of c) w ≡ Some s → finished_by i c done (Some work) w ≡ with_landed i c done s w
+pub stepped_is : (w : World) (done : WorkDone) (i : ℕ) (c : Component) (work : Work) (s : Stream) → work.announces ≡ false → stream_of (number_of c) w ≡ Some s → finished_by i c done (Some work) w ≡ with_landed i c done s w
 stepped_is w done i c work s n f = rw (n, f) refl
 
-pub announces_is : (w : World) (done : Finishing) (i : ℕ) (c : Component) (work : Work) → work.announces ≡ true → finished_by i c done (Some work) w ≡ with_component i (announced c) w
+pub announces_is : (w : World) (done : WorkDone) (i : ℕ) (c : Component) (work : Work) → work.announces ≡ true → finished_by i c done (Some work) w ≡ with_component i (announced c) w
 announces_is w done i c work a = rw a refl
 
-announces_back : (w : World) (done : Finishing) (v : World) (i : ℕ) (c : Component) (work : Work) → IsBackOf w done i c work → work.announces ≡ true → ClosesTo (finished i c done w) v → Outcome w (turn w (acts.Finish done) acts.Finished) v
+announces_back : (w : World) (done : WorkDone) (v : World) (i : ℕ) (c : Component) (work : Work) → IsBackOf w done i c work → work.announces ≡ true → ClosesTo (finished i c done w) v → Outcome w (turn w (acts.Finish done) acts.Finished) v
 announces_back w done v i c work B a C =
     let D : IsAnnounced done = rw a at B.meets in
     let mid = with_component i (announced c) w in
@@ -270,7 +270,7 @@ announces_back w done v i c work B a C =
     })
 
 -- the stream and the headers of a work that did a step
-pub record IsLandingOf (w : World) (done : Finishing) (c : Component) (work : Work) : Type 0 where
+pub record IsLandingOf (w : World) (done : WorkDone) (c : Component) (work : Work) : Type 0 where
   pub stream : Stream
   pub found : stream_of done.component w ≡ Some stream
   pub step : IsStep (terms_in c work) stream (carried w.headers work.headers) done
@@ -278,7 +278,7 @@ pub record IsLandingOf (w : World) (done : Finishing) (c : Component) (work : Wo
   pub made : AreMade (number_of c) w.headers done.headers
   pub shifted : Shifted (ports_in_list w.components) (number_of c) w.headers (note_numbers c.notes) (map (λ x. x.header.number) done.headers) w.headers
 
-pub landing_of : (w : World) (done : Finishing) (i : ℕ) (c : Component) (work : Work) → Sound w → IsBackOf w done i c work → work.announces ≡ false → IsLandingOf w done c work
+pub landing_of : (w : World) (done : WorkDone) (i : ℕ) (c : Component) (work : Work) → Sound w → IsBackOf w done i c work → work.announces ≡ false → IsLandingOf w done c work
 landing_of w done i c work S B n =
     let P = parts_of w S in
     let D : IsDoneBy false w c work done = rw n at B.meets in
@@ -297,7 +297,7 @@ landing_of w done i c work S B n =
       shifted = rw m at (shifted_none w.components w.headers w.numbered w.made i c P B.there);
     }
 
-lands_back : (w : World) (done : Finishing) (v : World) (i : ℕ) (c : Component) (work : Work) → Sound w → IsBackOf w done i c work → work.announces ≡ false → ClosesTo (finished i c done w) v → Outcome w (turn w (acts.Finish done) acts.Finished) v
+lands_back : (w : World) (done : WorkDone) (v : World) (i : ℕ) (c : Component) (work : Work) → Sound w → IsBackOf w done i c work → work.announces ≡ false → ClosesTo (finished i c done w) v → Outcome w (turn w (acts.Finish done) acts.Finished) v
 lands_back w done v i c work S B n C =
     let P = parts_of w S in
     let L = landing_of w done i c work S B n in
@@ -315,7 +315,7 @@ lands_back w done v i c work S B n C =
       works = subst (λ (k : ℕ). WorksStay (Some k) w mid) B.number (works_back i w mid c (stepped_back c s done) (gone_through done) (λ x. refl) B.there refl refl refl);
     })
 
-pub finish : (w : World) (done : Finishing) (v : World) → Sound w → Meets w (acts.Finish done) → Finish w done v → Outcome w (turn w (acts.Finish done) acts.Finished) v
+pub finish : (w : World) (done : WorkDone) (v : World) → Sound w → Meets w (acts.Finish done) → Finish w done v → Outcome w (turn w (acts.Finish done) acts.Finished) v
 finish w done v S M F =
     let x = back_of w done v M F in
     either (x.2).announces

@@ -7,8 +7,8 @@ use Rattle.il_machine.specs.Headers.{find_header}
 use Rattle.il_machine.specs.Buffers.{Held}
 use Rattle.il_machine.specs.Acts.{Act, Reply}
 use Rattle.il_machine.specs.Acts as acts
-use Rattle.il_machine.specs.Claims.{Carried}
-use Rattle.il_machine.specs.Stepping.{Done}
+use Rattle.il_machine.specs.Claims.{CarriedHeader}
+use Rattle.il_machine.specs.Stepping.{WorkDone}
 use Rattle.il_machine.specs.Finishing.{is_an_input}
 use Rattle.il_machine.specs.Run.{Step}
 
@@ -35,11 +35,11 @@ number_in a r = option_map (λ header. header.number) (handed_in a r)
 -- ---- a work that comes back
 
 -- the content of an output's header of the number
-abbrev pub content_of : Component → List Carried → ℕ → Option (List ℕ)
+abbrev pub content_of : Component → List CarriedHeader → ℕ → Option (List ℕ)
 content_of c [] number = None
 content_of c (x ∷ xs) number = if nat_eq x.header.number number && not (is_an_input c x) then Some x.header.content else content_of c xs number
 
-abbrev pub filled_by : Option Component → Done → ℕ → Option (List ℕ)
+abbrev pub filled_by : Option Component → WorkDone → ℕ → Option (List ℕ)
 filled_by None done number = None
 filled_by (Some c) done number = if is_some done.fault then None else content_of c done.headers number
 

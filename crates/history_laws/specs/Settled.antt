@@ -10,7 +10,7 @@ use Rattle.il_machine.specs.States.{is_running}
 use Rattle.il_machine.specs.World.{World, number_of, ports_of, port_of}
 use Rattle.il_machine.specs.Headers.{seen, is_for}
 use Rattle.il_machine.specs.Look.{look}
-use Rattle.il_machine.specs.Ports.{unmade}
+use Rattle.il_machine.specs.Ports.{has_no_header}
 use Rattle.il_machine.specs.Due.{Transition, Happens, HappenTimes}
 use Rattle.il_machine.specs.Trails.{Move, trail, returns, hand_overs, IsTrailOfNone}
 use Rattle.il_machine.specs.Queued.{WasDue}
@@ -47,7 +47,7 @@ AreAllBack w ms key = (number : ℕ) → MatchOption ((look w).headers.header nu
 -- When its disable was completed no header was made for the port, and each that had been was back before it was unmade.
 abbrev pub WasUnmade : (w v : World) (ms : List Move) (number port : ℕ) → WasDue w v number (completions.Disable port) → Type 0
 WasUnmade w v ms number port D =
-    MatchOption (port_of (D.happens).component port) ⊥ (λ p. (unmade (seen (D.before).headers) p ≡ true) × AreAllBack D.before ms p.key)
+    MatchOption (port_of (D.happens).component port) ⊥ (λ p. (has_no_header (seen (D.before).headers) p ≡ true) × AreAllBack D.before ms p.key)
 
 -- The header of the number is unmade, and has as many returns to its home as hand-overs among its moves.
 pub record IsUnmadeAndBack (w : World) (ms : List Move) (number : ℕ) (home : Home) : Type 0 where

@@ -4,7 +4,7 @@ use Rattle.il_machine.specs.Kinds.{is_auto}
 use Rattle.il_machine.specs.Settings.{formats_of}
 use Rattle.il_machine.specs.World.{Component, HeaderRecord, Stream, Work, World, component_numbered, stream_of}
 use Rattle.il_machine.specs.Headers.{find_header}
-use Rattle.il_machine.specs.Claims.{Carried, ClaimedWork, WorkSeen, carried, terms_in}
+use Rattle.il_machine.specs.Claims.{CarriedHeader, ClaimedWork, WorkSeen, carried, terms_in}
 use Rattle.il_machine.specs.Acts.{Act, Reply}
 use Rattle.il_machine.specs.Acts as acts
 
@@ -29,7 +29,7 @@ pub record IsHeldOut (w : World) (x : WorkSeen) (s : Stream) : Type 0 where
   pub stream : stream_of x.component w ≡ Some s
 
 -- what is known of the header of the work, and what it carries
-abbrev pub HeaderStays : List HeaderRecord → List HeaderRecord → Carried → Type 0
+abbrev pub HeaderStays : List HeaderRecord → List HeaderRecord → CarriedHeader → Type 0
 HeaderStays old new x = find_header x.header.number new ≡ find_header x.header.number old
 
 -- the act brought the work of the component of the number back

@@ -23,7 +23,7 @@ ghost use Rattle.il_machine.specs.Due.{Happens, HappenTimes, ClosesTo, IsClosed}
 ghost use Rattle.il_machine.specs.Acts.{Act, Reply};
 ghost use Rattle.il_machine.specs.Acts as acts;
 ghost use Rattle.il_machine.specs.Claims.{WorkSeen, ClaimedWork};
-ghost use Rattle.il_machine.specs.Stepping.{Done, IsStep, IsAnnounced};
+ghost use Rattle.il_machine.specs.Stepping.{WorkDone, IsStep, IsAnnounced};
 ghost use Rattle.history_laws.specs.Works.{IsHeldOut, HeaderStays, returns_work, takes_work, has_work_out};
 ghost use Rattle.il_machine.specs.Run.{Step, Meets, Run};
 ghost use Rattle.il_machine.specs.Sound.{Sound};
@@ -193,9 +193,9 @@ pub fn law_of_works()
     ensures closing { (w v : World) (x : WorkSeen) (s : Stream) → Sound w → ClosesTo w v → IsHeldOut w x s → IsHeldOut v x s }
     ensures runs { (w v : World) (xs : List (Act × Reply)) (x : WorkSeen) (s : Stream)
         → Sound w → Run w xs v → All (λ y. returns_work x.component y.0 y.1 ≡ false) xs → IsHeldOut w x s → IsHeldOut v x s }
-    ensures back { (w : World) (x : WorkSeen) (s : Stream) (done : Done)
+    ensures back { (w : World) (x : WorkSeen) (s : Stream) (done : WorkDone)
         → IsHeldOut w x s → done.component ≡ x.component → x.announces ≡ false → IsStep x.terms s x.headers done → Meets w (acts.Finish done) }
-    ensures told { (w : World) (x : WorkSeen) (s : Stream) (done : Done)
+    ensures told { (w : World) (x : WorkSeen) (s : Stream) (done : WorkDone)
         → IsHeldOut w x s → done.component ≡ x.component → x.announces ≡ true → IsAnnounced done → Meets w (acts.Finish done) }
     ensures headers { (w : World) (a : Act) (r : Reply) (v : World) (x : WorkSeen) (s : Stream)
         → Sound w → Meets w a → Step w a r v → returns_work x.component a r ≡ false → IsHeldOut w x s → All (HeaderStays w.headers v.headers) x.headers }
@@ -203,6 +203,6 @@ pub fn law_of_works()
         → Sound w → Step w (acts.Claim h) (acts.Claimed (Ok (ClaimedWork x))) v → has_work_out x.component w ≡ false }
     ensures comes { (w : World) (a : Act) (r : Reply) (v : World) (number : ℕ)
         → Sound w → Meets w a → Step w a r v → takes_work number a r ≡ false → has_work_out number w ≡ false → has_work_out number v ≡ false }
-    ensures gone { (w : World) (done : Done) (v : World)
+    ensures gone { (w : World) (done : WorkDone) (v : World)
         → Sound w → Meets w (acts.Finish done) → Step w (acts.Finish done) acts.Finished v → has_work_out done.component v ≡ false }
 {}

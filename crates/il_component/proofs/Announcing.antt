@@ -9,13 +9,13 @@ use Rattle.il_machine.specs.declared.port.PortState.{PortState}
 use Rattle.il_machine.specs.Settings.{same_format}
 use Rattle.il_machine.specs.World.{Component, Work, number_of, ports_from, port_of, told, with_port}
 use Rattle.il_machine.specs.Parts.{file_format}
-use Rattle.il_machine.specs.Room.{port_places, room, used, work_places}
+use Rattle.il_machine.specs.Room.{port_reserve, room, used, work_reserve}
 use Rattle.il_machine.specs.Finishing.{announced}
 use Rattle.il_component.proofs.Fit.{same_costs}
 use Rattle.il_component.proofs.Named.{held_state}
 use Rattle.il_component.proofs.Ports.{port_numbered}
 
-pub work_some : (work : Option Work) → IsSome work → 2 ≤ work_places work
+pub work_some : (work : Option Work) → IsSome work → 2 ≤ work_reserve work
 work_some None h = absurd cc
 work_some (Some work) h = omega arith
 
@@ -42,8 +42,8 @@ first_state number index (s ∷ ss) (x ∷ ps) p e =
     let is : own ≡ p = cc in
     (ps, ap (λ (y : Port). y.state ∷ ps) is)
 
-sum_first : (ps q : List PortState) (x y : PortState) → ps ≡ x ∷ q → port_places y ≡ port_places x → sum_by port_places (set ps 0 y) ≡ sum_by port_places ps
-sum_first ps q x y e h = rw e (omega (arith, sum_by-cons port_places y q, sum_by-cons port_places x q, h))
+sum_first : (ps q : List PortState) (x y : PortState) → ps ≡ x ∷ q → port_reserve y ≡ port_reserve x → sum_by port_reserve (set ps 0 y) ≡ sum_by port_reserve ps
+sum_first ps q x y e h = rw e (omega (arith, sum_by-cons port_reserve y q, sum_by-cons port_reserve x q, h))
 
 pub used_held : (c : Component) (p : Port) → port_of c 0 ≡ Some p → used (with_port 0 (held_state p.state) c) ≡ used c
 used_held c p e =

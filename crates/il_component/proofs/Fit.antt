@@ -11,13 +11,13 @@ use Rattle.omx_types.specs.declared.command.Note.TheVariants as machine
 use Rattle.il_machine.specs.declared.answer.Pending.{Pending}
 use Rattle.il_machine.specs.declared.port.PortState.{PortState}
 use Rattle.il_machine.specs.World.{Component, Work, told}
-use Rattle.il_machine.specs.Room.{sel_cost, cost_of, used, room, events_in, is_event, port_places, work_places}
+use Rattle.il_machine.specs.Room.{sel_cost, cost_of, used, room, events_in, is_event, port_reserve, work_reserve}
 use Rattle.note_queues.specs.declared.taken.QueuedCommand.{QueuedCommand}
 use Rattle.note_queues.specs.declared.taken.Taken.{Taken}
 use Rattle.note_queues.specs.declared.taken.Taken.TheVariants.{Told, EmptyDone, FillDone}
 use Rattle.note_queues.specs.Queues.{Queues, command_of, notes_of, costs, holding}
 use Rattle.note_queues.specs.Queues as queues
-use Rattle.il_component.specs.Places.{places_of}
+use Rattle.il_component.specs.Places.{reserve_of}
 use Rattle.il_component.specs.Entries.{Entry, component_of, HasCost, IsFit, noticed_of, held_in}
 
 -- ---- the costs of commands
@@ -66,12 +66,12 @@ held_in-told (FillDone header ∷ ts) event = ap (λ hs. noticed_of header ∷ h
 
 module _ {C : Type 0} where
   -- the places of the machine's component are those of its events, its commands and its record
-  pub used-entry : (e : Entry C) → All (HasCost (component_of e)) e.queues.commands → used (component_of e) ≡ events_in (notes_of e.queues) + costs e.queues + places_of e.pending e.loss_mark e.ports e.work
+  pub used-entry : (e : Entry C) → All (HasCost (component_of e)) e.queues.commands → used (component_of e) ≡ events_in (notes_of e.queues) + costs e.queues + reserve_of e.pending e.loss_mark e.ports e.work
   used-entry e costs = omega (arith, queued_costs (component_of e) e.queues.commands costs)
 
   -- of an entry that fits they are those of its queue
   pub used-fit : (e : Entry C) → IsFit e → used (component_of e) ≡ queues.used e.queues
-  used-fit e fit = used-entry e fit.costs ∙ ap (λ places. events_in (notes_of e.queues) + costs e.queues + places) (sym fit.places)
+  used-fit e fit = used-entry e fit.costs ∙ ap (λ places. events_in (notes_of e.queues) + costs e.queues + places) (sym fit.reserve)
 
   pub room-fit : (e : Entry C) → IsFit e → room (component_of e) ≡ queues.room e.queues
   room-fit e fit = ap (λ n. 256 - n) (used-fit e fit)
@@ -83,7 +83,7 @@ module _ {C : Type 0} where
     pending = pending;
     loss_mark = loss_mark;
     ports = ports;
-    queues = holding (places_of pending loss_mark ports e.work) e.queues;
+    queues = holding (reserve_of pending loss_mark ports e.work) e.queues;
   }
 
   pub fit-resettled : (e : Entry C) → IsFit e → (state : State) (pending : Option Pending) (loss_mark : Bool) (ports : List PortState) → length ports ≡ length e.ports → IsFit (resettled state pending loss_mark ports e)
@@ -91,40 +91,40 @@ module _ {C : Type 0} where
     whole = fit.whole;
     ports = same ∙ fit.ports;
     queue_ports = fit.queue_ports;
-    places = refl;
+    reserve = refl;
     costs = kept_costs (component_of e) (component_of (resettled state pending loss_mark ports e)) e.queues.commands (sym same) fit.costs;
   }
 
   pub used-resettled : (e : Entry C) → IsFit e → (state : State) (pending : Option Pending) (loss_mark : Bool) (ports : List PortState) → length ports ≡ length e.ports
-      → used (component_of (resettled state pending loss_mark ports e)) ≡ events_in (notes_of e.queues) + costs e.queues + places_of pending loss_mark ports e.work
+      → used (component_of (resettled state pending loss_mark ports e)) ≡ events_in (notes_of e.queues) + costs e.queues + reserve_of pending loss_mark ports e.work
   used-resettled e fit state pending loss_mark ports same =
       used-entry (resettled state pending loss_mark ports e) (kept_costs (component_of e) (component_of (resettled state pending loss_mark ports e)) e.queues.commands (sym same) fit.costs)
 
   -- with another work out, or none
-  pub used-reworked : (e : Entry C) → IsFit e → (work : Option Work) → used (component_of (record e { work = work })) ≡ events_in (notes_of e.queues) + costs e.queues + places_of e.pending e.loss_mark e.ports work
+  pub used-reworked : (e : Entry C) → IsFit e → (work : Option Work) → used (component_of (record e { work = work })) ≡ events_in (notes_of e.queues) + costs e.queues + reserve_of e.pending e.loss_mark e.ports work
   used-reworked e fit work = used-entry (record e { work = work }) (kept_costs (component_of e) (component_of (record e { work = work })) e.queues.commands refl fit.costs)
 
   -- without one no more is reserved
-  pub used-workless : (e : Entry C) → IsFit e → used (component_of (record e { work = None })) + work_places e.work ≡ used (component_of e)
+  pub used-workless : (e : Entry C) → IsFit e → used (component_of (record e { work = None })) + work_reserve e.work ≡ used (component_of e)
   used-workless e fit = omega (arith, used-reworked e fit None, used-entry e fit.costs)
 
   -- with other commands and notes
-  pub fit-requeued : (e : Entry C) → IsFit e → (q : Queues C) → q.ports ≡ e.queues.ports → q.places ≡ e.queues.places → All (HasCost (component_of e)) q.commands → IsFit (record e { queues = q })
+  pub fit-requeued : (e : Entry C) → IsFit e → (q : Queues C) → q.ports ≡ e.queues.ports → q.reserve ≡ e.queues.reserve → All (HasCost (component_of e)) q.commands → IsFit (record e { queues = q })
   fit-requeued e fit q ports places costs = record {
     whole = fit.whole;
     ports = fit.ports;
     queue_ports = ports ∙ fit.queue_ports;
-    places = places ∙ fit.places;
+    reserve = places ∙ fit.reserve;
     costs = kept_costs (component_of e) (component_of (record e { queues = q })) q.commands refl costs;
   }
 
   -- with other settings of the ports' states and of what reserves no place
-  pub fit_again : (e d : Entry C) → IsFit e → d.settings ≡ e.settings → length d.ports ≡ length e.ports → sum_by port_places d.ports ≡ sum_by port_places e.ports → d.queues ≡ e.queues
+  pub fit_again : (e d : Entry C) → IsFit e → d.settings ≡ e.settings → length d.ports ≡ length e.ports → sum_by port_reserve d.ports ≡ sum_by port_reserve e.ports → d.queues ≡ e.queues
       → d.pending ≡ e.pending → d.loss_mark ≡ e.loss_mark → d.work ≡ e.work → IsFit d
   fit_again e d F s l p q a b w = record {
     whole = rw s F.whole;
     ports = rw s (l ∙ F.ports);
     queue_ports = rw (q, s) F.queue_ports;
-    places = rw (q, p, a, b, w) F.places;
+    reserve = rw (q, p, a, b, w) F.reserve;
     costs = rw q (kept_costs (component_of e) (component_of d) e.queues.commands (sym l) F.costs);
   }

@@ -12,7 +12,7 @@ use Rattle.il_machine.specs.declared.port.Mode.{Mode}
 use Rattle.il_machine.specs.declared.port.Mode.TheVariants.{Steady}
 use Rattle.std.proofs.lemmas.List.{set-get_or}
 use Rattle.il_machine.specs.World.{Component, number_of, ports_from, port_of, with_port}
-use Rattle.il_machine.specs.Room.{is_by_client, port_places, work_places}
+use Rattle.il_machine.specs.Room.{is_by_client, port_reserve, work_reserve}
 use Rattle.il_machine.specs.Commands.{busy_port}
 use Rattle.il_machine.specs.Due.{unheld}
 use Rattle.il_machine.specs.Parameters.{unheld_at, with_value}
@@ -58,10 +58,10 @@ at_port_set zero change (p ∷ ps) d b = refl
 at_port_set (suc i) change (p ∷ ps) d b = ap (λ (qs : List PortState). p ∷ qs) (at_port_set i change ps d (omega arith))
 
 -- a link takes no place
-pub places_linked : (i : ℕ) (link : Option Link) (ps : List PortState) (d : PortState) → i < length ps → sum_by port_places (set ps i (with_link link (get_or ps i d))) ≡ sum_by port_places ps
+pub places_linked : (i : ℕ) (link : Option Link) (ps : List PortState) (d : PortState) → i < length ps → sum_by port_reserve (set ps i (with_link link (get_or ps i d))) ≡ sum_by port_reserve ps
 places_linked i link ps d b =
-    let h = sum_by-set port_places ps i (with_link link (get_or ps i d)) d b in
-    let e : port_places (with_link link (get_or ps i d)) ≡ port_places (get_or ps i d) = refl in
+    let h = sum_by-set port_reserve ps i (with_link link (get_or ps i d)) d b in
+    let e : port_reserve (with_link link (get_or ps i d)) ≡ port_reserve (get_or ps i d) = refl in
     omega arith
 
 -- the port's state with another link, where the old state is the one that is read
@@ -76,12 +76,12 @@ pub linked_fit : {C : Type 0} (e : Entry C) (i : ℕ) (settings : Settings) (lin
 linked_fit e i settings link old F b r W k =
     let q : set e.ports i (with_link link old) ≡ set e.ports i (with_link link (get_or e.ports i old)) = ap (λ (x : PortState). set e.ports i (with_link link x)) r in
     let l : length (set e.ports i (with_link link old)) ≡ length e.ports = length-set e.ports i _ in
-    let s : sum_by port_places (set e.ports i (with_link link old)) ≡ sum_by port_places e.ports = ap (λ (ps : List PortState). sum_by port_places ps) q ∙ places_linked i link e.ports old b in
+    let s : sum_by port_reserve (set e.ports i (with_link link old)) ≡ sum_by port_reserve e.ports = ap (λ (ps : List PortState). sum_by port_reserve ps) q ∙ places_linked i link e.ports old b in
     record {
       whole = W;
       ports = l ∙ (F.ports ∙ ap ports_in (sym k));
       queue_ports = F.queue_ports ∙ ap ports_in (sym k);
-      places = F.places ∙ ap (λ (n : ℕ). weight (holds_at e.pending (λ p. is_by_client p.cause)) + n + work_places e.work + weight (loses e.pending e.loss_mark)) (sym s);
+      reserve = F.reserve ∙ ap (λ (n : ℕ). weight (holds_at e.pending (λ p. is_by_client p.cause)) + n + work_reserve e.work + weight (loses e.pending e.loss_mark)) (sym s);
       costs = kept_costs (component_of e) (component_of (record e { settings = settings; ports = set e.ports i (with_link link old) })) e.queues.commands (sym l) F.costs;
     }
 
@@ -109,19 +109,19 @@ steady_stays c i old r m =
 
 -- ---- a port that is let go
 
-pub places_unheld : (i : ℕ) (ps : List PortState) (old : PortState) → i < length ps → old ≡ get_or ps i old → sum_by port_places (set ps i (unheld old)) ≡ sum_by port_places ps
+pub places_unheld : (i : ℕ) (ps : List PortState) (old : PortState) → i < length ps → old ≡ get_or ps i old → sum_by port_reserve (set ps i (unheld old)) ≡ sum_by port_reserve ps
 places_unheld i ps old b r =
-    let h = sum_by-set port_places ps i (unheld old) old b in
-    let e : port_places (unheld old) ≡ port_places (get_or ps i old) = ap port_places r in
+    let h = sum_by-set port_reserve ps i (unheld old) old b in
+    let e : port_reserve (unheld old) ≡ port_reserve (get_or ps i old) = ap port_reserve r in
     omega arith
 
 abbrev pub held_state : PortState → PortState
 held_state p = record p { held = true }
 
-pub places_held : (i : ℕ) (ps : List PortState) (old : PortState) → i < length ps → old ≡ get_or ps i old → sum_by port_places (set ps i (held_state old)) ≡ sum_by port_places ps
+pub places_held : (i : ℕ) (ps : List PortState) (old : PortState) → i < length ps → old ≡ get_or ps i old → sum_by port_reserve (set ps i (held_state old)) ≡ sum_by port_reserve ps
 places_held i ps old b r =
-    let h = sum_by-set port_places ps i (held_state old) old b in
-    let e : port_places (held_state old) ≡ port_places (get_or ps i old) = ap port_places r in
+    let h = sum_by-set port_reserve ps i (held_state old) old b in
+    let e : port_reserve (held_state old) ≡ port_reserve (get_or ps i old) = ap port_reserve r in
     omega arith
 
 by_port : (P : Component → Type 0) (o : Option Port) (c : Component) → ((p : Port) → P (with_port p.key.port (unheld p.state) c)) → P c → P (unheld_at o c)

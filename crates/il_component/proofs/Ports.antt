@@ -7,9 +7,9 @@ use Rattle.il_machine.specs.declared.port.Port.{Port}
 use Rattle.il_machine.specs.declared.port.PortSetting.{PortSetting}
 use Rattle.il_machine.specs.declared.port.PortState.{PortState}
 use Rattle.il_machine.specs.World.{fresh_port, ports_from}
-use Rattle.il_machine.specs.Commands.{is_selected, selected_from, at_rest}
+use Rattle.il_machine.specs.Commands.{is_selected, selected_from, calmed}
 use Rattle.il_machine.specs.Due.{unheld}
-use Rattle.il_machine.specs.Room.{port_places}
+use Rattle.il_machine.specs.Room.{port_reserve}
 use Rattle.il_component.specs.declared.port_changes.PortChange.{PortChange}
 use Rattle.il_component.specs.PortChanges.{changed_by, busy_among}
 use Rattle.il_component.proofs.Each.{each_until, until_more, until_same}
@@ -18,17 +18,17 @@ abbrev pub if_selected : PortSel → PortChange → ℕ → PortState → PortSt
 if_selected sel change index p = cond (is_selected sel index) (changed_by change p) p
 
 abbrev pub rested : ℕ → PortState → PortState
-rested index p = at_rest p
+rested index p = calmed p
 
 pub until_selected : (sel : PortSel) (change : PortChange) (n index : ℕ) (ps : List PortState) → length ps ≤ n → each_until (if_selected sel change) n index ps ≡ selected_from index sel (changed_by change) ps
 until_selected sel change n index [] b = refl
 until_selected sel change zero index (p ∷ ps) b = absurd (omega arith)
 until_selected sel change (suc n) index (p ∷ ps) b = ap (λ qs. if_selected sel change index p ∷ qs) (until_selected sel change n (index + 1) ps (omega arith))
 
-pub until_rest : (n index : ℕ) (ps : List PortState) → length ps ≤ n → each_until rested n index ps ≡ map at_rest ps
+pub until_rest : (n index : ℕ) (ps : List PortState) → length ps ≤ n → each_until rested n index ps ≡ map calmed ps
 until_rest n index [] b = refl
 until_rest zero index (p ∷ ps) b = absurd (omega arith)
-until_rest (suc n) index (p ∷ ps) b = ap (λ qs. at_rest p ∷ qs) (until_rest n (index + 1) ps (omega arith))
+until_rest (suc n) index (p ∷ ps) b = ap (λ qs. calmed p ∷ qs) (until_rest n (index + 1) ps (omega arith))
 
 -- ---- one step of the loops
 
@@ -49,7 +49,7 @@ other_step sel change n ps qs e t =
     let z : 0 + n ≡ n = omega arith in
     e ∙ sym (rw add-one (until_same (if_selected sel change) n 0 ps fresh_port (rw z (other_item sel change n (get_or (each_until (if_selected sel change) n 0 ps) n fresh_port) t))))
 
-pub rest_step : (n : ℕ) (ps qs : List PortState) (d : PortState) → qs ≡ each_until rested n 0 ps → n < length ps → set qs n (at_rest (get_or qs n d)) ≡ each_until rested (n + 1) 0 ps
+pub rest_step : (n : ℕ) (ps qs : List PortState) (d : PortState) → qs ≡ each_until rested n 0 ps → n < length ps → set qs n (calmed (get_or qs n d)) ≡ each_until rested (n + 1) 0 ps
 rest_step n ps qs d e b = rw (e, add-one) (until_more rested n 0 ps d b)
 
 -- a port that isn't busy is passed over
@@ -70,11 +70,11 @@ until_let_go (suc n) index (p ∷ ps) b = ap (λ (qs : List PortState). unheld p
 pub let_go_step : (n : ℕ) (ps qs : List PortState) (d : PortState) → qs ≡ each_until let_go n 0 ps → n < length ps → set qs n (unheld (get_or qs n d)) ≡ each_until let_go (n + 1) 0 ps
 let_go_step n ps qs d e b = rw (e, add-one) (until_more let_go n 0 ps d b)
 
-pub unheld_places : (ps : List PortState) → sum_by port_places (map unheld ps) ≡ sum_by port_places ps
+pub unheld_places : (ps : List PortState) → sum_by port_reserve (map unheld ps) ≡ sum_by port_reserve ps
 unheld_places [] = refl
 unheld_places (p ∷ ps) =
-    let e : port_places (unheld p) ≡ port_places p = refl in
-    omega (arith, sum_by-cons port_places p ps, sum_by-cons port_places (unheld p) (map unheld ps), unheld_places ps)
+    let e : port_reserve (unheld p) ≡ port_reserve p = refl in
+    omega (arith, sum_by-cons port_reserve p ps, sum_by-cons port_reserve (unheld p) (map unheld ps), unheld_places ps)
 
 -- ---- flags that are cleared
 

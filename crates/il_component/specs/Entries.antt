@@ -15,7 +15,7 @@ use Rattle.note_queues.specs.declared.taken.QueuedCommand.{QueuedCommand}
 use Rattle.note_queues.specs.declared.taken.Taken.{Taken}
 use Rattle.note_queues.specs.declared.taken.Taken.TheVariants.{Told, EmptyDone, FillDone}
 use Rattle.note_queues.specs.Queues.{Queues, commands_of, notes_of}
-use Rattle.il_component.specs.Places.{places_of}
+use Rattle.il_component.specs.Places.{reserve_of}
 
 pub record Entry (C : Type 0) : Type 0 where
   pub handle : Handle
@@ -69,7 +69,7 @@ module _ {C : Type 0} where
     pub whole : IsWhole e.settings
     pub ports : length e.ports ≡ ports_in e.settings.kind
     pub queue_ports : e.queues.ports ≡ ports_in e.settings.kind
-    pub places : e.queues.places ≡ places_of e.pending e.loss_mark e.ports e.work
+    pub reserve : e.queues.reserve ≡ reserve_of e.pending e.loss_mark e.ports e.work
     pub costs : All (HasCost (component_of e)) e.queues.commands
 
   -- the component's client object and the headers in its notes stay

@@ -9,14 +9,14 @@ use Rattle.il_machine.specs.Lists.{holds_at}
 use Rattle.il_machine.specs.World.{Component, Work}
 use Rattle.il_machine.specs.Due.{completed, lost, restarted, with_part}
 use Rattle.il_machine.specs.Headers.{weight}
-use Rattle.il_machine.specs.Room.{is_by_client, port_places, work_places}
+use Rattle.il_machine.specs.Room.{is_by_client, port_reserve, work_reserve}
 
 -- a transition to Idle is pending by loss, or with the loss mark
 abbrev pub loses : Option Pending → Bool → Bool
 loses pending loss_mark = holds_at pending (λ p. same_state p.target Idle) && (loss_mark || holds_at pending (λ p. not (is_by_client p.cause)))
 
-abbrev pub places_of : Option Pending → Bool → List PortState → Option Work → ℕ
-places_of pending loss_mark ports work = weight (holds_at pending (λ p. is_by_client p.cause)) + sum_by port_places ports + work_places work + weight (loses pending loss_mark)
+abbrev pub reserve_of : Option Pending → Bool → List PortState → Option Work → ℕ
+reserve_of pending loss_mark ports work = weight (holds_at pending (λ p. is_by_client p.cause)) + sum_by port_reserve ports + work_reserve work + weight (loses pending loss_mark)
 
 -- the state is told where the test is true
 abbrev pub completed_if : Bool → State → Component → Component

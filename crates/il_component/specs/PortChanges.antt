@@ -15,7 +15,7 @@ use Rattle.il_machine.specs.Settings.{with_setting}
 use Rattle.il_machine.specs.World.{Component, port_of, with_port, told}
 use Rattle.il_machine.specs.Parameters.{unheld_at}
 use Rattle.il_machine.specs.Due.{mode_completion, all_told}
-use Rattle.il_machine.specs.Commands.{flushing, disabling, enabling, waiting, is_selected, is_flushing, is_changing, is_waiting}
+use Rattle.il_machine.specs.Commands.{flushing, disabling, enabling, awaiting_mark, is_selected, is_flushing, is_changing, is_waiting}
 use Rattle.il_component.specs.declared.port_changes.PortChange.{PortChange}
 use Rattle.il_component.specs.declared.port_changes.PortChange.TheVariants.{Flush, Disable, Enable, Wait}
 use Rattle.il_component.specs.declared.port_changes.Busy.{Busy}
@@ -25,7 +25,7 @@ abbrev pub changed_by : PortChange → PortState → PortState
 changed_by Flush p = flushing p
 changed_by Disable p = disabling p
 changed_by Enable p = enabling p
-changed_by (Wait mark) p = waiting mark.target mark.value p
+changed_by (Wait mark) p = awaiting_mark mark.target mark.value p
 
 abbrev pub busy_test : Busy → PortState → Bool
 busy_test Flushing p = is_flushing p

@@ -5,35 +5,37 @@ ghost use Rattle.il_machine.specs.Kinds.{ports_in};
 ghost use Rattle.il_machine.specs.States.{same_state};
 ghost use Rattle.il_machine.specs.World.{told, port_of, with_port};
 ghost use Rattle.il_machine.specs.Room.{cost_of, room, used, events_in};
-ghost use Rattle.il_machine.specs.Commands.{invalidated, lacks_place, sent, with_selected};
+ghost use Rattle.il_machine.specs.Commands.{invalidated, lacks_command_room, sent, with_selected};
 ghost use Rattle.omx_types.specs.declared.state.State.TheVariants as states;
 ghost use Rattle.omx_types.specs.declared.command.Event.TheVariants as events;
 ghost use Rattle.il_machine.specs.Due.{arrived, lost, restarted, with_part, all_given_back};
 ghost use Rattle.il_component.specs.Entries.{component_of, KeepsNotices};
-ghost use Rattle.il_component.specs.Places.{places_of, completed_if, idle_reached};
+ghost use Rattle.il_component.specs.Places.{reserve_of, completed_if, idle_reached};
 ghost use Rattle.il_component.specs.PortChanges.{changed_by, flush_ended, mode_ended, mark_ended};
 ghost use Rattle.note_queues.specs.Queues.{holding, costs, notes_of};
 
 use crate::commands::is_at_once;
 use crate::component::Component;
 use crate::part_changes::{clear, is_source};
-use crate::port_changes::{PortChange, all_port_places, change_selected, let_all_go, put_at_rest};
-use crate::work_out::{WorkOut, work_places};
+use crate::port_changes::{
+    PortChange, all_port_reserves, change_selected, let_all_go, put_at_rest,
+};
+use crate::work_out::{WorkOut, work_reserve};
 use il_machine::{Cause, Mode, Pending, PortState};
 use note_queues::Notes;
 use omx_types::{Command, Completion, Event, OmxError, PortSel, State};
 
 /// What is reserved beside the costs of commands.
-fn places(
+fn reserve(
     pending: Option<Pending>,
     loss_mark: bool,
     ports: &[PortState],
     work: &Option<WorkOut>,
 ) -> u32
     requires { length ports.now ≤ 16 }
-    ensures { result ≡ places_of pending loss_mark ports.now work.now }
+    ensures { result ≡ reserve_of pending loss_mark ports.now work.now }
 {
-    let others = all_port_places(ports) + work_places(work);
+    let others = all_port_reserves(ports) + work_reserve(work);
     let Some(pending) = pending else {
         return others;
     };
@@ -52,10 +54,10 @@ pub(crate) fn hold<C>(
     work: &Option<WorkOut>,
 )
     requires few { length ports.now ≤ 16 }
-    requires fits { events_in (notes_of notes.old) + costs notes.old + places_of pending loss_mark ports.now work.now ≤ 256 }
-    ensures { notes.new ≡ holding (places_of pending loss_mark ports.now work.now) notes.old }
+    requires fits { events_in (notes_of notes.old) + costs notes.old + reserve_of pending loss_mark ports.now work.now ≤ 256 }
+    ensures { notes.new ≡ holding (reserve_of pending loss_mark ports.now work.now) notes.old }
 {
-    notes.hold_places(places(pending, loss_mark, ports, work));
+    notes.hold_reserve(reserve(pending, loss_mark, ports, work));
 }
 
 impl<C> Component<C> {
@@ -136,18 +138,18 @@ impl<C> Component<C> {
     }
 
     /// Whether there is no place for the command's event, or none for the command.
-    pub fn lacks_place(&self, command: Command) -> bool
-        ensures { result ≡ lacks_place (component_of self.now) command }
+    pub fn lacks_command_room(&self, command: Command) -> bool
+        ensures { result ≡ lacks_command_room (component_of self.now) command }
     {
         if is_at_once(command) {
-            return self.notes.events() >= 256 - work_places(&self.work);
+            return self.notes.events() >= 256 - work_reserve(&self.work);
         }
         self.notes.queued() >= 32 || self.notes.room() < self.cost(command)
     }
 
     /// Takes a command into the queue, or carries StateSet(Invalid) out.
     pub fn send(&mut self, command: Command)
-        requires { lacks_place (component_of self.old) command ≡ false }
+        requires { lacks_command_room (component_of self.old) command ≡ false }
         ensures component { component_of self.new ≡ sent command (component_of self.old) }
         ensures kept { KeepsNotices self.old self.new }
     {

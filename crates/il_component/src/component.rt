@@ -8,9 +8,9 @@ ghost use Rattle.il_machine.specs.Ports.{IsCalm, is_joined};
 ghost use Rattle.il_machine.specs.States.{is_invalid, is_loaded};
 ghost use Rattle.il_machine.specs.Parameters.{is_settable, is_format_free, get_parameter_refusal, set_config_refusal, with_value};
 ghost use Rattle.il_component.specs.Entries.{component_of, KeepsNotices};
-ghost use Rattle.il_component.specs.Places.{places_of};
+ghost use Rattle.il_component.specs.Places.{reserve_of};
 
-use crate::work_out::{WorkOut, work_places};
+use crate::work_out::{WorkOut, work_reserve};
 use il_machine::{Cause, Mode, Pending, Port, PortKey, PortSetting, PortState};
 use note_queues::Notes;
 use omx_types::{Event, Handle, Kind, OmxError, Param, ParamKey, State};
@@ -277,7 +277,7 @@ impl<C> Component<C> {
     pub fn is_calm(&self) -> bool
         ensures { IsTrue result ↔ IsCalm (component_of self.now) }
     {
-        self.pending.is_none() && self.notes.held_places() == work_places(&self.work)
+        self.pending.is_none() && self.notes.held_reserve() == work_reserve(&self.work)
     }
 
     /// The places for events that are neither taken nor reserved.

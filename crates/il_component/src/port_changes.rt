@@ -1,8 +1,8 @@
 //! What commands make of a component's ports, and the places for events that ports reserve.
 
 ghost use Rattle.std.specs.Prelude.{◌≡◌, ◌≤◌, ◌*◌, length, map, sum_by};
-ghost use Rattle.il_machine.specs.Room.{port_places};
-ghost use Rattle.il_machine.specs.Commands.{is_selected, selected_from, at_rest};
+ghost use Rattle.il_machine.specs.Room.{port_reserve};
+ghost use Rattle.il_machine.specs.Commands.{is_selected, selected_from, calmed};
 ghost use Rattle.il_machine.specs.Due.{unheld};
 ghost use Rattle.il_component.specs.PortChanges.{changed_by, busy_test, busy_among};
 
@@ -63,7 +63,7 @@ pub fn change_selected(ports: &mut [PortState], sel: PortSel, change: PortChange
 
 /// Drops all that is pending at the ports.
 pub fn put_at_rest(ports: &mut [PortState])
-    ensures { ports.new ≡ map at_rest ports.old }
+    ensures { ports.new ≡ map calmed ports.old }
 {
     for port in ports.iter_mut() {
         port.mode = Mode::Steady;
@@ -82,8 +82,8 @@ pub fn let_all_go(ports: &mut [PortState])
 }
 
 /// The places of one port: for its flush, its mode and its mark.
-fn port_places(port: &PortState) -> u32
-    ensures count { result ≡ port_places port.now }
+fn port_reserve(port: &PortState) -> u32
+    ensures count { result ≡ port_reserve port.now }
     ensures few { result ≤ 3 }
 {
     let flush = u32::from(port.flushing);
@@ -93,14 +93,14 @@ fn port_places(port: &PortState) -> u32
 }
 
 /// The places of all ports.
-pub fn all_port_places(ports: &[PortState]) -> u32
+pub fn all_port_reserves(ports: &[PortState]) -> u32
     requires { length ports.now ≤ 16 }
-    ensures count { result ≡ sum_by port_places ports.now }
+    ensures count { result ≡ sum_by port_reserve ports.now }
     ensures few { result ≤ 3 * length ports.now }
 {
     let mut places = 0;
     for port in ports {
-        places += port_places(port);
+        places += port_reserve(port);
     }
     places
 }

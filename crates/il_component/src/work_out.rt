@@ -1,5 +1,5 @@
 ghost use Rattle.std.specs.Prelude.{◌≡◌, ◌+◌, ◌≤◌, length, take};
-ghost use Rattle.il_machine.specs.Room.{work_places};
+ghost use Rattle.il_machine.specs.Room.{work_reserve};
 ghost use Rattle.il_machine.specs.Settings.{weights_in};
 ghost use Rattle.il_component.specs.Works.{picked_from};
 
@@ -83,8 +83,8 @@ impl WorkOut {
 }
 
 /// The places for events that a work reserves.
-pub(crate) fn work_places(work: &Option<WorkOut>) -> u32
-    ensures count { result ≡ work_places work.now }
+pub(crate) fn work_reserve(work: &Option<WorkOut>) -> u32
+    ensures count { result ≡ work_reserve work.now }
     ensures few { result ≤ 11 }
 {
     match work {

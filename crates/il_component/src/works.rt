@@ -3,7 +3,7 @@
 ghost use Rattle.std.specs.Prelude.{◌≡◌, ◌≤◌, ◌<◌, ◌||◌, true, None, Some, IsSome, MatchOption, length, slice_set};
 ghost use Rattle.il_machine.specs.World.{port_of, with_port};
 ghost use Rattle.il_machine.specs.Due.{with_part};
-ghost use Rattle.il_machine.specs.Room.{room, used, work_places};
+ghost use Rattle.il_machine.specs.Room.{room, used, work_reserve};
 ghost use Rattle.il_machine.specs.Claims.{has_ended, is_unannounced, must_announce};
 ghost use Rattle.il_machine.specs.Finishing.{announced};
 ghost use Rattle.il_machine.specs.Kinds.{ports_in};
@@ -61,7 +61,7 @@ impl<C> Component<C> {
     /// The work comes back. Its places for events are let go.
     pub fn take_work(&mut self)
         ensures component { component_of self.new ≡ record (component_of self.old) { work = None } }
-        ensures room { work_places self.old.work ≤ room (component_of self.new) }
+        ensures room { work_reserve self.old.work ≤ room (component_of self.new) }
         ensures kept { KeepsNotices self.old self.new }
     {
         // The proof learns from it that all has its places.

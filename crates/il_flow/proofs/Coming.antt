@@ -6,7 +6,7 @@ use Rattle.std.proofs.lemmas.Bool.Decides.{nat_tests}
 use Rattle.omx_types.specs.Formats.{frame_bytes_of}
 use Rattle.part_api.specs.Streams.{Incoming, Shape, silence, sizes_of}
 use Rattle.part_api.specs.Terms.{Terms}
-use Rattle.il_machine.specs.Claims.{Carried}
+use Rattle.il_machine.specs.Claims.{CarriedHeader}
 use Rattle.il_machine.specs.Stepping.{bytes_at, format_at, front_of, input_piece, is_for_port, is_in, is_last, zeros_at}
 use Rattle.header_core.specs.BufferHeader.{BufferHeader}
 use Rattle.il_flow.specs.declared.layout.Layout.{Layout}
@@ -54,7 +54,7 @@ not_there port input (None ∷ places) l = not_there (port + 1) input places (om
 not_there port input (Some h ∷ places) l = rw (other_after input port l) (not_there (port + 1) input places (omega (arith, l)))
 
 -- what an input has by its header, where that has come so far
-abbrev pub by_front : Terms → ℕ → List ℕ → ℕ → Option Carried → List ℕ
+abbrev pub by_front : Terms → ℕ → List ℕ → ℕ → Option CarriedHeader → List ℕ
 by_front t n zeros input None = zeros
 by_front t n zeros input (Some x) = if is_last t 0 x then zeros else take (bytes_at t input n) x.header.content
 
@@ -95,7 +95,7 @@ at_input t n port [] incoming input l b = refl
 at_input t n port (place ∷ places) incoming input l b =
     at_first t n port place places incoming input (nat_eq port input) refl l b (λ further. at_input t n (port + 1) places (taken_by t n port place incoming) input further b)
 
-by_zeros : (t : Terms) (n input : ℕ) (o : Option Carried) → by_front t n (zeros_at t input n) input o ≡ front_of t input n o
+by_zeros : (t : Terms) (n input : ℕ) (o : Option CarriedHeader) → by_front t n (zeros_at t input n) input o ≡ front_of t input n o
 by_zeros t n input None = refl
 by_zeros t n input (Some x) = refl
 

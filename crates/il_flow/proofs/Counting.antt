@@ -11,7 +11,7 @@ use Rattle.part_api.specs.Terms.{Terms}
 use Rattle.part_forms.specs.Kinds.{inputs_of, is_source, outputs_of}
 use Rattle.audio_parts.specs.Shapes.{IsLawful}
 use Rattle.il_machine.specs.Lists.{least}
-use Rattle.il_machine.specs.Claims.{Carried}
+use Rattle.il_machine.specs.Claims.{CarriedHeader}
 use Rattle.il_machine.specs.Stepping.{all_frames_at, frames_at, has_input, is_in, is_last}
 use Rattle.header_core.specs.BufferHeader.{BufferHeader, IsSized}
 use Rattle.il_flow.specs.declared.layout.Layout.{Layout}
@@ -39,7 +39,7 @@ all_least (n ∷ ns) = least_below n ns
 
 -- ---- what each header offers
 
-of_first : (t : Terms) (n : ℕ) (x : Carried) (xs : List Carried) (last : Bool) → is_last t 0 x ≡ last → AllByRecursion (λ k. n ≤ k) (all_frames_at t (x ∷ xs))
+of_first : (t : Terms) (n : ℕ) (x : CarriedHeader) (xs : List CarriedHeader) (last : Bool) → is_last t 0 x ≡ last → AllByRecursion (λ k. n ≤ k) (all_frames_at t (x ∷ xs))
     → AllByRecursion (λ k. n ≤ k) (all_frames_at t xs) × (is_last t 0 x ≡ false → n ≤ frames_at t x)
 of_first t n x xs true e h = (rw e at h, λ f. absurd (cc))
 of_first t n x xs false e h = let k = rw e at h in (k.1, λ f. k.0)
@@ -65,7 +65,7 @@ pub offers : (left : Option ℕ) (t : Terms) (places : List (Option BufferHeader
 offers None t places = by_inputs t places (has_input t (carried_from 0 places)) refl
 offers (Some left) t places = offered t (least (left ∷ all_frames_at t (carried_from 0 places))) 0 places (least_below left (all_frames_at t (carried_from 0 places))).1
 
-pub are_there : (left : Option ℕ) (t : Terms) (xs : List Carried) → IfSome left (λ there. frames_by left t xs ≤ there)
+pub are_there : (left : Option ℕ) (t : Terms) (xs : List CarriedHeader) → IfSome left (λ there. frames_by left t xs ≤ there)
 are_there None t xs = tt
 are_there (Some left) t xs = (least_below left (all_frames_at t xs)).0
 
@@ -99,7 +99,7 @@ lt_of : (a b : ℕ) → nat_lt a b ≡ true → a < b
 lt_of a b e = grind (arith, nat_tests)
 
 -- an input's header with frames has few bytes
-input_or : (t : Terms) (l : Layout) (n port channels : ℕ) (h : BufferHeader) (xs : List Carried) (gives : Bool) → (is_in t (carried port h) && not (is_last t 0 (carried port h))) ≡ gives
+input_or : (t : Terms) (l : Layout) (n port channels : ℕ) (h : BufferHeader) (xs : List CarriedHeader) (gives : Bool) → (is_in t (carried port h) && not (is_last t 0 (carried port h))) ≡ gives
     → HasLayout l t → 1 ≤ l.input_frame → (1 ≤ l.inputs → channels ≤ l.input_frame) → (is_last t 0 (carried port h) ≡ false → n ≤ frames_at t (carried port h)) → IsSized h
     → (has_input t xs ≡ true → AreFew n channels) → has_input t (carried port h ∷ xs) ≡ true → AreFew n channels
 input_or t l n port channels h xs false e lay some few offer sized rest all = rest (rw e at all)

@@ -19,11 +19,11 @@ use Rattle.part_forms.specs.Sinking.{writes_of}
 use Rattle.audio_parts.specs.FileTerms.{IsOfKind, IsOfTerms}
 use Rattle.audio_parts.specs.Ready.{FitsFile, IsReady}
 use Rattle.audio_parts.specs.Shapes.{IsLawful}
-use Rattle.il_machine.specs.Claims.{Carried}
+use Rattle.il_machine.specs.Claims.{CarriedHeader}
 use Rattle.il_machine.specs.Parts.{bytes_given, file_format, frames_left, frames_of}
 use Rattle.il_machine.specs.World.{Stream}
 use Rattle.il_machine.specs.Whole.{HasDone, PartSeen}
-use Rattle.il_machine.specs.Stepping.{Done, Gives, IsBrokenStep, IsWholeStep, format_at, incoming, input_piece, inputs_ended, is_fault_of, is_over, step_frames, stepped, text_of}
+use Rattle.il_machine.specs.Stepping.{WorkDone, Gives, IsBrokenStep, IsWholeStep, format_at, incoming, input_piece, inputs_ended, is_fault_of, is_over, step_frames, stepped, text_of}
 use Rattle.header_core.specs.BufferHeader.{BufferHeader}
 use Rattle.il_flow.specs.declared.layout.Layout.{Layout}
 use Rattle.il_flow.specs.Layouts.{IsLaidOut}
@@ -86,15 +86,15 @@ source_bytes t sh l s n lawful fits laid source few =
 
 -- ---- a whole step
 
-abbrev pub IsWholeBy : ℕ → Bool → Terms → Stream → List Carried → Done → Type 0
+abbrev pub IsWholeBy : ℕ → Bool → Terms → Stream → List CarriedHeader → WorkDone → Type 0
 IsWholeBy n over t s hs done =
     (piece : List ℕ) × Gives t s n piece × (done.frames ≡ n) × (done.headers ≡ map (stepped t n (incoming t n hs piece) over) hs) × (done.took ≡ text_of t s n hs)
 
-few_left : (t : Terms) (s : Stream) (left : Option ℕ) (n : ℕ) (hs : List Carried) → IsLeft left t s → is_source t.kind ≡ true → n ≡ frames_by left t hs → n ≤ frames_left t s
+few_left : (t : Terms) (s : Stream) (left : Option ℕ) (n : ℕ) (hs : List CarriedHeader) → IsLeft left t s → is_source t.kind ≡ true → n ≡ frames_by left t hs → n ≤ frames_left t s
 few_left t s None n hs h source e = absurd (cc)
 few_left t s (Some k) n hs h source e = let a = are_there (Some k) t hs in let b = h.1 in omega (arith, a, b, e)
 
-abbrev done_with : ℕ → ℕ → List Carried → List ℕ → Done
+abbrev done_with : ℕ → ℕ → List CarriedHeader → List ℕ → WorkDone
 done_with k n headers took = record { component = k; frames = n; fault = None; headers = headers; took = took }
 
 headers_are : (t : Terms) (sh : Shape) (l : Layout) (s : Stream) (p p' : PartSeen) (left : Option ℕ) (n : ℕ) (over : Bool) (text piece : List ℕ) (carries : Incoming → Type 0)
@@ -173,7 +173,7 @@ fault_of kind Read h = h
 fault_of kind Write h = rw h refl
 fault_of kind (Short at size) h = h
 
-abbrev failed_with : ℕ → PartFault → List Carried → List ℕ → Done
+abbrev failed_with : ℕ → PartFault → List CarriedHeader → List ℕ → WorkDone
 failed_with k fault headers took = record { component = k; frames = 0; fault = Some fault; headers = headers; took = took }
 
 -- the file took so many bytes of its text

@@ -6,7 +6,7 @@ use Rattle.part_api.specs.Streams.{Incoming, Shape, silence, sizes_of, with_file
 use Rattle.part_api.specs.Steps.{ComesFirst, TookFront}
 use Rattle.part_api.specs.Terms.{Terms, Writing, begun, written}
 use Rattle.il_machine.specs.Lists.{least}
-use Rattle.il_machine.specs.Claims.{Carried}
+use Rattle.il_machine.specs.Claims.{CarriedHeader}
 use Rattle.il_machine.specs.Whole.{PartSeen}
 use Rattle.il_machine.specs.Kinds.{is_source}
 use Rattle.il_machine.specs.Parts.{frames_left}
@@ -21,11 +21,11 @@ IsLeft None t s = is_source t.kind ≡ false
 IsLeft (Some left) t s = (is_source t.kind ≡ true) × (left ≡ frames_left t s)
 
 -- the frames of a step, by those that the file of a source still gives
-abbrev pub frames_by : Option ℕ → Terms → List Carried → ℕ
+abbrev pub frames_by : Option ℕ → Terms → List CarriedHeader → ℕ
 frames_by None t headers = if has_input t headers then least (all_frames_at t headers) else 0
 frames_by (Some left) t headers = least (left ∷ all_frames_at t headers)
 
-abbrev pub over_by : Option ℕ → Terms → ℕ → List Carried → Bool
+abbrev pub over_by : Option ℕ → Terms → ℕ → List CarriedHeader → Bool
 over_by None t frames headers = list_all (λ x. not (is_in t x) || is_last t frames x) headers
 over_by (Some left) t frames headers = nat_eq (left - frames) 0
 

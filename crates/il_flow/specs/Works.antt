@@ -4,9 +4,9 @@ use Rattle.omx_types.specs.declared.handle.Handle.{Handle}
 use Rattle.omx_types.specs.declared.fault.PartFault.{PartFault}
 use Rattle.part_api.specs.Terms.{Terms}
 use Rattle.il_machine.specs.World.{Stream}
-use Rattle.il_machine.specs.Claims.{Carried, WorkSeen}
+use Rattle.il_machine.specs.Claims.{CarriedHeader, WorkSeen}
 use Rattle.il_machine.specs.Finishing.{gone_through}
-use Rattle.il_machine.specs.Stepping.{Done, IsStep}
+use Rattle.il_machine.specs.Stepping.{WorkDone, IsStep}
 use Rattle.il_machine.specs.Whole.{HasDone, PartSeen}
 use Rattle.header_core.specs.BufferHeader.{BufferHeader}
 use Rattle.il_flow.specs.Places.{carried_from}
@@ -33,12 +33,12 @@ module _ {P : Type 0} where
   seen_work t w = record { component = w.component.generation; terms = t; headers = carried_from 0 w.headers; announces = w.announces }
 
   -- a work that comes back, by the bytes that the part's file took
-  abbrev pub seen_done : List ℕ → DoneOf P → Done
+  abbrev pub seen_done : List ℕ → DoneOf P → WorkDone
   seen_done took d = record { component = d.component.generation; frames = d.frames; fault = d.fault; headers = carried_from 0 d.headers; took = took }
 
 -- From the headers before, the step of a part of these terms comes back as these headers, these frames and this fault, and then so much has
 -- gone through the part. Nothing is said of the bytes that its file took but what the machine says.
-abbrev pub ComesBack : Terms → List Carried → PartSeen → ℕ → ℕ → Option PartFault → List Carried → PartSeen → Type 0
+abbrev pub ComesBack : Terms → List CarriedHeader → PartSeen → ℕ → ℕ → Option PartFault → List CarriedHeader → PartSeen → Type 0
 ComesBack t before old component frames fault after new =
     (s : Stream) → HasDone t false s old → (took : List ℕ)
     × IsStep t s before (record { component = component; frames = frames; fault = fault; headers = after; took = took })

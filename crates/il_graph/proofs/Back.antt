@@ -20,7 +20,7 @@ use Rattle.il_machine.specs.Parts.{file_format, frames_left, terms_of}
 use Rattle.il_machine.specs.Run.{Meets, Step}
 use Rattle.il_machine.specs.Settings.{same_format}
 use Rattle.il_machine.specs.Sound.{Sound}
-use Rattle.il_machine.specs.Stepping.{Done, IsDoneBy, IsDoneOf}
+use Rattle.il_machine.specs.Stepping.{WorkDone, IsDoneBy, IsDoneOf}
 use Rattle.il_machine.specs.Whole.{HasDone, HasParts, IsBack, PartSeen, Stands, StepsWhere}
 use Rattle.il_machine.specs.World.{Component, Stream, Work, World, component_numbered, is_at, number_of, place_numbered, place_of, port_of, same_handle, stream_of, with_component}
 use Rattle.il_machine.specs.Places.{first_place}
@@ -66,7 +66,7 @@ use Rattle.il_graph.proofs.Whole.{bare, count_alike, parts_alike, places_alike, 
 
 -- ---- what is known of a world in which the work comes back
 
-pub record IsReturn (w : World) (c : Component) (done : Done) (p : PartSeen) : Type 0 where
+pub record IsReturn (w : World) (c : Component) (done : WorkDone) (p : PartSeen) : Type 0 where
   pub work : Work
   pub is : c.work ≡ Some work
   pub comes : IsDoneOf w c work done
@@ -74,7 +74,7 @@ pub record IsReturn (w : World) (c : Component) (done : Done) (p : PartSeen) : T
   pub flows : stream_of (number_of c) w ≡ Some stream
   pub gone : HasDone (terms_of c) (is_some done.fault) (gone_through done stream) p
 
-pub return_of : (w : World) (i : ℕ) (c : Component) (done : Done) (p : PartSeen) → Sound w → slice_get w.components i ≡ Some c → done.component ≡ number_of c → Returns w done p → IsReturn w c done p
+pub return_of : (w : World) (i : ℕ) (c : Component) (done : WorkDone) (p : PartSeen) → Sound w → slice_get w.components i ≡ Some c → done.component ≡ number_of c → Returns w done p → IsReturn w c done p
 return_of w i c done p S t n R =
     let named : component_numbered done.component w ≡ Some c = ap (λ (k : ℕ). component_numbered k w) n ∙ (ap (option_and_then (slice_get w.components)) (placed_there w.numbered i w.components c S.rising t) ∙ t) in
     let m : MatchOption c.work ⊥ (λ work. IsDoneOf w c work done) = rw named at R.0 in
@@ -84,12 +84,12 @@ return_of w i c done p S t n R =
     record { work = x.0; is = x.1; comes = x.2; stream = y.0; flows = ap (λ (k : ℕ). stream_of k w) (sym n) ∙ y.1; gone = y.2 }
 
 -- the work's end, by the component of the place
-pub finish_by : (w v : World) (i : ℕ) (c : Component) (done : Done) → Sound w → slice_get w.components i ≡ Some c → done.component ≡ number_of c → ClosesTo (finished i c done w) v → Finish w done v
+pub finish_by : (w v : World) (i : ℕ) (c : Component) (done : WorkDone) → Sound w → slice_get w.components i ≡ Some c → done.component ≡ number_of c → ClosesTo (finished i c done w) v → Finish w done v
 finish_by w v i c done S t n h =
     let p : place_numbered done.component w.components ≡ Some i = ap (λ (k : ℕ). place_numbered k w.components) n ∙ placed_there w.numbered i w.components c S.rising t in
     rw (p, t) h
 
-numbered_is : (w : World) (i : ℕ) (c : Component) (done : Done) → Sound w → slice_get w.components i ≡ Some c → done.component ≡ number_of c → at_numbered done.component w (λ i c. finished i c done w) ≡ finished i c done w
+numbered_is : (w : World) (i : ℕ) (c : Component) (done : WorkDone) → Sound w → slice_get w.components i ≡ Some c → done.component ≡ number_of c → at_numbered done.component w (λ i c. finished i c done w) ≡ finished i c done w
 numbered_is w i c done S t n =
     let p : place_numbered done.component w.components ≡ Some i = ap (λ (k : ℕ). place_numbered k w.components) n ∙ placed_there w.numbered i w.components c S.rising t in
     rw (p, t) refl
@@ -103,7 +103,7 @@ some_of (Some x) work announces e h = let q : x ≡ work = cc in ap (λ (y : Wor
 pub comes_back : (w : World) (c : Component) (places : List (Option BufferHeader)) (step : Stepped) (took : List ℕ) (p : PartSeen) → IsSomeAnd c.work (λ work. work.announces ≡ false) → step.left ≡ unwrap_or p.left 0
     → IsReturn w c (done_by (number_of c) places step took) p → ComesBack w c places step took
 comes_back w c places step took p a l R =
-    let d : Done = done_by (number_of c) places step took in
+    let d : WorkDone = done_by (number_of c) places step took in
     let left : (s : Stream) → stream_of (number_of c) w ≡ Some s → IsLeft c s d step = λ s e source.
     let z : Some R.stream ≡ Some s = sym R.flows ∙ e in
     let q : R.stream ≡ s = cc in
@@ -121,7 +121,7 @@ module _ {C : Type 0} (progress : C → Progress) (g m k : Entries C) (i : ℕ) 
       → ((took : List ℕ) → MatchOption (component_at i g) ⊥ (λ c. StepsBareWhere (core.kept progress g) (core.kept progress m) (λ w. ComesBack w c places step took) (λ w v. v ≡ finished i c (done_by (number_of c) places step took) w)))
       → (took : List ℕ) → StepsBareWhere (core.kept progress g) (core.kept progress k) (λ w. Returns w (done_by (number_of c) places step took) p) (λ w v. Finish w (done_by (number_of c) places step took) v)
   step_returns places step p a l s took = λ w B R.
-      let d : Done = done_by (number_of c) places step took in
+      let d : WorkDone = done_by (number_of c) places step took in
       let t = at_some (λ c. StepsBareWhere (core.kept progress g) (core.kept progress m) (λ w. ComesBack w c places step took) (λ w v. v ≡ finished i c (done_by (number_of c) places step took) w)) (component_at i g) c at (s took) in
       let K = return_of w i c d p (sound w B) (in_world w B) refl R in
       let x = t w B (comes_back w c places step took p a l K) in
@@ -129,7 +129,7 @@ module _ {C : Type 0} (progress : C → Progress) (g m k : Entries C) (i : ℕ) 
       (y.0, y.1, finish_by w y.0 i c d (sound w B) (in_world w B) refl (subst (λ (u : World). ClosesTo u y.0) x.2 y.2))
 
   -- from an announcement
-  pub told_returns : (done : Done) (p : PartSeen) → done.component ≡ number_of c → ((done : Done) → MatchOption (component_at i g) ⊥ (λ c. StepsBare (core.kept progress g) (core.kept progress m) (λ w v. v ≡ finished i c done w)))
+  pub told_returns : (done : WorkDone) (p : PartSeen) → done.component ≡ number_of c → ((done : WorkDone) → MatchOption (component_at i g) ⊥ (λ c. StepsBare (core.kept progress g) (core.kept progress m) (λ w v. v ≡ finished i c done w)))
       → StepsBareWhere (core.kept progress g) (core.kept progress k) (λ w. Returns w done p) (λ w v. Finish w done v)
   told_returns done p n s = λ w B R.
       let t = at_some (λ c. StepsBare (core.kept progress g) (core.kept progress m) (λ w v. v ≡ finished i c done w)) (component_at i g) c at (s done) in
@@ -160,13 +160,13 @@ or_true : (b : Bool) → (b || true) ≡ true
 or_true true = refl
 or_true false = refl
 
-failed_then : (c : Component) (s : Stream) (done : Done) (o : Option PartFault) → (c.part.failed || is_some o) ≡ (part_by c s done o).failed
+failed_then : (c : Component) (s : Stream) (done : WorkDone) (o : Option PartFault) → (c.part.failed || is_some o) ≡ (part_by c s done o).failed
 failed_then c s done None = or_false c.part.failed
 failed_then c s done (Some fault) = or_true c.part.failed
 
 module _ {A B : Type 0} where
   -- what the end makes of the component and of the world's parts
-  pub record IsEnded (w : World) (i : ℕ) (c : Component) (done : Done) (parts : List (Option PartSeen)) (q : ShownPart A B) : Type 0 where
+  pub record IsEnded (w : World) (i : ℕ) (c : Component) (done : WorkDone) (parts : List (Option PartSeen)) (q : ShownPart A B) : Type 0 where
     pub to : Component
     pub components : (finished i c done w).components ≡ set w.components i to
     pub number : number_of to ≡ number_of c
@@ -176,7 +176,7 @@ module _ {A B : Type 0} where
   tied_from : (c d : Component) (fault : Option PartFault) (q : ShownPart A B) → d.settings.kind ≡ c.settings.kind → d.file ≡ c.file → (c.part.failed || is_some fault) ≡ d.part.failed → IsPartOf (failed_by fault c) q → IsPartOf d q
   tied_from c d fault q k f p P = record { kind = P.kind ∙ sym k; lawful = P.lawful; file = P.file ∙ sym f; attached = P.attached ∙ sym f; failed = P.failed ∙ p }
 
-  module _ (w : World) (S : Sound w) (i : ℕ) (c : Component) (at : slice_get w.components i ≡ Some c) (done : Done) (parts : List (Option PartSeen)) (p : Option PartSeen) (there : slice_get parts i ≡ Some p) (q : ShownPart A B)
+  module _ (w : World) (S : Sound w) (i : ℕ) (c : Component) (at : slice_get w.components i ≡ Some c) (done : WorkDone) (parts : List (Option PartSeen)) (p : Option PartSeen) (there : slice_get parts i ≡ Some p) (q : ShownPart A B)
       (R : IsReturn w c done (seen_of q)) (P : HasParts parts w) (own : IsPartOf (failed_by done.fault c) q) where
     only : (j : ℕ) (d : Component) → slice_get w.components j ≡ Some d → j ≢ i → number_of d ≢ number_of c
     only j d t a = apart_numbers w.numbered j i w.components d c S.rising t at a
@@ -217,7 +217,7 @@ module _ {A B : Type 0} where
 
 -- ---- the graph with the part
 
-module _ {S K C : Type 0} (progress : C → Progress) (g : Shown S K C) (k : Entries C) (i : ℕ) (c : Component) (done : List ℕ → Done) (q : ShownPart S K) (I : IsWhole progress g) (at : slice_get (components_of g.core.entries) i ≡ Some c)
+module _ {S K C : Type 0} (progress : C → Progress) (g : Shown S K C) (k : Entries C) (i : ℕ) (c : Component) (done : List ℕ → WorkDone) (q : ShownPart S K) (I : IsWhole progress g) (at : slice_get (components_of g.core.entries) i ≡ Some c)
     (own : (took : List ℕ) → (done took).component ≡ number_of c) (p : Option (ShownPart S K)) (here : slice_get g.parts i ≡ Some p) (tied : (took : List ℕ) → IsPartOf (failed_by (done took).fault c) q)
     (T : (took : List ℕ) → StepsBareWhere (core.kept progress g.core) (core.kept progress k) (λ w. Returns w (done took) (seen_of q)) (λ w v. Finish w (done took) v)) where
   abbrev pub back : Shown S K C

@@ -13,7 +13,7 @@ use Rattle.il_machine.specs.Look.{Look, look}
 use Rattle.il_machine.specs.Answers.{plain, Resolving, component_named}
 use Rattle.il_machine.specs.Due.{first_due, ClosesTo}
 use Rattle.il_machine.specs.Parts.{factors_by, terms_of}
-use Rattle.il_machine.specs.Claims.{Carried, Claim, Claimed, ClaimedWork, Claims, WorkSeen, carried, claim_idle, must_announce, seen_work, with_work, work_of}
+use Rattle.il_machine.specs.Claims.{CarriedHeader, Claim, Claimed, ClaimedWork, Claims, WorkSeen, carried, claim_idle, must_announce, seen_work, with_work, work_of}
 use Rattle.il_machine.specs.Acts as acts
 use Rattle.il_machine.specs.Run.{Step}
 use Rattle.il_machine.specs.Whole.{PartSeen, HasDone, HasParts, IsWriting, Stands, Steps}
@@ -55,7 +55,7 @@ use Rattle.il_graph.proofs.Prepared.{OnlyFactors, OnlyFormats, only_factors, onl
 same_carried : (port : ℕ) (places : List (Option BufferHeader)) → core_carried port places ≡ carried_from port places
 same_carried port [] = refl
 same_carried port (None ∷ places) = same_carried (port + 1) places
-same_carried port (Some h ∷ places) = ap (λ (xs : List Carried). record { port = port; header = h.held } ∷ xs) (same_carried (port + 1) places)
+same_carried port (Some h ∷ places) = ap (λ (xs : List CarriedHeader). record { port = port; header = h.held } ∷ xs) (same_carried (port + 1) places)
 
 -- the work as its holder sees it
 abbrev pub lent_work : Component → List (Option BufferHeader) → WorkSeen
@@ -86,7 +86,7 @@ module _ {C : Type 0} (progress : C → Progress) (g : Entries C) (h : Handle) (
       (λ w S.
       let y = z w S in
       let e : carried_from 0 places ≡ carried w.headers (work_of (seen w.headers) c).headers = sym (b w S ∙ same_carried 0 places) in
-      let say : List Carried → Result Claimed OmxError = λ xs. Ok (ClaimedWork (record { component = number_of c; terms = terms_of c; headers = xs; announces = must_announce c })) in
+      let say : List CarriedHeader → Result Claimed OmxError = λ xs. Ok (ClaimedWork (record { component = number_of c; terms = terms_of c; headers = xs; announces = must_announce c })) in
       (y.0, y.1, rw (ap (λ (l : Look). claim_idle l c) S.looks ∙ sym a) (ap say e, y.2)))
 
 -- an answer without a work

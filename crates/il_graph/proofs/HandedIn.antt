@@ -30,7 +30,7 @@ use Rattle.note_queues.specs.declared.taken.Call.{Call}
 use Rattle.note_queues.specs.declared.taken.Took.{Took}
 use Rattle.note_queues.specs.declared.taken.Took.TheVariants as tooks
 use Rattle.note_queues.specs.Queues.{took_of}
-use Rattle.port_stock.specs.Kept.{Kept as StockKept, stocked}
+use Rattle.port_stock.specs.Kept.{StockKept, stocked}
 use Rattle.port_stock.specs.Conditions.{IsHeaderOf}
 use Rattle.graph_core.specs.Entries.{Entries, look_of, kept, component_at}
 use Rattle.graph_core.specs.Standing.{SoundWorld}

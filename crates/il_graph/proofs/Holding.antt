@@ -21,7 +21,7 @@ use Rattle.il_machine.specs.Kinds.{is_source}
 use Rattle.il_machine.specs.Lists.{any_of}
 use Rattle.il_machine.specs.Look.{Look}
 use Rattle.il_machine.specs.Parameters.{is_settable, is_too_large}
-use Rattle.il_machine.specs.Ports.{is_at_rest, is_joined, unmade}
+use Rattle.il_machine.specs.Ports.{is_at_rest, is_joined, has_no_header}
 use Rattle.il_machine.specs.States.{is_loaded, is_invalid, is_running}
 use Rattle.il_machine.specs.World.{Component, Work, World, ports_of}
 use Rattle.il_machine.specs.Sound.{IsConnected, IsSound, IsSoundWork, Sound, may_work}
@@ -46,11 +46,11 @@ none_of (Some x) h = absurd cc
 pub free_of_work : (headers : Seen) (c : Component) → free_refusal headers c ≡ None → c.work ≡ None
 free_of_work headers c h =
     let rest : List Bool = is_some c.work ∷ c.client_out ∷ [] in
-    let all : List Bool = not (is_loaded c.state || is_invalid c.state) ∷ is_some c.pending ∷ not (each_port c (unmade headers)) ∷ list_any is_joined (ports_of c) ∷ rest in
+    let all : List Bool = not (is_loaded c.state || is_invalid c.state) ∷ is_some c.pending ∷ not (each_port c (has_no_header headers)) ∷ list_any is_joined (ports_of c) ∷ rest in
     let a : any_of all ≡ false = (passed (any_of all) errors.IncorrectStateOperation None h).0 in
-    let b = either_of (not (is_loaded c.state || is_invalid c.state)) (any_of (is_some c.pending ∷ not (each_port c (unmade headers)) ∷ list_any is_joined (ports_of c) ∷ rest)) a in
-    let d = either_of (is_some c.pending) (any_of (not (each_port c (unmade headers)) ∷ list_any is_joined (ports_of c) ∷ rest)) b.1 in
-    let e = either_of (not (each_port c (unmade headers))) (any_of (list_any is_joined (ports_of c) ∷ rest)) d.1 in
+    let b = either_of (not (is_loaded c.state || is_invalid c.state)) (any_of (is_some c.pending ∷ not (each_port c (has_no_header headers)) ∷ list_any is_joined (ports_of c) ∷ rest)) a in
+    let d = either_of (is_some c.pending) (any_of (not (each_port c (has_no_header headers)) ∷ list_any is_joined (ports_of c) ∷ rest)) b.1 in
+    let e = either_of (not (each_port c (has_no_header headers))) (any_of (list_any is_joined (ports_of c) ∷ rest)) d.1 in
     let f = either_of (list_any is_joined (ports_of c)) (any_of rest) e.1 in
     none_of c.work (either_of (is_some c.work) (any_of (c.client_out ∷ [])) f.1).0
 

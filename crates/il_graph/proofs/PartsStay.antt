@@ -22,7 +22,7 @@ use Rattle.il_machine.specs.Tunnels.{joined_to, parted}
 use Rattle.il_machine.specs.Commands.{sent, run_front}
 use Rattle.il_machine.specs.Buffers.{unpopulated}
 use Rattle.il_machine.specs.Notes.{TakenEvent, TakenEmpty, TakenFilled, TookNote, first_taken, back_in}
-use Rattle.il_machine.specs.Flow.{in_port, front_unmade, front_put, at_link, handed_back, returned, unused_spot, noticed}
+use Rattle.il_machine.specs.Flow.{in_port, front_unmade, front_put, at_link, handed_back, returned, unused_spot, front_noticed}
 use Rattle.il_machine.specs.Due.{Thing, Transition, Flush, PortMode, WaitingMark, arrived, transition_happened, at_port, flush_happened, mode_happened, mark_happened, happened, Happens, HappenTimes, ClosesTo}
 use Rattle.il_machine.specs.Units.{is_waiter, is_before, first_waiter, victim, with_changed, granted_units, preempted_units}
 use Rattle.il_machine.specs.Claims.{ClaimedWork}
@@ -142,7 +142,7 @@ returned_stay : (key : PortKey) (input : Bool) (done todo : List ℕ) (w : World
 returned_stay key input [] todo w = put_stay key (unused_spot input) cleared todo w
 returned_stay key input (n ∷ ns) todo w = record { parts = refl; streams = refl }
 
-noticed_stay : (i : ℕ) (c : Component) (p : Port) (todo : List ℕ) (w : World) → slice_get w.components i ≡ Some c → PartsStay w (noticed i c p todo w)
+noticed_stay : (i : ℕ) (c : Component) (p : Port) (todo : List ℕ) (w : World) → slice_get w.components i ≡ Some c → PartsStay w (front_noticed i c p todo w)
 noticed_stay i c p [] w at = stay_same w
 noticed_stay i c p (n ∷ ns) w at = stay_set w _ i c _ at (record { number = refl; kind = refl; file = refl; failed = refl; work = refl }) refl refl
 

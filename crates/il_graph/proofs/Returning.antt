@@ -13,7 +13,7 @@ use Rattle.il_machine.specs.Finishing.{gone_through}
 use Rattle.il_machine.specs.Look.{Look}
 use Rattle.il_machine.specs.Parts.{terms_of}
 use Rattle.il_machine.specs.Sound.{Sound}
-use Rattle.il_machine.specs.Stepping.{Done, IsAnnounced, IsStep}
+use Rattle.il_machine.specs.Stepping.{WorkDone, IsAnnounced, IsStep}
 use Rattle.il_machine.specs.Whole.{HasDone, IsBack, PartSeen}
 use Rattle.il_machine.specs.World.{Component, Stream, Work, World, component_numbered, place_of, stream_of}
 use Rattle.machine_laws.proofs.Finding.{either}
@@ -37,7 +37,7 @@ use Rattle.il_graph.proofs.Calling.{and_some}
 use Rattle.il_graph.proofs.Going.{placed_at}
 
 module _ (w : World) (x : WorkSeen) (s : Stream) (H : IsHeldOut w x s) where
-  module _ (done : Done) (p : PartSeen) (own : done.component ≡ x.component) where
+  module _ (done : WorkDone) (p : PartSeen) (own : done.component ≡ x.component) where
     is_back : HasDone x.terms (is_some done.fault) (gone_through done s) p → IsBack w done p
     is_back D =
         let c = H.component in

@@ -5,11 +5,11 @@ use Rattle.part_api.specs.Terms.{Terms}
 use Rattle.il_machine.specs.World.{Component, World}
 use Rattle.il_machine.specs.Acts as acts
 use Rattle.il_machine.specs.Run.{Meets}
-use Rattle.il_machine.specs.Stepping.{Done}
+use Rattle.il_machine.specs.Stepping.{WorkDone}
 use Rattle.il_machine.specs.Whole.{IsBack, PartSeen}
 
 -- in the world the work is out and comes back so, and its part has had through it what then has gone through it
-abbrev pub Returns : World → Done → PartSeen → Type 0
+abbrev pub Returns : World → WorkDone → PartSeen → Type 0
 Returns w done p = Meets w (acts.Finish done) × IsBack w done p
 
 -- the part has failed by now

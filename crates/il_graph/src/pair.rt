@@ -41,7 +41,7 @@ impl<S: Source, K: Sink> Pair<S, K> {
     ghost use Rattle.il_graph.specs.declared.pair.header.QueueName.{QueueName};
     ghost use Rattle.il_graph.specs.declared.pair.header.QueueName.TheVariants.{SourceTodo, SourceDone, SinkTodo, SinkDone};
 
-    /// A pair that plays these frames, which the source has from its place on. Where memory is wanting it hands both back.
+    /// A pair that plays these frames, which the source has from its offset on. Where memory is wanting it hands both back.
     pub fn new(
         alloc: Global,
         src: S,
@@ -51,16 +51,16 @@ impl<S: Source, K: Sink> Pair<S, K> {
     ) -> Result<Pair<S, K>, (OutOfMemory, S, K)>
         requires lawful { IsWithinLimits format }
         requires small { frames * frame_bytes_of format ≤ 134217728 }
-        requires there { S.place src + frames * frame_bytes_of format ≤ S.size src }
+        requires there { S.offset src + frames * frame_bytes_of format ≤ S.size src }
         ensures back { IfErr result (λ back. (back.1 ≡ src) × (back.2 ≡ snk)) }
         ensures source { IfOk result (λ pair. source_of pair ≡ src) }
         ensures sink { IfOk result (λ pair. sink_of pair ≡ snk) }
-        ensures next { IfOk result (λ pair. next_of pair ≡ S.place src) }
-        ensures end { IfOk result (λ pair. end_of pair ≡ S.place src + frames * frame_bytes_of format) }
+        ensures next { IfOk result (λ pair. next_of pair ≡ S.offset src) }
+        ensures end { IfOk result (λ pair. end_of pair ≡ S.offset src + frames * frame_bytes_of format) }
         ensures over { IfOk result (λ pair. has_over pair ≡ false) }
         ensures waiting { IfOk result (λ pair. (queue : QueueName) → queues pair queue ≡ both_waiting queue) }
         ensures due { WhereTold (S.told src) (λ bytes. IfOk result (λ pair. due pair bytes ≡
-            written format (take (frames * frame_bytes_of format) (drop (S.place src) bytes)))) }
+            written format (take (frames * frame_bytes_of format) (drop (S.offset src) bytes)))) }
     {
         // The told bytes are as many as the size says.
         let _size = src.size();

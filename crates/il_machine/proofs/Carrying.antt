@@ -5,7 +5,7 @@ use Rattle.il_machine.specs.declared.header.Owner.TheVariants as owners
 use Rattle.il_machine.specs.World.{HeaderRecord, Picked}
 use Rattle.il_machine.specs.Headers.{find_header, has_number, changed, given_to}
 use Rattle.il_machine.specs.Buffers.{Held, held}
-use Rattle.il_machine.specs.Claims.{Carried, carried, carried_by, all_given_out}
+use Rattle.il_machine.specs.Claims.{CarriedHeader, carried, carried_by, all_given_out}
 
 -- what a header shows its holder doesn't tell its owner
 held_as : (m n : ℕ) (o : Owner) (hs : List HeaderRecord) → option_map held (find_header m (changed n (given_to o) hs)) ≡ option_map held (find_header m hs)
@@ -22,11 +22,11 @@ pub held_out : (m k : ℕ) (ps : List Picked) (hs : List HeaderRecord) → optio
 held_out m k [] hs = refl
 held_out m k (p ∷ ps) hs = held_out m k ps (changed p.number (given_to (owners.Work k)) hs) ∙ held_as m p.number (owners.Work k) hs
 
-abbrev carried_as : ℕ → Option Held → List Carried → List Carried
+abbrev carried_as : ℕ → Option Held → List CarriedHeader → List CarriedHeader
 carried_as port None rest = rest
 carried_as port (Some h) rest = record { port = port; header = h } ∷ rest
 
-carried_by_held : (port : ℕ) (o : Option HeaderRecord) (rest : List Carried) → carried_by port o rest ≡ carried_as port (option_map held o) rest
+carried_by_held : (port : ℕ) (o : Option HeaderRecord) (rest : List CarriedHeader) → carried_by port o rest ≡ carried_as port (option_map held o) rest
 carried_by_held port None rest = refl
 carried_by_held port (Some r) rest = refl
 

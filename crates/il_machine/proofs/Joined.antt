@@ -5,7 +5,7 @@ use Rattle.il_machine.specs.declared.port.Port.{Port}
 use Rattle.il_machine.specs.declared.port.PortSetting.{PortSetting}
 use Rattle.il_machine.specs.declared.port.PortState.{PortState}
 use Rattle.std.specs.List.{list_any, list_all}
-use Rattle.il_machine.specs.Ports.{is_joined, unmade}
+use Rattle.il_machine.specs.Ports.{is_joined, has_no_header}
 use Rattle.il_machine.specs.Due.{each_port}
 use Rattle.il_machine.specs.Whole.{no_headers}
 use Rattle.il_machine.specs.World.{Component, ports_from, ports_of, port_of, number_of}
@@ -41,10 +41,10 @@ joined_any number index (x ∷ ss) (y ∷ ps) e = let l : length ss ≡ length p
 pub ports_any : (c : Component) → length c.settings.ports ≡ length c.ports → list_any is_joined (ports_of c) ≡ list_any (λ p. is_some p.link) c.ports
 ports_any c e = joined_any (number_of c) 0 c.settings.ports c.ports e
 
-all_unmade : (ps : List Port) → list_all (unmade no_headers) ps ≡ true
+all_unmade : (ps : List Port) → list_all (has_no_header no_headers) ps ≡ true
 all_unmade [] = refl
 all_unmade (p ∷ ps) = let i = all_unmade ps in grind (arith, common_steps)
 
 -- without headers none is made for any port
-pub ports_unmade : (c : Component) → each_port c (unmade no_headers) ≡ true
+pub ports_unmade : (c : Component) → each_port c (has_no_header no_headers) ≡ true
 ports_unmade c = all_unmade (ports_of c)

@@ -18,7 +18,7 @@ use Rattle.part_api.specs.declared.attached.Attached.{Attached}
 use Rattle.il_machine.specs.Buffers.{Held}
 use Rattle.il_machine.specs.Files.{Offered}
 use Rattle.il_machine.specs.Claims.{Claimed as ClaimAnswer}
-use Rattle.il_machine.specs.Stepping.{Done}
+use Rattle.il_machine.specs.Stepping.{WorkDone}
 use Rattle.il_machine.specs.Notes.{Took as Taking}
 
 pub data Act : Type 0 where
@@ -50,7 +50,7 @@ pub data Act : Type 0 where
   Grant : Act
   Preempt : Act
   Claim : (h : Handle) → Act
-  Finish : (done : Done) → Act
+  Finish : (done : WorkDone) → Act
 
 -- What a call answers, without what it hands back. Of the memory of a header that is freed it says whether it is the client's; of a
 -- component that is freed, for which frames its file came.

@@ -21,7 +21,7 @@ use Rattle.il_machine.specs.Buffers.{Held, held}
 use Rattle.il_machine.specs.Answers.{plain, Resolving}
 
 -- a header of a work as its holder sees it, with its port's number
-pub record Carried : Type 0 where
+pub record CarriedHeader : Type 0 where
   pub port : ℕ
   pub header : Held
 
@@ -31,7 +31,7 @@ pub record WorkSeen : Type 0 where
   -- what is set of its part, with the factors of the claim
   pub terms : Terms
   -- by rising port
-  pub headers : List Carried
+  pub headers : List CarriedHeader
   pub announces : Bool
 
 -- the work, or why there is none
@@ -86,8 +86,8 @@ abbrev pub room_test : Seen → Port → Bool × Claimed
 room_test headers p = (is_empty (headers.todo p.key), ClaimedNoRoom p.key.port)
 
 -- a place for each header, and two
-abbrev pub places_for : List Port → ℕ
-places_for ports = length ports + 2
+abbrev pub reserve_for : List Port → ℕ
+reserve_for ports = length ports + 2
 
 abbrev pub claim_idle : Look → Component → Option Claimed
 claim_idle l c = first_of_these
@@ -97,7 +97,7 @@ claim_idle l c = first_of_these
     ∷ map (held_test c) (ports_of c)
     ++ map (data_test l.headers) (filter is_input_port (wanted c))
     ++ map (room_test l.headers) (filter is_output_port (wanted c))
-    ++ (nat_lt (room c) (places_for (wanted c)), ClaimedEvents (room c) (places_for (wanted c)))
+    ++ (nat_lt (room c) (reserve_for (wanted c)), ClaimedEvents (room c) (reserve_for (wanted c)))
     ∷ [])
 
 -- ---- the work
@@ -122,12 +122,12 @@ all_given_out number (x ∷ xs) headers = all_given_out number xs (changed x.num
 abbrev pub with_work : ℕ → Component → Work → World → World
 with_work i c work w = record (with_component i (record c { work = Some work }) w) { headers = all_given_out (number_of c) work.headers w.headers }
 
-abbrev pub carried_by : ℕ → Option HeaderRecord → List Carried → List Carried
+abbrev pub carried_by : ℕ → Option HeaderRecord → List CarriedHeader → List CarriedHeader
 carried_by port None rest = rest
 carried_by port (Some r) rest = record { port = port; header = held r } ∷ rest
 
 -- the headers of a work with what they carry
-abbrev pub carried : List HeaderRecord → List Picked → List Carried
+abbrev pub carried : List HeaderRecord → List Picked → List CarriedHeader
 carried headers [] = []
 carried headers (x ∷ xs) = carried_by x.port (find_header x.number headers) (carried headers xs)
 

@@ -23,7 +23,7 @@ use Rattle.il_machine.specs.Kinds.{kind_of}
 use Rattle.il_machine.specs.World.{Component, World, Given, number_of, fresh, fresh_stream, is_stream_of, ports_of, port_of}
 use Rattle.il_machine.specs.Headers.{Seen, is_for}
 use Rattle.il_machine.specs.Look.{Look, look}
-use Rattle.il_machine.specs.Ports.{is_joined, unmade}
+use Rattle.il_machine.specs.Ports.{is_joined, has_no_header}
 use Rattle.il_machine.specs.Due.{ClosesTo, each_port}
 use Rattle.il_machine.specs.Answers.{plain, Resolving, Answers, AnswersOrMemory, component_named, looked}
 
@@ -70,7 +70,7 @@ free_refusal headers c = first_of_these
       any_of
           (not (is_loaded c.state || is_invalid c.state)
           ∷ is_some c.pending
-          ∷ not (each_port c (unmade headers))
+          ∷ not (each_port c (has_no_header headers))
           ∷ list_any is_joined (ports_of c)
           ∷ is_some c.work
           ∷ c.client_out

@@ -15,8 +15,8 @@ use Rattle.il_machine.specs.declared.port.Link.{Link}
 use Rattle.il_machine.specs.declared.port.Port.{Port}
 use Rattle.il_machine.specs.declared.header.Home.TheVariants as homes
 use Rattle.il_machine.specs.declared.header.Owner.TheVariants as owners
-use Rattle.il_machine.specs.declared.header.Place.{Place}
-use Rattle.il_machine.specs.declared.header.Place.TheVariants.{Todo, Done}
+use Rattle.il_machine.specs.declared.header.Queue.{Queue}
+use Rattle.il_machine.specs.declared.header.Queue.TheVariants.{Todo, Done}
 use Rattle.il_machine.specs.declared.header.Spot.{Spot}
 use Rattle.il_machine.specs.declared.header.Spot.TheVariants.{TodoBack, DoneBack}
 use Rattle.il_machine.specs.States.{is_executing}
@@ -69,9 +69,9 @@ supply_idle l c p = first_of_these
     ∷ [])
 
 -- a header of an output waits to be filled, one of an input to be sent
-abbrev pub supplied_place : Bool → Place
-supplied_place true = Done
-supplied_place false = Todo
+abbrev pub supplied_queue : Bool → Queue
+supplied_queue true = Done
+supplied_queue false = Todo
 
 abbrev pub tunnel_header : ℕ → Port → PortKey → HeaderState
 tunnel_header number p peer = record {
@@ -80,7 +80,7 @@ tunnel_header number p peer = record {
   peer = Some peer;
   home = homes.Port p.key;
   owner = owners.Port p.key;
-  place = supplied_place (is_input_port p);
+  queue = supplied_queue (is_input_port p);
   size = p.setting.definition.size;
   client_memory = false;
 }
@@ -174,15 +174,15 @@ done_note true number = EmptyDone number
 done_note false number = FillDone number
 
 -- on a client port: the front of todo is cleared and queued as a note
-abbrev pub noticed : ℕ → Component → Port → List ℕ → World → World
-noticed i c p [] w = w
-noticed i c p (number ∷ rest) w =
+abbrev pub front_noticed : ℕ → Component → Port → List ℕ → World → World
+front_noticed i c p [] w = w
+front_noticed i c p (number ∷ rest) w =
     record (with_component i (noted (done_note (is_input_port p) number) c) w)
     { headers = changed number (λ r. given_to (owners.Notice (number_of c)) (cleared r)) w.headers }
 
 abbrev pub handed_back : ℕ → Component → Port → Option Link → World → World
 handed_back i c p (Some link) w = returned link.peer (is_input_port p) ((seen w.headers).done p.key) ((seen w.headers).todo p.key) w
-handed_back i c p None w = noticed i c p ((seen w.headers).todo p.key) w
+handed_back i c p None w = front_noticed i c p ((seen w.headers).todo p.key) w
 
 abbrev pub HandBack : World → Handle → ℕ → Result Acted OmxError → World → Type 0
 HandBack w h port result v = OnPort plain w h port result v (λ i c p. Acts (back_idle (look w) c p) result w (handed_back i c p p.state.link w) v)

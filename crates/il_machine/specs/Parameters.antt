@@ -20,7 +20,7 @@ use Rattle.il_machine.specs.Parts.{file_format}
 use Rattle.il_machine.specs.World.{Component, World, with_component, with_port, port_of}
 use Rattle.il_machine.specs.Headers.{Seen}
 use Rattle.il_machine.specs.Look.{Look, look}
-use Rattle.il_machine.specs.Ports.{is_at_rest, is_joined, unmade}
+use Rattle.il_machine.specs.Ports.{is_at_rest, is_joined, has_no_header}
 use Rattle.il_machine.specs.Due.{ClosesTo}
 use Rattle.il_machine.specs.Answers.{plain, Resolving, Answers, component_named, looked}
 
@@ -68,7 +68,7 @@ is_format_free c port _ = true
 abbrev pub is_fixed : Seen → Component → Port → Bool
 is_fixed headers c p = any_of
     (is_joined p
-    ∷ not (unmade headers p)
+    ∷ not (has_no_header headers p)
     ∷ (p.state.enabled && not (is_settable c))
     ∷ [])
 

@@ -35,12 +35,12 @@ abbrev pub is_at_rest : Component → Bool
 is_at_rest c = is_none c.pending
 
 -- as many headers are made for the port as its count
-abbrev pub populated : Seen → Port → Bool
-populated headers p = nat_eq (headers.count (is_for p.key)) p.setting.definition.count
+abbrev pub is_populated : Seen → Port → Bool
+is_populated headers p = nat_eq (headers.count (is_for p.key)) p.setting.definition.count
 
 -- no header is made for the port
-abbrev pub unmade : Seen → Port → Bool
-unmade headers p = none_is headers (is_for p.key)
+abbrev pub has_no_header : Seen → Port → Bool
+has_no_header headers p = none_is headers (is_for p.key)
 
 -- every header made for the port is at home or in a notice
 abbrev pub settled : Seen → Port → Bool
@@ -48,7 +48,7 @@ settled headers p = none_is headers (λ r. is_for p.key r && is_away r)
 
 -- The port is enabled and not populated. Its component is down on its way to Idle, or is up with nothing pending.
 abbrev pub accepting : Seen → Component → Port → Bool
-accepting headers c p = p.state.enabled && not (populated headers p)
+accepting headers c p = p.state.enabled && not (is_populated headers p)
     && ((is_down c.state && is_going_to states.Idle c) || (is_up c.state && is_at_rest c))
 
 -- The port flushes or is Disabling. Or its component is Invalid, or is Executing or Pause on its way to Idle.

@@ -16,7 +16,7 @@ use Rattle.il_machine.specs.declared.header.Home.{Home}
 use Rattle.il_machine.specs.declared.header.Home.TheVariants as homes
 use Rattle.il_machine.specs.declared.header.Owner.{Owner}
 use Rattle.il_machine.specs.declared.header.Owner.TheVariants as owners
-use Rattle.il_machine.specs.declared.header.Place.TheVariants.{Out}
+use Rattle.il_machine.specs.declared.header.Queue.TheVariants.{Out}
 use Rattle.il_machine.specs.declared.header.HeaderState.{HeaderState}
 use Rattle.il_machine.specs.States.{same_state, is_lawful, is_loaded, is_invalid, is_running, is_up}
 use Rattle.il_machine.specs.Lists.{holds_at}
@@ -100,10 +100,10 @@ is_for_component component s = nat_eq s.port.component component || is_key_of co
 -- It is in a list exactly where its owner is a port, one that it was made for. Only a client's header is with the client or in a note; one in
 -- a work was made for a port of the work's component.
 abbrev pub IsOwnedSo : HeaderState → Owner → Type 0
-IsOwnedSo s owners.Client = (s.place ≡ Out) × (s.peer ≡ None)
-IsOwnedSo s (owners.Port key) = (is_for key s ≡ true) × (s.place ≢ Out)
-IsOwnedSo s (owners.Notice component) = (s.place ≡ Out) × (s.peer ≡ None) × (s.port.component ≡ component)
-IsOwnedSo s (owners.Work component) = (s.place ≡ Out) × (is_for_component component s ≡ true)
+IsOwnedSo s owners.Client = (s.queue ≡ Out) × (s.peer ≡ None)
+IsOwnedSo s (owners.Port key) = (is_for key s ≡ true) × (s.queue ≢ Out)
+IsOwnedSo s (owners.Notice component) = (s.queue ≡ Out) × (s.peer ≡ None) × (s.port.component ≡ component)
+IsOwnedSo s (owners.Work component) = (s.queue ≡ Out) × (is_for_component component s ≡ true)
 
 pub record IsPlaced (components : List Component) (s : HeaderState) : Type 0 where
   pub home : s.home ≡ home_for s.port s.peer

@@ -6,7 +6,7 @@ use Rattle.il_machine.specs.declared.header.Home.{Home}
 use Rattle.il_machine.specs.declared.header.Home.TheVariants as homes
 use Rattle.il_machine.specs.declared.header.Owner.{Owner}
 use Rattle.il_machine.specs.declared.header.Owner.TheVariants as owners
-use Rattle.il_machine.specs.declared.header.Place.TheVariants.{Out}
+use Rattle.il_machine.specs.declared.header.Queue.TheVariants.{Out}
 use Rattle.il_machine.specs.declared.header.Spot.{Spot}
 use Rattle.il_machine.specs.declared.header.Spot.TheVariants.{TodoBack, TodoFront, DoneBack}
 use Rattle.il_machine.specs.declared.header.HeaderState.{HeaderState}
@@ -86,7 +86,7 @@ pushed key spot number load s = record s {
 
 -- the record of a header that leaves its list keeps its owner
 abbrev pub state_out : HeaderState → HeaderState
-state_out s = record s { place = Out }
+state_out s = record s { queue = Out }
 
 abbrev pub is_out : ℕ → Stocked → Stocked
 is_out number s = record s {
@@ -105,25 +105,25 @@ todo_without key number rest s = record s {
 abbrev pub done_without : PortKey → List ℕ → Stocked → Stocked
 done_without key rest s = record s { headers = record s.headers { done = at_key key rest s.headers.done } }
 
-abbrev pub pulled_front : PortKey → List ℕ → Stocked → Stocked
-pulled_front key [] s = s
-pulled_front key (number ∷ rest) s = is_out number (todo_without key number rest s)
+abbrev pub todo_front_pulled : PortKey → List ℕ → Stocked → Stocked
+todo_front_pulled key [] s = s
+todo_front_pulled key (number ∷ rest) s = is_out number (todo_without key number rest s)
 
 -- the front of todo leaves it
-abbrev pub pulled : PortKey → Stocked → Stocked
-pulled key s = pulled_front key (s.headers.todo key) s
+abbrev pub todo_pulled : PortKey → Stocked → Stocked
+todo_pulled key s = todo_front_pulled key (s.headers.todo key) s
 
-abbrev pub sent_front : PortKey → List ℕ → Stocked → Stocked
-sent_front key [] s = s
-sent_front key (number ∷ rest) s = is_out number (done_without key rest s)
+abbrev pub done_front_pulled : PortKey → List ℕ → Stocked → Stocked
+done_front_pulled key [] s = s
+done_front_pulled key (number ∷ rest) s = is_out number (done_without key rest s)
 
 -- the front of done leaves it
-abbrev pub sent : PortKey → Stocked → Stocked
-sent key s = sent_front key (s.headers.done key) s
+abbrev pub done_pulled : PortKey → Stocked → Stocked
+done_pulled key s = done_front_pulled key (s.headers.done key) s
 
 -- a header that is in no list goes to the owner
-abbrev pub given : ℕ → Owner → Stocked → Stocked
-given number owner s = record s { headers = with_state number (option_map (state_given owner) (s.headers.header number)) s.headers }
+abbrev pub header_given : ℕ → Owner → Stocked → Stocked
+header_given number owner s = record s { headers = with_state number (option_map (state_given owner) (s.headers.header number)) s.headers }
 
 abbrev pub home_owner : Home → Owner
 home_owner homes.Client = owners.Client
@@ -137,18 +137,18 @@ made_header number port peer home size client_memory = record {
   peer = peer;
   home = home;
   owner = home_owner home;
-  place = Out;
+  queue = Out;
   size = size;
   client_memory = client_memory;
 }
 
 -- a header gets the next number
-abbrev pub populated : HeaderState → Stocked → Stocked
-populated state s = record s { headers = with_state s.next (Some state) s.headers; next = s.next + 1 }
+abbrev pub header_made : HeaderState → Stocked → Stocked
+header_made state s = record s { headers = with_state s.next (Some state) s.headers; next = s.next + 1 }
 
 -- a header that is in no list is no more
-abbrev pub withdrawn : ℕ → Stocked → Stocked
-withdrawn number s = record s {
+abbrev pub header_unmade : ℕ → Stocked → Stocked
+header_unmade number s = record s {
   headers = with_state number None s.headers;
   loads = at_number number None s.loads;
 }

@@ -16,8 +16,8 @@ use Rattle.il_machine.specs.Look.{look}
 use Rattle.il_machine.specs.Answers.{component_named}
 use Rattle.il_machine.specs.Notes.{TakenEmpty, TakenFilled, TookNote}
 use Rattle.il_machine.specs.Flow.{in_port}
-use Rattle.il_machine.specs.Claims.{Carried, ClaimedWork}
-use Rattle.il_machine.specs.Stepping.{Done}
+use Rattle.il_machine.specs.Claims.{CarriedHeader, ClaimedWork}
+use Rattle.il_machine.specs.Stepping.{WorkDone}
 use Rattle.il_machine.specs.Finishing.{Landing, Again, Onward, Noted, landing, key_at}
 use Rattle.il_machine.specs.Acts.{Act, Reply}
 use Rattle.il_machine.specs.Acts as acts
@@ -52,48 +52,48 @@ port_stop key = With (owners.Port key)
 abbrev pub client_stop : Stop
 client_stop = With owners.Client
 
-abbrev pub released : World → Option Port → List Move
-released w None = []
-released w (Some p) = front_move (port_stop p.key) Unmade (in_port (seen w.headers) p)
+abbrev pub release_moves : World → Option Port → List Move
+release_moves w None = []
+release_moves w (Some p) = front_move (port_stop p.key) Unmade (in_port (seen w.headers) p)
 
 abbrev pub over : World → Port → Option Link → List Move
 over w p None = []
 over w p (Some link) = front_move (port_stop p.key) (port_stop link.peer) ((seen w.headers).done p.key)
 
-abbrev pub handed : World → Option Port → List Move
-handed w None = []
-handed w (Some p) = over w p p.state.link
+abbrev pub over_moves : World → Option Port → List Move
+over_moves w None = []
+over_moves w (Some p) = over w p p.state.link
 
 -- in a tunnel the front of done, or of todo where done is empty, goes to the supplier; on a client port that of todo to a note
 abbrev pub back : World → Port → Option Link → List Move
 back w p None = front_move (port_stop p.key) (With (owners.Notice p.key.component)) ((seen w.headers).todo p.key)
 back w p (Some link) = front_move (port_stop p.key) (port_stop link.peer) ((seen w.headers).done p.key ++ (seen w.headers).todo p.key)
 
-abbrev pub handed_back : World → Option Port → List Move
-handed_back w None = []
-handed_back w (Some p) = back w p p.state.link
+abbrev pub back_moves : World → Option Port → List Move
+back_moves w None = []
+back_moves w (Some p) = back w p p.state.link
 
 abbrev pub moved : ℕ → Stop → Stop → List Move
 moved number from to = record { header = number; from = from; to = to } ∷ []
 
 -- a header of a claimed work goes from its port to the work of the component of the number
-abbrev pub claimed_move : ℕ → Carried → Move
+abbrev pub claimed_move : ℕ → CarriedHeader → Move
 claimed_move number x = record { header = x.header.number; from = port_stop (record { component = number; port = x.port }); to = With (owners.Work number) }
 
 -- the owner of a header that lands
-abbrev pub landed_owner : Landing → Component → Carried → Owner
+abbrev pub landed_owner : Landing → Component → CarriedHeader → Owner
 landed_owner Noted c x = owners.Notice c.handle.generation
 landed_owner Again c x = owners.Port (key_at c x)
 landed_owner Onward c x = owners.Port (key_at c x)
 
-abbrev pub finished_move : Component → Stream → Done → Carried → Move
+abbrev pub finished_move : Component → Stream → WorkDone → CarriedHeader → Move
 finished_move c s done x = record {
   header = x.header.number;
   from = With (owners.Work c.handle.generation);
   to = With (landed_owner (landing c s done x) c x);
 }
 
-abbrev pub finished_moves : Option Component → Option Stream → Done → List Move
+abbrev pub finished_moves : Option Component → Option Stream → WorkDone → List Move
 finished_moves (Some c) (Some s) done = map (finished_move c s done) done.headers
 finished_moves _ _ done = []
 
@@ -106,9 +106,9 @@ moves w (acts.FillThisBuffer h port header) (acts.Plain (Ok done)) = moved heade
 moves w (acts.TakeNote h) (acts.Took (Ok (TookNote (TakenEmpty header)))) = moved header.number (With (owners.Notice h.generation)) client_stop
 moves w (acts.TakeNote h) (acts.Took (Ok (TookNote (TakenFilled header)))) = moved header.number (With (owners.Notice h.generation)) client_stop
 moves w (acts.Supply h port) (acts.Supplied (Ok Did)) = moved w.made Unmade (port_stop (key_of h port))
-moves w (acts.Release h port) (acts.Acted (Ok Did)) = released w (port_named h port w)
-moves w (acts.HandOver h port) (acts.Acted (Ok Did)) = handed w (port_named h port w)
-moves w (acts.HandBack h port) (acts.Acted (Ok Did)) = handed_back w (port_named h port w)
+moves w (acts.Release h port) (acts.Acted (Ok Did)) = release_moves w (port_named h port w)
+moves w (acts.HandOver h port) (acts.Acted (Ok Did)) = over_moves w (port_named h port w)
+moves w (acts.HandBack h port) (acts.Acted (Ok Did)) = back_moves w (port_named h port w)
 moves w (acts.Claim h) (acts.Claimed (Ok (ClaimedWork work))) = map (claimed_move work.component) work.headers
 moves w (acts.Finish done) acts.Finished = finished_moves (component_numbered done.component w) (stream_of done.component w) done
 moves w _ _ = []

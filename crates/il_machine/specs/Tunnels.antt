@@ -13,7 +13,7 @@ use Rattle.il_machine.specs.Settings.{same_format, with_setting}
 use Rattle.il_machine.specs.World.{Component, World, same_handle, with_component, with_port, port_of}
 use Rattle.il_machine.specs.Headers.{Seen, same_key}
 use Rattle.il_machine.specs.Look.{look}
-use Rattle.il_machine.specs.Ports.{is_input_port, unmade}
+use Rattle.il_machine.specs.Ports.{is_input_port, has_no_header}
 use Rattle.il_machine.specs.Parameters.{is_fixed}
 use Rattle.il_machine.specs.Due.{ClosesTo}
 use Rattle.il_machine.specs.Answers.{plain, Resolving, Answers}
@@ -90,7 +90,7 @@ abbrev pub drop_refusal : Seen → Option Port → Option Port → Option OmxErr
 drop_refusal headers p q = first_of_these
     ((not (holds_of_both p q are_output_and_input), errors.BadPortIndex)
     ∷ (not (holds_of_both p q is_joined_with), errors.BadParameter)
-    ∷ (not (holds_at p (unmade headers)) || not (holds_at q (unmade headers)), errors.IncorrectStateOperation)
+    ∷ (not (holds_at p (has_no_header headers)) || not (holds_at q (has_no_header headers)), errors.IncorrectStateOperation)
     ∷ [])
 
 abbrev pub parted : Port → Component → Component

@@ -96,13 +96,13 @@ at_one None otherwise tests = (true, otherwise) ∷ []
 at_one (Some c) otherwise tests = tests c
 
 -- two places are wanted: for an event, and for a transition that is then pending or for a second event
-abbrev pub lacks_places : Component → Bool × Why
-lacks_places c = (nat_lt (room c) 2, why.Events (room c) 2)
+abbrev pub lacks_event_room : Component → Bool × Why
+lacks_event_room c = (nat_lt (room c) 2, why.Events (room c) 2)
 
 abbrev pub grant_idle : Look → Option Why
 grant_idle l = first_of_these (at_one (first_waiter l.components) why.NoWaiter (λ c.
     (nat_lt (free_units l) (need_of c), why.Short (free_units l) (need_of c))
-    ∷ lacks_places c
+    ∷ lacks_event_room c
     ∷ []))
 
 -- It waits no more, holds its units, is told so, and is on its way to Idle.
@@ -131,7 +131,7 @@ Grant w answer v = Grants (grant_idle (look w)) (first_waiter w.components) w an
 abbrev pub preempt_idle : Look → Option Why
 preempt_idle l = first_of_these (at_one (first_waiter l.components) why.NoWaiter (λ c.
     (nat_le (need_of c) (coming_units l), why.Enough (coming_units l) (need_of c))
-    ∷ at_one (weakest c l.components) why.NoVictim (λ d. lacks_places d ∷ [])))
+    ∷ at_one (weakest c l.components) why.NoVictim (λ d. lacks_event_room d ∷ [])))
 
 -- Executing or Pause on its way to Idle it gets the loss mark; else in these states it is told so, and is on its way there. Any other loses
 -- its units at once: that is told, and it is on its way to Loaded.

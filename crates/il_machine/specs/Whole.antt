@@ -15,7 +15,7 @@ use Rattle.il_machine.specs.Buffers.{Held, held, AtHeader}
 use Rattle.il_machine.specs.Components.{progress_of}
 use Rattle.il_machine.specs.Parts.{terms_of, frames_left, bytes_given}
 use Rattle.il_machine.specs.Claims.{WorkSeen, seen_work}
-use Rattle.il_machine.specs.Stepping.{Done}
+use Rattle.il_machine.specs.Stepping.{WorkDone}
 use Rattle.il_machine.specs.Finishing.{gone_through}
 
 -- a header in a queued note, its key, and whether its memory is the client's own
@@ -77,7 +77,7 @@ IsOut w x p = MatchOption (component_numbered x.component w) ⊥ (λ c. MatchOpt
     MatchOption (stream_of x.component w) ⊥ (λ s. (x ≡ seen_work c work w.headers) × HasDone (terms_of c) c.part.failed s p)))
 
 -- The part that comes back with the work has had through it what then has gone through it.
-abbrev pub IsBack : World → Done → PartSeen → Type 0
+abbrev pub IsBack : World → WorkDone → PartSeen → Type 0
 IsBack w done p = MatchOption (component_numbered done.component w) ⊥ (λ c.
     MatchOption (stream_of done.component w) ⊥ (λ s. HasDone (terms_of c) (is_some done.fault) (gone_through done s) p))
 

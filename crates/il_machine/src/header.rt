@@ -18,7 +18,7 @@ pub enum Owner {
 
 /// The list of its port in which a header waits: to be worked on, or to be sent. Out is no list.
 #[derive(Clone, Copy, Debug, PartialEq, Eq)]
-pub enum Place {
+pub enum Queue {
     Out,
     Todo,
     Done,
@@ -42,7 +42,7 @@ pub struct HeaderState {
     pub peer: Option<PortKey>,
     pub home: Home,
     pub owner: Owner,
-    pub place: Place,
+    pub queue: Queue,
     /// In bytes.
     pub size: u32,
     /// Whether its memory is the client's own.

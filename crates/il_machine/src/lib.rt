@@ -10,5 +10,5 @@ mod header;
 mod port;
 
 pub use answer::{Acted, Cause, Granted, Pending, Preempted, Progress, Why};
-pub use header::{HeaderState, Home, Owner, Place, Spot};
+pub use header::{HeaderState, Home, Owner, Queue, Spot};
 pub use port::{Link, Mark, Mode, Port, PortKey, PortSetting, PortState, PortView};

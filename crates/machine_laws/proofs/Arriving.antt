@@ -19,7 +19,7 @@ use Rattle.il_machine.specs.Settings.{fits}
 use Rattle.il_machine.specs.World.{Component, PartState, told, with_port, port_of}
 use Rattle.il_machine.specs.Headers.{weight}
 use Rattle.il_machine.specs.Ports.{is_going_to, is_steady}
-use Rattle.il_machine.specs.Room.{is_by_client, port_places, is_losing, used}
+use Rattle.il_machine.specs.Room.{is_by_client, port_reserve, is_losing, used}
 use Rattle.il_machine.specs.Due.{reached, completed, completed_for, lost, lost_by, restarted, with_part, unheld, all_given_back, arrived, arrived_at}
 use Rattle.il_machine.specs.Sound.{IsSound}
 use Rattle.machine_laws.proofs.Finding.{either}
@@ -194,9 +194,9 @@ sound_with_waiting o c S =
     let k : costs (with_waiting o c) ≡ costs c = costs_same c (with_waiting o c) c.commands refl in
     sound_with (with_waiting o c) (record { whole = S.whole; ports = S.ports; settings = S.settings; fit = S.fit; file = S.file; cause = S.cause; mark = S.mark; commands = S.commands }) (omega (arith, S.room))
 
-pub unheld_places : (ps : List PortState) → sum_by port_places (map unheld ps) ≡ sum_by port_places ps
+pub unheld_places : (ps : List PortState) → sum_by port_reserve (map unheld ps) ≡ sum_by port_reserve ps
 unheld_places [] = refl
-unheld_places (p ∷ ps) = let s = sum_by-cons port_places (unheld p) (map unheld ps) in let q = sum_by-cons port_places p ps in let i = unheld_places ps in omega arith
+unheld_places (p ∷ ps) = let s = sum_by-cons port_reserve (unheld p) (map unheld ps) in let q = sum_by-cons port_reserve p ps in let i = unheld_places ps in omega arith
 
 unheld_links : (ps : List PortState) → map link_of (map unheld ps) ≡ map link_of ps
 unheld_links [] = refl
@@ -265,11 +265,11 @@ change_arrived number p c = change_to number p.target p c
 
 -- ---- a port
 
-pub used_with_port : (k : ℕ) (new old : PortState) (c : Component) → slice_get c.ports k ≡ Some old → used (with_port k new c) + port_places old ≡ used c + port_places new
+pub used_with_port : (k : ℕ) (new old : PortState) (c : Component) → slice_get c.ports k ≡ Some old → used (with_port k new c) + port_reserve old ≡ used c + port_reserve new
 used_with_port k new old c e =
-    let s = sum_by-set port_places c.ports k new old (slice_get_within c.ports k old e) in
+    let s = sum_by-set port_reserve c.ports k new old (slice_get_within c.ports k old e) in
     let o : get_or c.ports k old ≡ old = get_or_from_slice_get c.ports k old old e in
-    let p : port_places (get_or c.ports k old) ≡ port_places old = ap port_places o in
+    let p : port_reserve (get_or c.ports k old) ≡ port_reserve old = ap port_reserve o in
     let l : length (set c.ports k new) ≡ length c.ports = length-set c.ports k new in
     let q : costs (with_port k new c) ≡ costs c = costs_same c (with_port k new c) c.commands l in
     omega arith
@@ -301,7 +301,7 @@ aside_with_port k new old c e h = record {
 }
 
 -- a port lets a place go, and an event is told
-pub sound_let_go : (event : Event) (k : ℕ) (new old : PortState) (c : Component) → IsSound c → slice_get c.ports k ≡ Some old → port_places new < port_places old
+pub sound_let_go : (event : Event) (k : ℕ) (new old : PortState) (c : Component) → IsSound c → slice_get c.ports k ≡ Some old → port_reserve new < port_reserve old
     → IsSound (told event (with_port k new c))
 sound_let_go event k new old c S e lt =
     let u = used_with_port k new old c e in
@@ -316,11 +316,11 @@ pub aside_let_go : (event : Event) (k : ℕ) (new old : PortState) (c : Componen
 aside_let_go event k new old c e h = aside_twice c (with_port k new c) (told event (with_port k new c)) (aside_with_port k new old c e h) (aside_told event (with_port k new c))
 
 -- the three things of a port
-pub flushed_places : (s : PortState) → s.flushing ≡ true → port_places (record s { flushing = false }) < port_places s
+pub flushed_places : (s : PortState) → s.flushing ≡ true → port_reserve (record s { flushing = false }) < port_reserve s
 flushed_places s h = let w : weight s.flushing ≡ 1 = rw h refl in omega arith
 
-pub steady_places : (s : PortState) → is_steady s.mode ≡ false → port_places (record s { mode = Steady }) < port_places s
+pub steady_places : (s : PortState) → is_steady s.mode ≡ false → port_reserve (record s { mode = Steady }) < port_reserve s
 steady_places s h = let w : weight (not (is_steady s.mode)) ≡ 1 = rw h refl in omega arith
 
-pub marked_places : (s : PortState) → is_some s.waiting_mark ≡ true → port_places (record s { waiting_mark = None }) < port_places s
+pub marked_places : (s : PortState) → is_some s.waiting_mark ≡ true → port_reserve (record s { waiting_mark = None }) < port_reserve s
 marked_places s h = let w : weight (is_some s.waiting_mark) ≡ 1 = rw h refl in omega arith

@@ -20,7 +20,7 @@ use Rattle.il_machine.specs.Ports.{is_at_rest, is_input_port, is_open}
 use Rattle.il_machine.specs.Room.{used, room}
 use Rattle.il_machine.specs.Due.{each_port}
 use Rattle.il_machine.specs.Census.{note_numbers, times}
-use Rattle.il_machine.specs.Claims.{Claimed, ClaimedBusy, ClaimedNotRunning, ClaimedEnded, ClaimedEvents, is_unannounced, must_announce, gives_header, wanted, is_output_port, is_claimable, held_test, data_test, room_test, places_for, claim_idle, first_picked, picked, work_of, all_given_out, with_work}
+use Rattle.il_machine.specs.Claims.{Claimed, ClaimedBusy, ClaimedNotRunning, ClaimedEnded, ClaimedEvents, is_unannounced, must_announce, gives_header, wanted, is_output_port, is_claimable, held_test, data_test, room_test, reserve_for, claim_idle, first_picked, picked, work_of, all_given_out, with_work}
 use Rattle.il_machine.specs.Sound.{Sound, IsSound, IsUnitSound, IsOwnedSo, IsPickedFor, ArePicked, is_for_component, is_key_of}
 use Rattle.machine_laws.proofs.Finding.{either}
 use Rattle.machine_laws.proofs.Keys.{for_which}
@@ -50,7 +50,7 @@ pub record IsClaimable (l : Look) (c : Component) : Type 0 where
   pub held : first_of_these (map (held_test c) (ports_of c)) ≡ None
   pub filled : first_of_these (map (data_test l.headers) (filter is_input_port (wanted c))) ≡ None
   pub space : first_of_these (map (room_test l.headers) (filter is_output_port (wanted c))) ≡ None
-  pub room : places_for (wanted c) ≤ room c
+  pub room : reserve_for (wanted c) ≤ room c
 
 none_of : {A : Type 0} (o : Option A) → is_some o ≡ false → o ≡ None
 none_of None h = refl
@@ -61,14 +61,14 @@ claim_passes l c h =
     let a = passed (is_some c.work) ClaimedBusy _ h in
     let b = passed (not (is_claimable c)) ClaimedNotRunning _ a.1 in
     let d = passed (c.part.ended || c.part.failed) ClaimedEnded _ b.1 in
-    let last : List (Bool × Claimed) = (nat_lt (room c) (places_for (wanted c)), ClaimedEvents (room c) (places_for (wanted c))) ∷ [] in
+    let last : List (Bool × Claimed) = (nat_lt (room c) (reserve_for (wanted c)), ClaimedEvents (room c) (reserve_for (wanted c))) ∷ [] in
     let held : List (Bool × Claimed) = map (held_test c) (ports_of c) in
     let filled : List (Bool × Claimed) = map (data_test l.headers) (filter is_input_port (wanted c)) in
     let space : List (Bool × Claimed) = map (room_test l.headers) (filter is_output_port (wanted c)) in
     let g = first_none (held ++ filled ++ space) last d.1 in
     let f = first_none (held ++ filled) space g.0 in
     let e = first_none held filled f.0 in
-    let i = passed (nat_lt (room c) (places_for (wanted c))) (ClaimedEvents (room c) (places_for (wanted c))) _ g.1 in
+    let i = passed (nat_lt (room c) (reserve_for (wanted c))) (ClaimedEvents (room c) (reserve_for (wanted c))) _ g.1 in
     let x = both_of (is_executing c.state && is_at_rest c) (each_port c is_open) (not_not (is_claimable c) b.0) in
     let y = both_of (is_executing c.state) (is_at_rest c) x.0 in
     record {
@@ -80,7 +80,7 @@ claim_passes l c h =
       held = e.0;
       filled = e.1;
       space = f.1;
-      room = ltb-false (room c) (places_for (wanted c)) i.0;
+      room = ltb-false (room c) (reserve_for (wanted c)) i.0;
     }
 
 -- ---- the headers that are picked
@@ -223,7 +223,7 @@ shifted_out ports k from hs ks notes work (x ∷ xs) A I =
 abbrev pub with_its : Work → Component → Component
 with_its work c = record c { work = Some work }
 
-sound_its : (s : Seen) (c : Component) → IsSound c → c.work ≡ None → places_for (wanted c) ≤ room c → IsSound (with_its (work_of s c) c)
+sound_its : (s : Seen) (c : Component) → IsSound c → c.work ≡ None → reserve_for (wanted c) ≤ room c → IsSound (with_its (work_of s c) c)
 sound_its s c S f l =
     let work : Work = work_of s c in
     let d : Component = with_its work c in

@@ -13,7 +13,7 @@ use Rattle.il_machine.specs.States.{is_invalid, is_down, is_up}
 use Rattle.il_machine.specs.World.{Component, HeaderRecord, World, port_of, with_component}
 use Rattle.il_machine.specs.Headers.{seen, find_header, count_headers, is_for, loaded, empty_load, unloaded}
 use Rattle.il_machine.specs.Look.{Look, look}
-use Rattle.il_machine.specs.Ports.{is_input_port, accepting, populated, is_joined, is_going_to, is_at_rest}
+use Rattle.il_machine.specs.Ports.{is_input_port, accepting, is_populated, is_joined, is_going_to, is_at_rest}
 use Rattle.il_machine.specs.Room.{room}
 use Rattle.il_machine.specs.Buffers.{Held, load_in, allocate_refusal, use_refusal, is_bad_length, client_header, with_header, is_unpopulating, free_buffer_refusal, unpopulated, without_header, empty_refusal, fill_refusal, is_whole_frames, with_todo}
 use Rattle.il_machine.specs.Sound.{Sound, IsSound, port_at}
@@ -34,9 +34,9 @@ use Rattle.machine_laws.proofs.Listed.{header_there}
 pub accepts_fewer : (w : World) (c : Component) (p : Port) → accepting (look w).headers c p ≡ true → count_headers (is_for p.key) w.headers ≤ p.setting.definition.count
     → count_headers (is_for p.key) w.headers < p.setting.definition.count
 accepts_fewer w c p a f =
-    let x = both_of (p.state.enabled && not (populated (look w).headers p)) ((is_down c.state && is_going_to Idle c) || (is_up c.state && is_at_rest c)) a in
-    let y = both_of p.state.enabled (not (populated (look w).headers p)) x.0 in
-    let n = eqb-false (count_headers (is_for p.key) w.headers) p.setting.definition.count (is_not (populated (look w).headers p) y.1) in
+    let x = both_of (p.state.enabled && not (is_populated (look w).headers p)) ((is_down c.state && is_going_to Idle c) || (is_up c.state && is_at_rest c)) a in
+    let y = both_of p.state.enabled (not (is_populated (look w).headers p)) x.0 in
+    let n = eqb-false (count_headers (is_for p.key) w.headers) p.setting.definition.count (is_not (is_populated (look w).headers p) y.1) in
     omega arith
 
 none_of : {A : Type 0} (o : Option A) → is_some o ≡ false → o ≡ None

@@ -18,8 +18,8 @@ use Rattle.il_machine.specs.Settings.{IsSized, default_setting, default_settings
 use Rattle.il_machine.specs.World.{Component, HeaderRecord, World, fresh, fresh_port, fresh_stream, ports_of, port_of}
 use Rattle.il_machine.specs.Headers.{Seen, find_header, count_headers, weight, is_for, is_notice_of, is_work_of}
 use Rattle.il_machine.specs.Look.{look}
-use Rattle.il_machine.specs.Ports.{is_joined, unmade}
-use Rattle.il_machine.specs.Room.{port_places}
+use Rattle.il_machine.specs.Ports.{is_joined, has_no_header}
+use Rattle.il_machine.specs.Room.{port_reserve}
 use Rattle.il_machine.specs.Due.{each_port}
 use Rattle.il_machine.specs.Components.{with_new_component, free_refusal, without_component}
 use Rattle.il_machine.specs.Sound.{Sound, IsSound, IsLawfulSetting, IsMadeFor, IsOwnedSo, IsUnitSound, port_at}
@@ -165,9 +165,9 @@ default_lawful kind port setting e = elim (at_two_replicas (inputs_of kind) (out
   | inr h ↦ let f : is_input kind port ≡ false = le-ltb port (inputs_of kind) h.0 in rw (f, h.2) (default_definition kind false, kind_format kind false (default_setting kind false).definition.format (output_format kind (omega (arith, h.0, h.1))))
 ]
 
-fresh_places : (n : ℕ) → sum_by port_places (replicate n fresh_port) ≡ 0
+fresh_places : (n : ℕ) → sum_by port_reserve (replicate n fresh_port) ≡ 0
 fresh_places zero = refl
-fresh_places (suc n) = let s = sum_by-cons port_places fresh_port (replicate n fresh_port) in let i = fresh_places n in omega arith
+fresh_places (suc n) = let s = sum_by-cons port_reserve fresh_port (replicate n fresh_port) in let i = fresh_places n in omega arith
 
 sound_fresh : (h : Handle) (kind : Kind) → IsSized kind → IsSound (fresh h kind)
 sound_fresh h kind z = record {
@@ -277,14 +277,14 @@ sound_new w h kind S n z =
 
 -- ---- a component that leaves
 
-pub free_handle_passes : (headers : Seen) (c : Component) → free_refusal headers c ≡ None → (each_port c (unmade headers) ≡ true) × (list_any is_joined (ports_of c) ≡ false)
+pub free_handle_passes : (headers : Seen) (c : Component) → free_refusal headers c ≡ None → (each_port c (has_no_header headers) ≡ true) × (list_any is_joined (ports_of c) ≡ false)
 free_handle_passes headers c h =
-    let a = (passed (not (is_loaded c.state || is_invalid c.state) || (is_some c.pending || (not (each_port c (unmade headers)) || (list_any is_joined (ports_of c) || (is_some c.work || (c.client_out || false)))))) _ _ h).0 in
+    let a = (passed (not (is_loaded c.state || is_invalid c.state) || (is_some c.pending || (not (each_port c (has_no_header headers)) || (list_any is_joined (ports_of c) || (is_some c.work || (c.client_out || false)))))) _ _ h).0 in
     let b = not_either (not (is_loaded c.state || is_invalid c.state)) _ a in
     let d = not_either (is_some c.pending) _ b.1 in
-    let e = not_either (not (each_port c (unmade headers))) _ d.1 in
+    let e = not_either (not (each_port c (has_no_header headers))) _ d.1 in
     let f = not_either (list_any is_joined (ports_of c)) _ e.1 in
-    (not_not (each_port c (unmade headers)) e.0, f.0)
+    (not_not (each_port c (has_no_header headers)) e.0, f.0)
 
 pub sound_removed : (w : World) (i : ℕ) (c : Component) → Sound w → slice_get w.components i ≡ Some c → free_refusal (look w).headers c ≡ None → Sound (without_component i c w)
 sound_removed w i c S t h =
@@ -307,7 +307,7 @@ sound_removed w i c S t h =
                 let x : Some a.component ≡ Some c = sym a.there ∙ (ap (slice_get cs) q ∙ t) in
                 let s : a.component ≡ c = cc in
                 let f : port_of c key.port ≡ Some p = rw (← s) a.port in
-                let u = all_pass (unmade (look w).headers) (ports_of c) key.port p F.0 f in
+                let u = all_pass (has_no_header (look w).headers) (ports_of c) key.port p F.0 f in
                 let l = none_passes is_joined (ports_of c) key.port p F.1 f in
                 inr (record { alone = unlinked p l; bare = eqb-true (count_headers (is_for p.key) w.headers) 0 u })
             | inr d ↦

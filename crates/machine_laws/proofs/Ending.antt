@@ -18,7 +18,7 @@ use Rattle.il_machine.specs.Lists.{holds_at}
 use Rattle.il_machine.specs.World.{Component, World, port_of, with_port, told}
 use Rattle.il_machine.specs.Look.{look}
 use Rattle.il_machine.specs.Ports.{is_steady}
-use Rattle.il_machine.specs.Room.{is_by_client, port_places}
+use Rattle.il_machine.specs.Room.{is_by_client, port_reserve}
 use Rattle.il_machine.specs.Due.{Thing, Transition, Flush, PortMode, WaitingMark, is_due_to, due_in, has_due, first_due, reached, completed_for, lost_by, restarted, with_part, all_given_back, arrived, arrived_at, transition_happened, mode_completion, all_told, happened, Happens, HappenTimes, ClosesTo}
 use Rattle.il_machine.proofs.Places.{is_first_place, passes_at}
 use Rattle.machine_laws.proofs.Finding.{either}
@@ -39,7 +39,7 @@ pending_weight None = 0
 pending_weight (Some p) = target_weight p.target
 
 abbrev left_in : Component → ℕ
-left_in c = pending_weight c.pending + sum_by port_places c.ports
+left_in c = pending_weight c.pending + sum_by port_reserve c.ports
 
 abbrev left : World → ℕ
 left w = sum_by left_in w.components
@@ -60,15 +60,15 @@ some_weight Executing = omega arith
 some_weight Pause = omega arith
 some_weight WaitForResources = omega arith
 
-none_after : (p : Pending) (c : Component) → left_in (completed_for p (reached p c)) ≡ sum_by port_places c.ports
+none_after : (p : Pending) (c : Component) → left_in (completed_for p (reached p c)) ≡ sum_by port_reserve c.ports
 none_after p c = either (is_by_client p.cause) (λ b. rw b (omega arith)) (λ b. rw b (omega arith))
 
-little_after : (p : Pending) (c : Component) → left_in (lost_by p (completed_for p (reached p c))) ≤ 1 + sum_by port_places c.ports
+little_after : (p : Pending) (c : Component) → left_in (lost_by p (completed_for p (reached p c))) ≤ 1 + sum_by port_reserve c.ports
 little_after p c = either (is_by_client p.cause)
     (λ b. either c.loss_mark (λ m. rw (b, m) (omega arith)) (λ m. rw (b, m) (omega arith)))
     (λ b. either c.loss_mark (λ m. rw (b, m) (omega arith)) (λ m. rw (b, m) (omega arith)))
 
-fewer_at : (number : ℕ) (t : State) (p : Pending) (c : Component) → left_in (arrived_at number t p c) < target_weight t + sum_by port_places c.ports
+fewer_at : (number : ℕ) (t : State) (p : Pending) (c : Component) → left_in (arrived_at number t p c) < target_weight t + sum_by port_reserve c.ports
 fewer_at number Idle p c = either (is_down c.state) (λ d. rw d (omega arith)) (λ d. let l = little_after p (with_part (restarted c) c) in rw d (omega arith))
 fewer_at number Loaded p c = let n = none_after p (all_given_back c) in let g = unheld_places c.ports in omega arith
 fewer_at number Executing p c = omega arith
@@ -84,10 +84,10 @@ fewer_arrived number p c e =
 
 -- ---- a port
 
-fewer_port : (event : Event) (k : ℕ) (new old : PortState) (c : Component) → slice_get c.ports k ≡ Some old → port_places new < port_places old → left_in (told event (with_port k new c)) < left_in c
+fewer_port : (event : Event) (k : ℕ) (new old : PortState) (c : Component) → slice_get c.ports k ≡ Some old → port_reserve new < port_reserve old → left_in (told event (with_port k new c)) < left_in c
 fewer_port event k new old c e lt =
-    let s = sum_by-set port_places c.ports k new old (slice_get_within c.ports k old e) in
-    let o : port_places (get_or c.ports k old) ≡ port_places old = ap port_places (get_or_from_slice_get c.ports k old old e) in
+    let s = sum_by-set port_reserve c.ports k new old (slice_get_within c.ports k old e) in
+    let o : port_reserve (get_or c.ports k old) ≡ port_reserve old = ap port_reserve (get_or_from_slice_get c.ports k old old e) in
     omega arith
 
 mode_fewer : (c : Component) (index : ℕ) (p : Port) (m : Mode) → port_of c index ≡ Some p → p.state.mode ≡ m → is_steady m ≡ false

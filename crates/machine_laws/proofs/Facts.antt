@@ -16,7 +16,7 @@ use Rattle.il_machine.specs.Look.{look}
 use Rattle.il_machine.specs.Census.{note_numbers, times}
 use Rattle.il_machine.specs.Components.{free_refusal}
 use Rattle.il_machine.specs.Flow.{End, end_of}
-use Rattle.il_machine.specs.Ports.{unmade}
+use Rattle.il_machine.specs.Ports.{has_no_header}
 use Rattle.il_machine.specs.Sound.{Sound, IsSound, IsMadeFor, IsOwnedSo, AreJoined, port_at}
 use Rattle.machine_laws.proofs.Every.{all_pass}
 use Rattle.machine_laws.proofs.Finding.{either, found_head, found_tail, without_else, without_same, once_without, count_without}
@@ -282,6 +282,6 @@ module _ (w : World) (i : ℕ) (c : Component) (S : Sound w) (t : slice_get w.co
       let a = notes_counted in
       let b = count_le (λ s. is_notice_of (number_of c) s.owner) (is_ports (number_of c)) w.headers P.once notice_weighs_own in
       let d = below_ports (is_ports (number_of c)) (ports_of c) w.headers P.once own_weighs in
-      let e = most_for_ports 0 (ports_of c) w.headers (λ k p g. let z = eqb-true (count_headers (is_for p.key) w.headers) 0 (all_pass (unmade (look w).headers) (ports_of c) k p F.0 g) in omega arith) in
+      let e = most_for_ports 0 (ports_of c) w.headers (λ k p g. let z = eqb-true (count_headers (is_for p.key) w.headers) 0 (all_pass (has_no_header (look w).headers) (ports_of c) k p F.0 g) in omega arith) in
       let z : 0 * length (ports_of c) ≡ 0 = zero-mul (length (ports_of c)) in
       omega arith

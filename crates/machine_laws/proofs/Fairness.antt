@@ -18,7 +18,7 @@ use Rattle.il_machine.specs.Headers.{Seen}
 use Rattle.il_machine.specs.Ports.{settled}
 use Rattle.il_machine.specs.Room.{is_by_client}
 use Rattle.il_machine.specs.Due.{each_port, is_due_to, reached, completed, completed_for, restarted, with_part, unheld, all_given_back, lost, lost_by, arrived, arrived_at, waits_after}
-use Rattle.il_machine.specs.Commands.{at_rest, invalidated}
+use Rattle.il_machine.specs.Commands.{calmed, invalidated}
 use Rattle.il_machine.specs.Units.{need_of}
 use Rattle.il_machine.specs.Sound.{IsUnitSound, may_work, needs_units}
 use Rattle.machine_laws.proofs.Finding.{either}
@@ -342,12 +342,12 @@ fair_begun spare waits p c U e l n m = record {
 
 -- ---- StateSet(Invalid)
 
-rested_held : (test : Bool) (ps : List PortState) → AreHeldIf test ps → AreHeldIf test (map at_rest ps)
-rested_held test ps A = All-map (λ q. q.held ≡ true → test ≡ true) at_rest ps A
+rested_held : (test : Bool) (ps : List PortState) → AreHeldIf test ps → AreHeldIf test (map calmed ps)
+rested_held test ps A = All-map (λ q. q.held ≡ true → test ≡ true) calmed ps A
 
 pub fair_invalidated : (waits : ℕ) (c : Component) → IsUnitSound waits c → IsFair 0 waits waits c (invalidated c)
 fair_invalidated waits c U = record {
-  keeps = record { kind = refl; weights = refl; count = length-map c.ports at_rest; work = refl };
+  keeps = record { kind = refl; weights = refl; count = length-map c.ports calmed; work = refl };
   stays = λ work w. refl;
   taken = omega arith;
   waiting = λ n w. absurd cc;
@@ -357,7 +357,7 @@ fair_invalidated waits c U = record {
     waiting = λ h. absurd cc;
     numbered = λ n w. absurd cc;
     way = λ q w. absurd cc;
-    held = if_held (is_late c.settings.kind) (map at_rest c.ports) (rested_held (is_late c.settings.kind) c.ports (held_if waits c U));
+    held = if_held (is_late c.settings.kind) (map calmed c.ports) (rested_held (is_late c.settings.kind) c.ports (held_if waits c U));
     inputs = U.inputs;
   };
 }

@@ -17,8 +17,8 @@ use Rattle.il_machine.specs.Parts.{file_format, terms_of}
 use Rattle.il_machine.specs.Room.{events_in, used}
 use Rattle.il_machine.specs.Census.{note_numbers, work_numbers}
 use Rattle.il_machine.specs.Flow.{done_note}
-use Rattle.il_machine.specs.Claims.{Carried}
-use Rattle.il_machine.specs.Stepping.{Done, ended_from, IsDoneOf}
+use Rattle.il_machine.specs.Claims.{CarriedHeader}
+use Rattle.il_machine.specs.Stepping.{WorkDone, ended_from, IsDoneOf}
 use Rattle.il_machine.specs.Finishing.{Landing, Again, Onward, Noted, landing, tells_mark, mark_note, landing_note, notes_of_header, notes_of_headers, end_note, fault_note, tells_end, notes_after, part_by, gone_through, announced, announced_at, stepped_back, with_landed, finished_by, finished, all_landed, is_an_input}
 use Rattle.il_machine.specs.Sound.{Sound, IsSound, IsUnitSound, IsPickedFor}
 use Rattle.machine_laws.proofs.Every.{at_place, set_there}
@@ -48,19 +48,19 @@ no_event : (b : Bool) (n : ℕ) → events_in (done_note b n ∷ []) ≡ 0
 no_event true n = refl
 no_event false n = refl
 
-landing_events : (l : Landing) (c : Component) (x : Carried) → events_in (landing_note l c x) ≡ 0
+landing_events : (l : Landing) (c : Component) (x : CarriedHeader) → events_in (landing_note l c x) ≡ 0
 landing_events Again c x = refl
 landing_events Onward c x = refl
 landing_events Noted c x = no_event (is_an_input c x) x.header.number
 
-header_events : (c : Component) (s : Stream) (done : Done) (x : Carried) → events_in (notes_of_header c s done x) ≤ 1
+header_events : (c : Component) (s : Stream) (done : WorkDone) (x : CarriedHeader) → events_in (notes_of_header c s done x) ≤ 1
 header_events c s done x =
     let l = landing_events (landing c s done x) c x in
     either (tells_mark c s done x)
     (λ t. let a = events_append (mark_note x.header.mark) (landing_note (landing c s done x) c x) in let m = mark_events x.header.mark in rw t (omega arith))
     (λ f. rw f (omega arith))
 
-headers_events : (c : Component) (s : Stream) (done : Done) (xs : List Carried) → events_in (notes_of_headers c s done xs) ≤ length xs
+headers_events : (c : Component) (s : Stream) (done : WorkDone) (xs : List CarriedHeader) → events_in (notes_of_headers c s done xs) ≤ length xs
 headers_events c s done [] = omega arith
 headers_events c s done (x ∷ xs) =
     let a = events_append (notes_of_header c s done x) (notes_of_headers c s done xs) in
@@ -76,7 +76,7 @@ fault_events : (o : Option PartFault) → events_in (fault_note o) ≤ 1
 fault_events None = omega arith
 fault_events (Some fault) = omega arith
 
-after_events : (c : Component) (s : Stream) (done : Done) → events_in (notes_after c s done) ≤ length done.headers + 2
+after_events : (c : Component) (s : Stream) (done : WorkDone) → events_in (notes_after c s done) ≤ length done.headers + 2
 after_events c s done =
     let a = events_append (notes_of_headers c s done done.headers ++ end_note (tells_end c done)) (fault_note done.fault) in
     let b = events_append (notes_of_headers c s done done.headers) (end_note (tells_end c done)) in
@@ -85,7 +85,7 @@ after_events c s done =
     let f = fault_events done.fault in
     omega arith
 
-sound_back : (c : Component) (s : Stream) (done : Done) (work : Work) → IsSound c → c.work ≡ Some work → AreOf work.headers done.headers → IsSound (stepped_back c s done)
+sound_back : (c : Component) (s : Stream) (done : WorkDone) (work : Work) → IsSound c → c.work ≡ Some work → AreOf work.headers done.headers → IsSound (stepped_back c s done)
 sound_back c s done work S e A =
     let d : Component = stepped_back c s done in
     let k : costs d ≡ costs c = costs_same c d c.commands refl in
@@ -97,7 +97,7 @@ sound_back c s done work S e A =
 
 -- ---- the part
 
-ended_length : (t : Terms) (frames : ℕ) (headers : List Carried) (port count : ℕ) → length (ended_from t frames headers port count) ≡ count
+ended_length : (t : Terms) (frames : ℕ) (headers : List CarriedHeader) (port count : ℕ) → length (ended_from t frames headers port count) ≡ count
 ended_length t frames headers port zero = refl
 ended_length t frames headers port (suc count) = ap suc (ended_length t frames headers (port + 1) count)
 
@@ -106,11 +106,11 @@ inputs_there c S =
     let f : length (formats_of c.settings.ports) ≡ length c.settings.ports = length-map c.settings.ports (λ p. p.definition.format) in
     length-take-le (inputs_of c.settings.kind) (formats_of c.settings.ports) (omega (arith, f, (S.whole).ports))
 
-part_inputs : (c : Component) (s : Stream) (done : Done) (o : Option PartFault) → IsSound c → length c.part.ended_inputs ≡ inputs_of c.settings.kind → length (part_by c s done o).ended_inputs ≡ inputs_of c.settings.kind
+part_inputs : (c : Component) (s : Stream) (done : WorkDone) (o : Option PartFault) → IsSound c → length c.part.ended_inputs ≡ inputs_of c.settings.kind → length (part_by c s done o).ended_inputs ≡ inputs_of c.settings.kind
 part_inputs c s done None S e = ended_length (terms_of c) 0 done.headers 0 (length (terms_of c).inputs) ∙ inputs_there c S
 part_inputs c s done (Some fault) S e = e
 
-units_back : (waits : ℕ) (c : Component) (s : Stream) (done : Done) → IsSound c → IsUnitSound waits c → IsUnitSound waits (stepped_back c s done)
+units_back : (waits : ℕ) (c : Component) (s : Stream) (done : WorkDone) → IsSound c → IsUnitSound waits c → IsUnitSound waits (stepped_back c s done)
 units_back waits c s done S U = record { holds = U.holds; gives = U.gives; waiting = U.waiting; numbered = U.numbered; way = U.way; held = U.held; inputs = part_inputs c s done done.fault S U.inputs }
 
 -- ---- a work of headers comes back
@@ -123,14 +123,14 @@ fault_numbers : (o : Option PartFault) → note_numbers (fault_note o) ≡ []
 fault_numbers None = refl
 fault_numbers (Some fault) = refl
 
-pub after_numbers : (c : Component) (s : Stream) (done : Done) → note_numbers (notes_after c s done) ≡ note_numbers (notes_of_headers c s done done.headers)
+pub after_numbers : (c : Component) (s : Stream) (done : WorkDone) → note_numbers (notes_after c s done) ≡ note_numbers (notes_of_headers c s done done.headers)
 after_numbers c s done =
     let h : List Note = notes_of_headers c s done done.headers in
     let a = numbers_append (h ++ end_note (tells_end c done)) (fault_note done.fault) in
     let b = numbers_append h (end_note (tells_end c done)) in
     a ∙ (rw (fault_numbers done.fault, append-nil (note_numbers (h ++ end_note (tells_end c done)))) (b ∙ rw (end_numbers (tells_end c done)) (append-nil (note_numbers h))))
 
-sound_landed : (w : World) (i : ℕ) (c : Component) (work : Work) (done : Done) (s : Stream) → Sound w → slice_get w.components i ≡ Some c → c.work ≡ Some work → AreOf work.headers done.headers
+sound_landed : (w : World) (i : ℕ) (c : Component) (work : Work) (done : WorkDone) (s : Stream) → Sound w → slice_get w.components i ≡ Some c → c.work ≡ Some work → AreOf work.headers done.headers
     → Sound (with_landed i c done s w)
 sound_landed w i c work done s S t e A =
     let P = parts_of w S in
@@ -220,12 +220,12 @@ sound_announced w i c work S t e a =
 
 -- ---- both
 
-sound_at_stream : (w : World) (i : ℕ) (c : Component) (work : Work) (done : Done) (o : Option Stream) → Sound w → slice_get w.components i ≡ Some c → c.work ≡ Some work → AreOf work.headers done.headers
+sound_at_stream : (w : World) (i : ℕ) (c : Component) (work : Work) (done : WorkDone) (o : Option Stream) → Sound w → slice_get w.components i ≡ Some c → c.work ≡ Some work → AreOf work.headers done.headers
     → Sound (changed_at o w (λ s. with_landed i c done s w))
 sound_at_stream w i c work done None S t e A = S
 sound_at_stream w i c work done (Some s) S t e A = sound_landed w i c work done s S t e A
 
-pub sound_finished : (w : World) (i : ℕ) (c : Component) (work : Work) (done : Done) → Sound w → slice_get w.components i ≡ Some c → c.work ≡ Some work → IsDoneOf w c work done → Sound (finished i c done w)
+pub sound_finished : (w : World) (i : ℕ) (c : Component) (work : Work) (done : WorkDone) → Sound w → slice_get w.components i ≡ Some c → c.work ≡ Some work → IsDoneOf w c work done → Sound (finished i c done w)
 sound_finished w i c work done S t e D =
     let P = parts_of w S in
     let goal : Sound (finished_by i c done (Some work) w) = either work.announces

@@ -5,7 +5,7 @@ use Rattle.il_machine.specs.declared.port.Link.{Link}
 use Rattle.il_machine.specs.declared.port.Port.{Port}
 use Rattle.il_machine.specs.declared.header.HeaderState.{HeaderState}
 use Rattle.il_machine.specs.declared.header.Owner.TheVariants as owners
-use Rattle.il_machine.specs.declared.header.Place.TheVariants.{Out}
+use Rattle.il_machine.specs.declared.header.Queue.TheVariants.{Out}
 use Rattle.il_machine.specs.declared.header.Spot.{Spot}
 use Rattle.il_machine.specs.declared.header.Spot.TheVariants.{TodoBack}
 use Rattle.il_machine.specs.World.{Component, HeaderRecord, World, port_of}
@@ -13,7 +13,7 @@ use Rattle.il_machine.specs.Headers.{seen, count_headers, is_for, unchanged, cle
 use Rattle.il_machine.specs.Look.{look}
 use Rattle.il_machine.specs.Ports.{accepting, is_supplier, is_input_port}
 use Rattle.il_machine.specs.Buffers.{without_header}
-use Rattle.il_machine.specs.Flow.{End, end_of, other_end, supply_idle, supplied_place, tunnel_header, supplied_by, with_supplied, in_port, front_unmade, front_put, at_link, handed_over, unused_spot, returned}
+use Rattle.il_machine.specs.Flow.{End, end_of, other_end, supply_idle, supplied_queue, tunnel_header, supplied_by, with_supplied, in_port, front_unmade, front_put, at_link, handed_over, unused_spot, returned}
 use Rattle.il_machine.specs.Sound.{Sound, IsMadeFor, IsOwnedSo, port_at}
 use Rattle.machine_laws.proofs.Keys.{for_which, for_port, is_there, none_or_some}
 use Rattle.machine_laws.proofs.Lookups.{port_there_at}
@@ -35,7 +35,7 @@ in_for cs key hs numbered made n P I = let O : IsOwnedSo (I.header).state (owner
 
 -- ---- made
 
-supplied_is : (input : Bool) → supplied_place input ≢ Out
+supplied_is : (input : Bool) → supplied_queue input ≢ Out
 supplied_is true e = cc
 supplied_is false e = cc
 

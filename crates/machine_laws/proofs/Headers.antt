@@ -6,12 +6,12 @@ use Rattle.il_machine.specs.declared.port.Port.{Port}
 use Rattle.il_machine.specs.declared.header.HeaderState.{HeaderState}
 use Rattle.il_machine.specs.declared.header.Owner.{Owner}
 use Rattle.il_machine.specs.declared.header.Owner.TheVariants as owners
-use Rattle.il_machine.specs.declared.header.Place.TheVariants.{Out}
+use Rattle.il_machine.specs.declared.header.Queue.TheVariants.{Out}
 use Rattle.il_machine.specs.declared.header.Spot.{Spot}
 use Rattle.il_machine.specs.declared.header.Spot.TheVariants.{TodoBack, TodoFront, DoneBack}
 use Rattle.il_machine.specs.Lists.{holds_at}
 use Rattle.il_machine.specs.World.{Component, HeaderRecord, number_of}
-use Rattle.il_machine.specs.Headers.{find_header, state_of, count_headers, weight, is_for, is_notice_of, is_work_of, put, put_at, changed, without, spot_place}
+use Rattle.il_machine.specs.Headers.{find_header, state_of, count_headers, weight, is_for, is_notice_of, is_work_of, put, put_at, changed, without, spot_queue}
 use Rattle.il_machine.specs.Sound.{IsMadeFor, IsOwnedSo, is_in_notes_of, is_key_of, port_at}
 use Rattle.machine_laws.proofs.Finding.{without_else, without_same, once_without, push_last, push_else, once_push, changed_nothing}
 use Rattle.machine_laws.proofs.Keys.{there_is, none_or_some}
@@ -122,7 +122,7 @@ worker_there cs hs numbered made P k n r f o =
 pub works_replaced : (n : ℕ) (r s : HeaderRecord) (hs ks : List HeaderRecord) → IsReplaced n r s hs ks → is_set_aside r.state.owner ≡ false → is_set_aside s.state.owner ≡ false → KeepsWorks hs ks
 works_replaced n r s hs ks R a b = keeps_works_but n hs ks R.others (λ k. worked_found k n hs r R.was ∙ not_in_work k r.state.owner a) (λ k. worked_found k n ks s R.here ∙ not_in_work k s.state.owner b)
 
-pub not_out : (spot : Spot) → spot_place spot ≢ Out
+pub not_out : (spot : Spot) → spot_queue spot ≢ Out
 not_out TodoBack e = cc
 not_out TodoFront e = cc
 not_out DoneBack e = cc

@@ -17,8 +17,8 @@ use Rattle.il_machine.specs.Headers.{seen, find_header, weight, is_for, is_work_
 use Rattle.il_machine.specs.Ports.{is_joined}
 use Rattle.il_machine.specs.Flow.{done_note}
 use Rattle.il_machine.specs.Census.{note_numbers, times}
-use Rattle.il_machine.specs.Claims.{Carried, carried, terms_in}
-use Rattle.il_machine.specs.Stepping.{Done, is_in, stepped, IsStepBy, IsDoneOf, IsDoneBy}
+use Rattle.il_machine.specs.Claims.{CarriedHeader, carried, terms_in}
+use Rattle.il_machine.specs.Stepping.{WorkDone, is_in, stepped, IsStepBy, IsDoneOf, IsDoneBy}
 use Rattle.il_machine.specs.Finishing.{Landing, Again, Onward, Noted, landing, is_finished, is_returning, is_tunnelled, is_an_input, tells_mark, load_after, key_at, landed_at, all_landed, mark_note, landing_note, notes_of_header, notes_of_headers}
 use Rattle.il_machine.specs.Sound.{IsMadeFor, IsPickedFor}
 use Rattle.machine_laws.proofs.Finding.{either, found_number}
@@ -35,7 +35,7 @@ use Rattle.machine_laws.proofs.Shifting.{Shifted, shifted_one, shift_in, shift_n
 -- ---- the headers that come back are those of the work
 
 -- one by one of the same port and number
-abbrev pub AreOf : List Picked → List Carried → Type 0
+abbrev pub AreOf : List Picked → List CarriedHeader → Type 0
 AreOf [] [] = Unit {0}
 AreOf (p ∷ ps) (x ∷ xs) = (x.port ≡ p.port) × (x.header.number ≡ p.number) × AreOf ps xs
 AreOf _ _ = ⊥
@@ -46,46 +46,46 @@ carried_of hs k (p ∷ ps) h =
     let r = header_there (find_header p.number hs) (λ s. is_for (record { component = k; port = p.port }) s ≡ true) (h 0 p refl) in
     rw r.1 (refl, found_number p.number hs r.0 r.1, carried_of hs k ps (λ j q e. h (suc j) q e))
 
-pub mapped_of : (f : Carried → Carried) → ((x : Carried) → (f x).port ≡ x.port) → ((x : Carried) → (f x).header.number ≡ x.header.number) → (ps : List Picked) (xs : List Carried) → AreOf ps xs → AreOf ps (map f xs)
+pub mapped_of : (f : CarriedHeader → CarriedHeader) → ((x : CarriedHeader) → (f x).port ≡ x.port) → ((x : CarriedHeader) → (f x).header.number ≡ x.header.number) → (ps : List Picked) (xs : List CarriedHeader) → AreOf ps xs → AreOf ps (map f xs)
 mapped_of f a b [] [] A = tt
 mapped_of f a b [] (x ∷ xs) A = absurd A
 mapped_of f a b (p ∷ ps) [] A = absurd A
 mapped_of f a b (p ∷ ps) (x ∷ xs) A = (a x ∙ A.0, b x ∙ A.1, mapped_of f a b ps xs A.2)
 
-pub stepped_number : (t : Terms) (frames : ℕ) (came : Incoming) (over : Bool) (x : Carried) → (stepped t frames came over x).header.number ≡ x.header.number
+pub stepped_number : (t : Terms) (frames : ℕ) (came : Incoming) (over : Bool) (x : CarriedHeader) → (stepped t frames came over x).header.number ≡ x.header.number
 stepped_number t frames came over x = either (is_in t x) (λ h. rw h refl) (λ h. rw h refl)
 
-step_of : (o : Option PartFault) (t : Terms) (s : Stream) (ps : List Picked) (headers : List Carried) (done : Done) → IsStepBy o t s headers done → AreOf ps headers → AreOf ps done.headers
+step_of : (o : Option PartFault) (t : Terms) (s : Stream) (ps : List Picked) (headers : List CarriedHeader) (done : WorkDone) → IsStepBy o t s headers done → AreOf ps headers → AreOf ps done.headers
 step_of None t s ps headers done h A =
     let e = h.3 in
     rw e (mapped_of _ (λ x. refl) (stepped_number t _ _ _) ps headers A)
 step_of (Some fault) t s ps headers done h A = rw (h.2) A
 
-pub done_of : (w : World) (c : Component) (work : Work) (done : Done) → IsDoneOf w c work done → work.announces ≡ false → ((j : ℕ) (p : Picked) → slice_get work.headers j ≡ Some p → IsPickedFor (seen w.headers) (number_of c) p)
+pub done_of : (w : World) (c : Component) (work : Work) (done : WorkDone) → IsDoneOf w c work done → work.announces ≡ false → ((j : ℕ) (p : Picked) → slice_get work.headers j ≡ Some p → IsPickedFor (seen w.headers) (number_of c) p)
     → AreOf work.headers done.headers
 done_of w c work done D f h =
     let e : IsDoneBy false w c work done = rw f at D in
     let s = there_is (stream_of done.component w) _ e in
     step_of done.fault (terms_in c work) s.0 work.headers (carried w.headers work.headers) done s.2 (carried_of w.headers (number_of c) work.headers h)
 
-pub numbers_of : (ps : List Picked) (xs : List Carried) → AreOf ps xs → map (λ p. p.number) ps ≡ map (λ x. x.header.number) xs
+pub numbers_of : (ps : List Picked) (xs : List CarriedHeader) → AreOf ps xs → map (λ p. p.number) ps ≡ map (λ x. x.header.number) xs
 numbers_of [] [] A = refl
 numbers_of [] (x ∷ xs) A = absurd A
 numbers_of (p ∷ ps) [] A = absurd A
 numbers_of (p ∷ ps) (x ∷ xs) A = let i = numbers_of ps xs A.2 in let n = A.1 in cc
 
-pub length_of : (ps : List Picked) (xs : List Carried) → AreOf ps xs → length xs ≡ length ps
+pub length_of : (ps : List Picked) (xs : List CarriedHeader) → AreOf ps xs → length xs ≡ length ps
 length_of [] [] A = refl
 length_of [] (x ∷ xs) A = absurd A
 length_of (p ∷ ps) [] A = absurd A
 length_of (p ∷ ps) (x ∷ xs) A = ap suc (length_of ps xs A.2)
 
 -- each header was made for its port
-abbrev pub AreMade : ℕ → List HeaderRecord → List Carried → Type 0
+abbrev pub AreMade : ℕ → List HeaderRecord → List CarriedHeader → Type 0
 AreMade k hs [] = Unit {0}
 AreMade k hs (x ∷ xs) = (made_at (record { component = k; port = x.port }) x.header.number hs ≡ true) × AreMade k hs xs
 
-pub made_of : (hs : List HeaderRecord) (k : ℕ) (ps : List Picked) (xs : List Carried) → AreOf ps xs → ((j : ℕ) (p : Picked) → slice_get ps j ≡ Some p → IsPickedFor (seen hs) k p) → AreMade k hs xs
+pub made_of : (hs : List HeaderRecord) (k : ℕ) (ps : List Picked) (xs : List CarriedHeader) → AreOf ps xs → ((j : ℕ) (p : Picked) → slice_get ps j ≡ Some p → IsPickedFor (seen hs) k p) → AreMade k hs xs
 made_of hs k [] [] A h = tt
 made_of hs k [] (x ∷ xs) A h = absurd A
 made_of hs k (p ∷ ps) [] A h = absurd A
@@ -110,7 +110,7 @@ done_number : (b : Bool) (n : ℕ) → note_numbers (done_note b n ∷ []) ≡ n
 done_number true n = refl
 done_number false n = refl
 
-landing_numbers : (l : Landing) (c : Component) (x : Carried) → note_numbers (landing_note l c x) ≡ landed_number l x.header.number
+landing_numbers : (l : Landing) (c : Component) (x : CarriedHeader) → note_numbers (landing_note l c x) ≡ landed_number l x.header.number
 landing_numbers Again c x = refl
 landing_numbers Onward c x = refl
 landing_numbers Noted c x = done_number (is_an_input c x) x.header.number
@@ -119,7 +119,7 @@ mark_numbers : (o : Option Mark) → note_numbers (mark_note o) ≡ []
 mark_numbers None = refl
 mark_numbers (Some mark) = refl
 
-header_numbers : (c : Component) (s : Stream) (done : Done) (x : Carried) → note_numbers (notes_of_header c s done x) ≡ landed_number (landing c s done x) x.header.number
+header_numbers : (c : Component) (s : Stream) (done : WorkDone) (x : CarriedHeader) → note_numbers (notes_of_header c s done x) ≡ landed_number (landing c s done x) x.header.number
 header_numbers c s done x = either (tells_mark c s done x)
     (λ t. rw t (numbers_append (mark_note x.header.mark) (landing_note (landing c s done x) c x) ∙ rw (mark_numbers x.header.mark) (landing_numbers (landing c s done x) c x)))
     (λ f. rw f (landing_numbers (landing c s done x) c x))
@@ -143,7 +143,7 @@ noted_apart : (tunnelled finished returning : Bool) → (l : Landing) → (not t
 noted_apart true finished returning l h = absurd cc
 noted_apart false finished returning l h = refl
 
-noted_client : (c : Component) (s : Stream) (done : Done) (x : Carried) → landing c s done x ≡ Noted → is_tunnelled c x ≡ false
+noted_client : (c : Component) (s : Stream) (done : WorkDone) (x : CarriedHeader) → landing c s done x ≡ Noted → is_tunnelled c x ≡ false
 noted_client c s done x h = either (not (is_tunnelled c x) && (is_finished c s done x || is_returning c x))
     (λ t. noted_apart (is_tunnelled c x) (is_finished c s done x) (is_returning c x) Noted t)
     (λ f. either (is_finished c s done x && not (is_returning c x))
@@ -165,7 +165,7 @@ module _ (ports : PortKey → Option Port) (c : Component) (there : (port : ℕ)
       let m = weight_below (worked_at k n ks) in
       (r.0, r.1, o, z, omega arith)
 
-  to_port : (ks : List HeaderRecord) (notes work : List ℕ) (x : Carried) (spot : Spot) (load : Load) → Shifted ports (number_of c) hs notes (x.header.number ∷ work) ks
+  to_port : (ks : List HeaderRecord) (notes work : List ℕ) (x : CarriedHeader) (spot : Spot) (load : Load) → Shifted ports (number_of c) hs notes (x.header.number ∷ work) ks
       → made_at (record { component = number_of c; port = x.port }) x.header.number hs ≡ true → Shifted ports (number_of c) hs notes work (put (key_at c x) spot x.header.number (loaded load) ks)
   to_port ks notes work x spot load A m =
       let k : ℕ = number_of c in
@@ -178,7 +178,7 @@ module _ (ports : PortKey → Option Port) (c : Component) (there : (port : ℕ)
       shifted_one ports k n hs ks (put key spot n (loaded load) ks) r (put_at key spot (loaded load r)) notes (n ∷ work) notes work A R (record { port = refl; peer = refl; home = refl }) (f, not_out spot)
       (rw F.2 (shift_in k n key notes work F.3 F.4))
 
-  to_note : (ks : List HeaderRecord) (notes work : List ℕ) (x : Carried) (load : Load) → Shifted ports (number_of c) hs notes (x.header.number ∷ work) ks
+  to_note : (ks : List HeaderRecord) (notes work : List ℕ) (x : CarriedHeader) (load : Load) → Shifted ports (number_of c) hs notes (x.header.number ∷ work) ks
       → made_at (record { component = number_of c; port = x.port }) x.header.number hs ≡ true → is_tunnelled c x ≡ false
       → Shifted ports (number_of c) hs (notes ++ x.header.number ∷ []) work (changed x.header.number (λ r. given_to (owners.Notice (number_of c)) (loaded load r)) ks)
   to_note ks notes work x load A m u =
@@ -197,14 +197,14 @@ module _ (ports : PortKey → Option Port) (c : Component) (there : (port : ℕ)
       shifted_one ports k n hs ks (changed n change ks) r (change r) notes (n ∷ work) (notes ++ n ∷ []) work A R (record { port = refl; peer = refl; home = refl }) (refl, C.1, ap (λ (y : PortKey). y.component) C.0)
       (rw F.2 (shift_noted k n notes work F.3 F.4))
 
-  pub one_landed : (ks : List HeaderRecord) (notes work : List ℕ) (s : Stream) (done : Done) (x : Carried) (load : Load) (l : Landing) → landing c s done x ≡ l → Shifted ports (number_of c) hs notes (x.header.number ∷ work) ks
+  pub one_landed : (ks : List HeaderRecord) (notes work : List ℕ) (s : Stream) (done : WorkDone) (x : CarriedHeader) (load : Load) (l : Landing) → landing c s done x ≡ l → Shifted ports (number_of c) hs notes (x.header.number ∷ work) ks
       → made_at (record { component = number_of c; port = x.port }) x.header.number hs ≡ true → Shifted ports (number_of c) hs (notes ++ landed_number l x.header.number) work (landed_at l c x load ks)
   one_landed ks notes work s done x load Again e A m = rw (append-nil notes) (to_port ks notes work x TodoFront load A m)
   one_landed ks notes work s done x load Onward e A m = rw (append-nil notes) (to_port ks notes work x DoneBack load A m)
   one_landed ks notes work s done x load Noted e A m = to_note ks notes work x load A m (noted_client c s done x e)
 
   -- all of them
-  pub shifted_in : (ks : List HeaderRecord) (notes : List ℕ) (s : Stream) (done : Done) (xs : List Carried) → Shifted ports (number_of c) hs notes (map (λ x. x.header.number) xs) ks → AreMade (number_of c) hs xs
+  pub shifted_in : (ks : List HeaderRecord) (notes : List ℕ) (s : Stream) (done : WorkDone) (xs : List CarriedHeader) → Shifted ports (number_of c) hs notes (map (λ x. x.header.number) xs) ks → AreMade (number_of c) hs xs
       → Shifted ports (number_of c) hs (notes ++ note_numbers (notes_of_headers c s done xs)) [] (all_landed c s done xs ks)
   shifted_in ks notes s done [] A M = rw (append-nil notes) A
   shifted_in ks notes s done (x ∷ xs) A M =

@@ -50,10 +50,10 @@ owned_is key (owners.Notice c) h = absurd cc
 owned_is key (owners.Work c) h = absurd cc
 
 pub todo_owner : (key : PortKey) (s : HeaderState) → in_todo key s ≡ true → s.owner ≡ owners.Port key
-todo_owner key s h = owned_is key s.owner (both_of (is_todo s.place) (is_owned_by key s.owner) h).1
+todo_owner key s h = owned_is key s.owner (both_of (is_todo s.queue) (is_owned_by key s.owner) h).1
 
 pub done_owner : (key : PortKey) (s : HeaderState) → in_done key s ≡ true → s.owner ≡ owners.Port key
-done_owner key s h = owned_is key s.owner (both_of (is_done s.place) (is_owned_by key s.owner) h).1
+done_owner key s h = owned_is key s.owner (both_of (is_done s.queue) (is_owned_by key s.owner) h).1
 
 -- a header in a list of a port, by its number
 pub record IsIn (key : PortKey) (hs : List HeaderRecord) (n : ℕ) : Type 0 where

@@ -15,7 +15,7 @@ use Rattle.il_machine.specs.Ports.{is_input_port}
 use Rattle.il_machine.specs.Room.{is_event, events_in}
 use Rattle.il_machine.specs.Census.{note_numbers, times}
 use Rattle.il_machine.specs.Notes.{first_taken, with_given, with_client, back_in}
-use Rattle.il_machine.specs.Flow.{done_note, noticed}
+use Rattle.il_machine.specs.Flow.{done_note, front_noticed}
 use Rattle.il_machine.specs.Sound.{Sound, IsSound, IsOwnedSo, AreNoted, AreRising}
 use Rattle.machine_laws.proofs.Every.{at_set}
 use Rattle.machine_laws.proofs.Lookups.{rising_set, same_place, port_parts, port_there_at}
@@ -121,19 +121,19 @@ parts_noticed waits after i cs hs numbered made c index p b n P t F e l I =
     }
 
 noticed_front : (w : World) (i : ℕ) (c : Component) (index : ℕ) (p : Port) (ns : List ℕ) → Sound w → slice_get w.components i ≡ Some c → port_of c index ≡ Some p → p.state.link ≡ None
-    → ns ≡ (seen w.headers).todo p.key → Sound (noticed i c p ns w)
+    → ns ≡ (seen w.headers).todo p.key → Sound (front_noticed i c p ns w)
 noticed_front w i c index p [] S t e l q = S
 noticed_front w i c index p (n ∷ rest) S t e l q =
     let P = parts_of w S in
     let d : Component = noted (done_note (is_input_port p) n) c in
     let F = aside_there w i c d S t (aside_noted (done_note (is_input_port p) n) c) in
     let I = first_in p.key w.headers ((seen w.headers).todo p.key) rest n (todo_in p.key w.headers P.once) (sym q) in
-    sound_from (noticed i c p (n ∷ rest) w) (parts_noticed w.waits w.waits i w.components w.headers w.numbered w.made c index p (is_input_port p) n P t F e l I)
+    sound_from (front_noticed i c p (n ∷ rest) w) (parts_noticed w.waits w.waits i w.components w.headers w.numbered w.made c index p (is_input_port p) n P t F e l I)
     (resources_changed w i c d S t refl F)
 
 -- the front of a client port's todo is queued as a note
 pub sound_noticed : (w : World) (i : ℕ) (c : Component) (index : ℕ) (p : Port) → Sound w → slice_get w.components i ≡ Some c → port_of c index ≡ Some p → p.state.link ≡ None
-    → Sound (noticed i c p ((seen w.headers).todo p.key) w)
+    → Sound (front_noticed i c p ((seen w.headers).todo p.key) w)
 sound_noticed w i c index p S t e l = noticed_front w i c index p ((seen w.headers).todo p.key) S t e l refl
 
 -- ---- out of a note

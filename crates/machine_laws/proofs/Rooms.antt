@@ -21,7 +21,7 @@ use Rattle.il_machine.specs.Lists.{holds_at}
 use Rattle.il_machine.specs.World.{Component, noted, told}
 use Rattle.il_machine.specs.Headers.{weight}
 use Rattle.il_machine.specs.Ports.{is_going_to}
-use Rattle.il_machine.specs.Room.{is_event, events_in, cost_of, sel_cost, is_by_client, port_places, is_losing, work_places, used, room}
+use Rattle.il_machine.specs.Room.{is_event, events_in, cost_of, sel_cost, is_by_client, port_reserve, is_losing, work_reserve, used, room}
 use Rattle.il_machine.specs.Files.{file_port_format}
 use Rattle.il_machine.specs.Census.{note_numbers}
 use Rattle.il_machine.specs.Sound.{IsSound, IsLawfulSetting, is_fit, may_have, is_lawful_cause}
@@ -37,12 +37,12 @@ abbrev pub asked : Component → ℕ
 asked c = weight (holds_at c.pending (λ p. is_by_client p.cause))
 
 abbrev pub places : Component → ℕ
-places c = sum_by port_places c.ports
+places c = sum_by port_reserve c.ports
 
 abbrev pub loss : Component → ℕ
 loss c = weight (is_losing c)
 
-pub used_is : (c : Component) → used c ≡ events_in c.notes + costs c + asked c + places c + work_places c.work + loss c
+pub used_is : (c : Component) → used c ≡ events_in c.notes + costs c + asked c + places c + work_reserve c.work + loss c
 used_is c = omega arith
 
 sel_same : (c d : Component) → length d.ports ≡ length c.ports → (sel : PortSel) → sel_cost d sel ≡ sel_cost c sel

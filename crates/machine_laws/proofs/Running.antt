@@ -20,8 +20,8 @@ use Rattle.il_machine.specs.Look.{Look}
 use Rattle.il_machine.specs.World.{Component, Work, ports_from, ports_of, number_of, told}
 use Rattle.il_machine.specs.Headers.{weight}
 use Rattle.il_machine.specs.Ports.{is_going_to}
-use Rattle.il_machine.specs.Room.{cost_of, sel_cost, port_places, used}
-use Rattle.il_machine.specs.Commands.{is_selected, busy_port, is_flushing, is_changing, is_waiting, pending_reason, run_reason, run_idle, state_fault, begun, selected_from, with_selected, flushing, disabling, enabling, waiting, carried_out, run_front}
+use Rattle.il_machine.specs.Room.{cost_of, sel_cost, port_reserve, used}
+use Rattle.il_machine.specs.Commands.{is_selected, busy_port, is_flushing, is_changing, is_waiting, pending_reason, run_reason, run_idle, state_fault, begun, selected_from, with_selected, flushing, disabling, enabling, awaiting_mark, carried_out, run_front}
 use Rattle.il_machine.specs.Settings.{fits}
 use Rattle.il_machine.specs.Units.{need_of, free_units}
 use Rattle.il_machine.specs.Sound.{IsSound, IsUnitSound, is_fit, may_work}
@@ -43,7 +43,7 @@ length_selected index sel change (p ∷ ps) = ap suc (length_selected (index + 1
 record IsTaking (test : PortState → Bool) (change : PortState → PortState) : Type 0 where
   pub link : (s : PortState) → (change s).link ≡ s.link
   pub held : (s : PortState) → (change s).held ≡ s.held
-  pub place : (s : PortState) → test s ≡ false → port_places (change s) ≤ port_places s + 1
+  pub place : (s : PortState) → test s ≡ false → port_reserve (change s) ≤ port_reserve s + 1
 
 links_selected : (test : PortState → Bool) (index : ℕ) (sel : PortSel) (change : PortState → PortState) (ps : List PortState) → IsTaking test change
     → map link_of (selected_from index sel change ps) ≡ map link_of ps
@@ -58,7 +58,7 @@ not_busy : (sel : PortSel) (test : PortState → Bool) (number index : ℕ) (s :
 not_busy sel test number index s ss p ps h = either (is_selected sel index && test p) (λ t. let n = rw t at h in absurd cc) (λ f. (f, rw f at h))
 
 places_all : (test : PortState → Bool) (change : PortState → PortState) (number index : ℕ) (ss : List PortSetting) (ps : List PortState) → IsTaking test change → length ss ≡ length ps
-    → busy_port sels.All test (ports_from number index ss ps) ≡ None → sum_by port_places (selected_from index sels.All change ps) ≤ sum_by port_places ps + length ps
+    → busy_port sels.All test (ports_from number index ss ps) ≡ None → sum_by port_reserve (selected_from index sels.All change ps) ≤ sum_by port_reserve ps + length ps
 places_all test change number index [] [] T l h = omega arith
 places_all test change number index [] (p ∷ ps) T l h = absurd (omega arith)
 places_all test change number index (s ∷ ss) [] T l h = absurd (omega arith)
@@ -66,42 +66,42 @@ places_all test change number index (s ∷ ss) (p ∷ ps) T l h =
     let b = not_busy sels.All test number index s ss p ps h in
     let i = places_all test change number (index + 1) ss ps T (omega arith) b.1 in
     let a = T.place p b.0 in
-    let x = sum_by-cons port_places (change p) (selected_from (index + 1) sels.All change ps) in
-    let y = sum_by-cons port_places p ps in
+    let x = sum_by-cons port_reserve (change p) (selected_from (index + 1) sels.All change ps) in
+    let y = sum_by-cons port_reserve p ps in
     omega arith
 
-places_past : (port index : ℕ) (change : PortState → PortState) (ps : List PortState) → port < index → sum_by port_places (selected_from index (sels.One port) change ps) ≡ sum_by port_places ps
+places_past : (port index : ℕ) (change : PortState → PortState) (ps : List PortState) → port < index → sum_by port_reserve (selected_from index (sels.One port) change ps) ≡ sum_by port_reserve ps
 places_past port index change [] l = refl
 places_past port index change (p ∷ ps) l =
     let f : nat_eq index port ≡ false = ne_eqb index port (λ e. omega arith) in
     let i = places_past port (index + 1) change ps (omega arith) in
-    let x = sum_by-cons port_places p (selected_from (index + 1) (sels.One port) change ps) in
-    let y = sum_by-cons port_places p ps in
+    let x = sum_by-cons port_reserve p (selected_from (index + 1) (sels.One port) change ps) in
+    let y = sum_by-cons port_reserve p ps in
     rw f (omega arith)
 
 places_one : (port : ℕ) (test : PortState → Bool) (change : PortState → PortState) (number index : ℕ) (ss : List PortSetting) (ps : List PortState) → IsTaking test change → length ss ≡ length ps
-    → busy_port (sels.One port) test (ports_from number index ss ps) ≡ None → sum_by port_places (selected_from index (sels.One port) change ps) ≤ sum_by port_places ps + 1
+    → busy_port (sels.One port) test (ports_from number index ss ps) ≡ None → sum_by port_reserve (selected_from index (sels.One port) change ps) ≤ sum_by port_reserve ps + 1
 places_one port test change number index [] [] T l h = omega arith
 places_one port test change number index [] (p ∷ ps) T l h = absurd (omega arith)
 places_one port test change number index (s ∷ ss) [] T l h = absurd (omega arith)
 places_one port test change number index (s ∷ ss) (p ∷ ps) T l h =
     let b = not_busy (sels.One port) test number index s ss p ps h in
-    let y = sum_by-cons port_places p ps in
+    let y = sum_by-cons port_reserve p ps in
     either (nat_eq index port)
     (λ t.
     let e : index ≡ port = eqb-true index port t in
     let f : test p ≡ false = rw t at b.0 in
     let a = T.place p f in
     let i = places_past port (index + 1) change ps (omega arith) in
-    let x = sum_by-cons port_places (change p) (selected_from (index + 1) (sels.One port) change ps) in
+    let x = sum_by-cons port_reserve (change p) (selected_from (index + 1) (sels.One port) change ps) in
     rw t (omega arith))
     (λ f.
     let i = places_one port test change number (index + 1) ss ps T (omega arith) b.1 in
-    let x = sum_by-cons port_places p (selected_from (index + 1) (sels.One port) change ps) in
+    let x = sum_by-cons port_reserve p (selected_from (index + 1) (sels.One port) change ps) in
     rw f (omega arith))
 
 places_selected : (sel : PortSel) (test : PortState → Bool) (change : PortState → PortState) (c : Component) → IsTaking test change → IsSound c
-    → busy_port sel test (ports_of c) ≡ None → sum_by port_places (selected_from 0 sel change c.ports) ≤ sum_by port_places c.ports + sel_cost c sel
+    → busy_port sel test (ports_of c) ≡ None → sum_by port_reserve (selected_from 0 sel change c.ports) ≤ sum_by port_reserve c.ports + sel_cost c sel
 places_selected (sels.One port) test change c T S h = places_one port test change (number_of c) 0 c.settings.ports c.ports T (S.whole.ports ∙ sym S.ports) h
 places_selected sels.All test change c T S h = places_all test change (number_of c) 0 c.settings.ports c.ports T (S.whole.ports ∙ sym S.ports) h
 
@@ -134,7 +134,7 @@ takes_disable = record { link = λ s. refl; held = λ s. refl; place = λ s f. o
 takes_enable : IsTaking is_changing enabling
 takes_enable = record { link = λ s. refl; held = λ s. refl; place = λ s f. omega arith }
 
-takes_mark : (target : Handle) (value : ℕ) → IsTaking is_waiting (waiting target value)
+takes_mark : (target : Handle) (value : ℕ) → IsTaking is_waiting (awaiting_mark target value)
 takes_mark target value = record { link = λ s. refl; held = λ s. refl; place = λ s f. omega arith }
 
 -- ---- the command that leaves the queue
@@ -243,14 +243,14 @@ sound_carried l (commands.PortEnable sel) rest c S e h =
 sound_carried l (commands.MarkBuffer port target value) rest c S e h =
     let u = used_front (commands.MarkBuffer port target value) rest c e in
     let F = sound_with (without_front rest c) (lawful_front (commands.MarkBuffer port target value) rest c e (lawful_of c S)) (omega (arith, S.room)) in
-    sound_taking (sels.One port) is_waiting (waiting target value) (without_front rest c) (takes_mark target value) F h (omega (arith, S.room))
+    sound_taking (sels.One port) is_waiting (awaiting_mark target value) (without_front rest c) (takes_mark target value) F h (omega (arith, S.room))
 
 change_carried : (l : Look) (command : Command) (c : Component) → IsChange c (carried_out l command c)
 change_carried l (commands.StateSet target) c = change_begun (state_fault l c target) target c
 change_carried l (commands.Flush sel) c = change_selected sel is_flushing flushing c takes_flush
 change_carried l (commands.PortDisable sel) c = change_selected sel is_changing disabling c takes_disable
 change_carried l (commands.PortEnable sel) c = change_selected sel is_changing enabling c takes_enable
-change_carried l (commands.MarkBuffer port target value) c = change_selected (sels.One port) is_waiting (waiting target value) c (takes_mark target value)
+change_carried l (commands.MarkBuffer port target value) c = change_selected (sels.One port) is_waiting (awaiting_mark target value) c (takes_mark target value)
 
 run_of : (l : Look) (xs : List Command) (c : Component) → IsSound c → c.commands ≡ xs → run_idle c xs ≡ None → IsSound (run_front l xs c)
 run_of l [] c S e h = absurd cc
@@ -341,7 +341,7 @@ fair_carried l (commands.StateSet target) waits c U m h = fair_started l (state_
 fair_carried l (commands.Flush sel) waits c U m h = fair_taking l sel is_flushing flushing waits c takes_flush U m
 fair_carried l (commands.PortDisable sel) waits c U m h = fair_taking l sel is_changing disabling waits c takes_disable U m
 fair_carried l (commands.PortEnable sel) waits c U m h = fair_taking l sel is_changing enabling waits c takes_enable U m
-fair_carried l (commands.MarkBuffer port target value) waits c U m h = fair_taking l (sels.One port) is_waiting (waiting target value) waits c (takes_mark target value) U m
+fair_carried l (commands.MarkBuffer port target value) waits c U m h = fair_taking l (sels.One port) is_waiting (awaiting_mark target value) waits c (takes_mark target value) U m
 
 reason_front : (command : Command) (rest : List Command) (c : Component) → run_reason c command ≡ None → run_reason (without_front rest c) command ≡ None
 reason_front (commands.StateSet target) rest c h = h

@@ -9,8 +9,8 @@ use Rattle.il_machine.specs.declared.port.PortState.{PortState}
 use Rattle.il_machine.specs.States.{is_invalid}
 use Rattle.il_machine.specs.Look.{Look}
 use Rattle.il_machine.specs.World.{Component, Work, told}
-use Rattle.il_machine.specs.Room.{cost_of, port_places, used, room}
-use Rattle.il_machine.specs.Commands.{at_rest, invalidated, is_at_once, lacks_port, lacks_target, lacks_place, send_refusal, sent}
+use Rattle.il_machine.specs.Room.{cost_of, port_reserve, used, room}
+use Rattle.il_machine.specs.Commands.{calmed, invalidated, is_at_once, lacks_port, lacks_target, lacks_command_room, send_refusal, sent}
 use Rattle.il_machine.specs.Sound.{IsSound, IsUnitSound, may_work}
 use Rattle.machine_laws.proofs.Finding.{either}
 use Rattle.machine_laws.proofs.Change.{IsChange, change_twice, link_of}
@@ -21,11 +21,11 @@ use Rattle.machine_laws.proofs.Accepting.{passed, not_either}
 
 -- ---- StateSet(Invalid)
 
-rested_places : (ps : List PortState) → sum_by port_places (map at_rest ps) ≡ 0
+rested_places : (ps : List PortState) → sum_by port_reserve (map calmed ps) ≡ 0
 rested_places [] = refl
-rested_places (p ∷ ps) = let s = sum_by-cons port_places (at_rest p) (map at_rest ps) in let i = rested_places ps in omega arith
+rested_places (p ∷ ps) = let s = sum_by-cons port_reserve (calmed p) (map calmed ps) in let i = rested_places ps in omega arith
 
-rested_links : (ps : List PortState) → map link_of (map at_rest ps) ≡ map link_of ps
+rested_links : (ps : List PortState) → map link_of (map calmed ps) ≡ map link_of ps
 rested_links [] = refl
 rested_links (p ∷ ps) = let i = rested_links ps in cc
 
@@ -34,7 +34,7 @@ sound_invalidated c S =
     let p : places (invalidated c) ≡ 0 = rested_places c.ports in
     sound_with (invalidated c) (record {
       whole = S.whole;
-      ports = length-map c.ports at_rest ∙ S.ports;
+      ports = length-map c.ports calmed ∙ S.ports;
       settings = S.settings;
       fit = refl;
       file = S.file;
@@ -58,12 +58,12 @@ sound_queued command c S l u =
 
 -- ---- both
 
-there_is_place : (l : Look) (command : Command) (c : Component) → send_refusal l c command ≡ None → lacks_place c command ≡ false
+there_is_place : (l : Look) (command : Command) (c : Component) → send_refusal l c command ≡ None → lacks_command_room c command ≡ false
 there_is_place l command c h =
     let a = passed (is_invalid c.state) _ _ h in
     let b = passed (lacks_port c command) _ _ a.1 in
     let d = passed (lacks_target l command) _ _ b.1 in
-    (passed (lacks_place c command) _ _ d.1).0
+    (passed (lacks_command_room c command) _ _ d.1).0
 
 pub sound_sent : (l : Look) (command : Command) (c : Component) → IsSound c → send_refusal l c command ≡ None → IsSound (sent command c)
 sound_sent l command c S h =

@@ -5,8 +5,8 @@ use Rattle.il_machine.specs.declared.port.PortKey.{PortKey}
 use Rattle.il_machine.specs.declared.port.Port.{Port}
 use Rattle.il_machine.specs.declared.header.Owner.{Owner}
 use Rattle.il_machine.specs.declared.header.Owner.TheVariants as owners
-use Rattle.il_machine.specs.declared.header.Place.{Place}
-use Rattle.il_machine.specs.declared.header.Place.TheVariants.{Out, Todo, Done}
+use Rattle.il_machine.specs.declared.header.Queue.{Queue}
+use Rattle.il_machine.specs.declared.header.Queue.TheVariants.{Out, Todo, Done}
 use Rattle.il_machine.specs.Lists.{holds_at}
 use Rattle.il_machine.specs.World.{Component, HeaderRecord, World, number_of, ports_of}
 use Rattle.il_machine.specs.Headers.{Seen, seen, find_header, numbers, has_number, is_state, is_client, is_for, is_todo, is_done, in_todo, in_done, is_notice_of, is_work_of, same_key, weight, Once}
@@ -97,13 +97,13 @@ components_one n s (x ∷ cs) (suc k) c e o h =
 
 -- ---- one header
 
-in_place : (p : Place) (b : Bool) → p ≢ Out → weight (is_todo p && b) + weight (is_done p && b) ≡ weight b
-in_place Out b h = absurd (h refl)
-in_place Todo b h = omega arith
-in_place Done b h = omega arith
+in_queue : (p : Queue) (b : Bool) → p ≢ Out → weight (is_todo p && b) + weight (is_done p && b) ≡ weight b
+in_queue Out b h = absurd (h refl)
+in_queue Todo b h = omega arith
+in_queue Done b h = omega arith
 
-out_place : (p : Place) (b : Bool) → p ≡ Out → weight (is_todo p && b) + weight (is_done p && b) ≡ 0
-out_place p b h = rw h refl
+out_queue : (p : Queue) (b : Bool) → p ≡ Out → weight (is_todo p && b) + weight (is_done p && b) ≡ 0
+out_queue p b h = rw h refl
 
 notice_weighs : (k m : ℕ) (owner : Owner) → owner ≡ owners.Notice k → m ≡ k → weight (is_notice_of m owner) ≡ 1
 notice_weighs k m owner o e = rw (o, e, eq-eqb k k refl) refl
@@ -133,7 +133,7 @@ module _ (cs : List Component) (hs : List HeaderRecord) (numbered made : ℕ) (P
       let b : times n ((seen hs).done p.key) ≡ 0 = times_numbers (is_state (in_done p.key)) n hs P.once ∙ rw f refl in
       omega arith
 
-  out_count : (r : HeaderRecord) (p : Port) → find_header n hs ≡ Some r → r.state.place ≡ Out → port_times n (seen hs) p ≡ 0
+  out_count : (r : HeaderRecord) (p : Port) → find_header n hs ≡ Some r → r.state.queue ≡ Out → port_times n (seen hs) p ≡ 0
   out_count r p f o = port_count r p f ∙ rw o refl
 
   note_count : (i : ℕ) (c : Component) (r : HeaderRecord) → slice_get cs i ≡ Some c → find_header n hs ≡ Some r → times n (note_numbers c.notes) ≡ weight (is_notice_of (number_of c) r.state.owner)
@@ -224,7 +224,7 @@ module _ (cs : List Component) (hs : List HeaderRecord) (numbered made : ℕ) (P
       let h = has_port key cs p.0 p.1 in
       let at : (q : Port) → port_times n (seen hs) q ≡ weight (same_key key q.key) = λ q.
       let a = port_count r q f in
-      let b : weight (in_todo q.key r.state) + weight (in_done q.key r.state) ≡ weight (same_key key q.key) = rw o (in_place r.state.place (same_key key q.key) O.1) in
+      let b : weight (in_todo q.key r.state) + weight (in_done q.key r.state) ≡ weight (same_key key q.key) = rw o (in_queue r.state.queue (same_key key q.key) O.1) in
       a ∙ b in
       let notes : (i : ℕ) (c : Component) → slice_get cs i ≡ Some c → times n (note_numbers c.notes) ≡ 0 = λ i c t. note_count i c r t f ∙ rw o refl in
       let works : (i : ℕ) (c : Component) → slice_get cs i ≡ Some c → times n (work_numbers c.work) ≡ 0 = λ i c t. work_count i c r t f ∙ ap (λ (x : Owner). weight (is_work_of (number_of c) x)) o in

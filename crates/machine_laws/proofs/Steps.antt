@@ -32,7 +32,7 @@ use Rattle.il_machine.specs.Buffers.{AllocateBuffer, UseBuffer, FreeBuffer, Empt
 use Rattle.il_machine.specs.Notes.{TakeNote, EndNote, TakeFrom, TakesHeader, Taken, TakenEmpty, TakenFilled, Took, with_given, with_client, back_in}
 use Rattle.il_machine.specs.Flow.{Supply, Release, HandOver, HandBack, supply_idle, with_supplied, release_idle, in_port, front_unmade, over_idle, handed_over, back_idle, handed_back}
 use Rattle.il_machine.specs.Files.{Offered, Attach, attach_refusal, with_file}
-use Rattle.il_machine.specs.Stepping.{Done, IsDoneOf}
+use Rattle.il_machine.specs.Stepping.{WorkDone, IsDoneOf}
 use Rattle.il_machine.specs.Finishing.{Finish, finished}
 use Rattle.il_machine.specs.Claims.{Claim, Claims, Claimed, claim_idle, work_of, with_work}
 use Rattle.il_machine.specs.Acts.{Act, Reply}
@@ -205,7 +205,7 @@ claim_keeps : (w v : World) (h : Handle) (result : Result Claimed OmxError) → 
 claim_keeps w v h result r S = resolving_keeps plain w v h result _ S r (λ i c t a. claims_keep w v i c (claim_idle (look w) c) result refl a S t)
 
 -- the component whose work comes back, by the number of its place
-finish_keeps : (w v : World) (done : Done) → Meets w (acts.Finish done) → Finish w done v → Sound w → Sound v
+finish_keeps : (w v : World) (done : WorkDone) → Meets w (acts.Finish done) → Finish w done v → Sound w → Sound v
 finish_keeps w v done M h S =
     let i = there_is (place_numbered done.component w.components) _ h in
     let c = there_is (slice_get w.components i.0) (λ c. ClosesTo (finished i.0 c done w) v) i.2 in

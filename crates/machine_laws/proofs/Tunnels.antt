@@ -18,8 +18,8 @@ use Rattle.il_machine.specs.Settings.{is_between, is_within_limits, same_bool, s
 use Rattle.il_machine.specs.World.{Component, World, number_of, same_handle, ports_from, port_of, with_port}
 use Rattle.il_machine.specs.Headers.{Seen, same_key, count_headers, is_for}
 use Rattle.il_machine.specs.Look.{look}
-use Rattle.il_machine.specs.Ports.{is_input_port, unmade}
-use Rattle.il_machine.specs.Room.{port_places}
+use Rattle.il_machine.specs.Ports.{is_input_port, has_no_header}
+use Rattle.il_machine.specs.Room.{port_reserve}
 use Rattle.il_machine.specs.Parameters.{is_fixed}
 use Rattle.il_machine.specs.Tunnels.{agreed, are_output_and_input, setup_refusal, widened, joined_to, both_joined, agreed_of, is_joined_with, drop_refusal, parted, both_parted}
 use Rattle.il_machine.specs.Sound.{Sound, IsSound, AreJoined, port_at}
@@ -145,7 +145,7 @@ one_parted c p e =
           (port_else (number_of c) 0 p.key.port k c.settings.ports c.ports p.setting x a);
     }
 
-sound_linked : (c : Component) (k : ℕ) (new old : PortState) → IsSound c → slice_get c.ports k ≡ Some old → port_places new ≡ port_places old → IsSound (with_port k new c)
+sound_linked : (c : Component) (k : ℕ) (new old : PortState) → IsSound c → slice_get c.ports k ≡ Some old → port_reserve new ≡ port_reserve old → IsSound (with_port k new c)
 sound_linked c k new old S e n = let u = used_with_port k new old c e in sound_with (with_port k new c) (lawful_with_port k new c (lawful_of c S)) (omega (arith, S.room))
 
 sound_parted_end : (c : Component) (p : Port) → IsSound c → port_of c p.key.port ≡ Some p → IsSound (parted p c)
@@ -287,8 +287,8 @@ record PassedDrop (headers : Seen) (p q : Port) : Type 0 where
   pub link : Link
   pub is : p.state.link ≡ Some link
   pub peer : link.peer ≡ q.key
-  pub first : unmade headers p ≡ true
-  pub second : unmade headers q ≡ true
+  pub first : has_no_header headers p ≡ true
+  pub second : has_no_header headers q ≡ true
 
 link_there : (o : Option Link) (q : Port) → holds_at o (λ link. same_key link.peer q.key) ≡ true → (link : Link) × (o ≡ Some link) × (link.peer ≡ q.key)
 link_there None q h = absurd cc
@@ -298,8 +298,8 @@ drop_passes : (headers : Seen) (p q : Port) → drop_refusal headers (Some p) (S
 drop_passes headers p q h =
     let a = passed (not (are_output_and_input p q)) _ _ h in
     let b = passed (not (is_joined_with p q)) _ _ a.1 in
-    let d = passed (not (unmade headers p) || not (unmade headers q)) _ _ b.1 in
-    let y = not_either (not (unmade headers p)) (not (unmade headers q)) d.0 in
+    let d = passed (not (has_no_header headers p) || not (has_no_header headers q)) _ _ b.1 in
+    let y = not_either (not (has_no_header headers p)) (not (has_no_header headers q)) d.0 in
     let l = link_there p.state.link q (not_not _ b.0) in
     record { link = l.0; is = l.1; peer = l.2; first = not_not _ y.0; second = not_not _ y.1 }
 

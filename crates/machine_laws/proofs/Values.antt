@@ -17,7 +17,7 @@ use Rattle.il_machine.specs.Settings.{default_setting, setting_at, with_setting,
 use Rattle.il_machine.specs.World.{Component, HeaderRecord, World, number_of, ports_from, port_of, with_port, with_component}
 use Rattle.il_machine.specs.Headers.{Seen, seen, count_headers, is_for}
 use Rattle.il_machine.specs.Look.{look}
-use Rattle.il_machine.specs.Ports.{is_joined, unmade}
+use Rattle.il_machine.specs.Ports.{is_joined, has_no_header}
 use Rattle.il_machine.specs.Parameters.{is_format_free, is_fixed, is_wrong_time, set_parameter_refusal, set_config_refusal, unheld_at, with_value}
 use Rattle.il_machine.specs.Files.{file_port_format}
 use Rattle.il_machine.specs.Sound.{Sound, IsSound, IsLawfulSetting, AreNoted, is_fit}
@@ -175,8 +175,8 @@ fixed_loose hs c None p h e = absurd cc
 fixed_loose hs c (Some q) p h e =
     let s : q ≡ p = cc in
     let a = not_either (is_joined q) _ h in
-    let b = not_either (not (unmade (seen hs) q)) _ a.1 in
-    let u : unmade (seen hs) q ≡ true = not_not (unmade (seen hs) q) b.0 in
+    let b = not_either (not (has_no_header (seen hs) q)) _ a.1 in
+    let u : has_no_header (seen hs) q ≡ true = not_not (has_no_header (seen hs) q) b.0 in
     rw (← s) (record { alone = unlinked q a.0; bare = eqb-true (count_headers (is_for q.key) hs) 0 u })
 
 index_loose : (hs : List HeaderRecord) (c : Component) (key : ParamKey) (index : ℕ) (p : Port) → key.index ≡ index → nat_eq index 3 ≡ false → is_wrong_time (seen hs) c key ≡ false → port_of c key.port ≡ Some p → IsLoose hs p

@@ -26,5 +26,5 @@ module _ {C : Type 0} (q : Queues C) (c : Component) (of : IsQueueOf q c) where
 
   pub room-queue : room q ≡ component_room c
   room-queue =
-      rw (of.commands, of.notes, of.places, costs-with_cost c c.commands)
+      rw (of.commands, of.notes, of.reserve, costs-with_cost c c.commands)
       (omega (arith, sum_by-cons (λ (x : ℕ). x) (sum_by (cost_of c) c.commands) (drop 1 (reserved c))))

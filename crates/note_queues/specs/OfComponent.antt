@@ -11,12 +11,12 @@ abbrev pub with_cost : Component → Command → QueuedCommand
 with_cost c command = record { command = command; cost = cost_of c command }
 
 -- what the component reserves beside the costs of its commands
-abbrev pub held_places : Component → ℕ
-held_places c = sum (drop 1 (reserved c))
+abbrev pub held_reserve : Component → ℕ
+held_reserve c = sum (drop 1 (reserved c))
 
 -- The queues are the component's, and what else it reserves is held.
 pub record IsQueueOf {C : Type 0} (q : Queues C) (c : Component) : Type 0 where
   pub commands : q.commands ≡ map (with_cost c) c.commands
   pub notes : notes_of q ≡ c.notes
   pub client : is_none q.client ≡ c.client_out
-  pub places : q.places ≡ held_places c
+  pub reserve : q.reserve ≡ held_reserve c

@@ -23,7 +23,7 @@ pub record Queues (C : Type 0) : Type 0 where
   -- nothing where the client object is out
   pub client : Option C
   -- what is reserved beside the costs of the commands
-  pub places : ℕ
+  pub reserve : ℕ
   -- the component's ports
   pub ports : ℕ
 
@@ -80,7 +80,7 @@ module _ {C : Type 0} where
 
   -- the places that are taken by events, or reserved
   abbrev pub used : Queues C → ℕ
-  used q = events_in (notes_of q) + costs q + q.places
+  used q = events_in (notes_of q) + costs q + q.reserve
 
   abbrev pub room : Queues C → ℕ
   room q = 256 - used q
@@ -108,7 +108,7 @@ module _ {C : Type 0} where
   -- ---- what the calls make of it
 
   abbrev pub no_notes : ℕ → C → Queues C
-  no_notes ports client = record { commands = []; notes = []; client = Some client; places = 0; ports = ports }
+  no_notes ports client = record { commands = []; notes = []; client = Some client; reserve = 0; ports = ports }
 
   abbrev pub commanded : Command → ℕ → Queues C → Queues C
   commanded command cost q = record q { commands = q.commands ++ record { command = command; cost = cost } ∷ [] }
@@ -123,7 +123,7 @@ module _ {C : Type 0} where
   without_commands q = record q { commands = [] }
 
   abbrev pub holding : ℕ → Queues C → Queues C
-  holding places q = record q { places = places }
+  holding places q = record q { reserve = places }
 
   abbrev pub noted : Taken → Queues C → Queues C
   noted taken q = record q { notes = q.notes ++ taken ∷ [] }

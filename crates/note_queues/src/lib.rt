@@ -2,7 +2,7 @@
 //! object to which notes are told.
 //!
 //! Each event has a place among 256. A queued command reserves places for its events, and the owner of the
-//! queues holds further ones by `hold_places`; what is left is the room. Commands and notes stand in rings of their greatest
+//! queues holds further ones by `hold_reserve`; what is left is the room. Commands and notes stand in rings of their greatest
 //! length, so no call but `new` takes memory, and none moves another note than its own.
 #![tactic(auto)]
 

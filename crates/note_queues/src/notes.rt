@@ -30,7 +30,7 @@ pub struct Notes<C> {
     commands: HeapCircularBuffer<QueuedCommand>,
     notes: HeapCircularBuffer<Taken>,
     client: Option<C>,
-    places: u32,
+    reserve: u32,
     ports: u32,
     /// The costs of the commands together.
     cost_sum: u32,
@@ -43,10 +43,10 @@ impl<C> Model for Notes<C> {
 
     ghost Value = { Queues C };
 
-    ghost view = { λ n. record { commands = n.commands.items; notes = n.notes.items; client = n.client; places = n.places; ports = n.ports } };
+    ghost view = { λ n. record { commands = n.commands.items; notes = n.notes.items; client = n.client; reserve = n.reserve; ports = n.ports } };
 
     ghost invariant = { λ n.
-        IsCounted (record { commands = n.commands.items; notes = n.notes.items; client = n.client; places = n.places; ports = n.ports }) n.cost_sum n.event_count
+        IsCounted (record { commands = n.commands.items; notes = n.notes.items; client = n.client; reserve = n.reserve; ports = n.ports }) n.cost_sum n.event_count
         × HasPlaces n.commands.capacity n.notes.capacity n.ports };
 }
 
@@ -115,7 +115,7 @@ impl<C> Notes<C> {
             commands,
             notes,
             client: Some(client),
-            places: 0,
+            reserve: 0,
             ports,
             cost_sum: 0,
             event_count: 0,
@@ -141,7 +141,7 @@ impl<C> Notes<C> {
         ensures room { result ≡ room self.now }
         ensures within { IsWithin self.now }
     {
-        PLACES - self.event_count - self.cost_sum - self.places
+        PLACES - self.event_count - self.cost_sum - self.reserve
     }
 
     /// Queues a command that reserves so many places.
@@ -193,18 +193,18 @@ impl<C> Notes<C> {
     }
 
     /// How many places are reserved beside those of the queued commands.
-    pub fn held_places(&self) -> u32
-        ensures { result ≡ self.now.places }
+    pub fn held_reserve(&self) -> u32
+        ensures { result ≡ self.now.reserve }
     {
-        self.places
+        self.reserve
     }
 
     /// Reserves so many places beside those of the queued commands, in place of what was held before.
-    pub fn hold_places(&mut self, places: u32)
+    pub fn hold_reserve(&mut self, places: u32)
         requires { events_in (notes_of self.old) + costs self.old + places ≤ 256 }
         ensures { self.new ≡ holding places self.old }
     {
-        self.places = places;
+        self.reserve = places;
     }
 
     /// Queues an event. The place that was reserved for it is let go before.
@@ -282,7 +282,7 @@ impl<C> Notes<C> {
             commands: _,
             notes,
             client,
-            places: _,
+            reserve: _,
             ports: _,
             cost_sum: _,
             event_count: _,

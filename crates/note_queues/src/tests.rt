@@ -94,7 +94,7 @@ fn keeps_what_was_told(rt: HostRuntime) {
 fn reserves_for_commands(rt: HostRuntime) -> Result<(), Fail> {
     let mut notes = one_port(rt.alloc())?;
     let queued = notes.push_command(Command::StateSet(State::Idle), 1);
-    notes.hold_places(5);
+    notes.hold_reserve(5);
     notes.push_event(IDLE);
     let room = notes.room();
     let refused = notes.push_command(Command::StateSet(State::Loaded), 250);

@@ -56,7 +56,7 @@ fn play_sound<M: Media>(
     sink: &str,
 ) -> Result<Done, Fault>
     requires fits { FitsFile head (M.Src.size src) }
-    requires place { M.Src.place src ≡ head.start }
+    requires offset { M.Src.offset src ≡ head.start }
     requires unfailed { M.Src.faults src ≡ 0 }
     ensures goes_on { GoesOn (M.outside media.old) (M.outside media.new) }
     ensures others { IsTrue (M.outside media.old).tells → SameBut sink.now (M.outside media.old) (M.outside media.new) }
@@ -67,7 +67,7 @@ fn play_sound<M: Media>(
     ensures early { IfErr result (λ fault. IsEarly fault → (M.outside media.new).file ≡ (M.outside media.old).file) }
     ensures stand { OnOk result (CountsStand (M.outside media.old) (M.outside media.new)) }
     ensures caused { IfErr result (IsCaused (M.outside media.old) (M.outside media.new)) }
-    ensures subject { IfErr result (IsOfRun sink.now (M.outside media.old) (M.Src.size src) (M.Src.ends src) (M.Src.place src)) }
+    ensures subject { IfErr result (IsOfRun sink.now (M.outside media.old) (M.Src.size src) (M.Src.ends src) (M.Src.offset src)) }
 {
     let _size = src.size();
     let read_before = media.read_faults();

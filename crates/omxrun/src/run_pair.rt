@@ -32,7 +32,7 @@ pub struct Ran<S, K> {
 /// Runs the frames behind a head, at which the source stands, through two headers into the sink.
 pub fn run_pair<S: Source, K: Sink>(alloc: Global, source: S, head: WavHead, sink: K) -> Ran<S, K>
     requires fits { FitsFile head (S.size source) }
-    requires place { S.place source ≡ head.start }
+    requires offset { S.offset source ≡ head.start }
     ensures whole { WhereTold (S.told source) (λ bytes. OnOk result.outcome (
         K.told result.sink ≡ append_known (K.told sink) (text_of bytes head))) }
     ensures front { WhereTold (S.told source) (λ bytes. OnErr result.outcome (
@@ -41,7 +41,7 @@ pub fn run_pair<S: Source, K: Sink>(alloc: Global, source: S, head: WavHead, sin
     ensures name { K.name result.sink ≡ K.name sink }
     ensures read_later { S.faults source ≤ S.faults result.source }
     ensures write_later { K.faults sink ≤ K.faults result.sink }
-    ensures cause { IfErr result.outcome (HasStopCause (S.size source) (S.ends source) (S.place source)
+    ensures cause { IfErr result.outcome (HasStopCause (S.size source) (S.ends source) (S.offset source)
         (S.faults source) (S.faults result.source) (K.faults sink) (K.faults result.sink)) }
 {
     match Pair::new(alloc, source, head.format, head.frames, sink) {

@@ -26,7 +26,7 @@ untold = None
 abbrev pub unnamed : List ℕ
 unnamed = []
 
--- the place from which on a source gives nothing, which no adapter tells
+-- the offset from which on a source gives nothing, which no adapter tells
 abbrev pub endless : Option ℕ
 endless = None
 

@@ -58,7 +58,7 @@ fn open_source<R: Files<File = File>>(
     opened: &mut OpenedFiles,
     name: &str,
 ) -> Result<HostSource<File>, Refused>
-    ensures place { IfOk result (λ src. src.place ≡ 0) }
+    ensures offset { IfOk result (λ src. src.offset ≡ 0) }
     ensures faults { IfOk result (λ src. src.faults ≡ 0) }
     ensures opened { IfOk result (λ src. IsTrue (has_file src.id opened.new.ids.items)) }
     ensures stay { StayOpened opened.old.ids.items opened.new.ids.items }
@@ -138,7 +138,7 @@ impl<R: Files<File = File>> Media for HostMedia<R> {
         ensures told { IfOk result (λ src. untold ≡ (host_outside self.old).file name.now) }
         ensures there { IsTrue (host_outside self.old).tells → OnOk result (IsSome ((host_outside self.old).file name.now)) }
         ensures size { WhereTold ((host_outside self.old).file name.now) (λ bytes. IfOk result (λ src. src.size ≡ length bytes)) }
-        ensures place { IfOk result (λ src. src.place ≡ 0) }
+        ensures offset { IfOk result (λ src. src.offset ≡ 0) }
         ensures ends { IfOk result (λ src. endless ≡ (host_outside self.old).ends name.now) }
         ensures absent { IsErrOf result Refused.Absent → Rose (host_outside self.old).absences (host_outside self.new).absences }
         ensures absent_name { IsErrOf result Refused.Absent → (host_outside self.old).file name.now ≡ None }

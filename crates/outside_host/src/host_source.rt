@@ -18,9 +18,9 @@ pub struct HostSource<F> {
     file: BufReader<F>,
     id: FileId,
     size: u64,
-    place: u64,
+    offset: u64,
     pub(crate) faults: u64,
-    ghost within: { place ≤ size },
+    ghost within: { offset ≤ size },
 }
 
 impl<F> HostSource<F> {
@@ -31,14 +31,14 @@ impl<F> HostSource<F> {
         ensures file { source_reader result ≡ file }
         ensures id { result.id ≡ id }
         ensures size { result.size ≡ size }
-        ensures place { result.place ≡ 0 }
+        ensures offset { result.offset ≡ 0 }
         ensures faults { result.faults ≡ 0 }
     {
         HostSource {
             file,
             id,
             size,
-            place: 0,
+            offset: 0,
             faults: 0,
         }
     }
@@ -57,18 +57,18 @@ impl<F: Read> HostSource<F> {
     /// Reads the next bytes of the file, and none behind its size.
     fn next(&mut self, buf: &mut [u8]) -> Result<usize, Failed>
         ensures bound { IfOk result (λ count. count ≤ length buf.new) }
-        ensures within { IfOk result (λ count. self.old.place + count ≤ self.old.size) }
+        ensures within { IfOk result (λ count. self.old.offset + count ≤ self.old.size) }
         ensures size { self.new.size ≡ self.old.size }
-        ensures place { self.new.place ≡ self.old.place }
+        ensures offset { self.new.offset ≡ self.old.offset }
         ensures faults { self.new.faults ≡ self.old.faults }
         ensures given { IfOk result (λ count. Consumes (reader_remaining F.remaining (source_reader self.old))
             (reader_remaining F.remaining (source_reader self.new)) (take count buf.new)) }
-        ensures end { IfOk result (λ count. count ≡ 0 → 0 < length buf.new → self.old.place < self.old.size →
+        ensures end { IfOk result (λ count. count ≡ 0 → 0 < length buf.new → self.old.offset < self.old.size →
             IsAtEnd (reader_remaining F.remaining (source_reader self.new))) }
         ensures kept { OnErr result (Keeps (reader_remaining F.remaining (source_reader self.old))
             (reader_remaining F.remaining (source_reader self.new))) }
     {
-        let left = self.size - self.place;
+        let left = self.size - self.offset;
         let mut most = buf.len();
         if left < most as u64 {
             most = left as usize;
@@ -86,7 +86,7 @@ impl<F: Read + Seek> Source for HostSource<F> {
 
     ghost size = { λ s. s.size };
 
-    ghost place = { λ s. s.place };
+    ghost offset = { λ s. s.offset };
 
     ghost asked = { λ s. unasked };
 
@@ -96,8 +96,8 @@ impl<F: Read + Seek> Source for HostSource<F> {
         self.size
     }
 
-    fn place(&self) -> u64 {
-        self.place
+    fn offset(&self) -> u64 {
+        self.offset
     }
 
     fn faults(&self) -> u64 {
@@ -110,25 +110,25 @@ impl<F: Read + Seek> Source for HostSource<F> {
         ensures told { untold ≡ untold }
         ensures ends { endless ≡ endless }
         ensures size { self.new.size ≡ self.old.size }
-        ensures place { IfOk result (λ count. self.new.place ≡ self.old.place + count) }
-        ensures within { self.new.place ≤ self.new.size }
+        ensures offset { IfOk result (λ count. self.new.offset ≡ self.old.offset + count) }
+        ensures within { self.new.offset ≤ self.new.size }
         ensures bytes { WhereTold untold (λ bytes. IfOk result (λ count.
-            take count buf.new ≡ take count (drop self.old.place bytes))) }
+            take count buf.new ≡ take count (drop self.old.offset bytes))) }
         ensures gives { WhereTold endless (λ end. IfOk result (λ count.
-            self.old.place < min end self.old.size → 0 < count)) }
-        ensures stops { WhereTold endless (λ end. OnOk result (self.new.place ≤ max end self.old.place)) }
-        ensures asked { unasked ≡ asked_up_to unasked (self.old.place + length buf.old) }
+            self.old.offset < min end self.old.size → 0 < count)) }
+        ensures stops { WhereTold endless (λ end. OnOk result (self.new.offset ≤ max end self.old.offset)) }
+        ensures asked { unasked ≡ asked_up_to unasked (self.old.offset + length buf.old) }
         ensures cause { HasCause self.old.faults self.new.faults result }
         ensures given { IfOk result (λ count. Consumes (reader_remaining F.remaining (source_reader self.old))
             (reader_remaining F.remaining (source_reader self.new)) (take count buf.new)) }
-        ensures end { IfOk result (λ count. count ≡ 0 → self.old.place < self.old.size →
+        ensures end { IfOk result (λ count. count ≡ 0 → self.old.offset < self.old.size →
             IsAtEnd (reader_remaining F.remaining (source_reader self.new))) }
         ensures lost { OnErr result (Keeps (reader_remaining F.remaining (source_reader self.old))
             (reader_remaining F.remaining (source_reader self.new))) }
     {
         match self.next(buf) {
             Ok(count) => {
-                self.place += count as u64;
+                self.offset += count as u64;
                 Ok(count)
             }
             Err(failed) => {
@@ -143,8 +143,8 @@ impl<F: Read + Seek> Source for HostSource<F> {
         ensures told { untold ≡ untold }
         ensures ends { endless ≡ endless }
         ensures size { self.new.size ≡ self.old.size }
-        ensures reached { OnOk result (self.new.place ≡ to) }
-        ensures within { self.new.place ≤ self.new.size }
+        ensures reached { OnOk result (self.new.offset ≡ to) }
+        ensures within { self.new.offset ≤ self.new.size }
         ensures asked { unasked ≡ unasked }
         ensures cause { HasCause self.old.faults self.new.faults result }
         ensures moves { MovesTo (reader_position F.stream_position (source_reader self.old))
@@ -152,7 +152,7 @@ impl<F: Read + Seek> Source for HostSource<F> {
     {
         match seek(&mut self.file, to) {
             Ok(()) => {
-                self.place = to;
+                self.offset = to;
                 Ok(())
             }
             Err(failed) => {

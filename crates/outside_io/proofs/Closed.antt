@@ -24,7 +24,7 @@ closed-front (Err _) held told bytes (k, _, is) ok err =
     let twice = take-twice front.0 k bytes in
     (twice.0, front.1 ∙ ap Some twice.1)
 
--- what a move that began at place 0 says of the file of a name
+-- what a move that began at offset 0 says of the file of a name
 pub short-reason : (size at told_size start : ℕ) (ends told_ends : Option ℕ) (file told : Option (List ℕ)) → ends ≡ told_ends → told ≡ file → start ≡ 0 → WhereTold told (λ bytes. size ≡ length bytes) → GaveNothing size ends start at told_size → (at < told_size) × WhereTold told_ends (λ end. at ≡ end) × WhereTold file (λ bytes. told_size ≡ length bytes)
 short-reason size at told_size start ends told_ends file told ends_are told_is at_start sized short =
     ((let same = short.whole in let below = short.below in omega arith), (λ end is. let s = short.stopped end (ends_are ∙ is) in omega arith), (λ bytes is. short.whole ∙ sized bytes (told_is ∙ is)))

@@ -22,7 +22,7 @@ same_kind _ _ = false
 abbrev pub is_of : FailKind → List ℕ → Fail → Bool
 is_of kind name fail = same_kind fail.kind kind && bytes_eq fail.name name
 
--- the place from which on a source of that name gives nothing
+-- the offset from which on a source of that name gives nothing
 abbrev pub end_of : List Fail → List ℕ → ℕ
 end_of [] name = 2 ^ 64 - 1
 end_of (fail ∷ fails) name = if is_of EndAt name fail then min fail.nth (end_of fails name) else end_of fails name

@@ -6,7 +6,7 @@ pub record Outside : Type 0 where
   pub tells : Bool
   -- the told content of the file of that name; None where there is no file of that name, or none is told
   pub file : List ℕ → Option (List ℕ)
-  -- the told place from which on the sources of that name give nothing
+  -- the told offset from which on the sources of that name give nothing
   pub ends : List ℕ → Option ℕ
   -- whether a sink of that name may be refused
   pub may_refuse : List ℕ → Bool

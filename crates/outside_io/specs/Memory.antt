@@ -13,13 +13,13 @@ source_bytes s = s.bytes.items
 abbrev pub source_name : MemorySource → List ℕ
 source_name s = string_bytes s.name
 
-abbrev pub source_place : MemorySource → ℕ
-source_place s = s.place
+abbrev pub source_offset : MemorySource → ℕ
+source_offset s = s.offset
 
 abbrev pub source_ends : MemorySource → ℕ
 source_ends s = s.end
 
--- the greatest place up to which it was asked for bytes
+-- the greatest offset up to which it was asked for bytes
 abbrev pub source_asked : MemorySource → ℕ
 source_asked s = s.asked
 
@@ -34,16 +34,16 @@ source_reads s = s.reads
 abbrev pub source_seeks : MemorySource → Calls
 source_seeks s = s.seeks
 
--- how many bytes it gives from its place on
+-- how many bytes it gives from its offset on
 abbrev pub source_left : MemorySource → ℕ
-source_left s = min s.end (length s.bytes.items) - s.place
+source_left s = min s.end (length s.bytes.items) - s.offset
 
 -- a read into so many bytes gives all that fit, unless it is one that fails
 abbrev pub ReadAnswers : MemorySource → MemorySource → ℕ → Result ℕ Failed → Type 0
 ReadAnswers old new size (Ok count) =
     (call_fails (source_reads old) ≡ false) × (count ≡ min size (source_left old)) × (source_faults new ≡ source_faults old)
 ReadAnswers old new size (Err failed) =
-    (call_fails (source_reads old) ≡ true) × (source_place new ≡ source_place old) × (source_faults new ≡ sum_of_counts (source_faults old) 1)
+    (call_fails (source_reads old) ≡ true) × (source_offset new ≡ source_offset old) × (source_faults new ≡ sum_of_counts (source_faults old) 1)
 
 pub record Reads (old new : MemorySource) (size : ℕ) (result : Result ℕ Failed) : Type 0 where
   pub answers : ReadAnswers old new size result
@@ -51,11 +51,11 @@ pub record Reads (old new : MemorySource) (size : ℕ) (result : Result ℕ Fail
   pub seeks : source_seeks new ≡ source_seeks old
   pub name : source_name new ≡ source_name old
 
--- a seek reaches its place, unless it is one that fails
+-- a seek reaches its offset, unless it is one that fails
 abbrev pub SeekAnswers : MemorySource → MemorySource → Result (Unit {0}) Failed → Type 0
 SeekAnswers old new (Ok done) = (call_fails (source_seeks old) ≡ false) × (source_faults new ≡ source_faults old)
 SeekAnswers old new (Err failed) =
-    (call_fails (source_seeks old) ≡ true) × (source_place new ≡ source_place old) × (source_faults new ≡ sum_of_counts (source_faults old) 1)
+    (call_fails (source_seeks old) ≡ true) × (source_offset new ≡ source_offset old) × (source_faults new ≡ sum_of_counts (source_faults old) 1)
 
 pub record Seeks (old new : MemorySource) (result : Result (Unit {0}) Failed) : Type 0 where
   pub answers : SeekAnswers old new result

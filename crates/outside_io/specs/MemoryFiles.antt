@@ -5,7 +5,7 @@ use Rattle.outside_io.specs.Causes.{sum_of_counts}
 use Rattle.outside_io.specs.Entries.{content}
 use Rattle.outside_io.specs.Fails.{end_of, ends_of, fails_of, refuses, next_fails, seen_more, due_of}
 use Rattle.outside_io.specs.Files.{Outside}
-use Rattle.outside_io.specs.Memory.{source_bytes, source_name, source_place, source_ends, source_asked, source_faults, source_reads, source_seeks, sink_bytes, sink_name, sink_faults, sink_room, sink_writes}
+use Rattle.outside_io.specs.Memory.{source_bytes, source_name, source_offset, source_ends, source_asked, source_faults, source_reads, source_seeks, sink_bytes, sink_name, sink_faults, sink_room, sink_writes}
 use Rattle.outside_io.specs.declared.fails.FailKind.TheVariants.{OpenSource, Read, Seek, OpenSink, AbsentSink, Write, Close}
 use Rattle.outside_io.specs.declared.media.Refused.{Refused}
 use Rattle.outside_io.specs.declared.media.Refused.TheVariants.{Absent, Failed, OutOfMemory}
@@ -45,7 +45,7 @@ pub record HasCounts (m : MemoryMedia) (read_faults write_faults absences : ℕ)
 pub record IsNewSource (name bytes : List ℕ) (plans : List Planned) (src : MemorySource) : Type 0 where
   pub bytes_are : source_bytes src ≡ bytes
   pub named : source_name src ≡ name
-  pub place : source_place src ≡ 0
+  pub offset : source_offset src ≡ 0
   pub ends : source_ends src ≡ end_of (fails_of plans) name
   pub asked : source_asked src ≡ 0
   pub faults : source_faults src ≡ 0

@@ -6,15 +6,15 @@ use Rattle.outside_io.specs.declared.moving.PumpFault.TheVariants.{Read, Write, 
 use Rattle.outside_io.specs.declared.moving.ReadStop.{ReadStop}
 use Rattle.outside_io.specs.declared.moving.ReadStop.TheVariants.{Failed, Short as Stopped}
 
--- a source of this size, read from `start` on, gave nothing at a place below its size: where it tells from which place on
--- it gives nothing, this is that place, or the start where that lies behind it
+-- a source of this size, read from `start` on, gave nothing at an offset below its size: where it tells from which offset on
+-- it gives nothing, this is that offset, or the start where that lies behind it
 pub record GaveNothing (size : ℕ) (ends : Option ℕ) (start at told_size : ℕ) : Type 0 where
   pub whole : told_size ≡ size
   pub below : at < size
   pub started : start ≤ at
   pub stopped : WhereTold ends (λ end. at ≡ max end start)
 
--- what a short pump says of the source's size, its told end and the place where the pump began
+-- what a short pump says of the source's size, its told end and the offset where the pump began
 abbrev pub IsShortOf : ℕ → Option ℕ → ℕ → PumpFault → Type 0
 IsShortOf size ends start Read = Unit {0}
 IsShortOf size ends start Write = Unit {0}
@@ -30,7 +30,7 @@ abbrev pub StopsBefore : ℕ → ReadStop → Type 0
 StopsBefore end Failed = Unit {0}
 StopsBefore end (Stopped at told_size) = at < end
 
--- what a short pump says of the place that it reached
+-- what a short pump says of the offset that it reached
 abbrev pub IsShortAt : ℕ → PumpFault → Type 0
 IsShortAt reached Read = Unit {0}
 IsShortAt reached Write = Unit {0}

@@ -12,7 +12,7 @@ use Rattle.outside_io.specs.declared.whole.Unread.TheVariants.{Absent, Failed, T
 abbrev pub IsKeptOrFrontOf : Option (List ℕ) → Option (List ℕ) → List ℕ → Type 0
 IsKeptOrFrontOf old new bytes = (new ≡ old) ⊎ IsFrontOf new bytes
 
--- a source of that name gave nothing at a place below its size
+-- a source of that name gave nothing at an offset below its size
 pub record IsShort (name : List ℕ) (old : Outside) (at size : ℕ) : Type 0 where
   pub below : at < size
   pub stopped : WhereTold (old.ends name) (λ end. at ≡ end)
@@ -38,7 +38,7 @@ HasWriteReason name old new NotMade = Rose old.absences new.absences × IsTrue (
 HasWriteReason name old new NotWritten = Rose old.write_faults new.write_faults
 HasWriteReason name old new NoRoom = new.file ≡ old.file
 
--- why the bytes of a source that stood at place 0 were not read
+-- why the bytes of a source that stood at offset 0 were not read
 abbrev pub HasRestReason : Option (List ℕ) → Option ℕ → ℕ → ℕ → ℕ → Unread → Type 0
 HasRestReason told ends most before now Absent = ⊥
 HasRestReason told ends most before now Failed = Rose before now

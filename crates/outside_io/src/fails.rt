@@ -8,7 +8,7 @@ pub enum FailKind {
     OpenSource,
     Read,
     Seek,
-    /// No failure: the source gives nothing from a place on.
+    /// No failure: the source gives nothing from an offset on.
     EndAt,
     OpenSink,
     /// The opening of a sink is refused as absent.
@@ -51,7 +51,7 @@ impl FileName {
     }
 }
 
-/// The nth call of that kind on that name fails, counted from 1. For `EndAt` the source gives nothing from place `nth` on.
+/// The nth call of that kind on that name fails, counted from 1. For `EndAt` the source gives nothing from offset `nth` on.
 #[derive(Debug, Drop)]
 pub struct Fail {
     pub name: FileName,

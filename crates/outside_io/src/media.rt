@@ -18,7 +18,7 @@ pub enum Refused {
 
 /// Named files, of which sources and sinks are opened. A media may tell its files: then each source tells its bytes,
 /// and only the closing of a sink changes a told file, namely that of its name. It may also tell the sink names that it
-/// may refuse, and for each name the place from which on its sources give nothing; both stay the same over all its calls.
+/// may refuse, and for each name the offset from which on its sources give nothing; both stay the same over all its calls.
 /// Counts never fall, and stay at their last value. A call raises only the count
 /// of its own answer, and what is opened has failed in no call yet.
 pub trait Media {
@@ -44,7 +44,7 @@ pub trait Media {
         ensures told { IfOk result (λ src. Self.Src.told src ≡ (outside self.old).file name.now) }
         ensures there { IsTrue (outside self.old).tells → OnOk result (IsSome ((outside self.old).file name.now)) }
         ensures size { WhereTold ((outside self.old).file name.now) (λ bytes. IfOk result (λ src. Self.Src.size src ≡ length bytes)) }
-        ensures place { IfOk result (λ src. Self.Src.place src ≡ 0) }
+        ensures offset { IfOk result (λ src. Self.Src.offset src ≡ 0) }
         ensures ends { IfOk result (λ src. Self.Src.ends src ≡ (outside self.old).ends name.now) }
         ensures absent { IsErrOf result Refused.Absent → Rose (outside self.old).absences (outside self.new).absences }
         ensures absent_name { IsErrOf result Refused.Absent → (outside self.old).file name.now ≡ None }

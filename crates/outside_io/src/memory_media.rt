@@ -71,7 +71,7 @@ impl MemoryMedia {
 }
 
 impl Media for MemoryMedia {
-    ghost use Rattle.outside_io.specs.Memory.{source_bytes, source_faults, source_place, source_ends, sink_bytes, sink_name, sink_faults};
+    ghost use Rattle.outside_io.specs.Memory.{source_bytes, source_faults, source_offset, source_ends, sink_bytes, sink_name, sink_faults};
     ghost use Rattle.outside_io.specs.MemoryFiles.{memory_outside, OpensSource, OpensSink, ClosesSource, ClosesSink};
 
     type Src = MemorySource;
@@ -98,7 +98,7 @@ impl Media for MemoryMedia {
         ensures told { IfOk result (λ src. Some (source_bytes src) ≡ (memory_outside self.old).file name.now) }
         ensures there { IsTrue (memory_outside self.old).tells → OnOk result (IsSome ((memory_outside self.old).file name.now)) }
         ensures size { WhereTold ((memory_outside self.old).file name.now) (λ bytes. IfOk result (λ src. length (source_bytes src) ≡ length bytes)) }
-        ensures place { IfOk result (λ src. source_place src ≡ 0) }
+        ensures offset { IfOk result (λ src. source_offset src ≡ 0) }
         ensures ends { IfOk result (λ src. Some (source_ends src) ≡ (memory_outside self.old).ends name.now) }
         ensures absent { IsErrOf result Refused.Absent → Rose (memory_outside self.old).absences (memory_outside self.new).absences }
         ensures absent_name { IsErrOf result Refused.Absent → (memory_outside self.old).file name.now ≡ None }

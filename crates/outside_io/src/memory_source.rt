@@ -15,23 +15,23 @@ use std::alloc::Global;
 pub struct MemorySource {
     pub(crate) name: String,
     bytes: Vec<u8>,
-    place: usize,
+    offset: usize,
     end: u64,
     asked: u64,
     pub(crate) reads: Calls,
     pub(crate) seeks: Calls,
     pub(crate) faults: u64,
-    ghost within: { place ≤ vec_len bytes },
+    ghost within: { offset ≤ vec_len bytes },
 }
 
 impl MemorySource {
-    ghost use Rattle.outside_io.specs.Memory.{source_bytes, source_place, source_ends, source_asked, source_faults, source_reads, source_seeks};
+    ghost use Rattle.outside_io.specs.Memory.{source_bytes, source_offset, source_ends, source_asked, source_faults, source_reads, source_seeks};
     ghost use Rattle.outside_io.specs.MemoryFiles.{IsNewSource};
 
-    /// A source that stands at place 0, never fails and gives all its bytes.
+    /// A source that stands at offset 0, never fails and gives all its bytes.
     pub fn new(bytes: Vec<u8>) -> MemorySource
         ensures bytes { source_bytes result ≡ bytes.items }
-        ensures place { source_place result ≡ 0 }
+        ensures offset { source_offset result ≡ 0 }
         ensures ends { length bytes.items ≤ source_ends result }
         ensures asked { source_asked result ≡ 0 }
         ensures faults { source_faults result ≡ 0 }
@@ -42,7 +42,7 @@ impl MemorySource {
         MemorySource {
             name: String::new(alloc),
             bytes,
-            place: 0,
+            offset: 0,
             end: u64::MAX,
             asked: 0,
             reads: Calls::sound(alloc),
@@ -63,7 +63,7 @@ impl MemorySource {
         Ok(MemorySource {
             name: String::from_str(alloc, name)?,
             bytes: bytes.to_vec(alloc)?,
-            place: 0,
+            offset: 0,
             end: Planned::end(plans, name),
             asked: 0,
             reads: Calls::new(Planned::due(alloc, plans, FailKind::Read, name)?),
@@ -74,7 +74,7 @@ impl MemorySource {
 }
 
 impl Source for MemorySource {
-    ghost use Rattle.outside_io.specs.Memory.{source_bytes, source_place, source_ends, source_asked, source_faults, Reads, Seeks};
+    ghost use Rattle.outside_io.specs.Memory.{source_bytes, source_offset, source_ends, source_asked, source_faults, Reads, Seeks};
 
     ghost told = { λ s. Some (source_bytes s) };
 
@@ -82,7 +82,7 @@ impl Source for MemorySource {
 
     ghost size = { λ s. length (source_bytes s) };
 
-    ghost place = { source_place };
+    ghost offset = { source_offset };
 
     ghost asked = { λ s. Some (source_asked s) };
 
@@ -92,8 +92,8 @@ impl Source for MemorySource {
         self.bytes.len() as u64
     }
 
-    fn place(&self) -> u64 {
-        self.place as u64
+    fn offset(&self) -> u64 {
+        self.offset as u64
     }
 
     fn faults(&self) -> u64 {
@@ -106,19 +106,19 @@ impl Source for MemorySource {
         ensures told { Some (source_bytes self.new) ≡ Some (source_bytes self.old) }
         ensures ends { Some (source_ends self.new) ≡ Some (source_ends self.old) }
         ensures size { length (source_bytes self.new) ≡ length (source_bytes self.old) }
-        ensures place { IfOk result (λ count. source_place self.new ≡ source_place self.old + count) }
-        ensures within { source_place self.new ≤ length (source_bytes self.new) }
+        ensures offset { IfOk result (λ count. source_offset self.new ≡ source_offset self.old + count) }
+        ensures within { source_offset self.new ≤ length (source_bytes self.new) }
         ensures bytes { WhereTold (Some (source_bytes self.old)) (λ bytes. IfOk result (λ count.
-            take count buf.new ≡ take count (drop (source_place self.old) bytes))) }
+            take count buf.new ≡ take count (drop (source_offset self.old) bytes))) }
         ensures gives { WhereTold (Some (source_ends self.old)) (λ end. IfOk result (λ count.
-            source_place self.old < min end (length (source_bytes self.old)) → 0 < count)) }
+            source_offset self.old < min end (length (source_bytes self.old)) → 0 < count)) }
         ensures stops { WhereTold (Some (source_ends self.old)) (λ end. OnOk result (
-            source_place self.new ≤ max end (source_place self.old))) }
-        ensures asked { Some (source_asked self.new) ≡ asked_up_to (Some (source_asked self.old)) (source_place self.old + length buf.old) }
+            source_offset self.new ≤ max end (source_offset self.old))) }
+        ensures asked { Some (source_asked self.new) ≡ asked_up_to (Some (source_asked self.old)) (source_offset self.old + length buf.old) }
         ensures cause { HasCause (source_faults self.old) (source_faults self.new) result }
         ensures exactly { Reads self.old self.new (length buf.old) result }
     {
-        self.asked = self.asked.max(self.place as u64 + buf.len() as u64);
+        self.asked = self.asked.max(self.offset as u64 + buf.len() as u64);
         if self.reads.call() {
             self.faults = self.faults.saturating_add(1);
             return Err(Failed);
@@ -127,12 +127,12 @@ impl Source for MemorySource {
         if self.end < end as u64 {
             end = self.end as usize;
         }
-        if end <= self.place {
+        if end <= self.offset {
             return Ok(0);
         }
-        let count = buf.len().min(end - self.place);
-        buf[..count].copy_from_slice(&self.bytes[self.place..self.place + count]);
-        self.place += count;
+        let count = buf.len().min(end - self.offset);
+        buf[..count].copy_from_slice(&self.bytes[self.offset..self.offset + count]);
+        self.offset += count;
         Ok(count)
     }
 
@@ -141,8 +141,8 @@ impl Source for MemorySource {
         ensures told { Some (source_bytes self.new) ≡ Some (source_bytes self.old) }
         ensures ends { Some (source_ends self.new) ≡ Some (source_ends self.old) }
         ensures size { length (source_bytes self.new) ≡ length (source_bytes self.old) }
-        ensures reached { OnOk result (source_place self.new ≡ to) }
-        ensures within { source_place self.new ≤ length (source_bytes self.new) }
+        ensures reached { OnOk result (source_offset self.new ≡ to) }
+        ensures within { source_offset self.new ≤ length (source_bytes self.new) }
         ensures asked { Some (source_asked self.new) ≡ Some (source_asked self.old) }
         ensures cause { HasCause (source_faults self.old) (source_faults self.new) result }
         ensures exactly { Seeks self.old self.new result }
@@ -151,7 +151,7 @@ impl Source for MemorySource {
             self.faults = self.faults.saturating_add(1);
             return Err(Failed);
         }
-        self.place = to as usize;
+        self.offset = to as usize;
         Ok(())
     }
 }

@@ -14,7 +14,7 @@ const PIECE: usize = 4096;
 #[derive(Clone, Copy, Debug, PartialEq, Eq)]
 pub enum ReadStop {
     Failed,
-    /// The source gave nothing at a place below its size.
+    /// The source gave nothing at an offset below its size.
     Short { at: u64, size: u64 },
 }
 
@@ -23,7 +23,7 @@ pub enum ReadStop {
 pub enum PumpFault {
     Read,
     Write,
-    /// The source gave nothing at a place below its size.
+    /// The source gave nothing at an offset below its size.
     Short { at: u64, size: u64 },
 }
 
@@ -44,22 +44,22 @@ pub fn write_all<K: Sink>(sink: &mut K, piece: &[u8]) -> Result<(), Failed>
 
 /// Reads the next bytes into the whole of `buf`.
 pub fn read_exact<S: Source>(source: &mut S, buf: &mut [u8]) -> Result<(), ReadStop>
-    requires { S.place source.old + length buf.old ≤ S.size source.old }
+    requires { S.offset source.old + length buf.old ≤ S.size source.old }
     ensures bytes { WhereTold (S.told source.old) (λ bytes. OnOk result (
-        buf.new ≡ take (length buf.old) (drop (S.place source.old) bytes))) }
-    ensures place { OnOk result (S.place source.new ≡ S.place source.old + length buf.old) }
+        buf.new ≡ take (length buf.old) (drop (S.offset source.old) bytes))) }
+    ensures offset { OnOk result (S.offset source.new ≡ S.offset source.old + length buf.old) }
     ensures told { S.told source.new ≡ S.told source.old }
     ensures ends { S.ends source.new ≡ S.ends source.old }
     ensures size { S.size source.new ≡ S.size source.old }
     ensures later { S.faults source.old ≤ S.faults source.new }
     ensures failed { result ≡ Err ReadStop.Failed → Rose (S.faults source.old) (S.faults source.new) }
     ensures stands { result ≢ Err ReadStop.Failed → S.faults source.new ≡ S.faults source.old }
-    ensures asks { AsksWithin (S.asked source.old) (S.asked source.new) (S.place source.old + length buf.old) }
-    ensures short { IfErr result (IsStopOf (S.size source.old) (S.ends source.old) (S.place source.old)) }
+    ensures asks { AsksWithin (S.asked source.old) (S.asked source.new) (S.offset source.old + length buf.old) }
+    ensures short { IfErr result (IsStopOf (S.size source.old) (S.ends source.old) (S.offset source.old)) }
     ensures reached { WhereTold (S.ends source.old) (λ end. OnOk result (
-        S.place source.new ≤ max end (S.place source.old))) }
-    ensures unfinished { IfErr result (StopsBefore (S.place source.old + length buf.old)) }
-    ensures stopped_at { IfErr result (IsStopAt (S.place source.new)) }
+        S.offset source.new ≤ max end (S.offset source.old))) }
+    ensures unfinished { IfErr result (StopsBefore (S.offset source.old + length buf.old)) }
+    ensures stopped_at { IfErr result (IsStopAt (S.offset source.new)) }
 {
     let mut done = 0;
     while done < buf.len() {
@@ -67,7 +67,7 @@ pub fn read_exact<S: Source>(source: &mut S, buf: &mut [u8]) -> Result<(), ReadS
             Err(_) => return Err(ReadStop::Failed),
             Ok(0) => {
                 return Err(ReadStop::Short {
-                    at: source.place(),
+                    at: source.offset(),
                     size: source.size(),
                 });
             }
@@ -82,10 +82,10 @@ pub fn read_exact<S: Source>(source: &mut S, buf: &mut [u8]) -> Result<(), ReadS
 /// Moves the rest of a source into a sink.
 pub fn pump<S: Source, K: Sink>(source: &mut S, sink: &mut K) -> Result<(), PumpFault>
     ensures whole { WhereTold (S.told source.old) (λ bytes. OnOk result (
-        K.told sink.new ≡ append_known (K.told sink.old) (drop (S.place source.old) bytes))) }
+        K.told sink.new ≡ append_known (K.told sink.old) (drop (S.offset source.old) bytes))) }
     ensures front { WhereTold (S.told source.old) (λ bytes.
-        AppendsFront (K.told sink.old) (K.told sink.new) (drop (S.place source.old) bytes)) }
-    ensures end { OnOk result (S.place source.new ≡ S.size source.old) }
+        AppendsFront (K.told sink.old) (K.told sink.new) (drop (S.offset source.old) bytes)) }
+    ensures end { OnOk result (S.offset source.new ≡ S.size source.old) }
     ensures told { S.told source.new ≡ S.told source.old }
     ensures ends { S.ends source.new ≡ S.ends source.old }
     ensures size { S.size source.new ≡ S.size source.old }
@@ -96,12 +96,12 @@ pub fn pump<S: Source, K: Sink>(source: &mut S, sink: &mut K) -> Result<(), Pump
     ensures write { result ≡ Err PumpFault.Write → Rose (K.faults sink.old) (K.faults sink.new) }
     ensures read_stands { result ≢ Err PumpFault.Read → S.faults source.new ≡ S.faults source.old }
     ensures write_stands { result ≢ Err PumpFault.Write → K.faults sink.new ≡ K.faults sink.old }
-    ensures short { IfErr result (IsShortOf (S.size source.old) (S.ends source.old) (S.place source.old)) }
-    ensures reached { IfErr result (IsShortAt (S.place source.new)) }
+    ensures short { IfErr result (IsShortOf (S.size source.old) (S.ends source.old) (S.offset source.old)) }
+    ensures reached { IfErr result (IsShortAt (S.offset source.new)) }
 {
     let mut buf = [0u8; PIECE];
     loop {
-        let at = source.place();
+        let at = source.offset();
         let size = source.size();
         if at == size {
             return Ok(());

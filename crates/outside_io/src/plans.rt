@@ -78,7 +78,7 @@ impl Planned {
         Ok(due)
     }
 
-    /// The place from which on a source of that name gives nothing.
+    /// The offset from which on a source of that name gives nothing.
     pub fn end(plans: &[Planned], name: &str) -> u64
         ensures { result ≡ end_of (fails_of plans.now) name.now }
     {

@@ -8,22 +8,22 @@ ghost use Rattle.outside_io.specs.Moves.{WhereTold};
 #[derive(Clone, Copy, Debug, PartialEq, Eq)]
 pub struct Failed;
 
-/// Bytes that are read from a place on. Its size stays the same for its life. A source that gives 0 bytes below its
-/// size is short, which is no fault. After a fault its place is free, within its size.
+/// Bytes that are read from an offset on. Its size stays the same for its life. A source that gives 0 bytes below its
+/// size is short, which is no fault. After a fault its offset is free, within its size.
 pub trait Source {
     /// All its bytes, where it tells them.
     ghost told: { Self → Option (List ℕ) };
 
-    /// The place from which on it gives nothing, where it tells that.
+    /// The offset from which on it gives nothing, where it tells that.
     ghost ends: { Self → Option ℕ };
 
     /// How many bytes it has.
     ghost size: { Self → ℕ };
 
     /// Where it stands, which is never above its size.
-    ghost place: { Self → ℕ };
+    ghost offset: { Self → ℕ };
 
-    /// The greatest place up to which a read asked for bytes, where it tells that. A read asks for as many as there is
+    /// The greatest offset up to which a read asked for bytes, where it tells that. A read asks for as many as there is
     /// room for.
     ghost asked: { Self → Option ℕ };
 
@@ -32,12 +32,12 @@ pub trait Source {
 
     fn size(&self) -> u64
         ensures value { result ≡ size self.now }
-        ensures within { place self.now ≤ size self.now }
+        ensures within { offset self.now ≤ size self.now }
         ensures told { WhereTold (told self.now) (λ bytes. size self.now ≡ length bytes) };
 
-    fn place(&self) -> u64
-        ensures value { result ≡ place self.now }
-        ensures within { place self.now ≤ size self.now };
+    fn offset(&self) -> u64
+        ensures value { result ≡ offset self.now }
+        ensures within { offset self.now ≤ size self.now };
 
     fn faults(&self) -> u64
         ensures { result ≡ faults self.now };
@@ -49,15 +49,15 @@ pub trait Source {
         ensures told { told self.new ≡ told self.old }
         ensures ends { ends self.new ≡ ends self.old }
         ensures size { size self.new ≡ size self.old }
-        ensures place { IfOk result (λ count. place self.new ≡ place self.old + count) }
-        ensures within { place self.new ≤ size self.new }
+        ensures offset { IfOk result (λ count. offset self.new ≡ offset self.old + count) }
+        ensures within { offset self.new ≤ size self.new }
         ensures bytes { WhereTold (told self.old) (λ bytes. IfOk result (λ count.
-            take count buf.new ≡ take count (drop (place self.old) bytes))) }
+            take count buf.new ≡ take count (drop (offset self.old) bytes))) }
         ensures gives { WhereTold (ends self.old) (λ end. IfOk result (λ count.
-            place self.old < min end (size self.old) → 0 < count)) }
+            offset self.old < min end (size self.old) → 0 < count)) }
         ensures stops { WhereTold (ends self.old) (λ end. OnOk result (
-            place self.new ≤ max end (place self.old))) }
-        ensures asked { asked self.new ≡ asked_up_to (asked self.old) (place self.old + length buf.old) }
+            offset self.new ≤ max end (offset self.old))) }
+        ensures asked { asked self.new ≡ asked_up_to (asked self.old) (offset self.old + length buf.old) }
         ensures cause { HasCause (faults self.old) (faults self.new) result };
 
     fn seek_to(&mut self, to: u64) -> Result<(), Failed>
@@ -65,8 +65,8 @@ pub trait Source {
         ensures told { told self.new ≡ told self.old }
         ensures ends { ends self.new ≡ ends self.old }
         ensures size { size self.new ≡ size self.old }
-        ensures reached { OnOk result (place self.new ≡ to) }
-        ensures within { place self.new ≤ size self.new }
+        ensures reached { OnOk result (offset self.new ≡ to) }
+        ensures within { offset self.new ≤ size self.new }
         ensures asked { asked self.new ≡ asked self.old }
         ensures cause { HasCause (faults self.old) (faults self.new) result };
 }

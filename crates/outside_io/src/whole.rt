@@ -14,7 +14,7 @@ pub enum Unread {
     Failed,
     /// It has more bytes than may be read.
     TooLong { size: u64 },
-    /// It gave nothing at a place below its size.
+    /// It gave nothing at an offset below its size.
     Short { at: u64, size: u64 },
     OutOfMemory,
 }
@@ -49,7 +49,7 @@ pub fn read_whole<M: Media>(
 
 /// Reads the bytes of a source that was just opened.
 fn read_rest<S: Source>(alloc: Global, source: &mut S, most: u64) -> Result<Vec<u8>, Unread>
-    requires { S.place source.old ≡ 0 }
+    requires { S.offset source.old ≡ 0 }
     ensures bytes { IfOk result (λ bytes. WhereTold (S.told source.old) (λ told. bytes.items ≡ told)) }
     ensures fits { IfOk result (λ bytes. length bytes.items ≤ most) }
     ensures told { S.told source.new ≡ S.told source.old }

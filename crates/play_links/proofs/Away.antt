@@ -7,8 +7,8 @@ use Rattle.il_machine.specs.declared.port.Port.{Port}
 use Rattle.il_machine.specs.declared.header.Home.TheVariants as homes
 use Rattle.il_machine.specs.declared.header.Owner.{Owner}
 use Rattle.il_machine.specs.declared.header.Owner.TheVariants as owners
-use Rattle.il_machine.specs.declared.header.Place.{Place}
-use Rattle.il_machine.specs.declared.header.Place.TheVariants.{Out, Todo, Done}
+use Rattle.il_machine.specs.declared.header.Queue.{Queue}
+use Rattle.il_machine.specs.declared.header.Queue.TheVariants.{Out, Todo, Done}
 use Rattle.il_machine.specs.declared.header.HeaderState.{HeaderState}
 use Rattle.il_machine.specs.World.{HeaderRecord, World}
 use Rattle.il_machine.specs.Headers.{seen, is_for, is_owned_by, is_home_owner, is_notice, is_away, is_todo, is_done, in_todo, in_done, find_header, count_headers, weight, same_key, Once}
@@ -22,15 +22,15 @@ use Rattle.play_links.specs.Tunnel.{IsTunnel, Supplies, IsWorkedAt}
 use Rattle.play_links.proofs.Counted.{both, length-numbers}
 use Rattle.play_links.proofs.Counts.{apart_on, for_pair, no_client, owner_is, to_output, not_other, in_works, no_work, no_for, one_work, is_worked_for, worked_count, turned}
 
-abbrev in_two : PortKey → Place → Owner → ℕ
-in_two b place owner = weight (is_todo place && is_owned_by b owner) + weight (is_done place && is_owned_by b owner)
+abbrev in_two : PortKey → Queue → Owner → ℕ
+in_two b queue owner = weight (is_todo queue && is_owned_by b owner) + weight (is_done queue && is_owned_by b owner)
 
-none_of_two : (b : PortKey) (place : Place) (owner : Owner) → is_owned_by b owner ≡ false → in_two b place owner ≡ 0
+none_of_two : (b : PortKey) (queue : Queue) (owner : Owner) → is_owned_by b owner ≡ false → in_two b queue owner ≡ 0
 none_of_two b Out owner e = refl
 none_of_two b Todo owner e = rw e refl
 none_of_two b Done owner e = rw e refl
 
-one_of_two : (b : PortKey) (place : Place) → place ≢ Out → in_two b place (owners.Port b) ≡ 1
+one_of_two : (b : PortKey) (queue : Queue) → queue ≢ Out → in_two b queue (owners.Port b) ≡ 1
 one_of_two b Out n = absurd (n refl)
 one_of_two b Todo n = rw (key_same b) refl
 one_of_two b Done n = rw (key_same b) refl
@@ -52,10 +52,10 @@ module _ (ports : PortKey → Option Port) (hs : List HeaderRecord) (a b : PortK
   home_at : (s : HeaderState) → IsSet ports s → is_for a s ≡ true → s.home ≡ homes.Port a
   home_at s S t = let m = made_at s S t in S.home ∙ (ap (home_for s.port) m.1 ∙ ap (λ (p : PortKey). homes.Port p) m.0)
 
-  away_of : (s : HeaderState) (owner : Owner) → IsSet ports s → IsOwnedSo s owner → weight (is_for a s && away_by s owner) ≡ in_two b s.place owner + in_works a b s owner
+  away_of : (s : HeaderState) (owner : Owner) → IsSet ports s → IsOwnedSo s owner → weight (is_for a s && away_by s owner) ≡ in_two b s.queue owner + in_works a b s owner
   away_of s owners.Client S O =
       let z : weight (is_for a s && away_by s owners.Client) ≡ 0 = rw (no_client ports hs a b x T N s S O.1) refl in
-      let u = none_of_two b s.place owners.Client refl in
+      let u = none_of_two b s.queue owners.Client refl in
       let w = no_work a b s owners.Client refl refl in
       omega arith
   away_of s (owners.Port k) S O =
@@ -66,20 +66,20 @@ module _ (ports : PortKey → Option Port) (hs : List HeaderRecord) (a b : PortK
       elim (owner_is ports hs a b x T N s k S t O.0) [
         | inl e ↦
             let z : weight (is_for a s && away_by s (owners.Port k)) ≡ 0 = rw (t, home, e, key_same a) refl in
-            let u : in_two b s.place (owners.Port k) ≡ 0 = none_of_two b s.place (owners.Port k) (rw e (apart_on ports hs a b x T N)) in
+            let u : in_two b s.queue (owners.Port k) ≡ 0 = none_of_two b s.queue (owners.Port k) (rw e (apart_on ports hs a b x T N)) in
             omega arith
         | inr e ↦
             let z : weight (is_for a s && away_by s (owners.Port k)) ≡ 1 = rw (t, home, e, apart_on ports hs a b x T N) refl in
-            let u : in_two b s.place (owners.Port k) ≡ 1 = rw e (one_of_two b s.place O.1) in
+            let u : in_two b s.queue (owners.Port k) ≡ 1 = rw e (one_of_two b s.queue O.1) in
             omega arith
       ])
       (λ f.
       let no : same_key k b ≡ false = either (same_key k b) (λ t. both (is_for a s) (to_output ports hs a b x T N s S (subst (λ (j : PortKey). is_for j s ≡ true) (key_is k b t) O.0)) f) (λ y. y) in
       let z : weight (is_for a s && away_by s (owners.Port k)) ≡ 0 = rw f refl in
-      let u = none_of_two b s.place (owners.Port k) no in
+      let u = none_of_two b s.queue (owners.Port k) no in
       omega arith)
   away_of s (owners.Work c) S O =
-      let u = none_of_two b s.place (owners.Work c) refl in
+      let u = none_of_two b s.queue (owners.Work c) refl in
       either (is_for a s)
       (λ t.
       let z : weight (is_for a s && away_by s (owners.Work c)) ≡ 1 = rw (t, home_at s S t) refl in
@@ -91,7 +91,7 @@ module _ (ports : PortKey → Option Port) (hs : List HeaderRecord) (a b : PortK
       omega arith)
   away_of s (owners.Notice c) S O =
       let z : weight (is_for a s && away_by s (owners.Notice c)) ≡ 0 = rw (no_client ports hs a b x T N s S O.1) refl in
-      let u = none_of_two b s.place (owners.Notice c) refl in
+      let u = none_of_two b s.queue (owners.Notice c) refl in
       let w = no_work a b s (owners.Notice c) refl refl in
       omega arith
 
@@ -100,7 +100,7 @@ module _ (ports : PortKey → Option Port) (hs : List HeaderRecord) (a b : PortK
   counted_away [] once all = omega arith
   counted_away (r ∷ rs) once all =
       let S : IsSet ports r.state = all r.state.number r (found_head r.state.number r rs refl) in
-      let here : weight (is_for a r.state && away_by r.state r.state.owner) ≡ in_two b r.state.place r.state.owner + in_works a b r.state r.state.owner = away_of r.state r.state.owner S S.owner in
+      let here : weight (is_for a r.state && away_by r.state r.state.owner) ≡ in_two b r.state.queue r.state.owner + in_works a b r.state r.state.owner = away_of r.state r.state.owner S S.owner in
       let rest = counted_away rs once.1 (λ n y f.
       let apart : r.state.number ≢ n = λ e. let q : find_header n rs ≡ None = rw e at once.0 in absurd cc in
       all n y (found_tail n r rs apart ∙ f)) in

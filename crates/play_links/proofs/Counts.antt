@@ -7,8 +7,8 @@ use Rattle.il_machine.specs.declared.port.PortKey.{PortKey}
 use Rattle.il_machine.specs.declared.port.Port.{Port}
 use Rattle.il_machine.specs.declared.header.Owner.{Owner}
 use Rattle.il_machine.specs.declared.header.Owner.TheVariants as owners
-use Rattle.il_machine.specs.declared.header.Place.{Place}
-use Rattle.il_machine.specs.declared.header.Place.TheVariants.{Out, Todo, Done}
+use Rattle.il_machine.specs.declared.header.Queue.{Queue}
+use Rattle.il_machine.specs.declared.header.Queue.TheVariants.{Out, Todo, Done}
 use Rattle.il_machine.specs.declared.header.HeaderState.{HeaderState}
 use Rattle.il_machine.specs.Lists.{holds_at}
 use Rattle.il_machine.specs.World.{Component, HeaderRecord, Picked, Work, World}
@@ -30,24 +30,24 @@ use Rattle.play_links.proofs.Counted.{both, length-numbers, AreThose, counted_by
 pub keys_apart : (a b : PortKey) → a.component ≢ b.component → same_key a b ≡ false
 keys_apart a b n = rw (ne_eqb a.component b.component n) refl
 
--- ---- one header, by its place and owner
+-- ---- one header, by its queue and owner
 
-abbrev pub in_four : PortKey → PortKey → Place → Owner → ℕ
-in_four o i place owner =
-    weight (is_todo place && is_owned_by o owner) + weight (is_done place && is_owned_by o owner)
-    + weight (is_todo place && is_owned_by i owner) + weight (is_done place && is_owned_by i owner)
+abbrev pub in_four : PortKey → PortKey → Queue → Owner → ℕ
+in_four o i queue owner =
+    weight (is_todo queue && is_owned_by o owner) + weight (is_done queue && is_owned_by o owner)
+    + weight (is_todo queue && is_owned_by i owner) + weight (is_done queue && is_owned_by i owner)
 
-unowned : (o i : PortKey) (place : Place) (owner : Owner) → is_owned_by o owner ≡ false → is_owned_by i owner ≡ false → in_four o i place owner ≡ 0
+unowned : (o i : PortKey) (queue : Queue) (owner : Owner) → is_owned_by o owner ≡ false → is_owned_by i owner ≡ false → in_four o i queue owner ≡ 0
 unowned o i Out owner a b = refl
 unowned o i Todo owner a b = rw (a, b) refl
 unowned o i Done owner a b = rw (a, b) refl
 
-owned_first : (o i : PortKey) (place : Place) → place ≢ Out → same_key o i ≡ false → in_four o i place (owners.Port o) ≡ 1
+owned_first : (o i : PortKey) (queue : Queue) → queue ≢ Out → same_key o i ≡ false → in_four o i queue (owners.Port o) ≡ 1
 owned_first o i Out n a = absurd (n refl)
 owned_first o i Todo n a = rw (key_same o, a) refl
 owned_first o i Done n a = rw (key_same o, a) refl
 
-owned_second : (o i : PortKey) (place : Place) → place ≢ Out → same_key i o ≡ false → in_four o i place (owners.Port i) ≡ 1
+owned_second : (o i : PortKey) (queue : Queue) → queue ≢ Out → same_key i o ≡ false → in_four o i queue (owners.Port i) ≡ 1
 owned_second o i Out n a = absurd (n refl)
 owned_second o i Todo n a = rw (key_same i, a) refl
 owned_second o i Done n a = rw (key_same i, a) refl
@@ -150,9 +150,9 @@ module _ (ports : PortKey → Option Port) (hs : List HeaderRecord) (o i : PortK
             rw (t, g, a, b) refl
       ]
 
-  four_of : (s : HeaderState) (owner : Owner) → IsSet ports s → IsOwnedSo s owner → weight (is_for o s) ≡ in_four o i s.place owner + in_works o i s owner
+  four_of : (s : HeaderState) (owner : Owner) → IsSet ports s → IsOwnedSo s owner → weight (is_for o s) ≡ in_four o i s.queue owner + in_works o i s owner
   four_of s owners.Client S O =
-      let a = unowned o i s.place owners.Client refl refl in
+      let a = unowned o i s.queue owners.Client refl refl in
       let b = no_work o i s owners.Client refl refl in
       let c : weight (is_for o s) ≡ 0 = rw (no_client s S O.1) refl in
       omega arith
@@ -162,22 +162,22 @@ module _ (ports : PortKey → Option Port) (hs : List HeaderRecord) (o i : PortK
       (λ t.
       let one : weight (is_for o s) ≡ 1 = rw t refl in
       elim (owner_is s k S t O.0) [
-        | inl e ↦ let f : in_four o i s.place (owners.Port k) ≡ 1 = rw e (owned_first o i s.place O.1 apart_on) in omega arith
-        | inr e ↦ let f : in_four o i s.place (owners.Port k) ≡ 1 = rw e (owned_second o i s.place O.1 apart_back) in omega arith
+        | inl e ↦ let f : in_four o i s.queue (owners.Port k) ≡ 1 = rw e (owned_first o i s.queue O.1 apart_on) in omega arith
+        | inr e ↦ let f : in_four o i s.queue (owners.Port k) ≡ 1 = rw e (owned_second o i s.queue O.1 apart_back) in omega arith
       ])
       (λ f.
       let a : same_key k o ≡ false = either (same_key k o) (λ t. both (is_for o s) (subst (λ (j : PortKey). is_for j s ≡ true) (key_is k o t) O.0) f) (λ z. z) in
       let b : same_key k i ≡ false = either (same_key k i) (λ t. both (is_for o s) (to_output s S (subst (λ (j : PortKey). is_for j s ≡ true) (key_is k i t) O.0)) f) (λ z. z) in
       let z : weight (is_for o s) ≡ 0 = rw f refl in
-      let u = unowned o i s.place (owners.Port k) a b in
+      let u = unowned o i s.queue (owners.Port k) a b in
       omega arith)
   four_of s (owners.Work c) S O =
-      let u = unowned o i s.place (owners.Work c) refl refl in
+      let u = unowned o i s.queue (owners.Work c) refl refl in
       either (is_for o s)
       (λ t. let a : weight (is_for o s) ≡ 1 = rw t refl in let b = one_work s c S t O.1 in omega arith)
       (λ f. let a : weight (is_for o s) ≡ 0 = rw f refl in let b = no_for o i s (owners.Work c) f (not_other s S f) in omega arith)
   four_of s (owners.Notice c) S O =
-      let a = unowned o i s.place (owners.Notice c) refl refl in
+      let a = unowned o i s.queue (owners.Notice c) refl refl in
       let b = no_work o i s (owners.Notice c) refl refl in
       let c : weight (is_for o s) ≡ 0 = rw (no_client s S O.1) refl in
       omega arith
@@ -190,7 +190,7 @@ module _ (ports : PortKey → Option Port) (hs : List HeaderRecord) (o i : PortK
   counted_four [] once all = omega arith
   counted_four (r ∷ rs) once all =
       let S : IsSet ports r.state = all r.state.number r (found_head r.state.number r rs refl) in
-      let here : weight (is_for o r.state) ≡ in_four o i r.state.place r.state.owner + in_works o i r.state r.state.owner = four_of r.state r.state.owner S S.owner in
+      let here : weight (is_for o r.state) ≡ in_four o i r.state.queue r.state.owner + in_works o i r.state r.state.owner = four_of r.state r.state.owner S S.owner in
       let rest = counted_four rs once.1 (λ n y f.
       let apart : r.state.number ≢ n = λ e. let a : find_header n rs ≡ None = rw e at once.0 in absurd cc in
       all n y (found_tail n r rs apart ∙ f)) in

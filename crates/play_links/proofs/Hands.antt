@@ -5,7 +5,7 @@ use Rattle.il_machine.specs.declared.port.PortKey.{PortKey}
 use Rattle.il_machine.specs.declared.header.Spot.TheVariants.{TodoBack}
 use Rattle.il_machine.specs.World.{HeaderRecord}
 use Rattle.il_machine.specs.Headers.{Seen, seen, load_at, load_of, find_header, put, put_at, unchanged, is_state, is_owned_by, in_done, same_key, Once}
-use Rattle.il_machine.specs.Stock.{StandsFor, pushed, sent}
+use Rattle.il_machine.specs.Stock.{StandsFor, pushed, done_pulled}
 use Rattle.machine_laws.proofs.Finding.{either}
 use Rattle.machine_laws.proofs.Replacing.{IsReplaced, replaced_put}
 use Rattle.machine_laws.proofs.Listed.{done_owner}
@@ -32,8 +32,8 @@ handed key peer n ns hs o e =
     let r : HeaderRecord = F.it in
     let found : find_header n hs ≡ Some r = F.is in
     let load : load_at n hs ≡ Some r.load = rw found refl in
-    let S : StandsFor (pushed peer TodoBack n r.load (sent key (stock_of hs))) ks = send_put_back (stock_of hs) hs key peer TodoBack n ns r.load (stands_of hs o) e load in
-    let L : seen ks ≡ (pushed peer TodoBack n r.load (sent key (stock_of hs))).headers = S.looks in
+    let S : StandsFor (pushed peer TodoBack n r.load (done_pulled key (stock_of hs))) ks = send_put_back (stock_of hs) hs key peer TodoBack n ns r.load (stands_of hs o) e load in
+    let L : seen ks ≡ (pushed peer TodoBack n r.load (done_pulled key (stock_of hs))).headers = S.looks in
     let R : IsReplaced n r (put_at peer TodoBack r) hs ks = replaced_put peer TodoBack unchanged (λ _. refl) n hs r o found in
     let owner = done_owner key r.state F.passes in
     let apart : (k : PortKey) → same_key k key ≡ false → is_owned_by k r.state.owner ≡ false = λ k f. rw owner (same_key-sym key k ∙ f) in

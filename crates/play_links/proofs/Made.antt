@@ -3,7 +3,7 @@ use Rattle.std.proofs.Common.{◌≡◌, ◌≢◌, ℕ, ◌+◌, Bool, true, fa
 use Rattle.il_machine.specs.declared.port.PortKey.{PortKey}
 use Rattle.il_machine.specs.World.{HeaderRecord}
 use Rattle.il_machine.specs.Headers.{Seen, seen, load_at, load_of, find_header, numbers, without, is_state, in_todo, in_done, same_key, Once}
-use Rattle.il_machine.specs.Stock.{those, pulled, sent, withdrawn}
+use Rattle.il_machine.specs.Stock.{those, todo_pulled, done_pulled, header_unmade}
 use Rattle.machine_laws.proofs.Finding.{push_else, without_else, without_same}
 use Rattle.stock_laws.proofs.Flat.{numbers-append}
 use Rattle.stock_laws.proofs.Keys.{same_key-sym, same_key-refl}
@@ -77,8 +77,8 @@ module _ (x : LinkEnds) (hs : List HeaderRecord) (n : ℕ) (o : Once hs) (d : is
   held_left q = filled_off x.unit hs less n (x.draining ++ numbers q less) (in_append n x.draining (numbers q less) d (in_none q n less (without_same n hs o))) left
 
   -- a view by its lists
-  by_lists : (ready spent : ℕ) (sent held : List ℕ) → length ((seen less).todo x.output) ≡ ready → (seen less).done x.output ≡ sent → (seen less).todo x.input ≡ held → length ((seen less).done x.input) ≡ spent
-      → link_view x less ≡ record (link_view x hs) { ready = length x.filling + ready; sent = map (filled x.unit hs) sent; held = map (filled x.unit hs) (x.draining ++ held); spent = spent }
+  by_lists : (ready spent : ℕ) (done_pulled held : List ℕ) → length ((seen less).todo x.output) ≡ ready → (seen less).done x.output ≡ done_pulled → (seen less).todo x.input ≡ held → length ((seen less).done x.input) ≡ spent
+      → link_view x less ≡ record (link_view x hs) { ready = length x.filling + ready; sent = map (filled x.unit hs) done_pulled; held = map (filled x.unit hs) (x.draining ++ held); spent = spent }
   by_lists ready spent sent_ held a b c e =
       link_same (link_view x less) (record (link_view x hs) { ready = length x.filling + ready; sent = map (filled x.unit hs) sent_; held = map (filled x.unit hs) (x.draining ++ held); spent = spent })
       (ap (λ (k : ℕ). length x.filling + k) a)
@@ -86,10 +86,10 @@ module _ (x : LinkEnds) (hs : List HeaderRecord) (n : ℕ) (o : Once hs) (d : is
       (held_left (is_state (in_todo x.input)) ∙ ap (λ (l : List ℕ). map (filled x.unit hs) (x.draining ++ l)) c)
       e refl refl
 
-  pulled_from : (key : PortKey) (ns : List ℕ) → (seen hs).todo key ≡ n ∷ ns → seen less ≡ (withdrawn n (pulled key (stock_of hs))).headers
+  pulled_from : (key : PortKey) (ns : List ℕ) → (seen hs).todo key ≡ n ∷ ns → seen less ≡ (header_unmade n (todo_pulled key (stock_of hs))).headers
   pulled_from key ns e = (pull_unmade (stock_of hs) hs key n ns (stands_of hs o) e).looks
 
-  sent_from : (key : PortKey) (ns : List ℕ) → (seen hs).done key ≡ n ∷ ns → seen less ≡ (withdrawn n (sent key (stock_of hs))).headers
+  sent_from : (key : PortKey) (ns : List ℕ) → (seen hs).done key ≡ n ∷ ns → seen less ≡ (header_unmade n (done_pulled key (stock_of hs))).headers
   sent_from key ns e = (send_unmade (stock_of hs) hs key n ns (stands_of hs o) e).looks
 
   module _ (a : same_key x.input x.output ≡ false) (ns : List ℕ) where

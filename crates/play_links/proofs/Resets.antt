@@ -5,7 +5,7 @@ use Rattle.il_machine.specs.declared.port.PortKey.{PortKey}
 use Rattle.il_machine.specs.declared.header.Spot.TheVariants.{TodoBack, DoneBack}
 use Rattle.il_machine.specs.World.{HeaderRecord}
 use Rattle.il_machine.specs.Headers.{Seen, seen, load_at, load_of, find_header, put, put_at, put_all, cleared, cleared_all, reset, unloaded, is_state, is_owned_by, in_todo, in_done, same_key, Once}
-use Rattle.il_machine.specs.Stock.{StandsFor, pushed, pulled, sent}
+use Rattle.il_machine.specs.Stock.{StandsFor, pushed, todo_pulled, done_pulled}
 use Rattle.machine_laws.proofs.Finding.{either, changed_else}
 use Rattle.machine_laws.proofs.Replacing.{IsReplaced, replaced_put}
 use Rattle.machine_laws.proofs.Listed.{IsListed, AreListed, numbers_listed, todo_owner, done_owner}
@@ -51,7 +51,7 @@ all_back key (n ∷ ns) hs o e =
     let found : find_header n hs ≡ Some r = F.is in
     let load : load_at n hs ≡ Some r.load = rw found refl in
     let ms : List HeaderRecord = put key TodoBack n cleared hs in
-    let S : StandsFor (pushed key TodoBack n (unloaded r.load) (sent key (stock_of hs))) ms = send_put_cleared (stock_of hs) hs key key TodoBack n ns r.load (stands_of hs o) e load in
+    let S : StandsFor (pushed key TodoBack n (unloaded r.load) (done_pulled key (stock_of hs))) ms = send_put_cleared (stock_of hs) hs key key TodoBack n ns r.load (stands_of hs o) e load in
     let R : IsReplaced n r (put_at key TodoBack (cleared r)) hs ms = replaced_put key TodoBack cleared (λ _. refl) n hs r o found in
     let gone : (seen ms).done key ≡ ns = ap (λ (s : Seen). s.done key) S.looks ∙ rw (e, same_key-refl key) refl in
     let come : (seen ms).todo key ≡ (seen hs).todo key ++ n ∷ [] = ap (λ (s : Seen). s.todo key) S.looks ∙ rw (e, same_key-refl key) refl in
@@ -81,7 +81,7 @@ all_on key (n ∷ ns) hs o e =
     let found : find_header n hs ≡ Some r = F.is in
     let load : load_at n hs ≡ Some r.load = rw found refl in
     let ms : List HeaderRecord = put key DoneBack n cleared hs in
-    let S : StandsFor (pushed key DoneBack n (unloaded r.load) (pulled key (stock_of hs))) ms = pull_put_cleared (stock_of hs) hs key key DoneBack n ns r.load (stands_of hs o) e load in
+    let S : StandsFor (pushed key DoneBack n (unloaded r.load) (todo_pulled key (stock_of hs))) ms = pull_put_cleared (stock_of hs) hs key key DoneBack n ns r.load (stands_of hs o) e load in
     let R : IsReplaced n r (put_at key DoneBack (cleared r)) hs ms = replaced_put key DoneBack cleared (λ _. refl) n hs r o found in
     let gone : (seen ms).todo key ≡ ns = ap (λ (s : Seen). s.todo key) S.looks ∙ rw (e, same_key-refl key) refl in
     let come : (seen ms).done key ≡ (seen hs).done key ++ n ∷ [] = ap (λ (s : Seen). s.done key) S.looks ∙ rw (e, same_key-refl key) refl in

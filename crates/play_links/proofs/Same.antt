@@ -78,12 +78,12 @@ link_same x y a b c d e f = λ i. record { ready = a i; sent = b i; held = c i; 
 -- a header isn't in the lists of a port that doesn't own it
 pub elsewhere_todo : (n : ℕ) (hs : List HeaderRecord) (r : HeaderRecord) (k : PortKey) → Once hs → find_header n hs ≡ Some r → is_owned_by k r.state.owner ≡ false → is_in n ((seen hs).todo k) ≡ false
 elsewhere_todo n hs r k o f e =
-    let p : is_state (in_todo k) r ≡ false = rw e (and_false_right (is_todo r.state.place)) in
+    let p : is_state (in_todo k) r ≡ false = rw e (and_false_right (is_todo r.state.queue)) in
     subst (λ (m : ℕ). is_in m ((seen hs).todo k) ≡ false) (found_number n hs r f) (in_passes (is_state (in_todo k)) n hs r o f ∙ p)
 
 pub elsewhere_done : (n : ℕ) (hs : List HeaderRecord) (r : HeaderRecord) (k : PortKey) → Once hs → find_header n hs ≡ Some r → is_owned_by k r.state.owner ≡ false → is_in n ((seen hs).done k) ≡ false
 elsewhere_done n hs r k o f e =
-    let p : is_state (in_done k) r ≡ false = rw e (and_false_right (is_done r.state.place)) in
+    let p : is_state (in_done k) r ≡ false = rw e (and_false_right (is_done r.state.queue)) in
     subst (λ (m : ℕ). is_in m ((seen hs).done k) ≡ false) (found_number n hs r f) (in_passes (is_state (in_done k)) n hs r o f ∙ p)
 
 -- ---- a link that isn't touched

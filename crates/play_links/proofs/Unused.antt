@@ -5,7 +5,7 @@ use Rattle.il_machine.specs.declared.header.Spot.{Spot}
 use Rattle.il_machine.specs.declared.header.Spot.TheVariants.{TodoBack, DoneBack}
 use Rattle.il_machine.specs.World.{HeaderRecord, Load}
 use Rattle.il_machine.specs.Headers.{Seen, seen, load_at, load_of, find_header, numbers, put, put_at, cleared, unloaded, is_state, is_owned_by, in_todo, in_done, same_key, Once}
-use Rattle.il_machine.specs.Stock.{StandsFor, pushed, pulled}
+use Rattle.il_machine.specs.Stock.{StandsFor, pushed, todo_pulled}
 use Rattle.machine_laws.proofs.Finding.{found_number}
 use Rattle.machine_laws.proofs.Replacing.{IsReplaced, replaced_put}
 use Rattle.machine_laws.proofs.Listed.{todo_owner}
@@ -18,7 +18,7 @@ use Rattle.play_links.proofs.Same.{in_passes, stock_of, stands_of, in_append, fi
 -- what a put of the cleared front of todo leaves
 record IsPut (key peer : PortKey) (spot : Spot) (n : ℕ) (hs ks : List HeaderRecord) : Type 0 where
   load : Load
-  looks : seen ks ≡ (pushed peer spot n (unloaded load) (pulled key (stock_of hs))).headers
+  looks : seen ks ≡ (pushed peer spot n (unloaded load) (todo_pulled key (stock_of hs))).headers
   off : (m : ℕ) → m ≢ n → load_at m ks ≡ load_at m hs
   -- the header is in no list whose test its new place fails
   gone : (q : HeaderRecord → Bool) → ((r : HeaderRecord) → q (put_at peer spot (cleared r)) ≡ false) → is_in n (numbers q ks) ≡ false
@@ -34,7 +34,7 @@ is_put key peer spot n ns hs o e =
     let found : find_header n hs ≡ Some r = F.is in
     let load : load_at n hs ≡ Some r.load = rw found refl in
     let ks : List HeaderRecord = put peer spot n cleared hs in
-    let S : StandsFor (pushed peer spot n (unloaded r.load) (pulled key (stock_of hs))) ks = pull_put_cleared (stock_of hs) hs key peer spot n ns r.load (stands_of hs o) e load in
+    let S : StandsFor (pushed peer spot n (unloaded r.load) (todo_pulled key (stock_of hs))) ks = pull_put_cleared (stock_of hs) hs key peer spot n ns r.load (stands_of hs o) e load in
     let R : IsReplaced n r (put_at peer spot (cleared r)) hs ks = replaced_put peer spot cleared (λ _. refl) n hs r o found in
     let owner = todo_owner key r.state F.passes in
     let apart : (k : PortKey) → same_key k key ≡ false → is_owned_by k r.state.owner ≡ false = λ k f. rw owner (same_key-sym key k ∙ f) in
@@ -93,12 +93,12 @@ module _ (x : LinkEnds) (hs : List HeaderRecord) (n : ℕ) (ns : List ℕ) (o : 
 
 -- the lists of ports beside
 module _ (key peer : PortKey) (spot : Spot) (n : ℕ) (ns : List ℕ) (hs : List HeaderRecord) (o : Once hs) (e : (seen hs).todo key ≡ n ∷ ns) where
-  todo_kept : (s : Spot) (k : PortKey) (load : Load) → same_key k key ≡ false → same_key k peer ≡ false → (pushed peer s n (unloaded load) (pulled key (stock_of hs))).headers.todo k ≡ (seen hs).todo k
+  todo_kept : (s : Spot) (k : PortKey) (load : Load) → same_key k key ≡ false → same_key k peer ≡ false → (pushed peer s n (unloaded load) (todo_pulled key (stock_of hs))).headers.todo k ≡ (seen hs).todo k
   todo_kept Spot.TodoBack k load f g = rw (e, f, g) refl
   todo_kept Spot.TodoFront k load f g = rw (e, f, g) refl
   todo_kept Spot.DoneBack k load f g = rw (e, f) refl
 
-  done_kept : (s : Spot) (k : PortKey) (load : Load) → same_key k peer ≡ false → (pushed peer s n (unloaded load) (pulled key (stock_of hs))).headers.done k ≡ (seen hs).done k
+  done_kept : (s : Spot) (k : PortKey) (load : Load) → same_key k peer ≡ false → (pushed peer s n (unloaded load) (todo_pulled key (stock_of hs))).headers.done k ≡ (seen hs).done k
   done_kept Spot.TodoBack k load g = rw e refl
   done_kept Spot.TodoFront k load g = rw e refl
   done_kept Spot.DoneBack k load g = rw (e, g) refl

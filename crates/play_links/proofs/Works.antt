@@ -7,7 +7,7 @@ use Rattle.il_machine.specs.declared.header.Spot.{Spot}
 use Rattle.il_machine.specs.declared.header.Spot.TheVariants as spots
 use Rattle.il_machine.specs.World.{HeaderRecord, Load}
 use Rattle.il_machine.specs.Headers.{Seen, seen, load_at, load_of, state_of, find_header, put, put_at, changed, given_to, loaded, is_state, in_todo, same_key, Once}
-use Rattle.il_machine.specs.Stock.{StandsFor, pushed, pulled, given}
+use Rattle.il_machine.specs.Stock.{StandsFor, pushed, todo_pulled, header_given}
 use Rattle.machine_laws.proofs.Finding.{either, changed_same, changed_else}
 use Rattle.machine_laws.proofs.Replacing.{IsReplaced, replaced_put}
 use Rattle.stock_laws.proofs.Keys.{same_key-sym, same_key-refl}
@@ -32,7 +32,7 @@ module _ (owner : Owner) (key : PortKey) (n : ℕ) (ns : List ℕ) (hs : List He
   is_given =
       let ks : List HeaderRecord = changed n (given_to owner) hs in
       let F : Fronts (is_state (in_todo key)) n hs = fronts (is_state (in_todo key)) n ns hs o e in
-      let S : StandsFor (given n owner (pulled key (stock_of hs))) ks = pull_give_on (stock_of hs) hs key owner n ns (stands_of hs o) e in
+      let S : StandsFor (header_given n owner (todo_pulled key (stock_of hs))) ks = pull_give_on (stock_of hs) hs key owner n ns (stands_of hs o) e in
       let here : find_header n ks ≡ Some (given_to owner F.it) = changed_same (given_to owner) (λ r. refl) n hs F.it F.is in
       record {
         once = S.once;
@@ -95,7 +95,7 @@ is_landed : (number : ℕ) (key : PortKey) (spot : Spot) (n : ℕ) (load : Load)
 is_landed number key spot n load hs o A =
     let ks : List HeaderRecord = put key spot n (loaded load) hs in
     let r : HeaderRecord = A.header in
-    let S : StandsFor (pushed key spot n load (stock_of hs)) ks = push_stands (stock_of hs) hs key spot n load r.state (stands_of hs o) (ap (option_map state_of) A.found) A.place in
+    let S : StandsFor (pushed key spot n load (stock_of hs)) ks = push_stands (stock_of hs) hs key spot n load r.state (stands_of hs o) (ap (option_map state_of) A.found) A.out in
     let R : IsReplaced n r (put_at key spot (loaded load r)) hs ks = replaced_put key spot (loaded load) (λ _. refl) n hs r o A.found in
     record {
       once = S.once;

@@ -4,7 +4,7 @@ use Rattle.omx_types.specs.declared.param.Supplier.{Supplier}
 use Rattle.il_machine.specs.declared.port.PortKey.{PortKey}
 use Rattle.il_machine.specs.declared.port.Port.{Port}
 use Rattle.il_machine.specs.declared.header.Owner.TheVariants as owners
-use Rattle.il_machine.specs.declared.header.Place.TheVariants.{Out}
+use Rattle.il_machine.specs.declared.header.Queue.TheVariants.{Out}
 use Rattle.il_machine.specs.World.{Component, HeaderRecord, number_of}
 use Rattle.il_machine.specs.Headers.{find_header}
 use Rattle.il_machine.specs.Ports.{is_supplier}
@@ -37,4 +37,4 @@ pub record IsOutAt (number n : ℕ) (headers : List HeaderRecord) : Type 0 where
   pub header : HeaderRecord
   pub found : find_header n headers ≡ Some header
   pub owner : header.state.owner ≡ owners.Work number
-  pub place : header.state.place ≡ Out
+  pub out : header.state.queue ≡ Out

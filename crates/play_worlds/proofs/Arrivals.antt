@@ -14,7 +14,7 @@ use Rattle.il_machine.specs.declared.port.PortState.{PortState}
 use Rattle.il_machine.specs.Lists.{holds_at}
 use Rattle.il_machine.specs.World.{Component, World, number_of, ports_of, port_of, with_component, told}
 use Rattle.il_machine.specs.Headers.{Seen, seen, is_for}
-use Rattle.il_machine.specs.Ports.{populated, unmade}
+use Rattle.il_machine.specs.Ports.{is_populated, has_no_header}
 use Rattle.il_machine.specs.Queued.{notes_given}
 use Rattle.il_machine.specs.Due.{Thing, Transition, Flush, PortMode, WaitingMark, Happens, is_due_to, is_transition_due, due_in, arrived, transition_happened, happened, unheld, each_port}
 use Rattle.il_machine.specs.Finishing.{end_note}
@@ -106,10 +106,10 @@ link_end x p w l c a W e (inr O) =
 
 -- ---- due is due in the model
 
-pub populated_test : (headers : Seen) (q : Port) (link : Link) → q.state ≡ joined_state link → (not q.state.enabled || populated headers q) ≡ populated headers q
-populated_test headers q link s = ap (λ (z : PortState). not z.enabled || populated headers q) s
+pub populated_test : (headers : Seen) (q : Port) (link : Link) → q.state ≡ joined_state link → (not q.state.enabled || is_populated headers q) ≡ is_populated headers q
+populated_test headers q link s = ap (λ (z : PortState). not z.enabled || is_populated headers q) s
 
-pub unmade_by : (headers : Seen) (q : Port) (key : PortKey) (m : ℕ) → q.key ≡ key → headers.count (is_for key) ≡ m → unmade headers q ≡ nat_eq m 0
+pub unmade_by : (headers : Seen) (q : Port) (key : PortKey) (m : ℕ) → q.key ≡ key → headers.count (is_for key) ≡ m → has_no_header headers q ≡ nat_eq m 0
 unmade_by headers q key m k c = rw (k, c) refl
 
 all_one : (b : Bool) → (b && true) ≡ true → b ≡ true
@@ -117,18 +117,18 @@ all_one true e = refl
 all_one false e = absurd cc
 
 module _ (x : Cast) (p : Play) (w : World) (W : IsPlayWorld x p w) (c : ℕ) (a : Component) (e : slice_get w.components (script_place x c) ≡ Some a) where
-  all_populated : each_port a (λ q. not q.state.enabled || populated (seen w.headers) q) ≡ true → (l : ℕ) → IsLinkOf (x.layout).network c l → made p l ≡ ((x.layout).network).count l
+  all_populated : each_port a (λ q. not q.state.enabled || is_populated (seen w.headers) q) ≡ true → (l : ℕ) → IsLinkOf (x.layout).network c l → made p l ≡ ((x.layout).network).count l
   all_populated t l L =
       let E = link_end x p w l c a W e L in
-      let one = all_pass (λ q. not q.state.enabled || populated (seen w.headers) q) (ports_of a) E.index E.port t E.has in
+      let one = all_pass (λ q. not q.state.enabled || is_populated (seen w.headers) q) (ports_of a) E.index E.port t E.has in
       let q : nat_eq (made p l) (((x.layout).network).count l) ≡ true =
       sym (populated_by (seen w.headers) E.port E.key (made p l) (((x.layout).network).count l) E.keyed E.count E.many) ∙ (sym (populated_test (seen w.headers) E.port E.link E.state) ∙ one) in
       eqb-true _ _ q
 
-  all_unmade : each_port a (unmade (seen w.headers)) ≡ true → (l : ℕ) → IsLinkOf (x.layout).network c l → made p l ≡ 0
+  all_unmade : each_port a (has_no_header (seen w.headers)) ≡ true → (l : ℕ) → IsLinkOf (x.layout).network c l → made p l ≡ 0
   all_unmade t l L =
       let E = link_end x p w l c a W e L in
-      let one = all_pass (unmade (seen w.headers)) (ports_of a) E.index E.port t E.has in
+      let one = all_pass (has_no_header (seen w.headers)) (ports_of a) E.index E.port t E.has in
       eqb-true _ _ (sym (unmade_by (seen w.headers) E.port E.key (made p l) E.keyed E.many) ∙ one)
 
   due_by : (phase : ℕ) → p.phase ≡ phase → phase ≢ 3 → a.state ≡ before phase → is_due_to (seen w.headers) a (target phase) ≡ true → IsDue x.layout p c

@@ -15,7 +15,7 @@ use Rattle.il_machine.specs.Look.{look}
 use Rattle.il_machine.specs.Ports.{is_at_rest, is_input_port, is_open}
 use Rattle.il_machine.specs.Room.{room}
 use Rattle.il_machine.specs.Due.{each_port}
-use Rattle.il_machine.specs.Claims.{Claimed, ClaimedBusy, ClaimedNotRunning, ClaimedEnded, ClaimedEvents, has_ended, wanted, is_output_port, is_claimable, held_test, data_test, room_test, places_for, claim_idle}
+use Rattle.il_machine.specs.Claims.{Claimed, ClaimedBusy, ClaimedNotRunning, ClaimedEnded, ClaimedEvents, has_ended, wanted, is_output_port, is_claimable, held_test, data_test, room_test, reserve_for, claim_idle}
 use Rattle.machine_laws.proofs.Accepting.{passed, not_either}
 use Rattle.machine_laws.proofs.Claiming.{IsClaimable}
 use Rattle.machine_laws.proofs.Finding.{either}
@@ -159,7 +159,7 @@ module _ (x : Cast) (p : Play) (w : World) (c : ℕ) (a : Component) (W : IsPlay
         let g = some_length ((seen w.headers).todo (output_at x l)) (omega arith) in
         ap (λ (z : PortKey). is_empty ((seen w.headers).todo z)) k ∙ g
 
-    room_enough : IsRunning p c → p.phase ≡ 2 → places_for (wanted a) ≤ room a
+    room_enough : IsRunning p c → p.phase ≡ 2 → reserve_for (wanted a) ≤ room a
     room_enough R two =
         let r = runs x p w c a A R in
         let late : 3 ≤ p.stage c = elim R [ inl h ↦ h.1 | inr h ↦ absurd (omega (arith, h.0)) ] in
@@ -184,11 +184,11 @@ module _ (x : Cast) (p : Play) (w : World) (c : ℕ) (a : Component) (W : IsPlay
         λ j q f. let V = wanted_from x p w c a W e b A j q B f in filled_by (V.0).input (V.0).link q C (V.0).of_link ((V.0).end).key V.1 in
         let input = first_map (data_test (seen w.headers)) (filter is_input_port (wanted a)) (λ j q f. let k = filter_from is_input_port (wanted a) j q f in test k.1 q k.2) in
         let space = first_map (room_test (seen w.headers)) (filter is_output_port (wanted a)) (λ j q f. let k = filter_from is_output_port (wanted a) j q f in test k.1 q k.2) in
-        let few : nat_lt (room a) (places_for (wanted a)) ≡ false = le-ltb (room a) (places_for (wanted a)) (room_enough R two) in
+        let few : nat_lt (room a) (reserve_for (wanted a)) ≡ false = le-ltb (room a) (reserve_for (wanted a)) (room_enough R two) in
         let held : List (Bool × Claimed) = map (held_test a) (ports_of a) in
         let inputs : List (Bool × Claimed) = map (data_test (seen w.headers)) (filter is_input_port (wanted a)) in
         let outputs : List (Bool × Claimed) = map (room_test (seen w.headers)) (filter is_output_port (wanted a)) in
-        let last : List (Bool × Claimed) = (nat_lt (room a) (places_for (wanted a)), ClaimedEvents (room a) (places_for (wanted a))) ∷ [] in
+        let last : List (Bool × Claimed) = (nat_lt (room a) (reserve_for (wanted a)), ClaimedEvents (room a) (reserve_for (wanted a))) ∷ [] in
         let end : first_of_these last ≡ None = rw few refl in
         let tail = first_append (held ++ inputs ++ outputs) last (first_append (held ++ inputs) outputs (first_append held inputs none_held input) space) end in
         passes (is_some a.work) ClaimedBusy _ (ap is_some free) (passes (not (is_claimable a)) ClaimedNotRunning _ (ap not able) (passes (a.part.ended || a.part.failed) ClaimedEnded _ going tail))

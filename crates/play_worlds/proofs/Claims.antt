@@ -16,7 +16,7 @@ use Rattle.il_machine.specs.Ports.{is_input_port}
 use Rattle.il_machine.specs.Room.{room}
 use Rattle.il_machine.specs.Units.{need_of}
 use Rattle.il_machine.specs.Answers.{plain}
-use Rattle.il_machine.specs.Claims.{Claim, Claimed, ClaimedWork, ClaimedBusy, ClaimedNotRunning, ClaimedEnded, ClaimedEvents, Claims, WorkSeen, is_output_port, is_claimable, held_test, data_test, room_test, places_for, wanted, work_of, with_work, all_given_out, claim_idle, seen_work}
+use Rattle.il_machine.specs.Claims.{Claim, Claimed, ClaimedWork, ClaimedBusy, ClaimedNotRunning, ClaimedEnded, ClaimedEvents, Claims, WorkSeen, is_output_port, is_claimable, held_test, data_test, room_test, reserve_for, wanted, work_of, with_work, all_given_out, claim_idle, seen_work}
 use Rattle.il_machine.specs.Due.{ClosesTo}
 use Rattle.il_machine.specs.Sound.{Sound, ArePicked}
 use Rattle.machine_laws.proofs.Claiming.{claim_passes, sound_claimed}
@@ -313,7 +313,7 @@ never_work l a told e =
     let held : List (Bool × Claimed) = map (held_test a) (ports_of a) in
     let inputs : List (Bool × Claimed) = map (data_test l.headers) (filter is_input_port (wanted a)) in
     let outputs : List (Bool × Claimed) = map (room_test l.headers) (filter is_output_port (wanted a)) in
-    let last : List (Bool × Claimed) = (nat_lt (room a) (places_for (wanted a)), ClaimedEvents (room a) (places_for (wanted a))) ∷ [] in
+    let last : List (Bool × Claimed) = (nat_lt (room a) (reserve_for (wanted a)), ClaimedEvents (room a) (reserve_for (wanted a))) ∷ [] in
     let tail = idle_append (held ++ inputs ++ outputs) last
     (idle_append (held ++ inputs) outputs (idle_append held inputs (idle_map (held_test a) (ports_of a) (λ q. refl)) (idle_map (data_test l.headers) (filter is_input_port (wanted a)) (λ q. refl)))
     (idle_map (room_test l.headers) (filter is_output_port (wanted a)) (λ q. refl))) (refl, tt) in

@@ -11,8 +11,8 @@ use Rattle.il_machine.specs.Due.{ClosesTo}
 use Rattle.il_machine.specs.Queued.{notes_given}
 use Rattle.il_machine.specs.World.{Component, Stream, Work, World, changed_at, with_component, number_of, place_numbered, port_of, stream_of}
 use Rattle.il_machine.specs.Units.{need_of}
-use Rattle.il_machine.specs.Claims.{Carried, carried, terms_in}
-use Rattle.il_machine.specs.Stepping.{Done, inputs_ended, incoming, is_over, step_frames, stepped, Gives, IsDoneOf, IsDoneBy, IsStep, IsStepBy}
+use Rattle.il_machine.specs.Claims.{CarriedHeader, carried, terms_in}
+use Rattle.il_machine.specs.Stepping.{WorkDone, inputs_ended, incoming, is_over, step_frames, stepped, Gives, IsDoneOf, IsDoneBy, IsStep, IsStepBy}
 use Rattle.il_machine.specs.Finishing.{Finish, announced, end_note, finished, finished_by, gone_through, stepped_back, with_landed}
 use Rattle.il_machine.specs.Sound.{Sound}
 use Rattle.machine_laws.proofs.Every.{at_set}
@@ -56,7 +56,7 @@ module _ (x : Cast) (p : Play) (w : World) (c : ℕ) (a : Component) (W : IsPlay
   abbrev t : Terms
   t = terms_in a work
 
-  abbrev zs : List Carried
+  abbrev zs : List CarriedHeader
   zs = carried w.headers work.headers
 
   abbrev n : ℕ
@@ -65,7 +65,7 @@ module _ (x : Cast) (p : Play) (w : World) (c : ℕ) (a : Component) (W : IsPlay
   abbrev ends : Bool
   ends = is_over t s n (inputs_ended t n zs)
 
-  abbrev its : Done
+  abbrev its : WorkDone
   its = done x p w c a W e b A work f s g piece G m text
 
   abbrev q : Play
@@ -188,14 +188,14 @@ module _ (x : Cast) (p : Play) (w : World) (c : ℕ) (a : Component) (W : IsPlay
 
 -- ---- the call
 
-finished_is : (i : ℕ) (a : Component) (its : Done) (w : World) (work : Work) (s : Stream) → a.work ≡ Some work → work.announces ≡ false → stream_of (number_of a) w ≡ Some s → finished i a its w ≡ with_landed i a its s w
+finished_is : (i : ℕ) (a : Component) (its : WorkDone) (w : World) (work : Work) (s : Stream) → a.work ≡ Some work → work.announces ≡ false → stream_of (number_of a) w ≡ Some s → finished i a its w ≡ with_landed i a its s w
 finished_is i a its w work s f h g =
     ap (λ (o : Option Work). finished_by i a its o w) f
     ∙ (ap (λ (z : Bool). if z then with_component i (announced a) w else changed_at (stream_of (number_of a) w) w (λ u. with_landed i a its u w)) h
     ∙ ap (λ (o : Option Stream). changed_at o w (λ u. with_landed i a its u w)) g)
 
 -- the step of the work, as the machine has it
-record IsItsStep (x : Cast) (p : Play) (w : World) (c : ℕ) (a : Component) (work : Work) (its : Done) : Type 0 where
+record IsItsStep (x : Cast) (p : Play) (w : World) (c : ℕ) (a : Component) (work : Work) (its : WorkDone) : Type 0 where
   stream : Stream
   found : stream_of (number_of a) w ≡ Some stream
   piece : List ℕ
@@ -206,7 +206,7 @@ record IsItsStep (x : Cast) (p : Play) (w : World) (c : ℕ) (a : Component) (wo
       (is_over (terms_in a work) stream (step_frames (terms_in a work) stream (carried w.headers work.headers)) (inputs_ended (terms_in a work) (step_frames (terms_in a work) stream (carried w.headers work.headers)) (carried w.headers work.headers))))
       (carried w.headers work.headers)
 
-its_step : (x : Cast) (p : Play) (w : World) (c : ℕ) (a : Component) (work : Work) (its : Done) → work.announces ≡ false → number_of a ≡ script_place x c → its.component ≡ script_place x c → IsDoneOf w a work its → its.fault ≡ None → IsItsStep x p w c a work its
+its_step : (x : Cast) (p : Play) (w : World) (c : ℕ) (a : Component) (work : Work) (its : WorkDone) → work.announces ≡ false → number_of a ≡ script_place x c → its.component ≡ script_place x c → IsDoneOf w a work its → its.fault ≡ None → IsItsStep x p w c a work its
 its_step x p w c a work its h number k D o =
     let B : IsDoneBy false w a work its = subst (λ (z : Bool). IsDoneBy z w a work its) h D in
     let r = there_is (stream_of its.component w) (λ s. IsStep (terms_in a work) s (carried w.headers work.headers) its) B in
@@ -220,7 +220,7 @@ its_step x p w c a work its h number k D o =
       headers = S.3;
     }
 
-pub finish_leads : (x : Cast) (p : Play) (w : World) (c : ℕ) (a : Component) (work : Work) (its : Done) (v : World) → IsPlayWorld x p w → c < components_of x → slice_get w.components (script_place x c) ≡ Some a → a.work ≡ Some work
+pub finish_leads : (x : Cast) (p : Play) (w : World) (c : ℕ) (a : Component) (work : Work) (its : WorkDone) (v : World) → IsPlayWorld x p w → c < components_of x → slice_get w.components (script_place x c) ≡ Some a → a.work ≡ Some work
     → its.component ≡ script_place x c → IsDoneOf w a work its → its.fault ≡ None → Finish w its v
     → (last : Bool) × CanAct x.layout p (Act.Step c its.frames last) × LeadsTo x (acted x.layout (Act.Step c its.frames last) p) v
 finish_leads x p w c a work its v W b e f k D o F =
@@ -228,15 +228,15 @@ finish_leads x p w c a work its v W b e f k D o F =
     let Q = its_step x p w c a work its (A.work work f).steps A.number k D o in
     let s : Stream = Q.stream in
     let t : Terms = terms_in a work in
-    let zs : List Carried = carried w.headers work.headers in
+    let zs : List CarriedHeader = carried w.headers work.headers in
     let n : ℕ = step_frames t s zs in
     let ends : Bool = is_over t s n (inputs_ended t n zs) in
-    let whole : Done = done x p w c a W e b A work f s Q.found Q.piece Q.gives its.component its.took in
+    let whole : WorkDone = done x p w c a W e b A work f s Q.found Q.piece Q.gives its.component its.took in
     let frames = Q.frames in
     let headers = Q.headers in
     let same : its ≡ whole = λ j. record { component = its.component; frames = frames j; fault = o j; headers = headers j; took = its.took } in
     let is : finished (script_place x c) a its w ≡ with_landed (script_place x c) a whole s w =
-    ap (λ (z : Done). finished (script_place x c) a z w) same ∙ finished_is (script_place x c) a whole w work s f (A.work work f).steps Q.found in
+    ap (λ (z : WorkDone). finished (script_place x c) a z w) same ∙ finished_is (script_place x c) a whole w work s f (A.work work f).steps Q.found in
     let S = subst Sound is (sound_finished w (script_place x c) a work its W.sound e f D) in
     let P = finish_plays x p w c a W e b A work f s Q.found Q.piece Q.gives its.component its.took S in
     let place : place_numbered its.component w.components ≡ Some (script_place x c) = place_there w.numbered (script_place x c) its.component w.components a (W.sound).rising e (A.number ∙ sym k) in

@@ -14,8 +14,8 @@ use Rattle.il_machine.specs.World.{Component, HeaderRecord, Load, Picked, Stream
 use Rattle.il_machine.specs.Headers.{put, loaded, unloaded}
 use Rattle.il_machine.specs.Components.{has_eos}
 use Rattle.il_machine.specs.Buffers.{held, load_in}
-use Rattle.il_machine.specs.Claims.{Carried, carried, terms_in}
-use Rattle.il_machine.specs.Stepping.{Done, bytes_at, format_at, is_in, is_drained, is_last, inputs_ended, is_over, incoming, made_at, emptied, filled, eos_flags, stepped, step_frames, Gives}
+use Rattle.il_machine.specs.Claims.{CarriedHeader, carried, terms_in}
+use Rattle.il_machine.specs.Stepping.{WorkDone, bytes_at, format_at, is_in, is_drained, is_last, inputs_ended, is_over, incoming, made_at, emptied, filled, eos_flags, stepped, step_frames, Gives}
 use Rattle.il_machine.specs.Finishing.{Again, Onward, Noted, ends_by, is_an_input, is_finished, is_returning, is_tunnelled, landing, carries_on, mark_in, mark_on, mark_after, load_after, key_at, landed_at, all_landed}
 use Rattle.machine_laws.proofs.Finding.{either}
 use Rattle.flow_model.specs.Network.{Filled}
@@ -44,11 +44,11 @@ abbrev pub spot_by : Bool → Spot
 spot_by true = spots.DoneBack
 spot_by false = spots.TodoFront
 
-abbrev pub as_landed : Component → Stream → Done → Carried → Landed
+abbrev pub as_landed : Component → Stream → WorkDone → CarriedHeader → Landed
 as_landed a s done y = record { port = y.port; number = y.header.number; spot = spot_by (is_finished a s done y); load = load_after a s done y }
 
 -- a header of a tunnel's port that isn't returning
-landed_one : (a : Component) (s : Stream) (done : Done) (y : Carried) (hs : List HeaderRecord) → is_tunnelled a y ≡ true → is_returning a y ≡ false
+landed_one : (a : Component) (s : Stream) (done : WorkDone) (y : CarriedHeader) (hs : List HeaderRecord) → is_tunnelled a y ≡ true → is_returning a y ≡ false
     → landed_at (landing a s done y) a y (load_after a s done y) hs ≡ put_one (number_of a) (as_landed a s done y) hs
 landed_one a s done y hs t r =
     let load : Load = load_after a s done y in
@@ -60,14 +60,14 @@ landed_one a s done y hs t r =
     (λ i. landed_at (if not (t i) && (f i || r i) then Noted else if f i && not (r i) then Onward else Again) a y load hs)
     ∙ sym (ap (λ (q : Bool). put (key_at a y) (spot_by q) y.header.number (loaded load) hs) f))
 
-pub all_put : (a : Component) (s : Stream) (done : Done) (ys : List Carried) (hs : List HeaderRecord) → ((j : ℕ) (y : Carried) → slice_get ys j ≡ Some y → (is_tunnelled a y ≡ true) × (is_returning a y ≡ false))
+pub all_put : (a : Component) (s : Stream) (done : WorkDone) (ys : List CarriedHeader) (hs : List HeaderRecord) → ((j : ℕ) (y : CarriedHeader) → slice_get ys j ≡ Some y → (is_tunnelled a y ≡ true) × (is_returning a y ≡ false))
     → all_landed a s done ys hs ≡ all_made (put_one (number_of a)) (map (as_landed a s done) ys) hs
 all_put a s done [] hs h = refl
 all_put a s done (y ∷ ys) hs h =
     let k = h 0 y refl in
     ap (all_landed a s done ys) (landed_one a s done y hs k.0 k.1) ∙ all_put a s done ys (put_one (number_of a) (as_landed a s done y) hs) (λ j u e. h (suc j) u e)
 
-pub mark_none : (a : Component) (s : Stream) (done : Done) (ys : List Carried) → ((j : ℕ) (y : Carried) → slice_get ys j ≡ Some y → y.header.mark ≡ None) → mark_in a s done ys ≡ None
+pub mark_none : (a : Component) (s : Stream) (done : WorkDone) (ys : List CarriedHeader) → ((j : ℕ) (y : CarriedHeader) → slice_get ys j ≡ Some y → y.header.mark ≡ None) → mark_in a s done ys ≡ None
 mark_none a s done [] h = refl
 mark_none a s done (y ∷ ys) h =
     let none : carries_on a s done y ≡ false = ap (λ (o : Option Mark). is_an_input a y && is_finished a s done y && holds_at o (λ mark. not (same_handle mark.target a.handle))) (h 0 y refl) ∙ and_none (is_an_input a y && is_finished a s done y) in
@@ -108,7 +108,7 @@ module _ (x : Cast) (p : Play) (w : World) (c : ℕ) (a : Component) (W : IsPlay
   abbrev xs : List Picked
   xs = work.headers
 
-  abbrev zs : List Carried
+  abbrev zs : List CarriedHeader
   zs = carried w.headers xs
 
   abbrev n : ℕ
@@ -120,10 +120,10 @@ module _ (x : Cast) (p : Play) (w : World) (c : ℕ) (a : Component) (W : IsPlay
   abbrev came : Incoming
   came = incoming t n zs piece
 
-  abbrev step : Carried → Carried
+  abbrev step : CarriedHeader → CarriedHeader
   step z = stepped t n came ends z
 
-  abbrev pub done : Done
+  abbrev pub done : WorkDone
   done = record { component = m; frames = n; fault = None; headers = map step zs; took = text }
 
   -- ---- an input's header
@@ -164,7 +164,7 @@ module _ (x : Cast) (p : Play) (w : World) (c : ℕ) (a : Component) (W : IsPlay
     pub last_after_in : is_last t 0 (step (seen_as y r)) ≡ is_last t n (seen_as y r)
     last_after_in =
         let frames = frames_is x p w c a W e b A work f s g j l y true r P in
-        let flags : has_eos (step (seen_as y r)).header.flags ≡ has_eos r.load.flags = ap (λ (z : Carried). has_eos z.header.flags) step_in in
+        let flags : has_eos (step (seen_as y r)).header.flags ≡ has_eos r.load.flags = ap (λ (z : CarriedHeader). has_eos z.header.flags) step_in in
         let was : is_last t n (seen_as y r) ≡ (nat_le h.frames n && has_eos r.load.flags) = (λ i. (side i && nat_eq (frames i - n) 0) && has_eos r.load.flags) ∙ ap (λ (q : Bool). q && has_eos r.load.flags) (none_left h.frames n) in
         (λ i. spent_is i && flags i) ∙ sym was
 
@@ -176,18 +176,18 @@ module _ (x : Cast) (p : Play) (w : World) (c : ℕ) (a : Component) (W : IsPlay
     -- what it carries then
     pub load_spent : is_returning a (step (seen_as y r)) ≡ false → nat_le h.frames n ≡ true → load_after a s done (step (seen_as y r)) ≡ unloaded (load_in (step (seen_as y r)).header)
     load_spent u q =
-        let z : Carried = step (seen_as y r) in
+        let z : CarriedHeader = step (seen_as y r) in
         let inside : is_an_input a z ≡ true = side in
         let fin = finished_in ∙ q in
         λ i. if (u i || (if inside i then fin i else false)) then unloaded (load_in z.header) else if is_finished a s done z then record (load_in z.header) { mark = mark_after a z.header.mark (mark_on a s done) } else load_in z.header
 
     pub load_kept : is_returning a (step (seen_as y r)) ≡ false → nat_le h.frames n ≡ false → load_after a s done (step (seen_as y r)) ≡ load_in (emptied (bytes_at t y.port n) (held r))
     load_kept u q =
-        let z : Carried = step (seen_as y r) in
+        let z : CarriedHeader = step (seen_as y r) in
         let inside : is_an_input a z ≡ true = side in
         let fin = finished_in ∙ q in
         (λ i. if (u i || (if inside i then fin i else false)) then unloaded (load_in z.header) else if fin i then record (load_in z.header) { mark = mark_after a z.header.mark (mark_on a s done) } else load_in z.header)
-        ∙ ap (λ (k : Carried). load_in k.header) step_in
+        ∙ ap (λ (k : CarriedHeader). load_in k.header) step_in
 
     pub filled_kept : filled_by (x.unit l) (load_in (emptied (bytes_at t y.port n) (held r))) ≡ record h { frames = h.frames - n }
     filled_kept = λ i. record { frames = left i; last = has_eos r.load.flags }

@@ -10,7 +10,7 @@ use Rattle.il_machine.specs.World.{Component, HeaderRecord, Picked, Stream, Work
 use Rattle.il_machine.specs.Headers.{find_header}
 use Rattle.il_machine.specs.Components.{has_eos}
 use Rattle.il_machine.specs.Parts.{frames_left}
-use Rattle.il_machine.specs.Claims.{Carried, carried, terms_in}
+use Rattle.il_machine.specs.Claims.{CarriedHeader, carried, terms_in}
 use Rattle.il_machine.specs.Stepping.{is_in, frames_in, frames_for, frames_at, is_last, all_frames_at, has_input, step_frames, is_for_port, has_ended_by, ended_from, inputs_ended, is_over}
 use Rattle.machine_laws.proofs.Every.{all_pass, none_passes}
 use Rattle.machine_laws.proofs.Finding.{either}
@@ -59,12 +59,12 @@ some_fails test (y ∷ xs) h = either (test y)
 
 -- ---- which inputs have ended
 
-pub ended_at : (t : Terms) (n : ℕ) (hs : List Carried) (port count i : ℕ) → i < count → slice_get (ended_from t n hs port count) i ≡ Some (has_ended_by t n hs (port + i))
+pub ended_at : (t : Terms) (n : ℕ) (hs : List CarriedHeader) (port count i : ℕ) → i < count → slice_get (ended_from t n hs port count) i ≡ Some (has_ended_by t n hs (port + i))
 ended_at t n hs port zero i l = absurd (omega arith)
 ended_at t n hs port (suc count) zero l = let z : port ≡ port + 0 = omega arith in ap (λ (k : ℕ). Some (has_ended_by t n hs k)) z
 ended_at t n hs port (suc count) (suc i) l = let z : port + 1 + i ≡ port + suc i = omega arith in ended_at t n hs (port + 1) count i (omega arith) ∙ ap (λ (k : ℕ). Some (has_ended_by t n hs k)) z
 
-ended_within : (t : Terms) (n : ℕ) (hs : List Carried) (port count i : ℕ) (y : Bool) → slice_get (ended_from t n hs port count) i ≡ Some y → i < count
+ended_within : (t : Terms) (n : ℕ) (hs : List CarriedHeader) (port count i : ℕ) (y : Bool) → slice_get (ended_from t n hs port count) i ≡ Some y → i < count
 ended_within t n hs port zero i y e = absurd cc
 ended_within t n hs port (suc count) zero y e = omega arith
 ended_within t n hs port (suc count) (suc i) y e = let k = ended_within t n hs (port + 1) count i y e in omega arith
@@ -98,7 +98,7 @@ module _ (x : Cast) (p : Play) (w : World) (c : ℕ) (a : Component) (W : IsPlay
   abbrev t : Terms
   t = terms_in a work
 
-  abbrev zs : List Carried
+  abbrev zs : List CarriedHeader
   zs = carried w.headers xs
 
   abbrev n : ℕ
@@ -111,7 +111,7 @@ module _ (x : Cast) (p : Play) (w : World) (c : ℕ) (a : Component) (W : IsPlay
   pub its_place : (j l : ℕ) (y : Picked) (input : Bool) (r : HeaderRecord) → IsPick x p c xs j y l input → find_header y.number w.headers ≡ Some r → slice_get zs j ≡ Some (seen_as y r)
   its_place j l y input r P h = carried_at w.headers xs all_found j y r P.there h
 
-  pub record IsTaken (j : ℕ) (z : Carried) : Type 0 where
+  pub record IsTaken (j : ℕ) (z : CarriedHeader) : Type 0 where
     pub link : ℕ
     pub input : Bool
     pub pick : Picked
@@ -120,7 +120,7 @@ module _ (x : Cast) (p : Play) (w : World) (c : ℕ) (a : Component) (W : IsPlay
     pub of_link : IsHeaderOf x w c (number_of a) pick link header
     pub is : z ≡ seen_as pick header
 
-  pub taken_at : (j : ℕ) (z : Carried) → slice_get zs j ≡ Some z → IsTaken j z
+  pub taken_at : (j : ℕ) (z : CarriedHeader) → slice_get zs j ≡ Some z → IsTaken j z
   taken_at j z h =
       let k = carried_from w.headers xs all_found j z h in
       let P = pick_link x p w c a W e b A (before_end x p w c a W e b A work f) xs (A.work work f).ports j k.0 k.2 in
@@ -163,18 +163,18 @@ module _ (x : Cast) (p : Play) (w : World) (c : ℕ) (a : Component) (W : IsPlay
   kept : IsSound net p.flow
   kept = let q = (A.work work f).phase in (W.reached).sound (omega arith)
 
-  pub offered : (j : ℕ) (z : Carried) → slice_get zs j ≡ Some z → is_last t 0 z ≡ false → (k : ℕ) × (slice_get (all_frames_at t zs) k ≡ Some (frames_at t z))
+  pub offered : (j : ℕ) (z : CarriedHeader) → slice_get zs j ≡ Some z → is_last t 0 z ≡ false → (k : ℕ) × (slice_get (all_frames_at t zs) k ≡ Some (frames_at t z))
   offered j z h d =
       let r = filter_in (λ u. not (is_last t 0 u)) zs j z h (ap not d) in
       (r.0, slice_get-map (frames_at t) (filter (λ u. not (is_last t 0 u)) zs) r.0 ∙ ap (option_map (frames_at t)) r.1)
 
-  offered_by : (k m : ℕ) → slice_get (all_frames_at t zs) k ≡ Some m → (j : ℕ) × (z : Carried) × (slice_get zs j ≡ Some z) × (is_last t 0 z ≡ false) × (m ≡ frames_at t z)
+  offered_by : (k m : ℕ) → slice_get (all_frames_at t zs) k ≡ Some m → (j : ℕ) × (z : CarriedHeader) × (slice_get zs j ≡ Some z) × (is_last t 0 z ≡ false) × (m ≡ frames_at t z)
   offered_by k m h =
-      let us : List Carried = filter (λ u. not (is_last t 0 u)) zs in
+      let us : List CarriedHeader = filter (λ u. not (is_last t 0 u)) zs in
       let q : option_map (frames_at t) (slice_get us k) ≡ Some m = sym (slice_get-map (frames_at t) us k) ∙ h in
       from_some (slice_get us k) refl q
     where
-      from_some : (o : Option Carried) → slice_get (filter (λ u. not (is_last t 0 u)) zs) k ≡ o → option_map (frames_at t) o ≡ Some m → (j : ℕ) × (z : Carried) × (slice_get zs j ≡ Some z) × (is_last t 0 z ≡ false) × (m ≡ frames_at t z)
+      from_some : (o : Option CarriedHeader) → slice_get (filter (λ u. not (is_last t 0 u)) zs) k ≡ o → option_map (frames_at t) o ≡ Some m → (j : ℕ) × (z : CarriedHeader) × (slice_get zs j ≡ Some z) × (is_last t 0 z ≡ false) × (m ≡ frames_at t z)
       from_some None h q = absurd cc
       from_some (Some z) h q =
           let r = filter_from (λ u. not (is_last t 0 u)) zs k z h in
@@ -251,7 +251,7 @@ module _ (x : Cast) (p : Play) (w : World) (c : ℕ) (a : Component) (W : IsPlay
   pub open_pick : (l : ℕ) → IsOpen net p.flow c l → (j : ℕ) × (y : Picked) × IsPick x p c xs j y l true
   open_pick l O = link_pick x p w c a W e b A (before_end x p w c a W e b A work f) xs (A.work work f).ports true l O.input O.open_
 
-  as_input : (j : ℕ) (z : Carried) (T : IsTaken j z) → is_in t z ≡ true → IsPick x p c xs j T.pick T.link true
+  as_input : (j : ℕ) (z : CarriedHeader) (T : IsTaken j z) → is_in t z ≡ true → IsPick x p c xs j T.pick T.link true
   as_input j z T h =
       let i : T.input ≡ true = sym (side_is j T.link T.pick T.input T.header T.picked) ∙ (ap (is_in t) (sym T.is) ∙ h) in
       subst (λ (q : Bool). IsPick x p c xs j T.pick T.link q) i T.picked

@@ -18,8 +18,8 @@ use Rattle.il_machine.specs.States.{is_executing, is_invalid, same_state, is_run
 use Rattle.il_machine.specs.Kinds.{is_source}
 use Rattle.il_machine.specs.Ports.{is_joined, is_disabling, is_going_to, returning}
 use Rattle.il_machine.specs.Buffers.{held, load_in}
-use Rattle.il_machine.specs.Claims.{Carried, carried, terms_in}
-use Rattle.il_machine.specs.Stepping.{Done, bytes_at, is_in, frames_in, is_drained, is_last, is_for_port, has_ended_by, ended_from, inputs_ended, is_over, incoming, made_at, emptied, filled, eos_flags, stepped, step_frames, Gives}
+use Rattle.il_machine.specs.Claims.{CarriedHeader, carried, terms_in}
+use Rattle.il_machine.specs.Stepping.{WorkDone, bytes_at, is_in, frames_in, is_drained, is_last, is_for_port, has_ended_by, ended_from, inputs_ended, is_over, incoming, made_at, emptied, filled, eos_flags, stepped, step_frames, Gives}
 use Rattle.il_machine.specs.Finishing.{ends_by, is_an_input, is_finished, is_returning, mark_on, mark_after, load_after}
 use Rattle.machine_laws.proofs.Finding.{either}
 use Rattle.flow_model.specs.Network.{Filled, LinkState, IsInput}
@@ -50,7 +50,7 @@ and_false : (q : Bool) → (q && false) ≡ false
 and_false true = refl
 and_false false = refl
 
-ended_alike : (t : Terms) (n m : ℕ) (ys zs : List Carried) → ((port : ℕ) → has_ended_by t m ys port ≡ has_ended_by t n zs port) → (port count : ℕ) → ended_from t m ys port count ≡ ended_from t n zs port count
+ended_alike : (t : Terms) (n m : ℕ) (ys zs : List CarriedHeader) → ((port : ℕ) → has_ended_by t m ys port ≡ has_ended_by t n zs port) → (port count : ℕ) → ended_from t m ys port count ≡ ended_from t n zs port count
 ended_alike t n m ys zs h port zero = refl
 ended_alike t n m ys zs h port (suc count) = let a = h port in let b = ended_alike t n m ys zs h (port + 1) count in λ i. a i ∷ b i
 
@@ -62,7 +62,7 @@ module _ (x : Cast) (p : Play) (w : World) (c : ℕ) (a : Component) (W : IsPlay
   abbrev xs : List Picked
   xs = work.headers
 
-  abbrev zs : List Carried
+  abbrev zs : List CarriedHeader
   zs = carried w.headers xs
 
   abbrev n : ℕ
@@ -74,10 +74,10 @@ module _ (x : Cast) (p : Play) (w : World) (c : ℕ) (a : Component) (W : IsPlay
   abbrev came : Incoming
   came = incoming t n zs piece
 
-  abbrev step : Carried → Carried
+  abbrev step : CarriedHeader → CarriedHeader
   step z = stepped t n came ends z
 
-  abbrev its : Done
+  abbrev its : WorkDone
   its = done x p w c a W e b A work f s g piece G m text
 
   -- ---- its port is joined, and isn't returning
@@ -113,10 +113,10 @@ module _ (x : Cast) (p : Play) (w : World) (c : ℕ) (a : Component) (W : IsPlay
       let was : is_last t n (seen_as y r) ≡ false = λ i. (side i && nat_eq (frames_in t (seen_as y r) - n) 0) && has_eos r.load.flags in
       now ∙ sym was
 
-  pub last_after : (j : ℕ) (z : Carried) → slice_get zs j ≡ Some z → is_last t 0 (step z) ≡ is_last t n z
+  pub last_after : (j : ℕ) (z : CarriedHeader) → slice_get zs j ≡ Some z → is_last t 0 (step z) ≡ is_last t n z
   last_after j z h =
       let T = taken_at x p w c a W e b A work f s g j z h in
-      ap (λ (u : Carried). is_last t 0 (step u)) T.is ∙ (last_by T.input j T.link T.pick T.header T.picked T.of_link ∙ ap (is_last t n) (sym T.is))
+      ap (λ (u : CarriedHeader). is_last t 0 (step u)) T.is ∙ (last_by T.input j T.link T.pick T.header T.picked T.of_link ∙ ap (is_last t n) (sym T.is))
 
   pub inputs_after : inputs_ended t 0 its.headers ≡ inputs_ended t n zs
   inputs_after = ended_alike t n 0 its.headers zs (λ port.
@@ -161,23 +161,23 @@ module _ (x : Cast) (p : Play) (w : World) (c : ℕ) (a : Component) (W : IsPlay
 
   -- ---- an output's header
 
-  pub unmarked_by : (j : ℕ) (z : Carried) → slice_get zs j ≡ Some z → (step z).header.mark ≡ None
+  pub unmarked_by : (j : ℕ) (z : CarriedHeader) → slice_get zs j ≡ Some z → (step z).header.mark ≡ None
   unmarked_by j z h =
       let T = taken_at x p w c a W e b A work f s g j z h in
       let none = ((T.of_link).whole).unmarked in
-      ap (λ (u : Carried). (step u).header.mark) T.is ∙ either (is_in t (seen_as T.pick T.header))
+      ap (λ (u : CarriedHeader). (step u).header.mark) T.is ∙ either (is_in t (seen_as T.pick T.header))
       (λ q. ap (λ (u : Bool). (if u then emptied (bytes_at t (T.pick).port n) (held T.header) else filled (made_at t came (T.pick).port) (eos_flags ends) (held T.header)).mark) q ∙ none)
       (λ q. ap (λ (u : Bool). (if u then emptied (bytes_at t (T.pick).port n) (held T.header) else filled (made_at t came (T.pick).port) (eos_flags ends) (held T.header)).mark) q ∙ none)
 
-  stepped_from : (j : ℕ) (y : Carried) → slice_get (map step zs) j ≡ Some y → (z : Carried) × (slice_get zs j ≡ Some z) × (y ≡ step z)
+  stepped_from : (j : ℕ) (y : CarriedHeader) → slice_get (map step zs) j ≡ Some y → (z : CarriedHeader) × (slice_get zs j ≡ Some z) × (y ≡ step z)
   stepped_from j y h = by_some (slice_get zs j) refl (sym (slice_get-map step zs j) ∙ h)
     where
-      by_some : (o : Option Carried) → slice_get zs j ≡ o → option_map step o ≡ Some y → (z : Carried) × (slice_get zs j ≡ Some z) × (y ≡ step z)
+      by_some : (o : Option CarriedHeader) → slice_get zs j ≡ o → option_map step o ≡ Some y → (z : CarriedHeader) × (slice_get zs j ≡ Some z) × (y ≡ step z)
       by_some None k q = absurd cc
       by_some (Some z) k q = let is : step z ≡ y = cc in (z, k, sym is)
 
   pub no_mark_on : mark_on a s its ≡ None
-  no_mark_on = mark_none a s its its.headers (λ j y h. let r = stepped_from j y h in ap (λ (u : Carried). u.header.mark) r.2 ∙ unmarked_by j r.0 r.1)
+  no_mark_on = mark_none a s its its.headers (λ j y h. let r = stepped_from j y h in ap (λ (u : CarriedHeader). u.header.mark) r.2 ∙ unmarked_by j r.0 r.1)
 
   module _ (j l : ℕ) (y : Picked) (r : HeaderRecord) (P : IsPick x p c xs j y l false) (H : IsHeaderOf x w c (number_of a) y l r) where
     out_side : is_in t (seen_as y r) ≡ false
@@ -204,14 +204,14 @@ module _ (x : Cast) (p : Play) (w : World) (c : ℕ) (a : Component) (W : IsPlay
 
     pub load_out : load_after a s its (step (seen_as y r)) ≡ record (load_in (filled got (eos_flags ends) (held r))) { mark = None }
     load_out =
-        let z : Carried = step (seen_as y r) in
+        let z : CarriedHeader = step (seen_as y r) in
         let back : is_returning a z ≡ false = stays_put j l y false P in
         let outside : is_an_input a z ≡ false = out_side in
         let fin = finished_out in
         let own : z.header.mark ≡ None = unmarked_by j (seen_as y r) (its_place x p w c a W e b A work f s g j l y false r P H.found) in
         let on = no_mark_on in
         (λ i. if (back i || (if outside i then is_finished a s its z else false)) then unloaded (load_in z.header) else if fin i then record (load_in z.header) { mark = mark_after a (own i) (on i) } else load_in z.header)
-        ∙ ap (λ (k : Carried). record (load_in k.header) { mark = None }) step_out
+        ∙ ap (λ (k : CarriedHeader). record (load_in k.header) { mark = None }) step_out
 
     long : length got ≡ n * x.unit l
     long = made_long x p w c a W e b A work f s g piece G y.port l P.of_link

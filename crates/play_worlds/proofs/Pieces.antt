@@ -20,7 +20,7 @@ use Rattle.il_machine.specs.Parts.{file_format, frames_left, frames_of, bytes_gi
 use Rattle.il_machine.specs.Settings.{default_setting, formats_of}
 use Rattle.il_machine.specs.Sound.{may_have}
 use Rattle.il_machine.specs.World.{Component, Stream, Work, World, number_of, stream_of}
-use Rattle.il_machine.specs.Claims.{Carried, carried, terms_in}
+use Rattle.il_machine.specs.Claims.{CarriedHeader, carried, terms_in}
 use Rattle.il_machine.specs.Stepping.{format_at, bytes_at, is_last, frames_in, frames_for, frames_at, all_frames_at, step_frames, front_of, is_for_port, incoming, zeros_at, made_at, IsTold, Gives, GivesBy}
 use Rattle.machine_laws.proofs.Finding.{either}
 use Rattle.machine_laws.proofs.Fitting.{source_format}
@@ -47,7 +47,7 @@ module _ (x : Cast) (p : Play) (w : World) (c : ℕ) (a : Component) (W : IsPlay
   abbrev t : Terms
   t = terms_in a work
 
-  abbrev zs : List Carried
+  abbrev zs : List CarriedHeader
   zs = carried w.headers work.headers
 
   abbrev n : ℕ
@@ -62,7 +62,7 @@ module _ (x : Cast) (p : Play) (w : World) (c : ℕ) (a : Component) (W : IsPlay
   zeros_long : (i : ℕ) → i < length t.inputs → length (zeros_at t i n) ≡ n * shape.input_frame
   zeros_long i l = length-replicate (bytes_at t i n) 0 ∙ ap (λ (k : ℕ). n * k) (input_frames x p w c a W e b A work f i l)
 
-  found_long : (i : ℕ) → i < length t.inputs → (o : Option Carried) → find (is_for_port i) zs ≡ o → length (front_of t i n o) ≡ n * shape.input_frame
+  found_long : (i : ℕ) → i < length t.inputs → (o : Option CarriedHeader) → find (is_for_port i) zs ≡ o → length (front_of t i n o) ≡ n * shape.input_frame
   found_long i l None h = zeros_long i l
   found_long i l (Some z) h = either (is_last t 0 z)
       (λ d. ap (λ (q : Bool). length (if q then zeros_at t i n else take (bytes_at t i n) z.header.content)) d ∙ zeros_long i l)

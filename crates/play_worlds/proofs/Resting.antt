@@ -8,7 +8,7 @@ use Rattle.il_machine.specs.declared.port.Port.{Port}
 use Rattle.il_machine.specs.Lists.{holds_at}
 use Rattle.il_machine.specs.World.{Component, World, ports_of, port_of}
 use Rattle.il_machine.specs.Headers.{seen, is_for}
-use Rattle.il_machine.specs.Ports.{populated, unmade}
+use Rattle.il_machine.specs.Ports.{is_populated, has_no_header}
 use Rattle.il_machine.specs.Due.{Thing, Transition, IsClosed, is_due_to, is_transition_due, due_in, each_port}
 use Rattle.machine_laws.proofs.Closing.{closed_rests}
 use Rattle.machine_laws.proofs.Lookups.{port_parts}
@@ -80,13 +80,13 @@ its_end x p w c a k q W l e A f =
 -- ---- what the model can do is due
 
 module _ (x : Cast) (p : Play) (w : World) (W : IsPlayWorld x p w) (c : ℕ) (a : Component) (l : c < components_of x) (e : slice_get w.components (script_place x c) ≡ Some a) (A : IsActor x p w c a) where
-  populated_all : ((k : ℕ) → IsLinkOf (x.layout).network c k → made p k ≡ ((x.layout).network).count k) → each_port a (λ q. not q.state.enabled || populated (seen w.headers) q) ≡ true
-  populated_all h = all_true (λ q. not q.state.enabled || populated (seen w.headers) q) (ports_of a) (λ k q f.
+  populated_all : ((k : ℕ) → IsLinkOf (x.layout).network c k → made p k ≡ ((x.layout).network).count k) → each_port a (λ q. not q.state.enabled || is_populated (seen w.headers) q) ≡ true
+  populated_all h = all_true (λ q. not q.state.enabled || is_populated (seen w.headers) q) (ports_of a) (λ k q f.
       let E = its_end x p w c a k q W l e A f in
       populated_test (seen w.headers) q E.to E.state ∙ (populated_by (seen w.headers) q q.key (made p E.link) (((x.layout).network).count E.link) refl E.count E.many ∙ eq-eqb (made p E.link) (((x.layout).network).count E.link) (h E.link E.of_link)))
 
-  unmade_all : ((k : ℕ) → IsLinkOf (x.layout).network c k → made p k ≡ 0) → each_port a (unmade (seen w.headers)) ≡ true
-  unmade_all h = all_true (unmade (seen w.headers)) (ports_of a) (λ k q f.
+  unmade_all : ((k : ℕ) → IsLinkOf (x.layout).network c k → made p k ≡ 0) → each_port a (has_no_header (seen w.headers)) ≡ true
+  unmade_all h = all_true (has_no_header (seen w.headers)) (ports_of a) (λ k q f.
       let E = its_end x p w c a k q W l e A f in
       unmade_by (seen w.headers) q q.key (made p E.link) refl E.many ∙ eq-eqb (made p E.link) 0 (h E.link E.of_link))
 

@@ -8,7 +8,7 @@ use Rattle.il_machine.specs.Sound.{Sound}
 use Rattle.il_machine.specs.declared.port.PortState.{PortState}
 use Rattle.il_machine.specs.World.{Component, World, number_of, port_of}
 use Rattle.il_machine.specs.Queued.{notes_given}
-use Rattle.il_machine.specs.Room.{is_event, events_in, port_places, used}
+use Rattle.il_machine.specs.Room.{is_event, events_in, port_reserve, used}
 use Rattle.il_machine.specs.Finishing.{end_note}
 use Rattle.il_machine.proofs.Joined.{port_there}
 use Rattle.machine_laws.proofs.Parts.{parts_of}
@@ -83,21 +83,21 @@ port_of_state w i k a s S e f =
     let g = get_there a.settings.ports k (omega arith) in
     (record { key = record { component = number_of a; port = k }; setting = g.0; state = s }, port_there a k g.0 s g.1 f, refl)
 
-no_places : (x : Cast) (l : ℕ) (at peer : PortKey) (input : Bool) (q : Port) → IsEnd x l at peer input q → port_places q.state ≡ 0
+no_places : (x : Cast) (l : ℕ) (at peer : PortKey) (input : Bool) (q : Port) → IsEnd x l at peer input q → port_reserve q.state ≡ 0
 no_places x l at peer input q E = rw E.state refl
 
-pub calm_ports : (x : Cast) (p : Play) (w : World) (i : ℕ) (a : Component) → IsPlayWorld x p w → slice_get w.components i ≡ Some a → number_of a ≡ i → sum_by port_places a.ports ≡ 0
-calm_ports x p w i a W e n = sum_none port_places a.ports (λ k s f.
+pub calm_ports : (x : Cast) (p : Play) (w : World) (i : ℕ) (a : Component) → IsPlayWorld x p w → slice_get w.components i ≡ Some a → number_of a ≡ i → sum_by port_reserve a.ports ≡ 0
+calm_ports x p w i a W e n = sum_none port_reserve a.ports (λ k s f.
     let q = port_of_state w i k a s W.sound e f in
     let L = linked x p w i k a q.0 W e n q.1 in
     let z = no_places x L.link (q.0).key L.peer L.input q.0 L.end in
-    ap port_places (sym q.2) ∙ z)
+    ap port_reserve (sym q.2) ∙ z)
 
 -- ---- room
 
 -- nothing is queued or pending at it, and no work of it is out
-pub used_at_rest : (a : Component) → a.commands ≡ [] → a.pending ≡ None → a.loss_mark ≡ false → a.work ≡ None → sum_by port_places a.ports ≡ 0 → used a ≡ events_in a.notes
+pub used_at_rest : (a : Component) → a.commands ≡ [] → a.pending ≡ None → a.loss_mark ≡ false → a.work ≡ None → sum_by port_reserve a.ports ≡ 0 → used a ≡ events_in a.notes
 used_at_rest a c p m k z =
     let d : used a ≡ used (record a { commands = []; pending = None; loss_mark = false; work = None }) = λ i. used (record a { commands = c i; pending = p i; loss_mark = m i; work = k i }) in
-    let e : used (record a { commands = []; pending = None; loss_mark = false; work = None }) ≡ events_in a.notes + (sum_by port_places a.ports) = omega arith in
+    let e : used (record a { commands = []; pending = None; loss_mark = false; work = None }) ≡ events_in a.notes + (sum_by port_reserve a.ports) = omega arith in
     omega arith

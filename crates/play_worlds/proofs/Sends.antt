@@ -11,7 +11,7 @@ use Rattle.il_machine.specs.States.{is_invalid}
 use Rattle.il_machine.specs.Answers.{plain, Answers}
 use Rattle.il_machine.specs.Due.{ClosesTo}
 use Rattle.il_machine.specs.Room.{room, used}
-use Rattle.il_machine.specs.Commands.{SendCommand, sent, send_refusal, lacks_place}
+use Rattle.il_machine.specs.Commands.{SendCommand, sent, send_refusal, lacks_command_room}
 use Rattle.il_machine.specs.Sound.{Sound}
 use Rattle.machine_laws.proofs.Keys.{none_or_some}
 use Rattle.machine_laws.proofs.Parts.{parts_of}
@@ -45,7 +45,7 @@ none_of_two b d e f p q = rw (p, q) refl
 or_none : (b d : Bool) → b ≡ false → d ≡ false → (b || d) ≡ false
 or_none b d p q = rw (p, q) refl
 
-lacks_none : (phase : ℕ) (a : Component) → nat_le 32 (length a.commands) ≡ false → nat_lt (room a) 1 ≡ false → lacks_place a (StateSet (target phase)) ≡ false
+lacks_none : (phase : ℕ) (a : Component) → nat_le 32 (length a.commands) ≡ false → nat_lt (room a) 1 ≡ false → lacks_command_room a (StateSet (target phase)) ≡ false
 lacks_none phase a m r = rw (not_at_once phase) (or_none (nat_le 32 (length a.commands)) (nat_lt (room a) 1) m r)
 
 -- the component of a play at its place
@@ -88,7 +88,7 @@ module _ (x : Cast) (p : Play) (w : World) (c : ℕ) (a : Component) (W : IsPlay
       let u = calm in
       let r : nat_lt (room a) 1 ≡ false = le-ltb (room a) 1 (omega arith) in
       let m : nat_le 32 (length a.commands) ≡ false = rw n refl in
-      none_of_two (is_invalid a.state) (lacks_place a (StateSet (target p.phase))) errors.InvalidState errors.InsufficientResources i (lacks_none p.phase a m r)
+      none_of_two (is_invalid a.state) (lacks_command_room a (StateSet (target p.phase))) errors.InvalidState errors.InsufficientResources i (lacks_none p.phase a m r)
 
   abbrev b : Component
   b = queued (StateSet (target p.phase)) a

@@ -11,8 +11,8 @@ use Rattle.il_machine.specs.Lists.{holds_at}
 use Rattle.il_machine.specs.World.{Component, HeaderRecord, Load, Picked, Stream, Work, World, number_of, port_of, stream_of}
 use Rattle.il_machine.specs.Headers.{same_key, find_header, is_work_of, put, loaded, state_of, weight, Once}
 use Rattle.il_machine.specs.Ports.{is_joined, returning}
-use Rattle.il_machine.specs.Claims.{Carried, carried, terms_in}
-use Rattle.il_machine.specs.Stepping.{Done, inputs_ended, is_over, incoming, stepped, step_frames, Gives}
+use Rattle.il_machine.specs.Claims.{CarriedHeader, carried, terms_in}
+use Rattle.il_machine.specs.Stepping.{WorkDone, inputs_ended, is_over, incoming, stepped, step_frames, Gives}
 use Rattle.il_machine.specs.Finishing.{is_returning, all_landed, stepped_back}
 use Rattle.il_machine.specs.Sound.{ArePicked, is_in_work_of}
 use Rattle.machine_laws.proofs.Finding.{either, found_number}
@@ -96,7 +96,7 @@ module _ (x : Cast) (p : Play) (w : World) (c : ℕ) (a : Component) (W : IsPlay
   abbrev xs : List Picked
   xs = work.headers
 
-  abbrev zs : List Carried
+  abbrev zs : List CarriedHeader
   zs = carried w.headers xs
 
   abbrev pub n : ℕ
@@ -108,10 +108,10 @@ module _ (x : Cast) (p : Play) (w : World) (c : ℕ) (a : Component) (W : IsPlay
   abbrev came : Incoming
   came = incoming t n zs piece
 
-  abbrev step : Carried → Carried
+  abbrev step : CarriedHeader → CarriedHeader
   step z = stepped t n came ends z
 
-  abbrev pub its : Done
+  abbrev pub its : WorkDone
   its = done x p w c a W e b A work f s g piece G m text
 
   abbrev ls : List Landed
@@ -139,7 +139,7 @@ module _ (x : Cast) (p : Play) (w : World) (c : ℕ) (a : Component) (W : IsPlay
       let y = map_from (as_landed a s its) its.headers j u h in
       let z = map_from step zs j y.0 y.1 in
       let T = taken_at x p w c a W e b A work f s g j z.0 z.1 in
-      record { link = T.link; input = T.input; pick = T.pick; header = T.header; picked = T.picked; of_link = T.of_link; is = y.2 ∙ (ap (as_landed a s its) z.2 ∙ ap (λ (k : Carried). as_landed a s its (step k)) T.is) }
+      record { link = T.link; input = T.input; pick = T.pick; header = T.header; picked = T.picked; of_link = T.of_link; is = y.2 ∙ (ap (as_landed a s its) z.2 ∙ ap (λ (k : CarriedHeader). as_landed a s its (step k)) T.is) }
 
   lands_at : (j l : ℕ) (y : Picked) (input : Bool) (r : HeaderRecord) → IsPick x p c xs j y l input → IsHeaderOf x w c (number_of a) y l r → slice_get ls j ≡ Some (land y r)
   lands_at j l y input r P H =
@@ -154,7 +154,7 @@ module _ (x : Cast) (p : Play) (w : World) (c : ℕ) (a : Component) (W : IsPlay
       all_put a s its its.headers w.headers (λ j y h.
       let z = map_from step zs j y h in
       let T = taken_at x p w c a W e b A work f s g j z.0 z.1 in
-      let port : y.port ≡ (T.pick).port = ap (λ (k : Carried). k.port) z.2 ∙ ap (λ (k : Carried). k.port) T.is in (
+      let port : y.port ≡ (T.pick).port = ap (λ (k : CarriedHeader). k.port) z.2 ∙ ap (λ (k : CarriedHeader). k.port) T.is in (
         ap (λ (k : ℕ). holds_at (port_of a k) is_joined) port ∙ tunnelled x p w c a W e b A work f s g piece G m text j T.link T.pick T.input T.picked,
         ap (λ (k : ℕ). holds_at (port_of a k) (returning a)) port ∙ stays_put x p w c a W e b A work f s g piece G m text j T.link T.pick T.input T.picked,
       ))
@@ -192,7 +192,7 @@ module _ (x : Cast) (p : Play) (w : World) (c : ℕ) (a : Component) (W : IsPlay
   out_at j l y r ks H R =
       let q : Some R.0 ≡ Some r = sym R.1 ∙ (ap (λ (k : ℕ). find_header k w.headers) (number_is y r H.found) ∙ H.found) in
       let same : R.0 ≡ r = cc in
-      record { header = R.0; found = R.3; owner = ap (λ (k : HeaderRecord). k.state.owner) same ∙ H.owner; place = ap (λ (k : HeaderRecord). k.state.place) same ∙ H.place }
+      record { header = R.0; found = R.3; owner = ap (λ (k : HeaderRecord). k.state.owner) same ∙ H.owner; out = ap (λ (k : HeaderRecord). k.state.queue) same ∙ H.out }
 
   -- ---- a header of the work is in no other link's part of a work
 

@@ -13,7 +13,7 @@ use Rattle.il_machine.specs.Headers.{Seen, seen, is_for}
 use Rattle.il_machine.specs.Look.{Look, look}
 use Rattle.il_machine.specs.Buffers.{is_block, has_no_block, has_no_number}
 use Rattle.il_machine.specs.Flow.{End, other_end, supply_idle}
-use Rattle.il_machine.specs.Ports.{accepting, populated, is_at_rest, is_going_to, is_supplier, id_of}
+use Rattle.il_machine.specs.Ports.{accepting, is_populated, is_at_rest, is_going_to, is_supplier, id_of}
 use Rattle.machine_laws.proofs.Accepting.{passed, not_not, both_of}
 use Rattle.machine_laws.proofs.Finding.{either}
 use Rattle.play_model.specs.Play.{Play, IsAccepting, made, supplier, other_component}
@@ -111,7 +111,7 @@ five_false : {E : Type 0} (a b c d e : Bool) (f g h i j : E) → a ≡ false →
     → (if a then Some f else (if b then Some g else (if c then Some h else (if d then Some i else (if e then Some j else None))))) ≡ None
 five_false a b c d e f g h i j k l m n o = rw (k, l, m, n, o) refl
 
-pub populated_by : (headers : Seen) (q : Port) (key : PortKey) (made_ count : ℕ) → q.key ≡ key → q.setting.definition.count ≡ count → headers.count (is_for key) ≡ made_ → populated headers q ≡ nat_eq made_ count
+pub populated_by : (headers : Seen) (q : Port) (key : PortKey) (made_ count : ℕ) → q.key ≡ key → q.setting.definition.count ≡ count → headers.count (is_for key) ≡ made_ → is_populated headers q ≡ nat_eq made_ count
 populated_by headers q key made_ count k c m = rw (k, c, m) refl
 
 all_three : (a n m : Bool) → a ≡ true → n ≡ false → m ≡ true → (a && not n && m) ≡ true
@@ -136,21 +136,21 @@ supply_some k a q e o h =
 -- ---- a port of a link
 
 module _ (x : Cast) (p : Play) (w : World) (W : IsPlayWorld x p w) (l : ℕ) (b : l < links_of x) (c : ℕ) (key peer : PortKey) (input : Bool) (E : IsAt x p w l c key peer input) (many : (seen w.headers).count (is_for key) ≡ made p l) where
-  populated_is : populated (seen w.headers) E.port ≡ nat_eq (made p l) (((x.layout).network).count l)
+  populated_is : is_populated (seen w.headers) E.port ≡ nat_eq (made p l) (((x.layout).network).count l)
   populated_is = populated_by (seen w.headers) E.port key (made p l) (((x.layout).network).count l) (E.end).key (E.end).count many
 
   pub port_accepts : IsAccepting p c → made p l < ((x.layout).network).count l → accepting (seen w.headers) E.component E.port ≡ true
   port_accepts R few =
-      let n : populated (seen w.headers) E.port ≡ false = populated_is ∙ ne_eqb (made p l) (((x.layout).network).count l) (λ e. omega arith) in
+      let n : is_populated (seen w.headers) E.port ≡ false = populated_is ∙ ne_eqb (made p l) (((x.layout).network).count l) (λ e. omega arith) in
       let m : may_accept E.component ≡ true = may_accept_is x p w c E.component E.actor ∙ accepts p c R in
       let e : E.port.state.enabled ≡ true = ap (λ (s : PortState). s.enabled) (E.end).state in
-      all_three E.port.state.enabled (populated (seen w.headers) E.port) (may_accept E.component) e n m
+      all_three E.port.state.enabled (is_populated (seen w.headers) E.port) (may_accept E.component) e n m
 
   pub port_back : accepting (seen w.headers) E.component E.port ≡ true → IsAccepting p c × (made p l < ((x.layout).network).count l)
   port_back t =
-      let f = both_of (E.port.state.enabled && not (populated (seen w.headers) E.port)) (may_accept E.component) t in
-      let g = both_of E.port.state.enabled (not (populated (seen w.headers) E.port)) f.0 in
-      let n : nat_eq (made p l) (((x.layout).network).count l) ≡ false = sym populated_is ∙ not_so (populated (seen w.headers) E.port) g.1 in
+      let f = both_of (E.port.state.enabled && not (is_populated (seen w.headers) E.port)) (may_accept E.component) t in
+      let g = both_of E.port.state.enabled (not (is_populated (seen w.headers) E.port)) f.0 in
+      let n : nat_eq (made p l) (((x.layout).network).count l) ≡ false = sym populated_is ∙ not_so (is_populated (seen w.headers) E.port) g.1 in
       let d = eqb-false (made p l) (((x.layout).network).count l) n in
       let few = (W.reached).few l b in (
         accepts_by p.phase p c refl (W.reached).phase (sym (may_accept_is x p w c E.component E.actor) ∙ f.1),

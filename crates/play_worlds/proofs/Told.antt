@@ -12,8 +12,8 @@ use Rattle.il_machine.specs.Ports.{is_joined, returning}
 use Rattle.il_machine.specs.Headers.{find_header}
 use Rattle.il_machine.specs.World.{Component, HeaderRecord, Picked, Stream, Work, World, is_stream_of, number_of, port_of, stream_of}
 use Rattle.il_machine.specs.Parts.{terms_of}
-use Rattle.il_machine.specs.Claims.{Carried, carried, terms_in}
-use Rattle.il_machine.specs.Stepping.{Done, inputs_ended, is_for_port, has_ended_by, is_last, is_over, step_frames, stepped, incoming, Gives}
+use Rattle.il_machine.specs.Claims.{CarriedHeader, carried, terms_in}
+use Rattle.il_machine.specs.Stepping.{WorkDone, inputs_ended, is_for_port, has_ended_by, is_last, is_over, step_frames, stepped, incoming, Gives}
 use Rattle.il_machine.specs.Finishing.{Again, Onward, Noted, landing, landing_note, is_finished, is_returning, is_tunnelled, tells_mark, mark_note, notes_of_header, notes_of_headers, notes_after, tells_end, end_note}
 use Rattle.machine_laws.proofs.Every.{all_pass}
 use Rattle.machine_laws.proofs.Finding.{either}
@@ -90,7 +90,7 @@ sink_kind kinds.Sink h = (refl, refl)
 
 -- ---- notes of headers
 
-quiet_header : (a : Component) (s : Stream) (done : Done) (y : Carried) → y.header.mark ≡ None → is_tunnelled a y ≡ true → is_returning a y ≡ false → notes_of_header a s done y ≡ []
+quiet_header : (a : Component) (s : Stream) (done : WorkDone) (y : CarriedHeader) → y.header.mark ≡ None → is_tunnelled a y ≡ true → is_returning a y ≡ false → notes_of_header a s done y ≡ []
 quiet_header a s done y k t r =
     let mark : (if tells_mark a s done y then mark_note y.header.mark else []) ≡ [] = either (tells_mark a s done y)
     (λ o. ap (λ (q : Bool). if q then mark_note y.header.mark else []) o ∙ ap mark_note k)
@@ -100,7 +100,7 @@ quiet_header a s done y k t r =
     (λ o. λ i. landing_note (if not (t i) && (o i || r i) then Noted else if o i && not (r i) then Onward else Again) a y) in
     λ i. mark i ++ land i
 
-quiet_headers : (a : Component) (s : Stream) (its : Done) (ys : List Carried) → ((j : ℕ) (y : Carried) → slice_get ys j ≡ Some y → (y.header.mark ≡ None) × (is_tunnelled a y ≡ true) × (is_returning a y ≡ false)) → notes_of_headers a s its ys ≡ []
+quiet_headers : (a : Component) (s : Stream) (its : WorkDone) (ys : List CarriedHeader) → ((j : ℕ) (y : CarriedHeader) → slice_get ys j ≡ Some y → (y.header.mark ≡ None) × (is_tunnelled a y ≡ true) × (is_returning a y ≡ false)) → notes_of_headers a s its ys ≡ []
 quiet_headers a s its [] h = refl
 quiet_headers a s its (y ∷ ys) h =
     let k = h 0 y refl in
@@ -119,7 +119,7 @@ module _ (x : Cast) (p : Play) (w : World) (c : ℕ) (a : Component) (W : IsPlay
   abbrev xs : List Picked
   xs = work.headers
 
-  abbrev zs : List Carried
+  abbrev zs : List CarriedHeader
   zs = carried w.headers xs
 
   abbrev n : ℕ
@@ -128,10 +128,10 @@ module _ (x : Cast) (p : Play) (w : World) (c : ℕ) (a : Component) (W : IsPlay
   abbrev ends : Bool
   ends = is_over t s n (inputs_ended t n zs)
 
-  abbrev step : Carried → Carried
+  abbrev step : CarriedHeader → CarriedHeader
   step z = stepped t n (incoming t n zs piece) ends z
 
-  abbrev its : Done
+  abbrev its : WorkDone
   its = done x p w c a W e b A work f s g piece G m text
 
   -- ---- the inputs
@@ -140,7 +140,7 @@ module _ (x : Cast) (p : Play) (w : World) (c : ℕ) (a : Component) (W : IsPlay
   one_ended : (j l : ℕ) (y : Picked) (r : HeaderRecord) → IsPick x p c xs j y l true → find_header y.number w.headers ≡ Some r → has_ended_by t n zs y.port ≡ is_last t n (seen_as y r)
   one_ended j l y r P h =
       let there = its_place x p w c a W e b A work f s g j l y true r P h in
-      let test : Carried → Bool = λ u. not (is_for_port y.port u) || is_last t n u in
+      let test : CarriedHeader → Bool = λ u. not (is_for_port y.port u) || is_last t n u in
       let own : test (seen_as y r) ≡ is_last t n (seen_as y r) = ap (λ (q : Bool). not q || is_last t n (seen_as y r)) (eq-eqb y.port y.port refl) in
       either (is_last t n (seen_as y r))
       (λ o. all_true test zs (λ k z q. elim (cases_eq k j) [
@@ -164,7 +164,7 @@ module _ (x : Cast) (p : Play) (w : World) (c : ℕ) (a : Component) (W : IsPlay
     | inl d ↦
         let T = taken_at x p w c a W e b A work f s g k z q in
         let place = end_place true x c l I in
-        let port : (T.pick).port ≡ x.input_port l = sym (ap (λ (u : Carried). u.port) T.is) ∙ d in
+        let port : (T.pick).port ≡ x.input_port l = sym (ap (λ (u : CarriedHeader). u.port) T.is) ∙ d in
         let key : end_at T.input x T.link ≡ input_at x l = sym (key_is_end x p W.cast c xs k T.link T.pick T.input T.picked) ∙ (λ i. record { component = sym place i; port = port i }) in
         absurd (closed_not T.input T.link l I h key (link_below T.input net c T.link (T.picked).of_link) (T.picked).open_)
   ])
@@ -246,8 +246,8 @@ module _ (x : Cast) (p : Play) (w : World) (c : ℕ) (a : Component) (W : IsPlay
       let quiet = quiet_headers a s its its.headers (λ j y h.
       let z = map_from step zs j y h in
       let T = taken_at x p w c a W e b A work f s g j z.0 z.1 in
-      let port : y.port ≡ (T.pick).port = ap (λ (k : Carried). k.port) z.2 ∙ ap (λ (k : Carried). k.port) T.is in (
-        ap (λ (k : Carried). k.header.mark) z.2 ∙ unmarked_by x p w c a W e b A work f s g piece G m text j z.0 z.1,
+      let port : y.port ≡ (T.pick).port = ap (λ (k : CarriedHeader). k.port) z.2 ∙ ap (λ (k : CarriedHeader). k.port) T.is in (
+        ap (λ (k : CarriedHeader). k.header.mark) z.2 ∙ unmarked_by x p w c a W e b A work f s g piece G m text j z.0 z.1,
         ap (λ (k : ℕ). holds_at (port_of a k) is_joined) port ∙ tunnelled x p w c a W e b A work f s g piece G m text j T.link T.pick T.input T.picked,
         ap (λ (k : ℕ). holds_at (port_of a k) (returning a)) port ∙ stays_put x p w c a W e b A work f s g piece G m text j T.link T.pick T.input T.picked,
       )) in

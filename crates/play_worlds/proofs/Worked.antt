@@ -7,7 +7,7 @@ use Rattle.omx_types.specs.declared.format.Format.TheVariants.{Auto}
 use Rattle.omx_types.specs.Formats.{frame_bytes_of}
 use Rattle.il_machine.specs.declared.header.Owner.{Owner}
 use Rattle.il_machine.specs.declared.header.Owner.TheVariants as owners
-use Rattle.il_machine.specs.declared.header.Place.TheVariants.{Out}
+use Rattle.il_machine.specs.declared.header.Queue.TheVariants.{Out}
 use Rattle.il_machine.specs.declared.port.PortKey.{PortKey}
 use Rattle.il_machine.specs.declared.port.Port.{Port}
 use Rattle.il_machine.specs.declared.port.PortSetting.{PortSetting}
@@ -19,7 +19,7 @@ use Rattle.il_machine.specs.Headers.{seen, find_header, is_for, is_work_of, stat
 use Rattle.il_machine.specs.Ports.{is_input_port}
 use Rattle.il_machine.specs.Census.{times, work_numbers}
 use Rattle.il_machine.specs.Buffers.{held}
-use Rattle.il_machine.specs.Claims.{Carried, carried, terms_in}
+use Rattle.il_machine.specs.Claims.{CarriedHeader, carried, terms_in}
 use Rattle.il_machine.specs.Stepping.{format_at}
 use Rattle.il_machine.specs.Sound.{IsOwnedSo, IsPickedFor, ArePicked, is_in_work_of}
 use Rattle.machine_laws.proofs.Every.{at_place}
@@ -58,7 +58,7 @@ number_twice (m ∷ ns) (suc i) (suc j) n l e f = let r = number_twice ns i j n 
 
 -- ---- what a work carries
 
-abbrev pub seen_as : Picked → HeaderRecord → Carried
+abbrev pub seen_as : Picked → HeaderRecord → CarriedHeader
 seen_as y r = record { port = y.port; header = held r }
 
 pub carried_at : (hs : List HeaderRecord) (xs : List Picked) → ((j : ℕ) (y : Picked) → slice_get xs j ≡ Some y → (r : HeaderRecord) × (find_header y.number hs ≡ Some r))
@@ -68,11 +68,11 @@ carried_at hs (z ∷ xs) h zero y r e f = let s : z ≡ y = cc in let g : find_h
 carried_at hs (z ∷ xs) h (suc j) y r e f = let k = h 0 z refl in rw k.1 (carried_at hs xs (λ i u g. h (suc i) u g) j y r e f)
 
 pub carried_from : (hs : List HeaderRecord) (xs : List Picked) → ((j : ℕ) (y : Picked) → slice_get xs j ≡ Some y → (r : HeaderRecord) × (find_header y.number hs ≡ Some r))
-    → (j : ℕ) (z : Carried) → slice_get (carried hs xs) j ≡ Some z → (y : Picked) × (r : HeaderRecord) × (slice_get xs j ≡ Some y) × (find_header y.number hs ≡ Some r) × (z ≡ record { port = y.port; header = held r })
+    → (j : ℕ) (z : CarriedHeader) → slice_get (carried hs xs) j ≡ Some z → (y : Picked) × (r : HeaderRecord) × (slice_get xs j ≡ Some y) × (find_header y.number hs ≡ Some r) × (z ≡ record { port = y.port; header = held r })
 carried_from hs [] h j z e = absurd cc
 carried_from hs (u ∷ xs) h zero z e =
     let k = h 0 u refl in
-    let y : Carried = record { port = u.port; header = held k.0 } in
+    let y : CarriedHeader = record { port = u.port; header = held k.0 } in
     let f : Some y ≡ Some z = rw k.1 at e in
     let is : y ≡ z = cc in
     (u, k.0, refl, k.1, sym is)
@@ -91,7 +91,7 @@ same_direction false false h = refl
 pub record IsHeaderOf (x : Cast) (w : World) (c number : ℕ) (y : Picked) (l : ℕ) (r : HeaderRecord) : Type 0 where
   pub found : find_header y.number w.headers ≡ Some r
   pub owner : r.state.owner ≡ owners.Work number
-  pub place : r.state.place ≡ Out
+  pub out : r.state.queue ≡ Out
   pub made : is_for (pick_key x c y) r.state ≡ true
   pub whole : IsWholeHeader x l r
 
@@ -152,7 +152,7 @@ module _ (x : Cast) (p : Play) (w : World) (c : ℕ) (a : Component) (W : IsPlay
         record {
           found = k.1;
           owner = o;
-          place = O.0;
+          out = O.0;
           made = k.2;
           whole = subst (λ (t : ℕ). IsWholeHeader x t r) (sym same) H.whole;
         },

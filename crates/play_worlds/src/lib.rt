@@ -12,7 +12,7 @@ ghost use Rattle.omx_types.specs.declared.error.CallError.TheVariants.{OutOfMemo
 ghost use Rattle.il_machine.specs.declared.answer.Acted.{Acted};
 ghost use Rattle.il_machine.specs.declared.answer.Acted.TheVariants.{Did};
 ghost use Rattle.il_machine.specs.World.{Component, Work, World};
-ghost use Rattle.il_machine.specs.Stepping.{Done, IsDoneOf};
+ghost use Rattle.il_machine.specs.Stepping.{WorkDone, IsDoneOf};
 ghost use Rattle.il_machine.specs.Finishing.{Finish};
 ghost use Rattle.il_machine.specs.Claims.{Claim, Claimed, ClaimedBusy, ClaimedWork, WorkSeen};
 ghost use Rattle.il_machine.specs.Due.{ClosesTo, Happens, IsClosed};
@@ -151,7 +151,7 @@ pub fn law_of_claims()
 /// A work that is out comes back without a fault: that is a step of its component in the model, and as long as it is out the
 /// model can make one.
 pub fn law_of_finishes()
-    ensures done { (x : Cast) (p : Play) (w : World) (c : ℕ) (a : Component) (work : Work) (done : Done) (v : World)
+    ensures done { (x : Cast) (p : Play) (w : World) (c : ℕ) (a : Component) (work : Work) (done : WorkDone) (v : World)
         → IsPlayWorld x p w → c < components_of x → slice_get w.components (script_place x c) ≡ Some a → a.work ≡ Some work
         → done.component ≡ script_place x c → IsDoneOf w a work done → done.fault ≡ None → Finish w done v
         → (last : Bool) × CanAct x.layout p (Act.Step c done.frames last) × LeadsTo x (acted x.layout (Act.Step c done.frames last) p) v }

@@ -8,7 +8,7 @@ use Rattle.il_machine.specs.Look.{Look}
 use Rattle.il_machine.specs.Ports.{is_input_port}
 use Rattle.il_machine.specs.Room.{room}
 use Rattle.il_machine.specs.World.{Component, ports_of}
-use Rattle.il_machine.specs.Claims.{Claimed, ClaimedBusy, ClaimedNotRunning, ClaimedEnded, ClaimedHeld, ClaimedNoData, ClaimedNoRoom, ClaimedEvents, claim_idle, data_test, gives_header, has_ended, held_test, is_claimable, is_output_port, must_announce, places_for, room_test, wanted}
+use Rattle.il_machine.specs.Claims.{Claimed, ClaimedBusy, ClaimedNotRunning, ClaimedEnded, ClaimedHeld, ClaimedNoData, ClaimedNoRoom, ClaimedEvents, claim_idle, data_test, gives_header, has_ended, held_test, is_claimable, is_output_port, must_announce, reserve_for, room_test, wanted}
 use Rattle.port_rules.specs.declared.claiming.ClaimTest.TheVariants as tests
 use Rattle.port_rules.specs.Claiming.{claim_test, events_idle, or_first, port_idle, port_where, work_idle}
 use Rattle.port_rules.proofs.Walking.{drop_at}
@@ -109,7 +109,7 @@ module _ (l : Look) (c : Component) where
   waits p = is_empty (l.headers.todo p.key)
 
   abbrev tail : List Port → List (Bool × Claimed)
-  tail ports = (nat_lt (room c) (places_for ports), ClaimedEvents (room c) (places_for ports)) ∷ []
+  tail ports = (nat_lt (room c) (reserve_for ports), ClaimedEvents (room c) (reserve_for ports)) ∷ []
 
   abbrev answers : List Port → Option Claimed
   answers ports = first_of_these (map (held_test c) ps ++ map (data_test l.headers) (filter is_input_port ports) ++ map (room_test l.headers) (filter is_output_port ports) ++ tail ports)

@@ -2,7 +2,7 @@
 use Rattle.std.specs.Prelude.{◌≡◌, ◌<◌, ℕ, Bool, not, ◌||◌, [], ◌∷◌, length, Option}
 use Rattle.il_machine.specs.declared.port.Port.{Port}
 use Rattle.il_machine.specs.Headers.{Seen}
-use Rattle.il_machine.specs.Ports.{is_open, populated, settled, unmade}
+use Rattle.il_machine.specs.Ports.{is_open, is_populated, settled, has_no_header}
 use Rattle.il_machine.specs.Due.{Thing, is_flush_due, is_mode_due, is_mark_due}
 use Rattle.il_machine.specs.Lists.{first_of_these}
 use Rattle.il_machine.specs.Kinds.{ports_in}
@@ -25,9 +25,9 @@ pub record HasAllPorts (c : Component) (s : Stocked) : Type 0 where
   pub ports : HasPortsOf c s
 
 abbrev pub port_test : PortTest → Seen → Port → Bool
-port_test Ready headers p = not p.state.enabled || populated headers p
+port_test Ready headers p = not p.state.enabled || is_populated headers p
 port_test Settled headers p = settled headers p
-port_test Unmade headers p = unmade headers p
+port_test Unmade headers p = has_no_header headers p
 port_test Open headers p = is_open p
 
 abbrev pub thing_of : Due → Thing

@@ -101,7 +101,7 @@ pub fn unpopulate<C>(component: &mut Component<C>, port: Port)
 }
 
 /// Why no buffer is allocated for the port.
-pub fn allocate_fault<C>(stock: &Stock, component: &Component<C>, index: u32) -> Option<OmxError>
+pub fn allocate_refusal<C>(stock: &Stock, component: &Component<C>, index: u32) -> Option<OmxError>
     requires { HasAllPorts (component_of component.now) (stocked stock.now) }
     ensures { result ≡ allocate_refusal (look_of_stock (stocked stock.now)) (component_of component.now) (port_of (component_of component.now) index) }
 {
@@ -123,7 +123,7 @@ pub fn allocate_fault<C>(stock: &Stock, component: &Component<C>, index: u32) ->
 }
 
 /// Why the client's memory of so many bytes isn't taken for the port.
-pub fn use_fault<C>(
+pub fn use_refusal<C>(
     stock: &Stock,
     component: &Component<C>,
     index: u32,
@@ -150,7 +150,7 @@ pub fn use_fault<C>(
 }
 
 /// Why the header of this state isn't unmade.
-pub fn free_buffer_fault<C>(
+pub fn free_buffer_refusal<C>(
     component: &Component<C>,
     index: u32,
     state: HeaderState,
@@ -170,7 +170,7 @@ pub fn free_buffer_fault<C>(
 }
 
 /// Why the header of this state isn't taken in by the input port.
-pub fn empty_fault<C>(
+pub fn empty_refusal<C>(
     component: &Component<C>,
     index: u32,
     state: HeaderState,
@@ -197,7 +197,7 @@ pub fn empty_fault<C>(
 }
 
 /// Why the header of this state isn't taken in by the output port.
-pub fn fill_fault<C>(component: &Component<C>, index: u32, state: HeaderState) -> Option<OmxError>
+pub fn fill_refusal<C>(component: &Component<C>, index: u32, state: HeaderState) -> Option<OmxError>
     ensures { result ≡ fill_refusal (component_of component.now) (port_of (component_of component.now) index) state }
 {
     if component.is_invalid() {

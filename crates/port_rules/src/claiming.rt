@@ -124,7 +124,7 @@ pub fn must_announce<C>(stock: &Stock, component: &Component<C>) -> bool
 }
 
 /// Whether there is no place for so many headers' events, and two.
-fn lacks_places<C>(component: &Component<C>, headers: u32) -> Option<NoWork>
+fn lacks_event_room<C>(component: &Component<C>, headers: u32) -> Option<NoWork>
     requires { headers ≤ 9 }
     ensures { option_map claimed_by result ≡ first_of_these ((nat_lt (room (component_of component.now)) (headers + 2), ClaimedEvents (room (component_of component.now)) (headers + 2)) ∷ []) }
 {
@@ -160,13 +160,13 @@ fn work_idle<C>(stock: &Stock, component: &Component<C>) -> Option<NoWork>
     ensures { option_map claimed_by result ≡ work_idle (stocked stock.now).headers (component_of component.now) }
 {
     if must_announce(stock, component) {
-        return lacks_places(component, 0);
+        return lacks_event_room(component, 0);
     }
     let idle = port_idle(stock, component);
     if idle.is_some() {
         return idle;
     }
-    lacks_places(component, wanted_count(stock, component))
+    lacks_event_room(component, wanted_count(stock, component))
 }
 
 /// Why the component gives no work, if it doesn't.

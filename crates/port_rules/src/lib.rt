@@ -11,12 +11,12 @@ mod terms;
 mod tunnels;
 
 pub use buffers::{
-    allocate_fault, empty_fault, fill_fault, free_buffer_fault, has_no_block, is_taking,
-    unpopulate, use_fault,
+    allocate_refusal, empty_refusal, fill_refusal, free_buffer_refusal, has_no_block, is_taking,
+    unpopulate, use_refusal,
 };
 pub use claiming::{NoWork, claim_idle, gives_header, must_announce};
 pub use due::{Due, due_in};
 pub use happening::happen_in;
-pub use making::{free_fault, parameter_fault};
+pub use making::{free_refusal, set_parameter_refusal};
 pub use terms::{is_accepting, is_leaving, is_open, is_returning};
-pub use tunnels::{drop_fault, setup_fault, widened};
+pub use tunnels::{drop_refusal, setup_refusal, widened};

@@ -37,7 +37,7 @@ fn is_wrong_time<C>(stock: &Stock, component: &Component<C>, key: ParamKey) -> b
 }
 
 /// Why a parameter of the component isn't set.
-pub fn parameter_fault<C>(
+pub fn set_parameter_refusal<C>(
     stock: &Stock,
     component: &Component<C>,
     key: ParamKey,
@@ -61,7 +61,7 @@ pub fn parameter_fault<C>(
 }
 
 /// Why the component isn't freed.
-pub fn free_fault<C>(stock: &Stock, component: &Component<C>) -> Option<OmxError>
+pub fn free_refusal<C>(stock: &Stock, component: &Component<C>) -> Option<OmxError>
     requires { HasAllPorts (component_of component.now) (stocked stock.now) }
     ensures { result ≡ free_refusal (stocked stock.now).headers (component_of component.now) }
 {

@@ -1,7 +1,7 @@
 //! The terms of ports: populated, settled, accepting, returning, leaving, open.
 
 ghost use Rattle.std.specs.Prelude.{◌≡◌, ◌||◌};
-ghost use Rattle.il_machine.specs.Ports.{accepting, is_joined, is_open, leaving, populated, returning, settled, unmade, is_going_to};
+ghost use Rattle.il_machine.specs.Ports.{accepting, is_joined, is_open, leaving, is_populated, returning, settled, has_no_header, is_going_to};
 ghost use Rattle.il_machine.specs.Due.{each_port};
 ghost use Rattle.il_component.specs.Entries.{component_of};
 ghost use Rattle.port_stock.specs.Kept.{stocked};
@@ -29,7 +29,7 @@ pub enum PortTest {
 /// As many headers are made for the port as its count.
 pub fn is_populated(stock: &Stock, port: Port) -> bool
     requires { IsPort port.key (stocked stock.now) }
-    ensures { result ≡ populated (stocked stock.now).headers port }
+    ensures { result ≡ is_populated (stocked stock.now).headers port }
 {
     stock.made(port.key) == port.setting.definition.count
 }
@@ -37,7 +37,7 @@ pub fn is_populated(stock: &Stock, port: Port) -> bool
 /// No header of the port is made.
 pub fn is_unmade(stock: &Stock, port: Port) -> bool
     requires { IsPort port.key (stocked stock.now) }
-    ensures { result ≡ unmade (stocked stock.now).headers port }
+    ensures { result ≡ has_no_header (stocked stock.now).headers port }
 {
     stock.made(port.key) == 0
 }

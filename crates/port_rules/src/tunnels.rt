@@ -38,7 +38,7 @@ fn is_joined_with(output: Port, input: Port) -> bool
 }
 
 /// Why the two ports aren't joined, where both components are there and aren't Invalid.
-fn ports_fault<C>(
+fn ports_refusal<C>(
     stock: &Stock,
     giver: &Component<C>,
     taker: &Component<C>,
@@ -66,7 +66,7 @@ fn ports_fault<C>(
 }
 
 /// Why the port of the first component isn't joined to the port of the second.
-pub fn setup_fault<C>(
+pub fn setup_refusal<C>(
     stock: &Stock,
     giver: &Component<C>,
     taker: &Component<C>,
@@ -86,11 +86,11 @@ pub fn setup_fault<C>(
     let Some(input) = taker.port(input) else {
         return Some(OmxError::BadPortIndex);
     };
-    ports_fault(stock, giver, taker, output, input)
+    ports_refusal(stock, giver, taker, output, input)
 }
 
 /// Why the tunnel between the two ports isn't dropped.
-pub fn drop_fault<C>(
+pub fn drop_refusal<C>(
     stock: &Stock,
     giver: &Component<C>,
     taker: &Component<C>,

@@ -3,20 +3,20 @@ use Rattle.std.proofs.Common.{◌≡◌, ℕ, zero, suc, ◌+◌, ◌*◌, ◌<�
 use Rattle.std.proofs.lemmas.List.{length-map}
 use Rattle.std.proofs.lemmas.Bool.Decides.{nat_tests}
 use Rattle.il_machine.specs.declared.port.PortKey.{PortKey}
-use Rattle.il_machine.specs.declared.header.Place.TheVariants.{Out}
+use Rattle.il_machine.specs.declared.header.Queue.TheVariants.{Out}
 use Rattle.il_machine.specs.declared.header.HeaderState.{HeaderState}
 use Rattle.il_machine.specs.World.{HeaderRecord}
 use Rattle.il_machine.specs.Headers.{Once, count_headers, empty_load, find_header, is_for, same_key, weight}
 use Rattle.il_machine.specs.Buffers.{is_block}
 use Rattle.il_machine.specs.Places.{first_place, AtMostOne}
 use Rattle.il_machine.proofs.Places.{once_push, push_None}
-use Rattle.il_machine.specs.Stock.{Stocked, added, home_owner, keys_from, no_stock, populated, removed}
+use Rattle.il_machine.specs.Stock.{Stocked, added, home_owner, keys_from, no_stock, header_made, removed}
 use Rattle.header_core.specs.BufferHeader.{BufferHeader}
 use Rattle.stock_laws.proofs.Flat.{count-append, once-append}
 use Rattle.stock_laws.proofs.Keys.{key_tells, same_key-sym}
 use Rattle.port_stock.specs.declared.entry.Entry.{Entry}
 use Rattle.port_stock.specs.declared.port.Port.{Port}
-use Rattle.port_stock.specs.Kept.{Flat, Kept, of_flat, stocked}
+use Rattle.port_stock.specs.Kept.{Flat, StockKept, of_flat, stocked}
 use Rattle.port_stock.specs.Conditions.{HasFewer, IsHeaderOf, IsOutside, IsPeer, IsPort, IsUnmade, IsWithoutPorts, has_key, is_home_among, made_in}
 use Rattle.port_stock.specs.Entries.{AreOf, Each, IsKept, headers_of}
 use Rattle.port_stock.specs.Rings.{Differ, HasCounted, IsKnownBy, IsLawful, IsPortOf, Recounts, Tells, is_at, new_ports, no_port, port_at, port_keys}
@@ -24,7 +24,7 @@ use Rattle.port_stock.proofs.Places.{mapped_none}
 use Rattle.port_stock.proofs.Stocking.{kept, reads}
 use Rattle.port_stock.proofs.Lawful.{fresh_number, home_owned, lawful_room}
 use Rattle.port_stock.proofs.Calls.{Becomes}
-use Rattle.port_stock.proofs.Making.{made_outside, new_number, populate_becomes}
+use Rattle.port_stock.proofs.Making.{made_outside, new_number, make_becomes}
 use Rattle.port_stock.proofs.Keeping.{add_becomes, begins, is_left, keys_length, none_left, remove_becomes, left_length}
 use Rattle.port_stock.proofs.Reading.{view, told, header_shown, shelf_keys, keys_shown}
 use Rattle.port_stock.proofs.Telling.{made_tells}
@@ -87,7 +87,7 @@ module _ (key : ℕ) (ps : List Port) (es : List Entry) (blocks next places : �
   abbrev flat_of : Flat
   flat_of = flat_old key ps es blocks next places L
 
-  abbrev old_of : Kept
+  abbrev old_of : StockKept
   old_of = old key ps es blocks next places L
 
   told_of : stocked old_of ≡ of_flat flat_of
@@ -235,7 +235,7 @@ module _ (key : ℕ) (ps : List Port) (es : List Entry) (blocks next places : �
 
   -- ---- a header is made
 
-  module _ (state : HeaderState) (num : state.number ≡ next) (o : state.place ≡ Out) where
+  module _ (state : HeaderState) (num : state.number ≡ next) (o : state.queue ≡ Out) where
     gone_in : find_header state.number L.flat ≡ None
     gone_in = rw num (fresh_number (port_keys ps) next L.flat L.headers)
 
@@ -273,29 +273,29 @@ module _ (key : ℕ) (ps : List Port) (es : List Entry) (blocks next places : �
     nothing_counted k = counted_at ps (headers_of es) L.flat next L.tells L.headers None (λ test. omega arith) k
 
     module _ (home : is_home_among state.port state.peer state.home ≡ true) (owner : state.owner ≡ home_owner state.home) (p : IsPort state.port (stocked old_of)) (few : made_in (stocked old_of) state.port < 32) (peer : HasFewer (made_in (stocked old_of)) state.peer) where
-      becomes : Becomes key (port_keys ps) (L.flat ++ made ∷ []) (next + 1) (populated state (of_flat flat_of))
+      becomes : Becomes key (port_keys ps) (L.flat ++ made ∷ []) (next + 1) (header_made state (of_flat flat_of))
       becomes =
-          populate_becomes flat_of (L.flat ++ made ∷ []) state L.headers num o (subst (λ (s : Stocked). IsPort state.port s) told_of p) home owner (subst (λ (s : Stocked). made_in s state.port < 32) told_of few)
+          make_becomes flat_of (L.flat ++ made ∷ []) state L.headers num o (subst (λ (s : Stocked). IsPort state.port s) told_of p) home owner (subst (λ (s : Stocked). made_in s state.port < 32) told_of few)
           (subst (λ (s : Stocked). HasFewer (made_in s) state.peer) told_of peer) refl
 
       pub known_made : IsKnownBy state.port state.peer (Some state)
       known_made = (refl, refl, home_owned state home owner)
 
-      pub populate_turns : (qs : List Port) (vs : List Entry) (more room : ℕ) → headers_of vs ≡ headers_of es ++ made ∷ [] → Each IsKept vs → AreOf key vs → Recounts None (Some state) ps qs → more ≡ blocks + weight (is_block state) → room ≡ places
-          → Turns key qs vs more (next + 1) room (populated state (stocked old_of))
-      populate_turns qs vs more room h E K C b r =
+      pub make_turns : (qs : List Port) (vs : List Entry) (more room : ℕ) → headers_of vs ≡ headers_of es ++ made ∷ [] → Each IsKept vs → AreOf key vs → Recounts None (Some state) ps qs → more ≡ blocks + weight (is_block state) → room ≡ places
+          → Turns key qs vs more (next + 1) room (header_made state (stocked old_of))
+      make_turns qs vs more room h E K C b r =
           let T = made_tells ps qs (headers_of es) L.flat made gone_in o L.tells C in
           let P : List HeaderRecord → Type 0 = λ ts. Tells qs ts (L.flat ++ made ∷ []) in
           let gone : find_header state.number (headers_of es) ≡ None = L.tells.found state.number ∙ gone_in in
           let count : more ≡ count_headers is_block (L.flat ++ made ∷ []) = let x = count-append is_block L.flat made in let y = L.blocked in omega arith in
           turned key ps es blocks next places L qs vs (L.flat ++ made ∷ []) more (next + 1) room _ _ C.keys C.differ (subst P (sym h) T) (subst Once (sym h) (once-append (headers_of es) made L.once gone)) becomes count E K r
-          (ap (populated state) (sym told_of))
+          (ap (header_made state) (sym told_of))
 
-      pub populate_outside : (qs : List Port) (vs : List Entry) (more room : ℕ) (header : BufferHeader) → Turns key qs vs more (next + 1) room (populated state (stocked old_of)) → header.held.number ≡ next → header.key ≡ key → IsHeaderOf state header
+      pub make_outside : (qs : List Port) (vs : List Entry) (more room : ℕ) (header : BufferHeader) → Turns key qs vs more (next + 1) room (header_made state (stocked old_of)) → header.held.number ≡ next → header.key ≡ key → IsHeaderOf state header
           → IsOutside header (stocked (view key qs (headers_of vs) (next + 1)))
-      populate_outside qs vs more room header N n own f =
+      make_outside qs vs more room header N n own f =
           let X = made_outside flat_of (L.flat ++ made ∷ []) state header L.headers num o n own f refl in
-          let now : of_flat (kept key (port_keys ps) (L.flat ++ made ∷ []) (next + 1)) ≡ stocked (view key qs (headers_of vs) (next + 1)) = becomes.is ∙ (ap (populated state) (sym told_of) ∙ sym N.is) in
+          let now : of_flat (kept key (port_keys ps) (L.flat ++ made ∷ []) (next + 1)) ≡ stocked (view key qs (headers_of vs) (next + 1)) = becomes.is ∙ (ap (header_made state) (sym told_of) ∙ sym N.is) in
           subst (λ (s : Stocked). IsOutside header s) now X
 
 -- ---- a stock begins and ends

@@ -4,7 +4,7 @@ use Rattle.std.proofs.lemmas.Bool.Decides.{nat_tests}
 use Rattle.il_machine.specs.declared.port.PortKey.{PortKey}
 use Rattle.il_machine.specs.declared.port.Mark.{Mark}
 use Rattle.il_machine.specs.declared.header.Owner.{Owner}
-use Rattle.il_machine.specs.declared.header.Place.TheVariants.{Out}
+use Rattle.il_machine.specs.declared.header.Queue.TheVariants.{Out}
 use Rattle.il_machine.specs.declared.header.Spot.{Spot}
 use Rattle.il_machine.specs.declared.header.HeaderState.{HeaderState}
 use Rattle.il_machine.specs.World.{HeaderRecord, Load}
@@ -12,7 +12,7 @@ use Rattle.il_machine.specs.Lists.{holds_at}
 use Rattle.il_machine.specs.Headers.{Seen, changed, count_headers, find_header, given_to, in_todo, in_done, in_unmarked, is_for, is_state, loaded, numbers, put, state_of, without}
 use Rattle.il_machine.specs.Buffers.{load_in}
 use Rattle.il_machine.specs.Due.{first_marked}
-use Rattle.il_machine.specs.Stock.{Stocked, given, pulled, pushed, sent, withdrawn}
+use Rattle.il_machine.specs.Stock.{Stocked, header_given, todo_pulled, pushed, done_pulled, header_unmade}
 use Rattle.header_core.specs.BufferHeader.{BufferHeader}
 use Rattle.stock_laws.specs.Changes.{cleared_where, done_cleared, marked_first, todo_cleared}
 use Rattle.stock_laws.proofs.Flat.{find-changed}
@@ -21,7 +21,7 @@ use Rattle.port_stock.specs.Conditions.{AreMadeForOwners, IsFrom, IsHeaderOf, Is
 use Rattle.port_stock.specs.Entries.{AreLawful, IsTaken, record_out}
 use Rattle.port_stock.proofs.Places.{there}
 use Rattle.port_stock.proofs.Changing.{todo_waits, done_waits}
-use Rattle.port_stock.proofs.Stocking.{kept, reads, of_flat-is, push_read, give_read, withdraw_read, pull_read, pull_none, send_read, send_none, clear_todo_read, clear_done_read, mark_read, todo_read, done_read}
+use Rattle.port_stock.proofs.Stocking.{kept, reads, of_flat-is, push_read, give_read, unmake_read, pull_read, pull_none, send_read, send_none, clear_todo_read, clear_done_read, mark_read, todo_read, done_read}
 use Rattle.port_stock.proofs.Lawful.{put_lawful, without_lawful, out_lawful, give_lawful, mark_lawful, clear_lawful, lawful_owner}
 
 -- The flat list, with the key, the ports and the next number, is lawful, and is read as the value.
@@ -57,20 +57,20 @@ flat_state k n P h =
     subst Q (header_read k n) (match_map state_of (find_header n k.headers) P h)
 
 abbrev pub IsOutFlat : BufferHeader → HeaderState → Type 0
-IsOutFlat header h = (h.place ≡ Out) × IsHeaderOf h header
+IsOutFlat header h = (h.queue ≡ Out) × IsHeaderOf h header
 
-pub outside_flat : (k : Flat) (header : BufferHeader) → IsOutside header (of_flat k) → MatchOption (find_header header.held.number k.headers) ⊥ (λ r. (r.state.place ≡ Out) × IsHeaderOf r.state header)
+pub outside_flat : (k : Flat) (header : BufferHeader) → IsOutside header (of_flat k) → MatchOption (find_header header.held.number k.headers) ⊥ (λ r. (r.state.queue ≡ Out) × IsHeaderOf r.state header)
 outside_flat k header h = state_flat k header.held.number (IsOutFlat header) h.1
 
-pub out_flat : (k : Flat) (n : ℕ) → IsOut n (of_flat k) → MatchOption (find_header n k.headers) ⊥ (λ r. r.state.place ≡ Out)
-out_flat k n h = state_flat k n (λ s. s.place ≡ Out) h
+pub out_flat : (k : Flat) (n : ℕ) → IsOut n (of_flat k) → MatchOption (find_header n k.headers) ⊥ (λ r. r.state.queue ≡ Out)
+out_flat k n h = state_flat k n (λ s. s.queue ≡ Out) h
 
 weaken : {A : Type 0} (P Q : A → Type 0) (o : Option A) → ((x : A) → P x → Q x) → MatchOption o ⊥ P → MatchOption o ⊥ Q
 weaken P Q None k h = h
 weaken P Q (Some x) k h = k x h
 
-pub outside_out : (k : Flat) (header : BufferHeader) → IsOutside header (of_flat k) → MatchOption (find_header header.held.number k.headers) ⊥ (λ r. r.state.place ≡ Out)
-outside_out k header h = weaken (λ r. IsOutFlat header r.state) (λ r. r.state.place ≡ Out) (find_header header.held.number k.headers) (λ r p. p.0) (outside_flat k header h)
+pub outside_out : (k : Flat) (header : BufferHeader) → IsOutside header (of_flat k) → MatchOption (find_header header.held.number k.headers) ⊥ (λ r. r.state.queue ≡ Out)
+outside_out k header h = weaken (λ r. IsOutFlat header r.state) (λ r. r.state.queue ≡ Out) (find_header header.held.number k.headers) (λ r p. p.0) (outside_flat k header h)
 
 -- ---- the owners of headers
 
@@ -84,7 +84,7 @@ pub push_becomes : (k : Flat) (hs : List HeaderRecord) (key : PortKey) (spot : S
 push_becomes k hs key spot header L o f h =
     let n = header.held.number in
     let load = load_in header.held in
-    let T = there (λ r. (r.state.place ≡ Out) × IsHeaderOf r.state header) (find_header n k.headers) (outside_flat k header o) in
+    let T = there (λ r. (r.state.queue ≡ Out) × IsHeaderOf r.state header) (find_header n k.headers) (outside_flat k header o) in
     let shown : (of_flat k).headers.header n ≡ Some T.it.state = sym (header_read k n) ∙ ap (option_map state_of) T.is in
     let for : is_for key T.it.state ≡ true = sym (ap (λ (s : Option HeaderState). holds_at s (is_for key)) shown) ∙ f in
     let P : List HeaderRecord → Type 0 = AreLawful k.ports k.next in
@@ -93,21 +93,21 @@ push_becomes k hs key spot header L o f h =
       is = of_flat-is k.key k.ports hs k.next _ (push_read k hs key spot n load T.it L.once T.is T.holds.0 h);
     }
 
-pub withdraw_becomes : (k : Flat) (hs : List HeaderRecord) (header : BufferHeader) → AreLawful k.ports k.next k.headers → IsOutside header (of_flat k)
-    → hs ≡ without header.held.number k.headers → Becomes k.key k.ports hs k.next (withdrawn header.held.number (of_flat k))
-withdraw_becomes k hs header L o h =
+pub unmake_becomes : (k : Flat) (hs : List HeaderRecord) (header : BufferHeader) → AreLawful k.ports k.next k.headers → IsOutside header (of_flat k)
+    → hs ≡ without header.held.number k.headers → Becomes k.key k.ports hs k.next (header_unmade header.held.number (of_flat k))
+unmake_becomes k hs header L o h =
     let n = header.held.number in
-    let T = there (λ r. r.state.place ≡ Out) (find_header n k.headers) (outside_out k header o) in
+    let T = there (λ r. r.state.queue ≡ Out) (find_header n k.headers) (outside_out k header o) in
     let P : List HeaderRecord → Type 0 = AreLawful k.ports k.next in
     record {
       lawful = subst P (sym h) (without_lawful k.ports k.next k.headers n T.it T.is L);
-      is = of_flat-is k.key k.ports hs k.next _ (withdraw_read k hs n T.it L.once T.is T.holds h);
+      is = of_flat-is k.key k.ports hs k.next _ (unmake_read k hs n T.it L.once T.is T.holds h);
     }
 
 pub give_becomes : (k : Flat) (hs : List HeaderRecord) (n : ℕ) (owner : Owner) → AreLawful k.ports k.next k.headers → IsOut n (of_flat k) → is_port owner ≡ false
-    → hs ≡ changed n (given_to owner) k.headers → Becomes k.key k.ports hs k.next (given n owner (of_flat k))
+    → hs ≡ changed n (given_to owner) k.headers → Becomes k.key k.ports hs k.next (header_given n owner (of_flat k))
 give_becomes k hs n owner L o free h =
-    let T = there (λ r. r.state.place ≡ Out) (find_header n k.headers) (out_flat k n o) in
+    let T = there (λ r. r.state.queue ≡ Out) (find_header n k.headers) (out_flat k n o) in
     let P : List HeaderRecord → Type 0 = AreLawful k.ports k.next in
     record {
       lawful = subst P (sym h) (give_lawful k.ports k.next k.headers n owner free L);
@@ -125,10 +125,10 @@ pub record TakesFront (test : HeaderState → Bool) (list : List ℕ) (old new :
 abbrev WasFlat : (HeaderState → Bool) → BufferHeader → HeaderRecord → Type 0
 WasFlat test header r = (test r.state ≡ true) × (r.load ≡ load_in header.held) × IsHeaderOf r.state header
 
-waits_load : (r : HeaderRecord) (l : Load) → is_waiting r.state.place ≡ true → r.load ≡ l → kept_load (Some r) ≡ Some l
+waits_load : (r : HeaderRecord) (l : Load) → is_waiting r.state.queue ≡ true → r.load ≡ l → kept_load (Some r) ≡ Some l
 waits_load r l w e = rw w (ap (λ (z : Load). Some z) e)
 
-taken_from : (test : HeaderState → Bool) (k : Flat) (header : BufferHeader) → ((r : HeaderRecord) → test r.state ≡ true → is_waiting r.state.place ≡ true)
+taken_from : (test : HeaderState → Bool) (k : Flat) (header : BufferHeader) → ((r : HeaderRecord) → test r.state ≡ true → is_waiting r.state.queue ≡ true)
     → MatchOption (find_header header.held.number k.headers) ⊥ (WasFlat test header) → IsFrom test header (of_flat k)
 taken_from test k header w h =
     let n = header.held.number in
@@ -150,7 +150,7 @@ taken_outside test k hs header own h e =
 
 pub pull_becomes : (k : Flat) (hs : List HeaderRecord) (key : PortKey) (o : Option BufferHeader) → AreLawful k.ports k.next k.headers
     → MatchOption o ((numbers (is_state (in_todo key)) k.headers ≡ []) × (hs ≡ k.headers)) (λ header. IsTaken (is_state (in_todo key)) header k.headers hs)
-    → Becomes k.key k.ports hs k.next (pulled key (of_flat k))
+    → Becomes k.key k.ports hs k.next (todo_pulled key (of_flat k))
 pull_becomes k hs key None L h =
     let same : kept k.key k.ports hs k.next ≡ k = λ i. record { key = k.key; ports = k.ports; headers = h.1 i; next = k.next } in
     let P : List HeaderRecord → Type 0 = AreLawful k.ports k.next in
@@ -174,7 +174,7 @@ pull_takes k hs key (Some header) own h = record {
 
 pub send_becomes : (k : Flat) (hs : List HeaderRecord) (key : PortKey) (o : Option BufferHeader) → AreLawful k.ports k.next k.headers
     → MatchOption o ((numbers (is_state (in_done key)) k.headers ≡ []) × (hs ≡ k.headers)) (λ header. IsTaken (is_state (in_done key)) header k.headers hs)
-    → Becomes k.key k.ports hs k.next (sent key (of_flat k))
+    → Becomes k.key k.ports hs k.next (done_pulled key (of_flat k))
 send_becomes k hs key None L h =
     let same : kept k.key k.ports hs k.next ≡ k = λ i. record { key = k.key; ports = k.ports; headers = h.1 i; next = k.next } in
     let P : List HeaderRecord → Type 0 = AreLawful k.ports k.next in

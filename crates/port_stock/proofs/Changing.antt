@@ -2,13 +2,13 @@
 use Rattle.std.proofs.Common.{◌≡◌, ℕ, zero, suc, Bool, true, false, ◌&&◌, List, [], ◌∷◌, set, get_or, position, slice_get, Option, Some, None, is_some, IfSome, IsSome, MatchOption, option_map, refl, sym, ◌∙◌, ap, subst}
 use Rattle.il_machine.specs.declared.port.PortKey.{PortKey}
 use Rattle.il_machine.specs.declared.header.Owner.{Owner}
-use Rattle.il_machine.specs.declared.header.Place.{Place}
-use Rattle.il_machine.specs.declared.header.Place.TheVariants.{Out, Todo, Done}
+use Rattle.il_machine.specs.declared.header.Queue.{Queue}
+use Rattle.il_machine.specs.declared.header.Queue.TheVariants.{Out, Todo, Done}
 use Rattle.il_machine.specs.declared.header.Spot.{Spot}
 use Rattle.il_machine.specs.declared.header.Spot.TheVariants.{TodoBack, TodoFront, DoneBack}
 use Rattle.il_machine.specs.declared.header.HeaderState.{HeaderState}
 use Rattle.il_machine.specs.World.{HeaderRecord}
-use Rattle.il_machine.specs.Headers.{changed, find_header, given_to, in_todo, in_done, is_todo, is_done, is_owned_by, is_state, spot_place, state_at, state_given, state_of}
+use Rattle.il_machine.specs.Headers.{changed, find_header, given_to, in_todo, in_done, is_todo, is_done, is_owned_by, is_state, spot_queue, state_at, state_given, state_of}
 use Rattle.il_machine.specs.Buffers.{load_in}
 use Rattle.stock_laws.proofs.Flat.{find_number}
 use Rattle.header_core.specs.BufferHeader.{BufferHeader}
@@ -49,11 +49,11 @@ some_of : {A : Type 0} (o : Option A) (b : Bool) → is_some o ≡ b → b ≡ t
 some_of None b e f = absurd cc
 some_of (Some x) b e f = refl
 
-pub unkept : (e : Entry) → IsKept e → e.state.place ≡ Out → e.kept ≡ None
-unkept e K o = none_of e.kept (is_waiting e.state.place) K.there (rw o refl)
+pub unkept : (e : Entry) → IsKept e → e.state.queue ≡ Out → e.kept ≡ None
+unkept e K o = none_of e.kept (is_waiting e.state.queue) K.there (rw o refl)
 
-pub is_kept : (e : Entry) → IsKept e → is_waiting e.state.place ≡ true → IsSome e.kept
-is_kept e K w = some_of e.kept (is_waiting e.state.place) K.there w
+pub is_kept : (e : Entry) → IsKept e → is_waiting e.state.queue ≡ true → IsSome e.kept
+is_kept e K w = some_of e.kept (is_waiting e.state.queue) K.there w
 
 pub at_is : {X : Type 0} (xs : List X) (k : ℕ) (x y : X) → slice_get xs k ≡ Some x → get_or xs k y ≡ x
 at_is [] k x y h = absurd cc
@@ -62,13 +62,13 @@ at_is (z ∷ xs) (suc k) x y h = at_is xs k x y h
 
 -- ---- a header is put at a spot
 
-pub unkept_at : (es : List Entry) (n k : ℕ) (P : HeaderRecord → Type 0) → At n k es → Each IsKept es → ((r : HeaderRecord) → P r → r.state.place ≡ Out) → MatchOption (find_header n (headers_of es)) ⊥ P
+pub unkept_at : (es : List Entry) (n k : ℕ) (P : HeaderRecord → Type 0) → At n k es → Each IsKept es → ((r : HeaderRecord) → P r → r.state.queue ≡ Out) → MatchOption (find_header n (headers_of es)) ⊥ P
     → IfSome (slice_get es k) (λ e. e.kept ≡ None)
 unkept_at es n k P A E out h =
     let p = out (record_of A.it) (is_there P (find_header n (headers_of es)) (record_of A.it) A.stands.find h) in
     to_there (λ e. e.kept ≡ None) (slice_get es k) A.it A.there (unkept A.it (Each-at IsKept es k A.it E A.there) p)
 
-spot_waits : (spot : Spot) → true ≡ is_waiting (spot_place spot)
+spot_waits : (spot : Spot) → true ≡ is_waiting (spot_queue spot)
 spot_waits TodoBack = refl
 spot_waits TodoFront = refl
 spot_waits DoneBack = refl
@@ -77,7 +77,7 @@ spot_waits DoneBack = refl
 pub same_entry : (es : List Entry) (n k : ℕ) (e : Entry) (A : At n k es) → e ≡ get_or es k e → e ≡ A.it
 same_entry es n k e A g = g ∙ at_is es k A.it e A.there
 
-pub unkept_entry : (es : List Entry) (n k : ℕ) (P : HeaderRecord → Type 0) (e : Entry) → At n k es → e ≡ get_or es k e → Each IsKept es → ((r : HeaderRecord) → P r → r.state.place ≡ Out) → MatchOption (find_header n (headers_of es)) ⊥ P
+pub unkept_entry : (es : List Entry) (n k : ℕ) (P : HeaderRecord → Type 0) (e : Entry) → At n k es → e ≡ get_or es k e → Each IsKept es → ((r : HeaderRecord) → P r → r.state.queue ≡ Out) → MatchOption (find_header n (headers_of es)) ⊥ P
     → e.kept ≡ None
 unkept_entry es n k P e A g E out h =
     let p = out (record_of A.it) (is_there P (find_header n (headers_of es)) (record_of A.it) A.stands.find h) in
@@ -96,10 +96,10 @@ put_headers es n k key spot header e x A same q =
     ap (λ (z : Entry). headers_of (set es k z)) y ∙ A.stands.changed (put_entry key spot header A.it) (put_record key spot (load_in header.held)) refl
 
 pub put_kept : (es : List Entry) (n k : ℕ) (key : PortKey) (spot : Spot) (header : BufferHeader) (e x : Entry) (A : At n k es) → e ≡ A.it → x ≡ record { state = state_at key spot e.state; kept = Some header } → header.held.number ≡ n
-    → MatchOption (find_header n (headers_of es)) ⊥ (λ r. (r.state.place ≡ Out) × IsHeaderOf r.state header) → Each IsKept es → Each IsKept (set es k x)
+    → MatchOption (find_header n (headers_of es)) ⊥ (λ r. (r.state.queue ≡ Out) × IsHeaderOf r.state header) → Each IsKept es → Each IsKept (set es k x)
 put_kept es n k key spot header e x A same q num h E =
     let y : x ≡ put_entry key spot header A.it = q ∙ ap (put_entry key spot header) same in
-    let O = is_there (λ r. (r.state.place ≡ Out) × IsHeaderOf r.state header) (find_header n (headers_of es)) (record_of A.it) A.stands.find h in
+    let O = is_there (λ r. (r.state.queue ≡ Out) × IsHeaderOf r.state header) (find_header n (headers_of es)) (record_of A.it) A.stands.find h in
     let there : A.it.state.number ≡ n = find_number n (headers_of es) (record_of A.it) A.stands.find in
     let K : IsKept (put_entry key spot header A.it) = record { there = spot_waits spot; header = (num ∙ sym there, record { size = O.1.size; memory = O.1.memory }) } in
     let Q : Entry → Type 0 = λ z. Each IsKept (set es k z) in
@@ -112,12 +112,12 @@ put_keys es k key spot header e x q E =
 
 -- ---- a header gets an owner
 
-pub give_headers : (es : List Entry) (n k : ℕ) (owner : Owner) (e : Entry) → At n k es → e ≡ get_or es k e → MatchOption (find_header n (headers_of es)) ⊥ (λ r. r.state.place ≡ Out)
+pub give_headers : (es : List Entry) (n k : ℕ) (owner : Owner) (e : Entry) → At n k es → e ≡ get_or es k e → MatchOption (find_header n (headers_of es)) ⊥ (λ r. r.state.queue ≡ Out)
     → headers_of (set es k (record { state = record e.state { owner = owner }; kept = e.kept })) ≡ changed n (given_to owner) (headers_of es)
 give_headers es n k owner e A g h =
-    let out : A.it.state.place ≡ Out = is_there (λ r. r.state.place ≡ Out) (find_header n (headers_of es)) (record_of A.it) A.stands.find h in
+    let out : A.it.state.queue ≡ Out = is_there (λ r. r.state.queue ≡ Out) (find_header n (headers_of es)) (record_of A.it) A.stands.find h in
     let same : e ≡ A.it = g ∙ at_is es k A.it e A.there in
-    let state : record A.it.state { owner = owner } ≡ state_given owner A.it.state = λ i. record A.it.state { owner = owner; place = out i } in
+    let state : record A.it.state { owner = owner } ≡ state_given owner A.it.state = λ i. record A.it.state { owner = owner; queue = out i } in
     ap (λ (x : Entry). headers_of (set es k (record { state = record x.state { owner = owner }; kept = x.kept }))) same
     ∙ A.stands.changed (record { state = record A.it.state { owner = owner }; kept = A.it.kept }) (given_to owner) (ap (λ (x : HeaderState). record { state = x; load = load_of_kept A.it.kept }) state)
 
@@ -127,25 +127,25 @@ and_left : (a b : Bool) → (a && b) ≡ true → a ≡ true
 and_left true b e = refl
 and_left false b e = absurd cc
 
-place_waits_todo : (p : Place) → is_todo p ≡ true → is_waiting p ≡ true
-place_waits_todo Out e = absurd cc
-place_waits_todo Todo e = refl
-place_waits_todo Done e = absurd cc
+queue_waits_todo : (p : Queue) → is_todo p ≡ true → is_waiting p ≡ true
+queue_waits_todo Out e = absurd cc
+queue_waits_todo Todo e = refl
+queue_waits_todo Done e = absurd cc
 
-place_waits_done : (p : Place) → is_done p ≡ true → is_waiting p ≡ true
-place_waits_done Out e = absurd cc
-place_waits_done Todo e = absurd cc
-place_waits_done Done e = refl
+queue_waits_done : (p : Queue) → is_done p ≡ true → is_waiting p ≡ true
+queue_waits_done Out e = absurd cc
+queue_waits_done Todo e = absurd cc
+queue_waits_done Done e = refl
 
-pub todo_waits : (key : PortKey) (r : HeaderRecord) → is_state (in_todo key) r ≡ true → is_waiting r.state.place ≡ true
-todo_waits key r h = place_waits_todo r.state.place (and_left (is_todo r.state.place) (is_owned_by key r.state.owner) h)
+pub todo_waits : (key : PortKey) (r : HeaderRecord) → is_state (in_todo key) r ≡ true → is_waiting r.state.queue ≡ true
+todo_waits key r h = queue_waits_todo r.state.queue (and_left (is_todo r.state.queue) (is_owned_by key r.state.owner) h)
 
-pub done_waits : (key : PortKey) (r : HeaderRecord) → is_state (in_done key) r ≡ true → is_waiting r.state.place ≡ true
-done_waits key r h = place_waits_done r.state.place (and_left (is_done r.state.place) (is_owned_by key r.state.owner) h)
+pub done_waits : (key : PortKey) (r : HeaderRecord) → is_state (in_done key) r ≡ true → is_waiting r.state.queue ≡ true
+done_waits key r h = queue_waits_done r.state.queue (and_left (is_done r.state.queue) (is_owned_by key r.state.owner) h)
 
-pub waits_kept : (es : List Entry) (n k : ℕ) → At n k es → Each IsKept es → MatchOption (find_header n (headers_of es)) ⊥ (λ r. is_waiting r.state.place ≡ true) → IfSome (slice_get es k) (λ e. IsSome e.kept)
+pub waits_kept : (es : List Entry) (n k : ℕ) → At n k es → Each IsKept es → MatchOption (find_header n (headers_of es)) ⊥ (λ r. is_waiting r.state.queue ≡ true) → IfSome (slice_get es k) (λ e. IsSome e.kept)
 waits_kept es n k A E h =
-    let w = is_there (λ r. is_waiting r.state.place ≡ true) (find_header n (headers_of es)) (record_of A.it) A.stands.find h in
+    let w = is_there (λ r. is_waiting r.state.queue ≡ true) (find_header n (headers_of es)) (record_of A.it) A.stands.find h in
     to_there (λ e. IsSome e.kept) (slice_get es k) A.it A.there (is_kept A.it (Each-at IsKept es k A.it E A.there) w)
 
 -- how the header of an entry leaves

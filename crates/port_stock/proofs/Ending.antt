@@ -109,7 +109,7 @@ module _ (p : HeaderState → Bool) where
         ((λ t n. subst P (shown n) (mapped (find_header n (headers_of es)) (found_passes es (sym h ∙ t) n))), (λ w. h ∙ all_passes es (all_each o w)))
 
 abbrev waits : HeaderState → Bool
-waits h = is_waiting h.place
+waits h = is_waiting h.queue
 
 all_three : (key : ℕ) (es : List Entry) → Each IsKept es → AreOf key es → Each (λ e. waits e.state ≡ true) es → Each (IsEnding key) es
 all_three key [] k o w = tt

@@ -2,7 +2,7 @@
 use Rattle.std.proofs.Common.{◌≡◌, ℕ, ◌<◌, ◌≤◌, Bool, true, false, not, ◌&&◌, ◌||◌, List, [], ◌∷◌, length, Option, Some, None, option_map, MatchOption, if◌then◌else◌, refl, sym, ◌∙◌, ap, arith, inl, inr, subst}
 use Rattle.il_machine.specs.declared.port.PortKey.{PortKey}
 use Rattle.il_machine.specs.declared.header.Owner.{Owner}
-use Rattle.il_machine.specs.declared.header.Place.TheVariants.{Out}
+use Rattle.il_machine.specs.declared.header.Queue.TheVariants.{Out}
 use Rattle.il_machine.specs.declared.header.Spot.{Spot}
 use Rattle.il_machine.specs.declared.header.Spot.TheVariants.{TodoBack, TodoFront, DoneBack}
 use Rattle.il_machine.specs.declared.header.HeaderState.{HeaderState}
@@ -111,12 +111,12 @@ module _ (ps : List Port) (table flat : List HeaderRecord) (next : ℕ) (T : Tel
 
   -- ---- a place in the rings
 
-  module _ (n : ℕ) (h : HeaderState) (K : Known n flat h) (o : h.place ≡ Out) (port : PortKey) (f : is_for port h ≡ true) where
+  module _ (n : ℕ) (h : HeaderState) (K : Known n flat h) (o : h.queue ≡ Out) (port : PortKey) (f : is_for port h ≡ true) where
     pub todo_room : length (port_at port ps).todo.items < (port_at port ps).todo.capacity
     todo_room =
         let S = plain_stands flat L.once in
         let shown : option_map state_of (find_header n flat) ≡ Some h = ap (option_map state_of) K.is ∙ ap (λ (s : HeaderState). Some s) K.state in
-        let I : Implies (plain flat).headers (in_todo port) (is_for port) = λ m s e t. lawful_owner (port_keys ps) next flat m s L e port (and_both (is_todo s.place) (is_owned_by port s.owner) t).1 in
+        let I : Implies (plain flat).headers (in_todo port) (is_for port) = λ m s e t. lawful_owner (port_keys ps) next flat m s L e port (and_both (is_todo s.queue) (is_owned_by port s.owner) t).1 in
         let a : in_todo port h ≡ false = rw o refl in
         let fewer = count_less (plain flat) flat (in_todo port) (is_for port) n h S I shown a f in
         let long = todo_counted (plain flat) flat port S in
@@ -127,7 +127,7 @@ module _ (ps : List Port) (table flat : List HeaderRecord) (next : ℕ) (T : Tel
     done_room =
         let S = plain_stands flat L.once in
         let shown : option_map state_of (find_header n flat) ≡ Some h = ap (option_map state_of) K.is ∙ ap (λ (s : HeaderState). Some s) K.state in
-        let I : Implies (plain flat).headers (in_done port) (is_for port) = λ m s e t. lawful_owner (port_keys ps) next flat m s L e port (and_both (is_done s.place) (is_owned_by port s.owner) t).1 in
+        let I : Implies (plain flat).headers (in_done port) (is_for port) = λ m s e t. lawful_owner (port_keys ps) next flat m s L e port (and_both (is_done s.queue) (is_owned_by port s.owner) t).1 in
         let a : in_done port h ≡ false = rw o refl in
         let fewer = count_less (plain flat) flat (in_done port) (is_for port) n h S I shown a f in
         let long = done_counted (plain flat) flat port S in
@@ -171,8 +171,8 @@ no_numbers (n ∷ ns) h = absurd (omega arith)
 pub zero_port : (k : PortKey) (flat : List HeaderRecord) (keys : List PortKey) (next : ℕ) → AreLawful keys next flat → count_headers (is_for k) flat ≡ 0 → count_headers (is_guest k) flat ≤ count_headers (is_for k) flat → IsPortOf flat k (no_port k)
 zero_port k flat keys next L z g =
     let S = plain_stands flat L.once in
-    let I : Implies (plain flat).headers (in_todo k) (is_for k) = λ m s e t. lawful_owner keys next flat m s L e k (and_both (is_todo s.place) (is_owned_by k s.owner) t).1 in
-    let J : Implies (plain flat).headers (in_done k) (is_for k) = λ m s e t. lawful_owner keys next flat m s L e k (and_both (is_done s.place) (is_owned_by k s.owner) t).1 in
+    let I : Implies (plain flat).headers (in_todo k) (is_for k) = λ m s e t. lawful_owner keys next flat m s L e k (and_both (is_todo s.queue) (is_owned_by k s.owner) t).1 in
+    let J : Implies (plain flat).headers (in_done k) (is_for k) = λ m s e t. lawful_owner keys next flat m s L e k (and_both (is_done s.queue) (is_owned_by k s.owner) t).1 in
     let a = count_le (plain flat) flat (in_todo k) (is_for k) S I in
     let b = count_le (plain flat) flat (in_done k) (is_for k) S J in
     let c = todo_counted (plain flat) flat k S in

@@ -210,10 +210,10 @@ few_made hs state k l a b = elim (key_tells state.port k) [
   | inr x ↦ rw x.0 (few_peer hs state.peer k l b)
 ]
 
-pub populate_lawful : (ports : List PortKey) (next : ℕ) (hs : List HeaderRecord) (state : HeaderState) → state.number ≡ next → has_key state.port ports ≡ true
+pub make_lawful : (ports : List PortKey) (next : ℕ) (hs : List HeaderRecord) (state : HeaderState) → state.number ≡ next → has_key state.port ports ≡ true
     → is_home_among state.port state.peer state.home ≡ true → state.owner ≡ home_owner state.home
     → count_headers (is_for state.port) hs < 32 → HasFewer (λ key. count_headers (is_for key) hs) state.peer → AreLawful ports next hs → AreLawful ports (next + 1) (hs ++ record { state = state; load = empty_load None } ∷ [])
-populate_lawful ports next hs state num there home owner a b L =
+make_lawful ports next hs state num there home owner a b L =
     let x : HeaderRecord = record { state = state; load = empty_load None } in
     let gone : find_header x.state.number hs ≡ None = rw num (fresh_number ports next hs L) in
     record {

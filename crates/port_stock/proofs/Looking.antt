@@ -38,10 +38,10 @@ mark_kept_fits : (mark : Mark) (state : HeaderState) (o : Option BufferHeader) �
 mark_kept_fits mark state None K = record { there = K.there; header = tt }
 mark_kept_fits mark state (Some header) K = record { there = K.there; header = (K.header.0, record { size = K.header.1.size; memory = K.header.1.memory }) }
 
-pub mark_headers : (n k : ℕ) (mark : Mark) (es : List Entry) (e : Entry) (kept : Option BufferHeader) (A : At n k es) → Each IsKept es → MatchOption (find_header n (headers_of es)) ⊥ (λ r. is_waiting r.state.place ≡ true) → e ≡ A.it
+pub mark_headers : (n k : ℕ) (mark : Mark) (es : List Entry) (e : Entry) (kept : Option BufferHeader) (A : At n k es) → Each IsKept es → MatchOption (find_header n (headers_of es)) ⊥ (λ r. is_waiting r.state.queue ≡ true) → e ≡ A.it
     → kept ≡ option_map (marked_header mark) e.kept → headers_of (set es k (record { state = e.state; kept = kept })) ≡ changed n (marked (Some mark)) (headers_of es)
 mark_headers n k mark es e kept A E h same m =
-    let w = is_there (λ r. is_waiting r.state.place ≡ true) (find_header n (headers_of es)) (record_of A.it) A.stands.find h in
+    let w = is_there (λ r. is_waiting r.state.queue ≡ true) (find_header n (headers_of es)) (record_of A.it) A.stands.find h in
     let some = is_kept A.it (Each-at IsKept es k A.it E A.there) w in
     ap (λ (x : Option BufferHeader). headers_of (set es k (record { state = e.state; kept = x }))) m
     ∙ (ap (λ (x : Entry). headers_of (set es k (record { state = x.state; kept = option_map (marked_header mark) x.kept }))) same

@@ -2,18 +2,18 @@
 use Rattle.std.proofs.Common.{◌≡◌, ◌+◌, ◌<◌, true, List, [], ◌∷◌, ◌++◌, Option, Some, None, MatchOption, sym, ◌∙◌, ap, arith, subst}
 use Rattle.std.proofs.lemmas.Bool.Decides.{nat_tests}
 use Rattle.il_machine.specs.declared.port.PortKey.{PortKey}
-use Rattle.il_machine.specs.declared.header.Place.TheVariants.{Out}
+use Rattle.il_machine.specs.declared.header.Queue.TheVariants.{Out}
 use Rattle.il_machine.specs.declared.header.HeaderState.{HeaderState}
 use Rattle.il_machine.specs.World.{HeaderRecord}
 use Rattle.il_machine.specs.Headers.{count_headers, empty_load, find_header, is_for}
-use Rattle.il_machine.specs.Stock.{home_owner, populated}
+use Rattle.il_machine.specs.Stock.{home_owner, header_made}
 use Rattle.header_core.specs.BufferHeader.{BufferHeader}
 use Rattle.stock_laws.proofs.Flat.{find-append}
 use Rattle.port_stock.specs.Kept.{Flat, of_flat}
 use Rattle.port_stock.specs.Conditions.{HasFewer, IsHeaderOf, IsOutside, IsPort, has_key, is_home_among, made_in}
 use Rattle.port_stock.specs.Entries.{AreLawful}
-use Rattle.port_stock.proofs.Stocking.{kept, reads, of_flat-is, populate_read, unnumbered}
-use Rattle.port_stock.proofs.Lawful.{fresh_number, populate_lawful}
+use Rattle.port_stock.proofs.Stocking.{kept, reads, of_flat-is, make_read, unnumbered}
+use Rattle.port_stock.proofs.Lawful.{fresh_number, make_lawful}
 use Rattle.port_stock.proofs.Calls.{Becomes, IsOutFlat, count_read, flat_state}
 
 port_kept : (k : Flat) (key : PortKey) → IsPort key (of_flat k) → has_key key k.ports ≡ true
@@ -26,20 +26,20 @@ few_peer : (k : Flat) (peer : Option PortKey) → HasFewer (made_in (of_flat k))
 few_peer k None h = tt
 few_peer k (Some key) h = few_kept k key h
 
-pub populate_becomes : (k : Flat) (hs : List HeaderRecord) (state : HeaderState) → AreLawful k.ports k.next k.headers → state.number ≡ k.next → state.place ≡ Out
+pub make_becomes : (k : Flat) (hs : List HeaderRecord) (state : HeaderState) → AreLawful k.ports k.next k.headers → state.number ≡ k.next → state.queue ≡ Out
     → IsPort state.port (of_flat k) → is_home_among state.port state.peer state.home ≡ true → state.owner ≡ home_owner state.home → made_in (of_flat k) state.port < 32 → HasFewer (made_in (of_flat k)) state.peer
-    → hs ≡ k.headers ++ record { state = state; load = empty_load None } ∷ [] → Becomes k.key k.ports hs (k.next + 1) (populated state (of_flat k))
-populate_becomes k hs state L num o p home owner m q h =
+    → hs ≡ k.headers ++ record { state = state; load = empty_load None } ∷ [] → Becomes k.key k.ports hs (k.next + 1) (header_made state (of_flat k))
+make_becomes k hs state L num o p home owner m q h =
     let P : List HeaderRecord → Type 0 = AreLawful k.ports (k.next + 1) in
     record {
-      lawful = subst P (sym h) (populate_lawful k.ports k.next k.headers state num (port_kept k state.port p) home owner (few_kept k state.port m) (few_peer k state.peer q) L);
-      is = of_flat-is k.key k.ports hs (k.next + 1) _ (populate_read k hs state L.once (fresh_number k.ports k.next k.headers L) num o h);
+      lawful = subst P (sym h) (make_lawful k.ports k.next k.headers state num (port_kept k state.port p) home owner (few_kept k state.port m) (few_peer k state.peer q) L);
+      is = of_flat-is k.key k.ports hs (k.next + 1) _ (make_read k hs state L.once (fresh_number k.ports k.next k.headers L) num o h);
     }
 
 pub new_number : (k : Flat) → AreLawful k.ports k.next k.headers → (of_flat k).headers.header (of_flat k).next ≡ None
 new_number k L = unnumbered k (fresh_number k.ports k.next k.headers L)
 
-pub made_outside : (k : Flat) (hs : List HeaderRecord) (state : HeaderState) (header : BufferHeader) → AreLawful k.ports k.next k.headers → state.number ≡ k.next → state.place ≡ Out → header.held.number ≡ k.next
+pub made_outside : (k : Flat) (hs : List HeaderRecord) (state : HeaderState) (header : BufferHeader) → AreLawful k.ports k.next k.headers → state.number ≡ k.next → state.queue ≡ Out → header.held.number ≡ k.next
     → header.key ≡ k.key → IsHeaderOf state header → hs ≡ k.headers ++ record { state = state; load = empty_load None } ∷ [] → IsOutside header (of_flat (kept k.key k.ports hs (k.next + 1)))
 made_outside k hs state header L num o n own f h =
     let x : HeaderRecord = record { state = state; load = empty_load None } in

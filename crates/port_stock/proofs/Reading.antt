@@ -7,11 +7,11 @@ use Rattle.il_machine.specs.declared.header.HeaderState.{HeaderState}
 use Rattle.il_machine.specs.World.{HeaderRecord}
 use Rattle.il_machine.specs.Headers.{Once, count_headers, find_header, in_todo, in_done, in_unmarked, is_state, numbers, state_of}
 use Rattle.port_stock.specs.declared.port.Port.{Port}
-use Rattle.port_stock.specs.Kept.{Kept, done_at, has_no_mark, kept_load, keys_of, of_flat, stocked, todo_at, unmarked_of}
+use Rattle.port_stock.specs.Kept.{StockKept, done_at, has_no_mark, kept_load, keys_of, of_flat, stocked, todo_at, unmarked_of}
 use Rattle.port_stock.specs.Rings.{Tells, is_at, port_at, port_keys, shelves_of}
 use Rattle.port_stock.proofs.Stocking.{kept}
 
-abbrev pub view : ℕ → List Port → List HeaderRecord → ℕ → Kept
+abbrev pub view : ℕ → List Port → List HeaderRecord → ℕ → StockKept
 view key ports table next = record { key = key; ports = shelves_of ports; headers = table; next = next }
 
 -- ---- shelves
@@ -90,34 +90,34 @@ module _ (key : ℕ) (ports : List Port) (table flat : List HeaderRecord) (next 
 
 -- ---- the value as it is read
 
-pub todo_shown : (k : Kept) (key : PortKey) → todo_at key k.ports ≡ (stocked k).headers.todo key
+pub todo_shown : (k : StockKept) (key : PortKey) → todo_at key k.ports ≡ (stocked k).headers.todo key
 unfolding stocked
 todo_shown k key = refl
 
-pub done_shown : (k : Kept) (key : PortKey) → done_at key k.ports ≡ (stocked k).headers.done key
+pub done_shown : (k : StockKept) (key : PortKey) → done_at key k.ports ≡ (stocked k).headers.done key
 unfolding stocked
 done_shown k key = refl
 
-pub unmarked_shown : (k : Kept) (key : PortKey) → unmarked_of k.headers (todo_at key k.ports) ≡ (stocked k).headers.unmarked key
+pub unmarked_shown : (k : StockKept) (key : PortKey) → unmarked_of k.headers (todo_at key k.ports) ≡ (stocked k).headers.unmarked key
 unfolding stocked
 unmarked_shown k key = refl
 
-pub header_shown : (k : Kept) (n : ℕ) → option_map state_of (find_header n k.headers) ≡ (stocked k).headers.header n
+pub header_shown : (k : StockKept) (n : ℕ) → option_map state_of (find_header n k.headers) ≡ (stocked k).headers.header n
 unfolding stocked
 header_shown k n = refl
 
-pub count_shown : (k : Kept) (test : HeaderState → Bool) → count_headers test k.headers ≡ (stocked k).headers.count test
+pub count_shown : (k : StockKept) (test : HeaderState → Bool) → count_headers test k.headers ≡ (stocked k).headers.count test
 unfolding stocked
 count_shown k test = refl
 
-pub key_shown : (k : Kept) → k.key ≡ (stocked k).key
+pub key_shown : (k : StockKept) → k.key ≡ (stocked k).key
 unfolding stocked
 key_shown k = refl
 
-pub keys_shown : (k : Kept) → keys_of k.ports ≡ (stocked k).ports
+pub keys_shown : (k : StockKept) → keys_of k.ports ≡ (stocked k).ports
 unfolding stocked
 keys_shown k = refl
 
-pub next_shown : (k : Kept) → k.next ≡ (stocked k).next
+pub next_shown : (k : StockKept) → k.next ≡ (stocked k).next
 unfolding stocked
 next_shown k = refl

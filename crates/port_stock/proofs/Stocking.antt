@@ -5,17 +5,17 @@ use Rattle.std.proofs.Math.Path.{fun_ext}
 use Rattle.il_machine.specs.declared.port.PortKey.{PortKey}
 use Rattle.il_machine.specs.declared.port.Mark.{Mark}
 use Rattle.il_machine.specs.declared.header.Owner.{Owner}
-use Rattle.il_machine.specs.declared.header.Place.TheVariants.{Out}
+use Rattle.il_machine.specs.declared.header.Queue.TheVariants.{Out}
 use Rattle.il_machine.specs.declared.header.Spot.{Spot}
 use Rattle.il_machine.specs.declared.header.Spot.TheVariants.{TodoBack, TodoFront, DoneBack}
 use Rattle.il_machine.specs.declared.header.HeaderState.{HeaderState}
 use Rattle.il_machine.specs.World.{HeaderRecord, Load}
-use Rattle.il_machine.specs.Headers.{Seen, seen, changed, cleared_all, empty_load, find_header, given_to, in_todo, in_done, in_unmarked, is_state, load_of, loaded, numbers, put, put_at, spot_place, state_of, unloaded, without, Once}
+use Rattle.il_machine.specs.Headers.{Seen, seen, changed, cleared_all, empty_load, find_header, given_to, in_todo, in_done, in_unmarked, is_state, load_of, loaded, numbers, put, put_at, spot_queue, state_of, unloaded, without, Once}
 use Rattle.il_machine.specs.Due.{first_marked, marked}
-use Rattle.il_machine.specs.Stock.{Stocked, StandsFor, at_number, given, populated, pulled, pulled_front, pushed, sent, sent_front, state_out, withdrawn}
+use Rattle.il_machine.specs.Stock.{Stocked, StandsFor, at_number, header_given, header_made, todo_pulled, todo_front_pulled, pushed, done_pulled, done_front_pulled, state_out, header_unmade}
 use Rattle.stock_laws.specs.Changes.{cleared_where, done_cleared, emptied, front_marked, load_marked, marked_first, out_of_list, todo_cleared}
 use Rattle.stock_laws.proofs.Flat.{changed-changed, find_number, find-append, find-changed, find-without_other, find-without_same}
-use Rattle.stock_laws.proofs.Standing.{find_at, find_beside, give_stands, load_free, populate_stands, push_stands, withdraw_stands}
+use Rattle.stock_laws.proofs.Standing.{find_at, find_beside, give_stands, load_free, make_stands, push_stands, unmake_stands}
 use Rattle.stock_laws.proofs.Leaving.{fronts, front_some}
 use Rattle.stock_laws.proofs.Composed.{Taken, pull_taken, send_taken}
 use Rattle.stock_laws.proofs.Clearing.{all_cleared_where, clear_done_stands, clear_todo_stands, emptied-is, find-map, is_in, is_in_none, is_in_passes, mark_stands}
@@ -30,7 +30,7 @@ kept key ports headers next = record { key = key; ports = ports; headers = heade
 
 kept_carries : (o : Option HeaderRecord) (l : Load) → kept_load o ≡ Some l → option_map load_of o ≡ Some l
 kept_carries None l h = absurd cc
-kept_carries (Some r) l h = elim (is_waiting r.state.place) as (λ v. (if v then Some r.load else None) ≡ Some l → Some r.load ≡ Some l) [ true ↦ λ e. e | false ↦ λ e. absurd cc ] h
+kept_carries (Some r) l h = elim (is_waiting r.state.queue) as (λ v. (if v then Some r.load else None) ≡ Some l → Some r.load ≡ Some l) [ true ↦ λ e. e | false ↦ λ e. absurd cc ] h
 
 -- the value stands for the very list that is kept
 pub of_flat-stands : (k : Flat) → Once k.headers → StandsFor (of_flat k) k.headers
@@ -61,7 +61,7 @@ shown k n r e = sym (ap (λ (v : Seen). v.header n) (reads k).looks) ∙ ap (opt
 
 -- ---- a header that is in no list is put, given, made or unmade
 
-spot_load : (spot : Spot) (load : Load) → (if is_waiting (spot_place spot) then Some load else None) ≡ Some load
+spot_load : (spot : Spot) (load : Load) → (if is_waiting (spot_queue spot) then Some load else None) ≡ Some load
 spot_load TodoBack load = refl
 spot_load TodoFront load = refl
 spot_load DoneBack load = refl
@@ -77,7 +77,7 @@ put_loads hs key spot n load r once e m =
       | inr x ↦ rw x.0 (ap kept_load (find_beside spot n m y (without n hs) gone num x.1 ∙ find-without_other m n hs x.1))
     ])
 
-pub push_read : (k : Flat) (hs : List HeaderRecord) (key : PortKey) (spot : Spot) (n : ℕ) (load : Load) (r : HeaderRecord) → Once k.headers → find_header n k.headers ≡ Some r → r.state.place ≡ Out
+pub push_read : (k : Flat) (hs : List HeaderRecord) (key : PortKey) (spot : Spot) (n : ℕ) (load : Load) (r : HeaderRecord) → Once k.headers → find_header n k.headers ≡ Some r → r.state.queue ≡ Out
     → hs ≡ put key spot n (loaded load) k.headers → ReadAs k.key k.ports hs k.next (pushed key spot n load (of_flat k))
 push_read k hs key spot n load r once e o h =
     let R = reads k in
@@ -91,15 +91,15 @@ push_read k hs key spot n load r once e o h =
       next = R.next;
     }
 
-give_loads : (hs : List HeaderRecord) (n : ℕ) (owner : Owner) (r : HeaderRecord) → find_header n hs ≡ Some r → r.state.place ≡ Out
+give_loads : (hs : List HeaderRecord) (n : ℕ) (owner : Owner) (r : HeaderRecord) → find_header n hs ≡ Some r → r.state.queue ≡ Out
     → (m : ℕ) → kept_load (find_header m (changed n (given_to owner) hs)) ≡ kept_load (find_header m hs)
 give_loads hs n owner r e o m = ap kept_load (find-changed m n (given_to owner) hs r e refl) ∙ elim (eqb_tells m n) [
   | inl x ↦ rw (x.0, x.1, e, o) refl
   | inr x ↦ rw x.0 refl
 ]
 
-pub give_read : (k : Flat) (hs : List HeaderRecord) (n : ℕ) (owner : Owner) (r : HeaderRecord) → Once k.headers → find_header n k.headers ≡ Some r → r.state.place ≡ Out
-    → hs ≡ changed n (given_to owner) k.headers → ReadAs k.key k.ports hs k.next (given n owner (of_flat k))
+pub give_read : (k : Flat) (hs : List HeaderRecord) (n : ℕ) (owner : Owner) (r : HeaderRecord) → Once k.headers → find_header n k.headers ≡ Some r → r.state.queue ≡ Out
+    → hs ≡ changed n (given_to owner) k.headers → ReadAs k.key k.ports hs k.next (header_given n owner (of_flat k))
 give_read k hs n owner r once e o h =
     let R = reads k in
     let T = give_stands (of_flat k) k.headers n owner r.state (of_flat-stands k once) (shown k n r e) o in
@@ -116,23 +116,23 @@ unnumbered k gone =
     let R = reads k in
     sym (ap (λ (v : Seen). v.header (of_flat k).next) R.looks) ∙ (ap (λ n. option_map state_of (find_header n k.headers)) (sym R.next) ∙ ap (option_map state_of) gone)
 
-out_load : (x : HeaderRecord) (b : Bool) (o : Option HeaderRecord) → x.state.place ≡ Out → o ≡ None → kept_load (if b then Some x else o) ≡ kept_load o
+out_load : (x : HeaderRecord) (b : Bool) (o : Option HeaderRecord) → x.state.queue ≡ Out → o ≡ None → kept_load (if b then Some x else o) ≡ kept_load o
 out_load x true o p e = rw (p, e) refl
 out_load x false o p e = refl
 
-made_loads : (hs : List HeaderRecord) (x : HeaderRecord) → find_header x.state.number hs ≡ None → x.state.place ≡ Out → (m : ℕ) → kept_load (find_header m (hs ++ x ∷ [])) ≡ kept_load (find_header m hs)
+made_loads : (hs : List HeaderRecord) (x : HeaderRecord) → find_header x.state.number hs ≡ None → x.state.queue ≡ Out → (m : ℕ) → kept_load (find_header m (hs ++ x ∷ [])) ≡ kept_load (find_header m hs)
 made_loads hs x gone o m = ap kept_load (find-append m hs x gone) ∙ elim (eqb_tells x.state.number m) [
   | inl t ↦ out_load x (nat_eq x.state.number m) (find_header m hs) o (ap (λ n. find_header n hs) (sym t.1) ∙ gone)
   | inr t ↦ rw t.0 refl
 ]
 
-pub populate_read : (k : Flat) (hs : List HeaderRecord) (state : HeaderState) → Once k.headers → find_header k.next k.headers ≡ None → state.number ≡ k.next → state.place ≡ Out
-    → hs ≡ k.headers ++ record { state = state; load = empty_load None } ∷ [] → ReadAs k.key k.ports hs (k.next + 1) (populated state (of_flat k))
-populate_read k hs state once gone num o h =
+pub make_read : (k : Flat) (hs : List HeaderRecord) (state : HeaderState) → Once k.headers → find_header k.next k.headers ≡ None → state.number ≡ k.next → state.queue ≡ Out
+    → hs ≡ k.headers ++ record { state = state; load = empty_load None } ∷ [] → ReadAs k.key k.ports hs (k.next + 1) (header_made state (of_flat k))
+make_read k hs state once gone num o h =
     let R = reads k in
     let x : HeaderRecord = record { state = state; load = empty_load None } in
     let g : find_header state.number k.headers ≡ None = rw num gone in
-    let T = populate_stands (of_flat k) k.headers state (empty_load None) (of_flat-stands k once) (unnumbered k gone) (num ∙ R.next) o in
+    let T = make_stands (of_flat k) k.headers state (empty_load None) (of_flat-stands k once) (unnumbered k gone) (num ∙ R.next) o in
     record {
       key = R.key;
       ports = R.ports;
@@ -141,11 +141,11 @@ populate_read k hs state once gone num o h =
       next = ap (λ n. n + 1) R.next;
     }
 
-pub withdraw_read : (k : Flat) (hs : List HeaderRecord) (n : ℕ) (r : HeaderRecord) → Once k.headers → find_header n k.headers ≡ Some r → r.state.place ≡ Out
-    → hs ≡ without n k.headers → ReadAs k.key k.ports hs k.next (withdrawn n (of_flat k))
-withdraw_read k hs n r once e o h =
+pub unmake_read : (k : Flat) (hs : List HeaderRecord) (n : ℕ) (r : HeaderRecord) → Once k.headers → find_header n k.headers ≡ Some r → r.state.queue ≡ Out
+    → hs ≡ without n k.headers → ReadAs k.key k.ports hs k.next (header_unmade n (of_flat k))
+unmake_read k hs n r once e o h =
     let R = reads k in
-    let T = withdraw_stands (of_flat k) k.headers n r.state (of_flat-stands k once) (shown k n r e) o in
+    let T = unmake_stands (of_flat k) k.headers n r.state (of_flat-stands k once) (shown k n r e) o in
     record {
       key = R.key;
       ports = R.ports;
@@ -176,20 +176,20 @@ todo_read k key = ap (λ (v : Seen). v.todo key) (reads k).looks
 pub done_read : (k : Flat) (key : PortKey) → numbers (is_state (in_done key)) k.headers ≡ (of_flat k).headers.done key
 done_read k key = ap (λ (v : Seen). v.done key) (reads k).looks
 
-pulled_loads : (key : PortKey) (n : ℕ) (ns : List ℕ) (s : Stocked) → s.headers.todo key ≡ n ∷ ns → (pulled key s).loads ≡ at_number n None s.loads
-pulled_loads key n ns s e = ap (λ (v : List ℕ). (pulled_front key v s).loads) e
+pulled_loads : (key : PortKey) (n : ℕ) (ns : List ℕ) (s : Stocked) → s.headers.todo key ≡ n ∷ ns → (todo_pulled key s).loads ≡ at_number n None s.loads
+pulled_loads key n ns s e = ap (λ (v : List ℕ). (todo_front_pulled key v s).loads) e
 
-pulled_ports : (key : PortKey) (n : ℕ) (ns : List ℕ) (s : Stocked) → s.headers.todo key ≡ n ∷ ns → (pulled key s).ports ≡ s.ports
-pulled_ports key n ns s e = ap (λ (v : List ℕ). (pulled_front key v s).ports) e
+pulled_ports : (key : PortKey) (n : ℕ) (ns : List ℕ) (s : Stocked) → s.headers.todo key ≡ n ∷ ns → (todo_pulled key s).ports ≡ s.ports
+pulled_ports key n ns s e = ap (λ (v : List ℕ). (todo_front_pulled key v s).ports) e
 
-pulled_key : (key : PortKey) (n : ℕ) (ns : List ℕ) (s : Stocked) → s.headers.todo key ≡ n ∷ ns → (pulled key s).key ≡ s.key
-pulled_key key n ns s e = ap (λ (v : List ℕ). (pulled_front key v s).key) e
+pulled_key : (key : PortKey) (n : ℕ) (ns : List ℕ) (s : Stocked) → s.headers.todo key ≡ n ∷ ns → (todo_pulled key s).key ≡ s.key
+pulled_key key n ns s e = ap (λ (v : List ℕ). (todo_front_pulled key v s).key) e
 
-pulled_next : (key : PortKey) (n : ℕ) (ns : List ℕ) (s : Stocked) → s.headers.todo key ≡ n ∷ ns → (pulled key s).next ≡ s.next
-pulled_next key n ns s e = ap (λ (v : List ℕ). (pulled_front key v s).next) e
+pulled_next : (key : PortKey) (n : ℕ) (ns : List ℕ) (s : Stocked) → s.headers.todo key ≡ n ∷ ns → (todo_pulled key s).next ≡ s.next
+pulled_next key n ns s e = ap (λ (v : List ℕ). (todo_front_pulled key v s).next) e
 
 pub pull_read : (k : Flat) (hs : List HeaderRecord) (key : PortKey) (n : ℕ) → Once k.headers → slice_get (numbers (is_state (in_todo key)) k.headers) 0 ≡ Some n
-    → hs ≡ changed n record_out k.headers → ReadAs k.key k.ports hs k.next (pulled key (of_flat k))
+    → hs ≡ changed n record_out k.headers → ReadAs k.key k.ports hs k.next (todo_pulled key (of_flat k))
 pull_read k hs key n once f h =
     let R = reads k in
     let list = front_some (numbers (is_state (in_todo key)) k.headers) n f in
@@ -199,7 +199,7 @@ pull_read k hs key n once f h =
     record {
       key = R.key ∙ sym (pulled_key key n list.0 (of_flat k) e);
       ports = R.ports ∙ sym (pulled_ports key n list.0 (of_flat k) e);
-      looks = ap seen h ∙ out_looks (pulled key (of_flat k)) k.headers n T;
+      looks = ap seen h ∙ out_looks (todo_pulled key (of_flat k)) k.headers n T;
       loads = λ m. ap (λ (v : List HeaderRecord). kept_load (find_header m v)) h
           ∙ (out_loads k.headers n T.found.it T.found.is m
           ∙ (ap (λ (f : ℕ → Option Load). at_number n None f m) l
@@ -207,25 +207,25 @@ pull_read k hs key n once f h =
       next = R.next ∙ sym (pulled_next key n list.0 (of_flat k) e);
     }
 
-pub pull_none : (k : Flat) (key : PortKey) → numbers (is_state (in_todo key)) k.headers ≡ [] → of_flat k ≡ pulled key (of_flat k)
+pub pull_none : (k : Flat) (key : PortKey) → numbers (is_state (in_todo key)) k.headers ≡ [] → of_flat k ≡ todo_pulled key (of_flat k)
 pull_none k key e =
     let none : (of_flat k).headers.todo key ≡ [] = sym (todo_read k key) ∙ e in
-    sym (ap (λ (v : List ℕ). pulled_front key v (of_flat k)) none)
+    sym (ap (λ (v : List ℕ). todo_front_pulled key v (of_flat k)) none)
 
-sent_loads : (key : PortKey) (n : ℕ) (ns : List ℕ) (s : Stocked) → s.headers.done key ≡ n ∷ ns → (sent key s).loads ≡ at_number n None s.loads
-sent_loads key n ns s e = ap (λ (v : List ℕ). (sent_front key v s).loads) e
+sent_loads : (key : PortKey) (n : ℕ) (ns : List ℕ) (s : Stocked) → s.headers.done key ≡ n ∷ ns → (done_pulled key s).loads ≡ at_number n None s.loads
+sent_loads key n ns s e = ap (λ (v : List ℕ). (done_front_pulled key v s).loads) e
 
-sent_ports : (key : PortKey) (n : ℕ) (ns : List ℕ) (s : Stocked) → s.headers.done key ≡ n ∷ ns → (sent key s).ports ≡ s.ports
-sent_ports key n ns s e = ap (λ (v : List ℕ). (sent_front key v s).ports) e
+sent_ports : (key : PortKey) (n : ℕ) (ns : List ℕ) (s : Stocked) → s.headers.done key ≡ n ∷ ns → (done_pulled key s).ports ≡ s.ports
+sent_ports key n ns s e = ap (λ (v : List ℕ). (done_front_pulled key v s).ports) e
 
-sent_key : (key : PortKey) (n : ℕ) (ns : List ℕ) (s : Stocked) → s.headers.done key ≡ n ∷ ns → (sent key s).key ≡ s.key
-sent_key key n ns s e = ap (λ (v : List ℕ). (sent_front key v s).key) e
+sent_key : (key : PortKey) (n : ℕ) (ns : List ℕ) (s : Stocked) → s.headers.done key ≡ n ∷ ns → (done_pulled key s).key ≡ s.key
+sent_key key n ns s e = ap (λ (v : List ℕ). (done_front_pulled key v s).key) e
 
-sent_next : (key : PortKey) (n : ℕ) (ns : List ℕ) (s : Stocked) → s.headers.done key ≡ n ∷ ns → (sent key s).next ≡ s.next
-sent_next key n ns s e = ap (λ (v : List ℕ). (sent_front key v s).next) e
+sent_next : (key : PortKey) (n : ℕ) (ns : List ℕ) (s : Stocked) → s.headers.done key ≡ n ∷ ns → (done_pulled key s).next ≡ s.next
+sent_next key n ns s e = ap (λ (v : List ℕ). (done_front_pulled key v s).next) e
 
 pub send_read : (k : Flat) (hs : List HeaderRecord) (key : PortKey) (n : ℕ) → Once k.headers → slice_get (numbers (is_state (in_done key)) k.headers) 0 ≡ Some n
-    → hs ≡ changed n record_out k.headers → ReadAs k.key k.ports hs k.next (sent key (of_flat k))
+    → hs ≡ changed n record_out k.headers → ReadAs k.key k.ports hs k.next (done_pulled key (of_flat k))
 send_read k hs key n once f h =
     let R = reads k in
     let list = front_some (numbers (is_state (in_done key)) k.headers) n f in
@@ -235,7 +235,7 @@ send_read k hs key n once f h =
     record {
       key = R.key ∙ sym (sent_key key n list.0 (of_flat k) e);
       ports = R.ports ∙ sym (sent_ports key n list.0 (of_flat k) e);
-      looks = ap seen h ∙ out_looks (sent key (of_flat k)) k.headers n T;
+      looks = ap seen h ∙ out_looks (done_pulled key (of_flat k)) k.headers n T;
       loads = λ m. ap (λ (v : List HeaderRecord). kept_load (find_header m v)) h
           ∙ (out_loads k.headers n T.found.it T.found.is m
           ∙ (ap (λ (f : ℕ → Option Load). at_number n None f m) l
@@ -243,14 +243,14 @@ send_read k hs key n once f h =
       next = R.next ∙ sym (sent_next key n list.0 (of_flat k) e);
     }
 
-pub send_none : (k : Flat) (key : PortKey) → numbers (is_state (in_done key)) k.headers ≡ [] → of_flat k ≡ sent key (of_flat k)
+pub send_none : (k : Flat) (key : PortKey) → numbers (is_state (in_done key)) k.headers ≡ [] → of_flat k ≡ done_pulled key (of_flat k)
 send_none k key e =
     let none : (of_flat k).headers.done key ≡ [] = sym (done_read k key) ∙ e in
-    sym (ap (λ (v : List ℕ). sent_front key v (of_flat k)) none)
+    sym (ap (λ (v : List ℕ). done_front_pulled key v (of_flat k)) none)
 
 -- ---- headers are cleared where they stand, and the first without a mark gets one
 
-where_loads : (q : HeaderRecord → Bool) (hs : List HeaderRecord) (m : ℕ) → Once hs → ((r : HeaderRecord) → q r ≡ true → is_waiting r.state.place ≡ true) → (o : Option HeaderRecord) → find_header m hs ≡ o
+where_loads : (q : HeaderRecord → Bool) (hs : List HeaderRecord) (m : ℕ) → Once hs → ((r : HeaderRecord) → q r ≡ true → is_waiting r.state.queue ≡ true) → (o : Option HeaderRecord) → find_header m hs ≡ o
     → kept_load (option_map (λ r. cleared_where (q r) r) o) ≡ (if is_in m (numbers q hs) then option_map unloaded (kept_load o) else kept_load o)
 where_loads q hs m once w None e = rw (is_in_none q m hs e) refl
 where_loads q hs m once w (Some r) e =
@@ -263,7 +263,7 @@ where_state : (b : Bool) (r : HeaderRecord) → (cleared_where b r).state ≡ r.
 where_state true r = refl
 where_state false r = refl
 
-cleared_loads : (q : HeaderRecord → Bool) (hs : List HeaderRecord) (f : ℕ → Option Load) → Once hs → ((r : HeaderRecord) → q r ≡ true → is_waiting r.state.place ≡ true) → ((m : ℕ) → kept_load (find_header m hs) ≡ f m)
+cleared_loads : (q : HeaderRecord → Bool) (hs : List HeaderRecord) (f : ℕ → Option Load) → Once hs → ((r : HeaderRecord) → q r ≡ true → is_waiting r.state.queue ≡ true) → ((m : ℕ) → kept_load (find_header m hs) ≡ f m)
     → (m : ℕ) → kept_load (find_header m (map (λ r. cleared_where (q r) r) hs)) ≡ emptied (numbers q hs) f m
 cleared_loads q hs f once w g m =
     ap kept_load (find-map (λ r. cleared_where (q r) r) (λ r. where_state (q r) r) m hs)
@@ -312,7 +312,7 @@ and_left : (a b : Bool) → (a && b) ≡ true → a ≡ true
 and_left true b e = refl
 and_left false b e = absurd cc
 
-waiting_load : (r : HeaderRecord) → is_waiting r.state.place ≡ true → kept_load (Some r) ≡ Some r.load
+waiting_load : (r : HeaderRecord) → is_waiting r.state.queue ≡ true → kept_load (Some r) ≡ Some r.load
 waiting_load r w = rw w refl
 
 mark_loads : (key : PortKey) (mark : Mark) (hs : List HeaderRecord) (n : ℕ) (ns : List ℕ) (f : ℕ → Option Load) → Once hs → numbers (in_unmarked key) hs ≡ n ∷ ns → ((m : ℕ) → kept_load (find_header m hs) ≡ f m)
@@ -320,7 +320,7 @@ mark_loads : (key : PortKey) (mark : Mark) (hs : List HeaderRecord) (n : ℕ) (n
 mark_loads key mark hs n ns f once e g m =
     let F = fronts (in_unmarked key) n ns hs once e in
     let r = F.it in
-    let w : is_waiting r.state.place ≡ true = todo_waits key r (and_left (in_todo key r.state) (is_none r.load.mark) F.passes) in
+    let w : is_waiting r.state.queue ≡ true = todo_waits key r (and_left (in_todo key r.state) (is_none r.load.mark) F.passes) in
     let now : f n ≡ Some r.load = sym (g n) ∙ (ap kept_load F.is ∙ waiting_load r w) in
     ap kept_load (find-changed m n (marked (Some mark)) hs r F.is refl) ∙ elim (eqb_tells m n) [
       | inl x ↦ rw (x.0, now) (waiting_load (marked (Some mark) r) w)

@@ -4,7 +4,7 @@ use Rattle.std.proofs.lemmas.Bool.Decides.{eqb_tells}
 use Rattle.il_machine.specs.declared.port.PortKey.{PortKey}
 use Rattle.il_machine.specs.declared.port.Mark.{Mark}
 use Rattle.il_machine.specs.declared.header.Owner.{Owner}
-use Rattle.il_machine.specs.declared.header.Place.TheVariants.{Out}
+use Rattle.il_machine.specs.declared.header.Queue.TheVariants.{Out}
 use Rattle.il_machine.specs.declared.header.Spot.{Spot}
 use Rattle.il_machine.specs.declared.header.Spot.TheVariants.{TodoBack, TodoFront, DoneBack}
 use Rattle.il_machine.specs.declared.header.HeaderState.{HeaderState}
@@ -101,7 +101,7 @@ plain_stands flat once = record { looks = refl; loads = λ n l h. absurd cc; onc
 at_key-other : {A : Type 0} (key k : PortKey) (x : A) (f : PortKey → A) → same_key key k ≡ false → at_key key x f k ≡ f k
 at_key-other key k x f d = rw (same_key-sym k key, d) refl
 
-module _ (flat : List HeaderRecord) (key : PortKey) (n : ℕ) (load : Load) (r : HeaderRecord) (once : Once flat) (e : find_header n flat ≡ Some r) (o : r.state.place ≡ Out) where
+module _ (flat : List HeaderRecord) (key : PortKey) (n : ℕ) (load : Load) (r : HeaderRecord) (once : Once flat) (e : find_header n flat ≡ Some r) (o : r.state.queue ≡ Out) where
   put_looks : (spot : Spot) → seen (put key spot n (loaded load) flat) ≡ (pushed key spot n load (plain flat)).headers
   put_looks spot = (push_stands (plain flat) flat key spot n load r.state (plain_stands flat once) (ap (option_map state_of) e) o).looks
 
@@ -194,7 +194,7 @@ module _ (flat : List HeaderRecord) (key : PortKey) (n : ℕ) (load : Load) (r :
 
 -- ---- a header that is in no list is given, unmade and made
 
-module _ (flat : List HeaderRecord) (n : ℕ) (r : HeaderRecord) (e : find_header n flat ≡ Some r) (o : r.state.place ≡ Out) where
+module _ (flat : List HeaderRecord) (n : ℕ) (r : HeaderRecord) (e : find_header n flat ≡ Some r) (o : r.state.queue ≡ Out) where
   out_test : (k : PortKey) → is_state (in_todo k) r ≡ false
   out_test k = rw o refl
 
@@ -237,7 +237,7 @@ module _ (flat : List HeaderRecord) (n : ℕ) (r : HeaderRecord) (e : find_heade
         omega arith;
   }
 
-pub made_tells : (ps qs : List Port) (table flat : List HeaderRecord) (x : HeaderRecord) → find_header x.state.number flat ≡ None → x.state.place ≡ Out → Tells ps table flat → Recounts None (Some x.state) ps qs
+pub made_tells : (ps qs : List Port) (table flat : List HeaderRecord) (x : HeaderRecord) → find_header x.state.number flat ≡ None → x.state.queue ≡ Out → Tells ps table flat → Recounts None (Some x.state) ps qs
     → Tells qs (table ++ x ∷ []) (flat ++ x ∷ [])
 made_tells ps qs table flat x gone o T C = record {
   port = λ k.
@@ -320,7 +320,7 @@ pull_tells key ps qs table flat n once f T R =
     }
 
 other_done : (key k : PortKey) (r : HeaderRecord) → is_state (in_done key) r ≡ true → same_key key k ≡ false → is_state (in_done k) r ≡ false
-other_done key k r h d = rw (other_owner key k r.state.owner (and_both (is_done r.state.place) (is_owned_by key r.state.owner) h).1 d) (and_false_right (is_done r.state.place))
+other_done key k r h d = rw (other_owner key k r.state.owner (and_both (is_done r.state.queue) (is_owned_by key r.state.owner) h).1 d) (and_false_right (is_done r.state.queue))
 
 pub send_tells : (key : PortKey) (ps qs : List Port) (table flat : List HeaderRecord) (n : ℕ) → Once flat → slice_get (port_at key ps).done.items 0 ≡ Some n → Tells ps table flat → Replaces key (without_done (port_at key ps)) ps qs
     → Tells qs (changed n record_out table) (changed n record_out flat)

@@ -5,7 +5,7 @@ use Rattle.il_machine.specs.declared.header.Home.{Home}
 use Rattle.il_machine.specs.declared.header.Home.TheVariants as homes
 use Rattle.il_machine.specs.declared.header.Owner.{Owner}
 use Rattle.il_machine.specs.declared.header.Owner.TheVariants as owners
-use Rattle.il_machine.specs.declared.header.Place.TheVariants.{Out}
+use Rattle.il_machine.specs.declared.header.Queue.TheVariants.{Out}
 use Rattle.il_machine.specs.declared.header.HeaderState.{HeaderState}
 use Rattle.il_machine.specs.Lists.{holds_at}
 use Rattle.il_machine.specs.Headers.{is_for, is_key, is_owned_by, same_key}
@@ -75,7 +75,7 @@ pub record IsHeaderOf (h : HeaderState) (header : BufferHeader) : Type 0 where
 
 -- the header is one of the stock's, and in no list
 abbrev pub IsOutside : BufferHeader → Stocked → Type 0
-IsOutside header s = (header.key ≡ s.key) × MatchOption (s.headers.header header.held.number) ⊥ (λ h. (h.place ≡ Out) × IsHeaderOf h header)
+IsOutside header s = (header.key ≡ s.key) × MatchOption (s.headers.header header.held.number) ⊥ (λ h. (h.queue ≡ Out) × IsHeaderOf h header)
 
 abbrev pub number_of : BufferHeader → ℕ
 number_of header = header.held.number
@@ -93,7 +93,7 @@ AreMadeForOwners s = (number : ℕ) (h : HeaderState) → s.headers.header numbe
 
 -- the header of the number is made, and in no list
 abbrev pub IsOut : ℕ → Stocked → Type 0
-IsOut number s = MatchOption (s.headers.header number) ⊥ (λ h. h.place ≡ Out)
+IsOut number s = MatchOption (s.headers.header number) ⊥ (λ h. h.queue ≡ Out)
 
 -- the header was one of the stock's, its state passed the test, and it carries what was kept
 abbrev pub IsFrom : (HeaderState → Bool) → BufferHeader → Stocked → Type 0
@@ -106,7 +106,7 @@ IsOfOneList s = (headers : List HeaderRecord) × StandsFor s headers
 
 -- each header that is made waits in a list
 abbrev pub AllWait : Stocked → Type 0
-AllWait s = (number : ℕ) → MatchOption (s.headers.header number) (Unit {0}) (λ h. is_waiting h.place ≡ true)
+AllWait s = (number : ℕ) → MatchOption (s.headers.header number) (Unit {0}) (λ h. is_waiting h.queue ≡ true)
 
 -- it is with a port or in a note, and not with the client or in a work
 abbrev pub is_inside : Owner → Bool

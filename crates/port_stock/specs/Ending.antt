@@ -12,7 +12,7 @@ use Rattle.port_stock.specs.Entries.{Each, HasKey, IsKept, headers_of}
 pub record IsEnding (key : ℕ) (e : Entry) : Type 0 where
   pub kept : IsKept e
   pub of_key : HasKey key e
-  pub waits : is_waiting e.state.place ≡ true
+  pub waits : is_waiting e.state.queue ≡ true
 
 -- all blocks that aren't free are with the headers of the entries
 pub record AreEnding (r : BlockRegion) (entries : List Entry) : Type 0 where

@@ -57,7 +57,7 @@ Each P (x ∷ xs) = P x × Each P xs
 
 -- An entry has its header exactly where that waits in a list.
 pub record IsKept (e : Entry) : Type 0 where
-  pub there : is_some e.kept ≡ is_waiting e.state.place
+  pub there : is_some e.kept ≡ is_waiting e.state.queue
   pub header : MatchOption e.kept (Unit {0}) (λ header. (header.held.number ≡ e.state.number) × IsHeaderOf e.state header)
 
 -- the header of an entry has the key, where it is there

@@ -3,7 +3,7 @@ use Rattle.std.specs.Prelude.{◌≡◌, ◌≢◌, ℕ, Bool, None, true}
 use Rattle.il_machine.specs.declared.port.PortKey.{PortKey}
 use Rattle.il_machine.specs.declared.header.Home.TheVariants.{Client}
 use Rattle.il_machine.specs.declared.header.HeaderState.{HeaderState}
-use Rattle.il_machine.specs.Stock.{Stocked, added, made_header, no_stock, populated, times_passed}
+use Rattle.il_machine.specs.Stock.{Stocked, added, made_header, no_stock, header_made, times_passed}
 
 abbrev pub input : PortKey
 input = record { component = 3; port = 0 }
@@ -12,7 +12,7 @@ abbrev pub two_ports : ℕ → Stocked
 two_ports key = added 3 2 (no_stock key)
 
 abbrev pub one_header : ℕ → Stocked
-one_header key = populated (made_header 0 input None Client 6 true) (two_ports key)
+one_header key = header_made (made_header 0 input None Client 6 true) (two_ports key)
 
 -- no header but the first is made
 pub record IsLeft (s : Stocked) : Type 0 where

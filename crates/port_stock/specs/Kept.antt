@@ -1,8 +1,8 @@
 -- What is kept of ports and headers, as plain data, and all that contracts read of it.
 use Rattle.std.specs.Prelude.{ℕ, Bool, true, false, List, [], ◌∷◌, map, is_none, Option, Some, None, option_map, if◌then◌else◌}
 use Rattle.il_machine.specs.declared.port.PortKey.{PortKey}
-use Rattle.il_machine.specs.declared.header.Place.{Place}
-use Rattle.il_machine.specs.declared.header.Place.TheVariants.{Out, Todo, Done}
+use Rattle.il_machine.specs.declared.header.Queue.{Queue}
+use Rattle.il_machine.specs.declared.header.Queue.TheVariants.{Out, Todo, Done}
 use Rattle.il_machine.specs.World.{HeaderRecord, Load}
 use Rattle.il_machine.specs.Headers.{count_headers, find_header, same_key, seen, state_of}
 use Rattle.il_machine.specs.Stock.{Stocked}
@@ -13,7 +13,7 @@ pub record Shelf : Type 0 where
   pub todo : List ℕ
   pub done : List ℕ
 
-pub record Kept : Type 0 where
+pub record StockKept : Type 0 where
   pub key : ℕ
   pub ports : List Shelf
   -- their order tells nothing; a header that is in no list has no load here
@@ -35,14 +35,14 @@ done_at key (s ∷ shelves) = if same_key s.key key then s.done else done_at key
 
 -- ---- what is read of the headers
 
-abbrev pub is_waiting : Place → Bool
+abbrev pub is_waiting : Queue → Bool
 is_waiting Out = false
 is_waiting Todo = true
 is_waiting Done = true
 
 abbrev pub kept_load : Option HeaderRecord → Option Load
 kept_load None = None
-kept_load (Some r) = if is_waiting r.state.place then Some r.load else None
+kept_load (Some r) = if is_waiting r.state.queue then Some r.load else None
 
 -- the header is there, and has no mark
 abbrev pub has_no_mark : Option HeaderRecord → Bool
@@ -54,7 +54,7 @@ abbrev pub unmarked_of : List HeaderRecord → List ℕ → List ℕ
 unmarked_of headers [] = []
 unmarked_of headers (n ∷ numbers) = if has_no_mark (find_header n headers) then n ∷ unmarked_of headers numbers else unmarked_of headers numbers
 
-unfoldable pub stocked : Kept → Stocked
+unfoldable pub stocked : StockKept → Stocked
 stocked k = record {
   key = k.key;
   ports = keys_of k.ports;

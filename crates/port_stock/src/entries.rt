@@ -2,7 +2,7 @@
 
 ghost use Rattle.std.specs.Prelude.{◌≡◌, ℕ, ◌<◌, ◌+◌, ◌∷◌, ◌++◌, [], length, map, option_map, nat_eq, position, slice_get, slice_set, remove, Some, None, true, IfSome, IsSome, MatchOption, is_none, vec_len, vec_capacity};
 ghost use Rattle.std.specs.List.{list_all};
-ghost use Rattle.il_machine.specs.declared.header.Place.TheVariants.{Out};
+ghost use Rattle.il_machine.specs.declared.header.Queue.TheVariants.{Out};
 ghost use Rattle.il_machine.specs.Headers.{Once, changed, find_header, given_to, in_todo, in_done, state_at, state_of, empty_load, without};
 ghost use Rattle.il_machine.specs.Buffers.{load_in};
 ghost use Rattle.il_machine.specs.Due.{marked as marked_record};
@@ -15,7 +15,7 @@ ghost use Rattle.port_stock.specs.Entries.{AreOf, Each, IsKept, IsTakenAt, Keeps
 use crate::entry::{Entry, is_in_list, is_kept_by, put_state, waits_in_done, waits_in_todo};
 use circular_buffer::HeapCircularBuffer;
 use header_core::Header;
-use il_machine::{HeaderState, Mark, Owner, Place, PortKey, Spot};
+use il_machine::{HeaderState, Mark, Owner, PortKey, Queue, Spot};
 use std::mem::replace;
 
 /// The place that the number has where none below it is missing, or that is found by halves. Numbers rise along the table, but this
@@ -42,9 +42,9 @@ fn likely_place(entries: &[Entry], number: u64) -> Option<usize>
 
 /// Whether each header waits in a list.
 pub fn all_wait(entries: &[Entry]) -> bool
-    ensures { result ≡ list_all (λ e. is_waiting e.state.place) entries.now }
+    ensures { result ≡ list_all (λ e. is_waiting e.state.queue) entries.now }
 {
-    entries.iter().all(|e| is_in_list(e.state.place))
+    entries.iter().all(|e| is_in_list(e.state.queue))
 }
 
 /// Whether each header is with a port or in a note.
@@ -89,7 +89,7 @@ fn take_header(entries: &mut Vec<Entry>, place: usize) -> Header
     ensures capacity { vec_capacity entries.new ≡ vec_capacity entries.old }
 {
     let entry = &mut entries[place];
-    entry.state.place = Place::Out;
+    entry.state.queue = Queue::Out;
     let Some(header) = entry.kept.take() else {
         unreachable!()
     };
@@ -113,7 +113,7 @@ fn put_in(entry: &mut Entry, key: PortKey, header: Header, spot: Spot) -> Header
 /// Puts a header that is in no list at the spot of the port, and answers how it was.
 pub fn put(entries: &mut Vec<Entry>, key: PortKey, header: Header, spot: Spot) -> HeaderState
     requires outside { MatchOption (find_header header.held.number (headers_of entries.old.items))
-        ⊥ (λ r. (r.state.place ≡ Out) × IsHeaderOf r.state header) }
+        ⊥ (λ r. (r.state.queue ≡ Out) × IsHeaderOf r.state header) }
     requires once { Once (headers_of entries.old.items) }
     requires kept { Each IsKept entries.old.items }
     ensures before { option_map state_of (find_header header.held.number (headers_of entries.old.items)) ≡ Some result }
@@ -132,7 +132,7 @@ pub fn put(entries: &mut Vec<Entry>, key: PortKey, header: Header, spot: Spot) -
 
 /// Takes the header of the number, which waits in a list, out of it.
 pub fn take(entries: &mut Vec<Entry>, number: u64) -> Header
-    requires waits { MatchOption (find_header number (headers_of entries.old.items)) ⊥ (λ r. is_waiting r.state.place ≡ true) }
+    requires waits { MatchOption (find_header number (headers_of entries.old.items)) ⊥ (λ r. is_waiting r.state.queue ≡ true) }
     requires once { Once (headers_of entries.old.items) }
     requires kept { Each IsKept entries.old.items }
     ensures taken { IsTakenAt number result (headers_of entries.old.items) (headers_of entries.new.items) }
@@ -151,7 +151,7 @@ pub fn take(entries: &mut Vec<Entry>, number: u64) -> Header
 pub fn add(entries: &mut Vec<Entry>, state: HeaderState)
     requires room { vec_len entries.old < vec_capacity entries.old }
     requires kept { Each IsKept entries.old.items }
-    requires out { state.place ≡ Out }
+    requires out { state.queue ≡ Out }
     ensures headers { headers_of entries.new.items
         ≡ headers_of entries.old.items ++ record { state = state; load = empty_load None } ∷ [] }
     ensures kept { Each IsKept entries.new.items }
@@ -163,7 +163,7 @@ pub fn add(entries: &mut Vec<Entry>, state: HeaderState)
 
 /// Takes the header of the number, which is in no list, away, and answers how it was.
 pub fn remove(entries: &mut Vec<Entry>, number: u64) -> HeaderState
-    requires outside { MatchOption (find_header number (headers_of entries.old.items)) ⊥ (λ r. r.state.place ≡ Out) }
+    requires outside { MatchOption (find_header number (headers_of entries.old.items)) ⊥ (λ r. r.state.queue ≡ Out) }
     requires once { Once (headers_of entries.old.items) }
     requires kept { Each IsKept entries.old.items }
     ensures before { option_map state_of (find_header number (headers_of entries.old.items)) ≡ Some result }
@@ -180,7 +180,7 @@ pub fn remove(entries: &mut Vec<Entry>, number: u64) -> HeaderState
 
 /// Gives the header of the number, which is in no list, to the owner, and answers how it was.
 pub fn give(entries: &mut Vec<Entry>, number: u64, owner: Owner) -> HeaderState
-    requires outside { MatchOption (find_header number (headers_of entries.old.items)) ⊥ (λ r. r.state.place ≡ Out) }
+    requires outside { MatchOption (find_header number (headers_of entries.old.items)) ⊥ (λ r. r.state.queue ≡ Out) }
     requires once { Once (headers_of entries.old.items) }
     requires kept { Each IsKept entries.old.items }
     ensures before { option_map state_of (find_header number (headers_of entries.old.items)) ≡ Some result }
@@ -309,7 +309,7 @@ fn mark_kept(kept: &mut Option<Header>, mark: Mark)
 
 /// Gives the mark to the header of the number, which waits in a list.
 pub fn mark(entries: &mut Vec<Entry>, number: u64, mark: Mark)
-    requires waits { MatchOption (find_header number (headers_of entries.old.items)) ⊥ (λ r. is_waiting r.state.place ≡ true) }
+    requires waits { MatchOption (find_header number (headers_of entries.old.items)) ⊥ (λ r. is_waiting r.state.queue ≡ true) }
     requires once { Once (headers_of entries.old.items) }
     requires kept { Each IsKept entries.old.items }
     ensures headers { headers_of entries.new.items ≡ changed number (marked_record (Some mark)) (headers_of entries.old.items) }

@@ -1,11 +1,11 @@
 ghost use Rattle.std.specs.Prelude.{◌≡◌, ◌&&◌, not, is_none};
-ghost use Rattle.il_machine.specs.Headers.{in_todo, in_done, is_away, is_at_home, is_for, is_home_of, is_home_owner, is_key, is_notice, is_owned_by, same_key, spot_place, state_at};
+ghost use Rattle.il_machine.specs.Headers.{in_todo, in_done, is_away, is_at_home, is_for, is_home_of, is_home_owner, is_key, is_notice, is_owned_by, same_key, spot_queue, state_at};
 ghost use Rattle.il_machine.specs.Stock.{home_owner};
 ghost use Rattle.port_stock.specs.Kept.{is_waiting};
 ghost use Rattle.port_stock.specs.Conditions.{is_inside};
 
 use header_core::Header;
-use il_machine::{HeaderState, Home, Owner, Place, PortKey, Spot};
+use il_machine::{HeaderState, Home, Owner, PortKey, Queue, Spot};
 
 /// A header's state, and the header itself while it waits in a list of a port.
 pub struct Entry {
@@ -41,13 +41,13 @@ fn is_of_port(key: PortKey, owner: Owner) -> bool
 pub fn waits_in_todo(key: PortKey, state: &HeaderState) -> bool
     ensures { result ≡ in_todo key state.now }
 {
-    matches!(state.place, Place::Todo) && is_of_port(key, state.owner)
+    matches!(state.queue, Queue::Todo) && is_of_port(key, state.owner)
 }
 
 pub fn waits_in_done(key: PortKey, state: &HeaderState) -> bool
     ensures { result ≡ in_done key state.now }
 {
-    matches!(state.place, Place::Done) && is_of_port(key, state.owner)
+    matches!(state.queue, Queue::Done) && is_of_port(key, state.owner)
 }
 
 fn is_owner_home(home: Home, owner: Owner) -> bool
@@ -90,12 +90,12 @@ pub fn is_foreign(key: PortKey, state: &HeaderState) -> bool
     is_of_port(key, state.owner) && !is_home(key, state.home)
 }
 
-fn place_of(spot: Spot) -> Place
-    ensures { result ≡ spot_place spot }
+fn queue_of(spot: Spot) -> Queue
+    ensures { result ≡ spot_queue spot }
 {
     match spot {
-        Spot::TodoBack | Spot::TodoFront => Place::Todo,
-        Spot::DoneBack => Place::Done,
+        Spot::TodoBack | Spot::TodoFront => Queue::Todo,
+        Spot::DoneBack => Queue::Done,
     }
 }
 
@@ -105,7 +105,7 @@ pub fn put_state(key: PortKey, spot: Spot, state: HeaderState) -> HeaderState
 {
     HeaderState {
         owner: Owner::Port(key),
-        place: place_of(spot),
+        queue: queue_of(spot),
         ..state
     }
 }
@@ -119,10 +119,10 @@ pub fn owner_at(home: Home) -> Owner
     }
 }
 
-pub fn is_in_list(place: Place) -> bool
-    ensures { result ≡ is_waiting place }
+pub fn is_in_list(queue: Queue) -> bool
+    ensures { result ≡ is_waiting queue }
 {
-    matches!(place, Place::Todo | Place::Done)
+    matches!(queue, Queue::Todo | Queue::Done)
 }
 
 /// Whether the owner is a port or a note.

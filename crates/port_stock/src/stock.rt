@@ -2,7 +2,7 @@ ghost use Rattle.std.specs.Prelude.{◌≡◌, ◌↔◌, ◌+◌, ◌<◌, ◌�
 ghost use Rattle.il_machine.specs.Lists.{is_empty};
 ghost use Rattle.il_machine.specs.Headers.{in_todo, in_done, is_away, is_for, is_home_of, is_owned_by, weight};
 ghost use Rattle.il_machine.specs.Buffers.{is_block, load_in};
-ghost use Rattle.il_machine.specs.Stock.{added, given, made_header, no_stock, populated, pulled, pushed, removed, sent, withdrawn};
+ghost use Rattle.il_machine.specs.Stock.{added, header_given, made_header, no_stock, header_made, todo_pulled, pushed, removed, done_pulled, header_unmade};
 ghost use Rattle.header_core.specs.BufferHeader.{fresh, is_clients, own_memory};
 ghost use Rattle.stock_laws.specs.Changes.{done_cleared, marked_first, todo_cleared};
 ghost use Rattle.header_core.specs.Blocks.{IsSameRegion};
@@ -17,7 +17,7 @@ use crate::ports::Firsts;
 use crate::{OutOfMemory, entries, ports};
 use block_region::Region;
 use header_core::{Header, Key, Memory, Store};
-use il_machine::{HeaderState, Home, Mark, Owner, Place, PortKey, Spot};
+use il_machine::{HeaderState, Home, Mark, Owner, PortKey, Queue, Spot};
 use std::alloc::Global;
 use std::marker::Model;
 
@@ -36,9 +36,9 @@ pub struct Stock {
 }
 
 impl Model for Stock {
-    ghost use Rattle.port_stock.specs.Kept.{Kept};
+    ghost use Rattle.port_stock.specs.Kept.{StockKept};
 
-    ghost Value = { Kept };
+    ghost Value = { StockKept };
 
     ghost use Rattle.std.specs.Prelude.{vec_capacity};
     ghost use Rattle.port_stock.specs.Entries.{headers_of};
@@ -123,7 +123,7 @@ impl Stock {
     }
 
     /// Makes a header for the port, and for the other port of its tunnel, of the client's own memory or of a free block.
-    pub fn populate(
+    pub fn make_header(
         &mut self,
         port: PortKey,
         peer: Option<PortKey>,
@@ -146,7 +146,7 @@ impl Stock {
         ensures new_number { (stocked self.old).headers.header (stocked self.old).next ≡ None }
         ensures outside { IsOutside result (stocked self.new) }
         ensures stock { stocked self.new
-            ≡ populated (made_header (stocked self.old).next port peer home size (is_some memory)) (stocked self.old) }
+            ≡ header_made (made_header (stocked self.old).next port peer home size (is_some memory)) (stocked self.old) }
     {
         let number = self.next;
         let store = Store::of(&mut self.region, memory);
@@ -156,7 +156,7 @@ impl Stock {
             peer,
             home,
             owner: owner_at(home),
-            place: Place::Out,
+            queue: Queue::Out,
             size,
             client_memory: store.is_clients(),
         };
@@ -173,11 +173,11 @@ impl Stock {
     }
 
     /// Unmakes a header. Its block is free again, and memory of the client's own comes back.
-    pub fn withdraw(&mut self, header: Header) -> Option<Memory>
+    pub fn unmake_header(&mut self, header: Header) -> Option<Memory>
         requires { IsOutside header (stocked self.old) }
         ensures memory { result ≡ header.held.memory }
         ensures own { is_some result ≡ is_clients header.store }
-        ensures stock { stocked self.new ≡ withdrawn header.held.number (stocked self.old) }
+        ensures stock { stocked self.new ≡ header_unmade header.held.number (stocked self.old) }
     {
         let before = entries::remove(&mut self.entries, header.id());
         let made_for = (before.port, before.peer);
@@ -186,12 +186,12 @@ impl Stock {
     }
 
     /// The front of `todo`, which leaves it.
-    pub fn pull_work(&mut self, port: PortKey) -> Option<Header>
+    pub fn pull_todo(&mut self, port: PortKey) -> Option<Header>
         requires { IsPort port (stocked self.old) }
         ensures front { option_map number_of result ≡ slice_get ((stocked self.old).headers.todo port) 0 }
         ensures was { IfSome result (λ header. IsFrom (in_todo port) header (stocked self.old)) }
         ensures outside { IfSome result (λ header. IsOutside header (stocked self.new)) }
-        ensures stock { stocked self.new ≡ pulled port (stocked self.old) }
+        ensures stock { stocked self.new ≡ todo_pulled port (stocked self.old) }
     {
         let Some(number) = ports::pull(&self.firsts, &mut self.ports, port) else {
             return None;
@@ -200,12 +200,12 @@ impl Stock {
     }
 
     /// The front of `done`, which leaves it.
-    pub fn send_front(&mut self, port: PortKey) -> Option<Header>
+    pub fn pull_done(&mut self, port: PortKey) -> Option<Header>
         requires { IsPort port (stocked self.old) }
         ensures front { option_map number_of result ≡ slice_get ((stocked self.old).headers.done port) 0 }
         ensures was { IfSome result (λ header. IsFrom (in_done port) header (stocked self.old)) }
         ensures outside { IfSome result (λ header. IsOutside header (stocked self.new)) }
-        ensures stock { stocked self.new ≡ sent port (stocked self.old) }
+        ensures stock { stocked self.new ≡ done_pulled port (stocked self.old) }
     {
         let Some(number) = ports::send(&self.firsts, &mut self.ports, port) else {
             return None;
@@ -214,7 +214,7 @@ impl Stock {
     }
 
     /// Puts a header that is in no list at the spot of a port that it was made for.
-    pub fn push_work(&mut self, port: PortKey, header: Header, spot: Spot)
+    pub fn push_header(&mut self, port: PortKey, header: Header, spot: Spot)
         requires port { IsPort port (stocked self.old) }
         requires outside { IsOutside header (stocked self.old) }
         requires made_for { IsMadeFor port header (stocked self.old) }
@@ -235,10 +235,10 @@ impl Stock {
     }
 
     /// Gives a header that is in no list to an owner that is no port.
-    pub fn set_out(&mut self, id: u64, owner: Owner)
+    pub fn give_header(&mut self, id: u64, owner: Owner)
         requires outside { IsOut id (stocked self.old) }
         requires owner { is_port owner ≡ false }
-        ensures { stocked self.new ≡ given id owner (stocked self.old) }
+        ensures { stocked self.new ≡ header_given id owner (stocked self.old) }
     {
         let before = entries::give(&mut self.entries, id, owner);
         let after = HeaderState { owner, ..before };

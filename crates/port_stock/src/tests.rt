@@ -52,7 +52,7 @@ fn make(stock: &mut Stock, bytes: Vec<u8>) -> Header
     ensures mark { result.held.mark ≡ None }
     ensures stock { stocked stock.new ≡ one_header (stocked stock.old).key }
 {
-    stock.populate(INPUT, None, Home::Client, Some(Memory::new(bytes)), 6)
+    stock.make_header(INPUT, None, Home::Client, Some(Memory::new(bytes)), 6)
 }
 
 /// The header waits in `todo`, is marked there, and leaves it.
@@ -65,9 +65,9 @@ fn pass_todo(stock: &mut Stock, header: Header) -> (Header, bool)
     ensures number { result.0.held.number ≡ 0 }
     ensures left { IsLeft (stocked stock.new) }
 {
-    stock.push_work(INPUT, header, Spot::TodoBack);
+    stock.push_header(INPUT, header, Spot::TodoBack);
     let marked = stock.mark_first(INPUT, MARK);
-    match stock.pull_work(INPUT) {
+    match stock.pull_todo(INPUT) {
         Some(header) => (header, marked),
         None => unreachable!(),
     }
@@ -82,13 +82,13 @@ fn pass_done(stock: &mut Stock, header: Header) -> (Header, bool)
     ensures number { result.0.held.number ≡ 0 }
     ensures left { IsLeft (stocked stock.new) }
 {
-    stock.push_work(INPUT, header, Spot::DoneBack);
+    stock.push_header(INPUT, header, Spot::DoneBack);
     let waits = stock.has_done(INPUT);
     stock.clear_done(INPUT);
-    let Some(header) = stock.send_front(INPUT) else {
+    let Some(header) = stock.pull_done(INPUT) else {
         unreachable!()
     };
-    stock.set_out(0, Owner::Client);
+    stock.give_header(0, Owner::Client);
     (header, waits)
 }
 
@@ -109,7 +109,7 @@ fn finish(mut stock: Stock, header: Header) -> Option<Memory>
     requires left { IsLeft (stocked stock) }
     ensures { result ≡ header.held.memory }
 {
-    let memory = stock.withdraw(header);
+    let memory = stock.unmake_header(header);
     stock.remove_ports(3);
     stock.close();
     memory
@@ -119,9 +119,9 @@ fn finish(mut stock: Stock, header: Header) -> Option<Memory>
 fn end_waiting(mut stock: Stock) -> u64
     requires { stocked stock ≡ two_ports (stocked stock).key }
 {
-    let header = stock.populate(INPUT, None, Home::Client, None, 6);
+    let header = stock.make_header(INPUT, None, Home::Client, None, 6);
     let own = header.is_clients_memory();
-    stock.push_work(INPUT, header, Spot::TodoBack);
+    stock.push_header(INPUT, header, Spot::TodoBack);
     let out = stock.blocks();
     stock.close();
     if own { 0 } else { out }

@@ -83,13 +83,13 @@ fn pack_samples<S: Source, K: Sink>(
     law: Law,
     frames: u64,
 ) -> Result<(), RtpFault>
-    requires within { S.place src.old + frames ≤ S.size src.old }
+    requires within { S.offset src.old + frames ≤ S.size src.old }
     requires few { frames ≤ 67108864 }
     ensures whole { WhereTold (S.told src.old) (λ bytes. OnOk result (
-        K.told snk.new ≡ append_known (K.told snk.old) (texts_of law (take frames (drop (S.place src.old) bytes)) 0 (packet_count frames)))) }
+        K.told snk.new ≡ append_known (K.told snk.old) (texts_of law (take frames (drop (S.offset src.old) bytes)) 0 (packet_count frames)))) }
     ensures front { WhereTold (S.told src.old) (λ bytes.
-        AppendsFront (K.told snk.old) (K.told snk.new) (texts_of law (take frames (drop (S.place src.old) bytes)) 0 (packet_count frames))) }
-    ensures stop { IfErr result (IsStop (S.size src.old) (S.ends src.old) (S.place src.old)
+        AppendsFront (K.told snk.old) (K.told snk.new) (texts_of law (take frames (drop (S.offset src.old) bytes)) 0 (packet_count frames))) }
+    ensures stop { IfErr result (IsStop (S.size src.old) (S.ends src.old) (S.offset src.old)
         (S.faults src.old) (S.faults src.new) (K.faults snk.old) (K.faults snk.new)) }
     ensures told { S.told src.new ≡ S.told src.old }
     ensures ends { S.ends src.new ≡ S.ends src.old }
@@ -129,19 +129,19 @@ fn pack_piece<S: Source, K: Sink>(
     samples: &mut [u8],
     records: &mut [u8],
 ) -> Result<(), RtpFault>
-    requires within { S.place src.old + length samples.old ≤ S.size src.old }
+    requires within { S.offset src.old + length samples.old ≤ S.size src.old }
     requires few { first ≤ 419431 }
     requires piece { length samples.old ≤ 20480 }
     requires room { length records.old ≡ 22272 }
     ensures whole { WhereTold (S.told src.old) (λ bytes. (all : List ℕ) →
-        take (length samples.old) (drop (S.place src.old) bytes) ≡ take (160 * packet_count (length samples.old)) (drop (160 * first) all) →
+        take (length samples.old) (drop (S.offset src.old) bytes) ≡ take (160 * packet_count (length samples.old)) (drop (160 * first) all) →
         OnOk result (K.told snk.new ≡ append_known (K.told snk.old) (texts_of law all first (packet_count (length samples.old))))) }
     ensures front { WhereTold (S.told src.old) (λ bytes. (all : List ℕ) →
-        take (length samples.old) (drop (S.place src.old) bytes) ≡ take (160 * packet_count (length samples.old)) (drop (160 * first) all) →
+        take (length samples.old) (drop (S.offset src.old) bytes) ≡ take (160 * packet_count (length samples.old)) (drop (160 * first) all) →
         AppendsFront (K.told snk.old) (K.told snk.new) (texts_of law all first (packet_count (length samples.old)))) }
-    ensures place { OnOk result (S.place src.new ≡ S.place src.old + length samples.old) }
-    ensures reached { WhereTold (S.ends src.old) (λ end. OnOk result (S.place src.new ≤ max end (S.place src.old))) }
-    ensures stop { IfErr result (IsStop (S.size src.old) (S.ends src.old) (S.place src.old)
+    ensures offset { OnOk result (S.offset src.new ≡ S.offset src.old + length samples.old) }
+    ensures reached { WhereTold (S.ends src.old) (λ end. OnOk result (S.offset src.new ≤ max end (S.offset src.old))) }
+    ensures stop { IfErr result (IsStop (S.size src.old) (S.ends src.old) (S.offset src.old)
         (S.faults src.old) (S.faults src.new) (K.faults snk.old) (K.faults snk.new)) }
     ensures told { S.told src.new ≡ S.told src.old }
     ensures ends { S.ends src.new ≡ S.ends src.old }

@@ -18,19 +18,19 @@ pub(crate) enum Record {
 /// Reads the next record of a list.
 pub(crate) fn read_record<S: Source>(src: &mut S, buffer: &mut [u8]) -> Result<Record, RtpFault>
     requires room { length buffer.old ≡ 65535 }
-    requires reached { WhereTold (S.ends src.old) (λ end. S.place src.old ≤ end) }
+    requires reached { WhereTold (S.ends src.old) (λ end. S.offset src.old ≤ end) }
     ensures record { WhereTold (S.told src.old) (λ bytes. IfOk result (
-        RecordAt buffer.new (drop (S.place src.old) bytes) (drop (S.place src.new) bytes))) }
-    ensures takes { IfOk result (RecordTakes (S.size src.old - S.place src.old) (S.size src.old - S.place src.new)) }
+        RecordAt buffer.new (drop (S.offset src.old) bytes) (drop (S.offset src.new) bytes))) }
+    ensures takes { IfOk result (RecordTakes (S.size src.old - S.offset src.old) (S.size src.old - S.offset src.new)) }
     ensures stop { IfErr result (StopsReading (S.size src.old) (S.ends src.old) (S.faults src.old) (S.faults src.new)) }
-    ensures reached { WhereTold (S.ends src.old) (λ end. OnOk result (S.place src.new ≤ end)) }
+    ensures reached { WhereTold (S.ends src.old) (λ end. OnOk result (S.offset src.new ≤ end)) }
     ensures told { S.told src.new ≡ S.told src.old }
     ensures ends { S.ends src.new ≡ S.ends src.old }
     ensures size { S.size src.new ≡ S.size src.old }
     ensures later { S.faults src.old ≤ S.faults src.new }
     ensures stands { OnOk result (S.faults src.new ≡ S.faults src.old) }
 {
-    let left = src.size() - src.place();
+    let left = src.size() - src.offset();
     if left == 0 {
         return Ok(Record::End);
     }

@@ -67,26 +67,26 @@ impl Unpacker {
         buffer: &mut [u8],
     ) -> Result<Option<Piece>, RtpFault>
         requires room { length buffer.old ≡ 65535 }
-        requires few { self.old.packets + room_left self.old (S.size src.old - S.place src.old) ≤ 2 ^ 27 }
-        requires reached { WhereTold (S.ends src.old) (λ end. S.place src.old ≤ end) }
+        requires few { self.old.packets + room_left self.old (S.size src.old - S.offset src.old) ≤ 2 ^ 27 }
+        requires reached { WhereTold (S.ends src.old) (λ end. S.offset src.old ≤ end) }
         // Where the source tells its bytes
         ensures given { WhereTold (S.told src.old) (λ bytes. IfOk result (λ given. IfSome given (λ piece. (silence : ℕ) →
-            codes_left silence self.old (drop (S.place src.old) bytes)
-            ≡ replicate piece.silence silence ++ piece.payload.items ++ codes_left silence self.new (drop (S.place src.new) bytes)))) }
+            codes_left silence self.old (drop (S.offset src.old) bytes)
+            ≡ replicate piece.silence silence ++ piece.payload.items ++ codes_left silence self.new (drop (S.offset src.new) bytes)))) }
         ensures counts { WhereTold (S.told src.old) (λ bytes. IfOk result (λ given. IfSome given (λ _.
-            counts_in (course_left self.old (drop (S.place src.old) bytes)) ≡ counts_in (course_left self.new (drop (S.place src.new) bytes))))) }
+            counts_in (course_left self.old (drop (S.offset src.old) bytes)) ≡ counts_in (course_left self.new (drop (S.offset src.new) bytes))))) }
         ensures none { WhereTold (S.told src.old) (λ bytes. IfOk result (λ given. IfNone given ((silence : ℕ) →
-            codes_left silence self.old (drop (S.place src.old) bytes) ≡ []))) }
+            codes_left silence self.old (drop (S.offset src.old) bytes) ≡ []))) }
         ensures all { WhereTold (S.told src.old) (λ bytes. IfOk result (λ given. IfNone given (
-            counts_in (course_left self.old (drop (S.place src.old) bytes)) ≡ counts_in (course_of self.new)))) }
+            counts_in (course_left self.old (drop (S.offset src.old) bytes)) ≡ counts_in (course_of self.new)))) }
 
         // Over every source
         ensures short { IfOk result (λ given. IfSome given (λ piece. (piece.silence ≤ 80000) × (vec_len piece.payload ≤ 4096))) }
         ensures nearer { IfOk result (λ given. IfSome given (λ _.
-            steps_left self.new (S.size src.old - S.place src.new) < steps_left self.old (S.size src.old - S.place src.old))) }
-        ensures few { OnOk result (self.new.packets + room_left self.new (S.size src.old - S.place src.new) ≤ 2 ^ 27) }
+            steps_left self.new (S.size src.old - S.offset src.new) < steps_left self.old (S.size src.old - S.offset src.old))) }
+        ensures few { OnOk result (self.new.packets + room_left self.new (S.size src.old - S.offset src.new) ≤ 2 ^ 27) }
         ensures stop { IfErr result (StopsReading (S.size src.old) (S.ends src.old) (S.faults src.old) (S.faults src.new)) }
-        ensures reached { WhereTold (S.ends src.old) (λ end. OnOk result (S.place src.new ≤ end)) }
+        ensures reached { WhereTold (S.ends src.old) (λ end. OnOk result (S.offset src.new ≤ end)) }
         ensures told { S.told src.new ≡ S.told src.old }
         ensures ends { S.ends src.new ≡ S.ends src.old }
         ensures size { S.size src.new ≡ S.size src.old }
@@ -138,15 +138,15 @@ impl Unpacker {
     ) -> Result<(), RtpFault>
         requires room { length buffer.old ≡ 65535 }
         requires going { self.old.ended ≡ false }
-        requires few { self.old.packets + room_left self.old (S.size src.old - S.place src.old) ≤ 2 ^ 27 }
-        requires reached { WhereTold (S.ends src.old) (λ end. S.place src.old ≤ end) }
+        requires few { self.old.packets + room_left self.old (S.size src.old - S.offset src.old) ≤ 2 ^ 27 }
+        requires reached { WhereTold (S.ends src.old) (λ end. S.offset src.old ≤ end) }
         ensures left { WhereTold (S.told src.old) (λ bytes. OnOk result (
-            course_left self.new (drop (S.place src.new) bytes) ≡ course_left self.old (drop (S.place src.old) bytes))) }
-        ensures few { OnOk result (self.new.packets + room_left self.new (S.size src.old - S.place src.new) ≤ 2 ^ 27) }
-        ensures nearer { OnOk result (room_left self.new (S.size src.old - S.place src.new) < room_left self.old (S.size src.old - S.place src.old)) }
-        ensures steps { OnOk result (steps_left self.new (S.size src.old - S.place src.new) < steps_left self.old (S.size src.old - S.place src.old)) }
+            course_left self.new (drop (S.offset src.new) bytes) ≡ course_left self.old (drop (S.offset src.old) bytes))) }
+        ensures few { OnOk result (self.new.packets + room_left self.new (S.size src.old - S.offset src.new) ≤ 2 ^ 27) }
+        ensures nearer { OnOk result (room_left self.new (S.size src.old - S.offset src.new) < room_left self.old (S.size src.old - S.offset src.old)) }
+        ensures steps { OnOk result (steps_left self.new (S.size src.old - S.offset src.new) < steps_left self.old (S.size src.old - S.offset src.old)) }
         ensures stop { IfErr result (StopsReading (S.size src.old) (S.ends src.old) (S.faults src.old) (S.faults src.new)) }
-        ensures reached { WhereTold (S.ends src.old) (λ end. OnOk result (S.place src.new ≤ end)) }
+        ensures reached { WhereTold (S.ends src.old) (λ end. OnOk result (S.offset src.new ≤ end)) }
         ensures end { self.new.end ≡ self.old.end }
         ensures told { S.told src.new ≡ S.told src.old }
         ensures ends { S.ends src.new ≡ S.ends src.old }

@@ -93,7 +93,7 @@ fn check_magic<S: Source>(src: &mut S) -> Result<(), RtpFault>
     ensures begins { WhereTold (S.told src.old) (λ bytes. OnOk result ((take 8 bytes ≡ magic) × (length bytes ≤ most_bytes))) }
     ensures other { WhereTold (S.told src.old) (λ bytes. UnlessStopped result (λ r. IfErr r (λ fault. unpacked bytes ≡ Err fault))) }
     ensures few { OnOk result (S.size src.old ≤ most_bytes) }
-    ensures place { OnOk result (S.place src.new ≡ 8) }
+    ensures offset { OnOk result (S.offset src.new ≡ 8) }
     ensures within { OnOk result (8 ≤ S.size src.old) }
     ensures reached { WhereTold (S.ends src.old) (λ end. OnOk result (8 ≤ end)) }
     ensures too_large { most_bytes < S.size src.old → result ≡ Err (RtpFault.Head (WavFault.TooLarge (S.size src.old))) }
@@ -136,8 +136,8 @@ fn survey<S: Source>(
 ) -> Result<(Law, Unpacked), RtpFault>
     requires room { length buffer.old ≡ 65535 }
     requires few { S.size src.old ≤ most_bytes }
-    requires reached { WhereTold (S.ends src.old) (λ end. S.place src.old ≤ end) }
-    ensures answer { WhereTold (S.told src.old) (λ bytes. UnlessStopped result (λ r. r ≡ survey_of (drop (S.place src.old) bytes))) }
+    requires reached { WhereTold (S.ends src.old) (λ end. S.offset src.old ≤ end) }
+    ensures answer { WhereTold (S.told src.old) (λ bytes. UnlessStopped result (λ r. r ≡ survey_of (drop (S.offset src.old) bytes))) }
     ensures few { IfOk result (λ found. found.1.frames ≤ most_codes) }
     ensures cause { IfErr result (EndsUnpacking (S.size src.old) (S.ends src.old) (S.faults src.old) (S.faults src.new) 0 0) }
     ensures told { S.told src.new ≡ S.told src.old }
@@ -195,11 +195,11 @@ fn write_wav<S: Source, K: Sink>(
     requires room { length buffer.old ≡ 65535 }
     requires few { S.size src.old ≤ most_bytes }
     requires short { frames ≤ most_codes }
-    requires reached { WhereTold (S.ends src.old) (λ end. S.place src.old ≤ end) }
-    ensures file { WhereTold (S.told src.old) (λ bytes. frames ≡ length (whole_codes (silence_of law) (drop (S.place src.old) bytes)) →
-        OnOk result (K.told snk.new ≡ append_known (K.told snk.old) (written (format_of_law law) (whole_codes (silence_of law) (drop (S.place src.old) bytes))))) }
-    ensures front { WhereTold (S.told src.old) (λ bytes. frames ≡ length (whole_codes (silence_of law) (drop (S.place src.old) bytes)) →
-        AppendsFront (K.told snk.old) (K.told snk.new) (written (format_of_law law) (whole_codes (silence_of law) (drop (S.place src.old) bytes)))) }
+    requires reached { WhereTold (S.ends src.old) (λ end. S.offset src.old ≤ end) }
+    ensures file { WhereTold (S.told src.old) (λ bytes. frames ≡ length (whole_codes (silence_of law) (drop (S.offset src.old) bytes)) →
+        OnOk result (K.told snk.new ≡ append_known (K.told snk.old) (written (format_of_law law) (whole_codes (silence_of law) (drop (S.offset src.old) bytes))))) }
+    ensures front { WhereTold (S.told src.old) (λ bytes. frames ≡ length (whole_codes (silence_of law) (drop (S.offset src.old) bytes)) →
+        AppendsFront (K.told snk.old) (K.told snk.new) (written (format_of_law law) (whole_codes (silence_of law) (drop (S.offset src.old) bytes)))) }
     ensures stop { IfErr result (StopsMoving (S.size src.old) (S.ends src.old) (S.faults src.old) (S.faults src.new) (K.faults snk.old) (K.faults snk.new)) }
     ensures told { S.told src.new ≡ S.told src.old }
     ensures ends { S.ends src.new ≡ S.ends src.old }
@@ -239,11 +239,11 @@ fn write_codes<S: Source, K: Sink>(
 ) -> Result<(), RtpFault>
     requires room { length buffer.old ≡ 65535 }
     requires few { S.size src.old ≤ most_bytes }
-    requires reached { WhereTold (S.ends src.old) (λ end. S.place src.old ≤ end) }
+    requires reached { WhereTold (S.ends src.old) (λ end. S.offset src.old ≤ end) }
     ensures whole { WhereTold (S.told src.old) (λ bytes.
-        OnOk result (K.told snk.new ≡ append_known (K.told snk.old) (whole_codes (silence_of law) (drop (S.place src.old) bytes)))) }
+        OnOk result (K.told snk.new ≡ append_known (K.told snk.old) (whole_codes (silence_of law) (drop (S.offset src.old) bytes)))) }
     ensures front { WhereTold (S.told src.old) (λ bytes.
-        AppendsFront (K.told snk.old) (K.told snk.new) (whole_codes (silence_of law) (drop (S.place src.old) bytes))) }
+        AppendsFront (K.told snk.old) (K.told snk.new) (whole_codes (silence_of law) (drop (S.offset src.old) bytes))) }
     ensures stop { IfErr result (StopsMoving (S.size src.old) (S.ends src.old) (S.faults src.old) (S.faults src.new) (K.faults snk.old) (K.faults snk.new)) }
     ensures told { S.told src.new ≡ S.told src.old }
     ensures ends { S.ends src.new ≡ S.ends src.old }

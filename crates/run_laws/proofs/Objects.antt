@@ -11,7 +11,7 @@ use Rattle.il_machine.specs.Headers.{Seen}
 use Rattle.il_machine.specs.Look.{look}
 use Rattle.il_machine.specs.States.{is_loaded, is_invalid}
 use Rattle.il_machine.specs.Due.{each_port, ClosesTo}
-use Rattle.il_machine.specs.Ports.{unmade, is_joined}
+use Rattle.il_machine.specs.Ports.{has_no_header, is_joined}
 use Rattle.il_machine.specs.Answers.{Answers}
 use Rattle.il_machine.specs.Components.{FreeHandle, free_refusal, without_component}
 use Rattle.il_machine.specs.Notes.{Took, TookBusy, TakeNote, TakeFrom}
@@ -39,10 +39,10 @@ out_busy w v h result out s =
 
 free_out : (headers : Seen) (c : Component) → c.client_out ≡ true → free_refusal headers c ≡ None → ⊥
 free_out headers c out n =
-    let a = (passed (not (is_loaded c.state || is_invalid c.state) || (is_some c.pending || (not (each_port c (unmade headers)) || (list_any is_joined (ports_of c) || (is_some c.work || (c.client_out || false)))))) _ _ n).0 in
+    let a = (passed (not (is_loaded c.state || is_invalid c.state) || (is_some c.pending || (not (each_port c (has_no_header headers)) || (list_any is_joined (ports_of c) || (is_some c.work || (c.client_out || false)))))) _ _ n).0 in
     let b = not_either (not (is_loaded c.state || is_invalid c.state)) _ a in
     let d = not_either (is_some c.pending) _ b.1 in
-    let e = not_either (not (each_port c (unmade headers))) _ d.1 in
+    let e = not_either (not (each_port c (has_no_header headers))) _ d.1 in
     let f = not_either (list_any is_joined (ports_of c)) _ e.1 in
     let k = not_either (is_some c.work) _ f.1 in
     let m = not_either c.client_out _ k.1 in

@@ -2,12 +2,12 @@
 use Rattle.std.proofs.Common.{◌≡◌, ℕ, Bool, true, false, ◌&&◌, List, [], ◌∷◌, Option, Some, None, option_map, slice_get, refl, sym, ◌∙◌, ap, arith, inl, inr}
 use Rattle.std.proofs.lemmas.Bool.Decides.{nat_tests, eqb_tells}
 use Rattle.il_machine.specs.declared.port.PortKey.{PortKey}
-use Rattle.il_machine.specs.declared.header.Place.{Place}
-use Rattle.il_machine.specs.declared.header.Place.TheVariants.{Out, Todo, Done}
+use Rattle.il_machine.specs.declared.header.Queue.{Queue}
+use Rattle.il_machine.specs.declared.header.Queue.TheVariants.{Out, Todo, Done}
 use Rattle.il_machine.specs.declared.header.HeaderState.{HeaderState}
 use Rattle.il_machine.specs.World.{HeaderRecord, Load}
 use Rattle.il_machine.specs.Headers.{Seen, seen, numbers, find_header, load_at, load_of, changed, has_number, Once, state_of, is_state, in_todo, in_done, in_unmarked, is_todo, is_done, is_owned_by, same_key}
-use Rattle.il_machine.specs.Stock.{Stocked, StandsFor, at_key, at_number, with_state, without_number, state_out, pulled, pulled_front, sent, sent_front}
+use Rattle.il_machine.specs.Stock.{Stocked, StandsFor, at_key, at_number, with_state, without_number, state_out, todo_pulled, todo_front_pulled, done_pulled, done_front_pulled}
 use Rattle.stock_laws.specs.Seeing.{Shows}
 use Rattle.stock_laws.specs.Changes.{out_of_list, front_out}
 use Rattle.stock_laws.proofs.Flat.{numbers-changed, numbers-changed_away, find-changed, once-changed}
@@ -73,31 +73,31 @@ and_both true true e = (refl, refl)
 and_both true false e = absurd cc
 and_both false b e = absurd cc
 
-place_tells : (p : Place) → is_todo p ≡ true → is_done p ≡ false
-place_tells Out e = refl
-place_tells Todo e = refl
-place_tells Done e = absurd cc
+queue_tells : (p : Queue) → is_todo p ≡ true → is_done p ≡ false
+queue_tells Out e = refl
+queue_tells Todo e = refl
+queue_tells Done e = absurd cc
 
-done_tells : (p : Place) → is_done p ≡ true → is_todo p ≡ false
+done_tells : (p : Queue) → is_done p ≡ true → is_todo p ≡ false
 done_tells Out e = refl
 done_tells Todo e = absurd cc
 done_tells Done e = refl
 
 pub other_todo : (key k : PortKey) (r : HeaderRecord) → is_state (in_todo key) r ≡ true → same_key key k ≡ false → is_state (in_todo k) r ≡ false
 other_todo key k r h d =
-    let b = and_both (is_todo r.state.place) (is_owned_by key r.state.owner) h in
-    rw (other_owner key k r.state.owner b.1 d) (and_false_right (is_todo r.state.place))
+    let b = and_both (is_todo r.state.queue) (is_owned_by key r.state.owner) h in
+    rw (other_owner key k r.state.owner b.1 d) (and_false_right (is_todo r.state.queue))
 
 other_done : (key k : PortKey) (r : HeaderRecord) → is_state (in_done key) r ≡ true → same_key key k ≡ false → is_state (in_done k) r ≡ false
 other_done key k r h d =
-    let b = and_both (is_done r.state.place) (is_owned_by key r.state.owner) h in
-    rw (other_owner key k r.state.owner b.1 d) (and_false_right (is_done r.state.place))
+    let b = and_both (is_done r.state.queue) (is_owned_by key r.state.owner) h in
+    rw (other_owner key k r.state.owner b.1 d) (and_false_right (is_done r.state.queue))
 
 pub todo_not_done : (key k : PortKey) (r : HeaderRecord) → is_state (in_todo key) r ≡ true → is_state (in_done k) r ≡ false
-todo_not_done key k r h = rw (place_tells r.state.place (and_both (is_todo r.state.place) (is_owned_by key r.state.owner) h).0) refl
+todo_not_done key k r h = rw (queue_tells r.state.queue (and_both (is_todo r.state.queue) (is_owned_by key r.state.owner) h).0) refl
 
 pub done_not_todo : (key k : PortKey) (r : HeaderRecord) → is_state (in_done key) r ≡ true → is_state (in_todo k) r ≡ false
-done_not_todo key k r h = rw (done_tells r.state.place (and_both (is_done r.state.place) (is_owned_by key r.state.owner) h).0) refl
+done_not_todo key k r h = rw (done_tells r.state.queue (and_both (is_done r.state.queue) (is_owned_by key r.state.owner) h).0) refl
 
 unmarked_in_todo : (k : PortKey) (r : HeaderRecord) → is_state (in_todo k) r ≡ false → in_unmarked k r ≡ false
 unmarked_in_todo k r h = rw h refl
@@ -142,7 +142,7 @@ out_carries n hs r f e k m l h = elim (eqb_tells m n) [
 ]
 
 pull_front_stands : (s : Stocked) (hs : List HeaderRecord) (key : PortKey) (n : ℕ) (ns : List ℕ) → StandsFor s hs → s.headers.todo key ≡ n ∷ ns
-    → StandsFor (pulled_front key (n ∷ ns) s) (changed n out_of_list hs)
+    → StandsFor (todo_front_pulled key (n ∷ ns) s) (changed n out_of_list hs)
 pull_front_stands s hs key n ns S e =
     let h : numbers (is_state (in_todo key)) hs ≡ n ∷ ns = ap (λ (v : Seen). v.todo key) S.looks ∙ e in
     let F = fronts (is_state (in_todo key)) n ns hs S.once h in
@@ -156,9 +156,9 @@ pull_front_stands s hs key n ns S e =
       once = once-changed n out_of_list hs (λ _. refl) S.once;
     }
 
-pub pull_stands : (s : Stocked) (hs : List HeaderRecord) (key : PortKey) → StandsFor s hs → StandsFor (pulled key s) (front_out (s.headers.todo key) hs)
+pub pull_stands : (s : Stocked) (hs : List HeaderRecord) (key : PortKey) → StandsFor s hs → StandsFor (todo_pulled key s) (front_out (s.headers.todo key) hs)
 pull_stands s hs key S =
-    elim (s.headers.todo key) as (λ v. s.headers.todo key ≡ v → StandsFor (pulled_front key v s) (front_out v hs)) [ [] ↦ λ e. S | (n ∷ ns) ↦ λ e. pull_front_stands s hs key n ns S e ] refl
+    elim (s.headers.todo key) as (λ v. s.headers.todo key ≡ v → StandsFor (todo_front_pulled key v s) (front_out v hs)) [ [] ↦ λ e. S | (n ∷ ns) ↦ λ e. pull_front_stands s hs key n ns S e ] refl
 
 -- ---- the front of done leaves it
 
@@ -180,7 +180,7 @@ sent_seen hs key n ns once h =
     })
 
 send_front_stands : (s : Stocked) (hs : List HeaderRecord) (key : PortKey) (n : ℕ) (ns : List ℕ) → StandsFor s hs → s.headers.done key ≡ n ∷ ns
-    → StandsFor (sent_front key (n ∷ ns) s) (changed n out_of_list hs)
+    → StandsFor (done_front_pulled key (n ∷ ns) s) (changed n out_of_list hs)
 send_front_stands s hs key n ns S e =
     let h : numbers (is_state (in_done key)) hs ≡ n ∷ ns = ap (λ (v : Seen). v.done key) S.looks ∙ e in
     let F = fronts (is_state (in_done key)) n ns hs S.once h in
@@ -191,9 +191,9 @@ send_front_stands s hs key n ns S e =
       once = once-changed n out_of_list hs (λ _. refl) S.once;
     }
 
-pub send_stands : (s : Stocked) (hs : List HeaderRecord) (key : PortKey) → StandsFor s hs → StandsFor (sent key s) (front_out (s.headers.done key) hs)
+pub send_stands : (s : Stocked) (hs : List HeaderRecord) (key : PortKey) → StandsFor s hs → StandsFor (done_pulled key s) (front_out (s.headers.done key) hs)
 send_stands s hs key S =
-    elim (s.headers.done key) as (λ v. s.headers.done key ≡ v → StandsFor (sent_front key v s) (front_out v hs)) [ [] ↦ λ e. S | (n ∷ ns) ↦ λ e. send_front_stands s hs key n ns S e ] refl
+    elim (s.headers.done key) as (λ v. s.headers.done key ≡ v → StandsFor (done_front_pulled key v s) (front_out v hs)) [ [] ↦ λ e. S | (n ∷ ns) ↦ λ e. send_front_stands s hs key n ns S e ] refl
 
 -- ---- what the front is, in what is kept
 

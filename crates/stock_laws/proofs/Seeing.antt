@@ -2,7 +2,7 @@
 use Rattle.std.proofs.Common.{◌≡◌, ℕ, ◌+◌, ◌-◌, Bool, true, false, ◌&&◌, nat_eq, List, [], ◌∷◌, ◌++◌, Option, Some, None, option_map, is_none, if◌then◌else◌, refl, sym, ◌∙◌, ap, arith, inl, inr, append-nil}
 use Rattle.std.proofs.lemmas.Bool.Decides.{nat_tests, eqb_tells}
 use Rattle.il_machine.specs.declared.port.PortKey.{PortKey}
-use Rattle.il_machine.specs.declared.header.Place.TheVariants.{Out}
+use Rattle.il_machine.specs.declared.header.Queue.TheVariants.{Out}
 use Rattle.il_machine.specs.declared.header.Spot.{Spot}
 use Rattle.il_machine.specs.declared.header.Spot.TheVariants.{TodoBack, TodoFront, DoneBack}
 use Rattle.il_machine.specs.declared.header.HeaderState.{HeaderState}
@@ -14,18 +14,18 @@ use Rattle.stock_laws.proofs.Flat.{numbers-append, numbers-cons, numbers-without
 use Rattle.stock_laws.proofs.Keys.{at_key-is}
 
 -- a header that is in no list passes none of the lists' tests
-pub out_todo : (key : PortKey) (r : HeaderRecord) → r.state.place ≡ Out → is_state (in_todo key) r ≡ false
+pub out_todo : (key : PortKey) (r : HeaderRecord) → r.state.queue ≡ Out → is_state (in_todo key) r ≡ false
 out_todo key r o = rw o refl
 
-pub out_done : (key : PortKey) (r : HeaderRecord) → r.state.place ≡ Out → is_state (in_done key) r ≡ false
+pub out_done : (key : PortKey) (r : HeaderRecord) → r.state.queue ≡ Out → is_state (in_done key) r ≡ false
 out_done key r o = rw o refl
 
-pub out_unmarked : (key : PortKey) (r : HeaderRecord) → r.state.place ≡ Out → in_unmarked key r ≡ false
+pub out_unmarked : (key : PortKey) (r : HeaderRecord) → r.state.queue ≡ Out → in_unmarked key r ≡ false
 out_unmarked key r o = rw o refl
 
 -- ---- a header of the number leaves
 
-pub without_seen : (n : ℕ) (hs : List HeaderRecord) (r : HeaderRecord) → Once hs → find_header n hs ≡ Some r → r.state.place ≡ Out → seen (without n hs) ≡ with_state n None (seen hs)
+pub without_seen : (n : ℕ) (hs : List HeaderRecord) (r : HeaderRecord) → Once hs → find_header n hs ≡ Some r → r.state.queue ≡ Out → seen (without n hs) ≡ with_state n None (seen hs)
 without_seen n hs r once f o = same_seen (seen (without n hs)) (with_state n None (seen hs)) (record {
   todo = λ k. numbers-without (is_state (in_todo k)) n hs r f (out_todo k r o);
   done = λ k. numbers-without (is_state (in_done k)) n hs r f (out_done k r o);
@@ -42,7 +42,7 @@ without_seen n hs r once f o = same_seen (seen (without n hs)) (with_state n Non
 find_joined : (m n : ℕ) (x : HeaderRecord) (o : Option HeaderRecord) → x.state.number ≡ n → option_map state_of (if has_number m x then Some x else o) ≡ at_number n (Some x.state) (λ k. option_map state_of o) m
 find_joined m n x o e = grind (arith, nat_tests)
 
-pub joined_seen : (n : ℕ) (hs : List HeaderRecord) (x : HeaderRecord) → find_header n hs ≡ None → x.state.number ≡ n → x.state.place ≡ Out → seen (hs ++ x ∷ []) ≡ with_state n (Some x.state) (seen hs)
+pub joined_seen : (n : ℕ) (hs : List HeaderRecord) (x : HeaderRecord) → find_header n hs ≡ None → x.state.number ≡ n → x.state.queue ≡ Out → seen (hs ++ x ∷ []) ≡ with_state n (Some x.state) (seen hs)
 joined_seen n hs x gone e o =
     let g : find_header x.state.number hs ≡ None = rw e gone in
     same_seen (seen (hs ++ x ∷ [])) (with_state n (Some x.state) (seen hs)) (record {
@@ -164,7 +164,7 @@ pub count_changed : (q : HeaderState → Bool) (n : ℕ) (f : HeaderRecord → H
 count_changed q n f hs r e = rw e (omega (arith, count-changed q n f hs r e, count-without q n hs r e))
 
 pub changed_seen : (n : ℕ) (f : HeaderRecord → HeaderRecord) (hs : List HeaderRecord) (r : HeaderRecord) → Once hs → find_header n hs ≡ Some r → (f r).state.number ≡ r.state.number
-    → r.state.place ≡ Out → (f r).state.place ≡ Out → seen (changed n f hs) ≡ with_state n (Some (f r).state) (seen hs)
+    → r.state.queue ≡ Out → (f r).state.queue ≡ Out → seen (changed n f hs) ≡ with_state n (Some (f r).state) (seen hs)
 changed_seen n f hs r once e num o p = same_seen (seen (changed n f hs)) (with_state n (Some (f r).state) (seen hs)) (record {
   todo = λ k. numbers-changed (is_state (in_todo k)) n f hs r e num (out_todo k (f r) p ∙ sym (out_todo k r o));
   done = λ k. numbers-changed (is_state (in_done k)) n f hs r e num (out_done k (f r) p ∙ sym (out_done k r o));

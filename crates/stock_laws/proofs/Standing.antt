@@ -3,13 +3,13 @@ use Rattle.std.proofs.Common.{◌≡◌, ◌≢◌, ℕ, List, [], ◌∷◌, �
 use Rattle.std.proofs.lemmas.Bool.Decides.{nat_tests, eqb_tells}
 use Rattle.il_machine.specs.declared.port.PortKey.{PortKey}
 use Rattle.il_machine.specs.declared.header.Owner.{Owner}
-use Rattle.il_machine.specs.declared.header.Place.TheVariants.{Out}
+use Rattle.il_machine.specs.declared.header.Queue.TheVariants.{Out}
 use Rattle.il_machine.specs.declared.header.Spot.{Spot}
 use Rattle.il_machine.specs.declared.header.Spot.TheVariants.{TodoBack, TodoFront, DoneBack}
 use Rattle.il_machine.specs.declared.header.HeaderState.{HeaderState}
 use Rattle.il_machine.specs.World.{HeaderRecord, Load}
 use Rattle.il_machine.specs.Headers.{Seen, seen, find_header, load_at, load_of, without, changed, Once, state_of, at_spot, put, put_at, state_at, loaded, given_to, state_given}
-use Rattle.il_machine.specs.Stock.{Stocked, StandsFor, no_stock, added, removed, at_number, with_state, listed, pushed, given, populated, withdrawn}
+use Rattle.il_machine.specs.Stock.{Stocked, StandsFor, no_stock, added, removed, at_number, with_state, listed, pushed, header_given, header_made, header_unmade}
 use Rattle.stock_laws.proofs.Flat.{find_number, find-append, find-without_other, find-without_same, find-changed, once-append, once-without, once-changed}
 use Rattle.stock_laws.proofs.Keys.{with_state-twice}
 use Rattle.stock_laws.proofs.Seeing.{without_seen, joined_seen, changed_seen, listed_seen, find-at_spot, carried_seen, out_unmarked}
@@ -63,7 +63,7 @@ find_beside spot n m r hs gone e d =
     let g : find_header r.state.number hs ≡ None = rw e gone in
     find-at_spot spot m r hs g ∙ grind (arith, nat_tests)
 
-put_seen : (hs : List HeaderRecord) (key : PortKey) (spot : Spot) (n : ℕ) (load : Load) (r : HeaderRecord) → Once hs → find_header n hs ≡ Some r → r.state.place ≡ Out
+put_seen : (hs : List HeaderRecord) (key : PortKey) (spot : Spot) (n : ℕ) (load : Load) (r : HeaderRecord) → Once hs → find_header n hs ≡ Some r → r.state.queue ≡ Out
     → seen (at_spot spot (put_at key spot (loaded load r)) (without n hs)) ≡ listed key spot n (is_none load.mark) (with_state n (option_map (state_at key spot) ((seen hs).header n)) (seen hs))
 put_seen hs key spot n load r once f o =
     let u = is_none load.mark in
@@ -74,7 +74,7 @@ put_seen hs key spot n load r once f o =
     ∙ (ap (listed key spot n u) (with_state-twice n st None (seen hs))
     ∙ ap (λ (o : Option HeaderState). listed key spot n u (with_state n o (seen hs))) same))
 
-push_found : (s : Stocked) (hs : List HeaderRecord) (key : PortKey) (spot : Spot) (n : ℕ) (load : Load) (r : HeaderRecord) → StandsFor s hs → find_header n hs ≡ Some r → r.state.place ≡ Out
+push_found : (s : Stocked) (hs : List HeaderRecord) (key : PortKey) (spot : Spot) (n : ℕ) (load : Load) (r : HeaderRecord) → StandsFor s hs → find_header n hs ≡ Some r → r.state.queue ≡ Out
     → StandsFor (pushed key spot n load s) (at_spot spot (put_at key spot (loaded load r)) (without n hs))
 push_found s hs key spot n load r S f o =
     let y = put_at key spot (loaded load r) in
@@ -94,21 +94,21 @@ push_found s hs key spot n load r S f o =
       once = once-at_spot spot y (without n hs) (once-without n hs S.once) g;
     }
 
-pub push_stands : (s : Stocked) (hs : List HeaderRecord) (key : PortKey) (spot : Spot) (n : ℕ) (load : Load) (h : HeaderState) → StandsFor s hs → s.headers.header n ≡ Some h → h.place ≡ Out
+pub push_stands : (s : Stocked) (hs : List HeaderRecord) (key : PortKey) (spot : Spot) (n : ℕ) (load : Load) (h : HeaderState) → StandsFor s hs → s.headers.header n ≡ Some h → h.queue ≡ Out
     → StandsFor (pushed key spot n load s) (put key spot n (loaded load) hs)
 push_stands s hs key spot n load h S e o =
     let F = found s hs n h S e in
-    let out : F.it.state.place ≡ Out = ap (λ (x : HeaderState). x.place) F.state ∙ o in
+    let out : F.it.state.queue ≡ Out = ap (λ (x : HeaderState). x.queue) F.state ∙ o in
     rw F.is (push_found s hs key spot n load F.it S F.is out)
 
 -- ---- a header that is in no list
 
-pub give_stands : (s : Stocked) (hs : List HeaderRecord) (n : ℕ) (owner : Owner) (h : HeaderState) → StandsFor s hs → s.headers.header n ≡ Some h → h.place ≡ Out
-    → StandsFor (given n owner s) (changed n (given_to owner) hs)
+pub give_stands : (s : Stocked) (hs : List HeaderRecord) (n : ℕ) (owner : Owner) (h : HeaderState) → StandsFor s hs → s.headers.header n ≡ Some h → h.queue ≡ Out
+    → StandsFor (header_given n owner s) (changed n (given_to owner) hs)
 give_stands s hs n owner h S e o =
     let F = found s hs n h S e in
     let r = F.it in
-    let out : r.state.place ≡ Out = ap (λ (x : HeaderState). x.place) F.state ∙ o in
+    let out : r.state.queue ≡ Out = ap (λ (x : HeaderState). x.queue) F.state ∙ o in
     let same : Some (state_given owner r.state) ≡ option_map (state_given owner) ((seen hs).header n) = rw F.is refl in
     record {
       looks = changed_seen n (given_to owner) hs r S.once F.is refl out refl
@@ -122,11 +122,11 @@ give_stands s hs n owner h S e o =
     }
 
 -- what a header carries doesn't matter where it is in no list
-pub load_free : (s : Stocked) (hs : List HeaderRecord) (n : ℕ) (load : Load) (h : HeaderState) → StandsFor s hs → s.headers.header n ≡ Some h → h.place ≡ Out → s.loads n ≡ None
+pub load_free : (s : Stocked) (hs : List HeaderRecord) (n : ℕ) (load : Load) (h : HeaderState) → StandsFor s hs → s.headers.header n ≡ Some h → h.queue ≡ Out → s.loads n ≡ None
     → StandsFor s (changed n (loaded load) hs)
 load_free s hs n load h S e o none =
     let F = found s hs n h S e in
-    let out : F.it.state.place ≡ Out = ap (λ (x : HeaderState). x.place) F.state ∙ o in
+    let out : F.it.state.queue ≡ Out = ap (λ (x : HeaderState). x.queue) F.state ∙ o in
     record {
       looks = carried_seen n (loaded load) hs F.it F.is (λ _. refl) (λ k. out_unmarked k (loaded load F.it) out ∙ sym (out_unmarked k F.it out)) ∙ S.looks;
       loads = λ m l k. elim (eqb_tells m n) [
@@ -136,9 +136,9 @@ load_free s hs n load h S e o none =
       once = once-changed n (loaded load) hs (λ _. refl) S.once;
     }
 
-pub populate_stands : (s : Stocked) (hs : List HeaderRecord) (state : HeaderState) (load : Load) → StandsFor s hs → s.headers.header s.next ≡ None → state.number ≡ s.next → state.place ≡ Out
-    → StandsFor (populated state s) (hs ++ record { state = state; load = load } ∷ [])
-populate_stands s hs state load S e num o =
+pub make_stands : (s : Stocked) (hs : List HeaderRecord) (state : HeaderState) (load : Load) → StandsFor s hs → s.headers.header s.next ≡ None → state.number ≡ s.next → state.queue ≡ Out
+    → StandsFor (header_made state s) (hs ++ record { state = state; load = load } ∷ [])
+make_stands s hs state load S e num o =
     let x : HeaderRecord = record { state = state; load = load } in
     let gone = missing s hs s.next S e in
     let g : find_header state.number hs ≡ None = rw num gone in
@@ -153,11 +153,11 @@ populate_stands s hs state load S e num o =
       once = once-append hs x S.once g;
     }
 
-pub withdraw_stands : (s : Stocked) (hs : List HeaderRecord) (n : ℕ) (h : HeaderState) → StandsFor s hs → s.headers.header n ≡ Some h → h.place ≡ Out
-    → StandsFor (withdrawn n s) (without n hs)
-withdraw_stands s hs n h S e o =
+pub unmake_stands : (s : Stocked) (hs : List HeaderRecord) (n : ℕ) (h : HeaderState) → StandsFor s hs → s.headers.header n ≡ Some h → h.queue ≡ Out
+    → StandsFor (header_unmade n s) (without n hs)
+unmake_stands s hs n h S e o =
     let F = found s hs n h S e in
-    let out : F.it.state.place ≡ Out = ap (λ (x : HeaderState). x.place) F.state ∙ o in
+    let out : F.it.state.queue ≡ Out = ap (λ (x : HeaderState). x.queue) F.state ∙ o in
     record {
       looks = without_seen n hs F.it S.once F.is out ∙ ap (λ (v : Seen). with_state n None v) S.looks;
       loads = λ m l k. elim (eqb_tells m n) [

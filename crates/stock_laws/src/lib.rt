@@ -7,13 +7,13 @@ ghost use Rattle.std.specs.Prelude.{◌≡◌, ◌++◌, ◌∷◌, [], List, �
 ghost use Rattle.il_machine.specs.declared.port.PortKey.{PortKey};
 ghost use Rattle.il_machine.specs.declared.port.Mark.{Mark};
 ghost use Rattle.il_machine.specs.declared.header.Owner.{Owner};
-ghost use Rattle.il_machine.specs.declared.header.Place.TheVariants.{Out};
+ghost use Rattle.il_machine.specs.declared.header.Queue.TheVariants.{Out};
 ghost use Rattle.il_machine.specs.declared.header.Spot.{Spot};
 ghost use Rattle.il_machine.specs.declared.header.HeaderState.{HeaderState};
 ghost use Rattle.il_machine.specs.World.{HeaderRecord, Load};
 ghost use Rattle.il_machine.specs.Headers.{at_spot, changed, cleared, cleared_all, given_to, in_done, in_todo, loaded, put, put_at, unchanged, unloaded, weight, without};
 ghost use Rattle.il_machine.specs.Due.{first_marked};
-ghost use Rattle.il_machine.specs.Stock.{StandsFor, Stocked, added, given, no_stock, populated, pulled, pushed, removed, sent, withdrawn};
+ghost use Rattle.il_machine.specs.Stock.{StandsFor, Stocked, added, header_given, no_stock, header_made, todo_pulled, pushed, removed, done_pulled, header_unmade};
 ghost use Rattle.stock_laws.specs.Changes.{done_cleared, front_out, marked_first, todo_cleared};
 ghost use Rattle.stock_laws.specs.Seeing.{Implies, Shows};
 
@@ -33,81 +33,81 @@ pub fn law_of_ports()
 /// A header that is in no list is put at a spot of a port, with what it carries.
 pub fn law_of_push()
     ensures { (s : Stocked) (hs : List HeaderRecord) (key : PortKey) (spot : Spot) (n : ℕ) (load : Load) (h : HeaderState) →
-        StandsFor s hs → s.headers.header n ≡ Some h → h.place ≡ Out →
+        StandsFor s hs → s.headers.header n ≡ Some h → h.queue ≡ Out →
         StandsFor (pushed key spot n load s) (put key spot n (loaded load) hs) }
 {}
 
 /// The front of a list of a port leaves it where it stands.
 pub fn law_of_leaving()
     ensures todo { (s : Stocked) (hs : List HeaderRecord) (key : PortKey) →
-        StandsFor s hs → StandsFor (pulled key s) (front_out (s.headers.todo key) hs) }
+        StandsFor s hs → StandsFor (todo_pulled key s) (front_out (s.headers.todo key) hs) }
     ensures done { (s : Stocked) (hs : List HeaderRecord) (key : PortKey) →
-        StandsFor s hs → StandsFor (sent key s) (front_out (s.headers.done key) hs) }
+        StandsFor s hs → StandsFor (done_pulled key s) (front_out (s.headers.done key) hs) }
 {}
 
 /// A header that is in no list gets an owner, and may get something else to carry where nothing is kept of that; it is made, or
 /// unmade.
 pub fn law_of_owners()
     ensures given { (s : Stocked) (hs : List HeaderRecord) (n : ℕ) (owner : Owner) (h : HeaderState) →
-        StandsFor s hs → s.headers.header n ≡ Some h → h.place ≡ Out →
-        StandsFor (given n owner s) (changed n (given_to owner) hs) }
+        StandsFor s hs → s.headers.header n ≡ Some h → h.queue ≡ Out →
+        StandsFor (header_given n owner s) (changed n (given_to owner) hs) }
     ensures given_loaded { (s : Stocked) (hs : List HeaderRecord) (n : ℕ) (owner : Owner) (load : Load) (h : HeaderState) →
-        StandsFor s hs → s.headers.header n ≡ Some h → h.place ≡ Out → s.loads n ≡ None →
-        StandsFor (given n owner s) (changed n (λ r. given_to owner (loaded load r)) hs) }
+        StandsFor s hs → s.headers.header n ≡ Some h → h.queue ≡ Out → s.loads n ≡ None →
+        StandsFor (header_given n owner s) (changed n (λ r. given_to owner (loaded load r)) hs) }
     ensures made { (s : Stocked) (hs : List HeaderRecord) (state : HeaderState) (load : Load) →
-        StandsFor s hs → s.headers.header s.next ≡ None → state.number ≡ s.next → state.place ≡ Out →
-        StandsFor (populated state s) (hs ++ record { state = state; load = load } ∷ []) }
+        StandsFor s hs → s.headers.header s.next ≡ None → state.number ≡ s.next → state.queue ≡ Out →
+        StandsFor (header_made state s) (hs ++ record { state = state; load = load } ∷ []) }
     ensures unmade { (s : Stocked) (hs : List HeaderRecord) (n : ℕ) (h : HeaderState) →
-        StandsFor s hs → s.headers.header n ≡ Some h → h.place ≡ Out →
-        StandsFor (withdrawn n s) (without n hs) }
+        StandsFor s hs → s.headers.header n ≡ Some h → h.queue ≡ Out →
+        StandsFor (header_unmade n s) (without n hs) }
 {}
 
 /// The front of `todo` leaves it, and is put at a spot, given to an owner, cleared or as it is, or unmade.
 pub fn law_of_todo()
     ensures put { (s : Stocked) (hs : List HeaderRecord) (key peer : PortKey) (spot : Spot) (n : ℕ) (ns : List ℕ) (load : Load) →
         StandsFor s hs → s.headers.todo key ≡ n ∷ ns →
-        StandsFor (pushed peer spot n load (pulled key s)) (put peer spot n (loaded load) hs) }
+        StandsFor (pushed peer spot n load (todo_pulled key s)) (put peer spot n (loaded load) hs) }
     ensures unchanged { (s : Stocked) (hs : List HeaderRecord) (key peer : PortKey) (spot : Spot) (n : ℕ) (ns : List ℕ) (load : Load) →
         StandsFor s hs → s.headers.todo key ≡ n ∷ ns → s.loads n ≡ Some load →
-        StandsFor (pushed peer spot n load (pulled key s)) (put peer spot n unchanged hs) }
+        StandsFor (pushed peer spot n load (todo_pulled key s)) (put peer spot n unchanged hs) }
     ensures cleared { (s : Stocked) (hs : List HeaderRecord) (key peer : PortKey) (spot : Spot) (n : ℕ) (ns : List ℕ) (load : Load) →
         StandsFor s hs → s.headers.todo key ≡ n ∷ ns → s.loads n ≡ Some load →
-        StandsFor (pushed peer spot n (unloaded load) (pulled key s)) (put peer spot n cleared hs) }
+        StandsFor (pushed peer spot n (unloaded load) (todo_pulled key s)) (put peer spot n cleared hs) }
     ensures given { (s : Stocked) (hs : List HeaderRecord) (key : PortKey) (owner : Owner) (n : ℕ) (ns : List ℕ) →
         StandsFor s hs → s.headers.todo key ≡ n ∷ ns →
-        StandsFor (given n owner (pulled key s)) (changed n (λ r. given_to owner (cleared r)) hs) }
+        StandsFor (header_given n owner (todo_pulled key s)) (changed n (λ r. given_to owner (cleared r)) hs) }
     ensures given_on { (s : Stocked) (hs : List HeaderRecord) (key : PortKey) (owner : Owner) (n : ℕ) (ns : List ℕ) →
         StandsFor s hs → s.headers.todo key ≡ n ∷ ns →
-        StandsFor (given n owner (pulled key s)) (changed n (given_to owner) hs) }
+        StandsFor (header_given n owner (todo_pulled key s)) (changed n (given_to owner) hs) }
     ensures unmade { (s : Stocked) (hs : List HeaderRecord) (key : PortKey) (n : ℕ) (ns : List ℕ) →
         StandsFor s hs → s.headers.todo key ≡ n ∷ ns →
-        StandsFor (withdrawn n (pulled key s)) (without n hs) }
+        StandsFor (header_unmade n (todo_pulled key s)) (without n hs) }
 {}
 
 /// The front of `done` leaves it, and is put at a spot, given to an owner, or unmade.
 pub fn law_of_done()
     ensures put { (s : Stocked) (hs : List HeaderRecord) (key peer : PortKey) (spot : Spot) (n : ℕ) (ns : List ℕ) (load : Load) →
         StandsFor s hs → s.headers.done key ≡ n ∷ ns →
-        StandsFor (pushed peer spot n load (sent key s)) (put peer spot n (loaded load) hs) }
+        StandsFor (pushed peer spot n load (done_pulled key s)) (put peer spot n (loaded load) hs) }
     ensures unchanged { (s : Stocked) (hs : List HeaderRecord) (key peer : PortKey) (spot : Spot) (n : ℕ) (ns : List ℕ) (load : Load) →
         StandsFor s hs → s.headers.done key ≡ n ∷ ns → s.loads n ≡ Some load →
-        StandsFor (pushed peer spot n load (sent key s)) (put peer spot n unchanged hs) }
+        StandsFor (pushed peer spot n load (done_pulled key s)) (put peer spot n unchanged hs) }
     ensures cleared { (s : Stocked) (hs : List HeaderRecord) (key peer : PortKey) (spot : Spot) (n : ℕ) (ns : List ℕ) (load : Load) →
         StandsFor s hs → s.headers.done key ≡ n ∷ ns → s.loads n ≡ Some load →
-        StandsFor (pushed peer spot n (unloaded load) (sent key s)) (put peer spot n cleared hs) }
+        StandsFor (pushed peer spot n (unloaded load) (done_pulled key s)) (put peer spot n cleared hs) }
     ensures given { (s : Stocked) (hs : List HeaderRecord) (key : PortKey) (owner : Owner) (n : ℕ) (ns : List ℕ) →
         StandsFor s hs → s.headers.done key ≡ n ∷ ns →
-        StandsFor (given n owner (sent key s)) (changed n (λ r. given_to owner (cleared r)) hs) }
+        StandsFor (header_given n owner (done_pulled key s)) (changed n (λ r. given_to owner (cleared r)) hs) }
     ensures unmade { (s : Stocked) (hs : List HeaderRecord) (key : PortKey) (n : ℕ) (ns : List ℕ) →
         StandsFor s hs → s.headers.done key ≡ n ∷ ns →
-        StandsFor (withdrawn n (sent key s)) (without n hs) }
+        StandsFor (header_unmade n (done_pulled key s)) (without n hs) }
 {}
 
 /// A header is made and put at a spot.
 pub fn law_of_supply()
     ensures { (s : Stocked) (hs : List HeaderRecord) (state : HeaderState) (key : PortKey) (spot : Spot) (load : Load) →
-        StandsFor s hs → s.headers.header s.next ≡ None → state.number ≡ s.next → state.place ≡ Out →
-        StandsFor (pushed key spot s.next load (populated state s))
+        StandsFor s hs → s.headers.header s.next ≡ None → state.number ≡ s.next → state.queue ≡ Out →
+        StandsFor (pushed key spot s.next load (header_made state s))
         (at_spot spot (put_at key spot (record { state = state; load = load })) hs) }
 {}
 

@@ -7,7 +7,7 @@ use Rattle.il_machine.specs.declared.answer.Why.{Why}
 use Rattle.il_machine.specs.declared.answer.Why.TheVariants as why
 use Rattle.il_machine.specs.World.{Component, World, number_of}
 use Rattle.il_machine.specs.Look.{Look, look}
-use Rattle.il_machine.specs.Units.{is_waiter, is_before, first_waiter, weakest, victim, at_one, lacks_places, grant_idle, preempt_idle, Grants, Grant, Preempts, Preempt}
+use Rattle.il_machine.specs.Units.{is_waiter, is_before, first_waiter, weakest, victim, at_one, lacks_event_room, grant_idle, preempt_idle, Grants, Grant, Preempts, Preempt}
 use Rattle.il_machine.specs.Sound.{Sound}
 use Rattle.machine_laws.proofs.Granting.{best_among, victim_there}
 use Rattle.machine_laws.proofs.Lookups.{rises_at}
@@ -28,7 +28,7 @@ module _ (components : List NamedComponent) where
 
   preempt_reason : (l : Look) → IsNamedWhy components (preempt_idle l)
   preempt_reason l = first_named components (at_one (first_waiter l.components) why.NoWaiter _)
-      (one_named (first_waiter l.components) why.NoWaiter _ refl (λ c. (refl, one_named (weakest c l.components) why.NoVictim (λ d. lacks_places d ∷ []) refl (λ d. (refl, tt)))))
+      (one_named (first_waiter l.components) why.NoWaiter _ refl (λ c. (refl, one_named (weakest c l.components) why.NoVictim (λ d. lacks_event_room d ∷ []) refl (λ d. (refl, tt)))))
 
   module _ (w v : World) (S : Sound w) (N : AreNamed components w.numbered) where
     there_named : (i : ℕ) (c : Component) → slice_get w.components i ≡ Some c → IsSome (component_name components (number_of c))

@@ -10,7 +10,7 @@ use Rattle.il_machine.specs.World.{Component, HeaderRecord, Stream, World, compo
 use Rattle.il_machine.specs.Headers.{find_header}
 use Rattle.il_machine.specs.Answers.{component_named}
 use Rattle.il_machine.specs.Look.{look}
-use Rattle.il_machine.specs.Claims.{Carried, Claimed, ClaimedWork, ClaimedBusy, ClaimedNotRunning, ClaimedEnded, ClaimedHeld, ClaimedNoData, ClaimedNoRoom, ClaimedEvents, WorkSeen}
+use Rattle.il_machine.specs.Claims.{CarriedHeader, Claimed, ClaimedWork, ClaimedBusy, ClaimedNotRunning, ClaimedEnded, ClaimedHeld, ClaimedNoData, ClaimedNoRoom, ClaimedEvents, WorkSeen}
 use Rattle.il_machine.specs.Acts.{Act, Reply}
 use Rattle.il_machine.specs.Acts as acts
 use Rattle.il_machine.specs.Run.{Step, Meets, Run}
@@ -44,7 +44,7 @@ of_world : (w v : World) (port : ℕ) (headers : List (Option BufferHeader)) →
 of_world w v port [] k A E = tt
 of_world w v port (None ∷ headers) k A E = (tt, of_world w v (port + 1) headers k A E.1)
 of_world w v port (Some h ∷ headers) k A E =
-    let x : Carried = record { port = port; header = h.held } in
+    let x : CarriedHeader = record { port = port; header = h.held } in
     let rest = carried_from (port + 1) headers in
     let P = HeaderStays w.headers v.headers in
     let known = of_record (find_header h.held.number w.headers) (find_header h.held.number v.headers) (λ s. IsHeaderOf s h) (All-head P x rest A) (E.0).1 in

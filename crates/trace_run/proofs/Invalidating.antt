@@ -16,7 +16,7 @@ use Rattle.il_machine.specs.Look.{Look, look}
 use Rattle.il_machine.specs.Answers.{component_named, looked, Answers}
 use Rattle.il_machine.specs.Components.{state_answer}
 use Rattle.il_machine.specs.Commands.{SendCommand, send_refusal, sent, invalidated}
-use Rattle.il_machine.specs.Room.{used, events_in, work_places, room}
+use Rattle.il_machine.specs.Room.{used, events_in, work_reserve, room}
 use Rattle.il_machine.specs.Due.{ClosesTo}
 use Rattle.il_machine.specs.Acts.{Act, Reply}
 use Rattle.il_machine.specs.Acts as acts
@@ -114,7 +114,7 @@ picked_few from ports (x ∷ xs) P =
     omega (arith, a, b, k)
 
 -- a work has no more headers than its component has ports, which are nine at most
-work_few : (c : Component) (o : Option Work) → IsSound c → ((work : Work) → o ≡ Some work → ArePicked 0 work.headers (length c.ports)) → work_places o ≤ 11
+work_few : (c : Component) (o : Option Work) → IsSound c → ((work : Work) → o ≡ Some work → ArePicked 0 work.headers (length c.ports)) → work_reserve o ≤ 11
 work_few c None S P = omega arith
 work_few c (Some work) S P =
     let k = picked_few 0 (length c.ports) work.headers (P work refl) in
@@ -125,19 +125,19 @@ work_few c (Some work) S P =
 some_left : (taken : ℕ) → taken ≤ 11 → nat_eq (256 - taken) 0 ≡ false
 some_left taken h = grind (arith, nat_tests)
 
-room_left : (c : Component) (ns : List Note) → c.notes ≡ ns → length ns ≡ 0 → work_places c.work ≤ 11 → nat_eq (room (invalidated c)) 0 ≡ false
+room_left : (c : Component) (ns : List Note) → c.notes ≡ ns → length ns ≡ 0 → work_reserve c.work ≤ 11 → nat_eq (room (invalidated c)) 0 ≡ false
 room_left c [] e l p =
     let u = used_invalidated c in
     let n : events_in c.notes ≡ 0 = ap events_in e in
     some_left (used (invalidated c)) (omega (arith, u, n, p))
 room_left c (n ∷ ns) e l p = absurd cc
 
-sendable : (l : Look) (c : Component) → is_invalid c.state ≡ false → length c.notes ≡ 0 → work_places c.work ≤ 11 → send_refusal l c (StateSet Invalid) ≡ None
+sendable : (l : Look) (c : Component) → is_invalid c.state ≡ false → length c.notes ≡ 0 → work_reserve c.work ≤ 11 → send_refusal l c (StateSet Invalid) ≡ None
 sendable l c i e p =
     let r = room_left c c.notes refl e p in
     rw (i, r) refl
 
-work_there : (w : World) (i : ℕ) (c : Component) → Sound w → slice_get w.components i ≡ Some c → work_places c.work ≤ 11
+work_there : (w : World) (i : ℕ) (c : Component) → Sound w → slice_get w.components i ≡ Some c → work_reserve c.work ≤ 11
 work_there w i c S at =
     let K = at_place (IsConnected w) w.components i c S.connected at in
     work_few c c.work (at_place IsSound w.components i c S.components at) (λ work e. (K.work work e).rising)

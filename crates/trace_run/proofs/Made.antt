@@ -8,8 +8,8 @@ use Rattle.il_machine.specs.declared.header.Home.TheVariants as homes
 use Rattle.il_machine.specs.declared.header.Owner.{Owner}
 use Rattle.il_machine.specs.declared.header.Owner.TheVariants as owners
 use Rattle.il_machine.specs.World.{Component, HeaderRecord, Stream, World, component_numbered, stream_of}
-use Rattle.il_machine.specs.Claims.{Carried as CarriedHeader, ClaimedWork}
-use Rattle.il_machine.specs.Stepping.{Done as Finishing}
+use Rattle.il_machine.specs.Claims.{CarriedHeader, ClaimedWork}
+use Rattle.il_machine.specs.Stepping.{WorkDone}
 use Rattle.il_machine.specs.Headers.{Once, find_header, seen, empty_load}
 use Rattle.il_machine.specs.Flow.{in_port}
 use Rattle.il_machine.specs.Notes.{TakenEmpty, TakenFilled, TookNote}
@@ -18,7 +18,7 @@ use Rattle.il_machine.specs.Acts as acts
 use Rattle.il_machine.specs.Run.{Step, Meets}
 use Rattle.il_machine.specs.Sound.{Sound}
 use Rattle.il_machine.specs.Effect.{effect}
-use Rattle.il_machine.specs.Trails.{Stop, Unmade, With, Move, moves, moved, front_move, released, over, handed, back, handed_back, key_of, port_named, port_stop, client_stop, home_stop, claimed_move, finished_move, finished_moves}
+use Rattle.il_machine.specs.Trails.{Stop, Unmade, With, Move, moves, moved, front_move, release_moves, over, over_moves, back, back_moves, key_of, port_named, port_stop, client_stop, home_stop, claimed_move, finished_move, finished_moves}
 use Rattle.machine_laws.proofs.Finding.{push_last, push_else, once_push, without_else, without_same, once_without}
 use Rattle.machine_laws.proofs.Keys.{none_or_some}
 use Rattle.machine_laws.proofs.Parts.{parts_of}
@@ -62,7 +62,7 @@ no_other : (n m : ℕ) (to : Stop) → to ≢ client_stop → moved n Unmade to 
 unfolding first_to
 no_other n m to a e = a (ap first_to e)
 
-no_released : (w : World) (o : Option Port) (n : ℕ) → released w o ≡ moved n Unmade client_stop → ⊥
+no_released : (w : World) (o : Option Port) (n : ℕ) → release_moves w o ≡ moved n Unmade client_stop → ⊥
 no_released w None n e = cc
 no_released w (Some p) n e = no_front (port_stop p.key) Unmade (in_port (seen w.headers) p) n (λ k. cc) e
 
@@ -70,7 +70,7 @@ no_over : (w : World) (p : Port) (o : Option Link) (n : ℕ) → over w p o ≡ 
 no_over w p None n e = cc
 no_over w p (Some link) n e = no_front (port_stop p.key) (port_stop link.peer) ((seen w.headers).done p.key) n (λ k. cc) e
 
-no_handed : (w : World) (o : Option Port) (n : ℕ) → handed w o ≡ moved n Unmade client_stop → ⊥
+no_handed : (w : World) (o : Option Port) (n : ℕ) → over_moves w o ≡ moved n Unmade client_stop → ⊥
 no_handed w None n e = cc
 no_handed w (Some p) n e = no_over w p p.state.link n e
 
@@ -78,7 +78,7 @@ no_back : (w : World) (p : Port) (o : Option Link) (n : ℕ) → back w p o ≡ 
 no_back w p None n e = no_front (port_stop p.key) (With (owners.Notice p.key.component)) ((seen w.headers).todo p.key) n (λ k. cc) e
 no_back w p (Some link) n e = no_front (port_stop p.key) (port_stop link.peer) ((seen w.headers).done p.key ++ (seen w.headers).todo p.key) n (λ k. cc) e
 
-no_handed_back : (w : World) (o : Option Port) (n : ℕ) → handed_back w o ≡ moved n Unmade client_stop → ⊥
+no_handed_back : (w : World) (o : Option Port) (n : ℕ) → back_moves w o ≡ moved n Unmade client_stop → ⊥
 no_handed_back w None n e = cc
 no_handed_back w (Some p) n e = no_back w p p.state.link n e
 
@@ -87,12 +87,12 @@ unfolding first_from
 no_claimed k n [] e = cc
 no_claimed k n (x ∷ xs) e = let a : port_stop (record { component = k; port = x.port }) ≡ Unmade = ap first_from e in cc
 
-no_landed : (c : Component) (s : Stream) (done : Finishing) (n : ℕ) (xs : List CarriedHeader) → map (finished_move c s done) xs ≡ moved n Unmade client_stop → ⊥
+no_landed : (c : Component) (s : Stream) (done : WorkDone) (n : ℕ) (xs : List CarriedHeader) → map (finished_move c s done) xs ≡ moved n Unmade client_stop → ⊥
 unfolding first_from
 no_landed c s done n [] e = cc
 no_landed c s done n (x ∷ xs) e = let a : With (owners.Work c.handle.generation) ≡ Unmade = ap first_from e in cc
 
-no_finished : (c : Option Component) (s : Option Stream) (done : Finishing) (n : ℕ) → finished_moves c s done ≡ moved n Unmade client_stop → ⊥
+no_finished : (c : Option Component) (s : Option Stream) (done : WorkDone) (n : ℕ) → finished_moves c s done ≡ moved n Unmade client_stop → ⊥
 no_finished None s done n e = cc
 no_finished (Some c) None done n e = cc
 no_finished (Some c) (Some s) done n e = no_landed c s done n done.headers e

@@ -15,13 +15,13 @@ use Rattle.il_machine.specs.Due.{ClosesTo}
 use Rattle.il_machine.specs.Kinds.{kind_of}
 use Rattle.il_machine.specs.Components.{GetHandle, get_handle_refusal, is_vacant, with_new_component}
 use Rattle.il_machine.specs.declared.port.PortKey.{PortKey}
-use Rattle.il_machine.specs.Flow.{in_port, front_unmade, front_put, handed_over, at_link, handed_back, returned, unused_spot, noticed}
+use Rattle.il_machine.specs.Flow.{in_port, front_unmade, front_put, handed_over, at_link, handed_back, returned, unused_spot, front_noticed}
 use Rattle.il_machine.specs.Answers.{AnswersOrMemory}
 use Rattle.il_machine.specs.Ports.{is_input_port}
 use Rattle.il_machine.specs.declared.header.Spot.{Spot}
 use Rattle.il_machine.specs.declared.header.Spot.TheVariants.{TodoBack}
 use Rattle.il_machine.specs.Claims.{ClaimedWork}
-use Rattle.il_machine.specs.Stepping.{Done as Finishing}
+use Rattle.il_machine.specs.Stepping.{WorkDone}
 use Rattle.il_machine.specs.Finishing.{with_landed, finished, finished_by}
 use Rattle.machine_laws.proofs.Finding.{either}
 use Rattle.il_machine.specs.Effect.{at_named, at_named_port, at_both, effect}
@@ -72,7 +72,7 @@ returned_same : (key : PortKey) (input : Bool) (done todo : List ℕ) (w : World
 returned_same key input [] todo w = put_same key (unused_spot input) cleared todo w
 returned_same key input (n ∷ ns) todo w = refl
 
-noticed_same : (i : ℕ) (c : Component) (p : Port) (todo : List ℕ) (w : World) → Same w (noticed i c p todo w)
+noticed_same : (i : ℕ) (c : Component) (p : Port) (todo : List ℕ) (w : World) → Same w (front_noticed i c p todo w)
 noticed_same i c p [] w = refl
 noticed_same i c p (n ∷ ns) w = refl
 
@@ -83,7 +83,7 @@ back_same i c p (Some link) w = returned_same link.peer (is_input_port p) ((seen
 changed_same : (change : Component → Component) (o : Option Component) (w : World) → Same w (changed_at o w (λ c. with_changed change c w))
 changed_same change o w = at_same o w _ (λ c. at_same (place_numbered (number_of c) w.components) w _ (λ i. refl))
 
-finished_same : (i : ℕ) (c : Component) (done : Finishing) (o : Option Work) (w : World) → Same w (finished_by i c done o w)
+finished_same : (i : ℕ) (c : Component) (done : WorkDone) (o : Option Work) (w : World) → Same w (finished_by i c done o w)
 finished_same i c done None w = refl
 finished_same i c done (Some work) w = either work.announces
     (λ t. rw t refl)

@@ -8,7 +8,7 @@ use Rattle.il_machine.specs.World.{Work}
 use Rattle.il_machine.specs.Answers.{component_named}
 use Rattle.il_machine.specs.Buffers.{Held}
 use Rattle.il_machine.specs.Notes.{Took, TookNote}
-use Rattle.il_machine.specs.Stepping.{Done}
+use Rattle.il_machine.specs.Stepping.{WorkDone}
 use Rattle.il_machine.specs.Acts.{Act, Reply}
 use Rattle.il_machine.specs.Acts as acts
 use Rattle.il_machine.specs.Run.{Run}
@@ -51,7 +51,7 @@ abbrev pub work_out : Moment → List ℕ → Option Work
 work_out at name = option_and_then (λ c. c.work) (component_named (handle_of at.names name) at.world.components)
 
 -- The work did one step of its part, in which nothing failed, since no part has a file. The line tells the frames of the step.
-pub record Finishes (names : Names) (component : List ℕ) (done : Done) (entries : List Entry) (reply : LineReply) : Type 0 where
+pub record Finishes (names : Names) (component : List ℕ) (done : WorkDone) (entries : List Entry) (reply : LineReply) : Type 0 where
   pub one : entries ≡ (acts.Finish done, acts.Finished) ∷ []
   pub component_is : done.component ≡ (handle_of names component).generation
   pub whole : done.fault ≡ None
@@ -60,7 +60,7 @@ pub record Finishes (names : Names) (component : List ℕ) (done : Done) (entrie
 -- Where no work of the component is out no act is made.
 abbrev pub FinishLine : Moment → List ℕ → List Entry → LineReply → Names → Type 0
 FinishLine at component entries reply next = MatchOption (work_out at component) (IsNoAct at.names (Plain texts.NotOut) entries reply next) (λ work.
-    (done : Done) × Finishes at.names component done entries reply × (next ≡ at.names))
+    (done : WorkDone) × Finishes at.names component done entries reply × (next ≡ at.names))
 
 -- a line that names no header and no kind
 abbrev pub ActLine : Moment → TextAct → List Entry → LineReply → Names → Type 0

@@ -7,7 +7,7 @@ use Rattle.il_machine.specs.World.{Stream, World, same_handle, stream_of}
 use Rattle.il_machine.specs.Look.{look}
 use Rattle.il_machine.specs.Answers.{component_named}
 use Rattle.il_machine.specs.Claims.{Claimed, ClaimedWork, WorkSeen}
-use Rattle.il_machine.specs.Stepping.{Done, IsAnnounced}
+use Rattle.il_machine.specs.Stepping.{WorkDone, IsAnnounced}
 use Rattle.il_machine.specs.Finishing.{Finish}
 use Rattle.il_machine.specs.Acts as acts
 use Rattle.il_machine.specs.Run.{Step, Meets}
@@ -143,7 +143,7 @@ module _ {P : Type 0} where
 
 -- the work comes back from one step of its part, which did so many frames and didn't fail
 pub record BackSo (x : HeldWork) (frames : ℕ) (w v : World) : Type 0 where
-  pub done : Done
+  pub done : WorkDone
   pub component : done.component ≡ x.handle.generation
   pub frames_are : done.frames ≡ frames
   pub whole : done.fault ≡ None

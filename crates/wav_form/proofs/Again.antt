@@ -23,12 +23,12 @@ format_from-again (Alaw rate channels) lawful = rw (within_limits-true rate chan
 format_from-again (Mulaw rate channels) lawful = rw (within_limits-true rate channels lawful.some_rate lawful.rate lawful.some_channel lawful.channels) refl
 format_from-again Auto lawful = absurd (let some = lawful.some_rate in omega arith)
 
--- the fields of a format chunk stand at a place
-record HasFields (bytes : List ℕ) (place : ℕ) (format : Format) : Type 0 where
-  tag : little_from place 2 bytes ≡ tag_of format
-  channels : little_from (place + 2) 2 bytes ≡ channels_of format
-  rate : little_from (place + 4) 4 bytes ≡ rate_of format
-  bits : little_from (place + 14) 2 bytes ≡ bits_of format
+-- the fields of a format chunk stand at an offset
+record HasFields (bytes : List ℕ) (offset : ℕ) (format : Format) : Type 0 where
+  tag : little_from offset 2 bytes ≡ tag_of format
+  channels : little_from (offset + 2) 2 bytes ≡ channels_of format
+  rate : little_from (offset + 4) 4 bytes ≡ rate_of format
+  bits : little_from (offset + 14) 2 bytes ≡ bits_of format
 
 format_in-again : (bytes : List ℕ) (chunk : Chunk) (format : Format) → IsWithinLimits format → 16 ≤ chunk.size → chunk.content + chunk.size ≤ length bytes → HasFields bytes chunk.content format → format_in bytes chunk ≡ Ok format
 format_in-again bytes chunk format lawful long within has =

@@ -9,11 +9,11 @@ use Rattle.wav_form.specs.Chunks.{Chunk, chunk_at, end_of, AreChunks, first_name
 use Rattle.wav_form.specs.Reading.{format_in, with_samples, answer_of, answer_in}
 use Rattle.wav_form.specs.Search.{and_then, some_of, answer_after}
 
--- chunks from a place on have their content behind it
-pub first_named-behind : (bytes name : List ℕ) (place : ℕ) (chunks : List Chunk) (found : Chunk) → AreChunks bytes place chunks → first_named name chunks ≡ Some found → place + 8 ≤ found.content
-first_named-behind bytes name place [] found are is = cc
-first_named-behind bytes name place (chunk ∷ chunks) found (room, at, are) is =
-    let content : chunk.content ≡ place + 8 = ap (λ (c : Chunk). c.content) at in
+-- chunks from an offset on have their content behind it
+pub first_named-behind : (bytes name : List ℕ) (offset : ℕ) (chunks : List Chunk) (found : Chunk) → AreChunks bytes offset chunks → first_named name chunks ≡ Some found → offset + 8 ≤ found.content
+first_named-behind bytes name offset [] found are is = cc
+first_named-behind bytes name offset (chunk ∷ chunks) found (room, at, are) is =
+    let content : chunk.content ≡ offset + 8 = ap (λ (c : Chunk). c.content) at in
     elim (cases_Bool (bytes_eq chunk.name name)) [
       | inl named ↦ (
           let this : Some chunk ≡ Some found = sym (rw named refl) ∙ is in
@@ -42,9 +42,9 @@ not_both name samples =
     let is : name ≡ codes "data" = (bytes_eq-Decides name (codes "data")).0 samples in
     subst (λ (n : List ℕ). bytes_eq n (codes "fmt ") ≡ false) (sym is) refl
 
-samples_first : (bytes : List ℕ) (place : ℕ) (chunk : Chunk) (chunks : List Chunk) (format : Option Chunk) → AreChunks bytes (end_of chunk) chunks → first_named (codes "fmt ") chunks ≡ format → answer_of bytes format (Some chunk) ≡ Err NoFormat
-samples_first bytes place chunk chunks None are is = refl
-samples_first bytes place chunk chunks (Some format) are is =
+samples_first : (bytes : List ℕ) (offset : ℕ) (chunk : Chunk) (chunks : List Chunk) (format : Option Chunk) → AreChunks bytes (end_of chunk) chunks → first_named (codes "fmt ") chunks ≡ format → answer_of bytes format (Some chunk) ≡ Err NoFormat
+samples_first bytes offset chunk chunks None are is = refl
+samples_first bytes offset chunk chunks (Some format) are is =
     let behind = first_named-behind bytes (codes "fmt ") (end_of chunk) chunks format are is in
     let before : nat_lt chunk.content format.content ≡ true = lt-ltb _ _ (omega arith) in
     rw before refl
@@ -61,40 +61,40 @@ with_format bytes (Ok format) chunks = answer_after-known bytes format chunks
 with_format bytes (Err fault) chunks = refl
 
 -- the whole search
-pub answer_after-is : (bytes : List ℕ) (place : ℕ) (chunks : List Chunk) → AreChunks bytes place chunks → answer_after bytes None chunks ≡ answer_in bytes chunks
-answer_after-is bytes place [] are = refl
-answer_after-is bytes place (chunk ∷ chunks) (room, at, are) =
+pub answer_after-is : (bytes : List ℕ) (offset : ℕ) (chunks : List Chunk) → AreChunks bytes offset chunks → answer_after bytes None chunks ≡ answer_in bytes chunks
+answer_after-is bytes offset [] are = refl
+answer_after-is bytes offset (chunk ∷ chunks) (room, at, are) =
     elim (cases_Bool (bytes_eq chunk.name (codes "data"))) [
-      | inl samples ↦ rw (samples, not_both chunk.name samples) (sym (samples_first bytes place chunk chunks _ are refl))
+      | inl samples ↦ rw (samples, not_both chunk.name samples) (sym (samples_first bytes offset chunk chunks _ are refl))
       | inr other ↦ elim (cases_Bool (bytes_eq chunk.name (codes "fmt "))) [
         | inl format ↦ rw (other, format) (with_format bytes (format_in bytes chunk) chunks ∙ sym (format_first bytes chunk chunks _ are refl))
         | inr neither ↦ rw (other, neither) (answer_after-is bytes (end_of chunk) chunks are)
       ]
     ]
 
--- the bytes have a list of chunks from each place on
-chunks_within : (bytes : List ℕ) (more place : ℕ) → length bytes ≤ place + more → (chunks : List Chunk) × AreChunks bytes place chunks
-chunks_within bytes zero place within = let short : length bytes < place + 8 = omega arith in ([], short)
-chunks_within bytes (suc more) place within =
-    elim (cases_lt (length bytes) (place + 8)) [
+-- the bytes have a list of chunks from each offset on
+chunks_within : (bytes : List ℕ) (more offset : ℕ) → length bytes ≤ offset + more → (chunks : List Chunk) × AreChunks bytes offset chunks
+chunks_within bytes zero offset within = let short : length bytes < offset + 8 = omega arith in ([], short)
+chunks_within bytes (suc more) offset within =
+    elim (cases_lt (length bytes) (offset + 8)) [
       | inl short ↦ ([], short)
       | inr room ↦ (
-          let chunk = chunk_at bytes place in
+          let chunk = chunk_at bytes offset in
           let further : length bytes ≤ end_of chunk + more = omega arith in
           let rest = chunks_within bytes more (end_of chunk) further in
           (chunk ∷ rest.0, (room, refl, rest.1))
           )
     ]
 
-pub chunks_from : (bytes : List ℕ) (place : ℕ) → (chunks : List Chunk) × AreChunks bytes place chunks
-chunks_from bytes place = chunks_within bytes (length bytes) place (omega arith)
+pub chunks_from : (bytes : List ℕ) (offset : ℕ) → (chunks : List Chunk) × AreChunks bytes offset chunks
+chunks_from bytes offset = chunks_within bytes (length bytes) offset (omega arith)
 
 -- and no other
-pub same_chunks : (bytes : List ℕ) (place : ℕ) (one other : List Chunk) → AreChunks bytes place one → AreChunks bytes place other → one ≡ other
-same_chunks bytes place [] [] are too = refl
-same_chunks bytes place [] (chunk ∷ chunks) short (room, _, _) = absurd (omega arith)
-same_chunks bytes place (chunk ∷ chunks) [] (room, _, _) short = absurd (omega arith)
-same_chunks bytes place (one ∷ ones) (other ∷ others) (_, is, are) (_, also, too) =
+pub same_chunks : (bytes : List ℕ) (offset : ℕ) (one other : List Chunk) → AreChunks bytes offset one → AreChunks bytes offset other → one ≡ other
+same_chunks bytes offset [] [] are too = refl
+same_chunks bytes offset [] (chunk ∷ chunks) short (room, _, _) = absurd (omega arith)
+same_chunks bytes offset (chunk ∷ chunks) [] (room, _, _) short = absurd (omega arith)
+same_chunks bytes offset (one ∷ ones) (other ∷ others) (_, is, are) (_, also, too) =
     let same : other ≡ one = also ∙ sym is in
     let rest = same_chunks bytes (end_of one) ones others are (subst (λ (c : Chunk). AreChunks bytes (end_of c) others) same too) in
     rw (same, rest) refl

@@ -1,4 +1,4 @@
--- A search from chunk to chunk: what it answers from a place on, and where it stops.
+-- A search from chunk to chunk: what it answers from an offset on, and where it stops.
 use Rattle.std.proofs.Common.{◌≡◌, ℕ, ◌+◌, ◌<◌, ◌≤◌, Bool, true, false, cond, List, [], ◌∷◌, length, Option, Some, None, Result, Ok, Err, IfOk, refl, sym, ap, ◌∙◌, subst, arith, inl, inr, ◌⊎◌, ◌||◌, is_some, bytes_eq, codes}
 use Rattle.std.proofs.lemmas.Bool.{cases_lt, cases_Bool}
 use Rattle.omx_types.specs.declared.format.Format.{Format}
@@ -14,7 +14,7 @@ use Rattle.wav_form.specs.Stops.{UnlessStopped, IfShort, StoppedShort, IsReadSto
 
 -- a bound on the start of the samples, and one below it
 abbrev pub StartsFrom : ℕ → Result WavHead WavFault → Type 0
-StartsFrom place answer = IfOk answer (λ head. place ≤ head.start)
+StartsFrom offset answer = IfOk answer (λ head. offset ≤ head.start)
 
 StartsFrom-less : (answer : Result WavHead WavFault) (more less : ℕ) → less ≤ more → StartsFrom more answer → StartsFrom less answer
 StartsFrom-less (Ok head) more less le from = omega arith
@@ -27,40 +27,40 @@ samples_start : (bytes : List ℕ) (known : Option Format) (chunk : Chunk) → S
 samples_start bytes None chunk = tt
 samples_start bytes (Some format) chunk = omega arith
 
--- samples that are found from a place on begin behind the head of its chunk
-pub start_behind : (bytes : List ℕ) (known : Option Format) (place : ℕ) (chunks : List Chunk) → AreChunks bytes place chunks → StartsFrom (place + 8) (answer_after bytes known chunks)
-start_behind bytes known place [] are = tt
-start_behind bytes known place (chunk ∷ chunks) (room, is, are) =
-    let content : place + 8 ≤ chunk.content = omega (arith, ap (λ (c : Chunk). c.content) is) in
-    elim (bytes_eq chunk.name (codes "data")) as (λ b. StartsFrom (place + 8) (cond b (at_samples bytes known chunk) (and_then (format_after bytes known chunk) (λ k. answer_after bytes k chunks)))) [
-      | true ↦ StartsFrom-less _ chunk.content (place + 8) content (samples_start bytes known chunk)
-      | false ↦ elim (format_after bytes known chunk) as (λ f. StartsFrom (place + 8) (and_then f (λ k. answer_after bytes k chunks))) [
+-- samples that are found from an offset on begin behind the head of its chunk
+pub start_behind : (bytes : List ℕ) (known : Option Format) (offset : ℕ) (chunks : List Chunk) → AreChunks bytes offset chunks → StartsFrom (offset + 8) (answer_after bytes known chunks)
+start_behind bytes known offset [] are = tt
+start_behind bytes known offset (chunk ∷ chunks) (room, is, are) =
+    let content : offset + 8 ≤ chunk.content = omega (arith, ap (λ (c : Chunk). c.content) is) in
+    elim (bytes_eq chunk.name (codes "data")) as (λ b. StartsFrom (offset + 8) (cond b (at_samples bytes known chunk) (and_then (format_after bytes known chunk) (λ k. answer_after bytes k chunks)))) [
+      | true ↦ StartsFrom-less _ chunk.content (offset + 8) content (samples_start bytes known chunk)
+      | false ↦ elim (format_after bytes known chunk) as (λ f. StartsFrom (offset + 8) (and_then f (λ k. answer_after bytes k chunks))) [
         | Err fault ↦ tt
-        | Ok k ↦ StartsFrom-less _ (end_of chunk + 8) (place + 8) (let after = end_of-after chunk in omega arith) (start_behind bytes k (end_of chunk) chunks are)
+        | Ok k ↦ StartsFrom-less _ (end_of chunk + 8) (offset + 8) (let after = end_of-after chunk in omega arith) (start_behind bytes k (end_of chunk) chunks are)
       ]
     ]
 
 -- a chunk that isn't of samples: the search goes on behind it with the format that is then known
-pub answer_after-goes_on : (bytes : List ℕ) (known next : Option Format) (place : ℕ) (chunk : Chunk) (rest : List Chunk) → AreChunks bytes place rest → place + 8 ≤ length bytes → chunk ≡ chunk_at bytes place → bytes_eq chunk.name (codes "data") ≡ false → Ok next ≡ format_after bytes known chunk → (chunks : List Chunk) × AreChunks bytes (end_of chunk) chunks × (answer_after bytes known rest ≡ answer_after bytes next chunks) × (rest ≡ chunk ∷ chunks)
-answer_after-goes_on bytes known next place chunk [] short room is other goes = absurd (omega arith)
-answer_after-goes_on bytes known next place chunk (first ∷ chunks) (_, at, are) room is other goes =
+pub answer_after-goes_on : (bytes : List ℕ) (known next : Option Format) (offset : ℕ) (chunk : Chunk) (rest : List Chunk) → AreChunks bytes offset rest → offset + 8 ≤ length bytes → chunk ≡ chunk_at bytes offset → bytes_eq chunk.name (codes "data") ≡ false → Ok next ≡ format_after bytes known chunk → (chunks : List Chunk) × AreChunks bytes (end_of chunk) chunks × (answer_after bytes known rest ≡ answer_after bytes next chunks) × (rest ≡ chunk ∷ chunks)
+answer_after-goes_on bytes known next offset chunk [] short room is other goes = absurd (omega arith)
+answer_after-goes_on bytes known next offset chunk (first ∷ chunks) (_, at, are) room is other goes =
     let same : first ≡ chunk = at ∙ sym is in
     let not_samples : bytes_eq first.name (codes "data") ≡ false = ap (λ (c : Chunk). bytes_eq c.name (codes "data")) same ∙ other in
     let format : format_after bytes known first ≡ Ok next = ap (format_after bytes known) same ∙ sym goes in
     (chunks, subst (λ (c : Chunk). AreChunks bytes (end_of c) chunks) same are, rw (not_samples, format) refl, ap (λ (c : Chunk). c ∷ chunks) same)
 
 -- the chunk of the samples ends the search
-pub answer_after-samples : (bytes : List ℕ) (known : Option Format) (place : ℕ) (chunk : Chunk) (rest : List Chunk) → AreChunks bytes place rest → place + 8 ≤ length bytes → chunk ≡ chunk_at bytes place → bytes_eq chunk.name (codes "data") ≡ true → answer_after bytes known rest ≡ at_samples bytes known chunk
-answer_after-samples bytes known place chunk [] short room is samples = absurd (omega arith)
-answer_after-samples bytes known place chunk (first ∷ chunks) (_, at, are) room is samples =
+pub answer_after-samples : (bytes : List ℕ) (known : Option Format) (offset : ℕ) (chunk : Chunk) (rest : List Chunk) → AreChunks bytes offset rest → offset + 8 ≤ length bytes → chunk ≡ chunk_at bytes offset → bytes_eq chunk.name (codes "data") ≡ true → answer_after bytes known rest ≡ at_samples bytes known chunk
+answer_after-samples bytes known offset chunk [] short room is samples = absurd (omega arith)
+answer_after-samples bytes known offset chunk (first ∷ chunks) (_, at, are) room is samples =
     let same : first ≡ chunk = at ∙ sym is in
     let is_samples : bytes_eq first.name (codes "data") ≡ true = ap (λ (c : Chunk). bytes_eq c.name (codes "data")) same ∙ samples in
     rw is_samples (ap (at_samples bytes known) same)
 
 -- no chunk is left
-pub answer_after-end : (bytes : List ℕ) (known : Option Format) (place : ℕ) (rest : List Chunk) → AreChunks bytes place rest → length bytes < place + 8 → answer_after bytes known rest ≡ Err (at_end known)
-answer_after-end bytes known place [] are short = refl
-answer_after-end bytes known place (first ∷ chunks) (room, _, _) short = absurd (omega arith)
+pub answer_after-end : (bytes : List ℕ) (known : Option Format) (offset : ℕ) (rest : List Chunk) → AreChunks bytes offset rest → length bytes < offset + 8 → answer_after bytes known rest ≡ Err (at_end known)
+answer_after-end bytes known offset [] are short = refl
+answer_after-end bytes known offset (first ∷ chunks) (room, _, _) short = absurd (omega arith)
 
 -- these answers are no stops
 pub AnswersAs-samples : (bytes : List ℕ) (known : Option Format) (chunk : Chunk) (answer : Result WavHead WavFault) → answer ≡ at_samples bytes known chunk → AnswersAs (at_samples bytes known chunk) answer
@@ -104,14 +104,14 @@ IfShort-map Read P Q also is = tt
 IfShort-map (Short at size) P Q also is = also at size is
 
 -- what is passed over lies before the next head
-passed_before : (known : Bool) (chunks : List Chunk) (place next : ℕ) → IsPassedOver known chunks place next → place < next
-passed_before known [] place next passed = absurd passed
-passed_before known (chunk ∷ chunks) place next (_, inl (_, before, _)) = before
-passed_before known (chunk ∷ chunks) place next (_, inr later) = passed_before (known || is_format chunk) chunks place next later
+passed_before : (known : Bool) (chunks : List Chunk) (offset next : ℕ) → IsPassedOver known chunks offset next → offset < next
+passed_before known [] offset next passed = absurd passed
+passed_before known (chunk ∷ chunks) offset next (_, inl (_, before, _)) = before
+passed_before known (chunk ∷ chunks) offset next (_, inr later) = passed_before (known || is_format chunk) chunks offset next later
 
--- a place that is read next: the source's end isn't before it, or lies in what was passed over up to it
+-- an offset that is read next: the source's end isn't before it, or lies in what was passed over up to it
 abbrev pub Reached : Option (List ℕ) → Option ℕ → ℕ → Type 0
-Reached told ends place = WhereTold ends (λ end. WhereTold told (λ bytes. (chunks : List Chunk) → AreChunks bytes 12 chunks → (place ≤ end) ⊎ IsPassedOver false chunks end place))
+Reached told ends offset = WhereTold ends (λ end. WhereTold told (λ bytes. (chunks : List Chunk) → AreChunks bytes 12 chunks → (offset ≤ end) ⊎ IsPassedOver false chunks end offset))
 
 StoppedShort-reached : (size : ℕ) (told : Option (List ℕ)) (ends : Option ℕ) (start at told_size : ℕ) → Reached told ends start → GaveNothing size ends start at told_size → StoppedShort size told ends at told_size
 StoppedShort-reached size told ends start at told_size reached gave = record {
@@ -134,10 +134,10 @@ pub IfShort-reached : (size : ℕ) (told : Option (List ℕ)) (ends : Option ℕ
 IfShort-reached size told ends start fault reached gave =
     IfShort-map fault (GaveNothing size ends start) (StoppedShort size told ends) (λ at n is. StoppedShort-reached size told ends start at n reached is) gave
 
--- the next place behind a chunk that isn't of samples
-pub Reached-behind : (bytes : List ℕ) (known : Option Format) (place end : ℕ) (chunk : Chunk) (whole rest : List Chunk) → AreChunks bytes place rest → place + 8 ≤ length bytes → chunk ≡ chunk_at bytes place → is_samples chunk ≡ false → ((p n : ℕ) → IsPassedOver (is_some known) rest p n → IsPassedOver false whole p n) → passed_from (is_some known) chunk ≤ end → (end_of chunk ≤ end) ⊎ IsPassedOver false whole end (end_of chunk)
-Reached-behind bytes known place end chunk whole [] short room is other within passes = absurd (omega arith)
-Reached-behind bytes known place end chunk whole (first ∷ chunks) (_, at, are) room is other within passes =
+-- the next offset behind a chunk that isn't of samples
+pub Reached-behind : (bytes : List ℕ) (known : Option Format) (offset end : ℕ) (chunk : Chunk) (whole rest : List Chunk) → AreChunks bytes offset rest → offset + 8 ≤ length bytes → chunk ≡ chunk_at bytes offset → is_samples chunk ≡ false → ((p n : ℕ) → IsPassedOver (is_some known) rest p n → IsPassedOver false whole p n) → passed_from (is_some known) chunk ≤ end → (end_of chunk ≤ end) ⊎ IsPassedOver false whole end (end_of chunk)
+Reached-behind bytes known offset end chunk whole [] short room is other within passes = absurd (omega arith)
+Reached-behind bytes known offset end chunk whole (first ∷ chunks) (_, at, are) room is other within passes =
     let same : first ≡ chunk = at ∙ sym is in
     elim (cases_lt end (end_of chunk)) [
       | inr there ↦ inl there
@@ -185,9 +185,9 @@ faults-format bytes (Short at size) (Err fault) end chunks are is inside = tt
 faults-format bytes (Short at size) (Ok k) end chunks are is inside =
     before_start (answer_after bytes k chunks) at end inside (start_behind bytes k end chunks are)
 
-pub answer_after-faults : (bytes : List ℕ) (known : Option Format) (place : ℕ) (chunk : Chunk) (rest : List Chunk) (fault : WavFault) → AreChunks bytes place rest → place + 8 ≤ length bytes → chunk ≡ chunk_at bytes place → bytes_eq chunk.name (codes "data") ≡ false → UnlessStopped {A = Option Format} (Err fault) (λ r. r ≡ format_after bytes known chunk) → IfShort fault (λ at _. at < end_of chunk) → AnswersAs (Err fault) (answer_after bytes known rest)
-answer_after-faults bytes known place chunk [] fault short room is other faults inside = absurd (omega arith)
-answer_after-faults bytes known place chunk (first ∷ chunks) fault (_, at, are) room is other faults inside =
+pub answer_after-faults : (bytes : List ℕ) (known : Option Format) (offset : ℕ) (chunk : Chunk) (rest : List Chunk) (fault : WavFault) → AreChunks bytes offset rest → offset + 8 ≤ length bytes → chunk ≡ chunk_at bytes offset → bytes_eq chunk.name (codes "data") ≡ false → UnlessStopped {A = Option Format} (Err fault) (λ r. r ≡ format_after bytes known chunk) → IfShort fault (λ at _. at < end_of chunk) → AnswersAs (Err fault) (answer_after bytes known rest)
+answer_after-faults bytes known offset chunk [] fault short room is other faults inside = absurd (omega arith)
+answer_after-faults bytes known offset chunk (first ∷ chunks) fault (_, at, are) room is other faults inside =
     let same : first ≡ chunk = at ∙ sym is in
     let not_samples : bytes_eq first.name (codes "data") ≡ false = ap (λ (c : Chunk). bytes_eq c.name (codes "data")) same ∙ other in
     let behind = faults-format bytes fault (format_after bytes known chunk) (end_of chunk) chunks (subst (λ (c : Chunk). AreChunks bytes (end_of c) chunks) same are) faults inside in

@@ -21,9 +21,9 @@ number_in n i p m bytes within = little_from-take i n m (drop p bytes) within �
 pub number_of-piece : (n i p m : ℕ) (bytes piece : List ℕ) → i + n ≤ m → piece ≡ take m (drop p bytes) → little_from i n piece ≡ little_from (p + i) n bytes
 number_of-piece n i p m bytes piece within is = ap (little_from i n) is ∙ number_in n i p m bytes within
 
--- the chunk that 8 bytes from a place on say
-pub chunk_read : (bytes head name : List ℕ) (place size content : ℕ) → head ≡ take 8 (drop place bytes) → name ≡ take 4 head → size ≡ little_from 4 4 head → content ≡ place + 8 → ◌≡◌ {A = Chunk} (record { name = name; size = size; content = content }) (chunk_at bytes place)
-chunk_read bytes head name place size content is named sized at =
-    let name_is : name ≡ take 4 (drop place bytes) = named ∙ ap (take 4) is ∙ take-take 4 8 (drop place bytes) (omega arith) in
-    let size_is : size ≡ little_from (place + 4) 4 bytes = sized ∙ number_of-piece 4 4 place 8 bytes head (omega arith) is in
+-- the chunk that 8 bytes from an offset on say
+pub chunk_read : (bytes head name : List ℕ) (offset size content : ℕ) → head ≡ take 8 (drop offset bytes) → name ≡ take 4 head → size ≡ little_from 4 4 head → content ≡ offset + 8 → ◌≡◌ {A = Chunk} (record { name = name; size = size; content = content }) (chunk_at bytes offset)
+chunk_read bytes head name offset size content is named sized at =
+    let name_is : name ≡ take 4 (drop offset bytes) = named ∙ ap (take 4) is ∙ take-take 4 8 (drop offset bytes) (omega arith) in
+    let size_is : size ≡ little_from (offset + 4) 4 bytes = sized ∙ number_of-piece 4 4 offset 8 bytes head (omega arith) is in
     rw (name_is, size_is, at) refl

@@ -6,21 +6,21 @@ use Rattle.byteorder.specs.Endian.{little_from}
 pub record Chunk : Type 0 where
   pub name : List ℕ
   pub size : ℕ
-  -- the place where its content begins
+  -- the offset where its content begins
   pub content : ℕ
 
--- the chunk whose head begins at a place: a name of four bytes and a length of 32 bits, and then the content
+-- the chunk whose head begins at an offset: a name of four bytes and a length of 32 bits, and then the content
 abbrev pub chunk_at : List ℕ → ℕ → Chunk
-chunk_at bytes place = record { name = take 4 (drop place bytes); size = little_from (place + 4) 4 bytes; content = place + 8 }
+chunk_at bytes offset = record { name = take 4 (drop offset bytes); size = little_from (offset + 4) 4 bytes; content = offset + 8 }
 
--- the place behind the content and the pad byte of an odd length
+-- the offset behind the content and the pad byte of an odd length
 abbrev pub end_of : Chunk → ℕ
 end_of chunk = chunk.content + chunk.size + chunk.size % 2
 
--- the chunks from a place on, each head behind the end of the one before, until fewer than 8 bytes are left
+-- the chunks from an offset on, each head behind the end of the one before, until fewer than 8 bytes are left
 abbrev pub AreChunks : List ℕ → ℕ → List Chunk → Type 0
-AreChunks bytes place [] = length bytes < place + 8
-AreChunks bytes place (chunk ∷ chunks) = (place + 8 ≤ length bytes) × (chunk ≡ chunk_at bytes place) × AreChunks bytes (end_of chunk) chunks
+AreChunks bytes offset [] = length bytes < offset + 8
+AreChunks bytes offset (chunk ∷ chunks) = (offset + 8 ≤ length bytes) × (chunk ≡ chunk_at bytes offset) × AreChunks bytes (end_of chunk) chunks
 
 -- the first chunk of that name
 abbrev pub first_named : List ℕ → List Chunk → Option Chunk

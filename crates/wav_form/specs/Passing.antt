@@ -14,13 +14,13 @@ is_samples chunk = bytes_eq chunk.name (codes "data")
 abbrev pub passed_from : Bool → Chunk → ℕ
 passed_from known chunk = if not known && is_format chunk then chunk.content + 16 else chunk.content
 
--- a place lies in bytes of a chunk before the samples that aren't looked at, and the next chunk's head begins at `next`
-abbrev pub IsPassedOver : Bool → List Chunk → (place next : ℕ) → Type 0
-IsPassedOver known [] place next = ⊥
-IsPassedOver known (chunk ∷ chunks) place next =
+-- an offset lies in bytes of a chunk before the samples that aren't looked at, and the next chunk's head begins at `next`
+abbrev pub IsPassedOver : Bool → List Chunk → (offset next : ℕ) → Type 0
+IsPassedOver known [] offset next = ⊥
+IsPassedOver known (chunk ∷ chunks) offset next =
     (is_samples chunk ≡ false)
-    × (((passed_from known chunk ≤ place) × (place < next) × (next ≡ end_of chunk))
-    ⊎ IsPassedOver (known || is_format chunk) chunks place next)
+    × (((passed_from known chunk ≤ offset) × (offset < next) × (next ≡ end_of chunk))
+    ⊎ IsPassedOver (known || is_format chunk) chunks offset next)
 
 -- nothing behind the head of the first chunk of samples was asked for that wasn't before
 abbrev pub AsksNoSamples : List ℕ → Option ℕ → Option ℕ → Type 0

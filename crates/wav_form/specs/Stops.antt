@@ -19,13 +19,13 @@ UnlessStopped (Err (UnsupportedTag tag)) P = P (Err (UnsupportedTag tag))
 UnlessStopped (Err Read) P = Unit {0}
 UnlessStopped (Err (Short at size)) P = Unit {0}
 
--- P of the place of a short stop
+-- P of the offset of a short stop
 abbrev pub IfShort : WavFault → (ℕ → ℕ → Type 0) → Type 0
 IfShort (Short at size) P = P at size
 IfShort _ P = Unit {0}
 
--- a source of this size gave nothing at a place below it: where it tells from which place on it gives nothing, there, or at
--- the next chunk's head where that place lies in bytes that are passed over
+-- a source of this size gave nothing at an offset below it: where it tells from which offset on it gives nothing, there, or at
+-- the next chunk's head where that offset lies in bytes that are passed over
 pub record StoppedShort (size : ℕ) (told : Option (List ℕ)) (ends : Option ℕ) (at told_size : ℕ) : Type 0 where
   pub whole : told_size ≡ size
   pub below : at < size

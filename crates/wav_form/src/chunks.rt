@@ -15,7 +15,7 @@ use outside_io::Source;
 /// The bytes of a chunk's name and length.
 pub(crate) const CHUNK_HEAD: u64 = 8;
 
-/// A chunk that was read: its name, its length, and the place of its content.
+/// A chunk that was read: its name, its length, and the offset of its content.
 #[derive(Clone, Copy, Debug, PartialEq, Eq)]
 pub(crate) struct ChunkHead {
     pub(crate) name: [u8; 4],
@@ -23,41 +23,41 @@ pub(crate) struct ChunkHead {
     pub(crate) content: u64,
 }
 
-/// The chunk whose head begins at `place`.
-pub(crate) fn read_chunk<S: Source>(src: &mut S, place: u64) -> Result<ChunkHead, WavFault>
-    requires there { place + CHUNK_HEAD ≤ S.size src.old }
-    requires small { place < 2 ^ 63 }
-    ensures chunk { WhereTold (S.told src.old) (λ bytes. IfOk result (λ chunk. view chunk ≡ chunk_at bytes place)) }
-    ensures reached { WhereTold (S.ends src.old) (λ end. OnOk result (place + 8 ≤ end)) }
-    ensures content { IfOk result (λ chunk. chunk.content ≡ place + 8) }
-    ensures place { OnOk result (S.place src.new ≡ place + 8) }
+/// The chunk whose head begins at `offset`.
+pub(crate) fn read_chunk<S: Source>(src: &mut S, offset: u64) -> Result<ChunkHead, WavFault>
+    requires there { offset + CHUNK_HEAD ≤ S.size src.old }
+    requires small { offset < 2 ^ 63 }
+    ensures chunk { WhereTold (S.told src.old) (λ bytes. IfOk result (λ chunk. view chunk ≡ chunk_at bytes offset)) }
+    ensures reached { WhereTold (S.ends src.old) (λ end. OnOk result (offset + 8 ≤ end)) }
+    ensures content { IfOk result (λ chunk. chunk.content ≡ offset + 8) }
+    ensures offset { OnOk result (S.offset src.new ≡ offset + 8) }
     ensures told { S.told src.new ≡ S.told src.old }
     ensures ends { S.ends src.new ≡ S.ends src.old }
     ensures size { S.size src.new ≡ S.size src.old }
     ensures later { S.faults src.old ≤ S.faults src.new }
     ensures read { result ≡ Err WavFault.Read → Rose (S.faults src.old) (S.faults src.new) }
     ensures stands { result ≢ Err WavFault.Read → S.faults src.new ≡ S.faults src.old }
-    ensures asks { AsksWithin (S.asked src.old) (S.asked src.new) (place + 8) }
-    ensures stop { IfErr result (IsReadStop (S.size src.old) (S.ends src.old) place (place + 8)) }
+    ensures asks { AsksWithin (S.asked src.old) (S.asked src.new) (offset + 8) }
+    ensures stop { IfErr result (IsReadStop (S.size src.old) (S.ends src.old) offset (offset + 8)) }
 {
     let mut head = [0u8; 8];
-    match fill_from(src, place, &mut head) {
-        Ok(()) => Ok(chunk_from(&head, place)),
+    match fill_from(src, offset, &mut head) {
+        Ok(()) => Ok(chunk_from(&head, offset)),
         Err(fault) => Err(fault),
     }
 }
 
-/// A chunk by the 8 bytes of its head at `place`.
-fn chunk_from(head: &[u8; 8], place: u64) -> ChunkHead
-    requires { place < 2 ^ 63 }
+/// A chunk by the 8 bytes of its head at `offset`.
+fn chunk_from(head: &[u8; 8], offset: u64) -> ChunkHead
+    requires { offset < 2 ^ 63 }
     ensures name { result.name ≡ take 4 head.now }
     ensures size { result.size ≡ little_from 4 4 head.now }
-    ensures content { result.content ≡ place + 8 }
+    ensures content { result.content ≡ offset + 8 }
 {
     ChunkHead {
         name: [head[0], head[1], head[2], head[3]],
         size: LittleEndian::read_u32(&head[4..]),
-        content: place + CHUNK_HEAD,
+        content: offset + CHUNK_HEAD,
     }
 }
 
@@ -74,7 +74,7 @@ impl ChunkHead {
         self.name == *b"data"
     }
 
-    /// The place behind the content and the pad byte of an odd length.
+    /// The offset behind the content and the pad byte of an odd length.
     pub(crate) fn end(&self) -> u64
         requires { self.now.content < 2 ^ 63 }
         ensures value { result ≡ end_of (view self.now) }

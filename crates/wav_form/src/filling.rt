@@ -7,23 +7,23 @@ ghost use Rattle.wav_form.specs.Stops.{IsReadStop};
 use omx_types::WavFault;
 use outside_io::{ReadStop, Source, read_exact};
 
-/// Reads the bytes from `place` on into the whole of `buf`.
-pub(crate) fn fill_from<S: Source>(src: &mut S, place: u64, buf: &mut [u8]) -> Result<(), WavFault>
-    requires { place + length buf.old ≤ S.size src.old }
+/// Reads the bytes from `offset` on into the whole of `buf`.
+pub(crate) fn fill_from<S: Source>(src: &mut S, offset: u64, buf: &mut [u8]) -> Result<(), WavFault>
+    requires { offset + length buf.old ≤ S.size src.old }
     ensures bytes { WhereTold (S.told src.old) (λ bytes. OnOk result (
-        buf.new ≡ take (length buf.old) (drop place bytes))) }
-    ensures reached { WhereTold (S.ends src.old) (λ end. OnOk result (0 < length buf.old → place + length buf.old ≤ end)) }
-    ensures place { OnOk result (S.place src.new ≡ place + length buf.old) }
+        buf.new ≡ take (length buf.old) (drop offset bytes))) }
+    ensures reached { WhereTold (S.ends src.old) (λ end. OnOk result (0 < length buf.old → offset + length buf.old ≤ end)) }
+    ensures offset { OnOk result (S.offset src.new ≡ offset + length buf.old) }
     ensures told { S.told src.new ≡ S.told src.old }
     ensures ends { S.ends src.new ≡ S.ends src.old }
     ensures size { S.size src.new ≡ S.size src.old }
     ensures later { S.faults src.old ≤ S.faults src.new }
     ensures read { result ≡ Err WavFault.Read → Rose (S.faults src.old) (S.faults src.new) }
     ensures stands { result ≢ Err WavFault.Read → S.faults src.new ≡ S.faults src.old }
-    ensures asks { AsksWithin (S.asked src.old) (S.asked src.new) (place + length buf.old) }
-    ensures stop { IfErr result (IsReadStop (S.size src.old) (S.ends src.old) place (place + length buf.old)) }
+    ensures asks { AsksWithin (S.asked src.old) (S.asked src.new) (offset + length buf.old) }
+    ensures stop { IfErr result (IsReadStop (S.size src.old) (S.ends src.old) offset (offset + length buf.old)) }
 {
-    match go_to(src, place) {
+    match go_to(src, offset) {
         Ok(()) => {}
         Err(fault) => return Err(fault),
     }
@@ -34,10 +34,10 @@ pub(crate) fn fill_from<S: Source>(src: &mut S, place: u64, buf: &mut [u8]) -> R
     }
 }
 
-/// Goes to a place, by a seek only where the source doesn't stand there.
-fn go_to<S: Source>(src: &mut S, place: u64) -> Result<(), WavFault>
-    requires { place ≤ S.size src.old }
-    ensures reached { OnOk result (S.place src.new ≡ place) }
+/// Goes to an offset, by a seek only where the source doesn't stand there.
+fn go_to<S: Source>(src: &mut S, offset: u64) -> Result<(), WavFault>
+    requires { offset ≤ S.size src.old }
+    ensures reached { OnOk result (S.offset src.new ≡ offset) }
     ensures told { S.told src.new ≡ S.told src.old }
     ensures ends { S.ends src.new ≡ S.ends src.old }
     ensures size { S.size src.new ≡ S.size src.old }
@@ -47,10 +47,10 @@ fn go_to<S: Source>(src: &mut S, place: u64) -> Result<(), WavFault>
     ensures asked { S.asked src.new ≡ S.asked src.old }
     ensures only { IfErr result (λ fault. fault ≡ WavFault.Read) }
 {
-    if src.place() == place {
+    if src.offset() == offset {
         return Ok(());
     }
-    match src.seek_to(place) {
+    match src.seek_to(offset) {
         Ok(()) => Ok(()),
         Err(_) => Err(WavFault::Read),
     }

@@ -21,7 +21,7 @@ const MOST_BYTES: u64 = 67_108_864;
 /// The bytes before the first chunk.
 const RIFF_HEAD: u64 = 12;
 
-/// The format of a WAV file, the place of its samples, and how many whole frames they are.
+/// The format of a WAV file, the offset of its samples, and how many whole frames they are.
 #[derive(Clone, Copy, Debug, PartialEq, Eq)]
 pub struct WavHead {
     pub format: Format,
@@ -29,7 +29,7 @@ pub struct WavHead {
     pub frames: u64,
 }
 
-/// Reads the head of a WAV file. After an `Ok` the source stands at the samples; after an `Err` its place is free.
+/// Reads the head of a WAV file. After an `Ok` the source stands at the samples; after an `Err` its offset is free.
 /// It reads with a fixed buffer, passes over what is skipped by seeking, and asks for nothing behind the head of the
 /// `data` chunk.
 pub fn read_head<S: Source>(src: &mut S) -> Result<WavHead, WavFault>
@@ -51,7 +51,7 @@ pub fn read_head<S: Source>(src: &mut S) -> Result<WavHead, WavFault>
     ensures stands { result ≢ Err WavFault.Read → S.faults src.new ≡ S.faults src.old }
     ensures fits { IfOk result (λ head. FitsFile head (S.size src.old)) }
     ensures too_large { most_bytes < S.size src.old → result ≡ Err (WavFault.TooLarge (S.size src.old)) }
-    ensures place { IfOk result (λ head. S.place src.new ≡ head.start) }
+    ensures offset { IfOk result (λ head. S.offset src.new ≡ head.start) }
     ensures told { S.told src.new ≡ S.told src.old }
     ensures ends { S.ends src.new ≡ S.ends src.old }
     ensures size { S.size src.new ≡ S.size src.old }
@@ -115,7 +115,7 @@ fn search<S: Source>(src: &mut S, size: u64) -> Result<WavHead, WavFault>
     ensures answer { WhereTold (S.told src.old) (λ bytes. (chunks : List Chunk) → AreChunks bytes 12 chunks →
         AnswersAs result (answer_after bytes None chunks)) }
     ensures fits { IfOk result (λ head. FitsFile head size) }
-    ensures place { IfOk result (λ head. S.place src.new ≡ head.start) }
+    ensures offset { IfOk result (λ head. S.offset src.new ≡ head.start) }
     ensures told { S.told src.new ≡ S.told src.old }
     ensures ends { S.ends src.new ≡ S.ends src.old }
     ensures size { S.size src.new ≡ S.size src.old }
@@ -129,9 +129,9 @@ fn search<S: Source>(src: &mut S, size: u64) -> Result<WavHead, WavFault>
     ensures start { WhereTold (S.ends src.old) (λ end. IfOk result (λ head. head.start ≤ end)) }
 {
     let mut known: Option<Format> = None;
-    let mut place = RIFF_HEAD;
-    while place + CHUNK_HEAD <= size {
-        let chunk = match read_chunk(src, place) {
+    let mut offset = RIFF_HEAD;
+    while offset + CHUNK_HEAD <= size {
+        let chunk = match read_chunk(src, offset) {
             Ok(chunk) => chunk,
             Err(fault) => return Err(fault),
         };
@@ -142,7 +142,7 @@ fn search<S: Source>(src: &mut S, size: u64) -> Result<WavHead, WavFault>
             Ok(format) => known = format,
             Err(fault) => return Err(fault),
         }
-        place = chunk.end();
+        offset = chunk.end();
     }
     Err(fault_at_end(known))
 }

@@ -154,7 +154,7 @@ fn put_u32(out: &mut [u8; 58], at: usize, value: u32) -> usize
     put(out, at, &bytes)
 }
 
-/// Puts bytes at a place, and answers the place behind them.
+/// Puts bytes at an offset, and answers the offset behind them.
 fn put(out: &mut [u8; 58], at: usize, bytes: &[u8]) -> usize
     requires { at + length bytes.now ≤ MOST_HEAD }
     ensures { Puts out.old out.new at result bytes.now }

@@ -9,7 +9,7 @@ use Rattle.il_machine.specs.World.{Component, Stream, Work, World, component_num
 use Rattle.il_machine.specs.Parts.{terms_of, file_format}
 use Rattle.il_machine.specs.Files.{Offered, attached, stream_with, with_file}
 use Rattle.il_machine.specs.Claims.{all_given_out, seen_work, with_work}
-use Rattle.il_machine.specs.Stepping.{Done}
+use Rattle.il_machine.specs.Stepping.{WorkDone}
 use Rattle.il_machine.specs.Finishing.{part_by, part_after, gone_through, announced, announced_at, stepped_back, with_landed}
 use Rattle.il_machine.specs.Whole.{PartSeen, HasDone, HasParts, IsOut}
 use Rattle.il_machine.proofs.Carrying.{held_out, carried_same}
@@ -112,11 +112,11 @@ out_claimed w i c work s p n st H =
 pub done_less : (t : Terms) (f g : Bool) (s : Stream) (p : PartSeen) → (g ≡ false → f ≡ false) → HasDone t f s p → HasDone t g s p
 done_less t f g s p k H = record { left = H.left; rest = λ h e. H.rest h (k e); kept = H.kept; writing = λ n h e. H.writing n h (k e) }
 
-failed_after : (c : Component) (s : Stream) (done : Done) (o : Option PartFault) → (part_by c s done o).failed ≡ false → is_some o ≡ false
+failed_after : (c : Component) (s : Stream) (done : WorkDone) (o : Option PartFault) → (part_by c s done o).failed ≡ false → is_some o ≡ false
 failed_after c s done None e = refl
 failed_after c s done (Some fault) e = absurd cc
 
-pub parts_landed : (parts : List (Option PartSeen)) (w : World) (i : ℕ) (c : Component) (done : Done) (s : Stream) (q : Option PartSeen) (p : PartSeen) → slice_get w.components i ≡ Some c → IsOnly i c w.components → slice_get parts i ≡ Some q
+pub parts_landed : (parts : List (Option PartSeen)) (w : World) (i : ℕ) (c : Component) (done : WorkDone) (s : Stream) (q : Option PartSeen) (p : PartSeen) → slice_get w.components i ≡ Some c → IsOnly i c w.components → slice_get parts i ≡ Some q
     → stream_of (number_of c) w ≡ Some s → HasDone (terms_of c) (is_some done.fault) (gone_through done s) p → HasParts parts w → HasParts (set parts i (Some p)) (with_landed i c done s w)
 parts_landed parts w i c done s q p at only there st H P =
     parts_both parts w i c (stepped_back c s done) (gone_through done) q p at only refl (λ x. refl) there
@@ -156,7 +156,7 @@ parts_told parts w i c s q p at only there st H P =
     subst (λ (ss : List Stream). HasParts (set parts i (Some p)) (record (with_component i d w) { streams = ss })) (same_streams (number_of c) w.streams) B
 
 -- a step of no frames that wrote nothing leaves its stream
-pub through_nothing : (done : Done) (s : Stream) → done.frames ≡ 0 → done.took ≡ [] → gone_through done s ≡ s
+pub through_nothing : (done : WorkDone) (s : Stream) → done.frames ≡ 0 → done.took ≡ [] → gone_through done s ≡ s
 through_nothing done s f t =
     let a : s.frames + done.frames ≡ s.frames = omega arith in
     let b : s.written ++ done.took ≡ s.written = rw t (append-nil s.written) in

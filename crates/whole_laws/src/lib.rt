@@ -5,7 +5,7 @@ ghost use Rattle.std.specs.Prelude.{◌≡◌, ℕ, List, Option, Some, None, is
 ghost use Rattle.il_machine.specs.World.{Component, Stream, Work, World, component_numbered, number_of, stream_of, with_component};
 ghost use Rattle.il_machine.specs.Files.{Offered, attached, stream_with, with_file};
 ghost use Rattle.il_machine.specs.Claims.{seen_work, with_work};
-ghost use Rattle.il_machine.specs.Stepping.{Done};
+ghost use Rattle.il_machine.specs.Stepping.{WorkDone};
 ghost use Rattle.il_machine.specs.Finishing.{announced, gone_through, with_landed};
 ghost use Rattle.il_machine.specs.Parts.{terms_of};
 ghost use Rattle.il_machine.specs.Whole.{Kept, Stands, PartSeen, HasDone, HasParts, IsOut};
@@ -29,7 +29,7 @@ pub fn law_of_parts()
     ensures out { (w : World) (i : ℕ) (c : Component) (work : Work) (s : Stream) (p : PartSeen)
         → component_numbered (number_of c) (with_work i c work w) ≡ Some (record c { work = Some work }) → stream_of (number_of c) w ≡ Some s
         → HasDone (terms_of c) c.part.failed s p → IsOut (with_work i c work w) (seen_work c work w.headers) p }
-    ensures landed { (parts : List (Option PartSeen)) (w : World) (i : ℕ) (c : Component) (done : Done) (s : Stream) (q : Option PartSeen) (p : PartSeen)
+    ensures landed { (parts : List (Option PartSeen)) (w : World) (i : ℕ) (c : Component) (done : WorkDone) (s : Stream) (q : Option PartSeen) (p : PartSeen)
         → slice_get w.components i ≡ Some c → IsAlone i c w.components → slice_get parts i ≡ Some q → stream_of (number_of c) w ≡ Some s
         → HasDone (terms_of c) (is_some done.fault) (gone_through done s) p
         → HasParts parts w → HasParts (slice_set parts i (Some p)) (with_landed i c done s w) }

@@ -8,8 +8,8 @@ use Rattle.il_machine.specs.declared.port.PortKey.{PortKey}
 use Rattle.il_machine.specs.Lists.{holds_at}
 use Rattle.il_machine.specs.World.{Component, Load, Stream}
 use Rattle.il_machine.specs.Parts.{terms_of}
-use Rattle.il_machine.specs.Claims.{Carried}
-use Rattle.il_machine.specs.Stepping.{Done, format_at}
+use Rattle.il_machine.specs.Claims.{CarriedHeader}
+use Rattle.il_machine.specs.Stepping.{WorkDone, format_at}
 use Rattle.il_machine.specs.Finishing.{Landing, Again, Onward, Noted, carries_on, ends_by, is_an_input, is_cleared, is_finished, is_own, is_returning, is_tunnelled, landing, landing_note, load_after, mark_after, mark_in, mark_on, notes_of_header, notes_of_headers}
 use Rattle.il_machine.specs.Stock.{Stocked}
 use Rattle.il_machine.specs.Whole.{Noticed}
@@ -21,7 +21,7 @@ use Rattle.work_landing.specs.Landed.{AreWays, AreWithin, IsWay, all_landed, all
 use Rattle.work_landing.specs.Places.{AreFree, carried, carried_from}
 use Rattle.work_landing.specs.Returning.{all_noticed, all_notes, all_put, back_at, carries_by, landing_by, mark_by, mark_from, noted_by, noticed_at, noticed_by, notes_at, notes_by, port_of, put_at, put_by, settled, told_by}
 
-abbrev pub known_in : Component → Stream → Done → Known
+abbrev pub known_in : Component → Stream → WorkDone → Known
 known_in c s done = record {
   component = c.handle;
   failed = is_some done.fault;
@@ -29,7 +29,7 @@ known_in c s done = record {
   mark = mark_on c s done;
 }
 
-abbrev back_in : Component → Stream → Done → Carried → Back
+abbrev back_in : Component → Stream → WorkDone → CarriedHeader → Back
 back_in c s done x = record {
   input = is_an_input c x;
   finished = is_finished c s done x;
@@ -49,7 +49,7 @@ drained : (c : Component) (port : ℕ) (way : Way) (h : BufferHeader) (other ins
 drained c port way h other true w e = rw (← w.input, ← w.frame, e) refl
 drained c port way h other false w e = rw (← w.input, e) refl
 
-finished_is : (c : Component) (s : Stream) (done : Done) (port : ℕ) (way : Way) (h : BufferHeader) → IsWay c port way
+finished_is : (c : Component) (s : Stream) (done : WorkDone) (port : ℕ) (way : Way) (h : BufferHeader) → IsWay c port way
     → (not (is_some done.fault) && (if way.input then nat_eq (length h.held.content / way.frame - 0) 0 else (nat_lt 0 done.frames || ends_by c s done)))
     ≡ is_finished c s done (carried port h)
 finished_is c s done port way h w =
@@ -62,7 +62,7 @@ back_with input finished returning joined failed = record { input = input; finis
 back_of : (a b c d e a' b' c' d' : Bool) → a ≡ a' → b ≡ b' → c ≡ c' → d ≡ d' → back_with a b c d e ≡ back_with a' b' c' d' e
 back_of a b c d e a' b' c' d' i f r j = rw (i, f, r, j) refl
 
-back_is : (c : Component) (s : Stream) (done : Done) (port : ℕ) (way : Way) (h : BufferHeader) → IsWay c port way → back_at (known_in c s done) way h ≡ back_in c s done (carried port h)
+back_is : (c : Component) (s : Stream) (done : WorkDone) (port : ℕ) (way : Way) (h : BufferHeader) → IsWay c port way → back_at (known_in c s done) way h ≡ back_in c s done (carried port h)
 back_is c s done port way h w = back_of _ _ _ _ _ _ _ _ _ (sym w.input) (finished_is c s done port way h w) (sym w.returning) (sym w.joined)
 
 -- ---- what it carries, and where it lands
@@ -71,13 +71,13 @@ marks_same : (c : Component) (own mark : Option Mark) → mark_by c.handle own m
 marks_same c None mark = refl
 marks_same c (Some own) mark = refl
 
-settled_by : (c : Component) (s : Stream) (done : Done) (port : ℕ) (h : BufferHeader) (clears finishes : Bool) → is_cleared c s done (carried port h) ≡ clears → is_finished c s done (carried port h) ≡ finishes
+settled_by : (c : Component) (s : Stream) (done : WorkDone) (port : ℕ) (h : BufferHeader) (clears finishes : Bool) → is_cleared c s done (carried port h) ≡ clears → is_finished c s done (carried port h) ≡ finishes
     → settled c.handle (mark_on c s done) (back_in c s done (carried port h)) h ≡ with_load (load_after c s done (carried port h)) h
 settled_by c s done port h true finishes e f = rw e refl
 settled_by c s done port h false true e f = rw (e, f) (ap (λ mark. record h { held = record h.held { mark = mark } }) (marks_same c h.held.mark (mark_on c s done)))
 settled_by c s done port h false false e f = rw (e, f) refl
 
-settled_is : (c : Component) (s : Stream) (done : Done) (port : ℕ) (h : BufferHeader)
+settled_is : (c : Component) (s : Stream) (done : WorkDone) (port : ℕ) (h : BufferHeader)
     → settled c.handle (mark_on c s done) (back_in c s done (carried port h)) h ≡ with_load (load_after c s done (carried port h)) h
 settled_is c s done port h = settled_by c s done port h (is_cleared c s done (carried port h)) (is_finished c s done (carried port h)) refl refl
 
@@ -86,7 +86,7 @@ put_landed Again key load h k = refl
 put_landed Onward key load h k = refl
 put_landed Noted key load h k = refl
 
-put_is : (c : Component) (s : Stream) (done : Done) (port : ℕ) (way : Way) (h : BufferHeader) (k : Stocked) → IsWay c port way
+put_is : (c : Component) (s : Stream) (done : WorkDone) (port : ℕ) (way : Way) (h : BufferHeader) (k : Stocked) → IsWay c port way
     → put_at (known_in c s done) port way (Some h) k ≡ landed_at c s done (carried port h) k
 put_is c s done port way h k w =
     ap (λ b. put_by (landing_by b) (port_of c.handle port) (settled c.handle (mark_on c s done) b h) k) (back_is c s done port way h w)
@@ -95,12 +95,12 @@ put_is c s done port way h k w =
 
 -- ---- what is told of it
 
-note_landed : (to : Landing) (c : Component) (x : Carried) (h : BufferHeader) → h.held.number ≡ x.header.number → noted_by to (is_an_input c x) h ≡ landing_note to c x
+note_landed : (to : Landing) (c : Component) (x : CarriedHeader) (h : BufferHeader) → h.held.number ≡ x.header.number → noted_by to (is_an_input c x) h ≡ landing_note to c x
 note_landed Again c x h e = refl
 note_landed Onward c x h e = refl
 note_landed Noted c x h e = rw e refl
 
-notes_are : (c : Component) (s : Stream) (done : Done) (port : ℕ) (way : Way) (h : BufferHeader) → IsWay c port way
+notes_are : (c : Component) (s : Stream) (done : WorkDone) (port : ℕ) (way : Way) (h : BufferHeader) → IsWay c port way
     → notes_at (known_in c s done) way (Some h) ≡ notes_of_header c s done (carried port h)
 notes_are c s done port way h w =
     ap (λ b. notes_by c.handle (mark_on c s done) b h) (back_is c s done port way h w)
@@ -113,7 +113,7 @@ noticed_landed Again h = refl
 noticed_landed Onward h = refl
 noticed_landed Noted h = refl
 
-notices_are : (c : Component) (s : Stream) (done : Done) (port : ℕ) (way : Way) (h : BufferHeader) → IsWay c port way
+notices_are : (c : Component) (s : Stream) (done : WorkDone) (port : ℕ) (way : Way) (h : BufferHeader) → IsWay c port way
     → noticed_at (known_in c s done) way (Some h) ≡ notices_at c s done port (Some h)
 notices_are c s done port way h w =
     ap (λ b. noticed_by (landing_by b) (settled c.handle (mark_on c s done) b h)) (back_is c s done port way h w)
@@ -143,7 +143,7 @@ none_carried port [] h = refl
 none_carried port (None ∷ places) h = none_carried (port + 1) places h.1
 none_carried port (Some x ∷ places) h = absurd (let e = h.0 in cc)
 
-pub all_put_is : (c : Component) (s : Stream) (done : Done) (port : ℕ) (ways : List Way) (places : List (Option BufferHeader)) (k : Stocked) → AreWays c port ways → Covers ways places
+pub all_put_is : (c : Component) (s : Stream) (done : WorkDone) (port : ℕ) (ways : List Way) (places : List (Option BufferHeader)) (k : Stocked) → AreWays c port ways → Covers ways places
     → all_put (known_in c s done) port ways places k ≡ all_landed c s done (carried_from port places) k
 all_put_is c s done port [] places k ws free = ap (λ xs. all_landed c s done xs k) (sym (none_carried port places free))
 all_put_is c s done port (way ∷ ways) [] k ws covers = refl
@@ -152,7 +152,7 @@ all_put_is c s done port (way ∷ ways) (Some h ∷ places) k ws covers =
     ap (all_put (known_in c s done) (port + 1) ways places) (put_is c s done port way h k ws.0)
     ∙ all_put_is c s done (port + 1) ways places (landed_at c s done (carried port h) k) ws.1 covers
 
-pub all_notes_are : (c : Component) (s : Stream) (done : Done) (port : ℕ) (ways : List Way) (places : List (Option BufferHeader)) → AreWays c port ways → Covers ways places
+pub all_notes_are : (c : Component) (s : Stream) (done : WorkDone) (port : ℕ) (ways : List Way) (places : List (Option BufferHeader)) → AreWays c port ways → Covers ways places
     → all_notes (known_in c s done) ways places ≡ notes_of_headers c s done (carried_from port places)
 all_notes_are c s done port [] places ws free = ap (notes_of_headers c s done) (sym (none_carried port places free))
 all_notes_are c s done port (way ∷ ways) [] ws covers = refl
@@ -161,12 +161,12 @@ all_notes_are c s done port (way ∷ ways) (Some h ∷ places) ws covers =
     ap (λ ns. ns ++ all_notes (known_in c s done) ways places) (notes_are c s done port way h ws.0)
     ∙ ap (λ ns. notes_of_header c s done (carried port h) ++ ns) (all_notes_are c s done (port + 1) ways places ws.1 covers)
 
-none_noticed : (c : Component) (s : Stream) (done : Done) (port : ℕ) (places : List (Option BufferHeader)) → AreFree places → all_notices c s done port places ≡ []
+none_noticed : (c : Component) (s : Stream) (done : WorkDone) (port : ℕ) (places : List (Option BufferHeader)) → AreFree places → all_notices c s done port places ≡ []
 none_noticed c s done port [] h = refl
 none_noticed c s done port (None ∷ places) h = none_noticed c s done (port + 1) places h.1
 none_noticed c s done port (Some x ∷ places) h = absurd (let e = h.0 in cc)
 
-pub all_notices_are : (c : Component) (s : Stream) (done : Done) (port : ℕ) (ways : List Way) (places : List (Option BufferHeader)) → AreWays c port ways → Covers ways places
+pub all_notices_are : (c : Component) (s : Stream) (done : WorkDone) (port : ℕ) (ways : List Way) (places : List (Option BufferHeader)) → AreWays c port ways → Covers ways places
     → all_noticed (known_in c s done) ways places ≡ all_notices c s done port places
 all_notices_are c s done port [] places ws free = sym (none_noticed c s done port places free)
 all_notices_are c s done port (way ∷ ways) [] ws covers = refl
@@ -177,13 +177,13 @@ all_notices_are c s done port (way ∷ ways) (Some h ∷ places) ws covers =
 
 -- ---- the mark that is carried on
 
-carries_in : (c : Component) (s : Stream) (done : Done) (port : ℕ) (way : Way) (h : BufferHeader) (inside : Bool) → IsWay c port way → nat_lt port (length (terms_of c).inputs) ≡ inside
+carries_in : (c : Component) (s : Stream) (done : WorkDone) (port : ℕ) (way : Way) (h : BufferHeader) (inside : Bool) → IsWay c port way → nat_lt port (length (terms_of c).inputs) ≡ inside
     → carries_by way (is_some done.fault) c.handle h ≡ carries_on c s done (carried port h)
 carries_in c s done port way h true w e =
     rw (← w.input, ← w.frame, e) (ap (λ b. (b && nat_eq (length h.held.content / frame_bytes_of (format_at (terms_of c) port) - 0) 0) && holds_at h.held.mark (λ mark. not (is_own c mark))) (none_is done.fault))
 carries_in c s done port way h false w e = rw (← w.input, e) refl
 
-pub mark_is : (c : Component) (s : Stream) (done : Done) (port : ℕ) (ways : List Way) (places : List (Option BufferHeader)) → AreWays c port ways → Covers ways places
+pub mark_is : (c : Component) (s : Stream) (done : WorkDone) (port : ℕ) (ways : List Way) (places : List (Option BufferHeader)) → AreWays c port ways → Covers ways places
     → mark_from ways (is_some done.fault) c.handle places ≡ mark_in c s done (carried_from port places)
 mark_is c s done port [] places ws free = ap (mark_in c s done) (sym (none_carried port places free))
 mark_is c s done port (way ∷ ways) [] ws covers = refl

@@ -4,13 +4,13 @@ use Rattle.std.specs.Prelude.{Option, Some, None, IsSomeAnd}
 use Rattle.omx_types.specs.declared.command.Note.{Note}
 use Rattle.part_api.specs.Terms.{Terms}
 use Rattle.il_machine.specs.Census.{note_numbers}
-use Rattle.il_machine.specs.Claims.{Carried}
+use Rattle.il_machine.specs.Claims.{CarriedHeader}
 use Rattle.il_machine.specs.Due.{with_part}
 use Rattle.il_machine.specs.Finishing.{end_note, fault_note, notes_after, notes_of_headers, part_after, stepped_back, tells_end}
 use Rattle.il_machine.specs.Kinds.{ports_in}
 use Rattle.il_machine.specs.Parts.{terms_of}
-use Rattle.il_machine.specs.Room.{room, work_places}
-use Rattle.il_machine.specs.Stepping.{Done, ended_from, inputs_ended}
+use Rattle.il_machine.specs.Room.{room, work_reserve}
+use Rattle.il_machine.specs.Stepping.{WorkDone, ended_from, inputs_ended}
 use Rattle.il_machine.specs.Stock.{Stocked}
 use Rattle.il_machine.specs.World.{Component, PartState, Stream, Work}
 use Rattle.machine_laws.proofs.Finishing.{after_numbers}
@@ -28,7 +28,7 @@ use Rattle.work_landing.proofs.Room.{all_events, can_all, headers_both, room_aft
 
 -- ---- which inputs have ended
 
-ended_length : (t : Terms) (frames : ℕ) (headers : List Carried) (port count : ℕ) → length (ended_from t frames headers port count) ≡ count
+ended_length : (t : Terms) (frames : ℕ) (headers : List CarriedHeader) (port count : ℕ) → length (ended_from t frames headers port count) ≡ count
 ended_length t frames headers port zero = refl
 ended_length t frames headers port (suc count) = ap suc (ended_length t frames headers (port + 1) count)
 
@@ -54,16 +54,16 @@ room_parted part c =
     omega (arith, k, l)
 
 -- the work had a place for each header, and two
-pub places_of_work : (o : Option Work) (count : ℕ) → IsSomeAnd o (λ work. length work.headers ≡ count) → work_places o ≡ count + 2
+pub places_of_work : (o : Option Work) (count : ℕ) → IsSomeAnd o (λ work. length work.headers ≡ count) → work_reserve o ≡ count + 2
 places_of_work None count h = absurd h
 places_of_work (Some work) count h = omega (arith, h)
 
-pub room_there : (part : PartState) (c : Component) (count : ℕ) → IsSomeAnd c.work (λ work. length work.headers ≡ count) → work_places c.work ≤ room (record c { work = None }) → count + 2 ≤ room (parted part c)
+pub room_there : (part : PartState) (c : Component) (count : ℕ) → IsSomeAnd c.work (λ work. length work.headers ≡ count) → work_reserve c.work ≤ room (record c { work = None }) → count + 2 ≤ room (parted part c)
 room_there part c count h l = let p = places_of_work c.work count h in let r = room_parted part c in omega (arith, p, l, r)
 
 module _ (c : Component) (ways : List Way) (places : List (Option BufferHeader)) (step : Step) (s : Stream) (took : List ℕ) (ws : AreWays c 0 ways) (l : length (terms_of c).inputs ≤ length ways) (m : length (terms_of c).inputs ≤ length places)
     (within : AreWithin (length ways) 0 places) (left : IsLeft c s (done_by c.handle.generation places step took) step) where
-  abbrev done : Done
+  abbrev done : WorkDone
   done = done_by c.handle.generation places step took
 
   covers : Covers ways places

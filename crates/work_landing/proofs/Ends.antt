@@ -16,7 +16,7 @@ use Rattle.il_machine.specs.World.{Component, PartState, Stream}
 use Rattle.il_machine.specs.Components.{has_eos}
 use Rattle.il_machine.specs.Due.{with_part}
 use Rattle.il_machine.specs.Finishing.{ends_by as machine_ends, gone_through, part_after, part_by as machine_part, tells_end}
-use Rattle.il_machine.specs.Stepping.{Done, ended_from, format_at, has_ended_by, inputs_ended, is_last, is_over}
+use Rattle.il_machine.specs.Stepping.{WorkDone, ended_from, format_at, has_ended_by, inputs_ended, is_last, is_over}
 use Rattle.header_core.specs.BufferHeader.{BufferHeader}
 use Rattle.work_landing.specs.declared.back.Known.{Known}
 use Rattle.work_landing.specs.declared.back.Way.{Way}
@@ -125,12 +125,12 @@ ends_none c i e = ap (λ (es : List Bool). with_part (record c.part { ended_inpu
 no_more : (all before frames : ℕ) → all - (before + frames) ≡ all - before - frames
 no_more all before frames = omega arith
 
-by_source : (c : Component) (s : Stream) (done : Done) (step : Step) (ended : List Bool) (source : Bool) → is_source c.settings.kind ≡ source → IsLeft c s done step
+by_source : (c : Component) (s : Stream) (done : WorkDone) (step : Step) (ended : List Bool) (source : Bool) → is_source c.settings.kind ≡ source → IsLeft c s done step
     → (if is_source c.settings.kind then nat_eq step.left 0 else list_all (λ input. input) ended) ≡ is_over (terms_of c) s done.frames ended
 by_source c s done step ended true e left = rw e (ap (λ n. nat_eq n 0) (left e ∙ no_more (frames_of c.file) s.frames done.frames))
 by_source c s done step ended false e left = rw e refl
 
-parts_same : (c : Component) (s : Stream) (done : Done) (fault : Option PartFault) → part_by fault (inputs_ended (terms_of c) 0 done.headers) (machine_ends c s done) c.part ≡ machine_part c s done fault
+parts_same : (c : Component) (s : Stream) (done : WorkDone) (fault : Option PartFault) → part_by fault (inputs_ended (terms_of c) 0 done.headers) (machine_ends c s done) c.part ≡ machine_part c s done fault
 parts_same c s done None = refl
 parts_same c s done (Some fault) = refl
 
@@ -144,7 +144,7 @@ has_last_is c port (way ∷ ways) (Some h ∷ places) ws covers =
 
 module _ (c : Component) (ways : List Way) (places : List (Option BufferHeader)) (step : Step) (s : Stream) (took : List ℕ) (ws : AreWays c 0 ways) (l : length (terms_of c).inputs ≤ length ways) (m : length (terms_of c).inputs ≤ length places)
     (covers : Covers ways places) (left : IsLeft c s (done_by c.handle.generation places step took) step) where
-  abbrev done : Done
+  abbrev done : WorkDone
   done = done_by c.handle.generation places step took
 
   pub over_is : over_by c.settings.kind ways places step ≡ machine_ends c s done

@@ -5,13 +5,13 @@ use Rattle.std.proofs.lemmas.Bool.Decides.{nat_tests}
 use Rattle.il_machine.specs.declared.port.PortKey.{PortKey}
 use Rattle.il_machine.specs.declared.header.HeaderState.{HeaderState}
 use Rattle.il_machine.specs.declared.header.Owner.TheVariants as owners
-use Rattle.il_machine.specs.declared.header.Place.TheVariants.{Out}
+use Rattle.il_machine.specs.declared.header.Queue.TheVariants.{Out}
 use Rattle.il_machine.specs.declared.header.Spot.TheVariants.{TodoFront, DoneBack}
 use Rattle.il_machine.specs.Finishing.{Landing, Again, Onward, Noted, key_at, landing, load_after, landed_at as machine_landed_at, all_landed as machine_landed}
-use Rattle.il_machine.specs.Stepping.{Done}
+use Rattle.il_machine.specs.Stepping.{WorkDone}
 use Rattle.il_machine.specs.Stock.{StandsFor, Stocked}
 use Rattle.il_machine.specs.World.{Component, HeaderRecord, Load, Stream, number_of}
-use Rattle.il_machine.specs.Claims.{Carried}
+use Rattle.il_machine.specs.Claims.{CarriedHeader}
 use Rattle.stock_laws.proofs.Composed.{give_loaded}
 use Rattle.stock_laws.proofs.Standing.{push_stands}
 use Rattle.header_core.specs.BufferHeader.{BufferHeader}
@@ -23,16 +23,16 @@ use Rattle.work_landing.specs.Places.{AreApart, EachFrom, IsOther, carried, carr
 pub record IsThere (k : Stocked) (n : ℕ) : Type 0 where
   pub state : HeaderState
   pub is : k.headers.header n ≡ Some state
-  pub out : state.place ≡ Out
+  pub out : state.queue ≡ Out
 
-there_by : (k : Stocked) (h : BufferHeader) (o : Option HeaderState) → k.headers.header h.held.number ≡ o → MatchOption o ⊥ (λ s. (s.place ≡ Out) × IsHeaderOf s h) → IsThere k h.held.number
+there_by : (k : Stocked) (h : BufferHeader) (o : Option HeaderState) → k.headers.header h.held.number ≡ o → MatchOption o ⊥ (λ s. (s.queue ≡ Out) × IsHeaderOf s h) → IsThere k h.held.number
 there_by k h None e x = absurd x
 there_by k h (Some s) e x = record { state = s; is = e; out = x.0 }
 
 pub there_of : (component port : ℕ) (k : Stocked) (h : BufferHeader) → IsHomeless component k port h → IsThere k h.held.number
 there_of component port k h H = there_by k h (k.headers.header h.held.number) refl H.1.1
 
-one_stands : (to : Landing) (c : Component) (x : Carried) (load : Load) (k : Stocked) (hs : List HeaderRecord) → StandsFor k hs → IsThere k x.header.number → k.loads x.header.number ≡ None
+one_stands : (to : Landing) (c : Component) (x : CarriedHeader) (load : Load) (k : Stocked) (hs : List HeaderRecord) → StandsFor k hs → IsThere k x.header.number → k.loads x.header.number ≡ None
     → StandsFor (landed_by to (key_at c x) x.header.number load k) (machine_landed_at to c x load hs)
 one_stands Again c x load k hs S T none = push_stands k hs (key_at c x) TodoFront x.header.number load T.state S T.is T.out
 one_stands Onward c x load k hs S T none = push_stands k hs (key_at c x) DoneBack x.header.number load T.state S T.is T.out
@@ -70,12 +70,12 @@ all_still_unkept number to key load k port first (Some x ∷ places) others are 
 
 -- ---- all of them
 
-stands_from : (c : Component) (s : Stream) (done : Done) (port : ℕ) (places : List (Option BufferHeader)) (k : Stocked) (hs : List HeaderRecord) → StandsFor k hs → AreHomeless (number_of c) port places k → UnkeptFrom port places k → AreApart places
+stands_from : (c : Component) (s : Stream) (done : WorkDone) (port : ℕ) (places : List (Option BufferHeader)) (k : Stocked) (hs : List HeaderRecord) → StandsFor k hs → AreHomeless (number_of c) port places k → UnkeptFrom port places k → AreApart places
     → StandsFor (all_landed c s done (carried_from port places) k) (machine_landed c s done (carried_from port places) hs)
 stands_from c s done port [] k hs S H U A = S
 stands_from c s done port (None ∷ places) k hs S H U A = stands_from c s done (port + 1) places k hs S H.1 U.1 A.1
 stands_from c s done port (Some h ∷ places) k hs S H U A =
-    let x : Carried = carried port h in
+    let x : CarriedHeader = carried port h in
     let n : ℕ = h.held.number in
     let to : Landing = landing c s done x in
     let load : Load = load_after c s done x in
@@ -84,7 +84,7 @@ stands_from c s done port (Some h ∷ places) k hs S H U A =
     (all_still_out (number_of c) n to (key_at c x) load k (port + 1) 0 places A.0 H.1)
     (all_still_unkept n to (key_at c x) load k (port + 1) 0 places A.0 U.1) A.1
 
-pub stands_landed : (c : Component) (s : Stream) (done : Done) (places : List (Option BufferHeader)) (k : Stocked) (hs : List HeaderRecord) → StandsFor k hs → AreHomeless (number_of c) 0 places k → AreUnkept places k → AreApart places
+pub stands_landed : (c : Component) (s : Stream) (done : WorkDone) (places : List (Option BufferHeader)) (k : Stocked) (hs : List HeaderRecord) → StandsFor k hs → AreHomeless (number_of c) 0 places k → AreUnkept places k → AreApart places
     → StandsFor (all_landed c s done (carried_from 0 places) k) (machine_landed c s done (carried_from 0 places) hs)
 stands_landed c s done places k hs S H U A = stands_from c s done 0 places k hs S H U A
 
@@ -101,7 +101,7 @@ one_stays Onward key n load k = record { key = refl; ports = refl; next = refl }
 one_stays Noted key n load k = record { key = refl; ports = refl; next = refl }
 
 -- the stock's key, its ports and its next number stay
-pub landed_stays : (c : Component) (s : Stream) (done : Done) (xs : List Carried) (k : Stocked) → Stays k (all_landed c s done xs k)
+pub landed_stays : (c : Component) (s : Stream) (done : WorkDone) (xs : List CarriedHeader) (k : Stocked) → Stays k (all_landed c s done xs k)
 landed_stays c s done [] k = record { key = refl; ports = refl; next = refl }
 landed_stays c s done (x ∷ xs) k =
     let a = one_stays (landing c s done x) (key_at c x) x.header.number (load_after c s done x) k in

@@ -4,18 +4,18 @@ use Rattle.omx_types.specs.Formats.{frame_bytes_of}
 use Rattle.il_machine.specs.declared.port.PortKey.{PortKey}
 use Rattle.il_machine.specs.declared.header.HeaderState.{HeaderState}
 use Rattle.il_machine.specs.declared.header.Owner.TheVariants as owners
-use Rattle.il_machine.specs.declared.header.Place.TheVariants.{Out}
+use Rattle.il_machine.specs.declared.header.Queue.TheVariants.{Out}
 use Rattle.il_machine.specs.declared.header.Spot.TheVariants.{TodoFront, DoneBack}
 use Rattle.il_machine.specs.Lists.{holds_at}
 use Rattle.il_machine.specs.Kinds.{is_source}
 use Rattle.il_machine.specs.World.{Component, Load, Stream, port_of, number_of}
 use Rattle.il_machine.specs.Ports.{is_joined, returning}
 use Rattle.il_machine.specs.Parts.{frames_left, terms_of}
-use Rattle.il_machine.specs.Claims.{Carried}
-use Rattle.il_machine.specs.Stepping.{Done, format_at}
+use Rattle.il_machine.specs.Claims.{CarriedHeader}
+use Rattle.il_machine.specs.Stepping.{WorkDone, format_at}
 use Rattle.il_machine.specs.Finishing.{Landing, Again, Onward, Noted, gone_through, is_an_input, key_at, landing, load_after}
 use Rattle.il_machine.specs.Buffers.{Held}
-use Rattle.il_machine.specs.Stock.{Stocked, given, pushed}
+use Rattle.il_machine.specs.Stock.{Stocked, header_given, pushed}
 use Rattle.il_machine.specs.Whole.{Noticed}
 use Rattle.header_core.specs.BufferHeader.{BufferHeader, is_clients}
 use Rattle.port_stock.specs.Conditions.{IsMadeFor, IsOutside, IsPort}
@@ -39,11 +39,11 @@ AreWays c port (way ∷ ways) = IsWay c port way × AreWays c (port + 1) ways
 -- ---- what comes back
 
 -- the work as it comes back, by the bytes that the part's file took
-abbrev pub done_by : ℕ → List (Option BufferHeader) → Step → List ℕ → Done
+abbrev pub done_by : ℕ → List (Option BufferHeader) → Step → List ℕ → WorkDone
 done_by component places step took = record { component = component; frames = step.frames; fault = step.fault; headers = carried_from 0 places; took = took }
 
 -- so many frames the file of a source still gives, once the step has gone through it
-abbrev pub IsLeft : Component → Stream → Done → Step → Type 0
+abbrev pub IsLeft : Component → Stream → WorkDone → Step → Type 0
 IsLeft c s done step = is_source c.settings.kind ≡ true → step.left ≡ frames_left (terms_of c) (gone_through done s)
 
 -- ---- where the headers land
@@ -51,13 +51,13 @@ IsLeft c s done step = is_source c.settings.kind ≡ true → step.left ≡ fram
 abbrev pub landed_by : Landing → PortKey → ℕ → Load → Stocked → Stocked
 landed_by Again key number load s = pushed key TodoFront number load s
 landed_by Onward key number load s = pushed key DoneBack number load s
-landed_by Noted key number load s = given number (owners.Notice key.component) s
+landed_by Noted key number load s = header_given number (owners.Notice key.component) s
 
-abbrev pub landed_at : Component → Stream → Done → Carried → Stocked → Stocked
+abbrev pub landed_at : Component → Stream → WorkDone → CarriedHeader → Stocked → Stocked
 landed_at c s done x k = landed_by (landing c s done x) (key_at c x) x.header.number (load_after c s done x) k
 
 -- one after another, by rising port
-abbrev pub all_landed : Component → Stream → Done → List Carried → Stocked → Stocked
+abbrev pub all_landed : Component → Stream → WorkDone → List CarriedHeader → Stocked → Stocked
 all_landed c s done [] k = k
 all_landed c s done (x ∷ xs) k = all_landed c s done xs (landed_at c s done x k)
 
@@ -73,12 +73,12 @@ abbrev pub noticed_if : Landing → BufferHeader → List Noticed
 noticed_if Noted h = noticed_as h ∷ []
 noticed_if _ h = []
 
-abbrev pub notices_at : Component → Stream → Done → ℕ → Option BufferHeader → List Noticed
+abbrev pub notices_at : Component → Stream → WorkDone → ℕ → Option BufferHeader → List Noticed
 notices_at c s done port None = []
 notices_at c s done port (Some h) = noticed_if (landing c s done (carried port h)) (with_load (load_after c s done (carried port h)) h)
 
 -- those that go to the client, with what they carry then
-abbrev pub all_notices : Component → Stream → Done → ℕ → List (Option BufferHeader) → List Noticed
+abbrev pub all_notices : Component → Stream → WorkDone → ℕ → List (Option BufferHeader) → List Noticed
 all_notices c s done port [] = []
 all_notices c s done port (place ∷ places) = notices_at c s done port place ++ all_notices c s done (port + 1) places
 

@@ -1,17 +1,17 @@
 -- The headers of a work by the numbers of their ports.
 use Rattle.std.specs.Prelude.{◌≡◌, ℕ, ◌+◌, false, nat_eq, List, [], ◌∷◌, Option, Some, None}
-use Rattle.il_machine.specs.Claims.{Carried}
+use Rattle.il_machine.specs.Claims.{CarriedHeader}
 use Rattle.header_core.specs.BufferHeader.{BufferHeader}
 
-abbrev pub carried : ℕ → BufferHeader → Carried
+abbrev pub carried : ℕ → BufferHeader → CarriedHeader
 carried port h = record { port = port; header = h.held }
 
-abbrev pub carried_at : ℕ → Option BufferHeader → List Carried → List Carried
+abbrev pub carried_at : ℕ → Option BufferHeader → List CarriedHeader → List CarriedHeader
 carried_at port None rest = rest
 carried_at port (Some h) rest = carried port h ∷ rest
 
 -- the headers as their holder sees them, by rising port from this one on
-abbrev pub carried_from : ℕ → List (Option BufferHeader) → List Carried
+abbrev pub carried_from : ℕ → List (Option BufferHeader) → List CarriedHeader
 carried_from port [] = []
 carried_from port (place ∷ places) = carried_at port place (carried_from (port + 1) places)
 

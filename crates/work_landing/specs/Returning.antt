@@ -18,7 +18,7 @@ use Rattle.il_machine.specs.Components.{has_eos}
 use Rattle.il_machine.specs.Flow.{done_note}
 use Rattle.il_machine.specs.Room.{room}
 use Rattle.il_machine.specs.Finishing.{Landing, Again, Onward, Noted, mark_note}
-use Rattle.il_machine.specs.Stock.{Stocked, given, pushed}
+use Rattle.il_machine.specs.Stock.{Stocked, header_given, pushed}
 use Rattle.il_machine.specs.Whole.{Noticed}
 use Rattle.header_core.specs.BufferHeader.{BufferHeader, cleared, with_mark}
 use Rattle.port_stock.specs.Conditions.{IsMadeFor, IsOutside, IsPort}
@@ -62,7 +62,7 @@ settled component mark b h = if cleared_by b then cleared h else if b.finished t
 abbrev pub put_by : Landing → PortKey → BufferHeader → Stocked → Stocked
 put_by Again key h s = pushed key TodoFront h.held.number (load_in h.held) s
 put_by Onward key h s = pushed key DoneBack h.held.number (load_in h.held) s
-put_by Noted key h s = given h.held.number (owners.Notice key.component) s
+put_by Noted key h s = header_given h.held.number (owners.Notice key.component) s
 
 abbrev pub told_by : Handle → Back → Option Mark → List Note
 told_by component b mark = if tells_by component b mark then mark_note mark else []

@@ -91,12 +91,12 @@ fn land<C>(
     ensures notes { GetsNotes component.old component.new (noted_by (landing_by back) back.input header) (noticed_by (landing_by back) header) }
 {
     if is_noted(back) {
-        stock.set_out(header.id(), Owner::Notice(port.component));
+        stock.give_header(header.id(), Owner::Notice(port.component));
         component.put_header(back.input, header);
     } else if is_onward(back) {
-        stock.push_work(port, header, Spot::DoneBack);
+        stock.push_header(port, header, Spot::DoneBack);
     } else {
-        stock.push_work(port, header, Spot::TodoFront);
+        stock.push_header(port, header, Spot::TodoFront);
     }
 }
 

@@ -8,7 +8,7 @@ use std::test::Fail;
 fn empty_file(rt: HostRuntime) -> Result<(), Fail> {
     let mut file = EmptyFile::new(7u8);
     let mut bytes = [9; 3];
-    assert_eq!(rt; (Source::size(&file), Source::place(&file)), (0, 0));
+    assert_eq!(rt; (Source::size(&file), Source::offset(&file)), (0, 0));
     assert_eq!(rt; file.seek_to(0), Ok(()));
     assert_eq!(rt; file.read(&mut bytes), Ok(0));
     assert_eq!(rt; file.write(&bytes), Ok(3));

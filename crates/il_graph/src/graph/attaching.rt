@@ -38,15 +38,15 @@ fn attached<S, K>(file: &PartFile<S, K>) -> Attached
 
 /// How many bytes a file that is read has from its place to its size.
 fn there<S: Source, K: Sink>(file: &PartFile<S, K>) -> u64
-    ensures bytes { OnFrom file.now (λ src format frames. result ≡ S.size src - S.place src) }
-    ensures within { OnFrom file.now (λ src format frames. S.place src ≤ S.size src) }
+    ensures bytes { OnFrom file.now (λ src format frames. result ≡ S.size src - S.offset src) }
+    ensures within { OnFrom file.now (λ src format frames. S.offset src ≤ S.size src) }
 {
     match file {
         PartFile::From {
             src,
             format: _,
             frames: _,
-        } => src.size() - src.place(),
+        } => src.size() - src.offset(),
         PartFile::To { snk: _, frames: _ } => 0,
     }
 }
@@ -54,8 +54,8 @@ fn there<S: Source, K: Sink>(file: &PartFile<S, K>) -> u64
 /// Gives the part the file.
 fn give_file<S: Source, K: Sink>(part: &mut AnyPart<S, K>, file: PartFile<S, K>)
     requires free { (terms_by part.old).file ≡ None }
-    requires may { MayAttach S.place S.size (terms_by part.old).kind file }
-    ensures { IsFiled file (offered S.place S.size S.told K.told file) (shown_by S.told K.told K.name part.old) (shown_by S.told K.told K.name part.new) }
+    requires may { MayAttach S.offset S.size (terms_by part.old).kind file }
+    ensures { IsFiled file (offered S.offset S.size S.told K.told file) (shown_by S.told K.told K.name part.old) (shown_by S.told K.told K.name part.new) }
 {
     law_of_shown(part);
     part.attach(file);
@@ -70,7 +70,7 @@ impl<S: Source, K: Sink, C: Client> Graph<S, K, C> {
         h: Handle,
         file: PartFile<S, K>,
     ) -> Result<(), (OmxError, PartFile<S, K>)>
-        ensures step { Steps (kept C.progress self.old) (kept C.progress self.new) (λ w v. Attach w h (offered S.place S.size S.told K.told file) (plainly result) v) }
+        ensures step { Steps (kept C.progress self.old) (kept C.progress self.new) (λ w v. Attach w h (offered S.offset S.size S.told K.told file) (plainly result) v) }
         ensures file { OnOk result (file_of h.generation self.new ≡ Some file) }
         ensures files { KeepsFiles h.generation self.old self.new }
         ensures held { KeepsHandedIn (look_of self.old.core) (look_of self.new.core) }

@@ -105,7 +105,7 @@ impl<S: Source, K: Sink, C: Client> Graph<S, K, C> {
         if let Some(error) = self.core.free_buffer_refusal(place, port, header.id()) {
             return Err((error, header));
         }
-        let memory = self.core.unmake_header(place, port, header);
+        let memory = self.core.free_buffer(place, port, header);
         self.core.close_out();
         Ok(given_back(memory))
     }

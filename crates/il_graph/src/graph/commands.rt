@@ -31,7 +31,7 @@ impl<S: Source, K: Sink, C: Client> Graph<S, K, C> {
         if let Some(error) = self.core.send_refusal(place, command) {
             return Err(error);
         }
-        self.core.send(place, command);
+        self.core.send_command(place, command);
         self.core.close_out();
         Ok(())
     }
@@ -52,7 +52,7 @@ impl<S: Source, K: Sink, C: Client> Graph<S, K, C> {
         if let Some(reason) = self.core.run_idle(place) {
             return Ok(Acted::Idle(reason));
         }
-        self.core.run(place);
+        self.core.run_command(place);
         self.core.close_out();
         Ok(Acted::Did)
     }

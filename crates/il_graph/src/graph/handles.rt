@@ -117,7 +117,7 @@ impl<S: Source, K: Sink, C: Client> Graph<S, K, C> {
         if let Some(error) = self.core.free_refusal(place) {
             return Err(error);
         }
-        let client = self.core.free(place);
+        let client = self.core.free_handle(place);
         let Some(part) = self.parts.remove(place) else {
             unreachable!()
         };

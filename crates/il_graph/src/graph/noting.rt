@@ -33,7 +33,7 @@ impl<S: Source, K: Sink, C: Client> Graph<S, K, C> {
         let Some(place) = self.core.place_of(h) else {
             return Err(OmxError::InvalidComponent);
         };
-        match self.core.take(place) {
+        match self.core.take_note(place) {
             Took::Call(call) => {
                 self.core.close_out();
                 Ok(Took::Call(call))

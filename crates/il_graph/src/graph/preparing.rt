@@ -14,7 +14,7 @@ ghost use Rattle.il_graph.specs.Preparing.{MayHaveAll, MaySet, prepared, prepare
 
 use crate::claimed::Work;
 use audio_parts::{AnyPart, law_of_shown};
-use graph_core::Places;
+use graph_core::WorkHeaders;
 use il_component::Component;
 use il_machine::PortSetting;
 use omx_types::{Format, Handle, Kind};
@@ -98,7 +98,7 @@ pub(crate) fn prepare<S: Source, K: Sink, C>(
 pub(crate) fn make_work<S: Source, K: Sink>(
     component: Handle,
     part: AnyPart<S, K>,
-    headers: Places,
+    headers: WorkHeaders,
     announces: bool,
 ) -> Work<S, K>
     requires lawful { IsLawful (terms_by part) }

@@ -36,7 +36,7 @@ impl<S: Source, K: Sink, C: Client> Graph<S, K, C> {
         if let Some(reason) = self.core.supply_idle(place, port) {
             return Ok(Acted::Idle(reason));
         }
-        self.core.supply_header(place, port);
+        self.core.supply(place, port);
         self.core.close_out();
         Ok(Acted::Did)
     }
@@ -60,7 +60,7 @@ impl<S: Source, K: Sink, C: Client> Graph<S, K, C> {
         if let Some(reason) = self.core.release_idle(place, port) {
             return Ok(Acted::Idle(reason));
         }
-        self.core.release_front(place, port);
+        self.core.release(place, port);
         self.core.close_out();
         Ok(Acted::Did)
     }

@@ -35,7 +35,9 @@ impl<S: Source, K: Sink, C: Client> Graph<S, K, C> {
         {
             return Err(error);
         }
-        let supplier = self.core.join(giver, output.index, taker, input.index);
+        let supplier = self
+            .core
+            .setup_tunnel(giver, output.index, taker, input.index);
         self.core.close_out();
         Ok(supplier)
     }
@@ -61,7 +63,8 @@ impl<S: Source, K: Sink, C: Client> Graph<S, K, C> {
         {
             return Err(error);
         }
-        self.core.part(giver, output.index, taker, input.index);
+        self.core
+            .drop_tunnel(giver, output.index, taker, input.index);
         self.core.close_out();
         Ok(())
     }

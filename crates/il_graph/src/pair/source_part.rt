@@ -9,7 +9,7 @@ use outside_io::Source;
 pub struct SourcePart<S> {
     pub source: S,
     pub frame_bytes: u64,
-    /// The place of the next frame in the source.
+    /// The offset of the next frame in the source.
     pub next: u64,
     /// How many frames are left.
     pub left: u64,
@@ -31,11 +31,11 @@ impl<S: Source> SourcePart<S> {
         requires { IsWithinLimits format }
         ensures source { result.source ≡ source }
         ensures frame_bytes { result.frame_bytes ≡ frame_bytes_of format }
-        ensures next { result.next ≡ S.place source }
+        ensures next { result.next ≡ S.offset source }
         ensures left { result.left ≡ frames }
         ensures ended { result.ended ≡ false }
     {
-        let next = source.place();
+        let next = source.offset();
         SourcePart {
             source,
             frame_bytes: u64::from(format.frame_bytes()),

@@ -6,6 +6,6 @@ use Rattle.board.proofs.laws.law_of_histories.Goals as goal
 
 pub returns : goal.returns
 returns g c = λ key units xs w first log r s l.
-    let see = sight_of g.C.Client.progress g.S.Source.place g.S.Source.size g.S.Source.told g.K.Sink.told in
+    let see = sight_of g.C.Client.progress g.S.Source.offset g.S.Source.size g.S.Source.told g.K.Sink.told in
     let R = l.worlds w s in
     one_run key units xs (plain_log see (bare_log log)) w R.world r (run_of_shown first.handles.items w (known_of first) (plain_log see (bare_log log)) R.world R.all R.shown)

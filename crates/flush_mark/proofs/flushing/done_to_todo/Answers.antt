@@ -3,7 +3,7 @@ use Rattle.il_machine.specs.declared.header.Spot.TheVariants.{TodoBack}
 use Rattle.il_machine.specs.Headers.{put_all, reset, unloaded}
 use Rattle.il_machine.specs.World.{Load}
 use Rattle.il_machine.specs.Buffers.{load_in}
-use Rattle.il_machine.specs.Stock.{Stocked, pushed, sent}
+use Rattle.il_machine.specs.Stock.{Stocked, pushed, done_pulled}
 use Rattle.header_core.specs.BufferHeader.{BufferHeader}
 use Rattle.port_stock.specs.Kept.{stocked}
 use Rattle.flush_mark.proofs.ResetSteps.{Begun, begun_done, front_is, done_step}
@@ -22,7 +22,7 @@ loop-sent-preserved c =
     let n = c.in-Some.sent.held.number in
     let load : Load = load_in c.in-Some.sent.held in
     let e : s.headers.done key ≡ n ∷ drop 1 (s.headers.done key) = front_is (s.headers.done key) n c.in-Some.ensures.front in
-    let p : stocked c.push_work.new.self ≡ pushed key TodoBack n (unloaded load) (sent key s) = c.push_work.ensures
-    ∙ (ap (λ (h : BufferHeader). pushed key TodoBack h.held.number (load_in h.held) (stocked c.send_front.new.self)) c.clear.ensures ∙ ap (pushed key TodoBack n (unloaded load)) c.send_front.ensures.stock) in
+    let p : stocked c.push_header.new.self ≡ pushed key TodoBack n (unloaded load) (done_pulled key s) = c.push_header.ensures
+    ∙ (ap (λ (h : BufferHeader). pushed key TodoBack h.held.number (load_in h.held) (stocked c.pull_done.new.self)) c.clear.ensures ∙ ap (pushed key TodoBack n (unloaded load)) c.pull_done.ensures.stock) in
     subst (λ (t : Stocked). Begun (reset false key) (put_all key TodoBack (t.headers.done key)) (stocked c.args.stock.now) t) (sym p)
     (done_step (reset false key) (stocked c.args.stock.now) s key n (drop 1 (s.headers.done key)) load e c.in-Some.ensures.was.1 c.loop-sent.invariant)

@@ -9,16 +9,16 @@ use Rattle.graph_core.proofs.Moving.{none_on, passed_on, sent_for_peer}
 use Rattle.graph_core.proofs.passing.pass_on.Goals as goal
 
 pub returns-in_default : goal.returns-in_default
-returns-in_default c = none_on (stocked c.args.stock.now) (stocked c.send_front.new.self) c.args.key c.args.peer c.send_front.ensures.stock c.in_default.ensures.front
+returns-in_default c = none_on (stocked c.args.stock.now) (stocked c.pull_done.new.self) c.args.key c.args.peer c.pull_done.ensures.stock c.in_default.ensures.front
 
-pub push_work-requires-clause-made_for : goal.push_work-requires-clause-made_for
-push_work-requires-clause-made_for c =
+pub push_header-requires-clause-made_for : goal.push_header-requires-clause-made_for
+push_header-requires-clause-made_for c =
     let h = c.in-Some.header in
-    subst (λ (t : Stocked). holds_at (t.headers.header h.held.number) (is_for c.args.peer) ≡ true) (sym c.send_front.ensures.stock)
+    subst (λ (t : Stocked). holds_at (t.headers.header h.held.number) (is_for c.args.peer) ≡ true) (sym c.pull_done.ensures.stock)
     (sent_for_peer (stocked c.args.stock.now) c.args.key c.args.peer c.requires.shared h c.in-Some.ensures.front c.in-Some.ensures.was)
 
 pub returns : goal.returns
 returns c =
     let h = c.in-Some.header in
-    passed_on (stocked c.args.stock.now) c.args.key c.args.peer c.requires.shared h c.in-Some.ensures.front c.in-Some.ensures.was (stocked c.push_work.new.self)
-    (c.push_work.ensures ∙ ap (pushed c.args.peer TodoBack h.held.number (load_in h.held)) c.send_front.ensures.stock)
+    passed_on (stocked c.args.stock.now) c.args.key c.args.peer c.requires.shared h c.in-Some.ensures.front c.in-Some.ensures.was (stocked c.push_header.new.self)
+    (c.push_header.ensures ∙ ap (pushed c.args.peer TodoBack h.held.number (load_in h.held)) c.pull_done.ensures.stock)

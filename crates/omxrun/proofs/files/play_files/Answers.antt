@@ -39,7 +39,7 @@ returns-in-Ok-read_head-clause-subject g c = λ tells.
       sized = c.read_head.ensures.size ∙ c.in-Ok.ensures.size held.0 held.1;
     } in
     run-subject c.args.source.now c.args.sink.now (g.M.Media.outside c.args.media.now) (g.M.Media.outside c.source.new.self) _ _ _ _ c.play_sound.result opened
-    (λ end is. omega (arith, c.in-Ok-read_head.ensures.start end (sym c.read_head.ensures.ends ∙ is), c.in-Ok-read_head.ensures.place)) valid c.play_sound.ensures.subject
+    (λ end is. omega (arith, c.in-Ok-read_head.ensures.start end (sym c.read_head.ensures.ends ∙ is), c.in-Ok-read_head.ensures.offset)) valid c.play_sound.ensures.subject
 
 pub returns-in-Ok-read_head-clause-caused : goal.returns-in-Ok-read_head-clause-caused
 returns-in-Ok-read_head-clause-caused g c =

@@ -54,7 +54,7 @@ returns-clause-stand g c =
 pub returns-clause-subject : goal.returns-clause-subject
 returns-clause-subject g c =
     let old = g.M.Media.outside c.args.media.now in
-    subst (λ (r : Result Done Fault). IfErr r (IsOfRun c.args.sink.now old (g.M.Src.Source.size c.args.src) (g.M.Src.Source.ends c.args.src) (g.M.Src.Source.place c.args.src))) (sym c.outcome_of.ensures)
+    subst (λ (r : Result Done Fault). IfErr r (IsOfRun c.args.sink.now old (g.M.Src.Source.size c.args.src) (g.M.Src.Source.ends c.args.src) (g.M.Src.Source.offset c.args.src))) (sym c.outcome_of.ensures)
     (ended-of_run c.args.head c.run_pair-outcome.result.outcome c.close_sink-closed.result c.has_risen-reads.result c.has_risen-writes.result c.args.sink.now old _ _ _ _ _ _ _ c.run_pair-outcome.ensures.cause)
 
 pub returns-clause-early : goal.returns-clause-early

@@ -6,10 +6,10 @@ use Rattle.outside_io.proofs.moving.pump.Goals as goal
 
 pub returns-then-at-size-clause-whole : goal.returns-then-at-size-clause-whole
 returns-then-at-size-clause-whole g c = λ x is.
-    let start = g.S.Source.place c.args.source.now in
+    let start = g.S.Source.offset c.args.source.now in
     let told : g.S.Source.told c.loop-buf.source ≡ Some x = c.loop-buf.invariant.told ∙ is in
     let len = c.size-size.ensures.told x told in
-    let all : length (drop start x) ≤ g.S.Source.place c.loop-buf.source - start = omega (arith, len, length-drop start x) in
+    let all : length (drop start x) ≤ g.S.Source.offset c.loop-buf.source - start = omega (arith, len, length-drop start x) in
     c.loop-buf.invariant.moved x is ∙ ap (append_known (g.K.Sink.told c.args.sink.now)) (take_all _ (drop start x) all)
 
 pub returns-then-at-size-clause-front : goal.returns-then-at-size-clause-front
@@ -33,7 +33,7 @@ returns-in-Ok-eq0-clause-short g c = record {
       let e : g.S.Source.ends c.loop-buf.source ≡ Some end = c.loop-buf.invariant.ends ∙ is in
       let gives = c.in-Ok-eq0.ensures.gives end e in
       let within = c.loop-buf.invariant.within_end end is in
-      let reached : end ≤ g.S.Source.place c.loop-buf.source = grind (arith, gives) in
+      let reached : end ≤ g.S.Source.offset c.loop-buf.source = grind (arith, gives) in
       omega arith;
 }
 
@@ -41,12 +41,12 @@ pub returns-in-Err-write_all-clause-front : goal.returns-in-Err-write_all-clause
 returns-in-Err-write_all-clause-front g c = λ x is.
     let read = c.in-Ok.ensures.bytes x (c.loop-buf.invariant.told ∙ is) in
     let len = c.size-size.ensures.told x (c.loop-buf.invariant.told ∙ is) in
-    let within : g.S.Source.place c.loop-buf.source ≤ length x = omega (arith, len) in
-    moved-part _ _ _ x c.read.new.buf _ _ c.in-Ok.count c.loop-buf.invariant.place within (c.loop-buf.invariant.moved x is) read c.write_all.ensures.front
+    let within : g.S.Source.offset c.loop-buf.source ≤ length x = omega (arith, len) in
+    moved-part _ _ _ x c.read.new.buf _ _ c.in-Ok.count c.loop-buf.invariant.offset within (c.loop-buf.invariant.moved x is) read c.write_all.ensures.front
 
 pub loop-buf-preserved : goal.loop-buf-preserved
 loop-buf-preserved g c = record {
-  place = search rules;
+  offset = search rules;
   told = search rules;
   ends = search rules;
   size = search rules;
@@ -59,5 +59,5 @@ loop-buf-preserved g c = record {
   write = search rules;
   moved = λ x is.
       let read = c.in-Ok.ensures.bytes x (c.loop-buf.invariant.told ∙ is) in
-      moved-piece _ _ _ x c.read.new.buf _ _ c.in-Ok.count _ c.loop-buf.invariant.place c.in-Ok.ensures.place (c.loop-buf.invariant.moved x is) read c.in-Ok-write_all.ensures.whole;
+      moved-piece _ _ _ x c.read.new.buf _ _ c.in-Ok.count _ c.loop-buf.invariant.offset c.in-Ok.ensures.offset (c.loop-buf.invariant.moved x is) read c.in-Ok-write_all.ensures.whole;
 }

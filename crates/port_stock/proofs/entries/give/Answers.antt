@@ -1,5 +1,5 @@
 use Rattle.std.proofs.Common.{◌≡◌, None, position, sym, ◌∙◌, ap}
-use Rattle.il_machine.specs.declared.header.Place.TheVariants.{Out}
+use Rattle.il_machine.specs.declared.header.Queue.TheVariants.{Out}
 use Rattle.port_stock.proofs.Places.{at, is_numbered}
 use Rattle.port_stock.specs.declared.entry.Entry.{Entry}
 use Rattle.port_stock.proofs.Changing.{before_is, same_entry, unreached, give_headers}
@@ -8,7 +8,7 @@ use Rattle.port_stock.proofs.entries.give.Goals as goal
 pub unreachable-requires : goal.unreachable-requires
 unreachable-requires c =
     let e : position (is_numbered c.args.number) c.args.entries.now.items ≡ None = rw c.deref.ensures.value at (sym c.number_place.ensures.place ∙ c.in_default.is) in
-    unreached c.args.number c.args.entries.now.items (λ r. r.state.place ≡ Out) e c.requires.outside
+    unreached c.args.number c.args.entries.now.items (λ r. r.state.queue ≡ Out) e c.requires.outside
 
 pub returns-clause-headers : goal.returns-clause-headers
 returns-clause-headers c =

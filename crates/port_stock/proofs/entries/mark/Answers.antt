@@ -8,7 +8,7 @@ use Rattle.port_stock.proofs.entries.mark.Goals as goal
 pub unreachable-requires : goal.unreachable-requires
 unreachable-requires c =
     let e : position (is_numbered c.args.number) c.args.entries.now.items ≡ None = rw c.deref.ensures.value at (sym c.number_place.ensures.place ∙ c.in_default.is) in
-    unreached c.args.number c.args.entries.now.items (λ r. is_waiting r.state.place ≡ true) e c.requires.waits
+    unreached c.args.number c.args.entries.now.items (λ r. is_waiting r.state.queue ≡ true) e c.requires.waits
 
 there : (c : goal.After-entries-1) → At c.args.number c.in-Some.place c.args.entries.now.items
 there c = at c.args.number _ _ (rw c.deref.ensures.value at (sym c.number_place.ensures.place ∙ c.in-Some.is))

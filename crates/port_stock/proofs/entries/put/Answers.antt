@@ -1,5 +1,5 @@
 use Rattle.std.proofs.Common.{◌≡◌, None, position, refl, sym, ◌∙◌, ap}
-use Rattle.il_machine.specs.declared.header.Place.TheVariants.{Out}
+use Rattle.il_machine.specs.declared.header.Queue.TheVariants.{Out}
 use Rattle.port_stock.specs.Conditions.{IsHeaderOf}
 use Rattle.port_stock.specs.declared.entry.Entry.{Entry}
 use Rattle.port_stock.proofs.Places.{At, at, is_numbered}
@@ -9,12 +9,12 @@ use Rattle.port_stock.proofs.entries.put.Goals as goal
 pub unreachable-requires : goal.unreachable-requires
 unreachable-requires c =
     let e : position (is_numbered c.args.header.held.number) c.args.entries.now.items ≡ None = rw (c.deref.ensures.value, c.id.ensures) at (sym c.number_place.ensures.place ∙ c.in_default.is) in
-    unreached c.args.header.held.number c.args.entries.now.items (λ r. (r.state.place ≡ Out) × IsHeaderOf r.state c.args.header) e c.requires.outside
+    unreached c.args.header.held.number c.args.entries.now.items (λ r. (r.state.queue ≡ Out) × IsHeaderOf r.state c.args.header) e c.requires.outside
 
 pub put_in-requires : goal.put_in-requires
 put_in-requires c =
     let A = at c.args.header.held.number _ _ (rw (c.deref.ensures.value, c.id.ensures) at (sym c.number_place.ensures.place ∙ c.in-Some.is)) in
-    unkept_entry _ _ _ (λ r. (r.state.place ≡ Out) × IsHeaderOf r.state c.args.header) _ A c.index_mut-entry.ensures.value c.requires.kept (λ r h. h.0) c.requires.outside
+    unkept_entry _ _ _ (λ r. (r.state.queue ≡ Out) × IsHeaderOf r.state c.args.header) _ A c.index_mut-entry.ensures.value c.requires.kept (λ r h. h.0) c.requires.outside
 
 there : (c : goal.After-entries-1) → At c.args.header.held.number c.in-Some.place c.args.entries.now.items
 there c = at c.args.header.held.number _ _ (rw (c.deref.ensures.value, c.id.ensures) at (sym c.number_place.ensures.place ∙ c.in-Some.is))

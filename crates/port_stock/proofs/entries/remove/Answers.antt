@@ -1,5 +1,5 @@
 use Rattle.std.proofs.Common.{◌≡◌, None, position, sym, ◌∙◌, ap}
-use Rattle.il_machine.specs.declared.header.Place.TheVariants.{Out}
+use Rattle.il_machine.specs.declared.header.Queue.TheVariants.{Out}
 use Rattle.port_stock.specs.Entries.{headers_of}
 use Rattle.port_stock.proofs.Places.{at, is_numbered}
 use Rattle.port_stock.specs.declared.entry.Entry.{Entry}
@@ -9,12 +9,12 @@ use Rattle.port_stock.proofs.entries.remove.Goals as goal
 pub unreachable-requires : goal.unreachable-requires
 unreachable-requires c =
     let e : position (is_numbered c.args.number) c.args.entries.now.items ≡ None = rw c.deref.ensures.value at (sym c.number_place.ensures.place ∙ c.in_default.is) in
-    unreached c.args.number c.args.entries.now.items (λ r. r.state.place ≡ Out) e c.requires.outside
+    unreached c.args.number c.args.entries.now.items (λ r. r.state.queue ≡ Out) e c.requires.outside
 
 pub take_entry-requires-clause-unkept : goal.take_entry-requires-clause-unkept
 take_entry-requires-clause-unkept c =
     let A = at _ _ _ (rw c.deref.ensures.value at (sym c.number_place.ensures.place ∙ c.in-Some.is)) in
-    unkept_at _ _ _ (λ r. r.state.place ≡ Out) A c.requires.kept (λ r h. h) c.requires.outside
+    unkept_at _ _ _ (λ r. r.state.queue ≡ Out) A c.requires.kept (λ r h. h) c.requires.outside
 
 pub returns-clause-headers : goal.returns-clause-headers
 returns-clause-headers c =

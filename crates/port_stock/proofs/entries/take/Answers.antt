@@ -7,7 +7,7 @@ use Rattle.port_stock.proofs.entries.take.Goals as goal
 pub unreachable-requires : goal.unreachable-requires
 unreachable-requires c =
     let e : position (is_numbered c.args.number) c.args.entries.now.items ≡ None = rw c.deref.ensures.value at (sym c.number_place.ensures.place ∙ c.in_default.is) in
-    unreached c.args.number c.args.entries.now.items (λ r. is_waiting r.state.place ≡ true) e c.requires.waits
+    unreached c.args.number c.args.entries.now.items (λ r. is_waiting r.state.queue ≡ true) e c.requires.waits
 
 pub take_header-requires-clause-there : goal.take_header-requires-clause-there
 take_header-requires-clause-there c =

@@ -3,7 +3,7 @@ use Rattle.std.proofs.lemmas.Bool.Decides.{nat_tests}
 use Rattle.port_stock.proofs.tests.pass_todo.Goals as goal
 
 pub returns-clause-left : goal.returns-clause-left
-returns-clause-left c = rw (c.pull_work.ensures.stock, c.mark_first-marked.ensures.stock, c.push_work.ensures, c.requires.stock, c.requires.number, c.requires.mark) (record {
+returns-clause-left c = rw (c.pull_todo.ensures.stock, c.mark_first-marked.ensures.stock, c.push_header.ensures, c.requires.stock, c.requires.number, c.requires.mark) (record {
   ports = refl;
   others = λ n d. grind (arith, nat_tests);
   counted = λ test. omega arith;

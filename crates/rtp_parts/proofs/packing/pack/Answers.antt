@@ -22,16 +22,16 @@ returns-in-Ok-pack_samples-clause-answer g c = λ bytes is head read.
 
 pub returns-in-Ok-pack_samples-clause-file : goal.returns-in-Ok-pack_samples-clause-file
 returns-in-Ok-pack_samples-clause-file g c = λ bytes is head read.
-    packed-whole _ _ _ bytes c.in-Ok.head head c.in-Some.law c.size-size.result _ (c.in-Ok.ensures.reads bytes is) read (sym c.of_format.ensures ∙ c.in-Some.is) (omega (arith, c.if-prove.false)) (c.size-size.ensures.value ∙ c.size-size.ensures.told bytes (c.in-Ok.ensures.told ∙ is)) c.in-Ok.ensures.place c.in-Ok-write_all.ensures.whole (c.in-Ok-pack_samples.ensures.whole bytes (c.in-Ok.ensures.told ∙ is))
+    packed-whole _ _ _ bytes c.in-Ok.head head c.in-Some.law c.size-size.result _ (c.in-Ok.ensures.reads bytes is) read (sym c.of_format.ensures ∙ c.in-Some.is) (omega (arith, c.if-prove.false)) (c.size-size.ensures.value ∙ c.size-size.ensures.told bytes (c.in-Ok.ensures.told ∙ is)) c.in-Ok.ensures.offset c.in-Ok-write_all.ensures.whole (c.in-Ok-pack_samples.ensures.whole bytes (c.in-Ok.ensures.told ∙ is))
 
 pub returns-in-Ok-pack_samples-clause-front : goal.returns-in-Ok-pack_samples-clause-front
 returns-in-Ok-pack_samples-clause-front g c = λ bytes is head read.
-    packed-front _ _ _ bytes c.in-Ok.head head c.in-Some.law c.size-size.result _ (c.in-Ok.ensures.reads bytes is) read (sym c.of_format.ensures ∙ c.in-Some.is) (omega (arith, c.if-prove.false)) (c.size-size.ensures.value ∙ c.size-size.ensures.told bytes (c.in-Ok.ensures.told ∙ is)) c.in-Ok.ensures.place c.in-Ok-write_all.ensures.whole (c.in-Ok-pack_samples.ensures.front bytes (c.in-Ok.ensures.told ∙ is))
+    packed-front _ _ _ bytes c.in-Ok.head head c.in-Some.law c.size-size.result _ (c.in-Ok.ensures.reads bytes is) read (sym c.of_format.ensures ∙ c.in-Some.is) (omega (arith, c.if-prove.false)) (c.size-size.ensures.value ∙ c.size-size.ensures.told bytes (c.in-Ok.ensures.told ∙ is)) c.in-Ok.ensures.offset c.in-Ok-write_all.ensures.whole (c.in-Ok-pack_samples.ensures.front bytes (c.in-Ok.ensures.told ∙ is))
 
 pub returns-in-Err-pack_samples-clause-front : goal.returns-in-Err-pack_samples-clause-front
 returns-in-Err-pack_samples-clause-front g c = λ bytes is head read.
-    packed-front _ _ _ bytes c.in-Ok.head head c.in-Some.law c.size-size.result _ (c.in-Ok.ensures.reads bytes is) read (sym c.of_format.ensures ∙ c.in-Some.is) (omega (arith, c.if-prove.false)) (c.size-size.ensures.value ∙ c.size-size.ensures.told bytes (c.in-Ok.ensures.told ∙ is)) c.in-Ok.ensures.place c.in-Ok-write_all.ensures.whole (c.in-Err-pack_samples.ensures.front bytes (c.in-Ok.ensures.told ∙ is))
+    packed-front _ _ _ bytes c.in-Ok.head head c.in-Some.law c.size-size.result _ (c.in-Ok.ensures.reads bytes is) read (sym c.of_format.ensures ∙ c.in-Some.is) (omega (arith, c.if-prove.false)) (c.size-size.ensures.value ∙ c.size-size.ensures.told bytes (c.in-Ok.ensures.told ∙ is)) c.in-Ok.ensures.offset c.in-Ok-write_all.ensures.whole (c.in-Err-pack_samples.ensures.front bytes (c.in-Ok.ensures.told ∙ is))
 
 pub returns-in-Err-pack_samples-clause-short : goal.returns-in-Err-pack_samples-clause-short
 returns-in-Err-pack_samples-clause-short g c =
-    short_samples _ _ _ _ _ c.in-Ok.head _ _ _ _ _ c.in-Err-pack_samples.fault c.in-Ok.ensures.size c.in-Ok.ensures.ends c.in-Ok.ensures.place c.in-Ok.ensures.start c.in-Ok.ensures.reads c.in-Err-pack_samples.ensures.stop
+    short_samples _ _ _ _ _ c.in-Ok.head _ _ _ _ _ c.in-Err-pack_samples.fault c.in-Ok.ensures.size c.in-Ok.ensures.ends c.in-Ok.ensures.offset c.in-Ok.ensures.start c.in-Ok.ensures.reads c.in-Err-pack_samples.ensures.stop

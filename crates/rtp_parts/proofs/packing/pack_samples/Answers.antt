@@ -17,7 +17,7 @@ loop-done-preserved g c =
       cut = cut_again c.loop-done.done c.args.frames count whole c.min-count.ensures;
       samples = omega (arith, long, c.pack_piece.auto.samples, c.loop-done.invariant.samples, length-append c.pack_piece.new.samples (drop count c.loop-done.samples), length-drop count c.loop-done.samples);
       records = search rules;
-      place = omega (arith, c.in-Ok.ensures.place, long, c.loop-done.invariant.place);
+      offset = omega (arith, c.in-Ok.ensures.offset, long, c.loop-done.invariant.offset);
       told = search rules;
       ends = search rules;
       size = search rules;
@@ -29,8 +29,8 @@ loop-done-preserved g c =
       name = search rules;
       write = search rules;
       sent = λ bytes is.
-          let all = take c.args.frames (drop (g.S.Source.place c.args.src.now) bytes) in
-          let piece = part_read bytes (g.S.Source.place c.args.src.now) c.args.frames c.loop-done.done count _ _ whole c.loop-done-test.true c.min-count.ensures c.loop-done.invariant.place long in
+          let all = take c.args.frames (drop (g.S.Source.offset c.args.src.now) bytes) in
+          let piece = part_read bytes (g.S.Source.offset c.args.src.now) c.args.frames c.loop-done.done count _ _ whole c.loop-done-test.true c.min-count.ensures c.loop-done.invariant.offset long in
           sent_more c.args.law all _ _ _ c.loop-done.done count whole (c.loop-done.invariant.sent bytes is)
           (c.in-Ok.ensures.whole bytes (c.loop-done.invariant.told ∙ is) all piece
           ∙ ap (λ (n : ℕ). append_known (g.K.Sink.told c.loop-done.snk) (texts_of c.args.law all (c.loop-done.done / 160) (packet_count n))) long);
@@ -41,8 +41,8 @@ returns-in-Err-clause-front g c = λ bytes is.
     let count = c.min-count.result in
     let whole = c.loop-done.invariant.cut c.loop-done-test.true in
     let long : length (take count c.loop-done.samples) ≡ count = omega (arith, length-take count c.loop-done.samples, c.loop-done.invariant.samples, c.min-count.ensures) in
-    let all = take c.args.frames (drop (g.S.Source.place c.args.src.now) bytes) in
-    let piece = part_read bytes (g.S.Source.place c.args.src.now) c.args.frames c.loop-done.done count _ _ whole c.loop-done-test.true c.min-count.ensures c.loop-done.invariant.place long in
+    let all = take c.args.frames (drop (g.S.Source.offset c.args.src.now) bytes) in
+    let piece = part_read bytes (g.S.Source.offset c.args.src.now) c.args.frames c.loop-done.done count _ _ whole c.loop-done-test.true c.min-count.ensures c.loop-done.invariant.offset long in
     let within : c.loop-done.done + count ≤ c.args.frames = omega (arith, c.min-count.ensures, c.loop-done-test.true) in
     sent_front c.args.law all _ _ _ c.args.frames c.loop-done.done count whole within (c.loop-done.invariant.sent bytes is)
     (subst (λ (n : ℕ). AppendsFront (g.K.Sink.told c.loop-done.snk) (g.K.Sink.told c.pack_piece.new.snk) (texts_of c.args.law all (c.loop-done.done / 160) (packet_count n))) long
@@ -52,9 +52,9 @@ pub returns-clause-front : goal.returns-clause-front
 returns-clause-front g c = λ bytes is.
     let all : c.loop-done.done ≡ c.args.frames = omega (arith, c.loop-done-test.false, c.loop-done.invariant.within) in
     front-whole _ _ _ (c.loop-done.invariant.sent bytes is
-    ∙ ap (λ (n : ℕ). append_known (g.K.Sink.told c.args.snk.now) (texts_of c.args.law (take c.args.frames (drop (g.S.Source.place c.args.src.now) bytes)) 0 (packet_count n))) all)
+    ∙ ap (λ (n : ℕ). append_known (g.K.Sink.told c.args.snk.now) (texts_of c.args.law (take c.args.frames (drop (g.S.Source.offset c.args.src.now) bytes)) 0 (packet_count n))) all)
 
 pub returns-in-Err-clause-stop : goal.returns-in-Err-clause-stop
 returns-in-Err-clause-stop g c =
     let before = c.loop-done.invariant in
-    stop_later _ _ _ _ _ _ _ _ _ _ _ _ c.in-Err.fault before.size before.ends (omega (arith, before.place)) before.within_end before.read before.write c.in-Err.ensures.stop
+    stop_later _ _ _ _ _ _ _ _ _ _ _ _ c.in-Err.fault before.size before.ends (omega (arith, before.offset)) before.within_end before.read before.write c.in-Err.ensures.stop

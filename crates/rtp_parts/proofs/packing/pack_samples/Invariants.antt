@@ -10,16 +10,16 @@ invariant-loop-done g l = record {
   cut : l.done < l.frames → 160 * (l.done / 160) ≡ l.done;
   samples : length l.samples ≡ 20480;
   records : length l.records ≡ 22272;
-  place : g.S.Source.place l.src ≡ g.S.Source.place l.initial.src + l.done;
+  offset : g.S.Source.offset l.src ≡ g.S.Source.offset l.initial.src + l.done;
   told : g.S.Source.told l.src ≡ g.S.Source.told l.initial.src;
   ends : g.S.Source.ends l.src ≡ g.S.Source.ends l.initial.src;
   size : g.S.Source.size l.src ≡ g.S.Source.size l.initial.src;
   read : g.S.Source.faults l.src ≡ g.S.Source.faults l.initial.src;
-  within_end : WhereTold (g.S.Source.ends l.initial.src) (λ end. g.S.Source.place l.src ≤ max end (g.S.Source.place l.initial.src));
+  within_end : WhereTold (g.S.Source.ends l.initial.src) (λ end. g.S.Source.offset l.src ≤ max end (g.S.Source.offset l.initial.src));
   name : g.K.Sink.name l.snk ≡ g.K.Sink.name l.initial.snk;
   write : g.K.Sink.faults l.snk ≡ g.K.Sink.faults l.initial.snk;
   sent : WhereTold (g.S.Source.told l.initial.src) (λ bytes. g.K.Sink.told l.snk ≡ append_known (g.K.Sink.told l.initial.snk)
-      (texts_of l.law (take l.frames (drop (g.S.Source.place l.initial.src) bytes)) 0 (packet_count l.done)));
+      (texts_of l.law (take l.frames (drop (g.S.Source.offset l.initial.src) bytes)) 0 (packet_count l.done)));
 }
 
 abbrev pub decreases-loop-done : goal.decreases-loop-done

@@ -17,7 +17,7 @@ returns-then-size-lt-MAGIC-clause-other g c = λ bytes is.
 
 pub returns-then-eq-clause-reached : goal.returns-then-eq-clause-reached
 returns-then-eq-clause-reached g c = λ end is.
-    omega (arith, c.in-Ok-read_exact.ensures.reached end (c.in-Ok.ensures.ends ∙ is), c.in-Ok-read_exact.ensures.place, c.in-Ok.ensures.reached)
+    omega (arith, c.in-Ok-read_exact.ensures.reached end (c.in-Ok.ensures.ends ∙ is), c.in-Ok-read_exact.ensures.offset, c.in-Ok.ensures.reached)
 
 pub returns-else-eq-clause-other : goal.returns-else-eq-clause-other
 returns-else-eq-clause-other g c = λ bytes is.

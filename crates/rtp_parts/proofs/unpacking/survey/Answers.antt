@@ -11,8 +11,8 @@ pieces-init g c =
     let u = c.new-unpacker.result in
     let made = c.new-unpacker.ensures in
     record {
-      counts = λ bytes is. sym (ap counts_in (start-course u (drop (g.S.Source.place c.args.src.now) bytes) made.course made.going));
-      codes = λ bytes is silence. omega (arith, ap length (start-codes silence u (drop (g.S.Source.place c.args.src.now) bytes) made.course made.going made.first));
+      counts = λ bytes is. sym (ap counts_in (start-course u (drop (g.S.Source.offset c.args.src.now) bytes) made.course made.going));
+      codes = λ bytes is silence. omega (arith, ap length (start-codes silence u (drop (g.S.Source.offset c.args.src.now) bytes) made.course made.going made.first));
       most = omega arith;
       few = search rules;
       room = search rules;
@@ -32,7 +32,7 @@ pieces-preserved g c =
           let long = length-given piece.silence silence _ piece.payload.items _ (given_some _ piece _ c.in-Ok-Some.field-0-is (c.in-Ok-Some.ensures.given bytes (c.pieces.invariant.told ∙ is)) silence) in
           omega (arith, c.pieces.invariant.codes bytes is silence, long, c.from.ensures, c.len.ensures, piece.payload.ok.0);
       most = omega (arith, c.if-frames-gt-MOST_CODES.false);
-      few = subst (λ (n : ℕ). c.next.new.self.packets + room_left c.next.new.self (n - g.S.Source.place c.next.new.src) ≤ 2 ^ 27) c.pieces.invariant.size c.in-Ok-Some.ensures.few;
+      few = subst (λ (n : ℕ). c.next.new.self.packets + room_left c.next.new.self (n - g.S.Source.offset c.next.new.src) ≤ 2 ^ 27) c.pieces.invariant.size c.in-Ok-Some.ensures.few;
       room = search rules;
       reached = λ end is. c.in-Ok-Some.ensures.reached end (c.pieces.invariant.ends ∙ is);
       told = c.in-Ok-Some.ensures.told ∙ c.pieces.invariant.told;
@@ -45,12 +45,12 @@ pub returns-then-frames-gt-MOST_CODES-clause-answer : goal.returns-then-frames-g
 returns-then-frames-gt-MOST_CODES-clause-answer g c = λ bytes is.
     let piece = c.in-Ok-Some.piece in
     let long = length-given piece.silence 0 _ piece.payload.items _ (given_some _ piece _ c.in-Ok-Some.field-0-is (c.in-Ok-Some.ensures.given bytes (c.pieces.invariant.told ∙ is)) 0) in
-    survey_long (drop (g.S.Source.place c.args.src.now) bytes)
+    survey_long (drop (g.S.Source.offset c.args.src.now) bytes)
     (omega (arith, c.pieces.invariant.codes bytes is 0, long, c.from.ensures, c.len.ensures, piece.payload.ok.0, c.if-frames-gt-MOST_CODES.true))
 
 pub returns-in-Ok-None-clause-answer : goal.returns-in-Ok-None-clause-answer
 returns-in-Ok-None-clause-answer g c = λ bytes is.
-    let rest = drop (g.S.Source.place c.args.src.now) bytes in
+    let rest = drop (g.S.Source.offset c.args.src.now) bytes in
     let told = c.pieces.invariant.told ∙ is in
     let none = ap length (given_none _ _ c.in-Ok-None.field-0-is (c.in-Ok-None.ensures.none bytes told) 0) in
     unless_stopped c.found.result (λ r. r ≡ survey_of rest)

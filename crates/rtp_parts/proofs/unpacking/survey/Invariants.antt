@@ -7,13 +7,13 @@ use Rattle.rtp_parts.proofs.unpacking.survey.Given as goal
 abbrev pub invariant-pieces : goal.invariant-pieces
 invariant-pieces g l = record {
   counts : WhereTold (g.S.Source.told l.initial.src) (λ bytes.
-      counts_in (whole_course (drop (g.S.Source.place l.initial.src) bytes)) ≡ counts_in (course_left l.unpacker (drop (g.S.Source.place l.src) bytes)));
+      counts_in (whole_course (drop (g.S.Source.offset l.initial.src) bytes)) ≡ counts_in (course_left l.unpacker (drop (g.S.Source.offset l.src) bytes)));
   codes : WhereTold (g.S.Source.told l.initial.src) (λ bytes. (silence : ℕ) →
-      length (whole_codes silence (drop (g.S.Source.place l.initial.src) bytes)) ≡ l.frames + length (codes_left silence l.unpacker (drop (g.S.Source.place l.src) bytes)));
+      length (whole_codes silence (drop (g.S.Source.offset l.initial.src) bytes)) ≡ l.frames + length (codes_left silence l.unpacker (drop (g.S.Source.offset l.src) bytes)));
   most : l.frames ≤ most_codes;
-  few : l.unpacker.packets + room_left l.unpacker (g.S.Source.size l.initial.src - g.S.Source.place l.src) ≤ 2 ^ 27;
+  few : l.unpacker.packets + room_left l.unpacker (g.S.Source.size l.initial.src - g.S.Source.offset l.src) ≤ 2 ^ 27;
   room : length l.buffer ≡ 65535;
-  reached : WhereTold (g.S.Source.ends l.initial.src) (λ end. g.S.Source.place l.src ≤ end);
+  reached : WhereTold (g.S.Source.ends l.initial.src) (λ end. g.S.Source.offset l.src ≤ end);
   told : g.S.Source.told l.src ≡ g.S.Source.told l.initial.src;
   ends : g.S.Source.ends l.src ≡ g.S.Source.ends l.initial.src;
   size : g.S.Source.size l.src ≡ g.S.Source.size l.initial.src;
@@ -21,4 +21,4 @@ invariant-pieces g l = record {
 }
 
 abbrev pub decreases-pieces : goal.decreases-pieces
-decreases-pieces g l = steps_left l.unpacker (g.S.Source.size l.src - g.S.Source.place l.src)
+decreases-pieces g l = steps_left l.unpacker (g.S.Source.size l.src - g.S.Source.offset l.src)

@@ -18,7 +18,7 @@ returns-in_default-clause-front g c = λ bytes is. front-none _ _
 
 pub returns-in-Err-survey-clause-answer : goal.returns-in-Err-survey-clause-answer
 returns-in-Err-survey-clause-answer g c = λ bytes is.
-    failed_at bytes c.in-Err-survey.fault _ (c.in-Ok.ensures.begins bytes is) c.in-Ok.ensures.place (c.in-Err-survey.ensures.answer bytes (c.in-Ok.ensures.told ∙ is))
+    failed_at bytes c.in-Err-survey.fault _ (c.in-Ok.ensures.begins bytes is) c.in-Ok.ensures.offset (c.in-Err-survey.ensures.answer bytes (c.in-Ok.ensures.told ∙ is))
 
 pub returns-in-Err-survey-clause-front : goal.returns-in-Err-survey-clause-front
 returns-in-Err-survey-clause-front g c = λ bytes is. front-none _ _
@@ -38,22 +38,22 @@ write_wav-requires-clause-reached g c = λ end is.
 pub returns-in-Ok-write_wav-clause-answer : goal.returns-in-Ok-write_wav-clause-answer
 returns-in-Ok-write_wav-clause-answer g c = λ bytes is.
     let found = c.in-Ok-survey.found in
-    let whole = found_at bytes found _ (c.in-Ok.ensures.begins bytes is) c.in-Ok.ensures.place (c.in-Ok-survey.ensures.answer bytes (c.in-Ok.ensures.told ∙ is)) in
+    let whole = found_at bytes found _ (c.in-Ok.ensures.begins bytes is) c.in-Ok.ensures.offset (c.in-Ok-survey.ensures.answer bytes (c.in-Ok.ensures.told ∙ is)) in
     counts_found bytes found.0 found.1 whole
 
 pub returns-in-Ok-write_wav-clause-file : goal.returns-in-Ok-write_wav-clause-file
 returns-in-Ok-write_wav-clause-file g c = λ bytes is.
     let found = c.in-Ok-survey.found in
-    let whole = found_at bytes found _ (c.in-Ok.ensures.begins bytes is) c.in-Ok.ensures.place (c.in-Ok-survey.ensures.answer bytes (c.in-Ok.ensures.told ∙ is)) in
+    let whole = found_at bytes found _ (c.in-Ok.ensures.begins bytes is) c.in-Ok.ensures.offset (c.in-Ok-survey.ensures.answer bytes (c.in-Ok.ensures.told ∙ is)) in
     let told = c.in-Ok-seek_to.ensures.told ∙ c.in-Ok-survey.ensures.told ∙ c.in-Ok.ensures.told ∙ is in
-    wav_sent bytes found.0 found.1 (g.S.Source.place c.seek_to.new.self) (g.K.Sink.told c.args.snk.now) (g.K.Sink.told c.write_wav.new.snk) whole c.in-Ok-seek_to.ensures.reached (c.in-Ok-write_wav.ensures.file bytes told)
+    wav_sent bytes found.0 found.1 (g.S.Source.offset c.seek_to.new.self) (g.K.Sink.told c.args.snk.now) (g.K.Sink.told c.write_wav.new.snk) whole c.in-Ok-seek_to.ensures.reached (c.in-Ok-write_wav.ensures.file bytes told)
 
 pub returns-in-Ok-write_wav-clause-front : goal.returns-in-Ok-write_wav-clause-front
 returns-in-Ok-write_wav-clause-front g c = λ bytes is.
     let found = c.in-Ok-survey.found in
-    let whole = found_at bytes found _ (c.in-Ok.ensures.begins bytes is) c.in-Ok.ensures.place (c.in-Ok-survey.ensures.answer bytes (c.in-Ok.ensures.told ∙ is)) in
+    let whole = found_at bytes found _ (c.in-Ok.ensures.begins bytes is) c.in-Ok.ensures.offset (c.in-Ok-survey.ensures.answer bytes (c.in-Ok.ensures.told ∙ is)) in
     let told = c.in-Ok-seek_to.ensures.told ∙ c.in-Ok-survey.ensures.told ∙ c.in-Ok.ensures.told ∙ is in
-    wav_front bytes found.0 found.1 (g.S.Source.place c.seek_to.new.self) (g.K.Sink.told c.args.snk.now) (g.K.Sink.told c.write_wav.new.snk) whole c.in-Ok-seek_to.ensures.reached (c.in-Ok-write_wav.ensures.front bytes told)
+    wav_front bytes found.0 found.1 (g.S.Source.offset c.seek_to.new.self) (g.K.Sink.told c.args.snk.now) (g.K.Sink.told c.write_wav.new.snk) whole c.in-Ok-seek_to.ensures.reached (c.in-Ok-write_wav.ensures.front bytes told)
 
 pub returns-clause-answer : goal.returns-clause-answer
 returns-clause-answer g c = λ bytes is.
@@ -62,9 +62,9 @@ returns-clause-answer g c = λ bytes is.
 pub returns-clause-front : goal.returns-clause-front
 returns-clause-front g c = λ bytes is.
     let found = c.in-Ok-survey.found in
-    let whole = found_at bytes found _ (c.in-Ok.ensures.begins bytes is) c.in-Ok.ensures.place (c.in-Ok-survey.ensures.answer bytes (c.in-Ok.ensures.told ∙ is)) in
+    let whole = found_at bytes found _ (c.in-Ok.ensures.begins bytes is) c.in-Ok.ensures.offset (c.in-Ok-survey.ensures.answer bytes (c.in-Ok.ensures.told ∙ is)) in
     let told = c.in-Ok-seek_to.ensures.told ∙ c.in-Ok-survey.ensures.told ∙ c.in-Ok.ensures.told ∙ is in
-    wav_front bytes found.0 found.1 (g.S.Source.place c.seek_to.new.self) (g.K.Sink.told c.args.snk.now) (g.K.Sink.told c.write_wav.new.snk) whole c.in-Ok-seek_to.ensures.reached (c.in-Err-write_wav.ensures.front bytes told)
+    wav_front bytes found.0 found.1 (g.S.Source.offset c.seek_to.new.self) (g.K.Sink.told c.args.snk.now) (g.K.Sink.told c.write_wav.new.snk) whole c.in-Ok-seek_to.ensures.reached (c.in-Err-write_wav.ensures.front bytes told)
 
 pub returns-clause-cause : goal.returns-clause-cause
 returns-clause-cause g c =

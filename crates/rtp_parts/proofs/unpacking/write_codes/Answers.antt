@@ -11,7 +11,7 @@ pieces-init g c =
     let u = c.new-unpacker.result in
     let made = c.new-unpacker.ensures in
     record {
-      sent = λ bytes is. ([], sym (start-codes (silence_of c.args.law) u (drop (g.S.Source.place c.args.src.now) bytes) made.course made.going made.first), sym (append_known-nil (g.K.Sink.told c.args.snk.now)));
+      sent = λ bytes is. ([], sym (start-codes (silence_of c.args.law) u (drop (g.S.Source.offset c.args.src.now) bytes) made.course made.going made.first), sym (append_known-nil (g.K.Sink.told c.args.snk.now)));
       few = search rules;
       room = search rules;
       reached = c.requires.reached;
@@ -33,7 +33,7 @@ pieces-preserved g c =
           let front = replicate piece.silence silence ++ piece.payload.items in
           let sent = sent_on _ _ _ _ before.0 _ front _ (before.1, before.2) (given_some _ piece _ c.in-Ok-Some.field-0-is (c.in-Ok-Some.ensures.given bytes (c.pieces.invariant.told ∙ is)) silence) c.in-Ok.ensures.whole in
           (before.0 ++ front, sent.0, sent.1);
-      few = subst (λ (n : ℕ). c.next.new.self.packets + room_left c.next.new.self (n - g.S.Source.place c.next.new.src) ≤ 2 ^ 27) c.pieces.invariant.size c.in-Ok-Some.ensures.few;
+      few = subst (λ (n : ℕ). c.next.new.self.packets + room_left c.next.new.self (n - g.S.Source.offset c.next.new.src) ≤ 2 ^ 27) c.pieces.invariant.size c.in-Ok-Some.ensures.few;
       room = search rules;
       reached = λ end is. c.in-Ok-Some.ensures.reached end (c.pieces.invariant.ends ∙ is);
       told = c.in-Ok-Some.ensures.told ∙ c.pieces.invariant.told;

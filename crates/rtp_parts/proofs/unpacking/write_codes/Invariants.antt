@@ -8,11 +8,11 @@ use Rattle.rtp_parts.proofs.unpacking.write_codes.Given as goal
 abbrev pub invariant-pieces : goal.invariant-pieces
 invariant-pieces g l = record {
   sent : WhereTold (g.S.Source.told l.initial.src) (λ bytes. (done : List ℕ)
-      × (whole_codes (silence_of l.law) (drop (g.S.Source.place l.initial.src) bytes) ≡ done ++ codes_left (silence_of l.law) l.unpacker (drop (g.S.Source.place l.src) bytes))
+      × (whole_codes (silence_of l.law) (drop (g.S.Source.offset l.initial.src) bytes) ≡ done ++ codes_left (silence_of l.law) l.unpacker (drop (g.S.Source.offset l.src) bytes))
       × (g.K.Sink.told l.snk ≡ append_known (g.K.Sink.told l.initial.snk) done));
-  few : l.unpacker.packets + room_left l.unpacker (g.S.Source.size l.initial.src - g.S.Source.place l.src) ≤ 2 ^ 27;
+  few : l.unpacker.packets + room_left l.unpacker (g.S.Source.size l.initial.src - g.S.Source.offset l.src) ≤ 2 ^ 27;
   room : length l.buffer ≡ 65535;
-  reached : WhereTold (g.S.Source.ends l.initial.src) (λ end. g.S.Source.place l.src ≤ end);
+  reached : WhereTold (g.S.Source.ends l.initial.src) (λ end. g.S.Source.offset l.src ≤ end);
   told : g.S.Source.told l.src ≡ g.S.Source.told l.initial.src;
   ends : g.S.Source.ends l.src ≡ g.S.Source.ends l.initial.src;
   size : g.S.Source.size l.src ≡ g.S.Source.size l.initial.src;
@@ -22,4 +22,4 @@ invariant-pieces g l = record {
 }
 
 abbrev pub decreases-pieces : goal.decreases-pieces
-decreases-pieces g l = steps_left l.unpacker (g.S.Source.size l.src - g.S.Source.place l.src)
+decreases-pieces g l = steps_left l.unpacker (g.S.Source.size l.src - g.S.Source.offset l.src)

@@ -3,7 +3,7 @@ use Rattle.omx_types.specs.declared.handle.Handle.{Handle}
 use Rattle.omx_types.specs.declared.kind.Kind.{Kind}
 use Rattle.il_machine.specs.Finishing.{end_note, fault_note}
 use Rattle.il_machine.specs.Parts.{terms_of}
-use Rattle.il_machine.specs.Room.{room, work_places}
+use Rattle.il_machine.specs.Room.{room, work_reserve}
 use Rattle.il_machine.specs.World.{Component}
 use Rattle.port_stock.specs.Kept.{stocked}
 use Rattle.il_component.specs.Entries.{component_of, held_in}
@@ -42,7 +42,7 @@ bring_places-requires-clause-can g c =
     let part = part_by step.fault (ended_by ways places) o k0.part in
     let taken : component_of c.take_work.new.self ≡ record k0 { work = None } = c.take_work.ensures.component in
     let is : component_of c.keep_ends.new.component ≡ parted part k0 = c.keep_ends.ensures.component ∙ ap (λ (x : Component). record x { part = part_by step.fault (ended_by ways places) o x.part }) taken in
-    let some : length (carried_from 0 places) + 2 ≤ room (parted part k0) = room_there part k0 (length (carried_from 0 places)) c.requires.work (subst (λ (x : Component). work_places k0.work ≤ room x) taken c.take_work.ensures.room) in
+    let some : length (carried_from 0 places) + 2 ≤ room (parted part k0) = room_there part k0 (length (carried_from 0 places)) c.requires.work (subst (λ (x : Component). work_reserve k0.work ≤ room x) taken c.take_work.ensures.room) in
     let n = c.requires.notes in
     subst (λ (x : Component). AllCanLand known 0 ways places (stocked c.args.stock.now) x) (sym is)
     (all_can k0 ways places step n.0 n.1 c.requires.ways inputs fit c.requires.within n.2.0 o e known o_is k_is e_is part (stocked c.args.stock.now) c.requires.homeless c.requires.apart some n.2.1)
@@ -65,7 +65,7 @@ tell_end-requires-clause-room g c =
     let part = part_by step.fault (ended_by ways places) o k0.part in
     let taken : component_of c.take_work.new.self ≡ record k0 { work = None } = c.take_work.ensures.component in
     let is : component_of c.keep_ends.new.component ≡ parted part k0 = c.keep_ends.ensures.component ∙ ap (λ (x : Component). record x { part = part_by step.fault (ended_by ways places) o x.part }) taken in
-    let some : length (carried_from 0 places) + 2 ≤ room (parted part k0) = room_there part k0 (length (carried_from 0 places)) c.requires.work (subst (λ (x : Component). work_places k0.work ≤ room x) taken c.take_work.ensures.room) in
+    let some : length (carried_from 0 places) + 2 ≤ room (parted part k0) = room_there part k0 (length (carried_from 0 places)) c.requires.work (subst (λ (x : Component). work_reserve k0.work ≤ room x) taken c.take_work.ensures.room) in
     room_left (parted part k0) (component_of c.bring_places.new.component) known ways places some (c.bring_places.ensures.notes.component ∙ ap (with_notes (all_notes known ways places)) is)
 
 pub returns-clause-component : goal.returns-clause-component
@@ -86,7 +86,7 @@ returns-clause-component g c =
     let part = part_by step.fault (ended_by ways places) o k0.part in
     let taken : component_of c.take_work.new.self ≡ record k0 { work = None } = c.take_work.ensures.component in
     let is : component_of c.keep_ends.new.component ≡ parted part k0 = c.keep_ends.ensures.component ∙ ap (λ (x : Component). record x { part = part_by step.fault (ended_by ways places) o x.part }) taken in
-    let some : length (carried_from 0 places) + 2 ≤ room (parted part k0) = room_there part k0 (length (carried_from 0 places)) c.requires.work (subst (λ (x : Component). work_places k0.work ≤ room x) taken c.take_work.ensures.room) in
+    let some : length (carried_from 0 places) + 2 ≤ room (parted part k0) = room_there part k0 (length (carried_from 0 places)) c.requires.work (subst (λ (x : Component). work_reserve k0.work ≤ room x) taken c.take_work.ensures.room) in
     let all = gets_then c.keep_ends.new.component c.bring_places.new.component c.tell_end.new.component (all_notes known ways places) (end_note e ++ fault_note step.fault) (all_noticed known ways places) [] c.bring_places.ensures.notes c.tell_end.ensures in
     λ s took left.
     comes_to k0 ways places step s took c.requires.ways inputs fit c.requires.within left o e known o_is k_is e_is (component_of c.tell_end.new.component)

@@ -9,14 +9,14 @@ use Rattle.board.proofs.boards.Board.close.Goals as goal
 
 pub returns-clause-whole : goal.returns-clause-whole
 returns-clause-whole g c =
-    let see = sight_of g.C.Client.progress g.S.Source.place g.S.Source.size g.S.Source.told g.K.Sink.told in
+    let see = sight_of g.C.Client.progress g.S.Source.offset g.S.Source.size g.S.Source.told g.K.Sink.told in
     let e = c.close-served.ensures in
     subst (λ t. IsWhole (first_graph t) → IsWhole c.close-served.result.served.graph) c.self.view_is
     (whole see (first_graph c.self.inside.turns) c.close-served.result.served.graph e.log (c.args.root.turn.seat.me.0.splits) e.stood.headers e.stood.clients e.each e.no_other)
 
 pub returns-clause-closed : goal.returns-clause-closed
 returns-clause-closed g c =
-    let see = sight_of g.C.Client.progress g.S.Source.place g.S.Source.size g.S.Source.told g.K.Sink.told in
+    let see = sight_of g.C.Client.progress g.S.Source.offset g.S.Source.size g.S.Source.told g.K.Sink.told in
     let e = c.close-served.ensures in
     let first = first_of c.self.inside.turns in
     let closed : Closed see g.C.Client.HEADERS first (pass_view c.args.root) c.close-served.result.served.graph =

@@ -15,7 +15,7 @@ use Rattle.board.proofs.boards.Board.new.Goals as goal
 
 pub new-requires-3 : goal.new-requires-3
 new-requires-3 g c =
-    let see = sight_of g.C.Client.progress g.S.Source.place g.S.Source.size g.S.Source.told g.K.Sink.told in
+    let see = sight_of g.C.Client.progress g.S.Source.offset g.S.Source.size g.S.Source.told g.K.Sink.told in
     let l = c.as_slice-2.ensures.value in
     let e : c.in-Ok-new.made.0 ≡ arc_value c.in-Ok-try_clone.theirs = search rules in
     opens_so see _ c.as_slice-2.result.now c.in-Ok-new.ensures.known.0 (sym l) c.in-Ok.ensures.counts.0 (ap (λ (s : List State). length s) l ∙ c.in-Ok.ensures.counts.1)

@@ -5,8 +5,8 @@ use Rattle.graph_core.proofs.Replacing.{there}
 use Rattle.graph_core.proofs.Setting.{all_ports}
 use Rattle.graph_core.proofs.core_graph.Core.drop_refusal.Goals as goal
 
-pub drop_fault-requires-clause-giver : goal.drop_fault-requires-clause-giver
-drop_fault-requires-clause-giver g c =
+pub drop_refusal-requires-clause-giver : goal.drop_refusal-requires-clause-giver
+drop_refusal-requires-clause-giver g c =
     let i = c.self.inside in
     let p = g.C.Client.progress in
     let G : Entries (g.row.C.Denot) = record { entries = i.components.items; stock = i.stock; units = i.units; waits = i.waits; numbered = i.registry.given } in
@@ -18,8 +18,8 @@ drop_fault-requires-clause-giver g c =
     let at' : slice_get i.components.items c.args.taker ≡ Some d = slice_get-get_or i.components.items c.args.taker d b' ∙ ap Some (sym c.index-2.ensures) in
     all_ports p i.components.items i.registry i.stock i.units i.waits i.components.cap c.args.giver e c.self.invariant at
 
-pub drop_fault-requires-clause-taker : goal.drop_fault-requires-clause-taker
-drop_fault-requires-clause-taker g c =
+pub drop_refusal-requires-clause-taker : goal.drop_refusal-requires-clause-taker
+drop_refusal-requires-clause-taker g c =
     let i = c.self.inside in
     let p = g.C.Client.progress in
     let G : Entries (g.row.C.Denot) = record { entries = i.components.items; stock = i.stock; units = i.units; waits = i.waits; numbered = i.registry.given } in
@@ -42,4 +42,4 @@ returns g c =
     let b' : c.args.taker < length i.components.items = rw (← c.self.view_is) at c.requires.taker in
     let at : slice_get i.components.items c.args.giver ≡ Some e = slice_get-get_or i.components.items c.args.giver e b ∙ ap Some (sym c.index.ensures) in
     let at' : slice_get i.components.items c.args.taker ≡ Some d = slice_get-get_or i.components.items c.args.taker d b' ∙ ap Some (sym c.index-2.ensures) in
-    rw (← c.self.view_is, there p G c.args.giver e at, there p G c.args.taker d at') c.drop_fault.ensures
+    rw (← c.self.view_is, there p G c.args.giver e at, there p G c.args.taker d at') c.drop_refusal.ensures

@@ -5,8 +5,8 @@ use Rattle.graph_core.specs.Entries.{Entries}
 use Rattle.graph_core.proofs.Replacing.{there, component_sound}
 use Rattle.graph_core.proofs.core_graph.Core.empty_refusal.Goals as goal
 
-pub empty_fault-requires : goal.empty_fault-requires
-empty_fault-requires g c =
+pub empty_refusal-requires : goal.empty_refusal-requires
+empty_refusal-requires g c =
     let i = c.self.inside in
     let p = g.C.Client.progress in
     let G : Entries (g.row.C.Denot) = record { entries = i.components.items; stock = i.stock; units = i.units; waits = i.waits; numbered = i.registry.given } in

@@ -14,4 +14,4 @@ returns g c =
     let b : c.args.place < length i.components.items = rw (← c.self.view_is) at c.requires.place in
     let at : slice_get i.components.items c.args.place ≡ Some e = slice_get-get_or i.components.items c.args.place e b ∙ ap Some (sym c.index-component.ensures) in
     let shown : (stocked i.stock).headers.header c.args.number ≡ Some c.in-Some.state = sym c.state.ensures ∙ c.in-Some.is in
-    rw (← c.self.view_is, there p G c.args.place e at, shown) c.free_buffer_fault.ensures
+    rw (← c.self.view_is, there p G c.args.place e at, shown) c.free_buffer_refusal.ensures

@@ -5,8 +5,8 @@ use Rattle.graph_core.proofs.Replacing.{there}
 use Rattle.graph_core.proofs.Setting.{all_ports}
 use Rattle.graph_core.proofs.core_graph.Core.free_refusal.Goals as goal
 
-pub free_fault-requires : goal.free_fault-requires
-free_fault-requires g c =
+pub free_refusal-requires : goal.free_refusal-requires
+free_refusal-requires g c =
     let i = c.self.inside in
     let p = g.C.Client.progress in
     let G : Entries (g.row.C.Denot) = record { entries = i.components.items; stock = i.stock; units = i.units; waits = i.waits; numbered = i.registry.given } in
@@ -23,4 +23,4 @@ returns g c =
     let e = c.index-component.result.now in
     let b : c.args.place < length i.components.items = rw (← c.self.view_is) at c.requires in
     let at : slice_get i.components.items c.args.place ≡ Some e = slice_get-get_or i.components.items c.args.place e b ∙ ap Some (sym c.index-component.ensures) in
-    rw (← c.self.view_is, there p G c.args.place e at) c.free_fault.ensures
+    rw (← c.self.view_is, there p G c.args.place e at) c.free_refusal.ensures

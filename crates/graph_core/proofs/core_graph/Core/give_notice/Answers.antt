@@ -3,7 +3,7 @@ use Rattle.std.proofs.lemmas.Option.{slice_get-get_or}
 use Rattle.il_machine.specs.declared.header.Owner.TheVariants as owners
 use Rattle.il_machine.specs.Headers.{in_todo}
 use Rattle.il_machine.specs.World.{port_of}
-use Rattle.il_machine.specs.Stock.{Stocked, given, pulled}
+use Rattle.il_machine.specs.Stock.{Stocked, header_given, todo_pulled}
 use Rattle.whole_laws.proofs.Entries.{set_same}
 use Rattle.header_core.specs.BufferHeader.{BufferHeader, cleared}
 use Rattle.note_queues.specs.Queues.{noted, header_note}
@@ -17,8 +17,8 @@ use Rattle.graph_core.proofs.Stepping.{graph_with, graph_stocked, port_kept, wit
 use Rattle.graph_core.proofs.Noticing.{Clause, nothing_returns, nothing_worlds, fewer_notes, given_returns, given_worlds, pulled_ports}
 use Rattle.graph_core.proofs.core_graph.Core.give_notice.Goals as goal
 
-pub pull_work-requires : goal.pull_work-requires
-pull_work-requires g c =
+pub pull_todo-requires : goal.pull_todo-requires
+pull_todo-requires g c =
     let i = c.self.inside in
     let e = c.index_mut-component.result.now in
     let p = c.in-Some.port in
@@ -41,13 +41,13 @@ invariant_of-self g c =
     let here : port_of (component_of e) c.args.index ≡ Some p = sym c.port.ensures ∙ c.in-Some.is in
     let r = rw (there g.C.Client.progress G c.args.place e at) at asked in
     let client : p.state.link ≡ None = rw here at r in
-    let none : None ≡ slice_get ((stocked i.stock).headers.todo p.key) 0 = sym (ap (option_map number_of) c.in_default-pull_work.is) ∙ c.pull_work.ensures.front in
-    rw (set_same i.components.items c.args.place e at) (graph_stocked g.C.Client.progress i.components.items i.registry i.stock c.pull_work.new.self i.units i.waits i.components.cap c.self.invariant
-    (ap (λ (s : Stocked). s.ports) c.pull_work.ensures.stock ∙ pulled_ports p.key ((stocked i.stock).headers.todo p.key) (stocked i.stock))
-    (nothing_worlds g.C.Client.progress G c.args.place e c.args.index p c.self.invariant.worlds at here client c.pull_work.new.self c.pull_work.ensures.stock none))
+    let none : None ≡ slice_get ((stocked i.stock).headers.todo p.key) 0 = sym (ap (option_map number_of) c.in_default-pull_todo.is) ∙ c.pull_todo.ensures.front in
+    rw (set_same i.components.items c.args.place e at) (graph_stocked g.C.Client.progress i.components.items i.registry i.stock c.pull_todo.new.self i.units i.waits i.components.cap c.self.invariant
+    (ap (λ (s : Stocked). s.ports) c.pull_todo.ensures.stock ∙ pulled_ports p.key ((stocked i.stock).headers.todo p.key) (stocked i.stock))
+    (nothing_worlds g.C.Client.progress G c.args.place e c.args.index p c.self.invariant.worlds at here client c.pull_todo.new.self c.pull_todo.ensures.stock none))
 
-pub returns-in_default-pull_work-clause-change : goal.returns-in_default-pull_work-clause-change
-returns-in_default-pull_work-clause-change g c =
+pub returns-in_default-pull_todo-clause-change : goal.returns-in_default-pull_todo-clause-change
+returns-in_default-pull_todo-clause-change g c =
     let i = c.self.inside in
     let e = c.index_mut-component.result.now in
     let p = c.in-Some.port in
@@ -58,10 +58,10 @@ returns-in_default-pull_work-clause-change g c =
     let here : port_of (component_of e) c.args.index ≡ Some p = sym c.port.ensures ∙ c.in-Some.is in
     let r = rw (there g.C.Client.progress G c.args.place e at) at asked in
     let client : p.state.link ≡ None = rw here at r in
-    let none : None ≡ slice_get ((stocked i.stock).headers.todo p.key) 0 = sym (ap (option_map number_of) c.in_default-pull_work.is) ∙ c.pull_work.ensures.front in
-    let stay : Clause g.C.Client.progress G c.args.place e c.args.index p c.self.invariant.worlds at here client (with_stocked g.C.Client.progress c.pull_work.new.self (record G { entries = set i.components.items c.args.place e })) =
-    subst (λ (es : List (Entry (g.row.C.Denot))). Clause g.C.Client.progress G c.args.place e c.args.index p c.self.invariant.worlds at here client (with_stocked g.C.Client.progress c.pull_work.new.self (record G { entries = es }))) (sym (set_same i.components.items c.args.place e at))
-    (nothing_returns g.C.Client.progress G c.args.place e c.args.index p c.self.invariant.worlds at here client c.pull_work.new.self c.pull_work.ensures.stock none) in
+    let none : None ≡ slice_get ((stocked i.stock).headers.todo p.key) 0 = sym (ap (option_map number_of) c.in_default-pull_todo.is) ∙ c.pull_todo.ensures.front in
+    let stay : Clause g.C.Client.progress G c.args.place e c.args.index p c.self.invariant.worlds at here client (with_stocked g.C.Client.progress c.pull_todo.new.self (record G { entries = set i.components.items c.args.place e })) =
+    subst (λ (es : List (Entry (g.row.C.Denot))). Clause g.C.Client.progress G c.args.place e c.args.index p c.self.invariant.worlds at here client (with_stocked g.C.Client.progress c.pull_todo.new.self (record G { entries = es }))) (sym (set_same i.components.items c.args.place e at))
+    (nothing_returns g.C.Client.progress G c.args.place e c.args.index p c.self.invariant.worlds at here client c.pull_todo.new.self c.pull_todo.ensures.stock none) in
     rw (← c.self.view_is) stay
 
 pub put_header-requires : goal.put_header-requires
@@ -76,11 +76,11 @@ put_header-requires g c =
     let here : port_of (component_of e) c.args.index ≡ Some p = sym c.port.ensures ∙ c.in-Some.is in
     let r = rw (there g.C.Client.progress G c.args.place e at) at asked in
     let client : p.state.link ≡ None = rw here at r in
-    let h = c.in-Some-pull_work.header in
-    let front : Some h.held.number ≡ slice_get ((stocked i.stock).headers.todo p.key) 0 = sym (ap (option_map number_of) c.in-Some-pull_work.is) ∙ c.pull_work.ensures.front in
-    let was : IsFrom (in_todo p.key) h (stocked i.stock) = rw c.in-Some-pull_work.is at c.pull_work.ensures.was in
-    let out : IsOutside h (stocked c.pull_work.new.self) = rw c.in-Some-pull_work.is at c.pull_work.ensures.outside in
-    let outside : IsOutside h (pulled p.key (stocked i.stock)) = subst (λ (s : Stocked). IsOutside h s) c.pull_work.ensures.stock out in
+    let h = c.in-Some-pull_todo.header in
+    let front : Some h.held.number ≡ slice_get ((stocked i.stock).headers.todo p.key) 0 = sym (ap (option_map number_of) c.in-Some-pull_todo.is) ∙ c.pull_todo.ensures.front in
+    let was : IsFrom (in_todo p.key) h (stocked i.stock) = rw c.in-Some-pull_todo.is at c.pull_todo.ensures.was in
+    let out : IsOutside h (stocked c.pull_todo.new.self) = rw c.in-Some-pull_todo.is at c.pull_todo.ensures.outside in
+    let outside : IsOutside h (todo_pulled p.key (stocked i.stock)) = subst (λ (s : Stocked). IsOutside h s) c.pull_todo.ensures.stock out in
     fewer_notes g.C.Client.progress G c.args.place e c.args.index p c.self.invariant.worlds at here client h front was outside
 
 pub invariant_of-self-2 : goal.invariant_of-self-2
@@ -95,20 +95,20 @@ invariant_of-self-2 g c =
     let here : port_of (component_of e) c.args.index ≡ Some p = sym c.port.ensures ∙ c.in-Some.is in
     let r = rw (there g.C.Client.progress G c.args.place e at) at asked in
     let client : p.state.link ≡ None = rw here at r in
-    let h = c.in-Some-pull_work.header in
-    let front : Some h.held.number ≡ slice_get ((stocked i.stock).headers.todo p.key) 0 = sym (ap (option_map number_of) c.in-Some-pull_work.is) ∙ c.pull_work.ensures.front in
-    let was : IsFrom (in_todo p.key) h (stocked i.stock) = rw c.in-Some-pull_work.is at c.pull_work.ensures.was in
-    let out : IsOutside h (stocked c.pull_work.new.self) = rw c.in-Some-pull_work.is at c.pull_work.ensures.outside in
-    let outside : IsOutside h (pulled p.key (stocked i.stock)) = subst (λ (s : Stocked). IsOutside h s) c.pull_work.ensures.stock out in
+    let h = c.in-Some-pull_todo.header in
+    let front : Some h.held.number ≡ slice_get ((stocked i.stock).headers.todo p.key) 0 = sym (ap (option_map number_of) c.in-Some-pull_todo.is) ∙ c.pull_todo.ensures.front in
+    let was : IsFrom (in_todo p.key) h (stocked i.stock) = rw c.in-Some-pull_todo.is at c.pull_todo.ensures.was in
+    let out : IsOutside h (stocked c.pull_todo.new.self) = rw c.in-Some-pull_todo.is at c.pull_todo.ensures.outside in
+    let outside : IsOutside h (todo_pulled p.key (stocked i.stock)) = subst (λ (s : Stocked). IsOutside h s) c.pull_todo.ensures.stock out in
     let id : c.id.result ≡ h.held.number = c.id.ensures ∙ ap (λ (x : BufferHeader). x.held.number) c.clear.ensures in
-    let now : stocked c.set_out.new.self ≡ given h.held.number (owners.Notice p.key.component) (pulled p.key (stocked i.stock)) =
-    c.set_out.ensures ∙ (ap (λ (n : ℕ). given n (owners.Notice p.key.component) (stocked c.pull_work.new.self)) id ∙ ap (λ (s : Stocked). given h.held.number (owners.Notice p.key.component) s) c.pull_work.ensures.stock) in
+    let now : stocked c.give_header.new.self ≡ header_given h.held.number (owners.Notice p.key.component) (todo_pulled p.key (stocked i.stock)) =
+    c.give_header.ensures ∙ (ap (λ (n : ℕ). header_given n (owners.Notice p.key.component) (stocked c.pull_todo.new.self)) id ∙ ap (λ (s : Stocked). header_given h.held.number (owners.Notice p.key.component) s) c.pull_todo.ensures.stock) in
     let left : c.put_header.new.self ≡ record e { queues = noted (header_note p.setting.definition.input (cleared h)) e.queues } =
     c.put_header.ensures ∙ ap (λ (x : BufferHeader). record e { queues = noted (header_note p.setting.definition.input x) e.queues }) c.clear.ensures in
-    graph_with g.C.Client.progress i.components.items i.registry i.stock c.set_out.new.self i.units i.waits i.components.cap c.args.place e c.put_header.new.self c.self.invariant at
+    graph_with g.C.Client.progress i.components.items i.registry i.stock c.give_header.new.self i.units i.waits i.components.cap c.args.place e c.put_header.new.self c.self.invariant at
     (ap (λ (x : Entry (g.row.C.Denot)). x.handle) left) (ap (λ (x : Entry (g.row.C.Denot)). x.ports) left) (ap (λ (x : Entry (g.row.C.Denot)). x.pending) left)
     (ap (λ (s : Stocked). s.ports) now ∙ pulled_ports p.key ((stocked i.stock).headers.todo p.key) (stocked i.stock))
-    (given_worlds g.C.Client.progress G c.args.place e c.args.index p c.self.invariant.worlds at here client h front was outside c.put_header.new.self c.set_out.new.self left now)
+    (given_worlds g.C.Client.progress G c.args.place e c.args.index p c.self.invariant.worlds at here client h front was outside c.put_header.new.self c.give_header.new.self left now)
 
 pub returns-clause-change : goal.returns-clause-change
 returns-clause-change g c =
@@ -122,20 +122,20 @@ returns-clause-change g c =
     let here : port_of (component_of e) c.args.index ≡ Some p = sym c.port.ensures ∙ c.in-Some.is in
     let r = rw (there g.C.Client.progress G c.args.place e at) at asked in
     let client : p.state.link ≡ None = rw here at r in
-    let h = c.in-Some-pull_work.header in
-    let front : Some h.held.number ≡ slice_get ((stocked i.stock).headers.todo p.key) 0 = sym (ap (option_map number_of) c.in-Some-pull_work.is) ∙ c.pull_work.ensures.front in
-    let was : IsFrom (in_todo p.key) h (stocked i.stock) = rw c.in-Some-pull_work.is at c.pull_work.ensures.was in
-    let out : IsOutside h (stocked c.pull_work.new.self) = rw c.in-Some-pull_work.is at c.pull_work.ensures.outside in
-    let outside : IsOutside h (pulled p.key (stocked i.stock)) = subst (λ (s : Stocked). IsOutside h s) c.pull_work.ensures.stock out in
+    let h = c.in-Some-pull_todo.header in
+    let front : Some h.held.number ≡ slice_get ((stocked i.stock).headers.todo p.key) 0 = sym (ap (option_map number_of) c.in-Some-pull_todo.is) ∙ c.pull_todo.ensures.front in
+    let was : IsFrom (in_todo p.key) h (stocked i.stock) = rw c.in-Some-pull_todo.is at c.pull_todo.ensures.was in
+    let out : IsOutside h (stocked c.pull_todo.new.self) = rw c.in-Some-pull_todo.is at c.pull_todo.ensures.outside in
+    let outside : IsOutside h (todo_pulled p.key (stocked i.stock)) = subst (λ (s : Stocked). IsOutside h s) c.pull_todo.ensures.stock out in
     let id : c.id.result ≡ h.held.number = c.id.ensures ∙ ap (λ (x : BufferHeader). x.held.number) c.clear.ensures in
-    let now : stocked c.set_out.new.self ≡ given h.held.number (owners.Notice p.key.component) (pulled p.key (stocked i.stock)) =
-    c.set_out.ensures ∙ (ap (λ (n : ℕ). given n (owners.Notice p.key.component) (stocked c.pull_work.new.self)) id ∙ ap (λ (s : Stocked). given h.held.number (owners.Notice p.key.component) s) c.pull_work.ensures.stock) in
+    let now : stocked c.give_header.new.self ≡ header_given h.held.number (owners.Notice p.key.component) (todo_pulled p.key (stocked i.stock)) =
+    c.give_header.ensures ∙ (ap (λ (n : ℕ). header_given n (owners.Notice p.key.component) (stocked c.pull_todo.new.self)) id ∙ ap (λ (s : Stocked). header_given h.held.number (owners.Notice p.key.component) s) c.pull_todo.ensures.stock) in
     let left : c.put_header.new.self ≡ record e { queues = noted (header_note p.setting.definition.input (cleared h)) e.queues } =
     c.put_header.ensures ∙ ap (λ (x : BufferHeader). record e { queues = noted (header_note p.setting.definition.input x) e.queues }) c.clear.ensures in
-    rw (← c.self.view_is) (given_returns g.C.Client.progress G c.args.place e c.args.index p c.self.invariant.worlds at here client h front was outside c.put_header.new.self c.set_out.new.self left now)
+    rw (← c.self.view_is) (given_returns g.C.Client.progress G c.args.place e c.args.index p c.self.invariant.worlds at here client h front was outside c.put_header.new.self c.give_header.new.self left now)
 
-pub returns-in_default-pull_work-clause-clients : goal.returns-in_default-pull_work-clause-clients
-returns-in_default-pull_work-clause-clients g c =
+pub returns-in_default-pull_todo-clause-clients : goal.returns-in_default-pull_todo-clause-clients
+returns-in_default-pull_todo-clause-clients g c =
     let i = c.self.inside in
     let e = c.index_mut-component.result.now in
     let G : Entries (g.row.C.Denot) = record { entries = i.components.items; stock = i.stock; units = i.units; waits = i.waits; numbered = i.registry.given } in
@@ -153,7 +153,7 @@ returns-clause-clients g c =
     let b : c.args.place < length i.components.items = within g.C.Client.progress G c.args.place _ asked in
     let at : slice_get i.components.items c.args.place ≡ Some e = slice_get-get_or i.components.items c.args.place e b ∙ ap Some (sym c.index_mut-component.ensures.value) in
     let p = c.in-Some.port in
-    let h = c.in-Some-pull_work.header in
+    let h = c.in-Some-pull_todo.header in
     let left : c.put_header.new.self ≡ record e { queues = noted (header_note p.setting.definition.input (cleared h)) e.queues } =
     c.put_header.ensures ∙ ap (λ (x : BufferHeader). record e { queues = noted (header_note p.setting.definition.input x) e.queues }) c.clear.ensures in
     rw (← c.self.view_is) (clients_set i.components.items c.args.place e c.put_header.new.self at (ap (λ (x : Entry (g.row.C.Denot)). x.handle) left) (ap (λ (x : Entry (g.row.C.Denot)). x.queues.client) left))

@@ -27,4 +27,4 @@ returns g c =
     let at : slice_get es c.in-Some.place ≡ Some e = slice_get-get_or es c.in-Some.place e within ∙ ap Some (sym c.index-waiter.ensures) in
     let first : first_waiter (components_of c.args.self.now.entries) ≡ Some (component_of e) =
     subst (λ (x : Entries (g.row.C.Denot)). first_waiter (components_of x.entries) ≡ Some (component_of e)) c.self.view_is (sym found ∙ component_there es c.in-Some.place e at) in
-    lacks_is (look_of c.args.self.now) (component_of e) first c.free_units-have.result c.need-need.result c.need-need.ensures.need c.lacks_places.result c.free_units-have.ensures c.if-have-need.false c.lacks_places.ensures
+    lacks_is (look_of c.args.self.now) (component_of e) first c.free_units-have.result c.need-need.result c.need-need.ensures.need c.lacks_event_room.result c.free_units-have.ensures c.if-have-need.false c.lacks_event_room.ensures

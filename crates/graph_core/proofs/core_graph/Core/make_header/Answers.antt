@@ -11,8 +11,8 @@ use Rattle.graph_core.proofs.Stepping.{graph_stocked, port_kept}
 use Rattle.graph_core.proofs.Handing.{block_for, few_made, least_size, most_size, made_returns, made_worlds}
 use Rattle.graph_core.proofs.core_graph.Core.make_header.Goals as goal
 
-pub populate-requires-clause-port : goal.populate-requires-clause-port
-populate-requires-clause-port g c =
+pub make_header-requires-clause-port : goal.make_header-requires-clause-port
+make_header-requires-clause-port g c =
     let i = c.self.inside in
     let e = c.index-component.result.now in
     let p = c.in-Some.port in
@@ -23,8 +23,8 @@ populate-requires-clause-port g c =
     let here : port_of (component_of e) c.args.index ≡ Some p = sym c.port.ensures ∙ c.in-Some.is in
     port_kept g.C.Client.progress i.components.items (stocked i.stock) i.registry.given c.args.place c.args.index e p c.self.invariant.ports at here
 
-pub populate-requires-clause-some : goal.populate-requires-clause-some
-populate-requires-clause-some g c =
+pub make_header-requires-clause-some : goal.make_header-requires-clause-some
+make_header-requires-clause-some g c =
     let i = c.self.inside in
     let e = c.index-component.result.now in
     let p = c.in-Some.port in
@@ -36,8 +36,8 @@ populate-requires-clause-some g c =
     let M : IsMakable (look_of G) (component_of e) p c.args.memory = rw (there g.C.Client.progress G c.args.place e at, here) at asked in
     least_size g.C.Client.progress G c.args.place e c.args.index p c.self.invariant.worlds at here c.args.memory M
 
-pub populate-requires-clause-limit : goal.populate-requires-clause-limit
-populate-requires-clause-limit g c =
+pub make_header-requires-clause-limit : goal.make_header-requires-clause-limit
+make_header-requires-clause-limit g c =
     let i = c.self.inside in
     let e = c.index-component.result.now in
     let p = c.in-Some.port in
@@ -49,8 +49,8 @@ populate-requires-clause-limit g c =
     let M : IsMakable (look_of G) (component_of e) p c.args.memory = rw (there g.C.Client.progress G c.args.place e at, here) at asked in
     most_size g.C.Client.progress G c.args.place e c.args.index p c.self.invariant.worlds at here c.args.memory M
 
-pub populate-requires-clause-fits : goal.populate-requires-clause-fits
-populate-requires-clause-fits g c =
+pub make_header-requires-clause-fits : goal.make_header-requires-clause-fits
+make_header-requires-clause-fits g c =
     let i = c.self.inside in
     let e = c.index-component.result.now in
     let p = c.in-Some.port in
@@ -62,8 +62,8 @@ populate-requires-clause-fits g c =
     let M : IsMakable (look_of G) (component_of e) p c.args.memory = rw (there g.C.Client.progress G c.args.place e at, here) at asked in
     M.fits
 
-pub populate-requires-clause-block : goal.populate-requires-clause-block
-populate-requires-clause-block g c =
+pub make_header-requires-clause-block : goal.make_header-requires-clause-block
+make_header-requires-clause-block g c =
     let i = c.self.inside in
     let e = c.index-component.result.now in
     let p = c.in-Some.port in
@@ -75,8 +75,8 @@ populate-requires-clause-block g c =
     let M : IsMakable (look_of G) (component_of e) p c.args.memory = rw (there g.C.Client.progress G c.args.place e at, here) at asked in
     block_for c.args.memory (stocked i.stock) M.block
 
-pub populate-requires-clause-few : goal.populate-requires-clause-few
-populate-requires-clause-few g c =
+pub make_header-requires-clause-few : goal.make_header-requires-clause-few
+make_header-requires-clause-few g c =
     let i = c.self.inside in
     let e = c.index-component.result.now in
     let p = c.in-Some.port in
@@ -99,8 +99,8 @@ invariant_of-self g c =
     let at : slice_get i.components.items c.args.place ≡ Some e = slice_get-get_or i.components.items c.args.place e b ∙ ap Some (sym c.index-component.ensures) in
     let here : port_of (component_of e) c.args.index ≡ Some p = sym c.port.ensures ∙ c.in-Some.is in
     let M : IsMakable (look_of G) (component_of e) p c.args.memory = rw (there g.C.Client.progress G c.args.place e at, here) at asked in
-    graph_stocked g.C.Client.progress i.components.items i.registry i.stock c.populate.new.self i.units i.waits i.components.cap c.self.invariant (ap (λ (s : Stocked). s.ports) c.populate.ensures.stock)
-    (made_worlds g.C.Client.progress G c.args.place e c.args.index p c.self.invariant.worlds at here c.args.memory M c.populate.ensures.new_number c.populate.new.self c.populate.ensures.stock)
+    graph_stocked g.C.Client.progress i.components.items i.registry i.stock c.make_header.new.self i.units i.waits i.components.cap c.self.invariant (ap (λ (s : Stocked). s.ports) c.make_header.ensures.stock)
+    (made_worlds g.C.Client.progress G c.args.place e c.args.index p c.self.invariant.worlds at here c.args.memory M c.make_header.ensures.new_number c.make_header.new.self c.make_header.ensures.stock)
 
 pub returns-clause-header : goal.returns-clause-header
 returns-clause-header g c =
@@ -112,7 +112,7 @@ returns-clause-header g c =
     let b : c.args.place < length i.components.items = within g.C.Client.progress G c.args.place _ asked in
     let at : slice_get i.components.items c.args.place ≡ Some e = slice_get-get_or i.components.items c.args.place e b ∙ ap Some (sym c.index-component.ensures) in
     let here : port_of (component_of e) c.args.index ≡ Some p = sym c.port.ensures ∙ c.in-Some.is in
-    rw (← c.self.view_is, there g.C.Client.progress G c.args.place e at, here) c.populate.ensures.header
+    rw (← c.self.view_is, there g.C.Client.progress G c.args.place e at, here) c.make_header.ensures.header
 
 pub returns-clause-change : goal.returns-clause-change
 returns-clause-change g c =
@@ -125,7 +125,7 @@ returns-clause-change g c =
     let at : slice_get i.components.items c.args.place ≡ Some e = slice_get-get_or i.components.items c.args.place e b ∙ ap Some (sym c.index-component.ensures) in
     let here : port_of (component_of e) c.args.index ≡ Some p = sym c.port.ensures ∙ c.in-Some.is in
     let M : IsMakable (look_of G) (component_of e) p c.args.memory = rw (there g.C.Client.progress G c.args.place e at, here) at asked in
-    rw (← c.self.view_is) (made_returns g.C.Client.progress G c.args.place e c.args.index p c.self.invariant.worlds at here c.args.memory M c.populate.ensures.new_number c.populate.new.self c.populate.ensures.stock)
+    rw (← c.self.view_is) (made_returns g.C.Client.progress G c.args.place e c.args.index p c.self.invariant.worlds at here c.args.memory M c.make_header.ensures.new_number c.make_header.new.self c.make_header.ensures.stock)
 
 pub unreachable-requires-then-not-numbers_left : goal.unreachable-requires-then-not-numbers_left
 unreachable-requires-then-not-numbers_left g c =
@@ -143,8 +143,8 @@ unreachable-requires-then-not-numbers_left g c =
     let z : true ≡ false = sym left ∙ none in
     cc
 
-pub populate-requires-clause-numbers : goal.populate-requires-clause-numbers
-populate-requires-clause-numbers g c = c.numbers_left.ensures.below c.if-not-numbers_left.false
+pub make_header-requires-clause-numbers : goal.make_header-requires-clause-numbers
+make_header-requires-clause-numbers g c = c.numbers_left.ensures.below c.if-not-numbers_left.false
 
 pub returns-clause-clients : goal.returns-clause-clients
 returns-clause-clients g c = rw (← c.self.view_is) (λ k. refl)

@@ -36,7 +36,7 @@ returns-in-Some-weakest g c =
     let there : slice_get es c.in-Some-weakest.place ≡ Some d = slice_get-get_or es c.in-Some-weakest.place d inside ∙ ap Some (sym c.index-in-Some-weakest.ensures) in
     let last : weakest (component_of e) (components_of c.args.self.now.entries) ≡ Some (component_of d) =
     subst (λ (x : Entries (g.row.C.Denot)). weakest (component_of e) (components_of x.entries) ≡ Some (component_of d)) c.self.view_is (sym weaker ∙ component_there es c.in-Some-weakest.place d there) in
-    victim_lacks_is (look_of c.args.self.now) (component_of e) first c.coming_units-have.result c.need-need.result c.need-need.ensures.need (component_of d) c.lacks_places.result c.coming_units-have.ensures c.if-need-have.false last c.lacks_places.ensures
+    victim_lacks_is (look_of c.args.self.now) (component_of e) first c.coming_units-have.result c.need-need.result c.need-need.ensures.need (component_of d) c.lacks_event_room.result c.coming_units-have.ensures c.if-need-have.false last c.lacks_event_room.ensures
 
 pub returns-in-None : goal.returns-in-None
 returns-in-None g c =

@@ -11,8 +11,8 @@ use Rattle.graph_core.proofs.Stepping.{graph_stocked, port_kept}
 use Rattle.graph_core.proofs.Handing.{outside, for_this_port, in_returns, in_worlds}
 use Rattle.graph_core.proofs.core_graph.Core.take_in.Goals as goal
 
-pub push_work-requires-clause-port : goal.push_work-requires-clause-port
-push_work-requires-clause-port g c =
+pub push_header-requires-clause-port : goal.push_header-requires-clause-port
+push_header-requires-clause-port g c =
     let i = c.self.inside in
     let e = c.index-component.result.now in
     let p = c.in-Some.port in
@@ -23,8 +23,8 @@ push_work-requires-clause-port g c =
     let here : port_of (component_of e) c.args.index ≡ Some p = sym c.port.ensures ∙ c.in-Some.is in
     port_kept g.C.Client.progress i.components.items (stocked i.stock) i.registry.given c.args.place c.args.index e p c.self.invariant.ports at here
 
-pub push_work-requires-clause-outside : goal.push_work-requires-clause-outside
-push_work-requires-clause-outside g c =
+pub push_header-requires-clause-outside : goal.push_header-requires-clause-outside
+push_header-requires-clause-outside g c =
     let i = c.self.inside in
     let e = c.index-component.result.now in
     let p = c.in-Some.port in
@@ -36,8 +36,8 @@ push_work-requires-clause-outside g c =
     let handed : IsHandedIn c.args.header (look_of G) = rw (← c.self.view_is) at c.requires.handed in
     outside g.C.Client.progress G c.args.place e c.args.index p c.self.invariant.worlds at here c.args.header handed
 
-pub push_work-requires-clause-made_for : goal.push_work-requires-clause-made_for
-push_work-requires-clause-made_for g c =
+pub push_header-requires-clause-made_for : goal.push_header-requires-clause-made_for
+push_header-requires-clause-made_for g c =
     let i = c.self.inside in
     let e = c.index-component.result.now in
     let p = c.in-Some.port in
@@ -62,8 +62,8 @@ invariant_of-self g c =
     let here : port_of (component_of e) c.args.index ≡ Some p = sym c.port.ensures ∙ c.in-Some.is in
     let handed : IsHandedIn c.args.header (look_of G) = rw (← c.self.view_is) at c.requires.handed in
     let own = rw (there g.C.Client.progress G c.args.place e at, here) at asked in
-    graph_stocked g.C.Client.progress i.components.items i.registry i.stock c.push_work.new.self i.units i.waits i.components.cap c.self.invariant (ap (λ (s : Stocked). s.ports) c.push_work.ensures)
-    (in_worlds g.C.Client.progress G c.args.place e c.args.index p c.self.invariant.worlds at here c.args.header handed own c.push_work.new.self c.push_work.ensures)
+    graph_stocked g.C.Client.progress i.components.items i.registry i.stock c.push_header.new.self i.units i.waits i.components.cap c.self.invariant (ap (λ (s : Stocked). s.ports) c.push_header.ensures)
+    (in_worlds g.C.Client.progress G c.args.place e c.args.index p c.self.invariant.worlds at here c.args.header handed own c.push_header.new.self c.push_header.ensures)
 
 pub returns-clause-change : goal.returns-clause-change
 returns-clause-change g c =
@@ -77,7 +77,7 @@ returns-clause-change g c =
     let here : port_of (component_of e) c.args.index ≡ Some p = sym c.port.ensures ∙ c.in-Some.is in
     let handed : IsHandedIn c.args.header (look_of G) = rw (← c.self.view_is) at c.requires.handed in
     let own = rw (there g.C.Client.progress G c.args.place e at, here) at asked in
-    rw (← c.self.view_is) (in_returns g.C.Client.progress G c.args.place e c.args.index p c.self.invariant.worlds at here c.args.header handed own c.push_work.new.self c.push_work.ensures)
+    rw (← c.self.view_is) (in_returns g.C.Client.progress G c.args.place e c.args.index p c.self.invariant.worlds at here c.args.header handed own c.push_header.new.self c.push_header.ensures)
 
 pub returns-clause-clients : goal.returns-clause-clients
 returns-clause-clients g c = rw (← c.self.view_is) (λ k. refl)

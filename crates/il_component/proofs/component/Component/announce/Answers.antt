@@ -5,7 +5,7 @@ use Rattle.il_machine.specs.declared.port.Port.{Port}
 use Rattle.il_machine.specs.Settings.{same_format}
 use Rattle.il_machine.specs.World.{Component, port_of, told, with_port}
 use Rattle.il_machine.specs.Parts.{file_format}
-use Rattle.il_machine.specs.Room.{work_places}
+use Rattle.il_machine.specs.Room.{work_reserve}
 use Rattle.il_component.specs.Entries.{component_of}
 use Rattle.il_component.proofs.Named.{held_state}
 use Rattle.il_component.proofs.Announcing.{announced_held, room_to_tell, work_some}
@@ -17,7 +17,7 @@ tell-requires g c =
     let p = c.in-Some.port in
     let e : port_of k 0 ≡ Some p = sym c.in-Some.ensures in
     let m : component_of c.hold_port.new.self ≡ with_port 0 (held_state p.state) k = subst (λ (o : Option Port). MatchOption o ⊥ (λ q. component_of c.hold_port.new.self ≡ with_port 0 (held_state q.state) k)) e c.hold_port.ensures.component in
-    room_to_tell (component_of c.hold_port.new.self) k p (work_places c.args.self.now.work) e m (work_some c.args.self.now.work c.requires) c.take_work.ensures.room
+    room_to_tell (component_of c.hold_port.new.self) k p (work_reserve c.args.self.now.work) e m (work_some c.args.self.now.work c.requires) c.take_work.ensures.room
 
 pub returns-clause-component : goal.returns-clause-component
 returns-clause-component g c =

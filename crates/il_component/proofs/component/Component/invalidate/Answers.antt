@@ -1,6 +1,6 @@
 use Rattle.std.proofs.Common.{◌≡◌, length, sum_by, sym, ◌∙◌, ap, arith}
 use Rattle.std.proofs.lemmas.List.{take_at}
-use Rattle.il_machine.specs.Room.{port_places}
+use Rattle.il_machine.specs.Room.{port_reserve}
 use Rattle.il_component.proofs.Queueing.{rest_places}
 use Rattle.il_component.proofs.component.Component.invalidate.Goals as goal
 
@@ -8,5 +8,5 @@ pub hold-requires-clause-fits : goal.hold-requires-clause-fits
 hold-requires-clause-fits g c =
     let b = c.room-room.ensures.within.room in
     let same : length c.put_at_rest.new.ports ≡ length c.self.inside.ports.items = c.put_at_rest.auto.ports ∙ ap length c.deref_mut.ensures.value in
-    let z : sum_by port_places c.put_at_rest.new.ports ≡ 0 = ap (sum_by port_places) c.put_at_rest.ensures ∙ rest_places c.deref_mut.result.now in
+    let z : sum_by port_reserve c.put_at_rest.new.ports ≡ 0 = ap (sum_by port_reserve) c.put_at_rest.ensures ∙ rest_places c.deref_mut.result.now in
     rw (c.deref.ensures.value, take_at c.put_at_rest.new.ports _ _ (same ∙ sym c.self.inside.ports.ok.0), c.drop_commands.ensures) (omega arith)

@@ -28,7 +28,7 @@ use Rattle.il_graph.proofs.graph.Graph.attach.Goals as goal
 
 pub returns-in_default-clause-step : goal.returns-in_default-clause-step
 returns-in_default-clause-step g c =
-    let O = offered g.S.Source.place g.S.Source.size g.S.Source.told g.K.Sink.told c.args.file in
+    let O = offered g.S.Source.offset g.S.Source.size g.S.Source.told g.K.Sink.told c.args.file in
     rw (← c.self.view_is) (whole_over g.C.Client.progress _ c.self.inside.core (acts.Attach c.args.h O) (acts.Plain _) tt c.self.invariant.1 (λ w B. tt) (not_found g.C.Client.progress (Unit {0}) c.self.inside.core c.args.h (λ w v i k. Answers (attach_refusal k O) (Err errors.InvalidComponent) w v (λ _. ClosesTo (with_file i k O w) v)) c.in_default.ensures.place))
 
 pub returns-in-Some-attach_refusal-clause-step : goal.returns-in-Some-attach_refusal-clause-step
@@ -38,9 +38,9 @@ returns-in-Some-attach_refusal-clause-step g c =
     let i = c.in-Some.place in
     let F : Found p G c.args.h i = found p G c.args.h i c.in-Some.ensures.place c.in-Some.ensures.within in
     let I = c.self.invariant.1 in
-    let O = offered g.S.Source.place g.S.Source.size g.S.Source.told g.K.Sink.told c.args.file in
-    let known = told_of g.S.Source.place g.S.Source.told g.K.Sink.told c.args.file in
-    let as_core : file_offered c.attached-attached.result c.there.result known ≡ O = ap (λ (a : Attached). file_offered a c.there.result known) c.attached-attached.ensures ∙ offered_is g.S.Source.place g.S.Source.size g.S.Source.told g.K.Sink.told c.args.file c.there.result c.there.ensures.bytes in
+    let O = offered g.S.Source.offset g.S.Source.size g.S.Source.told g.K.Sink.told c.args.file in
+    let known = told_of g.S.Source.offset g.S.Source.told g.K.Sink.told c.args.file in
+    let as_core : file_offered c.attached-attached.result c.there.result known ≡ O = ap (λ (a : Attached). file_offered a c.there.result known) c.attached-attached.ensures ∙ offered_is g.S.Source.offset g.S.Source.size g.S.Source.told g.K.Sink.told c.args.file c.there.result c.there.ensures.bytes in
     let no = subst (λ (o : Offered). MatchOption (component_at i G) ⊥ (λ k. Some c.in-Some-attach_refusal.error ≡ attach_refusal k o)) as_core (c.in-Some-attach_refusal.ensures known) in
     rw (← c.self.view_is) (whole_over p _ G (acts.Attach c.args.h O) (acts.Plain _) tt I (λ w B. tt) (refused_at p (λ (l : Look) (k : Component). attach_refusal k O) G c.args.h i c.in-Some-attach_refusal.error (λ w v j k (_ : (Unit {0})). ClosesTo (with_file j k O w) v) F no))
 
@@ -66,9 +66,9 @@ index_mut-requires g c =
     let i = c.in-Some.place in
     let F : Found p G c.args.h i = found p G c.args.h i c.in-Some.ensures.place c.in-Some.ensures.within in
     let I = c.self.invariant.1 in
-    let O = offered g.S.Source.place g.S.Source.size g.S.Source.told g.K.Sink.told c.args.file in
-    let known = told_of g.S.Source.place g.S.Source.told g.K.Sink.told c.args.file in
-    let as_core : file_offered c.attached-attached.result c.there.result known ≡ O = ap (λ (a : Attached). file_offered a c.there.result known) c.attached-attached.ensures ∙ offered_is g.S.Source.place g.S.Source.size g.S.Source.told g.K.Sink.told c.args.file c.there.result c.there.ensures.bytes in
+    let O = offered g.S.Source.offset g.S.Source.size g.S.Source.told g.K.Sink.told c.args.file in
+    let known = told_of g.S.Source.offset g.S.Source.told g.K.Sink.told c.args.file in
+    let as_core : file_offered c.attached-attached.result c.there.result known ≡ O = ap (λ (a : Attached). file_offered a c.there.result known) c.attached-attached.ensures ∙ offered_is g.S.Source.offset g.S.Source.size g.S.Source.told g.K.Sink.told c.args.file c.there.result c.there.ensures.bytes in
     let may = subst (λ (o : Offered). MatchOption (component_at i G) ⊥ (λ k. None ≡ attach_refusal k o)) as_core (c.in_default-attach_refusal.ensures known) in
     let ok : attach_refusal F.component O ≡ None = sym (at_some (λ k. None ≡ attach_refusal k O) (component_at i G) F.component F.at may) in
     let M = attach_passes F.component O ok in
@@ -86,9 +86,9 @@ give_file-requires-clause-free g c =
     let i = c.in-Some.place in
     let F : Found p G c.args.h i = found p G c.args.h i c.in-Some.ensures.place c.in-Some.ensures.within in
     let I = c.self.invariant.1 in
-    let O = offered g.S.Source.place g.S.Source.size g.S.Source.told g.K.Sink.told c.args.file in
-    let known = told_of g.S.Source.place g.S.Source.told g.K.Sink.told c.args.file in
-    let as_core : file_offered c.attached-attached.result c.there.result known ≡ O = ap (λ (a : Attached). file_offered a c.there.result known) c.attached-attached.ensures ∙ offered_is g.S.Source.place g.S.Source.size g.S.Source.told g.K.Sink.told c.args.file c.there.result c.there.ensures.bytes in
+    let O = offered g.S.Source.offset g.S.Source.size g.S.Source.told g.K.Sink.told c.args.file in
+    let known = told_of g.S.Source.offset g.S.Source.told g.K.Sink.told c.args.file in
+    let as_core : file_offered c.attached-attached.result c.there.result known ≡ O = ap (λ (a : Attached). file_offered a c.there.result known) c.attached-attached.ensures ∙ offered_is g.S.Source.offset g.S.Source.size g.S.Source.told g.K.Sink.told c.args.file c.there.result c.there.ensures.bytes in
     let may = subst (λ (o : Offered). MatchOption (component_at i G) ⊥ (λ k. None ≡ attach_refusal k o)) as_core (c.in_default-attach_refusal.ensures known) in
     let ok : attach_refusal F.component O ≡ None = sym (at_some (λ k. None ≡ attach_refusal k O) (component_at i G) F.component F.at may) in
     let M = attach_passes F.component O ok in
@@ -109,9 +109,9 @@ give_file-requires-clause-may g c =
     let i = c.in-Some.place in
     let F : Found p G c.args.h i = found p G c.args.h i c.in-Some.ensures.place c.in-Some.ensures.within in
     let I = c.self.invariant.1 in
-    let O = offered g.S.Source.place g.S.Source.size g.S.Source.told g.K.Sink.told c.args.file in
-    let known = told_of g.S.Source.place g.S.Source.told g.K.Sink.told c.args.file in
-    let as_core : file_offered c.attached-attached.result c.there.result known ≡ O = ap (λ (a : Attached). file_offered a c.there.result known) c.attached-attached.ensures ∙ offered_is g.S.Source.place g.S.Source.size g.S.Source.told g.K.Sink.told c.args.file c.there.result c.there.ensures.bytes in
+    let O = offered g.S.Source.offset g.S.Source.size g.S.Source.told g.K.Sink.told c.args.file in
+    let known = told_of g.S.Source.offset g.S.Source.told g.K.Sink.told c.args.file in
+    let as_core : file_offered c.attached-attached.result c.there.result known ≡ O = ap (λ (a : Attached). file_offered a c.there.result known) c.attached-attached.ensures ∙ offered_is g.S.Source.offset g.S.Source.size g.S.Source.told g.K.Sink.told c.args.file c.there.result c.there.ensures.bytes in
     let may = subst (λ (o : Offered). MatchOption (component_at i G) ⊥ (λ k. None ≡ attach_refusal k o)) as_core (c.in_default-attach_refusal.ensures known) in
     let ok : attach_refusal F.component O ≡ None = sym (at_some (λ k. None ≡ attach_refusal k O) (component_at i G) F.component F.at may) in
     let M = attach_passes F.component O ok in
@@ -121,8 +121,8 @@ give_file-requires-clause-may g c =
     let part = c.in-Some-index_mut.part in
     let there : slice_get items i ≡ Some (Some part) = here ∙ ap Some c.in-Some-index_mut.is in
     let T : IsPartOf F.component (f part) = holds_it p _ I i F.component F.at f items refl free part there in
-    subst (λ (k : Kind). MayAttach g.S.Source.place g.S.Source.size k c.args.file) (sym T.kind)
-    (may_attach g.S.Source.place g.S.Source.size g.S.Source.told g.K.Sink.told F.component.settings.kind (file_port_format F.component) c.args.file c.there.ensures.within M.for_kind M.good)
+    subst (λ (k : Kind). MayAttach g.S.Source.offset g.S.Source.size k c.args.file) (sym T.kind)
+    (may_attach g.S.Source.offset g.S.Source.size g.S.Source.told g.K.Sink.told F.component.settings.kind (file_port_format F.component) c.args.file c.there.ensures.within M.for_kind M.good)
 
 pub unreachable-requires : goal.unreachable-requires
 unreachable-requires g c =
@@ -133,9 +133,9 @@ unreachable-requires g c =
     let i = c.in-Some.place in
     let F : Found p G c.args.h i = found p G c.args.h i c.in-Some.ensures.place c.in-Some.ensures.within in
     let I = c.self.invariant.1 in
-    let O = offered g.S.Source.place g.S.Source.size g.S.Source.told g.K.Sink.told c.args.file in
-    let known = told_of g.S.Source.place g.S.Source.told g.K.Sink.told c.args.file in
-    let as_core : file_offered c.attached-attached.result c.there.result known ≡ O = ap (λ (a : Attached). file_offered a c.there.result known) c.attached-attached.ensures ∙ offered_is g.S.Source.place g.S.Source.size g.S.Source.told g.K.Sink.told c.args.file c.there.result c.there.ensures.bytes in
+    let O = offered g.S.Source.offset g.S.Source.size g.S.Source.told g.K.Sink.told c.args.file in
+    let known = told_of g.S.Source.offset g.S.Source.told g.K.Sink.told c.args.file in
+    let as_core : file_offered c.attached-attached.result c.there.result known ≡ O = ap (λ (a : Attached). file_offered a c.there.result known) c.attached-attached.ensures ∙ offered_is g.S.Source.offset g.S.Source.size g.S.Source.told g.K.Sink.told c.args.file c.there.result c.there.ensures.bytes in
     let may = subst (λ (o : Offered). MatchOption (component_at i G) ⊥ (λ k. None ≡ attach_refusal k o)) as_core (c.in_default-attach_refusal.ensures known) in
     let ok : attach_refusal F.component O ≡ None = sym (at_some (λ k. None ≡ attach_refusal k O) (component_at i G) F.component F.at may) in
     let M = attach_passes F.component O ok in
@@ -155,9 +155,9 @@ invariant_of-self g c =
     let i = c.in-Some.place in
     let F : Found p G c.args.h i = found p G c.args.h i c.in-Some.ensures.place c.in-Some.ensures.within in
     let I = c.self.invariant.1 in
-    let O = offered g.S.Source.place g.S.Source.size g.S.Source.told g.K.Sink.told c.args.file in
-    let known = told_of g.S.Source.place g.S.Source.told g.K.Sink.told c.args.file in
-    let as_core : file_offered c.attached-attached.result c.there.result known ≡ O = ap (λ (a : Attached). file_offered a c.there.result known) c.attached-attached.ensures ∙ offered_is g.S.Source.place g.S.Source.size g.S.Source.told g.K.Sink.told c.args.file c.there.result c.there.ensures.bytes in
+    let O = offered g.S.Source.offset g.S.Source.size g.S.Source.told g.K.Sink.told c.args.file in
+    let known = told_of g.S.Source.offset g.S.Source.told g.K.Sink.told c.args.file in
+    let as_core : file_offered c.attached-attached.result c.there.result known ≡ O = ap (λ (a : Attached). file_offered a c.there.result known) c.attached-attached.ensures ∙ offered_is g.S.Source.offset g.S.Source.size g.S.Source.told g.K.Sink.told c.args.file c.there.result c.there.ensures.bytes in
     let may = subst (λ (o : Offered). MatchOption (component_at i G) ⊥ (λ k. None ≡ attach_refusal k o)) as_core (c.in_default-attach_refusal.ensures known) in
     let ok : attach_refusal F.component O ≡ None = sym (at_some (λ k. None ≡ attach_refusal k O) (component_at i G) F.component F.at may) in
     let M = attach_passes F.component O ok in
@@ -169,7 +169,7 @@ invariant_of-self g c =
     let T : IsPartOf F.component (f part) = holds_it p _ I i F.component F.at f items refl free part there in
     let q = f c.give_file.new.part in
     let R = c.give_file.ensures in
-    let file : attached O ≡ attached_of c.args.file = attached_same g.S.Source.place g.S.Source.size g.S.Source.told g.K.Sink.told c.args.file in
+    let file : attached O ≡ attached_of c.args.file = attached_same g.S.Source.offset g.S.Source.size g.S.Source.told g.K.Sink.told c.args.file in
     let D = λ (s : Stream). R.done (terms_of (record F.component { file = Some (attached O) })) F.component.part.failed s (sym T.kind) (ap (λ (a : Attached). Some a) file) in
     let tied : IsPartOf (record F.component { file = Some (attached O) }) q = filed_tied F.component O c.args.file (f part) q file T R in
     let change = subst (λ (o : Offered). MatchOption (component_at i G) ⊥ (λ k. StepsBare (kept p G) (kept p c.attach.new.self) (λ w v. v ≡ with_file i k o w))) as_core (c.attach.ensures.change c.there.result known) in
@@ -188,9 +188,9 @@ returns-clause-step g c =
     let i = c.in-Some.place in
     let F : Found p G c.args.h i = found p G c.args.h i c.in-Some.ensures.place c.in-Some.ensures.within in
     let I = c.self.invariant.1 in
-    let O = offered g.S.Source.place g.S.Source.size g.S.Source.told g.K.Sink.told c.args.file in
-    let known = told_of g.S.Source.place g.S.Source.told g.K.Sink.told c.args.file in
-    let as_core : file_offered c.attached-attached.result c.there.result known ≡ O = ap (λ (a : Attached). file_offered a c.there.result known) c.attached-attached.ensures ∙ offered_is g.S.Source.place g.S.Source.size g.S.Source.told g.K.Sink.told c.args.file c.there.result c.there.ensures.bytes in
+    let O = offered g.S.Source.offset g.S.Source.size g.S.Source.told g.K.Sink.told c.args.file in
+    let known = told_of g.S.Source.offset g.S.Source.told g.K.Sink.told c.args.file in
+    let as_core : file_offered c.attached-attached.result c.there.result known ≡ O = ap (λ (a : Attached). file_offered a c.there.result known) c.attached-attached.ensures ∙ offered_is g.S.Source.offset g.S.Source.size g.S.Source.told g.K.Sink.told c.args.file c.there.result c.there.ensures.bytes in
     let may = subst (λ (o : Offered). MatchOption (component_at i G) ⊥ (λ k. None ≡ attach_refusal k o)) as_core (c.in_default-attach_refusal.ensures known) in
     let ok : attach_refusal F.component O ≡ None = sym (at_some (λ k. None ≡ attach_refusal k O) (component_at i G) F.component F.at may) in
     let M = attach_passes F.component O ok in
@@ -202,7 +202,7 @@ returns-clause-step g c =
     let T : IsPartOf F.component (f part) = holds_it p _ I i F.component F.at f items refl free part there in
     let q = f c.give_file.new.part in
     let R = c.give_file.ensures in
-    let file : attached O ≡ attached_of c.args.file = attached_same g.S.Source.place g.S.Source.size g.S.Source.told g.K.Sink.told c.args.file in
+    let file : attached O ≡ attached_of c.args.file = attached_same g.S.Source.offset g.S.Source.size g.S.Source.told g.K.Sink.told c.args.file in
     let D = λ (s : Stream). R.done (terms_of (record F.component { file = Some (attached O) })) F.component.part.failed s (sym T.kind) (ap (λ (a : Attached). Some a) file) in
     let tied : IsPartOf (record F.component { file = Some (attached O) }) q = filed_tied F.component O c.args.file (f part) q file T R in
     let change = subst (λ (o : Offered). MatchOption (component_at i G) ⊥ (λ k. StepsBare (kept p G) (kept p c.attach.new.self) (λ w v. v ≡ with_file i k o w))) as_core (c.attach.ensures.change c.there.result known) in
@@ -221,9 +221,9 @@ returns-clause-file g c =
     let i = c.in-Some.place in
     let F : Found p G c.args.h i = found p G c.args.h i c.in-Some.ensures.place c.in-Some.ensures.within in
     let I = c.self.invariant.1 in
-    let O = offered g.S.Source.place g.S.Source.size g.S.Source.told g.K.Sink.told c.args.file in
-    let known = told_of g.S.Source.place g.S.Source.told g.K.Sink.told c.args.file in
-    let as_core : file_offered c.attached-attached.result c.there.result known ≡ O = ap (λ (a : Attached). file_offered a c.there.result known) c.attached-attached.ensures ∙ offered_is g.S.Source.place g.S.Source.size g.S.Source.told g.K.Sink.told c.args.file c.there.result c.there.ensures.bytes in
+    let O = offered g.S.Source.offset g.S.Source.size g.S.Source.told g.K.Sink.told c.args.file in
+    let known = told_of g.S.Source.offset g.S.Source.told g.K.Sink.told c.args.file in
+    let as_core : file_offered c.attached-attached.result c.there.result known ≡ O = ap (λ (a : Attached). file_offered a c.there.result known) c.attached-attached.ensures ∙ offered_is g.S.Source.offset g.S.Source.size g.S.Source.told g.K.Sink.told c.args.file c.there.result c.there.ensures.bytes in
     let may = subst (λ (o : Offered). MatchOption (component_at i G) ⊥ (λ k. None ≡ attach_refusal k o)) as_core (c.in_default-attach_refusal.ensures known) in
     let ok : attach_refusal F.component O ≡ None = sym (at_some (λ k. None ≡ attach_refusal k O) (component_at i G) F.component F.at may) in
     let M = attach_passes F.component O ok in
@@ -235,7 +235,7 @@ returns-clause-file g c =
     let T : IsPartOf F.component (f part) = holds_it p _ I i F.component F.at f items refl free part there in
     let q = f c.give_file.new.part in
     let R = c.give_file.ensures in
-    let file : attached O ≡ attached_of c.args.file = attached_same g.S.Source.place g.S.Source.size g.S.Source.told g.K.Sink.told c.args.file in
+    let file : attached O ≡ attached_of c.args.file = attached_same g.S.Source.offset g.S.Source.size g.S.Source.told g.K.Sink.told c.args.file in
     let D = λ (s : Stream). R.done (terms_of (record F.component { file = Some (attached O) })) F.component.part.failed s (sym T.kind) (ap (λ (a : Attached). Some a) file) in
     let tied : IsPartOf (record F.component { file = Some (attached O) }) q = filed_tied F.component O c.args.file (f part) q file T R in
     let change = subst (λ (o : Offered). MatchOption (component_at i G) ⊥ (λ k. StepsBare (kept p G) (kept p c.attach.new.self) (λ w v. v ≡ with_file i k o w))) as_core (c.attach.ensures.change c.there.result known) in
@@ -254,9 +254,9 @@ returns-clause-files g c =
     let i = c.in-Some.place in
     let F : Found p G c.args.h i = found p G c.args.h i c.in-Some.ensures.place c.in-Some.ensures.within in
     let I = c.self.invariant.1 in
-    let O = offered g.S.Source.place g.S.Source.size g.S.Source.told g.K.Sink.told c.args.file in
-    let known = told_of g.S.Source.place g.S.Source.told g.K.Sink.told c.args.file in
-    let as_core : file_offered c.attached-attached.result c.there.result known ≡ O = ap (λ (a : Attached). file_offered a c.there.result known) c.attached-attached.ensures ∙ offered_is g.S.Source.place g.S.Source.size g.S.Source.told g.K.Sink.told c.args.file c.there.result c.there.ensures.bytes in
+    let O = offered g.S.Source.offset g.S.Source.size g.S.Source.told g.K.Sink.told c.args.file in
+    let known = told_of g.S.Source.offset g.S.Source.told g.K.Sink.told c.args.file in
+    let as_core : file_offered c.attached-attached.result c.there.result known ≡ O = ap (λ (a : Attached). file_offered a c.there.result known) c.attached-attached.ensures ∙ offered_is g.S.Source.offset g.S.Source.size g.S.Source.told g.K.Sink.told c.args.file c.there.result c.there.ensures.bytes in
     let may = subst (λ (o : Offered). MatchOption (component_at i G) ⊥ (λ k. None ≡ attach_refusal k o)) as_core (c.in_default-attach_refusal.ensures known) in
     let ok : attach_refusal F.component O ≡ None = sym (at_some (λ k. None ≡ attach_refusal k O) (component_at i G) F.component F.at may) in
     let M = attach_passes F.component O ok in
@@ -268,7 +268,7 @@ returns-clause-files g c =
     let T : IsPartOf F.component (f part) = holds_it p _ I i F.component F.at f items refl free part there in
     let q = f c.give_file.new.part in
     let R = c.give_file.ensures in
-    let file : attached O ≡ attached_of c.args.file = attached_same g.S.Source.place g.S.Source.size g.S.Source.told g.K.Sink.told c.args.file in
+    let file : attached O ≡ attached_of c.args.file = attached_same g.S.Source.offset g.S.Source.size g.S.Source.told g.K.Sink.told c.args.file in
     let D = λ (s : Stream). R.done (terms_of (record F.component { file = Some (attached O) })) F.component.part.failed s (sym T.kind) (ap (λ (a : Attached). Some a) file) in
     let tied : IsPartOf (record F.component { file = Some (attached O) }) q = filed_tied F.component O c.args.file (f part) q file T R in
     let change = subst (λ (o : Offered). MatchOption (component_at i G) ⊥ (λ k. StepsBare (kept p G) (kept p c.attach.new.self) (λ w v. v ≡ with_file i k o w))) as_core (c.attach.ensures.change c.there.result known) in
@@ -287,9 +287,9 @@ returns-clause-held g c =
     let i = c.in-Some.place in
     let F : Found p G c.args.h i = found p G c.args.h i c.in-Some.ensures.place c.in-Some.ensures.within in
     let I = c.self.invariant.1 in
-    let O = offered g.S.Source.place g.S.Source.size g.S.Source.told g.K.Sink.told c.args.file in
-    let known = told_of g.S.Source.place g.S.Source.told g.K.Sink.told c.args.file in
-    let as_core : file_offered c.attached-attached.result c.there.result known ≡ O = ap (λ (a : Attached). file_offered a c.there.result known) c.attached-attached.ensures ∙ offered_is g.S.Source.place g.S.Source.size g.S.Source.told g.K.Sink.told c.args.file c.there.result c.there.ensures.bytes in
+    let O = offered g.S.Source.offset g.S.Source.size g.S.Source.told g.K.Sink.told c.args.file in
+    let known = told_of g.S.Source.offset g.S.Source.told g.K.Sink.told c.args.file in
+    let as_core : file_offered c.attached-attached.result c.there.result known ≡ O = ap (λ (a : Attached). file_offered a c.there.result known) c.attached-attached.ensures ∙ offered_is g.S.Source.offset g.S.Source.size g.S.Source.told g.K.Sink.told c.args.file c.there.result c.there.ensures.bytes in
     let may = subst (λ (o : Offered). MatchOption (component_at i G) ⊥ (λ k. None ≡ attach_refusal k o)) as_core (c.in_default-attach_refusal.ensures known) in
     let ok : attach_refusal F.component O ≡ None = sym (at_some (λ k. None ≡ attach_refusal k O) (component_at i G) F.component F.at may) in
     let M = attach_passes F.component O ok in
@@ -301,7 +301,7 @@ returns-clause-held g c =
     let T : IsPartOf F.component (f part) = holds_it p _ I i F.component F.at f items refl free part there in
     let q = f c.give_file.new.part in
     let R = c.give_file.ensures in
-    let file : attached O ≡ attached_of c.args.file = attached_same g.S.Source.place g.S.Source.size g.S.Source.told g.K.Sink.told c.args.file in
+    let file : attached O ≡ attached_of c.args.file = attached_same g.S.Source.offset g.S.Source.size g.S.Source.told g.K.Sink.told c.args.file in
     let D = λ (s : Stream). R.done (terms_of (record F.component { file = Some (attached O) })) F.component.part.failed s (sym T.kind) (ap (λ (a : Attached). Some a) file) in
     let tied : IsPartOf (record F.component { file = Some (attached O) }) q = filed_tied F.component O c.args.file (f part) q file T R in
     let change = subst (λ (o : Offered). MatchOption (component_at i G) ⊥ (λ k. StepsBare (kept p G) (kept p c.attach.new.self) (λ w v. v ≡ with_file i k o w))) as_core (c.attach.ensures.change c.there.result known) in

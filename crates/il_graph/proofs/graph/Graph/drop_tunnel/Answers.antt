@@ -58,14 +58,14 @@ returns-clause-step g c =
     let F : Found p G c.args.output.handle c.in-Some.giver = found p G c.args.output.handle c.in-Some.giver c.in-Some.ensures.place c.in-Some.ensures.within in
     let F' : Found p G c.args.input.handle c.in-Some-place_of.taker = found p G c.args.input.handle c.in-Some-place_of.taker c.in-Some-place_of.ensures.place c.in-Some-place_of.ensures.within in
     let parted = at_both p G c.args.output.handle c.args.input.handle c.in-Some.giver c.in-Some-place_of.taker
-    (λ k d. BothPorts (port_of k c.args.output.index) (port_of d c.args.input.index) (λ a b. StepsBare (kept p G) (kept p c.part.new.self) (λ w v. v ≡ both_parted c.in-Some.giver k a c.in-Some-place_of.taker d b w)))
-    F F' c.part.ensures.change in
-    let s = both_end (kept p G) (kept p c.part.new.self) (kept p c.close_out.new.self) (port_of F.component c.args.output.index) (port_of F'.component c.args.input.index)
+    (λ k d. BothPorts (port_of k c.args.output.index) (port_of d c.args.input.index) (λ a b. StepsBare (kept p G) (kept p c.drop_tunnel.new.self) (λ w v. v ≡ both_parted c.in-Some.giver k a c.in-Some-place_of.taker d b w)))
+    F F' c.drop_tunnel.ensures.change in
+    let s = both_end (kept p G) (kept p c.drop_tunnel.new.self) (kept p c.close_out.new.self) (port_of F.component c.args.output.index) (port_of F'.component c.args.input.index)
     (λ a b w. both_parted c.in-Some.giver F.component a c.in-Some-place_of.taker F'.component b w) parted c.close_out.ensures.closes in
     rw (← c.self.view_is) (whole_over g.C.Client.progress _ c.close_out.new.self (acts.DropTunnel c.args.output c.args.input) (acts.Plain _) tt c.self.invariant.1 (λ w B. tt) (accepted_at_both p R G c.close_out.new.self c.args.output.handle c.args.input.handle c.in-Some.giver c.in-Some-place_of.taker tt Y F F' c.in_default-drop_refusal.ensures s))
 
 pub returns-clause-clients : goal.returns-clause-clients
-returns-clause-clients g c = rw (← c.self.view_is) (λ k. c.close_out.ensures.clients k ∙ c.part.ensures.clients k)
+returns-clause-clients g c = rw (← c.self.view_is) (λ k. c.close_out.ensures.clients k ∙ c.drop_tunnel.ensures.clients k)
 
 pub returns-in_default-clause-held : goal.returns-in_default-clause-held
 returns-in_default-clause-held g c = rw (← c.self.view_is) (keeps_same g.C.Client.progress c.self.inside.core)
@@ -79,7 +79,7 @@ returns-in-Some-drop_refusal-clause-held g c = rw (← c.self.view_is) (keeps_sa
 pub returns-clause-held : goal.returns-clause-held
 returns-clause-held g c =
     let G = c.self.inside.core in
-    rw (← c.self.view_is) (keeps_over g.C.Client.progress G c.close_out.new.self (acts.DropTunnel c.args.output c.args.input) (acts.Plain (Ok tt)) refl refl (λ w. tt) c.law_of_worlds.ensures.one (let p = g.C.Client.progress in let G = c.self.inside.core in let R = refusal c.args.output.index c.args.input.index in let Y = Parted c.args.output.index c.args.input.index in let F : Found p G c.args.output.handle c.in-Some.giver = found p G c.args.output.handle c.in-Some.giver c.in-Some.ensures.place c.in-Some.ensures.within in let F' : Found p G c.args.input.handle c.in-Some-place_of.taker = found p G c.args.input.handle c.in-Some-place_of.taker c.in-Some-place_of.ensures.place c.in-Some-place_of.ensures.within in let parted = at_both p G c.args.output.handle c.args.input.handle c.in-Some.giver c.in-Some-place_of.taker (λ k d. BothPorts (port_of k c.args.output.index) (port_of d c.args.input.index) (λ a b. StepsBare (kept p G) (kept p c.part.new.self) (λ w v. v ≡ both_parted c.in-Some.giver k a c.in-Some-place_of.taker d b w))) F F' c.part.ensures.change in let s = both_end (kept p G) (kept p c.part.new.self) (kept p c.close_out.new.self) (port_of F.component c.args.output.index) (port_of F'.component c.args.input.index) (λ a b w. both_parted c.in-Some.giver F.component a c.in-Some-place_of.taker F'.component b w) parted c.close_out.ensures.closes in accepted_at_both p R G c.close_out.new.self c.args.output.handle c.args.input.handle c.in-Some.giver c.in-Some-place_of.taker tt Y F F' c.in_default-drop_refusal.ensures s))
+    rw (← c.self.view_is) (keeps_over g.C.Client.progress G c.close_out.new.self (acts.DropTunnel c.args.output c.args.input) (acts.Plain (Ok tt)) refl refl (λ w. tt) c.law_of_worlds.ensures.one (let p = g.C.Client.progress in let G = c.self.inside.core in let R = refusal c.args.output.index c.args.input.index in let Y = Parted c.args.output.index c.args.input.index in let F : Found p G c.args.output.handle c.in-Some.giver = found p G c.args.output.handle c.in-Some.giver c.in-Some.ensures.place c.in-Some.ensures.within in let F' : Found p G c.args.input.handle c.in-Some-place_of.taker = found p G c.args.input.handle c.in-Some-place_of.taker c.in-Some-place_of.ensures.place c.in-Some-place_of.ensures.within in let parted = at_both p G c.args.output.handle c.args.input.handle c.in-Some.giver c.in-Some-place_of.taker (λ k d. BothPorts (port_of k c.args.output.index) (port_of d c.args.input.index) (λ a b. StepsBare (kept p G) (kept p c.drop_tunnel.new.self) (λ w v. v ≡ both_parted c.in-Some.giver k a c.in-Some-place_of.taker d b w))) F F' c.drop_tunnel.ensures.change in let s = both_end (kept p G) (kept p c.drop_tunnel.new.self) (kept p c.close_out.new.self) (port_of F.component c.args.output.index) (port_of F'.component c.args.input.index) (λ a b w. both_parted c.in-Some.giver F.component a c.in-Some-place_of.taker F'.component b w) parted c.close_out.ensures.closes in accepted_at_both p R G c.close_out.new.self c.args.output.handle c.args.input.handle c.in-Some.giver c.in-Some-place_of.taker tt Y F F' c.in_default-drop_refusal.ensures s))
 
 pub invariant_of-self : goal.invariant_of-self
 invariant_of-self g c =
@@ -90,9 +90,9 @@ invariant_of-self g c =
     let F : Found p G c.args.output.handle c.in-Some.giver = found p G c.args.output.handle c.in-Some.giver c.in-Some.ensures.place c.in-Some.ensures.within in
     let F' : Found p G c.args.input.handle c.in-Some-place_of.taker = found p G c.args.input.handle c.in-Some-place_of.taker c.in-Some-place_of.ensures.place c.in-Some-place_of.ensures.within in
     let parted = at_both p G c.args.output.handle c.args.input.handle c.in-Some.giver c.in-Some-place_of.taker
-    (λ k d. BothPorts (port_of k c.args.output.index) (port_of d c.args.input.index) (λ a b. StepsBare (kept p G) (kept p c.part.new.self) (λ w v. v ≡ both_parted c.in-Some.giver k a c.in-Some-place_of.taker d b w)))
-    F F' c.part.ensures.change in
-    let s = both_end (kept p G) (kept p c.part.new.self) (kept p c.close_out.new.self) (port_of F.component c.args.output.index) (port_of F'.component c.args.input.index)
+    (λ k d. BothPorts (port_of k c.args.output.index) (port_of d c.args.input.index) (λ a b. StepsBare (kept p G) (kept p c.drop_tunnel.new.self) (λ w v. v ≡ both_parted c.in-Some.giver k a c.in-Some-place_of.taker d b w)))
+    F F' c.drop_tunnel.ensures.change in
+    let s = both_end (kept p G) (kept p c.drop_tunnel.new.self) (kept p c.close_out.new.self) (port_of F.component c.args.output.index) (port_of F'.component c.args.input.index)
     (λ a b w. both_parted c.in-Some.giver F.component a c.in-Some-place_of.taker F'.component b w) parted c.close_out.ensures.closes in
     (c.self.invariant.0, is_whole_over g.C.Client.progress _ c.close_out.new.self (acts.DropTunnel c.args.output c.args.input) (acts.Plain _) tt c.self.invariant.1 (λ w B. tt) (accepted_at_both p R G c.close_out.new.self c.args.output.handle c.args.input.handle c.in-Some.giver c.in-Some-place_of.taker tt Y F F' c.in_default-drop_refusal.ensures s) c.close_out.ensures.settled)
 
@@ -105,8 +105,8 @@ returns-clause-files g c =
     let F : Found p G c.args.output.handle c.in-Some.giver = found p G c.args.output.handle c.in-Some.giver c.in-Some.ensures.place c.in-Some.ensures.within in
     let F' : Found p G c.args.input.handle c.in-Some-place_of.taker = found p G c.args.input.handle c.in-Some-place_of.taker c.in-Some-place_of.ensures.place c.in-Some-place_of.ensures.within in
     let parted = at_both p G c.args.output.handle c.args.input.handle c.in-Some.giver c.in-Some-place_of.taker
-    (λ k d. BothPorts (port_of k c.args.output.index) (port_of d c.args.input.index) (λ a b. StepsBare (kept p G) (kept p c.part.new.self) (λ w v. v ≡ both_parted c.in-Some.giver k a c.in-Some-place_of.taker d b w)))
-    F F' c.part.ensures.change in
-    let s = both_end (kept p G) (kept p c.part.new.self) (kept p c.close_out.new.self) (port_of F.component c.args.output.index) (port_of F'.component c.args.input.index)
+    (λ k d. BothPorts (port_of k c.args.output.index) (port_of d c.args.input.index) (λ a b. StepsBare (kept p G) (kept p c.drop_tunnel.new.self) (λ w v. v ≡ both_parted c.in-Some.giver k a c.in-Some-place_of.taker d b w)))
+    F F' c.drop_tunnel.ensures.change in
+    let s = both_end (kept p G) (kept p c.drop_tunnel.new.self) (kept p c.close_out.new.self) (port_of F.component c.args.output.index) (port_of F'.component c.args.input.index)
     (λ a b w. both_parted c.in-Some.giver F.component a c.in-Some-place_of.taker F'.component b w) parted c.close_out.ensures.closes in
     rw (← c.self.view_is) (files_over g.C.Client.progress _ c.close_out.new.self (acts.DropTunnel c.args.output c.args.input) (acts.Plain _) tt c.self.invariant.1 (λ w B. tt) (accepted_at_both p R G c.close_out.new.self c.args.output.handle c.args.input.handle c.in-Some.giver c.in-Some-place_of.taker tt Y F F' c.in_default-drop_refusal.ensures s))

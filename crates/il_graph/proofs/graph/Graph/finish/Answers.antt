@@ -6,7 +6,7 @@ use Rattle.omx_types.specs.declared.handle.Handle.{Handle}
 use Rattle.header_core.specs.BufferHeader.{BufferHeader}
 use Rattle.il_machine.specs.Answers.{component_named}
 use Rattle.il_machine.specs.Finishing.{Finish}
-use Rattle.il_machine.specs.Stepping.{Done}
+use Rattle.il_machine.specs.Stepping.{WorkDone}
 use Rattle.il_machine.specs.Whole.{PartSeen, Stands, StepsWhere}
 use Rattle.il_machine.specs.World.{Component, World, number_of}
 use Rattle.whole_laws.specs.Bare.{StandsBare, StepsBareWhere}
@@ -82,7 +82,7 @@ finish-requires-clause-comes g c =
     let s = bare p _ w comes.2.0 in
     let K = return_of w i k0 (seen_done comes.1 d) (seen_of q) (sound w s) (ap (λ (l : Look). slice_get l.components i) s.looks ∙ F.at) (sym n) R in
     and_some (λ (x : Component). (w : World) × (took : List ℕ) × (StandsBare (core.kept p G) w × ComesBack w x b.headers step took)) (component_at i G) k0 F.at
-    (w, comes.1, (s, comes_back w k0 b.headers step comes.1 (seen_of q) (works_so k0 d.announces false a O.work) left (subst (λ (x : Done). IsReturn w k0 x (seen_of q)) (sym (is comes.1)) K)))
+    (w, comes.1, (s, comes_back w k0 b.headers step comes.1 (seen_of q) (works_so k0 d.announces false a O.work) left (subst (λ (x : WorkDone). IsReturn w k0 x (seen_of q)) (sym (is comes.1)) K)))
 
 pub finish-requires-clause-handed : goal.finish-requires-clause-handed
 finish-requires-clause-handed g c =
@@ -337,7 +337,7 @@ invariant_of-self-2 g c =
     let m = c.finish.new.self in
     let k = c.close_out-2.new.self in
     let T : (took : List ℕ) → StepsBareWhere (core.kept p G) (core.kept p k) (λ w. Returns w (seen_done took d) (seen_of q)) (λ w v. Finish w (seen_done took d) v) = λ took.
-    subst (λ (x : Done). StepsBareWhere (core.kept p G) (core.kept p k) (λ w. Returns w x (seen_of q)) (λ w v. Finish w x v)) (is took)
+    subst (λ (x : WorkDone). StepsBareWhere (core.kept p G) (core.kept p k) (λ w. Returns w x (seen_of q)) (λ w v. Finish w x v)) (is took)
     (step_returns p G m k i k0 F.at sound c.close_out-2.ensures.closes b.headers step (seen_of q) (works_so k0 d.announces false a O.work) left c.finish.ensures.change took) in
     (c.self.invariant.0, rw same (is_whole p _ k i k0 (λ took. seen_done took d) q I F.at (λ took. sym n) (option_map f c.index_mut-2.result.now) there (λ took. tied) T comes.1 comes.0 comes.2.0 R c.close_out-2.ensures.settled))
 
@@ -375,7 +375,7 @@ returns-clause-step g c =
     let m = c.finish.new.self in
     let k = c.close_out-2.new.self in
     let T : (took : List ℕ) → StepsBareWhere (core.kept p G) (core.kept p k) (λ w. Returns w (seen_done took d) (seen_of q)) (λ w v. Finish w (seen_done took d) v) = λ took.
-    subst (λ (x : Done). StepsBareWhere (core.kept p G) (core.kept p k) (λ w. Returns w x (seen_of q)) (λ w v. Finish w x v)) (is took)
+    subst (λ (x : WorkDone). StepsBareWhere (core.kept p G) (core.kept p k) (λ w. Returns w x (seen_of q)) (λ w v. Finish w x v)) (is took)
     (step_returns p G m k i k0 F.at sound c.close_out-2.ensures.closes b.headers step (seen_of q) (works_so k0 d.announces false a O.work) left c.finish.ensures.change took) in
     rw (← c.self.view_is, seen, same) (back_whole p _ k i k0 (λ took. seen_done took d) q I F.at (λ took. sym n) (option_map f c.index_mut-2.result.now) there (λ took. tied) T)
 
@@ -413,7 +413,7 @@ returns-clause-file g c =
     let m = c.finish.new.self in
     let k = c.close_out-2.new.self in
     let T : (took : List ℕ) → StepsBareWhere (core.kept p G) (core.kept p k) (λ w. Returns w (seen_done took d) (seen_of q)) (λ w v. Finish w (seen_done took d) v) = λ took.
-    subst (λ (x : Done). StepsBareWhere (core.kept p G) (core.kept p k) (λ w. Returns w x (seen_of q)) (λ w v. Finish w x v)) (is took)
+    subst (λ (x : WorkDone). StepsBareWhere (core.kept p G) (core.kept p k) (λ w. Returns w x (seen_of q)) (λ w v. Finish w x v)) (is took)
     (step_returns p G m k i k0 F.at sound c.close_out-2.ensures.closes b.headers step (seen_of q) (works_so k0 d.announces false a O.work) left c.finish.ensures.change took) in
     rw same (file_back p _ k i k0 (λ took. seen_done took d) q I F.at (λ took. sym n) (option_map f c.index_mut-2.result.now) there (λ took. tied) T comes.1 comes.0 comes.2.0 R d.component.generation (sym n))
 
@@ -451,7 +451,7 @@ returns-clause-files g c =
     let m = c.finish.new.self in
     let k = c.close_out-2.new.self in
     let T : (took : List ℕ) → StepsBareWhere (core.kept p G) (core.kept p k) (λ w. Returns w (seen_done took d) (seen_of q)) (λ w v. Finish w (seen_done took d) v) = λ took.
-    subst (λ (x : Done). StepsBareWhere (core.kept p G) (core.kept p k) (λ w. Returns w x (seen_of q)) (λ w v. Finish w x v)) (is took)
+    subst (λ (x : WorkDone). StepsBareWhere (core.kept p G) (core.kept p k) (λ w. Returns w x (seen_of q)) (λ w v. Finish w x v)) (is took)
     (step_returns p G m k i k0 F.at sound c.close_out-2.ensures.closes b.headers step (seen_of q) (works_so k0 d.announces false a O.work) left c.finish.ensures.change took) in
     rw (← c.self.view_is, same) (files_stay p _ k i k0 (λ took. seen_done took d) q I F.at (λ took. sym n) (option_map f c.index_mut-2.result.now) there (λ took. tied) T comes.1 comes.0 comes.2.0 R d.component.generation (sym n))
 
@@ -489,7 +489,7 @@ returns-clause-held g c =
     let m = c.finish.new.self in
     let k = c.close_out-2.new.self in
     let T : (took : List ℕ) → StepsBareWhere (core.kept p G) (core.kept p k) (λ w. Returns w (seen_done took d) (seen_of q)) (λ w v. Finish w (seen_done took d) v) = λ took.
-    subst (λ (x : Done). StepsBareWhere (core.kept p G) (core.kept p k) (λ w. Returns w x (seen_of q)) (λ w v. Finish w x v)) (is took)
+    subst (λ (x : WorkDone). StepsBareWhere (core.kept p G) (core.kept p k) (λ w. Returns w x (seen_of q)) (λ w v. Finish w x v)) (is took)
     (step_returns p G m k i k0 F.at sound c.close_out-2.ensures.closes b.headers step (seen_of q) (works_so k0 d.announces false a O.work) left c.finish.ensures.change took) in
     rw (← c.self.view_is) (held_back p _ k i k0 (λ took. seen_done took d) q I F.at (λ took. sym n) (option_map f c.index_mut-2.result.now) there (λ took. tied) T comes.1 comes.0 comes.2.0 R)
 

@@ -45,14 +45,14 @@ returns-clause-step g c =
     let handed : IsHandedIn c.args.header (look_of G) = rw (← c.self.view_is) at c.requires.handed in
     let x = there_is_one _ ((look_of G).headers.header n.number) handed.1 in
     let allowed = subst (λ (m : ℕ). MatchOption (component_at c.in-Some.place G) ⊥ (λ k. AtState m (look_of G) (λ s. None ≡ free_buffer_refusal k (port_of k c.args.port) s))) c.id.ensures c.in_default-free_buffer_refusal.ensures in
-    let step = changed_on p G c.unmake_header-memory.new.self c.close_out.new.self c.args.h c.in-Some.place c.args.port (λ k q w. without_header n.number (with_component c.in-Some.place (unpopulated q k) w)) F c.unmake_header-memory.ensures.change c.close_out.ensures.closes in
-    let back : is_some c.given_back.result ≡ x.0.client_memory = goes_back (λ b. b.items) c.given_back.result c.unmake_header-memory.result (is_clients c.args.header.store) x.0.client_memory c.given_back.ensures c.unmake_header-memory.ensures.own x.2.1.memory in
+    let step = changed_on p G c.free_buffer-memory.new.self c.close_out.new.self c.args.h c.in-Some.place c.args.port (λ k q w. without_header n.number (with_component c.in-Some.place (unpopulated q k) w)) F c.free_buffer-memory.ensures.change c.close_out.ensures.closes in
+    let back : is_some c.given_back.result ≡ x.0.client_memory = goes_back (λ b. b.items) c.given_back.result c.free_buffer-memory.result (is_clients c.args.header.store) x.0.client_memory c.given_back.ensures c.free_buffer-memory.ensures.own x.2.1.memory in
     let said = and_true p G c.close_out.new.self (port_of F.component c.args.port) (is_some c.given_back.result ≡ x.0.client_memory) (λ w v q. ClosesTo (without_header n.number (with_component c.in-Some.place (unpopulated q F.component) w)) v) back step in
     rw (← c.self.view_is) (whole_over g.C.Client.progress _ c.close_out.new.self (acts.FreeBuffer c.args.h c.args.port c.args.header.held.number) (acts.Freed _) tt c.self.invariant.1 (client_there g.C.Client.progress c.self.inside.core c.args.header (rw (← c.self.view_is) at c.requires.handed)) (done_with p (λ (k : Component) (s : HeaderState). free_buffer_refusal k (port_of k c.args.port) s) G c.close_out.new.self c.args.h c.in-Some.place n.number x.0 (is_some c.given_back.result)
     (λ w v i k s (b : Bool). AtPort (port_of k c.args.port) (λ p. (b ≡ s.client_memory) × ClosesTo (without_header n.number (with_component i (unpopulated p k) w)) v)) F x.1 allowed said))
 
 pub returns-clause-clients : goal.returns-clause-clients
-returns-clause-clients g c = rw (← c.self.view_is) (λ k. c.close_out.ensures.clients k ∙ c.unmake_header-memory.ensures.clients k)
+returns-clause-clients g c = rw (← c.self.view_is) (λ k. c.close_out.ensures.clients k ∙ c.free_buffer-memory.ensures.clients k)
 
 pub returns-in_default-clause-held : goal.returns-in_default-clause-held
 returns-in_default-clause-held g c = rw (← c.self.view_is) (others_same g.C.Client.progress c.self.inside.core c.args.header)
@@ -64,14 +64,14 @@ pub returns-clause-held : goal.returns-clause-held
 returns-clause-held g c =
     let G = c.self.inside.core in
     let handed : IsHandedIn c.args.header (look_of G) = rw (← c.self.view_is) at c.requires.handed in
-    rw (← c.self.view_is) (freed_over g.C.Client.progress G c.close_out.new.self c.args.h c.args.port c.args.header (Ok (is_some c.given_back.result)) handed c.law_of_worlds.ensures.one (let p = g.C.Client.progress in let G = c.self.inside.core in let n = c.args.header.held in let F : Found p G c.args.h c.in-Some.place = found p G c.args.h c.in-Some.place c.in-Some.ensures.place c.in-Some.ensures.within in let handed : IsHandedIn c.args.header (look_of G) = rw (← c.self.view_is) at c.requires.handed in let x = there_is_one _ ((look_of G).headers.header n.number) handed.1 in let allowed = subst (λ (m : ℕ). MatchOption (component_at c.in-Some.place G) ⊥ (λ k. AtState m (look_of G) (λ s. None ≡ free_buffer_refusal k (port_of k c.args.port) s))) c.id.ensures c.in_default-free_buffer_refusal.ensures in let step = changed_on p G c.unmake_header-memory.new.self c.close_out.new.self c.args.h c.in-Some.place c.args.port (λ k q w. without_header n.number (with_component c.in-Some.place (unpopulated q k) w)) F c.unmake_header-memory.ensures.change c.close_out.ensures.closes in let back : is_some c.given_back.result ≡ x.0.client_memory = goes_back (λ b. b.items) c.given_back.result c.unmake_header-memory.result (is_clients c.args.header.store) x.0.client_memory c.given_back.ensures c.unmake_header-memory.ensures.own x.2.1.memory in let said = and_true p G c.close_out.new.self (port_of F.component c.args.port) (is_some c.given_back.result ≡ x.0.client_memory) (λ w v q. ClosesTo (without_header n.number (with_component c.in-Some.place (unpopulated q F.component) w)) v) back step in done_with p (λ (k : Component) (s : HeaderState). free_buffer_refusal k (port_of k c.args.port) s) G c.close_out.new.self c.args.h c.in-Some.place n.number x.0 (is_some c.given_back.result)
+    rw (← c.self.view_is) (freed_over g.C.Client.progress G c.close_out.new.self c.args.h c.args.port c.args.header (Ok (is_some c.given_back.result)) handed c.law_of_worlds.ensures.one (let p = g.C.Client.progress in let G = c.self.inside.core in let n = c.args.header.held in let F : Found p G c.args.h c.in-Some.place = found p G c.args.h c.in-Some.place c.in-Some.ensures.place c.in-Some.ensures.within in let handed : IsHandedIn c.args.header (look_of G) = rw (← c.self.view_is) at c.requires.handed in let x = there_is_one _ ((look_of G).headers.header n.number) handed.1 in let allowed = subst (λ (m : ℕ). MatchOption (component_at c.in-Some.place G) ⊥ (λ k. AtState m (look_of G) (λ s. None ≡ free_buffer_refusal k (port_of k c.args.port) s))) c.id.ensures c.in_default-free_buffer_refusal.ensures in let step = changed_on p G c.free_buffer-memory.new.self c.close_out.new.self c.args.h c.in-Some.place c.args.port (λ k q w. without_header n.number (with_component c.in-Some.place (unpopulated q k) w)) F c.free_buffer-memory.ensures.change c.close_out.ensures.closes in let back : is_some c.given_back.result ≡ x.0.client_memory = goes_back (λ b. b.items) c.given_back.result c.free_buffer-memory.result (is_clients c.args.header.store) x.0.client_memory c.given_back.ensures c.free_buffer-memory.ensures.own x.2.1.memory in let said = and_true p G c.close_out.new.self (port_of F.component c.args.port) (is_some c.given_back.result ≡ x.0.client_memory) (λ w v q. ClosesTo (without_header n.number (with_component c.in-Some.place (unpopulated q F.component) w)) v) back step in done_with p (λ (k : Component) (s : HeaderState). free_buffer_refusal k (port_of k c.args.port) s) G c.close_out.new.self c.args.h c.in-Some.place n.number x.0 (is_some c.given_back.result)
     (λ w v i k s (b : Bool). AtPort (port_of k c.args.port) (λ p. (b ≡ s.client_memory) × ClosesTo (without_header n.number (with_component i (unpopulated p k) w)) v)) F x.1 allowed said))
 
 pub returns-clause-taken : goal.returns-clause-taken
 returns-clause-taken g c =
     let G = c.self.inside.core in
     let handed : IsHandedIn c.args.header (look_of G) = rw (← c.self.view_is) at c.requires.handed in
-    freed_in g.C.Client.progress G c.close_out.new.self c.args.h c.args.port c.args.header (is_some c.given_back.result) handed c.law_of_worlds.ensures.one (let p = g.C.Client.progress in let G = c.self.inside.core in let n = c.args.header.held in let F : Found p G c.args.h c.in-Some.place = found p G c.args.h c.in-Some.place c.in-Some.ensures.place c.in-Some.ensures.within in let handed : IsHandedIn c.args.header (look_of G) = rw (← c.self.view_is) at c.requires.handed in let x = there_is_one _ ((look_of G).headers.header n.number) handed.1 in let allowed = subst (λ (m : ℕ). MatchOption (component_at c.in-Some.place G) ⊥ (λ k. AtState m (look_of G) (λ s. None ≡ free_buffer_refusal k (port_of k c.args.port) s))) c.id.ensures c.in_default-free_buffer_refusal.ensures in let step = changed_on p G c.unmake_header-memory.new.self c.close_out.new.self c.args.h c.in-Some.place c.args.port (λ k q w. without_header n.number (with_component c.in-Some.place (unpopulated q k) w)) F c.unmake_header-memory.ensures.change c.close_out.ensures.closes in let back : is_some c.given_back.result ≡ x.0.client_memory = goes_back (λ b. b.items) c.given_back.result c.unmake_header-memory.result (is_clients c.args.header.store) x.0.client_memory c.given_back.ensures c.unmake_header-memory.ensures.own x.2.1.memory in let said = and_true p G c.close_out.new.self (port_of F.component c.args.port) (is_some c.given_back.result ≡ x.0.client_memory) (λ w v q. ClosesTo (without_header n.number (with_component c.in-Some.place (unpopulated q F.component) w)) v) back step in done_with p (λ (k : Component) (s : HeaderState). free_buffer_refusal k (port_of k c.args.port) s) G c.close_out.new.self c.args.h c.in-Some.place n.number x.0 (is_some c.given_back.result)
+    freed_in g.C.Client.progress G c.close_out.new.self c.args.h c.args.port c.args.header (is_some c.given_back.result) handed c.law_of_worlds.ensures.one (let p = g.C.Client.progress in let G = c.self.inside.core in let n = c.args.header.held in let F : Found p G c.args.h c.in-Some.place = found p G c.args.h c.in-Some.place c.in-Some.ensures.place c.in-Some.ensures.within in let handed : IsHandedIn c.args.header (look_of G) = rw (← c.self.view_is) at c.requires.handed in let x = there_is_one _ ((look_of G).headers.header n.number) handed.1 in let allowed = subst (λ (m : ℕ). MatchOption (component_at c.in-Some.place G) ⊥ (λ k. AtState m (look_of G) (λ s. None ≡ free_buffer_refusal k (port_of k c.args.port) s))) c.id.ensures c.in_default-free_buffer_refusal.ensures in let step = changed_on p G c.free_buffer-memory.new.self c.close_out.new.self c.args.h c.in-Some.place c.args.port (λ k q w. without_header n.number (with_component c.in-Some.place (unpopulated q k) w)) F c.free_buffer-memory.ensures.change c.close_out.ensures.closes in let back : is_some c.given_back.result ≡ x.0.client_memory = goes_back (λ b. b.items) c.given_back.result c.free_buffer-memory.result (is_clients c.args.header.store) x.0.client_memory c.given_back.ensures c.free_buffer-memory.ensures.own x.2.1.memory in let said = and_true p G c.close_out.new.self (port_of F.component c.args.port) (is_some c.given_back.result ≡ x.0.client_memory) (λ w v q. ClosesTo (without_header n.number (with_component c.in-Some.place (unpopulated q F.component) w)) v) back step in done_with p (λ (k : Component) (s : HeaderState). free_buffer_refusal k (port_of k c.args.port) s) G c.close_out.new.self c.args.h c.in-Some.place n.number x.0 (is_some c.given_back.result)
     (λ w v i k s (b : Bool). AtPort (port_of k c.args.port) (λ p. (b ≡ s.client_memory) × ClosesTo (without_header n.number (with_component i (unpopulated p k) w)) v)) F x.1 allowed said)
 
 pub invariant_of-self : goal.invariant_of-self
@@ -83,8 +83,8 @@ invariant_of-self g c =
     let handed : IsHandedIn c.args.header (look_of G) = rw (← c.self.view_is) at c.requires.handed in
     let x = there_is_one _ ((look_of G).headers.header n.number) handed.1 in
     let allowed = subst (λ (m : ℕ). MatchOption (component_at c.in-Some.place G) ⊥ (λ k. AtState m (look_of G) (λ s. None ≡ free_buffer_refusal k (port_of k c.args.port) s))) c.id.ensures c.in_default-free_buffer_refusal.ensures in
-    let step = changed_on p G c.unmake_header-memory.new.self c.close_out.new.self c.args.h c.in-Some.place c.args.port (λ k q w. without_header n.number (with_component c.in-Some.place (unpopulated q k) w)) F c.unmake_header-memory.ensures.change c.close_out.ensures.closes in
-    let back : is_some c.given_back.result ≡ x.0.client_memory = goes_back (λ b. b.items) c.given_back.result c.unmake_header-memory.result (is_clients c.args.header.store) x.0.client_memory c.given_back.ensures c.unmake_header-memory.ensures.own x.2.1.memory in
+    let step = changed_on p G c.free_buffer-memory.new.self c.close_out.new.self c.args.h c.in-Some.place c.args.port (λ k q w. without_header n.number (with_component c.in-Some.place (unpopulated q k) w)) F c.free_buffer-memory.ensures.change c.close_out.ensures.closes in
+    let back : is_some c.given_back.result ≡ x.0.client_memory = goes_back (λ b. b.items) c.given_back.result c.free_buffer-memory.result (is_clients c.args.header.store) x.0.client_memory c.given_back.ensures c.free_buffer-memory.ensures.own x.2.1.memory in
     let said = and_true p G c.close_out.new.self (port_of F.component c.args.port) (is_some c.given_back.result ≡ x.0.client_memory) (λ w v q. ClosesTo (without_header n.number (with_component c.in-Some.place (unpopulated q F.component) w)) v) back step in (
       c.self.invariant.0,
       is_whole_over g.C.Client.progress _ c.close_out.new.self (acts.FreeBuffer c.args.h c.args.port c.args.header.held.number) (acts.Freed _) tt c.self.invariant.1 (client_there g.C.Client.progress c.self.inside.core c.args.header (rw (← c.self.view_is) at c.requires.handed)) (done_with p (λ (k : Component) (s : HeaderState). free_buffer_refusal k (port_of k c.args.port) s) G c.close_out.new.self c.args.h c.in-Some.place n.number x.0 (is_some c.given_back.result)
@@ -100,8 +100,8 @@ returns-clause-files g c =
     let handed : IsHandedIn c.args.header (look_of G) = rw (← c.self.view_is) at c.requires.handed in
     let x = there_is_one _ ((look_of G).headers.header n.number) handed.1 in
     let allowed = subst (λ (m : ℕ). MatchOption (component_at c.in-Some.place G) ⊥ (λ k. AtState m (look_of G) (λ s. None ≡ free_buffer_refusal k (port_of k c.args.port) s))) c.id.ensures c.in_default-free_buffer_refusal.ensures in
-    let step = changed_on p G c.unmake_header-memory.new.self c.close_out.new.self c.args.h c.in-Some.place c.args.port (λ k q w. without_header n.number (with_component c.in-Some.place (unpopulated q k) w)) F c.unmake_header-memory.ensures.change c.close_out.ensures.closes in
-    let back : is_some c.given_back.result ≡ x.0.client_memory = goes_back (λ b. b.items) c.given_back.result c.unmake_header-memory.result (is_clients c.args.header.store) x.0.client_memory c.given_back.ensures c.unmake_header-memory.ensures.own x.2.1.memory in
+    let step = changed_on p G c.free_buffer-memory.new.self c.close_out.new.self c.args.h c.in-Some.place c.args.port (λ k q w. without_header n.number (with_component c.in-Some.place (unpopulated q k) w)) F c.free_buffer-memory.ensures.change c.close_out.ensures.closes in
+    let back : is_some c.given_back.result ≡ x.0.client_memory = goes_back (λ b. b.items) c.given_back.result c.free_buffer-memory.result (is_clients c.args.header.store) x.0.client_memory c.given_back.ensures c.free_buffer-memory.ensures.own x.2.1.memory in
     let said = and_true p G c.close_out.new.self (port_of F.component c.args.port) (is_some c.given_back.result ≡ x.0.client_memory) (λ w v q. ClosesTo (without_header n.number (with_component c.in-Some.place (unpopulated q F.component) w)) v) back step in
     rw (← c.self.view_is) (files_over g.C.Client.progress _ c.close_out.new.self (acts.FreeBuffer c.args.h c.args.port c.args.header.held.number) (acts.Freed _) tt c.self.invariant.1 (client_there g.C.Client.progress c.self.inside.core c.args.header (rw (← c.self.view_is) at c.requires.handed)) (done_with p (λ (k : Component) (s : HeaderState). free_buffer_refusal k (port_of k c.args.port) s) G c.close_out.new.self c.args.h c.in-Some.place n.number x.0 (is_some c.given_back.result)
     (λ w v i k s (b : Bool). AtPort (port_of k c.args.port) (λ p. (b ≡ s.client_memory) × ClosesTo (without_header n.number (with_component i (unpopulated p k) w)) v)) F x.1 allowed said))

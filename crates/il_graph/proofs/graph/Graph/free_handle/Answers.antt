@@ -83,7 +83,7 @@ invariant_of-self g c =
     let there : slice_get items i ≡ Some (Some part) = here ∙ ap Some c.in-Some-remove.is in
     let T : IsPartOf F.component (f part) = holds_it p _ I i F.component F.at f items refl free part there in
     let file : option_map attached_of c.into_file.result ≡ F.component.file = ap (option_map attached_of) c.into_file.ensures ∙ T.file in
-    let X = freed_at p G c.args.h i F c.free-client.new.self c.close_out.new.self (option_map attached_of c.into_file.result) file c.in_default-free_refusal.ensures c.free-client.ensures.freed c.close_out.ensures.closes in
+    let X = freed_at p G c.args.h i F c.free_handle-client.new.self c.close_out.new.self (option_map attached_of c.into_file.result) file c.in_default-free_refusal.ensures c.free_handle-client.ensures.freed c.close_out.ensures.closes in
     let mine : number_of F.component ≡ c.args.h.generation = ap (λ (k : Handle). k.generation) (own p G G G c.args.h i F (λ k. refl)) in
     let after : map (option_map f) c.remove.new.self.items ≡ remove (map (option_map f) items) i = ap (map (option_map f)) c.remove.ensures.items ∙ map_remove (option_map f) items i in
     let held : slice_get (map (option_map f) items) i ≡ Some (Some (f part)) = slice_get-map (option_map f) items i ∙ ap (option_map (option_map f)) there in
@@ -106,7 +106,7 @@ returns-clause-step g c =
     let there : slice_get items i ≡ Some (Some part) = here ∙ ap Some c.in-Some-remove.is in
     let T : IsPartOf F.component (f part) = holds_it p _ I i F.component F.at f items refl free part there in
     let file : option_map attached_of c.into_file.result ≡ F.component.file = ap (option_map attached_of) c.into_file.ensures ∙ T.file in
-    let X = freed_at p G c.args.h i F c.free-client.new.self c.close_out.new.self (option_map attached_of c.into_file.result) file c.in_default-free_refusal.ensures c.free-client.ensures.freed c.close_out.ensures.closes in
+    let X = freed_at p G c.args.h i F c.free_handle-client.new.self c.close_out.new.self (option_map attached_of c.into_file.result) file c.in_default-free_refusal.ensures c.free_handle-client.ensures.freed c.close_out.ensures.closes in
     let mine : number_of F.component ≡ c.args.h.generation = ap (λ (k : Handle). k.generation) (own p G G G c.args.h i F (λ k. refl)) in
     let after : map (option_map f) c.remove.new.self.items ≡ remove (map (option_map f) items) i = ap (map (option_map f)) c.remove.ensures.items ∙ map_remove (option_map f) items i in
     let held : slice_get (map (option_map f) items) i ≡ Some (Some (f part)) = slice_get-map (option_map f) items i ∙ ap (option_map (option_map f)) there in
@@ -129,7 +129,7 @@ returns-clause-file g c =
     let there : slice_get items i ≡ Some (Some part) = here ∙ ap Some c.in-Some-remove.is in
     let T : IsPartOf F.component (f part) = holds_it p _ I i F.component F.at f items refl free part there in
     let file : option_map attached_of c.into_file.result ≡ F.component.file = ap (option_map attached_of) c.into_file.ensures ∙ T.file in
-    let X = freed_at p G c.args.h i F c.free-client.new.self c.close_out.new.self (option_map attached_of c.into_file.result) file c.in_default-free_refusal.ensures c.free-client.ensures.freed c.close_out.ensures.closes in
+    let X = freed_at p G c.args.h i F c.free_handle-client.new.self c.close_out.new.self (option_map attached_of c.into_file.result) file c.in_default-free_refusal.ensures c.free_handle-client.ensures.freed c.close_out.ensures.closes in
     let mine : number_of F.component ≡ c.args.h.generation = ap (λ (k : Handle). k.generation) (own p G G G c.args.h i F (λ k. refl)) in
     let after : map (option_map f) c.remove.new.self.items ≡ remove (map (option_map f) items) i = ap (map (option_map f)) c.remove.ensures.items ∙ map_remove (option_map f) items i in
     let held : slice_get (map (option_map f) items) i ≡ Some (Some (f part)) = slice_get-map (option_map f) items i ∙ ap (option_map (option_map f)) there in
@@ -152,7 +152,7 @@ returns-clause-files g c =
     let there : slice_get items i ≡ Some (Some part) = here ∙ ap Some c.in-Some-remove.is in
     let T : IsPartOf F.component (f part) = holds_it p _ I i F.component F.at f items refl free part there in
     let file : option_map attached_of c.into_file.result ≡ F.component.file = ap (option_map attached_of) c.into_file.ensures ∙ T.file in
-    let X = freed_at p G c.args.h i F c.free-client.new.self c.close_out.new.self (option_map attached_of c.into_file.result) file c.in_default-free_refusal.ensures c.free-client.ensures.freed c.close_out.ensures.closes in
+    let X = freed_at p G c.args.h i F c.free_handle-client.new.self c.close_out.new.self (option_map attached_of c.into_file.result) file c.in_default-free_refusal.ensures c.free_handle-client.ensures.freed c.close_out.ensures.closes in
     let mine : number_of F.component ≡ c.args.h.generation = ap (λ (k : Handle). k.generation) (own p G G G c.args.h i F (λ k. refl)) in
     let after : map (option_map f) c.remove.new.self.items ≡ remove (map (option_map f) items) i = ap (map (option_map f)) c.remove.ensures.items ∙ map_remove (option_map f) items i in
     let held : slice_get (map (option_map f) items) i ≡ Some (Some (f part)) = slice_get-map (option_map f) items i ∙ ap (option_map (option_map f)) there in
@@ -175,7 +175,7 @@ returns-clause-held g c =
     let there : slice_get items i ≡ Some (Some part) = here ∙ ap Some c.in-Some-remove.is in
     let T : IsPartOf F.component (f part) = holds_it p _ I i F.component F.at f items refl free part there in
     let file : option_map attached_of c.into_file.result ≡ F.component.file = ap (option_map attached_of) c.into_file.ensures ∙ T.file in
-    let X = freed_at p G c.args.h i F c.free-client.new.self c.close_out.new.self (option_map attached_of c.into_file.result) file c.in_default-free_refusal.ensures c.free-client.ensures.freed c.close_out.ensures.closes in
+    let X = freed_at p G c.args.h i F c.free_handle-client.new.self c.close_out.new.self (option_map attached_of c.into_file.result) file c.in_default-free_refusal.ensures c.free_handle-client.ensures.freed c.close_out.ensures.closes in
     let mine : number_of F.component ≡ c.args.h.generation = ap (λ (k : Handle). k.generation) (own p G G G c.args.h i F (λ k. refl)) in
     let after : map (option_map f) c.remove.new.self.items ≡ remove (map (option_map f) items) i = ap (map (option_map f)) c.remove.ensures.items ∙ map_remove (option_map f) items i in
     let held : slice_get (map (option_map f) items) i ≡ Some (Some (f part)) = slice_get-map (option_map f) items i ∙ ap (option_map (option_map f)) there in
@@ -188,7 +188,7 @@ returns-clause-clients g c =
     let i = c.in-Some.place in
     let F : Found p G c.args.h i = found p G c.args.h i c.in-Some.ensures.place c.in-Some.ensures.within in
     let I = c.self.invariant.1 in
-    rw (← c.self.view_is) (others_kept p G c.free-client.new.self c.close_out.new.self c.args.h i F c.close_out.ensures.clients c.free-client.ensures.clients)
+    rw (← c.self.view_is) (others_kept p G c.free_handle-client.new.self c.close_out.new.self c.args.h i F c.close_out.ensures.clients c.free_handle-client.ensures.clients)
 
 pub returns-clause-gone : goal.returns-clause-gone
 returns-clause-gone g c =
@@ -197,7 +197,7 @@ returns-clause-gone g c =
     let i = c.in-Some.place in
     let F : Found p G c.args.h i = found p G c.args.h i c.in-Some.ensures.place c.in-Some.ensures.within in
     let I = c.self.invariant.1 in
-    named_is p G c.free-client.new.self c.close_out.new.self c.args.h i F c.close_out.ensures.clients None c.free-client.ensures.gone
+    named_is p G c.free_handle-client.new.self c.close_out.new.self c.args.h i F c.close_out.ensures.clients None c.free_handle-client.ensures.gone
 
 pub returns-in_default-clause-held : goal.returns-in_default-clause-held
 returns-in_default-clause-held g c =
@@ -213,4 +213,4 @@ returns-clause-client g c =
     let G = c.self.inside.core in
     let i = c.in-Some.place in
     let F : Found p G c.args.h i = found p G c.args.h i c.in-Some.ensures.place c.in-Some.ensures.within in
-    rw (← c.self.view_is) (own_client p G c.args.h i F c.in-Some.ensures.place c.free-client.result c.free-client.ensures.client)
+    rw (← c.self.view_is) (own_client p G c.args.h i F c.in-Some.ensures.place c.free_handle-client.result c.free_handle-client.ensures.client)

@@ -43,8 +43,8 @@ returns-in-Some-release_idle-clause-step g c =
     let H : HasPort p G c.args.h c.args.port c.in-Some.place F = with_port p G c.args.h c.args.port c.in-Some.place F (rw c.if-not-has_port.false at c.has_port.ensures) in
     rw (← c.self.view_is) (whole_over g.C.Client.progress _ c.self.inside.core (acts.Release c.args.h c.args.port) (acts.Acted _) tt c.self.invariant.1 (λ w B. tt) (idle_on p G c.args.h c.args.port c.in-Some.place F H (λ l k q. release_idle l k q) (λ i k q w. front_unmade (in_port (seen w.headers) q) w) c.in-Some-release_idle.reason c.in-Some-release_idle.ensures))
 
-pub release_front-requires : goal.release_front-requires
-release_front-requires g c =
+pub release-requires : goal.release-requires
+release-requires g c =
     let p = g.C.Client.progress in
     let G = c.self.inside.core in
     let F : Found p G c.args.h c.in-Some.place = found p G c.args.h c.in-Some.place c.in-Some.ensures.place c.in-Some.ensures.within in
@@ -57,7 +57,7 @@ returns-clause-step g c =
     let G = c.self.inside.core in
     let F : Found p G c.args.h c.in-Some.place = found p G c.args.h c.in-Some.place c.in-Some.ensures.place c.in-Some.ensures.within in
     let H : HasPort p G c.args.h c.args.port c.in-Some.place F = with_port p G c.args.h c.args.port c.in-Some.place F (rw c.if-not-has_port.false at c.has_port.ensures) in
-    rw (← c.self.view_is) (whole_over g.C.Client.progress _ c.close_out.new.self (acts.Release c.args.h c.args.port) (acts.Acted _) tt c.self.invariant.1 (λ w B. tt) (did_on p G c.args.h c.args.port c.in-Some.place F H (λ l k q. release_idle l k q) (λ i k q w. front_unmade (in_port (seen w.headers) q) w) c.release_front.new.self c.close_out.new.self c.in_default-release_idle.ensures c.release_front.ensures.change c.close_out.ensures.closes))
+    rw (← c.self.view_is) (whole_over g.C.Client.progress _ c.close_out.new.self (acts.Release c.args.h c.args.port) (acts.Acted _) tt c.self.invariant.1 (λ w B. tt) (did_on p G c.args.h c.args.port c.in-Some.place F H (λ l k q. release_idle l k q) (λ i k q w. front_unmade (in_port (seen w.headers) q) w) c.release.new.self c.close_out.new.self c.in_default-release_idle.ensures c.release.ensures.change c.close_out.ensures.closes))
 
 pub returns-in_default-clause-held : goal.returns-in_default-clause-held
 returns-in_default-clause-held g c = rw (← c.self.view_is) (keeps_same g.C.Client.progress c.self.inside.core)
@@ -71,10 +71,10 @@ returns-in-Some-release_idle-clause-held g c = rw (← c.self.view_is) (keeps_sa
 pub returns-clause-held : goal.returns-clause-held
 returns-clause-held g c =
     let G = c.self.inside.core in
-    rw (← c.self.view_is) (keeps_over g.C.Client.progress G c.close_out.new.self (acts.Release c.args.h c.args.port) (acts.Acted (Ok acted.Did)) refl refl (λ w. tt) c.law_of_worlds.ensures.one (let p = g.C.Client.progress in let G = c.self.inside.core in let F : Found p G c.args.h c.in-Some.place = found p G c.args.h c.in-Some.place c.in-Some.ensures.place c.in-Some.ensures.within in let H : HasPort p G c.args.h c.args.port c.in-Some.place F = with_port p G c.args.h c.args.port c.in-Some.place F (rw c.if-not-has_port.false at c.has_port.ensures) in did_on p G c.args.h c.args.port c.in-Some.place F H (λ l k q. release_idle l k q) (λ i k q w. front_unmade (in_port (seen w.headers) q) w) c.release_front.new.self c.close_out.new.self c.in_default-release_idle.ensures c.release_front.ensures.change c.close_out.ensures.closes))
+    rw (← c.self.view_is) (keeps_over g.C.Client.progress G c.close_out.new.self (acts.Release c.args.h c.args.port) (acts.Acted (Ok acted.Did)) refl refl (λ w. tt) c.law_of_worlds.ensures.one (let p = g.C.Client.progress in let G = c.self.inside.core in let F : Found p G c.args.h c.in-Some.place = found p G c.args.h c.in-Some.place c.in-Some.ensures.place c.in-Some.ensures.within in let H : HasPort p G c.args.h c.args.port c.in-Some.place F = with_port p G c.args.h c.args.port c.in-Some.place F (rw c.if-not-has_port.false at c.has_port.ensures) in did_on p G c.args.h c.args.port c.in-Some.place F H (λ l k q. release_idle l k q) (λ i k q w. front_unmade (in_port (seen w.headers) q) w) c.release.new.self c.close_out.new.self c.in_default-release_idle.ensures c.release.ensures.change c.close_out.ensures.closes))
 
 pub returns-clause-clients : goal.returns-clause-clients
-returns-clause-clients g c = rw (← c.self.view_is) (λ k. c.close_out.ensures.clients k ∙ c.release_front.ensures.clients k)
+returns-clause-clients g c = rw (← c.self.view_is) (λ k. c.close_out.ensures.clients k ∙ c.release.ensures.clients k)
 
 pub invariant_of-self : goal.invariant_of-self
 invariant_of-self g c =
@@ -82,7 +82,7 @@ invariant_of-self g c =
     let G = c.self.inside.core in
     let F : Found p G c.args.h c.in-Some.place = found p G c.args.h c.in-Some.place c.in-Some.ensures.place c.in-Some.ensures.within in
     let H : HasPort p G c.args.h c.args.port c.in-Some.place F = with_port p G c.args.h c.args.port c.in-Some.place F (rw c.if-not-has_port.false at c.has_port.ensures) in
-    (c.self.invariant.0, is_whole_over g.C.Client.progress _ c.close_out.new.self (acts.Release c.args.h c.args.port) (acts.Acted _) tt c.self.invariant.1 (λ w B. tt) (did_on p G c.args.h c.args.port c.in-Some.place F H (λ l k q. release_idle l k q) (λ i k q w. front_unmade (in_port (seen w.headers) q) w) c.release_front.new.self c.close_out.new.self c.in_default-release_idle.ensures c.release_front.ensures.change c.close_out.ensures.closes) c.close_out.ensures.settled)
+    (c.self.invariant.0, is_whole_over g.C.Client.progress _ c.close_out.new.self (acts.Release c.args.h c.args.port) (acts.Acted _) tt c.self.invariant.1 (λ w B. tt) (did_on p G c.args.h c.args.port c.in-Some.place F H (λ l k q. release_idle l k q) (λ i k q w. front_unmade (in_port (seen w.headers) q) w) c.release.new.self c.close_out.new.self c.in_default-release_idle.ensures c.release.ensures.change c.close_out.ensures.closes) c.close_out.ensures.settled)
 
 pub returns-clause-files : goal.returns-clause-files
 returns-clause-files g c =
@@ -90,4 +90,4 @@ returns-clause-files g c =
     let G = c.self.inside.core in
     let F : Found p G c.args.h c.in-Some.place = found p G c.args.h c.in-Some.place c.in-Some.ensures.place c.in-Some.ensures.within in
     let H : HasPort p G c.args.h c.args.port c.in-Some.place F = with_port p G c.args.h c.args.port c.in-Some.place F (rw c.if-not-has_port.false at c.has_port.ensures) in
-    rw (← c.self.view_is) (files_over g.C.Client.progress _ c.close_out.new.self (acts.Release c.args.h c.args.port) (acts.Acted _) tt c.self.invariant.1 (λ w B. tt) (did_on p G c.args.h c.args.port c.in-Some.place F H (λ l k q. release_idle l k q) (λ i k q w. front_unmade (in_port (seen w.headers) q) w) c.release_front.new.self c.close_out.new.self c.in_default-release_idle.ensures c.release_front.ensures.change c.close_out.ensures.closes))
+    rw (← c.self.view_is) (files_over g.C.Client.progress _ c.close_out.new.self (acts.Release c.args.h c.args.port) (acts.Acted _) tt c.self.invariant.1 (λ w B. tt) (did_on p G c.args.h c.args.port c.in-Some.place F H (λ l k q. release_idle l k q) (λ i k q w. front_unmade (in_port (seen w.headers) q) w) c.release.new.self c.close_out.new.self c.in_default-release_idle.ensures c.release.ensures.change c.close_out.ensures.closes))

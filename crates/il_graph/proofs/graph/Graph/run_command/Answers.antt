@@ -28,10 +28,10 @@ returns-clause-step g c =
     let p = g.C.Client.progress in
     let G = c.self.inside.core in
     let F : Found p G c.args.h c.in-Some.place = found p G c.args.h c.in-Some.place c.in-Some.ensures.place c.in-Some.ensures.within in
-    rw (← c.self.view_is) (whole_over g.C.Client.progress _ c.close_out.new.self (acts.RunCommand c.args.h) (acts.Acted _) tt c.self.invariant.1 (λ w B. tt) (did_at p (λ (k : Component). run_idle k k.commands) G c.run.new.self c.close_out.new.self c.args.h c.in-Some.place (λ i k w. with_component i (run_front (look w) k.commands k) w) F c.in_default-run_idle.ensures c.run.ensures.change c.close_out.ensures.closes))
+    rw (← c.self.view_is) (whole_over g.C.Client.progress _ c.close_out.new.self (acts.RunCommand c.args.h) (acts.Acted _) tt c.self.invariant.1 (λ w B. tt) (did_at p (λ (k : Component). run_idle k k.commands) G c.run_command.new.self c.close_out.new.self c.args.h c.in-Some.place (λ i k w. with_component i (run_front (look w) k.commands k) w) F c.in_default-run_idle.ensures c.run_command.ensures.change c.close_out.ensures.closes))
 
 pub returns-clause-clients : goal.returns-clause-clients
-returns-clause-clients g c = rw (← c.self.view_is) (λ k. c.close_out.ensures.clients k ∙ c.run.ensures.clients k)
+returns-clause-clients g c = rw (← c.self.view_is) (λ k. c.close_out.ensures.clients k ∙ c.run_command.ensures.clients k)
 
 pub returns-in_default-clause-held : goal.returns-in_default-clause-held
 returns-in_default-clause-held g c = rw (← c.self.view_is) (keeps_same g.C.Client.progress c.self.inside.core)
@@ -42,18 +42,18 @@ returns-in-Some-run_idle-clause-held g c = rw (← c.self.view_is) (keeps_same g
 pub returns-clause-held : goal.returns-clause-held
 returns-clause-held g c =
     let G = c.self.inside.core in
-    rw (← c.self.view_is) (keeps_over g.C.Client.progress G c.close_out.new.self (acts.RunCommand c.args.h) (acts.Acted (Ok acted.Did)) refl refl (λ w. tt) c.law_of_worlds.ensures.one (let p = g.C.Client.progress in let G = c.self.inside.core in let F : Found p G c.args.h c.in-Some.place = found p G c.args.h c.in-Some.place c.in-Some.ensures.place c.in-Some.ensures.within in did_at p (λ (k : Component). run_idle k k.commands) G c.run.new.self c.close_out.new.self c.args.h c.in-Some.place (λ i k w. with_component i (run_front (look w) k.commands k) w) F c.in_default-run_idle.ensures c.run.ensures.change c.close_out.ensures.closes))
+    rw (← c.self.view_is) (keeps_over g.C.Client.progress G c.close_out.new.self (acts.RunCommand c.args.h) (acts.Acted (Ok acted.Did)) refl refl (λ w. tt) c.law_of_worlds.ensures.one (let p = g.C.Client.progress in let G = c.self.inside.core in let F : Found p G c.args.h c.in-Some.place = found p G c.args.h c.in-Some.place c.in-Some.ensures.place c.in-Some.ensures.within in did_at p (λ (k : Component). run_idle k k.commands) G c.run_command.new.self c.close_out.new.self c.args.h c.in-Some.place (λ i k w. with_component i (run_front (look w) k.commands k) w) F c.in_default-run_idle.ensures c.run_command.ensures.change c.close_out.ensures.closes))
 
 pub invariant_of-self : goal.invariant_of-self
 invariant_of-self g c =
     let p = g.C.Client.progress in
     let G = c.self.inside.core in
     let F : Found p G c.args.h c.in-Some.place = found p G c.args.h c.in-Some.place c.in-Some.ensures.place c.in-Some.ensures.within in
-    (c.self.invariant.0, is_whole_over g.C.Client.progress _ c.close_out.new.self (acts.RunCommand c.args.h) (acts.Acted _) tt c.self.invariant.1 (λ w B. tt) (did_at p (λ (k : Component). run_idle k k.commands) G c.run.new.self c.close_out.new.self c.args.h c.in-Some.place (λ i k w. with_component i (run_front (look w) k.commands k) w) F c.in_default-run_idle.ensures c.run.ensures.change c.close_out.ensures.closes) c.close_out.ensures.settled)
+    (c.self.invariant.0, is_whole_over g.C.Client.progress _ c.close_out.new.self (acts.RunCommand c.args.h) (acts.Acted _) tt c.self.invariant.1 (λ w B. tt) (did_at p (λ (k : Component). run_idle k k.commands) G c.run_command.new.self c.close_out.new.self c.args.h c.in-Some.place (λ i k w. with_component i (run_front (look w) k.commands k) w) F c.in_default-run_idle.ensures c.run_command.ensures.change c.close_out.ensures.closes) c.close_out.ensures.settled)
 
 pub returns-clause-files : goal.returns-clause-files
 returns-clause-files g c =
     let p = g.C.Client.progress in
     let G = c.self.inside.core in
     let F : Found p G c.args.h c.in-Some.place = found p G c.args.h c.in-Some.place c.in-Some.ensures.place c.in-Some.ensures.within in
-    rw (← c.self.view_is) (files_over g.C.Client.progress _ c.close_out.new.self (acts.RunCommand c.args.h) (acts.Acted _) tt c.self.invariant.1 (λ w B. tt) (did_at p (λ (k : Component). run_idle k k.commands) G c.run.new.self c.close_out.new.self c.args.h c.in-Some.place (λ i k w. with_component i (run_front (look w) k.commands k) w) F c.in_default-run_idle.ensures c.run.ensures.change c.close_out.ensures.closes))
+    rw (← c.self.view_is) (files_over g.C.Client.progress _ c.close_out.new.self (acts.RunCommand c.args.h) (acts.Acted _) tt c.self.invariant.1 (λ w B. tt) (did_at p (λ (k : Component). run_idle k k.commands) G c.run_command.new.self c.close_out.new.self c.args.h c.in-Some.place (λ i k w. with_component i (run_front (look w) k.commands k) w) F c.in_default-run_idle.ensures c.run_command.ensures.change c.close_out.ensures.closes))

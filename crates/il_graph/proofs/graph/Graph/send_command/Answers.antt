@@ -26,10 +26,10 @@ returns-clause-step g c =
     let p = g.C.Client.progress in
     let G = c.self.inside.core in
     let F : Found p G c.args.h c.in-Some.place = found p G c.args.h c.in-Some.place c.in-Some.ensures.place c.in-Some.ensures.within in
-    rw (← c.self.view_is) (whole_over g.C.Client.progress _ c.close_out.new.self (acts.SendCommand c.args.h c.args.command) (acts.Plain _) tt c.self.invariant.1 (λ w B. tt) (accepted_at p (λ (l : Look) (k : Component). send_refusal l k c.args.command) G c.send.new.self c.close_out.new.self c.args.h c.in-Some.place tt (λ i k w. with_component i (sent c.args.command k) w) F c.in_default-send_refusal.ensures c.send.ensures.change c.close_out.ensures.closes))
+    rw (← c.self.view_is) (whole_over g.C.Client.progress _ c.close_out.new.self (acts.SendCommand c.args.h c.args.command) (acts.Plain _) tt c.self.invariant.1 (λ w B. tt) (accepted_at p (λ (l : Look) (k : Component). send_refusal l k c.args.command) G c.send_command.new.self c.close_out.new.self c.args.h c.in-Some.place tt (λ i k w. with_component i (sent c.args.command k) w) F c.in_default-send_refusal.ensures c.send_command.ensures.change c.close_out.ensures.closes))
 
 pub returns-clause-clients : goal.returns-clause-clients
-returns-clause-clients g c = rw (← c.self.view_is) (λ k. c.close_out.ensures.clients k ∙ c.send.ensures.clients k)
+returns-clause-clients g c = rw (← c.self.view_is) (λ k. c.close_out.ensures.clients k ∙ c.send_command.ensures.clients k)
 
 pub returns-in_default-clause-held : goal.returns-in_default-clause-held
 returns-in_default-clause-held g c = rw (← c.self.view_is) (keeps_same g.C.Client.progress c.self.inside.core)
@@ -40,18 +40,18 @@ returns-in-Some-send_refusal-clause-held g c = rw (← c.self.view_is) (keeps_sa
 pub returns-clause-held : goal.returns-clause-held
 returns-clause-held g c =
     let G = c.self.inside.core in
-    rw (← c.self.view_is) (keeps_over g.C.Client.progress G c.close_out.new.self (acts.SendCommand c.args.h c.args.command) (acts.Plain (Ok tt)) refl refl (λ w. tt) c.law_of_worlds.ensures.one (let p = g.C.Client.progress in let G = c.self.inside.core in let F : Found p G c.args.h c.in-Some.place = found p G c.args.h c.in-Some.place c.in-Some.ensures.place c.in-Some.ensures.within in accepted_at p (λ (l : Look) (k : Component). send_refusal l k c.args.command) G c.send.new.self c.close_out.new.self c.args.h c.in-Some.place tt (λ i k w. with_component i (sent c.args.command k) w) F c.in_default-send_refusal.ensures c.send.ensures.change c.close_out.ensures.closes))
+    rw (← c.self.view_is) (keeps_over g.C.Client.progress G c.close_out.new.self (acts.SendCommand c.args.h c.args.command) (acts.Plain (Ok tt)) refl refl (λ w. tt) c.law_of_worlds.ensures.one (let p = g.C.Client.progress in let G = c.self.inside.core in let F : Found p G c.args.h c.in-Some.place = found p G c.args.h c.in-Some.place c.in-Some.ensures.place c.in-Some.ensures.within in accepted_at p (λ (l : Look) (k : Component). send_refusal l k c.args.command) G c.send_command.new.self c.close_out.new.self c.args.h c.in-Some.place tt (λ i k w. with_component i (sent c.args.command k) w) F c.in_default-send_refusal.ensures c.send_command.ensures.change c.close_out.ensures.closes))
 
 pub invariant_of-self : goal.invariant_of-self
 invariant_of-self g c =
     let p = g.C.Client.progress in
     let G = c.self.inside.core in
     let F : Found p G c.args.h c.in-Some.place = found p G c.args.h c.in-Some.place c.in-Some.ensures.place c.in-Some.ensures.within in
-    (c.self.invariant.0, is_whole_over g.C.Client.progress _ c.close_out.new.self (acts.SendCommand c.args.h c.args.command) (acts.Plain _) tt c.self.invariant.1 (λ w B. tt) (accepted_at p (λ (l : Look) (k : Component). send_refusal l k c.args.command) G c.send.new.self c.close_out.new.self c.args.h c.in-Some.place tt (λ i k w. with_component i (sent c.args.command k) w) F c.in_default-send_refusal.ensures c.send.ensures.change c.close_out.ensures.closes) c.close_out.ensures.settled)
+    (c.self.invariant.0, is_whole_over g.C.Client.progress _ c.close_out.new.self (acts.SendCommand c.args.h c.args.command) (acts.Plain _) tt c.self.invariant.1 (λ w B. tt) (accepted_at p (λ (l : Look) (k : Component). send_refusal l k c.args.command) G c.send_command.new.self c.close_out.new.self c.args.h c.in-Some.place tt (λ i k w. with_component i (sent c.args.command k) w) F c.in_default-send_refusal.ensures c.send_command.ensures.change c.close_out.ensures.closes) c.close_out.ensures.settled)
 
 pub returns-clause-files : goal.returns-clause-files
 returns-clause-files g c =
     let p = g.C.Client.progress in
     let G = c.self.inside.core in
     let F : Found p G c.args.h c.in-Some.place = found p G c.args.h c.in-Some.place c.in-Some.ensures.place c.in-Some.ensures.within in
-    rw (← c.self.view_is) (files_over g.C.Client.progress _ c.close_out.new.self (acts.SendCommand c.args.h c.args.command) (acts.Plain _) tt c.self.invariant.1 (λ w B. tt) (accepted_at p (λ (l : Look) (k : Component). send_refusal l k c.args.command) G c.send.new.self c.close_out.new.self c.args.h c.in-Some.place tt (λ i k w. with_component i (sent c.args.command k) w) F c.in_default-send_refusal.ensures c.send.ensures.change c.close_out.ensures.closes))
+    rw (← c.self.view_is) (files_over g.C.Client.progress _ c.close_out.new.self (acts.SendCommand c.args.h c.args.command) (acts.Plain _) tt c.self.invariant.1 (λ w B. tt) (accepted_at p (λ (l : Look) (k : Component). send_refusal l k c.args.command) G c.send_command.new.self c.close_out.new.self c.args.h c.in-Some.place tt (λ i k w. with_component i (sent c.args.command k) w) F c.in_default-send_refusal.ensures c.send_command.ensures.change c.close_out.ensures.closes))

@@ -59,14 +59,14 @@ returns-clause-step g c =
     let F : Found p G c.args.output.handle c.in-Some.giver = found p G c.args.output.handle c.in-Some.giver c.in-Some.ensures.place c.in-Some.ensures.within in
     let F' : Found p G c.args.input.handle c.in-Some-place_of.taker = found p G c.args.input.handle c.in-Some-place_of.taker c.in-Some-place_of.ensures.place c.in-Some-place_of.ensures.within in
     let joined = at_both p G c.args.output.handle c.args.input.handle c.in-Some.giver c.in-Some-place_of.taker
-    (λ k d. BothPorts (port_of k c.args.output.index) (port_of d c.args.input.index) (λ a b. (c.join-supplier.result ≡ agreed_of a b) × StepsBare (kept p G) (kept p c.join-supplier.new.self) (λ w v. v ≡ both_joined c.join-supplier.result c.in-Some.giver k a c.in-Some-place_of.taker d b w)))
-    F F' c.join-supplier.ensures.change in
-    let s = both_close (kept p G) (kept p c.join-supplier.new.self) (kept p c.close_out.new.self) (port_of F.component c.args.output.index) (port_of F'.component c.args.input.index)
-    (λ a b. c.join-supplier.result ≡ agreed_of a b) (λ a b w. both_joined c.join-supplier.result c.in-Some.giver F.component a c.in-Some-place_of.taker F'.component b w) joined c.close_out.ensures.closes in
-    rw (← c.self.view_is) (whole_over g.C.Client.progress _ c.close_out.new.self (acts.SetupTunnel c.args.output c.args.input) (acts.Joined _) tt c.self.invariant.1 (λ w B. tt) (accepted_at_both p R G c.close_out.new.self c.args.output.handle c.args.input.handle c.in-Some.giver c.in-Some-place_of.taker c.join-supplier.result Y F F' c.in_default-setup_refusal.ensures s))
+    (λ k d. BothPorts (port_of k c.args.output.index) (port_of d c.args.input.index) (λ a b. (c.setup_tunnel-supplier.result ≡ agreed_of a b) × StepsBare (kept p G) (kept p c.setup_tunnel-supplier.new.self) (λ w v. v ≡ both_joined c.setup_tunnel-supplier.result c.in-Some.giver k a c.in-Some-place_of.taker d b w)))
+    F F' c.setup_tunnel-supplier.ensures.change in
+    let s = both_close (kept p G) (kept p c.setup_tunnel-supplier.new.self) (kept p c.close_out.new.self) (port_of F.component c.args.output.index) (port_of F'.component c.args.input.index)
+    (λ a b. c.setup_tunnel-supplier.result ≡ agreed_of a b) (λ a b w. both_joined c.setup_tunnel-supplier.result c.in-Some.giver F.component a c.in-Some-place_of.taker F'.component b w) joined c.close_out.ensures.closes in
+    rw (← c.self.view_is) (whole_over g.C.Client.progress _ c.close_out.new.self (acts.SetupTunnel c.args.output c.args.input) (acts.Joined _) tt c.self.invariant.1 (λ w B. tt) (accepted_at_both p R G c.close_out.new.self c.args.output.handle c.args.input.handle c.in-Some.giver c.in-Some-place_of.taker c.setup_tunnel-supplier.result Y F F' c.in_default-setup_refusal.ensures s))
 
 pub returns-clause-clients : goal.returns-clause-clients
-returns-clause-clients g c = rw (← c.self.view_is) (λ k. c.close_out.ensures.clients k ∙ c.join-supplier.ensures.clients k)
+returns-clause-clients g c = rw (← c.self.view_is) (λ k. c.close_out.ensures.clients k ∙ c.setup_tunnel-supplier.ensures.clients k)
 
 pub returns-in_default-clause-held : goal.returns-in_default-clause-held
 returns-in_default-clause-held g c = rw (← c.self.view_is) (keeps_same g.C.Client.progress c.self.inside.core)
@@ -80,7 +80,7 @@ returns-in-Some-setup_refusal-clause-held g c = rw (← c.self.view_is) (keeps_s
 pub returns-clause-held : goal.returns-clause-held
 returns-clause-held g c =
     let G = c.self.inside.core in
-    rw (← c.self.view_is) (keeps_over g.C.Client.progress G c.close_out.new.self (acts.SetupTunnel c.args.output c.args.input) (acts.Joined (Ok c.join-supplier.result)) refl refl (λ w. tt) c.law_of_worlds.ensures.one (let p = g.C.Client.progress in let G = c.self.inside.core in let R = refusal c.args.output.index c.args.input.index in let Y = Joined c.args.output.index c.args.input.index in let F : Found p G c.args.output.handle c.in-Some.giver = found p G c.args.output.handle c.in-Some.giver c.in-Some.ensures.place c.in-Some.ensures.within in let F' : Found p G c.args.input.handle c.in-Some-place_of.taker = found p G c.args.input.handle c.in-Some-place_of.taker c.in-Some-place_of.ensures.place c.in-Some-place_of.ensures.within in let joined = at_both p G c.args.output.handle c.args.input.handle c.in-Some.giver c.in-Some-place_of.taker (λ k d. BothPorts (port_of k c.args.output.index) (port_of d c.args.input.index) (λ a b. (c.join-supplier.result ≡ agreed_of a b) × StepsBare (kept p G) (kept p c.join-supplier.new.self) (λ w v. v ≡ both_joined c.join-supplier.result c.in-Some.giver k a c.in-Some-place_of.taker d b w))) F F' c.join-supplier.ensures.change in let s = both_close (kept p G) (kept p c.join-supplier.new.self) (kept p c.close_out.new.self) (port_of F.component c.args.output.index) (port_of F'.component c.args.input.index) (λ a b. c.join-supplier.result ≡ agreed_of a b) (λ a b w. both_joined c.join-supplier.result c.in-Some.giver F.component a c.in-Some-place_of.taker F'.component b w) joined c.close_out.ensures.closes in accepted_at_both p R G c.close_out.new.self c.args.output.handle c.args.input.handle c.in-Some.giver c.in-Some-place_of.taker c.join-supplier.result Y F F' c.in_default-setup_refusal.ensures s))
+    rw (← c.self.view_is) (keeps_over g.C.Client.progress G c.close_out.new.self (acts.SetupTunnel c.args.output c.args.input) (acts.Joined (Ok c.setup_tunnel-supplier.result)) refl refl (λ w. tt) c.law_of_worlds.ensures.one (let p = g.C.Client.progress in let G = c.self.inside.core in let R = refusal c.args.output.index c.args.input.index in let Y = Joined c.args.output.index c.args.input.index in let F : Found p G c.args.output.handle c.in-Some.giver = found p G c.args.output.handle c.in-Some.giver c.in-Some.ensures.place c.in-Some.ensures.within in let F' : Found p G c.args.input.handle c.in-Some-place_of.taker = found p G c.args.input.handle c.in-Some-place_of.taker c.in-Some-place_of.ensures.place c.in-Some-place_of.ensures.within in let joined = at_both p G c.args.output.handle c.args.input.handle c.in-Some.giver c.in-Some-place_of.taker (λ k d. BothPorts (port_of k c.args.output.index) (port_of d c.args.input.index) (λ a b. (c.setup_tunnel-supplier.result ≡ agreed_of a b) × StepsBare (kept p G) (kept p c.setup_tunnel-supplier.new.self) (λ w v. v ≡ both_joined c.setup_tunnel-supplier.result c.in-Some.giver k a c.in-Some-place_of.taker d b w))) F F' c.setup_tunnel-supplier.ensures.change in let s = both_close (kept p G) (kept p c.setup_tunnel-supplier.new.self) (kept p c.close_out.new.self) (port_of F.component c.args.output.index) (port_of F'.component c.args.input.index) (λ a b. c.setup_tunnel-supplier.result ≡ agreed_of a b) (λ a b w. both_joined c.setup_tunnel-supplier.result c.in-Some.giver F.component a c.in-Some-place_of.taker F'.component b w) joined c.close_out.ensures.closes in accepted_at_both p R G c.close_out.new.self c.args.output.handle c.args.input.handle c.in-Some.giver c.in-Some-place_of.taker c.setup_tunnel-supplier.result Y F F' c.in_default-setup_refusal.ensures s))
 
 pub invariant_of-self : goal.invariant_of-self
 invariant_of-self g c =
@@ -91,11 +91,11 @@ invariant_of-self g c =
     let F : Found p G c.args.output.handle c.in-Some.giver = found p G c.args.output.handle c.in-Some.giver c.in-Some.ensures.place c.in-Some.ensures.within in
     let F' : Found p G c.args.input.handle c.in-Some-place_of.taker = found p G c.args.input.handle c.in-Some-place_of.taker c.in-Some-place_of.ensures.place c.in-Some-place_of.ensures.within in
     let joined = at_both p G c.args.output.handle c.args.input.handle c.in-Some.giver c.in-Some-place_of.taker
-    (λ k d. BothPorts (port_of k c.args.output.index) (port_of d c.args.input.index) (λ a b. (c.join-supplier.result ≡ agreed_of a b) × StepsBare (kept p G) (kept p c.join-supplier.new.self) (λ w v. v ≡ both_joined c.join-supplier.result c.in-Some.giver k a c.in-Some-place_of.taker d b w)))
-    F F' c.join-supplier.ensures.change in
-    let s = both_close (kept p G) (kept p c.join-supplier.new.self) (kept p c.close_out.new.self) (port_of F.component c.args.output.index) (port_of F'.component c.args.input.index)
-    (λ a b. c.join-supplier.result ≡ agreed_of a b) (λ a b w. both_joined c.join-supplier.result c.in-Some.giver F.component a c.in-Some-place_of.taker F'.component b w) joined c.close_out.ensures.closes in
-    (c.self.invariant.0, is_whole_over g.C.Client.progress _ c.close_out.new.self (acts.SetupTunnel c.args.output c.args.input) (acts.Joined _) tt c.self.invariant.1 (λ w B. tt) (accepted_at_both p R G c.close_out.new.self c.args.output.handle c.args.input.handle c.in-Some.giver c.in-Some-place_of.taker c.join-supplier.result Y F F' c.in_default-setup_refusal.ensures s) c.close_out.ensures.settled)
+    (λ k d. BothPorts (port_of k c.args.output.index) (port_of d c.args.input.index) (λ a b. (c.setup_tunnel-supplier.result ≡ agreed_of a b) × StepsBare (kept p G) (kept p c.setup_tunnel-supplier.new.self) (λ w v. v ≡ both_joined c.setup_tunnel-supplier.result c.in-Some.giver k a c.in-Some-place_of.taker d b w)))
+    F F' c.setup_tunnel-supplier.ensures.change in
+    let s = both_close (kept p G) (kept p c.setup_tunnel-supplier.new.self) (kept p c.close_out.new.self) (port_of F.component c.args.output.index) (port_of F'.component c.args.input.index)
+    (λ a b. c.setup_tunnel-supplier.result ≡ agreed_of a b) (λ a b w. both_joined c.setup_tunnel-supplier.result c.in-Some.giver F.component a c.in-Some-place_of.taker F'.component b w) joined c.close_out.ensures.closes in
+    (c.self.invariant.0, is_whole_over g.C.Client.progress _ c.close_out.new.self (acts.SetupTunnel c.args.output c.args.input) (acts.Joined _) tt c.self.invariant.1 (λ w B. tt) (accepted_at_both p R G c.close_out.new.self c.args.output.handle c.args.input.handle c.in-Some.giver c.in-Some-place_of.taker c.setup_tunnel-supplier.result Y F F' c.in_default-setup_refusal.ensures s) c.close_out.ensures.settled)
 
 pub returns-clause-files : goal.returns-clause-files
 returns-clause-files g c =
@@ -106,8 +106,8 @@ returns-clause-files g c =
     let F : Found p G c.args.output.handle c.in-Some.giver = found p G c.args.output.handle c.in-Some.giver c.in-Some.ensures.place c.in-Some.ensures.within in
     let F' : Found p G c.args.input.handle c.in-Some-place_of.taker = found p G c.args.input.handle c.in-Some-place_of.taker c.in-Some-place_of.ensures.place c.in-Some-place_of.ensures.within in
     let joined = at_both p G c.args.output.handle c.args.input.handle c.in-Some.giver c.in-Some-place_of.taker
-    (λ k d. BothPorts (port_of k c.args.output.index) (port_of d c.args.input.index) (λ a b. (c.join-supplier.result ≡ agreed_of a b) × StepsBare (kept p G) (kept p c.join-supplier.new.self) (λ w v. v ≡ both_joined c.join-supplier.result c.in-Some.giver k a c.in-Some-place_of.taker d b w)))
-    F F' c.join-supplier.ensures.change in
-    let s = both_close (kept p G) (kept p c.join-supplier.new.self) (kept p c.close_out.new.self) (port_of F.component c.args.output.index) (port_of F'.component c.args.input.index)
-    (λ a b. c.join-supplier.result ≡ agreed_of a b) (λ a b w. both_joined c.join-supplier.result c.in-Some.giver F.component a c.in-Some-place_of.taker F'.component b w) joined c.close_out.ensures.closes in
-    rw (← c.self.view_is) (files_over g.C.Client.progress _ c.close_out.new.self (acts.SetupTunnel c.args.output c.args.input) (acts.Joined _) tt c.self.invariant.1 (λ w B. tt) (accepted_at_both p R G c.close_out.new.self c.args.output.handle c.args.input.handle c.in-Some.giver c.in-Some-place_of.taker c.join-supplier.result Y F F' c.in_default-setup_refusal.ensures s))
+    (λ k d. BothPorts (port_of k c.args.output.index) (port_of d c.args.input.index) (λ a b. (c.setup_tunnel-supplier.result ≡ agreed_of a b) × StepsBare (kept p G) (kept p c.setup_tunnel-supplier.new.self) (λ w v. v ≡ both_joined c.setup_tunnel-supplier.result c.in-Some.giver k a c.in-Some-place_of.taker d b w)))
+    F F' c.setup_tunnel-supplier.ensures.change in
+    let s = both_close (kept p G) (kept p c.setup_tunnel-supplier.new.self) (kept p c.close_out.new.self) (port_of F.component c.args.output.index) (port_of F'.component c.args.input.index)
+    (λ a b. c.setup_tunnel-supplier.result ≡ agreed_of a b) (λ a b w. both_joined c.setup_tunnel-supplier.result c.in-Some.giver F.component a c.in-Some-place_of.taker F'.component b w) joined c.close_out.ensures.closes in
+    rw (← c.self.view_is) (files_over g.C.Client.progress _ c.close_out.new.self (acts.SetupTunnel c.args.output c.args.input) (acts.Joined _) tt c.self.invariant.1 (λ w B. tt) (accepted_at_both p R G c.close_out.new.self c.args.output.handle c.args.input.handle c.in-Some.giver c.in-Some-place_of.taker c.setup_tunnel-supplier.result Y F F' c.in_default-setup_refusal.ensures s))

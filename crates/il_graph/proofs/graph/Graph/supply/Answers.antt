@@ -45,8 +45,8 @@ returns-in-Some-supply_idle-clause-step g c =
     let H : HasPort p G c.args.h c.args.port c.in-Some.place F = with_port p G c.args.h c.args.port c.in-Some.place F (rw c.if-not-has_port.false at c.has_port.ensures) in
     rw (← c.self.view_is) (whole_over g.C.Client.progress _ c.self.inside.core (acts.Supply c.args.h c.args.port) (acts.Supplied _) tt c.self.invariant.1 (λ w B. tt) (idle_by p G c.args.h c.args.port c.in-Some.place F H (λ l k q. supply_idle l k q) (λ i k q w. with_supplied q w) c.in-Some-supply_idle.reason c.in-Some-supply_idle.ensures))
 
-pub supply_header-requires : goal.supply_header-requires
-supply_header-requires g c =
+pub supply-requires : goal.supply-requires
+supply-requires g c =
     let p = g.C.Client.progress in
     let G = c.self.inside.core in
     let F : Found p G c.args.h c.in-Some.place = found p G c.args.h c.in-Some.place c.in-Some.ensures.place c.in-Some.ensures.within in
@@ -60,7 +60,7 @@ returns-clause-step g c =
     let G = c.self.inside.core in
     let F : Found p G c.args.h c.in-Some.place = found p G c.args.h c.in-Some.place c.in-Some.ensures.place c.in-Some.ensures.within in
     let H : HasPort p G c.args.h c.args.port c.in-Some.place F = with_port p G c.args.h c.args.port c.in-Some.place F (rw c.if-not-has_port.false at c.has_port.ensures) in
-    rw (← c.self.view_is) (whole_over g.C.Client.progress _ c.close_out.new.self (acts.Supply c.args.h c.args.port) (acts.Supplied _) tt c.self.invariant.1 (λ w B. tt) (did_by p G c.args.h c.args.port c.in-Some.place F H (λ l k q. supply_idle l k q) (λ i k q w. with_supplied q w) c.supply_header.new.self c.close_out.new.self c.in_default-supply_idle.ensures c.supply_header.ensures.change c.close_out.ensures.closes))
+    rw (← c.self.view_is) (whole_over g.C.Client.progress _ c.close_out.new.self (acts.Supply c.args.h c.args.port) (acts.Supplied _) tt c.self.invariant.1 (λ w B. tt) (did_by p G c.args.h c.args.port c.in-Some.place F H (λ l k q. supply_idle l k q) (λ i k q w. with_supplied q w) c.supply.new.self c.close_out.new.self c.in_default-supply_idle.ensures c.supply.ensures.change c.close_out.ensures.closes))
 
 pub returns-in_default-clause-held : goal.returns-in_default-clause-held
 returns-in_default-clause-held g c = rw (← c.self.view_is) (keeps_same g.C.Client.progress c.self.inside.core)
@@ -74,10 +74,10 @@ returns-in-Some-supply_idle-clause-held g c = rw (← c.self.view_is) (keeps_sam
 pub returns-clause-held : goal.returns-clause-held
 returns-clause-held g c =
     let G = c.self.inside.core in
-    rw (← c.self.view_is) (keeps_over g.C.Client.progress G c.close_out.new.self (acts.Supply c.args.h c.args.port) (acts.Supplied (Ok acted.Did)) refl refl (λ w. tt) c.law_of_worlds.ensures.one (let p = g.C.Client.progress in let G = c.self.inside.core in let F : Found p G c.args.h c.in-Some.place = found p G c.args.h c.in-Some.place c.in-Some.ensures.place c.in-Some.ensures.within in let H : HasPort p G c.args.h c.args.port c.in-Some.place F = with_port p G c.args.h c.args.port c.in-Some.place F (rw c.if-not-has_port.false at c.has_port.ensures) in did_by p G c.args.h c.args.port c.in-Some.place F H (λ l k q. supply_idle l k q) (λ i k q w. with_supplied q w) c.supply_header.new.self c.close_out.new.self c.in_default-supply_idle.ensures c.supply_header.ensures.change c.close_out.ensures.closes))
+    rw (← c.self.view_is) (keeps_over g.C.Client.progress G c.close_out.new.self (acts.Supply c.args.h c.args.port) (acts.Supplied (Ok acted.Did)) refl refl (λ w. tt) c.law_of_worlds.ensures.one (let p = g.C.Client.progress in let G = c.self.inside.core in let F : Found p G c.args.h c.in-Some.place = found p G c.args.h c.in-Some.place c.in-Some.ensures.place c.in-Some.ensures.within in let H : HasPort p G c.args.h c.args.port c.in-Some.place F = with_port p G c.args.h c.args.port c.in-Some.place F (rw c.if-not-has_port.false at c.has_port.ensures) in did_by p G c.args.h c.args.port c.in-Some.place F H (λ l k q. supply_idle l k q) (λ i k q w. with_supplied q w) c.supply.new.self c.close_out.new.self c.in_default-supply_idle.ensures c.supply.ensures.change c.close_out.ensures.closes))
 
 pub returns-clause-clients : goal.returns-clause-clients
-returns-clause-clients g c = rw (← c.self.view_is) (λ k. c.close_out.ensures.clients k ∙ c.supply_header.ensures.clients k)
+returns-clause-clients g c = rw (← c.self.view_is) (λ k. c.close_out.ensures.clients k ∙ c.supply.ensures.clients k)
 
 pub invariant_of-self : goal.invariant_of-self
 invariant_of-self g c =
@@ -85,7 +85,7 @@ invariant_of-self g c =
     let G = c.self.inside.core in
     let F : Found p G c.args.h c.in-Some.place = found p G c.args.h c.in-Some.place c.in-Some.ensures.place c.in-Some.ensures.within in
     let H : HasPort p G c.args.h c.args.port c.in-Some.place F = with_port p G c.args.h c.args.port c.in-Some.place F (rw c.if-not-has_port.false at c.has_port.ensures) in
-    (c.self.invariant.0, is_whole_over g.C.Client.progress _ c.close_out.new.self (acts.Supply c.args.h c.args.port) (acts.Supplied _) tt c.self.invariant.1 (λ w B. tt) (did_by p G c.args.h c.args.port c.in-Some.place F H (λ l k q. supply_idle l k q) (λ i k q w. with_supplied q w) c.supply_header.new.self c.close_out.new.self c.in_default-supply_idle.ensures c.supply_header.ensures.change c.close_out.ensures.closes) c.close_out.ensures.settled)
+    (c.self.invariant.0, is_whole_over g.C.Client.progress _ c.close_out.new.self (acts.Supply c.args.h c.args.port) (acts.Supplied _) tt c.self.invariant.1 (λ w B. tt) (did_by p G c.args.h c.args.port c.in-Some.place F H (λ l k q. supply_idle l k q) (λ i k q w. with_supplied q w) c.supply.new.self c.close_out.new.self c.in_default-supply_idle.ensures c.supply.ensures.change c.close_out.ensures.closes) c.close_out.ensures.settled)
 
 pub returns-clause-files : goal.returns-clause-files
 returns-clause-files g c =
@@ -93,4 +93,4 @@ returns-clause-files g c =
     let G = c.self.inside.core in
     let F : Found p G c.args.h c.in-Some.place = found p G c.args.h c.in-Some.place c.in-Some.ensures.place c.in-Some.ensures.within in
     let H : HasPort p G c.args.h c.args.port c.in-Some.place F = with_port p G c.args.h c.args.port c.in-Some.place F (rw c.if-not-has_port.false at c.has_port.ensures) in
-    rw (← c.self.view_is) (files_over g.C.Client.progress _ c.close_out.new.self (acts.Supply c.args.h c.args.port) (acts.Supplied _) tt c.self.invariant.1 (λ w B. tt) (did_by p G c.args.h c.args.port c.in-Some.place F H (λ l k q. supply_idle l k q) (λ i k q w. with_supplied q w) c.supply_header.new.self c.close_out.new.self c.in_default-supply_idle.ensures c.supply_header.ensures.change c.close_out.ensures.closes))
+    rw (← c.self.view_is) (files_over g.C.Client.progress _ c.close_out.new.self (acts.Supply c.args.h c.args.port) (acts.Supplied _) tt c.self.invariant.1 (λ w B. tt) (did_by p G c.args.h c.args.port c.in-Some.place F H (λ l k q. supply_idle l k q) (λ i k q w. with_supplied q w) c.supply.new.self c.close_out.new.self c.in_default-supply_idle.ensures c.supply.ensures.change c.close_out.ensures.closes))

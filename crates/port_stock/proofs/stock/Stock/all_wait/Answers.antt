@@ -7,4 +7,4 @@ use Rattle.port_stock.proofs.stock.Stock.all_wait.Goals as goal
 pub returns : goal.returns
 returns c =
     let i = c.self.inside in
-    rw (← c.self.view_is) (tested (λ (h : HeaderState). is_waiting h.place) (key_of i.region) i.ports.items i.entries.items i.next c.all_wait.result (rw c.deref.ensures.value at c.all_wait.ensures) c.self.invariant.0.once)
+    rw (← c.self.view_is) (tested (λ (h : HeaderState). is_waiting h.queue) (key_of i.region) i.ports.items i.entries.items i.next c.all_wait.result (rw c.deref.ensures.value at c.all_wait.ensures) c.self.invariant.0.once)

@@ -38,10 +38,10 @@ returns-then-self-clause-all g c = λ x is.
 pub loop-held-preserved : goal.loop-held-preserved
 loop-held-preserved g c =
     let v = c.take_record.new.self in
-    let place = g.S.Source.place c.take_record.new.src in
-    let few : v.packets + room_left v (g.S.Source.size c.args.src.now - place) ≤ 2 ^ 27 =
-    subst (λ (n : ℕ). v.packets + room_left v (n - place) ≤ 2 ^ 27) c.loop-held.invariant.size c.in-Ok.ensures.few in
-    let steps = subst (λ (n : ℕ). steps_left v (n - place) < 2 * room_left c.loop-held.self (n - g.S.Source.place c.loop-held.src) + c.due.new.self.held.len) c.loop-held.invariant.size c.in-Ok.ensures.steps in
+    let offset = g.S.Source.offset c.take_record.new.src in
+    let few : v.packets + room_left v (g.S.Source.size c.args.src.now - offset) ≤ 2 ^ 27 =
+    subst (λ (n : ℕ). v.packets + room_left v (n - offset) ≤ 2 ^ 27) c.loop-held.invariant.size c.in-Ok.ensures.few in
+    let steps = subst (λ (n : ℕ). steps_left v (n - offset) < 2 * room_left c.loop-held.self (n - g.S.Source.offset c.loop-held.src) + c.due.new.self.held.len) c.loop-held.invariant.size c.in-Ok.ensures.steps in
     record {
       left = λ x is. left-on c.args.self.now c.loop-held.self _ v _ _ _ (c.loop-held.invariant.left x is) (c.in-Ok.ensures.left x (c.loop-held.invariant.told ∙ is))
           (ap (λ (l : Line). record (course_of c.loop-held.self) { line = l }) (sym c.in-None.ensures.kept)) refl;

@@ -6,12 +6,12 @@ use Rattle.rtp_parts.proofs.unpacker.Unpacker.next.Given as goal
 abbrev pub invariant-loop-held : goal.invariant-loop-held
 invariant-loop-held g l = record {
   left : WhereTold (g.S.Source.told l.initial.src) (λ bytes.
-      course_left l.initial.self (drop (g.S.Source.place l.initial.src) bytes) ≡ course_left l.self (drop (g.S.Source.place l.src) bytes));
+      course_left l.initial.self (drop (g.S.Source.offset l.initial.src) bytes) ≡ course_left l.self (drop (g.S.Source.offset l.src) bytes));
   last : l.self.end ≡ l.initial.self.end;
-  few : l.self.packets + room_left l.self (g.S.Source.size l.initial.src - g.S.Source.place l.src) ≤ 2 ^ 27;
-  steps : steps_left l.self (g.S.Source.size l.initial.src - g.S.Source.place l.src) ≤ steps_left l.initial.self (g.S.Source.size l.initial.src - g.S.Source.place l.initial.src);
+  few : l.self.packets + room_left l.self (g.S.Source.size l.initial.src - g.S.Source.offset l.src) ≤ 2 ^ 27;
+  steps : steps_left l.self (g.S.Source.size l.initial.src - g.S.Source.offset l.src) ≤ steps_left l.initial.self (g.S.Source.size l.initial.src - g.S.Source.offset l.initial.src);
   room : length l.buffer ≡ 65535;
-  reached : WhereTold (g.S.Source.ends l.initial.src) (λ end. g.S.Source.place l.src ≤ end);
+  reached : WhereTold (g.S.Source.ends l.initial.src) (λ end. g.S.Source.offset l.src ≤ end);
   told : g.S.Source.told l.src ≡ g.S.Source.told l.initial.src;
   ends : g.S.Source.ends l.src ≡ g.S.Source.ends l.initial.src;
   size : g.S.Source.size l.src ≡ g.S.Source.size l.initial.src;
@@ -19,4 +19,4 @@ invariant-loop-held g l = record {
 }
 
 abbrev pub decreases-loop-held : goal.decreases-loop-held
-decreases-loop-held g l = steps_left l.self (g.S.Source.size l.src - g.S.Source.place l.src)
+decreases-loop-held g l = steps_left l.self (g.S.Source.size l.src - g.S.Source.offset l.src)
