@@ -38,6 +38,7 @@ pub use mixer::Mixer;
 pub use one_input::OneInput;
 pub use part_file::PartFile;
 pub use part_forms::Law;
+pub use reads::read_frames;
 pub use sink_file::SinkFile;
 pub use source_file::SourceFile;
 pub use splitter::{Splitter, Splitting};

@@ -22,7 +22,7 @@ fn stand_at<S: Source>(source: &mut S, offset: u64) -> Result<(), Failed>
 }
 
 /// Reads the bytes of whole frames from that offset on to the front of the buffer, and answers the offset behind them.
-pub(crate) fn read_frames<S: Source>(
+pub fn read_frames<S: Source>(
     source: &mut S,
     from: u64,
     buffer: &mut [u8],

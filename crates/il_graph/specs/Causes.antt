@@ -1,21 +1,9 @@
--- The causes of a part's faults.
+-- The causes of a play's faults.
 use Rattle.std.specs.Prelude.{ℕ, Option}
 use Rattle.omx_types.specs.declared.fault.PartFault.{PartFault}
 use Rattle.omx_types.specs.declared.fault.PartFault.TheVariants.{Read, Write, Short}
 use Rattle.outside_io.specs.Causes.{Rose}
 use Rattle.outside_io.specs.Stops.{GaveNothing}
-
--- of a source of that size and told end, read from `start` on: by its count before and now
-abbrev pub HasReadCause : ℕ → Option ℕ → ℕ → ℕ → ℕ → PartFault → Type 0
-HasReadCause size ends start before now Read = Rose before now
-HasReadCause size ends start before now Write = ⊥
-HasReadCause size ends start before now (Short at told_size) = GaveNothing size ends start at told_size
-
--- of a sink: by its count before and now
-abbrev pub HasWriteCause : ℕ → ℕ → PartFault → Type 0
-HasWriteCause before now Read = ⊥
-HasWriteCause before now Write = Rose before now
-HasWriteCause before now (Short at told_size) = ⊥
 
 -- of a play: by the counts of its source and of its sink before and now
 abbrev pub HasPlayCause : ℕ → Option ℕ → ℕ → ℕ → ℕ → ℕ → ℕ → PartFault → Type 0

@@ -1,6 +1,5 @@
 mod header;
 mod lists;
-mod reads;
 mod sink_part;
 mod source_part;
 
@@ -35,7 +34,8 @@ impl<S: Source, K: Sink> Pair<S, K> {
     ghost use Rattle.omx_types.specs.Formats.{IsWithinLimits, frame_bytes_of};
     ghost use Rattle.outside_io.specs.Moves.{WhereTold, AppendsFront};
     ghost use Rattle.part_forms.specs.Writing.{written};
-    ghost use Rattle.il_graph.specs.Causes.{HasReadCause, HasWriteCause, HasPlayCause};
+    ghost use Rattle.audio_parts.specs.Causes.{HasReadCause, HasWriteCause};
+    ghost use Rattle.il_graph.specs.Causes.{HasPlayCause};
     ghost use Rattle.il_graph.specs.Headers.{Held, both_waiting, Passes, PassesCleared};
     ghost use Rattle.il_graph.specs.Playing.{source_of, sink_of, queues, next_of, end_of, has_ended, has_over, due, KeepsSource, KeepsSink, HasFilled, HasStayed, HasDrained, IsFilledFrom, Pays, acts_left};
     ghost use Rattle.il_graph.specs.declared.pair.header.QueueName.{QueueName};

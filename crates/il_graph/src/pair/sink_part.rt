@@ -31,7 +31,7 @@ impl<K: Sink> SinkPart<K> {
     ghost use Rattle.std.specs.Prelude.{[], ◌++◌, OnOk, OnErr, IfErr};
     ghost use Rattle.std.specs.Io.KnownBytes.{append_known};
     ghost use Rattle.outside_io.specs.Moves.{AppendsFront};
-    ghost use Rattle.il_graph.specs.Causes.{HasWriteCause};
+    ghost use Rattle.audio_parts.specs.Causes.{HasWriteCause};
     ghost use Rattle.il_graph.specs.Headers.{held};
     ghost use Rattle.il_graph.specs.SinkSteps.{HasPlan, head_due, pad_due, text_of, headed, behind, is_over};
     ghost use Rattle.il_graph.specs.declared.pair.sink_part.Progress.TheVariants.{Fresh, Over};

@@ -1,7 +1,7 @@
 ghost use Rattle.std.specs.Prelude.{◌≡◌, ◌≤◌};
 
 use super::header::{BLOCK_BYTES, Header};
-use super::reads::read_frames;
+use audio_parts::read_frames;
 use omx_types::{Format, PartFault};
 use outside_io::Source;
 
@@ -24,7 +24,7 @@ impl<S: Source> SourcePart<S> {
     ghost use Rattle.omx_types.specs.Formats.{IsWithinLimits, frame_bytes_of};
     ghost use Rattle.outside_io.specs.Moves.{WhereTold};
     ghost use Rattle.il_graph.specs.Headers.{held, cleared};
-    ghost use Rattle.il_graph.specs.Causes.{HasReadCause};
+    ghost use Rattle.audio_parts.specs.Causes.{HasReadCause};
     ghost use Rattle.il_graph.specs.SourceSteps.{IsStepOf, IsKept, step_bytes};
 
     pub fn new(source: S, format: Format, frames: u64) -> SourcePart<S>
