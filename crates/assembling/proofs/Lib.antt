@@ -1,0 +1,11 @@
+pub mod Places
+pub mod Calm
+pub mod Changing
+pub mod Accepted
+pub mod Standing
+pub mod Setting
+pub mod Joining
+pub mod Filing
+pub mod Factoring
+pub mod Making
+pub mod Stages
