@@ -12,7 +12,7 @@ use Rattle.play_forms.specs.Parts.{passes_at}
 use Rattle.play_forms.specs.Plans.{IsValid, PlanValue}
 use Rattle.play_forms.proofs.Plainly.{givers_within}
 use Rattle.play_plans.specs.Casting.{IsPartCast, IsLinkCast, IsCastOf, cast_of, joint_of, flow_of, no_joint, place_of, turn_of}
-use Rattle.play_plans.proofs.Casting.{takers_within}
+use Rattle.play_plans.proofs.Links.{takers_within}
 use Rattle.play_plans.proofs.Turns.{few_turns, all_turns, turn_at}
 
 module _ (by_output : ℕ → Bool) (plan : PlanValue) (V : IsValid plan) where

@@ -1,2 +1,3 @@
 pub mod Casting
+pub mod Limits
 pub mod Conducting

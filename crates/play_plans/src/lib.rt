@@ -2,7 +2,7 @@
 //! play stands on them.
 #![tactic(auto)]
 
-ghost use Rattle.std.specs.Prelude.{◌≡◌, ℕ, ◌+◌, Bool, List, [], Option};
+ghost use Rattle.std.specs.Prelude.{◌≡◌, ℕ, ◌+◌, Bool, List, [], slice_get, Option, Some};
 ghost use Rattle.omx_types.specs.declared.state.State.{State};
 ghost use Rattle.il_machine.specs.declared.answer.Progress.{Progress};
 ghost use Rattle.il_machine.specs.World.{World};
@@ -14,12 +14,16 @@ ghost use Rattle.play_model.specs.Play.{Play};
 ghost use Rattle.play_model.specs.Reached.{IsOver};
 ghost use Rattle.play_model.specs.Acts.{Act, CanAct, acted};
 ghost use Rattle.wav_form.specs.declared.heads.WavHead.{WavHead};
+ghost use Rattle.play_forms.specs.declared.flow.Flow.{Flow};
 ghost use Rattle.play_forms.specs.Flows.{AreFlows, AreFrames};
-ghost use Rattle.play_forms.specs.Plans.{IsFit, IsValid, PlanValue};
+ghost use Rattle.play_forms.specs.Plans.{IsFit, IsFitted, IsPlanOfScript, IsValid, PlanValue};
+ghost use Rattle.script_lang.specs.PlayScripts.{IsPlayScript};
+ghost use Rattle.script_lang.specs.declared.script.Script.{Script};
 ghost use Rattle.play_worlds.specs.Cast.{Cast, IsCast};
 ghost use Rattle.play_worlds.specs.Standing.{target};
 ghost use Rattle.play_worlds.specs.Worlds.{IsPlayWorld};
 ghost use Rattle.play_plans.specs.Casting.{IsCastOf, IsInLimits, cast_of};
+ghost use Rattle.play_plans.specs.Limits.{AreHeads, IsLawfulFlow, IsScripted};
 ghost use Rattle.play_plans.specs.Conducting.{HasSinks, HasViews, IsConductorOf};
 
 /// A valid plan has a cast, whoever supplies the headers of its links. Where it fits the heads of its files, that is one of a play.
@@ -28,6 +32,22 @@ pub fn law_of_casts()
     ensures cast { (plan : PlanValue) (heads : List WavHead) (x : Cast) → IsValid plan
         → AreFlows plan.parts plan.joints heads plan.flows → AreFrames plan.parts plan.joints heads plan.flows plan.frames
         → IsFit plan → IsInLimits plan → IsCastOf plan x → IsCast x }
+{}
+
+/// A plan keeps the limits of the numbers in its script's lines.
+pub fn law_of_scripts()
+    ensures planned { (script log text : List ℕ) (read : Script) (plan : PlanValue)
+        → IsPlayScript script log text read → IsPlanOfScript read plan → IsScripted plan }
+    ensures fitted { (plan fitted : PlanValue) (heads : List WavHead) → IsScripted plan → IsFitted plan heads fitted → IsScripted fitted }
+{}
+
+/// The numbers of a valid plan are in their limits, where those of its script's lines are and the heads of its files are ones that are
+/// read; so is what goes through its links.
+pub fn law_of_limits()
+    ensures limits { (plan : PlanValue) (heads : List WavHead) → IsValid plan → AreFlows plan.parts plan.joints heads plan.flows
+        → IsFit plan → IsScripted plan → AreHeads plan heads → IsInLimits plan }
+    ensures flows { (plan : PlanValue) (heads : List WavHead) (l : ℕ) (flow : Flow) → IsValid plan → AreFlows plan.parts plan.joints heads plan.flows
+        → IsFit plan → IsScripted plan → AreHeads plan heads → slice_get plan.flows l ≡ Some flow → IsLawfulFlow flow }
 {}
 
 /// A conductor that has heard what the components told sends the next state exactly where the model begins one, and says that
