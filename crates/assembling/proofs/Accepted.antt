@@ -1,27 +1,24 @@
 -- The acts of an assembly aren't refused.
-use Rattle.std.proofs.Common.{◌≡◌, ◌≢◌, ℕ, zero, suc, ◌+◌, ◌<◌, ◌≤◌, Bool, true, false, not, ◌&&◌, ◌||◌, nat_eq, nat_lt, nat_le, List, [], ◌∷◌, length, slice_get, Option, Some, None, is_some, is_none, refl, sym, ◌∙◌, ap, subst, eq-eqb, ne_eqb, le-leb, arith}
-use Rattle.std.proofs.lemmas.Bool.{lt-ltb, lt-leb}
+use Rattle.std.proofs.Common.{◌≡◌, ◌≢◌, ℕ, ◌<◌, ◌≤◌, Bool, true, false, not, ◌&&◌, ◌||◌, nat_eq, nat_le, [], ◌∷◌, Option, Some, None, is_some, is_none, refl, ◌∙◌, ap, eq-eqb, ne_eqb, le-leb, arith}
+use Rattle.std.proofs.lemmas.Bool.{lt-ltb}
 use Rattle.omx_types.specs.declared.format.Format.{Format}
 use Rattle.omx_types.specs.declared.format.Format.TheVariants.{Pcm, Alaw as AlawFormat, Mulaw as MulawFormat, Auto}
 use Rattle.omx_types.specs.declared.kind.Kind.{Kind}
 use Rattle.omx_types.specs.declared.kind.Kind.TheVariants.{Source, Late, Decoder, Alaw, Mulaw, Gain, Mixer, Splitter, Sink}
 use Rattle.omx_types.specs.declared.param.Param.TheVariants as params
 use Rattle.omx_types.specs.declared.param.PortDefinition.{PortDefinition}
-use Rattle.omx_types.specs.declared.state.State.{State}
 use Rattle.omx_types.specs.declared.state.State.TheVariants.{Loaded}
 use Rattle.part_api.specs.declared.attached.Attached.{Attached}
-use Rattle.il_machine.specs.declared.answer.Pending.{Pending}
 use Rattle.il_machine.specs.declared.port.Port.{Port}
-use Rattle.il_machine.specs.declared.port.PortSetting.{PortSetting}
 use Rattle.il_machine.specs.Files.{Offered, attach_refusal, file_port_format, is_bad_file, is_for_kind}
-use Rattle.il_machine.specs.Headers.{Seen, seen}
-use Rattle.il_machine.specs.Kinds.{is_auto, is_format_of, is_input, is_port_format, ports_in}
+use Rattle.il_machine.specs.Headers.{seen}
+use Rattle.il_machine.specs.Kinds.{is_auto, is_input, is_port_format, ports_in}
 use Rattle.il_machine.specs.Lists.{any_of, holds_at}
-use Rattle.il_machine.specs.Parameters.{is_fixed, is_format_fixed, is_format_free, is_settable, is_wrong_time, keeps_format, overflows, set_config_refusal, set_parameter_refusal, would_fit}
-use Rattle.il_machine.specs.Ports.{is_at_rest, is_input_port, is_joined}
-use Rattle.il_machine.specs.Settings.{is_definition_of, is_good_value, is_index_of, is_port_of, is_supported, same_format}
+use Rattle.il_machine.specs.Parameters.{is_fixed, is_format_fixed, is_format_free, is_settable, is_wrong_time, overflows, set_config_refusal, set_parameter_refusal}
+use Rattle.il_machine.specs.Ports.{is_input_port, is_joined}
+use Rattle.il_machine.specs.Settings.{is_definition_of, is_index_of, is_port_of, is_supported, same_format}
 use Rattle.il_machine.specs.States.{is_invalid, is_loaded}
-use Rattle.il_machine.specs.Tunnels.{are_output_and_input, holds_of_both, setup_refusal}
+use Rattle.il_machine.specs.Tunnels.{are_output_and_input, setup_refusal}
 use Rattle.il_machine.specs.World.{Component, port_of, same_handle}
 use Rattle.assembling.specs.Assembly.{factors_in}
 use Rattle.assembling.specs.Stages.{factor_key, factor_value, port_key}
@@ -58,19 +55,18 @@ module _ (c : Component) (U : IsUnstarted c) (port : ℕ) (d : PortDefinition) (
   free_format f h =
       let kept : (is_some c.file || not (is_settable c)) ≡ false = λ i. is_some (f i) || not (settable c U i) in
       let fixed : is_format_fixed c p d ≡ false =
-          let k : (not (is_auto p.setting.definition.format) && (is_some c.file || not (is_settable c))) ≡ false = ap (λ (t : Bool). not (is_auto p.setting.definition.format) && t) kept ∙ and_false _ in
-          let o : overflows c.file d.format ≡ false = ap (λ (y : Option Attached). overflows y d.format) f in
-          let t = settable c U in
-          rw (h, k, t, o) refl
+      let k : (not (is_auto p.setting.definition.format) && (is_some c.file || not (is_settable c))) ≡ false = ap (λ (t : Bool). not (is_auto p.setting.definition.format) && t) kept ∙ and_false _ in
+      let o : overflows c.file d.format ≡ false = ap (λ (y : Option Attached). overflows y d.format) f in
+      let t = settable c U in
+      rw (h, k, t, o) refl
       in
       ap (λ (o : Option Port). holds_at o (λ q. not (is_format_fixed c q d))) there ∙ ap not fixed
 
   pub port_accepted : c.file ≡ None → p.state.held ≡ false → p.state.link ≡ None → port < ports_in c.settings.kind → is_definition_of (is_input c.settings.kind port) d ≡ true
-      → is_format_of c.settings.kind (is_input c.settings.kind port) d.format ≡ true → set_parameter_refusal (seen []) c (port_key port) (params.Port d) ≡ None
+      → is_port_format c.settings.kind (is_input c.settings.kind port) d.format ≡ true → set_parameter_refusal (seen []) c (port_key port) (params.Port d) ≡ None
   port_accepted f h l b g k =
       let known : is_port_of c.settings.kind (port_key port) ≡ true = lt-ltb port (ports_in c.settings.kind) b in
-      let format : is_port_format c.settings.kind (is_input c.settings.kind port) d.format ≡ true = rw k refl in
-      let supported : is_supported c.settings port (is_format_free c port (params.Port d)) (params.Port d) ≡ true = λ i. format i && free_format f h i in
+      let supported : is_supported c.settings port (is_format_free c port (params.Port d)) (params.Port d) ≡ true = λ i. k i && free_format f h i in
       let time : is_wrong_time (seen []) c (port_key port) ≡ false = ap (λ (o : Option Port). holds_at o (is_fixed (seen []) c)) there ∙ unfixed c U p l in
       skips _ _ _ (not_invalid c U) (skips _ _ _ (ap not known) (skips _ _ _ (ap not g) (skips _ _ _ (ap not supported) (skips _ _ _ time refl))))
 
@@ -101,8 +97,8 @@ factor_accepted Sink c i factor u k l m = absurd (omega arith)
 pub file_accepted : (c : Component) (file : Offered) → IsUnstarted c → c.file ≡ None → is_for_kind c.settings.kind file ≡ true → is_bad_file c.settings.kind (file_port_format c) file ≡ false → attach_refusal c file ≡ None
 file_accepted c file U n k b =
     let bad : any_of (not (is_for_kind c.settings.kind file) ∷ is_some c.file ∷ is_bad_file c.settings.kind (file_port_format c) file ∷ []) ≡ false =
-        let f : is_some c.file ≡ false = ap (λ (o : Option Attached). is_some o) n in
-        rw (k, f, b) refl
+    let f : is_some c.file ≡ false = ap (λ (o : Option Attached). is_some o) n in
+    rw (k, f, b) refl
     in
     skips _ _ _ (not_invalid c U) (skips _ _ _ bad (skips _ _ _ (ap not (settable c U)) refl))
 

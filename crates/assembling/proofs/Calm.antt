@@ -1,5 +1,5 @@
 -- In a world of an assembly nothing is pending, so its close-out changes nothing.
-use Rattle.std.proofs.Common.{◌≡◌, ℕ, zero, suc, ◌+◌, Bool, true, false, not, ◌&&◌, List, [], ◌∷◌, slice_get, Option, Some, None, is_some, All, if◌then◌else◌, refl, sym, ◌∙◌, ap}
+use Rattle.std.proofs.Common.{◌≡◌, ℕ, ◌+◌, Bool, true, false, not, ◌&&◌, List, [], ◌∷◌, Option, Some, None, is_some, All, if◌then◌else◌, refl, ◌∙◌, ap}
 use Rattle.std.proofs.lemmas.List.Elements.{All-head, All-tail}
 use Rattle.il_machine.specs.declared.answer.Pending.{Pending}
 use Rattle.il_machine.specs.declared.port.Mark.{Mark}
@@ -8,16 +8,15 @@ use Rattle.il_machine.specs.declared.port.Mode.TheVariants.{Steady, Enabling, Di
 use Rattle.il_machine.specs.declared.port.Port.{Port}
 use Rattle.il_machine.specs.declared.port.PortSetting.{PortSetting}
 use Rattle.il_machine.specs.declared.port.PortState.{PortState}
-use Rattle.il_machine.specs.Due.{ClosesTo, IsClosed, Thing, Transition, due_in, has_due, is_due_to, is_flush_due, is_mark_due, is_mode_due, is_transition_due, things_of}
+use Rattle.il_machine.specs.Due.{ClosesTo, IsClosed, Thing, due_in, has_due, is_due_to, is_flush_due, is_mark_due, is_mode_due, is_transition_due, things_of}
 use Rattle.il_machine.specs.Headers.{Seen, seen, is_home_of, is_owned_by, none_is}
 use Rattle.il_machine.specs.Lists.{all_of, first_of_these, holds_at, is_empty}
-use Rattle.il_machine.specs.Places.{first_place}
 use Rattle.il_machine.specs.Ports.{IsCalmPort, is_steady}
-use Rattle.il_machine.specs.World.{Component, World, number_of, ports_from, ports_of}
+use Rattle.il_machine.specs.World.{Component, World, number_of, ports_from}
 use Rattle.il_machine.proofs.Places.{is_first_place}
 use Rattle.machine_laws.proofs.Closing.{closed_closes}
 use Rattle.assembling.specs.Assembly.{Assembly}
-use Rattle.assembling.specs.Stages.{AreBuilt, IsBuiltAs, Progress}
+use Rattle.assembling.specs.Stages.{AreBuilt, Progress}
 use Rattle.assembling.proofs.Places.{none_first}
 
 pub skips : {E : Type 0} (b : Bool) (x : E) (rest : Option E) → b ≡ false → rest ≡ None → (if b then Some x else rest) ≡ None

@@ -1,13 +1,12 @@
 -- One component of an assembly changes: the others and their ends stay.
-use Rattle.std.proofs.Common.{◌≡◌, ◌≢◌, ◌⊎◌, inl, inr, ℕ, ◌<◌, Bool, true, false, List, set, slice_get, Some, option_map, All, refl, sym, ◌∙◌, ap, subst, arith}
+use Rattle.std.proofs.Common.{◌≡◌, ◌≢◌, ◌⊎◌, inl, inr, ℕ, ◌<◌, Bool, true, List, set, slice_get, Some, option_map, sym, ◌∙◌, ap, subst}
 use Rattle.std.proofs.lemmas.Bool.{cases_eq}
-use Rattle.il_machine.specs.declared.port.PortKey.{PortKey}
 use Rattle.il_machine.specs.declared.port.PortSetting.{PortSetting}
 use Rattle.il_machine.specs.declared.port.PortState.{PortState}
 use Rattle.il_machine.specs.Files.{attached}
 use Rattle.il_machine.specs.Ports.{IsCalmPort}
 use Rattle.il_machine.specs.Settings.{Settings}
-use Rattle.il_machine.specs.World.{Component, number_of}
+use Rattle.il_machine.specs.World.{Component}
 use Rattle.machine_laws.proofs.Every.{at_set, set_there, set_else}
 use Rattle.assembling.specs.Assembly.{Assembly, IsLawful, component_at}
 use Rattle.assembling.specs.Stages.{AreBuilt, HasEnd, IsBuiltAs, Progress, setting_by, state_by, file_by}

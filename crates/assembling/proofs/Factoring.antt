@@ -1,15 +1,15 @@
 -- A gain, or a weight of a mixer, is set.
-use Rattle.std.proofs.Common.{◌≡◌, ◌≢◌, ◌⊎◌, inl, inr, ℕ, zero, suc, ◌<◌, ◌≤◌, Bool, true, false, List, [], ◌∷◌, length, set, slice_get, Some, None, Option, option_map, Result, Ok, refl, sym, ◌∙◌, ap, subst, arith}
+use Rattle.std.proofs.Common.{◌≡◌, ◌≢◌, ◌⊎◌, inl, inr, ℕ, zero, suc, ◌<◌, Bool, true, List, length, set, slice_get, Some, None, option_map, Result, Ok, refl, sym, ◌∙◌, ap, subst, arith}
 use Rattle.std.proofs.lemmas.Bool.{cases_eq}
 use Rattle.std.proofs.lemmas.Option.{slice_get_within}
 use Rattle.omx_types.specs.declared.handle.Handle.{Handle}
 use Rattle.omx_types.specs.declared.error.OmxError.{OmxError}
 use Rattle.omx_types.specs.declared.kind.Kind.{Kind}
-use Rattle.omx_types.specs.declared.kind.Kind.TheVariants.{Source, Late, Decoder, Alaw, Mulaw, Gain, Mixer, Splitter, Sink}
+use Rattle.omx_types.specs.declared.kind.Kind.TheVariants.{Gain, Mixer}
 use Rattle.il_machine.specs.declared.port.PortSetting.{PortSetting}
 use Rattle.il_machine.specs.Answers.{Answers, plain}
 use Rattle.il_machine.specs.Due.{ClosesTo}
-use Rattle.il_machine.specs.Files.{Offered, attached}
+use Rattle.il_machine.specs.Files.{attached}
 use Rattle.il_machine.specs.Parameters.{SetConfig, set_config_refusal, with_value}
 use Rattle.il_machine.specs.Parts.{factors_by}
 use Rattle.il_machine.specs.Settings.{Settings, default_settings, weights_in}
@@ -17,11 +17,11 @@ use Rattle.il_machine.specs.Sound.{Sound}
 use Rattle.il_machine.specs.World.{Component, World, with_component}
 use Rattle.machine_laws.proofs.Every.{set_there, set_else}
 use Rattle.machine_laws.proofs.Parts.{parts_of}
-use Rattle.assembling.specs.Assembly.{Assembly, IsLawful, component_at, factors_in}
-use Rattle.assembling.specs.Stages.{AreBuilt, HasEnd, IsBuilt, IsBuiltAs, Progress, factor_key, factor_value, file_by, setting_by, state_by}
+use Rattle.assembling.specs.Assembly.{Assembly, IsLawful, factors_in}
+use Rattle.assembling.specs.Stages.{AreBuilt, IsBuilt, Progress, factor_key, factor_value, file_by, setting_by, state_by}
 use Rattle.assembling.proofs.Accepted.{factor_accepted}
 use Rattle.assembling.proofs.Calm.{built_closes}
-use Rattle.assembling.proofs.Changing.{IsElse, replaced}
+use Rattle.assembling.proofs.Changing.{replaced}
 use Rattle.assembling.proofs.Places.{get_there, resolved}
 use Rattle.assembling.proofs.Standing.{answered, built_with, held_at, unstarted}
 
@@ -81,26 +81,26 @@ factor_set s L p q handles c i factor b O w v h result S W e f r =
     let below : i < factors_in kind = omega arith in
     let accepted : set_config_refusal a (factor_key kind i) (factor_value kind factor) ≡ None = factor_accepted kind a i factor U.loaded kind_is below (L.small c i factor b f) in
     let R = answered (set_config_refusal a (factor_key kind i) (factor_value kind factor)) result w v (λ _. ClosesTo (with_component c (with_value (factor_key kind i) (factor_value kind factor) a) w) v) accepted
-        (resolved plain w h result v (λ j y. Answers (set_config_refusal y (factor_key kind i) (factor_value kind factor)) result w v (λ _. ClosesTo (with_component j (with_value (factor_key kind i) (factor_value kind factor) y) w) v)) c a H.names H.there r) in
+    (resolved plain w h result v (λ j y. Answers (set_config_refusal y (factor_key kind i) (factor_value kind factor)) result w v (λ _. ClosesTo (with_component j (with_value (factor_key kind i) (factor_value kind factor) y) w) v)) c a H.names H.there r) in
     let settings : Settings = with_factor kind i factor a.settings in
     let a' : Component = record a { settings = settings } in
     let weights : length a.settings.weights ≡ weights_in kind = (((parts_of w S).components c a H.there).whole).weights ∙ ap weights_in kind_is in
     let A : AreBuilt s q (set w.components c a') = replaced s p q w.components c a a' W.components H.there
-        (record {
-          number = B.number;
-          fresh_else = ap (λ (y : Component). record y { settings = settings }) B.fresh_else;
-          settings = rest_same kind kind i factor a.settings B.settings;
-          factors = λ j x d t. factors_after kind (s.factors c) a.settings i factor j x below weights f d (elim (O.here j t) [ inl q ↦ inl q | inr q ↦ inr (B.factors j x d q) ]);
-          file = B.file ∙ ap (λ (t : Bool). option_map attached (file_by s t c)) (sym (O.filed c));
-          calm = B.calm;
-        })
-        (λ side l d x.
-        let Y = (W.components).ends side l a d (ap (slice_get w.components) x ∙ H.there) in
-        record {
-          setting = ap (λ (ps : List PortSetting). slice_get ps (s.end side l).port) (ports_same kind i factor a.settings) ∙ (Y.setting ∙ ap (λ (t : Bool). Some (setting_by s t side l)) (sym (O.set side l)));
-          state = Y.state ∙ ap (λ (t : Bool). Some (state_by s t side l)) (sym (O.joined side l));
-        })
-        (record { factored = O.others; filed = λ d n. O.filed d; set = λ side l d n. O.set side l; joined = λ side l d n. O.joined side l })
+    (record {
+      number = B.number;
+      fresh_else = ap (λ (y : Component). record y { settings = settings }) B.fresh_else;
+      settings = rest_same kind kind i factor a.settings B.settings;
+      factors = λ j x d t. factors_after kind (s.factors c) a.settings i factor j x below weights f d (elim (O.here j t) [ inl q ↦ inl q | inr q ↦ inr (B.factors j x d q) ]);
+      file = B.file ∙ ap (λ (t : Bool). option_map attached (file_by s t c)) (sym (O.filed c));
+      calm = B.calm;
+    })
+    (λ side l d x.
+    let Y = (W.components).ends side l a d (ap (slice_get w.components) x ∙ H.there) in
+    record {
+      setting = ap (λ (ps : List PortSetting). slice_get ps (s.end side l).port) (ports_same kind i factor a.settings) ∙ (Y.setting ∙ ap (λ (t : Bool). Some (setting_by s t side l)) (sym (O.set side l)));
+      state = Y.state ∙ ap (λ (t : Bool). Some (state_by s t side l)) (sym (O.joined side l));
+    })
+    (record { factored = O.others; filed = λ d n. O.filed d; set = λ side l d n. O.set side l; joined = λ side l d n. O.joined side l })
     in
     let effect : World = with_component c a' w in
     let Q : IsBuilt s q handles effect = built_with s p q handles w c a a' W H.there refl O.made O.filed A in

@@ -1,8 +1,7 @@
 -- A file comes to its component.
-use Rattle.std.proofs.Common.{◌≡◌, ◌≢◌, ◌⊎◌, inl, inr, ℕ, ◌+◌, ◌<◌, Bool, true, false, nat_eq, if◌then◌else◌, List, [], map, length, length-set, set, slice_get, Some, None, Option, option_map, Result, Ok, refl, sym, ◌∙◌, ap, subst, eq-eqb, ne_eqb, arith}
+use Rattle.std.proofs.Common.{◌≡◌, ◌≢◌, inl, inr, ℕ, ◌<◌, Bool, true, false, if◌then◌else◌, List, map, length-set, set, slice_get, Some, None, Option, option_map, Result, Ok, refl, sym, ◌∙◌, ap, subst, eq-eqb, ne_eqb, arith}
 use Rattle.std.proofs.lemmas.Bool.{cases_eq}
-use Rattle.std.proofs.lemmas.Option.{get_or_from_slice_get, slice_get_within}
-use Rattle.omx_types.specs.declared.format.Format.{Format}
+use Rattle.std.proofs.lemmas.Option.{get_or_from_slice_get}
 use Rattle.omx_types.specs.declared.handle.Handle.{Handle}
 use Rattle.omx_types.specs.declared.error.OmxError.{OmxError}
 use Rattle.omx_types.specs.declared.kind.Kind.{Kind}
@@ -10,15 +9,15 @@ use Rattle.omx_types.specs.declared.kind.Kind.TheVariants.{Source, Late, Decoder
 use Rattle.il_machine.specs.declared.port.PortSetting.{PortSetting}
 use Rattle.il_machine.specs.Answers.{Answers, plain}
 use Rattle.il_machine.specs.Due.{ClosesTo}
-use Rattle.il_machine.specs.Files.{Attach, Offered, OfferedFrom, OfferedTo, attach_refusal, attached, file_port_format, is_bad_file, is_for_kind, stream_with, with_file}
+use Rattle.il_machine.specs.Files.{Attach, Offered, attach_refusal, attached, file_port_format, is_bad_file, is_for_kind, stream_with, with_file}
 use Rattle.il_machine.specs.Kinds.{is_input, ports_in}
-use Rattle.il_machine.specs.Settings.{Settings, default_setting, setting_at}
-use Rattle.il_machine.specs.World.{Component, Stream, World, fresh_stream, is_stream_of, number_of, with_component}
+use Rattle.il_machine.specs.Settings.{Settings, default_setting}
+use Rattle.il_machine.specs.World.{Component, Stream, World, fresh_stream, is_stream_of, number_of}
 use Rattle.assembling.specs.Assembly.{Assembly, IsLawful, component_at}
-use Rattle.assembling.specs.Stages.{AreBuilt, HasEnd, IsBuilt, IsBuiltAs, Progress, file_by, setting_by, setting_of, state_by, stream_by}
+use Rattle.assembling.specs.Stages.{AreBuilt, IsBuilt, Progress, file_by, setting_by, setting_of, state_by, stream_by}
 use Rattle.assembling.proofs.Accepted.{file_accepted}
 use Rattle.assembling.proofs.Calm.{built_closes}
-use Rattle.assembling.proofs.Changing.{IsElse, replaced}
+use Rattle.assembling.proofs.Changing.{replaced}
 use Rattle.assembling.proofs.Places.{mapped_at, mapped_set, resolved}
 use Rattle.assembling.proofs.Standing.{answered, held_at, unstarted}
 
@@ -33,7 +32,7 @@ some_port Gain file h = omega arith
 some_port (Mixer n) file h = omega arith
 some_port (Splitter n) file h = omega arith
 
-stream_component : (o : Option Offered) (c : ℕ) → (stream_by o c).component ≡ c
+pub stream_component : (o : Option Offered) (c : ℕ) → (stream_by o c).component ≡ c
 stream_component None c = refl
 stream_component (Some file) c = refl
 
@@ -85,22 +84,22 @@ file_set s L p q handles c b O w v h file result W e f r =
     let bad : is_bad_file a.settings.kind (file_port_format a) file ≡ false = (λ i. is_bad_file (kind i) (format i) file) ∙ F.format Z.side Z.link Z.below Z.end in
     let accepted : attach_refusal a file ≡ None = file_accepted a file U none (ap (λ (z : Kind). is_for_kind z file) kind ∙ F.kind) bad in
     let R = answered (attach_refusal a file) result w v (λ _. ClosesTo (with_file c a file w) v) accepted
-        (resolved plain w h result v (λ j y. Answers (attach_refusal y file) result w v (λ _. ClosesTo (with_file j y file w) v)) c a H.names H.there r) in
+    (resolved plain w h result v (λ j y. Answers (attach_refusal y file) result w v (λ _. ClosesTo (with_file j y file w) v)) c a H.names H.there r) in
     let a' : Component = record a { file = Some (attached file) } in
     let own : file_by s (q.filed c) c ≡ Some file = ap (λ (t : Bool). file_by s t c) O.filed ∙ f in
     let A : AreBuilt s q (set w.components c a') = replaced s p q w.components c a a' W.components H.there
-        (record {
-          number = B.number;
-          fresh_else = ap (λ (y : Component). record y { file = Some (attached file) }) B.fresh_else;
-          settings = B.settings;
-          factors = λ j x d t. B.factors j x d (O.factored c j t);
-          file = sym (ap (λ (y : Option Offered). option_map attached y) own);
-          calm = B.calm;
-        })
-        (λ side l d x.
-        let Y = (W.components).ends side l a d (ap (slice_get w.components) x ∙ H.there) in
-        record { setting = Y.setting ∙ ap (λ (t : Bool). Some (setting_by s t side l)) (sym (O.same_set side l)); state = Y.state ∙ ap (λ (t : Bool). Some (state_by s t side l)) (sym (O.same_joined side l)) })
-        (record { factored = λ d j n t. O.factored d j t; filed = O.others; set = λ side l d n. O.same_set side l; joined = λ side l d n. O.same_joined side l })
+    (record {
+      number = B.number;
+      fresh_else = ap (λ (y : Component). record y { file = Some (attached file) }) B.fresh_else;
+      settings = B.settings;
+      factors = λ j x d t. B.factors j x d (O.factored c j t);
+      file = sym (ap (λ (y : Option Offered). option_map attached y) own);
+      calm = B.calm;
+    })
+    (λ side l d x.
+    let Y = (W.components).ends side l a d (ap (slice_get w.components) x ∙ H.there) in
+    record { setting = Y.setting ∙ ap (λ (t : Bool). Some (setting_by s t side l)) (sym (O.same_set side l)); state = Y.state ∙ ap (λ (t : Bool). Some (state_by s t side l)) (sym (O.same_joined side l)) })
+    (record { factored = λ d j n t. O.factored d j t; filed = O.others; set = λ side l d n. O.same_set side l; joined = λ side l d n. O.same_joined side l })
     in
     let effect : World = with_file c a file w in
     let change : Stream → Stream = streamed (number_of a) file in

@@ -1,26 +1,24 @@
 -- A tunnel is set up.
-use Rattle.std.proofs.Common.{◌≡◌, ◌≢◌, ◌⊎◌, inl, inr, ℕ, ◌<◌, Bool, true, false, not, ◌&&◌, ◌||◌, nat_eq, max, List, [], set, slice_get, Some, None, Option, MatchOption, Result, Ok, refl, sym, ◌∙◌, ap, subst, eq-eqb, ne_eqb, arith}
+use Rattle.std.proofs.Common.{◌≡◌, ◌≢◌, ◌⊎◌, inl, inr, ℕ, ◌<◌, Bool, true, false, not, ◌&&◌, ◌||◌, nat_eq, max, List, set, slice_get, Some, None, MatchOption, Result, Ok, refl, sym, ◌∙◌, ap, subst, eq-eqb, ne_eqb, arith}
 use Rattle.std.proofs.lemmas.Bool.{cases_eq}
 use Rattle.omx_types.specs.declared.handle.Handle.{Handle}
 use Rattle.omx_types.specs.declared.error.OmxError.{OmxError}
 use Rattle.omx_types.specs.declared.param.Supplier.{Supplier}
 use Rattle.omx_types.specs.declared.param.Supplier.TheVariants.{Input, Unspecified}
 use Rattle.il_machine.specs.declared.port.Port.{Port}
-use Rattle.il_machine.specs.declared.port.PortSetting.{PortSetting}
-use Rattle.il_machine.specs.declared.port.PortState.{PortState}
 use Rattle.il_machine.specs.Answers.{Answers, Resolving, plain}
 use Rattle.il_machine.specs.Due.{ClosesTo}
 use Rattle.il_machine.specs.Headers.{seen}
 use Rattle.il_machine.specs.Look.{look}
 use Rattle.il_machine.specs.Tunnels.{BothPorts, SetupTunnel, agreed_of, both_joined, joined_to, setup_refusal, widened}
-use Rattle.il_machine.specs.World.{Component, World, fresh_port, number_of, port_of, with_component}
+use Rattle.il_machine.specs.World.{Component, World, fresh_port, port_of, with_component}
 use Rattle.machine_laws.proofs.Every.{set_else}
 use Rattle.machine_laws.proofs.Keys.{at_there}
 use Rattle.assembling.specs.Assembly.{Assembly, IsLawful, component_at}
 use Rattle.assembling.specs.Stages.{AreBuilt, IsBuilt, Progress, id_at, setting_by, setting_of, state_by}
 use Rattle.assembling.proofs.Accepted.{tunnel_accepted}
 use Rattle.assembling.proofs.Calm.{built_closes}
-use Rattle.assembling.proofs.Changing.{IsOneEnd, end_put, with_end}
+use Rattle.assembling.proofs.Changing.{IsOneEnd, end_put}
 use Rattle.assembling.proofs.Places.{resolved}
 use Rattle.assembling.proofs.Setting.{calm_state}
 use Rattle.assembling.proofs.Standing.{answered, built_with, held_at, port_at_end, unstarted}
@@ -98,7 +96,7 @@ tunnel_set s L p q handles l b O w v h g result W e f r =
     let d : Component = G.component in
     let B = (W.components).each i c H.there in
     let D = (W.components).each j d G.there in
-    let n = (L.links l b).apart in
+    let n = L.apart l b in
     let output = set_there_at s p false l b w.components c W.components H.there (O.set false) (O.unjoined false) in
     let input = set_there_at s p true l b w.components d W.components G.there (O.set true) (O.unjoined true) in
     let numbers : c.handle.generation ≢ d.handle.generation = λ z. n (sym B.number ∙ (z ∙ D.number)) in
@@ -118,13 +116,13 @@ tunnel_set s L p q handles l b O w v h g result W e f r =
     let c' : Component = joined_to (set_port s true l) Input (set_port s false l) c in
     let d' : Component = joined_to (set_port s false l) Input (set_port s true l) d in
     let A = end_put s L p (half p l) false l b (first_half s p q l O) w.components c W.components H.there (widened (set_port s false l) (set_port s true l)) (state_by s true false l)
-        (widened_so s false true l ∙ ap (λ (x : Bool). setting_by s x false l) (sym (O.set false)))
-        (ap (λ (x : Bool). state_by s x false l) (sym (half_here s p q l O))) (calm_state s true false l) in
+    (widened_so s false true l ∙ ap (λ (x : Bool). setting_by s x false l) (sym (O.set false)))
+    (ap (λ (x : Bool). state_by s x false l) (sym (half_here s p q l O))) (calm_state s true false l) in
     let W1 : IsBuilt s (half p l) handles (with_component i c' w) = built_with s p (half p l) handles w i c c' W H.there refl refl (λ x. refl) A in
     let there : slice_get (set w.components i c') j ≡ Some d = set_else w.components i j c' (λ z. n (sym z)) ∙ G.there in
     let A2 = end_put s L (half p l) q true l b (second_half s p q l O) (set w.components i c') d A there (widened (set_port s true l) (set_port s false l)) (state_by s true true l)
-        (widened_so s true false l ∙ ap (λ (x : Bool). setting_by s x true l) (sym (O.same_set true l ∙ O.set true)))
-        (ap (λ (x : Bool). state_by s x true l) (sym (O.joined true))) (calm_state s true true l) in
+    (widened_so s true false l ∙ ap (λ (x : Bool). setting_by s x true l) (sym (O.same_set true l ∙ O.set true)))
+    (ap (λ (x : Bool). state_by s x true l) (sym (O.joined true))) (calm_state s true true l) in
     let effect : World = with_component j d' (with_component i c' w) in
     let W2 : IsBuilt s q handles effect = built_with s (half p l) q handles (with_component i c' w) j d d' W1 there refl O.made O.filed A2 in
     (T.1 ∙ ap (λ (x : Supplier). Ok x) two.0, subst (IsBuilt s q handles) (sym (built_closes s q effect v A2 closes)) W2)

@@ -1,22 +1,19 @@
 -- A component is made.
-use Rattle.std.proofs.Common.{◌≡◌, ◌≢◌, ◌⊎◌, inl, inr, ℕ, zero, suc, ◌+◌, ◌<◌, ◌≤◌, Bool, true, false, not, ◌||◌, nat_eq, nat_le, nat_lt, List, [], ◌∷◌, ◌++◌, length, length-append, map, replicate, slice_get, Some, None, Option, is_none, option_map, MatchOption, Result, Ok, Err, All, refl, sym, ◌∙◌, ap, subst, ltb-true, ne_eqb, arith}
+use Rattle.std.proofs.Common.{◌≡◌, ◌⊎◌, inl, inr, ℕ, zero, suc, ◌+◌, ◌<◌, ◌≤◌, Bool, true, false, nat_eq, nat_le, List, [], ◌∷◌, ◌++◌, length, length-append, replicate, slice_get, Some, None, Option, is_none, option_map, MatchOption, Result, Ok, Err, All, refl, sym, ◌∙◌, ap, subst, ltb-true, ne_eqb, arith}
 use Rattle.std.proofs.lemmas.Bool.{cases_eq, ltb-false, lt-leb}
 use Rattle.std.proofs.lemmas.List.{length-map}
-use Rattle.std.proofs.lemmas.Option.{slice_get_within}
 use Rattle.omx_types.specs.declared.handle.Handle.{Handle}
 use Rattle.omx_types.specs.declared.error.OmxError.{OmxError}
 use Rattle.omx_types.specs.declared.error.CallError.{CallError}
 use Rattle.omx_types.specs.declared.error.CallError.TheVariants.{OutOfMemory}
 use Rattle.omx_types.specs.declared.kind.Kind.{Kind}
 use Rattle.omx_types.specs.declared.kind.Kind.TheVariants.{Source, Late, Decoder, Alaw, Mulaw, Gain, Mixer, Splitter, Sink}
-use Rattle.il_machine.specs.declared.port.PortSetting.{PortSetting}
-use Rattle.il_machine.specs.declared.port.PortState.{PortState}
 use Rattle.il_machine.specs.Answers.{AnswersOrMemory}
 use Rattle.il_machine.specs.Components.{GetHandle, get_handle_refusal, is_bad_name, is_full, is_vacant, with_new_component}
 use Rattle.il_machine.specs.Due.{ClosesTo}
-use Rattle.il_machine.specs.Files.{Offered, attached}
+use Rattle.il_machine.specs.Files.{attached}
 use Rattle.il_machine.specs.Kinds.{inputs_of, outputs_of, is_input, kind_of, ports_in}
-use Rattle.il_machine.specs.Look.{Look, look}
+use Rattle.il_machine.specs.Look.{look}
 use Rattle.il_machine.specs.Ports.{IsCalmPort}
 use Rattle.il_machine.specs.Settings.{IsSized, default_setting, default_settings}
 use Rattle.il_machine.specs.Sound.{Sound}
@@ -147,9 +144,9 @@ component_made s L p q handles b O w v result S W r =
     let m = W.many in
     let k = W.numbered in
     let room : is_full (look w) ≡ false =
-        let x : nat_le 32 (length w.components) ≡ false = lt-leb 32 (length w.components) (omega arith) in
-        let y : nat_eq w.numbered 18446744073709551615 ≡ false = ne_eqb w.numbered 18446744073709551615 (λ z. omega arith) in
-        rw (x, y) refl
+    let x : nat_le 32 (length w.components) ≡ false = lt-leb 32 (length w.components) (omega arith) in
+    let y : nat_eq w.numbered 18446744073709551615 ≡ false = ne_eqb w.numbered 18446744073709551615 (λ z. omega arith) in
+    rw (x, y) refl
     in
     let accepted : get_handle_refusal (look w) (name_of kind) ≡ None = skips _ _ _ N.good (skips _ _ _ (ap (λ (o : Option Kind). is_none o) N.kind_is) (skips _ _ _ room refl)) in
     let R = new_answer (get_handle_refusal (look w) (name_of kind)) result w v (λ h.
@@ -162,7 +159,7 @@ component_made s L p q handles b O w v result S W r =
           let effect : World = with_new_component h kind w in
           let place : p.made ≡ length w.components = sym m in
           let A : AreBuilt s q effect.components =
-              subst (λ (n : ℕ). AreBuilt s q (w.components ++ fresh h (s.kind n) ∷ [])) (sym place) (new_components s L p q O h w.components W.components (x.2.0 ∙ (k ∙ place)))
+          subst (λ (n : ℕ). AreBuilt s q (w.components ++ fresh h (s.kind n) ∷ [])) (sym place) (new_components s L p q O h w.components W.components (x.2.0 ∙ (k ∙ place)))
           in
           let streams : length w.streams ≡ p.made = sym (length-map w.streams (λ (y : Stream). y.component)) ∙ (ap length S.streams ∙ (length-map w.components number_of ∙ m)) in
           let Q : IsBuilt s q (handles ++ h ∷ []) effect = record {

@@ -1,17 +1,17 @@
 -- Lists of an assembly: the component that a handle names, what a list has in place of another element, and the stream of a component.
-use Rattle.std.proofs.Common.{◌≡◌, ◌≢◌, ◌⊎◌, inl, inr, ℕ, zero, suc, ◌+◌, ◌<◌, ◌≤◌, Bool, true, false, nat_eq, List, [], ◌∷◌, ◌++◌, length, map, set, find, replicate, position, slice_get, Option, Some, None, option_map, All, MatchOption, Result, refl, sym, ◌∙◌, ap, subst, eqb-true, eq-eqb, ne_eqb, arith}
+use Rattle.std.proofs.Common.{◌≡◌, ◌⊎◌, inl, inr, ℕ, zero, suc, ◌+◌, ◌<◌, ◌≤◌, Bool, true, false, nat_eq, List, [], ◌∷◌, ◌++◌, length, map, set, find, replicate, slice_get, Option, Some, None, option_map, All, MatchOption, Result, refl, sym, ◌∙◌, ap, subst, eqb-true, eq-eqb, ne_eqb, arith}
 use Rattle.omx_types.specs.declared.handle.Handle.{Handle}
 use Rattle.omx_types.specs.declared.error.OmxError.{OmxError}
 use Rattle.il_machine.specs.Answers.{Resolving}
 use Rattle.il_machine.specs.Places.{first_place}
-use Rattle.il_machine.specs.World.{Component, Stream, World, is_at, is_stream_of, number_of, place_of, same_handle}
+use Rattle.il_machine.specs.World.{Component, Stream, World, is_at, is_stream_of, number_of, place_of}
 use Rattle.il_machine.proofs.Places.{is_first_place}
 use Rattle.machine_laws.proofs.Accepting.{both_of}
-use Rattle.machine_laws.proofs.Every.{at_set, at_place, from_places, set_there, set_else}
+use Rattle.machine_laws.proofs.Every.{at_set, at_place, from_places}
 use Rattle.machine_laws.proofs.Finding.{either}
 use Rattle.machine_laws.proofs.Keys.{at_there}
 use Rattle.assembling.specs.Assembly.{Assembly}
-use Rattle.assembling.specs.Stages.{AreBuilt, IsBuiltAs, Progress}
+use Rattle.assembling.specs.Stages.{AreBuilt, Progress}
 
 module _ {X : Type 0} where
   -- the one that passes is the first that does

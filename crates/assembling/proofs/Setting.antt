@@ -1,28 +1,24 @@
 -- The definition of a port is set.
-use Rattle.std.proofs.Common.{◌≡◌, ◌≢◌, ◌⊎◌, inl, inr, ℕ, ◌+◌, ◌<◌, Bool, true, false, not, ◌&&◌, ◌||◌, nat_eq, nat_lt, List, [], set, slice_get, Some, None, Option, Result, Ok, option_map, refl, sym, ◌∙◌, ap, subst, eq-eqb, ne_eqb, arith}
-use Rattle.std.proofs.lemmas.Bool.{cases_eq, lt-ltb, le-ltb}
+use Rattle.std.proofs.Common.{◌≡◌, ℕ, ◌<◌, Bool, true, false, List, [], set, slice_get, Some, None, Result, Ok, option_map, refl, sym, ◌∙◌, ap, subst}
 use Rattle.std.proofs.lemmas.Option.{get_or_from_slice_get}
 use Rattle.omx_types.specs.declared.handle.Handle.{Handle}
 use Rattle.omx_types.specs.declared.kind.Kind.{Kind}
 use Rattle.omx_types.specs.declared.error.OmxError.{OmxError}
-use Rattle.omx_types.specs.declared.param.Supplier.{Supplier}
 use Rattle.omx_types.specs.declared.param.Supplier.TheVariants.{Unspecified}
-use Rattle.part_api.specs.declared.attached.Attached.{Attached}
-use Rattle.il_machine.specs.declared.port.Port.{Port}
 use Rattle.il_machine.specs.declared.port.PortSetting.{PortSetting}
 use Rattle.il_machine.specs.declared.port.PortState.{PortState}
 use Rattle.il_machine.specs.Answers.{Answers, plain}
 use Rattle.il_machine.specs.Due.{ClosesTo}
 use Rattle.il_machine.specs.Files.{attached}
 use Rattle.il_machine.specs.Headers.{seen}
-use Rattle.il_machine.specs.Kinds.{is_format_of, is_input, ports_in}
+use Rattle.il_machine.specs.Kinds.{is_input, is_port_format, ports_in}
 use Rattle.il_machine.specs.Look.{look}
 use Rattle.il_machine.specs.Parameters.{SetParameter, set_parameter_refusal, unheld_at, with_value}
 use Rattle.il_machine.specs.Ports.{IsCalmPort}
 use Rattle.il_machine.specs.Settings.{Settings, changed_by, default_setting, is_definition_of, setting_at}
-use Rattle.il_machine.specs.World.{Component, World, fresh_port, number_of, with_component}
+use Rattle.il_machine.specs.World.{Component, World, fresh_port, with_component}
 use Rattle.assembling.specs.Assembly.{Assembly, IsLawful, component_at, definition_of, kind_at}
-use Rattle.assembling.specs.Stages.{AreBuilt, IsBuilt, IsBuiltAs, Progress, file_by, port_key, port_value, setting_by, setting_of, state_by}
+use Rattle.assembling.specs.Stages.{IsBuilt, Progress, file_by, port_key, port_value, setting_by, state_by}
 use Rattle.assembling.proofs.Accepted.{port_accepted}
 use Rattle.assembling.proofs.Calm.{built_closes}
 use Rattle.assembling.proofs.Changing.{IsOneEnd, end_put, with_end}
@@ -63,24 +59,24 @@ end_set s L p q handles side l b O w v h result W e r =
     let file : a.file ≡ None = B.file ∙ ap (λ (t : Bool). option_map attached (file_by s t i)) O.free in
     let input : is_input a.settings.kind k ≡ side = ap (λ (z : Kind). is_input z k) kind ∙ G.direction in
     let accepted : set_parameter_refusal (seen []) a (port_key k) (port_value s side l) ≡ None =
-        port_accepted a U k (definition_of s side l) P.port P.there file (ap (λ (y : PortState). y.held) state) (ap (λ (y : PortState). y.link) state)
-            (subst (λ (z : Kind). k < ports_in z) (sym kind) G.port) (ap (λ (z : Bool). is_definition_of z (definition_of s side l)) input ∙ G.definition)
-            ((λ j. is_format_of (kind j) (input j) (s.format l)) ∙ G.format)
+    port_accepted a U k (definition_of s side l) P.port P.there file (ap (λ (y : PortState). y.held) state) (ap (λ (y : PortState). y.link) state)
+    (subst (λ (z : Kind). k < ports_in z) (sym kind) G.port) (ap (λ (z : Bool). is_definition_of z (definition_of s side l)) input ∙ G.definition)
+    ((λ j. is_port_format (kind j) (input j) (s.format l)) ∙ G.format)
     in
     let refusal : set_parameter_refusal (look w).headers a (port_key k) (port_value s side l) ≡ None = ap (λ hs. set_parameter_refusal (seen hs) a (port_key k) (port_value s side l)) W.headers ∙ accepted in
     let R = answered (set_parameter_refusal (look w).headers a (port_key k) (port_value s side l)) result w v (λ _. ClosesTo (with_component i (with_value (port_key k) (port_value s side l) a) w) v) refusal
-        (resolved plain w h result v (λ j c. Answers (set_parameter_refusal (look w).headers c (port_key k) (port_value s side l)) result w v (λ _. ClosesTo (with_component j (with_value (port_key k) (port_value s side l) c) w) v)) i a H.names H.there r) in
+    (resolved plain w h result v (λ j c. Answers (set_parameter_refusal (look w).headers c (port_key k) (port_value s side l)) result w v (λ _. ClosesTo (with_component j (with_value (port_key k) (port_value s side l) c) w) v)) i a H.names H.there r) in
     let old : setting_at a.settings k ≡ setting_by s (p.set side l) side l = get_or_from_slice_get a.settings.ports k _ (default_setting a.settings.kind (is_input a.settings.kind k)) E.setting in
     let new : PortSetting = record (setting_at a.settings k) { definition = definition_of s side l } in
     let after : PortState = record (P.port).state { held = false } in
     let new_so : new ≡ setting_by s (q.set side l) side l =
-        let supplier : new.supplier ≡ Unspecified = ap (λ (y : PortSetting). y.supplier) old ∙ unspecified s (p.set side l) side l in
-        (λ j. record { definition = definition_of s side l; supplier = supplier j }) ∙ ap (λ (t : Bool). setting_by s t side l) (sym O.set)
+    let supplier : new.supplier ≡ Unspecified = ap (λ (y : PortSetting). y.supplier) old ∙ unspecified s (p.set side l) side l in
+    (λ j. record { definition = definition_of s side l; supplier = supplier j }) ∙ ap (λ (t : Bool). setting_by s t side l) (sym O.set)
     in
     let after_so : after ≡ state_by s (q.joined side l) side l = (λ j. record (state j) { held = false }) ∙ ap (λ (t : Bool). state_by s t side l) (sym O.still_unjoined) in
     let changed : with_value (port_key k) (port_value s side l) a ≡ with_end k new after a =
-        ap (λ o. unheld_at o (record a { settings = changed_by k (port_value s side l) a.settings })) P.there
-        ∙ (λ j. record a { settings = record a.settings { ports = set a.settings.ports k new }; ports = set a.ports (P.key j).port after })
+    ap (λ o. unheld_at o (record a { settings = changed_by k (port_value s side l) a.settings })) P.there
+    ∙ (λ j. record a { settings = record a.settings { ports = set a.settings.ports k new }; ports = set a.ports (P.key j).port after })
     in
     let A = end_put s L p q side l b O.one w.components a W.components H.there new after new_so after_so (subst IsCalmPort (sym after_so) (calm_state s (q.joined side l) side l)) in
     let effect : World = with_component i (with_end k new after a) w in

@@ -1,5 +1,5 @@
 -- From stage to stage.
-use Rattle.std.proofs.Common.{◌≡◌, ◌≢◌, ◌⊎◌, inl, inr, ℕ, ◌+◌, ◌<◌, ◌≤◌, Bool, true, false, not, ◌&&◌, ◌||◌, nat_eq, nat_lt, List, [], ◌∷◌, ◌++◌, length, slice_get, Some, None, Option, option_map, Result, Ok, Err, refl, sym, ◌∙◌, ap, subst, eq-eqb, ne_eqb, ltb-true, arith}
+use Rattle.std.proofs.Common.{◌≡◌, ◌≢◌, ◌⊎◌, inl, inr, ℕ, ◌+◌, ◌<◌, Bool, true, false, not, ◌&&◌, ◌||◌, nat_eq, nat_lt, List, [], ◌∷◌, ◌++◌, length, slice_get, Some, None, Option, option_map, Result, Ok, Err, refl, sym, ◌∙◌, ap, subst, eq-eqb, ne_eqb, arith}
 use Rattle.std.proofs.lemmas.Bool.{cases_eq, lt-ltb, le-ltb}
 use Rattle.std.proofs.lemmas.Option.{slice_get_within}
 use Rattle.omx_types.specs.declared.handle.Handle.{Handle}
@@ -15,11 +15,11 @@ use Rattle.il_machine.specs.Files.{Attach, Offered, attached}
 use Rattle.il_machine.specs.Parameters.{SetConfig, SetParameter}
 use Rattle.il_machine.specs.Sound.{Sound}
 use Rattle.il_machine.specs.Tunnels.{SetupTunnel}
-use Rattle.il_machine.specs.World.{Component, World, no_world, place_of}
+use Rattle.il_machine.specs.World.{World, no_world, place_of}
 use Rattle.machine_laws.proofs.Finding.{either}
 use Rattle.machine_laws.proofs.Steps.{sound_none, sound_step}
 use Rattle.assembling.specs.Assembly.{Assembly, IsLawful, component_at}
-use Rattle.assembling.specs.Stages.{Stage, Making, Factoring, Setting, Filing, Joining, Progress, AreBuilt, IsBuilt, IsStage, factor_key, factor_value, file_by, id_at, name_of, port_key, port_value, progress_of, setting_by, state_by, stream_by}
+use Rattle.assembling.specs.Stages.{Stage, Making, Factoring, Setting, Filing, Joining, Progress, IsBuilt, IsStage, factor_key, factor_value, file_by, id_at, name_of, port_key, port_value, progress_of, setting_by, state_by, stream_by}
 use Rattle.assembling.proofs.Factoring.{factor_set}
 use Rattle.assembling.proofs.Filing.{file_set}
 use Rattle.assembling.proofs.Joining.{tunnel_set}
@@ -66,7 +66,7 @@ module _ (s : Assembly) (L : IsLawful s) (handles : List Handle) (w v : World) w
   factors c i factor h result W b e f r =
       let sound : Sound v = sound_step w v (acts.SetConfig h (factor_key (s.kind c) i) (factor_value (s.kind c) factor)) (acts.Plain result) tt r W.sound in
       let R = factor_set s L (progress_of s (Factoring c i)) (progress_of s (Factoring c (i + 1))) handles c i factor b
-          (record { others = other; here = here; filed = λ d. refl; made = refl; set = λ side l. refl; joined = λ side l. refl }) w v h result W.sound W.built e f r in
+      (record { others = other; here = here; filed = λ d. refl; made = refl; set = λ side l. refl; joined = λ side l. refl }) w v h result W.sound W.built e f r in
       (R.0, record { sound = sound; built = R.1 })
     where
       other : (d j : ℕ) → d ≢ c → (nat_lt d c || (nat_eq d c && nat_lt j (i + 1))) ≡ true → (nat_lt d c || (nat_eq d c && nat_lt j i)) ≡ true
@@ -84,7 +84,7 @@ module _ (s : Assembly) (L : IsLawful s) (handles : List Handle) (w v : World) w
   sets_output l h result W b e r =
       let sound : Sound v = sound_step w v (acts.SetParameter h (port_key (s.end false l).port) (port_value s false l)) (acts.Plain result) tt r W.sound in
       let R = end_set s L (progress_of s (Setting l false)) (progress_of s (Setting l true)) handles false l b
-          (record { one = record { factored = λ c j t. t; filed = λ c. refl; set = only; joined = λ other k d. inr refl }; made = refl; free = refl; unjoined = refl; still_unjoined = refl; set = set_now }) w v h result W.built e r in
+      (record { one = record { factored = λ c j t. t; filed = λ c. refl; set = only; joined = λ other k d. inr refl }; made = refl; free = refl; unjoined = refl; still_unjoined = refl; set = set_now }) w v h result W.built e r in
       (R.0, record { sound = sound; built = R.1 })
     where
       set_now : (nat_lt l l || (nat_eq l l && true && true)) ≡ true
@@ -99,7 +99,7 @@ module _ (s : Assembly) (L : IsLawful s) (handles : List Handle) (w v : World) w
   sets_input l h result W b e r =
       let sound : Sound v = sound_step w v (acts.SetParameter h (port_key (s.end true l).port) (port_value s true l)) (acts.Plain result) tt r W.sound in
       let R = end_set s L (progress_of s (Setting l true)) (progress_of s (Setting (l + 1) false)) handles true l b
-          (record { one = record { factored = λ c j t. t; filed = λ c. refl; set = only; joined = λ other k d. inr refl }; made = refl; free = refl; unjoined = refl; still_unjoined = refl; set = set_now }) w v h result W.built e r in
+      (record { one = record { factored = λ c j t. t; filed = λ c. refl; set = only; joined = λ other k d. inr refl }; made = refl; free = refl; unjoined = refl; still_unjoined = refl; set = set_now }) w v h result W.built e r in
       (R.0, record { sound = sound; built = R.1 })
     where
       set_now : (nat_lt l (l + 1) || (nat_eq l (l + 1) && false && false)) ≡ true
@@ -128,7 +128,7 @@ module _ (s : Assembly) (L : IsLawful s) (handles : List Handle) (w v : World) w
   files c h file result W b e f r =
       let sound : Sound v = sound_step w v (acts.Attach h file) (acts.Plain result) tt r W.sound in
       let R = file_set s L (progress_of s (Filing c)) (progress_of s (Filing (c + 1))) handles c b
-          (record { factored = λ d j t. t; made = refl; set = λ side l. refl; same_set = λ side l. refl; same_joined = λ side l. refl; free = le-ltb c c (omega arith); filed = lt-ltb c (c + 1) (omega arith); others = λ d n. next_else d c n }) w v h file result W.built e f r in
+      (record { factored = λ d j t. t; made = refl; set = λ side l. refl; same_set = λ side l. refl; same_joined = λ side l. refl; free = le-ltb c c (omega arith); filed = lt-ltb c (c + 1) (omega arith); others = λ d n. next_else d c n }) w v h file result W.built e f r in
       (R.0, record { sound = sound; built = R.1 })
 
   pub joins : (l : ℕ) (h g : Handle) (result : Result Supplier OmxError) → IsStage s (Joining l) handles w → l < s.links → slice_get handles (component_at s false l) ≡ Some h → slice_get handles (component_at s true l) ≡ Some g
@@ -136,7 +136,7 @@ module _ (s : Assembly) (L : IsLawful s) (handles : List Handle) (w v : World) w
   joins l h g result W b e f r =
       let sound : Sound v = sound_step w v (acts.SetupTunnel (id_at s false l h) (id_at s true l g)) (acts.Joined result) tt r W.sound in
       let R = tunnel_set s L (progress_of s (Joining l)) (progress_of s (Joining (l + 1))) handles l b
-          (record { factored = λ c j t. t; filed = λ c. refl; made = refl; set = λ side. refl; same_set = λ side k. refl; unjoined = λ side. le-ltb l l (omega arith); joined = λ side. lt-ltb l (l + 1) (omega arith); others = λ side k n. next_else k l n }) w v h g result W.built e f r in
+      (record { factored = λ c j t. t; filed = λ c. refl; made = refl; set = λ side. refl; same_set = λ side k. refl; unjoined = λ side. le-ltb l l (omega arith); joined = λ side. lt-ltb l (l + 1) (omega arith); others = λ side k n. next_else k l n }) w v h g result W.built e f r in
       (R.0, record { sound = sound; built = R.1 })
 
 -- ---- on to the next stage, without an act

@@ -1,10 +1,10 @@
 -- The component that a handle names in a world of an assembly, and the world after one component has changed.
-use Rattle.std.proofs.Common.{◌≡◌, ◌≢◌, ◌⊎◌, inl, inr, ℕ, zero, suc, ◌+◌, ◌<◌, ◌≤◌, Bool, true, false, not, ◌&&◌, ◌||◌, nat_eq, nat_lt, List, [], length, length-set, map, set, slice_get, Option, Some, None, option_map, Result, Ok, Err, IsOkAnd, refl, sym, ◌∙◌, ap, subst, ltb-true, ne_eqb, arith}
-use Rattle.std.proofs.lemmas.Bool.{cases_eq, lt-ltb, le-ltb}
+use Rattle.std.proofs.Common.{◌≡◌, ◌≢◌, ◌⊎◌, inl, inr, ℕ, zero, suc, ◌+◌, ◌<◌, ◌≤◌, Bool, nat_lt, List, length-set, set, slice_get, Option, Some, None, Result, Ok, Err, refl, sym, ◌∙◌, ap, subst, arith}
+use Rattle.std.proofs.lemmas.Bool.{lt-ltb, le-ltb}
 use Rattle.omx_types.specs.declared.handle.Handle.{Handle}
 use Rattle.omx_types.specs.declared.error.OmxError.{OmxError}
 use Rattle.il_machine.specs.Answers.{Answers}
-use Rattle.il_machine.specs.World.{Component, Stream, World, number_of, place_of, port_of, with_component}
+use Rattle.il_machine.specs.World.{Component, World, number_of, place_of, port_of, with_component}
 use Rattle.il_machine.specs.declared.port.Port.{Port}
 use Rattle.il_machine.proofs.Joined.{port_there}
 use Rattle.assembling.specs.Assembly.{Assembly, component_at}

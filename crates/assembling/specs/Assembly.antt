@@ -7,7 +7,7 @@ use Rattle.omx_types.specs.declared.kind.Kind.TheVariants.{Gain, Mixer}
 use Rattle.omx_types.specs.declared.param.PortDefinition.{PortDefinition}
 use Rattle.il_machine.specs.declared.port.PortKey.{PortKey}
 use Rattle.il_machine.specs.Files.{Offered, is_bad_file, is_for_kind}
-use Rattle.il_machine.specs.Kinds.{is_auto, is_format_of, is_input, ports_in}
+use Rattle.il_machine.specs.Kinds.{is_auto, is_input, is_port_format, ports_in}
 use Rattle.il_machine.specs.Settings.{IsSized, is_definition_of, is_splitter, same_format, same_rate_and_channels}
 
 pub record Assembly : Type 0 where
@@ -42,24 +42,19 @@ factors_in _ = 0
 
 -- ---- what may be assembled
 
--- its definition is lawful, and a component gives nothing to itself
-pub record IsLawfulLink (s : Assembly) (l : ℕ) : Type 0 where
-  pub known : is_auto (s.format l) ≡ false
-  pub apart : component_at s false l ≢ component_at s true l
-
 pub record IsLawfulEnd (s : Assembly) (side : Bool) (l : ℕ) : Type 0 where
   pub there : component_at s side l < s.components
   pub port : (s.end side l).port < ports_in (kind_at s side l)
   pub direction : is_input (kind_at s side l) (s.end side l).port ≡ side
   pub definition : is_definition_of side (definition_of s side l) ≡ true
-  pub format : is_format_of (kind_at s side l) side (s.format l) ≡ true
+  pub format : is_port_format (kind_at s side l) side (s.format l) ≡ true
 
 -- the file is one for the kind, and suits what is set of its port, which is the first
 pub record IsLawfulFile (s : Assembly) (c : ℕ) (file : Offered) : Type 0 where
   pub kind : is_for_kind (s.kind c) file ≡ true
   pub format : (side : Bool) (l : ℕ) → l < s.links → s.end side l ≡ record { component = c; port = 0 } → is_bad_file (s.kind c) (s.format l) file ≡ false
 
--- the formats of two links of one component fit
+-- the formats of two links of one component fit, where both are known
 pub record AreAlike (s : Assembly) (c k l : ℕ) : Type 0 where
   pub alike : same_rate_and_channels (s.format k) (s.format l) ≡ true
   pub same : is_splitter (s.kind c) ≡ true → same_format (s.format k) (s.format l) ≡ true
@@ -76,9 +71,11 @@ pub record IsLawful (s : Assembly) : Type 0 where
   pub factors : (c : ℕ) → c < s.components → length (s.factors c) ≡ factors_in (s.kind c)
   pub small : (c i factor : ℕ) → c < s.components → slice_get (s.factors c) i ≡ Some factor → factor ≤ 65535
   pub files : (c : ℕ) (file : Offered) → c < s.components → s.file c ≡ Some file → IsLawfulFile s c file
-  pub links : (l : ℕ) → l < s.links → IsLawfulLink s l
+  -- a component gives nothing to itself
+  pub apart : (l : ℕ) → l < s.links → component_at s false l ≢ component_at s true l
   pub ends : (side : Bool) (l : ℕ) → l < s.links → IsLawfulEnd s side l
   -- each port is one end of one link
   pub each : (c port : ℕ) → c < s.components → port < ports_in (s.kind c) → IsEndOf s c port
   pub one : (side other : Bool) (k l : ℕ) → k < s.links → l < s.links → s.end side k ≡ s.end other l → (side ≡ other) × (k ≡ l)
-  pub fit : (side other : Bool) (k l : ℕ) → k < s.links → l < s.links → component_at s side k ≡ component_at s other l → AreAlike s (component_at s side k) k l
+  pub fit : (side other : Bool) (k l : ℕ) → k < s.links → l < s.links → component_at s side k ≡ component_at s other l
+      → is_auto (s.format k) ≡ false → is_auto (s.format l) ≡ false → AreAlike s (component_at s side k) k l

@@ -1,6 +1,6 @@
 -- How far an assembly has come, and the world then. First the components are made, then their factors are set, then the ports, then the
 -- files come, and last the tunnels are set up: each in the order of places or numbers.
-use Rattle.std.specs.Prelude.{◌≡◌, ℕ, ◌+◌, ◌<◌, Bool, true, false, not, ◌&&◌, ◌||◌, nat_eq, nat_lt, if◌then◌else◌, All, List, [], ◌∷◌, ◌++◌, codes, length, map, slice_get, Option, Some, None, option_map, Result, Ok}
+use Rattle.std.specs.Prelude.{◌≡◌, ℕ, ◌+◌, ◌<◌, Bool, true, false, not, ◌&&◌, ◌||◌, nat_eq, nat_lt, if◌then◌else◌, All, List, [], ◌∷◌, ◌++◌, codes, length, map, slice_get, Option, Some, None, option_map}
 use Rattle.omx_types.specs.declared.handle.Handle.{Handle}
 use Rattle.omx_types.specs.declared.handle.PortId.{PortId}
 use Rattle.omx_types.specs.declared.kind.Kind.{Kind}
@@ -10,7 +10,6 @@ use Rattle.omx_types.specs.declared.param.Param.TheVariants as params
 use Rattle.omx_types.specs.declared.param.ParamKey.{ParamKey}
 use Rattle.omx_types.specs.declared.param.Supplier.TheVariants.{Unspecified, Input}
 use Rattle.omx_types.specs.declared.param.Version.{Version}
-use Rattle.part_api.specs.declared.attached.Attached.{Attached}
 use Rattle.il_machine.specs.declared.port.PortSetting.{PortSetting}
 use Rattle.il_machine.specs.declared.port.PortState.{PortState}
 use Rattle.il_machine.specs.Files.{Offered, attached, stream_with}

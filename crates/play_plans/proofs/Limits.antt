@@ -1,5 +1,5 @@
 -- What goes through the links of a plan is lawful, where the heads of its files are.
-use Rattle.std.proofs.Common.{◌≡◌, ◌⊎◌, inl, inr, ℕ, zero, suc, ◌+◌, ◌*◌, ◌<◌, ◌≤◌, Bool, true, false, ◌==◌, cond, List, [], ◌∷◌, length, take, slice_get, sum_by, count_by, Option, Some, None, refl, sym, ◌∙◌, ap, subst, arith}
+use Rattle.std.proofs.Common.{◌≡◌, ◌⊎◌, inl, inr, ℕ, zero, suc, ◌+◌, ◌*◌, ◌<◌, ◌≤◌, Bool, true, cond, List, [], ◌∷◌, length, take, slice_get, sum_by, count_by, Option, Some, refl, sym, ◌∙◌, ap, subst, arith}
 use Rattle.std.proofs.lemmas.Option.{slice_get_within}
 use Rattle.std.proofs.lemmas.List.Sums.{sum_by-cons}
 use Rattle.omx_types.specs.declared.format.Format.{Format}
@@ -17,9 +17,9 @@ use Rattle.wav_form.specs.declared.heads.WavHead.{WavHead}
 use Rattle.machine_laws.proofs.Finding.{either}
 use Rattle.play_forms.specs.declared.flow.Flow.{Flow}
 use Rattle.play_forms.specs.declared.joint.Joint.{Joint}
-use Rattle.play_forms.specs.Fitting.{Fits, format_into}
+use Rattle.play_forms.specs.Fitting.{format_into}
 use Rattle.play_forms.specs.Flows.{AreFlows, flow_at, flow_by, flow_of_head, given_format, most_frames, no_flow}
-use Rattle.play_forms.specs.Parts.{has_output, is_source_part, kind_of, passes_at, source_number}
+use Rattle.play_forms.specs.Parts.{has_output, is_source_part, kind_of, source_number}
 use Rattle.play_forms.specs.Plans.{IsFit, IsValid, PlanValue}
 use Rattle.play_forms.specs.Settling.{into}
 use Rattle.stream_plan.proofs.Flows.{flow_of_other, flow_of_source}
@@ -100,7 +100,7 @@ module _ (plan : PlanValue) (heads : List WavHead) (V : IsValid plan) (F : AreFl
       → flow ≡ flow_by (kind_of part.form) (slice_get heads (source_number plan.parts joint.giver)) (into no_flow plan.joints plan.flows joint.giver)
   given_flow l joint flow part e f g =
       let s : Some flow ≡ Some (flow_by (kind_of part.form) (slice_get heads (source_number plan.parts joint.giver)) (into no_flow plan.joints plan.flows joint.giver)) =
-          sym f ∙ (F.each l joint e ∙ ap (λ (o : Option PartLine). Some (flow_at plan.parts heads o joint.giver (into no_flow plan.joints plan.flows joint.giver))) g)
+      sym f ∙ (F.each l joint e ∙ ap (λ (o : Option PartLine). Some (flow_at plan.parts heads o joint.giver (into no_flow plan.joints plan.flows joint.giver))) g)
       in
       cc
 
@@ -161,7 +161,7 @@ module _ (plan : PlanValue) (heads : List WavHead) (V : IsValid plan) (F : AreFl
       let F0 : Format = (incoming 0).format in
       let same : channels_of (incoming m.0).format ≡ channels_of (given_format kind F0) = ap channels_of (most_in.1 ∙ sym zero_in.1) ∙ sym (same_channels kind F0) in
       let whole : most_frames (inputs_of kind) incoming * channels_of (given_format kind F0) ≤ most_bytes =
-          subst (λ (k : ℕ). most_frames (inputs_of kind) incoming * k ≤ most_bytes) same (subst (λ (k : ℕ). k * channels_of (incoming m.0).format ≤ most_bytes) m.2 most_in.0.samples)
+      subst (λ (k : ℕ). most_frames (inputs_of kind) incoming * k ≤ most_bytes) same (subst (λ (k : ℕ). k * channels_of (incoming m.0).format ≤ most_bytes) m.2 most_in.0.samples)
       in
       subst IsLawfulFlow (sym from) (record { format = given_within kind F0 zero_in.0.format; samples = whole }))
 

@@ -9,33 +9,26 @@ use Rattle.omx_types.specs.declared.kind.Kind.{Kind}
 use Rattle.omx_types.specs.declared.kind.Kind.TheVariants as kinds
 use Rattle.omx_types.specs.Formats.{frame_bytes_of}
 use Rattle.part_forms.specs.Kinds.{IsSized, inputs_of, outputs_of, ports_in, is_source}
-use Rattle.il_machine.specs.declared.port.PortKey.{PortKey}
 use Rattle.il_machine.specs.Kinds.{is_sink}
 use Rattle.script_lang.specs.declared.play_line.PartLine.{PartLine}
-use Rattle.wav_form.specs.declared.heads.WavHead.{WavHead}
 use Rattle.machine_laws.proofs.Every.{all_pass, none_passes}
 use Rattle.machine_laws.proofs.Finding.{either}
 use Rattle.machine_laws.proofs.Accepting.{both_of, is_not}
-use Rattle.flow_model.specs.Network.{IsInput, IsNetwork, IsOutput}
 use Rattle.flow_model.specs.Progress.{sum_to}
 use Rattle.play_forms.specs.declared.flow.Flow.{Flow}
 use Rattle.play_forms.specs.declared.joint.Joint.{Joint}
 use Rattle.play_forms.specs.Fitting.{Fits, format_into}
-use Rattle.play_forms.specs.Flows.{AreFlows, AreFrames, flow_at, most_frames, no_flow}
+use Rattle.play_forms.specs.Flows.{most_frames, no_flow}
 use Rattle.play_forms.specs.Joints.{AllJoin, headers_of, is_joint, names_port, shares_port}
 use Rattle.play_forms.specs.Parts.{kind_of, has_input, has_output, passes_at}
 use Rattle.play_forms.specs.Placing.{IsOrder, has_place, is_fed}
 use Rattle.play_forms.specs.Plans.{PlanValue, IsFit, IsValid}
 use Rattle.play_forms.specs.Settling.{into}
-use Rattle.stream_plan.proofs.Flows.{flow_of_other}
 use Rattle.stream_plan.proofs.Lefts.{new_place}
 use Rattle.stream_plan.proofs.Lists.{slice_get_front, slice_get_take}
-use Rattle.play_worlds.specs.Cast.{Cast, IsCast, components_of, links_of, script_place, giver_of, taker_of}
-use Rattle.play_worlds.proofs.Lists.{get_there}
 use Rattle.play_worlds.proofs.Numbers.{some_passes}
 use Rattle.play_worlds.proofs.Told.{any_there}
 use Rattle.play_plans.proofs.Turns.{few_turns}
-use Rattle.play_plans.specs.Casting.{IsPartCast, IsLinkCast, IsCastOf, IsInLimits}
 
 -- ---- kinds
 

@@ -1,13 +1,12 @@
 -- A script that is read has its numbers in their limits, and so has its plan.
-use Rattle.std.proofs.Common.{◌≡◌, ◌⊎◌, inl, inr, ℕ, ◌+◌, List, [], ◌∷◌, ◌++◌, codes, length, slice_get, Option, Some, None, Result, Ok, Err, refl, sym, ◌∙◌, ap, subst, arith}
+use Rattle.std.proofs.Common.{◌≡◌, inl, inr, ℕ, ◌+◌, List, [], ◌∷◌, codes, slice_get, Some, Ok, Err, sym, ◌∙◌, ap, subst, arith}
 use Rattle.std.proofs.lemmas.List.{length-map}
 use Rattle.std.proofs.lemmas.Option.{slice_get_within}
-use Rattle.omx_types.specs.declared.fault.ScriptWhy.{ScriptWhy}
 use Rattle.omx_types.specs.declared.fault.ScriptWhy.TheVariants as whys
 use Rattle.line_text.specs.Lines.{lines_of}
 use Rattle.script_lang.specs.LineByLine.{Begin, ComeTo, fault_at}
 use Rattle.script_lang.specs.PlayForms.{IsPartForm, IsPlayForm}
-use Rattle.script_lang.specs.PlayScripts.{IsPlayFormOf, IsPlayScript, PlayBefore, PlayComes, PlayReadsAs, PlaySays, no_play, play_after, play_of, with_form}
+use Rattle.script_lang.specs.PlayScripts.{IsPlayScript, PlayBefore, PlayComes, PlayReadsAs, PlaySays, no_play, play_after, with_form}
 use Rattle.script_lang.specs.declared.play_form.PlayForm.{PlayForm}
 use Rattle.script_lang.specs.declared.play_form.PlayForm.TheVariants.{Part, Link}
 use Rattle.script_lang.specs.declared.play_line.LinkLine.{LinkLine}
@@ -15,8 +14,6 @@ use Rattle.script_lang.specs.declared.play_line.PartLine.{PartLine}
 use Rattle.script_lang.specs.declared.play_saying.PlaySaid.{PlaySaid}
 use Rattle.script_lang.specs.declared.play_saying.PlaySaid.TheVariants.{Nothing, Units, Form, Fault}
 use Rattle.script_lang.specs.declared.script.Script.{Script}
-use Rattle.script_lang.specs.declared.script.Script.TheVariants.{Play, Trace}
-use Rattle.script_lang.specs.declared.script.ScriptFault.{ScriptFault}
 use Rattle.wav_form.specs.declared.heads.WavHead.{WavHead}
 use Rattle.machine_laws.proofs.Every.{at_push}
 use Rattle.play_forms.specs.declared.joint.Joint.{Joint}
