@@ -263,9 +263,9 @@ module _ (plan : PlanValue) (files : PlayFiles) (R : IsReady plan files) where
       let rate : rate_of (flow_of plan k).format ≡ rate_of (flow_of plan l).format = A.rate ∙ (ap rate_of own ∙ sym B.rate) in
       let channels : channels_of (flow_of plan k).format ≡ channels_of (flow_of plan l).format = A.channels ∙ (ap channels_of own ∙ sym B.channels) in
       let alike : same_rate_and_channels (flow_of plan k).format (flow_of plan l).format ≡ true =
-          let x : nat_eq (rate_of (flow_of plan k).format) (rate_of (flow_of plan l).format) ≡ true = eq-eqb _ _ rate in
-          let y : nat_eq (channels_of (flow_of plan k).format) (channels_of (flow_of plan l).format) ≡ true = eq-eqb _ _ channels in
-          rw (x, y) refl
+      let x : nat_eq (rate_of (flow_of plan k).format) (rate_of (flow_of plan l).format) ≡ true = eq-eqb _ _ rate in
+      let y : nat_eq (channels_of (flow_of plan k).format) (channels_of (flow_of plan l).format) ≡ true = eq-eqb _ _ channels in
+      rw (x, y) refl
       in
       record {
         alike = (λ i. same_rate_and_channels (f i) (g i)) ∙ alike;
@@ -311,13 +311,13 @@ module _ (plan : PlanValue) (files : PlayFiles) (R : IsReady plan files) where
         let given : (f.0).format ≡ format_into plan.joints plan.flows (joint_of plan l).giver 0 = first ∙ ap (λ (q : ℕ). format_into plan.joints plan.flows q 0) r.3 in
         let taken : is_input_format kind (format_into plan.joints plan.flows (joint_of plan l).giver 0) ≡ true = (λ i. is_input_format (kind_of (sym p i).form) (sym given i)) ∙ (F.2).taken in
         let sink : is_sink kind ≡ false = either (is_sink kind)
-            (λ t.
-            let none = no_output kind t in
-            let low = direction false in
-            let a = port_below false in
-            let b = leb-true (inputs_of kind) (joint_of plan l).output (both_of (nat_le (inputs_of kind) (joint_of plan l).output) _ K.has_out).0 in
-            absurd (omega arith))
-            (λ t. t)
+        (λ t.
+        let none = no_output kind t in
+        let low = direction false in
+        let a = port_below false in
+        let b = leb-true (inputs_of kind) (joint_of plan l).output (both_of (nat_le (inputs_of kind) (joint_of plan l).output) _ K.has_out).0 in
+        absurd (omega arith))
+        (λ t. t)
         in
         let gives : (flow_of plan l).format ≡ given_format kind (format_into plan.joints plan.flows (joint_of plan l).giver 0) = ap (λ (y : Flow). y.format) (flow_given l K) ∙ other_format (joint_of plan l).giver (K.part false) h in
         ap (is_output_format kind) gives ∙ given_output kind (format_into plan.joints plan.flows (joint_of plan l).giver 0) h sink taken)
@@ -441,8 +441,8 @@ module _ (plan : PlanValue) (files : PlayFiles) (R : IsReady plan files) (place 
             let kind_is : kind_of (K.part false).form ≡ kinds.Source = ap (λ (y : PartLine). kind_of y.form) p ∙ k in
             let late : is_late_link plan l ≡ false = late_is plan files R l K ∙ ap is_late kind_is in
             let given : flow_of plan l ≡ flow_of_head (Some head) =
-                flow_given plan files R l K ∙ (flow_of_source (kind_of (K.part false).form) _ (into no_flow plan.joints plan.flows (joint_of plan l).giver) (ap is_source kind_is)
-                ∙ (ap (λ (n : ℕ). flow_of_head (slice_get files.heads (source_number plan.parts n))) there ∙ ap flow_of_head H.1))
+            flow_given plan files R l K ∙ (flow_of_source (kind_of (K.part false).form) _ (into no_flow plan.joints plan.flows (joint_of plan l).giver) (ap is_source kind_is)
+            ∙ (ap (λ (n : ℕ). flow_of_head (slice_get files.heads (source_number plan.parts n))) there ∙ ap flow_of_head H.1))
             in
             let port : opening_format (is_late_link plan l) (flow_of plan l).format ≡ head.format = ap (λ (t : Bool). opening_format t (flow_of plan l).format) late ∙ ap (λ (y : Flow). y.format) given in
             ap (is_bad_file kinds.Source (opening_format (is_late_link plan l) (flow_of plan l).format)) (sym is) ∙ source_good (opening_format (is_late_link plan l) (flow_of plan l).format) head (files.there place) (files.known place) port H.2 bytes;
@@ -475,7 +475,7 @@ module _ (plan : PlanValue) (files : PlayFiles) (R : IsReady plan files) (place 
             let comes = incoming_is plan R.valid l (joint_of plan l) (flow_of plan l) K.there_joint K.there_flow in
             let first : into no_flow plan.joints plan.flows place 0 ≡ flow_of plan l = (λ i. into no_flow plan.joints plan.flows (sym end_is i).component (sym end_is i).port) ∙ comes in
             let own : frames ≡ max 0 (into no_flow plan.joints plan.flows place 0).frames =
-                planned ∙ ap (λ (y : Kind). (flow_by y (slice_get files.heads (source_number plan.parts place)) (into no_flow plan.joints plan.flows place)).frames) k
+            planned ∙ ap (λ (y : Kind). (flow_by y (slice_get files.heads (source_number plan.parts place)) (into no_flow plan.joints plan.flows place)).frames) k
             in
             let same : (into no_flow plan.joints plan.flows place 0).frames ≡ (flow_of plan l).frames = ap (λ (y : Flow). y.frames) first in
             let e2 : frames ≡ (flow_of plan l).frames = omega arith in

@@ -59,8 +59,8 @@ fitting kind [] h = refl
 fitting kind (first ∷ rest) h =
     let rates : list_all (λ format. same_rate_and_channels format first) rest ≡ true = all_true (λ format. same_rate_and_channels format first) rest (λ k f e. (h (suc k) 0 f first e refl).0) in
     let split : (not (is_splitter kind) || list_all (λ format. same_format format first) rest) ≡ true = either (is_splitter kind)
-        (λ t. let s = all_true (λ format. same_format format first) rest (λ k f e. (h (suc k) 0 f first e refl).1 t) in rw (t, s) refl)
-        (λ t. rw t refl)
+    (λ t. let s = all_true (λ format. same_format format first) rest (λ k f e. (h (suc k) 0 f first e refl).1 t) in rw (t, s) refl)
+    (λ t. rw t refl)
     in
     rw (rates, split) refl
 
@@ -209,26 +209,27 @@ module _ (plan : PlanValue) (files : PlayFiles) (handles : List Handle) (w : Wor
       let I = (parts_of w (G.stage).sound).components place a e in
       let kind : a.settings.kind ≡ kind_in (slice_get plan.parts place) = ap (λ (y : Settings). y.kind) B.settings in
       let one : (k : ℕ) (f : Format) → slice_get (formats_of a.settings.ports) k ≡ Some f → IsFormatAt plan files place f = λ k f g.
-          let r = from_mapped (λ (p : PortSetting). p.definition.format) a.settings.ports k f g in
-          let ports = (I.whole).ports in
-          let below = slice_get_within a.settings.ports k r.0 r.1 in
-          let low : k < ports_in (kind_in (slice_get plan.parts place)) = subst (λ (y : Kind). k < ports_in y) kind (omega arith) in
-          let Z = L.each place k (omega arith) low in
-          let there : slice_get w.components (component_at s Z.side Z.link) ≡ Some a = ap (slice_get w.components) (ap (λ y. y.component) Z.end) ∙ e in
-          let E = built.ends Z.side Z.link a Z.below there in
-          let same : Some r.0 ≡ Some (setting_of s Z.side Z.link) = sym r.1 ∙ (ap (slice_get a.settings.ports) (sym (ap (λ y. y.port) Z.end)) ∙ E.setting) in
-          let is : r.0 ≡ setting_of s Z.side Z.link = cc in
-          record { side = Z.side; link = Z.link; below = Z.below; at = ap (λ y. y.component) Z.end; format = sym r.2 ∙ ap (λ (y : PortSetting). y.definition.format) is }
+      let r = from_mapped (λ (p : PortSetting). p.definition.format) a.settings.ports k f g in
+      let ports = (I.whole).ports in
+      let below = slice_get_within a.settings.ports k r.0 r.1 in
+      let low : k < ports_in (kind_in (slice_get plan.parts place)) = subst (λ (y : Kind). k < ports_in y) kind (omega arith) in
+      let Z = L.each place k (omega arith) low in
+      let there : slice_get w.components (component_at s Z.side Z.link) ≡ Some a = ap (slice_get w.components) (ap (λ y. y.component) Z.end) ∙ e in
+      let E = built.ends Z.side Z.link a Z.below there in
+      let same : Some r.0 ≡ Some (setting_of s Z.side Z.link) = sym r.1 ∙ (ap (slice_get a.settings.ports) (sym (ap (λ y. y.port) Z.end)) ∙ E.setting) in
+      let is : r.0 ≡ setting_of s Z.side Z.link = cc in
+      record { side = Z.side; link = Z.link; below = Z.below; at = ap (λ y. y.component) Z.end; format = sym r.2 ∙ ap (λ (y : PortSetting). y.definition.format) is }
       in
       let known : list_all is_known (formats_of a.settings.ports) ≡ true = all_true is_known (formats_of a.settings.ports) (λ k f g. let F = one k f g in ap is_known F.format ∙ ap not (known_so F.link F.below)) in
       let pairs : are_fitting a.settings.kind (formats_of a.settings.ports) ≡ true = fitting a.settings.kind (formats_of a.settings.ports) (λ i j f g x y.
-          let F = one i f x in
-          let H = one j g y in
-          let A = L.fit F.side H.side F.link H.link F.below H.below (F.at ∙ sym H.at) (known_so F.link F.below) (known_so H.link H.below) in
-          ((λ t. same_rate_and_channels (F.format t) (H.format t)) ∙ A.alike,
-          λ h.
-          let splitter : is_splitter (kind_in (slice_get plan.parts (component_at s F.side F.link))) ≡ true = ap (λ (n : ℕ). is_splitter (kind_in (slice_get plan.parts n))) F.at ∙ (ap is_splitter (sym kind) ∙ h) in
-          (λ t. same_format (F.format t) (H.format t)) ∙ A.same splitter))
+      let F = one i f x in
+      let H = one j g y in
+      let A = L.fit F.side H.side F.link H.link F.below H.below (F.at ∙ sym H.at) (known_so F.link F.below) (known_so H.link H.below) in (
+        (λ t. same_rate_and_channels (F.format t) (H.format t)) ∙ A.alike,
+        λ h.
+            let splitter : is_splitter (kind_in (slice_get plan.parts (component_at s F.side F.link))) ≡ true = ap (λ (n : ℕ). is_splitter (kind_in (slice_get plan.parts n))) F.at ∙ (ap is_splitter (sym kind) ∙ h) in
+            (λ t. same_format (F.format t) (H.format t)) ∙ A.same splitter,
+      ))
       in
       ap (are_fitting a.settings.kind) (all_known (formats_of a.settings.ports) known) ∙ pairs
 
@@ -241,11 +242,11 @@ module _ (plan : PlanValue) (files : PlayFiles) (handles : List Handle) (w : Wor
       let H = head_there plan files.heads R.valid R.flows R.fit R.scripted R.heads_are place part e h in
       let head : WavHead = H.0 in
       let own : file_at plan files place ≡ file_of kind (Some head) (slice_index_or plan.frames place 0) (files.there place) (files.known place) =
-          λ i. file_of (kind_in (e i)) (H.1 i) (slice_index_or plan.frames place 0) (files.there place) (files.known place)
+      λ i. file_of (kind_in (e i)) (H.1 i) (slice_index_or plan.frames place 0) (files.there place) (files.known place)
       in
       let frames : slice_index_or plan.frames place 0 ≡ head.frames =
-          get_or_from_slice_get plan.frames place _ 0 ((R.frames).each place part e)
-          ∙ (ap (λ y. y.frames) (flow_of_source kind (slice_get files.heads (source_number plan.parts place)) (into no_flow plan.joints plan.flows place) h) ∙ ap (λ (o : Option WavHead). (flow_of_head o).frames) H.1)
+      get_or_from_slice_get plan.frames place _ 0 ((R.frames).each place part e)
+      ∙ (ap (λ y. y.frames) (flow_of_source kind (slice_get files.heads (source_number plan.parts place)) (into no_flow plan.joints plan.flows place) h) ∙ ap (λ (o : Option WavHead). (flow_of_head o).frames) H.1)
       in
       ap frames_of B.file ∙ (ap (λ (o : Option Offered). frames_of (option_map attached o)) own ∙ (source_frames kind head _ _ _ h ∙ sym frames))
 
@@ -259,13 +260,13 @@ module _ (plan : PlanValue) (files : PlayFiles) (handles : List Handle) (w : Wor
       let many : length w.streams ≡ length plan.parts = sym (length-map w.streams (λ (y : Stream). y.component)) ∙ (ap length S.streams ∙ (length-map w.components number_of ∙ m)) in
       let number = (built.each place a e).number in
       let found = stream_found w.streams 0 place (λ k st f.
-          let l = slice_get_within w.streams k st f in
-          let z : Some st ≡ Some (stream_by (file_by s true k) k) = sym f ∙ V.streams k (omega arith) in
-          let is : st ≡ stream_by (file_by s true k) k = cc in
-          ap (λ (y : Stream). y.component) is ∙ (stream_component (file_by s true k) k ∙ (let o : k ≡ 0 + k = omega arith in o)))
+      let l = slice_get_within w.streams k st f in
+      let z : Some st ≡ Some (stream_by (file_by s true k) k) = sym f ∙ V.streams k (omega arith) in
+      let is : st ≡ stream_by (file_by s true k) k = cc in
+      ap (λ (y : Stream). y.component) is ∙ (stream_component (file_by s true k) k ∙ (let o : k ≡ 0 + k = omega arith in o)))
       in
       let there : stream_of (number_of a) w ≡ Some (stream_by (file_by s true place) place) =
-          ap (λ (n : ℕ). stream_of n w) (number ∙ (let o : place ≡ 0 + place = omega arith in o)) ∙ (found ∙ V.streams place (omega arith))
+      ap (λ (n : ℕ). stream_of n w) (number ∙ (let o : place ≡ 0 + place = omega arith in o)) ∙ (found ∙ V.streams place (omega arith))
       in
       is_there (stream_of (number_of a) w) (λ y. y.frames ≡ 0) (stream_by (file_by s true place) place) there (no_frames_yet (file_by s true place) place)
 
@@ -292,8 +293,8 @@ module _ (plan : PlanValue) (files : PlayFiles) (handles : List Handle) (w : Wor
   units_so =
       let V = (G.stage).built in
       let e = units_same w.components plan.parts V.many (λ i a part f g.
-          let kind : a.settings.kind ≡ kind_in (slice_get plan.parts i) = ap (λ (y : Settings). y.kind) (built.each i a f).settings in
-          ap units_of (kind ∙ ap kind_in g))
+      let kind : a.settings.kind ≡ kind_in (slice_get plan.parts i) = ap (λ (y : Settings). y.kind) (built.each i a f).settings in
+      ap units_of (kind ∙ ap kind_in g))
       in
       let n = ((G.ready).valid).enough in
       let u = V.units in
