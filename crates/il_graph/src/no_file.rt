@@ -32,7 +32,7 @@ impl<T> Source for EmptyFile<T> {
 
     ghost size = { λ file. 0 };
 
-    ghost place = { λ file. 0 };
+    ghost offset = { λ file. 0 };
 
     ghost asked = { λ file. None };
 
@@ -42,7 +42,7 @@ impl<T> Source for EmptyFile<T> {
         0
     }
 
-    fn place(&self) -> u64 {
+    fn offset(&self) -> u64 {
         0
     }
 
