@@ -1,12 +1,11 @@
 -- An announcement comes back, in each world that a graph stands for.
-use Rattle.std.proofs.Common.{◌≡◌, ◌≢◌, inl, inr, ℕ, ◌≤◌, Bool, true, false, List, [], ◌∷◌, map, set, slice_get, MatchOption, IsSomeAnd, Option, Some, None, option_map, if◌then◌else◌, refl, sym, ◌∙◌, ap, subst, length-set}
+use Rattle.std.proofs.Common.{◌≡◌, ◌≢◌, inl, inr, ℕ, ◌≤◌, Bool, true, List, [], map, set, slice_get, MatchOption, IsSomeAnd, Option, Some, None, option_map, if◌then◌else◌, refl, sym, ◌∙◌, ap, subst, length-set}
 use Rattle.std.specs.Prelude.{IsSome}
 use Rattle.std.proofs.lemmas.Bool.Decides.{eqb_tells}
 use Rattle.std.proofs.lemmas.Option.{slice_get-map}
 use Rattle.omx_types.specs.declared.command.Event.TheVariants.{PortSettingsChanged}
 use Rattle.il_machine.specs.declared.answer.Progress.{Progress}
 use Rattle.il_machine.specs.declared.port.Port.{Port}
-use Rattle.il_machine.specs.declared.port.PortState.{PortState}
 use Rattle.il_machine.specs.Components.{progress_of}
 use Rattle.il_machine.specs.Finishing.{announced, announced_at, finished, finished_by, with_landed}
 use Rattle.il_machine.specs.Look.{Look}
@@ -15,7 +14,7 @@ use Rattle.il_machine.specs.Settings.{same_format}
 use Rattle.il_machine.specs.Sound.{Sound}
 use Rattle.il_machine.specs.Stepping.{WorkDone, IsDoneBy, IsDoneOf}
 use Rattle.il_machine.specs.Whole.{HasProgress, Kept}
-use Rattle.il_machine.specs.World.{Component, Stream, Work, World, changed_at as world_changed, number_of, port_of, stream_of, with_component}
+use Rattle.il_machine.specs.World.{Component, Work, World, changed_at as world_changed, number_of, port_of, stream_of, with_component}
 use Rattle.machine_laws.proofs.Arriving.{change_let_go, state_there}
 use Rattle.machine_laws.proofs.Change.{IsChange}
 use Rattle.machine_laws.proofs.Finding.{either}

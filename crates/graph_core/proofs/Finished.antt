@@ -4,21 +4,20 @@ use Rattle.std.proofs.lemmas.Bool.Decides.{eqb_tells}
 use Rattle.std.proofs.lemmas.Option.{slice_get-map}
 use Rattle.std.proofs.lemmas.List.Elements.{All-append}
 use Rattle.il_machine.specs.declared.answer.Progress.{Progress}
-use Rattle.il_machine.specs.declared.header.HeaderState.{HeaderState}
 use Rattle.il_machine.specs.declared.header.Queue.TheVariants.{Out}
 use Rattle.il_machine.specs.Census.{note_numbers, times}
 use Rattle.il_machine.specs.Claims.{CarriedHeader}
 use Rattle.il_machine.specs.Components.{progress_of}
 use Rattle.il_machine.specs.Finishing.{all_landed as machine_landed, announced, finished, finished_by, gone_through, notes_after, stepped_back, with_landed}
-use Rattle.il_machine.specs.Headers.{Seen, seen, find_header, is_notice, state_of, weight}
+use Rattle.il_machine.specs.Headers.{seen, find_header, is_notice, state_of, weight}
 use Rattle.il_machine.specs.Kinds.{ports_in}
 use Rattle.il_machine.specs.Look.{Look, look}
 use Rattle.il_machine.specs.Parts.{terms_of}
 use Rattle.il_machine.specs.Buffers.{held}
-use Rattle.il_machine.specs.Sound.{IsPickedFor, IsSound, Sound}
+use Rattle.il_machine.specs.Sound.{IsPickedFor, Sound}
 use Rattle.il_machine.specs.Stepping.{WorkDone, IsDoneBy, IsDoneOf}
 use Rattle.il_machine.specs.Stock.{Stocked, StandsFor}
-use Rattle.il_machine.specs.Whole.{HasProgress, IsNoticed, Kept, Noticed}
+use Rattle.il_machine.specs.Whole.{HasProgress, IsNoticed, Noticed}
 use Rattle.il_machine.specs.World.{Component, HeaderRecord, Picked, Stream, Work, World, changed_at as world_changed, number_of, stream_of, with_component}
 use Rattle.machine_laws.proofs.Every.{at_place}
 use Rattle.machine_laws.proofs.Facts.{notes_fit}
@@ -41,7 +40,7 @@ use Rattle.il_component.specs.Entries.{Entry, component_of, held_in}
 use Rattle.port_stock.specs.Conditions.{IsHeaderOf, IsOutside, IsPort}
 use Rattle.port_stock.specs.Kept.{StockKept, kept_load, stocked}
 use Rattle.work_landing.specs.declared.step.Step.{Step}
-use Rattle.work_landing.specs.Landed.{AreHomeless, AreUnkept, AreWithin, IsLeft, all_landed, all_notices, done_by}
+use Rattle.work_landing.specs.Landed.{AreHomeless, AreWithin, IsLeft, all_landed, all_notices, done_by}
 use Rattle.work_landing.specs.Places.{AreApart, EachFrom, carried_from}
 use Rattle.work_landing.proofs.Standing.{landed_stays, stands_landed}
 use Rattle.graph_core.specs.Entries.{Entries, changed_at, component_at, components_of, held_by, kept, look_of, noticed_in, progress_at}

@@ -1,8 +1,7 @@
 -- What the headers of a work are in a flat list, once they landed.
-use Rattle.std.proofs.Common.{◌≡◌, ◌≢◌, ℕ, ◌+◌, true, List, [], ◌∷◌, ◌++◌, Option, Some, None, MatchOption, All, refl, sym, ◌∙◌, ap, subst}
+use Rattle.std.proofs.Common.{◌≡◌, ℕ, ◌+◌, true, List, [], ◌∷◌, Option, Some, None, MatchOption, All, refl, sym, ◌∙◌, ap}
 use Rattle.std.proofs.lemmas.Bool.{eqb-false}
 use Rattle.std.proofs.lemmas.List.Elements.{All-append, All-nil, All-cons}
-use Rattle.il_machine.specs.declared.header.HeaderState.{HeaderState}
 use Rattle.il_machine.specs.declared.header.Owner.TheVariants as owners
 use Rattle.il_machine.specs.declared.header.Spot.TheVariants.{TodoFront, DoneBack}
 use Rattle.il_machine.specs.World.{Component, HeaderRecord, Load, Stream, number_of}

@@ -1,5 +1,5 @@
 -- Headers that go out with a work are in it.
-use Rattle.std.proofs.Common.{◌≡◌, ◌≢◌, ℕ, ◌+◌, Bool, true, false, ◌&&◌, nat_eq, List, [], ◌∷◌, Option, Some, None, MatchOption, option_map, slice_get, if◌then◌else◌, refl, sym, ◌∙◌, ap, subst, ne_eqb, eq-eqb}
+use Rattle.std.proofs.Common.{◌≡◌, ◌≢◌, ℕ, ◌+◌, Bool, true, false, nat_eq, List, [], ◌∷◌, Option, Some, None, MatchOption, option_map, slice_get, refl, sym, ◌∙◌, subst, ne_eqb, eq-eqb}
 use Rattle.il_machine.specs.declared.port.PortKey.{PortKey}
 use Rattle.il_machine.specs.declared.header.HeaderState.{HeaderState}
 use Rattle.il_machine.specs.declared.header.Owner.TheVariants as owners
@@ -7,7 +7,7 @@ use Rattle.il_machine.specs.declared.header.Queue.TheVariants.{Out}
 use Rattle.il_machine.specs.Lists.{holds_at}
 use Rattle.il_machine.specs.Headers.{Seen, in_todo, state_given}
 use Rattle.il_machine.specs.Look.{Look}
-use Rattle.il_machine.specs.Stock.{Stocked, header_given, todo_pulled, todo_front_pulled}
+use Rattle.il_machine.specs.Stock.{Stocked, todo_pulled, todo_front_pulled}
 use Rattle.header_core.specs.BufferHeader.{BufferHeader}
 use Rattle.port_stock.specs.Conditions.{IsHeaderOf, IsOutside}
 use Rattle.graph_core.specs.Claiming.{AreFree, AreFronts, AreLent, IsFront, IsFrontWhere, all_out, front_given, goes_out, key_at, out_where}

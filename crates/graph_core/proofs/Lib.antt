@@ -41,3 +41,6 @@ pub mod Returned
 pub mod Finished
 pub mod Announced
 pub mod Unmaking
+pub mod Marking
+pub mod Calming
+pub mod Asking

@@ -1,11 +1,9 @@
 -- A component's work comes back in a world: what is known of its headers there.
-use Rattle.std.proofs.Common.{◌≡◌, inl, inr, ℕ, zero, suc, ◌+◌, ◌*◌, ◌≤◌, ◌<◌, Bool, true, false, nat_eq, List, [], ◌∷◌, length, map, slice_get, Option, Some, None, MatchOption, IsSomeAnd, All, refl, sym, ◌∙◌, ap, subst, ne_eqb, eqb-true, arith, option_map}
+use Rattle.std.proofs.Common.{◌≡◌, inl, inr, ℕ, suc, ◌+◌, ◌≤◌, ◌<◌, true, List, [], ◌∷◌, map, slice_get, Option, Some, None, MatchOption, refl, sym, ◌∙◌, ap, subst, ne_eqb, arith, option_map}
 use Rattle.std.proofs.lemmas.Bool.{cases_eq}
-use Rattle.il_machine.specs.declared.port.PortKey.{PortKey}
 use Rattle.il_machine.specs.declared.header.HeaderState.{HeaderState}
 use Rattle.il_machine.specs.declared.header.Owner.{Owner}
 use Rattle.il_machine.specs.declared.header.Owner.TheVariants as owners
-use Rattle.il_machine.specs.declared.header.Queue.TheVariants.{Out}
 use Rattle.il_machine.specs.Lists.{holds_at}
 use Rattle.il_machine.specs.World.{HeaderRecord, Picked}
 use Rattle.il_machine.specs.Headers.{Seen, seen, find_header, is_for, is_notice, is_work_of, state_of, weight}
@@ -16,8 +14,8 @@ use Rattle.machine_laws.proofs.Headers.{work_is}
 use Rattle.machine_laws.proofs.Landing.{AreMade, AreOf}
 use Rattle.machine_laws.proofs.Listed.{times_cons, times_self, weighs_one}
 use Rattle.machine_laws.proofs.Works.{worked_at}
-use Rattle.header_core.specs.BufferHeader.{BufferHeader, is_clients}
-use Rattle.port_stock.specs.Conditions.{IsHeaderOf, IsOutside, IsPort}
+use Rattle.header_core.specs.BufferHeader.{BufferHeader}
+use Rattle.port_stock.specs.Conditions.{IsHeaderOf, IsPort}
 use Rattle.work_landing.specs.Landed.{AreHomeless, AreWithin}
 use Rattle.work_landing.specs.Places.{AreApart, EachFrom, IsOther, carried_from}
 use Rattle.graph_core.proofs.Landed.{AreOf as AreListed}

@@ -27,7 +27,6 @@ use Rattle.machine_laws.proofs.Keys.{none_or_some, there_is}
 use Rattle.machine_laws.proofs.Listed.{times_append, times_cons}
 use Rattle.machine_laws.proofs.Lookups.{same_place, has_port}
 use Rattle.machine_laws.proofs.Parts.{Parts, parts_of}
-use Rattle.whole_laws.specs.Bare.{StandsBare}
 use Rattle.header_core.specs.BufferHeader.{BufferHeader}
 use Rattle.note_queues.specs.declared.taken.Call.{Call}
 use Rattle.note_queues.specs.declared.taken.Taken.{Taken}

@@ -9,6 +9,7 @@ pub mod OtherEnd
 pub mod Moving
 pub mod Supplying
 pub mod Closing
+pub mod Marking
 pub mod Units
 pub mod Claiming
 pub mod Finishing

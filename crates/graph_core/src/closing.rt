@@ -10,36 +10,51 @@ ghost use Rattle.port_rules.specs.Tests.{HasAllPorts};
 ghost use Rattle.graph_core.specs.Entries.{components_of, look_of, kept};
 ghost use Rattle.graph_core.specs.Clients.{KeepsAllClients};
 ghost use Rattle.graph_core.specs.Closing.{IsDueAt};
+ghost use Rattle.graph_core.specs.Marking.{AreMarked};
 
 use crate::core_graph::Core;
+use bit_set::BitSet;
 use il_component::Component;
 use note_queues::Client;
 use port_rules::{Due, due_in, happen_in};
 use port_stock::Stock;
 
-/// The place of the first component that has something due, and what is due first there.
-fn first_due_of<C>(stock: &Stock, components: &[Component<C>]) -> Option<(usize, Due)>
-    requires { (i : ℕ) (e : Entry C) → slice_get components.now i ≡ Some e → HasAllPorts (component_of e) (stocked stock.now) }
+/// The place of the first component that has something due, and what is due first there. Only the marked ones are asked, and one at which
+/// nothing is pending loses its mark.
+fn first_due_of<C>(
+    stock: &Stock,
+    components: &[Component<C>],
+    marked: &mut BitSet,
+) -> Option<(usize, Due)>
+    requires ports { (i : ℕ) (e : Entry C) → slice_get components.now i ≡ Some e → HasAllPorts (component_of e) (stocked stock.now) }
+    requires marks { AreMarked components.now marked.old }
     ensures place { option_map (λ first. first.0) result ≡ position (has_due (stocked stock.now).headers) (components_of components.now) }
     ensures due { IfSome result (λ first. IsDueAt (stocked stock.now).headers components.now first.0 first.1) }
     ensures within { IfSome result (λ first. first.0 < length components.now) }
+    ensures marks { AreMarked components.now marked.new }
 {
-    for place in 0..components.len() {
-        if let Some(due) = due_in(stock, &components[place]) {
+    let mut from = 0;
+    while let Some(place) = marked.next(from) {
+        let component = &components[place];
+        if component.is_calm() {
+            marked.remove(place);
+        } else if let Some(due) = due_in(stock, component) {
             return Some((place, due));
         }
+        from = place + 1;
     }
     None
 }
 
 impl<C: Client> Core<C> {
     /// The place of the first component that has something due, and what is due first there.
-    fn first_due(&self) -> Option<(usize, Due)>
-        ensures place { option_map (λ first. first.0) result ≡ first_due (look_of self.now) }
-        ensures due { IfSome result (λ first. IsDueAt (look_of self.now).headers self.now.entries first.0 first.1) }
-        ensures within { IfSome result (λ first. first.0 < length self.now.entries) }
+    fn first_due(&mut self) -> Option<(usize, Due)>
+        ensures place { option_map (λ first. first.0) result ≡ first_due (look_of self.old) }
+        ensures due { IfSome result (λ first. IsDueAt (look_of self.old).headers self.old.entries first.0 first.1) }
+        ensures within { IfSome result (λ first. first.0 < length self.old.entries) }
+        ensures unchanged { self.new ≡ self.old }
     {
-        first_due_of(&self.stock, &self.components)
+        first_due_of(&self.stock, &self.components, &mut self.marked)
     }
 
     /// What is due first at the component of the place happens.

@@ -4,6 +4,7 @@ ghost use Rattle.il_machine.specs.Stock.{no_stock};
 ghost use Rattle.port_stock.specs.Kept.{stocked};
 ghost use Rattle.graph_core.specs.Entries.{Entries, entry_place, entry_named, look_of};
 
+use bit_set::BitSet;
 use il_component::Component;
 use note_queues::Client;
 use omx_types::Handle;
@@ -20,18 +21,21 @@ pub struct Core<C: Client> {
     pub(crate) units: u32,
     /// How many waits were numbered.
     pub(crate) waits: u64,
+    /// The places of the components at which something may be pending.
+    pub(crate) marked: BitSet,
 }
 
 impl<C: Client> Model for Core<C> {
     ghost use Rattle.graph_core.specs.Entries.{Entries};
     ghost use Rattle.graph_core.specs.Standing.{IsGraph};
+    ghost use Rattle.graph_core.specs.Marking.{AreMarked};
     ghost use Rattle.std.specs.Prelude.{vec_capacity};
 
     ghost Value = { Entries C };
 
     ghost view = { λ g. record { entries = g.components.items; stock = g.stock; units = g.units; waits = g.waits; numbered = g.registry.given } };
 
-    ghost invariant = { λ g. IsGraph C.progress g.components.items g.registry g.stock g.units g.waits (vec_capacity g.components) };
+    ghost invariant = { λ g. IsGraph C.progress g.components.items g.registry g.stock g.units g.waits (vec_capacity g.components) × AreMarked g.components.items g.marked };
 }
 
 impl<C: Client> Core<C> {
@@ -53,6 +57,7 @@ impl<C: Client> Core<C> {
             stock,
             units,
             waits: 0,
+            marked: BitSet::empty(),
         })
     }
 

@@ -105,6 +105,7 @@ impl<C: Client + Drop> Core<C> {
             stock,
             units: _,
             waits: _,
+            marked: _,
         } = self;
         end_all(stock, components).close();
     }

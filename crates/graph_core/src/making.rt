@@ -158,6 +158,7 @@ impl<C: Client> Core<C> {
             Err(_) => unreachable!(),
         }
         let component = self.components.remove(place);
+        self.marked.move_down(place);
         renumber(&mut self.registry, &self.components, place);
         self.stock.remove_ports(h.generation);
         component.close()

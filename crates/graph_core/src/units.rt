@@ -154,6 +154,7 @@ impl<C: Client> Core<C> {
         };
         let component = &mut self.components[place];
         component.grant();
+        self.marked.insert(place);
         component.handle()
     }
 
@@ -194,6 +195,7 @@ impl<C: Client> Core<C> {
         };
         let component = &mut self.components[place];
         component.preempt();
+        self.marked.insert(place);
         component.handle()
     }
 }

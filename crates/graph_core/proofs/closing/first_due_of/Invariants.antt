@@ -1,8 +1,11 @@
-use Rattle.std.proofs.Common.{◌≡◌, ℕ, ◌<◌, false, Some, slice_get}
-use Rattle.il_machine.specs.Due.{has_due}
-use Rattle.il_component.specs.Entries.{Entry, component_of}
+use Rattle.std.proofs.Common.{◌-◌}
 use Rattle.port_stock.specs.Kept.{stocked}
+use Rattle.graph_core.specs.Marking.{AreMarked}
+use Rattle.graph_core.proofs.Happens.{NoneBefore}
 use Rattle.graph_core.proofs.closing.first_due_of.Given as goal
 
 abbrev pub invariant-loop-place : goal.invariant-loop-place
-invariant-loop-place g l = (k : ℕ) (e : Entry (g.row.C.Denot)) → k < l.place → slice_get l.components k ≡ Some e → has_due (stocked l.stock).headers (component_of e) ≡ false
+invariant-loop-place g l = record { marks : AreMarked l.components l.marked; before : NoneBefore (stocked l.stock).headers l.components l.from }
+
+abbrev pub decreases-loop-place : goal.decreases-loop-place
+decreases-loop-place g l = 32 - l.from

@@ -6,7 +6,6 @@ use Rattle.std.proofs.lemmas.List.{append-nil}
 use Rattle.note_queues.specs.declared.taken.Taken.{Taken}
 use Rattle.il_component.specs.Entries.{Entry, held_in}
 use Rattle.port_stock.specs.Kept.{stocked}
-use Rattle.port_stock.specs.Entries.{Each}
 use Rattle.graph_core.specs.Entries.{noticed_in, held_by}
 use Rattle.graph_core.specs.Ending.{AreOutside}
 use Rattle.graph_core.proofs.Unmaking.{all_wait, each_from, each_last, each_left, none_left, noticed_last}

@@ -1,4 +1,4 @@
-use Rattle.std.proofs.Common.{◌≡◌, ◌<◌, ◌≤◌, length, Some, sym, ◌∙◌, arith, length-set}
+use Rattle.std.proofs.Common.{◌≡◌, ◌<◌, length, Some, sym, ◌∙◌, arith, length-set}
 use Rattle.il_machine.specs.World.{port_of}
 use Rattle.machine_laws.proofs.Facts.{port_limits}
 use Rattle.il_component.specs.Entries.{component_of}

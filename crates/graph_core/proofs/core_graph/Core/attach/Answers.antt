@@ -8,6 +8,8 @@ use Rattle.graph_core.specs.Entries.{Entries}
 use Rattle.graph_core.proofs.Clients.{clients_set}
 use Rattle.graph_core.proofs.Replacing.{there, within}
 use Rattle.graph_core.proofs.Filing.{attached_is, filed, steps_filed, graph_filed}
+use Rattle.graph_core.proofs.Marking.{marked_set}
+use Rattle.graph_core.proofs.Calming.{calm_same}
 use Rattle.graph_core.proofs.core_graph.Core.attach.Goals as goal
 
 pub invariant_of-self : goal.invariant_of-self
@@ -20,8 +22,10 @@ invariant_of-self g c =
     let b : c.args.place < length i.components.items = within p G c.args.place _ asked.1 in
     let at : slice_get i.components.items c.args.place ≡ Some e = slice_get-get_or i.components.items c.args.place e b ∙ ap Some (sym c.index_mut-component.ensures.value) in
     let r = rw (there p G c.args.place e at) at asked.1 in
-    let q : component_of c.attach.new.self ≡ filed (attached (offered c.args.file asked.0 None)) (component_of e) = rw (attached_is c.args.file asked.0 None) c.attach.ensures.component in
-    graph_filed p i.components.items i.registry i.stock i.units i.waits i.components.cap c.args.place e c.attach.new.self (offered c.args.file asked.0 None) c.self.invariant at c.attach.ensures.kept q r
+    let q : component_of c.attach.new.self ≡ filed (attached (offered c.args.file asked.0 None)) (component_of e) = rw (attached_is c.args.file asked.0 None) c.attach.ensures.component in (
+      graph_filed p i.components.items i.registry i.stock i.units i.waits i.components.cap c.args.place e c.attach.new.self (offered c.args.file asked.0 None) c.self.invariant.0 at c.attach.ensures.kept q r,
+      marked_set i.components.items i.marked c.args.place e c.attach.new.self c.self.invariant.1 at (calm_same (component_of e) (component_of c.attach.new.self) (ap (λ (x : Component). x.ports) q) (ap (λ (x : Component). x.pending) q)),
+    )
 
 pub returns-clause-change : goal.returns-clause-change
 returns-clause-change g c =

@@ -14,6 +14,8 @@ use Rattle.graph_core.proofs.Picked.{fronts_are, work_is}
 use Rattle.graph_core.proofs.Replacing.{there, within}
 use Rattle.graph_core.proofs.Setting.{all_ports}
 use Rattle.graph_core.proofs.Stepping.{graph_with}
+use Rattle.graph_core.proofs.Marking.{marked_set}
+use Rattle.graph_core.proofs.Calming.{calm_same}
 use Rattle.graph_core.proofs.core_graph.Core.claim.Goals as goal
 
 pub must_announce-announces-requires : goal.must_announce-announces-requires
@@ -25,7 +27,7 @@ must_announce-announces-requires g c =
     let asked = rw (← c.self.view_is) at c.requires in
     let b : c.args.place < length i.components.items = within p G c.args.place _ asked in
     let at : slice_get i.components.items c.args.place ≡ Some e = slice_get-get_or i.components.items c.args.place e b ∙ ap Some (sym c.index_mut-component.ensures.value) in
-    all_ports p i.components.items i.registry i.stock i.units i.waits i.components.cap c.args.place e c.self.invariant at
+    all_ports p i.components.items i.registry i.stock i.units i.waits i.components.cap c.args.place e c.self.invariant.0 at
 
 pub pick_up-headers-requires : goal.pick_up-headers-requires
 pick_up-headers-requires g c =
@@ -36,7 +38,7 @@ pick_up-headers-requires g c =
     let asked = rw (← c.self.view_is) at c.requires in
     let b : c.args.place < length i.components.items = within p G c.args.place _ asked in
     let at : slice_get i.components.items c.args.place ≡ Some e = slice_get-get_or i.components.items c.args.place e b ∙ ap Some (sym c.index_mut-component.ensures.value) in
-    all_ports p i.components.items i.registry i.stock i.units i.waits i.components.cap c.args.place e c.self.invariant at
+    all_ports p i.components.items i.registry i.stock i.units i.waits i.components.cap c.args.place e c.self.invariant.0 at
 
 pub give_work-requires-clause-announces : goal.give_work-requires-clause-announces
 give_work-requires-clause-announces g c =
@@ -91,11 +93,13 @@ invariant_of-self g c =
     let after = c.pick_up-headers.new.stock in
     let work : Work = work_with c.numbers_of.result k in
     let is : component_of d ≡ working work k = c.give_work.ensures.component in
-    let goes : stocked after ≡ all_out (number_of k) 0 (map (gives_to a k) (ports_of k)) (stocked i.stock) = c.pick_up-headers.ensures.stock in
-    graph_with p i.components.items i.registry i.stock after i.units i.waits i.components.cap c.args.place e d c.self.invariant at
-    (ap (λ (x : Component). x.handle) is) (ap (λ (x : Component). x.ports) is) (ap (λ (x : Component). x.pending) is)
-    (claimed_ports p G c.args.place e d after work a c.self.invariant.worlds at is c.give_work.ensures.kept picks tells goes)
-    (claimed_worlds p G c.args.place e d after work a c.self.invariant.worlds at is c.give_work.ensures.kept picks tells goes idle)
+    let goes : stocked after ≡ all_out (number_of k) 0 (map (gives_to a k) (ports_of k)) (stocked i.stock) = c.pick_up-headers.ensures.stock in (
+      graph_with p i.components.items i.registry i.stock after i.units i.waits i.components.cap c.args.place e d c.self.invariant.0 at
+          (ap (λ (x : Component). x.handle) is) (ap (λ (x : Component). x.ports) is) (ap (λ (x : Component). x.pending) is)
+          (claimed_ports p G c.args.place e d after work a c.self.invariant.0.worlds at is c.give_work.ensures.kept picks tells goes)
+          (claimed_worlds p G c.args.place e d after work a c.self.invariant.0.worlds at is c.give_work.ensures.kept picks tells goes idle),
+      marked_set i.components.items i.marked c.args.place e d c.self.invariant.1 at (calm_same (component_of e) (component_of d) (ap (λ (x : Component). x.ports) is) (ap (λ (x : Component). x.pending) is)),
+    )
 
 pub returns-clause-change : goal.returns-clause-change
 returns-clause-change g c =
@@ -117,7 +121,7 @@ returns-clause-change g c =
     let work : Work = work_with c.numbers_of.result k in
     let is : component_of d ≡ working work k = c.give_work.ensures.component in
     let goes : stocked after ≡ all_out (number_of k) 0 (map (gives_to a k) (ports_of k)) (stocked i.stock) = c.pick_up-headers.ensures.stock in
-    rw (← c.self.view_is) (claimed_returns p G c.args.place e d after work a c.self.invariant.worlds at is c.give_work.ensures.kept picks tells goes)
+    rw (← c.self.view_is) (claimed_returns p G c.args.place e d after work a c.self.invariant.0.worlds at is c.give_work.ensures.kept picks tells goes)
 
 pub returns-clause-lent : goal.returns-clause-lent
 returns-clause-lent g c =

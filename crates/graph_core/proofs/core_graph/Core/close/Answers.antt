@@ -8,11 +8,11 @@ end_all-requires-clause-held g c =
     let i = c.self.inside in
     let G : Entries (g.row.C.Denot) = record { entries = i.components.items; stock = i.stock; units = i.units; waits = i.waits; numbered = i.registry.given } in
     let asked : IsAllIn (look_of G) = rw (← c.self.view_is) at c.requires in
-    all_outside g.C.Client.progress G c.self.invariant.worlds (all_in_inside g.C.Client.progress G c.self.invariant.worlds asked)
+    all_outside g.C.Client.progress G c.self.invariant.0.worlds (all_in_inside g.C.Client.progress G c.self.invariant.0.worlds asked)
 
 pub end_all-requires-clause-clients : goal.end_all-requires-clause-clients
 end_all-requires-clause-clients g c =
     let i = c.self.inside in
     let G : Entries (g.row.C.Denot) = record { entries = i.components.items; stock = i.stock; units = i.units; waits = i.waits; numbered = i.registry.given } in
     let asked : IsAllIn (look_of G) = rw (← c.self.view_is) at c.requires in
-    all_in_clients g.C.Client.progress G c.self.invariant.worlds asked
+    all_in_clients g.C.Client.progress G c.self.invariant.0.worlds asked

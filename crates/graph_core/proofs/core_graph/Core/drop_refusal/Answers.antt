@@ -16,7 +16,7 @@ drop_refusal-requires-clause-giver g c =
     let b' : c.args.taker < length i.components.items = rw (← c.self.view_is) at c.requires.taker in
     let at : slice_get i.components.items c.args.giver ≡ Some e = slice_get-get_or i.components.items c.args.giver e b ∙ ap Some (sym c.index.ensures) in
     let at' : slice_get i.components.items c.args.taker ≡ Some d = slice_get-get_or i.components.items c.args.taker d b' ∙ ap Some (sym c.index-2.ensures) in
-    all_ports p i.components.items i.registry i.stock i.units i.waits i.components.cap c.args.giver e c.self.invariant at
+    all_ports p i.components.items i.registry i.stock i.units i.waits i.components.cap c.args.giver e c.self.invariant.0 at
 
 pub drop_refusal-requires-clause-taker : goal.drop_refusal-requires-clause-taker
 drop_refusal-requires-clause-taker g c =
@@ -29,7 +29,7 @@ drop_refusal-requires-clause-taker g c =
     let b' : c.args.taker < length i.components.items = rw (← c.self.view_is) at c.requires.taker in
     let at : slice_get i.components.items c.args.giver ≡ Some e = slice_get-get_or i.components.items c.args.giver e b ∙ ap Some (sym c.index.ensures) in
     let at' : slice_get i.components.items c.args.taker ≡ Some d = slice_get-get_or i.components.items c.args.taker d b' ∙ ap Some (sym c.index-2.ensures) in
-    all_ports p i.components.items i.registry i.stock i.units i.waits i.components.cap c.args.taker d c.self.invariant at'
+    all_ports p i.components.items i.registry i.stock i.units i.waits i.components.cap c.args.taker d c.self.invariant.0 at'
 
 pub returns : goal.returns
 returns g c =

@@ -13,6 +13,8 @@ use Rattle.graph_core.proofs.SameParts.{part_as}
 use Rattle.graph_core.proofs.Replacing.{there, within}
 use Rattle.graph_core.proofs.Setting.{all_ports}
 use Rattle.graph_core.proofs.Joining.{AreEnds, AreReplaced, part_ends, port_below, unlinked_is, graph_both, both_changed}
+use Rattle.graph_core.proofs.Marking.{marked_set}
+use Rattle.graph_core.proofs.Calming.{calm_as, calm_parted}
 use Rattle.graph_core.proofs.core_graph.Core.drop_tunnel.Goals as goal
 
 pub part-requires : goal.part-requires
@@ -30,8 +32,8 @@ part-requires g c =
     let f = get_or es c.args.taker e in
     let at-f : slice_get es c.args.taker ≡ Some f = slice_get-get_or es c.args.taker e b-2 in
     let ok : drop_refusal (look_of G).headers (port_of (component_of e) c.args.output) (port_of (component_of f) c.args.input) ≡ None = rw (there p G c.args.taker f at-f) at asked-2 in
-    let E : AreEnds c.args.giver c.args.output c.args.taker c.args.input e f = part_ends p G c.args.giver c.args.output c.args.taker c.args.input e f c.self.invariant.worlds at at-f ok in
-    port_below (component_of e) (stocked i.stock) c.args.output E.first (all_ports p es i.registry i.stock i.units i.waits i.components.cap c.args.giver e c.self.invariant at) E.out
+    let E : AreEnds c.args.giver c.args.output c.args.taker c.args.input e f = part_ends p G c.args.giver c.args.output c.args.taker c.args.input e f c.self.invariant.0.worlds at at-f ok in
+    port_below (component_of e) (stocked i.stock) c.args.output E.first (all_ports p es i.registry i.stock i.units i.waits i.components.cap c.args.giver e c.self.invariant.0 at) E.out
 
 pub index_mut-requires-2 : goal.index_mut-requires-2
 index_mut-requires-2 g c =
@@ -48,7 +50,7 @@ index_mut-requires-2 g c =
     let f = get_or es c.args.taker e in
     let at-f : slice_get es c.args.taker ≡ Some f = slice_get-get_or es c.args.taker e b-2 in
     let ok : drop_refusal (look_of G).headers (port_of (component_of e) c.args.output) (port_of (component_of f) c.args.input) ≡ None = rw (there p G c.args.taker f at-f) at asked-2 in
-    let E : AreEnds c.args.giver c.args.output c.args.taker c.args.input e f = part_ends p G c.args.giver c.args.output c.args.taker c.args.input e f c.self.invariant.worlds at at-f ok in
+    let E : AreEnds c.args.giver c.args.output c.args.taker c.args.input e f = part_ends p G c.args.giver c.args.output c.args.taker c.args.input e f c.self.invariant.0.worlds at at-f ok in
     let l = i.components.ok in
     omega arith
 
@@ -67,7 +69,7 @@ part-requires-2 g c =
     let f = get_or es c.args.taker e in
     let at-f : slice_get es c.args.taker ≡ Some f = slice_get-get_or es c.args.taker e b-2 in
     let ok : drop_refusal (look_of G).headers (port_of (component_of e) c.args.output) (port_of (component_of f) c.args.input) ≡ None = rw (there p G c.args.taker f at-f) at asked-2 in
-    let E : AreEnds c.args.giver c.args.output c.args.taker c.args.input e f = part_ends p G c.args.giver c.args.output c.args.taker c.args.input e f c.self.invariant.worlds at at-f ok in
+    let E : AreEnds c.args.giver c.args.output c.args.taker c.args.input e f = part_ends p G c.args.giver c.args.output c.args.taker c.args.input e f c.self.invariant.0.worlds at at-f ok in
     let e' = c.part.new.self in
     let d = c.index_mut-2.result.now in
     let b-3 : c.args.taker < length (set es c.args.giver e') = rw (length-set es c.args.giver e') b-2 in
@@ -75,7 +77,7 @@ part-requires-2 g c =
     let d-f : Some d ≡ Some f = sym at-d ∙ at-f in
     let one : d ≡ f = cc in
     let inp : port_of (component_of d) c.args.input ≡ Some E.second = ap (λ (x : Entry (g.row.C.Denot)). port_of (component_of x) c.args.input) one ∙ E.inp in
-    port_below (component_of d) (stocked i.stock) c.args.input E.second (all_ports p es i.registry i.stock i.units i.waits i.components.cap c.args.taker d c.self.invariant at-d) inp
+    port_below (component_of d) (stocked i.stock) c.args.input E.second (all_ports p es i.registry i.stock i.units i.waits i.components.cap c.args.taker d c.self.invariant.0 at-d) inp
 
 pub invariant_of-self : goal.invariant_of-self
 invariant_of-self g c =
@@ -92,7 +94,7 @@ invariant_of-self g c =
     let f = get_or es c.args.taker e in
     let at-f : slice_get es c.args.taker ≡ Some f = slice_get-get_or es c.args.taker e b-2 in
     let ok : drop_refusal (look_of G).headers (port_of (component_of e) c.args.output) (port_of (component_of f) c.args.input) ≡ None = rw (there p G c.args.taker f at-f) at asked-2 in
-    let E : AreEnds c.args.giver c.args.output c.args.taker c.args.input e f = part_ends p G c.args.giver c.args.output c.args.taker c.args.input e f c.self.invariant.worlds at at-f ok in
+    let E : AreEnds c.args.giver c.args.output c.args.taker c.args.input e f = part_ends p G c.args.giver c.args.output c.args.taker c.args.input e f c.self.invariant.0.worlds at at-f ok in
     let e' = c.part.new.self in
     let d = c.index_mut-2.result.now in
     let b-3 : c.args.taker < length (set es c.args.giver e') = rw (length-set es c.args.giver e') b-2 in
@@ -112,13 +114,15 @@ invariant_of-self g c =
       first_alike = record { handle = ap (λ (x : Component). x.handle) q-e; ports = ap (λ (x : Component). length x.ports) q-e ∙ length-set e.ports (E.first).key.port _; pending = ap (λ (v : Component). v.pending) q-e; part = part_as (component_of e) (component_of e') _ q-e (record { number = refl; kind = refl; file = refl; failed = refl; work = refl }) };
       second_alike = record { handle = ap (λ (x : Component). x.handle) q-d; ports = ap (λ (x : Component). length x.ports) q-d ∙ length-set d.ports (E.second).key.port _; pending = ap (λ (v : Component). v.pending) q-d; part = part_as (component_of d) (component_of d') _ q-d (record { number = refl; kind = refl; file = refl; failed = refl; work = refl }) };
     } in
-    let ok-d : drop_refusal (look_of G).headers (port_of (component_of e) c.args.output) (port_of (component_of d) c.args.input) ≡ None = subst (λ (x : Entry (g.row.C.Denot)). drop_refusal (look_of G).headers (port_of (component_of e) c.args.output) (port_of (component_of x) c.args.input) ≡ None) (sym one) ok in
-    graph_both p c.args.giver c.args.taker e d e' d' es i.registry i.stock i.units i.waits i.components.cap c.self.invariant R
-    (λ w l S.
-    let t : slice_get w.components c.args.giver ≡ Some (component_of e) = ap (λ (x : Look). slice_get x.components c.args.giver) l ∙ there p G c.args.giver e at in
-    let u : slice_get w.components c.args.taker ≡ Some (component_of d) = ap (λ (x : Look). slice_get x.components c.args.taker) l ∙ there p G c.args.taker d at-d in
-    let r : drop_refusal (look w).headers (port_of (component_of e) c.args.output) (port_of (component_of d) c.args.input) ≡ None = subst (λ (x : Look). drop_refusal x.headers (port_of (component_of e) c.args.output) (port_of (component_of d) c.args.input) ≡ None) (sym l) ok-d in
-    rw (q-e, q-d) (sound_parted w c.args.giver (component_of e) c.args.output E.first c.args.taker (component_of d) c.args.input E.second S t E.out u inp r))
+    let ok-d : drop_refusal (look_of G).headers (port_of (component_of e) c.args.output) (port_of (component_of d) c.args.input) ≡ None = subst (λ (x : Entry (g.row.C.Denot)). drop_refusal (look_of G).headers (port_of (component_of e) c.args.output) (port_of (component_of x) c.args.input) ≡ None) (sym one) ok in (
+      graph_both p c.args.giver c.args.taker e d e' d' es i.registry i.stock i.units i.waits i.components.cap c.self.invariant.0 R
+          (λ w l S.
+          let t : slice_get w.components c.args.giver ≡ Some (component_of e) = ap (λ (x : Look). slice_get x.components c.args.giver) l ∙ there p G c.args.giver e at in
+          let u : slice_get w.components c.args.taker ≡ Some (component_of d) = ap (λ (x : Look). slice_get x.components c.args.taker) l ∙ there p G c.args.taker d at-d in
+          let r : drop_refusal (look w).headers (port_of (component_of e) c.args.output) (port_of (component_of d) c.args.input) ≡ None = subst (λ (x : Look). drop_refusal x.headers (port_of (component_of e) c.args.output) (port_of (component_of d) c.args.input) ≡ None) (sym l) ok-d in
+          rw (q-e, q-d) (sound_parted w c.args.giver (component_of e) c.args.output E.first c.args.taker (component_of d) c.args.input E.second S t E.out u inp r)),
+      marked_set (set es c.args.giver e') i.marked c.args.taker d d' (marked_set es i.marked c.args.giver e e' c.self.invariant.1 at (calm_as (component_of e) (component_of e') (parted E.first (component_of e)) q-e (calm_parted (component_of e) c.args.output E.first E.out))) (get_set_other es c.args.giver c.args.taker e' (λ q. E.apart (sym q)) ∙ at-d) (calm_as (component_of d) (component_of d') (parted E.second (component_of d)) q-d (calm_parted (component_of d) c.args.input E.second inp)),
+    )
 
 pub returns-clause-change : goal.returns-clause-change
 returns-clause-change g c =
@@ -135,7 +139,7 @@ returns-clause-change g c =
     let f = get_or es c.args.taker e in
     let at-f : slice_get es c.args.taker ≡ Some f = slice_get-get_or es c.args.taker e b-2 in
     let ok : drop_refusal (look_of G).headers (port_of (component_of e) c.args.output) (port_of (component_of f) c.args.input) ≡ None = rw (there p G c.args.taker f at-f) at asked-2 in
-    let E : AreEnds c.args.giver c.args.output c.args.taker c.args.input e f = part_ends p G c.args.giver c.args.output c.args.taker c.args.input e f c.self.invariant.worlds at at-f ok in
+    let E : AreEnds c.args.giver c.args.output c.args.taker c.args.input e f = part_ends p G c.args.giver c.args.output c.args.taker c.args.input e f c.self.invariant.0.worlds at at-f ok in
     let e' = c.part.new.self in
     let d = c.index_mut-2.result.now in
     let b-3 : c.args.taker < length (set es c.args.giver e') = rw (length-set es c.args.giver e') b-2 in

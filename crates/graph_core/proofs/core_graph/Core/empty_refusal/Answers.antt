@@ -13,4 +13,4 @@ empty_refusal-requires g c =
     let e = c.index-component.result.now in
     let b : c.args.place < length i.components.items = rw (← c.self.view_is) at c.requires.place in
     let at : slice_get i.components.items c.args.place ≡ Some e = slice_get-get_or i.components.items c.args.place e b ∙ ap Some (sym c.index-component.ensures) in
-    component_sound p G c.args.place (component_of e) c.self.invariant.worlds (there p G c.args.place e at)
+    component_sound p G c.args.place (component_of e) c.self.invariant.0.worlds (there p G c.args.place e at)

@@ -6,6 +6,9 @@ use Rattle.graph_core.specs.Entries.{Entries}
 use Rattle.graph_core.proofs.Announced.{announcing_by, graph_told, told_handle, told_returns, there_announcing}
 use Rattle.graph_core.proofs.Clients.{clients_set}
 use Rattle.graph_core.proofs.Replacing.{there, within}
+use Rattle.graph_core.proofs.Marking.{marked_set}
+use Rattle.graph_core.proofs.Calming.{calm_as, calm_announced}
+use Rattle.il_machine.specs.Finishing.{announced}
 use Rattle.graph_core.proofs.core_graph.Core.finish_announcement.Goals as goal
 
 pub announce-requires : goal.announce-requires
@@ -29,8 +32,10 @@ invariant_of-self g c =
     let asked = rw (← c.self.view_is) at c.requires in
     let b : c.args.place < length i.components.items = within p G c.args.place _ asked in
     let at : slice_get i.components.items c.args.place ≡ Some e = slice_get-get_or i.components.items c.args.place e b ∙ ap Some (sym c.index_mut-component.ensures.value) in
-    let A = announcing_by (component_of e) e.work refl (subst (λ (o : Option Component). IsSomeAnd o (λ x. IsSomeAnd x.work (λ work. work.announces ≡ true))) (there p G c.args.place e at) asked) in
-    graph_told p i.components.items i.registry i.stock i.units i.waits i.components.cap c.args.place e c.announce.new.self c.self.invariant at A c.announce.ensures.component c.announce.ensures.kept
+    let A = announcing_by (component_of e) e.work refl (subst (λ (o : Option Component). IsSomeAnd o (λ x. IsSomeAnd x.work (λ work. work.announces ≡ true))) (there p G c.args.place e at) asked) in (
+      graph_told p i.components.items i.registry i.stock i.units i.waits i.components.cap c.args.place e c.announce.new.self c.self.invariant.0 at A c.announce.ensures.component c.announce.ensures.kept,
+      marked_set i.components.items i.marked c.args.place e c.announce.new.self c.self.invariant.1 at (calm_as (component_of e) (component_of c.announce.new.self) (announced (component_of e)) c.announce.ensures.component (calm_announced (component_of e))),
+    )
 
 pub returns-clause-change : goal.returns-clause-change
 returns-clause-change g c =

@@ -1,6 +1,6 @@
 use Rattle.std.proofs.Common.{◌≡◌, ◌<◌, length, slice_get, Some, None, sym, ◌∙◌, ap}
 use Rattle.std.proofs.lemmas.Option.{slice_get-get_or}
-use Rattle.il_machine.specs.World.{port_of}
+use Rattle.il_machine.specs.World.{port_of, Component}
 use Rattle.il_machine.specs.Stock.{Stocked}
 use Rattle.il_component.specs.Entries.{component_of}
 use Rattle.graph_core.specs.Changes.{IsHandedIn}
@@ -9,6 +9,8 @@ use Rattle.graph_core.proofs.Clients.{clients_set}
 use Rattle.graph_core.proofs.Replacing.{there, within}
 use Rattle.graph_core.proofs.Stepping.{graph_with}
 use Rattle.graph_core.proofs.Handing.{outside, port_needed, allowed_at, room_there, unpopulated_handle, unpopulated_ports, unpopulated_pending, freed_returns, freed_worlds}
+use Rattle.graph_core.proofs.Marking.{marked_set}
+use Rattle.graph_core.proofs.Calming.{calm_same}
 use Rattle.graph_core.proofs.core_graph.Core.free_buffer.Goals as goal
 
 pub unpopulate-requires : goal.unpopulate-requires
@@ -22,8 +24,8 @@ unpopulate-requires g c =
     let at : slice_get i.components.items c.args.place ≡ Some e = slice_get-get_or i.components.items c.args.place e b ∙ ap Some (sym c.index_mut-component.ensures.value) in
     let here : port_of (component_of e) c.args.index ≡ Some p = sym c.port.ensures ∙ c.in-Some.is in
     let handed : IsHandedIn c.args.header (look_of G) = rw (← c.self.view_is) at c.requires.handed in
-    let allowed = allowed_at g.C.Client.progress G c.args.place e c.args.index p c.self.invariant.worlds at here c.args.header handed (Some p) (rw (there g.C.Client.progress G c.args.place e at, here) at asked) in
-    room_there g.C.Client.progress G c.args.place e c.args.index p c.self.invariant.worlds at here c.args.header handed allowed
+    let allowed = allowed_at g.C.Client.progress G c.args.place e c.args.index p c.self.invariant.0.worlds at here c.args.header handed (Some p) (rw (there g.C.Client.progress G c.args.place e at, here) at asked) in
+    room_there g.C.Client.progress G c.args.place e c.args.index p c.self.invariant.0.worlds at here c.args.header handed allowed
 
 pub unmake_header-requires : goal.unmake_header-requires
 unmake_header-requires g c =
@@ -36,7 +38,7 @@ unmake_header-requires g c =
     let at : slice_get i.components.items c.args.place ≡ Some e = slice_get-get_or i.components.items c.args.place e b ∙ ap Some (sym c.index_mut-component.ensures.value) in
     let here : port_of (component_of e) c.args.index ≡ Some p = sym c.port.ensures ∙ c.in-Some.is in
     let handed : IsHandedIn c.args.header (look_of G) = rw (← c.self.view_is) at c.requires.handed in
-    outside g.C.Client.progress G c.args.place e c.args.index p c.self.invariant.worlds at here c.args.header handed
+    outside g.C.Client.progress G c.args.place e c.args.index p c.self.invariant.0.worlds at here c.args.header handed
 
 pub invariant_of-self : goal.invariant_of-self
 invariant_of-self g c =
@@ -49,11 +51,13 @@ invariant_of-self g c =
     let at : slice_get i.components.items c.args.place ≡ Some e = slice_get-get_or i.components.items c.args.place e b ∙ ap Some (sym c.index_mut-component.ensures.value) in
     let here : port_of (component_of e) c.args.index ≡ Some p = sym c.port.ensures ∙ c.in-Some.is in
     let handed : IsHandedIn c.args.header (look_of G) = rw (← c.self.view_is) at c.requires.handed in
-    let allowed = allowed_at g.C.Client.progress G c.args.place e c.args.index p c.self.invariant.worlds at here c.args.header handed (Some p) (rw (there g.C.Client.progress G c.args.place e at, here) at asked) in
-    let d = c.unpopulate.new.component in
-    graph_with g.C.Client.progress i.components.items i.registry i.stock c.unmake_header.new.self i.units i.waits i.components.cap c.args.place e d c.self.invariant at
-    (ap (λ x. x.handle) c.unpopulate.ensures.component ∙ unpopulated_handle p (component_of e)) (ap (λ x. x.ports) c.unpopulate.ensures.component ∙ unpopulated_ports p (component_of e)) (ap (λ x. x.pending) c.unpopulate.ensures.component ∙ unpopulated_pending p (component_of e)) (ap (λ (s : Stocked). s.ports) c.unmake_header.ensures.stock)
-    (freed_worlds g.C.Client.progress G c.args.place e c.args.index p c.self.invariant.worlds at here c.args.header handed allowed d c.unpopulate.ensures.component c.unpopulate.ensures.kept c.unmake_header.new.self c.unmake_header.ensures.stock)
+    let allowed = allowed_at g.C.Client.progress G c.args.place e c.args.index p c.self.invariant.0.worlds at here c.args.header handed (Some p) (rw (there g.C.Client.progress G c.args.place e at, here) at asked) in
+    let d = c.unpopulate.new.component in (
+      graph_with g.C.Client.progress i.components.items i.registry i.stock c.unmake_header.new.self i.units i.waits i.components.cap c.args.place e d c.self.invariant.0 at
+          (ap (λ x. x.handle) c.unpopulate.ensures.component ∙ unpopulated_handle p (component_of e)) (ap (λ x. x.ports) c.unpopulate.ensures.component ∙ unpopulated_ports p (component_of e)) (ap (λ x. x.pending) c.unpopulate.ensures.component ∙ unpopulated_pending p (component_of e)) (ap (λ (s : Stocked). s.ports) c.unmake_header.ensures.stock)
+          (freed_worlds g.C.Client.progress G c.args.place e c.args.index p c.self.invariant.0.worlds at here c.args.header handed allowed d c.unpopulate.ensures.component c.unpopulate.ensures.kept c.unmake_header.new.self c.unmake_header.ensures.stock),
+      marked_set i.components.items i.marked c.args.place e d c.self.invariant.1 at (calm_same (component_of e) (component_of d) (ap (λ (x : Component). x.ports) c.unpopulate.ensures.component ∙ unpopulated_ports p (component_of e)) (ap (λ (x : Component). x.pending) c.unpopulate.ensures.component ∙ unpopulated_pending p (component_of e))),
+    )
 
 pub returns-clause-change : goal.returns-clause-change
 returns-clause-change g c =
@@ -66,9 +70,9 @@ returns-clause-change g c =
     let at : slice_get i.components.items c.args.place ≡ Some e = slice_get-get_or i.components.items c.args.place e b ∙ ap Some (sym c.index_mut-component.ensures.value) in
     let here : port_of (component_of e) c.args.index ≡ Some p = sym c.port.ensures ∙ c.in-Some.is in
     let handed : IsHandedIn c.args.header (look_of G) = rw (← c.self.view_is) at c.requires.handed in
-    let allowed = allowed_at g.C.Client.progress G c.args.place e c.args.index p c.self.invariant.worlds at here c.args.header handed (Some p) (rw (there g.C.Client.progress G c.args.place e at, here) at asked) in
+    let allowed = allowed_at g.C.Client.progress G c.args.place e c.args.index p c.self.invariant.0.worlds at here c.args.header handed (Some p) (rw (there g.C.Client.progress G c.args.place e at, here) at asked) in
     let d = c.unpopulate.new.component in
-    rw (← c.self.view_is) (freed_returns g.C.Client.progress G c.args.place e c.args.index p c.self.invariant.worlds at here c.args.header handed allowed d c.unpopulate.ensures.component c.unpopulate.ensures.kept c.unmake_header.new.self c.unmake_header.ensures.stock)
+    rw (← c.self.view_is) (freed_returns g.C.Client.progress G c.args.place e c.args.index p c.self.invariant.0.worlds at here c.args.header handed allowed d c.unpopulate.ensures.component c.unpopulate.ensures.kept c.unmake_header.new.self c.unmake_header.ensures.stock)
 
 pub unreachable-requires : goal.unreachable-requires
 unreachable-requires g c =
@@ -80,7 +84,7 @@ unreachable-requires g c =
     let at : slice_get i.components.items c.args.place ≡ Some e = slice_get-get_or i.components.items c.args.place e b ∙ ap Some (sym c.index_mut-component.ensures.value) in
     let none : port_of (component_of e) c.args.index ≡ None = sym c.port.ensures ∙ c.in_default.is in
     let handed : IsHandedIn c.args.header (look_of G) = rw (← c.self.view_is) at c.requires.handed in
-    port_needed g.C.Client.progress G c.args.place e c.self.invariant.worlds at c.args.header handed (rw (there g.C.Client.progress G c.args.place e at, none) at asked)
+    port_needed g.C.Client.progress G c.args.place e c.self.invariant.0.worlds at c.args.header handed (rw (there g.C.Client.progress G c.args.place e at, none) at asked)
 
 pub returns-clause-clients : goal.returns-clause-clients
 returns-clause-clients g c =

@@ -15,6 +15,7 @@ use Rattle.graph_core.proofs.Replacing.{there, within}
 use Rattle.graph_core.proofs.Clients.{client_removed, clients_removed}
 use Rattle.graph_core.proofs.Waiters.{waiters_left}
 use Rattle.graph_core.proofs.Leaving.{leaves_no_header, leaves_no_note, client_in, some_client, steps_left, worlds_left, ports_left}
+use Rattle.graph_core.proofs.Marking.{marked_down}
 use Rattle.graph_core.proofs.core_graph.Core.free_handle.Goals as goal
 
 pub unreachable-requires : goal.unreachable-requires
@@ -26,7 +27,7 @@ unreachable-requires g c =
     let asked = rw (← c.self.view_is) at c.requires in
     let b : c.args.place < length i.components.items = within p G c.args.place _ asked in
     let at : slice_get i.components.items c.args.place ≡ Some e = slice_get-get_or i.components.items c.args.place e b ∙ ap Some (sym c.index-component.ensures) in
-    let rs : resolved i.registry c.handle-h.result ≡ Some c.args.place = rw c.handle-h.ensures (sound_there i.components.items i.registry c.args.place e c.self.invariant.registered at) in
+    let rs : resolved i.registry c.handle-h.result ≡ Some c.args.place = rw c.handle-h.ensures (sound_there i.components.items i.registry c.args.place e c.self.invariant.0.registered at) in
     let f = rw rs at c.in-Err.ensures.value in
     cc
 
@@ -52,7 +53,7 @@ renumber-requires-clause-shifted g c =
     let b : c.args.place < length i.components.items = within p G c.args.place _ asked in
     let at : slice_get i.components.items c.args.place ≡ Some e = slice_get-get_or i.components.items c.args.place e b ∙ ap Some (sym c.index-component.ensures) in
     let T = subst (λ (h : Handle). Removes i.registry c.remove.new.self h) c.handle-h.ensures c.in-Ok.ensures.removed in
-    rw (c.deref.ensures.value, c.remove-component.ensures.items) (shifted_start i.components.items i.registry c.remove.new.self c.args.place e c.self.invariant.registered at T)
+    rw (c.deref.ensures.value, c.remove-component.ensures.items) (shifted_start i.components.items i.registry c.remove.new.self c.args.place e c.self.invariant.0.registered at T)
 
 pub remove_ports-requires : goal.remove_ports-requires
 remove_ports-requires g c =
@@ -64,7 +65,7 @@ remove_ports-requires g c =
     let b : c.args.place < length i.components.items = within p G c.args.place _ asked in
     let at : slice_get i.components.items c.args.place ≡ Some e = slice_get-get_or i.components.items c.args.place e b ∙ ap Some (sym c.index-component.ensures) in
     let ok : free_refusal (look_of G).headers (component_of e) ≡ None = rw (there p G c.args.place e at) at asked in
-    rw c.handle-h.ensures (leaves_no_header p G c.args.place e c.self.invariant.worlds at ok)
+    rw c.handle-h.ensures (leaves_no_header p G c.args.place e c.self.invariant.0.worlds at ok)
 
 pub close-requires-clause-client : goal.close-requires-clause-client
 close-requires-clause-client g c =
@@ -88,7 +89,18 @@ close-requires-clause-headers g c =
     let b : c.args.place < length i.components.items = within p G c.args.place _ asked in
     let at : slice_get i.components.items c.args.place ≡ Some e = slice_get-get_or i.components.items c.args.place e b ∙ ap Some (sym c.remove-component.ensures.value) in
     let ok : free_refusal (look_of G).headers (component_of e) ≡ None = rw (there p G c.args.place e at) at asked in
-    leaves_no_note p G c.args.place e c.self.invariant.worlds at ok
+    leaves_no_note p G c.args.place e c.self.invariant.0.worlds at ok
+
+pub move_down-requires : goal.move_down-requires
+move_down-requires g c =
+    let i = c.self.inside in
+    let p = g.C.Client.progress in
+    let G : Entries (g.row.C.Denot) = record { entries = i.components.items; stock = i.stock; units = i.units; waits = i.waits; numbered = i.registry.given } in
+    let e = c.remove-component.result in
+    let asked = rw (← c.self.view_is) at c.requires in
+    let b : c.args.place < length i.components.items = within p G c.args.place _ asked in
+    let few = c.self.invariant.0.few in
+    omega arith
 
 pub invariant_of-self : goal.invariant_of-self
 invariant_of-self g c =
@@ -110,24 +122,26 @@ invariant_of-self g c =
     let n : c.renumber.new.registry.given ≡ i.registry.given = c.renumber.ensures.numbered ∙ R.given in
     let l = c.renumber.ensures.live in
     let m = R.live in
-    let lv = c.self.invariant.registered.live in
+    let lv = c.self.invariant.0.registered.live in
     let k = removed_length i.components.items c.args.place b in
-    let roomy = c.self.invariant.roomy in
-    let few = c.self.invariant.few in
-    let cap = c.remove-component.ensures.capacity in
-    rw c.remove-component.ensures.items (record {
-      registered = record {
-        registered = λ x. c.renumber.ensures.places x ∙ ap (λ (es : List (Entry (g.row.C.Denot))). first_place (is_entry_at x) es) (c.deref.ensures.value ∙ c.remove-component.ensures.items);
-        once = λ x. once_removed (is_entry_at x) i.components.items c.args.place (c.self.invariant.registered.once x);
-        live = omega arith;
-        given = c.renumber.ensures.given;
-      };
-      roomy = omega arith;
-      few = omega arith;
-      ports = rw n (ports_left p G c.args.place e c.self.invariant.worlds at ok (stocked c.remove_ports.new.self) rm c.self.invariant.ports);
-      numbers = waiters_left i.components.items c.args.place i.waits e at c.self.invariant.numbers;
-      worlds = rw n (worlds_left p G c.args.place e c.self.invariant.worlds at ok c.remove_ports.new.self rm);
-    })
+    let roomy = c.self.invariant.0.roomy in
+    let few = c.self.invariant.0.few in
+    let cap = c.remove-component.ensures.capacity in (
+      rw c.remove-component.ensures.items (record {
+        registered = record {
+          registered = λ x. c.renumber.ensures.places x ∙ ap (λ (es : List (Entry (g.row.C.Denot))). first_place (is_entry_at x) es) (c.deref.ensures.value ∙ c.remove-component.ensures.items);
+          once = λ x. once_removed (is_entry_at x) i.components.items c.args.place (c.self.invariant.0.registered.once x);
+          live = omega arith;
+          given = c.renumber.ensures.given;
+        };
+        roomy = omega arith;
+        few = omega arith;
+        ports = rw n (ports_left p G c.args.place e c.self.invariant.0.worlds at ok (stocked c.remove_ports.new.self) rm c.self.invariant.0.ports);
+        numbers = waiters_left i.components.items c.args.place i.waits e at c.self.invariant.0.numbers;
+        worlds = rw n (worlds_left p G c.args.place e c.self.invariant.0.worlds at ok c.remove_ports.new.self rm);
+      }),
+      rw c.remove-component.ensures.items (marked_down i.components.items i.marked c.move_down.new.self c.args.place c.self.invariant.1 b c.move_down.ensures),
+    )
 
 pub returns-clause-freed : goal.returns-clause-freed
 returns-clause-freed g c =
@@ -147,7 +161,7 @@ returns-clause-freed g c =
     let rm : stocked c.remove_ports.new.self ≡ removed (number_of (component_of e)) (stocked i.stock) = subst (λ (x : Handle). stocked c.remove_ports.new.self ≡ removed x.generation (stocked i.stock)) h c.remove_ports.ensures in
     let R = c.in-Ok.ensures.removed in
     let n : c.renumber.new.registry.given ≡ i.registry.given = c.renumber.ensures.numbered ∙ R.given in
-    rw (← c.self.view_is, there p G c.args.place e at, c.remove-component.ensures.items, n) (steps_left p G c.args.place e c.self.invariant.worlds at ok c.remove_ports.new.self rm)
+    rw (← c.self.view_is, there p G c.args.place e at, c.remove-component.ensures.items, n) (steps_left p G c.args.place e c.self.invariant.0.worlds at ok c.remove_ports.new.self rm)
 
 pub returns-clause-client : goal.returns-clause-client
 returns-clause-client g c =
@@ -169,7 +183,7 @@ returns-clause-clients g c =
     let asked = rw (← c.self.view_is) at c.requires in
     let b : c.args.place < length i.components.items = within p G c.args.place _ asked in
     let at : slice_get i.components.items c.args.place ≡ Some e = slice_get-get_or i.components.items c.args.place e b ∙ ap Some (sym c.remove-component.ensures.value) in
-    rw (← c.self.view_is, there p G c.args.place e at, c.remove-component.ensures.items) (λ k d. clients_removed i.components.items c.args.place e k (c.self.invariant.registered.once k) at d)
+    rw (← c.self.view_is, there p G c.args.place e at, c.remove-component.ensures.items) (λ k d. clients_removed i.components.items c.args.place e k (c.self.invariant.0.registered.once k) at d)
 
 pub returns-clause-gone : goal.returns-clause-gone
 returns-clause-gone g c =
@@ -180,4 +194,4 @@ returns-clause-gone g c =
     let asked = rw (← c.self.view_is) at c.requires in
     let b : c.args.place < length i.components.items = within p G c.args.place _ asked in
     let at : slice_get i.components.items c.args.place ≡ Some e = slice_get-get_or i.components.items c.args.place e b ∙ ap Some (sym c.remove-component.ensures.value) in
-    rw (← c.self.view_is, there p G c.args.place e at, c.remove-component.ensures.items) (client_removed i.components.items c.args.place e (c.self.invariant.registered.once e.handle) at)
+    rw (← c.self.view_is, there p G c.args.place e at, c.remove-component.ensures.items) (client_removed i.components.items c.args.place e (c.self.invariant.0.registered.once e.handle) at)

@@ -13,7 +13,7 @@ free_refusal-requires g c =
     let e = c.index-component.result.now in
     let b : c.args.place < length i.components.items = rw (← c.self.view_is) at c.requires in
     let at : slice_get i.components.items c.args.place ≡ Some e = slice_get-get_or i.components.items c.args.place e b ∙ ap Some (sym c.index-component.ensures) in
-    all_ports p i.components.items i.registry i.stock i.units i.waits i.components.cap c.args.place e c.self.invariant at
+    all_ports p i.components.items i.registry i.stock i.units i.waits i.components.cap c.args.place e c.self.invariant.0 at
 
 pub returns : goal.returns
 returns g c =

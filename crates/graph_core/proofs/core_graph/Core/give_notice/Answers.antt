@@ -15,6 +15,8 @@ use Rattle.graph_core.proofs.Clients.{clients_set}
 use Rattle.graph_core.proofs.Replacing.{there, within}
 use Rattle.graph_core.proofs.Stepping.{graph_with, graph_stocked, port_kept, with_stocked}
 use Rattle.graph_core.proofs.Noticing.{Clause, nothing_returns, nothing_worlds, fewer_notes, given_returns, given_worlds, pulled_ports}
+use Rattle.graph_core.proofs.Marking.{marked_set}
+use Rattle.graph_core.proofs.Calming.{calm_same}
 use Rattle.graph_core.proofs.core_graph.Core.give_notice.Goals as goal
 
 pub pull_todo-requires : goal.pull_todo-requires
@@ -27,7 +29,7 @@ pull_todo-requires g c =
     let b : c.args.place < length i.components.items = within g.C.Client.progress G c.args.place _ asked in
     let at : slice_get i.components.items c.args.place ≡ Some e = slice_get-get_or i.components.items c.args.place e b ∙ ap Some (sym c.index_mut-component.ensures.value) in
     let here : port_of (component_of e) c.args.index ≡ Some p = sym c.port.ensures ∙ c.in-Some.is in
-    port_kept g.C.Client.progress i.components.items (stocked i.stock) i.registry.given c.args.place c.args.index e p c.self.invariant.ports at here
+    port_kept g.C.Client.progress i.components.items (stocked i.stock) i.registry.given c.args.place c.args.index e p c.self.invariant.0.ports at here
 
 pub invariant_of-self : goal.invariant_of-self
 invariant_of-self g c =
@@ -41,10 +43,12 @@ invariant_of-self g c =
     let here : port_of (component_of e) c.args.index ≡ Some p = sym c.port.ensures ∙ c.in-Some.is in
     let r = rw (there g.C.Client.progress G c.args.place e at) at asked in
     let client : p.state.link ≡ None = rw here at r in
-    let none : None ≡ slice_get ((stocked i.stock).headers.todo p.key) 0 = sym (ap (option_map number_of) c.in_default-pull_todo.is) ∙ c.pull_todo.ensures.front in
-    rw (set_same i.components.items c.args.place e at) (graph_stocked g.C.Client.progress i.components.items i.registry i.stock c.pull_todo.new.self i.units i.waits i.components.cap c.self.invariant
-    (ap (λ (s : Stocked). s.ports) c.pull_todo.ensures.stock ∙ pulled_ports p.key ((stocked i.stock).headers.todo p.key) (stocked i.stock))
-    (nothing_worlds g.C.Client.progress G c.args.place e c.args.index p c.self.invariant.worlds at here client c.pull_todo.new.self c.pull_todo.ensures.stock none))
+    let none : None ≡ slice_get ((stocked i.stock).headers.todo p.key) 0 = sym (ap (option_map number_of) c.in_default-pull_todo.is) ∙ c.pull_todo.ensures.front in (
+      rw (set_same i.components.items c.args.place e at) (graph_stocked g.C.Client.progress i.components.items i.registry i.stock c.pull_todo.new.self i.units i.waits i.components.cap c.self.invariant.0
+          (ap (λ (s : Stocked). s.ports) c.pull_todo.ensures.stock ∙ pulled_ports p.key ((stocked i.stock).headers.todo p.key) (stocked i.stock))
+          (nothing_worlds g.C.Client.progress G c.args.place e c.args.index p c.self.invariant.0.worlds at here client c.pull_todo.new.self c.pull_todo.ensures.stock none)),
+      marked_set i.components.items i.marked c.args.place e e c.self.invariant.1 at (λ rests. rests),
+    )
 
 pub returns-in_default-pull_todo-clause-change : goal.returns-in_default-pull_todo-clause-change
 returns-in_default-pull_todo-clause-change g c =
@@ -59,9 +63,9 @@ returns-in_default-pull_todo-clause-change g c =
     let r = rw (there g.C.Client.progress G c.args.place e at) at asked in
     let client : p.state.link ≡ None = rw here at r in
     let none : None ≡ slice_get ((stocked i.stock).headers.todo p.key) 0 = sym (ap (option_map number_of) c.in_default-pull_todo.is) ∙ c.pull_todo.ensures.front in
-    let stay : Clause g.C.Client.progress G c.args.place e c.args.index p c.self.invariant.worlds at here client (with_stocked g.C.Client.progress c.pull_todo.new.self (record G { entries = set i.components.items c.args.place e })) =
-    subst (λ (es : List (Entry (g.row.C.Denot))). Clause g.C.Client.progress G c.args.place e c.args.index p c.self.invariant.worlds at here client (with_stocked g.C.Client.progress c.pull_todo.new.self (record G { entries = es }))) (sym (set_same i.components.items c.args.place e at))
-    (nothing_returns g.C.Client.progress G c.args.place e c.args.index p c.self.invariant.worlds at here client c.pull_todo.new.self c.pull_todo.ensures.stock none) in
+    let stay : Clause g.C.Client.progress G c.args.place e c.args.index p c.self.invariant.0.worlds at here client (with_stocked g.C.Client.progress c.pull_todo.new.self (record G { entries = set i.components.items c.args.place e })) =
+    subst (λ (es : List (Entry (g.row.C.Denot))). Clause g.C.Client.progress G c.args.place e c.args.index p c.self.invariant.0.worlds at here client (with_stocked g.C.Client.progress c.pull_todo.new.self (record G { entries = es }))) (sym (set_same i.components.items c.args.place e at))
+    (nothing_returns g.C.Client.progress G c.args.place e c.args.index p c.self.invariant.0.worlds at here client c.pull_todo.new.self c.pull_todo.ensures.stock none) in
     rw (← c.self.view_is) stay
 
 pub put_header-requires : goal.put_header-requires
@@ -81,7 +85,7 @@ put_header-requires g c =
     let was : IsFrom (in_todo p.key) h (stocked i.stock) = rw c.in-Some-pull_todo.is at c.pull_todo.ensures.was in
     let out : IsOutside h (stocked c.pull_todo.new.self) = rw c.in-Some-pull_todo.is at c.pull_todo.ensures.outside in
     let outside : IsOutside h (todo_pulled p.key (stocked i.stock)) = subst (λ (s : Stocked). IsOutside h s) c.pull_todo.ensures.stock out in
-    fewer_notes g.C.Client.progress G c.args.place e c.args.index p c.self.invariant.worlds at here client h front was outside
+    fewer_notes g.C.Client.progress G c.args.place e c.args.index p c.self.invariant.0.worlds at here client h front was outside
 
 pub invariant_of-self-2 : goal.invariant_of-self-2
 invariant_of-self-2 g c =
@@ -104,11 +108,13 @@ invariant_of-self-2 g c =
     let now : stocked c.give_header.new.self ≡ header_given h.held.number (owners.Notice p.key.component) (todo_pulled p.key (stocked i.stock)) =
     c.give_header.ensures ∙ (ap (λ (n : ℕ). header_given n (owners.Notice p.key.component) (stocked c.pull_todo.new.self)) id ∙ ap (λ (s : Stocked). header_given h.held.number (owners.Notice p.key.component) s) c.pull_todo.ensures.stock) in
     let left : c.put_header.new.self ≡ record e { queues = noted (header_note p.setting.definition.input (cleared h)) e.queues } =
-    c.put_header.ensures ∙ ap (λ (x : BufferHeader). record e { queues = noted (header_note p.setting.definition.input x) e.queues }) c.clear.ensures in
-    graph_with g.C.Client.progress i.components.items i.registry i.stock c.give_header.new.self i.units i.waits i.components.cap c.args.place e c.put_header.new.self c.self.invariant at
-    (ap (λ (x : Entry (g.row.C.Denot)). x.handle) left) (ap (λ (x : Entry (g.row.C.Denot)). x.ports) left) (ap (λ (x : Entry (g.row.C.Denot)). x.pending) left)
-    (ap (λ (s : Stocked). s.ports) now ∙ pulled_ports p.key ((stocked i.stock).headers.todo p.key) (stocked i.stock))
-    (given_worlds g.C.Client.progress G c.args.place e c.args.index p c.self.invariant.worlds at here client h front was outside c.put_header.new.self c.give_header.new.self left now)
+    c.put_header.ensures ∙ ap (λ (x : BufferHeader). record e { queues = noted (header_note p.setting.definition.input x) e.queues }) c.clear.ensures in (
+      graph_with g.C.Client.progress i.components.items i.registry i.stock c.give_header.new.self i.units i.waits i.components.cap c.args.place e c.put_header.new.self c.self.invariant.0 at
+          (ap (λ (x : Entry (g.row.C.Denot)). x.handle) left) (ap (λ (x : Entry (g.row.C.Denot)). x.ports) left) (ap (λ (x : Entry (g.row.C.Denot)). x.pending) left)
+          (ap (λ (s : Stocked). s.ports) now ∙ pulled_ports p.key ((stocked i.stock).headers.todo p.key) (stocked i.stock))
+          (given_worlds g.C.Client.progress G c.args.place e c.args.index p c.self.invariant.0.worlds at here client h front was outside c.put_header.new.self c.give_header.new.self left now),
+      marked_set i.components.items i.marked c.args.place e c.put_header.new.self c.self.invariant.1 at (calm_same (component_of e) (component_of c.put_header.new.self) (ap (λ (x : Entry (g.row.C.Denot)). x.ports) left) (ap (λ (x : Entry (g.row.C.Denot)). x.pending) left)),
+    )
 
 pub returns-clause-change : goal.returns-clause-change
 returns-clause-change g c =
@@ -132,7 +138,7 @@ returns-clause-change g c =
     c.give_header.ensures ∙ (ap (λ (n : ℕ). header_given n (owners.Notice p.key.component) (stocked c.pull_todo.new.self)) id ∙ ap (λ (s : Stocked). header_given h.held.number (owners.Notice p.key.component) s) c.pull_todo.ensures.stock) in
     let left : c.put_header.new.self ≡ record e { queues = noted (header_note p.setting.definition.input (cleared h)) e.queues } =
     c.put_header.ensures ∙ ap (λ (x : BufferHeader). record e { queues = noted (header_note p.setting.definition.input x) e.queues }) c.clear.ensures in
-    rw (← c.self.view_is) (given_returns g.C.Client.progress G c.args.place e c.args.index p c.self.invariant.worlds at here client h front was outside c.put_header.new.self c.give_header.new.self left now)
+    rw (← c.self.view_is) (given_returns g.C.Client.progress G c.args.place e c.args.index p c.self.invariant.0.worlds at here client h front was outside c.put_header.new.self c.give_header.new.self left now)
 
 pub returns-in_default-pull_todo-clause-clients : goal.returns-in_default-pull_todo-clause-clients
 returns-in_default-pull_todo-clause-clients g c =

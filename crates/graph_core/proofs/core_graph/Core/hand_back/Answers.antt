@@ -21,7 +21,7 @@ give_notice-requires g c =
     let at : slice_get i.components.items c.args.place ≡ Some e = slice_get-get_or i.components.items c.args.place e b ∙ ap Some (sym c.index-component.ensures) in
     let here : port_of (component_of e) c.args.index ≡ Some p = sym c.port.ensures ∙ c.in-Some.is in
     let alone : p.state.link ≡ None = c.in_default-link.is in
-    rw (← c.self.view_is) (unjoined g.C.Client.progress G c.args.place e c.args.index p c.self.invariant.worlds at here alone)
+    rw (← c.self.view_is) (unjoined g.C.Client.progress G c.args.place e c.args.index p c.self.invariant.0.worlds at here alone)
 
 pub returns-in_default-link-clause-change : goal.returns-in_default-link-clause-change
 returns-in_default-link-clause-change g c =
@@ -34,7 +34,7 @@ returns-in_default-link-clause-change g c =
     let at : slice_get i.components.items c.args.place ≡ Some e = slice_get-get_or i.components.items c.args.place e b ∙ ap Some (sym c.index-component.ensures) in
     let here : port_of (component_of e) c.args.index ≡ Some p = sym c.port.ensures ∙ c.in-Some.is in
     let alone : p.state.link ≡ None = c.in_default-link.is in
-    rw (← c.self.view_is) (noticed_back g.C.Client.progress G c.args.place e c.args.index p c.self.invariant.worlds at here alone c.give_notice.new.self (rw (← c.self.view_is) at c.give_notice.ensures.change))
+    rw (← c.self.view_is) (noticed_back g.C.Client.progress G c.args.place e c.args.index p c.self.invariant.0.worlds at here alone c.give_notice.new.self (rw (← c.self.view_is) at c.give_notice.ensures.change))
 
 pub give_back-requires-clause-port : goal.give_back-requires-clause-port
 give_back-requires-clause-port g c =
@@ -46,7 +46,7 @@ give_back-requires-clause-port g c =
     let b : c.args.place < length i.components.items = within g.C.Client.progress G c.args.place _ asked in
     let at : slice_get i.components.items c.args.place ≡ Some e = slice_get-get_or i.components.items c.args.place e b ∙ ap Some (sym c.index-component.ensures) in
     let here : port_of (component_of e) c.args.index ≡ Some p = sym c.port.ensures ∙ c.in-Some.is in
-    port_kept g.C.Client.progress i.components.items (stocked i.stock) i.registry.given c.args.place c.args.index e p c.self.invariant.ports at here
+    port_kept g.C.Client.progress i.components.items (stocked i.stock) i.registry.given c.args.place c.args.index e p c.self.invariant.0.ports at here
 
 pub give_back-requires-clause-supplier : goal.give_back-requires-clause-supplier
 give_back-requires-clause-supplier g c =
@@ -60,7 +60,7 @@ give_back-requires-clause-supplier g c =
     let here : port_of (component_of e) c.args.index ≡ Some p = sym c.port.ensures ∙ c.in-Some.is in
     let link = c.in-Some-link.link in
     let joined : p.state.link ≡ Some link = c.in-Some-link.is in
-    peer_kept g.C.Client.progress G c.args.place e c.args.index p link c.self.invariant.worlds at here joined c.self.invariant.ports
+    peer_kept g.C.Client.progress G c.args.place e c.args.index p link c.self.invariant.0.worlds at here joined c.self.invariant.0.ports
 
 pub give_back-requires-clause-shared : goal.give_back-requires-clause-shared
 give_back-requires-clause-shared g c =
@@ -74,7 +74,7 @@ give_back-requires-clause-shared g c =
     let here : port_of (component_of e) c.args.index ≡ Some p = sym c.port.ensures ∙ c.in-Some.is in
     let link = c.in-Some-link.link in
     let joined : p.state.link ≡ Some link = c.in-Some-link.is in
-    shared g.C.Client.progress G c.args.place e c.args.index p c.self.invariant.worlds at here link joined
+    shared g.C.Client.progress G c.args.place e c.args.index p c.self.invariant.0.worlds at here link joined
 
 pub invariant_of-self : goal.invariant_of-self
 invariant_of-self g c =
@@ -87,9 +87,11 @@ invariant_of-self g c =
     let at : slice_get i.components.items c.args.place ≡ Some e = slice_get-get_or i.components.items c.args.place e b ∙ ap Some (sym c.index-component.ensures) in
     let here : port_of (component_of e) c.args.index ≡ Some p = sym c.port.ensures ∙ c.in-Some.is in
     let link = c.in-Some-link.link in
-    let joined : p.state.link ≡ Some link = c.in-Some-link.is in
-    graph_stocked g.C.Client.progress i.components.items i.registry i.stock c.give_back.new.stock i.units i.waits i.components.cap c.self.invariant c.give_back.ensures.ports
-    (back_worlds g.C.Client.progress G c.args.place e c.args.index p c.self.invariant.worlds at here link joined c.give_back.new.stock c.give_back.ensures)
+    let joined : p.state.link ≡ Some link = c.in-Some-link.is in (
+      graph_stocked g.C.Client.progress i.components.items i.registry i.stock c.give_back.new.stock i.units i.waits i.components.cap c.self.invariant.0 c.give_back.ensures.ports
+          (back_worlds g.C.Client.progress G c.args.place e c.args.index p c.self.invariant.0.worlds at here link joined c.give_back.new.stock c.give_back.ensures),
+      c.self.invariant.1,
+    )
 
 pub returns-clause-change : goal.returns-clause-change
 returns-clause-change g c =
@@ -103,7 +105,7 @@ returns-clause-change g c =
     let here : port_of (component_of e) c.args.index ≡ Some p = sym c.port.ensures ∙ c.in-Some.is in
     let link = c.in-Some-link.link in
     let joined : p.state.link ≡ Some link = c.in-Some-link.is in
-    rw (← c.self.view_is) (back_returns g.C.Client.progress G c.args.place e c.args.index p c.self.invariant.worlds at here link joined c.give_back.new.stock c.give_back.ensures)
+    rw (← c.self.view_is) (back_returns g.C.Client.progress G c.args.place e c.args.index p c.self.invariant.0.worlds at here link joined c.give_back.new.stock c.give_back.ensures)
 
 pub returns-clause-clients : goal.returns-clause-clients
 returns-clause-clients g c = rw (← c.self.view_is) (λ k. refl)

@@ -21,7 +21,7 @@ returns-in_default-link-clause-change g c =
     let at : slice_get i.components.items c.args.place ≡ Some e = slice_get-get_or i.components.items c.args.place e b ∙ ap Some (sym c.index-component.ensures) in
     let here : port_of (component_of e) c.args.index ≡ Some p = sym c.port.ensures ∙ c.in-Some.is in
     let alone : p.state.link ≡ None = c.in_default-link.is in
-    rw (← c.self.view_is) (over_nothing g.C.Client.progress G c.args.place e c.args.index p c.self.invariant.worlds at here alone)
+    rw (← c.self.view_is) (over_nothing g.C.Client.progress G c.args.place e c.args.index p c.self.invariant.0.worlds at here alone)
 
 pub pass_on-requires-clause-port : goal.pass_on-requires-clause-port
 pass_on-requires-clause-port g c =
@@ -33,7 +33,7 @@ pass_on-requires-clause-port g c =
     let b : c.args.place < length i.components.items = within g.C.Client.progress G c.args.place _ asked in
     let at : slice_get i.components.items c.args.place ≡ Some e = slice_get-get_or i.components.items c.args.place e b ∙ ap Some (sym c.index-component.ensures) in
     let here : port_of (component_of e) c.args.index ≡ Some p = sym c.port.ensures ∙ c.in-Some.is in
-    port_kept g.C.Client.progress i.components.items (stocked i.stock) i.registry.given c.args.place c.args.index e p c.self.invariant.ports at here
+    port_kept g.C.Client.progress i.components.items (stocked i.stock) i.registry.given c.args.place c.args.index e p c.self.invariant.0.ports at here
 
 pub pass_on-requires-clause-peer : goal.pass_on-requires-clause-peer
 pass_on-requires-clause-peer g c =
@@ -47,7 +47,7 @@ pass_on-requires-clause-peer g c =
     let here : port_of (component_of e) c.args.index ≡ Some p = sym c.port.ensures ∙ c.in-Some.is in
     let link = c.in-Some-link.link in
     let joined : p.state.link ≡ Some link = c.in-Some-link.is in
-    peer_kept g.C.Client.progress G c.args.place e c.args.index p link c.self.invariant.worlds at here joined c.self.invariant.ports
+    peer_kept g.C.Client.progress G c.args.place e c.args.index p link c.self.invariant.0.worlds at here joined c.self.invariant.0.ports
 
 pub pass_on-requires-clause-shared : goal.pass_on-requires-clause-shared
 pass_on-requires-clause-shared g c =
@@ -61,7 +61,7 @@ pass_on-requires-clause-shared g c =
     let here : port_of (component_of e) c.args.index ≡ Some p = sym c.port.ensures ∙ c.in-Some.is in
     let link = c.in-Some-link.link in
     let joined : p.state.link ≡ Some link = c.in-Some-link.is in
-    shared g.C.Client.progress G c.args.place e c.args.index p c.self.invariant.worlds at here link joined
+    shared g.C.Client.progress G c.args.place e c.args.index p c.self.invariant.0.worlds at here link joined
 
 pub invariant_of-self : goal.invariant_of-self
 invariant_of-self g c =
@@ -74,9 +74,11 @@ invariant_of-self g c =
     let at : slice_get i.components.items c.args.place ≡ Some e = slice_get-get_or i.components.items c.args.place e b ∙ ap Some (sym c.index-component.ensures) in
     let here : port_of (component_of e) c.args.index ≡ Some p = sym c.port.ensures ∙ c.in-Some.is in
     let link = c.in-Some-link.link in
-    let joined : p.state.link ≡ Some link = c.in-Some-link.is in
-    graph_stocked g.C.Client.progress i.components.items i.registry i.stock c.pass_on.new.stock i.units i.waits i.components.cap c.self.invariant c.pass_on.ensures.ports
-    (over_worlds g.C.Client.progress G c.args.place e c.args.index p c.self.invariant.worlds at here link joined c.pass_on.new.stock c.pass_on.ensures)
+    let joined : p.state.link ≡ Some link = c.in-Some-link.is in (
+      graph_stocked g.C.Client.progress i.components.items i.registry i.stock c.pass_on.new.stock i.units i.waits i.components.cap c.self.invariant.0 c.pass_on.ensures.ports
+          (over_worlds g.C.Client.progress G c.args.place e c.args.index p c.self.invariant.0.worlds at here link joined c.pass_on.new.stock c.pass_on.ensures),
+      c.self.invariant.1,
+    )
 
 pub returns-clause-change : goal.returns-clause-change
 returns-clause-change g c =
@@ -90,7 +92,7 @@ returns-clause-change g c =
     let here : port_of (component_of e) c.args.index ≡ Some p = sym c.port.ensures ∙ c.in-Some.is in
     let link = c.in-Some-link.link in
     let joined : p.state.link ≡ Some link = c.in-Some-link.is in
-    rw (← c.self.view_is) (over_returns g.C.Client.progress G c.args.place e c.args.index p c.self.invariant.worlds at here link joined c.pass_on.new.stock c.pass_on.ensures)
+    rw (← c.self.view_is) (over_returns g.C.Client.progress G c.args.place e c.args.index p c.self.invariant.0.worlds at here link joined c.pass_on.new.stock c.pass_on.ensures)
 
 pub returns-clause-clients : goal.returns-clause-clients
 returns-clause-clients g c = rw (← c.self.view_is) (λ k. refl)

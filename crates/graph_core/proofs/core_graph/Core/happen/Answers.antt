@@ -8,6 +8,7 @@ use Rattle.port_rules.specs.Tests.{thing_of}
 use Rattle.port_rules.proofs.Happenings.{of_some}
 use Rattle.graph_core.proofs.Clients.{clients_set}
 use Rattle.graph_core.proofs.Happens.{in_order_there, graph_after, happens_after, fewer_after, after, number_left}
+use Rattle.graph_core.proofs.Marking.{marked_set, due_restless}
 use Rattle.graph_core.proofs.core_graph.Core.happen.Goals as goal
 
 pub happen_in-waits-requires : goal.happen_in-waits-requires
@@ -19,8 +20,8 @@ happen_in-waits-requires g c =
     let at : slice_get i.components.items c.args.place ≡ Some e = slice_get-get_or i.components.items c.args.place e b ∙ ap Some (sym c.index_mut-component.ensures.value) in
     let asked = subst (λ (x : Entries (g.row.C.Denot)). IsDueAt (look_of x).headers x.entries c.args.place c.args.due) (sym c.self.view_is) c.requires.due in
     record {
-      in_order = in_order_there g.C.Client.progress i.components.items i.registry i.stock i.units i.waits i.components.cap c.args.place e c.self.invariant at;
-      left = number_left g.C.Client.progress i.components.items i.registry i.stock i.units i.waits i.components.cap c.args.place e c.self.invariant at;
+      in_order = in_order_there g.C.Client.progress i.components.items i.registry i.stock i.units i.waits i.components.cap c.args.place e c.self.invariant.0 at;
+      left = number_left g.C.Client.progress i.components.items i.registry i.stock i.units i.waits i.components.cap c.args.place e c.self.invariant.0 at;
       first = of_some (slice_get i.components.items c.args.place) (λ (x : Entry (g.row.C.Denot)). due_in (look_of G).headers (component_of x) ≡ Some (thing_of c.args.due)) e at asked;
     }
 
@@ -33,8 +34,10 @@ invariant_of-self g c =
     let b : c.args.place < length i.components.items = rw (← c.self.view_is) at c.requires.within in
     let at : slice_get i.components.items c.args.place ≡ Some e = slice_get-get_or i.components.items c.args.place e b ∙ ap Some (sym c.index_mut-component.ensures.value) in
     let asked = subst (λ (x : Entries (g.row.C.Denot)). IsDueAt (look_of x).headers x.entries c.args.place c.args.due) (sym c.self.view_is) c.requires.due in
-    let due = of_some (slice_get i.components.items c.args.place) (λ (x : Entry (g.row.C.Denot)). due_in (look_of G).headers (component_of x) ≡ Some (thing_of c.args.due)) e at asked in
-    graph_after g.C.Client.progress i.components.items i.registry i.stock c.happen_in-waits.new.stock i.units i.waits i.components.cap c.args.place e d (thing_of c.args.due) c.happen_in-waits.result c.self.invariant at c.happen_in-waits.ensures.kept c.happen_in-waits.ensures.happened due
+    let due = of_some (slice_get i.components.items c.args.place) (λ (x : Entry (g.row.C.Denot)). due_in (look_of G).headers (component_of x) ≡ Some (thing_of c.args.due)) e at asked in (
+      graph_after g.C.Client.progress i.components.items i.registry i.stock c.happen_in-waits.new.stock i.units i.waits i.components.cap c.args.place e d (thing_of c.args.due) c.happen_in-waits.result c.self.invariant.0 at c.happen_in-waits.ensures.kept c.happen_in-waits.ensures.happened due,
+      marked_set i.components.items i.marked c.args.place e d c.self.invariant.1 at (due_restless (look_of G).headers e (λ none. let two = sym none ∙ due in cc)),
+    )
 
 pub returns : goal.returns
 returns g c =
@@ -51,6 +54,6 @@ returns g c =
     let F = happens_after g.C.Client.progress G c.args.place e d c.happen_in-waits.new.stock (thing_of c.args.due) c.happen_in-waits.result at c.happen_in-waits.ensures.kept H first due in
     record {
       happens = rw (← c.self.view_is) F;
-      fewer = rw (← c.self.view_is) (fewer_after g.C.Client.progress G (after g.C.Client.progress G c.args.place d c.happen_in-waits.new.stock c.happen_in-waits.result) c.self.invariant.worlds F);
+      fewer = rw (← c.self.view_is) (fewer_after g.C.Client.progress G (after g.C.Client.progress G c.args.place d c.happen_in-waits.new.stock c.happen_in-waits.result) c.self.invariant.0.worlds F);
       clients = rw (← c.self.view_is) (clients_set i.components.items c.args.place e d at H.component.handle c.happen_in-waits.ensures.kept.client);
     }

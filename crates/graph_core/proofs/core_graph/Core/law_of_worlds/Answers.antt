@@ -8,9 +8,9 @@ returns g c =
     let i = c.self.inside in
     let p = g.C.Client.progress in
     let G : Entries (g.row.C.Denot) = record { entries = i.components.items; stock = i.stock; units = i.units; waits = i.waits; numbered = i.registry.given } in
-    let sound = all_sound p G c.self.invariant.worlds in
+    let sound = all_sound p G c.self.invariant.0.worlds in
     rw (← c.self.view_is) (record {
-      one = c.self.invariant.worlds;
+      one = c.self.invariant.0.worlds;
       sound = sound;
       census = λ w S. (sound_census w (sound w S)).0;
       room = λ w S. (sound_census w (sound w S)).1;

@@ -21,7 +21,7 @@ make_header-requires-clause-port g c =
     let b : c.args.place < length i.components.items = within g.C.Client.progress G c.args.place _ asked in
     let at : slice_get i.components.items c.args.place ≡ Some e = slice_get-get_or i.components.items c.args.place e b ∙ ap Some (sym c.index-component.ensures) in
     let here : port_of (component_of e) c.args.index ≡ Some p = sym c.port.ensures ∙ c.in-Some.is in
-    port_kept g.C.Client.progress i.components.items (stocked i.stock) i.registry.given c.args.place c.args.index e p c.self.invariant.ports at here
+    port_kept g.C.Client.progress i.components.items (stocked i.stock) i.registry.given c.args.place c.args.index e p c.self.invariant.0.ports at here
 
 pub make_header-requires-clause-some : goal.make_header-requires-clause-some
 make_header-requires-clause-some g c =
@@ -34,7 +34,7 @@ make_header-requires-clause-some g c =
     let at : slice_get i.components.items c.args.place ≡ Some e = slice_get-get_or i.components.items c.args.place e b ∙ ap Some (sym c.index-component.ensures) in
     let here : port_of (component_of e) c.args.index ≡ Some p = sym c.port.ensures ∙ c.in-Some.is in
     let M : IsMakable (look_of G) (component_of e) p c.args.memory = rw (there g.C.Client.progress G c.args.place e at, here) at asked in
-    least_size g.C.Client.progress G c.args.place e c.args.index p c.self.invariant.worlds at here c.args.memory M
+    least_size g.C.Client.progress G c.args.place e c.args.index p c.self.invariant.0.worlds at here c.args.memory M
 
 pub make_header-requires-clause-limit : goal.make_header-requires-clause-limit
 make_header-requires-clause-limit g c =
@@ -47,7 +47,7 @@ make_header-requires-clause-limit g c =
     let at : slice_get i.components.items c.args.place ≡ Some e = slice_get-get_or i.components.items c.args.place e b ∙ ap Some (sym c.index-component.ensures) in
     let here : port_of (component_of e) c.args.index ≡ Some p = sym c.port.ensures ∙ c.in-Some.is in
     let M : IsMakable (look_of G) (component_of e) p c.args.memory = rw (there g.C.Client.progress G c.args.place e at, here) at asked in
-    most_size g.C.Client.progress G c.args.place e c.args.index p c.self.invariant.worlds at here c.args.memory M
+    most_size g.C.Client.progress G c.args.place e c.args.index p c.self.invariant.0.worlds at here c.args.memory M
 
 pub make_header-requires-clause-fits : goal.make_header-requires-clause-fits
 make_header-requires-clause-fits g c =
@@ -86,7 +86,7 @@ make_header-requires-clause-few g c =
     let at : slice_get i.components.items c.args.place ≡ Some e = slice_get-get_or i.components.items c.args.place e b ∙ ap Some (sym c.index-component.ensures) in
     let here : port_of (component_of e) c.args.index ≡ Some p = sym c.port.ensures ∙ c.in-Some.is in
     let M : IsMakable (look_of G) (component_of e) p c.args.memory = rw (there g.C.Client.progress G c.args.place e at, here) at asked in
-    few_made g.C.Client.progress G c.args.place e c.args.index p c.self.invariant.worlds at here c.args.memory M
+    few_made g.C.Client.progress G c.args.place e c.args.index p c.self.invariant.0.worlds at here c.args.memory M
 
 pub invariant_of-self : goal.invariant_of-self
 invariant_of-self g c =
@@ -98,9 +98,11 @@ invariant_of-self g c =
     let b : c.args.place < length i.components.items = within g.C.Client.progress G c.args.place _ asked in
     let at : slice_get i.components.items c.args.place ≡ Some e = slice_get-get_or i.components.items c.args.place e b ∙ ap Some (sym c.index-component.ensures) in
     let here : port_of (component_of e) c.args.index ≡ Some p = sym c.port.ensures ∙ c.in-Some.is in
-    let M : IsMakable (look_of G) (component_of e) p c.args.memory = rw (there g.C.Client.progress G c.args.place e at, here) at asked in
-    graph_stocked g.C.Client.progress i.components.items i.registry i.stock c.make_header.new.self i.units i.waits i.components.cap c.self.invariant (ap (λ (s : Stocked). s.ports) c.make_header.ensures.stock)
-    (made_worlds g.C.Client.progress G c.args.place e c.args.index p c.self.invariant.worlds at here c.args.memory M c.make_header.ensures.new_number c.make_header.new.self c.make_header.ensures.stock)
+    let M : IsMakable (look_of G) (component_of e) p c.args.memory = rw (there g.C.Client.progress G c.args.place e at, here) at asked in (
+      graph_stocked g.C.Client.progress i.components.items i.registry i.stock c.make_header.new.self i.units i.waits i.components.cap c.self.invariant.0 (ap (λ (s : Stocked). s.ports) c.make_header.ensures.stock)
+          (made_worlds g.C.Client.progress G c.args.place e c.args.index p c.self.invariant.0.worlds at here c.args.memory M c.make_header.ensures.new_number c.make_header.new.self c.make_header.ensures.stock),
+      c.self.invariant.1,
+    )
 
 pub returns-clause-header : goal.returns-clause-header
 returns-clause-header g c =
@@ -125,7 +127,7 @@ returns-clause-change g c =
     let at : slice_get i.components.items c.args.place ≡ Some e = slice_get-get_or i.components.items c.args.place e b ∙ ap Some (sym c.index-component.ensures) in
     let here : port_of (component_of e) c.args.index ≡ Some p = sym c.port.ensures ∙ c.in-Some.is in
     let M : IsMakable (look_of G) (component_of e) p c.args.memory = rw (there g.C.Client.progress G c.args.place e at, here) at asked in
-    rw (← c.self.view_is) (made_returns g.C.Client.progress G c.args.place e c.args.index p c.self.invariant.worlds at here c.args.memory M c.make_header.ensures.new_number c.make_header.new.self c.make_header.ensures.stock)
+    rw (← c.self.view_is) (made_returns g.C.Client.progress G c.args.place e c.args.index p c.self.invariant.0.worlds at here c.args.memory M c.make_header.ensures.new_number c.make_header.new.self c.make_header.ensures.stock)
 
 pub unreachable-requires-then-not-numbers_left : goal.unreachable-requires-then-not-numbers_left
 unreachable-requires-then-not-numbers_left g c =

@@ -17,7 +17,7 @@ made-requires g c =
     let b : c.args.place < length i.components.items = rw (← c.self.view_is) at c.requires in
     let at : slice_get i.components.items c.args.place ≡ Some e = slice_get-get_or i.components.items c.args.place e b ∙ ap Some (sym c.index-component.ensures) in
     port_kept (component_of e) (stocked i.stock) c.args.index c.in_ok-port.port
-    (all_ports p i.components.items i.registry i.stock i.units i.waits i.components.cap c.args.place e c.self.invariant at) (sym c.in_ok-port.ensures)
+    (all_ports p i.components.items i.registry i.stock i.units i.waits i.components.cap c.args.place e c.self.invariant.0 at) (sym c.in_ok-port.ensures)
 
 pub returns : goal.returns
 returns g c =

@@ -1,4 +1,4 @@
-use Rattle.std.proofs.Common.{◌≡◌, ◌+◌, ◌≤◌, ◌<◌, length, slice_get, Some, sym, ◌∙◌, ap, subst}
+use Rattle.std.proofs.Common.{◌≡◌, ◌+◌, ◌≤◌, ◌<◌, length, slice_get, Some, sym, ◌∙◌, ap, subst, arith}
 use Rattle.std.proofs.lemmas.Option.{slice_get-get_or}
 use Rattle.omx_types.specs.declared.state.State.TheVariants.{WaitForResources}
 use Rattle.il_machine.specs.World.{Component}
@@ -19,6 +19,7 @@ use Rattle.graph_core.proofs.Replacing.{there, component_sound, graph_changed}
 use Rattle.graph_core.proofs.SameParts.{part_as}
 use Rattle.graph_core.proofs.Stepping.{at_world}
 use Rattle.graph_core.proofs.Waiters.{waiters_set}
+use Rattle.graph_core.proofs.Marking.{marked_more}
 use Rattle.graph_core.proofs.core_graph.Core.preempt.Goals as goal
 
 pub preempt-requires : goal.preempt-requires
@@ -32,8 +33,19 @@ preempt-requires g c =
     let at : slice_get es c.in-Some.place ≡ Some e = slice_get-get_or es c.in-Some.place e within ∙ ap Some (sym c.index_mut-component.ensures.value) in
     let first : victim (components_of es) ≡ Some (component_of e) = sym found ∙ component_there es c.in-Some.place e at in
     let M = may_lose (look_of G) (component_of e) (rw (← c.self.view_is) at c.requires) first in
-    let S : IsSound (component_of e) = component_sound g.C.Client.progress G c.in-Some.place (component_of e) c.self.invariant.worlds (there g.C.Client.progress G c.in-Some.place e at) in
-    (sound_preempted (c.self.invariant.worlds).world.waits (component_of e) S (units_there g.C.Client.progress G c.in-Some.place e c.self.invariant.worlds at) M.victim M.room).room
+    let S : IsSound (component_of e) = component_sound g.C.Client.progress G c.in-Some.place (component_of e) c.self.invariant.0.worlds (there g.C.Client.progress G c.in-Some.place e at) in
+    (sound_preempted (c.self.invariant.0.worlds).world.waits (component_of e) S (units_there g.C.Client.progress G c.in-Some.place e c.self.invariant.0.worlds at) M.victim M.room).room
+
+pub insert-requires : goal.insert-requires
+insert-requires g c =
+    let i = c.self.inside in
+    let es = i.components.items in
+    let e = c.index_mut-component.result.now in
+    let G : Entries (g.row.C.Denot) = record { entries = es; stock = i.stock; units = i.units; waits = i.waits; numbered = i.registry.given } in
+    let found : slice_get (components_of es) c.in-Some.place ≡ victim (components_of es) = rw (← c.self.view_is) at c.in-Some.ensures.victim in
+    let within : c.in-Some.place < length es = rw (← c.self.view_is) at c.in-Some.ensures.within in
+    let few = c.self.invariant.0.few in
+    omega arith
 
 pub invariant_of-self : goal.invariant_of-self
 invariant_of-self g c =
@@ -46,16 +58,18 @@ invariant_of-self g c =
     let at : slice_get es c.in-Some.place ≡ Some e = slice_get-get_or es c.in-Some.place e within ∙ ap Some (sym c.index_mut-component.ensures.value) in
     let first : victim (components_of es) ≡ Some (component_of e) = sym found ∙ component_there es c.in-Some.place e at in
     let M = may_lose (look_of G) (component_of e) (rw (← c.self.view_is) at c.requires) first in
-    let S : IsSound (component_of e) = component_sound g.C.Client.progress G c.in-Some.place (component_of e) c.self.invariant.worlds (there g.C.Client.progress G c.in-Some.place e at) in
-    let q = c.preempt.ensures.component in
-    graph_changed g.C.Client.progress es i.registry i.stock i.units i.waits i.components.cap c.in-Some.place e c.preempt.new.self c.self.invariant at c.preempt.ensures.kept
-    (part_as (component_of e) (component_of c.preempt.new.self) (preempted_units (component_of e)) q (part_preempted (component_of e)))
-    (rw q (change_preempted (component_of e))) (rw q (sound_preempted (c.self.invariant.worlds).world.waits (component_of e) S (units_there g.C.Client.progress G c.in-Some.place e c.self.invariant.worlds at) M.victim M.room))
-    (λ w s sound.
-    let t : slice_get w.components c.in-Some.place ≡ Some (component_of e) = at_world g.C.Client.progress G c.in-Some.place e w s at in
-    subst (IsFair (free_units (look w)) w.waits w.waits (component_of e)) (sym q)
-    (fair_more (free_units (look w)) w.waits w.waits (component_of e) (preempted_units (component_of e)) (fair_preempted w.waits (component_of e) ((resources_of w sound).each c.in-Some.place (component_of e) t) M.victim (out_there w c.in-Some.place (component_of e) sound t))))
-    (waiters_set es c.in-Some.place e c.preempt.new.self i.waits i.waits at (subst (λ (x : Component). i.waits + weight (is_going_to WaitForResources x) ≤ i.waits + weight (is_going_to WaitForResources (component_of e))) (sym q) (few_preempted i.waits (component_of e))) c.self.invariant.numbers)
+    let S : IsSound (component_of e) = component_sound g.C.Client.progress G c.in-Some.place (component_of e) c.self.invariant.0.worlds (there g.C.Client.progress G c.in-Some.place e at) in
+    let q = c.preempt.ensures.component in (
+      graph_changed g.C.Client.progress es i.registry i.stock i.units i.waits i.components.cap c.in-Some.place e c.preempt.new.self c.self.invariant.0 at c.preempt.ensures.kept
+          (part_as (component_of e) (component_of c.preempt.new.self) (preempted_units (component_of e)) q (part_preempted (component_of e)))
+          (rw q (change_preempted (component_of e))) (rw q (sound_preempted (c.self.invariant.0.worlds).world.waits (component_of e) S (units_there g.C.Client.progress G c.in-Some.place e c.self.invariant.0.worlds at) M.victim M.room))
+          (λ w s sound.
+          let t : slice_get w.components c.in-Some.place ≡ Some (component_of e) = at_world g.C.Client.progress G c.in-Some.place e w s at in
+          subst (IsFair (free_units (look w)) w.waits w.waits (component_of e)) (sym q)
+          (fair_more (free_units (look w)) w.waits w.waits (component_of e) (preempted_units (component_of e)) (fair_preempted w.waits (component_of e) ((resources_of w sound).each c.in-Some.place (component_of e) t) M.victim (out_there w c.in-Some.place (component_of e) sound t))))
+          (waiters_set es c.in-Some.place e c.preempt.new.self i.waits i.waits at (subst (λ (x : Component). i.waits + weight (is_going_to WaitForResources x) ≤ i.waits + weight (is_going_to WaitForResources (component_of e))) (sym q) (few_preempted i.waits (component_of e))) c.self.invariant.0.numbers),
+      marked_more es i.marked c.in-Some.place e c.preempt.new.self c.self.invariant.1 at c.insert.new.self c.insert.ensures,
+    )
 
 pub returns-clause-change : goal.returns-clause-change
 returns-clause-change g c =
@@ -70,7 +84,7 @@ returns-clause-change g c =
     let q = c.preempt.ensures.component in
     rw (← c.self.view_is) (rw first (
       c.handle.ensures ∙ (ap (λ (x : Component). x.handle) q ∙ (change_preempted (component_of e)).handle),
-      units_changed g.C.Client.progress G c.in-Some.place e c.preempt.new.self preempted_units c.self.invariant.worlds at c.preempt.ensures.kept
+      units_changed g.C.Client.progress G c.in-Some.place e c.preempt.new.self preempted_units c.self.invariant.0.worlds at c.preempt.ensures.kept
           (part_as (component_of e) (component_of c.preempt.new.self) (preempted_units (component_of e)) q (part_preempted (component_of e))) q,
     ))
 

@@ -1,12 +1,14 @@
 use Rattle.std.proofs.Common.{◌≡◌, ◌<◌, true, length, slice_get, Some, is_none, refl, sym, ◌∙◌, ap}
 use Rattle.std.proofs.lemmas.Option.{slice_get-get_or}
-use Rattle.il_component.specs.Entries.{Entry}
+use Rattle.il_component.specs.Entries.{Entry, component_of}
 use Rattle.graph_core.specs.Entries.{Entries}
 use Rattle.graph_core.proofs.Clients.{others_set, client_set, in_now}
 use Rattle.graph_core.proofs.Renumbered.{own_place}
 use Rattle.graph_core.proofs.Replacing.{there, within}
 use Rattle.graph_core.proofs.Stepping.{graph_with}
 use Rattle.graph_core.proofs.Returning.{back_worlds, back_returns}
+use Rattle.graph_core.proofs.Marking.{marked_set}
+use Rattle.graph_core.proofs.Calming.{calm_same}
 use Rattle.graph_core.proofs.core_graph.Core.put_client.Goals as goal
 
 pub put_client-requires : goal.put_client-requires
@@ -28,10 +30,12 @@ invariant_of-self g c =
     let b : c.args.place < length i.components.items = within g.C.Client.progress G c.args.place _ asked in
     let at : slice_get i.components.items c.args.place ≡ Some e = slice_get-get_or i.components.items c.args.place e b ∙ ap Some (sym c.index_mut-component.ensures.value) in
     let d = c.put_client.new.self in
-    let out : is_none e.queues.client ≡ true = rw (there g.C.Client.progress G c.args.place e at) at asked in
-    graph_with g.C.Client.progress i.components.items i.registry i.stock i.stock i.units i.waits i.components.cap c.args.place e d c.self.invariant at
-    (ap (λ (x : Entry (g.row.C.Denot)). x.handle) c.put_client.ensures) (ap (λ (x : Entry (g.row.C.Denot)). x.ports) c.put_client.ensures) (ap (λ (x : Entry (g.row.C.Denot)). x.pending) c.put_client.ensures) refl
-    (back_worlds g.C.Client.progress G c.args.place e c.args.client c.self.invariant.worlds at d c.put_client.ensures c.requires.told out)
+    let out : is_none e.queues.client ≡ true = rw (there g.C.Client.progress G c.args.place e at) at asked in (
+      graph_with g.C.Client.progress i.components.items i.registry i.stock i.stock i.units i.waits i.components.cap c.args.place e d c.self.invariant.0 at
+          (ap (λ (x : Entry (g.row.C.Denot)). x.handle) c.put_client.ensures) (ap (λ (x : Entry (g.row.C.Denot)). x.ports) c.put_client.ensures) (ap (λ (x : Entry (g.row.C.Denot)). x.pending) c.put_client.ensures) refl
+          (back_worlds g.C.Client.progress G c.args.place e c.args.client c.self.invariant.0.worlds at d c.put_client.ensures c.requires.told out),
+      marked_set i.components.items i.marked c.args.place e d c.self.invariant.1 at (calm_same (component_of e) (component_of d) (ap (λ (x : Entry (g.row.C.Denot)). x.ports) c.put_client.ensures) (ap (λ (x : Entry (g.row.C.Denot)). x.pending) c.put_client.ensures)),
+    )
 
 pub returns-clause-change : goal.returns-clause-change
 returns-clause-change g c =
@@ -41,7 +45,7 @@ returns-clause-change g c =
     let asked = rw (← c.self.view_is) at c.requires.out in
     let b : c.args.place < length i.components.items = within g.C.Client.progress G c.args.place _ asked in
     let at : slice_get i.components.items c.args.place ≡ Some e = slice_get-get_or i.components.items c.args.place e b ∙ ap Some (sym c.index_mut-component.ensures.value) in
-    rw (← c.self.view_is) (back_returns g.C.Client.progress G c.args.place e c.args.client c.self.invariant.worlds at c.put_client.new.self c.put_client.ensures)
+    rw (← c.self.view_is) (back_returns g.C.Client.progress G c.args.place e c.args.client c.self.invariant.0.worlds at c.put_client.new.self c.put_client.ensures)
 
 pub returns-clause-client : goal.returns-clause-client
 returns-clause-client g c =
@@ -52,7 +56,7 @@ returns-clause-client g c =
     let b : c.args.place < length i.components.items = within g.C.Client.progress G c.args.place _ asked in
     let at : slice_get i.components.items c.args.place ≡ Some e = slice_get-get_or i.components.items c.args.place e b ∙ ap Some (sym c.index_mut-component.ensures.value) in
     let m = ap (λ (x : Entry (g.row.C.Denot)). x.handle) c.put_client.ensures in
-    let own = own_place i.components.items i.registry c.args.place e c.self.invariant.registered at in
+    let own = own_place i.components.items i.registry c.args.place e c.self.invariant.0.registered at in
     rw (← c.self.view_is, there g.C.Client.progress G c.args.place e at)
     (ap in_now (client_set i.components.items c.args.place e c.put_client.new.self e.handle own at m) ∙ ap (λ (x : Entry (g.row.C.Denot)). x.queues.client) c.put_client.ensures)
 

@@ -23,7 +23,7 @@ take_front-requires g c =
     let b : c.args.place < length i.components.items = within g.C.Client.progress G c.args.place _ asked in
     let at : slice_get i.components.items c.args.place ≡ Some e = slice_get-get_or i.components.items c.args.place e b ∙ ap Some (sym c.index-component.ensures) in
     let here : port_of (component_of e) c.args.index ≡ Some p = sym c.port.ensures ∙ c.in-Some.is in
-    port_kept g.C.Client.progress i.components.items (stocked i.stock) i.registry.given c.args.place c.args.index e p c.self.invariant.ports at here
+    port_kept g.C.Client.progress i.components.items (stocked i.stock) i.registry.given c.args.place c.args.index e p c.self.invariant.0.ports at here
 
 pub unreachable-requires-in_default-take_front : goal.unreachable-requires-in_default-take_front
 unreachable-requires-in_default-take_front g c =
@@ -52,9 +52,11 @@ invariant_of-self g c =
     let header = c.in-Some-take_front.header in
     let n = header.held.number in
     let front : Some n ≡ slice_get (in_port (stocked i.stock).headers p) 0 = sym (ap (option_map number_of) c.in-Some-take_front.is) ∙ c.take_front.ensures.front in
-    let now : stocked c.unmake_header-memory.new.self ≡ header_unmade n (front_left p.key (stocked i.stock)) = c.unmake_header-memory.ensures.stock ∙ ap (header_unmade n) c.take_front.ensures.stock in
-    graph_stocked g.C.Client.progress i.components.items i.registry i.stock c.unmake_header-memory.new.self i.units i.waits i.components.cap c.self.invariant (ap (λ (s : Stocked). s.ports) now ∙ front_left_ports p.key (stocked i.stock))
-    (released_worlds g.C.Client.progress G c.args.place e c.args.index p n c.self.invariant.worlds at here front c.unmake_header-memory.new.self now)
+    let now : stocked c.unmake_header-memory.new.self ≡ header_unmade n (front_left p.key (stocked i.stock)) = c.unmake_header-memory.ensures.stock ∙ ap (header_unmade n) c.take_front.ensures.stock in (
+      graph_stocked g.C.Client.progress i.components.items i.registry i.stock c.unmake_header-memory.new.self i.units i.waits i.components.cap c.self.invariant.0 (ap (λ (s : Stocked). s.ports) now ∙ front_left_ports p.key (stocked i.stock))
+          (released_worlds g.C.Client.progress G c.args.place e c.args.index p n c.self.invariant.0.worlds at here front c.unmake_header-memory.new.self now),
+      c.self.invariant.1,
+    )
 
 pub returns-clause-change : goal.returns-clause-change
 returns-clause-change g c =
@@ -70,7 +72,7 @@ returns-clause-change g c =
     let n = header.held.number in
     let front : Some n ≡ slice_get (in_port (stocked i.stock).headers p) 0 = sym (ap (option_map number_of) c.in-Some-take_front.is) ∙ c.take_front.ensures.front in
     let now : stocked c.unmake_header-memory.new.self ≡ header_unmade n (front_left p.key (stocked i.stock)) = c.unmake_header-memory.ensures.stock ∙ ap (header_unmade n) c.take_front.ensures.stock in
-    rw (← c.self.view_is) (released_returns g.C.Client.progress G c.args.place e c.args.index p n c.self.invariant.worlds at here front c.unmake_header-memory.new.self now)
+    rw (← c.self.view_is) (released_returns g.C.Client.progress G c.args.place e c.args.index p n c.self.invariant.0.worlds at here front c.unmake_header-memory.new.self now)
 
 pub returns-clause-clients : goal.returns-clause-clients
 returns-clause-clients g c = rw (← c.self.view_is) (λ k. refl)

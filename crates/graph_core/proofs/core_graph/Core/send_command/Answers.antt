@@ -20,6 +20,8 @@ use Rattle.graph_core.specs.Entries.{Entries, look_of}
 use Rattle.graph_core.proofs.Clients.{clients_set}
 use Rattle.graph_core.proofs.Replacing.{there, within, component_sound, graph_changed, returns_changed}
 use Rattle.graph_core.proofs.Accepted.{fits}
+use Rattle.graph_core.proofs.Marking.{marked_set}
+use Rattle.graph_core.proofs.Calming.{calm_as, calm_sent}
 use Rattle.graph_core.proofs.core_graph.Core.send_command.Goals as goal
 
 pub send-requires : goal.send-requires
@@ -42,15 +44,17 @@ invariant_of-self g c =
     let b : c.args.place < length i.components.items = within g.C.Client.progress G c.args.place _ asked in
     let at : slice_get i.components.items c.args.place ≡ Some e = slice_get-get_or i.components.items c.args.place e b ∙ ap Some (sym c.index_mut-component.ensures.value) in
     let r = rw (there g.C.Client.progress G c.args.place e at) at asked in
-    let S : IsSound (component_of e) = component_sound g.C.Client.progress G c.args.place (component_of e) c.self.invariant.worlds (there g.C.Client.progress G c.args.place e at) in
-    graph_changed g.C.Client.progress i.components.items i.registry i.stock i.units i.waits i.components.cap c.args.place e c.send.new.self c.self.invariant at c.send.ensures.kept
-    (part_as (component_of e) (component_of c.send.new.self) (sent c.args.command (component_of e)) c.send.ensures.component (part_sent c.args.command (component_of e)))
-    (rw c.send.ensures.component (change_sent c.args.command (component_of e))) (rw c.send.ensures.component (sound_sent (look_of G) c.args.command (component_of e) S r))
-    (λ w s sound.
-    let t : slice_get w.components c.args.place ≡ Some (component_of e) = at_world g.C.Client.progress G c.args.place e w s at in
-    subst (IsFair (free_units (look w)) w.waits w.waits (component_of e)) (sym c.send.ensures.component)
-    (fair_more (free_units (look w)) w.waits w.waits (component_of e) (sent c.args.command (component_of e)) (fair_sent w.waits c.args.command (component_of e) ((resources_of w sound).each c.args.place (component_of e) t) (out_there w c.args.place (component_of e) sound t))))
-    (waiters_set i.components.items c.args.place e c.send.new.self i.waits i.waits at (subst (λ (x : Component). i.waits + weight (is_going_to WaitForResources x) ≤ i.waits + weight (is_going_to WaitForResources (component_of e))) (sym c.send.ensures.component) (few_sent i.waits c.args.command (component_of e))) c.self.invariant.numbers)
+    let S : IsSound (component_of e) = component_sound g.C.Client.progress G c.args.place (component_of e) c.self.invariant.0.worlds (there g.C.Client.progress G c.args.place e at) in (
+      graph_changed g.C.Client.progress i.components.items i.registry i.stock i.units i.waits i.components.cap c.args.place e c.send.new.self c.self.invariant.0 at c.send.ensures.kept
+          (part_as (component_of e) (component_of c.send.new.self) (sent c.args.command (component_of e)) c.send.ensures.component (part_sent c.args.command (component_of e)))
+          (rw c.send.ensures.component (change_sent c.args.command (component_of e))) (rw c.send.ensures.component (sound_sent (look_of G) c.args.command (component_of e) S r))
+          (λ w s sound.
+          let t : slice_get w.components c.args.place ≡ Some (component_of e) = at_world g.C.Client.progress G c.args.place e w s at in
+          subst (IsFair (free_units (look w)) w.waits w.waits (component_of e)) (sym c.send.ensures.component)
+          (fair_more (free_units (look w)) w.waits w.waits (component_of e) (sent c.args.command (component_of e)) (fair_sent w.waits c.args.command (component_of e) ((resources_of w sound).each c.args.place (component_of e) t) (out_there w c.args.place (component_of e) sound t))))
+          (waiters_set i.components.items c.args.place e c.send.new.self i.waits i.waits at (subst (λ (x : Component). i.waits + weight (is_going_to WaitForResources x) ≤ i.waits + weight (is_going_to WaitForResources (component_of e))) (sym c.send.ensures.component) (few_sent i.waits c.args.command (component_of e))) c.self.invariant.0.numbers),
+      marked_set i.components.items i.marked c.args.place e c.send.new.self c.self.invariant.1 at (calm_as (component_of e) (component_of c.send.new.self) (sent c.args.command (component_of e)) c.send.ensures.component (calm_sent c.args.command (component_of e))),
+    )
 
 pub returns-clause-change : goal.returns-clause-change
 returns-clause-change g c =

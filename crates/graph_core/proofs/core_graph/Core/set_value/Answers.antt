@@ -12,6 +12,8 @@ use Rattle.graph_core.proofs.SameParts.{part_as, part_value, handle_value, ports
 use Rattle.graph_core.proofs.Replacing.{there, within, returns_changed}
 use Rattle.graph_core.proofs.Swapping.{graph_swapped}
 use Rattle.graph_core.proofs.Setting.{settings_pass, sound_value}
+use Rattle.graph_core.proofs.Marking.{marked_set}
+use Rattle.graph_core.proofs.Calming.{calm_as, calm_value}
 use Rattle.graph_core.proofs.core_graph.Core.set_value.Goals as goal
 
 pub set_value-requires : goal.set_value-requires
@@ -35,13 +37,15 @@ invariant_of-self g c =
     let at : slice_get i.components.items c.args.place ≡ Some e = slice_get-get_or i.components.items c.args.place e b ∙ ap Some (sym c.index_mut-component.ensures.value) in
     let r = rw (there g.C.Client.progress G c.args.place e at) at asked in
     let d = c.set_value.new.self in
-    let q : component_of d ≡ with_value c.args.key c.args.value (component_of e) = c.set_value.ensures.component in
-    graph_swapped g.C.Client.progress i.components.items i.registry i.stock i.units i.waits i.components.cap c.args.place e d c.self.invariant at c.set_value.ensures.kept
-    (record { handle = ap (λ (x : Component). x.handle) q ∙ handle_value c.args.key c.args.value (component_of e); ports = ap (λ (x : Component). length x.ports) q ∙ ports_value c.args.key c.args.value (component_of e); pending = ap (λ (x : Component). x.pending) q ∙ pending_value c.args.key c.args.value (component_of e); part = part_as (component_of e) (component_of d) (with_value c.args.key c.args.value (component_of e)) q (part_value c.args.key c.args.value (component_of e)) })
-    (λ w l S.
-    let t : slice_get w.components c.args.place ≡ Some (component_of e) = ap (λ (x : Look). slice_get x.components c.args.place) l ∙ there g.C.Client.progress G c.args.place e at in
-    let ok : value_refusal c.args.config (look w).headers (component_of e) c.args.key c.args.value ≡ None = subst (λ (x : Look). value_refusal c.args.config x.headers (component_of e) c.args.key c.args.value ≡ None) (sym l) r in
-    subst (λ (x : Component). Sound (with_component c.args.place x w)) (sym q) (sound_value c.args.config w c.args.place (component_of e) c.args.key c.args.value S t ok))
+    let q : component_of d ≡ with_value c.args.key c.args.value (component_of e) = c.set_value.ensures.component in (
+      graph_swapped g.C.Client.progress i.components.items i.registry i.stock i.units i.waits i.components.cap c.args.place e d c.self.invariant.0 at c.set_value.ensures.kept
+          (record { handle = ap (λ (x : Component). x.handle) q ∙ handle_value c.args.key c.args.value (component_of e); ports = ap (λ (x : Component). length x.ports) q ∙ ports_value c.args.key c.args.value (component_of e); pending = ap (λ (x : Component). x.pending) q ∙ pending_value c.args.key c.args.value (component_of e); part = part_as (component_of e) (component_of d) (with_value c.args.key c.args.value (component_of e)) q (part_value c.args.key c.args.value (component_of e)) })
+          (λ w l S.
+          let t : slice_get w.components c.args.place ≡ Some (component_of e) = ap (λ (x : Look). slice_get x.components c.args.place) l ∙ there g.C.Client.progress G c.args.place e at in
+          let ok : value_refusal c.args.config (look w).headers (component_of e) c.args.key c.args.value ≡ None = subst (λ (x : Look). value_refusal c.args.config x.headers (component_of e) c.args.key c.args.value ≡ None) (sym l) r in
+          subst (λ (x : Component). Sound (with_component c.args.place x w)) (sym q) (sound_value c.args.config w c.args.place (component_of e) c.args.key c.args.value S t ok)),
+      marked_set i.components.items i.marked c.args.place e d c.self.invariant.1 at (calm_as (component_of e) (component_of d) (with_value c.args.key c.args.value (component_of e)) q (calm_value c.args.key c.args.value (component_of e))),
+    )
 
 pub returns-clause-set : goal.returns-clause-set
 returns-clause-set g c =

@@ -34,7 +34,7 @@ unreachable-requires-then-not-numbers_left g c =
     let at : slice_get i.components.items c.args.place ≡ Some e = slice_get-get_or i.components.items c.args.place e b ∙ ap Some (sym c.index-component.ensures) in
     let here : port_of (component_of e) c.args.index ≡ Some p = sym c.port.ensures ∙ c.in-Some.is in
     let M : IsSuppliable (look_of G) (component_of e) p = rw (there g.C.Client.progress G c.args.place e at, here) at asked in
-    let left = c.numbers_left.ensures.left ∙ ap (λ (b : Bool). not b) (numbers_left g.C.Client.progress G c.args.place e c.args.index p c.in-Some-link.link c.self.invariant.worlds at here c.in-Some-link.is M.may) in
+    let left = c.numbers_left.ensures.left ∙ ap (λ (b : Bool). not b) (numbers_left g.C.Client.progress G c.args.place e c.args.index p c.in-Some-link.link c.self.invariant.0.worlds at here c.in-Some-link.is M.may) in
     let none = c.if-not-numbers_left.true in
     let z : true ≡ false = sym left ∙ none in
     cc
@@ -50,7 +50,7 @@ make_for_both-requires-clause-room g c =
     let at : slice_get i.components.items c.args.place ≡ Some e = slice_get-get_or i.components.items c.args.place e b ∙ ap Some (sym c.index-component.ensures) in
     let here : port_of (component_of e) c.args.index ≡ Some p = sym c.port.ensures ∙ c.in-Some.is in
     let M : IsSuppliable (look_of G) (component_of e) p = rw (there g.C.Client.progress G c.args.place e at, here) at asked in
-    room g.C.Client.progress G c.args.place e c.args.index p c.in-Some-link.link c.self.invariant.worlds at here c.in-Some-link.is M.may c.self.invariant.ports
+    room g.C.Client.progress G c.args.place e c.args.index p c.in-Some-link.link c.self.invariant.0.worlds at here c.in-Some-link.is M.may c.self.invariant.0.ports
 
 pub invariant_of-self : goal.invariant_of-self
 invariant_of-self g c =
@@ -62,9 +62,11 @@ invariant_of-self g c =
     let b : c.args.place < length i.components.items = within g.C.Client.progress G c.args.place _ asked in
     let at : slice_get i.components.items c.args.place ≡ Some e = slice_get-get_or i.components.items c.args.place e b ∙ ap Some (sym c.index-component.ensures) in
     let here : port_of (component_of e) c.args.index ≡ Some p = sym c.port.ensures ∙ c.in-Some.is in
-    let M : IsSuppliable (look_of G) (component_of e) p = rw (there g.C.Client.progress G c.args.place e at, here) at asked in
-    graph_stocked g.C.Client.progress i.components.items i.registry i.stock c.make_for_both.new.stock i.units i.waits i.components.cap c.self.invariant (ap (λ (s : Stocked). s.ports) c.make_for_both.ensures.stock)
-    (supplied_worlds g.C.Client.progress G c.args.place e c.args.index p c.in-Some-link.link c.self.invariant.worlds at here c.in-Some-link.is M.may c.make_for_both.ensures.new_number c.make_for_both.new.stock c.make_for_both.ensures.stock)
+    let M : IsSuppliable (look_of G) (component_of e) p = rw (there g.C.Client.progress G c.args.place e at, here) at asked in (
+      graph_stocked g.C.Client.progress i.components.items i.registry i.stock c.make_for_both.new.stock i.units i.waits i.components.cap c.self.invariant.0 (ap (λ (s : Stocked). s.ports) c.make_for_both.ensures.stock)
+          (supplied_worlds g.C.Client.progress G c.args.place e c.args.index p c.in-Some-link.link c.self.invariant.0.worlds at here c.in-Some-link.is M.may c.make_for_both.ensures.new_number c.make_for_both.new.stock c.make_for_both.ensures.stock),
+      c.self.invariant.1,
+    )
 
 pub returns-clause-change : goal.returns-clause-change
 returns-clause-change g c =
@@ -77,7 +79,7 @@ returns-clause-change g c =
     let at : slice_get i.components.items c.args.place ≡ Some e = slice_get-get_or i.components.items c.args.place e b ∙ ap Some (sym c.index-component.ensures) in
     let here : port_of (component_of e) c.args.index ≡ Some p = sym c.port.ensures ∙ c.in-Some.is in
     let M : IsSuppliable (look_of G) (component_of e) p = rw (there g.C.Client.progress G c.args.place e at, here) at asked in
-    rw (← c.self.view_is) (supplied_returns g.C.Client.progress G c.args.place e c.args.index p c.in-Some-link.link c.self.invariant.worlds at here c.in-Some-link.is M.may c.make_for_both.ensures.new_number c.make_for_both.new.stock c.make_for_both.ensures.stock)
+    rw (← c.self.view_is) (supplied_returns g.C.Client.progress G c.args.place e c.args.index p c.in-Some-link.link c.self.invariant.0.worlds at here c.in-Some-link.is M.may c.make_for_both.ensures.new_number c.make_for_both.new.stock c.make_for_both.ensures.stock)
 
 pub returns-clause-clients : goal.returns-clause-clients
 returns-clause-clients g c = rw (← c.self.view_is) (λ k. refl)

@@ -21,7 +21,7 @@ closed_port-closed_here-requires g c =
     let b : c.args.place < length i.components.items = within g.C.Client.progress G c.args.place _ asked in
     let at : slice_get i.components.items c.args.place ≡ Some e = slice_get-get_or i.components.items c.args.place e b ∙ ap Some (sym c.index-component.ensures) in
     let here : port_of (component_of e) c.args.index ≡ Some p = sym c.port.ensures ∙ c.in-Some.is in
-    port_kept g.C.Client.progress i.components.items (stocked i.stock) i.registry.given c.args.place c.args.index e p c.self.invariant.ports at here
+    port_kept g.C.Client.progress i.components.items (stocked i.stock) i.registry.given c.args.place c.args.index e p c.self.invariant.0.ports at here
 
 pub returns-then-is_some : goal.returns-then-is_some
 returns-then-is_some g c =
@@ -40,7 +40,7 @@ pub closed_peer-closed_there-requires : goal.closed_peer-closed_there-requires
 closed_peer-closed_there-requires g c = λ k e at.
     let i = c.self.inside in
     let there : slice_get i.components.items k ≡ Some e = subst (λ (es : List (Entry (g.row.C.Denot))). slice_get es k ≡ Some e) c.deref.ensures.value at in
-    all_ports g.C.Client.progress i.components.items i.registry i.stock i.units i.waits i.components.cap k e c.self.invariant there
+    all_ports g.C.Client.progress i.components.items i.registry i.stock i.units i.waits i.components.cap k e c.self.invariant.0 there
 
 pub returns-then-is_some-2 : goal.returns-then-is_some-2
 returns-then-is_some-2 g c =

@@ -21,7 +21,7 @@ push_header-requires-clause-port g c =
     let b : c.args.place < length i.components.items = within g.C.Client.progress G c.args.place _ asked in
     let at : slice_get i.components.items c.args.place ≡ Some e = slice_get-get_or i.components.items c.args.place e b ∙ ap Some (sym c.index-component.ensures) in
     let here : port_of (component_of e) c.args.index ≡ Some p = sym c.port.ensures ∙ c.in-Some.is in
-    port_kept g.C.Client.progress i.components.items (stocked i.stock) i.registry.given c.args.place c.args.index e p c.self.invariant.ports at here
+    port_kept g.C.Client.progress i.components.items (stocked i.stock) i.registry.given c.args.place c.args.index e p c.self.invariant.0.ports at here
 
 pub push_header-requires-clause-outside : goal.push_header-requires-clause-outside
 push_header-requires-clause-outside g c =
@@ -34,7 +34,7 @@ push_header-requires-clause-outside g c =
     let at : slice_get i.components.items c.args.place ≡ Some e = slice_get-get_or i.components.items c.args.place e b ∙ ap Some (sym c.index-component.ensures) in
     let here : port_of (component_of e) c.args.index ≡ Some p = sym c.port.ensures ∙ c.in-Some.is in
     let handed : IsHandedIn c.args.header (look_of G) = rw (← c.self.view_is) at c.requires.handed in
-    outside g.C.Client.progress G c.args.place e c.args.index p c.self.invariant.worlds at here c.args.header handed
+    outside g.C.Client.progress G c.args.place e c.args.index p c.self.invariant.0.worlds at here c.args.header handed
 
 pub push_header-requires-clause-made_for : goal.push_header-requires-clause-made_for
 push_header-requires-clause-made_for g c =
@@ -48,7 +48,7 @@ push_header-requires-clause-made_for g c =
     let here : port_of (component_of e) c.args.index ≡ Some p = sym c.port.ensures ∙ c.in-Some.is in
     let handed : IsHandedIn c.args.header (look_of G) = rw (← c.self.view_is) at c.requires.handed in
     let own = rw (there g.C.Client.progress G c.args.place e at, here) at asked in
-    for_this_port g.C.Client.progress G c.args.place e c.args.index p c.self.invariant.worlds at here c.args.header handed own
+    for_this_port g.C.Client.progress G c.args.place e c.args.index p c.self.invariant.0.worlds at here c.args.header handed own
 
 pub invariant_of-self : goal.invariant_of-self
 invariant_of-self g c =
@@ -61,9 +61,11 @@ invariant_of-self g c =
     let at : slice_get i.components.items c.args.place ≡ Some e = slice_get-get_or i.components.items c.args.place e b ∙ ap Some (sym c.index-component.ensures) in
     let here : port_of (component_of e) c.args.index ≡ Some p = sym c.port.ensures ∙ c.in-Some.is in
     let handed : IsHandedIn c.args.header (look_of G) = rw (← c.self.view_is) at c.requires.handed in
-    let own = rw (there g.C.Client.progress G c.args.place e at, here) at asked in
-    graph_stocked g.C.Client.progress i.components.items i.registry i.stock c.push_header.new.self i.units i.waits i.components.cap c.self.invariant (ap (λ (s : Stocked). s.ports) c.push_header.ensures)
-    (in_worlds g.C.Client.progress G c.args.place e c.args.index p c.self.invariant.worlds at here c.args.header handed own c.push_header.new.self c.push_header.ensures)
+    let own = rw (there g.C.Client.progress G c.args.place e at, here) at asked in (
+      graph_stocked g.C.Client.progress i.components.items i.registry i.stock c.push_header.new.self i.units i.waits i.components.cap c.self.invariant.0 (ap (λ (s : Stocked). s.ports) c.push_header.ensures)
+          (in_worlds g.C.Client.progress G c.args.place e c.args.index p c.self.invariant.0.worlds at here c.args.header handed own c.push_header.new.self c.push_header.ensures),
+      c.self.invariant.1,
+    )
 
 pub returns-clause-change : goal.returns-clause-change
 returns-clause-change g c =
@@ -77,7 +79,7 @@ returns-clause-change g c =
     let here : port_of (component_of e) c.args.index ≡ Some p = sym c.port.ensures ∙ c.in-Some.is in
     let handed : IsHandedIn c.args.header (look_of G) = rw (← c.self.view_is) at c.requires.handed in
     let own = rw (there g.C.Client.progress G c.args.place e at, here) at asked in
-    rw (← c.self.view_is) (in_returns g.C.Client.progress G c.args.place e c.args.index p c.self.invariant.worlds at here c.args.header handed own c.push_header.new.self c.push_header.ensures)
+    rw (← c.self.view_is) (in_returns g.C.Client.progress G c.args.place e c.args.index p c.self.invariant.0.worlds at here c.args.header handed own c.push_header.new.self c.push_header.ensures)
 
 pub returns-clause-clients : goal.returns-clause-clients
 returns-clause-clients g c = rw (← c.self.view_is) (λ k. refl)

@@ -6,7 +6,7 @@ use Rattle.note_queues.specs.declared.taken.Call.{Call}
 use Rattle.note_queues.specs.declared.taken.Took.{Took}
 use Rattle.note_queues.specs.declared.taken.Took.TheVariants as tooks
 use Rattle.port_stock.specs.Kept.{stocked}
-use Rattle.il_component.specs.Entries.{Entry}
+use Rattle.il_component.specs.Entries.{Entry, component_of}
 use Rattle.graph_core.specs.Entries.{Entries}
 use Rattle.graph_core.proofs.Clients.{others_set}
 use Rattle.graph_core.proofs.Renumbered.{own_place}
@@ -14,6 +14,8 @@ use Rattle.graph_core.proofs.Replacing.{there}
 use Rattle.graph_core.proofs.TakenClients.{call_client, no_call_client}
 use Rattle.graph_core.proofs.Stepping.{graph_with}
 use Rattle.graph_core.proofs.Taking.{call_worlds, done_worlds, done_out, call_returns, done_returns, none_returns, none_entries, none_unchanged}
+use Rattle.graph_core.proofs.Marking.{marked_set}
+use Rattle.graph_core.proofs.Calming.{calm_same}
 use Rattle.graph_core.proofs.core_graph.Core.take_note.Goals as goal
 
 pub give_header-requires-clause-outside : goal.give_header-requires-clause-outside
@@ -23,7 +25,7 @@ give_header-requires-clause-outside g c =
     let G : Entries (g.row.C.Denot) = record { entries = i.components.items; stock = i.stock; units = i.units; waits = i.waits; numbered = i.registry.given } in
     let b : c.args.place < length i.components.items = rw (← c.self.view_is) at c.requires in
     let at : slice_get i.components.items c.args.place ≡ Some e = slice_get-get_or i.components.items c.args.place e b ∙ ap Some (sym c.index_mut-component.ensures.value) in
-    rw c.id.ensures (done_out g.C.Client.progress G c.args.place e c.self.invariant.worlds at c.in-Call.call c.in-EmptyDone.header (sym c.take-took.ensures.took ∙ c.in-Call.is) c.in-EmptyDone.is)
+    rw c.id.ensures (done_out g.C.Client.progress G c.args.place e c.self.invariant.0.worlds at c.in-Call.call c.in-EmptyDone.header (sym c.take-took.ensures.took ∙ c.in-Call.is) c.in-EmptyDone.is)
 
 pub invariant_of-self : goal.invariant_of-self
 invariant_of-self g c =
@@ -32,10 +34,12 @@ invariant_of-self g c =
     let G : Entries (g.row.C.Denot) = record { entries = i.components.items; stock = i.stock; units = i.units; waits = i.waits; numbered = i.registry.given } in
     let b : c.args.place < length i.components.items = rw (← c.self.view_is) at c.requires in
     let at : slice_get i.components.items c.args.place ≡ Some e = slice_get-get_or i.components.items c.args.place e b ∙ ap Some (sym c.index_mut-component.ensures.value) in
-    let d = c.take-took.new.self in
-    graph_with g.C.Client.progress i.components.items i.registry i.stock i.stock i.units i.waits i.components.cap c.args.place e d c.self.invariant at
-    (ap (λ (x : Entry (g.row.C.Denot)). x.handle) c.take-took.ensures.left) (ap (λ (x : Entry (g.row.C.Denot)). x.ports) c.take-took.ensures.left) (ap (λ (x : Entry (g.row.C.Denot)). x.pending) c.take-took.ensures.left) refl
-    (call_worlds g.C.Client.progress G c.args.place e c.self.invariant.worlds at c.in-Call.call c.in-Told.field-0 d (sym c.take-took.ensures.took ∙ c.in-Call.is) c.take-took.ensures.left c.in-Told.is)
+    let d = c.take-took.new.self in (
+      graph_with g.C.Client.progress i.components.items i.registry i.stock i.stock i.units i.waits i.components.cap c.args.place e d c.self.invariant.0 at
+          (ap (λ (x : Entry (g.row.C.Denot)). x.handle) c.take-took.ensures.left) (ap (λ (x : Entry (g.row.C.Denot)). x.ports) c.take-took.ensures.left) (ap (λ (x : Entry (g.row.C.Denot)). x.pending) c.take-took.ensures.left) refl
+          (call_worlds g.C.Client.progress G c.args.place e c.self.invariant.0.worlds at c.in-Call.call c.in-Told.field-0 d (sym c.take-took.ensures.took ∙ c.in-Call.is) c.take-took.ensures.left c.in-Told.is),
+      marked_set i.components.items i.marked c.args.place e d c.self.invariant.1 at (calm_same (component_of e) (component_of d) (ap (λ (x : Entry (g.row.C.Denot)). x.ports) c.take-took.ensures.left) (ap (λ (x : Entry (g.row.C.Denot)). x.pending) c.take-took.ensures.left)),
+    )
 
 pub invariant_of-self-in-EmptyDone : goal.invariant_of-self-in-EmptyDone
 invariant_of-self-in-EmptyDone g c =
@@ -45,10 +49,12 @@ invariant_of-self-in-EmptyDone g c =
     let b : c.args.place < length i.components.items = rw (← c.self.view_is) at c.requires in
     let at : slice_get i.components.items c.args.place ≡ Some e = slice_get-get_or i.components.items c.args.place e b ∙ ap Some (sym c.index_mut-component.ensures.value) in
     let d = c.take-took.new.self in
-    let now = c.give_header.ensures ∙ ap (λ (n : ℕ). header_given n owners.Client (stocked i.stock)) c.id.ensures in
-    graph_with g.C.Client.progress i.components.items i.registry i.stock c.give_header.new.self i.units i.waits i.components.cap c.args.place e d c.self.invariant at
-    (ap (λ (x : Entry (g.row.C.Denot)). x.handle) c.take-took.ensures.left) (ap (λ (x : Entry (g.row.C.Denot)). x.ports) c.take-took.ensures.left) (ap (λ (x : Entry (g.row.C.Denot)). x.pending) c.take-took.ensures.left) (ap (λ (s : Stocked). s.ports) now)
-    (done_worlds g.C.Client.progress G c.args.place e c.self.invariant.worlds at c.in-Call.call c.in-EmptyDone.header d c.give_header.new.self (sym c.take-took.ensures.took ∙ c.in-Call.is) c.take-took.ensures.left c.in-EmptyDone.is now)
+    let now = c.give_header.ensures ∙ ap (λ (n : ℕ). header_given n owners.Client (stocked i.stock)) c.id.ensures in (
+      graph_with g.C.Client.progress i.components.items i.registry i.stock c.give_header.new.self i.units i.waits i.components.cap c.args.place e d c.self.invariant.0 at
+          (ap (λ (x : Entry (g.row.C.Denot)). x.handle) c.take-took.ensures.left) (ap (λ (x : Entry (g.row.C.Denot)). x.ports) c.take-took.ensures.left) (ap (λ (x : Entry (g.row.C.Denot)). x.pending) c.take-took.ensures.left) (ap (λ (s : Stocked). s.ports) now)
+          (done_worlds g.C.Client.progress G c.args.place e c.self.invariant.0.worlds at c.in-Call.call c.in-EmptyDone.header d c.give_header.new.self (sym c.take-took.ensures.took ∙ c.in-Call.is) c.take-took.ensures.left c.in-EmptyDone.is now),
+      marked_set i.components.items i.marked c.args.place e d c.self.invariant.1 at (calm_same (component_of e) (component_of d) (ap (λ (x : Entry (g.row.C.Denot)). x.ports) c.take-took.ensures.left) (ap (λ (x : Entry (g.row.C.Denot)). x.pending) c.take-took.ensures.left)),
+    )
 
 not_call : {C : Type 0} (r : Took C) → ((x : Call C) → r ≡ tooks.Call x → ⊥) → (r ≡ tooks.None) ⊎ (r ≡ tooks.Busy)
 not_call (tooks.Call call) h = absurd (h call refl)
@@ -63,8 +69,10 @@ invariant_of-self-in_default g c =
     let b : c.args.place < length i.components.items = rw (← c.self.view_is) at c.requires in
     let at : slice_get i.components.items c.args.place ≡ Some e = slice_get-get_or i.components.items c.args.place e b ∙ ap Some (sym c.index_mut-component.ensures.value) in
     let d = c.take-took.new.self in
-    let k = not_call c.take-took.result c.in_default.not-Call in
-    rw (none_entries g.C.Client.progress G c.args.place e c.self.invariant.worlds at c.take-took.result d (sym c.take-took.ensures.took) k c.take-took.ensures.left) c.self.invariant
+    let k = not_call c.take-took.result c.in_default.not-Call in (
+      rw (none_entries g.C.Client.progress G c.args.place e c.self.invariant.0.worlds at c.take-took.result d (sym c.take-took.ensures.took) k c.take-took.ensures.left) c.self.invariant.0,
+      marked_set i.components.items i.marked c.args.place e d c.self.invariant.1 at (calm_same (component_of e) (component_of d) (ap (λ (x : Entry (g.row.C.Denot)). x.ports) c.take-took.ensures.left) (ap (λ (x : Entry (g.row.C.Denot)). x.pending) c.take-took.ensures.left)),
+    )
 
 pub returns-in-Told-clause-change : goal.returns-in-Told-clause-change
 returns-in-Told-clause-change g c =
@@ -74,7 +82,7 @@ returns-in-Told-clause-change g c =
     let b : c.args.place < length i.components.items = rw (← c.self.view_is) at c.requires in
     let at : slice_get i.components.items c.args.place ≡ Some e = slice_get-get_or i.components.items c.args.place e b ∙ ap Some (sym c.index_mut-component.ensures.value) in
     let d = c.take-took.new.self in
-    rw (← c.self.view_is, c.in-Call.is) (call_returns g.C.Client.progress G c.args.place e c.self.invariant.worlds at c.in-Call.call c.in-Told.field-0 d (sym c.take-took.ensures.took ∙ c.in-Call.is) c.take-took.ensures.left c.in-Told.is)
+    rw (← c.self.view_is, c.in-Call.is) (call_returns g.C.Client.progress G c.args.place e c.self.invariant.0.worlds at c.in-Call.call c.in-Told.field-0 d (sym c.take-took.ensures.took ∙ c.in-Call.is) c.take-took.ensures.left c.in-Told.is)
 
 pub returns-in-EmptyDone-clause-change : goal.returns-in-EmptyDone-clause-change
 returns-in-EmptyDone-clause-change g c =
@@ -85,7 +93,7 @@ returns-in-EmptyDone-clause-change g c =
     let at : slice_get i.components.items c.args.place ≡ Some e = slice_get-get_or i.components.items c.args.place e b ∙ ap Some (sym c.index_mut-component.ensures.value) in
     let d = c.take-took.new.self in
     let now = c.give_header.ensures ∙ ap (λ (n : ℕ). header_given n owners.Client (stocked i.stock)) c.id.ensures in
-    rw (← c.self.view_is, c.in-Call.is) (done_returns g.C.Client.progress G c.args.place e c.self.invariant.worlds at c.in-Call.call c.in-EmptyDone.header d c.give_header.new.self (sym c.take-took.ensures.took ∙ c.in-Call.is) c.take-took.ensures.left c.in-EmptyDone.is now)
+    rw (← c.self.view_is, c.in-Call.is) (done_returns g.C.Client.progress G c.args.place e c.self.invariant.0.worlds at c.in-Call.call c.in-EmptyDone.header d c.give_header.new.self (sym c.take-took.ensures.took ∙ c.in-Call.is) c.take-took.ensures.left c.in-EmptyDone.is now)
 
 pub returns-in_default-clause-change : goal.returns-in_default-clause-change
 returns-in_default-clause-change g c =
@@ -96,7 +104,7 @@ returns-in_default-clause-change g c =
     let at : slice_get i.components.items c.args.place ≡ Some e = slice_get-get_or i.components.items c.args.place e b ∙ ap Some (sym c.index_mut-component.ensures.value) in
     let d = c.take-took.new.self in
     let k = not_call c.take-took.result c.in_default.not-Call in
-    rw (← c.self.view_is) (none_returns g.C.Client.progress G c.args.place e c.self.invariant.worlds at c.take-took.result d (sym c.take-took.ensures.took) k c.take-took.ensures.left)
+    rw (← c.self.view_is) (none_returns g.C.Client.progress G c.args.place e c.self.invariant.0.worlds at c.take-took.result d (sym c.take-took.ensures.took) k c.take-took.ensures.left)
 
 pub returns-in-Told-clause-unchanged : goal.returns-in-Told-clause-unchanged
 returns-in-Told-clause-unchanged g c = rw (c.in-Call.is) tt
@@ -113,7 +121,7 @@ returns-in_default-clause-unchanged g c =
     let at : slice_get i.components.items c.args.place ≡ Some e = slice_get-get_or i.components.items c.args.place e b ∙ ap Some (sym c.index_mut-component.ensures.value) in
     let d = c.take-took.new.self in
     let k = not_call c.take-took.result c.in_default.not-Call in
-    rw (← c.self.view_is) (none_unchanged g.C.Client.progress G c.args.place e c.self.invariant.worlds at c.take-took.result d (sym c.take-took.ensures.took) k c.take-took.ensures.left)
+    rw (← c.self.view_is) (none_unchanged g.C.Client.progress G c.args.place e c.self.invariant.0.worlds at c.take-took.result d (sym c.take-took.ensures.took) k c.take-took.ensures.left)
 
 pub returns-in-Told-clause-client : goal.returns-in-Told-clause-client
 returns-in-Told-clause-client g c =
@@ -123,7 +131,7 @@ returns-in-Told-clause-client g c =
     let b : c.args.place < length i.components.items = rw (← c.self.view_is) at c.requires in
     let at : slice_get i.components.items c.args.place ≡ Some e = slice_get-get_or i.components.items c.args.place e b ∙ ap Some (sym c.index_mut-component.ensures.value) in
     let d = c.take-took.new.self in
-    let own = own_place i.components.items i.registry c.args.place e c.self.invariant.registered at in
+    let own = own_place i.components.items i.registry c.args.place e c.self.invariant.0.registered at in
     rw (← c.self.view_is, c.in-Call.is, there g.C.Client.progress G c.args.place e at) (call_client G c.args.place e d c.take-took.ensures.left own at c.in-Call.call (sym c.take-took.ensures.took ∙ c.in-Call.is))
 
 pub returns-in-Told-clause-clients : goal.returns-in-Told-clause-clients
@@ -134,7 +142,7 @@ returns-in-Told-clause-clients g c =
     let b : c.args.place < length i.components.items = rw (← c.self.view_is) at c.requires in
     let at : slice_get i.components.items c.args.place ≡ Some e = slice_get-get_or i.components.items c.args.place e b ∙ ap Some (sym c.index_mut-component.ensures.value) in
     let d = c.take-took.new.self in
-    let own = own_place i.components.items i.registry c.args.place e c.self.invariant.registered at in
+    let own = own_place i.components.items i.registry c.args.place e c.self.invariant.0.registered at in
     rw (← c.self.view_is, there g.C.Client.progress G c.args.place e at) (others_set i.components.items c.args.place e d at (ap (λ (x : Entry (g.row.C.Denot)). x.handle) c.take-took.ensures.left))
 
 pub returns-in-EmptyDone-clause-client : goal.returns-in-EmptyDone-clause-client
@@ -145,7 +153,7 @@ returns-in-EmptyDone-clause-client g c =
     let b : c.args.place < length i.components.items = rw (← c.self.view_is) at c.requires in
     let at : slice_get i.components.items c.args.place ≡ Some e = slice_get-get_or i.components.items c.args.place e b ∙ ap Some (sym c.index_mut-component.ensures.value) in
     let d = c.take-took.new.self in
-    let own = own_place i.components.items i.registry c.args.place e c.self.invariant.registered at in
+    let own = own_place i.components.items i.registry c.args.place e c.self.invariant.0.registered at in
     rw (← c.self.view_is, c.in-Call.is, there g.C.Client.progress G c.args.place e at) (call_client G c.args.place e d c.take-took.ensures.left own at c.in-Call.call (sym c.take-took.ensures.took ∙ c.in-Call.is))
 
 pub returns-in-EmptyDone-clause-clients : goal.returns-in-EmptyDone-clause-clients
@@ -156,7 +164,7 @@ returns-in-EmptyDone-clause-clients g c =
     let b : c.args.place < length i.components.items = rw (← c.self.view_is) at c.requires in
     let at : slice_get i.components.items c.args.place ≡ Some e = slice_get-get_or i.components.items c.args.place e b ∙ ap Some (sym c.index_mut-component.ensures.value) in
     let d = c.take-took.new.self in
-    let own = own_place i.components.items i.registry c.args.place e c.self.invariant.registered at in
+    let own = own_place i.components.items i.registry c.args.place e c.self.invariant.0.registered at in
     rw (← c.self.view_is, there g.C.Client.progress G c.args.place e at) (others_set i.components.items c.args.place e d at (ap (λ (x : Entry (g.row.C.Denot)). x.handle) c.take-took.ensures.left))
 
 pub returns-in_default-clause-client : goal.returns-in_default-clause-client
@@ -167,7 +175,7 @@ returns-in_default-clause-client g c =
     let b : c.args.place < length i.components.items = rw (← c.self.view_is) at c.requires in
     let at : slice_get i.components.items c.args.place ≡ Some e = slice_get-get_or i.components.items c.args.place e b ∙ ap Some (sym c.index_mut-component.ensures.value) in
     let d = c.take-took.new.self in
-    let own = own_place i.components.items i.registry c.args.place e c.self.invariant.registered at in
+    let own = own_place i.components.items i.registry c.args.place e c.self.invariant.0.registered at in
     let k = not_call c.take-took.result c.in_default.not-Call in
     rw (← c.self.view_is, there g.C.Client.progress G c.args.place e at) (no_call_client G c.args.place e d c.take-took.ensures.left own at c.take-took.result (sym c.take-took.ensures.took) k)
 
@@ -179,5 +187,5 @@ returns-in_default-clause-clients g c =
     let b : c.args.place < length i.components.items = rw (← c.self.view_is) at c.requires in
     let at : slice_get i.components.items c.args.place ≡ Some e = slice_get-get_or i.components.items c.args.place e b ∙ ap Some (sym c.index_mut-component.ensures.value) in
     let d = c.take-took.new.self in
-    let own = own_place i.components.items i.registry c.args.place e c.self.invariant.registered at in
+    let own = own_place i.components.items i.registry c.args.place e c.self.invariant.0.registered at in
     rw (← c.self.view_is, there g.C.Client.progress G c.args.place e at) (others_set i.components.items c.args.place e d at (ap (λ (x : Entry (g.row.C.Denot)). x.handle) c.take-took.ensures.left))
