@@ -9,3 +9,4 @@ pub mod Filing
 pub mod Factoring
 pub mod Making
 pub mod Stages
+pub mod Building

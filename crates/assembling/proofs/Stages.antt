@@ -11,6 +11,7 @@ use Rattle.omx_types.specs.declared.param.Supplier.TheVariants.{Input}
 use Rattle.il_machine.specs.Acts.{Act, Reply}
 use Rattle.il_machine.specs.Acts as acts
 use Rattle.il_machine.specs.Components.{GetHandle}
+use Rattle.il_machine.specs.Due.{IsClosed}
 use Rattle.il_machine.specs.Files.{Attach, Offered, attached}
 use Rattle.il_machine.specs.Parameters.{SetConfig, SetParameter}
 use Rattle.il_machine.specs.Sound.{Sound}
@@ -20,6 +21,7 @@ use Rattle.machine_laws.proofs.Finding.{either}
 use Rattle.machine_laws.proofs.Steps.{sound_none, sound_step}
 use Rattle.assembling.specs.Assembly.{Assembly, IsLawful, component_at}
 use Rattle.assembling.specs.Stages.{Stage, Making, Factoring, Setting, Filing, Joining, Progress, IsBuilt, IsStage, factor_key, factor_value, file_by, id_at, name_of, port_key, port_value, progress_of, setting_by, state_by, stream_by}
+use Rattle.assembling.proofs.Calm.{built_closed}
 use Rattle.assembling.proofs.Factoring.{factor_set}
 use Rattle.assembling.proofs.Filing.{file_set}
 use Rattle.assembling.proofs.Joining.{tunnel_set}
@@ -47,6 +49,9 @@ begins s key = record {
 
 pub names : (s : Assembly) (stage : Stage) (handles : List Handle) (w : World) (c : ℕ) (h : Handle) → IsStage s stage handles w → slice_get handles c ≡ Some h → place_of h w.components ≡ Some c
 names s stage handles w c h W e = (held_at s (progress_of s stage) handles w W.built c h e).names
+
+pub at_rest : (s : Assembly) (stage : Stage) (handles : List Handle) (w : World) → IsStage s stage handles w → IsClosed w
+at_rest s stage handles w W = built_closed s (progress_of s stage) w (W.built).components
 
 -- ---- the acts
 

@@ -1,2 +1,3 @@
 pub mod Assembly
 pub mod Stages
+pub mod Building

@@ -10,11 +10,14 @@ ghost use Rattle.omx_types.specs.declared.error.CallError.TheVariants.{OutOfMemo
 ghost use Rattle.omx_types.specs.declared.param.Supplier.{Supplier};
 ghost use Rattle.omx_types.specs.declared.param.Supplier.TheVariants.{Input};
 ghost use Rattle.il_machine.specs.Components.{GetHandle};
+ghost use Rattle.il_machine.specs.Due.{IsClosed};
 ghost use Rattle.il_machine.specs.Files.{Attach, Offered};
 ghost use Rattle.il_machine.specs.Parameters.{SetConfig, SetParameter};
+ghost use Rattle.il_machine.specs.Run.{Run};
 ghost use Rattle.il_machine.specs.Tunnels.{SetupTunnel};
 ghost use Rattle.il_machine.specs.World.{World, no_world, place_of};
 ghost use Rattle.assembling.specs.Assembly.{Assembly, IsLawful, component_at};
+ghost use Rattle.assembling.specs.Building.{building};
 ghost use Rattle.assembling.specs.Stages.{Stage, Making, Factoring, Setting, Filing, Joining, IsStage, factor_key, factor_value, id_at, name_of, port_key, port_value};
 
 /// Each act of an assembly is accepted where it is next, but that a component's making may want memory, and leads to the next stage.
@@ -57,4 +60,11 @@ pub fn law_of_stages()
     ensures all_filed { (s : Assembly) (handles : List Handle) (w : World) → IsStage s (Filing s.components) handles w → IsStage s (Joining 0) handles w }
     ensures names { (s : Assembly) (stage : Stage) (handles : List Handle) (w : World) (c : ℕ) (h : Handle)
         → IsStage s stage handles w → slice_get handles c ≡ Some h → place_of h w.components ≡ Some c }
+    ensures closed { (s : Assembly) (stage : Stage) (handles : List Handle) (w : World) → IsStage s stage handles w → IsClosed w }
+{}
+
+/// The acts of an assembly, one behind the other and each answered that it was done, are a run to its last stage.
+pub fn law_of_building()
+    ensures { (s : Assembly) (key : ℕ) (handles : List Handle) (v : World) → IsLawful s → length handles ≡ s.components
+        → Run (no_world key s.units) (building s handles) v → IsStage s (Joining s.links) handles v }
 {}

@@ -1,6 +1,6 @@
 -- The assembly of a plan that is ready is lawful.
-use Rattle.std.proofs.Common.{◌≡◌, ◌≢◌, ◌⊎◌, inl, inr, ℕ, zero, suc, ◌+◌, ◌*◌, ◌<◌, ◌≤◌, Bool, true, false, not, ◌&&◌, ◌||◌, nat_eq, nat_lt, nat_le, max, if◌then◌else◌, List, [], ◌∷◌, length, slice_get, slice_index_or, Option, Some, None, refl, sym, ◌∙◌, ap, subst, eq-eqb, ltb-true, leb-true, le-leb, arith}
-use Rattle.std.proofs.lemmas.Bool.{cases_eq, lt-ltb, le-ltb, ltb-false}
+use Rattle.std.proofs.Common.{◌≡◌, ◌≢◌, ℕ, zero, suc, ◌*◌, ◌<◌, ◌≤◌, Bool, true, false, not, ◌&&◌, ◌||◌, nat_eq, nat_lt, nat_le, max, List, [], ◌∷◌, length, slice_get, slice_index_or, Option, Some, refl, sym, ◌∙◌, ap, subst, eq-eqb, ltb-true, leb-true, le-leb, arith}
+use Rattle.std.proofs.lemmas.Bool.{le-ltb, ltb-false}
 use Rattle.std.proofs.lemmas.Option.{get_or_from_slice_get, slice_get-get_or, slice_get_within}
 use Rattle.std.specs.List.{AllByRecursion}
 use Rattle.omx_types.specs.declared.format.Format.{Format}
@@ -9,11 +9,10 @@ use Rattle.omx_types.specs.declared.kind.Kind.{Kind}
 use Rattle.omx_types.specs.declared.kind.Kind.TheVariants as kinds
 use Rattle.omx_types.specs.Formats.{IsWithinLimits, channels_of, frame_bytes_of, rate_of}
 use Rattle.part_forms.specs.Kinds.{IsSized, inputs_of, is_format_of, is_input, is_input_format, is_late, is_output_format, is_source, outputs_of, ports_in}
-use Rattle.il_machine.specs.declared.port.PortKey.{PortKey}
-use Rattle.il_machine.specs.Files.{Offered, OfferedFrom, OfferedTo, is_bad_file, is_for_kind, is_wrong_format}
+use Rattle.il_machine.specs.Files.{Offered, OfferedFrom, OfferedTo, is_bad_file, is_for_kind}
 use Rattle.il_machine.specs.Kinds.{is_auto, is_port_format, is_sink}
 use Rattle.il_machine.specs.Parameters.{is_too_large}
-use Rattle.il_machine.specs.Settings.{is_between, is_definition_of, is_splitter, is_within_limits, same_bool, same_format, same_rate_and_channels}
+use Rattle.il_machine.specs.Settings.{is_definition_of, is_splitter, is_within_limits, same_bool, same_format, same_rate_and_channels}
 use Rattle.script_lang.specs.PlayForms.{IsFactor, IsPartForm}
 use Rattle.script_lang.specs.declared.play_line.PartForm.{PartForm}
 use Rattle.script_lang.specs.declared.play_line.PartForm.TheVariants as forms
@@ -23,20 +22,18 @@ use Rattle.wav_form.specs.declared.heads.WavHead.{WavHead}
 use Rattle.machine_laws.proofs.Accepting.{both_of}
 use Rattle.machine_laws.proofs.Finding.{either}
 use Rattle.play_forms.specs.declared.flow.Flow.{Flow}
-use Rattle.play_forms.specs.declared.joint.Joint.{Joint}
 use Rattle.play_forms.specs.Fitting.{format_into}
-use Rattle.play_forms.specs.Flows.{flow_at, flow_by, flow_of_head, given_format, most_frames, no_flow}
+use Rattle.play_forms.specs.Flows.{flow_by, flow_of_head, given_format, no_flow}
 use Rattle.play_forms.specs.Parts.{factors_of, has_input, has_output, kind_of, passes_at, source_number}
 use Rattle.play_forms.specs.Plans.{PlanValue}
 use Rattle.play_forms.specs.Settling.{into}
-use Rattle.play_forms.proofs.Plainly.{givers_within}
 use Rattle.stream_plan.proofs.Flows.{flow_of_other, flow_of_source}
 use Rattle.play_worlds.proofs.Lists.{get_there}
 use Rattle.play_plans.specs.Casting.{flow_of, joint_of, no_joint}
 use Rattle.play_plans.specs.Limits.{IsLawfulFlow, IsLawfulHead, IsWide}
-use Rattle.play_plans.proofs.Limits.{few_channels, flows_lawful, given_flow, head_there, like_first, same_channels, same_rate, sized_form}
-use Rattle.play_plans.proofs.Links.{fed_before, fed_kind, fits_at, fits_joint, incoming_is, input_linked, no_both, one_input, one_output, one_turn, output_linked, ports_of_joint, some_input, takers_within, there, turn_of}
-use Rattle.assembling.specs.Assembly.{AreAlike, Assembly, IsEndOf, IsLawful, IsLawfulEnd, IsLawfulFile, component_at, definition_of, factors_in as factor_count}
+use Rattle.play_plans.proofs.Limits.{flows_lawful, given_flow, head_there, like_first, same_channels, same_rate, sized_form}
+use Rattle.play_plans.proofs.Links.{fed_before, fed_kind, fits_at, fits_joint, incoming_is, input_linked, no_both, one_input, one_output, one_turn, output_linked, ports_of_joint, some_input, there, turn_of}
+use Rattle.assembling.specs.Assembly.{AreAlike, IsEndOf, IsLawful, IsLawfulEnd, IsLawfulFile, definition_of, factors_in as factor_count}
 use Rattle.assembling.proofs.Accepted.{format_itself}
 use Rattle.play_openings.specs.Assemblies.{IsReady, PlayFiles, assembly_of, end_of, factors_in, file_at, file_of, is_late_link, kind_in, opening_format, source_file}
 

@@ -1,5 +1,5 @@
 -- The graph of a plan, once it is assembled, stands where its play begins.
-use Rattle.std.proofs.Common.{◌≡◌, ◌≢◌, ◌⊎◌, inl, inr, ℕ, zero, suc, ◌+◌, ◌<◌, ◌≤◌, Bool, true, false, not, ◌&&◌, ◌||◌, List, [], ◌∷◌, filter, length, map, sum_by, slice_get, slice_index_or, Option, Some, None, MatchOption, option_map, option_and_then, refl, sym, ◌∙◌, ap, subst, arith}
+use Rattle.std.proofs.Common.{◌≡◌, ◌⊎◌, inl, inr, ℕ, suc, ◌+◌, ◌<◌, ◌≤◌, Bool, true, false, not, ◌||◌, List, [], ◌∷◌, length, sum_by, slice_get, slice_index_or, Option, Some, None, MatchOption, option_map, option_and_then, refl, sym, ◌∙◌, ap, subst, arith}
 use Rattle.std.specs.List.{list_all}
 use Rattle.std.proofs.lemmas.Bool.{lt-ltb}
 use Rattle.std.proofs.lemmas.List.{length-map}
@@ -11,7 +11,6 @@ use Rattle.omx_types.specs.declared.kind.Kind.{Kind}
 use Rattle.omx_types.specs.declared.kind.Kind.TheVariants as kinds
 use Rattle.omx_types.specs.Formats.{frame_bytes_of}
 use Rattle.part_forms.specs.Kinds.{is_late, is_source, ports_in}
-use Rattle.part_api.specs.declared.attached.Attached.{Attached}
 use Rattle.il_machine.specs.declared.port.Port.{Port}
 use Rattle.il_machine.specs.declared.port.PortKey.{PortKey}
 use Rattle.il_machine.specs.declared.port.PortSetting.{PortSetting}
@@ -19,9 +18,8 @@ use Rattle.il_machine.specs.Files.{Offered, attached}
 use Rattle.il_machine.specs.Kinds.{is_auto, is_sink}
 use Rattle.il_machine.specs.Parts.{frames_of}
 use Rattle.il_machine.specs.Settings.{Settings, are_fitting, fits, formats_of, is_known, is_splitter, same_format, same_rate_and_channels}
-use Rattle.il_machine.specs.Sound.{Sound}
 use Rattle.il_machine.specs.Units.{need_of, units_of}
-use Rattle.il_machine.specs.World.{Component, Stream, World, fresh, is_stream_of, number_of, port_of, stream_of}
+use Rattle.il_machine.specs.World.{Component, Stream, World, fresh, number_of, port_of, stream_of}
 use Rattle.script_lang.specs.declared.play_line.PartLine.{PartLine}
 use Rattle.wav_form.specs.declared.heads.WavHead.{WavHead}
 use Rattle.machine_laws.proofs.Finding.{either}
@@ -29,27 +27,27 @@ use Rattle.machine_laws.proofs.Fitting.{all_known}
 use Rattle.machine_laws.proofs.Keys.{is_there}
 use Rattle.machine_laws.proofs.Lookups.{port_parts}
 use Rattle.machine_laws.proofs.Parts.{parts_of}
-use Rattle.play_forms.specs.Flows.{flow_by, flow_of_head, no_flow}
+use Rattle.play_forms.specs.Flows.{flow_of_head, no_flow}
 use Rattle.play_forms.specs.Parts.{kind_of, passes_at, source_number}
 use Rattle.play_forms.specs.Plans.{PlanValue}
 use Rattle.play_forms.specs.Settling.{into}
 use Rattle.stream_plan.proofs.Flows.{flow_of_source}
-use Rattle.play_worlds.specs.Cast.{Cast, IsCast, components_of, input_at, links_of, output_at, script_place}
+use Rattle.play_worlds.specs.Cast.{Cast, IsCast, components_of, input_at, output_at, script_place}
 use Rattle.play_worlds.specs.Openings.{IsOpeningWorld, IsSetUp}
-use Rattle.play_worlds.specs.Wiring.{IsEnd, IsSomeEnd, IsWired, joined_state, link_to, port_in}
+use Rattle.play_worlds.specs.Wiring.{IsSomeEnd, IsWired, joined_state, link_to, port_in}
 use Rattle.play_worlds.proofs.Lists.{get_there}
 use Rattle.play_worlds.proofs.Resting.{all_true}
 use Rattle.play_plans.specs.Casting.{IsCastOf, IsLinkCast, cast_of, flow_of, joint_of}
 use Rattle.play_plans.proofs.Casting.{plan_casts}
 use Rattle.play_plans.proofs.Casts.{plan_has_cast}
 use Rattle.play_plans.proofs.Limits.{head_there, in_limits}
-use Rattle.assembling.specs.Assembly.{Assembly, IsEndOf, component_at}
-use Rattle.assembling.specs.Stages.{AreBuilt, IsBuiltAs, IsStage, Joining, file_by, progress_of, setting_of, state_by, stream_by}
+use Rattle.assembling.specs.Assembly.{Assembly, component_at}
+use Rattle.assembling.specs.Stages.{AreBuilt, IsStage, Joining, file_by, progress_of, setting_of, state_by, stream_by}
 use Rattle.assembling.proofs.Places.{from_mapped, stream_found}
 use Rattle.assembling.proofs.Filing.{stream_component}
 use Rattle.assembling.proofs.Standing.{port_at_end}
-use Rattle.play_openings.specs.Assemblies.{HasNoLate, IsReady, PlayFiles, assembly_of, end_of, file_at, file_of, is_late_link, kind_in, opening_format, source_file}
-use Rattle.play_openings.proofs.Lawful.{IsLinkAt, kind_on, known_within, late_is, link_is, plan_lawful}
+use Rattle.play_openings.specs.Assemblies.{HasNoLate, IsReady, PlayFiles, assembly_of, end_of, file_at, file_of, is_late_link, kind_in, opening_format}
+use Rattle.play_openings.proofs.Lawful.{known_within, late_is, link_is, plan_lawful}
 
 -- ---- formats that fit
 

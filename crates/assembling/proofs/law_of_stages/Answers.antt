@@ -1,4 +1,4 @@
-use Rattle.assembling.proofs.Stages.{begins, names, all_made, one_factored, all_factored, all_set, none_filed, all_filed}
+use Rattle.assembling.proofs.Stages.{begins, names, at_rest, all_made, one_factored, all_factored, all_set, none_filed, all_filed}
 use Rattle.assembling.proofs.law_of_stages.Goals as goal
 
 pub returns : goal.returns
@@ -11,4 +11,5 @@ returns c = record {
   no_file = none_filed;
   all_filed = all_filed;
   names = names;
+  closed = at_rest;
 }
