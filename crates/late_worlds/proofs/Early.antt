@@ -1,22 +1,16 @@
 -- Where no source is late, the worlds of a play with late sources are those of a play.
-use Rattle.std.proofs.Common.{◌≡◌, ◌⊎◌, inl, inr, ℕ, zero, suc, ◌+◌, ◌-◌, ◌<◌, ◌≤◌, Bool, true, false, not, ◌&&◌, ◌||◌, if◌then◌else◌, List, [], ◌∷◌, ◌++◌, length, map, Option, Some, None, is_some, refl, sym, ◌∙◌, ap, subst, arith}
+use Rattle.std.proofs.Common.{◌≡◌, inl, inr, ℕ, zero, suc, ◌<◌, Bool, true, false, not, ◌||◌, List, [], ◌∷◌, ◌++◌, refl, sym, ◌∙◌, ap, arith}
 use Rattle.omx_types.specs.declared.command.Command.{Command}
-use Rattle.omx_types.specs.declared.command.Note.{Note}
 use Rattle.omx_types.specs.declared.kind.Kind.{Kind}
 use Rattle.omx_types.specs.declared.kind.Kind.TheVariants as kinds
-use Rattle.omx_types.specs.Formats.{frame_bytes_of, is_auto}
 use Rattle.il_machine.specs.declared.answer.Progress.{Progress}
 use Rattle.il_machine.specs.declared.port.Link.{Link}
 use Rattle.il_machine.specs.declared.port.Port.{Port}
 use Rattle.il_machine.specs.declared.port.PortKey.{PortKey}
-use Rattle.il_machine.specs.declared.port.PortState.{PortState}
-use Rattle.il_machine.specs.Claims.{wanted}
 use Rattle.il_machine.specs.Finishing.{end_note}
 use Rattle.il_machine.specs.Kinds.{is_late, is_sink}
-use Rattle.il_machine.specs.Ports.{is_input_port}
 use Rattle.il_machine.specs.World.{Component, Work, World}
 use Rattle.machine_laws.proofs.Finding.{either}
-use Rattle.flow_model.specs.Network.{IsOutput}
 use Rattle.flow_model.specs.Progress.{IsLinkOf, sum_to}
 use Rattle.play_model.specs.Changes.{Change}
 use Rattle.play_model.specs.Play.{IsLayout, Layout, Play}
@@ -51,7 +45,7 @@ append_nil : {A : Type 0} (xs : List A) → xs ++ [] ≡ xs
 append_nil [] = refl
 append_nil {A} (x ∷ xs) = ap (λ (ys : List A). x ∷ ys) (append_nil xs)
 
-sink_not_late : (kind : Kind) → is_sink kind ≡ true → is_late kind ≡ false
+pub sink_not_late : (kind : Kind) → is_sink kind ≡ true → is_late kind ≡ false
 sink_not_late kinds.Late h = absurd cc
 sink_not_late _ h = refl
 
@@ -111,7 +105,7 @@ module _ (x : LateCast) (p : Play) (w : World) (N : HasNoLate x.cast) (R : IsRea
     supplied = λ h. never l b h;
   }
 
-  wired_early : (l : ℕ) → l < links_of x.cast → IsWiredAt x p (port_in w.components) l → IsWired x.cast (port_in w.components) l
+  pub wired_early : (l : ℕ) → l < links_of x.cast → IsWiredAt x p (port_in w.components) l → IsWired x.cast (port_in w.components) l
   wired_early l b D = record {
     output = D.output;
     input = D.input;

@@ -1,30 +1,29 @@
 -- The world in which a play with late sources begins is one of its worlds.
-use Rattle.std.proofs.Common.{◌≡◌, ℕ, zero, suc, ◌+◌, ◌<◌, ◌≤◌, Bool, true, false, ◌&&◌, if◌then◌else◌, nat_eq, List, [], ◌∷◌, ◌++◌, length, get_or, replicate, slice_get, slice_index_or, option_and_then, is_some, Option, Some, None, refl, sym, ◌∙◌, ap, subst, arith}
+use Rattle.std.proofs.Common.{◌≡◌, ℕ, zero, suc, ◌+◌, ◌<◌, ◌≤◌, Bool, true, false, ◌&&◌, if◌then◌else◌, nat_eq, List, [], ◌++◌, get_or, replicate, slice_get, slice_index_or, option_and_then, is_some, Option, Some, None, refl, sym, ◌∙◌, ap, subst, arith}
 use Rattle.std.proofs.lemmas.Option.{slice_get_within}
 use Rattle.omx_types.specs.declared.command.Command.{Command}
-use Rattle.omx_types.specs.declared.command.Note.{Note}
 use Rattle.il_machine.specs.declared.answer.Progress.{Progress}
 use Rattle.il_machine.specs.declared.port.PortKey.{PortKey}
 use Rattle.il_machine.specs.Components.{no_progress}
 use Rattle.il_machine.specs.Finishing.{end_note}
 use Rattle.il_machine.specs.Headers.{find_header}
 use Rattle.il_machine.specs.Queued.{notes_given}
-use Rattle.il_machine.specs.World.{Component, Given, World, fresh, number_of}
+use Rattle.il_machine.specs.World.{Component, Given, World, number_of}
 use Rattle.machine_laws.proofs.Finding.{either}
 use Rattle.flow_model.specs.Progress.{sum_to}
 use Rattle.play_model.specs.Play.{Layout}
 use Rattle.play_model.proofs.Handing.{begun_reached}
 use Rattle.play_links.specs.View.{link_view, worked_at}
 use Rattle.play_worlds.specs.Cast.{Cast, components_of, input_at, links_of, output_at, script_place}
-use Rattle.play_worlds.specs.Openings.{opening}
+use Rattle.play_worlds.specs.Openings.{IsOpeningWorld, opening}
 use Rattle.play_worlds.specs.Standing.{standing}
 use Rattle.play_worlds.specs.Telling.{heard, heard_of, out_of, progress_by, unheard}
 use Rattle.play_worlds.specs.Wiring.{work_in}
-use Rattle.play_worlds.specs.Worlds.{to_make}
 use Rattle.play_worlds.proofs.Picks.{ends_with, seen_with}
 use Rattle.late_worlds.specs.Changing.{at_links}
 use Rattle.late_worlds.specs.Late.{HasHeard, IsActorAt, IsLateWorld, LateCast, commands_of_end, left_to_make, made_again, notes_of_end, port_commands, port_notes, settings_notes, settings_of_end}
 use Rattle.late_worlds.specs.Openings.{IsLateOpening}
+use Rattle.late_worlds.proofs.Early.{sink_not_late, wired_early}
 
 unended : (inputs port : ℕ) → get_or (replicate inputs false) port false ≡ false
 unended zero port = refl
@@ -144,3 +143,35 @@ module _ (x : LateCast) (w : World) (O : IsLateOpening x w) where
         units = O.units;
         numbers = omega arith;
       }
+
+-- ---- where no source is late
+
+pub early_opening : (x : LateCast) (w : World) → ((l : ℕ) → l < links_of x.cast → ((x.cast).layout).is_late l ≡ false) → IsLateOpening x w → IsOpeningWorld x.cast w
+early_opening x w N O =
+    let R = (late_opens x w O).reached in
+    record {
+      cast = O.cast_is;
+      early = N;
+      sound = O.sound;
+      many = O.many;
+      components = λ c a b e.
+          let S = O.components c a b e in
+          record {
+            number = S.number;
+            fresh_else = S.fresh_else;
+            fit = S.fit;
+            source = S.source;
+            sink = S.sink;
+            early_source = either (((x.cast).layout).is_sink c)
+                (λ t. sink_not_late a.settings.kind (S.sink ∙ t))
+                (λ t. let o = ((O.cast_is).layout).outputs c b t in S.late o.0 o.1 ∙ N o.0 (o.1).below);
+            file = S.file;
+            stream = S.stream;
+          };
+      wired = λ l b. wired_early x opening w N R l b (O.wired l b);
+      ends = O.ends;
+      headers = O.headers;
+      made = O.made;
+      given = O.given;
+      units = O.units;
+    }

@@ -1,11 +1,11 @@
 -- What the change of a late source's link makes of its two ports: how they stand by how far it is, and what is queued at their
 -- components. A link that isn't changed stands as one of whose change nothing was done.
-use Rattle.std.specs.Prelude.{◌≡◌, ℕ, zero, suc, Bool, true, false, not, ◌&&◌, ◌||◌, nat_eq, nat_le, if◌then◌else◌, List, [], ◌∷◌, ◌++◌, Option, Some, None}
+use Rattle.std.specs.Prelude.{ℕ, zero, suc, Bool, true, false, not, ◌&&◌, ◌||◌, nat_eq, nat_le, if◌then◌else◌, List, [], ◌∷◌, ◌++◌, Option, Some, None}
 use Rattle.omx_types.specs.declared.command.Command.{Command}
 use Rattle.omx_types.specs.declared.command.Command.TheVariants.{PortDisable, PortEnable}
 use Rattle.omx_types.specs.declared.command.Completion.{Completion}
 use Rattle.omx_types.specs.declared.command.Completion.TheVariants as completions
-use Rattle.omx_types.specs.declared.command.Event.TheVariants.{CmdComplete, PortSettingsChanged}
+use Rattle.omx_types.specs.declared.command.Event.TheVariants.{CmdComplete}
 use Rattle.omx_types.specs.declared.command.Note.{Note}
 use Rattle.omx_types.specs.declared.command.Note.TheVariants.{Told}
 use Rattle.omx_types.specs.declared.command.PortSel.TheVariants.{One}

@@ -154,7 +154,7 @@ abbrev by_side : PartLine → PartLine → Bool → PartLine
 by_side giver taker false = giver
 by_side giver taker true = taker
 
-same_part : (parts : List PartLine) (place other : ℕ) (p q : PartLine) → slice_get parts place ≡ Some p → slice_get parts other ≡ Some q → place ≡ other → p ≡ q
+pub same_part : (parts : List PartLine) (place other : ℕ) (p q : PartLine) → slice_get parts place ≡ Some p → slice_get parts other ≡ Some q → place ≡ other → p ≡ q
 same_part parts place other p q e f h = let s : Some p ≡ Some q = sym e ∙ (ap (slice_get parts) h ∙ f) in cc
 
 -- the formats fit beside each other
@@ -222,7 +222,7 @@ module _ (plan : PlanValue) (files : PlayFiles) (R : IsReady plan files) where
   abbrev own_flow : ℕ → PartLine → Flow
   own_flow place part = flow_by (kind_of part.form) (slice_get files.heads (source_number plan.parts place)) (into no_flow plan.joints plan.flows place)
 
-  flow_given : (l : ℕ) (K : IsLinkAt plan l) → flow_of plan l ≡ own_flow (joint_of plan l).giver (K.part false)
+  pub flow_given : (l : ℕ) (K : IsLinkAt plan l) → flow_of plan l ≡ own_flow (joint_of plan l).giver (K.part false)
   flow_given l K = given_flow plan files.heads R.valid R.flows R.fit R.scripted R.heads_are l (joint_of plan l) (flow_of plan l) (K.part false) K.there_joint K.there_flow (K.part_there false)
 
   taken_first : (l : ℕ) (K : IsLinkAt plan l) → (flow_of plan l).format ≡ format_into plan.joints plan.flows (joint_of plan l).taker 0

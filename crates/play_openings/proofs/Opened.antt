@@ -1,5 +1,5 @@
 -- The graph of a plan, once it is assembled, stands where its play begins.
-use Rattle.std.proofs.Common.{◌≡◌, ◌⊎◌, inl, inr, ℕ, suc, ◌+◌, ◌<◌, ◌≤◌, Bool, true, false, not, ◌||◌, List, [], ◌∷◌, length, sum_by, slice_get, slice_index_or, Option, Some, None, MatchOption, option_map, option_and_then, refl, sym, ◌∙◌, ap, subst, arith}
+use Rattle.std.proofs.Common.{◌≡◌, ◌⊎◌, inl, inr, ℕ, zero, suc, ◌+◌, ◌<◌, ◌≤◌, Bool, true, false, not, ◌||◌, List, [], ◌∷◌, length, sum_by, slice_get, slice_index_or, Option, Some, None, MatchOption, option_map, option_and_then, refl, sym, ◌∙◌, ap, subst, arith, filter}
 use Rattle.std.specs.List.{list_all}
 use Rattle.std.proofs.lemmas.Bool.{lt-ltb}
 use Rattle.std.proofs.lemmas.List.{length-map}
@@ -16,7 +16,7 @@ use Rattle.il_machine.specs.declared.port.PortKey.{PortKey}
 use Rattle.il_machine.specs.declared.port.PortSetting.{PortSetting}
 use Rattle.il_machine.specs.Files.{Offered, attached}
 use Rattle.il_machine.specs.Kinds.{is_auto, is_sink}
-use Rattle.il_machine.specs.Parts.{frames_of}
+use Rattle.il_machine.specs.Parts.{frames_of, file_format}
 use Rattle.il_machine.specs.Settings.{Settings, are_fitting, fits, formats_of, is_known, is_splitter, same_format, same_rate_and_channels}
 use Rattle.il_machine.specs.Units.{need_of, units_of}
 use Rattle.il_machine.specs.World.{Component, Stream, World, fresh, number_of, port_of, stream_of}
@@ -33,7 +33,7 @@ use Rattle.play_forms.specs.Plans.{PlanValue}
 use Rattle.play_forms.specs.Settling.{into}
 use Rattle.stream_plan.proofs.Flows.{flow_of_source}
 use Rattle.play_worlds.specs.Cast.{Cast, IsCast, components_of, input_at, output_at, script_place}
-use Rattle.play_worlds.specs.Openings.{IsOpeningWorld, IsSetUp}
+use Rattle.play_worlds.specs.Openings.{IsOpeningWorld, IsSetUp, opening}
 use Rattle.play_worlds.specs.Wiring.{IsSomeEnd, IsWired, joined_state, link_to, port_in}
 use Rattle.play_worlds.proofs.Lists.{get_there}
 use Rattle.play_worlds.proofs.Resting.{all_true}
@@ -46,8 +46,15 @@ use Rattle.assembling.specs.Stages.{AreBuilt, IsStage, Joining, file_by, progres
 use Rattle.assembling.proofs.Places.{from_mapped, stream_found}
 use Rattle.assembling.proofs.Filing.{stream_component}
 use Rattle.assembling.proofs.Standing.{port_at_end}
-use Rattle.play_openings.specs.Assemblies.{HasNoLate, IsReady, PlayFiles, assembly_of, end_of, file_at, file_of, is_late_link, kind_in, opening_format}
-use Rattle.play_openings.proofs.Lawful.{known_within, late_is, link_is, plan_lawful}
+use Rattle.play_openings.specs.Assemblies.{HasNoLate, IsReady, PlayFiles, assembly_of, end_of, file_at, file_of, is_late_link, kind_in, opening_format, late_cast_of}
+use Rattle.play_openings.proofs.Lawful.{known_within, late_is, link_is, plan_lawful, flow_given, same_part}
+use Rattle.machine_laws.proofs.Accepting.{is_not}
+use Rattle.flow_model.specs.Network.{IsOutput}
+use Rattle.play_forms.specs.declared.flow.Flow.{Flow}
+use Rattle.late_worlds.specs.Changing.{is_set, state_by as changing_state}
+use Rattle.late_worlds.specs.Late.{IsWiredAt}
+use Rattle.late_worlds.specs.Openings.{IsLateOpening, IsSetUpAt}
+use Rattle.late_worlds.proofs.Opened.{early_opening}
 
 -- ---- formats that fit
 
@@ -80,6 +87,26 @@ no_frames_yet : (o : Option Offered) (c : ℕ) → (stream_by o c).frames ≡ 0
 no_frames_yet None c = refl
 no_frames_yet (Some file) c = refl
 
+from_kept : {X : Type 0} (test : X → Bool) (y : X) (xs ys : List X) (x : X) → ((i : ℕ) → slice_get ys i ≡ Some x → (j : ℕ) × (slice_get xs j ≡ Some x) × (test x ≡ true)) → test y ≡ true
+    → (k : ℕ) → slice_get (y ∷ ys) k ≡ Some x → (j : ℕ) × (slice_get (y ∷ xs) j ≡ Some x) × (test x ≡ true)
+from_kept test y xs ys x later t zero h = let s : y ≡ x = cc in (0, h, ap test (sym s) ∙ t)
+from_kept test y xs ys x later t (suc k) h = let r = later k h in (suc r.0, r.1, r.2)
+
+from_filtered : {X : Type 0} (test : X → Bool) (xs : List X) (i : ℕ) (x : X) → slice_get (filter test xs) i ≡ Some x → (j : ℕ) × (slice_get xs j ≡ Some x) × (test x ≡ true)
+from_filtered test [] i x e = absurd cc
+from_filtered test (y ∷ xs) i x e = either (test y)
+    (λ t. from_kept test y xs (filter test xs) x (λ k h. from_filtered test xs k x h) t i (rw t at e))
+    (λ f. let r = from_filtered test xs i x (rw f at e) in (suc r.0, r.1, r.2))
+
+late_source : (kind : Kind) → is_late kind ≡ true → is_source kind ≡ true
+late_source kinds.Late h = refl
+late_source _ h = absurd cc
+
+source_format : (kind : Kind) (head : WavHead) (frames there : ℕ) (known : Option (List ℕ)) → is_source kind ≡ true → file_format (option_map attached (file_of kind (Some head) frames there known)) ≡ head.format
+source_format kinds.Source head frames there known h = refl
+source_format kinds.Late head frames there known h = refl
+source_format _ head frames there known h = absurd cc
+
 source_frames : (kind : Kind) (head : WavHead) (frames there : ℕ) (known : Option (List ℕ)) → is_source kind ≡ true → frames_of (option_map attached (file_of kind (Some head) frames there known)) ≡ head.frames
 source_frames kinds.Source head frames there known h = refl
 source_frames kinds.Late head frames there known h = refl
@@ -95,7 +122,6 @@ source_frames kinds.Sink head frames there known h = absurd cc
 
 pub record IsGiven (plan : PlanValue) (files : PlayFiles) (handles : List Handle) (w : World) : Type 0 where
   pub ready : IsReady plan files
-  pub none_late : HasNoLate plan
   pub stage : IsStage (assembly_of plan files) (Joining (length plan.joints)) handles w
 
 -- the port of an end that is joined
@@ -125,14 +151,22 @@ module _ (plan : PlanValue) (files : PlayFiles) (handles : List Handle) (w : Wor
       let R = G.ready in
       plan_casts plan files.heads (cast_of (λ l. false) plan) R.valid R.flows R.frames R.fit (in_limits plan files.heads R.valid R.flows R.fit R.scripted R.heads_are) is_cast_of
 
-  no_late : (l : ℕ) → l < length plan.joints → is_late_link plan l ≡ false
-  no_late l b = let K = link_is plan files G.ready l b in late_is plan files G.ready l K ∙ G.none_late (joint_of plan l).giver (K.part false) (K.part_there false)
+  lawful_format : (l : ℕ) → l < length plan.joints → is_auto (flow_of plan l).format ≡ false
+  lawful_format l b = let K = link_is plan files G.ready l b in known_within (flow_of plan l).format ((K.lawful).format)
 
-  format_so : (l : ℕ) → l < length plan.joints → opening_format (is_late_link plan l) (flow_of plan l).format ≡ (flow_of plan l).format
-  format_so l b = ap (λ (t : Bool). opening_format t (flow_of plan l).format) (no_late l b)
+  -- the format of a port is known where no source of the link is late
+  known_at : (output : Bool) (l : ℕ) → l < length plan.joints → is_auto (opening_format (is_late_link plan l) (flow_of plan l).format) ≡ not (is_set ((late_cast_of plan).cast).layout opening output l)
+  known_at true l b = either (is_late_link plan l) (λ t. rw t refl) (λ f. rw f (lawful_format l b))
+  known_at false l b = either (is_late_link plan l) (λ t. rw t refl) (λ f. rw f (lawful_format l b))
 
-  known_so : (l : ℕ) → l < length plan.joints → is_auto (opening_format (is_late_link plan l) (flow_of plan l).format) ≡ false
-  known_so l b = let K = link_is plan files G.ready l b in ap is_auto (format_so l b) ∙ known_within (flow_of plan l).format ((K.lawful).format)
+  not_set : (output : Bool) (l : ℕ) → is_late_link plan l ≡ true → is_set ((late_cast_of plan).cast).layout opening output l ≡ false
+  not_set true l t = rw t refl
+  not_set false l t = rw t refl
+
+  unit_at : (output : Bool) (l : ℕ) → is_set ((late_cast_of plan).cast).layout opening output l ≡ true → frame_bytes_of (opening_format (is_late_link plan l) (flow_of plan l).format) ≡ frame_bytes_of (flow_of plan l).format
+  unit_at output l h = either (is_late_link plan l)
+      (λ t. let z : false ≡ true = sym (not_set output l t) ∙ h in absurd cc)
+      (λ f. ap (λ (b : Bool). frame_bytes_of (opening_format b (flow_of plan l).format)) f)
 
   -- ---- links
 
@@ -157,21 +191,39 @@ module _ (plan : PlanValue) (files : PlayFiles) (handles : List Handle) (w : Wor
   input_key : (l : ℕ) → l < length plan.joints → input_at (cast_of (λ l. false) plan) l ≡ end_of true (joint_of plan l)
   input_key l b = let e = (link_cast l b).taker in λ i. record { component = e i; port = (joint_of plan l).input }
 
-  wired_so : (l : ℕ) → l < length plan.joints → IsWired (cast_of (λ l. false) plan) (port_in w.components) l
+  wired_so : (l : ℕ) → l < length plan.joints → IsWiredAt (late_cast_of plan) opening (port_in w.components) l
   wired_so l b =
       let x : Cast = cast_of (λ l. false) plan in
       let s : Assembly = assembly_of plan files in
       let out = output_key l b in
       let in_ = input_key l b in
-      let unit = ap frame_bytes_of (format_so l b) in
       record {
         output = joined_port s false l;
         input = joined_port s true l;
         output_there = ap (port_in w.components) out ∙ port_built false l b;
         input_there = ap (port_in w.components) in_ ∙ port_built true l b;
-        output_end = record { key = sym out; state = ap (λ (k : PortKey). joined_state (link_to x l k)) (sym in_); direction = refl; count = refl; size = refl; unit = unit; known = known_so l b };
-        input_end = record { key = sym in_; state = ap (λ (k : PortKey). joined_state (link_to x l k)) (sym out); direction = refl; count = refl; size = refl; unit = unit; known = known_so l b };
+        output_end = record {
+          key = sym out;
+          state = ap (λ (k : PortKey). changing_state true (opening.change l) (link_to x l k)) (sym in_);
+          direction = refl;
+          count = refl;
+          size = refl;
+          known = known_at true l b;
+          unit = unit_at true l;
+          format = λ h k. let z : false ≡ true = sym (not_set true l h) ∙ k in absurd cc;
+        };
+        input_end = record {
+          key = sym in_;
+          state = ap (λ (k : PortKey). changing_state false (opening.change l) (link_to x l k)) (sym out);
+          direction = refl;
+          count = refl;
+          size = refl;
+          known = known_at false l b;
+          unit = unit_at false l;
+          format = λ h k. let z : false ≡ true = sym (not_set false l h) ∙ k in absurd cc;
+        };
         apart = λ e. (plan_lawful plan files G.ready).apart l b (ap (λ (k : PortKey). k.component) (sym out) ∙ (e ∙ ap (λ (k : PortKey). k.component) in_));
+        supplied = λ h. refl;
       }
 
   end_at_port : (i port : ℕ) (a : Component) (q : Port) → slice_get w.components i ≡ Some a → port_of a port ≡ Some q → IsSomeEnd (cast_of (λ l. false) plan) q.key
@@ -218,18 +270,20 @@ module _ (plan : PlanValue) (files : PlayFiles) (handles : List Handle) (w : Wor
       let is : r.0 ≡ setting_of s Z.side Z.link = cc in
       record { side = Z.side; link = Z.link; below = Z.below; at = ap (λ y. y.component) Z.end; format = sym r.2 ∙ ap (λ (y : PortSetting). y.definition.format) is }
       in
-      let known : list_all is_known (formats_of a.settings.ports) ≡ true = all_true is_known (formats_of a.settings.ports) (λ k f g. let F = one k f g in ap is_known F.format ∙ ap not (known_so F.link F.below)) in
-      let pairs : are_fitting a.settings.kind (formats_of a.settings.ports) ≡ true = fitting a.settings.kind (formats_of a.settings.ports) (λ i j f g x y.
-      let F = one i f x in
-      let H = one j g y in
-      let A = L.fit F.side H.side F.link H.link F.below H.below (F.at ∙ sym H.at) (known_so F.link F.below) (known_so H.link H.below) in (
+      let fs : List Format = formats_of a.settings.ports in
+      fitting a.settings.kind (filter is_known fs) (λ i j f g x y.
+      let X = from_filtered is_known fs i f x in
+      let Y = from_filtered is_known fs j g y in
+      let F = one X.0 f X.1 in
+      let H = one Y.0 g Y.1 in
+      let f_known = ap is_auto (sym F.format) ∙ is_not (is_auto f) X.2 in
+      let g_known = ap is_auto (sym H.format) ∙ is_not (is_auto g) Y.2 in
+      let A = L.fit F.side H.side F.link H.link F.below H.below (F.at ∙ sym H.at) f_known g_known in (
         (λ t. same_rate_and_channels (F.format t) (H.format t)) ∙ A.alike,
         λ h.
             let splitter : is_splitter (kind_in (slice_get plan.parts (component_at s F.side F.link))) ≡ true = ap (λ (n : ℕ). is_splitter (kind_in (slice_get plan.parts n))) F.at ∙ (ap is_splitter (sym kind) ∙ h) in
             (λ t. same_format (F.format t) (H.format t)) ∙ A.same splitter,
       ))
-      in
-      ap (are_fitting a.settings.kind) (all_known (formats_of a.settings.ports) known) ∙ pairs
 
   file_so : (place : ℕ) (part : PartLine) (a : Component) → slice_get plan.parts place ≡ Some part → slice_get w.components place ≡ Some a → is_source (kind_of part.form) ≡ true
       → frames_of a.file ≡ slice_index_or plan.frames place 0
@@ -268,7 +322,31 @@ module _ (plan : PlanValue) (files : PlayFiles) (handles : List Handle) (w : Wor
       in
       is_there (stream_of (number_of a) w) (λ y. y.frames ≡ 0) (stream_by (file_by s true place) place) there (no_frames_yet (file_by s true place) place)
 
-  set_up : (c : ℕ) (a : Component) → c < components_of (cast_of (λ l. false) plan) → slice_get w.components (script_place (cast_of (λ l. false) plan) c) ≡ Some a → IsSetUp (cast_of (λ l. false) plan) w c a
+  -- a link that the component gives
+  given_by : (c l : ℕ) → IsOutput ((cast_of (λ l. false) plan).layout).network c l → (joint_of plan l).giver ≡ script_place (cast_of (λ l. false) plan) c
+  given_by c l O = sym (link_cast l O.below).giver ∙ ap (script_place (cast_of (λ l. false) plan)) O.given_by
+
+  late_format_so : (place : ℕ) (part : PartLine) (a : Component) (l : ℕ) → slice_get plan.parts place ≡ Some part → slice_get w.components place ≡ Some a → l < length plan.joints → (joint_of plan l).giver ≡ place
+      → is_late_link plan l ≡ true → file_format a.file ≡ (flow_of plan l).format
+  late_format_so place part a l e f b g h =
+      let R = G.ready in
+      let B = built.each place a f in
+      let K = link_is plan files R l b in
+      let p = same_part plan.parts _ _ (K.part false) part (K.part_there false) e g in
+      let kind : Kind = kind_of part.form in
+      let source : is_source kind ≡ true = ap (λ (y : PartLine). is_source (kind_of y.form)) (sym p) ∙ late_source (kind_of (K.part false).form) (sym (late_is plan files R l K) ∙ h) in
+      let H = head_there plan files.heads R.valid R.flows R.fit R.scripted R.heads_are place part e source in
+      let head : WavHead = H.0 in
+      let own : file_at plan files place ≡ file_of kind (Some head) (slice_index_or plan.frames place 0) (files.there place) (files.known place) =
+      λ i. file_of (kind_in (e i)) (H.1 i) (slice_index_or plan.frames place 0) (files.there place) (files.known place)
+      in
+      let given : flow_of plan l ≡ flow_of_head (Some head) =
+      flow_given plan files R l K ∙ (flow_of_source (kind_of (K.part false).form) _ (into no_flow plan.joints plan.flows (joint_of plan l).giver) (ap (λ (y : PartLine). is_source (kind_of y.form)) p ∙ source)
+      ∙ (ap (λ (n : ℕ). flow_of_head (slice_get files.heads (source_number plan.parts n))) g ∙ ap flow_of_head H.1))
+      in
+      ap file_format B.file ∙ (ap (λ (o : Option Offered). file_format (option_map attached o)) own ∙ (source_format kind head _ _ _ source ∙ sym (ap (λ (y : Flow). y.format) given)))
+
+  set_up : (c : ℕ) (a : Component) → c < components_of (cast_of (λ l. false) plan) → slice_get w.components (script_place (cast_of (λ l. false) plan) c) ≡ Some a → IsSetUpAt (late_cast_of plan) w c a
   set_up c a l e =
       let x : Cast = cast_of (λ l. false) plan in
       let place : ℕ = script_place x c in
@@ -282,7 +360,8 @@ module _ (plan : PlanValue) (files : PlayFiles) (handles : List Handle) (w : Wor
         fit = fits_so place a e;
         source = ap is_source its_kind ∙ sym (ap (passes_at is_source) p.1);
         sink = ap is_sink its_kind ∙ sym (ap (passes_at is_sink) p.1);
-        early_source = ap is_late its_kind ∙ G.none_late place p.0 p.1;
+        late = λ k O. ap is_late its_kind ∙ sym (ap (λ (n : ℕ). passes_at is_late (slice_get plan.parts n)) (given_by c k O) ∙ ap (passes_at is_late) p.1);
+        late_format = λ k O h. late_format_so place p.0 a k p.1 e O.below (given_by c k O) h;
         file = λ h. file_so place p.0 a p.1 e (ap is_source (sym its_kind) ∙ h);
         stream = stream_so place a e;
       }
@@ -298,10 +377,10 @@ module _ (plan : PlanValue) (files : PlayFiles) (handles : List Handle) (w : Wor
       let u = V.units in
       omega arith
 
-  pub opens : IsOpeningWorld (cast_of (λ l. false) plan) w
+  pub opens : IsLateOpening (late_cast_of plan) w
   opens = record {
-    cast = is_cast;
-    early = λ l b. no_late l b;
+    cast_is = is_cast;
+    formats = λ l b h. (refl, lawful_format l b);
     sound = (G.stage).sound;
     many = ((G.stage).built).many;
     components = set_up;
@@ -313,6 +392,9 @@ module _ (plan : PlanValue) (files : PlayFiles) (handles : List Handle) (w : Wor
     units = units_so;
   }
 
-pub assembled_opens : (plan : PlanValue) (files : PlayFiles) (handles : List Handle) (w : World) → IsReady plan files → HasNoLate plan → IsStage (assembly_of plan files) (Joining (length plan.joints)) handles w
+pub assembled_opens : (plan : PlanValue) (files : PlayFiles) (handles : List Handle) (w : World) → IsReady plan files → IsStage (assembly_of plan files) (Joining (length plan.joints)) handles w → IsLateOpening (late_cast_of plan) w
+assembled_opens plan files handles w R W = opens plan files handles w (record { ready = R; stage = W })
+
+pub early_opens : (plan : PlanValue) (files : PlayFiles) (handles : List Handle) (w : World) → IsReady plan files → HasNoLate plan → IsStage (assembly_of plan files) (Joining (length plan.joints)) handles w
     → IsOpeningWorld (cast_of (λ l. false) plan) w
-assembled_opens plan files handles w R N W = opens plan files handles w (record { ready = R; none_late = N; stage = W })
+early_opens plan files handles w R N W = early_opening (late_cast_of plan) w (λ l b. let K = link_is plan files R l b in late_is plan files R l K ∙ N (joint_of plan l).giver (K.part false) (K.part_there false)) (assembled_opens plan files handles w R W)

@@ -14,7 +14,8 @@ use Rattle.play_forms.specs.declared.joint.Joint.{Joint}
 use Rattle.play_forms.specs.Flows.{AreFlows, AreFrames}
 use Rattle.play_forms.specs.Parts.{factors_of, kind_of, passes_at, source_number}
 use Rattle.play_forms.specs.Plans.{IsFit, IsValid, PlanValue}
-use Rattle.play_plans.specs.Casting.{flow_of, joint_of}
+use Rattle.play_plans.specs.Casting.{cast_of, flow_of, joint_of}
+use Rattle.late_worlds.specs.Late.{LateCast}
 use Rattle.play_plans.specs.Limits.{AreHeads, IsScripted}
 use Rattle.assembling.specs.Assembly.{Assembly}
 
@@ -86,3 +87,7 @@ pub record IsReady (plan : PlanValue) (files : PlayFiles) : Type 0 where
 
 abbrev pub HasNoLate : PlanValue → Type 0
 HasNoLate plan = (place : ℕ) (part : PartLine) → slice_get plan.parts place ≡ Some part → is_late (kind_of part.form) ≡ false
+
+-- its cast, in which the input supplies each link, with the formats of its links
+abbrev pub late_cast_of : PlanValue → LateCast
+late_cast_of plan = record { cast = cast_of (λ l. false) plan; format = λ l. (flow_of plan l).format }
