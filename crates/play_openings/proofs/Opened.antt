@@ -23,7 +23,6 @@ use Rattle.il_machine.specs.World.{Component, Stream, World, fresh, number_of, p
 use Rattle.script_lang.specs.declared.play_line.PartLine.{PartLine}
 use Rattle.wav_form.specs.declared.heads.WavHead.{WavHead}
 use Rattle.machine_laws.proofs.Finding.{either}
-use Rattle.machine_laws.proofs.Fitting.{all_known}
 use Rattle.machine_laws.proofs.Keys.{is_there}
 use Rattle.machine_laws.proofs.Lookups.{port_parts}
 use Rattle.machine_laws.proofs.Parts.{parts_of}
@@ -33,8 +32,8 @@ use Rattle.play_forms.specs.Plans.{PlanValue}
 use Rattle.play_forms.specs.Settling.{into}
 use Rattle.stream_plan.proofs.Flows.{flow_of_source}
 use Rattle.play_worlds.specs.Cast.{Cast, IsCast, components_of, input_at, output_at, script_place}
-use Rattle.play_worlds.specs.Openings.{IsOpeningWorld, IsSetUp, opening}
-use Rattle.play_worlds.specs.Wiring.{IsSomeEnd, IsWired, joined_state, link_to, port_in}
+use Rattle.play_worlds.specs.Openings.{IsOpeningWorld, opening}
+use Rattle.play_worlds.specs.Wiring.{IsSomeEnd, link_to, port_in}
 use Rattle.play_worlds.proofs.Lists.{get_there}
 use Rattle.play_worlds.proofs.Resting.{all_true}
 use Rattle.play_plans.specs.Casting.{IsCastOf, IsLinkCast, cast_of, flow_of, joint_of}
