@@ -1,2 +1,4 @@
 pub mod Early
 pub mod Opened
+pub mod Begins
+pub mod Ports
