@@ -1,8 +1,7 @@
 -- The conductor begins the next StateSet in a play with late sources, which changes nothing of the world.
 use Rattle.std.proofs.lemmas.Bool.{cases_eq, leb-false, lt-leb}
-use Rattle.std.proofs.Common.{◌≡◌, inl, inr, ℕ, zero, suc, ◌+◌, ◌-◌, ◌<◌, ◌≤◌, Bool, true, false, nat_le, if◌then◌else◌, List, ◌++◌, refl, sym, ◌∙◌, ap, subst, arith}
+use Rattle.std.proofs.Common.{◌≡◌, inl, inr, ℕ, zero, suc, ◌+◌, ◌-◌, ◌<◌, ◌≤◌, Bool, true, false, nat_le, if◌then◌else◌, List, ◌++◌, sym, ◌∙◌, ap, arith}
 use Rattle.omx_types.specs.declared.command.Command.{Command}
-use Rattle.omx_types.specs.declared.state.State.{State}
 use Rattle.il_machine.specs.declared.answer.Progress.{Progress}
 use Rattle.il_machine.specs.declared.port.Port.{Port}
 use Rattle.il_machine.specs.declared.port.PortKey.{PortKey}
@@ -16,7 +15,7 @@ use Rattle.play_model.proofs.Handing.{act_reaches}
 use Rattle.play_worlds.specs.Cast.{Cast, components_of, links_of}
 use Rattle.play_worlds.specs.Standing.{commands_at, standing}
 use Rattle.play_worlds.specs.Telling.{last_told, state_note}
-use Rattle.play_worlds.specs.Worlds.{IsBeforeRest, IsPart, ends_untold, to_make}
+use Rattle.play_worlds.specs.Worlds.{IsBeforeRest, IsPart, ends_untold}
 use Rattle.play_worlds.specs.Wiring.{port_in}
 use Rattle.play_worlds.proofs.Stages.{begin_stands, begin_told}
 use Rattle.late_worlds.specs.Late.{HasHeard, IsActorAt, IsEndAt, IsLateWorld, IsWiredAt, IsWorkAt, LateCast, left_to_make, port_commands, port_notes, settings_notes}
@@ -45,7 +44,7 @@ left_later x p l =
     (λ t. either (nat_le (p.change l).step 4) (λ u. rw (t, u) (omega arith)) (λ u. rw (t, u) later))
     (λ f. rw f first)
 
-module _ (x : LateCast) (p : Play) (w : World) (W : IsLateWorld x p w) (C : CanBegin (x.cast).layout p) where
+module _ (x : LateCast) (recent : ℕ) (p : Play) (w : World) (W : IsLateWorld x recent p w) (C : CanBegin (x.cast).layout p) where
   rests : (c : ℕ) → IsBeforeRest (begun p) c → IsBeforeRest p c
   rests c B = let b = B.1 in ((λ e. absurd (omega arith)), omega arith)
 
@@ -61,10 +60,10 @@ module _ (x : LateCast) (p : Play) (w : World) (W : IsLateWorld x p w) (C : CanB
       let f : true ≡ false = sym t ∙ K.going in
       cc
 
-  over_told : (c : ℕ) (a : Component) → c < components_of x.cast → IsActorAt x p w c a → 3 ≤ p.phase + 1 → ((x.cast).layout).is_sink c ≡ true → p.told c ≡ true
+  over_told : (c : ℕ) (a : Component) → c < components_of x.cast → IsActorAt x recent p w c a → 3 ≤ p.phase + 1 → ((x.cast).layout).is_sink c ≡ true → p.told c ≡ true
   over_told c a l A h s = elim (cases_eq p.phase 2) [ inl e ↦ C.ends e c l s | inr n ↦ A.over (omega arith) s ]
 
-  begun_heard : (c : ℕ) (h : Progress) → c < components_of x.cast → HasHeard x.cast p c h → HasHeard x.cast (begun p) c h
+  begun_heard : (c : ℕ) (h : Progress) → c < components_of x.cast → HasHeard x.cast recent p c h → HasHeard x.cast recent (begun p) c h
   begun_heard c h l H =
       let four : p.stage c ≡ 4 = C.all c l in
       record {
@@ -76,12 +75,12 @@ module _ (x : LateCast) (p : Play) (w : World) (W : IsLateWorld x p w) (C : CanB
         nothing = H.nothing;
       }
 
-  begun_actor : (c : ℕ) (a : Component) → c < components_of x.cast → IsActorAt x p w c a → IsActorAt x (begun p) w c a
+  begun_actor : (c : ℕ) (a : Component) → c < components_of x.cast → IsActorAt x recent p w c a → IsActorAt x recent (begun p) w c a
   begun_actor c a l A =
       let four : p.stage c ≡ 4 = C.all c l in
       let commands : List Command = port_commands x.cast p c in
       let now : a ≡ record (standing p.phase 4 a) { commands = commands } =
-          A.stands ∙ ap (λ (k : ℕ). record (standing p.phase k a) { commands = commands_at p.phase k ++ commands }) four
+      A.stands ∙ ap (λ (k : ℕ). record (standing p.phase k a) { commands = commands_at p.phase k ++ commands }) four
       in
       let said = ap (λ (k : ℕ). state_note p.phase k ++ (settings_notes x.cast p c ++ (port_notes x.cast p c ++ end_note (ends_untold x.cast p c)))) four in
       record {
@@ -118,7 +117,7 @@ module _ (x : LateCast) (p : Play) (w : World) (W : IsLateWorld x p w) (C : CanB
     supplied = D.supplied;
   }
 
-  pub begins : IsLateWorld x (acted (x.cast).layout Act.Begin p) w
+  pub begins : IsLateWorld x recent (acted (x.cast).layout Act.Begin p) w
   begins = record {
     cast_is = W.cast_is;
     formats = W.formats;
@@ -126,6 +125,7 @@ module _ (x : LateCast) (p : Play) (w : World) (W : IsLateWorld x p w) (C : CanB
     sound = W.sound;
     many = W.many;
     actors = λ c a l e. begun_actor c a l (W.actors c a l e);
+    half = W.half;
     wired = λ l b. begun_wired l (W.wired l b);
     ends = W.ends;
     viewed = W.viewed;

@@ -137,18 +137,18 @@ module _ (x : LateCast) (p : Play) (w : World) (N : HasNoLate x.cast) (R : IsRea
   link_below c l (inl I) = I.below
   link_below c l (inr O) = O.below
 
-  heard_late : (c : ℕ) (h : Progress) → h ≡ progress_at p.phase (p.stage c) (p.told c) → HasHeard x.cast p c h
-  heard_late c h e = record {
+  heard_late : (recent c : ℕ) (h : Progress) → h ≡ progress_at p.phase (p.stage c) (p.told c) → HasHeard x.cast recent p c h
+  heard_late recent c h e = record {
     state = ap (λ (y : Progress). y.state) e;
     eos = ap (λ (y : Progress). y.eos) e;
     error = ap (λ (y : Progress). y.error) e;
     settings = λ l O k. never l O.below k;
-    port = λ l output O k a b t. never l (link_below c l O) k;
+    port = λ output b O k t. never recent b k;
     nothing = λ n. (ap (λ (y : Progress). y.settings) e, ap (λ (y : Progress). y.port) e);
   }
 
-  heard_early : (c : ℕ) (h : Progress) → HasHeard x.cast p c h → h ≡ progress_at p.phase (p.stage c) (p.told c)
-  heard_early c h H =
+  heard_early : (recent c : ℕ) (h : Progress) → HasHeard x.cast recent p c h → h ≡ progress_at p.phase (p.stage c) (p.told c)
+  heard_early recent c h H =
       let s = H.state in
       let e = H.eos in
       let r = H.error in
@@ -166,8 +166,8 @@ module _ (x : LateCast) (p : Play) (w : World) (N : HasNoLate x.cast) (R : IsRea
     | inr A ↦ never A.link (A.output).below A.late
   ]
 
-  actor_late : (c : ℕ) (a : Component) → IsActor x.cast p w c a → IsActorAt x p w c a
-  actor_late c a A = record {
+  actor_late : (recent c : ℕ) (a : Component) → IsActor x.cast p w c a → IsActorAt x recent p w c a
+  actor_late recent c a A = record {
     number = A.number;
     stands = A.stands ∙ sym (stands_same c a);
     fit = A.fit;
@@ -177,7 +177,7 @@ module _ (x : LateCast) (p : Play) (w : World) (N : HasNoLate x.cast) (R : IsRea
     late_format = λ l O h. never l O.below h;
     file = A.file;
     notes = A.notes ∙ sym (notes_same c);
-    heard_so = heard_late c (heard w a) A.heard;
+    heard_so = heard_late recent c (heard w a) A.heard;
     out = A.out;
     part = A.part;
     done = A.done;
@@ -186,22 +186,22 @@ module _ (x : LateCast) (p : Play) (w : World) (N : HasNoLate x.cast) (R : IsRea
     over = A.over;
   }
 
-  early_kind : (c : ℕ) (a : Component) → IsLayout (x.cast).layout → c < components_of x.cast → IsActorAt x p w c a → is_late a.settings.kind ≡ false
-  early_kind c a Y b A = either (((x.cast).layout).is_sink c)
+  early_kind : (recent c : ℕ) (a : Component) → IsLayout (x.cast).layout → c < components_of x.cast → IsActorAt x recent p w c a → is_late a.settings.kind ≡ false
+  early_kind recent c a Y b A = either (((x.cast).layout).is_sink c)
       (λ t. sink_not_late a.settings.kind (A.sink ∙ t))
       (λ t. let o = Y.outputs c b t in A.late o.0 o.1 ∙ N o.0 (o.1).below)
 
-  actor_early : (c : ℕ) (a : Component) → IsLayout (x.cast).layout → c < components_of x.cast → IsActorAt x p w c a → IsActor x.cast p w c a
-  actor_early c a Y b A = record {
+  actor_early : (recent c : ℕ) (a : Component) → IsLayout (x.cast).layout → c < components_of x.cast → IsActorAt x recent p w c a → IsActor x.cast p w c a
+  actor_early recent c a Y b A = record {
     number = A.number;
     stands = A.stands ∙ stands_same c a;
     fit = A.fit;
     source = A.source;
     sink = A.sink;
-    early_source = early_kind c a Y b A;
+    early_source = early_kind recent c a Y b A;
     file = A.file;
     notes = A.notes ∙ notes_same c;
-    heard = heard_early c (heard w a) A.heard_so;
+    heard = heard_early recent c (heard w a) A.heard_so;
     out = A.out;
     part = A.part;
     done = A.done;
@@ -218,8 +218,8 @@ module _ (x : LateCast) (p : Play) (w : World) (N : HasNoLate x.cast) (R : IsRea
   none_again : sum_to (links_of x.cast) (made_again x.cast) ≡ 0
   none_again = sum_none (links_of x.cast) (made_again x.cast) (λ l b. let e = N l b in rw e refl)
 
-pub late_world : (x : LateCast) (p : Play) (w : World) → IsPlayWorld x.cast p w → IsLateWorld x p w
-late_world x p w W =
+pub late_world : (x : LateCast) (recent : ℕ) (p : Play) (w : World) → IsPlayWorld x.cast p w → IsLateWorld x recent p w
+late_world x recent p w W =
     let N = W.early in
     let R = W.reached in
     let a = left_same x p w N R in
@@ -231,7 +231,8 @@ late_world x p w W =
       reached = R;
       sound = W.sound;
       many = W.many;
-      actors = λ c y d e. actor_late x p w N R c y (W.actors c y d e);
+      actors = λ c y d e. actor_late x p w N R recent c y (W.actors c y d e);
+      half = λ l d h. let z : false ≡ true = sym (N l d) ∙ h in absurd cc;
       wired = λ l d. wired_late x p w N R l d (W.wired l d);
       ends = W.ends;
       viewed = W.viewed;
@@ -240,8 +241,8 @@ late_world x p w W =
       numbers = omega arith;
     }
 
-pub early_world : (x : LateCast) (p : Play) (w : World) → ((l : ℕ) → l < links_of x.cast → ((x.cast).layout).is_late l ≡ false) → IsLateWorld x p w → IsPlayWorld x.cast p w
-early_world x p w N W =
+pub early_world : (x : LateCast) (recent : ℕ) (p : Play) (w : World) → ((l : ℕ) → l < links_of x.cast → ((x.cast).layout).is_late l ≡ false) → IsLateWorld x recent p w → IsPlayWorld x.cast p w
+early_world x recent p w N W =
     let R = W.reached in
     let a = left_same x p w N R in
     let b = none_again x p w N R in
@@ -252,7 +253,7 @@ early_world x p w N W =
       sound = W.sound;
       many = W.many;
       early = N;
-      actors = λ c y d e. actor_early x p w N R c y (W.cast_is).layout d (W.actors c y d e);
+      actors = λ c y d e. actor_early x p w N R recent c y (W.cast_is).layout d (W.actors c y d e);
       wired = λ l d. wired_early x p w N R l d (W.wired l d);
       ends = W.ends;
       viewed = W.viewed;

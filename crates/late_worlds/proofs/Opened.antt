@@ -11,6 +11,7 @@ use Rattle.il_machine.specs.Queued.{notes_given}
 use Rattle.il_machine.specs.World.{Component, Given, World, number_of}
 use Rattle.machine_laws.proofs.Finding.{either}
 use Rattle.flow_model.specs.Progress.{sum_to}
+use Rattle.play_model.specs.Changes.{port_at}
 use Rattle.play_model.specs.Play.{Layout}
 use Rattle.play_model.proofs.Handing.{begun_reached}
 use Rattle.play_links.specs.View.{link_view, worked_at}
@@ -20,8 +21,8 @@ use Rattle.play_worlds.specs.Standing.{standing}
 use Rattle.play_worlds.specs.Telling.{heard, heard_of, out_of, progress_by, unheard}
 use Rattle.play_worlds.specs.Wiring.{work_in}
 use Rattle.play_worlds.proofs.Picks.{ends_with, seen_with}
-use Rattle.late_worlds.specs.Changing.{at_links}
-use Rattle.late_worlds.specs.Late.{HasHeard, IsActorAt, IsLateWorld, LateCast, commands_of_end, left_to_make, made_again, notes_of_end, port_commands, port_notes, settings_notes, settings_of_end}
+use Rattle.late_worlds.specs.Changing.{at_links, told_of_port}
+use Rattle.late_worlds.specs.Late.{HasHeard, IsActorAt, IsLateWorld, LateCast, commands_of_end, left_to_make, made_again, notes_of_end, port_number, port_commands, port_notes, settings_notes, settings_of_end}
 use Rattle.late_worlds.specs.Openings.{IsLateOpening}
 use Rattle.late_worlds.proofs.Early.{sink_not_late, wired_early}
 
@@ -60,18 +61,22 @@ sum_at_most (suc n) f g h b = let i = sum_at_most n f g h (λ l d. b l (omega ar
 few_left : (x : Cast) (l : ℕ) → left_to_make x opening l ≤ ((x.layout).network).count l + made_again x l
 few_left x l = either ((x.layout).is_late l) (λ t. rw t (omega arith)) (λ t. rw t (omega arith))
 
-heard_nothing : (x : Cast) (c : ℕ) (h : Progress) → h ≡ no_progress → HasHeard x opening c h
-heard_nothing x c h e = record {
+nothing_told : (x : Cast) (recent : ℕ) (output : Bool) → is_some (told_of_port (port_at output (opening.change recent)) (port_number x output recent)) ≡ true → ⊥
+nothing_told x recent true t = cc
+nothing_told x recent false t = cc
+
+heard_nothing : (x : Cast) (recent c : ℕ) (h : Progress) → h ≡ no_progress → HasHeard x recent opening c h
+heard_nothing x recent c h e = record {
   state = ap (λ (y : Progress). y.state) e;
   eos = ap (λ (y : Progress). y.eos) e;
   error = ap (λ (y : Progress). y.error) e;
   settings = λ l O k. ap (λ (y : Progress). is_some y.settings) e;
-  port = λ l output O k a b t. absurd (omega arith);
+  port = λ output b O k t. absurd (nothing_told x recent output t);
   nothing = λ n. (ap (λ (y : Progress). y.settings) e, ap (λ (y : Progress). y.port) e);
 }
 
-module _ (x : LateCast) (w : World) (O : IsLateOpening x w) where
-  opening_actor : (c : ℕ) (a : Component) → c < components_of x.cast → slice_get w.components (script_place x.cast c) ≡ Some a → IsActorAt x opening w c a
+module _ (x : LateCast) (recent : ℕ) (w : World) (O : IsLateOpening x w) where
+  opening_actor : (c : ℕ) (a : Component) → c < components_of x.cast → slice_get w.components (script_place x.cast c) ≡ Some a → IsActorAt x recent opening w c a
   opening_actor c a l e =
       let S = O.components c a l e in
       let F = S.fresh_else in
@@ -96,7 +101,7 @@ module _ (x : LateCast) (w : World) (O : IsLateOpening x w) where
         notes =
             let here : unheard w a ≡ [] = λ i. out_of (in_ i) (none i) ++ quiet i in
             here ∙ sym (λ i. settings i ++ (notes i ++ ending i));
-        heard_so = heard_nothing x.cast c (heard w a) (λ i. progress_by (heard_of (in_ i) (none i)) no_progress);
+        heard_so = heard_nothing x.cast recent c (heard w a) (λ i. progress_by (heard_of (in_ i) (none i)) no_progress);
         out = λ t. let z : false ≡ true = sym in_ ∙ t in absurd cc;
         part = record {
           whole = ap (λ (y : Component). y.part.failed) F;
@@ -122,7 +127,7 @@ module _ (x : LateCast) (w : World) (O : IsLateOpening x w) where
           let S = O.components k.0 a k.1 (subst (λ (j : ℕ). slice_get w.components j ≡ Some a) (sym k.2) e) in
           ap (λ (y : Component). worked_at y.work key.port) S.fresh_else
 
-  pub late_opens : IsLateWorld x opening w
+  pub late_opens : IsLateWorld x recent opening w
   late_opens =
       let layout = (x.cast).layout in
       let fewer = sum_at_most (links_of x.cast) (left_to_make x.cast opening) (layout.network).count (made_again x.cast) (λ l b. few_left x.cast l) in
@@ -134,6 +139,7 @@ module _ (x : LateCast) (w : World) (O : IsLateOpening x w) where
         sound = O.sound;
         many = O.many;
         actors = opening_actor;
+        half = λ l b h H. let z = H.0 in absurd (omega arith);
         wired = O.wired;
         ends = O.ends;
         viewed = λ l h.
@@ -148,7 +154,7 @@ module _ (x : LateCast) (w : World) (O : IsLateOpening x w) where
 
 pub early_opening : (x : LateCast) (w : World) → ((l : ℕ) → l < links_of x.cast → ((x.cast).layout).is_late l ≡ false) → IsLateOpening x w → IsOpeningWorld x.cast w
 early_opening x w N O =
-    let R = (late_opens x w O).reached in
+    let R = (late_opens x 0 w O).reached in
     record {
       cast = O.cast_is;
       early = N;

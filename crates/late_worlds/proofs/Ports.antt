@@ -1,5 +1,5 @@
 -- How the state of a port goes on as the change of its link does.
-use Rattle.std.proofs.Common.{◌≡◌, ◌⊎◌, inl, inr, ℕ, ◌+◌, Bool, true, false, not, Some, None, refl, sym, ◌∙◌, ap}
+use Rattle.std.proofs.Common.{◌≡◌, inl, inr, ℕ, Bool, true, false, not, Some, None, refl, sym, ◌∙◌, ap}
 use Rattle.il_machine.specs.declared.port.Link.{Link}
 use Rattle.il_machine.specs.declared.port.Mode.TheVariants.{Steady}
 use Rattle.il_machine.specs.declared.port.PortState.{PortState}

@@ -23,8 +23,8 @@ use Rattle.il_machine.specs.Units.{need_of}
 use Rattle.il_machine.specs.World.{Component, HeaderRecord, Work, World, number_of, port_of, stream_of}
 use Rattle.flow_model.specs.Network.{IsOutput}
 use Rattle.flow_model.specs.Progress.{IsLinkOf, all_headers, sum_to}
-use Rattle.play_model.specs.Changes.{port_at}
-use Rattle.play_model.specs.Play.{Play, made}
+use Rattle.play_model.specs.Changes.{IsHalfChanged, port_at}
+use Rattle.play_model.specs.Play.{Play, component_at, made}
 use Rattle.play_model.specs.Reached.{IsReached}
 use Rattle.play_links.specs.View.{link_view}
 use Rattle.play_worlds.specs.Cast.{Cast, IsCast, components_of, input_at, links_of, output_at, script_place, supplier_of}
@@ -93,15 +93,15 @@ settings_of_end x p false l = []
 abbrev pub settings_notes : Cast → Play → ℕ → List Note
 settings_notes x p c = at_links x.layout (settings_of_end x p) c (links_of x)
 
--- what the conductor has heard of a component
-pub record HasHeard (x : Cast) (p : Play) (c : ℕ) (h : Progress) : Type 0 where
+-- What the conductor has heard of a component, where of the links that are changed this one's change was begun last.
+pub record HasHeard (x : Cast) (recent : ℕ) (p : Play) (c : ℕ) (h : Progress) : Type 0 where
   pub state : h.state ≡ last_told p.phase (p.stage c)
   pub eos : h.eos ≡ p.told c
   pub error : h.error ≡ None
   pub settings : (l : ℕ) → IsOutput (x.layout).network c l → (x.layout).is_late l ≡ true → is_some h.settings ≡ nat_le 2 (p.change l).step
-  -- while a link of it is being changed, how far that is
-  pub port : (l : ℕ) (output : Bool) → IsLinkOf (x.layout).network c l → (x.layout).is_late l ≡ true → 3 ≤ (p.change l).step → (p.change l).step ≤ 9
-      → is_some (told_of_port (port_at output (p.change l)) (port_number x output l)) ≡ true → h.port ≡ told_of_port (port_at output (p.change l)) (port_number x output l)
+  pub port : (output : Bool) → recent < links_of x → component_at x.layout output recent ≡ c → (x.layout).is_late recent ≡ true
+      → is_some (told_of_port (port_at output (p.change recent)) (port_number x output recent)) ≡ true
+      → h.port ≡ told_of_port (port_at output (p.change recent)) (port_number x output recent)
   -- one without a late source's link has told nothing of these
   pub nothing : ((l : ℕ) → IsLinkOf (x.layout).network c l → (x.layout).is_late l ≡ false) → (h.settings ≡ None) × (h.port ≡ None)
 
@@ -122,7 +122,7 @@ pub record IsWorkAt (x : Cast) (p : Play) (c : ℕ) (a : Component) (work : Work
   pub weights : work.weights ≡ a.settings.weights
   pub which : ((work.announces ≡ false) × (map (λ h. h.port) work.headers ≡ map (λ (q : Port). q.key.port) (wanted a))) ⊎ IsAnnouncement x p c work
 
-pub record IsActorAt (x : LateCast) (p : Play) (w : World) (c : ℕ) (a : Component) : Type 0 where
+pub record IsActorAt (x : LateCast) (recent : ℕ) (p : Play) (w : World) (c : ℕ) (a : Component) : Type 0 where
   pub number : number_of a ≡ script_place x.cast c
   pub stands : a ≡ record (standing p.phase (p.stage c) a) { commands = commands_at p.phase (p.stage c) ++ port_commands x.cast p c }
   pub fit : fits a.settings ≡ true
@@ -133,7 +133,7 @@ pub record IsActorAt (x : LateCast) (p : Play) (w : World) (c : ℕ) (a : Compon
   pub late_format : (l : ℕ) → IsOutput ((x.cast).layout).network c l → ((x.cast).layout).is_late l ≡ true → file_format a.file ≡ x.format l
   pub file : is_source a.settings.kind ≡ true → frames_of a.file ≡ (((x.cast).layout).network).frames c
   pub notes : unheard w a ≡ state_note p.phase (p.stage c) ++ (settings_notes x.cast p c ++ (port_notes x.cast p c ++ end_note (ends_untold x.cast p c)))
-  pub heard_so : HasHeard x.cast p c (heard w a)
+  pub heard_so : HasHeard x.cast recent p c (heard w a)
   pub out : a.client_out ≡ true → (note : Note) × (last_note (notes_given (number_of a) w) ≡ note ∷ [])
   pub part : IsPart x.cast p c a.part
   pub done : MatchOption (stream_of (number_of a) w) ⊥ (λ s. s.frames ≡ (p.flow).done c)
@@ -153,13 +153,15 @@ left_to_make x p l =
 abbrev pub made_again : Cast → ℕ → ℕ
 made_again x l = if (x.layout).is_late l then ((x.layout).network).count l else 0
 
-pub record IsLateWorld (x : LateCast) (p : Play) (w : World) : Type 0 where
+pub record IsLateWorld (x : LateCast) (recent : ℕ) (p : Play) (w : World) : Type 0 where
   pub cast_is : IsCast x.cast
   pub formats : (l : ℕ) → l < links_of x.cast → ((x.cast).layout).is_late l ≡ true → (frame_bytes_of (x.format l) ≡ (x.cast).unit l) × (is_auto (x.format l) ≡ false)
   pub reached : IsReached (x.cast).layout p
   pub sound : Sound w
   pub many : length w.components ≡ components_of x.cast
-  pub actors : (c : ℕ) (a : Component) → c < components_of x.cast → slice_get w.components (script_place x.cast c) ≡ Some a → IsActorAt x p w c a
+  pub actors : (c : ℕ) (a : Component) → c < components_of x.cast → slice_get w.components (script_place x.cast c) ≡ Some a → IsActorAt x recent p w c a
+  -- no other link is half changed
+  pub half : (l : ℕ) → l < links_of x.cast → ((x.cast).layout).is_late l ≡ true → IsHalfChanged (p.change l) → l ≡ recent
   pub wired : (l : ℕ) → l < links_of x.cast → IsWiredAt x p (port_in w.components) l
   pub ends : (i port : ℕ) (a : Component) (q : Port) → slice_get w.components i ≡ Some a → port_of a port ≡ Some q → IsSomeEnd x.cast q.key
   pub viewed : (l : ℕ) → l < links_of x.cast → (p.flow).link l ≡ link_view (ends_of x.cast (work_in w.components) p l) w.headers

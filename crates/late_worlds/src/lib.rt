@@ -19,23 +19,23 @@ ghost use Rattle.late_worlds.specs.Openings.{IsLateOpening};
 
 /// Where no source is late they are the worlds of a play.
 pub fn law_of_early_worlds()
-    ensures late { (x : LateCast) (p : Play) (w : World) → IsPlayWorld x.cast p w → IsLateWorld x p w }
-    ensures early { (x : LateCast) (p : Play) (w : World) → ((l : ℕ) → l < links_of x.cast → ((x.cast).layout).is_late l ≡ false)
-        → IsLateWorld x p w → IsPlayWorld x.cast p w }
+    ensures late { (x : LateCast) (recent : ℕ) (p : Play) (w : World) → IsPlayWorld x.cast p w → IsLateWorld x recent p w }
+    ensures early { (x : LateCast) (recent : ℕ) (p : Play) (w : World) → ((l : ℕ) → l < links_of x.cast → ((x.cast).layout).is_late l ≡ false)
+        → IsLateWorld x recent p w → IsPlayWorld x.cast p w }
 {}
 
 /// The world in which a play with late sources begins is one of them, where nothing was begun, made, done or announced. Where no
 /// source is late it is that in which any play begins.
 pub fn law_of_late_openings()
-    ensures opens { (x : LateCast) (w : World) → IsLateOpening x w → IsLateWorld x opening w }
+    ensures opens { (x : LateCast) (recent : ℕ) (w : World) → IsLateOpening x w → IsLateWorld x recent opening w }
     ensures early { (x : LateCast) (w : World) → ((l : ℕ) → l < links_of x.cast → ((x.cast).layout).is_late l ≡ false)
         → IsLateOpening x w → IsOpeningWorld x.cast w }
 {}
 
 /// The conductor begins the next StateSet: the world stays.
 pub fn law_of_late_sends()
-    ensures begun { (x : LateCast) (p : Play) (w : World)
-        → IsLateWorld x p w → CanAct (x.cast).layout p Act.Begin → IsLateWorld x (acted (x.cast).layout Act.Begin p) w }
+    ensures begun { (x : LateCast) (recent : ℕ) (p : Play) (w : World)
+        → IsLateWorld x recent p w → CanAct (x.cast).layout p Act.Begin → IsLateWorld x recent (acted (x.cast).layout Act.Begin p) w }
 {}
 
 /// What each act of a change makes of a port's state is the state that the change has next: the source holds its port once it has
