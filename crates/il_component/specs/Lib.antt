@@ -1,3 +1,4 @@
+pub mod Busy
 pub mod Places
 pub mod Entries
 pub mod PortChanges

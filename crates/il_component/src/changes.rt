@@ -18,9 +18,10 @@ use crate::commands::is_at_once;
 use crate::component::Component;
 use crate::part_changes::{clear, is_source};
 use crate::port_changes::{
-    PortChange, all_port_reserves, change_selected, let_all_go, put_at_rest,
+    PortChange, all_port_reserves, busy_of, change_selected, keep_busy, let_all_go, put_at_rest,
 };
 use crate::work_out::{WorkOut, work_reserve};
+use bit_set::BitSet;
 use il_machine::{Cause, Mode, Pending, PortState};
 use note_queues::Notes;
 use omx_types::{Command, Completion, Event, OmxError, PortSel, State};
@@ -81,6 +82,7 @@ impl<C> Component<C> {
         ensures kept { KeepsNotices self.old self.new }
     {
         self.ports[index as usize] = port;
+        keep_busy(&mut self.busy, index as usize, &port);
         hold(
             &mut self.notes,
             self.pending,
@@ -97,6 +99,7 @@ impl<C> Component<C> {
         ensures kept { KeepsNotices self.old self.new }
     {
         change_selected(&mut self.ports, sel, change);
+        self.busy = busy_of(&self.ports);
         hold(
             &mut self.notes,
             self.pending,
@@ -119,6 +122,7 @@ impl<C> Component<C> {
         self.holds = false;
         self.waiting = None;
         put_at_rest(&mut self.ports);
+        self.busy = BitSet::empty();
         self.notes.drop_commands();
         hold(&mut self.notes, None, false, &self.ports, &self.work);
     }

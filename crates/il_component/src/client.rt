@@ -60,6 +60,7 @@ impl<C> Component<C> {
             ended: _,
             failed: _,
             ports: _,
+            busy: _,
             notes,
         } = self;
         notes.close()

@@ -1,4 +1,4 @@
-ghost use Rattle.std.specs.Prelude.{◌≡◌, ◌<◌, ◌≤◌, ◌||◌, ◌↔◌, IsTrue, Some, None, IfOk, IfErr, replicate, take, All, is_none, is_some, true, false, IsSome};
+ghost use Rattle.std.specs.Prelude.{◌≡◌, ◌<◌, ◌≤◌, ◌||◌, ◌↔◌, IsTrue, Some, None, IfOk, IfErr, replicate, take, All, is_none, is_some, true, false, IsSome, IfSome};
 ghost use Rattle.il_machine.specs.Kinds.{ports_in};
 ghost use Rattle.il_machine.specs.Settings.{IsSized, set_refusal, value_of, refused_or, weights_in};
 ghost use Rattle.il_machine.specs.World.{fresh, fresh_port, port_of, ports_of, told};
@@ -9,8 +9,10 @@ ghost use Rattle.il_machine.specs.States.{is_invalid, is_loaded};
 ghost use Rattle.il_machine.specs.Parameters.{is_settable, is_format_free, get_parameter_refusal, set_config_refusal, with_value};
 ghost use Rattle.il_component.specs.Entries.{component_of, KeepsNotices};
 ghost use Rattle.il_component.specs.Places.{reserve_of};
+ghost use Rattle.il_component.specs.Busy.{IsNextBusy};
 
-use crate::work_out::{WorkOut, work_reserve};
+use crate::work_out::WorkOut;
+use bit_set::BitSet;
 use il_machine::{Cause, Mode, Pending, Port, PortKey, PortSetting, PortState};
 use note_queues::Notes;
 use omx_types::{Event, Handle, Kind, OmxError, Param, ParamKey, State};
@@ -40,11 +42,14 @@ pub struct Component<C> {
     /// The part has failed.
     pub(crate) failed: bool,
     pub(crate) ports: Vec<PortState>,
+    /// The ports at which something is pending.
+    pub(crate) busy: BitSet,
     pub(crate) notes: Notes<C>,
 }
 
 impl<C> Model for Component<C> {
     ghost use Rattle.il_component.specs.Entries.{Entry, IsFit};
+    ghost use Rattle.il_component.specs.Busy.{AreBusy};
 
     ghost Value = { Entry C };
 
@@ -76,7 +81,7 @@ impl<C> Model for Component<C> {
       part = record { ended_inputs = c.ended_inputs.items; ended = c.ended; failed = c.failed };
       ports = c.ports.items;
       queues = c.notes;
-    }) };
+    }) × AreBusy c.ports.items c.busy };
 }
 
 /// The states of so many ports that were just made.
@@ -149,6 +154,7 @@ impl<C> Component<C> {
             ended: false,
             failed: false,
             ports,
+            busy: BitSet::empty(),
             notes,
         })
     }
@@ -272,12 +278,20 @@ impl<C> Component<C> {
         self.notes.is_client_out()
     }
 
-    /// Whether nothing is pending, neither a transition nor anything at a port. No port is looked at: what is pending holds places, beside
-    /// those of a work that is out.
+    /// Whether nothing is pending, neither a transition nor anything at a port.
     pub fn is_calm(&self) -> bool
         ensures { IsTrue result ↔ IsCalm (component_of self.now) }
     {
-        self.pending.is_none() && self.notes.held_reserve() == work_reserve(&self.work)
+        self.pending.is_none() && self.busy.is_empty()
+    }
+
+    /// The least port from this one on at which something is pending.
+    pub fn next_busy(&self, from: u32) -> Option<u32>
+        ensures next { IsNextBusy self.now.ports from result }
+        ensures within { IfSome result (λ index. index < ports_in self.now.settings.kind) }
+    {
+        let index = self.busy.next(from as usize)?;
+        Some(index as u32)
     }
 
     /// The places for events that are neither taken nor reserved.

@@ -1,11 +1,14 @@
 //! What commands make of a component's ports, and the places for events that ports reserve.
 
-ghost use Rattle.std.specs.Prelude.{◌≡◌, ◌≤◌, ◌*◌, length, map, sum_by};
+ghost use Rattle.std.specs.Prelude.{◌≡◌, ◌<◌, ◌≤◌, ◌*◌, ℕ, length, map, nat_eq, sum_by, if◌then◌else◌};
+ghost use Rattle.bit_set.specs.Members.{has};
 ghost use Rattle.il_machine.specs.Room.{port_reserve};
 ghost use Rattle.il_machine.specs.Commands.{is_selected, selected_from, calmed};
 ghost use Rattle.il_machine.specs.Due.{unheld};
 ghost use Rattle.il_component.specs.PortChanges.{changed_by, busy_test, busy_among};
+ghost use Rattle.il_component.specs.Busy.{is_busy, AreBusy};
 
+use bit_set::BitSet;
 use il_machine::{Mark, Mode, PortState, Why};
 use omx_types::PortSel;
 
@@ -136,4 +139,37 @@ pub fn first_busy(ports: &[PortState], sel: PortSel, busy: Busy) -> Option<Why>
         }
     }
     None
+}
+
+/// Whether something is pending at the port.
+fn is_busy(port: &PortState) -> bool
+    ensures { result ≡ is_busy port.now }
+{
+    Busy::Flushing.holds_at(port) || Busy::Changing.holds_at(port) || Busy::Waiting.holds_at(port)
+}
+
+/// The ports at which something is pending.
+pub fn busy_of(ports: &[PortState]) -> BitSet
+    requires { length ports.now ≤ 16 }
+    ensures { AreBusy ports.now result }
+{
+    let mut busy = BitSet::empty();
+    for index in 0..ports.len() {
+        if is_busy(&ports[index]) {
+            busy.insert(index);
+        }
+    }
+    busy
+}
+
+/// Whether the port, whose state is this now, is one of those.
+pub fn keep_busy(busy: &mut BitSet, index: usize, port: &PortState)
+    requires { index < 16 }
+    ensures { (i : ℕ) → has busy.new i ≡ (if nat_eq i index then is_busy port.now else has busy.old i) }
+{
+    if is_busy(port) {
+        busy.insert(index);
+    } else {
+        busy.remove(index);
+    }
 }

@@ -1,8 +1,15 @@
 -- The ports of a component, one after the other.
-use Rattle.std.proofs.Common.{◌≡◌, ℕ, zero, suc, ◌+◌, ◌<◌, Bool, true, false, ◌&&◌, List, [], ◌∷◌, length, drop, slice_get, Option, Some, None, is_some, option_map, refl, sym, ◌∙◌, ap, subst, arith, add-one}
+use Rattle.std.proofs.Common.{◌≡◌, ℕ, zero, suc, ◌+◌, ◌-◌, ◌<◌, ◌≤◌, Bool, true, false, ◌&&◌, List, [], ◌∷◌, length, drop, slice_get, Option, Some, None, is_some, option_map, refl, sym, ◌∙◌, ap, subst, arith, add-one}
 use Rattle.std.proofs.lemmas.Option.{slice_get_within}
+use Rattle.std.proofs.lemmas.List.{drop_all}
 use Rattle.std.specs.List.{list_all}
+use Rattle.il_machine.specs.declared.port.Mode.{Mode}
+use Rattle.il_machine.specs.declared.port.Mode.TheVariants.{Steady, Enabling, Disabling}
 use Rattle.il_machine.specs.declared.port.Port.{Port}
+use Rattle.il_machine.specs.declared.port.PortState.{PortState}
+use Rattle.il_machine.specs.Ports.{is_steady}
+use Rattle.il_component.specs.Busy.{is_busy}
+use Rattle.il_component.proofs.Calm.{idle_calm}
 use Rattle.il_machine.specs.Kinds.{ports_in}
 use Rattle.il_machine.specs.World.{Component, ports_of, port_of}
 use Rattle.il_machine.specs.Headers.{Seen}
@@ -83,3 +90,50 @@ pub due_passed : (headers : Seen) (c : Component) (ps : List Port) (i : ℕ) (p 
     → first_of_these (things_of headers c (drop i ps)) ≡ first_of_these (things_of headers c (drop (i + 1) ps))
 due_passed headers c ps i p None e m s = due_later headers c ps i p e (sym m)
 due_passed headers c ps i p (Some d) e m s = absurd cc
+
+-- ---- ports at which nothing is pending
+
+mode_idle : (headers : Seen) (c : Component) (p : Port) (m : Mode) → is_steady m ≡ true → is_mode_due headers c p m ≡ false
+mode_idle headers c p Steady h = refl
+mode_idle headers c p Enabling h = absurd cc
+mode_idle headers c p Disabling h = absurd cc
+
+none_of_these : {E : Type 0} (a b d : Bool) (x y z : E) → a ≡ false → b ≡ false → d ≡ false → first_of_these ((a, x) ∷ (b, y) ∷ (d, z) ∷ []) ≡ None
+none_of_these a b d x y z e f h = rw (e, f, h) refl
+
+idle_due : (headers : Seen) (c : Component) (p : Port) → is_busy p.state ≡ false → port_due headers c p ≡ None
+idle_due headers c p idle =
+    let calm = idle_calm p.state idle in
+    let quiet = calm.quiet in
+    let unmarked = calm.unmarked in
+    let flush : is_flush_due headers c p ≡ false = rw quiet refl in
+    let mark : is_mark_due headers p ≡ false = rw unmarked refl in
+    none_of_these (is_flush_due headers c p) (is_mode_due headers c p p.state.mode) (is_mark_due headers p) (Flush p.key.port) (PortMode p.key.port) (WaitingMark p.key.port) flush (mode_idle headers c p p.state.mode calm.steady) mark
+
+abbrev due_from : Seen → Component → ℕ → Option Thing
+due_from headers c i = first_of_these (things_of headers c (drop i (ports_of c)))
+
+-- the ports between are idle
+abbrev AreIdle : Component → ℕ → ℕ → Type 0
+AreIdle c from next = (i : ℕ) (p : PortState) → from ≤ i → i < next → slice_get c.ports i ≡ Some p → is_busy p ≡ false
+
+passed_at : (headers : Seen) (c : Component) (i : ℕ) (o : Option Port) → port_of c i ≡ o → i < length (ports_of c) → AreIdle c i (suc i) → due_from headers c i ≡ due_from headers c (i + 1)
+passed_at headers c i None e b idle = absurd (slice_get_or_none (ports_of c) i b e)
+passed_at headers c i (Some p) e b idle = due_later headers c (ports_of c) i p e (idle_due headers c p (idle i p.state (omega arith) (omega arith) (port_parts c i p e).state))
+
+passed_by : (headers : Seen) (c : Component) (n from : ℕ) → from + n ≤ length (ports_of c) → AreIdle c from (from + n) → due_from headers c from ≡ due_from headers c (from + n)
+passed_by headers c zero from b idle = ap (due_from headers c) (omega arith)
+passed_by headers c (suc n) from b idle =
+    passed_at headers c from (port_of c from) refl (omega arith) (λ i p l m at. idle i p l (omega arith) at)
+    ∙ (passed_by headers c n (from + 1) (omega arith) (λ i p l m at. idle i p (omega arith) (omega arith) at) ∙ ap (due_from headers c) (omega arith))
+
+pub skipped : (headers : Seen) (c : Component) (from next : ℕ) → from ≤ next → next ≤ length (ports_of c) → ((i : ℕ) (p : PortState) → from ≤ i → i < next → slice_get c.ports i ≡ Some p → is_busy p ≡ false)
+    → first_of_these (things_of headers c (drop from (ports_of c))) ≡ first_of_these (things_of headers c (drop next (ports_of c)))
+skipped headers c from next l b idle =
+    let e : from + (next - from) ≡ next = omega arith in
+    passed_by headers c (next - from) from (omega arith) (λ i p a m at. idle i p a (omega arith) at) ∙ ap (due_from headers c) e
+
+-- no port from this one on is busy
+pub skipped_all : (headers : Seen) (c : Component) (from : ℕ) → from ≤ length (ports_of c) → ((i : ℕ) (p : PortState) → from ≤ i → slice_get c.ports i ≡ Some p → is_busy p ≡ false)
+    → first_of_these (things_of headers c (drop from (ports_of c))) ≡ None
+skipped_all headers c from b idle = skipped headers c from (length (ports_of c)) b (omega arith) (λ i p l m at. idle i p l at) ∙ ap (λ (ps : List Port). first_of_these (things_of headers c ps)) (drop_all (length (ports_of c)) (ports_of c) (omega arith))

@@ -92,7 +92,7 @@ fn port_due<C>(stock: &Stock, component: &Component<C>, port: Port) -> Option<Du
     }
 }
 
-/// The first thing that is due at the component.
+/// The first thing that is due at the component. Only the ports at which something is pending are asked.
 pub fn due_in<C>(stock: &Stock, component: &Component<C>) -> Option<Due>
     requires { HasAllPorts (component_of component.now) (stocked stock.now) }
     ensures { option_map thing_of result ≡ due_in (stocked stock.now).headers (component_of component.now) }
@@ -103,7 +103,8 @@ pub fn due_in<C>(stock: &Stock, component: &Component<C>) -> Option<Due>
     if is_transition_due(stock, component) {
         return Some(Due::Transition);
     }
-    for index in 0..component.ports() {
+    let mut from = 0;
+    while let Some(index) = component.next_busy(from) {
         let Some(port) = component.port(index) else {
             unreachable!()
         };
@@ -111,6 +112,7 @@ pub fn due_in<C>(stock: &Stock, component: &Component<C>) -> Option<Due>
         if due.is_some() {
             return due;
         }
+        from = index + 1;
     }
     None
 }

@@ -1,4 +1,4 @@
-use Rattle.std.proofs.Common.{◌≡◌, drop}
+use Rattle.std.proofs.Common.{◌≡◌, ◌≤◌, ◌-◌, drop, length}
 use Rattle.il_machine.specs.Lists.{first_of_these}
 use Rattle.il_machine.specs.Due.{due_in, things_of}
 use Rattle.il_machine.specs.World.{ports_of}
@@ -10,4 +10,10 @@ abbrev pub invariant-loop-index : goal.invariant-loop-index
 invariant-loop-index g l =
     let headers = (stocked l.stock).headers in
     let c = component_of l.component in
-    due_in headers c ≡ first_of_these (things_of headers c (drop l.index (ports_of c)))
+    record {
+      passed : due_in headers c ≡ first_of_these (things_of headers c (drop l.from (ports_of c)));
+      within : l.from ≤ length (ports_of c);
+    }
+
+abbrev pub decreases-loop-index : goal.decreases-loop-index
+decreases-loop-index g l = length (ports_of (component_of l.component)) - l.from

@@ -10,5 +10,5 @@ is_format_fixed-requires g c =
     let k = component_of c.args.self.now in
     let e : port_of k c.args.index ≡ Some c.in-Some.port = sym c.in-Some.ensures in
     let t = port_numbered (number_of k) 0 c.args.index k.settings.ports k.ports c.in-Some.port e in
-    let w : length k.settings.ports ≡ ports_in k.settings.kind = rw (← c.self.view_is) c.self.invariant.whole.ports in
+    let w : length k.settings.ports ≡ ports_in k.settings.kind = rw (← c.self.view_is) c.self.invariant.0.whole.ports in
     omega (arith, t.0, t.1)

@@ -21,4 +21,4 @@ returns-else-queued-ge32 g c =
     let b = c.if-queued-ge32.false in
     let q : nat_le 32 c.queued.result ≡ false = grind (arith, nat_tests) in
     let f : nat_lt c.room.result c.cost.result ≡ is_full c.cost.result c.self.inside.notes = rw (← c.queued.ensures, ← c.room.ensures.room) (ap (λ b. b || nat_lt c.room.result c.cost.result) (sym q)) in
-    f ∙ rw (← c.self.view_is) (lacks_later e c.args.command c.cost.result c.self.invariant k t)
+    f ∙ rw (← c.self.view_is) (lacks_later e c.args.command c.cost.result c.self.invariant.0 k t)

@@ -13,7 +13,7 @@ returns-then-index-ports g c =
     let few = c.ports.ensures.settings in
     let i = c.self.inside in
     let past : length i.params.ports ≤ c.args.index = omega arith in
-    let a : length k.settings.ports ≡ length k.ports = rw (← c.self.view_is) (c.self.invariant.whole.ports ∙ sym c.self.invariant.ports) in
+    let a : length k.settings.ports ≡ length k.ports = rw (← c.self.view_is) (c.self.invariant.0.whole.ports ∙ sym c.self.invariant.0.ports) in
     let b : length k.settings.ports ≤ c.args.index = rw (← c.self.view_is) past in
     sym (port_past k c.args.index a b)
 
@@ -22,7 +22,7 @@ returns g c =
     let k = component_of c.args.self.now in
     let i = c.self.inside in
     let few = c.ports.ensures.settings in
-    let all : length i.params.ports ≡ length i.ports.items = c.self.invariant.whole.ports ∙ sym c.self.invariant.ports in
+    let all : length i.params.ports ≡ length i.ports.items = c.self.invariant.0.whole.ports ∙ sym c.self.invariant.0.ports in
     let b : c.args.index < length i.params.ports = omega arith in
     let d : c.args.index < length i.ports.items = omega arith in
     let s : slice_get i.params.ports c.args.index ≡ Some c.setting.result = rw c.setting.ensures (slice_get-get_or i.params.ports c.args.index (default_setting i.params.kind (is_input i.params.kind c.args.index)) b) in
