@@ -103,6 +103,8 @@ pub fn due_in<C>(stock: &Stock, component: &Component<C>) -> Option<Due>
     if is_transition_due(stock, component) {
         return Some(Due::Transition);
     }
+    // The proof learns from it that a port's number is small.
+    let _ports = component.ports();
     let mut from = 0;
     while let Some(index) = component.next_busy(from) {
         let Some(port) = component.port(index) else {

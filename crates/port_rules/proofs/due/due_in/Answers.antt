@@ -1,8 +1,6 @@
-use Rattle.std.proofs.Common.{◌≡◌, ◌<◌, ◌≤◌, length, None, sym, ◌∙◌, ap, subst, arith}
-use Rattle.il_machine.specs.Kinds.{ports_in}
+use Rattle.std.proofs.Common.{◌<◌, length, sym, ◌∙◌, subst, arith}
 use Rattle.il_machine.specs.World.{ports_of}
 use Rattle.il_machine.proofs.Calm.{calm_due}
-use Rattle.il_component.specs.Busy.{IsNextBusy}
 use Rattle.il_component.specs.Entries.{component_of}
 use Rattle.port_stock.specs.Kept.{stocked}
 use Rattle.port_rules.proofs.Walking.{port_within, port_kept, due_found, due_passed, skipped, skipped_all}
@@ -13,7 +11,10 @@ returns-then-is_calm g c = sym (calm_due (stocked c.args.stock.now).headers (com
 
 pub unreachable-requires : goal.unreachable-requires
 unreachable-requires g c =
-    port_within (component_of c.args.component.now) (stocked c.args.stock.now) c.in-Some.index c.requires c.in-Some.ensures.within (sym c.port.ensures ∙ c.in_default.is)
+    port_within (component_of c.args.component.now) (stocked c.args.stock.now) c.in-Some.index c.requires c.in-Some.ensures.within (sym c.port.ensures ∙ c.in_default-port.is)
+
+pub overflow_add-from : goal.overflow_add-from
+overflow_add-from g c = let b = c.in-Some.ensures.within in let n = c.ports-ports.ensures.count in let few = c.ports-ports.ensures.few in omega arith
 
 pub port_due-due-requires : goal.port_due-due-requires
 port_due-due-requires g c =
