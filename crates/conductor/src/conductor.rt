@@ -68,6 +68,13 @@ impl Conductor {
         self.told.len()
     }
 
+    /// How many states it has answered so far.
+    pub fn sends(&self) -> u32
+        ensures { result ≡ self.now.sends }
+    {
+        self.sends
+    }
+
     /// What the play does next, by the components' views in script order. A view that is None tells nothing new.
     pub fn next(&mut self, views: &[Option<Progress>]) -> Phase
         requires { length views.now ≡ length self.old.told }

@@ -8,7 +8,8 @@ use Rattle.play_model.proofs.Enabled.{enabled}
 use Rattle.play_model.proofs.LinkEnds.{end_inside}
 use Rattle.play_model.proofs.Handing.{acts_reach}
 use Rattle.play_model.proofs.Less.{acts_count}
-use Rattle.play_loop.specs.Turns.{IsOfComponent, IsOfLink, IsSend, IsAtRest, HasActed, Turned, IsGoing, IsTried, IsRound}
+use Rattle.play_loop.specs.Turns.{IsOfComponent, IsOfLink, IsSend, IsAtRest, HasActed, HasRun, Turned, IsGoing, IsTried, IsRound, IsOnWay}
+use Rattle.play_loop.proofs.Running.{acted_run, no_run, run_more}
 
 acted_goes : (w : Layout) (p q : Play) → IsGoing w p → HasActed w p q → IsAtRest w q → IsGoing w q
 acted_goes w p q G A rest = record { reached = subst (IsReached w) (sym A.after) (acts_reach w p A.acts G.reached A.enabled); rest = rest }
@@ -30,6 +31,7 @@ turned w start now next did true P c l d m R T more =
     let acted : (did || true) ≡ true = either did (λ t. rw t refl) (λ f. rw f refl) in
     record {
       going = acted_goes w now next R.going T.0 T.1;
+      ran = run_more w start now next R.ran (acted_run w now next T.0);
       fell = λ _. fell;
       still = λ f. both (did || true) acted f;
       none = λ f. both (did || true) acted f;
@@ -38,6 +40,7 @@ turned w start now next did false P c l d m R T more =
     let same : (did || false) ≡ did = either did (λ t. rw t refl) (λ f. rw f refl) in
     record {
       going = subst (IsGoing w) (sym T.0) R.going;
+      ran = subst (HasRun w start) (sym T.0) R.ran;
       fell = λ t. let e : acts_left w next ≡ acts_left w now = ap (acts_left w) T.0 in let f = R.fell (sym same ∙ t) in omega arith;
       still = λ f. T.0 ∙ R.still (sym same ∙ f);
       none = λ f a tried C. elim (more a tried) [
@@ -49,12 +52,14 @@ turned w start now next did false P c l d m R T more =
 pub round_begins : (w : Layout) (p : Play) → IsGoing w p → (q : Play) (r : Bool) → Turned w p q r IsSend → IsRound w p q r 0 0
 round_begins w p G q true T = record {
   going = acted_goes w p q G T.0 T.1;
+  ran = acted_run w p q T.0;
   fell = λ _. acted_less w p q G T.0;
   still = λ f. both true refl f;
   none = λ f. both true refl f;
 }
 round_begins w p G q false T = record {
   going = subst (IsGoing w) (sym T.0) G;
+  ran = subst (HasRun w p) (sym T.0) (no_run w p);
   fell = λ t. both false t refl;
   still = λ _. T.0;
   none = λ _ a tried C. T.1 a (only a tried) C;
@@ -160,3 +165,14 @@ round_acts w start now did G R going = either did (λ t. t) (λ f. absurd (elim 
   | inl v ↦ R.none f v.0 (all_tried w start v.0 (G.reached).layout G.rest v.1) v.1
   | inr over ↦ going over
 ]))
+
+-- ---- from round to round
+
+pub way_begins : (w : Layout) (p : Play) → IsGoing w p → IsOnWay w p p 0
+way_begins w p G = record { going = G; ran = no_run w p; less = omega arith }
+
+pub way_more : (w : Layout) (start now next : Play) (rounds c l : ℕ) → IsOnWay w start now rounds → IsRound w now next true c l → IsOnWay w start next (rounds + 1)
+way_more w start now next rounds c l W R =
+    let less = W.less in
+    let fell = R.fell refl in
+    record { going = R.going; ran = run_more w start now next W.ran R.ran; less = omega arith }

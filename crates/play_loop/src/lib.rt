@@ -1,60 +1,75 @@
-//! The loop of a play over whatever makes its acts: it returns, and then the play is over. A round gives each component
-//! and each link its turn, in any order; since some act can always be made, a round in which every turn found nothing to
-//! do can't be.
+//! The loop of a play over whatever makes its acts: it returns, and then the play is over, or a part failed. A round gives each
+//! component and each link its turn, in any order; since some act can always be made, a round in which every turn found
+//! nothing to do can't be.
 #![tactic(auto)]
 
-ghost use Rattle.std.specs.Prelude.{◌≡◌, ◌<◌, ◌≤◌, ℕ, Bool, true, false, OnSome};
+ghost use Rattle.std.specs.Prelude.{◌≡◌, ◌<◌, ◌≤◌, ℕ, Bool, true, false, IfOk, OnOk, IfErr};
 ghost use Rattle.play_model.specs.Play.{Layout, Play};
-ghost use Rattle.play_model.specs.Reached.{IsReached, IsOver, acts_left};
-ghost use Rattle.play_loop.specs.Turns.{IsOfComponent, IsOfLink, IsSend, CanNone, IsAtRest, Turned, IsGoing, IsRound};
+ghost use Rattle.play_model.specs.Reached.{IsOver};
+ghost use Rattle.play_loop.specs.Turns.{CanPlay, EndsOf, IsOfComponent, IsOfLink, IsSend, RoundsOf, SomePlay, TurnsOf};
 
 /// What makes the acts of a play: a graph with its conductor. Each call that moves it answers whether an act was accepted.
 pub trait Player {
+    /// What a part failed of.
+    type Fault;
+
     ghost layout: { Self → Layout };
 
-    ghost play: { Self → Play };
+    /// The plays that it stands for: what has gone through a part need not be kept.
+    ghost Plays: { Self → Play → Type 0 };
+
+    /// What holds once a part has failed.
+    ghost HasFailed: { Self → Self.Fault → Type 0 };
 
     fn components(&self) -> u32
+        requires { SomePlay (Plays self.now) }
         ensures { result ≡ (layout self.now).network.components };
 
     fn links(&self) -> u32
+        requires { SomePlay (Plays self.now) }
         ensures { result ≡ (layout self.now).network.links };
 
     /// Is the conductor's phase Over?
     fn is_over(&self) -> bool
-        ensures yes { result ≡ true → IsOver (layout self.now) (play self.now) }
-        ensures nope { result ≡ false → IsOver (layout self.now) (play self.now) → ⊥ };
+        requires { SomePlay (Plays self.now) }
+        ensures yes { result ≡ true → (p : Play) → Plays self.now p → IsOver (layout self.now) p }
+        ensures nope { result ≡ false → (p : Play) → Plays self.now p → IsOver (layout self.now) p → ⊥ };
 
     /// The conductor's next command is sent to all, or its next act on a link that is being changed is made, once it is due.
     fn send(&mut self) -> bool
+        requires { SomePlay (Plays self.old) }
         ensures layout { layout self.new ≡ layout self.old }
-        ensures turned { Turned (layout self.old) (play self.old) (play self.new) result IsSend };
+        ensures turned { TurnsOf (layout self.old) (Plays self.old) (Plays self.new) result IsSend };
 
     /// A note is told, a command run, a work claimed, run and finished, as far as each can be.
-    fn component_turn(&mut self, component: u32) -> bool
-        requires { component < (layout self.old).network.components }
+    fn component_turn(&mut self, component: u32) -> Result<bool, Self::Fault>
+        requires there { component < (layout self.old).network.components }
+        requires stands { SomePlay (Plays self.old) }
         ensures layout { layout self.new ≡ layout self.old }
-        ensures turned { Turned (layout self.old) (play self.old) (play self.new) result
-            (IsOfComponent (layout self.old) component) };
+        ensures turned { IfOk result (λ acted. TurnsOf (layout self.old) (Plays self.old) (Plays self.new) acted
+            (IsOfComponent (layout self.old) component)) }
+        ensures failed { IfErr result (HasFailed self.new) };
 
     /// A header is made, unmade, handed over, handed back, as far as each can be.
     fn link_turn(&mut self, link: u32) -> bool
-        requires { link < (layout self.old).network.links }
+        requires there { link < (layout self.old).network.links }
+        requires stands { SomePlay (Plays self.old) }
         ensures layout { layout self.new ≡ layout self.old }
-        ensures turned { Turned (layout self.old) (play self.old) (play self.new) result (IsOfLink link) };
+        ensures turned { TurnsOf (layout self.old) (Plays self.old) (Plays self.new) result (IsOfLink link) };
 }
 
 /// One round over the conductor, the components and the links. Something was accepted, since something can be.
-fn round<P: Player>(player: &mut P) -> bool
-    requires { IsGoing (P.layout player.old) (P.play player.old) }
+fn round<P: Player>(player: &mut P) -> Result<bool, P::Fault>
+    requires { SomePlay (P.Plays player.old) }
     ensures layout { P.layout player.new ≡ P.layout player.old }
-    ensures round { IsRound (P.layout player.old) (P.play player.old) (P.play player.new) result
-        (P.layout player.old).network.components (P.layout player.old).network.links }
+    ensures round { IfOk result (λ did. RoundsOf (P.layout player.old) (P.Plays player.old) (P.Plays player.new) did
+        (P.layout player.old).network.components (P.layout player.old).network.links) }
+    ensures failed { IfErr result (P.HasFailed player.new) }
 {
     let mut did = player.send();
     let components = player.components();
     for c in 0..components {
-        let acted = player.component_turn(c);
+        let acted = player.component_turn(c)?;
         did = did | acted;
     }
     let links = player.links();
@@ -62,19 +77,24 @@ fn round<P: Player>(player: &mut P) -> bool
         let acted = player.link_turn(l);
         did = did | acted;
     }
-    did
+    Ok(did)
 }
 
-/// Rounds until the play is over.
-pub fn play_on<P: Player>(player: &mut P)
-    requires { IsGoing (P.layout player.old) (P.play player.old) }
+/// Rounds until the play is over, or a part has failed.
+pub fn play_on<P: Player>(player: &mut P) -> Result<(), P::Fault>
+    requires { CanPlay (P.layout player.old) (P.Plays player.old) 340282366920938463463374607431768211455 }
     ensures layout { P.layout player.new ≡ P.layout player.old }
-    ensures reached { IsReached (P.layout player.new) (P.play player.new) }
-    ensures over { IsOver (P.layout player.new) (P.play player.new) }
+    ensures over { OnOk result (EndsOf (P.layout player.old) (P.Plays player.old) (P.Plays player.new)) }
+    ensures failed { IfErr result (P.HasFailed player.new) }
 {
-    while !player.is_over() {
-        if !round(player) {
+    // Each round makes an act, and a play has fewer.
+    for _round in 0..u128::MAX {
+        if player.is_over() {
+            return Ok(());
+        }
+        if !round(player)? {
             unreachable!()
         }
     }
+    unreachable!()
 }

@@ -28,7 +28,7 @@ use Rattle.play_plans.specs.Conducting.{HasSinks, IsConductorOf, HasViews}
 -- ---- one component
 
 -- the last state told is that of the phase only where it was told
-told_stage : (phase stage : ℕ) → 1 ≤ phase → phase ≤ 4 → stage ≤ 4 → is_at (target phase) (last_told phase stage) ≡ nat_eq stage 4
+pub told_stage : (phase stage : ℕ) → 1 ≤ phase → phase ≤ 4 → stage ≤ 4 → is_at (target phase) (last_told phase stage) ≡ nat_eq stage 4
 told_stage zero stage l h s = absurd (omega arith)
 told_stage (suc (suc (suc (suc (suc k))))) stage l h s = absurd (omega arith)
 told_stage phase (suc (suc (suc (suc (suc k))))) l h s = absurd (omega arith)

@@ -334,7 +334,7 @@ first_event phase (suc (suc (suc (suc k)))) true n e = let s : notes.Told (Buffe
 first_event phase (suc (suc (suc (suc k)))) false n e = absurd cc
 
 module _ (x : Cast) (p : Play) (w : World) (c : ℕ) (a : Component) (W : IsPlayWorld x p w) (l : c < components_of x) (e : slice_get w.components (script_place x c) ≡ Some a) (A : IsActor x p w c a) (result : Result Took OmxError) (v : World) where
-  an_event : (n : Note) → a.client_out ≡ false → slice_get a.notes 0 ≡ Some n → is_event n ≡ true
+  pub an_event : (n : Note) → a.client_out ≡ false → slice_get a.notes 0 ≡ Some n → is_event n ≡ true
   an_event n o f =
       let all : a.notes ≡ notes_at p.phase (p.stage c) (ends_untold x p c) = sym (ap (λ (b : Bool). out_of b (notes_given (number_of a) w) ++ a.notes) o) ∙ A.notes in
       first_event p.phase (p.stage c) (ends_untold x p c) n (subst (λ (g : List Note). slice_get g 0 ≡ Some n) all f)

@@ -1,13 +1,12 @@
-use Rattle.std.proofs.Common.{◌≡◌}
-use Rattle.play_model.specs.Reached.{acts_left}
-use Rattle.play_loop.specs.Turns.{IsGoing}
+use Rattle.std.proofs.Common.{◌≡◌, ◌-◌}
+use Rattle.play_loop.specs.Turns.{OnWayFrom}
 use Rattle.play_loop.proofs.play_on.Given as goal
 
-abbrev pub invariant-loop-player : goal.invariant-loop-player
-invariant-loop-player g l = record {
+abbrev pub invariant-loop-round : goal.invariant-loop-round
+invariant-loop-round g l = record {
   layout : g.P.Player.layout l.player ≡ g.P.Player.layout l.fn.player;
-  going : IsGoing (g.P.Player.layout l.player) (g.P.Player.play l.player);
+  way : OnWayFrom (g.P.Player.layout l.fn.player) (g.P.Player.Plays l.fn.player) (g.P.Player.Plays l.player) l._round;
 }
 
-abbrev pub decreases-loop-player : goal.decreases-loop-player
-decreases-loop-player g l = acts_left (g.P.Player.layout l.player) (g.P.Player.play l.player)
+abbrev pub decreases-loop-round : goal.decreases-loop-round
+decreases-loop-round g l = 340282366920938463463374607431768211455 - l._round

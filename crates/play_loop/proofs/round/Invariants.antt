@@ -1,16 +1,18 @@
 use Rattle.std.proofs.Common.{◌≡◌}
-use Rattle.play_loop.specs.Turns.{IsRound}
+use Rattle.play_loop.specs.Turns.{RoundsOf, SomePlay}
 use Rattle.play_loop.proofs.round.Given as goal
 
 -- the round stands so, after the turns of the components below c
 abbrev pub invariant-loop-c : goal.invariant-loop-c
 invariant-loop-c g l = record {
   layout : g.P.Player.layout l.player ≡ g.P.Player.layout l.fn.player;
-  round : IsRound (g.P.Player.layout l.fn.player) (g.P.Player.play l.fn.player) (g.P.Player.play l.player) l.did l.c 0;
+  round : RoundsOf (g.P.Player.layout l.fn.player) (g.P.Player.Plays l.fn.player) (g.P.Player.Plays l.player) l.did l.c 0;
+  some : SomePlay (g.P.Player.Plays l.player);
 }
 
 abbrev pub invariant-loop-l : goal.invariant-loop-l
 invariant-loop-l g l = record {
   layout : g.P.Player.layout l.player ≡ g.P.Player.layout l.fn.player;
-  round : IsRound (g.P.Player.layout l.fn.player) (g.P.Player.play l.fn.player) (g.P.Player.play l.player) l.did l.components l.l;
+  round : RoundsOf (g.P.Player.layout l.fn.player) (g.P.Player.Plays l.fn.player) (g.P.Player.Plays l.player) l.did l.components l.l;
+  some : SomePlay (g.P.Player.Plays l.player);
 }

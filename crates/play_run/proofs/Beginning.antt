@@ -1,0 +1,117 @@
+-- Where the graph of a plan stands before its play, the play begins.
+use Rattle.std.proofs.Common.{◌≡◌, ◌≢◌, ◌<◌, ◌≤◌, ℕ, zero, suc, Bool, true, false, List, [], ◌∷◌, ◌++◌, length, map, replicate, slice_get, Option, Some, None, find, refl, sym, ◌∙◌, ap, subst, arith}
+use Rattle.std.proofs.lemmas.Option.{slice_get_within}
+use Rattle.il_machine.specs.declared.answer.Progress.{Progress}
+use Rattle.il_machine.specs.World.{Component, World}
+use Rattle.il_machine.specs.Components.{no_progress}
+use Rattle.il_machine.specs.Due.{IsClosed}
+use Rattle.il_machine.specs.Kinds.{is_sink}
+use Rattle.il_machine.specs.Whole.{Always}
+use Rattle.machine_laws.proofs.Every.{from_places}
+use Rattle.part_forms.specs.Kinds.{is_late}
+use Rattle.il_graph.specs.Shown.{Shown}
+use Rattle.script_lang.specs.declared.play_line.PartForm.{PartForm}
+use Rattle.script_lang.specs.declared.play_line.PartForm.TheVariants as forms
+use Rattle.script_lang.specs.declared.play_line.PartLine.{PartLine}
+use Rattle.play_forms.specs.declared.joint.Joint.{Joint}
+use Rattle.play_forms.specs.Parts.{kind_of, passes_at}
+use Rattle.play_forms.specs.Plans.{IsValid, PlanValue}
+use Rattle.conductor.specs.Casting.{is_sink as is_sink_form, late_link, late_links, link_from}
+use Rattle.conductor.specs.Casting as conductors
+use Rattle.conductor.specs.Hearing.{ConductorValue}
+use Rattle.play_model.specs.Play.{Play}
+use Rattle.play_loop.specs.Turns.{CanPlay}
+use Rattle.play_worlds.specs.Cast.{components_of, script_place}
+use Rattle.play_worlds.specs.Openings.{opening}
+use Rattle.play_worlds.proofs.Lists.{get_there}
+use Rattle.play_worlds.proofs.Openings.{opens}
+use Rattle.play_plans.specs.Conducting.{HasSinks}
+use Rattle.play_run.specs.Playing.{HaveNoWork, IsConducting, IsPlaying, IsStanding, PlayingValue, cast, kept_of, layout_of}
+use Rattle.play_run.specs.Opening.{HasNoLate, IsOpeningGraph}
+use Rattle.play_run.proofs.Answering.{rests_there}
+use Rattle.play_run.proofs.Counting.{few_acts}
+
+-- ---- the conductor
+
+same_sink : (form : PartForm) → is_sink_form form ≡ is_sink (kind_of form)
+same_sink (forms.Source file) = refl
+same_sink (forms.Late file) = refl
+same_sink forms.Decoder = refl
+same_sink forms.Alaw = refl
+same_sink forms.Mulaw = refl
+same_sink (forms.Gain gain) = refl
+same_sink (forms.Mixer weights) = refl
+same_sink (forms.Splitter outputs) = refl
+same_sink (forms.Sink file) = refl
+
+sink_at : (parts : List PartLine) (place : ℕ) → place < length parts → slice_get (map (λ (part : PartLine). is_sink_form part.form) parts) place ≡ Some (passes_at is_sink (slice_get parts place))
+sink_at [] place b = absurd (omega arith)
+sink_at (part ∷ parts) zero b = ap Some (same_sink part.form)
+sink_at (part ∷ parts) (suc place) b = sink_at parts place (omega arith)
+
+map_many : (parts : List PartLine) → length (map (λ (part : PartLine). is_sink_form part.form) parts) ≡ length parts
+map_many [] = refl
+map_many (part ∷ parts) = ap suc (map_many parts)
+
+replicate_many : (n : ℕ) → length (replicate n no_progress) ≡ n
+replicate_many zero = refl
+replicate_many (suc n) = ap suc (replicate_many n)
+
+not_late : (form : PartForm) (place : ℕ) (o : Option Joint) → is_late (kind_of form) ≡ false → late_link form place o ≡ []
+not_late (forms.Late file) place None e = refl
+not_late (forms.Late file) place (Some joint) e = absurd cc
+not_late (forms.Source file) place o e = refl
+not_late forms.Decoder place o e = refl
+not_late forms.Alaw place o e = refl
+not_late forms.Mulaw place o e = refl
+not_late (forms.Gain gain) place o e = refl
+not_late (forms.Mixer weights) place o e = refl
+not_late (forms.Splitter outputs) place o e = refl
+not_late (forms.Sink file) place o e = refl
+
+none_late : (joints : List Joint) (from : ℕ) (parts : List PartLine) → ((place : ℕ) (part : PartLine) → slice_get parts place ≡ Some part → is_late (kind_of part.form) ≡ false) → late_links joints from parts ≡ []
+none_late joints from [] h = refl
+none_late joints from (part ∷ parts) h =
+    ap (λ (l : List _). l ++ late_links joints (suc from) parts) (not_late part.form from (link_from joints from) (h 0 part refl)) ∙ none_late joints (suc from) parts (λ place p e. h (suc place) p e)
+
+module _ {S K : Type 0} (x : PlayingValue S K) (O : IsOpeningGraph x.plan x.graph) (new : x.conductor ≡ conductors.cast_of x.plan) where
+  has_sinks : HasSinks (cast x.plan) (conductors.cast_of x.plan)
+  has_sinks = record {
+    many = map_many (x.plan).parts;
+    each = λ c b. sink_at (x.plan).parts (script_place (cast x.plan) c) ((O.opening).cast.placed c b);
+  }
+
+  conducting : IsConducting (cast x.plan) opening x.conductor
+  conducting = subst (IsConducting (cast x.plan) opening) (sym new) (record {
+    sinks = has_sinks;
+    many = replicate_many (length (x.plan).parts);
+    early = none_late (x.plan).joints 0 (x.plan).parts O.early;
+    sends = refl;
+  })
+
+  no_works : HaveNoWork O.world
+  no_works = from_places (λ (a : Component). a.work ≡ None) O.world.components (λ place a e.
+      let m = (O.opening).many in
+      let c = (O.opening).cast.each place (inside place a e m) in
+      let U = (O.opening).components c.0 a c.1 (subst (λ (n : ℕ). slice_get O.world.components n ≡ Some a) (sym c.2) e) in
+      ap (λ (d : Component). d.work) U.fresh_else)
+    where
+      inside : (place : ℕ) (a : Component) → slice_get O.world.components place ≡ Some a → length O.world.components ≡ components_of (cast x.plan) → place < components_of (cast x.plan)
+      inside place a e m = let w = slice_get_within O.world.components place a e in omega arith
+
+  begins_playing : IsPlaying x opening
+  begins_playing = record {
+    standing = record { world = O.world; stands = O.stands; play = opens (cast x.plan) O.world O.opening; valid = O.valid; works = no_works; clients = O.clients; conducting = conducting };
+    sent = λ c b e. absurd (omega (arith, e));
+  }
+
+  pub can_play : Always (kept_of x.graph) IsClosed → ((c : ℕ) → c < components_of (cast x.plan) → ((layout_of x.plan).network).frames c < 18446744073709551616) → CanPlay (layout_of x.plan) (IsPlaying x) 340282366920938463463374607431768211455
+  unfolding begins_playing
+  can_play closed frames =
+      let W = begins_playing.standing.play in
+      record {
+        play = opening;
+        stands = begins_playing;
+        going = record { reached = W.reached; rest = rests_there (cast x.plan) opening O.world W (closed O.world O.stands) };
+        few = few_acts x.plan W.early O.valid.most W.cast.few frames;
+      }

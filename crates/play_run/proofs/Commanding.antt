@@ -1,0 +1,60 @@
+-- A component's command is run.
+use Rattle.std.proofs.Common.{◌≡◌, ◌<◌, ◌≤◌, ℕ, Bool, length, slice_get, Some, Result, refl, sym, ◌∙◌, ap, subst, arith}
+use Rattle.std.specs.Prelude.{OnErr}
+use Rattle.omx_types.specs.declared.handle.Handle.{Handle}
+use Rattle.omx_types.specs.declared.error.OmxError.{OmxError}
+use Rattle.il_machine.specs.declared.answer.Acted.{Acted}
+use Rattle.il_machine.specs.declared.answer.Progress.{Progress}
+use Rattle.il_machine.specs.Acts as acts
+use Rattle.il_machine.specs.Commands.{RunCommand}
+use Rattle.il_machine.specs.Whole.{Steps}
+use Rattle.graph_core.specs.Clients.{KeepsAllClients}
+use Rattle.il_graph.specs.Shown.{Shown}
+use Rattle.il_graph.specs.Stood.{OnIdle}
+use Rattle.play_model.specs.Play.{Play}
+use Rattle.play_model.specs.Acts.{Act}
+use Rattle.play_loop.specs.Turns.{SomePlay, TurnsOf}
+use Rattle.play_worlds.specs.Worlds.{Names}
+use Rattle.play_worlds.proofs.Runs.{run_can, run_leads}
+use Rattle.play_plans.specs.Casting.{place_of}
+use Rattle.play_plans.proofs.Turns.{all_turns}
+use Rattle.play_run.specs.Playing.{IsAct, IsHandleAt, IsPlaying, IsStanding, PlayingValue, cast, is_did, kept_of, layout_of}
+use Rattle.play_run.proofs.Naming.{named_at}
+use Rattle.play_run.proofs.Working.{still_none}
+use Rattle.play_run.proofs.Answering.{keeps_in, not_did, on_graph, one_came, run_within, turn_goes}
+
+module _ {S K : Type 0} where
+  -- ---- a component by its turn
+
+  pub turn_there : (x : PlayingValue S K) (c : ℕ) → SomePlay (IsPlaying x) → c < length x.plan.parts → c < length x.plan.order
+  turn_there x c (p, Y) b = let n = all_turns x.plan.joints (length x.plan.parts) x.plan.order Y.standing.valid.placed in omega arith
+
+  pub place_there : (x : PlayingValue S K) (c place : ℕ) → SomePlay (IsPlaying x) → c < length x.plan.parts → place ≡ place_of x.plan c → place < length x.plan.parts
+  place_there x c place (p, Y) b e = subst (λ (k : ℕ). k < length x.plan.parts) (sym e) (Y.standing.play.cast.placed c b)
+
+  pub component_named_in : (x : PlayingValue S K) (c place : ℕ) (h : Handle) → place ≡ place_of x.plan c → IsHandleAt x.graph place h → (p : Play) (Z : IsStanding x p) → Names (cast x.plan) Z.world c h
+  component_named_in x c place h e H p Z = named_at Z.world place h (Z.play).sound (H Z.world Z.stands) ∙ ap Some e
+
+  -- ---- its command
+
+  ran : (x : PlayingValue S K) (g : Shown S K Progress) (c place : ℕ) (h : Handle) (r : Result Acted OmxError) → c < length x.plan.parts → place ≡ place_of x.plan c → IsHandleAt x.graph place h → KeepsAllClients x.graph.core g.core
+      → Steps (kept_of x.graph) (kept_of g) (λ w v. RunCommand w h r v) → OnErr r (g ≡ x.graph) → OnIdle r (g ≡ x.graph) → TurnsOf (layout_of x.plan) (IsPlaying x) (IsPlaying (on_graph x g)) (is_did r) (IsAct (Act.Run c))
+  ran x g c place h r b e H keeps steps er id = λ p Y.
+      let Z = Y.standing in
+      let w = Z.world in
+      let v = steps w Z.stands in
+      let N = component_named_in x c place h e H p Z in
+      turn_goes x g p v.0 (is_did r) (IsAct (Act.Run c)) Y v.1
+      (still_none w (acts.RunCommand h) (acts.Acted r) v.0 (Z.play).sound tt v.2 (λ n. refl) Z.works)
+      (keeps_in x.graph.core g.core keeps Z.clients) (not_did r er id)
+      (one_came (cast x.plan) p v.0 (Act.Run c) r (run_within (layout_of x.plan) p c)
+      (λ C. run_leads (cast x.plan) p w c h r v.0 Z.play C N v.2)
+      (λ d. run_can (cast x.plan) p w c h r v.0 Z.play b N v.2 d))
+
+  pub run_turns : (y x : PlayingValue S K) → y ≡ x → (g : Shown S K Progress) (c place : ℕ) (h : Handle) (r : Result Acted OmxError) (d : Bool) → c < length x.plan.parts → place ≡ place_of x.plan c → IsHandleAt x.graph place h
+      → KeepsAllClients y.graph.core g.core → Steps (kept_of y.graph) (kept_of g) (λ w v. RunCommand w h r v) → OnErr r (g ≡ y.graph) → OnIdle r (g ≡ y.graph) → d ≡ is_did r
+      → TurnsOf (layout_of x.plan) (IsPlaying x) (IsPlaying (on_graph y g)) d (IsAct (Act.Run c))
+  run_turns y x is g c place h r d b J H keeps steps e i D =
+      subst (λ (z : PlayingValue S K). c < length z.plan.parts → place ≡ place_of z.plan c → IsHandleAt z.graph place h → TurnsOf (layout_of z.plan) (IsPlaying z) (IsPlaying (on_graph y g)) d (IsAct (Act.Run c))) is
+      (λ b J H. subst (λ (o : Bool). TurnsOf (layout_of y.plan) (IsPlaying y) (IsPlaying (on_graph y g)) o (IsAct (Act.Run c))) (sym D) (ran y g c place h r b J H keeps steps e i))
+      b J H

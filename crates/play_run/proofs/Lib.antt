@@ -1,0 +1,12 @@
+mod Answering
+mod Beginning
+mod Commanding
+mod Conducting
+mod Counting
+mod Ending
+mod Linking
+mod Naming
+mod Rounding
+mod Stepping
+mod Telling
+mod Working

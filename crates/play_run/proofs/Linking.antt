@@ -1,0 +1,180 @@
+-- The calls of a link's turn.
+use Rattle.std.proofs.Common.{◌≡◌, ◌⊎◌, inl, inr, ◌<◌, ◌≤◌, ℕ, Bool, true, false, length, slice_get, Some, Ok, Err, Result, refl, sym, ◌∙◌, ap, subst, arith}
+use Rattle.std.specs.Prelude.{OnErr}
+use Rattle.std.proofs.lemmas.Option.{get_or_from_slice_get, slice_get-get_or}
+use Rattle.omx_types.specs.declared.handle.Handle.{Handle}
+use Rattle.omx_types.specs.declared.error.OmxError.{OmxError}
+use Rattle.omx_types.specs.declared.error.CallError.{CallError}
+use Rattle.il_machine.specs.declared.answer.Acted.{Acted}
+use Rattle.il_machine.specs.declared.answer.Acted.TheVariants.{Did, Idle}
+use Rattle.il_machine.specs.declared.answer.Progress.{Progress}
+use Rattle.il_machine.specs.World.{World}
+use Rattle.il_machine.specs.Lists.{is_empty}
+use Rattle.il_machine.specs.Headers.{seen}
+use Rattle.il_machine.specs.Acts as acts
+use Rattle.il_machine.specs.Run.{Meets, Step}
+use Rattle.il_machine.specs.Flow.{HandBack, HandOver, Release, Supply}
+use Rattle.il_machine.specs.Whole.{Steps}
+use Rattle.history_laws.specs.Works.{takes_work}
+use Rattle.machine_laws.proofs.Finding.{either}
+use Rattle.graph_core.specs.Clients.{KeepsAllClients}
+use Rattle.il_graph.specs.Shown.{Shown}
+use Rattle.il_graph.specs.Stood.{OnIdle}
+use Rattle.play_forms.specs.declared.joint.Joint.{Joint}
+use Rattle.play_forms.specs.Flows.{no_flow}
+use Rattle.play_forms.proofs.Plainly.{givers_within}
+use Rattle.play_forms.specs.Plans.{IsValid, PlanValue}
+use Rattle.play_model.specs.Play.{Play}
+use Rattle.play_model.specs.Acts.{Act, CanAct, acted}
+use Rattle.play_loop.specs.Turns.{TurnsOf}
+use Rattle.play_worlds.specs.Cast.{away_at, components_of, giver_of, home_at, links_of, script_place, taker_of}
+use Rattle.play_worlds.specs.Worlds.{IsPlayWorld, LeadsTo, Names}
+use Rattle.play_worlds.proofs.Making.{supply_can, supply_leads}
+use Rattle.play_worlds.proofs.Releasing.{release_can, release_leads}
+use Rattle.play_worlds.proofs.Handing.{over_can, over_leads}
+use Rattle.play_worlds.proofs.Returns.{back_can, back_leads}
+use Rattle.play_worlds.proofs.Leftovers.{unused_can, unused_leads}
+use Rattle.play_plans.specs.Casting.{IsLinkCast, flow_of, joint_of, no_joint}
+use Rattle.play_plans.proofs.Casting.{takers_within}
+use Rattle.play_plans.proofs.Casts.{plan_has_cast}
+use Rattle.play_run.specs.Playing.{IsAct, IsHandleAt, IsPlaying, IsStanding, PlayingValue, cast, is_did, kept_of, layout_of}
+use Rattle.play_run.specs.Turning.{IsBack}
+use Rattle.play_run.proofs.Naming.{named_at}
+use Rattle.play_run.proofs.Working.{still_none}
+use Rattle.play_run.proofs.Answering.{Came, keeps_in, not_did, on_graph, one_came, stays, turn_goes}
+
+-- ---- the ends of a link
+
+pub link_is : (plan : PlanValue) (l : ℕ) → IsValid plan → l < length plan.joints → IsLinkCast plan (cast plan) l (joint_of plan l) (flow_of plan l)
+link_is plan l V b =
+    let n = V.flows in
+    (plan_has_cast plan (λ k. false) V).joints l (joint_of plan l) (flow_of plan l) (slice_get-get_or plan.joints l no_joint b) (slice_get-get_or plan.flows l no_flow (omega arith))
+
+module _ {S K : Type 0} (x : PlayingValue S K) (g : Shown S K Progress) (l : ℕ) (h : Handle) (b : l < length x.plan.joints) where
+  taker_named : IsHandleAt x.graph (joint_of x.plan l).taker h → (p : Play) (Y : IsStanding x p) → Names (cast x.plan) Y.world (taker_of (cast x.plan) l) h
+  taker_named H p Y =
+      let e = (link_is x.plan l Y.valid b).taker in
+      named_at Y.world (joint_of x.plan l).taker h (Y.play).sound (H Y.world Y.stands) ∙ ap Some (sym e)
+
+  giver_named : IsHandleAt x.graph (joint_of x.plan l).giver h → (p : Play) (Y : IsStanding x p) → Names (cast x.plan) Y.world (giver_of (cast x.plan) l) h
+  giver_named H p Y =
+      let e = (link_is x.plan l Y.valid b).giver in
+      named_at Y.world (joint_of x.plan l).giver h (Y.play).sound (H Y.world Y.stands) ∙ ap Some (sym e)
+
+  module _ (keeps : KeepsAllClients x.graph.core g.core) where
+    pub supplied : (r : Result Acted CallError) → IsHandleAt x.graph (joint_of x.plan l).taker h → Steps (kept_of x.graph) (kept_of g) (λ w v. Supply w h (joint_of x.plan l).input r v)
+        → OnErr r (g ≡ x.graph) → OnIdle r (g ≡ x.graph) → TurnsOf (layout_of x.plan) (IsPlaying x) (IsPlaying (on_graph x g)) (is_did r) (IsAct (Act.Supply l))
+    supplied r H steps e i = λ p Y.
+        let Z = Y.standing in
+        let w = Z.world in
+        let v = steps w Z.stands in
+        let N = taker_named H p Z in
+        turn_goes x g p v.0 (is_did r) (IsAct (Act.Supply l)) Y v.1
+        (still_none w (acts.Supply h (joint_of x.plan l).input) (acts.Supplied r) v.0 (Z.play).sound tt v.2 (λ n. refl) Z.works)
+        (keeps_in x.graph.core g.core keeps Z.clients) (not_did r e i)
+        (one_came (cast x.plan) p v.0 (Act.Supply l) r (stays (layout_of x.plan) p (Act.Supply l) refl (λ c. refl))
+        (λ C. supply_leads (cast x.plan) p w l h r v.0 Z.play C N v.2)
+        (λ d. supply_can (cast x.plan) p w l h r v.0 Z.play b N v.2 d))
+
+    pub released : (r : Result Acted OmxError) → IsHandleAt x.graph (joint_of x.plan l).taker h → Steps (kept_of x.graph) (kept_of g) (λ w v. Release w h (joint_of x.plan l).input r v)
+        → OnErr r (g ≡ x.graph) → OnIdle r (g ≡ x.graph) → TurnsOf (layout_of x.plan) (IsPlaying x) (IsPlaying (on_graph x g)) (is_did r) (IsAct (Act.Release l))
+    released r H steps e i = λ p Y.
+        let Z = Y.standing in
+        let w = Z.world in
+        let v = steps w Z.stands in
+        let N = taker_named H p Z in
+        turn_goes x g p v.0 (is_did r) (IsAct (Act.Release l)) Y v.1
+        (still_none w (acts.Release h (joint_of x.plan l).input) (acts.Acted r) v.0 (Z.play).sound tt v.2 (λ n. refl) Z.works)
+        (keeps_in x.graph.core g.core keeps Z.clients) (not_did r e i)
+        (one_came (cast x.plan) p v.0 (Act.Release l) r (stays (layout_of x.plan) p (Act.Release l) refl (λ c. refl))
+        (λ C. release_leads (cast x.plan) p w l h r v.0 Z.play C N v.2)
+        (λ d. release_can (cast x.plan) p w l h r v.0 Z.play b N v.2 d))
+
+    pub handed_over : (r : Result Acted OmxError) → IsHandleAt x.graph (joint_of x.plan l).taker h → Steps (kept_of x.graph) (kept_of g) (λ w v. HandOver w h (joint_of x.plan l).input r v)
+        → OnErr r (g ≡ x.graph) → OnIdle r (g ≡ x.graph) → TurnsOf (layout_of x.plan) (IsPlaying x) (IsPlaying (on_graph x g)) (is_did r) (IsAct (Act.HandOver l))
+    handed_over r H steps e i = λ p Y.
+        let Z = Y.standing in
+        let w = Z.world in
+        let v = steps w Z.stands in
+        let N = taker_named H p Z in
+        turn_goes x g p v.0 (is_did r) (IsAct (Act.HandOver l)) Y v.1
+        (still_none w (acts.HandOver h (joint_of x.plan l).input) (acts.Acted r) v.0 (Z.play).sound tt v.2 (λ n. refl) Z.works)
+        (keeps_in x.graph.core g.core keeps Z.clients) (not_did r e i)
+        (one_came (cast x.plan) p v.0 (Act.HandOver l) r (stays (layout_of x.plan) p (Act.HandOver l) refl (λ c. refl))
+        (λ C. over_leads (cast x.plan) p w l h r v.0 Z.play C N v.2)
+        (λ d. over_can (cast x.plan) p w l h r v.0 Z.play b N v.2 d))
+
+    -- the front of done, or where that is empty a header that wasn't used
+    back_came : (r : Result Acted OmxError) (p : Play) (w v : World) → IsPlayWorld (cast x.plan) p w → Names (cast x.plan) w (giver_of (cast x.plan) l) h → HandBack w h (joint_of x.plan l).output r v
+        → Came (cast x.plan) p v (is_did r) (IsBack l)
+    back_came (Ok Did) p w v W N s = either (is_empty ((seen w.headers).done (away_at (cast x.plan) l)))
+        (λ t.
+        let C = unused_can (cast x.plan) p w l h (Ok Did) v W b N s refl t in
+        (Act.HandUnused l, inr refl, C, stays (layout_of x.plan) p (Act.HandUnused l) refl (λ c. refl), (unused_leads (cast x.plan) p w l h (Ok Did) v W C N s).1))
+        (λ f.
+        let C = back_can (cast x.plan) p w l h (Ok Did) v W b N s refl f in
+        (Act.HandBack l, inl refl, C, stays (layout_of x.plan) p (Act.HandBack l) refl (λ c. refl), (back_leads (cast x.plan) p w l h (Ok Did) v W C N s).1))
+    back_came (Ok (Idle why)) p w v W N s = λ a o C. elim o [
+      | inl e ↦ let d = (back_leads (cast x.plan) p w l h (Ok (Idle why)) v W (subst (λ (y : Act). CanAct (layout_of x.plan) p y) e C) N s).0 in absurd cc
+      | inr e ↦ let d = (unused_leads (cast x.plan) p w l h (Ok (Idle why)) v W (subst (λ (y : Act). CanAct (layout_of x.plan) p y) e C) N s).0 in absurd cc
+    ]
+    back_came (Err z) p w v W N s = λ a o C. elim o [
+      | inl e ↦ let d = (back_leads (cast x.plan) p w l h (Err z) v W (subst (λ (y : Act). CanAct (layout_of x.plan) p y) e C) N s).0 in absurd cc
+      | inr e ↦ let d = (unused_leads (cast x.plan) p w l h (Err z) v W (subst (λ (y : Act). CanAct (layout_of x.plan) p y) e C) N s).0 in absurd cc
+    ]
+
+    pub handed_back : (r : Result Acted OmxError) → IsHandleAt x.graph (joint_of x.plan l).giver h → Steps (kept_of x.graph) (kept_of g) (λ w v. HandBack w h (joint_of x.plan l).output r v)
+        → OnErr r (g ≡ x.graph) → OnIdle r (g ≡ x.graph) → TurnsOf (layout_of x.plan) (IsPlaying x) (IsPlaying (on_graph x g)) (is_did r) (IsBack l)
+    handed_back r H steps e i = λ p Y.
+        let Z = Y.standing in
+        let w = Z.world in
+        let v = steps w Z.stands in
+        turn_goes x g p v.0 (is_did r) (IsBack l) Y v.1
+        (still_none w (acts.HandBack h (joint_of x.plan l).output) (acts.Acted r) v.0 (Z.play).sound tt v.2 (λ n. refl) Z.works)
+        (keeps_in x.graph.core g.core keeps Z.clients) (not_did r e i)
+        (back_came r p w v.0 Z.play (giver_named H p Z) v.2)
+
+-- ---- the same, of what is known where a call was made
+
+pub takers_there : (plan : PlanValue) (l : ℕ) (j : Joint) → IsValid plan → l < length plan.joints → j ≡ joint_of plan l → j.taker < length plan.parts
+takers_there plan l j V b J = subst (λ (k : Joint). k.taker < length plan.parts) (sym J) (takers_within plan.parts plan.joints V.joined l (joint_of plan l) (slice_get-get_or plan.joints l no_joint b))
+
+pub givers_there : (plan : PlanValue) (l : ℕ) (j : Joint) → IsValid plan → l < length plan.joints → j ≡ joint_of plan l → j.giver < length plan.parts
+givers_there plan l j V b J = subst (λ (k : Joint). k.giver < length plan.parts) (sym J) (givers_within plan.parts plan.joints V.joined l (joint_of plan l) (slice_get-get_or plan.joints l no_joint b))
+
+module _ {S K : Type 0} where
+  pub supply_turns : (y x : PlayingValue S K) → y ≡ x → (g : Shown S K Progress) (l : ℕ) (j : Joint) (h : Handle) (r : Result Acted CallError) (d : Bool) → l < length x.plan.joints → j ≡ joint_of x.plan l → IsHandleAt x.graph j.taker h
+      → KeepsAllClients y.graph.core g.core → Steps (kept_of y.graph) (kept_of g) (λ w v. Supply w h j.input r v) → OnErr r (g ≡ y.graph) → OnIdle r (g ≡ y.graph) → d ≡ is_did r
+      → TurnsOf (layout_of x.plan) (IsPlaying x) (IsPlaying (on_graph y g)) d (IsAct (Act.Supply l))
+  supply_turns y x is g l j h r d b J H keeps steps e i D =
+      subst (λ (z : PlayingValue S K). l < length z.plan.joints → j ≡ joint_of z.plan l → IsHandleAt z.graph j.taker h → TurnsOf (layout_of z.plan) (IsPlaying z) (IsPlaying (on_graph y g)) d (IsAct (Act.Supply l))) is
+      (λ b J H. subst (λ (o : Bool). TurnsOf (layout_of y.plan) (IsPlaying y) (IsPlaying (on_graph y g)) o (IsAct (Act.Supply l))) (sym D)
+      (supplied y g l h b keeps r (subst (λ (k : Joint). IsHandleAt y.graph k.taker h) J H) (subst (λ (k : Joint). Steps (kept_of y.graph) (kept_of g) (λ w v. Supply w h k.input r v)) J steps) e i))
+      b J H
+
+  pub release_turns : (y x : PlayingValue S K) → y ≡ x → (g : Shown S K Progress) (l : ℕ) (j : Joint) (h : Handle) (r : Result Acted OmxError) (d : Bool) → l < length x.plan.joints → j ≡ joint_of x.plan l → IsHandleAt x.graph j.taker h
+      → KeepsAllClients y.graph.core g.core → Steps (kept_of y.graph) (kept_of g) (λ w v. Release w h j.input r v) → OnErr r (g ≡ y.graph) → OnIdle r (g ≡ y.graph) → d ≡ is_did r
+      → TurnsOf (layout_of x.plan) (IsPlaying x) (IsPlaying (on_graph y g)) d (IsAct (Act.Release l))
+  release_turns y x is g l j h r d b J H keeps steps e i D =
+      subst (λ (z : PlayingValue S K). l < length z.plan.joints → j ≡ joint_of z.plan l → IsHandleAt z.graph j.taker h → TurnsOf (layout_of z.plan) (IsPlaying z) (IsPlaying (on_graph y g)) d (IsAct (Act.Release l))) is
+      (λ b J H. subst (λ (o : Bool). TurnsOf (layout_of y.plan) (IsPlaying y) (IsPlaying (on_graph y g)) o (IsAct (Act.Release l))) (sym D)
+      (released y g l h b keeps r (subst (λ (k : Joint). IsHandleAt y.graph k.taker h) J H) (subst (λ (k : Joint). Steps (kept_of y.graph) (kept_of g) (λ w v. Release w h k.input r v)) J steps) e i))
+      b J H
+
+  pub over_turns : (y x : PlayingValue S K) → y ≡ x → (g : Shown S K Progress) (l : ℕ) (j : Joint) (h : Handle) (r : Result Acted OmxError) (d : Bool) → l < length x.plan.joints → j ≡ joint_of x.plan l → IsHandleAt x.graph j.taker h
+      → KeepsAllClients y.graph.core g.core → Steps (kept_of y.graph) (kept_of g) (λ w v. HandOver w h j.input r v) → OnErr r (g ≡ y.graph) → OnIdle r (g ≡ y.graph) → d ≡ is_did r
+      → TurnsOf (layout_of x.plan) (IsPlaying x) (IsPlaying (on_graph y g)) d (IsAct (Act.HandOver l))
+  over_turns y x is g l j h r d b J H keeps steps e i D =
+      subst (λ (z : PlayingValue S K). l < length z.plan.joints → j ≡ joint_of z.plan l → IsHandleAt z.graph j.taker h → TurnsOf (layout_of z.plan) (IsPlaying z) (IsPlaying (on_graph y g)) d (IsAct (Act.HandOver l))) is
+      (λ b J H. subst (λ (o : Bool). TurnsOf (layout_of y.plan) (IsPlaying y) (IsPlaying (on_graph y g)) o (IsAct (Act.HandOver l))) (sym D)
+      (handed_over y g l h b keeps r (subst (λ (k : Joint). IsHandleAt y.graph k.taker h) J H) (subst (λ (k : Joint). Steps (kept_of y.graph) (kept_of g) (λ w v. HandOver w h k.input r v)) J steps) e i))
+      b J H
+
+  pub back_turns : (y x : PlayingValue S K) → y ≡ x → (g : Shown S K Progress) (l : ℕ) (j : Joint) (h : Handle) (r : Result Acted OmxError) (d : Bool) → l < length x.plan.joints → j ≡ joint_of x.plan l → IsHandleAt x.graph j.giver h
+      → KeepsAllClients y.graph.core g.core → Steps (kept_of y.graph) (kept_of g) (λ w v. HandBack w h j.output r v) → OnErr r (g ≡ y.graph) → OnIdle r (g ≡ y.graph) → d ≡ is_did r
+      → TurnsOf (layout_of x.plan) (IsPlaying x) (IsPlaying (on_graph y g)) d (IsBack l)
+  back_turns y x is g l j h r d b J H keeps steps e i D =
+      subst (λ (z : PlayingValue S K). l < length z.plan.joints → j ≡ joint_of z.plan l → IsHandleAt z.graph j.giver h → TurnsOf (layout_of z.plan) (IsPlaying z) (IsPlaying (on_graph y g)) d (IsBack l)) is
+      (λ b J H. subst (λ (o : Bool). TurnsOf (layout_of y.plan) (IsPlaying y) (IsPlaying (on_graph y g)) o (IsBack l)) (sym D)
+      (handed_back y g l h b keeps r (subst (λ (k : Joint). IsHandleAt y.graph k.giver h) J H) (subst (λ (k : Joint). Steps (kept_of y.graph) (kept_of g) (λ w v. HandBack w h k.output r v)) J steps) e i))
+      b J H

@@ -1,0 +1,128 @@
+-- The component that a handle names, and whether its client object is in.
+use Rattle.std.proofs.Common.{◌≡◌, ℕ, zero, suc, ◌+◌, ◌<◌, ◌≤◌, Bool, true, false, nat_eq, eqb-true, if◌then◌else◌, List, [], ◌∷◌, length, map, slice_get, Option, Some, None, option_map, option_and_then, is_none, Result, Ok, Err, refl, sym, ◌∙◌, ap, subst, arith}
+use Rattle.std.proofs.lemmas.Bool.Decides.{nat_tests}
+use Rattle.std.proofs.lemmas.Bool.{and_parts}
+use Rattle.omx_types.specs.declared.handle.Handle.{Handle}
+use Rattle.il_machine.specs.World.{Component, World, is_at, number_of, place_of, same_handle}
+use Rattle.il_machine.specs.Answers.{component_named, looked}
+use Rattle.il_machine.specs.Look.{Look, look}
+use Rattle.il_machine.specs.Components.{handle_at, progress_answer, progress_of}
+use Rattle.il_machine.specs.declared.answer.Progress.{Progress}
+use Rattle.il_machine.specs.Whole.{Always, Stands}
+use Rattle.omx_types.specs.declared.error.OmxError.{OmxError}
+use Rattle.play_worlds.proofs.Lists.{get_there}
+use Rattle.il_machine.specs.Places.{first_place}
+use Rattle.il_machine.specs.Sound.{AreRising, Sound}
+use Rattle.il_machine.proofs.Places.{is_first_place}
+use Rattle.machine_laws.proofs.Finding.{either}
+use Rattle.machine_laws.proofs.Lookups.{rises_at}
+use Rattle.il_component.specs.Entries.{Entry, component_of}
+use Rattle.graph_core.specs.Entries.{Entries, client_named, components_of, entry_place}
+use Rattle.graph_core.proofs.Replacing.{entry_place_is}
+use Rattle.graph_core.proofs.Clients.{client_there}
+use Rattle.play_run.specs.Playing.{AreClientsIn, HasParts, IsHandleAt, IsProgressAt, PlayingValue, kept_of}
+
+same_itself : (h : Handle) → same_handle h h ≡ true
+same_itself h = grind (arith, nat_tests)
+
+-- the first of the handle is the one at the place, since numbers rise
+first_is : (from next : ℕ) (cs : List Component) (h : Handle) (i : ℕ) (c : Component) → AreRising from cs next → slice_get cs i ≡ Some c → c.handle ≡ h → first_place (is_at h) cs ≡ Some i
+first_is from next [] h i c R at e = absurd cc
+first_is from next (x ∷ cs) h zero c R at e =
+    let s : x ≡ c = cc in
+    let t : is_at h x ≡ true = rw (ap (λ (y : Component). y.handle) s ∙ e) (same_itself h) in
+    rw t refl
+first_is from next (x ∷ cs) h (suc i) c R at e =
+    let r = rises_at (suc (number_of x)) next i cs c R.1 at in
+    let n : number_of c ≡ h.generation = ap (λ (k : Handle). k.generation) e in
+    either (is_at h x)
+    (λ t.
+    let p = and_parts (nat_eq x.handle.slot h.slot) (nat_eq x.handle.generation h.generation) t in
+    let g : number_of x ≡ h.generation = eqb-true _ _ p.1 in
+    absurd (omega (arith, r.0, n, g)))
+    (λ f. rw f (ap (option_map suc) (first_is (suc (number_of x)) next cs h i c R.1 at e)))
+
+pub record IsThere (w : World) (place : ℕ) (h : Handle) : Type 0 where
+  pub component : Component
+  pub there : slice_get w.components place ≡ Some component
+  pub handle : component.handle ≡ h
+
+handle_there : (o : Option Component) (h : Handle) → option_map (λ c. c.handle) o ≡ Some h → (c : Component) × (o ≡ Some c) × (c.handle ≡ h)
+handle_there None h e = absurd cc
+handle_there (Some c) h e = (c, refl, cc)
+
+pub at_handle : (w : World) (place : ℕ) (h : Handle) → handle_at place (look w) ≡ Some h → IsThere w place h
+at_handle w place h e = let x = handle_there (slice_get w.components place) h e in record { component = x.0; there = x.1; handle = x.2 }
+
+pub named_at : (w : World) (place : ℕ) (h : Handle) → Sound w → handle_at place (look w) ≡ Some h → place_of h w.components ≡ Some place
+named_at w place h S e =
+    let x = at_handle w place h e in
+    is_first_place (is_at h) w.components ∙ first_is 0 w.numbered w.components h place x.component S.rising x.there x.handle
+
+-- ---- its client object
+
+entry_there : {C : Type 0} (es : List (Entry C)) (i : ℕ) (c : Component) → slice_get (components_of es) i ≡ Some c → (e : Entry C) × (slice_get es i ≡ Some e) × (component_of e ≡ c)
+entry_there [] i c at = absurd cc
+entry_there (e ∷ es) zero c at = (e, refl, cc)
+entry_there (e ∷ es) (suc i) c at = entry_there es i c at
+
+some_in : {C : Type 0} (o : Option C) → (Some o ≡ Some None → ⊥) → is_none o ≡ false
+some_in None n = absurd (n refl)
+some_in (Some x) n = refl
+
+pub client_is_in : {C : Type 0} (g : Entries C) (h : Handle) (place : ℕ) (c : Component) → AreClientsIn g → place_of h (components_of g.entries) ≡ Some place → slice_get (components_of g.entries) place ≡ Some c → c.client_out ≡ false
+client_is_in g h place c In p at =
+    let e = entry_there g.entries place c at in
+    let q = sym (entry_place_is h g.entries) ∙ p in
+    let named : client_named h g ≡ Some (e.0).queues.client = client_there g.entries place e.0 h q e.1 in
+    sym (ap (λ (d : Component). d.client_out) e.2) ∙ some_in (e.0).queues.client (λ n. In h (named ∙ n))
+
+-- ---- what was asked of the graph
+
+-- what it answers is what was told, in each world
+answered : (w : World) (h : Handle) (place : ℕ) (c : Component) (r : Result (Option Progress) OmxError) → place_of h w.components ≡ Some place → slice_get w.components place ≡ Some c → c.client_out ≡ false → r ≡ progress_answer h w → r ≡ Ok (Some (progress_of c w))
+answered w h place c r n e o A =
+    let named : component_named h w.components ≡ Some c = ap (option_and_then (slice_get w.components)) n ∙ e in
+    A ∙ (ap (λ (d : Option Component). looked d (λ y. Ok (if y.client_out then None else Some (progress_of y w)))) named ∙ ap (λ (b : Bool). Ok (if b then None else Some (progress_of c w))) o)
+
+module _ {S K : Type 0} where
+  pub part_there : (x : PlayingValue S K) (place : ℕ) → place < length x.plan.parts → (Y : HasParts x) → (c : Component) × (slice_get Y.world.components place ≡ Some c)
+  part_there x place b Y = let m = Y.many in get_there Y.world.components place (omega arith)
+
+  pub no_handle : (y x : PlayingValue S K) → y ≡ x → (place : ℕ) (o : Option Handle) → place < length x.plan.parts → HasParts x → Always (kept_of y.graph) (λ w. o ≡ handle_at place (look w)) → o ≡ None → ⊥
+  no_handle y x is place o b Y A e =
+      let c = part_there x place b Y in
+      let a : o ≡ handle_at place (look Y.world) = subst (λ (z : PlayingValue S K). Always (kept_of z.graph) (λ w. o ≡ handle_at place (look w))) is A Y.world Y.stands in
+      let there : handle_at place (look Y.world) ≡ Some (c.0).handle = ap (option_map (λ (d : Component). d.handle)) c.1 in
+      let z : None ≡ Some (c.0).handle = sym e ∙ (a ∙ there) in
+      absurd cc
+
+  pub some_handle : (y x : PlayingValue S K) → y ≡ x → (place : ℕ) (o : Option Handle) (h : Handle) → Always (kept_of y.graph) (λ w. o ≡ handle_at place (look w)) → o ≡ Some h → IsHandleAt x.graph place h
+  some_handle y x is place o h A e = λ w s. sym (subst (λ (z : PlayingValue S K). Always (kept_of z.graph) (λ w. o ≡ handle_at place (look w))) is A w s) ∙ e
+
+  -- the client object of each component is in
+  pub all_clients_in : (x : PlayingValue S K) → AreClientsIn x.graph.core → (w : World) → Stands (kept_of x.graph) w → (place : ℕ) (h : Handle) (c : Component) → place_of h w.components ≡ Some place → slice_get w.components place ≡ Some c → c.client_out ≡ false
+  all_clients_in x In w s place h c n e =
+      let same = ap (λ (l : Look). l.components) s.looks in
+      client_is_in x.graph.core h place c In (subst (λ (cs : List Component). place_of h cs ≡ Some place) same n) (subst (λ (cs : List Component). slice_get cs place ≡ Some c) same e)
+
+  module _ (y x : PlayingValue S K) (is : y ≡ x) (place : ℕ) (h : Handle) (r : Result (Option Progress) OmxError) (b : place < length x.plan.parts) (Y : HasParts x) (H : IsHandleAt x.graph place h) (A : Always (kept_of y.graph) (λ w. r ≡ progress_answer h w)) where
+    told_in : (w : World) → Stands (kept_of x.graph) w → Sound w → (c : Component) → slice_get w.components place ≡ Some c → r ≡ Ok (Some (progress_of c w))
+    told_in w s Z c e =
+        let n = named_at w place h Z (H w s) in
+        answered w h place c r n e (all_clients_in x Y.clients w s place h c n e) (subst (λ (z : PlayingValue S K). Always (kept_of z.graph) (λ w. r ≡ progress_answer h w)) is A w s)
+
+    pub some_told : (c : Component) × (r ≡ Ok (Some (progress_of c Y.world)))
+    some_told = let c = part_there x place b Y in (c.0, told_in Y.world Y.stands Y.sound c.0 c.1)
+
+    pub not_none : r ≡ Ok None → ⊥
+    not_none e = let z : Ok None ≡ Ok (Some (progress_of some_told.0 Y.world)) = sym e ∙ some_told.1 in absurd cc
+
+    pub not_err : (error : OmxError) → r ≡ Err error → ⊥
+    not_err error e = let z : Err error ≡ Ok (Some (progress_of some_told.0 Y.world)) = sym e ∙ some_told.1 in absurd cc
+
+    pub is_told : Always (kept_of y.graph) Sound → (progress : Progress) → r ≡ Ok (Some progress) → IsProgressAt x.graph place progress
+    is_told Z progress e = λ w s c f.
+        let t = told_in w s (subst (λ (z : PlayingValue S K). Always (kept_of z.graph) Sound) is Z w s) c f in
+        let z : Ok (Some progress) ≡ Ok (Some (progress_of c w)) = sym e ∙ t in
+        cc

@@ -1,0 +1,232 @@
+-- A work is claimed, done and brought back: a step of its component.
+use Rattle.std.proofs.Common.{◌≡◌, ◌≢◌, inl, inr, ◌<◌, ℕ, Bool, true, false, nat_eq, List, [], All, length, slice_get, Option, Some, None, Result, Ok, Err, refl, sym, ◌∙◌, ap, subst, eqb-true, eq-eqb, ne_eqb}
+use Rattle.std.specs.Prelude.{IfErr, IfOk, MatchOption, option_and_then}
+use Rattle.omx_types.specs.declared.handle.Handle.{Handle}
+use Rattle.omx_types.specs.declared.error.OmxError.{OmxError}
+use Rattle.omx_types.specs.declared.fault.PartFault.{PartFault}
+use Rattle.part_api.specs.Terms.{Terms}
+use Rattle.il_machine.specs.declared.answer.Progress.{Progress}
+use Rattle.il_machine.specs.World.{Component, Work, World, component_numbered, number_of}
+use Rattle.il_machine.specs.Acts as acts
+use Rattle.il_machine.specs.Run.{Meets}
+use Rattle.il_machine.specs.Claims.{Claim, Claimed, ClaimedWork, WorkSeen}
+use Rattle.il_machine.specs.Stepping.{WorkDone, IsAnnounced, IsDoneOf}
+use Rattle.il_machine.specs.Finishing.{Finish}
+use Rattle.il_machine.specs.Due.{IsClosed}
+use Rattle.il_machine.specs.Sound.{Sound}
+use Rattle.il_machine.specs.Whole.{Always, Kept, PartSeen, Stands, Steps, StepsWhere}
+use Rattle.machine_laws.proofs.Every.{at_place}
+use Rattle.machine_laws.proofs.Finding.{either}
+use Rattle.machine_laws.proofs.Keys.{there_is}
+use Rattle.machine_laws.proofs.Steps.{sound_step}
+use Rattle.history_laws.specs.Works.{has_work_out}
+use Rattle.history_laws.proofs.Freed.{none_comes, none_left}
+use Rattle.history_laws.proofs.Named.{is_named, named_there}
+use Rattle.graph_core.specs.Clients.{KeepsAllClients}
+use Rattle.il_graph.specs.Shown.{Shown, SoundWhole}
+use Rattle.il_graph.specs.Claiming.{IsSoFar, OnNoWork, told_by}
+use Rattle.il_flow.specs.Places.{carried_from}
+use Rattle.il_flow.specs.Works.{ComesBack, DoneOf, WorkOf, seen_done, seen_work}
+use Rattle.il_graph.specs.Finishing.{Returns}
+use Rattle.il_graph.proofs.Returning.{may_return}
+use Rattle.il_graph.specs.declared.claimed.Claimed.{Claimed as Given}
+use Rattle.il_graph.specs.declared.claimed.Claimed.TheVariants as given
+use Rattle.il_graph.proofs.Back.{number_named}
+use Rattle.play_model.specs.Play.{Play}
+use Rattle.play_model.specs.Acts.{Act, CanAct}
+use Rattle.play_loop.specs.Turns.{CanNone, SomePlay, TurnsOf}
+use Rattle.play_worlds.specs.Cast.{Cast, components_of, script_place}
+use Rattle.play_worlds.specs.Worlds.{IsPlayWorld, Names}
+use Rattle.play_worlds.proofs.Claims.{claim_accepted, claim_leads}
+use Rattle.play_worlds.proofs.Closings.{idle_closes}
+use Rattle.play_worlds.proofs.Finishes.{finish_leads}
+use Rattle.play_worlds.proofs.Sends.{actor_there}
+use Rattle.play_plans.specs.Casting.{place_of}
+use Rattle.play_run.specs.Playing.{HaveNoWork, IsHandleAt, IsPlaying, IsStanding, PlayingValue, cast, kept_of, layout_of}
+use Rattle.play_run.specs.Turning.{HasFailed, IsStepOf, outcome_of}
+use Rattle.play_run.proofs.Working.{all_in, none_out}
+use Rattle.play_run.proofs.Commanding.{component_named_in}
+use Rattle.play_run.proofs.Answering.{Came, keeps_in, on_graph, stays, turn_goes, turn_stays}
+
+-- the work of the component that the handle names went out, and came back from its step with that fault
+pub record IsWorked (h : Handle) (fault : Option PartFault) (w v : World) : Type 0 where
+  pub work : WorkSeen
+  pub between : World
+  pub goes : Claim w h (Ok (ClaimedWork work)) between
+  pub done : WorkDone
+  pub its : done.component ≡ h.generation
+  pub faults : done.fault ≡ fault
+  pub meets : Meets between (acts.Finish done)
+  pub comes : Finish between done v
+
+module _ (x : Cast) (p : Play) (w : World) (c : ℕ) (h : Handle) (W : IsPlayWorld x p w) (l : c < components_of x) (N : Names x w c h) (none : HaveNoWork w) where
+  number_is : h.generation ≡ script_place x c
+  number_is = let a = actor_there x p w c W l in sym (number_named h w.components (script_place x c) a.0 N a.1) ∙ (a.2).number
+
+  -- where no work was given, none can be done
+  pub none_claimed : (r : Result Claimed OmxError) (v : World) → Claim w h r v → ((work : WorkSeen) → r ≡ Ok (ClaimedWork work) → ⊥) → CanNone x.layout p (IsStepOf c)
+  none_claimed r v s never = λ t T C.
+      let a = actor_there x p w c W l in
+      let D : CanAct x.layout p (Act.Step c T.0 T.1) = subst (λ (y : Act). CanAct x.layout p y) T.2 C in
+      let g = claim_accepted x p w c T.0 T.1 h r v a.0 W D N a.1 (at_place (λ (d : Component). d.work ≡ None) w.components (script_place x c) a.0 none a.1) s in
+      never g.0 g.1
+
+  module _ (Z : IsClosed w) (fault : Option PartFault) (v : World) (U : IsWorked h fault w v) where
+    pub between_plays : IsPlayWorld x p U.between
+    between_plays = elim (claim_leads x p w c h (Ok (ClaimedWork U.work)) U.between W l N U.goes) [
+      | inl s ↦ subst (IsPlayWorld x p) (sym s) W
+      | inr L ↦ (idle_closes x p w U.between W Z L).0
+    ]
+
+    pub record IsOutThere : Type 0 where
+      pub component : Component
+      pub there : slice_get (U.between).components (script_place x c) ≡ Some component
+      pub work : Work
+      pub out : component.work ≡ Some work
+      pub done : IsDoneOf U.between component work U.done
+
+    out_there : IsOutThere
+    out_there =
+        let u = U.between in
+        let a = actor_there x p u c between_plays l in
+        let number : number_of a.0 ≡ (U.done).component = (a.2).number ∙ (sym number_is ∙ sym U.its) in
+        let named : component_numbered (U.done).component u ≡ Some a.0 =
+        subst (λ (n : ℕ). component_numbered n u ≡ Some a.0) number (is_named (number_of a.0) u ∙ named_there 0 u.numbered (script_place x c) u.components a.0 (between_plays.sound).rising a.1) in
+        let d = there_is (component_numbered (U.done).component u) (λ y. MatchOption y.work ⊥ (λ work. IsDoneOf u y work U.done)) U.meets in
+        let z : Some d.0 ≡ Some a.0 = sym d.1 ∙ named in
+        let same : d.0 ≡ a.0 = cc in
+        let k = there_is (d.0).work (λ work. IsDoneOf u d.0 work U.done) d.2 in
+        record {
+          component = a.0;
+          there = a.1;
+          work = k.0;
+          out = ap (λ (y : Component). y.work) (sym same) ∙ k.1;
+          done = subst (λ (y : Component). IsDoneOf u y k.0 U.done) same k.2;
+        }
+
+    between_sound : Sound U.between
+    between_sound = sound_step w U.between (acts.Claim h) (acts.Claimed (Ok (ClaimedWork U.work))) tt U.goes W.sound
+
+    -- it is in again, and so is each other
+    pub works_in : HaveNoWork v
+    works_in =
+        let u = U.between in
+        let k = (U.done).component in
+        all_in v (sound_step u v (acts.Finish U.done) acts.Finished U.meets U.comes between_sound) (λ n. either (nat_eq n k)
+        (λ t. subst (λ (j : ℕ). has_work_out j v ≡ false) (sym (eqb-true n k t)) (none_left u U.done v between_sound U.meets U.comes))
+        (λ f.
+        let other : nat_eq h.generation n ≡ false = ne_eqb h.generation n (λ q. let b : nat_eq n k ≡ true = eq-eqb n k (sym q ∙ sym U.its) in absurd cc) in
+        none_comes u (acts.Finish U.done) acts.Finished v n between_sound U.meets U.comes refl
+        (none_comes w (acts.Claim h) (acts.Claimed (Ok (ClaimedWork U.work))) u n W.sound tt U.goes other (none_out n w none))))
+
+  pub works_came : (Z : IsClosed w) (v : World) → IsWorked h None w v → Came x p v true (IsStepOf c)
+  works_came Z v U =
+      let O = out_there Z None v U in
+      let P = between_plays Z None v U in
+      let F = finish_leads x p U.between c O.component O.work U.done v P l O.there O.out (U.its ∙ number_is) O.done U.faults U.comes in
+      (Act.Step c (U.done).frames F.0, ((U.done).frames, F.0, refl), F.1, stays x.layout p (Act.Step c (U.done).frames F.0) refl (λ k. refl), F.2)
+
+-- ---- a claim, a run and a finish
+
+module _ {P : Type 0} (old mid new : Kept) (h : Handle) (t set_to : Terms) (work : WorkOf P) (done : DoneOf P) (p q : PartSeen) (sound : Always old Sound)
+    (goes : Steps old mid (λ w v. Claim w h (Ok (ClaimedWork (seen_work t work))) v × IsSoFar t v work.component.generation p)) (same : done.component ≡ work.component) (set_so : work.announces ≡ false → set_to ≡ t)
+    (step : work.announces ≡ false → ComesBack set_to (carried_from 0 work.headers) p done.component.generation done.frames done.fault (carried_from 0 done.headers) q)
+    (told : work.announces ≡ true → IsAnnounced (seen_done [] done)) (still : work.announces ≡ true → q ≡ p) where
+  returns : (w : World) (s : Stands old w) → (took : List ℕ) × Returns (goes w s).0 (seen_done took done) q
+  returns w s = let y = goes w s in may_return w y.0 h t set_to work done p q (sound w s) y.2.0 y.2.1 same set_so step told still
+
+  pub may_come : SoundWhole old → (w : World) × (took : List ℕ) × (Stands mid w × Returns w (seen_done took done) q)
+  may_come one = let y = goes one.world one.stands in let M = returns one.world one.stands in (y.0, M.0, (y.1, M.1))
+
+  pub worked : work.component ≡ h → (fault : Option PartFault) → done.fault ≡ fault
+      → ((took : List ℕ) → StepsWhere mid new (λ w. Returns w (seen_done took done) q) (λ w v. Finish w (seen_done took done) v))
+      → (w : World) → Stands old w → (v : World) × Stands new v × IsWorked h fault w v
+  worked its fault f ends w s =
+      let y = goes w s in
+      let M = returns w s in
+      let z = ends M.0 y.0 y.1 M.1 in (
+        z.0,
+        z.1,
+        record {
+          work = seen_work t work;
+          between = y.0;
+          goes = y.2.0;
+          done = seen_done M.0 done;
+          its = ap (λ (k : Handle). k.generation) (same ∙ its);
+          faults = f;
+          meets = M.1.0;
+          comes = z.2;
+        },
+      )
+
+-- ---- the calls
+
+module _ {S K : Type 0} {s : _} {k : _} where
+  pub no_work_same : {P : Type 0} (claimed : Given S K s k) → (t : Terms) → ((work : WorkSeen) → told_by t claimed ≡ ClaimedWork work → ⊥) → OnNoWork {E = OmxError} (Ok claimed) P → P
+  no_work_same (given.Work work) t never same = absurd (never (seen_work t work) refl)
+  no_work_same given.Busy t never same = same
+  no_work_same given.NotRunning t never same = same
+  no_work_same given.Ended t never same = same
+  no_work_same (given.Held port) t never same = same
+  no_work_same (given.NoData port) t never same = same
+  no_work_same (given.NoRoom port) t never same = same
+  no_work_same (given.Events room need) t never same = same
+
+module _ {S K : Type 0} where
+  -- no work was given
+  pub unclaimed_turns : (y x : PlayingValue S K) → y ≡ x → (g : Shown S K Progress) (c place : ℕ) (h : Handle) (r : Result Claimed OmxError) → c < length x.plan.parts → place ≡ place_of x.plan c → IsHandleAt x.graph place h
+      → ((w : World) → Stands (kept_of y.graph) w → (v : World) × Claim w h r v) → ((work : WorkSeen) → r ≡ Ok (ClaimedWork work) → ⊥) → g ≡ y.graph → TurnsOf (layout_of x.plan) (IsPlaying x) (IsPlaying (on_graph y g)) false (IsStepOf c)
+  unclaimed_turns y x is g c place h r b J H steps never same =
+      subst (λ (z : PlayingValue S K). c < length z.plan.parts → place ≡ place_of z.plan c → IsHandleAt z.graph place h → TurnsOf (layout_of z.plan) (IsPlaying z) (IsPlaying (on_graph y g)) false (IsStepOf c)) is
+      (λ b J H. turn_stays y g (IsStepOf c) same (λ p Y.
+      let Z = Y.standing in
+      let v = steps Z.world Z.stands in
+      none_claimed (cast y.plan) p Z.world c h Z.play b (component_named_in y c place h J H p Z) Z.works r v.0 v.1 never))
+      b J H
+
+  module _ (y x : PlayingValue S K) (is : y ≡ x) (m g : Shown S K Progress) (c place : ℕ) (h : Handle) (b : c < length x.plan.parts) (J : place ≡ place_of x.plan c) (H : IsHandleAt x.graph place h)
+      (closed : Always (kept_of y.graph) IsClosed) (K1 : KeepsAllClients y.graph.core m.core) (K2 : KeepsAllClients m.core g.core) where
+    pub step_turns : ((w : World) → Stands (kept_of y.graph) w → (v : World) × Stands (kept_of g) v × IsWorked h None w v) → TurnsOf (layout_of x.plan) (IsPlaying x) (IsPlaying (on_graph y g)) true (IsStepOf c)
+    step_turns worked =
+        subst (λ (z : PlayingValue S K). c < length z.plan.parts → place ≡ place_of z.plan c → IsHandleAt z.graph place h → TurnsOf (layout_of z.plan) (IsPlaying z) (IsPlaying (on_graph y g)) true (IsStepOf c)) is
+        (λ b J H p Y.
+        let Z = Y.standing in
+        let N = component_named_in y c place h J H p Z in
+        let v = worked Z.world Z.stands in
+        let shut = closed Z.world Z.stands in
+        turn_goes y g p v.0 true (IsStepOf c) Y v.1 (works_in (cast y.plan) p Z.world c h Z.play b N Z.works shut None v.0 v.2) (keeps_in m.core g.core K2 (keeps_in y.graph.core m.core K1 Z.clients)) (λ f. absurd cc)
+        (works_came (cast y.plan) p Z.world c h Z.play b N Z.works shut v.0 v.2))
+        b J H
+
+    pub step_fails : (fault : PartFault) → ((w : World) → Stands (kept_of y.graph) w → (v : World) × Stands (kept_of g) v × IsWorked h (Some fault) w v) → (p : Play) → IsPlaying x p → HasFailed (on_graph y g) fault
+    step_fails fault worked =
+        subst (λ (z : PlayingValue S K). c < length z.plan.parts → place ≡ place_of z.plan c → IsHandleAt z.graph place h → (p : Play) → IsPlaying z p → HasFailed (on_graph y g) fault) is
+        (λ b J H p Y.
+        let Z = Y.standing in
+        let N = component_named_in y c place h J H p Z in
+        let v = worked Z.world Z.stands in
+        let shut = closed Z.world Z.stands in
+        record {
+          world = v.0;
+          stands = v.1;
+          works = works_in (cast y.plan) p Z.world c h Z.play b N Z.works shut (Some fault) v.0 v.2;
+          clients = keeps_in m.core g.core K2 (keeps_in y.graph.core m.core K1 Z.clients);
+          play = p;
+          before = (v.2).between;
+          played = between_plays (cast y.plan) p Z.world c h Z.play b N Z.works shut (Some fault) v.0 v.2;
+          done = (v.2).done;
+          failed = (v.2).faults;
+          finishes = (v.2).comes;
+        })
+        b J H
+
+    -- by the fault of the step
+    pub step_turned : (fault : Option PartFault) (r : Result Bool PartFault) → r ≡ outcome_of fault → ((w : World) → Stands (kept_of y.graph) w → (v : World) × Stands (kept_of g) v × IsWorked h fault w v)
+        → IfOk r (λ acted. TurnsOf (layout_of x.plan) (IsPlaying x) (IsPlaying (on_graph y g)) acted (IsStepOf c))
+    step_turned None r e worked = subst (λ (q : Result Bool PartFault). IfOk q (λ acted. TurnsOf (layout_of x.plan) (IsPlaying x) (IsPlaying (on_graph y g)) acted (IsStepOf c))) (sym e) (step_turns worked)
+    step_turned (Some fault) r e worked = subst (λ (q : Result Bool PartFault). IfOk q (λ acted. TurnsOf (layout_of x.plan) (IsPlaying x) (IsPlaying (on_graph y g)) acted (IsStepOf c))) (sym e) tt
+
+    pub step_failed : (fault : Option PartFault) (r : Result Bool PartFault) → r ≡ outcome_of fault → ((w : World) → Stands (kept_of y.graph) w → (v : World) × Stands (kept_of g) v × IsWorked h fault w v)
+        → SomePlay (IsPlaying x) → IfErr r (HasFailed (on_graph y g))
+    step_failed None r e worked some = subst (λ (q : Result Bool PartFault). IfErr q (HasFailed (on_graph y g))) (sym e) tt
+    step_failed (Some fault) r e worked (p, Y) = subst (λ (q : Result Bool PartFault). IfErr q (HasFailed (on_graph y g))) (sym e) (step_fails fault worked p Y)

@@ -1,0 +1,268 @@
+-- A note is taken, told to its client object, and that goes back.
+use Rattle.std.proofs.Common.{◌≡◌, ◌≢◌, inl, inr, ◌<◌, ℕ, zero, suc, Bool, true, false, not, ◌&&◌, nat_eq, List, [], ◌∷◌, ◌++◌, set, length, slice_get, Option, Some, None, Result, Ok, Err, refl, sym, ◌∙◌, ap, subst, eq-eqb, arith}
+use Rattle.std.specs.Prelude.{IfOk, OnErr, filter, option_and_then}
+use Rattle.std.proofs.lemmas.Bool.{cases_eq}
+use Rattle.omx_types.specs.declared.handle.Handle.{Handle}
+use Rattle.omx_types.specs.declared.error.OmxError.{OmxError}
+use Rattle.omx_types.specs.declared.command.Completion.TheVariants as completions
+use Rattle.omx_types.specs.declared.command.Event.{Event}
+use Rattle.omx_types.specs.declared.command.Event.TheVariants.{BufferFlag, CmdComplete}
+use Rattle.omx_types.specs.declared.command.Note.{Note}
+use Rattle.omx_types.specs.declared.command.Note.TheVariants as notes
+use Rattle.il_machine.specs.declared.answer.Progress.{Progress}
+use Rattle.il_machine.specs.World.{Component, Given, World, is_at, number_of, place_of, same_handle}
+use Rattle.il_machine.specs.Answers.{component_named, plain}
+use Rattle.il_machine.specs.Acts as acts
+use Rattle.il_machine.specs.Run.{Meets}
+use Rattle.il_machine.specs.Components.{is_given_to, moved_by, no_progress, noted_by, progress_after, progress_of}
+use Rattle.il_machine.specs.Due.{ClosesTo, HappenTimes, Happens, IsClosed}
+use Rattle.il_machine.specs.Notes.{EndNote, TakeFrom, TakeNote, Taken, TakenEmpty, TakenEvent, TakenFilled, Took, TookNote, first_taken, with_given}
+use Rattle.il_machine.specs.Queued.{notes_given}
+use Rattle.il_machine.specs.Room.{is_event}
+use Rattle.il_machine.specs.Whole.{Always, Stands, Steps, StepsWhere}
+use Rattle.il_machine.proofs.Places.{is_first_place, place_set}
+use Rattle.machine_laws.proofs.Every.{set_there}
+use Rattle.machine_laws.proofs.Finding.{either}
+use Rattle.machine_laws.proofs.Keys.{at_there, is_there}
+use Rattle.machine_laws.proofs.Notices.{sound_given}
+use Rattle.machine_laws.proofs.Steps.{sound_step}
+use Rattle.note_queues.specs.Queues.{taken_of}
+use Rattle.note_queues.specs.declared.taken.Taken.{Taken as Given_}
+use Rattle.note_queues.specs.declared.taken.Taken.TheVariants as given
+use Rattle.graph_core.specs.Clients.{AreTold, IsPortDone, KeepsClients, WasTold}
+use Rattle.graph_core.specs.Entries.{Entries, client_named, client_of}
+use Rattle.graph_core.proofs.Registering.{same_fields}
+use Rattle.il_graph.specs.Shown.{Shown}
+use Rattle.il_graph.proofs.PortsDone.{done_moved}
+use Rattle.play_model.specs.Play.{Play}
+use Rattle.play_model.specs.Acts.{Act, CanAct}
+use Rattle.play_loop.specs.Turns.{CanNone, SomePlay, TurnsOf}
+use Rattle.play_worlds.specs.Cast.{Cast, components_of, script_place}
+use Rattle.play_worlds.specs.Standing.{target}
+use Rattle.play_worlds.specs.Telling.{notes_at, out_of, state_note}
+use Rattle.play_worlds.specs.Worlds.{IsPlayWorld, Names, ends_untold}
+use Rattle.play_worlds.proofs.Happenings.{happens_all, rests_all}
+use Rattle.play_worlds.proofs.Lists.{resolved}
+use Rattle.play_worlds.proofs.Notes.{an_event, takes, tell_end_leads, tell_leads}
+use Rattle.play_worlds.proofs.Sends.{actor_there}
+use Rattle.play_plans.specs.Casting.{place_of as place_in}
+use Rattle.play_run.specs.Playing.{AreClientsIn, IsHandleAt, IsPlaying, IsStanding, PlayingValue, cast, client_progress, kept_of, layout_of}
+use Rattle.play_run.specs.Turning.{IsEvent, IsTelling, told_by}
+use Rattle.play_run.proofs.Naming.{all_clients_in}
+use Rattle.play_run.proofs.Working.{still_none}
+use Rattle.play_run.proofs.Commanding.{component_named_in}
+use Rattle.play_run.proofs.Answering.{Came, on_graph, stays, tell_within, turn_goes, turn_stays}
+
+-- ---- a close-out in which nothing is due
+
+times_same : (x : Cast) (p : Play) (n : ℕ) (e v : World) → IsPlayWorld x p e → ((c : ℕ) → CanAct x.layout p (Act.Happen c) → ⊥) → HappenTimes n e v → v ≡ e
+times_same x p zero e v W R h = h
+times_same x p (suc n) e v W R h =
+    let s = times_same x p n e h.0 W R h.1 in
+    let L = happens_all x p e v W (subst (λ (y : World). Happens y v) s h.2) in
+    absurd (R L.0 L.1)
+
+closes_same : (x : Cast) (p : Play) (e v : World) → IsPlayWorld x p e → ((c : ℕ) → CanAct x.layout p (Act.Happen c) → ⊥) → ClosesTo e v → v ≡ e
+closes_same x p e v W R C = times_same x p C.steps e v W R C.by_steps
+
+-- ---- what is told
+
+progress_more : (number : ℕ) (gs : List Given) (note : Note) (p : Progress) → progress_after (filter (is_given_to number) (gs ++ record { component = number; note = note } ∷ [])) p ≡ noted_by note (progress_after (filter (is_given_to number) gs) p)
+progress_more number [] note p = let t : nat_eq number number ≡ true = eq-eqb number number refl in rw t refl
+progress_more number (g ∷ gs) note p = either (is_given_to number g)
+    (λ t. rw t (progress_more number gs note (noted_by g.note p)))
+    (λ f. rw f (progress_more number gs note p))
+
+first_told : (phase stage : ℕ) (b : Bool) → stage ≡ 3 → (n : Note) × (slice_get (notes_at phase stage b) 0 ≡ Some n)
+first_told phase stage b z = (notes.Told (CmdComplete (completions.State (target phase))), ap (λ (k : ℕ). slice_get (notes_at phase k b) 0) z)
+
+first_end : (xs : List Note) (n : Note) → (m : Note) × (slice_get (xs ++ n ∷ []) 0 ≡ Some m)
+first_end [] n = (n, refl)
+first_end (x ∷ xs) n = (x, refl)
+
+module _ (x : Cast) (p : Play) (w : World) (c : ℕ) (h : Handle) (W : IsPlayWorld x p w) (l : c < components_of x) (N : Names x w c h) (a : Component) (e : slice_get w.components (script_place x c) ≡ Some a) (o : a.client_out ≡ false) where
+  notes_are : a.notes ≡ notes_at p.phase (p.stage c) (ends_untold x p c)
+  notes_are = sym (ap (λ (b : Bool). out_of b (notes_given (number_of a) w) ++ a.notes) o) ∙ (W.actors c a l e).notes
+
+  -- what can be told stands in the queue
+  note_there : (t : Act) → IsTelling c t → CanAct x.layout p t → (n : Note) × (slice_get a.notes 0 ≡ Some n)
+  note_there t T C = elim T [
+    | inl s ↦
+        let D : CanAct x.layout p (Act.Tell c) = subst (λ (y : Act). CanAct x.layout p y) s C in
+        let f = first_told p.phase (p.stage c) (ends_untold x p c) D.1 in
+        (f.0, ap (λ (ns : List Note). slice_get ns 0) notes_are ∙ f.1)
+    | inr s ↦
+        let D : CanAct x.layout p (Act.TellEnd c) = subst (λ (y : Act). CanAct x.layout p y) s C in
+        let u : ends_untold x p c ≡ true = λ i. D.2 i && D.4 i && not (D.3 i) in
+        let f = first_end (state_note p.phase (p.stage c)) (notes.Told (BufferFlag 0 1)) in
+        (f.0, ap (λ (ns : List Note). slice_get ns 0) (notes_are ∙ ap (λ (b : Bool). notes_at p.phase (p.stage c) b) u) ∙ f.1)
+  ]
+
+  from_note : (r : Result Took OmxError) (v : World) → TakeNote w h r v → TakeFrom w (script_place x c) a false (slice_get a.notes 0) r v
+  from_note r v s = subst (λ (b : Bool). TakeFrom w (script_place x c) a b (slice_get a.notes 0) r v) o (resolved plain w h r v (λ i d. TakeFrom w i d d.client_out (slice_get d.notes 0) r v) (script_place x c) a N e s)
+
+  no_header : (r : Result Took OmxError) (v : World) (n : Note) → slice_get a.notes 0 ≡ Some n → is_event n ≡ true
+  no_header r v n f = an_event x p w c a W l e (W.actors c a l e) r v n o f
+
+  note_comes : (r : Result Took OmxError) (v : World) (n : Note) → slice_get a.notes 0 ≡ Some n → TakeFrom w (script_place x c) a false (Some n) r v → (taken : Taken) × (r ≡ Ok (TookNote taken))
+  note_comes r v (notes.Told event) f s = (TakenEvent event, s.0)
+  note_comes r v (notes.EmptyDone k) f s = let b : false ≡ true = no_header r v (notes.EmptyDone k) f in absurd cc
+  note_comes r v (notes.FillDone k) f s = let b : false ≡ true = no_header r v (notes.FillDone k) f in absurd cc
+
+  -- where no note came, nothing can be told
+  pub none_told : (r : Result Took OmxError) (v : World) → TakeNote w h r v → ((taken : Taken) → r ≡ Ok (TookNote taken) → ⊥) → CanNone x.layout p (IsTelling c)
+  none_told r v s never = λ t T C.
+      let n = note_there t T C in
+      let g = note_comes r v n.0 n.1 (subst (λ (y : Option Note). TakeFrom w (script_place x c) a false y r v) n.1 (from_note r v s)) in
+      never g.0 g.1
+
+  pub record IsTaken (taken : Taken) (v : World) : Type 0 where
+    pub event : Event
+    pub is : taken ≡ TakenEvent event
+    pub same : v ≡ with_given (script_place x c) a (notes.Told event) w
+    pub play : IsPlayWorld x p (with_given (script_place x c) a (notes.Told event) w)
+
+  by_oldest : (Z : IsClosed w) (taken : Taken) (v : World) (oldest : Option Note) → slice_get a.notes 0 ≡ oldest → TakeFrom w (script_place x c) a false oldest (Ok (TookNote taken)) v → IsTaken taken v
+  by_oldest Z taken v None f s = let b = s.0 in absurd cc
+  by_oldest Z taken v (Some (notes.Told event)) f s =
+      let b = s.0 in
+      let is : taken ≡ TakenEvent event = cc in
+      let S = sound_given w (script_place x c) a event W.sound e f in
+      let P = takes x p w c a (notes.Told event) W l e (W.actors c a l e) o f S in
+      record { event = event; is = is; same = closes_same x p (with_given (script_place x c) a (notes.Told event) w) v P (λ k C. rests_all x p w k W Z C) s.1; play = P }
+  by_oldest Z taken v (Some (notes.EmptyDone k)) f s = let b : false ≡ true = no_header (Ok (TookNote taken)) v (notes.EmptyDone k) f in absurd cc
+  by_oldest Z taken v (Some (notes.FillDone k)) f s = let b : false ≡ true = no_header (Ok (TookNote taken)) v (notes.FillDone k) f in absurd cc
+
+  pub taken_so : IsClosed w → (taken : Taken) (v : World) → TakeNote w h (Ok (TookNote taken)) v → IsTaken taken v
+  taken_so Z taken v s = by_oldest Z taken v (slice_get a.notes 0) refl (from_note (Ok (TookNote taken)) v s)
+
+  -- ---- the client object is out, and goes back
+
+  module _ (event : Event) where
+    abbrev mid : World
+    mid = with_given (script_place x c) a (notes.Told event) w
+
+    mid_there : slice_get mid.components (script_place x c) ≡ Some (first_taken a)
+    mid_there = set_there w.components (script_place x c) a (first_taken a) e
+
+    mid_named : Names x mid c h
+    mid_named =
+        let cs = set w.components (script_place x c) (first_taken a) in
+        is_first_place (is_at h) cs ∙ (place_set (is_at h) w.components (script_place x c) a (first_taken a) e refl ∙ (sym (is_first_place (is_at h) w.components) ∙ N))
+
+    then_named : component_named h mid.components ≡ Some (first_taken a)
+    then_named = ap (option_and_then (slice_get mid.components)) mid_named ∙ mid_there
+
+    told_then : (client : Progress) → WasTold h client w → moved_by event client ≡ progress_of (first_taken a) mid
+    told_then client k =
+        let named : component_named h w.components ≡ Some a = ap (option_and_then (slice_get w.components)) N ∙ e in
+        let is : client ≡ progress_of a w = at_there (component_named h w.components) (λ d. client ≡ progress_of d w) a named k in
+        ap (moved_by event) is ∙ sym (progress_more (number_of a) w.given (notes.Told event) no_progress)
+
+    pub knows : (client : Progress) → WasTold h client w → WasTold h (moved_by event client) mid
+    knows client k = is_there (component_named h mid.components) (λ d. moved_by event client ≡ progress_of d mid) (first_taken a) then_named (told_then client k)
+
+    pub meets : (client : Progress) → WasTold h client w → Meets mid (acts.EndNote h (moved_by event client))
+    meets client k = is_there (component_named h mid.components) (λ d. (d.client_out ≡ true) × (moved_by event client ≡ progress_of d mid)) (first_taken a) then_named (refl, told_then client k)
+
+    pub tells : IsPlayWorld x p mid → (u : World) → EndNote mid h u → Came x p u true (IsTelling c)
+    tells P u s = elim (cases_eq (p.stage c) 3) [
+      | inl z ↦ let t = tell_leads x p mid c h u (first_taken a) P l mid_named mid_there refl s z in (Act.Tell c, inl refl, t.0, tell_within x.layout p c, t.1)
+      | inr z ↦ let t = tell_end_leads x p mid c h u (first_taken a) P l mid_named mid_there refl s z in (Act.TellEnd c, inr refl, t.0, stays x.layout p (Act.TellEnd c) refl (λ k. refl), t.1)
+    ]
+
+-- ---- the calls
+
+event_is : (taken : Given_) (event : Event) → taken_of taken ≡ TakenEvent event → taken ≡ given.Told event
+event_is (given.Told one) event e = let s : one ≡ event = cc in ap given.Told s
+event_is (given.EmptyDone header) event e = absurd cc
+event_is (given.FillDone header) event e = absurd cc
+
+same_is : (h k : Handle) → same_handle h k ≡ true → h ≡ k
+same_is h k s = let f = same_fields h k s in λ j. record { slot = f.0 j; generation = f.1 j }
+
+in_after : {C : Type 0} (y m g : Entries C) (h : Handle) (told : C) → KeepsClients h y m → KeepsClients h m g → client_of h g ≡ Some told → AreClientsIn y → AreClientsIn g
+in_after y m g h told K L C In = λ k e. either (same_handle k h)
+    (λ t.
+    let n : client_named h g ≡ Some None = subst (λ (q : Handle). client_named q g ≡ Some None) (same_is k h t) e in
+    let z : None ≡ Some told = sym (ap (option_and_then (λ client. client)) n) ∙ C in
+    absurd cc)
+    (λ f. In k (sym (K k f) ∙ (sym (L k f) ∙ e)))
+
+module _ {S K : Type 0} where
+  -- nothing was taken
+  pub untold_turns : (y x : PlayingValue S K) → y ≡ x → (g : Shown S K Progress) (c place : ℕ) (h : Handle) (r : Result Took OmxError) → c < length x.plan.parts → place ≡ place_in x.plan c → IsHandleAt x.graph place h
+      → Steps (kept_of y.graph) (kept_of g) (λ w v. TakeNote w h r v) → ((taken : Taken) → r ≡ Ok (TookNote taken) → ⊥) → g ≡ y.graph → TurnsOf (layout_of x.plan) (IsPlaying x) (IsPlaying (on_graph y g)) false (IsTelling c)
+  untold_turns y x is g c place h r b J H steps never same =
+      subst (λ (z : PlayingValue S K). c < length z.plan.parts → place ≡ place_in z.plan c → IsHandleAt z.graph place h → TurnsOf (layout_of z.plan) (IsPlaying z) (IsPlaying (on_graph y g)) false (IsTelling c)) is
+      (λ b J H. turn_stays y g (IsTelling c) same (λ p Y.
+      let Z = Y.standing in
+      let w = Z.world in
+      let v = steps w Z.stands in
+      let N = component_named_in y c place h J H p Z in
+      let a = actor_there (cast y.plan) p w c Z.play b in
+      none_told (cast y.plan) p w c h Z.play b N a.0 a.1 (all_clients_in y Z.clients w Z.stands (script_place (cast y.plan) c) h a.0 N a.1) r v.0 v.2 never))
+      b J H
+
+  module _ (y : PlayingValue S K) (m : Shown S K Progress) (c place : ℕ) (h : Handle) (taken : Given_) (b : c < length y.plan.parts) (J : place ≡ place_in y.plan c) (H : IsHandleAt y.graph place h)
+      (takes_note : Steps (kept_of y.graph) (kept_of m) (λ w v. TakeNote w h (Ok (TookNote (taken_of taken))) v)) (closed : Always (kept_of y.graph) IsClosed) where
+    abbrev pub actor_in : (p : Play) (Z : IsStanding y p) → Component
+    actor_in p Z = (actor_there (cast y.plan) p Z.world c Z.play b).0
+
+    pub is_taken : (p : Play) (Z : IsStanding y p) → IsTaken (cast y.plan) p Z.world c h Z.play b (component_named_in y c place h J H p Z) (actor_in p Z) (actor_there (cast y.plan) p Z.world c Z.play b).1
+        (all_clients_in y Z.clients Z.world Z.stands (script_place (cast y.plan) c) h (actor_in p Z) (component_named_in y c place h J H p Z) (actor_there (cast y.plan) p Z.world c Z.play b).1) (taken_of taken) (takes_note Z.world Z.stands).0
+    is_taken p Z = let v = takes_note Z.world Z.stands in
+        taken_so (cast y.plan) p Z.world c h Z.play b (component_named_in y c place h J H p Z) (actor_in p Z) (actor_there (cast y.plan) p Z.world c Z.play b).1
+        (all_clients_in y Z.clients Z.world Z.stands (script_place (cast y.plan) c) h (actor_in p Z) (component_named_in y c place h J H p Z) (actor_there (cast y.plan) p Z.world c Z.play b).1)
+        (closed Z.world Z.stands) (taken_of taken) v.0 v.2
+
+    pub is_event_in : SomePlay (IsPlaying y) → IsEvent taken
+    is_event_in (p, Y) = let T = is_taken p Y.standing in subst IsEvent (sym (event_is taken T.event T.is)) tt
+
+    pub port_done_in : SomePlay (IsPlaying y) → (client told : Progress) → told ≡ told_by taken client → IsPortDone client.port → IsPortDone told.port
+    port_done_in (p, Y) client told t d =
+        let T = is_taken p Y.standing in
+        let is : told ≡ moved_by T.event client = t ∙ ap (λ (n : Given_). told_by n client) (event_is taken T.event T.is) in
+        subst (λ (q : Progress). IsPortDone q.port) (sym is) (done_moved T.event client d)
+
+    pub tell_turns_in : (g : Shown S K Progress) (client told : Progress) → told ≡ told_by taken client → Always (kept_of y.graph) (AreTold client_progress y.graph.core) → client_of h y.graph.core ≡ Some client
+        → KeepsClients h y.graph.core m.core → KeepsClients h m.core g.core → client_of h g.core ≡ Some told → StepsWhere (kept_of m) (kept_of g) (WasTold h told) (λ w v. EndNote w h v)
+        → TurnsOf (layout_of y.plan) (IsPlaying y) (IsPlaying (on_graph y g)) true (IsTelling c)
+    tell_turns_in g client told t knew has K1 K2 C ends = λ p Y.
+        let Z = Y.standing in
+        let x = cast y.plan in
+        let w = Z.world in
+        let N = component_named_in y c place h J H p Z in
+        let at = actor_there x p w c Z.play b in
+        let o = all_clients_in y Z.clients w Z.stands (script_place x c) h at.0 N at.1 in
+        let v = takes_note w Z.stands in
+        let T = is_taken p Z in
+        let middle : World = with_given (script_place x c) at.0 (notes.Told T.event) w in
+        let is : told ≡ moved_by T.event client = t ∙ ap (λ (n : Given_). told_by n client) (event_is taken T.event T.is) in
+        let told_before : WasTold h client w = knew w Z.stands h client has in
+        let known : WasTold h told middle = subst (λ (q : Progress). WasTold h q middle) (sym is) (knows x p w c h Z.play b N at.0 at.1 o T.event client told_before) in
+        let met : Meets middle (acts.EndNote h told) = subst (λ (q : Progress). Meets middle (acts.EndNote h q)) (sym is) (meets x p w c h Z.play b N at.0 at.1 o T.event client told_before) in
+        let stands = subst (Stands (kept_of m)) T.same v.1 in
+        let took = subst (λ (q : World). TakeNote w h (Ok (TookNote (taken_of taken))) q) T.same v.2 in
+        let u = ends middle stands known in
+        let sound = sound_step w middle (acts.TakeNote h) (acts.Took (Ok (TookNote (taken_of taken)))) tt took (Z.play).sound in
+        let works = still_none w (acts.TakeNote h) (acts.Took (Ok (TookNote (taken_of taken)))) middle (Z.play).sound tt took (λ n. refl) Z.works in
+        let after = still_none middle (acts.EndNote h told) acts.Ended u.0 sound met u.2 (λ n. refl) works in
+        turn_goes y g p u.0 true (IsTelling c) Y u.1 after (in_after y.graph.core m.core g.core h told K1 K2 C Z.clients) (λ f. absurd cc)
+        (tells x p w c h Z.play b N at.0 at.1 o T.event T.play u.0 u.2)
+
+  -- ---- of what is known where the calls were made
+
+  pub event_for : (y x : PlayingValue S K) → y ≡ x → (m : Shown S K Progress) (c place : ℕ) (h : Handle) (taken : Given_) → c < length x.plan.parts → place ≡ place_in x.plan c → IsHandleAt x.graph place h → SomePlay (IsPlaying x)
+      → Steps (kept_of y.graph) (kept_of m) (λ w v. TakeNote w h (Ok (TookNote (taken_of taken))) v) → Always (kept_of y.graph) IsClosed → IsEvent taken
+  event_for y x is m c place h taken b e H s takes_note closed =
+      subst (λ (z : PlayingValue S K). c < length z.plan.parts → place ≡ place_in z.plan c → IsHandleAt z.graph place h → SomePlay (IsPlaying z) → IsEvent taken) is
+      (λ b e H s. is_event_in y m c place h taken b e H takes_note closed s) b e H s
+
+  pub tell_turns : (y x : PlayingValue S K) → y ≡ x → (m g : Shown S K Progress) (c place : ℕ) (h : Handle) (taken : Given_) (client told : Progress) → c < length x.plan.parts → place ≡ place_in x.plan c → IsHandleAt x.graph place h
+      → Steps (kept_of y.graph) (kept_of m) (λ w v. TakeNote w h (Ok (TookNote (taken_of taken))) v) → Always (kept_of y.graph) IsClosed → told ≡ told_by taken client → Always (kept_of y.graph) (AreTold client_progress y.graph.core)
+      → client_of h y.graph.core ≡ Some client → KeepsClients h y.graph.core m.core → KeepsClients h m.core g.core → client_of h g.core ≡ Some told → StepsWhere (kept_of m) (kept_of g) (WasTold h told) (λ w v. EndNote w h v)
+      → TurnsOf (layout_of x.plan) (IsPlaying x) (IsPlaying (on_graph y g)) true (IsTelling c)
+  tell_turns y x is m g c place h taken client told b e H takes_note closed t knew has K1 K2 C ends =
+      subst (λ (z : PlayingValue S K). c < length z.plan.parts → place ≡ place_in z.plan c → IsHandleAt z.graph place h → TurnsOf (layout_of z.plan) (IsPlaying z) (IsPlaying (on_graph y g)) true (IsTelling c)) is
+      (λ b e H. tell_turns_in y m c place h taken b e H takes_note closed g client told t knew has K1 K2 C ends) b e H

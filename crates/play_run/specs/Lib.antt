@@ -1,0 +1,4 @@
+pub mod Opening
+pub mod Playing
+pub mod Sending
+pub mod Turning

@@ -1,0 +1,101 @@
+-- The plays that a graph with its conductor stands for.
+use Rattle.std.specs.Prelude.{◌≡◌, ◌≢◌, ◌<◌, ℕ, Bool, true, false, List, [], All, length, slice_get, Option, Some, None, Result, Ok, Err}
+use Rattle.omx_types.specs.declared.handle.Handle.{Handle}
+use Rattle.il_machine.specs.declared.answer.Acted.{Acted}
+use Rattle.il_machine.specs.declared.answer.Acted.TheVariants.{Did, Idle}
+use Rattle.il_machine.specs.declared.answer.Progress.{Progress}
+use Rattle.il_machine.specs.World.{Component, World}
+use Rattle.il_machine.specs.Look.{look}
+use Rattle.il_machine.specs.Sound.{Sound}
+use Rattle.il_machine.specs.Components.{handle_at, progress_of}
+use Rattle.il_machine.specs.Whole.{Always, Kept, Stands}
+use Rattle.graph_core.specs.Entries.{Entries, client_named}
+use Rattle.il_graph.specs.Shown.{Shown, kept}
+use Rattle.conductor.specs.Hearing.{ConductorValue}
+use Rattle.play_forms.specs.Plans.{IsValid, PlanValue}
+use Rattle.play_model.specs.Play.{Layout, Play}
+use Rattle.play_model.specs.Acts.{Act}
+use Rattle.play_worlds.specs.Cast.{Cast, components_of}
+use Rattle.play_worlds.specs.Worlds.{IsPlayWorld}
+use Rattle.play_plans.specs.Casting.{cast_of}
+use Rattle.play_plans.specs.Conducting.{HasSinks}
+
+-- a client object of a play is its progress
+abbrev pub client_progress : Progress → Progress
+client_progress client = client
+
+-- No port prefers a supplier, so the input supplies each link.
+abbrev pub cast : PlanValue → Cast
+cast plan = cast_of (λ l. false) plan
+
+abbrev pub layout_of : PlanValue → Layout
+layout_of plan = (cast plan).layout
+
+-- no component's work is out
+abbrev pub HaveNoWork : World → Type 0
+HaveNoWork w = All (λ (c : Component). c.work ≡ None) w.components
+
+-- The conductor knows the sinks, has heard each component, and has begun as many states as the play.
+pub record IsConducting (x : Cast) (p : Play) (value : ConductorValue) : Type 0 where
+  pub sinks : HasSinks x value
+  pub many : length value.told ≡ components_of x
+  pub early : value.lates ≡ []
+  pub sends : value.sends ≡ p.phase
+
+pub record PlayingValue (S K : Type 0) : Type 0 where
+  pub graph : Shown S K Progress
+  pub plan : PlanValue
+  pub conductor : ConductorValue
+
+-- each client object is in
+abbrev pub AreClientsIn : {C : Type 0} → Entries C → Type 0
+AreClientsIn g = (h : Handle) → client_named h g ≡ Some None → ⊥
+
+-- no state that was begun is still to be sent to a component
+abbrev pub AreSent : Layout → Play → Type 0
+AreSent w p = (c : ℕ) → c < (w.network).components → p.stage c ≢ 0
+
+module _ {S K : Type 0} where
+  abbrev pub kept_of : Shown S K Progress → Kept
+  kept_of graph = kept client_progress graph
+
+  -- The graph has a component for each of the plan's, and their client objects are in.
+  pub record HasParts (x : PlayingValue S K) : Type 0 where
+    pub world : World
+    pub stands : Stands (kept_of x.graph) world
+    pub sound : Sound world
+    pub valid : IsValid x.plan
+    pub many : length world.components ≡ length x.plan.parts
+    pub clients : AreClientsIn x.graph.core
+
+  -- The graph stands for a world of the play, in which no work and no client object is out.
+  pub record IsStanding (x : PlayingValue S K) (p : Play) : Type 0 where
+    pub world : World
+    pub stands : Stands (kept_of x.graph) world
+    pub play : IsPlayWorld (cast x.plan) p world
+    pub valid : IsValid x.plan
+    pub works : HaveNoWork world
+    pub clients : AreClientsIn x.graph.core
+    pub conducting : IsConducting (cast x.plan) p x.conductor
+
+  -- between two turns
+  pub record IsPlaying (x : PlayingValue S K) (p : Play) : Type 0 where
+    pub standing : IsStanding x p
+    pub sent : AreSent (layout_of x.plan) p
+
+  abbrev pub IsHandleAt : Shown S K Progress → ℕ → Handle → Type 0
+  IsHandleAt graph place h = Always (kept_of graph) (λ w. handle_at place (look w) ≡ Some h)
+
+  -- so much was told of the component at the place
+  abbrev pub IsProgressAt : Shown S K Progress → ℕ → Progress → Type 0
+  IsProgressAt graph place progress = Always (kept_of graph) (λ w. (c : Component) → slice_get w.components place ≡ Some c → progress ≡ progress_of c w)
+
+-- ---- what a call answers
+
+abbrev pub is_did : {E : Type 0} → Result Acted E → Bool
+is_did (Ok Did) = true
+is_did (Ok (Idle why)) = false
+is_did (Err e) = false
+
+abbrev pub IsAct : Act → Act → Type 0
+IsAct a b = b ≡ a

@@ -1,0 +1,58 @@
+-- The acts that a call of a play tries, and what a note tells.
+use Rattle.std.specs.Prelude.{◌≡◌, ◌⊎◌, ℕ, Bool, true, Option, None, Some, Result, Ok, Err}
+use Rattle.omx_types.specs.declared.command.Event.{Event}
+use Rattle.il_machine.specs.declared.answer.Progress.{Progress}
+use Rattle.il_machine.specs.Components.{moved_by}
+use Rattle.note_queues.specs.declared.taken.Taken.{Taken}
+use Rattle.note_queues.specs.declared.taken.Taken.TheVariants.{Told, EmptyDone, FillDone}
+use Rattle.omx_types.specs.declared.fault.PartFault.{PartFault}
+use Rattle.il_machine.specs.World.{World}
+use Rattle.il_machine.specs.Stepping.{WorkDone}
+use Rattle.il_machine.specs.Finishing.{Finish}
+use Rattle.il_machine.specs.Whole.{Stands}
+use Rattle.play_model.specs.Acts.{Act}
+use Rattle.play_model.specs.Play.{Play}
+use Rattle.play_worlds.specs.Worlds.{IsPlayWorld}
+use Rattle.play_run.specs.Playing.{AreClientsIn, HaveNoWork, PlayingValue, cast, kept_of}
+
+-- the other end of the link hands back a header that it filled or emptied, or one that it didn't use
+abbrev pub IsBack : ℕ → Act → Type 0
+IsBack l a = (a ≡ Act.HandBack l) ⊎ (a ≡ Act.HandUnused l)
+
+-- the component tells its state, or the end of its stream
+abbrev pub IsTelling : ℕ → Act → Type 0
+IsTelling c a = (a ≡ Act.Tell c) ⊎ (a ≡ Act.TellEnd c)
+
+abbrev pub IsStepOf : ℕ → Act → Type 0
+IsStepOf c a = (n : ℕ) × (last : Bool) × (a ≡ Act.Step c n last)
+
+-- the note is an event
+abbrev pub IsEvent : Taken → Type 0
+IsEvent (Told event) = Unit {0}
+IsEvent other = ⊥
+
+-- the progress of one who was told the note
+abbrev pub told_by : Taken → Progress → Progress
+told_by (Told event) client = moved_by event client
+told_by other client = client
+
+-- ---- a part fails
+
+-- what a step comes to, by its fault
+abbrev pub outcome_of : Option PartFault → Result Bool PartFault
+outcome_of None = Ok true
+outcome_of (Some fault) = Err fault
+
+module _ {S K : Type 0} where
+  -- The graph stands for what a step with that fault left of a world of the play. No work and no client object is out.
+  pub record HasFailed (x : PlayingValue S K) (fault : PartFault) : Type 0 where
+    pub world : World
+    pub stands : Stands (kept_of x.graph) world
+    pub works : HaveNoWork world
+    pub clients : AreClientsIn x.graph.core
+    pub play : Play
+    pub before : World
+    pub played : IsPlayWorld (cast x.plan) play before
+    pub done : WorkDone
+    pub failed : done.fault ≡ Some fault
+    pub finishes : Finish before done world

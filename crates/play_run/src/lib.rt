@@ -1,0 +1,12 @@
+//! A play on one thread: a graph with the components of a plan, and the conductor that brings them up and down again. The
+//! graph's calls make the acts of the play, and the loop of `play_loop` makes them until it is over.
+#![tactic(auto)]
+
+mod components;
+mod handles;
+mod links;
+mod player;
+mod playing;
+mod sending;
+
+pub use playing::Playing;

@@ -1,0 +1,50 @@
+//! A play is played by the loop of `play_loop`.
+
+use crate::playing::Playing;
+use omx_types::PartFault;
+use outside_io::{Sink, Source};
+use play_loop::Player;
+
+impl<S: Source, K: Sink> Player for Playing<S, K> {
+    ghost use Rattle.play_run.specs.Playing.{IsPlaying, layout_of};
+    ghost use Rattle.play_run.specs.Turning.{HasFailed};
+
+    type Fault = PartFault;
+
+    ghost layout = { λ x. layout_of x.plan };
+
+    ghost Plays = { λ x. IsPlaying x };
+
+    ghost HasFailed = { λ x. HasFailed x };
+
+    fn components(&self) -> u32 {
+        self.count()
+    }
+
+    fn links(&self) -> u32 {
+        self.link_count()
+    }
+
+    fn is_over(&self) -> bool {
+        self.have_told_all()
+    }
+
+    fn send(&mut self) -> bool {
+        self.conduct()
+    }
+
+    fn component_turn(&mut self, component: u32) -> Result<bool, PartFault> {
+        let told = self.tell(component);
+        let ran = self.run(component);
+        let stepped = self.step(component)?;
+        Ok(told | ran | stepped)
+    }
+
+    fn link_turn(&mut self, link: u32) -> bool {
+        let supplied = self.supply(link);
+        let released = self.release(link);
+        let over = self.hand_over(link);
+        let back = self.hand_back(link);
+        supplied | released | over | back
+    }
+}

@@ -1,0 +1,114 @@
+//! The conductor's turn: it hears what the components told, and a state that is due is sent to all.
+
+ghost use Rattle.std.specs.Prelude.{◌≡◌, ◌≤◌, true, false, length, take};
+ghost use Rattle.omx_types.specs.declared.state.State.TheVariants.{Loaded};
+ghost use Rattle.conductor.specs.Hearing.{heard};
+ghost use Rattle.conductor.specs.Phases.{Conducts, is_at};
+ghost use Rattle.play_model.specs.Reached.{IsOver};
+ghost use Rattle.play_model.specs.Play.{Play};
+ghost use Rattle.play_loop.specs.Turns.{IsSend, SomePlay, TurnsOf};
+ghost use Rattle.play_run.specs.Playing.{HasParts, IsPlaying, layout_of};
+ghost use Rattle.play_run.specs.Sending.{AreViews, CanSend, IsCalm, SentOf, state_in};
+
+use crate::playing::Playing;
+use conductor::{Conductor, Phase};
+use il_graph::{Command, Progress, State};
+use outside_io::{Sink, Source};
+
+/// Whether the last state that was told is Loaded.
+fn is_loaded(progress: Progress) -> bool
+    ensures { result ≡ is_at Loaded progress.state }
+{
+    matches!(progress.state, Some(State::Loaded))
+}
+
+/// What the conductor answers by the views of its components, which are the first of these.
+fn hear(conductor: &mut Conductor, views: &[Option<Progress>; 32], count: usize) -> Phase
+    requires few { count ≤ 32 }
+    requires many { count ≡ length conductor.old.told }
+    ensures { Conducts (heard conductor.old (take count views.now)) result conductor.new }
+{
+    conductor.next(&views[..count])
+}
+
+/// The state that is to be sent.
+fn state_of(phase: Phase) -> Option<State>
+    requires { IsCalm phase }
+    ensures { result ≡ state_in phase }
+{
+    match phase {
+        Phase::Send(state) => Some(state),
+        Phase::Wait => None,
+        Phase::Over => None,
+        Phase::Failed => unreachable!(),
+        Phase::Change {
+            component: _,
+            step: _,
+        } => unreachable!(),
+    }
+}
+
+impl<S: Source, K: Sink> Playing<S, K> {
+    /// What each component has told, in script order.
+    fn look(&self) -> [Option<Progress>; 32]
+        requires { HasParts self.now }
+        ensures many { length result ≡ 32 }
+        ensures views { AreViews self.now.graph result (length self.now.plan.parts) }
+    {
+        let mut views = [None; 32];
+        for place in 0..self.count() {
+            let progress = self.progress(place);
+            views[place as usize] = Some(progress);
+        }
+        views
+    }
+
+    /// Sends the state to all.
+    fn send_all(&mut self, state: State)
+        requires { CanSend self.old state }
+        ensures plan { self.new.plan ≡ self.old.plan }
+        ensures sent { SentOf self.old self.new state }
+    {
+        for place in 0..self.count() {
+            let h = self.handle(place);
+            let _ = self.graph.send_command(h, Command::StateSet(state));
+        }
+    }
+
+    /// The state that is due, if one is, is sent to all.
+    pub(crate) fn conduct(&mut self) -> bool
+        requires { SomePlay (IsPlaying self.old) }
+        ensures plan { self.new.plan ≡ self.old.plan }
+        ensures turned { TurnsOf (layout_of self.old.plan) (IsPlaying self.old) (IsPlaying self.new) result IsSend }
+    {
+        let views = self.look();
+        let count = self.count() as usize;
+        let phase = hear(&mut self.conductor, &views, count);
+        match state_of(phase) {
+            Some(state) => {
+                self.send_all(state);
+                self.graph.law_of_worlds();
+                true
+            }
+            None => false,
+        }
+    }
+
+    /// Whether all have told the last Loaded.
+    pub(crate) fn have_told_all(&self) -> bool
+        requires { SomePlay (IsPlaying self.now) }
+        ensures yes { result ≡ true → (p : Play) → IsPlaying self.now p → IsOver (layout_of self.now.plan) p }
+        ensures nope { result ≡ false → (p : Play) → IsPlaying self.now p → IsOver (layout_of self.now.plan) p → ⊥ }
+    {
+        if self.conductor.sends() != 4 {
+            return false;
+        }
+        for place in 0..self.count() {
+            let progress = self.progress(place);
+            if !is_loaded(progress) {
+                return false;
+            }
+        }
+        true
+    }
+}
