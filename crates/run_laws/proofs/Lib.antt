@@ -1,4 +1,6 @@
 pub mod Joining
 pub mod Naming
+pub mod Remaining
+pub mod Seats
 pub mod Delivering
 pub mod Objects

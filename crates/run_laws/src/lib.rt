@@ -11,7 +11,7 @@ ghost use Rattle.il_machine.specs.Answers.{component_named};
 ghost use Rattle.il_machine.specs.Acts.{Act, Reply};
 ghost use Rattle.il_machine.specs.Acts as acts;
 ghost use Rattle.il_machine.specs.Notes.{Took, TookBusy};
-ghost use Rattle.il_machine.specs.Run.{Step, Run};
+ghost use Rattle.il_machine.specs.Run.{Meets, Step, Run};
 ghost use Rattle.il_machine.specs.Sound.{Sound};
 ghost use Rattle.il_machine.specs.Queued.{notes_given, notes_of, queued_for};
 ghost use Rattle.il_machine.specs.Trails.{Move, RunMoves};
@@ -26,12 +26,19 @@ pub fn law_of_joined_runs()
     ensures moves { (w v : World) (xs : List (Act × Reply)) → Run w xs v → (ms : List Move) × RunMoves w xs ms v }
 {}
 
-/// A component's own handle names it and has a number that was given, and no other component has that number.
+/// A component's own handle names it and has a number that was given, and no other component has that number. A handle names its component
+/// as long as that isn't freed.
 pub fn law_of_handles()
     ensures own { (w : World) (i : ℕ) (c : Component) → Sound w → slice_get w.components i ≡ Some c → component_named c.handle w.components ≡ Some c }
     ensures below { (w : World) (h : Handle) (c : Component) → Sound w → component_named h w.components ≡ Some c → h.generation < w.numbered }
     ensures one { (w : World) (h k : Handle) (c d : Component)
         → Sound w → component_named h w.components ≡ Some c → component_named k w.components ≡ Some d → h.generation ≡ k.generation → h ≡ k }
+    ensures stays { (w : World) (a : Act) (r : Reply) (v : World) (h : Handle) (c : Component)
+        → Sound w → Meets w a → Step w a r v → is_freed_by h.generation a r ≡ false → component_named h w.components ≡ Some c
+        → (d : Component) × (component_named h v.components ≡ Some d) }
+    ensures numbered { (w : World) (a : Act) (r : Reply) (v : World) (h : Handle) (c d : Component)
+        → Sound w → Meets w a → Step w a r v → component_named h w.components ≡ Some c
+        → component_numbered h.generation v ≡ Some d → component_named h v.components ≡ Some d }
 {}
 
 /// What the acts of a run gave with a component's client object is, in their order and each once, what was given for the component beyond
