@@ -35,7 +35,7 @@ use Rattle.play_worlds.proofs.Handing.{over_can, over_leads}
 use Rattle.play_worlds.proofs.Returns.{back_can, back_leads}
 use Rattle.play_worlds.proofs.Leftovers.{unused_can, unused_leads}
 use Rattle.play_plans.specs.Casting.{IsLinkCast, flow_of, joint_of, no_joint}
-use Rattle.play_plans.proofs.Casting.{takers_within}
+use Rattle.play_plans.proofs.Links.{takers_within}
 use Rattle.play_plans.proofs.Casts.{plan_has_cast}
 use Rattle.play_run.specs.Playing.{IsAct, IsHandleAt, IsPlaying, IsStanding, PlayingValue, cast, is_did, kept_of, layout_of}
 use Rattle.play_run.specs.Turning.{IsBack}
