@@ -1,11 +1,10 @@
 -- What a call came to in the world of a play, and so what its turn leads to.
-use Rattle.std.proofs.Common.{◌≡◌, ◌≢◌, ◌<◌, ℕ, Bool, true, false, nat_eq, eqb-true, if◌then◌else◌, List, [], ◌∷◌, length, Some, None, Ok, Err, Result, refl, sym, ◌∙◌, ap, subst, arith}
+use Rattle.std.proofs.Common.{◌≡◌, ◌≢◌, ℕ, Bool, true, false, nat_eq, eqb-true, if◌then◌else◌, List, [], ◌∷◌, Ok, Err, Result, refl, sym, ◌∙◌, ap, subst, arith}
 use Rattle.machine_laws.proofs.Finding.{either}
-use Rattle.omx_types.specs.declared.handle.Handle.{Handle}
 use Rattle.il_machine.specs.declared.answer.Acted.{Acted}
 use Rattle.il_machine.specs.declared.answer.Acted.TheVariants.{Did, Idle}
 use Rattle.il_machine.specs.declared.answer.Progress.{Progress}
-use Rattle.il_machine.specs.World.{World, place_of}
+use Rattle.il_machine.specs.World.{World}
 use Rattle.il_machine.specs.Due.{IsClosed}
 use Rattle.il_machine.specs.Whole.{Stands}
 use Rattle.std.specs.Prelude.{OnErr}

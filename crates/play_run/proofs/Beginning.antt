@@ -1,33 +1,27 @@
 -- Where the graph of a plan stands before its play, the play begins.
-use Rattle.std.proofs.Common.{◌≡◌, ◌≢◌, ◌<◌, ◌≤◌, ℕ, zero, suc, Bool, true, false, List, [], ◌∷◌, ◌++◌, length, map, replicate, slice_get, Option, Some, None, find, refl, sym, ◌∙◌, ap, subst, arith}
+use Rattle.std.proofs.Common.{◌≡◌, ◌<◌, ℕ, zero, suc, false, List, [], ◌∷◌, ◌++◌, length, map, replicate, slice_get, Option, Some, None, refl, sym, ◌∙◌, ap, subst, arith}
 use Rattle.std.proofs.lemmas.Option.{slice_get_within}
-use Rattle.il_machine.specs.declared.answer.Progress.{Progress}
-use Rattle.il_machine.specs.World.{Component, World}
+use Rattle.il_machine.specs.World.{Component}
 use Rattle.il_machine.specs.Components.{no_progress}
 use Rattle.il_machine.specs.Due.{IsClosed}
 use Rattle.il_machine.specs.Kinds.{is_sink}
 use Rattle.il_machine.specs.Whole.{Always}
 use Rattle.machine_laws.proofs.Every.{from_places}
 use Rattle.part_forms.specs.Kinds.{is_late}
-use Rattle.il_graph.specs.Shown.{Shown}
 use Rattle.script_lang.specs.declared.play_line.PartForm.{PartForm}
 use Rattle.script_lang.specs.declared.play_line.PartForm.TheVariants as forms
 use Rattle.script_lang.specs.declared.play_line.PartLine.{PartLine}
 use Rattle.play_forms.specs.declared.joint.Joint.{Joint}
 use Rattle.play_forms.specs.Parts.{kind_of, passes_at}
-use Rattle.play_forms.specs.Plans.{IsValid, PlanValue}
 use Rattle.conductor.specs.Casting.{is_sink as is_sink_form, late_link, late_links, link_from}
 use Rattle.conductor.specs.Casting as conductors
-use Rattle.conductor.specs.Hearing.{ConductorValue}
-use Rattle.play_model.specs.Play.{Play}
 use Rattle.play_loop.specs.Turns.{CanPlay}
 use Rattle.play_worlds.specs.Cast.{components_of, script_place}
 use Rattle.play_worlds.specs.Openings.{opening}
-use Rattle.play_worlds.proofs.Lists.{get_there}
 use Rattle.play_worlds.proofs.Openings.{opens}
 use Rattle.play_plans.specs.Conducting.{HasSinks}
-use Rattle.play_run.specs.Playing.{HaveNoWork, IsConducting, IsPlaying, IsStanding, PlayingValue, cast, kept_of, layout_of}
-use Rattle.play_run.specs.Opening.{HasNoLate, IsOpeningGraph}
+use Rattle.play_run.specs.Playing.{HaveNoWork, IsConducting, IsPlaying, PlayingValue, cast, kept_of, layout_of}
+use Rattle.play_run.specs.Opening.{IsOpeningGraph}
 use Rattle.play_run.proofs.Answering.{rests_there}
 use Rattle.play_run.proofs.Counting.{few_acts}
 

@@ -1,5 +1,5 @@
 -- A state that was begun is sent to each component, and nothing that is sent makes another one due.
-use Rattle.std.proofs.Common.{◌≡◌, ◌≢◌, inl, inr, ◌+◌, ◌<◌, ◌≤◌, ℕ, Bool, true, false, nat_eq, if◌then◌else◌, List, [], ◌∷◌, length, map, set, take, slice_get, Option, Some, None, option_map, Result, Ok, Err, refl, sym, ◌∙◌, ap, subst, eqb-true, eq-eqb, ne_eqb, arith}
+use Rattle.std.proofs.Common.{◌≡◌, ◌≢◌, ◌+◌, ◌<◌, ◌≤◌, ℕ, Bool, true, false, nat_eq, List, [], ◌∷◌, length, map, set, take, slice_get, Option, Some, None, option_map, Result, refl, sym, ◌∙◌, ap, subst, eqb-true, eq-eqb, ne_eqb, arith}
 use Rattle.std.specs.Prelude.{filter}
 use Rattle.std.proofs.lemmas.List.{length-take-le}
 use Rattle.omx_types.specs.declared.handle.Handle.{Handle}
@@ -13,7 +13,7 @@ use Rattle.il_machine.specs.Queued.{notes_given}
 use Rattle.il_machine.specs.Acts as acts
 use Rattle.il_machine.specs.Commands.{SendCommand}
 use Rattle.il_machine.specs.Due.{IsClosed}
-use Rattle.il_machine.specs.Whole.{Always, Stands, Steps}
+use Rattle.il_machine.specs.Whole.{Always, Steps}
 use Rattle.machine_laws.proofs.Finding.{either}
 use Rattle.graph_core.specs.Clients.{KeepsAllClients}
 use Rattle.il_graph.specs.Shown.{Shown}
@@ -25,7 +25,7 @@ use Rattle.conductor.specs.Phases.{Conducts}
 use Rattle.play_forms.specs.Plans.{PlanValue}
 use Rattle.play_model.specs.Play.{Layout, Play}
 use Rattle.play_model.specs.Acts.{Act, CanAct, acted, all_acted}
-use Rattle.play_loop.specs.Turns.{CanNone, HasRun, IsAtRest, IsSend, SomePlay, Turned, TurnsOf}
+use Rattle.play_loop.specs.Turns.{CanNone, IsAtRest, IsSend, SomePlay, Turned, TurnsOf}
 use Rattle.play_loop.proofs.Running.{no_run, run_more}
 use Rattle.play_worlds.specs.Cast.{Cast, components_of, script_place}
 use Rattle.play_worlds.specs.Standing.{target}
@@ -39,10 +39,10 @@ use Rattle.stream_plan.proofs.Lists.{set_at, set_other, slice_get_front}
 use Rattle.play_plans.specs.Conducting.{HasViews, IsConductorOf}
 use Rattle.play_plans.proofs.Conducting.{conductor_hears, conductor_over, conductor_sends, conductor_steady, conductor_waits, conductor_whole}
 use Rattle.play_run.specs.Playing.{HasParts, IsConducting, IsHandleAt, IsPlaying, IsProgressAt, IsStanding, PlayingValue, cast, kept_of, layout_of}
-use Rattle.play_run.specs.Sending.{AreViews, CanSend, IsCalm, IsOnSend, IsSentTo, IsUnsent, SendsTo, SentOf, state_in}
+use Rattle.play_run.specs.Sending.{AreViews, CanSend, IsCalm, IsOnSend, IsUnsent, SendsTo, SentOf, state_in}
 use Rattle.play_run.proofs.Naming.{all_clients_in, named_at}
 use Rattle.play_run.proofs.Working.{still_none}
-use Rattle.play_run.proofs.Answering.{goes_to, happened_phase, happened_sent, happened_unsent, keeps_in, on_graph, parts_of, rests_there, stands_then}
+use Rattle.play_run.proofs.Answering.{happened_phase, happened_sent, happened_unsent, keeps_in, on_graph, parts_of, rests_there, stands_then}
 
 -- ---- the stages
 

@@ -1,5 +1,5 @@
 -- How many acts a play has at most.
-use Rattle.std.proofs.Common.{◌≡◌, ◌+◌, ◌*◌, ◌<◌, ◌≤◌, ℕ, zero, suc, Bool, true, false, length, refl, arith}
+use Rattle.std.proofs.Common.{◌≡◌, ◌+◌, ◌*◌, ◌<◌, ◌≤◌, ℕ, zero, suc, false, arith}
 use Rattle.std.proofs.Math.Nat.{mul-le-mul}
 use Rattle.machine_laws.proofs.Finding.{either}
 use Rattle.flow_model.specs.Network.{Network}

@@ -1,9 +1,7 @@
 -- A play is over exactly where the fourth state was begun and each component has told Loaded last.
-use Rattle.std.proofs.Common.{◌≡◌, ◌≢◌, ◌<◌, ◌≤◌, ℕ, true, false, nat_eq, length, slice_get, Some, refl, sym, ◌∙◌, ap, subst, eqb-true, eq-eqb, arith}
+use Rattle.std.proofs.Common.{◌≡◌, ◌≢◌, ◌<◌, ℕ, true, false, nat_eq, length, sym, ◌∙◌, ap, subst, eqb-true, eq-eqb, arith}
 use Rattle.omx_types.specs.declared.state.State.TheVariants.{Loaded}
 use Rattle.il_machine.specs.declared.answer.Progress.{Progress}
-use Rattle.il_machine.specs.World.{Component}
-use Rattle.il_machine.specs.Components.{progress_of}
 use Rattle.conductor.specs.Phases.{is_at}
 use Rattle.play_model.specs.Play.{Play}
 use Rattle.play_model.specs.Reached.{IsOver}

@@ -1,7 +1,7 @@
 -- The calls of a link's turn.
-use Rattle.std.proofs.Common.{◌≡◌, ◌⊎◌, inl, inr, ◌<◌, ◌≤◌, ℕ, Bool, true, false, length, slice_get, Some, Ok, Err, Result, refl, sym, ◌∙◌, ap, subst, arith}
+use Rattle.std.proofs.Common.{◌≡◌, inl, inr, ◌<◌, ℕ, Bool, false, length, Some, Ok, Err, Result, refl, sym, ◌∙◌, ap, subst, arith}
 use Rattle.std.specs.Prelude.{OnErr}
-use Rattle.std.proofs.lemmas.Option.{get_or_from_slice_get, slice_get-get_or}
+use Rattle.std.proofs.lemmas.Option.{slice_get-get_or}
 use Rattle.omx_types.specs.declared.handle.Handle.{Handle}
 use Rattle.omx_types.specs.declared.error.OmxError.{OmxError}
 use Rattle.omx_types.specs.declared.error.CallError.{CallError}
@@ -12,10 +12,8 @@ use Rattle.il_machine.specs.World.{World}
 use Rattle.il_machine.specs.Lists.{is_empty}
 use Rattle.il_machine.specs.Headers.{seen}
 use Rattle.il_machine.specs.Acts as acts
-use Rattle.il_machine.specs.Run.{Meets, Step}
 use Rattle.il_machine.specs.Flow.{HandBack, HandOver, Release, Supply}
 use Rattle.il_machine.specs.Whole.{Steps}
-use Rattle.history_laws.specs.Works.{takes_work}
 use Rattle.machine_laws.proofs.Finding.{either}
 use Rattle.graph_core.specs.Clients.{KeepsAllClients}
 use Rattle.il_graph.specs.Shown.{Shown}
@@ -25,10 +23,10 @@ use Rattle.play_forms.specs.Flows.{no_flow}
 use Rattle.play_forms.proofs.Plainly.{givers_within}
 use Rattle.play_forms.specs.Plans.{IsValid, PlanValue}
 use Rattle.play_model.specs.Play.{Play}
-use Rattle.play_model.specs.Acts.{Act, CanAct, acted}
+use Rattle.play_model.specs.Acts.{Act, CanAct}
 use Rattle.play_loop.specs.Turns.{TurnsOf}
-use Rattle.play_worlds.specs.Cast.{away_at, components_of, giver_of, home_at, links_of, script_place, taker_of}
-use Rattle.play_worlds.specs.Worlds.{IsPlayWorld, LeadsTo, Names}
+use Rattle.play_worlds.specs.Cast.{away_at, giver_of, taker_of}
+use Rattle.play_worlds.specs.Worlds.{IsPlayWorld, Names}
 use Rattle.play_worlds.proofs.Making.{supply_can, supply_leads}
 use Rattle.play_worlds.proofs.Releasing.{release_can, release_leads}
 use Rattle.play_worlds.proofs.Handing.{over_can, over_leads}

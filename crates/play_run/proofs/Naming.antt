@@ -1,5 +1,5 @@
 -- The component that a handle names, and whether its client object is in.
-use Rattle.std.proofs.Common.{◌≡◌, ℕ, zero, suc, ◌+◌, ◌<◌, ◌≤◌, Bool, true, false, nat_eq, eqb-true, if◌then◌else◌, List, [], ◌∷◌, length, map, slice_get, Option, Some, None, option_map, option_and_then, is_none, Result, Ok, Err, refl, sym, ◌∙◌, ap, subst, arith}
+use Rattle.std.proofs.Common.{◌≡◌, ℕ, zero, suc, ◌<◌, Bool, true, false, nat_eq, eqb-true, if◌then◌else◌, List, [], ◌∷◌, length, slice_get, Option, Some, None, option_map, option_and_then, is_none, Result, Ok, Err, refl, sym, ◌∙◌, ap, subst, arith}
 use Rattle.std.proofs.lemmas.Bool.Decides.{nat_tests}
 use Rattle.std.proofs.lemmas.Bool.{and_parts}
 use Rattle.omx_types.specs.declared.handle.Handle.{Handle}
@@ -17,7 +17,7 @@ use Rattle.il_machine.proofs.Places.{is_first_place}
 use Rattle.machine_laws.proofs.Finding.{either}
 use Rattle.machine_laws.proofs.Lookups.{rises_at}
 use Rattle.il_component.specs.Entries.{Entry, component_of}
-use Rattle.graph_core.specs.Entries.{Entries, client_named, components_of, entry_place}
+use Rattle.graph_core.specs.Entries.{Entries, client_named, components_of}
 use Rattle.graph_core.proofs.Replacing.{entry_place_is}
 use Rattle.graph_core.proofs.Clients.{client_there}
 use Rattle.play_run.specs.Playing.{AreClientsIn, HasParts, IsHandleAt, IsProgressAt, PlayingValue, kept_of}

@@ -1,12 +1,12 @@
 -- The turns of a link and of a component, made of their calls.
-use Rattle.std.proofs.Common.{◌≡◌, ◌⊎◌, inl, inr, ◌<◌, ◌≤◌, ℕ, zero, suc, Bool, true, false, ◌||◌, length, refl, sym, ◌∙◌, ap, subst, arith}
+use Rattle.std.proofs.Common.{◌≡◌, inl, inr, ◌<◌, ◌≤◌, ℕ, zero, suc, Bool, true, false, ◌||◌, length, ap, subst, arith}
 use Rattle.play_forms.specs.Plans.{PlanValue}
 use Rattle.flow_model.specs.Progress.{sum_to}
 use Rattle.play_model.specs.Play.{Layout, Play}
-use Rattle.play_model.specs.Acts.{Act, CanAct}
+use Rattle.play_model.specs.Acts.{Act}
 use Rattle.play_loop.specs.Turns.{CanNone, IsOfComponent, IsOfLink, SomePlay, Turned, TurnsOf}
 use Rattle.play_loop.proofs.Running.{OfBoth, some_then, turn_of, turns_more}
-use Rattle.play_run.specs.Playing.{IsAct, IsPlaying, PlayingValue, cast, layout_of}
+use Rattle.play_run.specs.Playing.{IsAct, IsPlaying, PlayingValue, layout_of}
 use Rattle.play_run.specs.Turning.{IsBack, IsStepOf, IsTelling}
 
 module _ {S K : Type 0} where

@@ -1,6 +1,6 @@
 -- A work is claimed, done and brought back: a step of its component.
-use Rattle.std.proofs.Common.{◌≡◌, ◌≢◌, inl, inr, ◌<◌, ℕ, Bool, true, false, nat_eq, List, [], All, length, slice_get, Option, Some, None, Result, Ok, Err, refl, sym, ◌∙◌, ap, subst, eqb-true, eq-eqb, ne_eqb}
-use Rattle.std.specs.Prelude.{IfErr, IfOk, MatchOption, option_and_then}
+use Rattle.std.proofs.Common.{◌≡◌, inl, inr, ◌<◌, ℕ, Bool, true, false, nat_eq, List, [], length, slice_get, Option, Some, None, Result, Ok, refl, sym, ◌∙◌, ap, subst, eqb-true, eq-eqb, ne_eqb}
+use Rattle.std.specs.Prelude.{IfErr, IfOk, MatchOption}
 use Rattle.omx_types.specs.declared.handle.Handle.{Handle}
 use Rattle.omx_types.specs.declared.error.OmxError.{OmxError}
 use Rattle.omx_types.specs.declared.fault.PartFault.{PartFault}
@@ -42,7 +42,7 @@ use Rattle.play_worlds.proofs.Closings.{idle_closes}
 use Rattle.play_worlds.proofs.Finishes.{finish_leads}
 use Rattle.play_worlds.proofs.Sends.{actor_there}
 use Rattle.play_plans.specs.Casting.{place_of}
-use Rattle.play_run.specs.Playing.{HaveNoWork, IsHandleAt, IsPlaying, IsStanding, PlayingValue, cast, kept_of, layout_of}
+use Rattle.play_run.specs.Playing.{HaveNoWork, IsHandleAt, IsPlaying, PlayingValue, cast, kept_of, layout_of}
 use Rattle.play_run.specs.Turning.{HasFailed, IsStepOf, outcome_of}
 use Rattle.play_run.proofs.Working.{all_in, none_out}
 use Rattle.play_run.proofs.Commanding.{component_named_in}

@@ -1,6 +1,6 @@
 -- A note is taken, told to its client object, and that goes back.
-use Rattle.std.proofs.Common.{◌≡◌, ◌≢◌, inl, inr, ◌<◌, ℕ, zero, suc, Bool, true, false, not, ◌&&◌, nat_eq, List, [], ◌∷◌, ◌++◌, set, length, slice_get, Option, Some, None, Result, Ok, Err, refl, sym, ◌∙◌, ap, subst, eq-eqb, arith}
-use Rattle.std.specs.Prelude.{IfOk, OnErr, filter, option_and_then}
+use Rattle.std.proofs.Common.{◌≡◌, inl, inr, ◌<◌, ℕ, zero, suc, Bool, true, false, not, ◌&&◌, nat_eq, List, [], ◌∷◌, ◌++◌, set, length, slice_get, Option, Some, None, Result, Ok, refl, sym, ◌∙◌, ap, subst, eq-eqb}
+use Rattle.std.specs.Prelude.{filter, option_and_then}
 use Rattle.std.proofs.lemmas.Bool.{cases_eq}
 use Rattle.omx_types.specs.declared.handle.Handle.{Handle}
 use Rattle.omx_types.specs.declared.error.OmxError.{OmxError}
@@ -10,13 +10,13 @@ use Rattle.omx_types.specs.declared.command.Event.TheVariants.{BufferFlag, CmdCo
 use Rattle.omx_types.specs.declared.command.Note.{Note}
 use Rattle.omx_types.specs.declared.command.Note.TheVariants as notes
 use Rattle.il_machine.specs.declared.answer.Progress.{Progress}
-use Rattle.il_machine.specs.World.{Component, Given, World, is_at, number_of, place_of, same_handle}
+use Rattle.il_machine.specs.World.{Component, Given, World, is_at, number_of, same_handle}
 use Rattle.il_machine.specs.Answers.{component_named, plain}
 use Rattle.il_machine.specs.Acts as acts
 use Rattle.il_machine.specs.Run.{Meets}
 use Rattle.il_machine.specs.Components.{is_given_to, moved_by, no_progress, noted_by, progress_after, progress_of}
 use Rattle.il_machine.specs.Due.{ClosesTo, HappenTimes, Happens, IsClosed}
-use Rattle.il_machine.specs.Notes.{EndNote, TakeFrom, TakeNote, Taken, TakenEmpty, TakenEvent, TakenFilled, Took, TookNote, first_taken, with_given}
+use Rattle.il_machine.specs.Notes.{EndNote, TakeFrom, TakeNote, Taken, TakenEvent, Took, TookNote, first_taken, with_given}
 use Rattle.il_machine.specs.Queued.{notes_given}
 use Rattle.il_machine.specs.Room.{is_event}
 use Rattle.il_machine.specs.Whole.{Always, Stands, Steps, StepsWhere}

@@ -1,5 +1,5 @@
 -- No work comes to be out but by a claim.
-use Rattle.std.proofs.Common.{◌≡◌, ℕ, Bool, false, List, All, Option, Some, None, is_some, refl, sym, ◌∙◌, ap}
+use Rattle.std.proofs.Common.{◌≡◌, ℕ, false, List, All, Option, Some, None, is_some, refl, sym, ◌∙◌, ap}
 use Rattle.std.specs.Prelude.{option_and_then}
 use Rattle.il_machine.specs.World.{Component, Work, World, component_numbered, number_of}
 use Rattle.il_machine.specs.Acts.{Act, Reply}

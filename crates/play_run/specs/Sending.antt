@@ -1,5 +1,5 @@
 -- How far a state that was begun is sent, and what the conductor sees.
-use Rattle.std.specs.Prelude.{◌≡◌, ◌<◌, ◌≤◌, ℕ, Bool, true, List, length, slice_get, Option, Some, None}
+use Rattle.std.specs.Prelude.{◌≡◌, ◌<◌, ◌≤◌, ℕ, true, List, slice_get, Option, Some, None}
 use Rattle.omx_types.specs.declared.state.State.{State}
 use Rattle.omx_types.specs.declared.state.State.TheVariants.{Loaded}
 use Rattle.il_machine.specs.declared.answer.Progress.{Progress}
@@ -8,7 +8,7 @@ use Rattle.conductor.specs.declared.phase.Phase.TheVariants as phases
 use Rattle.conductor.specs.Phases.{is_at}
 use Rattle.il_graph.specs.Shown.{Shown}
 use Rattle.play_model.specs.Play.{Layout, Play}
-use Rattle.play_loop.specs.Turns.{HasRun, IsAtRest}
+use Rattle.play_loop.specs.Turns.{HasRun}
 use Rattle.play_worlds.specs.Standing.{target}
 use Rattle.play_run.specs.Playing.{IsPlaying, IsProgressAt, IsStanding, PlayingValue, layout_of}
 

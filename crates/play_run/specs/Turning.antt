@@ -1,10 +1,9 @@
 -- The acts that a call of a play tries, and what a note tells.
 use Rattle.std.specs.Prelude.{◌≡◌, ◌⊎◌, ℕ, Bool, true, Option, None, Some, Result, Ok, Err}
-use Rattle.omx_types.specs.declared.command.Event.{Event}
 use Rattle.il_machine.specs.declared.answer.Progress.{Progress}
 use Rattle.il_machine.specs.Components.{moved_by}
 use Rattle.note_queues.specs.declared.taken.Taken.{Taken}
-use Rattle.note_queues.specs.declared.taken.Taken.TheVariants.{Told, EmptyDone, FillDone}
+use Rattle.note_queues.specs.declared.taken.Taken.TheVariants.{Told}
 use Rattle.omx_types.specs.declared.fault.PartFault.{PartFault}
 use Rattle.il_machine.specs.World.{World}
 use Rattle.il_machine.specs.Stepping.{WorkDone}

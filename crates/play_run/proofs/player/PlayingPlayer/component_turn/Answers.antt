@@ -1,7 +1,7 @@
 use Rattle.std.proofs.Common.{◌∙◌, ◌||◌}
 use Rattle.play_model.specs.Acts.{Act}
 use Rattle.play_loop.proofs.Running.{OfBoth}
-use Rattle.play_run.specs.Playing.{IsAct, IsPlaying, layout_of}
+use Rattle.play_run.specs.Playing.{IsAct}
 use Rattle.play_run.specs.Turning.{IsStepOf, IsTelling}
 use Rattle.play_run.proofs.Rounding.{component_turns, some_next, then_turns}
 use Rattle.play_run.proofs.player.PlayingPlayer.component_turn.Goals as goal

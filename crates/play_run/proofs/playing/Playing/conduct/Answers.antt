@@ -1,4 +1,4 @@
-use Rattle.std.proofs.Common.{◌≡◌, ◌≤◌, length, sym, ◌∙◌, subst, arith}
+use Rattle.std.proofs.Common.{sym, ◌∙◌, subst, arith}
 use Rattle.il_machine.specs.Due.{IsClosed}
 use Rattle.il_machine.specs.Whole.{Always}
 use Rattle.play_run.specs.Playing.{PlayingValue, kept_of}

@@ -1,7 +1,6 @@
-use Rattle.std.proofs.Common.{◌≡◌, ◌<◌, ℕ, below_more, length, sym, ◌∙◌, ap, arith}
+use Rattle.std.proofs.Common.{◌<◌, ℕ, below_more, length, sym, ◌∙◌, ap, arith}
 use Rattle.play_run.specs.Playing.{PlayingValue}
 use Rattle.play_run.specs.Sending.{IsLoadedAt}
-use Rattle.play_run.proofs.Answering.{has_parts}
 use Rattle.play_run.proofs.Ending.{all_loaded, one_unloaded}
 use Rattle.play_run.proofs.playing.Playing.have_told_all.Goals as goal
 

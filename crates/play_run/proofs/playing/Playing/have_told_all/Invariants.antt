@@ -1,4 +1,4 @@
-use Rattle.std.proofs.Common.{◌≡◌, ℕ, ◌<◌}
+use Rattle.std.proofs.Common.{ℕ, ◌<◌}
 use Rattle.play_run.specs.Sending.{IsLoadedAt}
 use Rattle.play_run.proofs.playing.Playing.have_told_all.Given as goal
 

@@ -1,4 +1,4 @@
-use Rattle.std.proofs.Common.{◌≡◌, ◌<◌, ℕ, length, length-set, Some, ◌∙◌, subst, arith}
+use Rattle.std.proofs.Common.{◌≡◌, ℕ, length, length-set, Some, ◌∙◌, subst, arith}
 use Rattle.play_run.specs.Sending.{AreViews}
 use Rattle.play_run.proofs.Conducting.{views_more}
 use Rattle.play_run.proofs.playing.Playing.look.Goals as goal

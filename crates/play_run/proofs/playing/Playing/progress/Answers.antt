@@ -1,5 +1,5 @@
-use Rattle.std.proofs.Common.{◌≡◌, Ok, Err, Some, None, sym, ◌∙◌, ap}
-use Rattle.play_run.proofs.Naming.{is_told, not_none, not_err, some_told}
+use Rattle.std.proofs.Common.{Ok, ◌∙◌, ap}
+use Rattle.play_run.proofs.Naming.{is_told, not_none, not_err}
 use Rattle.play_run.proofs.playing.Playing.progress.Goals as goal
 
 pub unreachable-requires : goal.unreachable-requires

@@ -1,4 +1,4 @@
-use Rattle.std.proofs.Common.{◌≡◌, ◌<◌, length, sym, ◌∙◌, ap, subst, ℕ, arith}
+use Rattle.std.proofs.Common.{◌≡◌, ◌<◌, length, ◌∙◌, ap, subst, ℕ, arith}
 use Rattle.play_run.specs.Playing.{PlayingValue}
 use Rattle.play_run.specs.Sending.{SendsTo}
 use Rattle.play_run.proofs.Conducting.{sends_all, sends_next}

@@ -1,5 +1,4 @@
-use Rattle.std.proofs.Common.{◌≡◌, Ok, Err, None, Some, refl, sym, ◌∙◌, subst}
-use Rattle.il_machine.specs.Claims.{ClaimedWork}
+use Rattle.std.proofs.Common.{Err, refl, sym}
 use Rattle.il_graph.specs.Shown.{look_of}
 use Rattle.il_graph.proofs.Returning.{are_terms_at, handed_back, terms_at}
 use Rattle.play_run.specs.Playing.{kept_of}

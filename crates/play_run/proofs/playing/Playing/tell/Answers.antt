@@ -1,4 +1,4 @@
-use Rattle.std.proofs.Common.{◌≡◌, Ok, Err, subst}
+use Rattle.std.proofs.Common.{◌≡◌, Ok, subst}
 use Rattle.il_machine.specs.declared.answer.Progress.{Progress}
 use Rattle.il_machine.specs.Notes.{TakeNote}
 use Rattle.il_machine.specs.Whole.{Steps}
@@ -6,7 +6,6 @@ use Rattle.note_queues.specs.declared.taken.Took.{Took}
 use Rattle.note_queues.specs.Queues.{took_of}
 use Rattle.graph_core.specs.Changes.{OnNoNote}
 use Rattle.graph_core.specs.Clients.{TakesClient}
-use Rattle.il_graph.specs.Shown.{Shown}
 use Rattle.play_run.specs.Playing.{kept_of}
 use Rattle.play_run.proofs.Answering.{has_parts}
 use Rattle.play_run.proofs.Commanding.{place_there, turn_there}
