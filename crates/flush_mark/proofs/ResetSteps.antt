@@ -7,7 +7,7 @@ use Rattle.il_machine.specs.declared.header.Queue.TheVariants.{Out}
 use Rattle.il_machine.specs.declared.header.Spot.TheVariants.{TodoBack, DoneBack}
 use Rattle.il_machine.specs.World.{HeaderRecord, Load}
 use Rattle.il_machine.specs.Lists.{holds_at}
-use Rattle.il_machine.specs.Headers.{Seen, is_for, put, put_all, cleared, cleared_all, reset, unloaded}
+use Rattle.il_machine.specs.Headers.{Seen, is_for, put, put_all, cleared, cleared_all, unloaded, input_reset, output_reset}
 use Rattle.il_machine.specs.Stock.{Stocked, StandsFor, is_out, todo_pulled, todo_front_pulled, todo_without, done_pulled, done_front_pulled, done_without, pushed, at_number, state_out}
 use Rattle.stock_laws.specs.Changes.{todo_cleared, done_cleared}
 use Rattle.stock_laws.proofs.Composed.{pull_put_cleared, send_put_cleared}
@@ -57,7 +57,7 @@ no_front (m ∷ ns) e = absurd cc
 
 -- ---- one header of todo goes to the back of done
 
-pub begun_todo : (s : Stocked) (key : PortKey) → Begun (reset true key) (put_all key DoneBack (s.headers.todo key)) s (done_cleared key s)
+pub begun_todo : (s : Stocked) (key : PortKey) → Begun (input_reset key) (put_all key DoneBack (s.headers.todo key)) s (done_cleared key s)
 begun_todo s key = record {
   stands = λ hs S. record {
     headers = cleared_all (s.headers.done key) hs;
@@ -94,7 +94,7 @@ todo_step change old s key n ns load e l B = record {
 
 -- ---- one header of done goes to the back of todo
 
-pub begun_done : (s : Stocked) (key : PortKey) → Begun (reset false key) (put_all key TodoBack (s.headers.done key)) s (todo_cleared key s)
+pub begun_done : (s : Stocked) (key : PortKey) → Begun (output_reset key) (put_all key TodoBack (s.headers.done key)) s (todo_cleared key s)
 begun_done s key = record {
   stands = λ hs S. record {
     headers = cleared_all (s.headers.todo key) hs;

@@ -3,7 +3,7 @@
 ghost use Rattle.std.specs.Prelude.{◌≡◌, ◌&&◌, not, is_some, true, false};
 ghost use Rattle.il_machine.specs.declared.port.Port.{Port};
 ghost use Rattle.il_machine.specs.World.{Component};
-ghost use Rattle.il_machine.specs.Headers.{reset};
+ghost use Rattle.il_machine.specs.Headers.{input_reset, output_reset};
 ghost use Rattle.il_machine.specs.Due.{is_flush_due, reset_port};
 ghost use Rattle.port_stock.specs.Kept.{stocked};
 ghost use Rattle.port_stock.specs.Conditions.{IsPort};
@@ -28,7 +28,7 @@ pub fn flush_settled(stock: &Stock, port: PortKey, work_out: bool) -> bool
 /// The headers of `todo` go in order to the back of `done`, and all are cleared.
 fn todo_to_done(stock: &mut Stock, key: PortKey)
     requires { IsPort key (stocked stock.old) }
-    ensures { Leads (reset true key) (stocked stock.old) (stocked stock.new) }
+    ensures { Leads (input_reset key) (stocked stock.old) (stocked stock.new) }
 {
     stock.clear_done(key);
     while let Some(mut header) = stock.pull_todo(key) {
@@ -41,7 +41,7 @@ fn todo_to_done(stock: &mut Stock, key: PortKey)
 /// The headers of `done` go in order to the back of `todo`, and all are cleared.
 fn done_to_todo(stock: &mut Stock, key: PortKey)
     requires { IsPort key (stocked stock.old) }
-    ensures { Leads (reset false key) (stocked stock.old) (stocked stock.new) }
+    ensures { Leads (output_reset key) (stocked stock.old) (stocked stock.new) }
 {
     stock.clear_todo(key);
     while let Some(mut sent) = stock.pull_done(key) {

@@ -8,7 +8,7 @@ use Rattle.il_machine.specs.World.{HeaderRecord, World}
 use Rattle.il_machine.specs.Lists.{holds_at}
 use Rattle.il_machine.specs.Headers.{Seen, seen, find_header, is_for, in_todo, in_done, unloaded, put, cleared, unchanged, Once}
 use Rattle.il_machine.specs.Buffers.{load_in}
-use Rattle.il_machine.specs.Flow.{front_put, returned, unused_spot}
+use Rattle.il_machine.specs.Flow.{front_put, returned, supplied_spot}
 use Rattle.il_machine.specs.Stock.{Stocked, StandsFor, pushed, todo_pulled, todo_front_pulled, done_pulled, done_front_pulled}
 use Rattle.machine_laws.proofs.Replacing.{replaced_put}
 use Rattle.machine_laws.proofs.Listed.{AreIn}
@@ -16,7 +16,6 @@ use Rattle.stock_laws.proofs.Composed.{pull_put_cleared, send_put_back}
 use Rattle.header_core.specs.BufferHeader.{BufferHeader}
 use Rattle.port_stock.specs.Conditions.{IsFrom}
 use Rattle.graph_core.specs.Moving.{AreShared, Moves}
-use Rattle.graph_core.specs.Supplying.{supplied_spot}
 use Rattle.port_rules.proofs.Noticed.{IsNoted, another}
 use Rattle.flush_mark.proofs.ResetSteps.{front_is, no_front, made_out, pulled_is, sent_is}
 
@@ -27,7 +26,7 @@ put_alone key spot change [] w = refl
 put_alone key spot change (n ∷ ns) w = refl
 
 pub returned_alone : (supplier : PortKey) (input : Bool) (done todo : List ℕ) (w : World) → returned supplier input done todo w ≡ record w { headers = (returned supplier input done todo w).headers }
-returned_alone supplier input [] todo w = put_alone supplier (unused_spot input) cleared todo w
+returned_alone supplier input [] todo w = put_alone supplier (supplied_spot (not input)) cleared todo w
 returned_alone supplier input (n ∷ ns) todo w = refl
 
 pub put_keeps : (key peer : PortKey) (spot : Spot) (change : HeaderRecord → HeaderRecord) (ns : List ℕ) (w : World) (m : ℕ) → ((r : HeaderRecord) → (change r).state ≡ r.state) → Once w.headers → AreIn key w.headers ns → IsNoted w.headers m
@@ -39,7 +38,7 @@ put_keeps key peer spot change (n ∷ ns) w m keeps o A N =
 
 pub returned_keeps : (key supplier : PortKey) (input : Bool) (done todo : List ℕ) (w : World) (m : ℕ) → Once w.headers → AreIn key w.headers done → AreIn key w.headers todo → IsNoted w.headers m
     → find_header m (returned supplier input done todo w).headers ≡ find_header m w.headers
-returned_keeps key supplier input [] todo w m o A B N = put_keeps key supplier (unused_spot input) cleared todo w m (λ r. refl) o B N
+returned_keeps key supplier input [] todo w m o A B N = put_keeps key supplier (supplied_spot (not input)) cleared todo w m (λ r. refl) o B N
 returned_keeps key supplier input (n ∷ ns) todo w m o A B N = put_keeps key supplier TodoBack unchanged (n ∷ ns) w m (λ r. refl) o A N
 
 -- ---- nothing moves
@@ -101,23 +100,18 @@ module _ (s : Stocked) (key peer : PortKey) (B : AreShared key peer s) (header :
 
 -- ---- where done is empty the front of todo goes to the supplier, cleared
 
--- the supplier is the port's other end
-pub unused_is_supplied : (input : Bool) → supplied_spot (not input) ≡ unused_spot input
-unused_is_supplied true = refl
-unused_is_supplied false = refl
-
 module _ (s : Stocked) (key supplier : PortKey) (input : Bool) (none : s.headers.done key ≡ []) where
   abbrev back : World → World
   back w = returned supplier input ((seen w.headers).done key) ((seen w.headers).todo key) w
 
-  unsent : (w : World) → StandsFor s w.headers → back w ≡ front_put supplier (unused_spot input) cleared ((seen w.headers).todo key) w
+  unsent : (w : World) → StandsFor s w.headers → back w ≡ front_put supplier (supplied_spot (not input)) cleared ((seen w.headers).todo key) w
   unsent w S = ap (λ (ns : List ℕ). returned supplier input ns ((seen w.headers).todo key) w) (ap (λ (x : Seen). x.done key) S.looks ∙ none)
 
   pub none_back : (t : Stocked) → t ≡ todo_pulled key s → None ≡ slice_get (s.headers.todo key) 0 → Moves back s t
   none_back t q front =
       let e : s.headers.todo key ≡ [] = no_front (s.headers.todo key) front in
       stays back s t (q ∙ ap (λ (ns : List ℕ). todo_front_pulled key ns s) e)
-      (λ w S. unsent w S ∙ ap (λ (ns : List ℕ). front_put supplier (unused_spot input) cleared ns w) (ap (λ (x : Seen). x.todo key) S.looks ∙ e))
+      (λ w S. unsent w S ∙ ap (λ (ns : List ℕ). front_put supplier (supplied_spot (not input)) cleared ns w) (ap (λ (x : Seen). x.todo key) S.looks ∙ e))
 
   module _ (B : AreShared key supplier s) (header : BufferHeader) (front : Some header.held.number ≡ slice_get (s.headers.todo key) 0) (was : IsFrom (in_todo key) header s) where
     abbrev m : ℕ
@@ -133,7 +127,7 @@ module _ (s : Stocked) (key supplier : PortKey) (input : Bool) (none : s.headers
     pulled_for_supplier = rw (pulled_is s key m left todo_is) (made_out m supplier (s.headers.header m) (in_todo key) s.headers.header (λ h x y. B m h x (and_parts _ _ y).1) was.0)
 
     abbrev after_pull : Stocked
-    after_pull = pushed supplier (unused_spot input) m (unloaded (load_in header.held)) (todo_pulled key s)
+    after_pull = pushed supplier (supplied_spot (not input)) m (unloaded (load_in header.held)) (todo_pulled key s)
 
     pushed_key : (spot : Spot) → (pushed supplier spot m (unloaded (load_in header.held)) (todo_pulled key s)).key ≡ s.key
     pushed_key spot = ap (λ (x : Stocked). x.key) (pulled_is s key m left todo_is)
@@ -148,9 +142,9 @@ module _ (s : Stocked) (key supplier : PortKey) (input : Bool) (none : s.headers
     unused_back t q = subst (λ (x : Stocked). Moves back s x) (sym q) (record {
       stands = λ w S.
           let e : (seen w.headers).todo key ≡ m ∷ left = ap (λ (x : Seen). x.todo key) S.looks ∙ todo_is in
-          subst (λ (v : World). StandsFor after_pull v.headers) (sym (unsent w S ∙ ap (λ (ns : List ℕ). front_put supplier (unused_spot input) cleared ns w) e))
-          (pull_put_cleared s w.headers key supplier (unused_spot input) m left (load_in header.held) S todo_is was.1);
-      key = pushed_key (unused_spot input);
-      ports = pushed_ports (unused_spot input);
-      next = pushed_next (unused_spot input);
+          subst (λ (v : World). StandsFor after_pull v.headers) (sym (unsent w S ∙ ap (λ (ns : List ℕ). front_put supplier (supplied_spot (not input)) cleared ns w) e))
+          (pull_put_cleared s w.headers key supplier (supplied_spot (not input)) m left (load_in header.held) S todo_is was.1);
+      key = pushed_key (supplied_spot (not input));
+      ports = pushed_ports (supplied_spot (not input));
+      next = pushed_next (supplied_spot (not input));
     })

@@ -11,7 +11,7 @@ use Rattle.il_machine.specs.Headers.{Seen, count_headers, is_for, at_spot, put_a
 use Rattle.il_machine.specs.Look.{Look, look}
 use Rattle.il_machine.specs.Ports.{accepting, is_supplier, is_input_port}
 use Rattle.il_machine.specs.Buffers.{has_no_block, has_no_number}
-use Rattle.il_machine.specs.Flow.{End, other_end, supply_idle, supplied_by, supplied_queue, tunnel_header, with_supplied}
+use Rattle.il_machine.specs.Flow.{End, other_end, supply_idle, supplied_by, tunnel_header, with_supplied, supplied_spot}
 use Rattle.il_machine.specs.Stock.{Stocked, StandsFor}
 use Rattle.whole_laws.specs.Bare.{StepsBare}
 use Rattle.il_machine.specs.Sound.{Sound}
@@ -28,7 +28,7 @@ use Rattle.il_component.specs.Entries.{Entry, component_of}
 use Rattle.port_stock.specs.Kept.{StockKept, stocked}
 use Rattle.port_stock.specs.Conditions.{made_in}
 use Rattle.graph_core.specs.Standing.{SoundWorld, HasPorts}
-use Rattle.graph_core.specs.Supplying.{HasRoom, supplied_header, supplied_spot, with_supply}
+use Rattle.graph_core.specs.Supplying.{HasRoom, supplied_header, with_supply}
 use Rattle.graph_core.specs.Entries.{Entries, look_of, kept, component_at}
 use Rattle.graph_core.proofs.Replacing.{there, next_world}
 use Rattle.graph_core.proofs.Stepping.{at_world, with_stocked, stock_of, stock_steps, made_of, seen_of, port_kept}
@@ -65,10 +65,6 @@ supplies_joined l c p h n =
     cc
 
 -- ---- the header's place
-
-spot_is : (input : Bool) → spot_queue (supplied_spot input) ≡ supplied_queue input
-spot_is true = refl
-spot_is false = refl
 
 at_back : (input : Bool) (r : HeaderRecord) (hs : List HeaderRecord) → at_spot (supplied_spot input) r hs ≡ hs ++ r ∷ []
 at_back true r hs = refl
@@ -147,7 +143,6 @@ module _ {C : Type 0} (progress : C → Progress) (g : Entries C) (i : ℕ) (e :
 
   placed : (hs : List HeaderRecord) → at_spot (supplied_spot (is_input_port p)) (put_at p.key (supplied_spot (is_input_port p)) (record { state = made; load = empty_load None })) hs ≡ hs ++ record_of s.next ∷ []
   placed hs = at_back (is_input_port p) (put_at p.key (supplied_spot (is_input_port p)) (record { state = made; load = empty_load None })) hs
-      ∙ ap (λ (x : Queue). hs ++ record { state = record (tunnel_header s.next p peer) { queue = x }; load = empty_load None } ∷ []) (spot_is (is_input_port p))
 
   module _ (new : s.headers.header s.next ≡ None) (after_stock : StockKept) (now : stocked after_stock ≡ with_supply p peer s) where
     abbrev Change : World → World → Type 0

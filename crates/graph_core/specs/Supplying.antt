@@ -10,7 +10,7 @@ use Rattle.il_machine.specs.World.{Component}
 use Rattle.il_machine.specs.Headers.{empty_load}
 use Rattle.il_machine.specs.Look.{Look}
 use Rattle.il_machine.specs.Ports.{is_input_port}
-use Rattle.il_machine.specs.Flow.{supply_idle}
+use Rattle.il_machine.specs.Flow.{supply_idle, supplied_spot}
 use Rattle.il_machine.specs.Stock.{Stocked, made_header, header_made, todo_pulled, pushed, done_pulled}
 use Rattle.port_stock.specs.Conditions.{HasBlockFor, IsPort, made_in}
 
@@ -27,11 +27,6 @@ pub record HasRoom (p : Port) (peer : PortKey) (s : Stocked) : Type 0 where
   pub block : HasBlockFor None s
   pub few : made_in s p.key < 32
   pub few_of_peer : made_in s peer < 32
-
--- a header of an output waits to be filled, one of an input to be sent
-abbrev pub supplied_spot : Bool → Spot
-supplied_spot true = DoneBack
-supplied_spot false = TodoBack
 
 -- a header that the port makes for both ends, in no list yet
 abbrev pub supplied_header : Port → PortKey → ℕ → HeaderState

@@ -1,5 +1,5 @@
 -- What acts and the close-out leave of each component's handle, client object, state and pending transition, and of whether its work is out.
-use Rattle.std.proofs.Common.{◌≡◌, ◌⊎◌, inl, inr, ℕ, zero, suc, Bool, true, false, nat_eq, List, [], ◌∷◌, ◌++◌, set, remove, slice_get, Option, Some, None, is_some, All, Ok, refl, sym, subst}
+use Rattle.std.proofs.Common.{◌≡◌, ◌⊎◌, inl, inr, ℕ, zero, suc, Bool, true, false, nat_eq, List, [], ◌∷◌, ◌++◌, set, remove, slice_get, Option, Some, None, is_some, All, Ok, refl, sym, subst, not}
 use Rattle.omx_types.specs.declared.state.State.{State}
 use Rattle.omx_types.specs.declared.handle.Handle.{Handle}
 use Rattle.omx_types.specs.declared.command.Command.{Command}
@@ -26,7 +26,7 @@ use Rattle.il_machine.specs.Parameters.{unheld_at, with_value}
 use Rattle.il_machine.specs.Commands.{is_at_once, invalidated, sent, run_front}
 use Rattle.il_machine.specs.Buffers.{is_unpopulating, unpopulated}
 use Rattle.il_machine.specs.Notes.{TakenEvent, TakenEmpty, TakenFilled, TookNote, first_taken, back_in}
-use Rattle.il_machine.specs.Flow.{in_port, front_unmade, front_put, at_link, handed_back, returned, unused_spot, front_noticed}
+use Rattle.il_machine.specs.Flow.{in_port, front_unmade, front_put, at_link, handed_back, returned, front_noticed, supplied_spot}
 use Rattle.il_machine.specs.declared.answer.Granted.TheVariants as granted
 use Rattle.il_machine.specs.declared.answer.Preempted.TheVariants as preempted
 use Rattle.il_machine.specs.States.{is_invalid}
@@ -169,7 +169,7 @@ module _ (P : Core → Type 0) where
     over_each p (Some link) w E = put_each link.peer TodoBack unchanged ((seen w.headers).done p.key) w E
 
     returned_each : (key : PortKey) (input : Bool) (done todo : List ℕ) (w : World) → Each w → Each (returned key input done todo w)
-    returned_each key input [] todo w E = put_each key (unused_spot input) cleared todo w E
+    returned_each key input [] todo w E = put_each key (supplied_spot (not input)) cleared todo w E
     returned_each key input (n ∷ ns) todo w E = E
 
     noticed_each : (i : ℕ) (c : Component) (p : Port) (todo : List ℕ) (w : World) → P (core c) → Each w → Each (front_noticed i c p todo w)

@@ -1,5 +1,5 @@
 -- The key of a world's headers stays in each step, and what was given stays in each act but two.
-use Rattle.std.proofs.Common.{◌≡◌, ℕ, zero, suc, Bool, List, [], ◌∷◌, slice_get, Option, Some, None, Ok, refl, sym, ◌∙◌, ap, subst}
+use Rattle.std.proofs.Common.{◌≡◌, ℕ, zero, suc, Bool, List, [], ◌∷◌, slice_get, Option, Some, None, Ok, refl, sym, ◌∙◌, ap, subst, not}
 use Rattle.omx_types.specs.declared.handle.Handle.{Handle}
 use Rattle.il_machine.specs.declared.answer.Acted.TheVariants.{Did}
 use Rattle.il_machine.specs.declared.answer.Pending.{Pending}
@@ -13,7 +13,7 @@ use Rattle.il_machine.specs.Headers.{seen, unchanged, cleared}
 use Rattle.il_machine.specs.Due.{Thing, Transition, Flush, PortMode, WaitingMark, at_port, transition_happened, flush_happened, mode_happened, mark_happened, happened, Happens, HappenTimes, ClosesTo}
 use Rattle.il_machine.specs.Kinds.{kind_of}
 use Rattle.il_machine.specs.Notes.{TakenEvent, TakenEmpty, TakenFilled, TookNote}
-use Rattle.il_machine.specs.Flow.{in_port, front_unmade, front_put, handed_over, at_link, handed_back, returned, unused_spot, front_noticed}
+use Rattle.il_machine.specs.Flow.{in_port, front_unmade, front_put, handed_over, at_link, handed_back, returned, front_noticed, supplied_spot}
 use Rattle.il_machine.specs.Ports.{is_input_port}
 use Rattle.il_machine.specs.Effect.{at_named, at_named_port, at_both, effect}
 use Rattle.il_machine.specs.declared.answer.Granted.TheVariants as granted
@@ -111,7 +111,7 @@ over_stays : (p : Port) (w : World) → Stays w (handed_over p w)
 over_stays p w = link_stays p.state.link _ w (λ k. put_stays k TodoBack unchanged ((seen w.headers).done p.key) w)
 
 returned_stays : (key : PortKey) (input : Bool) (done todo : List ℕ) (w : World) → Stays w (returned key input done todo w)
-returned_stays key input [] todo w = put_stays key (unused_spot input) cleared todo w
+returned_stays key input [] todo w = put_stays key (supplied_spot (not input)) cleared todo w
 returned_stays key input (n ∷ ns) todo w = (refl, refl)
 
 noticed_stays : (i : ℕ) (c : Component) (p : Port) (todo : List ℕ) (w : World) → Stays w (front_noticed i c p todo w)

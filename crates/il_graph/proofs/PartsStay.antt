@@ -1,5 +1,5 @@
 -- The parts stay in all acts but those that make, free, attach, claim and finish, and in the close-out.
-use Rattle.std.proofs.Common.{◌≡◌, ◌⊎◌, inl, inr, ℕ, zero, suc, List, [], ◌∷◌, map, set, Option, Some, None, option_map, slice_get, find, Bool, Ok, refl, sym, ◌∙◌, ap, subst}
+use Rattle.std.proofs.Common.{◌≡◌, ◌⊎◌, inl, inr, ℕ, zero, suc, List, [], ◌∷◌, map, set, Option, Some, None, option_map, slice_get, find, Bool, Ok, refl, sym, ◌∙◌, ap, subst, not}
 use Rattle.std.proofs.lemmas.Option.{slice_get-map}
 use Rattle.omx_types.specs.declared.handle.Handle.{Handle}
 use Rattle.omx_types.specs.declared.kind.Kind.{Kind}
@@ -22,7 +22,7 @@ use Rattle.il_machine.specs.Tunnels.{joined_to, parted}
 use Rattle.il_machine.specs.Commands.{sent, run_front}
 use Rattle.il_machine.specs.Buffers.{unpopulated}
 use Rattle.il_machine.specs.Notes.{TakenEvent, TakenEmpty, TakenFilled, TookNote, first_taken, back_in}
-use Rattle.il_machine.specs.Flow.{in_port, front_unmade, front_put, at_link, handed_back, returned, unused_spot, front_noticed}
+use Rattle.il_machine.specs.Flow.{in_port, front_unmade, front_put, at_link, handed_back, returned, front_noticed, supplied_spot}
 use Rattle.il_machine.specs.Due.{Thing, Transition, Flush, PortMode, WaitingMark, arrived, transition_happened, at_port, flush_happened, mode_happened, mark_happened, happened, Happens, HappenTimes, ClosesTo}
 use Rattle.il_machine.specs.Units.{is_waiter, is_before, first_waiter, victim, with_changed, granted_units, preempted_units}
 use Rattle.il_machine.specs.Claims.{ClaimedWork}
@@ -139,7 +139,7 @@ over_stay p None w = stay_same w
 over_stay p (Some link) w = put_stay link.peer TodoBack unchanged ((seen w.headers).done p.key) w
 
 returned_stay : (key : PortKey) (input : Bool) (done todo : List ℕ) (w : World) → PartsStay w (returned key input done todo w)
-returned_stay key input [] todo w = put_stay key (unused_spot input) cleared todo w
+returned_stay key input [] todo w = put_stay key (supplied_spot (not input)) cleared todo w
 returned_stay key input (n ∷ ns) todo w = record { parts = refl; streams = refl }
 
 noticed_stay : (i : ℕ) (c : Component) (p : Port) (todo : List ℕ) (w : World) → slice_get w.components i ≡ Some c → PartsStay w (front_noticed i c p todo w)

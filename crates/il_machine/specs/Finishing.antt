@@ -144,8 +144,7 @@ abbrev pub tells_end : Component → WorkDone → Bool
 tells_end c done = is_sink c.settings.kind && is_none done.fault && list_any (is_last (terms_of c) 0) done.headers
 
 abbrev pub end_note : Bool → List Note
-end_note true = Told (events.BufferFlag 0 1) ∷ []
-end_note false = []
+end_note has_ended = if has_ended then Told (events.BufferFlag 0 1) ∷ [] else []
 
 -- behind those of the headers the end of a sink's stream, and the fault
 abbrev pub notes_after : Component → Stream → WorkDone → List Note

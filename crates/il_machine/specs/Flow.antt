@@ -1,5 +1,5 @@
 -- The acts of a component on one of its ports: supply, release, hand_over, hand_back.
-use Rattle.std.specs.Prelude.{◌≡◌, ℕ, ◌+◌, Bool, true, false, not, ◌&&◌, ◌||◌, List, [], ◌∷◌, ◌++◌, slice_get, Option, Some, None, option_and_then, option_map, Result, Err, MatchOption}
+use Rattle.std.specs.Prelude.{◌≡◌, ℕ, ◌+◌, Bool, true, false, not, ◌&&◌, ◌||◌, List, [], ◌∷◌, ◌++◌, slice_get, Option, Some, None, option_and_then, option_map, Result, Err, MatchOption, if◌then◌else◌}
 use Rattle.omx_types.specs.declared.handle.Handle.{Handle}
 use Rattle.omx_types.specs.declared.command.Note.{Note}
 use Rattle.omx_types.specs.declared.command.Note.TheVariants.{EmptyDone, FillDone}
@@ -23,7 +23,7 @@ use Rattle.il_machine.specs.States.{is_executing}
 use Rattle.il_machine.specs.Lists.{first_of_these, is_empty}
 use Rattle.il_machine.specs.World.{Component, HeaderRecord, World, place_numbered, number_of, with_component, port_of, noted}
 use Rattle.il_machine.specs.declared.header.HeaderState.{HeaderState}
-use Rattle.il_machine.specs.Headers.{Seen, seen, changed, put, cleared, unchanged, given_to, empty_load}
+use Rattle.il_machine.specs.Headers.{Seen, seen, changed, put, cleared, unchanged, given_to, empty_load, spot_queue}
 use Rattle.il_machine.specs.Look.{Look, look}
 use Rattle.il_machine.specs.Ports.{accepting, returning, leaving, is_open, is_at_rest, is_supplier, is_input_port, id_of}
 use Rattle.il_machine.specs.Buffers.{has_no_block, has_no_number, is_taking, without_header}
@@ -68,10 +68,9 @@ supply_idle l c p = first_of_these
     ∷ (has_no_number l, why.NoNumber)
     ∷ [])
 
--- a header of an output waits to be filled, one of an input to be sent
-abbrev pub supplied_queue : Bool → Queue
-supplied_queue true = Done
-supplied_queue false = Todo
+-- where the end that supplies a tunnel keeps a header that isn't used: of an output it waits to be filled, of an input to be sent
+abbrev pub supplied_spot : Bool → Spot
+supplied_spot is_input = if is_input then DoneBack else TodoBack
 
 abbrev pub tunnel_header : ℕ → Port → PortKey → HeaderState
 tunnel_header number p peer = record {
@@ -80,7 +79,7 @@ tunnel_header number p peer = record {
   peer = Some peer;
   home = homes.Port p.key;
   owner = owners.Port p.key;
-  queue = supplied_queue (is_input_port p);
+  queue = spot_queue (supplied_spot (is_input_port p));
   size = p.setting.definition.size;
   client_memory = false;
 }
@@ -159,19 +158,13 @@ back_idle l c p = first_of_these
     ∷ (is_empty (l.headers.done p.key) && (not (returning c p) || is_empty (l.headers.todo p.key)), why.NoHeader)
     ∷ [])
 
--- an unused header goes where the supplier keeps those that it made
-abbrev pub unused_spot : Bool → Spot
-unused_spot true = TodoBack
-unused_spot false = DoneBack
-
--- in a tunnel: the front of done, or, where done is empty, the front of todo, cleared
+-- In a tunnel: the front of done, or, where done is empty, the front of todo, cleared. The supplier is the other end.
 abbrev pub returned : PortKey → Bool → List ℕ → List ℕ → World → World
 returned supplier is_input (number ∷ rest) todo w = front_put supplier TodoBack unchanged (number ∷ rest) w
-returned supplier is_input [] todo w = front_put supplier (unused_spot is_input) cleared todo w
+returned supplier is_input [] todo w = front_put supplier (supplied_spot (not is_input)) cleared todo w
 
 abbrev pub done_note : Bool → ℕ → Note
-done_note true number = EmptyDone number
-done_note false number = FillDone number
+done_note is_input number = if is_input then EmptyDone number else FillDone number
 
 -- on a client port: the front of todo is cleared and queued as a note
 abbrev pub front_noticed : ℕ → Component → Port → List ℕ → World → World

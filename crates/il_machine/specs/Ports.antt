@@ -1,5 +1,5 @@
 -- The terms of ports: populated, settled, accepting, returning, leaving.
-use Rattle.std.specs.Prelude.{◌≡◌, None, All, Bool, true, false, not, ◌&&◌, ◌||◌, nat_eq, is_some, is_none}
+use Rattle.std.specs.Prelude.{◌≡◌, None, All, Bool, true, false, not, ◌&&◌, ◌||◌, nat_eq, is_some, is_none, if◌then◌else◌}
 use Rattle.omx_types.specs.declared.state.State.{State}
 use Rattle.omx_types.specs.declared.state.State.TheVariants as states
 use Rattle.omx_types.specs.declared.param.Supplier.{Supplier}
@@ -76,8 +76,7 @@ is_output_side _ = false
 
 -- the end of a tunnel on this side supplies it
 abbrev pub is_supplied_by : Bool → Link → Bool
-is_supplied_by true link = is_input_side link.supplier
-is_supplied_by false link = is_output_side link.supplier
+is_supplied_by is_input link = if is_input then is_input_side link.supplier else is_output_side link.supplier
 
 -- the port is joined, and makes the tunnel's headers
 abbrev pub is_supplier : Port → Bool

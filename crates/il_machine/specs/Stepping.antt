@@ -1,6 +1,6 @@
 -- One step of a part: what a work that was claimed may come back as. It is said by the part's terms, the headers of the work and what went
 -- through the part before, so that whoever holds the work can say it without a world.
-use Rattle.std.specs.Prelude.{◌≡◌, ℕ, suc, zero, ◌+◌, ◌-◌, ◌*◌, ◌/◌, ◌≤◌, Bool, true, false, not, ◌&&◌, ◌||◌, nat_eq, nat_lt, List, [], ◌∷◌, ◌++◌, length, map, filter, take, drop, replicate, find, Option, Some, None, option_map, MatchOption, if◌then◌else◌}
+use Rattle.std.specs.Prelude.{◌≡◌, ℕ, suc, zero, ◌+◌, ◌-◌, ◌*◌, ◌/◌, ◌≤◌, Bool, true, false, not, ◌&&◌, ◌||◌, nat_eq, nat_lt, List, [], ◌∷◌, ◌++◌, length, map, filter, take, drop, replicate, find, Option, Some, None, option_map, MatchOption, if◌then◌else◌, MatchBool}
 use Rattle.std.specs.List.{list_all, list_any}
 use Rattle.std.proofs.Math.ListN.{get_or}
 use Rattle.omx_types.specs.declared.format.Format.{Format}
@@ -110,12 +110,8 @@ IsTold None place count piece = length piece ≡ count
 IsTold (Some known) place count piece = (length piece ≡ count) × (piece ≡ take count (drop place known))
 
 -- a source's file gave its next frames; no other part reads
-abbrev pub GivesBy : Bool → Terms → Stream → ℕ → List ℕ → Type 0
-GivesBy true t s frames piece = IsTold s.known (bytes_given t s) (frames * frame_bytes_of (file_format t.file)) piece
-GivesBy false t s frames piece = piece ≡ []
-
 abbrev pub Gives : Terms → Stream → ℕ → List ℕ → Type 0
-Gives t s frames piece = GivesBy (is_source t.kind) t s frames piece
+Gives t s frames piece = MatchBool (is_source t.kind) (IsTold s.known (bytes_given t s) (frames * frame_bytes_of (file_format t.file)) piece) (piece ≡ [])
 
 -- ---- what goes out
 

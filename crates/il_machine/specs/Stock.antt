@@ -56,19 +56,19 @@ with_state number state s = record s {
 
 -- ---- the lists of ports
 
-abbrev pub those : Bool → ℕ → List ℕ
-those true number = number ∷ []
-those false number = []
+-- the number alone, or none
+abbrev pub number_where : Bool → ℕ → List ℕ
+number_where is_listed number = if is_listed then number ∷ [] else []
 
 -- the number is put at the spot of the port, among those without a mark where it has none
 abbrev pub listed : PortKey → Spot → ℕ → Bool → Seen → Seen
 listed key TodoBack number is_unmarked s = record s {
   todo = at_key key (s.todo key ++ number ∷ []) s.todo;
-  unmarked = at_key key (s.unmarked key ++ those is_unmarked number) s.unmarked;
+  unmarked = at_key key (s.unmarked key ++ number_where is_unmarked number) s.unmarked;
 }
 listed key TodoFront number is_unmarked s = record s {
   todo = at_key key (number ∷ s.todo key) s.todo;
-  unmarked = at_key key (those is_unmarked number ++ s.unmarked key) s.unmarked;
+  unmarked = at_key key (number_where is_unmarked number ++ s.unmarked key) s.unmarked;
 }
 listed key DoneBack number is_unmarked s = record s { done = at_key key (s.done key ++ number ∷ []) s.done }
 

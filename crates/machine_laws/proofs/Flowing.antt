@@ -9,11 +9,11 @@ use Rattle.il_machine.specs.declared.header.Queue.TheVariants.{Out}
 use Rattle.il_machine.specs.declared.header.Spot.{Spot}
 use Rattle.il_machine.specs.declared.header.Spot.TheVariants.{TodoBack}
 use Rattle.il_machine.specs.World.{Component, HeaderRecord, World, port_of}
-use Rattle.il_machine.specs.Headers.{seen, count_headers, is_for, unchanged, cleared, empty_load}
+use Rattle.il_machine.specs.Headers.{seen, count_headers, is_for, unchanged, cleared, empty_load, spot_queue}
 use Rattle.il_machine.specs.Look.{look}
 use Rattle.il_machine.specs.Ports.{accepting, is_supplier, is_input_port}
 use Rattle.il_machine.specs.Buffers.{without_header}
-use Rattle.il_machine.specs.Flow.{End, end_of, other_end, supply_idle, supplied_queue, tunnel_header, supplied_by, with_supplied, in_port, front_unmade, front_put, at_link, handed_over, unused_spot, returned}
+use Rattle.il_machine.specs.Flow.{End, end_of, other_end, supply_idle, tunnel_header, supplied_by, with_supplied, in_port, front_unmade, front_put, at_link, handed_over, returned, supplied_spot}
 use Rattle.il_machine.specs.Sound.{Sound, IsMadeFor, IsOwnedSo, port_at}
 use Rattle.machine_laws.proofs.Keys.{for_which, for_port, is_there, none_or_some}
 use Rattle.machine_laws.proofs.Lookups.{port_there_at}
@@ -35,7 +35,7 @@ in_for cs key hs numbered made n P I = let O : IsOwnedSo (I.header).state (owner
 
 -- ---- made
 
-supplied_is : (input : Bool) → supplied_queue input ≢ Out
+supplied_is : (input : Bool) → spot_queue (supplied_spot input) ≢ Out
 supplied_is true e = cc
 supplied_is false e = cc
 
@@ -134,7 +134,7 @@ sound_handed_over w i c index p S t e = over_link w i c index p p.state.link S t
 returned_from : (w : World) (i : ℕ) (c : Component) (index : ℕ) (p : Port) (link : Link) (done todo : List ℕ) → Sound w → slice_get w.components i ≡ Some c → port_of c index ≡ Some p → p.state.link ≡ Some link
     → AreIn p.key w.headers done → AreIn p.key w.headers todo → Sound (returned link.peer (is_input_port p) done todo w)
 returned_from w i c index p link (n ∷ rest) todo S t e l A B = front_moves w i c index p link TodoBack unchanged (n ∷ rest) S t e l (λ x. refl) A
-returned_from w i c index p link [] todo S t e l A B = front_moves w i c index p link (unused_spot (is_input_port p)) cleared todo S t e l (λ x. refl) B
+returned_from w i c index p link [] todo S t e l A B = front_moves w i c index p link (supplied_spot (not (is_input_port p))) cleared todo S t e l (λ x. refl) B
 
 pub sound_returned : (w : World) (i : ℕ) (c : Component) (index : ℕ) (p : Port) (link : Link) → Sound w → slice_get w.components i ≡ Some c → port_of c index ≡ Some p → p.state.link ≡ Some link
     → Sound (returned link.peer (is_input_port p) ((seen w.headers).done p.key) ((seen w.headers).todo p.key) w)

@@ -3,7 +3,7 @@ use Rattle.std.proofs.Common.{◌≡◌, ◌≢◌, ℕ, ◌+◌, Bool, true, fa
 use Rattle.il_machine.specs.declared.port.PortKey.{PortKey}
 use Rattle.il_machine.specs.World.{HeaderRecord}
 use Rattle.il_machine.specs.Headers.{Seen, seen, load_at, load_of, find_header, numbers, without, is_state, in_todo, in_done, same_key, Once}
-use Rattle.il_machine.specs.Stock.{those, todo_pulled, done_pulled, header_unmade}
+use Rattle.il_machine.specs.Stock.{number_where, todo_pulled, done_pulled, header_unmade}
 use Rattle.machine_laws.proofs.Finding.{push_else, without_else, without_same}
 use Rattle.stock_laws.proofs.Flat.{numbers-append}
 use Rattle.stock_laws.proofs.Keys.{same_key-sym, same_key-refl}
@@ -27,10 +27,10 @@ module _ (x : LinkEnds) (hs : List HeaderRecord) (r : HeaderRecord) (new : find_
   same_held q = filled_off x.unit hs more r.state.number (x.draining ++ numbers q hs) (in_append r.state.number x.draining (numbers q hs) d (in_none q r.state.number hs new)) carried
 
   unlisted : (q : HeaderRecord → Bool) → q r ≡ false → numbers q more ≡ numbers q hs
-  unlisted q e = numbers-append q hs r ∙ (ap (λ (b : Bool). numbers q hs ++ those b r.state.number) e ∙ append-nil (numbers q hs))
+  unlisted q e = numbers-append q hs r ∙ (ap (λ (b : Bool). numbers q hs ++ number_where b r.state.number) e ∙ append-nil (numbers q hs))
 
   one_longer : (q : HeaderRecord → Bool) → q r ≡ true → length (numbers q more) ≡ length (numbers q hs) + 1
-  one_longer q e = ap length (numbers-append q hs r ∙ ap (λ (b : Bool). numbers q hs ++ those b r.state.number) e) ∙ length-append (numbers q hs) (r.state.number ∷ [])
+  one_longer q e = ap length (numbers-append q hs r ∙ ap (λ (b : Bool). numbers q hs ++ number_where b r.state.number) e) ∙ length-append (numbers q hs) (r.state.number ∷ [])
 
   sent_same : in_done x.output r.state ≡ false → map (filled x.unit more) ((seen more).done x.output) ≡ map (filled x.unit hs) ((seen hs).done x.output)
   sent_same b = ap (map (filled x.unit more)) (unlisted (is_state (in_done x.output)) b) ∙ same_old (is_state (in_done x.output))

@@ -4,7 +4,7 @@ use Rattle.std.proofs.lemmas.Bool.{eqb-false}
 use Rattle.il_machine.specs.declared.port.PortKey.{PortKey}
 use Rattle.il_machine.specs.declared.header.Spot.TheVariants.{TodoBack, DoneBack}
 use Rattle.il_machine.specs.World.{HeaderRecord}
-use Rattle.il_machine.specs.Headers.{Seen, seen, load_at, load_of, find_header, put, put_at, put_all, cleared, cleared_all, reset, unloaded, is_state, is_owned_by, in_todo, in_done, same_key, Once}
+use Rattle.il_machine.specs.Headers.{Seen, seen, load_at, load_of, find_header, put, put_at, put_all, cleared, cleared_all, reset, unloaded, is_state, is_owned_by, in_todo, in_done, same_key, Once, input_reset, output_reset}
 use Rattle.il_machine.specs.Stock.{StandsFor, pushed, todo_pulled, done_pulled}
 use Rattle.machine_laws.proofs.Finding.{either, changed_else}
 use Rattle.machine_laws.proofs.Replacing.{IsReplaced, replaced_put}
@@ -111,11 +111,11 @@ record ResetsOutput (key : PortKey) (hs ks : List HeaderRecord) : Type 0 where
   gone : (seen ks).done key ≡ []
   come : (seen ks).todo key ≡ (seen hs).todo key ++ (seen hs).done key
 
-resets_output : (key : PortKey) (hs : List HeaderRecord) → Once hs → ResetsOutput key hs (reset false key hs)
+resets_output : (key : PortKey) (hs : List HeaderRecord) → Once hs → ResetsOutput key hs (output_reset key hs)
 resets_output key hs o =
     let ms : List HeaderRecord = cleared_all ((seen hs).todo key) hs in
     let C = clear_todo_stands (stock_of hs) hs key (stands_of hs o) in
-    let B : IsBack key ((seen hs).done key) ms (reset false key hs) = all_back key ((seen hs).done key) ms C.once (ap (λ (s : Seen). s.done key) C.looks) in
+    let B : IsBack key ((seen hs).done key) ms (output_reset key hs) = all_back key ((seen hs).done key) ms C.once (ap (λ (s : Seen). s.done key) C.looks) in
     let J = B.shifted in
     record {
       gone = B.gone;
@@ -133,11 +133,11 @@ record ResetsInput (key : PortKey) (hs ks : List HeaderRecord) : Type 0 where
   gone : (seen ks).todo key ≡ []
   come : (seen ks).done key ≡ (seen hs).done key ++ (seen hs).todo key
 
-resets_input : (key : PortKey) (hs : List HeaderRecord) → Once hs → ResetsInput key hs (reset true key hs)
+resets_input : (key : PortKey) (hs : List HeaderRecord) → Once hs → ResetsInput key hs (input_reset key hs)
 resets_input key hs o =
     let ms : List HeaderRecord = cleared_all ((seen hs).done key) hs in
     let C = clear_done_stands (stock_of hs) hs key (stands_of hs o) in
-    let B : IsOn key ((seen hs).todo key) ms (reset true key hs) = all_on key ((seen hs).todo key) ms C.once (ap (λ (s : Seen). s.todo key) C.looks) in
+    let B : IsOn key ((seen hs).todo key) ms (input_reset key hs) = all_on key ((seen hs).todo key) ms C.once (ap (λ (s : Seen). s.todo key) C.looks) in
     let J = B.shifted in
     record {
       gone = B.gone;
@@ -158,10 +158,10 @@ is_reset false key hs o = (resets_output key hs o).reset
 
 module _ (x : LinkEnds) (hs : List HeaderRecord) (o : Once hs) (a : same_key x.input x.output ≡ false) (d : x.draining ≡ []) where
   -- the output supplies, and the input has none
-  pub reset_output : (seen hs).todo x.input ≡ [] → link_view x (reset false x.output hs)
+  pub reset_output : (seen hs).todo x.input ≡ [] → link_view x (output_reset x.output hs)
       ≡ record (link_view x hs) { ready = (link_view x hs).ready + length (link_view x hs).sent; sent = [] }
   reset_output none =
-      let ks : List HeaderRecord = reset false x.output hs in
+      let ks : List HeaderRecord = output_reset x.output hs in
       let R : ResetsOutput x.output hs ks = resets_output x.output hs o in
       let T = R.reset in
       let ready : length ((seen ks).todo x.output) ≡ length ((seen hs).todo x.output) + length ((seen hs).done x.output) = ap length R.come ∙ length-append ((seen hs).todo x.output) ((seen hs).done x.output) in
@@ -175,10 +175,10 @@ module _ (x : LinkEnds) (hs : List HeaderRecord) (o : Once hs) (a : same_key x.i
       refl refl
 
   -- the input supplies, and the output has none
-  pub reset_input : (seen hs).done x.output ≡ [] → link_view x (reset true x.input hs)
+  pub reset_input : (seen hs).done x.output ≡ [] → link_view x (input_reset x.input hs)
       ≡ record (link_view x hs) { spent = (link_view x hs).spent + length (link_view x hs).held; held = [] }
   reset_input none =
-      let ks : List HeaderRecord = reset true x.input hs in
+      let ks : List HeaderRecord = input_reset x.input hs in
       let R : ResetsInput x.input hs ks = resets_input x.input hs o in
       let T = R.reset in
       let b : same_key x.output x.input ≡ false = same_key-sym x.output x.input ∙ a in

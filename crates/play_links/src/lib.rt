@@ -10,7 +10,7 @@ ghost use Rattle.il_machine.specs.declared.header.Owner.{Owner};
 ghost use Rattle.il_machine.specs.declared.header.Spot.{Spot};
 ghost use Rattle.il_machine.specs.declared.header.Spot.TheVariants.{TodoBack, TodoFront, DoneBack};
 ghost use Rattle.il_machine.specs.World.{HeaderRecord, Load, World};
-ghost use Rattle.il_machine.specs.Headers.{changed, cleared, find_header, given_to, in_done, in_todo, is_away, is_for, loaded, put, reset, same_key, seen, unchanged, without, Once};
+ghost use Rattle.il_machine.specs.Headers.{changed, cleared, find_header, given_to, in_done, in_todo, is_away, is_for, loaded, put, reset, same_key, seen, unchanged, without, Once, input_reset, output_reset};
 ghost use Rattle.il_machine.specs.Sound.{Sound, port_at};
 ghost use Rattle.flow_model.specs.Network.{headers_of};
 ghost use Rattle.flow_model.specs.Moves.{sent_on, sent_back};
@@ -94,11 +94,11 @@ pub fn law_of_unmade()
 pub fn law_of_resets()
     ensures output { (x : LinkEnds) (hs : List HeaderRecord)
         → Once hs → same_key x.input x.output ≡ false → x.draining ≡ [] → (seen hs).todo x.input ≡ []
-        → link_view x (reset false x.output hs)
+        → link_view x (output_reset x.output hs)
         ≡ record (link_view x hs) { ready = (link_view x hs).ready + length (link_view x hs).sent; sent = [] } }
     ensures input { (x : LinkEnds) (hs : List HeaderRecord)
         → Once hs → same_key x.input x.output ≡ false → x.draining ≡ [] → (seen hs).done x.output ≡ []
-        → link_view x (reset true x.input hs)
+        → link_view x (input_reset x.input hs)
         ≡ record (link_view x hs) { spent = (link_view x hs).spent + length (link_view x hs).held; held = [] } }
     ensures beside { (is_input : Bool) (key : PortKey) (hs : List HeaderRecord) (y : LinkEnds)
         → Once hs → y.draining ≡ [] → same_key y.output key ≡ false → same_key y.input key ≡ false

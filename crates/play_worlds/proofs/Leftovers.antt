@@ -19,7 +19,7 @@ use Rattle.il_machine.specs.World.{Component, HeaderRecord, World}
 use Rattle.il_machine.specs.Headers.{seen, find_header, put, put_at, cleared, same_key}
 use Rattle.il_machine.specs.Look.{look}
 use Rattle.il_machine.specs.Ports.{is_going_to, is_supplier, is_input_port, returning, id_of}
-use Rattle.il_machine.specs.Flow.{HandBack, back_idle, handed_back, unused_spot}
+use Rattle.il_machine.specs.Flow.{HandBack, back_idle, handed_back, supplied_spot}
 use Rattle.il_machine.specs.Sound.{Sound}
 use Rattle.machine_laws.proofs.Accepting.{passed, both_of}
 use Rattle.machine_laws.proofs.Flowing.{sound_returned}
@@ -135,7 +135,7 @@ not_disabling true k a b d = omega arith
 not_disabling false k a b d = omega arith
 
 unused_by : (w : World) (i : ℕ) (a : Component) (q : Port) (key : PortKey) (by : Bool) (n : ℕ) (ns : List ℕ) (link : Link) → q.key ≡ key → q.state ≡ joined_state link → is_input_port q ≡ by → (seen w.headers).done key ≡ [] → (seen w.headers).todo key ≡ n ∷ ns
-    → handed_back i a q q.state.link w ≡ record w { headers = put link.peer (unused_spot by) n cleared w.headers }
+    → handed_back i a q q.state.link w ≡ record w { headers = put link.peer (supplied_spot (not by)) n cleared w.headers }
 unused_by w i a q key by n ns link k s d e f = rw (s, k, d, e, f) refl
 
 back_closed : (q : List Filled) (y : LinkState) → (back_held q y).closed ≡ y.closed
@@ -177,7 +177,7 @@ module _ (x : Cast) (p : Play) (w : World) (W : IsPlayWorld x p w) (l : ℕ) (b 
   apart = let D = W.wired l b in keys_apart (input_at x l) (output_at x l) (λ e. D.apart (sym e))
 
   viewed_by : (by : Bool) (n : ℕ) (ns : List ℕ) → (seen w.headers).todo (home_by by (input_at x l) (output_at x l)) ≡ n ∷ ns
-      → link_view (ends_of x works p l) (put (home_by by (output_at x l) (input_at x l)) (unused_spot by) n cleared w.headers) ≡ given_unused by (link_view (ends_of x works p l) w.headers)
+      → link_view (ends_of x works p l) (put (home_by by (output_at x l) (input_at x l)) (supplied_spot (not by)) n cleared w.headers) ≡ given_unused by (link_view (ends_of x works p l) w.headers)
   viewed_by true n ns e =
       let y : LinkEnds = ends_of x works p l in
       let d = none_out (input_at x l) in
@@ -190,7 +190,7 @@ module _ (x : Cast) (p : Play) (w : World) (W : IsPlayWorld x p w) (l : ℕ) (b 
       h ∙ link_same (record (link_view y w.headers) { ready = length y.filling + length ns; spent = (link_view y w.headers).spent + 1 }) (given_unused false (link_view y w.headers)) (omega arith) refl refl refl refl refl
 
   beside_by : (by : Bool) (n : ℕ) (ns : List ℕ) → (seen w.headers).todo (home_by by (input_at x l) (output_at x l)) ≡ n ∷ ns → (k : ℕ) → k < links_of x → k ≢ l
-      → link_view (ends_of x works p k) (put (home_by by (output_at x l) (input_at x l)) (unused_spot by) n cleared w.headers) ≡ link_view (ends_of x works p k) w.headers
+      → link_view (ends_of x works p k) (put (home_by by (output_at x l) (input_at x l)) (supplied_spot (not by)) n cleared w.headers) ≡ link_view (ends_of x works p k) w.headers
   beside_by true n ns e k h d = input_beside (ends_of x works p l) (ends_of x works p k) w.headers n ns (W.sound).once (links_apart x works p l k W.cast b h d) (undrained n k) e
   beside_by false n ns e k h d = output_beside (ends_of x works p l) (ends_of x works p k) w.headers n ns (W.sound).once (links_apart x works p l k W.cast b h d) (undrained n k) e
 
@@ -201,8 +201,8 @@ module _ (x : Cast) (p : Play) (w : World) (W : IsPlayWorld x p w) (l : ℕ) (b 
       put_links x to spot cleared n I.header w.headers (λ y. refl) o I.found
       (cleared_link x to spot I.header (W.headers n I.header I.found)) W.headers
 
-  unused_plays : (n : ℕ) (ns : List ℕ) → (seen w.headers).todo (away_at x l) ≡ n ∷ ns → CanAct x.layout p (Act.HandUnused l) → Sound (record w { headers = put (home_at x l) (unused_spot ((x.layout).by_output l)) n cleared w.headers })
-      → IsPlayWorld x (acted x.layout (Act.HandUnused l) p) (record w { headers = put (home_at x l) (unused_spot ((x.layout).by_output l)) n cleared w.headers })
+  unused_plays : (n : ℕ) (ns : List ℕ) → (seen w.headers).todo (away_at x l) ≡ n ∷ ns → CanAct x.layout p (Act.HandUnused l) → Sound (record w { headers = put (home_at x l) (supplied_spot (not ((x.layout).by_output l))) n cleared w.headers })
+      → IsPlayWorld x (acted x.layout (Act.HandUnused l) p) (record w { headers = put (home_at x l) (supplied_spot (not ((x.layout).by_output l))) n cleared w.headers })
   unused_plays n ns e C S =
       let by : Bool = (x.layout).by_output l in
       let R = act_reaches x.layout p (Act.HandUnused l) W.reached C in
@@ -213,8 +213,8 @@ module _ (x : Cast) (p : Play) (w : World) (W : IsPlayWorld x p w) (l : ℕ) (b 
       ] in
       let a = makes_same x p q refl many in
       let u = W.numbers in
-      link_changed x p w W l b (given_unused by) (put (home_at x l) (unused_spot by) n cleared w.headers) w.made (unused_closed by ((p.flow).link l)) (unused_taken by ((p.flow).link l)) (viewed_by by n ns e) (beside_by by n ns e)
-      (links_left (away_at x l) (home_at x l) (unused_spot by) n ns e) (omega arith) R S
+      link_changed x p w W l b (given_unused by) (put (home_at x l) (supplied_spot (not by)) n cleared w.headers) w.made (unused_closed by ((p.flow).link l)) (unused_taken by ((p.flow).link l)) (viewed_by by n ns e) (beside_by by n ns e)
+      (links_left (away_at x l) (home_at x l) (supplied_spot (not by)) n ns e) (omega arith) R S
 
 -- ---- the act
 

@@ -13,12 +13,12 @@ use Rattle.il_machine.specs.declared.port.PortState.{PortState}
 use Rattle.il_machine.specs.declared.port.Link.{Link}
 use Rattle.il_machine.specs.declared.port.Port.{Port}
 use Rattle.il_machine.specs.World.{HeaderRecord, World}
-use Rattle.il_machine.specs.Headers.{find_header, in_todo, in_done, is_for, is_todo, is_done, same_key, empty_load}
+use Rattle.il_machine.specs.Headers.{find_header, in_todo, in_done, is_for, is_todo, is_done, same_key, empty_load, spot_queue}
 use Rattle.il_machine.specs.Look.{look}
 use Rattle.il_machine.specs.Ports.{is_input_port}
 use Rattle.il_machine.specs.Answers.{Acts}
 use Rattle.il_machine.specs.Due.{ClosesTo}
-use Rattle.il_machine.specs.Flow.{Supply, supply_idle, supplied_queue, tunnel_header, with_supplied}
+use Rattle.il_machine.specs.Flow.{Supply, supply_idle, tunnel_header, with_supplied, supplied_spot}
 use Rattle.il_machine.specs.Sound.{Sound}
 use Rattle.machine_laws.proofs.Finding.{push_last, push_else}
 use Rattle.machine_laws.proofs.Flowing.{sound_supplied}
@@ -79,10 +79,10 @@ supplied_is w q link e = rw e refl
 
 -- it is in no list of a port that isn't its own
 unlisted_todo : (n : ℕ) (q : Port) (peer key : PortKey) → same_key q.key key ≡ false → in_todo key (tunnel_header n q peer) ≡ false
-unlisted_todo n q peer key e = rw e (and_false_right (is_todo (supplied_queue (is_input_port q))))
+unlisted_todo n q peer key e = rw e (and_false_right (is_todo (spot_queue (supplied_spot (is_input_port q)))))
 
 unlisted_done : (n : ℕ) (q : Port) (peer key : PortKey) → same_key q.key key ≡ false → in_done key (tunnel_header n q peer) ≡ false
-unlisted_done n q peer key e = rw e (and_false_right (is_done (supplied_queue (is_input_port q))))
+unlisted_done n q peer key e = rw e (and_false_right (is_done (spot_queue (supplied_spot (is_input_port q)))))
 
 -- in its own, an output's is in todo and an input's in done
 todo_by : (n : ℕ) (q : Port) (peer : PortKey) (input : Bool) → is_input_port q ≡ input → in_todo q.key (tunnel_header n q peer) ≡ not input

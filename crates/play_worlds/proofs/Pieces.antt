@@ -1,5 +1,5 @@
 -- What comes into a step of a play, and what it gives: whole frames.
-use Rattle.std.proofs.Common.{◌≡◌, ℕ, ◌+◌, ◌-◌, ◌*◌, ◌<◌, ◌≤◌, Bool, true, false, nat_lt, if◌then◌else◌, List, ◌∷◌, find, length, take, slice_get, Option, Some, None, option_map, refl, sym, ◌∙◌, ap, subst, eqb-true, lt-ltb, arith}
+use Rattle.std.proofs.Common.{◌≡◌, ℕ, ◌+◌, ◌-◌, ◌*◌, ◌<◌, ◌≤◌, Bool, true, false, nat_lt, if◌then◌else◌, List, ◌∷◌, find, length, take, slice_get, Option, Some, None, option_map, refl, sym, ◌∙◌, ap, subst, eqb-true, lt-ltb, arith, MatchBool, []}
 use Rattle.std.proofs.Math.Nat.{div-mul-le_self, mul-le-mul_right, zero-mul}
 use Rattle.std.proofs.lemmas.List.{length-replicate, length-take-le}
 use Rattle.std.proofs.lemmas.Option.{slice_get-map, get_or_from_slice_get}
@@ -21,7 +21,7 @@ use Rattle.il_machine.specs.Settings.{default_setting, formats_of}
 use Rattle.il_machine.specs.Sound.{may_have}
 use Rattle.il_machine.specs.World.{Component, Stream, Work, World, number_of, stream_of}
 use Rattle.il_machine.specs.Claims.{CarriedHeader, carried, terms_in}
-use Rattle.il_machine.specs.Stepping.{format_at, bytes_at, is_last, frames_in, frames_for, frames_at, all_frames_at, step_frames, front_of, is_for_port, incoming, zeros_at, made_at, IsTold, Gives, GivesBy}
+use Rattle.il_machine.specs.Stepping.{format_at, bytes_at, is_last, frames_in, frames_for, frames_at, all_frames_at, step_frames, front_of, is_for_port, incoming, zeros_at, made_at, IsTold, Gives}
 use Rattle.machine_laws.proofs.Finding.{either}
 use Rattle.machine_laws.proofs.Fitting.{source_format}
 use Rattle.machine_laws.proofs.Parts.{parts_of}
@@ -105,7 +105,7 @@ module _ (x : Cast) (p : Play) (w : World) (c : ℕ) (a : Component) (W : IsPlay
   module _ (piece : List ℕ) (G : Gives t s n piece) where
     file_long : is_source a.settings.kind ≡ true → length piece ≡ n * shape.output_frame
     file_long q =
-        let T : IsTold s.known (bytes_given t s) (n * frame_bytes_of (file_format a.file)) piece = subst (λ (u : Bool). GivesBy u t s n piece) q G in
+        let T : IsTold s.known (bytes_given t s) (n * frame_bytes_of (file_format a.file)) piece = subst (λ (u : Bool). MatchBool u (IsTold s.known (bytes_given t s) (n * frame_bytes_of (file_format a.file)) piece) (piece ≡ [])) q G in
         let m = source_number x p w c a W e b A work f s g q in
         let low = least_low (frames_left t s ∷ all_frames_at t zs) 0 (frames_left t s) refl in
         told_long s.known (bytes_given t s) (n * frame_bytes_of (file_format a.file)) piece T ∙ file_unit a.file refl q (omega arith)

@@ -9,7 +9,7 @@ use Rattle.il_machine.specs.declared.header.Spot.{Spot}
 use Rattle.il_machine.specs.declared.header.Spot.TheVariants.{TodoBack, DoneBack}
 use Rattle.il_machine.specs.States.{is_down}
 use Rattle.il_machine.specs.World.{Component, HeaderRecord, ports_of}
-use Rattle.il_machine.specs.Headers.{seen, find_header, is_notice, in_unmarked, put, put_all, changed, cleared, cleared_all, reset, Once}
+use Rattle.il_machine.specs.Headers.{seen, find_header, is_notice, in_unmarked, put, put_all, changed, cleared, cleared_all, reset, Once, input_reset, output_reset}
 use Rattle.il_machine.specs.Ports.{is_supplier, is_input_port}
 use Rattle.il_machine.specs.Due.{reset_port, reset_ports, reset_on, marked, first_marked}
 use Rattle.machine_laws.proofs.Finding.{either, changed_else, once_changed}
@@ -84,11 +84,11 @@ all_cleared (n ∷ ns) m hs o a =
 reset_stays : (input : Bool) (key : PortKey) (m : ℕ) (hs : List HeaderRecord) → Once hs → IsNoted hs m → Stays m hs (reset input key hs)
 reset_stays true key m hs o N =
     let x = all_cleared ((seen hs).done key) m hs o (others key hs m ((seen hs).done key) N (done_in key hs o)) in
-    then m hs (cleared_all ((seen hs).done key) hs) (reset true key hs) x
+    then m hs (cleared_all ((seen hs).done key) hs) (input_reset key hs) x
     (all_put key DoneBack ((seen hs).todo key) m (cleared_all ((seen hs).done key) hs) x.once (others key hs m ((seen hs).todo key) N (todo_in key hs o)))
 reset_stays false key m hs o N =
     let x = all_cleared ((seen hs).todo key) m hs o (others key hs m ((seen hs).todo key) N (todo_in key hs o)) in
-    then m hs (cleared_all ((seen hs).todo key) hs) (reset false key hs) x
+    then m hs (cleared_all ((seen hs).todo key) hs) (output_reset key hs) x
     (all_put key TodoBack ((seen hs).done key) m (cleared_all ((seen hs).todo key) hs) x.once (others key hs m ((seen hs).done key) N (done_in key hs o)))
 
 port_stays : (p : Port) (m : ℕ) (hs : List HeaderRecord) → Once hs → IsNoted hs m → Stays m hs (reset_port p hs)

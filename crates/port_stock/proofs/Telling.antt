@@ -11,7 +11,7 @@ use Rattle.il_machine.specs.declared.header.HeaderState.{HeaderState}
 use Rattle.il_machine.specs.World.{HeaderRecord, Load}
 use Rattle.il_machine.specs.Headers.{Seen, seen, changed, count_headers, find_header, given_to, in_todo, in_done, is_for, is_done, is_owned_by, is_state, loaded, numbers, put, put_at, same_key, state_at, state_given, state_of, weight, without, Once}
 use Rattle.il_machine.specs.Due.{marked}
-use Rattle.il_machine.specs.Stock.{Stocked, StandsFor, at_key, pushed, those, times_passed}
+use Rattle.il_machine.specs.Stock.{Stocked, StandsFor, at_key, pushed, number_where, times_passed}
 use Rattle.stock_laws.specs.Changes.{cleared_where}
 use Rattle.stock_laws.proofs.Flat.{count-append, count-changed, count-without, find_number, find-append, find-changed, find-without_other, find-without_same, numbers-append, numbers-changed, numbers-without}
 use Rattle.stock_laws.proofs.Keys.{at_key-same, key_tells, other_owner, same_key-sym}
@@ -244,8 +244,8 @@ made_tells ps qs table flat x gone o T C = record {
       let P : Port → Type 0 = λ p. IsPortOf (flat ++ x ∷ []) k p in
       let a : is_state (in_todo k) x ≡ false = rw o refl in
       let b : is_state (in_done k) x ≡ false = rw o refl in
-      let t = numbers-append (is_state (in_todo k)) flat x ∙ (ap (λ (v : Bool). numbers (is_state (in_todo k)) flat ++ those v x.state.number) a ∙ append-nil _) in
-      let d = numbers-append (is_state (in_done k)) flat x ∙ (ap (λ (v : Bool). numbers (is_state (in_done k)) flat ++ those v x.state.number) b ∙ append-nil _) in
+      let t = numbers-append (is_state (in_todo k)) flat x ∙ (ap (λ (v : Bool). numbers (is_state (in_todo k)) flat ++ number_where v x.state.number) a ∙ append-nil _) in
+      let d = numbers-append (is_state (in_done k)) flat x ∙ (ap (λ (v : Bool). numbers (is_state (in_done k)) flat ++ number_where v x.state.number) b ∙ append-nil _) in
       let moved : Counted None (Some x.state) flat (flat ++ x ∷ []) = record {
         enough = λ test. omega arith;
         now = λ test. omega (arith, count-append test flat x);

@@ -1,5 +1,5 @@
 -- A component stays in a world until an act frees it: its number is there still.
-use Rattle.std.proofs.Common.{◌≡◌, ◌≢◌, ℕ, zero, suc, Bool, true, false, nat_eq, eq-eqb, List, [], ◌∷◌, map, set, slice_get, Option, Some, None, option_map, Ok, refl, sym, ◌∙◌, ap, subst}
+use Rattle.std.proofs.Common.{◌≡◌, ◌≢◌, ℕ, zero, suc, Bool, true, false, nat_eq, eq-eqb, List, [], ◌∷◌, map, set, slice_get, Option, Some, None, option_map, Ok, refl, sym, ◌∙◌, ap, subst, not}
 use Rattle.std.proofs.lemmas.Option.{slice_get-map}
 use Rattle.omx_types.specs.declared.handle.Handle.{Handle}
 use Rattle.omx_types.specs.declared.command.Command.{Command}
@@ -30,7 +30,7 @@ use Rattle.il_machine.specs.Tunnels.{joined_to, parted}
 use Rattle.il_machine.specs.Commands.{is_at_once, sent, run_front}
 use Rattle.il_machine.specs.Buffers.{is_unpopulating, unpopulated}
 use Rattle.il_machine.specs.Notes.{TakenEvent, TakenEmpty, TakenFilled, TookNote}
-use Rattle.il_machine.specs.Flow.{in_port, front_unmade, front_put, at_link, handed_back, returned, unused_spot, front_noticed}
+use Rattle.il_machine.specs.Flow.{in_port, front_unmade, front_put, at_link, handed_back, returned, front_noticed, supplied_spot}
 use Rattle.il_machine.specs.Units.{is_waiter, is_before, first_waiter, victim, with_changed, granted_units, preempted_units}
 use Rattle.il_machine.specs.Claims.{ClaimedWork}
 use Rattle.il_machine.specs.Stepping.{WorkDone}
@@ -168,7 +168,7 @@ over_same p None w = refl
 over_same p (Some link) w = put_same link.peer TodoBack unchanged ((seen w.headers).done p.key) w
 
 returned_same : (key : PortKey) (input : Bool) (done todo : List ℕ) (w : World) → Same w (returned key input done todo w)
-returned_same key input [] todo w = put_same key (unused_spot input) cleared todo w
+returned_same key input [] todo w = put_same key (supplied_spot (not input)) cleared todo w
 returned_same key input (n ∷ ns) todo w = refl
 
 noticed_same : (i : ℕ) (c : Component) (p : Port) (todo : List ℕ) (w : World) → slice_get w.components i ≡ Some c → Same w (front_noticed i c p todo w)

@@ -4,19 +4,19 @@ use Rattle.std.proofs.lemmas.Bool.Decides.{nat_tests}
 use Rattle.il_machine.specs.declared.header.HeaderState.{HeaderState}
 use Rattle.il_machine.specs.World.{HeaderRecord}
 use Rattle.il_machine.specs.Headers.{numbers, find_header, without, changed, has_number, Once, weight, count_headers}
-use Rattle.il_machine.specs.Stock.{those, without_number}
+use Rattle.il_machine.specs.Stock.{number_where, without_number}
 
 -- ---- one header more
 
-pub numbers-append : (q : HeaderRecord → Bool) (hs : List HeaderRecord) (r : HeaderRecord) → numbers q (hs ++ r ∷ []) ≡ numbers q hs ++ those (q r) r.state.number
-numbers-append q [] r = elim (q r) as (λ v. (if v then r.state.number ∷ [] else []) ≡ [] ++ those v r.state.number) [ true ↦ refl | false ↦ refl ]
+pub numbers-append : (q : HeaderRecord → Bool) (hs : List HeaderRecord) (r : HeaderRecord) → numbers q (hs ++ r ∷ []) ≡ numbers q hs ++ number_where (q r) r.state.number
+numbers-append q [] r = elim (q r) as (λ v. (if v then r.state.number ∷ [] else []) ≡ [] ++ number_where v r.state.number) [ true ↦ refl | false ↦ refl ]
 numbers-append q (x ∷ hs) r =
     let i = numbers-append q hs r in
-    elim (q x) as (λ v. (if v then x.state.number ∷ numbers q (hs ++ r ∷ []) else numbers q (hs ++ r ∷ [])) ≡ (if v then x.state.number ∷ numbers q hs else numbers q hs) ++ those (q r) r.state.number)
+    elim (q x) as (λ v. (if v then x.state.number ∷ numbers q (hs ++ r ∷ []) else numbers q (hs ++ r ∷ [])) ≡ (if v then x.state.number ∷ numbers q hs else numbers q hs) ++ number_where (q r) r.state.number)
     [ true ↦ ap (λ (ns : List ℕ). x.state.number ∷ ns) i | false ↦ i ]
 
-pub numbers-cons : (q : HeaderRecord → Bool) (r : HeaderRecord) (hs : List HeaderRecord) → numbers q (r ∷ hs) ≡ those (q r) r.state.number ++ numbers q hs
-numbers-cons q r hs = elim (q r) as (λ v. (if v then r.state.number ∷ numbers q hs else numbers q hs) ≡ those v r.state.number ++ numbers q hs) [ true ↦ refl | false ↦ refl ]
+pub numbers-cons : (q : HeaderRecord → Bool) (r : HeaderRecord) (hs : List HeaderRecord) → numbers q (r ∷ hs) ≡ number_where (q r) r.state.number ++ numbers q hs
+numbers-cons q r hs = elim (q r) as (λ v. (if v then r.state.number ∷ numbers q hs else numbers q hs) ≡ number_where v r.state.number ++ numbers q hs) [ true ↦ refl | false ↦ refl ]
 
 pub find-append : (m : ℕ) (hs : List HeaderRecord) (r : HeaderRecord) → find_header r.state.number hs ≡ None → find_header m (hs ++ r ∷ []) ≡ (if has_number m r then Some r else find_header m hs)
 find-append m [] r h = refl

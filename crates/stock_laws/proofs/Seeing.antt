@@ -8,7 +8,7 @@ use Rattle.il_machine.specs.declared.header.Spot.TheVariants.{TodoBack, TodoFron
 use Rattle.il_machine.specs.declared.header.HeaderState.{HeaderState}
 use Rattle.il_machine.specs.World.{HeaderRecord}
 use Rattle.il_machine.specs.Headers.{Seen, seen, numbers, find_header, without, changed, has_number, Once, weight, count_headers, state_of, is_state, in_todo, in_done, in_unmarked, same_key, at_spot, put_at, state_at}
-use Rattle.il_machine.specs.Stock.{those, at_number, with_state, listed, times_passed}
+use Rattle.il_machine.specs.Stock.{number_where, at_number, with_state, listed, times_passed}
 use Rattle.il_machine.proofs.Looking.{same_seen}
 use Rattle.stock_laws.proofs.Flat.{numbers-append, numbers-cons, numbers-without, numbers-changed, find-append, find-without_other, find-without_same, find-changed, count-append, count-without, count-changed}
 use Rattle.stock_laws.proofs.Keys.{at_key-is}
@@ -55,19 +55,19 @@ joined_seen n hs x gone e o =
 
 -- ---- a header of a new number joins, in a list of a port
 
-appended : (b : Bool) (ns : List ℕ) (n : ℕ) → ns ++ those b n ≡ (if b then ns ++ n ∷ [] else ns)
+appended : (b : Bool) (ns : List ℕ) (n : ℕ) → ns ++ number_where b n ≡ (if b then ns ++ n ∷ [] else ns)
 appended true ns n = refl
 appended false ns n = append-nil ns
 
-prepended : (b : Bool) (ns : List ℕ) (n : ℕ) → those b n ++ ns ≡ (if b then n ∷ ns else ns)
+prepended : (b : Bool) (ns : List ℕ) (n : ℕ) → number_where b n ++ ns ≡ (if b then n ∷ ns else ns)
 prepended true ns n = refl
 prepended false ns n = refl
 
-appended_if : (b u : Bool) (ns : List ℕ) (n : ℕ) → ns ++ those (b && u) n ≡ (if b then ns ++ those u n else ns)
+appended_if : (b u : Bool) (ns : List ℕ) (n : ℕ) → ns ++ number_where (b && u) n ≡ (if b then ns ++ number_where u n else ns)
 appended_if true u ns n = refl
 appended_if false u ns n = append-nil ns
 
-prepended_if : (b u : Bool) (ns : List ℕ) (n : ℕ) → those (b && u) n ++ ns ≡ (if b then those u n ++ ns else ns)
+prepended_if : (b u : Bool) (ns : List ℕ) (n : ℕ) → number_where (b && u) n ++ ns ≡ (if b then number_where u n ++ ns else ns)
 prepended_if true u ns n = refl
 prepended_if false u ns n = refl
 
@@ -87,12 +87,12 @@ spot_unmarked TodoBack key k x hs =
     let u = is_none x.load.mark in
     numbers-append (in_unmarked k) hs (put_at key TodoBack x)
     ∙ (appended_if (same_key key k) u (numbers (in_unmarked k) hs) x.state.number
-    ∙ at_key-is key k (λ k. numbers (in_unmarked k) hs ++ those u x.state.number) (λ k. numbers (in_unmarked k) hs))
+    ∙ at_key-is key k (λ k. numbers (in_unmarked k) hs ++ number_where u x.state.number) (λ k. numbers (in_unmarked k) hs))
 spot_unmarked TodoFront key k x hs =
     let u = is_none x.load.mark in
     numbers-cons (in_unmarked k) (put_at key TodoFront x) hs
     ∙ (prepended_if (same_key key k) u (numbers (in_unmarked k) hs) x.state.number
-    ∙ at_key-is key k (λ k. those u x.state.number ++ numbers (in_unmarked k) hs) (λ k. numbers (in_unmarked k) hs))
+    ∙ at_key-is key k (λ k. number_where u x.state.number ++ numbers (in_unmarked k) hs) (λ k. numbers (in_unmarked k) hs))
 spot_unmarked DoneBack key k x hs = numbers-append (in_unmarked k) hs (put_at key DoneBack x) ∙ append-nil _
 
 spot_done : (spot : Spot) (key k : PortKey) (x : HeaderRecord) (hs : List HeaderRecord) (u : Bool) → numbers (is_state (in_done k)) (at_spot spot (put_at key spot x) hs) ≡ (listed key spot x.state.number u (seen hs)).done k

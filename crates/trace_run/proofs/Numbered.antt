@@ -1,5 +1,5 @@
 -- How many components were numbered: one more where one is made.
-use Rattle.std.proofs.Common.{◌≡◌, ℕ, ◌+◌, Bool, true, List, [], ◌∷◌, Option, Some, None, MatchOption, Ok, slice_get, refl, ◌∙◌, ap}
+use Rattle.std.proofs.Common.{◌≡◌, ℕ, ◌+◌, Bool, true, List, [], ◌∷◌, Option, Some, None, MatchOption, Ok, slice_get, refl, ◌∙◌, ap, not}
 use Rattle.omx_types.specs.declared.error.OmxError.{OmxError}
 use Rattle.omx_types.specs.declared.handle.Handle.{Handle}
 use Rattle.omx_types.specs.declared.kind.Kind.{Kind}
@@ -15,7 +15,7 @@ use Rattle.il_machine.specs.Due.{ClosesTo}
 use Rattle.il_machine.specs.Kinds.{kind_of}
 use Rattle.il_machine.specs.Components.{GetHandle, get_handle_refusal, is_vacant, with_new_component}
 use Rattle.il_machine.specs.declared.port.PortKey.{PortKey}
-use Rattle.il_machine.specs.Flow.{in_port, front_unmade, front_put, handed_over, at_link, handed_back, returned, unused_spot, front_noticed}
+use Rattle.il_machine.specs.Flow.{in_port, front_unmade, front_put, handed_over, at_link, handed_back, returned, front_noticed, supplied_spot}
 use Rattle.il_machine.specs.Answers.{AnswersOrMemory}
 use Rattle.il_machine.specs.Ports.{is_input_port}
 use Rattle.il_machine.specs.declared.header.Spot.{Spot}
@@ -69,7 +69,7 @@ over_same : (p : Port) (w : World) → Same w (handed_over p w)
 over_same p w = link_same p.state.link _ w (λ k. put_same k TodoBack unchanged ((seen w.headers).done p.key) w)
 
 returned_same : (key : PortKey) (input : Bool) (done todo : List ℕ) (w : World) → Same w (returned key input done todo w)
-returned_same key input [] todo w = put_same key (unused_spot input) cleared todo w
+returned_same key input [] todo w = put_same key (supplied_spot (not input)) cleared todo w
 returned_same key input (n ∷ ns) todo w = refl
 
 noticed_same : (i : ℕ) (c : Component) (p : Port) (todo : List ℕ) (w : World) → Same w (front_noticed i c p todo w)

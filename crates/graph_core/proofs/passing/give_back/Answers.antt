@@ -1,4 +1,4 @@
-use Rattle.std.proofs.Common.{◌≡◌, ℕ, true, [], sym, ◌∙◌, ap, subst}
+use Rattle.std.proofs.Common.{◌≡◌, ℕ, true, [], sym, ◌∙◌, ap, subst, not}
 use Rattle.il_machine.specs.declared.header.Spot.{Spot}
 use Rattle.il_machine.specs.declared.header.Spot.TheVariants.{TodoBack}
 use Rattle.il_machine.specs.Lists.{holds_at}
@@ -6,12 +6,12 @@ use Rattle.il_machine.specs.Headers.{seen, is_for, unloaded}
 use Rattle.il_machine.specs.Ports.{is_input_port}
 use Rattle.il_machine.specs.Stock.{Stocked, pushed}
 use Rattle.il_machine.specs.Buffers.{load_in}
-use Rattle.il_machine.specs.Flow.{returned, unused_spot}
+use Rattle.il_machine.specs.Flow.{returned, supplied_spot}
 use Rattle.header_core.specs.BufferHeader.{BufferHeader}
 use Rattle.port_stock.specs.Kept.{stocked}
 use Rattle.graph_core.specs.Moving.{AreShared, Moves}
 use Rattle.flush_mark.proofs.ResetSteps.{no_front}
-use Rattle.graph_core.proofs.Moving.{none_sent, sent_back, sent_for_peer, pulled_for_supplier, unused_back, none_back, unused_is_supplied}
+use Rattle.graph_core.proofs.Moving.{none_sent, sent_back, sent_for_peer, pulled_for_supplier, unused_back, none_back}
 use Rattle.graph_core.proofs.passing.give_back.Goals as goal
 
 pub push_header-requires-clause-made_for : goal.push_header-requires-clause-made_for
@@ -58,13 +58,13 @@ returns c =
     let t = stocked c.pull_done.new.self in
     let key = c.args.port.key in
     let h = c.in-Some-pull_todo.header in
-    let spot = unused_spot (is_input_port c.args.port) in
+    let spot = supplied_spot (not (is_input_port c.args.port)) in
     let none : s.headers.done key ≡ [] = no_front (s.headers.done key) c.in_default.ensures.front in
     let same : t ≡ s = c.pull_done.ensures.stock ∙ none_sent s key none in
     let B : AreShared key c.args.supplier t = subst (λ (x : Stocked). AreShared key c.args.supplier x) (sym same) c.requires.shared in
     let N : t.headers.done key ≡ [] = subst (λ (x : Stocked). x.headers.done key ≡ []) (sym same) none in
     let p : stocked c.push_header-2.new.self ≡ pushed c.args.supplier spot h.held.number (unloaded (load_in h.held)) (stocked c.pull_todo.new.self) = c.push_header-2.ensures
-    ∙ (ap (λ (x : Spot). pushed c.args.supplier x c.clear.new.self.held.number (load_in c.clear.new.self.held) (stocked c.pull_todo.new.self)) (c.supplied_spot.ensures ∙ unused_is_supplied (is_input_port c.args.port))
+    ∙ (ap (λ (x : Spot). pushed c.args.supplier x c.clear.new.self.held.number (load_in c.clear.new.self.held) (stocked c.pull_todo.new.self)) c.supplied_spot.ensures
     ∙ ap (λ (x : BufferHeader). pushed c.args.supplier spot x.held.number (load_in x.held) (stocked c.pull_todo.new.self)) c.clear.ensures) in
     subst (λ (x : Stocked). Moves (λ w. returned c.args.supplier (is_input_port c.args.port) ((seen w.headers).done key) ((seen w.headers).todo key) w) x (stocked c.push_header-2.new.self)) same
     (unused_back t key c.args.supplier (is_input_port c.args.port) N B h c.in-Some-pull_todo.ensures.front c.in-Some-pull_todo.ensures.was (stocked c.push_header-2.new.self)
