@@ -1,0 +1,9 @@
+pub mod Parting
+pub mod TextLines
+pub mod Growing
+pub mod Unprinted
+pub mod Players
+pub mod Telling
+pub mod Names
+pub mod Same
+pub mod Shown

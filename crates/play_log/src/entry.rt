@@ -1,0 +1,11 @@
+use act_text::ActText;
+
+/// An act of a play, with its reply.
+#[derive(Clone, Copy, Debug, PartialEq, Eq)]
+pub struct Entry {
+    /// How many acts of all passes were made before it.
+    pub place: u64,
+    /// Who made it: 0 is the thread that the play was called on, 1 to 8 are its workers.
+    pub pass: u32,
+    pub act: ActText,
+}
