@@ -22,40 +22,25 @@ fn no_acts(rt: HostRuntime) -> Result<(), Fail> {
     Ok(())
 }
 
-/// A source and a sink whose tunnel the sink supplies.
-fn tell_a_source_and_a_sink(log: &mut Log, a: Name, b: Name) -> Result<(), OutOfMemory> {
-    let out = PortName {
-        component: a,
+fn tell(log: &mut Log, pass: u32, acts: &[ActText]) -> Result<(), OutOfMemory> {
+    for act in acts {
+        log.entry(pass, act)?;
+    }
+    Ok(())
+}
+
+fn port(component: Name) -> PortName {
+    PortName {
+        component,
         index: 0,
-    };
-    let into = PortName {
-        component: b,
-        index: 0,
-    };
-    let idle = TextAct::SendState {
-        component: a,
+    }
+}
+
+fn idle(component: Name) -> TextAct {
+    TextAct::SendState {
+        component,
         state: State::Idle,
-    };
-    log.entry(0, &said(idle, TextReply::Done))?;
-    log.entry(0, &said(TextAct::Run(a), TextReply::Did))?;
-    log.entry(0, &said(TextAct::Take(a), TextReply::NoNote))?;
-    log.entry(0, &said(TextAct::Supply(into), TextReply::Did))?;
-    log.entry(0, &reached(a, State::Idle))?;
-    log.entry(0, &said(TextAct::End(a), TextReply::Done))?;
-    log.entry(
-        0,
-        &said(TextAct::Claim(b), TextReply::Idle(TextWhy::NoData(0))),
-    )?;
-    log.entry(0, &said(TextAct::Claim(a), TextReply::Work))?;
-    log.entry(
-        0,
-        &said(TextAct::Finish(a), TextReply::Finished { frames: 3 }),
-    )?;
-    log.entry(
-        0,
-        &said(TextAct::Over(out), TextReply::Idle(TextWhy::NotSupplier)),
-    )?;
-    log.entry(0, &said(TextAct::Back(out), TextReply::Did))
+    }
 }
 
 #[test]
@@ -64,7 +49,26 @@ fn a_source_and_a_sink(rt: HostRuntime) -> Result<(), Fail> {
     let (Some(a), Some(b)) = (Name::of(b"a"), Name::of(b"b")) else {
         panic!(rt; "no names")
     };
-    tell_a_source_and_a_sink(&mut log, a, b)?;
+    tell(
+        &mut log,
+        0,
+        &[
+            said(idle(a), TextReply::Done),
+            said(TextAct::Run(a), TextReply::Did),
+            said(TextAct::Take(a), TextReply::NoNote),
+            said(TextAct::Supply(port(b)), TextReply::Did),
+            reached(a, State::Idle),
+            said(TextAct::End(a), TextReply::Done),
+            said(TextAct::Claim(b), TextReply::Idle(TextWhy::NoData(0))),
+            said(TextAct::Claim(a), TextReply::Work),
+            said(TextAct::Finish(a), TextReply::Finished { frames: 3 }),
+            said(
+                TextAct::Over(port(a)),
+                TextReply::Idle(TextWhy::NotSupplier),
+            ),
+            said(TextAct::Back(port(a)), TextReply::Did),
+        ],
+    )?;
     assert!(rt; log.is_whole());
     let text = log.finish()?;
     assert_eq!(rt;

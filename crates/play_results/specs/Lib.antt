@@ -1,0 +1,4 @@
+pub mod Files
+pub mod Worlds
+pub mod Summaries
+pub mod Results

@@ -1,0 +1,64 @@
+-- What a play on one thread leaves that was done whole.
+use Rattle.std.specs.Prelude.{◌≡◌, ◌≢◌, ℕ, List, All, Option, Some}
+use Rattle.std.specs.Io.KnownBytes.{append_known}
+use Rattle.outside_io.specs.Files.{Outside}
+use Rattle.il_machine.specs.World.{World}
+use Rattle.script_lang.specs.PlayScripts.{IsPlayScript}
+use Rattle.script_lang.specs.declared.play_line.PartLine.{PartLine}
+use Rattle.script_lang.specs.declared.script.Script.{Script}
+use Rattle.play_forms.specs.Plain.{sink_text}
+use Rattle.play_forms.specs.Plans.{IsFit, IsFitted, IsPlanOfScript, PlanValue}
+use Rattle.play_openings.specs.Assemblies.{PlayFiles}
+use Rattle.play_log.specs.Entries.{Entry}
+use Rattle.play_log.specs.Naming.{IsNaming}
+use Rattle.play_log.specs.Scenes.{scene_of}
+use Rattle.play_results.specs.Files.{AreFiles, IsNoSink, IsWriter}
+use Rattle.play_results.specs.Summaries.{SinkLine, summary_of, summary_text}
+use Rattle.play_results.specs.Worlds.{IsEnding, IsOpening}
+
+-- the told file of the name is this script of a play, and this is its plan, fitted to its files
+pub record IsPlanIn (script log : List ℕ) (old : Outside) (plan : PlanValue) (files : PlayFiles) (samples : List (List ℕ)) : Type 0 where
+  pub text : List ℕ
+  pub read : Script
+  pub planned : PlanValue
+  pub held : old.file script ≡ Some text
+  pub is_script : IsPlayScript script log text read
+  pub is_plan : IsPlanOfScript read planned
+  pub fitted : IsFitted planned files.heads plan
+  pub fit : IsFit plan
+  pub files_are : AreFiles old plan.parts files samples
+
+-- From the world where the plan's play begins on, the log names entries of the thread that plays, which lead to a world at its end.
+pub record IsLogOf (plan : PlanValue) (files : PlayFiles) (new : Outside) (text : List ℕ) : Type 0 where
+  pub opening : World
+  pub ending : World
+  pub entries : List Entry
+  pub opens : IsOpening plan files opening
+  pub names : IsNaming (scene_of plan.parts opening) opening text entries ending
+  pub alone : All (λ entry. entry.pass ≡ 0) entries
+  pub ends : IsEnding plan.parts new ending
+
+-- each sink's name holds its text of the plain function
+abbrev pub HoldSinks : PlanValue → List (List ℕ) → Outside → Type 0
+HoldSinks plan samples new = (place : ℕ) (name : List ℕ) → IsWriter plan.parts place name → new.file name ≡ Some (sink_text plan samples place)
+
+abbrev pub OthersAreKept : List PartLine → List ℕ → Outside → Outside → Type 0
+OthersAreKept parts log old new = (name : List ℕ) → name ≢ log → IsNoSink parts name → new.file name ≡ old.file name
+
+pub record IsPlayed (script log : List ℕ) (old new : Outside) (summary : List SinkLine) (printed : List ℕ) : Type 0 where
+  pub plan : PlanValue
+  pub files : PlayFiles
+  pub samples : List (List ℕ)
+  pub is : IsPlanIn script log old plan files samples
+  pub sinks : HoldSinks plan samples new
+  pub text : List ℕ
+  pub logged : new.file log ≡ Some text
+  pub log_is : IsLogOf plan files new text
+  pub others : OthersAreKept plan.parts log old new
+  pub summary_is : summary ≡ summary_of plan samples
+  pub printed_is : printed ≡ summary_text plan.parts summary
+
+-- it was played, and out got the summary
+abbrev pub GotPlayed : List ℕ → List ℕ → Outside → Outside → Option (List ℕ) → Option (List ℕ) → Type 0
+GotPlayed script log old new told told_new =
+    (summary : List SinkLine) × (printed : List ℕ) × IsPlayed script log old new summary printed × (told_new ≡ append_known told printed)
