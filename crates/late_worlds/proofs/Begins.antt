@@ -130,6 +130,7 @@ module _ (x : LateCast) (recent : ℕ) (p : Play) (w : World) (W : IsLateWorld x
     ends = W.ends;
     viewed = W.viewed;
     headers = W.headers;
+    tunnelled = W.tunnelled;
     units = W.units;
     numbers =
         let s = sum_fewer (links_of x.cast) (left_to_make x.cast (begun p)) (left_to_make x.cast p) (left_later x.cast p) in

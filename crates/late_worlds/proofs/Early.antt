@@ -158,11 +158,11 @@ module _ (x : LateCast) (p : Play) (w : World) (N : HasNoLate x.cast) (R : IsRea
       λ i. record { state = s i; eos = e i; error = r i; settings = m i; port = o i }
 
   work_late : (c : ℕ) (a : Component) (work : Work) → IsWork x.cast p c a work → IsWorkAt x.cast p c a work
-  work_late c a work K = record { phase = K.phase; stage = K.stage; going = K.going; gain = K.gain; weights = K.weights; which = inl (K.steps, K.ports) }
+  work_late c a work K = record { phase = K.phase; stage = K.stage; going = K.going; gain = K.gain; weights = K.weights; which = inl (K.steps, record { outputs = λ l O h. never l O.below h; inputs = λ l I h. never l I.below h }, K.ports) }
 
   work_early : (c : ℕ) (a : Component) (work : Work) → IsWorkAt x.cast p c a work → IsWork x.cast p c a work
   work_early c a work K = elim K.which [
-    | inl h ↦ record { phase = K.phase; stage = K.stage; going = K.going; steps = h.0; gain = K.gain; weights = K.weights; ports = h.1 }
+    | inl h ↦ record { phase = K.phase; stage = K.stage; going = K.going; steps = h.0; gain = K.gain; weights = K.weights; ports = h.2 }
     | inr A ↦ never A.link (A.output).below A.late
   ]
 
@@ -237,6 +237,7 @@ late_world x recent p w W =
       ends = W.ends;
       viewed = W.viewed;
       headers = W.headers;
+      tunnelled = λ n r output l f d h t. let z : false ≡ true = sym (N l d) ∙ h in absurd cc;
       units = W.units;
       numbers = omega arith;
     }

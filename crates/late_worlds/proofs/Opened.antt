@@ -146,6 +146,7 @@ module _ (x : LateCast) (recent : ℕ) (w : World) (O : IsLateOpening x w) where
             let works = seen_with x.cast (work_in w.components) opening l w.headers [] [] (no_work (output_at x.cast l)) (no_work (input_at x.cast l)) in
             sym (works ∙ ap (link_view (ends_with x.cast opening l [] [])) O.headers);
         headers = λ n r f. let z : None ≡ Some r = sym (ap (find_header n) O.headers) ∙ f in absurd cc;
+        tunnelled = λ n r output l f b h t. let z : None ≡ Some r = sym (ap (find_header n) O.headers) ∙ f in absurd cc;
         units = O.units;
         numbers = omega arith;
       }

@@ -11,7 +11,7 @@ use Rattle.il_machine.specs.declared.port.Port.{Port}
 use Rattle.il_machine.specs.declared.port.PortKey.{PortKey}
 use Rattle.il_machine.specs.Claims.{wanted}
 use Rattle.il_machine.specs.Finishing.{end_note}
-use Rattle.il_machine.specs.Headers.{find_header}
+use Rattle.il_machine.specs.Headers.{find_header, is_for}
 use Rattle.il_machine.specs.Kinds.{is_late, is_sink, is_source}
 use Rattle.il_machine.specs.Parts.{file_format, frames_of}
 use Rattle.il_machine.specs.Ports.{is_input_port}
@@ -24,7 +24,7 @@ use Rattle.il_machine.specs.World.{Component, HeaderRecord, Work, World, number_
 use Rattle.flow_model.specs.Network.{IsOutput}
 use Rattle.flow_model.specs.Progress.{IsLinkOf, all_headers, sum_to}
 use Rattle.play_model.specs.Changes.{IsHalfChanged, port_at}
-use Rattle.play_model.specs.Play.{Play, component_at, made}
+use Rattle.play_model.specs.Play.{HasPorts, Play, component_at, made}
 use Rattle.play_model.specs.Reached.{IsReached}
 use Rattle.play_links.specs.View.{link_view}
 use Rattle.play_worlds.specs.Cast.{Cast, IsCast, components_of, input_at, links_of, output_at, script_place, supplier_of}
@@ -32,14 +32,18 @@ use Rattle.play_worlds.specs.Standing.{commands_at, standing}
 use Rattle.play_worlds.specs.Telling.{heard, last_note, last_told, state_note, unheard}
 use Rattle.play_worlds.specs.Wiring.{IsSomeEnd, ends_of, link_to, port_in, work_in}
 use Rattle.play_worlds.specs.Worlds.{HasLink, IsPart, ends_untold, to_make}
-use Rattle.late_worlds.specs.Changing.{at_links, commands_of_port, is_set, notes_of_port, state_by, told_of_port}
+use Rattle.late_worlds.specs.Changing.{at_links, commands_of_port, is_joined_at, is_set, notes_of_port, state_by, told_of_port}
 
 -- a cast, and the format that goes through each link
 pub record LateCast : Type 0 where
   pub cast : Cast
   pub format : ℕ → Format
 
--- the port at an end of a link
+-- the end of a link at its output, else at its input, and the number of its port
+abbrev pub end_of_link : Cast → Bool → ℕ → PortKey
+end_of_link x true l = output_at x l
+end_of_link x false l = input_at x l
+
 abbrev pub port_number : Cast → Bool → ℕ → ℕ
 port_number x true l = x.output_port l
 port_number x false l = x.input_port l
@@ -105,7 +109,7 @@ pub record HasHeard (x : Cast) (recent : ℕ) (p : Play) (c : ℕ) (h : Progress
   -- one without a late source's link has told nothing of these
   pub nothing : ((l : ℕ) → IsLinkOf (x.layout).network c l → (x.layout).is_late l ≡ false) → (h.settings ≡ None) × (h.port ≡ None)
 
--- a work is a step on the headers of its ports, or a late source's announcement of no header
+-- a work is a step on the headers of its ports, none of which is held or being changed, or a late source's announcement of no header
 pub record IsAnnouncement (x : Cast) (p : Play) (c : ℕ) (work : Work) : Type 0 where
   pub link : ℕ
   pub output : IsOutput (x.layout).network c link
@@ -120,7 +124,7 @@ pub record IsWorkAt (x : Cast) (p : Play) (c : ℕ) (a : Component) (work : Work
   pub going : (p.flow).ended c ≡ false
   pub gain : work.gain ≡ a.settings.gain
   pub weights : work.weights ≡ a.settings.weights
-  pub which : ((work.announces ≡ false) × (map (λ h. h.port) work.headers ≡ map (λ (q : Port). q.key.port) (wanted a))) ⊎ IsAnnouncement x p c work
+  pub which : ((work.announces ≡ false) × HasPorts x.layout p c × (map (λ h. h.port) work.headers ≡ map (λ (q : Port). q.key.port) (wanted a))) ⊎ IsAnnouncement x p c work
 
 pub record IsActorAt (x : LateCast) (recent : ℕ) (p : Play) (w : World) (c : ℕ) (a : Component) : Type 0 where
   pub number : number_of a ≡ script_place x.cast c
@@ -166,5 +170,8 @@ pub record IsLateWorld (x : LateCast) (recent : ℕ) (p : Play) (w : World) : Ty
   pub ends : (i port : ℕ) (a : Component) (q : Port) → slice_get w.components i ≡ Some a → port_of a port ≡ Some q → IsSomeEnd x.cast q.key
   pub viewed : (l : ℕ) → l < links_of x.cast → (p.flow).link l ≡ link_view (ends_of x.cast (work_in w.components) p l) w.headers
   pub headers : (n : ℕ) (r : HeaderRecord) → find_header n w.headers ≡ Some r → HasLink x.cast r
+  -- a link whose tunnel is dropped has none
+  pub tunnelled : (n : ℕ) (r : HeaderRecord) (output : Bool) (l : ℕ) → find_header n w.headers ≡ Some r → l < links_of x.cast → ((x.cast).layout).is_late l ≡ true
+      → is_for (end_of_link x.cast output l) r.state ≡ true → is_joined_at (p.change l).step ≡ true
   pub units : sum_by need_of w.components ≤ w.units
   pub numbers : w.made + sum_to (links_of x.cast) (left_to_make x.cast p) ≤ all_headers ((x.cast).layout).network + sum_to (links_of x.cast) (made_again x.cast)
