@@ -1,9 +1,10 @@
 -- A world of a play with late sources in which the change of one link has gone on, and of the rest all stayed.
-use Rattle.std.proofs.Common.{◌≡◌, ◌≢◌, ◌⊎◌, inl, inr, ℕ, zero, suc, ◌+◌, ◌<◌, ◌≤◌, Bool, true, false, not, ◌||◌, nat_eq, nat_le, if◌then◌else◌, is_some, List, [], ◌++◌, length, set, slice_get, sum_by, find, map, Option, Some, None, option_and_then, MatchOption, refl, sym, ◌∙◌, ap, subst, eq-eqb, ne_eqb, arith}
+use Rattle.std.proofs.Common.{◌≡◌, ◌≢◌, ◌⊎◌, inl, inr, ℕ, zero, suc, ◌+◌, ◌<◌, ◌≤◌, Bool, true, false, not, ◌||◌, nat_eq, nat_le, if◌then◌else◌, is_some, List, [], ◌++◌, length, set, slice_get, sum_by, find, map, Option, Some, None, option_and_then, MatchOption, refl, sym, ◌∙◌, ap, subst, eq-eqb, ne_eqb, le-leb, arith}
 use Rattle.std.proofs.lemmas.Bool.{cases_eq}
 use Rattle.il_machine.specs.declared.answer.Progress.{Progress}
 use Rattle.il_machine.specs.declared.port.Port.{Port}
 use Rattle.il_machine.specs.declared.port.PortKey.{PortKey}
+use Rattle.il_machine.specs.declared.port.PortState.{PortState}
 use Rattle.il_machine.specs.Components.{no_progress}
 use Rattle.il_machine.specs.Finishing.{end_note}
 use Rattle.il_machine.specs.Headers.{find_header}
@@ -52,6 +53,22 @@ end_moves x p q k s at peer y e f E =
       format = λ h k. E.format h (sym same ∙ k);
     }
 
+-- an end whose state is this one
+pub end_stated : (x : LateCast) (p q : Play) (k : ℕ) (s : Bool) (at peer : PortKey) (y : Port) (st : PortState) → st ≡ state_by s (q.change k) (link_to x.cast k peer) → is_set_at s (q.change k).step ≡ is_set_at s (p.change k).step
+    → IsEndAt x p k s at peer y → IsEndAt x q k s at peer (record y { state = st })
+end_stated x p q k s at peer y st e f E =
+    let same : is_set (x.cast).layout q s k ≡ is_set (x.cast).layout p s k = ap (λ (b : Bool). not (((x.cast).layout).is_late k) || b) f in
+    record {
+      key = E.key;
+      state = e;
+      direction = E.direction;
+      count = E.count;
+      size = E.size;
+      known = E.known ∙ ap not (sym same);
+      unit = λ h. E.unit (sym same ∙ h);
+      format = λ h k. E.format h (sym same ∙ k);
+    }
+
 pub wired_moves : (x : LateCast) (p q : Play) (ports to : PortKey → Option Port) (k : ℕ) → q.change k ≡ p.change k → to (output_at x.cast k) ≡ ports (output_at x.cast k) → to (input_at x.cast k) ≡ ports (input_at x.cast k) → IsWiredAt x p ports k → IsWiredAt x q to k
 wired_moves x p q ports to k e f g D = record {
   output = D.output;
@@ -86,16 +103,14 @@ abbrev pub IsLatest : ℕ → ℕ → ℕ → Change → Type 0
 IsLatest recent later l k = (later ≡ recent) ⊎ ((later ≡ l) × (k.output ≡ 0) × (k.input ≡ 0))
 
 late_told : (n : ℕ) → 2 ≤ n → nat_le 2 n ≡ true
-late_told zero l = absurd (omega arith)
-late_told (suc zero) l = absurd (omega arith)
-late_told (suc (suc n)) l = refl
+late_told n l = le-leb 2 n l
 
 told_none : (n port : ℕ) → 2 ≤ n → announced_note n port ≡ []
 told_none zero port l = absurd (omega arith)
 told_none (suc zero) port l = absurd (omega arith)
 told_none (suc (suc n)) port l = refl
 
-none_told : (s : Bool) (k : Change) (port : ℕ) → k.output ≡ 0 → k.input ≡ 0 → is_some (told_of_port (port_at s k) port) ≡ true → ⊥
+pub none_told : (s : Bool) (k : Change) (port : ℕ) → k.output ≡ 0 → k.input ≡ 0 → is_some (told_of_port (port_at s k) port) ≡ true → ⊥
 none_told true k port e f h = let z : false ≡ true = sym (ap (λ (n : ℕ). is_some (told_of_port n port)) e) ∙ h in cc
 none_told false k port e f h = let z : false ≡ true = sym (ap (λ (n : ℕ). is_some (told_of_port n port)) f) ∙ h in cc
 

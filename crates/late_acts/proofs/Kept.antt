@@ -39,14 +39,14 @@ module _ (x : LateCast) (recent : ℕ) (p : Play) (stage : ℕ → ℕ) (told : 
 
   -- ---- a component that stays where it is
 
-  module _ (d : ℕ) (same : stage d ≡ p.stage d) (as : told d ≡ p.told d) where
+  module _ (d : ℕ) (same : stage d ≡ p.stage d) (also : told d ≡ p.told d) where
     rest_same : IsBeforeRest q d → IsBeforeRest p d
     rest_same B = ((λ e. subst (λ (k : ℕ). k ≤ 2) same (B.0 e)), B.1)
 
     heard_same : (h : Progress) → HasHeard x.cast recent p d h → HasHeard x.cast recent q d h
     heard_same h H = record {
       state = H.state ∙ ap (last_told p.phase) (sym same);
-      eos = H.eos ∙ sym as;
+      eos = H.eos ∙ sym also;
       error = H.error;
       settings = H.settings;
       port = H.port;
@@ -77,14 +77,14 @@ module _ (x : LateCast) (recent : ℕ) (p : Play) (stage : ℕ → ℕ) (told : 
       late_format = A.late_format;
       file = A.file;
       notes = ap (λ (y : List Note). out_of a.client_out y ++ a.notes) n
-          ∙ (A.notes ∙ (λ i. state_note p.phase (sym same i) ++ (settings_notes x.cast p d ++ (port_notes x.cast p d ++ end_note (ends_untold x.cast (record p { told = λ _. sym as i }) d)))));
+          ∙ (A.notes ∙ (λ i. state_note p.phase (sym same i) ++ (settings_notes x.cast p d ++ (port_notes x.cast p d ++ end_note (ends_untold x.cast (record p { told = λ _. sym also i }) d)))));
       heard_so = subst (λ (h : Progress). HasHeard x.cast recent q d h) (sym (ap (λ (y : List Note). progress_by (heard_of a.client_out y) no_progress) n)) (heard_same (heard w a) A.heard_so);
       out = λ e. let o = A.out e in (o.0, ap last_note n ∙ o.1);
       part = record { whole = (A.part).whole; ended = λ B. (A.part).ended (rest_same B); inputs = λ B. (A.part).inputs (rest_same B) };
       done = subst (λ (o : Option Stream). MatchOption o ⊥ (λ z. z.frames ≡ (p.flow).done d)) (sym s) A.done;
       work = λ work e. work_same a work (A.work work e);
       running = λ e l. A.running e (subst (λ (k : ℕ). k ≤ 2) same l);
-      over = λ l e. as ∙ A.over l e;
+      over = λ l e. also ∙ A.over l e;
     }
 
   -- ---- the component that goes on, with its part and its ports
@@ -94,7 +94,7 @@ module _ (x : LateCast) (recent : ℕ) (p : Play) (stage : ℕ → ℕ) (told : 
     pub settings : b.settings ≡ a.settings
     pub file : b.file ≡ a.file
     pub part : b.part ≡ a.part
-    pub told : p.told c ≡ true → told c ≡ true
+    pub keeps_told : p.told c ≡ true → told c ≡ true
     pub stands : b ≡ record (standing p.phase (stage c) b) { commands = commands_at p.phase (stage c) ++ port_commands x.cast p c }
     pub notes : unheard v b ≡ state_note p.phase (stage c) ++ (settings_notes x.cast p c ++ (port_notes x.cast p c ++ end_note (ends_untold x.cast q c)))
     pub heard_so : HasHeard x.cast recent q c (heard v b)
@@ -124,7 +124,7 @@ module _ (x : LateCast) (recent : ℕ) (p : Play) (stage : ℕ → ℕ) (told : 
             (subst (λ (o : List Stream). MatchOption (find (is_stream_of (number_of a)) o) ⊥ (λ z. z.frames ≡ (p.flow).done c)) (sym s) A.done);
         work = G.work;
         running = λ e l. A.running e (G.ran l);
-        over = λ l e. G.told (A.over l e);
+        over = λ l e. G.keeps_told (A.over l e);
       }
 
   -- ---- the world

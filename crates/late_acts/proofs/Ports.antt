@@ -83,4 +83,6 @@ selected_there index (suc j) change (z ∷ ps) y e =
     rw (f, n) refl
 
 pub selected_one : (a : Component) (j : ℕ) (change : PortState → PortState) (q : Port) → port_of a j ≡ Some q → with_selected (One j) change a ≡ with_port j (change q.state) a
-selected_one a j change q e = ap (λ (ps : List PortState). record a { ports = ps }) (selected_there 0 j change a.ports q.state (port_parts a j q e).state)
+selected_one a j change q e =
+    let z : 0 + j ≡ j = omega arith in
+    ap (λ (ps : List PortState). record a { ports = ps }) (ap (λ (k : ℕ). selected_from 0 (One k) change a.ports) (sym z) ∙ selected_there 0 j change a.ports q.state (port_parts a j q e).state)

@@ -308,7 +308,7 @@ first_idle : (ys : List (Bool × Claimed)) (z : Claimed) → AreIdle ys → firs
 first_idle [] z a e = absurd cc
 first_idle (y ∷ ys) z a e = either y.0 (λ t. let s : Some y.1 ≡ Some z = rw t at e in let q : y.1 ≡ z = cc in ap is_work (sym q) ∙ a.0) (λ f. first_idle ys z a.1 (rw f at e))
 
-never_work : (l : Look) (a : Component) (work : WorkSeen) → claim_idle l a ≡ Some (ClaimedWork work) → ⊥
+pub never_work : (l : Look) (a : Component) (work : WorkSeen) → claim_idle l a ≡ Some (ClaimedWork work) → ⊥
 never_work l a told e =
     let held : List (Bool × Claimed) = map (held_test a) (ports_of a) in
     let inputs : List (Bool × Claimed) = map (data_test l.headers) (filter is_input_port (wanted a)) in
@@ -321,7 +321,7 @@ never_work l a told e =
     let f : true ≡ false = first_idle all (ClaimedWork told) (refl, (refl, (refl, tail))) e in
     cc
 
-first_is : {E : Type 0} (t : Bool) (y : E) (rest : Option E) → t ≡ true → (if t then Some y else rest) ≡ Some y
+pub first_is : {E : Type 0} (t : Bool) (y : E) (rest : Option E) → t ≡ true → (if t then Some y else rest) ≡ Some y
 first_is t y rest h = rw h refl
 
 is_busy : (l : Look) (a : Component) (work : Work) → a.work ≡ Some work → claim_idle l a ≡ Some ClaimedBusy
@@ -331,10 +331,10 @@ claim_is : (x : Cast) (p : Play) (w : World) (c : ℕ) (h : Handle) (result : Re
     → Claims (claim_idle (look w) a) (script_place x c) a w result v
 claim_is x p w c h result v a N e K = resolved plain w h result v (λ i c. Claims (claim_idle (look w) c) i c w result v) (script_place x c) a N e K
 
-claims_some : (o : Option Claimed) (idle : Claimed) (i : ℕ) (a : Component) (w : World) (result : Result Claimed OmxError) (v : World) → o ≡ Some idle → Claims o i a w result v → (result ≡ Ok idle) × (v ≡ w)
+pub claims_some : (o : Option Claimed) (idle : Claimed) (i : ℕ) (a : Component) (w : World) (result : Result Claimed OmxError) (v : World) → o ≡ Some idle → Claims o i a w result v → (result ≡ Ok idle) × (v ≡ w)
 claims_some o idle i a w result v f K = rw f at K
 
-claims_none : (o : Option Claimed) (i : ℕ) (a : Component) (w : World) (result : Result Claimed OmxError) (v : World) → o ≡ None → Claims o i a w result v
+pub claims_none : (o : Option Claimed) (i : ℕ) (a : Component) (w : World) (result : Result Claimed OmxError) (v : World) → o ≡ None → Claims o i a w result v
     → (result ≡ Ok (ClaimedWork (seen_work a (work_of (seen w.headers) a) w.headers))) × ClosesTo (with_work i a (work_of (seen w.headers) a) w) v
 claims_none o i a w result v f K = rw f at K
 

@@ -52,7 +52,7 @@ parted [] = refl
 parted (m ∷ []) = refl
 parted (m ∷ k ∷ ns) = ap (λ (l : List Note). m ∷ l) (parted (k ∷ ns))
 
-progress_push : (ns : List Note) (n : Note) (p : Progress) → progress_by (ns ++ n ∷ []) p ≡ noted_by n (progress_by ns p)
+pub progress_push : (ns : List Note) (n : Note) (p : Progress) → progress_by (ns ++ n ∷ []) p ≡ noted_by n (progress_by ns p)
 progress_push [] n p = refl
 progress_push (m ∷ ns) n p = progress_push ns n (noted_by m p)
 
@@ -65,7 +65,7 @@ given_push number k note (g ∷ gs) =
     (λ t. rw t (ap (λ (l : List Note). g.note ∷ l) i))
     (λ f. rw f i)
 
-no_state_note : (phase stage : ℕ) → stage ≢ 3 → state_note phase stage ≡ []
+pub no_state_note : (phase stage : ℕ) → stage ≢ 3 → state_note phase stage ≡ []
 no_state_note phase zero n = refl
 no_state_note phase (suc zero) n = refl
 no_state_note phase (suc (suc zero)) n = refl
@@ -74,6 +74,29 @@ no_state_note phase (suc (suc (suc (suc k)))) n = refl
 
 -- ---- a note is taken
 
+module _ (w : World) (i : ℕ) (a : Component) (note : Note) (at : number_of a ≡ i) (o : a.client_out ≡ false) (f : slice_get a.notes 0 ≡ Some note) where
+  abbrev taken_now : World
+  taken_now = with_given i a note w
+
+  pub given_here : notes_given (number_of a) taken_now ≡ notes_given (number_of a) w ++ note ∷ []
+  given_here = given_push (number_of a) (number_of a) note w.given ∙ rw (eq-eqb (number_of a) (number_of a) refl) refl
+
+  pub given_else : (k : ℕ) → k ≢ i → notes_given k taken_now ≡ notes_given k w
+  given_else k n = given_push k (number_of a) note w.given ∙ (rw (ne_eqb (number_of a) k (λ s. n (sym s ∙ at))) (append-nil (notes_given k w)))
+
+  pub unheard_same : unheard taken_now (first_taken a) ≡ unheard w a
+  unheard_same =
+      let now : unheard taken_now (first_taken a) ≡ note ∷ drop 1 a.notes = ap (λ (g : List Note). last_note g ++ drop 1 a.notes) given_here ∙ ap (λ (g : List Note). g ++ drop 1 a.notes) (last_push (notes_given (number_of a) w) note) in
+      let was : unheard w a ≡ a.notes = rw o refl in
+      now ∙ (sym (first_is a.notes note f) ∙ sym was)
+
+  pub heard_same : heard taken_now (first_taken a) ≡ heard w a
+  heard_same =
+      let now : heard taken_now (first_taken a) ≡ progress_by (notes_given (number_of a) w) no_progress =
+      ap (λ (g : List Note). progress_by (earlier_notes g) no_progress) given_here ∙ ap (λ (g : List Note). progress_by g no_progress) (earlier_push (notes_given (number_of a) w) note) in
+      let was : heard w a ≡ progress_by (notes_given (number_of a) w) no_progress = rw o refl in
+      now ∙ sym was
+
 module _ (x : Cast) (p : Play) (w : World) (c : ℕ) (a : Component) (note : Note) (W : IsPlayWorld x p w) (l : c < components_of x) (e : slice_get w.components (script_place x c) ≡ Some a) (A : IsActor x p w c a)
     (o : a.client_out ≡ false) (f : slice_get a.notes 0 ≡ Some note) where
   abbrev v : World
@@ -81,25 +104,6 @@ module _ (x : Cast) (p : Play) (w : World) (c : ℕ) (a : Component) (note : Not
 
   abbrev b : Component
   b = first_taken a
-
-  given_here : notes_given (number_of a) v ≡ notes_given (number_of a) w ++ note ∷ []
-  given_here = given_push (number_of a) (number_of a) note w.given ∙ rw (eq-eqb (number_of a) (number_of a) refl) refl
-
-  given_else : (k : ℕ) → k ≢ script_place x c → notes_given k v ≡ notes_given k w
-  given_else k n = given_push k (number_of a) note w.given ∙ (rw (ne_eqb (number_of a) k (λ s. n (sym s ∙ A.number))) (append-nil (notes_given k w)))
-
-  unheard_same : unheard v b ≡ unheard w a
-  unheard_same =
-      let now : unheard v b ≡ note ∷ drop 1 a.notes = ap (λ (g : List Note). last_note g ++ drop 1 a.notes) given_here ∙ ap (λ (g : List Note). g ++ drop 1 a.notes) (last_push (notes_given (number_of a) w) note) in
-      let was : unheard w a ≡ a.notes = rw o refl in
-      now ∙ (sym (first_is a.notes note f) ∙ sym was)
-
-  heard_same : heard v b ≡ heard w a
-  heard_same =
-      let now : heard v b ≡ progress_by (notes_given (number_of a) w) no_progress =
-      ap (λ (g : List Note). progress_by (earlier_notes g) no_progress) given_here ∙ ap (λ (g : List Note). progress_by g no_progress) (earlier_push (notes_given (number_of a) w) note) in
-      let was : heard w a ≡ progress_by (notes_given (number_of a) w) no_progress = rw o refl in
-      now ∙ sym was
 
   take_going : IsGoing x p p w v c a b
   take_going = record {
@@ -111,9 +115,9 @@ module _ (x : Cast) (p : Play) (w : World) (c : ℕ) (a : Component) (note : Not
     phase = refl;
     told = λ t. t;
     stands = subst (λ (z : Component). first_taken z ≡ standing p.phase (p.stage c) (first_taken z)) (sym A.stands) refl;
-    notes = unheard_same ∙ A.notes;
-    heard = heard_same ∙ A.heard;
-    out = λ t. (note, ap last_note given_here ∙ last_push (notes_given (number_of a) w) note);
+    notes = unheard_same w (script_place x c) a note A.number o f ∙ A.notes;
+    heard = heard_same w (script_place x c) a note A.number o f ∙ A.heard;
+    out = λ t. (note, ap last_note (given_here w (script_place x c) a note A.number o f) ∙ last_push (notes_given (number_of a) w) note);
     before = λ B. B;
     worked = λ h. h;
     ran = λ h. h;
@@ -129,7 +133,7 @@ module _ (x : Cast) (p : Play) (w : World) (c : ℕ) (a : Component) (note : Not
         made = refl;
         units = refl;
         streams = refl;
-        given = given_else;
+        given = given_else w (script_place x c) a note A.number o f;
         keeps = record { handle = refl; settings = refl; ports = refl; work = refl };
         flow = refl;
         phase = refl;
@@ -166,6 +170,14 @@ module _ (x : Cast) (p q : Play) (w : World) (c : ℕ) (a : Component) (W : IsPl
       } in
       one_changed x p q w v c a (back_in a) W C R (sound_ended w (script_place x c) a W.sound e) (actor_goes x p q w v c a (back_in a) G A)
 
+-- what was heard of it, once the note that is out was heard
+pub heard_back : (w : World) (i : ℕ) (a : Component) (n : Note) → a.client_out ≡ true → last_note (notes_given (number_of a) w) ≡ n ∷ [] → heard (with_component i (back_in a) w) (back_in a) ≡ noted_by n (heard w a)
+heard_back w i a n o e =
+    let given : List Note = notes_given (number_of a) w in
+    let knew : progress_by (earlier_notes given) no_progress ≡ heard w a = sym (ap (λ (b : Bool). progress_by (heard_of b given) no_progress) o) in
+    let whole : given ≡ earlier_notes given ++ n ∷ [] = sym (parted given) ∙ ap (λ (g : List Note). earlier_notes given ++ g) e in
+    ap (λ (g : List Note). progress_by g no_progress) whole ∙ (progress_push (earlier_notes given) n no_progress ∙ ap (noted_by n) knew)
+
 module _ (x : Cast) (p : Play) (w : World) (c : ℕ) (a : Component) (W : IsPlayWorld x p w) (l : c < components_of x) (A : IsActor x p w c a) (o : a.client_out ≡ true) where
   abbrev gone : World
   gone = with_component (script_place x c) (back_in a) w
@@ -177,13 +189,8 @@ module _ (x : Cast) (p : Play) (w : World) (c : ℕ) (a : Component) (W : IsPlay
   front : (n : Note) → last_note given ≡ n ∷ [] → n ∷ a.notes ≡ notes_at p.phase (p.stage c) (ends_untold x p c)
   front n e = sym (ap (λ (g : List Note). g ++ a.notes) e) ∙ (sym (ap (λ (b : Bool). out_of b given ++ a.notes) o) ∙ A.notes)
 
-  knew : progress_by (earlier_notes given) no_progress ≡ progress_at p.phase (p.stage c) (p.told c)
-  knew = sym (ap (λ (b : Bool). progress_by (heard_of b given) no_progress) o) ∙ A.heard
-
   knows : (n : Note) → last_note given ≡ n ∷ [] → heard gone (back_in a) ≡ noted_by n (progress_at p.phase (p.stage c) (p.told c))
-  knows n e =
-      let whole : given ≡ earlier_notes given ++ n ∷ [] = sym (parted given) ∙ ap (λ (g : List Note). earlier_notes given ++ g) e in
-      ap (λ (g : List Note). progress_by g no_progress) whole ∙ (progress_push (earlier_notes given) n no_progress ∙ ap (noted_by n) knew)
+  knows n e = heard_back w (script_place x c) a n o e ∙ ap (noted_by n) A.heard
 
   -- ---- the completion of the StateSet
 
@@ -292,10 +299,10 @@ module _ (x : Cast) (p : Play) (w : World) (c : ℕ) (a : Component) (W : IsPlay
 
 -- ---- both acts
 
-told_else : (p : Play) (c k : ℕ) → k ≢ c → (if nat_eq k c then true else p.told k) ≡ p.told k
+pub told_else : (p : Play) (c k : ℕ) → k ≢ c → (if nat_eq k c then true else p.told k) ≡ p.told k
 told_else p c k e = rw (ne_eqb k c e) refl
 
-ended_at : (w : World) (h : Handle) (v : World) (i : ℕ) (a : Component) → place_of h w.components ≡ Some i → slice_get w.components i ≡ Some a → EndNote w h v → ClosesTo (with_component i (back_in a) w) v
+pub ended_at : (w : World) (h : Handle) (v : World) (i : ℕ) (a : Component) → place_of h w.components ≡ Some i → slice_get w.components i ≡ Some a → EndNote w h v → ClosesTo (with_component i (back_in a) w) v
 ended_at w h v i a e f s =
     at_there (slice_get w.components i) (λ c. ClosesTo (with_component i (back_in c) w) v) a f
     (at_there (place_of h w.components) (λ j. MatchOption (slice_get w.components j) ⊥ (λ c. ClosesTo (with_component j (back_in c) w) v)) i e s)

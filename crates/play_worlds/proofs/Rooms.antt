@@ -22,14 +22,14 @@ use Rattle.play_worlds.proofs.Lists.{get_there, sum_none}
 
 -- ---- notes
 
-state_notes : (phase stage : ℕ) → length (state_note phase stage) ≤ 1
+pub state_notes : (phase stage : ℕ) → length (state_note phase stage) ≤ 1
 state_notes phase zero = omega arith
 state_notes phase (suc zero) = omega arith
 state_notes phase (suc (suc zero)) = omega arith
 state_notes phase (suc (suc (suc zero))) = omega arith
 state_notes phase (suc (suc (suc (suc n)))) = omega arith
 
-end_notes : (b : Bool) → length (end_note b) ≤ 1
+pub end_notes : (b : Bool) → length (end_note b) ≤ 1
 end_notes true = omega arith
 end_notes false = omega arith
 

@@ -45,19 +45,19 @@ Executes phase stage = ((phase ≡ 2) × (3 ≤ stage)) ⊎ ((phase ≡ 3) × (s
 abbrev Runs : ℕ → ℕ → Type 0
 Runs phase stage = ((phase ≡ 2) × (3 ≤ stage)) ⊎ ((phase ≡ 3) × (stage ≤ 1))
 
-executes_back : (phase stage : ℕ) → is_executing (state_at phase stage) ≡ true → Executes phase stage
+pub executes_back : (phase stage : ℕ) → is_executing (state_at phase stage) ≡ true → Executes phase stage
 executes_back phase zero e = inr (before_executing phase e, omega arith)
 executes_back phase (suc zero) e = inr (before_executing phase e, omega arith)
 executes_back phase (suc (suc zero)) e = inr (before_executing phase e, omega arith)
 executes_back phase (suc (suc (suc n))) e = inl (target_executing phase e, omega arith)
 
-late_stage : (phase stage : ℕ) → phase ≡ 2 → 3 ≤ stage → (is_executing (state_at phase stage) ≡ true) × (is_none (pending_at phase stage) ≡ true)
+pub late_stage : (phase stage : ℕ) → phase ≡ 2 → 3 ≤ stage → (is_executing (state_at phase stage) ≡ true) × (is_none (pending_at phase stage) ≡ true)
 late_stage phase zero e l = absurd (omega arith)
 late_stage phase (suc zero) e l = absurd (omega arith)
 late_stage phase (suc (suc zero)) e l = absurd (omega arith)
 late_stage phase (suc (suc (suc n))) e l = (rw e refl, refl)
 
-early_stage : (phase stage : ℕ) → phase ≡ 3 → stage ≤ 2 → is_executing (state_at phase stage) ≡ true
+pub early_stage : (phase stage : ℕ) → phase ≡ 3 → stage ≤ 2 → is_executing (state_at phase stage) ≡ true
 early_stage phase zero e l = rw e refl
 early_stage phase (suc zero) e l = rw e refl
 early_stage phase (suc (suc zero)) e l = rw e refl
@@ -68,7 +68,7 @@ at_rest_at phase zero l = refl
 at_rest_at phase (suc zero) l = refl
 at_rest_at phase (suc (suc n)) l = absurd (omega arith)
 
-resting_back : (phase stage : ℕ) → is_none (pending_at phase stage) ≡ true → stage ≤ 2 → stage ≤ 1
+pub resting_back : (phase stage : ℕ) → is_none (pending_at phase stage) ≡ true → stage ≤ 2 → stage ≤ 1
 resting_back phase zero e l = omega arith
 resting_back phase (suc zero) e l = omega arith
 resting_back phase (suc (suc zero)) e l = absurd cc
