@@ -12,3 +12,5 @@ pub mod Turning
 pub mod Telling
 pub mod Completing
 
+pub mod Sending
+pub mod Running

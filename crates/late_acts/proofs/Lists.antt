@@ -1,5 +1,5 @@
 -- What the late links of a component queue at it, over two plays.
-use Rattle.std.proofs.Common.{◌≡◌, ◌≢◌, inl, inr, ℕ, zero, suc, ◌<◌, Bool, true, false, not, if◌then◌else◌, nat_eq, List, [], ◌∷◌, ◌++◌, refl, sym, ◌∙◌, ap, subst, eqb-true, eq-eqb, ne_eqb, arith}
+use Rattle.std.proofs.Common.{◌≡◌, ◌≢◌, ◌⊎◌, inl, inr, ℕ, zero, suc, ◌<◌, Bool, true, false, not, if◌then◌else◌, nat_eq, List, [], ◌∷◌, ◌++◌, refl, sym, ◌∙◌, ap, subst, eqb-true, eq-eqb, ne_eqb, arith}
 use Rattle.std.proofs.lemmas.Bool.{cases_eq}
 use Rattle.machine_laws.proofs.Finding.{either}
 use Rattle.play_model.specs.Play.{Layout, component_at}
@@ -63,4 +63,40 @@ links_one w P c (suc m) l output b t e n h = elim (cases_eq l m) [
       let below = links_one w P c m l output (let z = d in omega arith) t e n (λ s k g. h s k (omega arith)) in
       let here = ends_none w P c m (λ s. h s m (omega arith) (λ z. d (sym z))) in
       (λ i. below i ++ here i) ∙ append_nil (P output l)
+]
+
+-- ---- what is queued is of some end
+
+when_some : {A : Type 0} (b : Bool) (xs : List A) (d : A) (ds : List A) → (if b then xs else []) ≡ d ∷ ds → (b ≡ true) × (xs ≡ d ∷ ds)
+when_some true xs d ds h = (refl, h)
+when_some false xs d ds h = absurd cc
+
+append_some : {A : Type 0} (xs ys : List A) (d : A) (ds : List A) → xs ++ ys ≡ d ∷ ds → ((m : A) × (ms : List A) × (xs ≡ m ∷ ms)) ⊎ ((m : A) × (ms : List A) × (ys ≡ m ∷ ms))
+append_some [] ys d ds h = inr (d, ds, h)
+append_some (x ∷ xs) ys d ds h = inl (x, xs, refl)
+
+-- an end of a late link of the component that queues something
+pub record HasQueued {A : Type 0} (w : Layout) (P : Bool → ℕ → List A) (c n : ℕ) : Type 0 where
+  pub link : ℕ
+  pub side : Bool
+  pub below : link < n
+  pub late : w.is_late link ≡ true
+  pub of_link : component_at w side link ≡ c
+  pub one : A
+  pub more : List A
+  pub queued : P side link ≡ one ∷ more
+
+ends_some : {A : Type 0} (w : Layout) (P : Bool → ℕ → List A) (c l : ℕ) (d : A) (ds : List A) → at_ends w P c l ≡ d ∷ ds → HasQueued w P c (suc l)
+ends_some w P c l d ds h =
+    let a = when_some (w.is_late l) _ d ds h in
+    elim (append_some (if nat_eq ((w.network).giver l) c then P true l else []) (if nat_eq ((w.network).taker l) c then P false l else []) d ds a.1) [
+      | inl r ↦ let g = when_some (nat_eq ((w.network).giver l) c) (P true l) r.0 r.1 r.2 in record { link = l; side = true; below = omega arith; late = a.0; of_link = eqb-true _ _ g.0; one = r.0; more = r.1; queued = g.1 }
+      | inr r ↦ let g = when_some (nat_eq ((w.network).taker l) c) (P false l) r.0 r.1 r.2 in record { link = l; side = false; below = omega arith; late = a.0; of_link = eqb-true _ _ g.0; one = r.0; more = r.1; queued = g.1 }
+    ]
+
+pub links_some : {A : Type 0} (w : Layout) (P : Bool → ℕ → List A) (c n : ℕ) (d : A) (ds : List A) → at_links w P c n ≡ d ∷ ds → HasQueued w P c n
+links_some w P c zero d ds h = absurd cc
+links_some w P c (suc n) d ds h = elim (append_some (at_links w P c n) (at_ends w P c n) d ds h) [
+  | inl r ↦ let H = links_some w P c n r.0 r.1 r.2 in record { link = H.link; side = H.side; below = (let b = H.below in omega arith); late = H.late; of_link = H.of_link; one = H.one; more = H.more; queued = H.queued }
+  | inr r ↦ ends_some w P c n r.0 r.1 r.2
 ]
