@@ -38,9 +38,10 @@ use Rattle.late_worlds.proofs.Ports.{announced_state}
 use Rattle.late_acts.specs.Leading.{LateLeadsTo}
 use Rattle.late_acts.proofs.Around.{change_else, change_here, end_stated}
 use Rattle.late_acts.proofs.Announcing.{its, its_end, no_commands, no_port_notes, no_settings, off_file, untold, untouched}
-use Rattle.late_acts.proofs.Ends.{HasEnd, end_inside, first_port, one_end, source_lists}
+use Rattle.late_acts.proofs.Ends.{HasEnd, end_inside, ends_apart, first_port, one_end, source_lists}
 use Rattle.late_acts.proofs.One.{IsTurned, IsTurnedAt, actor_turned, turned}
 use Rattle.late_acts.proofs.Ports.{port_else, port_here}
+use Rattle.late_acts.proofs.Turning.{rises_turned}
 
 -- ---- what the announcement is for the input's end, and for the headers that are to be made
 
@@ -180,7 +181,8 @@ module _ (x : LateCast) (recent : ℕ) (p : Play) (w : World) (W : IsLateWorld x
       record {
         handle = refl;
         kind = refl;
-        fit = A.fit;
+        set_for = A.set_for;
+        rises = rises_turned x recent recent p l told_on c true refl (ends_apart x recent p w W true l C.0) (omega arith);
         file = refl;
         part = refl;
         stands = ap (λ (z : Component). record (with_port y.key.port now (record z { work = None; ports = a.ports })) { notes = a.notes ++ note ∷ [] }) A.stands

@@ -7,7 +7,7 @@ use Rattle.il_machine.specs.declared.port.PortKey.{PortKey}
 use Rattle.il_machine.specs.declared.port.PortState.{PortState}
 use Rattle.il_machine.specs.Components.{no_progress}
 use Rattle.il_machine.specs.Finishing.{end_note}
-use Rattle.il_machine.specs.Headers.{find_header}
+use Rattle.il_machine.specs.Headers.{find_header, is_for}
 use Rattle.il_machine.specs.Queued.{notes_given}
 use Rattle.il_machine.specs.Sound.{Sound}
 use Rattle.il_machine.specs.Units.{need_of}
@@ -218,7 +218,8 @@ module _ (x : LateCast) (recent later : ℕ) (p : Play) (l : ℕ) (g : Change �
         record {
           number = A.number;
           stands = A.stands ∙ (λ i. record (standing p.phase (p.stage c) a) { commands = commands_at p.phase (p.stage c) ++ sym cs i });
-          fit = A.fit;
+          set_for = A.set_for;
+          roomy = A.roomy;
           source = A.source;
           sink = A.sink;
           late = A.late;
@@ -232,6 +233,7 @@ module _ (x : LateCast) (recent later : ℕ) (p : Play) (l : ℕ) (g : Change �
           work = λ work e. work_same a work (A.work work e);
           running = A.running;
           over = A.over;
+          unsteady = λ s j b d t n. A.unsteady s j b d t (let e = port_same s j d in omega arith);
         }
 
   -- ---- the world
@@ -249,7 +251,7 @@ module _ (x : LateCast) (recent later : ℕ) (p : Play) (l : ℕ) (g : Change �
     pub ends : (i port : ℕ) (a : Component) (y : Port) → slice_get v.components i ≡ Some a → port_of a port ≡ Some y → IsSomeEnd x.cast y.key
     pub actors : (c : ℕ) (a : Component) → c < components_of x.cast → slice_get v.components (script_place x.cast c) ≡ Some a → IsActorAt x later q v c a
     pub fewer : left_to_make x.cast q l ≤ left_to_make x.cast p l
-    pub joined : is_joined_at k.step ≡ true → is_joined_at (g k).step ≡ true
+    pub joined : (n : ℕ) (r : HeaderRecord) (s : Bool) → find_header n w.headers ≡ Some r → is_for (end_of_link x.cast s l) r.state ≡ true → is_joined_at k.step ≡ true → is_joined_at (g k).step ≡ true
     pub half : (j : ℕ) → j < links_of x.cast → ((x.cast).layout).is_late j ≡ true → IsHalfChanged (q.change j) → j ≡ later
 
   pub around : (w v : World) → IsLateWorld x recent p w → IsReached (x.cast).layout q → Sound v → IsAround w v → IsLateWorld x later q v
@@ -275,9 +277,13 @@ module _ (x : LateCast) (recent later : ℕ) (p : Play) (l : ℕ) (g : Change �
         was ∙ sym (λ t. link_view (record y { filling = o t; draining = i t }) (hs t));
     headers = λ n r f. W.headers n r (subst (λ (hs : List HeaderRecord). find_header n hs ≡ Some r) A.headers f);
     tunnelled = λ n r s j f b t h.
-        let was = W.tunnelled n r s j (subst (λ (hs : List HeaderRecord). find_header n hs ≡ Some r) A.headers f) b t h in
+        let there : find_header n w.headers ≡ Some r = subst (λ (hs : List HeaderRecord). find_header n hs ≡ Some r) A.headers f in
+        let was = W.tunnelled n r s j there b t h in
         elim (cases_eq j l) [
-          | inl e ↦ subst (λ (i : ℕ). is_joined_at (q.change i).step ≡ true) (sym e) (ap (λ (z : Change). is_joined_at z.step) (change_here l g p) ∙ A.joined (subst (λ (i : ℕ). is_joined_at (p.change i).step ≡ true) e was))
+          | inl e ↦
+              let its : is_for (end_of_link x.cast s l) r.state ≡ true = subst (λ (i : ℕ). is_for (end_of_link x.cast s i) r.state ≡ true) e h in
+              let now : is_joined_at (q.change l).step ≡ true = ap (λ (z : Change). is_joined_at z.step) (change_here l g p) ∙ A.joined n r s there its (subst (λ (i : ℕ). is_joined_at (p.change i).step ≡ true) e was) in
+              subst (λ (i : ℕ). is_joined_at (q.change i).step ≡ true) (sym e) now
           | inr n ↦ ap (λ (z : Change). is_joined_at z.step) (change_else l g p j n) ∙ was
         ];
     units = let a = A.needs in let b = A.units in let u = W.units in omega arith;

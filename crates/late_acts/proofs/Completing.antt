@@ -35,7 +35,7 @@ use Rattle.late_acts.proofs.Around.{change_else, change_here, end_moves}
 use Rattle.late_acts.proofs.Ends.{HasEnd, end_inside, end_there, ends_apart}
 use Rattle.late_acts.proofs.One.{IsTurned, IsTurnedAt, actor_turned, turned}
 use Rattle.late_acts.proofs.Telling.{front}
-use Rattle.late_acts.proofs.Turning.{all_told, alone_half, commands_here, commands_turned, half_of, half_stays, heard_turned, is_recent, no_work_at, notes_after, notes_here, port_next, port_other, ports_turned, sent_step, settings_at, settings_here, settings_turned, step_stays, which}
+use Rattle.late_acts.proofs.Turning.{all_told, alone_half, commands_here, commands_turned, half_of, half_stays, heard_turned, is_recent, no_work_at, notes_after, notes_here, port_next, port_other, ports_turned, sent_step, settings_at, settings_here, settings_turned, step_stays, which, rises_turned}
 
 -- what is queued, and told once that is heard
 pub record IsCompletion (n port : ℕ) : Type 0 where
@@ -165,7 +165,8 @@ module _ (x : LateCast) (recent : ℕ) (p : Play) (w : World) (W : IsLateWorld x
       record {
         handle = refl;
         kind = refl;
-        fit = A.fit;
+        set_for = A.set_for;
+        rises = rises_turned x recent recent p l (port_on o) c o refl apart (let m = here in omega arith);
         file = refl;
         part = refl;
         stands = ap (λ (z : Component). record z { client_out = false }) A.stands ∙ (λ i. record (standing p.phase (p.stage c) b) { commands = commands_at p.phase (p.stage c) ++ sym cs i });

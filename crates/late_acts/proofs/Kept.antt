@@ -10,6 +10,7 @@ use Rattle.il_machine.specs.Components.{no_progress}
 use Rattle.il_machine.specs.Finishing.{end_note}
 use Rattle.il_machine.specs.Headers.{find_header}
 use Rattle.il_machine.specs.Kinds.{is_late, is_sink, is_source}
+use Rattle.il_machine.specs.Parameters.{overflows}
 use Rattle.il_machine.specs.Parts.{file_format, frames_of}
 use Rattle.il_machine.specs.Queued.{notes_given}
 use Rattle.il_machine.specs.Settings.{Settings, fits}
@@ -30,7 +31,7 @@ use Rattle.play_worlds.specs.Wiring.{IsSomeEnd, ends_of, port_in, work_in}
 use Rattle.play_worlds.specs.Worlds.{IsBeforeRest, IsPart, ends_untold}
 use Rattle.play_worlds.proofs.Lists.{got_set, sum_same}
 use Rattle.late_worlds.specs.Changing.{is_joined_at, state_by}
-use Rattle.late_worlds.specs.Late.{HasHeard, IsActorAt, IsAnnouncement, IsEndAt, IsLateWorld, IsWiredAt, IsWorkAt, LateCast, left_to_make, port_commands, port_notes, settings_notes}
+use Rattle.late_worlds.specs.Late.{HasHeard, IsActorAt, IsAnnouncement, IsEndAt, IsLateWorld, IsSetFor, IsWiredAt, IsWorkAt, LateCast, left_to_make, port_commands, port_notes, settings_notes}
 use Rattle.late_acts.proofs.Around.{wired_moves}
 
 module _ (x : LateCast) (recent : ℕ) (p : Play) (stage : ℕ → ℕ) (told : ℕ → Bool) where
@@ -70,7 +71,8 @@ module _ (x : LateCast) (recent : ℕ) (p : Play) (stage : ℕ → ℕ) (told : 
     actor_kept w v a n s A = record {
       number = A.number;
       stands = A.stands ∙ ap (λ (k : ℕ). record (standing p.phase k a) { commands = commands_at p.phase k ++ port_commands x.cast p d }) (sym same);
-      fit = A.fit;
+      set_for = A.set_for;
+      roomy = A.roomy;
       source = A.source;
       sink = A.sink;
       late = A.late;
@@ -85,6 +87,7 @@ module _ (x : LateCast) (recent : ℕ) (p : Play) (stage : ℕ → ℕ) (told : 
       work = λ work e. work_same a work (A.work work e);
       running = λ e l. A.running e (subst (λ (k : ℕ). k ≤ 2) same l);
       over = λ l e. also ∙ A.over l e;
+      unsteady = A.unsteady;
     }
 
   -- ---- the component that goes on, with its part and its ports
@@ -110,7 +113,8 @@ module _ (x : LateCast) (recent : ℕ) (p : Play) (stage : ℕ → ℕ) (told : 
       record {
         number = n ∙ A.number;
         stands = G.stands;
-        fit = subst (λ (z : Settings). fits z ≡ true) (sym settings) A.fit;
+        set_for = subst (λ (z : Settings). IsSetFor x c z) (sym settings) A.set_for;
+        roomy = λ l I t. ap (λ f. overflows f (x.format l)) G.file ∙ A.roomy l I t;
         source = ap (λ (z : Settings). is_source z.kind) settings ∙ A.source;
         sink = ap (λ (z : Settings). is_sink z.kind) settings ∙ A.sink;
         late = λ j O. ap (λ (z : Settings). is_late z.kind) settings ∙ A.late j O;
@@ -125,6 +129,7 @@ module _ (x : LateCast) (recent : ℕ) (p : Play) (stage : ℕ → ℕ) (told : 
         work = G.work;
         running = λ e l. A.running e (G.ran l);
         over = λ l e. G.keeps_told (A.over l e);
+        unsteady = A.unsteady;
       }
 
   -- ---- the world

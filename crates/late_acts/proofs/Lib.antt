@@ -14,3 +14,12 @@ pub mod Completing
 
 pub mod Sending
 pub mod Running
+pub mod Counting
+pub mod Happening
+pub mod Due
+pub mod Retuning
+pub mod Both
+pub mod Dropping
+pub mod Joining
+pub mod Formats
+pub mod Setting

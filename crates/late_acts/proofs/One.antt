@@ -9,6 +9,7 @@ use Rattle.il_machine.specs.declared.port.Port.{Port}
 use Rattle.il_machine.specs.declared.port.PortKey.{PortKey}
 use Rattle.il_machine.specs.Finishing.{end_note}
 use Rattle.il_machine.specs.Kinds.{is_late, is_sink, is_source}
+use Rattle.il_machine.specs.Parameters.{overflows}
 use Rattle.il_machine.specs.Parts.{file_format, frames_of}
 use Rattle.il_machine.specs.Queued.{notes_given}
 use Rattle.il_machine.specs.Settings.{fits}
@@ -31,7 +32,7 @@ use Rattle.play_worlds.specs.Wiring.{IsSomeEnd, link_to, port_in, work_in}
 use Rattle.play_worlds.specs.Worlds.{IsPart, ends_untold}
 use Rattle.play_worlds.proofs.Lists.{got_set, sum_same}
 use Rattle.late_worlds.specs.Changing.{is_joined_at, is_set_at, state_by}
-use Rattle.late_worlds.specs.Late.{HasHeard, IsActorAt, IsEndAt, IsLateWorld, IsWiredAt, IsWorkAt, LateCast, end_of_link, left_to_make, port_commands, port_notes, port_number, settings_notes}
+use Rattle.late_worlds.specs.Late.{HasHeard, IsActorAt, IsEndAt, IsLateWorld, IsSetFor, IsWiredAt, IsWorkAt, LateCast, end_of_link, left_to_make, port_commands, port_notes, port_number, settings_notes}
 use Rattle.late_acts.proofs.Around.{IsAround, IsLatest, IsQuiet, actor_beside, around, change_else, change_here, end_moves, ends_differ}
 
 -- ---- the component
@@ -47,7 +48,8 @@ module _ (x : LateCast) (recent later : ℕ) (p : Play) (l : ℕ) (g : Change �
   pub record IsTurned (w v : World) (c : ℕ) (a b : Component) : Type 0 where
     pub handle : b.handle ≡ a.handle
     pub kind : b.settings.kind ≡ a.settings.kind
-    pub fit : fits b.settings ≡ true
+    pub set_for : IsSetFor x c b.settings
+    pub rises : (s : Bool) (j : ℕ) → component_at (x.cast).layout s j ≡ c → port_at s (p.change j) ≤ port_at s (q.change j)
     pub file : b.file ≡ a.file
     pub part : b.part ≡ a.part
     pub stands : b ≡ record (standing p.phase (p.stage c) b) { commands = commands_at p.phase (p.stage c) ++ port_commands x.cast q c }
@@ -63,7 +65,8 @@ module _ (x : LateCast) (recent later : ℕ) (p : Play) (l : ℕ) (g : Change �
       record {
         number = n ∙ A.number;
         stands = T.stands;
-        fit = T.fit;
+        set_for = T.set_for;
+        roomy = λ j I t. ap (λ f. overflows f (x.format j)) T.file ∙ A.roomy j I t;
         source = ap is_source kind ∙ A.source;
         sink = ap is_sink kind ∙ A.sink;
         late = λ j O. ap is_late kind ∙ A.late j O;
@@ -78,6 +81,7 @@ module _ (x : LateCast) (recent later : ℕ) (p : Play) (l : ℕ) (g : Change �
         work = T.work;
         running = A.running;
         over = A.over;
+        unsteady = λ s j b d t n. A.unsteady s j b d t (let r = T.rises s j d in omega arith);
       }
 
   -- ---- the world
@@ -251,6 +255,6 @@ module _ (x : LateCast) (recent later : ℕ) (p : Play) (l : ℕ) (g : Change �
       ends = turned_ends;
       actors = turned_actors B;
       fewer = T.fewer;
-      joined = T.joined;
+      joined = λ n r s f t h. T.joined h;
       half = T.half;
     })

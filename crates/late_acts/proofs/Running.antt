@@ -49,7 +49,7 @@ use Rattle.late_acts.proofs.One.{IsTurned, IsTurnedAt, actor_turned, turned}
 use Rattle.late_acts.proofs.Ports.{port_else, port_here, selected_one}
 use Rattle.late_acts.proofs.Sending.{port_command}
 use Rattle.late_acts.proofs.Standing.{commands_are, late_commands_are}
-use Rattle.late_acts.proofs.Turning.{all_told, alone_half, commands_after, commands_here, half_of, half_stays, heard_turned, no_work_at, notes_turned, port_next, port_other, settings_at, settings_turned, step_stays}
+use Rattle.late_acts.proofs.Turning.{all_told, alone_half, commands_after, commands_here, half_of, half_stays, heard_turned, no_work_at, notes_turned, port_next, port_other, settings_at, settings_turned, step_stays, rises_turned}
 
 abbrev changes_port : Bool → PortState → PortState
 changes_port true s = disabling s
@@ -206,7 +206,8 @@ module _ (x : LateCast) (recent : ℕ) (p : Play) (w : World) (W : IsLateWorld x
       record {
         handle = refl;
         kind = refl;
-        fit = A.fit;
+        set_for = A.set_for;
+        rises = rises_turned x recent recent p l (port_on o) c o refl apart (let m = port_next o k in omega arith);
         file = refl;
         part = refl;
         stands = ap (λ (z : Component). record (record z { commands = [] }) { ports = b.ports }) A.stands ∙ (λ j. record (standing p.phase (p.stage c) b) { commands = sym late j ++ sym cs j });

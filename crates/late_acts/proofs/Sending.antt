@@ -42,7 +42,7 @@ use Rattle.late_acts.proofs.Around.{IsLatest, change_else, change_here, end_move
 use Rattle.late_acts.proofs.Ends.{HasEnd, actor_there, end_inside, end_there, ends_apart}
 use Rattle.late_acts.proofs.One.{IsTurned, IsTurnedAt, actor_turned, turned}
 use Rattle.late_acts.proofs.Standing.{late_commands_are, no_loss, pending_is, state_is}
-use Rattle.late_acts.proofs.Turning.{all_told, alone_half, calm_ports, commands_after, commands_here, heard_turned, is_recent, no_work_at, notes_after, notes_here, settings_at, settings_here, settings_turned}
+use Rattle.late_acts.proofs.Turning.{all_told, alone_half, calm_ports, commands_after, commands_here, heard_turned, is_recent, no_work_at, notes_after, notes_here, settings_at, settings_here, settings_turned, rises_turned}
 
 abbrev pub port_command : Bool → ℕ → Command
 port_command true port = PortDisable (One port)
@@ -60,6 +60,7 @@ pub record IsSending (o disables : Bool) (k : Change) : Type 0 where
   pub sets : (s : Bool) → is_set_at s (conducted k).step ≡ is_set_at s k.step
   pub others : port_at (not o) (conducted k) ≡ port_at (not o) k
   pub unsteady : port_at o k < 7
+  pub rises : port_at o k ≤ port_at o (conducted k)
   pub calm : (link : Link) → port_reserve (state_by o k link) ≡ 0
   pub two : (2 ≤ k.step) × (2 ≤ (conducted k).step)
   pub before_drop : nat_le (conducted k).step 4 ≡ nat_le k.step 4
@@ -92,6 +93,7 @@ sends_first input = record {
   sets = by_side (λ s. is_set_at s (conducted (first_sent input)).step ≡ is_set_at s (first_sent input).step) refl refl;
   others = refl;
   unsteady = omega arith;
+  rises = omega arith;
   calm = λ link. refl;
   two = (omega arith, omega arith);
   before_drop = refl;
@@ -109,6 +111,7 @@ sends_second output = record {
   sets = by_side (λ s. is_set_at s (conducted (second_sent output)).step ≡ is_set_at s (second_sent output).step) refl refl;
   others = refl;
   unsteady = omega arith;
+  rises = omega arith;
   calm = λ link. refl;
   two = (omega arith, omega arith);
   before_drop = refl;
@@ -126,6 +129,7 @@ sends_third input = record {
   sets = by_side (λ s. is_set_at s (conducted (third_sent input)).step ≡ is_set_at s (third_sent input).step) refl refl;
   others = refl;
   unsteady = omega arith;
+  rises = omega arith;
   calm = λ link. refl;
   two = (omega arith, omega arith);
   before_drop = refl;
@@ -143,6 +147,7 @@ sends_fourth output = record {
   sets = by_side (λ s. is_set_at s (conducted (fourth_sent output)).step ≡ is_set_at s (fourth_sent output).step) refl refl;
   others = refl;
   unsteady = omega arith;
+  rises = omega arith;
   calm = λ link. refl;
   two = (omega arith, omega arith);
   before_drop = refl;
@@ -354,7 +359,8 @@ module _ (x : LateCast) (recent : ℕ) (p : Play) (w : World) (W : IsLateWorld x
       record {
         handle = refl;
         kind = refl;
-        fit = A.fit;
+        set_for = A.set_for;
+        rises = rises_turned x recent l p l conducted c o refl apart S.rises;
         file = refl;
         part = refl;
         stands = ap (λ (z : Component). record z { commands = a.commands ++ command ∷ [] }) A.stands

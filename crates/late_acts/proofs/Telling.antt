@@ -37,7 +37,7 @@ use Rattle.late_acts.proofs.Announced.{left_same}
 use Rattle.late_acts.proofs.Around.{change_else, change_here, end_moves, end_stated}
 use Rattle.late_acts.proofs.Ends.{HasEnd, end_inside, end_there, ends_apart, no_sink, one_end, source_lists}
 use Rattle.late_acts.proofs.One.{IsTurned, IsTurnedAt, actor_turned, turned}
-use Rattle.late_acts.proofs.Turning.{commands_here, commands_turned, heard_turned, its_output, no_work_at, notes_here, notes_turned, ports_turned, settings_here, settings_turned}
+use Rattle.late_acts.proofs.Turning.{commands_here, commands_turned, heard_turned, its_output, no_work_at, notes_here, notes_turned, ports_turned, settings_here, settings_turned, rises_turned}
 
 -- ---- the note that is out, in front of those in the queue
 
@@ -153,7 +153,8 @@ module _ (x : LateCast) (recent : ℕ) (p : Play) (w : World) (W : IsLateWorld x
       record {
         handle = refl;
         kind = refl;
-        fit = A.fit;
+        set_for = A.set_for;
+        rises = rises_turned x recent recent p l told_on c true refl apart (omega arith);
         file = refl;
         part = refl;
         stands = ap (λ (z : Component). record z { client_out = false }) A.stands ∙ (λ i. record (standing p.phase (p.stage c) b) { commands = commands_at p.phase (p.stage c) ++ sym cs i });

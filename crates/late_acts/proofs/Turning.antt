@@ -108,6 +108,14 @@ module _ (x : LateCast) (recent later : ℕ) (p : Play) (l : ℕ) (g : Change �
     nothing = H.nothing;
   }
 
+  pub rises_turned : port_at o k ≤ port_at o (g k) → (s : Bool) (j : ℕ) → component_at (x.cast).layout s j ≡ c → port_at s (p.change j) ≤ port_at s (q.change j)
+  rises_turned r s j a = elim (which s j a) [
+    | inl w ↦
+        let now : port_at o k ≤ port_at o (q.change l) = subst (λ (z : Change). port_at o k ≤ port_at o z) (sym (change_here l g p)) r in
+        subst (λ (i : ℕ). port_at s (p.change i) ≤ port_at s (q.change i)) (sym w.0) (subst (λ (u : Bool). port_at u (p.change l) ≤ port_at u (q.change l)) (sym w.1) now)
+    | inr n ↦ subst (λ (z : Change). port_at s (p.change j) ≤ port_at s z) (sym (change_else l g p j n)) (omega arith)
+  ]
+
   pub ports_turned : port_at o k ≤ port_at o (g k) → HasPorts (x.cast).layout p c → HasPorts (x.cast).layout q c
   ports_turned h P = record { outputs = λ j O t. more true j O.given_by (P.outputs j O t); inputs = λ j I t. more false j I.taken_by (P.inputs j I t) }
     where

@@ -86,7 +86,8 @@ module _ (x : LateCast) (recent : ℕ) (p : Play) (w : World) (W : IsLateWorld x
       record {
         number = A.number;
         stands = now ∙ ap (λ (y : Component). record y { commands = commands }) (begin_stands p.phase a C.more);
-        fit = A.fit;
+        set_for = A.set_for;
+        roomy = A.roomy;
         source = A.source;
         sink = A.sink;
         late = A.late;
@@ -100,6 +101,7 @@ module _ (x : LateCast) (recent : ℕ) (p : Play) (w : World) (W : IsLateWorld x
         work = λ work e. absurd (no_work c a work l (A.work work e));
         running = λ e s. let O = (W.reached).opening (omega arith) in O.going c;
         over = λ h s. over_told c a l A h s;
+        unsteady = A.unsteady;
       }
 
   begun_end : (l : ℕ) (output : Bool) (at peer : PortKey) (q : Port) → IsEndAt x p l output at peer q → IsEndAt x (begun p) l output at peer q

@@ -170,7 +170,13 @@ module _ (x : LateCast) (p : Play) (w : World) (N : HasNoLate x.cast) (R : IsRea
   actor_late recent c a A = record {
     number = A.number;
     stands = A.stands ∙ sym (stands_same c a);
-    fit = A.fit;
+    set_for = record {
+      fit = A.fit;
+      taken = λ l I h. never l I.below h;
+      beside = λ l i y I h e k. never l I.below h;
+      together = λ k l I J h i. never k I.below h;
+    };
+    roomy = λ l I h. never l I.below h;
     source = A.source;
     sink = A.sink;
     late = λ l O. A.early_source ∙ sym (N l O.below);
@@ -184,6 +190,7 @@ module _ (x : LateCast) (p : Play) (w : World) (N : HasNoLate x.cast) (R : IsRea
     work = λ work e. work_late c a work (A.work work e);
     running = A.running;
     over = A.over;
+    unsteady = λ output l b g h n. never l b h;
   }
 
   early_kind : (recent c : ℕ) (a : Component) → IsLayout (x.cast).layout → c < components_of x.cast → IsActorAt x recent p w c a → is_late a.settings.kind ≡ false
@@ -195,7 +202,7 @@ module _ (x : LateCast) (p : Play) (w : World) (N : HasNoLate x.cast) (R : IsRea
   actor_early recent c a Y b A = record {
     number = A.number;
     stands = A.stands ∙ stands_same c a;
-    fit = A.fit;
+    fit = (A.set_for).fit;
     source = A.source;
     sink = A.sink;
     early_source = early_kind recent c a Y b A;

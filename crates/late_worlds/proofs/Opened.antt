@@ -92,7 +92,8 @@ module _ (x : LateCast) (recent : ℕ) (w : World) (O : IsLateOpening x w) where
       record {
         number = S.number;
         stands = stood ∙ ap (λ (cs : List Command). record (standing 0 4 a) { commands = cs }) (sym commands);
-        fit = S.fit;
+        set_for = S.set_for;
+        roomy = S.roomy;
         source = S.source;
         sink = S.sink;
         late = S.late;
@@ -112,6 +113,7 @@ module _ (x : LateCast) (recent : ℕ) (w : World) (O : IsLateOpening x w) where
         work = λ work f. let z : None ≡ Some work = sym free ∙ f in absurd cc;
         running = λ h k. absurd (omega arith);
         over = λ h k. absurd (omega arith);
+        unsteady = λ output k b g h n. refl;
       }
 
   -- no work is out
@@ -166,7 +168,7 @@ early_opening x w N O =
           record {
             number = S.number;
             fresh_else = S.fresh_else;
-            fit = S.fit;
+            fit = (S.set_for).fit;
             source = S.source;
             sink = S.sink;
             early_source = either (((x.cast).layout).is_sink c)

@@ -5,23 +5,26 @@ use Rattle.omx_types.specs.declared.command.Event.TheVariants.{PortSettingsChang
 use Rattle.omx_types.specs.declared.command.Note.{Note}
 use Rattle.omx_types.specs.declared.command.Note.TheVariants.{Told}
 use Rattle.omx_types.specs.declared.format.Format.{Format}
+use Rattle.omx_types.specs.declared.kind.Kind.{Kind}
 use Rattle.omx_types.specs.Formats.{frame_bytes_of, is_auto}
 use Rattle.il_machine.specs.declared.answer.Progress.{Progress}
 use Rattle.il_machine.specs.declared.port.Port.{Port}
 use Rattle.il_machine.specs.declared.port.PortKey.{PortKey}
+use Rattle.il_machine.specs.declared.port.PortSetting.{PortSetting}
 use Rattle.il_machine.specs.Claims.{wanted}
 use Rattle.il_machine.specs.Finishing.{end_note}
 use Rattle.il_machine.specs.Headers.{find_header, is_for}
-use Rattle.il_machine.specs.Kinds.{is_late, is_sink, is_source}
+use Rattle.il_machine.specs.Kinds.{is_input_format, is_late, is_sink, is_source}
+use Rattle.il_machine.specs.Parameters.{overflows}
 use Rattle.il_machine.specs.Parts.{file_format, frames_of}
 use Rattle.il_machine.specs.Ports.{is_input_port}
 use Rattle.il_machine.specs.Queued.{notes_given}
-use Rattle.il_machine.specs.Settings.{fits}
+use Rattle.il_machine.specs.Settings.{Settings, fits, is_splitter, same_format, same_rate_and_channels}
 use Rattle.il_machine.specs.Sound.{Sound}
 use Rattle.il_machine.specs.Tunnels.{agreed}
 use Rattle.il_machine.specs.Units.{need_of}
 use Rattle.il_machine.specs.World.{Component, HeaderRecord, Work, World, number_of, port_of, stream_of}
-use Rattle.flow_model.specs.Network.{IsOutput}
+use Rattle.flow_model.specs.Network.{IsInput, IsOutput}
 use Rattle.flow_model.specs.Progress.{IsLinkOf, all_headers, sum_to}
 use Rattle.play_model.specs.Changes.{IsHalfChanged, port_at}
 use Rattle.play_model.specs.Play.{HasPorts, Play, component_at, made}
@@ -126,10 +129,25 @@ pub record IsWorkAt (x : Cast) (p : Play) (c : ℕ) (a : Component) (work : Work
   pub weights : work.weights ≡ a.settings.weights
   pub which : ((work.announces ≡ false) × HasPorts x.layout p c × (map (λ h. h.port) work.headers ≡ map (λ (q : Port). q.key.port) (wanted a))) ⊎ IsAnnouncement x p c work
 
+-- both at the ports of one component of the kind
+abbrev pub IsAlike : Kind → Format → Format → Type 0
+IsAlike kind f g = (same_rate_and_channels f g ≡ true) × (is_splitter kind ≡ true → same_format f g ≡ true)
+
+-- Its ports fit, and so they do with the formats of the late sources' links that it takes out of.
+pub record IsSetFor (x : LateCast) (c : ℕ) (s : Settings) : Type 0 where
+  pub fit : fits s ≡ true
+  pub taken : (l : ℕ) → IsInput ((x.cast).layout).network c l → ((x.cast).layout).is_late l ≡ true → is_input_format s.kind (x.format l) ≡ true
+  pub beside : (l i : ℕ) (y : PortSetting) → IsInput ((x.cast).layout).network c l → ((x.cast).layout).is_late l ≡ true → slice_get s.ports i ≡ Some y → is_auto y.definition.format ≡ false
+      → IsAlike s.kind y.definition.format (x.format l)
+  pub together : (k l : ℕ) → IsInput ((x.cast).layout).network c k → IsInput ((x.cast).layout).network c l → ((x.cast).layout).is_late k ≡ true → ((x.cast).layout).is_late l ≡ true
+      → IsAlike s.kind (x.format k) (x.format l)
+
 pub record IsActorAt (x : LateCast) (recent : ℕ) (p : Play) (w : World) (c : ℕ) (a : Component) : Type 0 where
   pub number : number_of a ≡ script_place x.cast c
   pub stands : a ≡ record (standing p.phase (p.stage c) a) { commands = commands_at p.phase (p.stage c) ++ port_commands x.cast p c }
-  pub fit : fits a.settings ≡ true
+  pub set_for : IsSetFor x c a.settings
+  -- nor has its file too many bytes in these formats
+  pub roomy : (l : ℕ) → IsInput ((x.cast).layout).network c l → ((x.cast).layout).is_late l ≡ true → overflows a.file (x.format l) ≡ false
   pub source : is_source a.settings.kind ≡ (((x.cast).layout).network).is_source c
   pub sink : is_sink a.settings.kind ≡ ((x.cast).layout).is_sink c
   -- a late source gives its one link
@@ -144,6 +162,8 @@ pub record IsActorAt (x : LateCast) (recent : ℕ) (p : Play) (w : World) (c : �
   pub work : (work : Work) → a.work ≡ Some work → IsWorkAt x.cast p c a work
   pub running : p.phase ≡ 2 → p.stage c ≤ 2 → (p.flow).ended c ≡ false
   pub over : 3 ≤ p.phase → ((x.cast).layout).is_sink c ≡ true → p.told c ≡ true
+  -- nor has it ended while a late source's link of it isn't changed
+  pub unsteady : (output : Bool) (l : ℕ) → l < links_of x.cast → component_at (x.cast).layout output l ≡ c → ((x.cast).layout).is_late l ≡ true → port_at output (p.change l) < 7 → (p.flow).ended c ≡ false
 
 -- ---- the world
 

@@ -4,22 +4,23 @@ use Rattle.std.specs.Prelude.{◌≡◌, ℕ, ◌<◌, ◌≤◌, true, false, [
 use Rattle.omx_types.specs.Formats.{frame_bytes_of, is_auto}
 use Rattle.il_machine.specs.declared.port.Port.{Port}
 use Rattle.il_machine.specs.Kinds.{is_late, is_sink, is_source}
+use Rattle.il_machine.specs.Parameters.{overflows}
 use Rattle.il_machine.specs.Parts.{file_format, frames_of}
-use Rattle.il_machine.specs.Settings.{fits}
 use Rattle.il_machine.specs.Sound.{Sound}
 use Rattle.il_machine.specs.Units.{need_of}
 use Rattle.il_machine.specs.World.{Component, World, fresh, number_of, port_of, stream_of}
-use Rattle.flow_model.specs.Network.{IsOutput}
+use Rattle.flow_model.specs.Network.{IsInput, IsOutput}
 use Rattle.play_worlds.specs.Cast.{IsCast, components_of, links_of, script_place}
 use Rattle.play_worlds.specs.Openings.{opening}
 use Rattle.play_worlds.specs.Wiring.{IsSomeEnd, port_in}
-use Rattle.late_worlds.specs.Late.{IsWiredAt, LateCast}
+use Rattle.late_worlds.specs.Late.{IsSetFor, IsWiredAt, LateCast}
 
 -- a component as it was made, but for its settings, its file and its tunnels
 pub record IsSetUpAt (x : LateCast) (w : World) (c : ℕ) (a : Component) : Type 0 where
   pub number : number_of a ≡ script_place x.cast c
   pub fresh_else : a ≡ record (fresh a.handle a.settings.kind) { settings = a.settings; file = a.file; ports = a.ports }
-  pub fit : fits a.settings ≡ true
+  pub set_for : IsSetFor x c a.settings
+  pub roomy : (l : ℕ) → IsInput ((x.cast).layout).network c l → ((x.cast).layout).is_late l ≡ true → overflows a.file (x.format l) ≡ false
   pub source : is_source a.settings.kind ≡ (((x.cast).layout).network).is_source c
   pub sink : is_sink a.settings.kind ≡ ((x.cast).layout).is_sink c
   pub late : (l : ℕ) → IsOutput ((x.cast).layout).network c l → is_late a.settings.kind ≡ ((x.cast).layout).is_late l

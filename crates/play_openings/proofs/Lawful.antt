@@ -163,7 +163,7 @@ pub record IsLike (kind : Kind) (f g : Format) : Type 0 where
   pub channels : channels_of f ≡ channels_of g
   pub same : is_splitter kind ≡ true → f ≡ g
 
-not_late : (late : Bool) (f : Format) → is_auto (opening_format late f) ≡ false → opening_format late f ≡ f
+pub not_late : (late : Bool) (f : Format) → is_auto (opening_format late f) ≡ false → opening_format late f ≡ f
 not_late true f h = absurd cc
 not_late false f h = refl
 
@@ -247,30 +247,34 @@ module _ (plan : PlanValue) (files : PlayFiles) (R : IsReady plan files) where
         same = λ h. first ∙ (sym (splitter_gives kind F h) ∙ sym own);
       }
 
-  alike_at : (side other : Bool) (k l : ℕ) (K : IsLinkAt plan k) (L : IsLinkAt plan l) → (end_of side (joint_of plan k)).component ≡ (end_of other (joint_of plan l)).component
-      → is_auto (opening_format (is_late_link plan k) (flow_of plan k).format) ≡ false → is_auto (opening_format (is_late_link plan l) (flow_of plan l).format) ≡ false
-      → AreAlike (assembly_of plan files) (end_of side (joint_of plan k)).component k l
-  alike_at side other k l K L c a b =
+  -- the formats of two links at one component
+  pub alike_flows : (side other : Bool) (k l : ℕ) (K : IsLinkAt plan k) (L : IsLinkAt plan l) → (end_of side (joint_of plan k)).component ≡ (end_of other (joint_of plan l)).component
+      → (same_rate_and_channels (flow_of plan k).format (flow_of plan l).format ≡ true) × (is_splitter (kind_of (K.part side).form) ≡ true → (flow_of plan k).format ≡ (flow_of plan l).format)
+  alike_flows side other k l K L c =
       let p = same_part plan.parts _ _ (K.part side) (L.part other) (K.part_there side) (L.part_there other) c in
       let own : (own_flow (end_of side (joint_of plan k)).component (K.part side)).format ≡ (own_flow (end_of other (joint_of plan l)).component (L.part other)).format = λ i. (own_flow (c i) (p i)).format in
       let A = like_own k K side in
       let B = like_own l L other in
+      let rate : nat_eq (rate_of (flow_of plan k).format) (rate_of (flow_of plan l).format) ≡ true = eq-eqb _ _ (A.rate ∙ (ap rate_of own ∙ sym B.rate)) in
+      let channels : nat_eq (channels_of (flow_of plan k).format) (channels_of (flow_of plan l).format) ≡ true = eq-eqb _ _ (A.channels ∙ (ap channels_of own ∙ sym B.channels)) in (
+        rw (rate, channels) refl,
+        λ h.
+            let l_kind : is_splitter (kind_of (L.part other).form) ≡ true = ap (λ (y : PartLine). is_splitter (kind_of y.form)) (sym p) ∙ h in
+            A.same h ∙ (own ∙ sym (B.same l_kind)),
+      )
+
+  alike_at : (side other : Bool) (k l : ℕ) (K : IsLinkAt plan k) (L : IsLinkAt plan l) → (end_of side (joint_of plan k)).component ≡ (end_of other (joint_of plan l)).component
+      → is_auto (opening_format (is_late_link plan k) (flow_of plan k).format) ≡ false → is_auto (opening_format (is_late_link plan l) (flow_of plan l).format) ≡ false
+      → AreAlike (assembly_of plan files) (end_of side (joint_of plan k)).component k l
+  alike_at side other k l K L c a b =
+      let A = alike_flows side other k l K L c in
       let f = not_late (is_late_link plan k) (flow_of plan k).format a in
       let g = not_late (is_late_link plan l) (flow_of plan l).format b in
-      let rate : rate_of (flow_of plan k).format ≡ rate_of (flow_of plan l).format = A.rate ∙ (ap rate_of own ∙ sym B.rate) in
-      let channels : channels_of (flow_of plan k).format ≡ channels_of (flow_of plan l).format = A.channels ∙ (ap channels_of own ∙ sym B.channels) in
-      let alike : same_rate_and_channels (flow_of plan k).format (flow_of plan l).format ≡ true =
-      let x : nat_eq (rate_of (flow_of plan k).format) (rate_of (flow_of plan l).format) ≡ true = eq-eqb _ _ rate in
-      let y : nat_eq (channels_of (flow_of plan k).format) (channels_of (flow_of plan l).format) ≡ true = eq-eqb _ _ channels in
-      rw (x, y) refl
-      in
       record {
-        alike = (λ i. same_rate_and_channels (f i) (g i)) ∙ alike;
+        alike = (λ i. same_rate_and_channels (f i) (g i)) ∙ A.0;
         same = λ h.
             let k_kind : is_splitter (kind_of (K.part side).form) ≡ true = ap is_splitter (sym (kind_on k K side)) ∙ h in
-            let l_kind : is_splitter (kind_of (L.part other).form) ≡ true = ap (λ (y : PartLine). is_splitter (kind_of y.form)) (sym p) ∙ k_kind in
-            let e : (flow_of plan k).format ≡ (flow_of plan l).format = A.same k_kind ∙ (own ∙ sym (B.same l_kind)) in
-            (λ i. same_format (f i) (g i)) ∙ (ap (λ (y : Format). same_format y (flow_of plan l).format) e ∙ format_itself (flow_of plan l).format);
+            (λ i. same_format (f i) (g i)) ∙ (ap (λ (y : Format). same_format y (flow_of plan l).format) (A.1 k_kind) ∙ format_itself (flow_of plan l).format);
       }
 
   -- ---- its ends
@@ -287,7 +291,7 @@ module _ (plan : PlanValue) (files : PlayFiles) (R : IsReady plan files) where
     direction true = K.has_in
 
     -- a format of its port
-    known_format : (side : Bool) → is_format_of (kind_of (K.part side).form) side (flow_of plan l).format ≡ true
+    pub known_format : (side : Bool) → is_format_of (kind_of (K.part side).form) side (flow_of plan l).format ≡ true
     known_format true =
         let F = fits_at plan R.valid R.fit l (joint_of plan l) (flow_of plan l) K.there_joint K.there_flow in
         let p = same_part plan.parts _ _ F.0 (K.part true) F.1 (K.part_there true) refl in
@@ -479,6 +483,25 @@ module _ (plan : PlanValue) (files : PlayFiles) (R : IsReady plan files) (place 
             ap (is_bad_file kinds.Sink (opening_format (is_late_link plan l) (flow_of plan l).format)) (sym is) ∙ sink_fits (is_late_link plan l) (flow_of plan l) frames K.lawful e2;
       }
   file_good _ k file f = absurd cc
+
+-- the frames of a sink, in the format of its link
+module _ (plan : PlanValue) (files : PlayFiles) (R : IsReady plan files) where
+  pub sink_roomy : (place : ℕ) (part : PartLine) (l : ℕ) → slice_get plan.parts place ≡ Some part → kind_of part.form ≡ kinds.Sink → (K : IsLinkAt plan l) → (joint_of plan l).taker ≡ place
+      → is_too_large (slice_index_or plan.frames place 0) (flow_of plan l).format ≡ false
+  sink_roomy place part l e k K t =
+      let frames : ℕ = slice_index_or plan.frames place 0 in
+      let p = same_part plan.parts _ _ (K.part true) part (K.part_there true) e t in
+      let m : inputs_of (kind_of (K.part true).form) ≡ 1 = ap (λ (y : PartLine). inputs_of (kind_of y.form)) p ∙ ap inputs_of k in
+      let low = ltb-true (joint_of plan l).input (inputs_of (kind_of (K.part true).form)) K.has_in in
+      let input : (joint_of plan l).input ≡ 0 = omega arith in
+      let planned : frames ≡ (flow_by (kind_of part.form) (slice_get files.heads (source_number plan.parts place)) (into no_flow plan.joints plan.flows place)).frames = get_or_from_slice_get plan.frames place _ 0 ((R.frames).each place part e) in
+      let comes = incoming_is plan R.valid l (joint_of plan l) (flow_of plan l) K.there_joint K.there_flow in
+      let first : into no_flow plan.joints plan.flows place 0 ≡ flow_of plan l = (λ i. into no_flow plan.joints plan.flows (sym t i) (sym input i)) ∙ comes in
+      let own : frames ≡ max 0 (into no_flow plan.joints plan.flows place 0).frames =
+      planned ∙ ap (λ (y : Kind). (flow_by y (slice_get files.heads (source_number plan.parts place)) (into no_flow plan.joints plan.flows place)).frames) k
+      in
+      let same : (into no_flow plan.joints plan.flows place 0).frames ≡ (flow_of plan l).frames = ap (λ (y : Flow). y.frames) first in
+      sink_fits false (flow_of plan l) frames K.lawful (omega arith)
 
 -- ---- the whole
 

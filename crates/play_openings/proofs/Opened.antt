@@ -4,24 +4,26 @@ use Rattle.std.specs.List.{list_all}
 use Rattle.std.proofs.lemmas.Bool.{lt-ltb}
 use Rattle.std.proofs.lemmas.List.{length-map}
 use Rattle.std.proofs.lemmas.List.Sums.{sum_by-cons}
-use Rattle.std.proofs.lemmas.Option.{get_or_from_slice_get, slice_get_within}
+use Rattle.std.proofs.lemmas.Option.{get_or_from_slice_get, slice_get-map, slice_get_within}
 use Rattle.omx_types.specs.declared.handle.Handle.{Handle}
 use Rattle.omx_types.specs.declared.format.Format.{Format}
 use Rattle.omx_types.specs.declared.kind.Kind.{Kind}
 use Rattle.omx_types.specs.declared.kind.Kind.TheVariants as kinds
 use Rattle.omx_types.specs.Formats.{frame_bytes_of}
-use Rattle.part_forms.specs.Kinds.{is_late, is_source, ports_in}
+use Rattle.part_forms.specs.Kinds.{is_input_format, is_late, is_source, ports_in}
 use Rattle.il_machine.specs.declared.port.Port.{Port}
 use Rattle.il_machine.specs.declared.port.PortKey.{PortKey}
 use Rattle.il_machine.specs.declared.port.PortSetting.{PortSetting}
 use Rattle.il_machine.specs.Files.{Offered, attached}
 use Rattle.il_machine.specs.Kinds.{is_auto, is_sink}
+use Rattle.il_machine.specs.Parameters.{overflows}
 use Rattle.il_machine.specs.Parts.{frames_of, file_format}
 use Rattle.il_machine.specs.Settings.{Settings, are_fitting, fits, formats_of, is_known, is_splitter, same_format, same_rate_and_channels}
 use Rattle.il_machine.specs.Units.{need_of, units_of}
 use Rattle.il_machine.specs.World.{Component, Stream, World, fresh, number_of, port_of, stream_of}
 use Rattle.script_lang.specs.declared.play_line.PartLine.{PartLine}
 use Rattle.wav_form.specs.declared.heads.WavHead.{WavHead}
+use Rattle.part_api.specs.declared.attached.Attached.{Attached}
 use Rattle.machine_laws.proofs.Finding.{either}
 use Rattle.machine_laws.proofs.Keys.{is_there}
 use Rattle.machine_laws.proofs.Lookups.{port_parts}
@@ -43,15 +45,16 @@ use Rattle.play_plans.proofs.Limits.{head_there, in_limits}
 use Rattle.assembling.specs.Assembly.{Assembly, component_at}
 use Rattle.assembling.specs.Stages.{AreBuilt, IsStage, Joining, file_by, progress_of, setting_of, state_by, stream_by}
 use Rattle.assembling.proofs.Places.{from_mapped, stream_found}
+use Rattle.assembling.proofs.Accepted.{format_itself}
 use Rattle.assembling.proofs.Filing.{stream_component}
 use Rattle.assembling.proofs.Standing.{port_at_end}
 use Rattle.play_openings.specs.Assemblies.{HasNoLate, IsReady, PlayFiles, assembly_of, end_of, file_at, file_of, is_late_link, kind_in, opening_format, late_cast_of}
-use Rattle.play_openings.proofs.Lawful.{known_within, late_is, link_is, plan_lawful, flow_given, same_part}
+use Rattle.play_openings.proofs.Lawful.{IsLinkAt, alike_flows, kind_on, known_format, known_within, late_is, link_is, not_late, plan_lawful, flow_given, same_part, sink_roomy}
 use Rattle.machine_laws.proofs.Accepting.{is_not}
-use Rattle.flow_model.specs.Network.{IsOutput}
+use Rattle.flow_model.specs.Network.{IsInput, IsOutput}
 use Rattle.play_forms.specs.declared.flow.Flow.{Flow}
 use Rattle.late_worlds.specs.Changing.{is_set, state_by as changing_state}
-use Rattle.late_worlds.specs.Late.{IsWiredAt}
+use Rattle.late_worlds.specs.Late.{IsAlike, IsSetFor, IsWiredAt}
 use Rattle.late_worlds.specs.Openings.{IsLateOpening, IsSetUpAt}
 use Rattle.late_worlds.proofs.Opened.{early_opening}
 
@@ -248,27 +251,32 @@ module _ (plan : PlanValue) (files : PlayFiles) (handles : List Handle) (w : Wor
 
   -- ---- components
 
-  fits_so : (place : ℕ) (a : Component) → slice_get w.components place ≡ Some a → fits a.settings ≡ true
-  fits_so place a e =
+  format_here : (place : ℕ) (a : Component) → slice_get w.components place ≡ Some a → (k : ℕ) (f : Format) → slice_get (formats_of a.settings.ports) k ≡ Some f → IsFormatAt plan files place f
+  format_here place a e k f g =
       let B = built.each place a e in
       let s : Assembly = assembly_of plan files in
-      let L = plan_lawful plan files G.ready in
       let m = ((G.stage).built).many in
       let b = slice_get_within w.components place a e in
       let I = (parts_of w (G.stage).sound).components place a e in
       let kind : a.settings.kind ≡ kind_in (slice_get plan.parts place) = ap (λ (y : Settings). y.kind) B.settings in
-      let one : (k : ℕ) (f : Format) → slice_get (formats_of a.settings.ports) k ≡ Some f → IsFormatAt plan files place f = λ k f g.
       let r = from_mapped (λ (p : PortSetting). p.definition.format) a.settings.ports k f g in
       let ports = (I.whole).ports in
       let below = slice_get_within a.settings.ports k r.0 r.1 in
       let low : k < ports_in (kind_in (slice_get plan.parts place)) = subst (λ (y : Kind). k < ports_in y) kind (omega arith) in
-      let Z = L.each place k (omega arith) low in
+      let Z = (plan_lawful plan files G.ready).each place k (omega arith) low in
       let there : slice_get w.components (component_at s Z.side Z.link) ≡ Some a = ap (slice_get w.components) (ap (λ y. y.component) Z.end) ∙ e in
       let E = built.ends Z.side Z.link a Z.below there in
       let same : Some r.0 ≡ Some (setting_of s Z.side Z.link) = sym r.1 ∙ (ap (slice_get a.settings.ports) (sym (ap (λ y. y.port) Z.end)) ∙ E.setting) in
       let is : r.0 ≡ setting_of s Z.side Z.link = cc in
       record { side = Z.side; link = Z.link; below = Z.below; at = ap (λ y. y.component) Z.end; format = sym r.2 ∙ ap (λ (y : PortSetting). y.definition.format) is }
-      in
+
+  fits_so : (place : ℕ) (a : Component) → slice_get w.components place ≡ Some a → fits a.settings ≡ true
+  fits_so place a e =
+      let B = built.each place a e in
+      let s : Assembly = assembly_of plan files in
+      let L = plan_lawful plan files G.ready in
+      let kind : a.settings.kind ≡ kind_in (slice_get plan.parts place) = ap (λ (y : Settings). y.kind) B.settings in
+      let one = format_here place a e in
       let fs : List Format = formats_of a.settings.ports in
       fitting a.settings.kind (filter is_known fs) (λ i j f g x y.
       let X = from_filtered is_known fs i f x in
@@ -283,6 +291,36 @@ module _ (plan : PlanValue) (files : PlayFiles) (handles : List Handle) (w : Wor
             let splitter : is_splitter (kind_in (slice_get plan.parts (component_at s F.side F.link))) ≡ true = ap (λ (n : ℕ). is_splitter (kind_in (slice_get plan.parts n))) F.at ∙ (ap is_splitter (sym kind) ∙ h) in
             (λ t. same_format (F.format t) (H.format t)) ∙ A.same splitter,
       ))
+
+  taken_by : (c l : ℕ) → IsInput ((cast_of (λ l. false) plan).layout).network c l → (joint_of plan l).taker ≡ script_place (cast_of (λ l. false) plan) c
+  taken_by c l I = sym (link_cast l I.below).taker ∙ ap (script_place (cast_of (λ l. false) plan)) I.taken_by
+
+  -- its settings, and what its late links will bring
+  set_for_so : (c : ℕ) (a : Component) → slice_get w.components (script_place (cast_of (λ l. false) plan) c) ≡ Some a → IsSetFor (late_cast_of plan) c a.settings
+  set_for_so c a e =
+      let place : ℕ = script_place (cast_of (λ l. false) plan) c in
+      let R = G.ready in
+      let kind : a.settings.kind ≡ kind_in (slice_get plan.parts place) = ap (λ (y : Settings). y.kind) (built.each place a e).settings in
+      let kind_at : (l : ℕ) (K : IsLinkAt plan l) (side : Bool) → (end_of side (joint_of plan l)).component ≡ place → a.settings.kind ≡ kind_of (K.part side).form =
+      λ l K side h. kind ∙ (ap (λ (n : ℕ). kind_in (slice_get plan.parts n)) (sym h) ∙ kind_on plan files R l K side)
+      in
+      let alike : (k l : ℕ) (K : IsLinkAt plan k) (L : IsLinkAt plan l) (side : Bool) → (end_of side (joint_of plan k)).component ≡ place → (joint_of plan l).taker ≡ place → IsAlike a.settings.kind (flow_of plan k).format (flow_of plan l).format =
+      λ k l K L side h t.
+      let A = alike_flows plan files R side true k l K L (h ∙ sym t) in (
+        A.0,
+        λ z. ap (λ (y : Format). same_format y (flow_of plan l).format) (A.1 (sym (ap is_splitter (kind_at k K side h)) ∙ z)) ∙ format_itself (flow_of plan l).format,
+      )
+      in
+      record {
+        fit = fits_so place a e;
+        taken = λ l I h. let K = link_is plan files R l I.below in ap (λ (y : Kind). is_input_format y (flow_of plan l).format) (kind_at l K true (taken_by c l I)) ∙ known_format plan files R l K true;
+        beside = λ l i y I h f known.
+            let g : slice_get (formats_of a.settings.ports) i ≡ Some y.definition.format = slice_get-map (λ (z : PortSetting). z.definition.format) a.settings.ports i ∙ ap (option_map (λ (z : PortSetting). z.definition.format)) f in
+            let F = format_here place a e i y.definition.format g in
+            let is : y.definition.format ≡ (flow_of plan F.link).format = F.format ∙ not_late (is_late_link plan F.link) (flow_of plan F.link).format (ap is_auto (sym F.format) ∙ known) in
+            subst (λ (z : Format). IsAlike a.settings.kind z (flow_of plan l).format) (sym is) (alike F.link l (link_is plan files R F.link F.below) (link_is plan files R l I.below) F.side F.at (taken_by c l I));
+        together = λ k l I J h i. alike k l (link_is plan files R k I.below) (link_is plan files R l J.below) true (taken_by c k I) (taken_by c l J);
+      }
 
   file_so : (place : ℕ) (part : PartLine) (a : Component) → slice_get plan.parts place ≡ Some part → slice_get w.components place ≡ Some a → is_source (kind_of part.form) ≡ true
       → frames_of a.file ≡ slice_index_or plan.frames place 0
@@ -345,6 +383,29 @@ module _ (plan : PlanValue) (files : PlayFiles) (handles : List Handle) (w : Wor
       in
       ap file_format B.file ∙ (ap (λ (o : Option Offered). file_format (option_map attached o)) own ∙ (source_format kind head _ _ _ source ∙ sym (ap (λ (y : Flow). y.format) given)))
 
+  -- the frames of its file in the format of its link
+  roomy_so : (place : ℕ) (part : PartLine) (a : Component) (l : ℕ) → slice_get plan.parts place ≡ Some part → slice_get w.components place ≡ Some a → l < length plan.joints → (joint_of plan l).taker ≡ place
+      → overflows a.file (flow_of plan l).format ≡ false
+  roomy_so place part a l e f b t =
+      let own : file_at plan files place ≡ file_of (kind_of part.form) (slice_get files.heads (source_number plan.parts place)) (slice_index_or plan.frames place 0) (files.there place) (files.known place) =
+      ap (λ (o : Option PartLine). file_of (kind_in o) (slice_get files.heads (source_number plan.parts place)) (slice_index_or plan.frames place 0) (files.there place) (files.known place)) e
+      in
+      ap (λ (o : Option Attached). overflows o (flow_of plan l).format) ((built.each place a f).file ∙ ap (option_map attached) own)
+      ∙ by_kind (kind_of part.form) (slice_get files.heads (source_number plan.parts place)) refl
+    where
+      by_kind : (kind : Kind) (head : Option WavHead) → kind_of part.form ≡ kind → overflows (option_map attached (file_of kind head (slice_index_or plan.frames place 0) (files.there place) (files.known place))) (flow_of plan l).format ≡ false
+      by_kind kinds.Source None k = refl
+      by_kind kinds.Source (Some head) k = refl
+      by_kind kinds.Late None k = refl
+      by_kind kinds.Late (Some head) k = refl
+      by_kind kinds.Sink head k = sink_roomy plan files G.ready place part l e k (link_is plan files G.ready l b) t
+      by_kind kinds.Decoder head k = refl
+      by_kind kinds.Alaw head k = refl
+      by_kind kinds.Mulaw head k = refl
+      by_kind kinds.Gain head k = refl
+      by_kind (kinds.Mixer n) head k = refl
+      by_kind (kinds.Splitter n) head k = refl
+
   set_up : (c : ℕ) (a : Component) → c < components_of (cast_of (λ l. false) plan) → slice_get w.components (script_place (cast_of (λ l. false) plan) c) ≡ Some a → IsSetUpAt (late_cast_of plan) w c a
   set_up c a l e =
       let x : Cast = cast_of (λ l. false) plan in
@@ -356,7 +417,8 @@ module _ (plan : PlanValue) (files : PlayFiles) (handles : List Handle) (w : Wor
       record {
         number = B.number;
         fresh_else = B.fresh_else ∙ ap (λ (k : Kind). record (fresh a.handle k) { settings = a.settings; file = a.file; ports = a.ports }) (sym kind);
-        fit = fits_so place a e;
+        set_for = set_for_so c a e;
+        roomy = λ k I h. roomy_so place p.0 a k p.1 e I.below (taken_by c k I);
         source = ap is_source its_kind ∙ sym (ap (passes_at is_source) p.1);
         sink = ap is_sink its_kind ∙ sym (ap (passes_at is_sink) p.1);
         late = λ k O. ap is_late its_kind ∙ sym (ap (λ (n : ℕ). passes_at is_late (slice_get plan.parts n)) (given_by c k O) ∙ ap (passes_at is_late) p.1);
