@@ -1,5 +1,5 @@
 -- In a world of an assembly nothing is pending, so its close-out changes nothing.
-use Rattle.std.proofs.Common.{◌≡◌, ℕ, ◌+◌, Bool, true, false, not, ◌&&◌, List, [], ◌∷◌, Option, Some, None, is_some, All, if◌then◌else◌, refl, ◌∙◌, ap}
+use Rattle.std.proofs.Common.{◌≡◌, ℕ, ◌+◌, Bool, true, false, not, ◌&&◌, List, [], ◌∷◌, Option, Some, None, is_some, All, slice_get, if◌then◌else◌, refl, ◌∙◌, ap}
 use Rattle.std.proofs.lemmas.List.Elements.{All-head, All-tail}
 use Rattle.il_machine.specs.declared.answer.Pending.{Pending}
 use Rattle.il_machine.specs.declared.port.Mark.{Mark}
@@ -11,7 +11,7 @@ use Rattle.il_machine.specs.declared.port.PortState.{PortState}
 use Rattle.il_machine.specs.Due.{ClosesTo, IsClosed, Thing, due_in, has_due, is_due_to, is_flush_due, is_mark_due, is_mode_due, is_transition_due, things_of}
 use Rattle.il_machine.specs.Headers.{Seen, seen, is_home_of, is_owned_by, none_is}
 use Rattle.il_machine.specs.Lists.{all_of, first_of_these, holds_at, is_empty}
-use Rattle.il_machine.specs.Ports.{IsCalmPort, is_steady}
+use Rattle.il_machine.specs.Ports.{IsCalm, IsCalmPort, is_steady}
 use Rattle.il_machine.specs.World.{Component, World, number_of, ports_from}
 use Rattle.il_machine.proofs.Places.{is_first_place}
 use Rattle.machine_laws.proofs.Closing.{closed_closes}
@@ -47,11 +47,14 @@ none_due headers a e A =
     let t : is_transition_due headers a ≡ false = ap (λ (o : Option Pending). holds_at o (λ p. is_due_to headers a p.target)) e in
     skips _ _ _ t (no_things headers a (number_of a) 0 a.settings.ports a.ports A)
 
+-- where every component is calm nothing is due
+pub calm_closed : (w : World) → ((i : ℕ) (a : Component) → slice_get w.components i ≡ Some a → IsCalm a) → IsClosed w
+calm_closed w h = is_first_place (has_due (seen w.headers)) w.components ∙ none_first (has_due (seen w.headers)) w.components (λ i a e.
+    let C = h i a e in
+    ap (λ (o : Option Thing). is_some o) (none_due (seen w.headers) a C.resting C.ports))
+
 pub built_closed : (s : Assembly) (p : Progress) (w : World) → AreBuilt s p w.components → IsClosed w
-built_closed s p w A = is_first_place (has_due (seen w.headers)) w.components ∙ none_first (has_due (seen w.headers)) w.components (λ i a e.
-    let B = A.each i a e in
-    let free : a.pending ≡ None = ap (λ (y : Component). y.pending) B.fresh_else in
-    ap (λ (o : Option Thing). is_some o) (none_due (seen w.headers) a free B.calm))
+built_closed s p w A = calm_closed w (λ i a e. let B = A.each i a e in record { resting = ap (λ (y : Component). y.pending) B.fresh_else; ports = B.calm })
 
 pub built_closes : (s : Assembly) (p : Progress) (w v : World) → AreBuilt s p w.components → ClosesTo w v → v ≡ w
 built_closes s p w v A C = closed_closes w v (built_closed s p w A) C
