@@ -1,5 +1,5 @@
 -- What making an input does to the files of a media, and why it failed.
-use Rattle.std.specs.Prelude.{◌≡◌, ◌≢◌, ℕ, List, Some, Result, OnOk, OnErr, IfErr, IsTrue}
+use Rattle.std.specs.Prelude.{◌≡◌, ◌≢◌, ℕ, List, Some, Result, Err, OnOk, OnErr, IfErr, IsTrue}
 use Rattle.outside_io.specs.Causes.{Rose}
 use Rattle.outside_io.specs.Files.{Outside, GoesOn, SameBut}
 use Rattle.outside_io.specs.Whole.{IsKeptOrFrontOf, HasWriteReason}
@@ -19,6 +19,8 @@ pub record Makes (name text : List ℕ) (old new : Outside) (result : Result (Un
   pub held : IsTrue old.tells → OnOk result (new.file name ≡ Some text)
   pub front : IsTrue old.tells → OnErr result (IsKeptOrFrontOf (old.file name) (new.file name) text)
   pub reason : IfErr result (HasWriteReason name old new)
+  pub reads : new.read_faults ≡ old.read_faults
+  pub writes : result ≢ Err NotWritten → new.write_faults ≡ old.write_faults
 
 -- the three names hold their texts
 pub record AreMade (seed frames : ℕ) (folder : List ℕ) (new : Outside) : Type 0 where

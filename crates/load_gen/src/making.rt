@@ -1,4 +1,4 @@
-ghost use Rattle.std.specs.Prelude.{◌≡◌, ◌≤◌, IfErr, OnOk, OnErr, IsTrue, Some};
+ghost use Rattle.std.specs.Prelude.{◌≡◌, ◌≢◌, ◌≤◌, Err, IfErr, OnOk, OnErr, IsTrue, Some};
 ghost use Rattle.outside_io.specs.Files.{GoesOn};
 ghost use Rattle.load_gen.specs.Made.{AreMade, ArePartlyMade, Makes, OthersAreKept, HasReason, fault_at};
 ghost use Rattle.load_gen.specs.Samples.{wav_from};
@@ -26,6 +26,8 @@ pub fn make<M: Media>(
     ensures others { IsTrue (M.outside media.old).tells → OthersAreKept folder.now (M.outside media.old) (M.outside media.new) }
     ensures goes_on { GoesOn (M.outside media.old) (M.outside media.new) }
     ensures reason { IfErr result (HasReason folder.now (M.outside media.old) (M.outside media.new)) }
+    ensures read_faults { (M.outside media.new).read_faults ≡ (M.outside media.old).read_faults }
+    ensures write_stands { result ≢ Err Fault.WriteFault → (M.outside media.new).write_faults ≡ (M.outside media.old).write_faults }
 {
     match make_wav(alloc, media, folder, "a.wav", seed, frames) {
         Ok(()) => {}
