@@ -1,16 +1,20 @@
--- Each act is answered by a reply of its own kind.
-use Rattle.std.specs.Prelude.{List, [], ◌∷◌}
+-- Each act is answered by a reply of its own kind, and what a refused act was to move in comes back as it was.
+use Rattle.std.specs.Prelude.{◌≡◌, List, [], ◌∷◌, Result, IfErr}
 use Rattle.turnstile.specs.declared.entry.Entry.{Entry}
 use Rattle.graph_acts.specs.declared.act.Act.{Act}
 use Rattle.graph_acts.specs.declared.act.Act.TheVariants as asks
 use Rattle.graph_acts.specs.declared.act.Reply.{Reply}
 use Rattle.graph_acts.specs.declared.act.Reply.TheVariants as replies
 
+-- a refusal hands it back
+abbrev pub HandsBack : {A T E : Type 0} → A → Result T (E × A) → Type 0
+HandsBack it result = IfErr result (λ refused. refused.1 ≡ it)
+
 module _ {S K C : Type 0} where
   abbrev pub IsReplyTo : Act S K C → Reply S K C → Type 0
-  IsReplyTo (asks.GetHandle a b) (replies.GetHandle result) = Unit {0}
+  IsReplyTo (asks.GetHandle name client) (replies.GetHandle result) = HandsBack client result
   IsReplyTo (asks.FreeHandle a) (replies.FreeHandle result) = Unit {0}
-  IsReplyTo (asks.Attach a b) (replies.Attach result) = Unit {0}
+  IsReplyTo (asks.Attach h file) (replies.Attach result) = HandsBack file result
   IsReplyTo (asks.GetState a) (replies.GetState result) = Unit {0}
   IsReplyTo (asks.PortView a b) (replies.PortView result) = Unit {0}
   IsReplyTo (asks.Progress a) (replies.Progress result) = Unit {0}
@@ -23,10 +27,10 @@ module _ {S K C : Type 0} where
   IsReplyTo (asks.SendCommand a b) (replies.SendCommand result) = Unit {0}
   IsReplyTo (asks.RunCommand a) (replies.RunCommand result) = Unit {0}
   IsReplyTo (asks.AllocateBuffer a b) (replies.AllocateBuffer result) = Unit {0}
-  IsReplyTo (asks.UseBuffer a b c) (replies.UseBuffer result) = Unit {0}
-  IsReplyTo (asks.FreeBuffer a b c) (replies.FreeBuffer result) = Unit {0}
-  IsReplyTo (asks.EmptyThisBuffer a b c) (replies.EmptyThisBuffer result) = Unit {0}
-  IsReplyTo (asks.FillThisBuffer a b c) (replies.FillThisBuffer result) = Unit {0}
+  IsReplyTo (asks.UseBuffer h port bytes) (replies.UseBuffer result) = HandsBack bytes result
+  IsReplyTo (asks.FreeBuffer h port header) (replies.FreeBuffer result) = HandsBack header result
+  IsReplyTo (asks.EmptyThisBuffer h port header) (replies.EmptyThisBuffer result) = HandsBack header result
+  IsReplyTo (asks.FillThisBuffer h port header) (replies.FillThisBuffer result) = HandsBack header result
   IsReplyTo (asks.TakeNote a) (replies.TakeNote result) = Unit {0}
   IsReplyTo (asks.EndNote a b) replies.EndNote = Unit {0}
   IsReplyTo (asks.Supply a b) (replies.Supply result) = Unit {0}

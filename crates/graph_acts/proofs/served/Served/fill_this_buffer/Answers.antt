@@ -6,7 +6,7 @@ use Rattle.graph_acts.proofs.served.Served.fill_this_buffer.Goals as goal
 pub returns : goal.returns
 returns g c = record {
   step = λ w s m. c.fill_this_buffer.ensures.step w s;
-  replied = tt;
+  replied = c.fill_this_buffer.ensures.handed_back;
   sized = c.size-sized.ensures.sized;
   headers = headers_taken c.fill_this_buffer.result c.args.header c.args.self.now.graph c.fill_this_buffer.new.self c.fill_this_buffer.ensures.held c.fill_this_buffer.ensures.taken c.fill_this_buffer.ensures.unchanged;
   clients = clients_stay c.args.self.now.graph c.fill_this_buffer.new.self c.fill_this_buffer.ensures.clients;

@@ -6,7 +6,7 @@ use Rattle.graph_acts.proofs.served.Served.free_buffer.Goals as goal
 pub returns : goal.returns
 returns g c = record {
   step = λ w s m. c.free_buffer.ensures.step w s;
-  replied = tt;
+  replied = c.free_buffer.ensures.handed_back;
   sized = tt;
   headers = headers_taken c.free_buffer.result c.args.header c.args.self.now.graph c.free_buffer.new.self c.free_buffer.ensures.held c.free_buffer.ensures.taken c.free_buffer.ensures.unchanged;
   clients = clients_stay c.args.self.now.graph c.free_buffer.new.self c.free_buffer.ensures.clients;
