@@ -20,9 +20,11 @@ use Rattle.clock_core.proofs.OneFault.{one-fault, script-no_fault}
 use Rattle.omxrun.specs.Asked.{IsGiven, IsFaultless, IsOrMemory}
 use Rattle.omxrun.specs.Clocked.{RunsTo, IsClockIn, IsClockOf, IsClockOutcome, HasClockReason, CanClock, IsUnclocked}
 use Rattle.omxrun.specs.Faults.{fault_of_trace_script}
+use Rattle.omxrun.specs.Reasons.{CountsStand}
 use Rattle.omxrun.specs.Texts.{fault_line}
 use Rattle.omxrun.specs.Told.{IsPrinted, status_of}
 use Rattle.omxrun.specs.Traced.{HasScriptReason}
+use Rattle.omxrun.proofs.Causes.{on_ok}
 use Rattle.omxrun.proofs.Complete.{none-some, printed-status}
 use Rattle.omxrun.proofs.Outcomes.{same-text}
 use Rattle.omxrun.proofs.Runs.{front-none}
@@ -123,9 +125,9 @@ clock-of name bytes old new (Err (Faults.Packets why)) text held runs = absurd r
 clock-of name bytes old new (Err (Faults.NotRun line why)) text held runs = absurd runs
 clock-of name bytes old new (Err (Faults.NotBuilt what)) text held runs = absurd runs
 
-pub clocked-of : (name bytes : List ℕ) (old new : Outside) (told told_new : Option (List ℕ)) (before now : ℕ) (status : Status) → (IsTrue old.tells → old.file name ≡ Some bytes) → new.file ≡ old.file → HasRunTo bytes told told_new before now status → HasClocked name old new told told_new before now status
-clocked-of name bytes old new told told_new before now status held kept (outcome, text, runs, printed) =
-    (outcome, text, record { kept = kept; is = clock-of name bytes old new outcome text held runs }, printed)
+pub clocked-of : (name bytes : List ℕ) (old new : Outside) (told told_new : Option (List ℕ)) (before now : ℕ) (status : Status) → (IsTrue old.tells → old.file name ≡ Some bytes) → new.file ≡ old.file → CountsStand old new → HasRunTo bytes told told_new before now status → HasClocked name old new told told_new before now status
+clocked-of name bytes old new told told_new before now status held kept stand (outcome, text, runs, printed) =
+    (outcome, text, record { kept = kept; is = clock-of name bytes old new outcome text held runs; stand = on_ok outcome (CountsStand old new) stand }, printed)
 
 -- ---- where all is told and no count rises
 

@@ -169,8 +169,8 @@ shut-fault old mid new ran (Ok done) le is = tt
 shut-fault old mid new ran (Err fault) le (inl same) = inl same
 shut-fault old mid new ran (Err fault) le (inr (same, rose)) = inr (same, later old.write_faults mid.write_faults new.write_faults le rose)
 
-pub closed-of : (Gives : Giving) (Stops : Stopping) (name input output : List ℕ) (old mid new : Outside) (ran outcome : Result Done Fault) (told : Option (List ℕ)) → mid.file ≡ old.file → GoesOn old mid → (IsTrue old.tells → name ≡ output) → IsShut name mid new ran outcome told → (IsTrue old.tells → (bytes : List ℕ) × (old.file input ≡ Some bytes) × IsMoved Gives bytes ran told) → IfErr ran (HasMoveReason Stops input old new) → IfErr outcome (IsAlone old new) → IsClosed Gives Stops input output old new ran outcome told
-closed-of Gives Stops name input output old mid new ran outcome told same on named shut moved stopped alone = record {
+pub closed-of : (Gives : Giving) (Stops : Stopping) (name input output : List ℕ) (old mid new : Outside) (ran outcome : Result Done Fault) (told : Option (List ℕ)) → mid.file ≡ old.file → GoesOn old mid → (IsTrue old.tells → name ≡ output) → IsShut name mid new ran outcome told → (IsTrue old.tells → (bytes : List ℕ) × (old.file input ≡ Some bytes) × IsMoved Gives bytes ran told) → IfErr ran (HasMoveReason Stops input old new) → IfErr outcome (IsAlone old new) → OnOk outcome (CountsStand old new) → IsClosed Gives Stops input output old new ran outcome told
+closed-of Gives Stops name input output old mid new ran outcome told same on named shut moved stopped alone stand = record {
   others = λ tells other apart. shut.others other (λ (is : other ≡ name). apart (is ∙ named tells)) ∙ at-name other old mid same;
   moved = moved;
   done = shut-done name output old new ran outcome told named shut.done;
@@ -178,13 +178,14 @@ closed-of Gives Stops name input output old mid new ran outcome told same on nam
   fault = shut-fault old mid new ran outcome on.write_faults shut.fault;
   stopped = stopped;
   alone = alone;
+  stand = stand;
 }
 
 -- ---- which counts rose
 
 -- what a run says of the source's count and the sink's, which were 0: where it was done whole, where its write failed and where it came short
 abbrev pub RanAlone : Result Done Fault → ℕ → ℕ → Type 0
-RanAlone (Ok done) reads writes = reads ≡ 0
+RanAlone (Ok done) reads writes = (reads ≡ 0) × (writes ≡ 0)
 RanAlone (Err Faults.WriteFault) reads writes = reads ≡ 0
 RanAlone (Err (Faults.Short which at size)) reads writes = (reads ≡ 0) × (writes ≡ 0)
 RanAlone (Err other) reads writes = Unit {0}
@@ -202,7 +203,7 @@ rtp-alone rb rn wb wn RtpFaults.OutOfMemory unread unwritten write short = tt
 
 pub pack-alone : (rb rn wb wn : ℕ) (result : Result Packed RtpFault) → rb ≡ 0 → wb ≡ 0 → OnOk result ((rn ≡ rb) × (wn ≡ wb)) → (result ≡ Err RtpFaults.Write → rn ≡ rb)
     → IfErr result (λ fault. IfShort fault (λ at whole. (rn ≡ rb) × (wn ≡ wb))) → RanAlone (packing_done result) rn wn
-pack-alone rb rn wb wn (Ok counts) unread unwritten stand write short = stand.0 ∙ unread
+pack-alone rb rn wb wn (Ok counts) unread unwritten stand write short = (stand.0 ∙ unread, stand.1 ∙ unwritten)
 pack-alone rb rn wb wn (Err fault) unread unwritten stand write short =
     rtp-alone rb rn wb wn fault unread unwritten (λ same. write (ap (λ (f : RtpFault). let r : Result Packed RtpFault = Err f in r) same)) short
 
@@ -219,13 +220,13 @@ ends-alone size ends rb rn wb wn RtpFaults.OutOfMemory is = tt
 
 pub unpack-alone : (size : ℕ) (ends : Option ℕ) (rb rn wb wn : ℕ) (result : Result Unpacked RtpFault) → rb ≡ 0 → wb ≡ 0 → OnOk result ((rn ≡ rb) × (wn ≡ wb))
     → IfErr result (EndsUnpacking size ends rb rn wb wn) → RanAlone (unpacking_done result) rn wn
-unpack-alone size ends rb rn wb wn (Ok counts) unread unwritten stand cause = stand.0 ∙ unread
+unpack-alone size ends rb rn wb wn (Ok counts) unread unwritten stand cause = (stand.0 ∙ unread, stand.1 ∙ unwritten)
 unpack-alone size ends rb rn wb wn (Err fault) unread unwritten stand cause =
     rtp-alone rb rn wb wn fault unread unwritten (λ same. (subst (λ (f : RtpFault). EndsUnpacking size ends rb rn wb wn f) same cause).1) (ends-alone size ends rb rn wb wn fault cause)
 
 -- a run that was done whole or came short left the source's count
 whole-alone : (ran : Result Done Fault) (reads writes : ℕ) → RanAlone ran reads writes → IsWholeOrShort ran → reads ≡ 0
-whole-alone (Ok done) reads writes is whole = is
+whole-alone (Ok done) reads writes is whole = is.0
 whole-alone (Err (Faults.Short which at size)) reads writes is whole = is.0
 whole-alone (Err Faults.WriteFault) reads writes is whole = is
 whole-alone (Err Faults.ReadFault) reads writes is whole = absurd whole
@@ -244,6 +245,7 @@ pub record IsShutAlone (mid new : Outside) (ran outcome : Result Done Fault) (re
   pub closing : IfErr outcome (λ fault. (ran ≡ Err fault) ⊎ ((fault ≡ Faults.WriteFault) × IsWholeOrShort ran))
   pub unread : reads ≡ 0 → new.read_faults ≡ mid.read_faults
   pub unwritten : writes ≡ 0 → IfErr outcome (λ fault. IsShortFile fault → new.write_faults ≡ mid.write_faults)
+  pub closed : writes ≡ 0 → OnOk outcome (new.write_faults ≡ mid.write_faults)
 
 write-alone : (ran : Result Done Fault) (reads writes : ℕ) → RanAlone ran reads writes → (ran ≡ Err Faults.WriteFault) ⊎ ((Faults.WriteFault ≡ Faults.WriteFault) × IsWholeOrShort ran) → reads ≡ 0
 write-alone ran reads writes is (inl same) = subst (λ (r : Result Done Fault). RanAlone r reads writes) same is
@@ -274,3 +276,9 @@ alone-of old mid new ran (Faults.NotBuilt what) reads writes stand is closing un
 pub shut-alone : (old mid new : Outside) (ran outcome : Result Done Fault) (reads writes : ℕ) → CountsStand old mid → RanAlone ran reads writes → IsShutAlone mid new ran outcome reads writes → IfErr outcome (IsAlone old new)
 shut-alone old mid new ran (Ok done) reads writes stand is shut = tt
 shut-alone old mid new ran (Err fault) reads writes stand is shut = alone-of old mid new ran fault reads writes stand is shut.closing shut.unread shut.unwritten
+
+pub shut-stand : (name : List ℕ) (old mid new : Outside) (ran outcome : Result Done Fault) (told : Option (List ℕ)) (reads writes : ℕ) → CountsStand old mid → RanAlone ran reads writes → IsShut name mid new ran outcome told → IsShutAlone mid new ran outcome reads writes → OnOk outcome (CountsStand old new)
+shut-stand name old mid new ran (Ok done) told reads writes stand is whole shut =
+    let none = subst (λ (r : Result Done Fault). RanAlone r reads writes) whole.done.0 is in
+    record { reads = shut.unread none.0 ∙ stand.reads; writes = shut.closed none.1 ∙ stand.writes }
+shut-stand name old mid new ran (Err fault) told reads writes stand is whole shut = tt

@@ -21,7 +21,7 @@ use Rattle.omxrun.specs.Reasons.{CountsStand, ForTunnel, IsCaused, IsOfScript, I
 use Rattle.omxrun.specs.Script.{IsTunnel, IsNoTunnel}
 use Rattle.omxrun.specs.declared.done.Done.{Done}
 use Rattle.omxrun.specs.declared.done.Done.TheVariants.{Played, Made, Packed, Unpacked}
-use Rattle.omxrun.proofs.Causes.{later, caused-before}
+use Rattle.omxrun.proofs.Causes.{later, caused-before, CountsStand-then}
 use Rattle.omxrun.proofs.Tunnels.{tunnel-short}
 
 -- what is told of a name is one text
@@ -58,6 +58,7 @@ log-left_by source sink log old mid new (Unpacked counts) apart others copied af
 pub log-outcome : (source sink log : List ℕ) (old mid new : Outside) (done : Done) (refused : Refused) → (sink ≡ log → ⊥) → GoesOn old mid → GoesOn mid new → (IsTrue old.tells → SameBut sink old mid) → (IsTrue old.tells → HasCopied source sink old mid done) → (IsTrue mid.tells → SameBut log mid new) → (IsTrue mid.tells → IsKeptOrFrontOf (mid.file log) (new.file log) log_text) → HasWriteReason log mid new refused → (IsTrue old.tells → IsValid source old) → CountsStand old mid → new.read_faults ≡ mid.read_faults → IsEndsOutcome source sink log old new (Err (fault_of_log refused))
 log-outcome source sink log old mid new done Refusals.Absent apart to_mid to_new others copied after front reason valid stand reads = record {
   played = λ _. tt;
+  stand = tt;
   left = λ tells. log-left_by source sink log old mid new done apart (others tells) (copied tells) (after (to_mid.tells ∙ tells)) (front (to_mid.tells ∙ tells));
   early = λ never. absurd never;
   unlogged = λ tells _. ap (λ (f : List ℕ → Option (List ℕ)). f log) reason.2 ∙ others tells log (λ same. apart (sym same));
@@ -66,6 +67,7 @@ log-outcome source sink log old mid new done Refusals.Absent apart to_mid to_new
 }
 log-outcome source sink log old mid new done Refusals.Failed apart to_mid to_new others copied after front reason valid stand reads = record {
   played = λ _. tt;
+  stand = tt;
   left = λ tells. log-left_by source sink log old mid new done apart (others tells) (copied tells) (after (to_mid.tells ∙ tells)) (front (to_mid.tells ∙ tells));
   early = λ never. absurd never;
   unlogged = λ tells never. absurd never;
@@ -74,6 +76,7 @@ log-outcome source sink log old mid new done Refusals.Failed apart to_mid to_new
 }
 log-outcome source sink log old mid new done Refusals.OutOfMemory apart to_mid to_new others copied after front reason valid stand reads = record {
   played = λ _. tt;
+  stand = tt;
   left = λ tells. log-left_by source sink log old mid new done apart (others tells) (copied tells) (after (to_mid.tells ∙ tells)) (front (to_mid.tells ∙ tells));
   early = λ never. absurd never;
   unlogged = λ tells never. absurd never;
@@ -91,13 +94,14 @@ played-logged source sink log old mid new (Made frames) apart others copied afte
 played-logged source sink log old mid new (Packed counts) apart others copied after held = absurd copied
 played-logged source sink log old mid new (Unpacked counts) apart others copied after held = absurd copied
 
-pub played-outcome : (source sink log : List ℕ) (old mid new : Outside) (done : Done) → (sink ≡ log → ⊥) → GoesOn old mid → (IsTrue old.tells → SameBut sink old mid) → (IsTrue old.tells → HasCopied source sink old mid done) → (IsTrue mid.tells → SameBut log mid new) → (IsTrue mid.tells → new.file log ≡ Some log_text) → IsEndsOutcome source sink log old new (Ok done)
-played-outcome source sink log old mid new done apart to_mid others copied after held = record {
+pub played-outcome : (source sink log : List ℕ) (old mid new : Outside) (done : Done) → (sink ≡ log → ⊥) → GoesOn old mid → (IsTrue old.tells → SameBut sink old mid) → (IsTrue old.tells → HasCopied source sink old mid done) → (IsTrue mid.tells → SameBut log mid new) → (IsTrue mid.tells → new.file log ≡ Some log_text) → CountsStand old mid → CountsStand mid new → IsEndsOutcome source sink log old new (Ok done)
+played-outcome source sink log old mid new done apart to_mid others copied after held stand still = record {
   played = λ tells. played-logged source sink log old mid new done apart (others tells) (copied tells) (after (to_mid.tells ∙ tells)) (held (to_mid.tells ∙ tells));
   left = λ _. tt;
   early = tt;
   unlogged = λ _. tt;
   caused = tt;
+  stand = CountsStand-then old mid new stand still;
   subject = λ _. tt;
 }
 
@@ -128,6 +132,7 @@ script-subject script log old new Unreads.OutOfMemory reason there = tt
 pub script-outcome : (script log : List ℕ) (old new : Outside) (unread : Unread) → new.file ≡ old.file → HasReadReason script 65536 old new unread → (IsTrue old.tells → WasOpened unread → IsSome (old.file script)) → (unread ≢ Unreads.Failed → new.read_faults ≡ old.read_faults) → new.write_faults ≡ old.write_faults → IsOutcome script log old new (Err (fault_of_script unread))
 script-outcome script log old new unread files reason there stands writes = record {
   played = λ _. tt;
+  stand = tt;
   left = λ _. inl files;
   early = λ _. files;
   unlogged = λ _ _. ap (λ (f : List ℕ → Option (List ℕ)). f log) files;
@@ -141,6 +146,7 @@ script-outcome script log old new unread files reason there stands writes = reco
 pub unplayed-outcome : (script log text : List ℕ) (old new : Outside) → new.file ≡ old.file → (IsTrue old.tells → old.file script ≡ Some text) → IsNoTunnel script log text → IsOutcome script log old new (Err (Faults.NotBuilt Unbuilts.Script))
 unplayed-outcome script log text old new files held none = record {
   played = λ _. tt;
+  stand = tt;
   left = λ _. inl files;
   early = λ _. files;
   unlogged = λ _ _. ap (λ (f : List ℕ → Option (List ℕ)). f log) files;
@@ -273,9 +279,11 @@ ends-outcome script log text source sink old mid new (Ok done) read ends = recor
   early = tt;
   unlogged = λ _. tt;
   reason = tt;
+  stand = CountsStand-then old mid new read.stand ends.stand;
 }
 ends-outcome script log text source sink old mid new (Err fault) read ends = record {
   played = λ _. tt;
+  stand = tt;
   left = λ tells. inr (for_tunnel script log text source sink old mid (λ s k. EndsLeft s k log old new) read tells (left-before source sink log old mid new read.files (ends.left (read.goes_on.tells ∙ tells))));
   early = λ is. ends.early is ∙ read.files;
   unlogged = λ tells is. at-before log old mid new read.files (ends.unlogged (read.goes_on.tells ∙ tells) is);

@@ -1,5 +1,5 @@
 -- What comes of the files where one is turned into another.
-use Rattle.std.proofs.Common.{◌≡◌, ◌⊎◌, inl, inr, ℕ, ◌≤◌, List, [], length, take, Option, Some, None, Result, Ok, Err, OnErr, IfOk, IfErr, IsTrue, IsSome, ap, sym, subst, refl, ◌∙◌, arith}
+use Rattle.std.proofs.Common.{◌≡◌, ◌⊎◌, inl, inr, ℕ, ◌≤◌, List, [], length, take, Option, Some, None, Result, Ok, Err, OnOk, OnErr, IfOk, IfErr, IsTrue, IsSome, ap, sym, subst, refl, ◌∙◌, arith}
 use Rattle.std.specs.Io.KnownBytes.{append_known}
 use Rattle.std.proofs.Math.Seq.{take-length}
 use Rattle.outside_io.specs.Causes.{Rose}
@@ -10,6 +10,7 @@ use Rattle.omx_types.specs.declared.fault.Fault.{Fault}
 use Rattle.omx_types.specs.declared.fault.Fault.TheVariants as Faults
 use Rattle.omx_types.specs.declared.fault.Which.TheVariants as Files
 use Rattle.omxrun.specs.Opened.{HasOpenReason}
+use Rattle.omxrun.specs.Reasons.{CountsStand}
 use Rattle.omxrun.specs.Turned.{Written, Giving, Stopping, text_in, Comes, IsTurned, IsKeptOrBegun, HasTurnReason, IsAlone, IsUnopened, IsTurnOutcome}
 use Rattle.omxrun.specs.declared.done.Done.{Done}
 
@@ -45,6 +46,7 @@ unopened-outcome Gives Stops input output old new fault same reason alone = reco
   unopened = λ early. same;
   reason = open-reason Gives Stops input output old new fault reason;
   alone = alone;
+  stand = tt;
 }
 
 -- ---- files that were opened
@@ -83,6 +85,7 @@ pub record IsClosed (Gives : Giving) (Stops : Stopping) (input output : List ℕ
   pub fault : IfErr outcome (λ fault. (ran ≡ Err fault) ⊎ ((fault ≡ Faults.WriteFault) × Rose old.write_faults new.write_faults))
   pub stopped : IfErr ran (HasMoveReason Stops input old new)
   pub alone : IfErr outcome (IsAlone old new)
+  pub stand : OnOk outcome (CountsStand old new)
 
 if-ok : {A E : Type 0} (r : Result A E) (a : A) (P : A → Type 0) → r ≡ Ok a → IfOk r P → P a
 if-ok r a P is h = subst (λ (q : Result _ _). IfOk q P) is h
@@ -154,6 +157,7 @@ turned-outcome Gives Stops input output old new ran (Ok done) told is = record {
   unopened = tt;
   reason = tt;
   alone = tt;
+  stand = is.stand;
 }
 turned-outcome Gives Stops input output old new ran (Err fault) told is = record {
   others = is.others;
@@ -170,4 +174,5 @@ turned-outcome Gives Stops input output old new ran (Err fault) told is = record
     | inr closing ↦ subst (λ (f : Fault). HasTurnReason Gives Stops input output old new f) (sym closing.0) closing.1
   ];
   alone = is.alone;
+  stand = tt;
 }

@@ -1,5 +1,5 @@
 -- What the run of a clock's script comes to, and the text that this asks for.
-use Rattle.std.specs.Prelude.{◌≡◌, ℕ, List, Some, IsTrue, Result, Ok, Err}
+use Rattle.std.specs.Prelude.{◌≡◌, ℕ, List, Some, IsTrue, Result, Ok, Err, OnOk}
 use Rattle.outside_io.specs.Files.{Outside}
 use Rattle.omx_types.specs.declared.fault.Fault.{Fault}
 use Rattle.omx_types.specs.declared.fault.Fault.TheVariants as Faults
@@ -7,6 +7,7 @@ use Rattle.omx_types.specs.declared.fault.ScriptWhy.{ScriptWhy}
 use Rattle.clock_core.specs.Printed.{clock_text}
 use Rattle.clock_core.specs.Script.{IsFaulty, IsScript}
 use Rattle.omxrun.specs.Asked.{IsGiven}
+use Rattle.omxrun.specs.Reasons.{CountsStand}
 use Rattle.omxrun.specs.Texts.{fault_line}
 use Rattle.omxrun.specs.Traced.{HasScriptReason}
 
@@ -39,10 +40,11 @@ abbrev pub IsClockOf : List ℕ → Outside → Outside → Result (Unit {0}) Fa
 IsClockOf name old new (Ok done) text = IsClockIn name old text
 IsClockOf name old new (Err fault) text = HasClockReason name old new fault × (text ≡ fault_line fault)
 
--- what the run of a clock's script comes to: no told file changes
+-- what the run of a clock's script comes to: no told file changes; done whole only where no read and no write failed
 pub record IsClockOutcome (name : List ℕ) (old new : Outside) (outcome : Result (Unit {0}) Fault) (text : List ℕ) : Type 0 where
   pub kept : new.file ≡ old.file
   pub is : IsClockOf name old new outcome text
+  pub stand : OnOk outcome (CountsStand old new)
 
 -- the script is told and given whole, and is a clock's
 pub record CanClock (script : List ℕ) (old : Outside) : Type 0 where

@@ -1,9 +1,9 @@
 -- What a play of one source into one sink leaves.
-use Rattle.std.specs.Prelude.{◌≡◌, ◌≢◌, ◌⊎◌, ℕ, List, Some, Result, IsTrue, IfOk, IfErr, OnErr, codes}
+use Rattle.std.specs.Prelude.{◌≡◌, ◌≢◌, ◌⊎◌, ℕ, List, Some, Result, IsTrue, IfOk, IfErr, OnOk, OnErr, codes}
 use Rattle.outside_io.specs.Files.{Outside, IsFrontOf}
 use Rattle.omx_types.specs.declared.fault.Fault.{Fault}
 use Rattle.omxrun.specs.Copied.{IsCopied, IsKeptOrFront}
-use Rattle.omxrun.specs.Reasons.{ForTunnel, HasReason, IsCaused, IsOfEnds, IsOfLog, IsEarly, IsUnlogged}
+use Rattle.omxrun.specs.Reasons.{CountsStand, ForTunnel, HasReason, IsCaused, IsOfEnds, IsOfLog, IsEarly, IsUnlogged}
 use Rattle.omxrun.specs.Script.{IsTunnel}
 use Rattle.omxrun.specs.declared.done.Done.{Done}
 use Rattle.omxrun.specs.declared.done.Done.TheVariants.{Played, Made, Packed, Unpacked}
@@ -48,13 +48,14 @@ pub record IsPlayed (script log : List ℕ) (old new : Outside) (done : Done) : 
 abbrev pub IsLeft : List ℕ → List ℕ → Outside → Outside → Type 0
 IsLeft script log old new = (new.file ≡ old.file) ⊎ ForTunnel script log old (λ source sink. EndsLeft source sink log old new)
 
--- what a play comes to
+-- what a play comes to: done whole where no read and no write failed
 pub record IsOutcome (script log : List ℕ) (old new : Outside) (outcome : Result Done Fault) : Type 0 where
   pub played : IsTrue old.tells → IfOk outcome (IsPlayed script log old new)
   pub left : IsTrue old.tells → OnErr outcome (IsLeft script log old new)
   pub early : IfErr outcome (λ fault. IsEarly fault → new.file ≡ old.file)
   pub unlogged : IsTrue old.tells → IfErr outcome (λ fault. IsUnlogged fault → new.file log ≡ old.file log)
   pub reason : IfErr outcome (HasReason script log old new)
+  pub stand : OnOk outcome (CountsStand old new)
 
 -- what the play of two ends comes to
 pub record IsEndsOutcome (source sink log : List ℕ) (old new : Outside) (outcome : Result Done Fault) : Type 0 where
@@ -63,4 +64,5 @@ pub record IsEndsOutcome (source sink log : List ℕ) (old new : Outside) (outco
   pub early : IfErr outcome (λ fault. IsEarly fault → new.file ≡ old.file)
   pub unlogged : IsTrue old.tells → IfErr outcome (λ fault. IsUnlogged fault → new.file log ≡ old.file log)
   pub caused : IfErr outcome (IsCaused old new)
+  pub stand : OnOk outcome (CountsStand old new)
   pub subject : IsTrue old.tells → IfErr outcome (λ fault. IsOfEnds source sink old fault ⊎ IsOfLog source log old fault)

@@ -1,5 +1,5 @@
 -- What the trace of a script comes to, and the text that it asks for.
-use Rattle.std.specs.Prelude.{◌≡◌, ◌⊎◌, ℕ, List, ◌++◌, Some, None, IsTrue, IsSome, Result, Ok, Err}
+use Rattle.std.specs.Prelude.{◌≡◌, ◌⊎◌, ℕ, List, ◌++◌, Some, None, IsTrue, IsSome, Result, Ok, Err, OnOk}
 use Rattle.outside_io.specs.Causes.{Rose}
 use Rattle.outside_io.specs.Files.{Outside}
 use Rattle.outside_io.specs.Whole.{IsShort}
@@ -49,7 +49,8 @@ IsTraceOf name old new outcome text =
     ((script : Script) × IsScriptIn name old script × TracesTo script outcome text)
     ⊎ ((fault : Fault) × HasScriptReason name old new fault × (outcome ≡ Err fault) × (text ≡ fault_line fault))
 
--- what a trace comes to: no told file changes
+-- what a trace comes to: no told file changes; done whole only where no read and no write failed
 pub record IsTraceOutcome (name : List ℕ) (old new : Outside) (outcome : Result (Unit {0}) Fault) (text : List ℕ) : Type 0 where
   pub kept : new.file ≡ old.file
   pub is : IsTraceOf name old new outcome text
+  pub stand : OnOk outcome (CountsStand old new)

@@ -1,6 +1,6 @@
 -- What comes of the files where a command turns one into another. `Gives` says of each file's bytes what they come to: the
 -- other file's bytes and what is told of them, or a fault of these bytes. `Stops` says where a source may give nothing.
-use Rattle.std.specs.Prelude.{◌≡◌, ◌⊎◌, ℕ, ◌<◌, List, [], length, Option, Some, None, Result, Ok, Err, IsTrue, IsFalse, IsSome, IfOk, IfErr, OnErr}
+use Rattle.std.specs.Prelude.{◌≡◌, ◌⊎◌, ℕ, ◌<◌, List, [], length, Option, Some, None, Result, Ok, Err, IsTrue, IsFalse, IsSome, IfOk, IfErr, OnOk, OnErr}
 use Rattle.outside_io.specs.Causes.{Rose}
 use Rattle.outside_io.specs.Files.{Outside, SameBut, IsFrontOf}
 use Rattle.omx_types.specs.declared.fault.Fault.{Fault}
@@ -66,7 +66,7 @@ abbrev pub IsUnopened : Fault → Type 0
 IsUnopened (Faults.Absent which) = Unit {0}
 IsUnopened other = ⊥
 
--- what turning a file comes to
+-- what turning a file comes to: done whole only where no read and no write failed
 pub record IsTurnOutcome (Gives : Giving) (Stops : Stopping) (input output : List ℕ) (old new : Outside) (outcome : Result Done Fault) : Type 0 where
   pub others : IsTrue old.tells → SameBut output old new
   pub turned : IsTrue old.tells → IfOk outcome (IsTurned Gives input output old new)
@@ -74,6 +74,7 @@ pub record IsTurnOutcome (Gives : Giving) (Stops : Stopping) (input output : Lis
   pub unopened : IfErr outcome (λ fault. IsUnopened fault → new.file ≡ old.file)
   pub reason : IfErr outcome (HasTurnReason Gives Stops input output old new)
   pub alone : IfErr outcome (IsAlone old new)
+  pub stand : OnOk outcome (CountsStand old new)
 
 -- the input is told and given whole, its bytes come to this answer, and the output's name isn't refused
 pub record CanTurn (Gives : Giving) (input output : List ℕ) (old : Outside) (answer : Result Written Fault) : Type 0 where

@@ -115,6 +115,7 @@ fn close_both<M: Media>(
     ensures unread { M.Src.faults opened.input ≡ 0 → (M.outside media.new).read_faults ≡ (M.outside media.old).read_faults }
     ensures unwritten { M.Snk.faults opened.output ≡ 0 → IfErr result (λ fault. IsShortFile fault →
         (M.outside media.new).write_faults ≡ (M.outside media.old).write_faults) }
+    ensures closed { M.Snk.faults opened.output ≡ 0 → OnOk result ((M.outside media.new).write_faults ≡ (M.outside media.old).write_faults) }
     ensures reads { (M.outside media.new).read_faults ≡ sum_of_counts (M.outside media.old).read_faults (M.Src.faults opened.input) }
     ensures writes { sum_of_counts (M.outside media.old).write_faults (M.Snk.faults opened.output) ≤ (M.outside media.new).write_faults }
 {

@@ -4,7 +4,7 @@ use Rattle.rtp_parts.specs.Answers.{StoppedPacking}
 use Rattle.omx_types.specs.declared.fault.Fault.{Fault}
 use Rattle.omxrun.specs.Packets.{PacksTo}
 use Rattle.omxrun.specs.declared.done.Done.{Done}
-use Rattle.omxrun.proofs.Moves.{IsCounted, IsShut, IsShutAlone, RanAlone, pack-alone, shut-alone, pack-moved, pack-stopped, read-rose, write-rose, closed-of}
+use Rattle.omxrun.proofs.Moves.{IsCounted, IsShut, IsShutAlone, RanAlone, pack-alone, shut-alone, shut-stand, pack-moved, pack-stopped, read-rose, write-rose, closed-of}
 use Rattle.omxrun.proofs.Turns.{IsMoved, HasMoveReason, turned-outcome, unopened-outcome}
 use Rattle.omxrun.proofs.packets.pack_file.Goals as goal
 
@@ -49,7 +49,9 @@ returns-in-Ok-clause-outcome g c =
       closing = c.close_both.ensures.closing;
       unread = c.close_both.ensures.unread;
       unwritten = c.close_both.ensures.unwritten;
+      closed = c.close_both.ensures.closed;
     } in
     turned-outcome PacksTo StoppedPacking c.args.input.now c.args.output.now old new c.packed_outcome.result c.close_both.result told
     (closed-of PacksTo StoppedPacking (g.M.Snk.Sink.name c.pack-packed.new.snk) c.args.input.now c.args.output.now old mid new c.packed_outcome.result c.close_both.result told c.open_both.ensures.files c.open_both.ensures.goes_on
-    (λ tells. c.pack-packed.ensures.name ∙ c.in-Ok.ensures.name tells) shut moved stopped (shut-alone old mid new c.packed_outcome.result c.close_both.result (g.M.Src.Source.faults c.pack-packed.new.src) (g.M.Snk.Sink.faults c.pack-packed.new.snk) c.in-Ok.ensures.stand alone shut_alone))
+    (λ tells. c.pack-packed.ensures.name ∙ c.in-Ok.ensures.name tells) shut moved stopped (shut-alone old mid new c.packed_outcome.result c.close_both.result (g.M.Src.Source.faults c.pack-packed.new.src) (g.M.Snk.Sink.faults c.pack-packed.new.snk) c.in-Ok.ensures.stand alone shut_alone)
+    (shut-stand (g.M.Snk.Sink.name c.pack-packed.new.snk) old mid new c.packed_outcome.result c.close_both.result told (g.M.Src.Source.faults c.pack-packed.new.src) (g.M.Snk.Sink.faults c.pack-packed.new.snk) c.in-Ok.ensures.stand alone shut shut_alone))

@@ -3,7 +3,7 @@ use Rattle.outside_io.proofs.Closed.{told_value}
 use Rattle.omx_types.specs.declared.fault.Fault.{Fault}
 use Rattle.omxrun.specs.Packets.{UnpacksTo, StoppedUnpacking}
 use Rattle.omxrun.specs.declared.done.Done.{Done}
-use Rattle.omxrun.proofs.Moves.{IsCounted, IsShut, IsShutAlone, RanAlone, unpack-alone, shut-alone, unpack-moved, unpack-stopped, read-rose, write-rose, closed-of}
+use Rattle.omxrun.proofs.Moves.{IsCounted, IsShut, IsShutAlone, RanAlone, unpack-alone, shut-alone, shut-stand, unpack-moved, unpack-stopped, read-rose, write-rose, closed-of}
 use Rattle.omxrun.proofs.Turns.{IsMoved, HasMoveReason, turned-outcome, unopened-outcome}
 use Rattle.omxrun.proofs.packets.unpack_file.Goals as goal
 
@@ -47,7 +47,9 @@ returns-in-Ok-clause-outcome g c =
       closing = c.close_both.ensures.closing;
       unread = c.close_both.ensures.unread;
       unwritten = c.close_both.ensures.unwritten;
+      closed = c.close_both.ensures.closed;
     } in
     turned-outcome UnpacksTo StoppedUnpacking c.args.input.now c.args.output.now old new c.unpacked_outcome.result c.close_both.result told
     (closed-of UnpacksTo StoppedUnpacking (g.M.Snk.Sink.name c.unpack-unpacked.new.snk) c.args.input.now c.args.output.now old mid new c.unpacked_outcome.result c.close_both.result told c.open_both.ensures.files c.open_both.ensures.goes_on
-    (λ tells. c.unpack-unpacked.ensures.name ∙ c.in-Ok.ensures.name tells) shut moved stopped (shut-alone old mid new c.unpacked_outcome.result c.close_both.result (g.M.Src.Source.faults c.unpack-unpacked.new.src) (g.M.Snk.Sink.faults c.unpack-unpacked.new.snk) c.in-Ok.ensures.stand alone shut_alone))
+    (λ tells. c.unpack-unpacked.ensures.name ∙ c.in-Ok.ensures.name tells) shut moved stopped (shut-alone old mid new c.unpacked_outcome.result c.close_both.result (g.M.Src.Source.faults c.unpack-unpacked.new.src) (g.M.Snk.Sink.faults c.unpack-unpacked.new.snk) c.in-Ok.ensures.stand alone shut_alone)
+    (shut-stand (g.M.Snk.Sink.name c.unpack-unpacked.new.snk) old mid new c.unpacked_outcome.result c.close_both.result told (g.M.Src.Source.faults c.unpack-unpacked.new.src) (g.M.Snk.Sink.faults c.unpack-unpacked.new.snk) c.in-Ok.ensures.stand alone shut shut_alone))

@@ -14,3 +14,4 @@ pub returns-in-Ok-write_whole-clause-outcome : goal.returns-in-Ok-write_whole-cl
 returns-in-Ok-write_whole-clause-outcome g c =
     played-outcome c.args.source.now c.args.sink.now c.args.log.now (g.M.Media.outside c.args.media.now) (g.M.Media.outside c.play_files.new.media) (g.M.Media.outside c.write_whole.new.media) c.in-Ok.done c.requires
     c.play_files.ensures.goes_on c.play_files.ensures.others c.in-Ok.ensures.copied c.write_whole.ensures.others c.in-Ok-write_whole.ensures.held
+    c.in-Ok.ensures.stand (record { reads = c.write_whole.ensures.read_faults; writes = c.in-Ok-write_whole.ensures.write_stands (λ same. cc) })
