@@ -7,3 +7,4 @@ pub mod Telling
 pub mod Names
 pub mod Same
 pub mod Shown
+pub mod Keeping

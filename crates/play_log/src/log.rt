@@ -3,9 +3,13 @@ ghost use Rattle.std.specs.Fmt.{decimal};
 ghost use Rattle.act_text.specs.Words.{IsGrown};
 ghost use Rattle.play_log.specs.Lines.{LogLine, line_text, lines_of, log_text, is_left_out};
 ghost use Rattle.play_log.specs.Kept.{LogValue, IsKept};
+ghost use Rattle.play_log.specs.Entries.{Entry, is_unprinted};
+ghost use Rattle.play_log.specs.Logged.{IsLogged, Keeps};
+ghost use Rattle.play_log.specs.Saying.{Says};
+ghost use Rattle.play_log.specs.Scenes.{Scene};
 
 use crate::OutOfMemory;
-use act_text::{ActText, TextReply, put_act};
+use act_text::{ActText, TextReply, law_of_texts, put_act};
 use line_text::put_number;
 use std::alloc::{AllocError, Global};
 use std::marker::Model;
@@ -33,6 +37,7 @@ impl Log {
     pub fn new(alloc: Global) -> Log
         ensures kept { IsKept [] result }
         ensures whole { result.broken ≡ false }
+        ensures history { (s : Scene) → Keeps s [] result }
     {
         Log {
             text: Vec::new(alloc),
@@ -44,6 +49,33 @@ impl Log {
     /// Adds the line of an act that the pass made, with the next number. An act whose reply is `idle`, `none` or
     /// `busy` has no line. Where memory is wanting the log stays as it is, and takes no further line.
     pub fn entry(&mut self, pass: u32, act: &ActText) -> Result<(), OutOfMemory>
+        ensures line { (lines : List LogLine) → IsKept lines self.old → OnOk result (IsKept (lines ++ lines_of pass act.now) self.new) }
+        ensures whole { OnOk result ((self.old.broken ≡ false) × (self.new.broken ≡ false)) }
+        ensures broken { OnErr result (self.new ≡ record self.old { broken = true }) }
+        ensures history { (s : Scene) (history : List Entry) (entry : Entry) → Keeps s history self.old
+            → Says s (record { pass = pass; said = act.now }) entry → is_unprinted entry.reply ≡ false → Keeps s (history ++ entry ∷ []) self.new }
+    {
+        law_of_texts(act);
+        self.add(pass, act)
+    }
+
+    /// Whether each act that was told has its line.
+    pub fn is_whole(&self) -> bool
+        ensures { result ≡ true ↔ self.now.broken ≡ false }
+    {
+        !self.broken
+    }
+
+    /// The text of the log, whose last line is `end`. There is none where memory was wanting.
+    pub fn finish(self) -> Result<Vec<u8>, OutOfMemory>
+        ensures text { (lines : List LogLine) → IsKept lines self → IfOk result (λ text. text.items ≡ log_text lines) }
+        ensures whole { OnOk result (self.broken ≡ false) }
+        ensures logged { (s : Scene) (history : List Entry) → Keeps s history self → IfOk result (λ text. IsLogged s history text.items) }
+    {
+        self.with_end()
+    }
+
+    fn add(&mut self, pass: u32, act: &ActText) -> Result<(), OutOfMemory>
         ensures line { (lines : List LogLine) → IsKept lines self.old → OnOk result (IsKept (lines ++ lines_of pass act.now) self.new) }
         ensures whole { OnOk result ((self.old.broken ≡ false) × (self.new.broken ≡ false)) }
         ensures broken { OnErr result (self.new ≡ record self.old { broken = true }) }
@@ -62,15 +94,7 @@ impl Log {
         done
     }
 
-    /// Whether each act that was told has its line.
-    pub fn is_whole(&self) -> bool
-        ensures { result ≡ true ↔ self.now.broken ≡ false }
-    {
-        !self.broken
-    }
-
-    /// The text of the log, whose last line is `end`. There is none where memory was wanting.
-    pub fn finish(self) -> Result<Vec<u8>, OutOfMemory>
+    fn with_end(self) -> Result<Vec<u8>, OutOfMemory>
         ensures text { (lines : List LogLine) → IsKept lines self → IfOk result (λ text. text.items ≡ log_text lines) }
         ensures whole { OnOk result (self.broken ≡ false) }
     {

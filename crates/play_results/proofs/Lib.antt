@@ -1,1 +1,3 @@
 pub mod NoActs
+pub mod OwnNames
+pub mod OneLog

@@ -1,11 +1,6 @@
-use Rattle.std.proofs.Common.{◌≡◌, false, subst, sym}
-use Rattle.play_log.specs.Lines.{is_left_out}
-use Rattle.play_log.specs.Kept.{IsKept}
-use Rattle.play_log.proofs.Growing.{kept_more}
+use Rattle.play_log.proofs.Keeping.{keeps_more}
 use Rattle.play_log.proofs.log.Log.entry.Goals as goal
 
-pub returns-in-Ok-clause-line : goal.returns-in-Ok-clause-line
-returns-in-Ok-clause-line c lines K =
-    let shown : is_left_out c.args.act.now.reply ≡ false = sym c.if-is_left_out.ensures in
-    let before = subst (λ l. IsKept lines l) (sym c.self.view_is) K in
-    rw (c.in-Ok.is, shown) (kept_more lines _ _ _ _ _ before c.in-Ok.ensures.line)
+pub returns-clause-history : goal.returns-clause-history
+returns-clause-history c =
+    keeps_more c.args.pass c.args.act.now c.args.self.now c.add.new.self c.add.result c.ranges.pass.fits c.law_of_texts.ensures c.add.ensures.line c.add.ensures.whole c.add.ensures.broken
