@@ -40,6 +40,7 @@ use Rattle.play_worlds.proofs.Runs.{did, did_none}
 use Rattle.late_worlds.specs.Changing.{commands_of_port, is_joined_at, is_set_at, notes_of_port, state_by, told_of_port}
 use Rattle.late_worlds.specs.Late.{IsActorAt, IsLateWorld, LateCast, announced_note, commands_of_end, end_of_link, port_commands, port_notes, port_number, settings_notes}
 use Rattle.late_worlds.proofs.Ports.{disabling_state, enabling_state, other_state}
+use Rattle.late_acts.specs.Conducting.{port_command}
 use Rattle.late_acts.specs.Leading.{LateLeadsTo}
 use Rattle.late_acts.proofs.Announced.{left_same}
 use Rattle.late_acts.proofs.Around.{change_else, change_here, end_stated}
@@ -47,7 +48,6 @@ use Rattle.late_acts.proofs.Ends.{HasEnd, actor_there, end_inside, end_there, en
 use Rattle.late_acts.proofs.Lists.{HasQueued, links_some}
 use Rattle.late_acts.proofs.One.{IsTurned, IsTurnedAt, actor_turned, turned}
 use Rattle.late_acts.proofs.Ports.{port_else, port_here, selected_one}
-use Rattle.late_acts.proofs.Sending.{port_command}
 use Rattle.late_acts.proofs.Standing.{commands_are, late_commands_are}
 use Rattle.late_acts.proofs.Turning.{all_told, alone_half, commands_after, commands_here, half_of, half_stays, heard_turned, no_work_at, notes_turned, port_next, port_other, settings_at, settings_turned, step_stays, rises_turned}
 

@@ -36,6 +36,7 @@ use Rattle.play_worlds.proofs.Lists.{resolved}
 use Rattle.play_worlds.proofs.Rooms.{end_notes, state_notes, used_at_rest}
 use Rattle.late_worlds.specs.Changing.{commands_of_port, is_joined_at, is_set_at, notes_of_port, state_by, told_of_port}
 use Rattle.late_worlds.specs.Late.{IsActorAt, IsLateWorld, LateCast, announced_note, end_of_link, port_commands, port_notes, port_number, settings_notes}
+use Rattle.late_acts.specs.Conducting.{IsSendAt, port_command}
 use Rattle.late_acts.specs.Leading.{LateLeadsTo}
 use Rattle.late_acts.proofs.Announced.{left_same}
 use Rattle.late_acts.proofs.Around.{IsLatest, change_else, change_here, end_moves}
@@ -43,10 +44,6 @@ use Rattle.late_acts.proofs.Ends.{HasEnd, actor_there, end_inside, end_there, en
 use Rattle.late_acts.proofs.One.{IsTurned, IsTurnedAt, actor_turned, turned}
 use Rattle.late_acts.proofs.Standing.{late_commands_are, no_loss, pending_is, state_is}
 use Rattle.late_acts.proofs.Turning.{all_told, alone_half, calm_ports, commands_after, commands_here, heard_turned, is_recent, no_work_at, notes_after, notes_here, settings_at, settings_here, settings_turned, rises_turned}
-
-abbrev pub port_command : Bool → ℕ → Command
-port_command true port = PortDisable (One port)
-port_command false port = PortEnable (One port)
 
 -- ---- what a change is that goes on by a command to this end
 
@@ -153,13 +150,6 @@ sends_fourth output = record {
   before_drop = refl;
   joined = refl;
 }
-
--- the acts of the conductor that are commands: to which end, and which
-abbrev pub IsSendAt : Bool → Bool → ℕ → Type 0
-IsSendAt true true step = step ≡ 2
-IsSendAt false true step = step ≡ 3
-IsSendAt true false step = step ≡ 8
-IsSendAt false false step = step ≡ 9
 
 sending_is : (o disables : Bool) (k : Change) → IsInOrder k → IsSendAt o disables k.step → IsSending o disables k
 sending_is true true k O e =

@@ -57,6 +57,7 @@ use Rattle.play_worlds.proofs.Lists.{resolved}
 use Rattle.late_worlds.specs.Changing.{is_enabled_at, is_held_at, is_joined_at, is_set, is_set_at, state_by}
 use Rattle.late_worlds.specs.Late.{IsActorAt, IsAlike, IsEndAt, IsLateWorld, IsSetFor, LateCast, end_of_link, left_to_make, port_number}
 use Rattle.late_worlds.proofs.Ports.{set_input_state, set_output_state}
+use Rattle.late_acts.specs.Conducting.{IsSetStep, definition_key, planned}
 use Rattle.late_acts.specs.Leading.{LateLeadsTo}
 use Rattle.late_acts.proofs.Announced.{left_same}
 use Rattle.late_acts.proofs.Around.{change_here}
@@ -68,18 +69,6 @@ use Rattle.late_acts.proofs.One.{IsTurnedAt, actor_turned, turned}
 use Rattle.late_acts.proofs.Ports.{port_else, port_here, set_port_else, set_port_here}
 use Rattle.late_acts.proofs.Retuning.{IsRetuning, disabled, later_half, quiet_end, retuned_turn, turn}
 use Rattle.late_acts.proofs.Standing.{state_is}
-
--- what is set of the end of a link: the format of its late source's file, and its count and size as they are
-abbrev pub planned : LateCast → Bool → ℕ → PortDefinition
-planned x o l = record { input = not o; format = x.format l; count = (((x.cast).layout).network).count l; size = (x.cast).size l }
-
-abbrev pub definition_key : ℕ → ParamKey
-definition_key port = record { version = record { major = 1; minor = 1; revision = 2; step = 0 }; index = 1; port = port }
-
--- the output first, then the input
-abbrev pub IsSetStep : Bool → ℕ → Type 0
-IsSetStep true step = step ≡ 5
-IsSetStep false step = step ≡ 6
 
 -- ---- the port's state
 
