@@ -2,3 +2,4 @@ pub mod Files
 pub mod Worlds
 pub mod Summaries
 pub mod Results
+pub mod Leaving
