@@ -26,29 +26,29 @@ pub struct Port {
     pub foreign: u32,
 }
 
-fn times_made(key: PortKey, state: Option<HeaderState>) -> u32
-    ensures { result ≡ times_passed (is_for key) state }
+fn times_made(key: PortKey, state: &Option<HeaderState>) -> u32
+    ensures { result ≡ times_passed (is_for key) state.now }
 {
     match state {
-        Some(state) if is_made_for(key, &state) => 1,
+        Some(state) if is_made_for(key, state) => 1,
         _ => 0,
     }
 }
 
-fn times_outstanding(key: PortKey, state: Option<HeaderState>) -> u32
-    ensures { result ≡ times_passed (is_away_from key) state }
+fn times_outstanding(key: PortKey, state: &Option<HeaderState>) -> u32
+    ensures { result ≡ times_passed (is_away_from key) state.now }
 {
     match state {
-        Some(state) if is_outstanding(key, &state) => 1,
+        Some(state) if is_outstanding(key, state) => 1,
         _ => 0,
     }
 }
 
-fn times_foreign(key: PortKey, state: Option<HeaderState>) -> u32
-    ensures { result ≡ times_passed (is_guest key) state }
+fn times_foreign(key: PortKey, state: &Option<HeaderState>) -> u32
+    ensures { result ≡ times_passed (is_guest key) state.now }
 {
     match state {
-        Some(state) if is_foreign(key, &state) => 1,
+        Some(state) if is_foreign(key, state) => 1,
         _ => 0,
     }
 }
@@ -88,9 +88,9 @@ impl Port {
     }
 
     /// Counts a header anew that was so before, and is so after.
-    pub fn recount(&mut self, before: Option<HeaderState>, after: Option<HeaderState>)
-        requires { HasCounted before self.old }
-        ensures { self.new ≡ recounted self.old.key before after self.old }
+    pub fn recount(&mut self, before: &Option<HeaderState>, after: &Option<HeaderState>)
+        requires { HasCounted before.now self.old }
+        ensures { self.new ≡ recounted self.old.key before.now after.now self.old }
     {
         let key = self.key;
         self.made = self.made - times_made(key, before) + times_made(key, after);

@@ -10,13 +10,49 @@ use crate::entry::Entry;
 use crate::port::Port;
 use il_machine::{HeaderState, PortKey, Spot};
 use std::alloc::{AllocError, Global};
-use std::collections::HashMap;
 
 /// A port may have so many headers.
 const MOST_HEADERS: usize = 32;
 
-/// Where the first port of each component stands. A place that is told here is looked at before it is believed.
-pub type Firsts = HashMap<u64, usize>;
+/// So many places are told at once: more than there are components.
+const TOLD: usize = 64;
+
+/// Where the first port of each component stands, by the last digits of its number. A place that is told here is looked at before it
+/// is believed.
+#[derive(Drop)]
+pub struct Firsts {
+    places: [usize; TOLD],
+}
+
+/// Which of the places is that of the component.
+fn told_at(component: u64) -> usize
+    ensures { result < 64 }
+{
+    (component % TOLD as u64) as usize
+}
+
+impl Firsts {
+    pub fn new() -> Firsts {
+        Firsts { places: [0; TOLD] }
+    }
+
+    fn of(&self, component: u64) -> usize {
+        self.places[told_at(component)]
+    }
+
+    fn tell(&mut self, component: u64, first: usize) {
+        self.places[told_at(component)] = first;
+    }
+
+    /// The places that stand behind this one move down by so many.
+    fn move_down(&mut self, first: usize, gone: usize) {
+        for place in self.places.iter_mut() {
+            if *place > first {
+                *place = place.saturating_sub(gone);
+            }
+        }
+    }
+}
 
 /// Takes places for so many more ports and for all headers of all ports.
 pub fn reserve(
@@ -65,35 +101,12 @@ pub fn add(
     ensures err { OnErr result (ports.new.items ≡ ports.old.items) }
 {
     let first = ports.len();
-    if firsts.insert(component, first).is_err() {
-        return Err(AllocError);
-    }
     if let Err(refused) = push(ports, alloc, component, count) {
         ports.truncate(first);
         return Err(refused);
     }
+    firsts.tell(component, first);
     Ok(())
-}
-
-/// Moves the places that stand behind those of a component which is gone.
-fn forget(firsts: &mut Firsts, component: u64, gone: usize) {
-    let Some(first) = firsts.remove(&component) else {
-        return;
-    };
-    for place in firsts.values_mut() {
-        if *place > first {
-            *place = place.saturating_sub(gone);
-        }
-    }
-}
-
-/// Takes the ports of the component away.
-pub fn remove(ports: &mut Vec<Port>, firsts: &mut Firsts, component: u64)
-    ensures { ports.new.items ≡ filter (λ p. not (nat_eq p.key.component component)) ports.old.items }
-{
-    let before = ports.len();
-    ports.retain(|port| port.key.component != component);
-    forget(firsts, component, before.saturating_sub(ports.len()));
 }
 
 fn is_of_key(port: &Port, key: PortKey) -> bool
@@ -102,11 +115,10 @@ fn is_of_key(port: &Port, key: PortKey) -> bool
     port.key == key
 }
 
-/// The place that is told for the port, if it stands there.
-fn told_place(firsts: &Firsts, ports: &[Port], key: PortKey) -> Option<usize>
+/// The place of the port where the first of its component stands at `first`, if it is there.
+fn place_from(ports: &[Port], first: usize, key: PortKey) -> Option<usize>
     ensures { IfSome result (λ place. MatchOption (slice_get ports.now place) ⊥ (λ p. is_at key p ≡ true)) }
 {
-    let first = firsts.get(&key.component)?;
     let place = first.checked_add(key.port as usize)?;
     let port = ports.get(place)?;
     if is_of_key(port, key) {
@@ -114,6 +126,38 @@ fn told_place(firsts: &Firsts, ports: &[Port], key: PortKey) -> Option<usize>
     } else {
         None
     }
+}
+
+/// The place of the port, found by halves: components stand by rising number, but this isn't relied on.
+fn halved_place(ports: &[Port], key: PortKey) -> Option<usize>
+    ensures { IfSome result (λ place. MatchOption (slice_get ports.now place) ⊥ (λ p. is_at key p ≡ true)) }
+{
+    let near = ports
+        .binary_search_by_key(&key.component, |port| port.key.component)
+        .ok()?;
+    let first = near.checked_sub(ports.get(near)?.key.port as usize)?;
+    place_from(ports, first, key)
+}
+
+/// The place of the port as it is told, or found by halves, if it stands there.
+fn likely_place(firsts: &Firsts, ports: &[Port], key: PortKey) -> Option<usize>
+    ensures { IfSome result (λ place. MatchOption (slice_get ports.now place) ⊥ (λ p. is_at key p ≡ true)) }
+{
+    let told = place_from(ports, firsts.of(key.component), key);
+    if told.is_some() {
+        return told;
+    }
+    halved_place(ports, key)
+}
+
+/// Takes the ports of the component away.
+pub fn remove(ports: &mut Vec<Port>, firsts: &mut Firsts, component: u64)
+    ensures { ports.new.items ≡ filter (λ p. not (nat_eq p.key.component component)) ports.old.items }
+{
+    let before = ports.len();
+    let first = likely_place(firsts, ports, PortKey { component, port: 0 });
+    ports.retain(|port| port.key.component != component);
+    firsts.move_down(first.unwrap_or(before), before.saturating_sub(ports.len()));
 }
 
 fn looked_up_place(ports: &[Port], key: PortKey) -> Option<usize>
@@ -127,7 +171,7 @@ fn place_of(firsts: &Firsts, ports: &[Port], key: PortKey) -> usize
     requires { has_key key (port_keys ports.now) ≡ true }
     ensures { MatchOption (slice_get ports.now result) ⊥ (λ p. is_at key p ≡ true) }
 {
-    if let Some(place) = told_place(firsts, ports, key) {
+    if let Some(place) = likely_place(firsts, ports, key) {
         return place;
     }
     match looked_up_place(ports, key) {
@@ -188,13 +232,13 @@ fn recount_at(
     firsts: &Firsts,
     ports: &mut Vec<Port>,
     key: PortKey,
-    before: Option<HeaderState>,
-    after: Option<HeaderState>,
+    before: &Option<HeaderState>,
+    after: &Option<HeaderState>,
 )
     requires there { has_key key (port_keys ports.old.items) ≡ true }
     requires differ { Differ ports.old.items }
-    requires counted { HasCounted before (port_at key ports.old.items) }
-    ensures { Replaces key (recounted key before after (port_at key ports.old.items)) ports.old.items ports.new.items }
+    requires counted { HasCounted before.now (port_at key ports.old.items) }
+    ensures { Replaces key (recounted key before.now after.now (port_at key ports.old.items)) ports.old.items ports.new.items }
 {
     let place = place_of(firsts, ports, key);
     let port = &mut ports[place];
@@ -224,12 +268,12 @@ pub fn recount(
     ensures { Recounts before after ports.old.items ports.new.items }
 {
     let (port, peer) = made_for;
-    recount_at(firsts, ports, port, before, after);
+    recount_at(firsts, ports, port, &before, &after);
     let Some(peer) = peer else {
         return;
     };
     if is_same(peer, port) {
         return;
     }
-    recount_at(firsts, ports, peer, before, after);
+    recount_at(firsts, ports, peer, &before, &after);
 }

@@ -88,7 +88,7 @@ impl Stock {
         Ok(Stock {
             region: Region::new(alloc, BLOCKS, BLOCK_BYTES)?,
             ports: Vec::new(alloc),
-            firsts: Firsts::new(alloc),
+            firsts: Firsts::new(),
             entries: Vec::new(alloc),
             next: 0,
         })

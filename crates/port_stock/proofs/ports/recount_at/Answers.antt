@@ -8,7 +8,7 @@ use Rattle.port_stock.proofs.ports.recount_at.Goals as goal
 pub recount-requires : goal.recount-requires
 recount-requires c =
     let P = placed c.args.key _ c.args.ports.now.items c.requires.differ (rw c.deref.ensures.value at c.place_of-place.ensures) in
-    subst (HasCounted c.args.before) (sym (read_port c.args.key _ c.args.ports.now.items _ P c.index_mut-port.ensures.value)) c.requires.counted
+    subst (HasCounted c.args.before.now) (sym (read_port c.args.key _ c.args.ports.now.items _ P c.index_mut-port.ensures.value)) c.requires.counted
 
 pub returns : goal.returns
 returns c =
@@ -16,5 +16,5 @@ returns c =
     let e = read_port c.args.key _ c.args.ports.now.items _ P c.index_mut-port.ensures.value in
     let k = keyed_port c.args.key _ c.args.ports.now.items P in
     let p : Port = port_at c.args.key c.args.ports.now.items in
-    replaced c.args.key _ c.args.ports.now.items _ (recounted c.args.key c.args.before c.args.after p) c.requires.differ P
-    (c.recount.ensures ∙ (ap (λ (x : Port). recounted x.key c.args.before c.args.after x) e ∙ ap (λ (x : PortKey). recounted x c.args.before c.args.after p) k)) k
+    replaced c.args.key _ c.args.ports.now.items _ (recounted c.args.key c.args.before.now c.args.after.now p) c.requires.differ P
+    (c.recount.ensures ∙ (ap (λ (x : Port). recounted x.key c.args.before.now c.args.after.now x) e ∙ ap (λ (x : PortKey). recounted x c.args.before.now c.args.after.now p) k)) k
