@@ -9,10 +9,10 @@ use Rattle.il_machine.specs.Headers.{is_for, is_key, is_owned_by, same_key, weig
 use Rattle.il_machine.specs.Places.{first_place, AtMostOne}
 use Rattle.il_machine.proofs.Places.{is_first_place, none_at, once_set, passes_at}
 use Rattle.il_machine.specs.Stock.{times_passed}
-use Rattle.stock_laws.proofs.Keys.{key_tells, same_key-sym}
+use Rattle.stock_laws.proofs.Keys.{key_tells, same_key-refl, same_key-sym}
 use Rattle.port_stock.specs.declared.port.Port.{Port}
 use Rattle.port_stock.specs.Conditions.{has_key, IsMadeForOwner}
-use Rattle.port_stock.specs.Rings.{Differ, IsKnownBy, Recounts, Replaces, is_at, is_away_from, is_guest, new_ports, no_port, port_at, port_keys, recounted, with_number}
+use Rattle.port_stock.specs.Rings.{Differ, IsForWhere, IsKnownBy, Recounts, Replaces, is_at, is_away_from, is_guest, new_ports, no_port, port_at, port_keys, recounted, with_number}
 use Rattle.port_stock.proofs.Places.{there, mapped_none}
 use Rattle.port_stock.proofs.Changing.{at_is}
 
@@ -201,6 +201,10 @@ recounts_two port peer before after ps qs rs B A d R S = record {
 }
 
 -- ---- which ports know a header
+
+pub known_port : (port : PortKey) (peer : Option PortKey) (o : Option HeaderState) → IsKnownBy port peer o → IsForWhere port o
+known_port port peer None K = tt
+known_port port peer (Some h) K = rw (K.0, same_key-refl port) refl
 
 pub no_peer : (port : PortKey) (o : Option PortKey) → o ≡ None → (k : PortKey) → same_key port k ≡ false → is_key k o ≡ false
 no_peer port o e k d = ap (is_key k) e

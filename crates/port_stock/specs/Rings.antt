@@ -1,5 +1,5 @@
 -- The ports of a stock with their rings and counts, and the flat list of headers of which they tell.
-use Rattle.std.specs.Prelude.{◌≡◌, ℕ, ◌+◌, ◌-◌, ◌*◌, ◌≤◌, Bool, not, ◌&&◌, List, [], ◌∷◌, ◌++◌, map, length, drop, Option, MatchOption, if◌then◌else◌}
+use Rattle.std.specs.Prelude.{◌≡◌, ℕ, ◌+◌, ◌-◌, ◌*◌, ◌≤◌, Bool, true, not, ◌&&◌, List, [], ◌∷◌, ◌++◌, map, length, drop, Option, MatchOption, if◌then◌else◌}
 use Rattle.circular_buffer.specs.Buffer.{buffer}
 use Rattle.il_machine.specs.declared.port.PortKey.{PortKey}
 use Rattle.il_machine.specs.declared.header.Spot.{Spot}
@@ -53,6 +53,10 @@ recounted key before after p = record p {
   outstanding = p.outstanding - times_passed (is_away_from key) before + times_passed (is_away_from key) after;
   foreign = p.foreign - times_passed (is_guest key) before + times_passed (is_guest key) after;
 }
+
+-- the header was made for the port, where there is one
+abbrev pub IsForWhere : PortKey → Option HeaderState → Type 0
+IsForWhere key state = MatchOption state (Unit {0}) (λ h. is_for key h ≡ true)
 
 -- the header is counted, where there is one, and no count is above 32
 pub record HasCounted (before : Option HeaderState) (p : Port) : Type 0 where

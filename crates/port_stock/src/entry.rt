@@ -66,12 +66,11 @@ fn is_in_notice(owner: Owner) -> bool
     matches!(owner, Owner::Notice(_))
 }
 
-/// Whether the header was made for the port and its owner is neither its home nor a notice.
-pub fn is_outstanding(key: PortKey, state: &HeaderState) -> bool
-    ensures { result ≡ (is_for key state.now && is_away state.now) }
+/// Whether the header's owner is neither its home nor a notice.
+pub fn is_away(state: &HeaderState) -> bool
+    ensures { result ≡ is_away state.now }
 {
-    is_made_for(key, state)
-        && !(is_owner_home(state.home, state.owner) || is_in_notice(state.owner))
+    !(is_owner_home(state.home, state.owner) || is_in_notice(state.owner))
 }
 
 fn is_home(key: PortKey, home: Home) -> bool

@@ -1,12 +1,12 @@
 //! One port: the numbers of the headers in its two lists, and how many headers there are.
 
 ghost use Rattle.std.specs.Prelude.{◌≡◌, ◌&&◌, ◌<◌, not, length, IfOk};
-ghost use Rattle.il_machine.specs.Headers.{is_away, is_for};
+ghost use Rattle.il_machine.specs.Headers.{is_for, weight};
 ghost use Rattle.il_machine.specs.Stock.{times_passed};
-ghost use Rattle.port_stock.specs.Rings.{HasCounted, is_away_from, is_guest, no_port, recounted, with_number, without_done, without_todo};
+ghost use Rattle.port_stock.specs.Rings.{HasCounted, IsForWhere, is_away_from, is_guest, no_port, recounted, with_number, without_done, without_todo};
 
 use crate::OutOfMemory;
-use crate::entry::{is_foreign, is_made_for, is_outstanding};
+use crate::entry::{is_away, is_foreign};
 use circular_buffer::HeapCircularBuffer;
 use il_machine::{HeaderState, PortKey, Spot};
 use std::alloc::Global;
@@ -26,30 +26,38 @@ pub struct Port {
     pub foreign: u32,
 }
 
-fn times_made(key: PortKey, state: &Option<HeaderState>) -> u32
-    ensures { result ≡ times_passed (is_for key) state.now }
-{
-    match state {
-        Some(state) if is_made_for(key, state) => 1,
-        _ => 0,
-    }
+/// What a header counts at a port that it was made for.
+#[derive(Clone, Copy)]
+struct Share {
+    made: u32,
+    outstanding: u32,
+    foreign: u32,
 }
 
-fn times_outstanding(key: PortKey, state: &Option<HeaderState>) -> u32
-    ensures { result ≡ times_passed (is_away_from key) state.now }
+fn once_where(test: bool) -> u32
+    ensures { result ≡ weight test }
 {
-    match state {
-        Some(state) if is_outstanding(key, state) => 1,
-        _ => 0,
-    }
+    if test { 1 } else { 0 }
 }
 
-fn times_foreign(key: PortKey, state: &Option<HeaderState>) -> u32
-    ensures { result ≡ times_passed (is_guest key) state.now }
+/// What the header counts at the port, which it was made for, where there is one.
+fn share_of(key: PortKey, state: &Option<HeaderState>) -> Share
+    requires { IsForWhere key state.now }
+    ensures made { result.made ≡ times_passed (is_for key) state.now }
+    ensures outstanding { result.outstanding ≡ times_passed (is_away_from key) state.now }
+    ensures foreign { result.foreign ≡ times_passed (is_guest key) state.now }
 {
     match state {
-        Some(state) if is_foreign(key, state) => 1,
-        _ => 0,
+        Some(state) => Share {
+            made: 1,
+            outstanding: once_where(is_away(state)),
+            foreign: once_where(is_foreign(key, state)),
+        },
+        None => Share {
+            made: 0,
+            outstanding: 0,
+            foreign: 0,
+        },
     }
 }
 
@@ -87,15 +95,17 @@ impl Port {
         }
     }
 
-    /// Counts a header anew that was so before, and is so after.
+    /// Counts a header anew that was so before, and is so after. It was made for the port, where there is one.
     pub fn recount(&mut self, before: &Option<HeaderState>, after: &Option<HeaderState>)
-        requires { HasCounted before.now self.old }
+        requires counted { HasCounted before.now self.old }
+        requires before { IsForWhere self.old.key before.now }
+        requires after { IsForWhere self.old.key after.now }
         ensures { self.new ≡ recounted self.old.key before.now after.now self.old }
     {
-        let key = self.key;
-        self.made = self.made - times_made(key, before) + times_made(key, after);
-        self.outstanding = self.outstanding - times_outstanding(key, before)
-            + times_outstanding(key, after);
-        self.foreign = self.foreign - times_foreign(key, before) + times_foreign(key, after);
+        let was = share_of(self.key, before);
+        let is = share_of(self.key, after);
+        self.made = self.made - was.made + is.made;
+        self.outstanding = self.outstanding - was.outstanding + is.outstanding;
+        self.foreign = self.foreign - was.foreign + is.foreign;
     }
 }

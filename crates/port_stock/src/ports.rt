@@ -3,7 +3,7 @@
 ghost use Rattle.std.specs.Prelude.{◌≡◌, ◌+◌, ◌*◌, ◌<◌, ◌≤◌, ◌++◌, true, filter, length, nat_eq, not, position, slice_get, take, vec_capacity, vec_len, IfSome, OnOk, OnErr, MatchOption};
 ghost use Rattle.il_machine.specs.Headers.{same_key};
 ghost use Rattle.port_stock.specs.Conditions.{has_key};
-ghost use Rattle.port_stock.specs.Rings.{Differ, HasCounted, IsKnownBy, Recounts, Replaces, is_at, new_ports, port_at, port_keys, recounted, with_number, without_done, without_todo};
+ghost use Rattle.port_stock.specs.Rings.{Differ, HasCounted, IsForWhere, IsKnownBy, Recounts, Replaces, is_at, new_ports, port_at, port_keys, recounted, with_number, without_done, without_todo};
 
 use crate::OutOfMemory;
 use crate::entry::Entry;
@@ -238,6 +238,8 @@ fn recount_at(
     requires there { has_key key (port_keys ports.old.items) ≡ true }
     requires differ { Differ ports.old.items }
     requires counted { HasCounted before.now (port_at key ports.old.items) }
+    requires before { IsForWhere key before.now }
+    requires after { IsForWhere key after.now }
     ensures { Replaces key (recounted key before.now after.now (port_at key ports.old.items)) ports.old.items ports.new.items }
 {
     let place = place_of(firsts, ports, key);
