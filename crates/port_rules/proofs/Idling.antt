@@ -2,13 +2,14 @@
 use Rattle.std.proofs.Common.{◌≡◌, ℕ, ◌+◌, Bool, true, false, not, ◌&&◌, ◌||◌, nat_lt, List, [], ◌∷◌, ◌++◌, length, map, filter, drop, slice_get, is_some, option_map, Option, Some, None, if◌then◌else◌, refl, sym, ◌∙◌, ap, append_assoc, arith}
 use Rattle.std.specs.List.{list_any}
 use Rattle.il_machine.specs.declared.port.Port.{Port}
-use Rattle.il_machine.specs.Kinds.{is_auto}
+use Rattle.il_machine.specs.Kinds.{is_auto, is_late}
+use Rattle.il_machine.specs.Headers.{Seen}
 use Rattle.il_machine.specs.Lists.{first_of_these, is_empty}
 use Rattle.il_machine.specs.Look.{Look}
 use Rattle.il_machine.specs.Ports.{is_input_port}
 use Rattle.il_machine.specs.Room.{room}
 use Rattle.il_machine.specs.World.{Component, ports_of}
-use Rattle.il_machine.specs.Claims.{Claimed, ClaimedBusy, ClaimedNotRunning, ClaimedEnded, ClaimedHeld, ClaimedNoData, ClaimedNoRoom, ClaimedEvents, claim_idle, data_test, gives_header, has_ended, held_test, is_claimable, is_output_port, must_announce, reserve_for, room_test, wanted}
+use Rattle.il_machine.specs.Claims.{Claimed, ClaimedBusy, ClaimedNotRunning, ClaimedEnded, ClaimedHeld, ClaimedNoData, ClaimedNoRoom, ClaimedEvents, claim_idle, data_test, gives_header, has_ended, held_test, is_claimable, is_output_port, is_unannounced, must_announce, reserve_for, room_test, wanted}
 use Rattle.port_rules.specs.declared.claiming.ClaimTest.TheVariants as tests
 use Rattle.port_rules.specs.Claiming.{claim_test, events_idle, or_first, port_idle, port_where, work_idle}
 use Rattle.port_rules.proofs.Walking.{drop_at}
@@ -43,6 +44,48 @@ where_filtered test keep (p ∷ ps) = elim (keep p) as (λ b. keep p ≡ b → p
 where_same : (t u : Port → Bool) (ps : List Port) → ((p : Port) → t p ≡ u p) → port_where t ps ≡ port_where u ps
 where_same t u [] h = refl
 where_same t u (p ∷ ps) h = rw (h p, where_same t u ps h) refl
+
+-- ---- no port is idle
+
+where_none : (t u : Port → Bool) (ps : List Port) → ((p : Port) → t p ≡ false → u p ≡ false) → port_where t ps ≡ None → port_where u ps ≡ None
+where_none t u [] k h = refl
+where_none t u (p ∷ ps) k h =
+    elim (t p) as (λ b. t p ≡ b → (if b then Some p.key.port else port_where t ps) ≡ None → port_where u (p ∷ ps) ≡ None) [ true ↦ λ e x. absurd cc | false ↦ λ e x. rw (k p e) (where_none t u ps k x) ] refl h
+
+not_held_there : (held lacks : Bool) → (held || lacks) ≡ false → held ≡ false
+not_held_there true lacks e = absurd cc
+not_held_there false lacks e = refl
+
+has_data : (held input ended empty : Bool) → (held || (empty && not (input && ended))) ≡ false → (input && (not ended && empty)) ≡ false
+has_data true input ended empty e = absurd cc
+has_data false false ended empty e = refl
+has_data false true true empty e = refl
+has_data false true false true e = absurd cc
+has_data false true false false e = refl
+
+has_room : (held input ended empty : Bool) → (held || (empty && not (input && ended))) ≡ false → (not input && empty) ≡ false
+has_room true input ended empty e = absurd cc
+has_room false true ended empty e = refl
+has_room false false ended true e = absurd cc
+has_room false false ended false e = refl
+
+pub none_there : (o : Option ℕ) → is_some o ≡ false → o ≡ None
+none_there None e = refl
+none_there (Some n) e = absurd cc
+
+pub none_idle : (s : Seen) (c : Component) → port_where (claim_test tests.Idle s c) (ports_of c) ≡ None → None ≡ port_idle s c
+none_idle s c h =
+    let idle = claim_test tests.Idle s c in
+    let held : Port → Bool = λ p. p.state.held || is_auto p.setting.definition.format in
+    let a = where_none idle (claim_test tests.Held s c) (ports_of c) (λ p e. not_held_there (held p) _ e) h in
+    let b = where_none idle (claim_test tests.NoData s c) (ports_of c) (λ p e. has_data (held p) (is_input_port p) (has_ended c p.key.port) (is_empty (s.todo p.key)) e) h in
+    let d = where_none idle (claim_test tests.NoRoom s c) (ports_of c) (λ p e. has_room (held p) (is_input_port p) (has_ended c p.key.port) (is_empty (s.todo p.key)) e) h in
+    rw (a, b, d) refl
+
+-- a component that is no late source announces nothing
+pub none_late : (c : Component) (ps : List Port) → is_late c.settings.kind ≡ false → false ≡ list_any (is_unannounced c) ps
+none_late c [] e = refl
+none_late c (p ∷ ps) e = rw e (none_late c ps e)
 
 -- ---- the list of answers
 

@@ -28,6 +28,7 @@ claim_test tests.Unannounced headers c p = is_unannounced c p
 claim_test tests.Held headers c p = p.state.held || is_auto p.setting.definition.format
 claim_test tests.NoData headers c p = is_input_port p && (not (has_ended c p.key.port) && is_empty (headers.todo p.key))
 claim_test tests.NoRoom headers c p = not (is_input_port p) && is_empty (headers.todo p.key)
+claim_test tests.Idle headers c p = (p.state.held || is_auto p.setting.definition.format) || (is_empty (headers.todo p.key) && gives_header c p)
 
 -- the number of the first port that passes the test
 abbrev pub port_where : (Port → Bool) → List Port → Option ℕ

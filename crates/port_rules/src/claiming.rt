@@ -2,7 +2,7 @@
 
 ghost use Rattle.std.specs.Prelude.{◌≡◌, ◌+◌, ◌≤◌, not, ◌&&◌, ◌||◌, true, false, nat_lt, [], ◌∷◌, length, filter, option_map};
 ghost use Rattle.il_machine.specs.Headers.{Seen};
-ghost use Rattle.il_machine.specs.Kinds.{is_auto};
+ghost use Rattle.il_machine.specs.Kinds.{is_auto, is_late};
 ghost use Rattle.il_machine.specs.Lists.{first_of_these};
 ghost use Rattle.il_machine.specs.Look.{Look};
 ghost use Rattle.il_machine.specs.Room.{room};
@@ -17,7 +17,7 @@ ghost use Rattle.port_rules.specs.Claiming.{claim_test, claimed_by, port_idle, p
 use crate::terms::{PortTest, each_port};
 use il_component::Component;
 use il_machine::Port;
-use omx_types::Format;
+use omx_types::{Format, Kind};
 use port_stock::Stock;
 
 /// Why a component gives no work.
@@ -39,6 +39,8 @@ enum ClaimTest {
     Held,
     NoData,
     NoRoom,
+    /// One of these three.
+    Idle,
 }
 
 fn is_auto(format: Format) -> bool
@@ -67,6 +69,9 @@ impl ClaimTest {
                 && !component.has_ended(port.key.port)
                 && !stock.has_todo(port.key),
             ClaimTest::NoRoom => !input && !stock.has_todo(port.key),
+            ClaimTest::Idle => port.state.held
+                || is_auto(port.setting.definition.format)
+                || !stock.has_todo(port.key) && gives_header(component, port),
         }
     }
 }
@@ -115,11 +120,20 @@ fn is_claimable<C>(stock: &Stock, component: &Component<C>) -> bool
         && each_port(stock, component, PortTest::Open)
 }
 
+fn is_late<C>(component: &Component<C>) -> bool
+    ensures { result ≡ is_late (component_of component.now).settings.kind }
+{
+    matches!(component.kind(), Kind::Late)
+}
+
 /// Whether a late source has to tell that its output has another format than its file.
 pub fn must_announce<C>(stock: &Stock, component: &Component<C>) -> bool
     requires { HasAllPorts (component_of component.now) (stocked stock.now) }
     ensures { result ≡ must_announce (component_of component.now) }
 {
+    if !is_late(component) {
+        return false;
+    }
     first_port(stock, component, ClaimTest::Unannounced).is_some()
 }
 
@@ -142,6 +156,9 @@ fn port_idle<C>(stock: &Stock, component: &Component<C>) -> Option<NoWork>
     requires { HasAllPorts (component_of component.now) (stocked stock.now) }
     ensures { option_map claimed_by result ≡ port_idle (stocked stock.now).headers (component_of component.now) }
 {
+    if first_port(stock, component, ClaimTest::Idle).is_none() {
+        return None;
+    }
     if let Some(port) = first_port(stock, component, ClaimTest::Held) {
         return Some(NoWork::Held(port));
     }
