@@ -1,4 +1,4 @@
-ghost use Rattle.std.specs.Prelude.{◌≡◌, ◌≤◌, ◌<◌, ◌^◌, length, false, OnOk, IfErr};
+ghost use Rattle.std.specs.Prelude.{◌≡◌, ◌≢◌, ◌≤◌, ◌<◌, ◌^◌, length, false, Err, OnOk, IfErr};
 ghost use Rattle.std.specs.Io.KnownBytes.{append_known};
 ghost use Rattle.omx_types.specs.declared.fault.Fault.TheVariants.{WriteFault};
 ghost use Rattle.outside_io.specs.Causes.{Rose};
@@ -24,6 +24,7 @@ pub fn trace<O: Sink>(alloc: Global, script: &Script, out: &mut O) -> Result<(),
     ensures traced { OnOk result (GotTrace script.now (O.told out.old) (O.told out.new)) }
     ensures stopped { IfErr result (IsStopped script.now (O.told out.old) (O.told out.new) (O.faults out.old) (O.faults out.new)) }
     ensures later { O.faults out.old ≤ O.faults out.new }
+    ensures stands { result ≢ Err WriteFault → O.faults out.new ≡ O.faults out.old }
     ensures name { O.name out.new ≡ O.name out.old }
 {
     match script {
@@ -45,6 +46,7 @@ fn trace_lines<O: Sink>(
     ensures traced { OnOk result (GotTrace (Trace units lines.now) (O.told out.old) (O.told out.new)) }
     ensures stopped { IfErr result (IsStopped (Trace units lines.now) (O.told out.old) (O.told out.new) (O.faults out.old) (O.faults out.new)) }
     ensures later { O.faults out.old ≤ O.faults out.new }
+    ensures stands { result ≢ Err WriteFault → O.faults out.new ≡ O.faults out.old }
     ensures name { O.name out.new ≡ O.name out.old }
 {
     let Ok(mut desk) = Desk::new(alloc, units) else {
@@ -66,6 +68,7 @@ fn write<O: Sink>(out: &mut O, text: &[u8]) -> Result<(), Fault>
     ensures front { AppendsFront (O.told out.old) (O.told out.new) text.now }
     ensures fault { IfErr result (λ fault. (fault ≡ WriteFault) × Rose (O.faults out.old) (O.faults out.new)) }
     ensures later { O.faults out.old ≤ O.faults out.new }
+    ensures stands { OnOk result (O.faults out.new ≡ O.faults out.old) }
     ensures name { O.name out.new ≡ O.name out.old }
 {
     match write_all(out, text) {
@@ -88,6 +91,7 @@ fn write_lines<O: Sink>(
         IsBroken at lines.now (O.told out.old) (O.told out.new) (O.faults out.old) (O.faults out.new) fault)) }
     ensures stood { IsStoodAll (on_desk desk.new) }
     ensures later { O.faults out.old ≤ O.faults out.new }
+    ensures stands { result ≢ Err WriteFault → O.faults out.new ≡ O.faults out.old }
     ensures name { O.name out.new ≡ O.name out.old }
 {
     let mut text = Vec::new(alloc);
