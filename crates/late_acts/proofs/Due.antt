@@ -128,7 +128,7 @@ module _ (x : LateCast) (recent : ℕ) (p : Play) (w : World) (W : IsLateWorld x
   -- ---- what happens
 
   -- a link that isn't a late source's has no port on its way
-  early_port : (l : ℕ) (o : Bool) → l < links_of x.cast → ((x.cast).layout).is_late l ≡ false → port_at o (p.change l) ≡ 0
+  pub early_port : (l : ℕ) (o : Bool) → l < links_of x.cast → ((x.cast).layout).is_late l ≡ false → port_at o (p.change l) ≡ 0
   early_port l o b f = none o
     where
       K : IsChanging (x.cast).layout p l (p.change l)
