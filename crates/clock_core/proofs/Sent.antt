@@ -1,6 +1,6 @@
 -- What a sink got of a text, and what it is still due.
-use Rattle.std.proofs.Common.{◌≡◌, ◌≤◌, ◌+◌, ◌-◌, ◌^◌, ℕ, List, [], ◌∷◌, ◌++◌, take, refl, append_assoc, ap, subst, ◌∙◌, sym, arith, length, length-append}
-use Rattle.std.specs.Prelude.{Option, Some, None, Result, Ok, Err, IfErr, min}
+use Rattle.std.proofs.Common.{◌≡◌, ◌≢◌, ◌≤◌, ◌+◌, ◌-◌, ◌^◌, ℕ, List, [], ◌∷◌, ◌++◌, take, refl, append_assoc, ap, subst, ◌∙◌, sym, arith, length, length-append}
+use Rattle.std.specs.Prelude.{Option, Some, None, Result, Ok, Err, OnOk, IfErr, min}
 use Rattle.std.proofs.lemmas.List.{take-append-le}
 use Rattle.std.proofs.Math.Seq.{take-append-add}
 use Rattle.std.specs.Io.KnownBytes.{append_known}
@@ -8,6 +8,7 @@ use Rattle.line_text.specs.Lines.{lines_of}
 use Rattle.line_text.specs.Words.{words_of}
 use Rattle.omx_types.specs.declared.fault.Fault.{Fault}
 use Rattle.omx_types.specs.declared.fault.Fault.TheVariants.{WriteFault}
+use Rattle.omx_types.specs.declared.fault.Fault.TheVariants as faults
 use Rattle.outside_io.proofs.Known.{append_known-twice, append_known-nil}
 use Rattle.outside_io.specs.Moves.{AppendsFront}
 use Rattle.clock_core.specs.Clock.{State, after_call}
@@ -117,3 +118,19 @@ failed-end (Ok done) before between after old now next number state text whole n
 failed-end (Err fault) before between after old now next number state text whole none sent later failed =
     failed-later fault before between after old now next (printed number state []) whole
     (subst (λ (lines : List (List ℕ)). Sent old now (printed number state (calls_in lines)) whole) none sent) later failed
+
+-- a run that failed in no write lets the count stand
+pub stands-unless : (result : Result (Unit {0}) Fault) (before now : ℕ) (old new : Option (List ℕ)) (text : List ℕ) → OnOk result (now ≡ before) → IfErr result (IsWriteFault before now old new text) → result ≢ Err WriteFault → now ≡ before
+stands-unless (Ok done) before now old new text stands failed other = stands
+stands-unless (Err WriteFault) before now old new text stands failed other = absurd (other refl)
+stands-unless (Err (faults.Script line why)) before now old new text stands failed other = absurd failed
+stands-unless (Err faults.Usage) before now old new text stands failed other = absurd failed
+stands-unless (Err (faults.BadMedia which fault)) before now old new text stands failed other = absurd failed
+stands-unless (Err faults.ReadFault) before now old new text stands failed other = absurd failed
+stands-unless (Err (faults.Absent which)) before now old new text stands failed other = absurd failed
+stands-unless (Err faults.OutOfMemory) before now old new text stands failed other = absurd failed
+stands-unless (Err (faults.Short which at size)) before now old new text stands failed other = absurd failed
+stands-unless (Err (faults.Units have need)) before now old new text stands failed other = absurd failed
+stands-unless (Err (faults.NotBuilt what)) before now old new text stands failed other = absurd failed
+stands-unless (Err (faults.Packets why)) before now old new text stands failed other = absurd failed
+stands-unless (Err (faults.NotRun line why)) before now old new text stands failed other = absurd failed

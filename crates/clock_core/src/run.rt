@@ -1,4 +1,4 @@
-ghost use Rattle.std.specs.Prelude.{◌≡◌, ◌∷◌, ◌<◌, ◌≤◌, ◌+◌, ℕ, List, length, IsUtf8, OnOk, IfOk, IfErr, IfSome, Err};
+ghost use Rattle.std.specs.Prelude.{◌≡◌, ◌≢◌, ◌∷◌, ◌<◌, ◌≤◌, ◌+◌, ℕ, List, length, IsUtf8, OnOk, IfOk, IfErr, IfSome, Err};
 ghost use Rattle.std.specs.Io.KnownBytes.{append_known};
 ghost use Rattle.line_text.specs.Lines.{lines_of};
 ghost use Rattle.line_text.specs.Words.{words_of};
@@ -29,6 +29,7 @@ pub fn run_clock<O: Sink>(bytes: &[u8], out: &mut O) -> Result<(), Fault>
     ensures stopped { IfErr result (IsStopped bytes.now (O.told out.old) (O.told out.new) (O.faults out.old) (O.faults out.new)) }
     ensures faulty { (line : ℕ) (why : Why) → IsFaulty bytes.now line why → result ≡ Err (faults.Script line why) }
     ensures later { O.faults out.old ≤ O.faults out.new }
+    ensures stands { result ≢ Err faults.WriteFault → O.faults out.new ≡ O.faults out.old }
     ensures name { O.name out.new ≡ O.name out.old }
 {
     match lines_in(bytes) {
@@ -113,6 +114,7 @@ fn run_lines<O: Sink>(text: &[u8], out: &mut O) -> Result<(), Fault>
     ensures whole { OnOk result (O.told out.new ≡ append_known (O.told out.old) (printed 1 opening (calls_in (lines_of text.now)))) }
     ensures failed { IfErr result (IsWriteFault (O.faults out.old) (O.faults out.new) (O.told out.old) (O.told out.new) (printed 1 opening (calls_in (lines_of text.now)))) }
     ensures later { O.faults out.old ≤ O.faults out.new }
+    ensures stands { OnOk result (O.faults out.new ≡ O.faults out.old) }
     ensures name { O.name out.new ≡ O.name out.old }
 {
     let mut clock = Clock::new();
@@ -135,6 +137,7 @@ fn run_line<O: Sink>(clock: &mut Clock, number: u64, line: &[u8], out: &mut O) -
     ensures close { IfOk result (λ next. next ≤ number + 1) }
     ensures failed { IfErr result (λ fault. (lines : List (List ℕ)) → IsWriteFault (O.faults out.old) (O.faults out.new) (O.told out.old) (O.told out.new) (printed number clock.old (calls_in (line.now ∷ lines))) fault) }
     ensures later { O.faults out.old ≤ O.faults out.new }
+    ensures stands { OnOk result (O.faults out.new ≡ O.faults out.old) }
     ensures name { O.name out.new ≡ O.name out.old }
 {
     match asked_by(line) {
@@ -173,6 +176,7 @@ fn run_call<O: Sink>(
     ensures whole { OnOk result (O.told out.new ≡ append_known (O.told out.old) (call_text number clock.old (call_words call) call)) }
     ensures failed { IfErr result (IsWriteFault (O.faults out.old) (O.faults out.new) (O.told out.old) (O.told out.new) (call_text number clock.old (call_words call) call)) }
     ensures later { O.faults out.old ≤ O.faults out.new }
+    ensures stands { OnOk result (O.faults out.new ≡ O.faults out.old) }
     ensures name { O.name out.new ≡ O.name out.old }
 {
     let text = text_of(clock, number, call);
@@ -211,6 +215,7 @@ fn write<O: Sink>(out: &mut O, text: &[u8]) -> Result<(), Fault>
     ensures whole { OnOk result (O.told out.new ≡ append_known (O.told out.old) text.now) }
     ensures failed { IfErr result (IsWriteFault (O.faults out.old) (O.faults out.new) (O.told out.old) (O.told out.new) text.now) }
     ensures later { O.faults out.old ≤ O.faults out.new }
+    ensures stands { OnOk result (O.faults out.new ≡ O.faults out.old) }
     ensures name { O.name out.new ≡ O.name out.old }
 {
     match write_all(out, text) {
