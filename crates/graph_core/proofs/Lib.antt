@@ -23,6 +23,7 @@ pub mod Noticing
 pub mod Happens
 pub mod Handing
 pub mod OtherEnd
+pub mod Numbers
 pub mod Moving
 pub mod MovingSteps
 pub mod Idling

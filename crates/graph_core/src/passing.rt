@@ -17,6 +17,7 @@ ghost use Rattle.port_stock.specs.Conditions.{IsPort};
 ghost use Rattle.graph_core.specs.Entries.{components_of, kept, look_of, component_at};
 ghost use Rattle.graph_core.specs.Clients.{KeepsAllClients};
 ghost use Rattle.graph_core.specs.Moving.{AreShared, Moves};
+ghost use Rattle.graph_core.specs.OtherEnd.{NumbersDiffer};
 
 use crate::core_graph::Core;
 use crate::other_end::other_end;
@@ -66,6 +67,7 @@ fn is_giving<C>(component: &Component<C>, port: Port) -> bool
 
 /// Why the other end of the port's tunnel takes no header, if it doesn't.
 fn peer_idle<C>(components: &[Component<C>], port: Port) -> Option<Why>
+    requires { NumbersDiffer components.now }
     ensures { result ≡ first_of_these (at_end (other_end (components_of components.now) port) (λ e. (not (is_taking e.component e.port), why.NotRunning (id_of e.component e.port)) ∷ [])) }
 {
     let end = other_end(components, port)?;
@@ -84,7 +86,8 @@ fn over_idle<C>(
     component: &Component<C>,
     port: Port,
 ) -> Option<Why>
-    requires { IsPort port.key (stocked stock.now) }
+    requires port { IsPort port.key (stocked stock.now) }
+    requires differ { NumbersDiffer components.now }
     ensures { (l : Look) → l.headers ≡ (stocked stock.now).headers → l.components ≡ components_of components.now → result ≡ over_idle l (component_of component.now) port }
 {
     if !is_supplier(port) {

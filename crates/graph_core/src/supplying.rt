@@ -14,6 +14,7 @@ ghost use Rattle.port_stock.specs.Kept.{stocked};
 ghost use Rattle.port_stock.specs.Conditions.{IsOutside, IsPort, number_of};
 ghost use Rattle.graph_core.specs.Entries.{kept, look_of, component_at, components_of};
 ghost use Rattle.graph_core.specs.Clients.{KeepsAllClients};
+ghost use Rattle.graph_core.specs.OtherEnd.{NumbersDiffer};
 ghost use Rattle.graph_core.specs.Supplying.{HasRoom, IsSuppliable, front_left, with_supply};
 ghost use Rattle.port_rules.specs.Tests.{HasAllPorts};
 
@@ -52,7 +53,8 @@ fn closed_port<C>(stock: &Stock, component: &Component<C>, port: Port) -> Option
 
 /// Why the other end of the port's tunnel takes no further header, if it doesn't.
 fn closed_peer<C>(stock: &Stock, components: &[Component<C>], port: Port) -> Option<Why>
-    requires { (i : ℕ) (e : Entry C) → slice_get components.now i ≡ Some e → HasAllPorts (component_of e) (stocked stock.now) }
+    requires differ { NumbersDiffer components.now }
+    requires kept { (i : ℕ) (e : Entry C) → slice_get components.now i ≡ Some e → HasAllPorts (component_of e) (stocked stock.now) }
     ensures { result ≡ first_of_these (at_end (other_end (components_of components.now) port) (λ e. (not (accepting (stocked stock.now).headers e.component e.port), NotAccepting (id_of e.component e.port)) ∷ [])) }
 {
     let end = other_end(components, port)?;

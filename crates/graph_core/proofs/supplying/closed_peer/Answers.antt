@@ -13,7 +13,7 @@ closed_port-requires g c =
     let end = c.in_ok-end.end in
     let at : slice_get es end.place ≡ Some e = slice_get-get_or es end.place e c.in_ok-end.ensures.within ∙ ap Some (sym c.index-components-end.is) in
     let E : IsEnd es c.args.port end e = end_found es c.args.port end e c.in_ok-end.ensures.end at in
-    port_kept (component_of e) (stocked c.args.stock.now) E.index end.port (c.requires end.place e at) E.port
+    port_kept (component_of e) (stocked c.args.stock.now) E.index end.port (c.requires.kept end.place e at) E.port
 
 pub returns : goal.returns
 returns g c =

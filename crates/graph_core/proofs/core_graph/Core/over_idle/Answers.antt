@@ -1,16 +1,18 @@
-use Rattle.std.proofs.Common.{◌≡◌, ◌<◌, length, slice_get, Some, MatchOption, refl, sym, ◌∙◌, ap, subst}
+use Rattle.std.proofs.Common.{◌≡◌, ◌<◌, List, length, slice_get, Some, MatchOption, refl, sym, ◌∙◌, ap, subst}
 use Rattle.std.proofs.lemmas.Option.{slice_get-get_or}
 use Rattle.il_machine.specs.World.{port_of}
 use Rattle.il_machine.specs.Flow.{over_idle}
 use Rattle.port_stock.specs.Kept.{stocked}
-use Rattle.il_component.specs.Entries.{component_of}
+use Rattle.il_component.specs.Entries.{Entry, component_of}
 use Rattle.graph_core.specs.Entries.{Entries, component_at, components_of, look_of}
+use Rattle.graph_core.specs.OtherEnd.{NumbersDiffer}
+use Rattle.graph_core.proofs.Numbers.{graph_differs}
 use Rattle.graph_core.proofs.Replacing.{there, within}
 use Rattle.graph_core.proofs.Stepping.{port_kept}
 use Rattle.graph_core.proofs.core_graph.Core.over_idle.Goals as goal
 
-pub over_idle-requires : goal.over_idle-requires
-over_idle-requires g c =
+pub over_idle-requires-clause-port : goal.over_idle-requires-clause-port
+over_idle-requires-clause-port g c =
     let i = c.self.inside in
     let e = c.index-component.result.now in
     let p = c.in-Some.port in
@@ -20,6 +22,12 @@ over_idle-requires g c =
     let at : slice_get i.components.items c.args.place ≡ Some e = slice_get-get_or i.components.items c.args.place e b ∙ ap Some (sym c.index-component.ensures) in
     let here : port_of (component_of e) c.args.index ≡ Some p = sym c.port.ensures ∙ c.in-Some.is in
     port_kept g.C.Client.progress i.components.items (stocked i.stock) i.registry.given c.args.place c.args.index e p c.self.invariant.0.ports at here
+
+pub over_idle-requires-clause-differ : goal.over_idle-requires-clause-differ
+over_idle-requires-clause-differ g c =
+    let i = c.self.inside in
+    let G : Entries (g.row.C.Denot) = record { entries = i.components.items; stock = i.stock; units = i.units; waits = i.waits; numbered = i.registry.given } in
+    subst (λ (es : List (Entry (g.row.C.Denot))). NumbersDiffer es) (sym c.deref.ensures.value) (graph_differs g.C.Client.progress G c.self.invariant.0.worlds)
 
 pub returns : goal.returns
 returns g c =

@@ -5,6 +5,8 @@ use Rattle.il_machine.specs.Ports.{is_supplier}
 use Rattle.port_stock.specs.Kept.{stocked}
 use Rattle.il_component.specs.Entries.{Entry, component_of}
 use Rattle.graph_core.specs.Entries.{Entries, look_of}
+use Rattle.graph_core.specs.OtherEnd.{NumbersDiffer}
+use Rattle.graph_core.proofs.Numbers.{graph_differs}
 use Rattle.graph_core.proofs.Replacing.{within}
 use Rattle.graph_core.proofs.Stepping.{port_kept}
 use Rattle.graph_core.proofs.Setting.{all_ports}
@@ -36,11 +38,17 @@ returns-then-is_some g c =
     let s : is_supplier p ≡ true = sym c.is_supplier.ensures ∙ c.if-not-is_supplier.false in
     subst (Says c.closed_port-closed_here.result c.args.place c.args.index) c.self.view_is (said g.C.Client.progress G c.args.place e c.args.index p c.closed_port-closed_here.result at here (closed_here (look_of G) (component_of e) p c.closed_port-closed_here.result s c.closed_port-closed_here.ensures (sym c.is_some.ensures ∙ c.if-is_some.true)))
 
-pub closed_peer-closed_there-requires : goal.closed_peer-closed_there-requires
-closed_peer-closed_there-requires g c = λ k e at.
+pub closed_peer-closed_there-requires-clause-kept : goal.closed_peer-closed_there-requires-clause-kept
+closed_peer-closed_there-requires-clause-kept g c = λ k e at.
     let i = c.self.inside in
     let there : slice_get i.components.items k ≡ Some e = subst (λ (es : List (Entry (g.row.C.Denot))). slice_get es k ≡ Some e) c.deref.ensures.value at in
     all_ports g.C.Client.progress i.components.items i.registry i.stock i.units i.waits i.components.cap k e c.self.invariant.0 there
+
+pub closed_peer-closed_there-requires-clause-differ : goal.closed_peer-closed_there-requires-clause-differ
+closed_peer-closed_there-requires-clause-differ g c =
+    let i = c.self.inside in
+    let G : Entries (g.row.C.Denot) = record { entries = i.components.items; stock = i.stock; units = i.units; waits = i.waits; numbered = i.registry.given } in
+    subst (λ (es : List (Entry (g.row.C.Denot))). NumbersDiffer es) (sym c.deref.ensures.value) (graph_differs g.C.Client.progress G c.self.invariant.0.worlds)
 
 pub returns-then-is_some-2 : goal.returns-then-is_some-2
 returns-then-is_some-2 g c =
