@@ -1,0 +1,18 @@
+use Rattle.std.proofs.Common.{◌≡◌, ◌≤◌, length}
+use Rattle.il_machine.specs.Whole.{StepsWhere}
+use Rattle.dismantling.specs.Dismantling.{IsUnjoined}
+use Rattle.play_graphs.specs.Graphs.{kept_of}
+use Rattle.play_graphs.specs.Making.{AreGone}
+use Rattle.play_graphs.proofs.Apart.{IsFreed}
+use Rattle.play_graphs.proofs.freeing.free_all.Given as goal
+
+abbrev pub invariant-loop-left : goal.invariant-loop-left
+invariant-loop-left g l = record {
+  few : l.left ≤ length l.plan.parts;
+  many : length l.files ≡ length l.plan.parts;
+  gone : AreGone l.left l.files;
+  steps : StepsWhere (kept_of l.fn.graph) (kept_of l.graph) (IsUnjoined (length l.plan.parts)) (λ w v. IsFreed (length l.plan.parts) l.left w v l.files);
+}
+
+abbrev pub decreases-loop-left : goal.decreases-loop-left
+decreases-loop-left g l = l.left

@@ -1,0 +1,14 @@
+use Rattle.std.proofs.Common.{true, false, refl}
+use Rattle.assembling.specs.Stages.{Joining}
+use Rattle.play_graphs.proofs.Building.{join_by}
+use Rattle.play_graphs.proofs.Standing.{end_made_by}
+use Rattle.play_graphs.proofs.tunnels.join.Goals as goal
+
+pub handle-requires : goal.handle-requires
+handle-requires g c = end_made_by c.args.plan.now (Joining c.args.link) c.args.link false c.joint-joint.result c.joint-joint.result.giver c.args.graph.now c.requires.there c.joint-joint.ensures refl (λ files. refl) c.requires.stands
+
+pub handle-requires-2 : goal.handle-requires-2
+handle-requires-2 g c = end_made_by c.args.plan.now (Joining c.args.link) c.args.link true c.joint-joint.result c.joint-joint.result.taker c.args.graph.now c.requires.there c.joint-joint.ensures refl (λ files. refl) c.requires.stands
+
+pub returns : goal.returns
+returns g c = join_by c.args.plan.now c.args.graph.now c.setup_tunnel.new.self c.args.link c.joint-joint.result c.handle.result c.handle-2.result c.setup_tunnel.result c.requires.there c.joint-joint.ensures c.handle.ensures c.handle-2.ensures c.setup_tunnel.ensures.step

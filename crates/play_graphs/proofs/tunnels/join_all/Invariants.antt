@@ -1,0 +1,6 @@
+use Rattle.assembling.specs.Stages.{Joining}
+use Rattle.play_graphs.specs.Making.{GoesOn}
+use Rattle.play_graphs.proofs.tunnels.join_all.Given as goal
+
+abbrev pub invariant-loop-link : goal.invariant-loop-link
+invariant-loop-link g l = GoesOn l.plan (Joining 0) (Joining l.link) l.fn.graph l.graph
