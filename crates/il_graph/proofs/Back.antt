@@ -145,12 +145,13 @@ record KeepsTied (c d : Component) : Type 0 where
   kind : d.settings.kind ≡ c.settings.kind
   file : d.file ≡ c.file
   part : d.part ≡ c.part
+  work : d.work ≡ None
 
 tied_at : (c : Component) (o : Option Port) → KeepsTied c (announced_at o (record c { work = None }))
-tied_at c None = record { number = refl; kind = refl; file = refl; part = refl }
+tied_at c None = record { number = refl; kind = refl; file = refl; part = refl; work = refl }
 tied_at c (Some p) = either (same_format p.setting.definition.format (file_format c.file))
-    (λ t. rw t (record { number = refl; kind = refl; file = refl; part = refl }))
-    (λ f. rw f (record { number = refl; kind = refl; file = refl; part = refl }))
+    (λ t. rw t (record { number = refl; kind = refl; file = refl; part = refl; work = refl }))
+    (λ f. rw f (record { number = refl; kind = refl; file = refl; part = refl; work = refl }))
 
 pub or_false : (b : Bool) → (b || false) ≡ b
 or_false true = refl
@@ -170,6 +171,7 @@ module _ {A B : Type 0} where
     pub to : Component
     pub components : (finished i c done w).components ≡ set w.components i to
     pub number : number_of to ≡ number_of c
+    pub free : to.work ≡ None
     pub tied : IsPartOf to q
     pub kept : HasParts (set parts i (Some (seen_of q))) (finished i c done w)
 
@@ -189,6 +191,7 @@ module _ {A B : Type 0} where
           to = stepped_back c s done;
           components = ap (λ (x : World). x.components) e;
           number = refl;
+          free = refl;
           tied = tied_from c (stepped_back c s done) done.fault q refl refl (failed_then c s done done.fault) own;
           kept = subst (HasParts (set parts i (Some (seen_of q)))) (sym e) (parts_landed parts w i c done s p (seen_of q) at only there R.flows R.gone P);
         }
@@ -207,6 +210,7 @@ module _ {A B : Type 0} where
           to = announced c;
           components = ap (λ (y : World). y.components) e;
           number = T.number;
+          free = T.work;
           tied = tied_from c (announced c) done.fault q T.kind T.file f own;
           kept = subst (HasParts (set parts i (Some (seen_of q)))) (sym e)
               (parts_told parts w i c s p (seen_of q) at only there R.flows (done_less (terms_of c) false c.part.failed s (seen_of q) (λ y. refl) H) P);
@@ -257,7 +261,7 @@ module _ {S K C : Type 0} (progress : C → Progress) (g : Shown S K C) (k : Ent
     is_whole closed = record {
       closed = closed;
       count = length-set g.parts i (Some q) ∙ (I.count ∙ (sym (length-set (components_of g.core.entries) i end.to) ∙ count_alike (set (components_of g.core.entries) i end.to) (components_of k.entries) alike));
-      parts = parts_alike (set (components_of g.core.entries) i end.to) (components_of k.entries) (set g.parts i (Some q)) alike (parts_set (components_of g.core.entries) g.parts i c end.to p q at here end.tied I.parts);
+      parts = parts_alike (set (components_of g.core.entries) i end.to) (components_of k.entries) (set g.parts i (Some q)) alike (parts_set (components_of g.core.entries) g.parts i c end.to p q at here end.tied end.free I.parts);
       worlds = record { world = after.0; stands = stands; sound = sound_after w after.0 (acts.Finish (done took)) acts.Finished R.0 after.2 sound };
     }
 
@@ -355,18 +359,18 @@ module _ {A B : Type 0} {s : _} {k : _} where
   no_file told keeps name None e = refl
   no_file told keeps name (Some part) e = e
 
-file_there : {A B C : Type 0} (g : Shown A B C) (n i : ℕ) (p : Option (ShownPart A B)) → place_numbered n (components_of g.core.entries) ≡ Some i → slice_get g.parts i ≡ Some p → file_of n g ≡ option_and_then (λ (x : ShownPart A B). x.file) p
-file_there g n i p e h = ap (option_and_then (file_at g)) e ∙ ap (option_and_then (option_and_then (λ x. x.file))) h
-
--- the part that was at the place has no file
-pub old_file : {A B C : Type 0} (progress : C → Progress) (g : Shown A B C) (i : ℕ) (c : Component) (n : ℕ) (p : Option (ShownPart A B)) → IsWhole progress g → slice_get (components_of g.core.entries) i ≡ Some c → number_of c ≡ n → slice_get g.parts i ≡ Some p → file_of n g ≡ None
+-- the place had no part, so no file
+pub old_file : {A B C : Type 0} (progress : C → Progress) (g : Shown A B C) (i : ℕ) (c : Component) (p : Option (ShownPart A B)) → IsWhole progress g → slice_get (components_of g.core.entries) i ≡ Some c → is_some c.work ≡ true → slice_get g.parts i ≡ Some p
     → option_and_then (λ (x : ShownPart A B). x.file) p ≡ None
-old_file progress g i c n p I at own here none =
-    let w = I.worlds.world in
-    let B = bare progress g w I.worlds.stands in
-    let t : slice_get w.components i ≡ Some c = ap (λ (l : Look). slice_get l.components i) B.looks ∙ at in
-    let e : place_numbered n (components_of g.core.entries) ≡ Some i = ap (λ (m : ℕ). place_numbered m (components_of g.core.entries)) (sym own) ∙ (ap (λ (l : Look). place_numbered (number_of c) l.components) (sym B.looks) ∙ placed_there w.numbered i w.components c I.worlds.sound.rising t) in
-    sym (file_there g n i p e here) ∙ none
+old_file {A = A} {B = B} progress g i c p I at works here =
+    let s : Some p ≡ Some None = sym here ∙ I.parts.away i c at works in
+    let none : p ≡ None = cc in
+    ap (option_and_then (λ (x : ShownPart A B). x.file)) none
+
+-- a work is out
+pub work_out : (P : Work → Type 0) (o : Option Work) → IsSomeAnd o P → is_some o ≡ true
+work_out P None h = absurd h
+work_out P (Some work) h = refl
 
 -- what the step brings back is the work's
 pub brought_done : {P : Type 0} (d : DoneOf P) (n : ℕ) (headers : List (Option BufferHeader)) (frames : ℕ) (fault : Option PartFault) (left : ℕ) (took : List ℕ) → n ≡ d.component.generation → headers ≡ d.headers → frames ≡ d.frames → fault ≡ d.fault

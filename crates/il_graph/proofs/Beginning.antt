@@ -16,7 +16,7 @@ begins {C = C} progress g e W =
     record {
       closed = rw e refl;
       count = rw e refl;
-      parts = λ i c at out. absurd (let z = rw none at at in cc);
+      parts = record { there = λ i c at out. absurd (let z = rw none at at in cc); away = λ i c at out. absurd (let z = rw none at at in cc) };
       worlds = record {
         world = W.world;
         stands = record {

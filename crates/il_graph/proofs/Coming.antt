@@ -1,5 +1,5 @@
 -- A component comes to a graph with its part.
-use Rattle.std.proofs.Common.{◌≡◌, ◌≢◌, inl, inr, ℕ, zero, suc, ◌+◌, ◌<◌, Bool, true, false, List, [], ◌∷◌, ◌++◌, length, map, Option, Some, None, All, option_map, option_and_then, slice_get, Ok, refl, sym, ◌∙◌, ap, subst, ne_eqb, arith}
+use Rattle.std.proofs.Common.{◌≡◌, ◌≢◌, inl, inr, ℕ, zero, suc, ◌+◌, ◌<◌, Bool, true, false, List, [], ◌∷◌, ◌++◌, length, map, Option, Some, None, is_some, All, option_map, option_and_then, slice_get, Ok, refl, sym, ◌∙◌, ap, subst, ne_eqb, arith}
 use Rattle.std.proofs.lemmas.List.{length-map, length-append, map-append}
 use Rattle.omx_types.specs.declared.handle.Handle.{Handle}
 use Rattle.omx_types.specs.declared.kind.Kind.{Kind}
@@ -36,11 +36,17 @@ no_number n (c ∷ cs) A =
     let t : is_numbered n c ≡ false = ne_eqb (number_of c) n (λ e. absurd (omega (arith, b, e))) in
     rw (t, no_number n cs (λ k d q. A (suc k) d (omega arith))) refl
 
-parts_come : {S K : Type 0} (cs : List Component) (parts : List (Option (ShownPart S K))) (d : Component) (p : ShownPart S K) → length parts ≡ length cs → IsPartOf d p → ArePartsOf cs parts → ArePartsOf (cs ++ d ∷ []) (parts ++ Some p ∷ [])
-parts_come cs parts d p l D P j x t out = elim (get_last cs j d x t) [
-  | inl q ↦ let z = P j x q out in (z.0, get_before_last parts j (Some p) (Some z.0) z.1, z.2)
-  | inr q ↦ (p, rw (q.0, ← l) (get_at_last parts (Some p)), subst (λ (y : Component). IsPartOf y p) (sym q.1) D)
-]
+parts_come : {S K : Type 0} (cs : List Component) (parts : List (Option (ShownPart S K))) (d : Component) (p : ShownPart S K) → length parts ≡ length cs → IsPartOf d p → d.work ≡ None → ArePartsOf cs parts → ArePartsOf (cs ++ d ∷ []) (parts ++ Some p ∷ [])
+parts_come cs parts d p l D none P = record {
+  there = λ j x t out. elim (get_last cs j d x t) [
+    | inl q ↦ let z = P.there j x q out in (z.0, get_before_last parts j (Some p) (Some z.0) z.1, z.2)
+    | inr q ↦ (p, rw (q.0, ← l) (get_at_last parts (Some p)), subst (λ (y : Component). IsPartOf y p) (sym q.1) D)
+  ];
+  away = λ j x t out. elim (get_last cs j d x t) [
+    | inl q ↦ get_before_last parts j (Some p) None (P.away j x q out)
+    | inr q ↦ let a : true ≡ false = sym out ∙ ap is_some (ap (λ (y : Component). y.work) q.1 ∙ none) in absurd cc
+  ];
+}
 
 module _ {S K C : Type 0} (progress : C → Progress) (g : Shown S K C) (k : Entries C) (name : List ℕ) (h : Handle) (kind : Kind) (I : IsWhole progress g)
     (named : kind_of name ≡ Some kind) (number : h.generation ≡ (look_of g.core).numbered)
@@ -72,7 +78,7 @@ module _ {S K C : Type 0} (progress : C → Progress) (g : Shown S K C) (k : Ent
   made_is_whole closed = changed_is_whole progress g k (acts.GetHandle name) (acts.Got (Ok h)) I (λ w B. tt) T (with_new_component h kind) (components_of g.core.entries ++ fresh h kind ∷ []) (g.parts ++ Some p ∷ []) stay there parts
       closed
       (let a = length-append g.parts (Some p ∷ []) in let b = length-append (components_of g.core.entries) (fresh h kind ∷ []) in let c = I.count in omega (arith, a, b, c))
-      (parts_come (components_of g.core.entries) g.parts (fresh h kind) p I.count tied I.parts)
+      (parts_come (components_of g.core.entries) g.parts (fresh h kind) p I.count tied refl I.parts)
 
   placed : (n : ℕ) → place_numbered n (components_of k.entries) ≡ first_place (is_numbered n) (components_of g.core.entries ++ fresh h kind ∷ [])
   placed n =

@@ -30,7 +30,7 @@ module _ {S K C : Type 0} (progress : C → Progress) (g : Shown S K C) (I : IsW
       let x = there_is cs k m in
       let work = at_place (λ (c : Component). c.work ≡ None) cs k x.0 A.works x.1 in
       let file = at_place (λ (c : Component). c.file ≡ None) cs k x.0 A.files x.1 in
-      let p = I.parts k x.0 x.1 work in
+      let p = I.parts.there k x.0 x.1 work in
       let same : o ≡ Some p.0 = some_same o (Some p.0) (slice_get g.parts k) here p.1 in
       ap (option_and_then (λ (p : ShownPart S K). p.file)) same ∙ none_mapped attached_of (p.0).file ((p.2).file ∙ file)
 

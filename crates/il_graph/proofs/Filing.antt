@@ -1,5 +1,5 @@
 -- A file comes to a component's part.
-use Rattle.std.proofs.Common.{◌≡◌, ◌≢◌, inl, inr, ℕ, ◌-◌, Bool, true, nat_eq, List, drop, length, map, set, Option, Some, None, MatchOption, option_map, option_and_then, slice_get, Ok, Result, refl, sym, ◌∙◌, ap, subst, eqb-true, length-set}
+use Rattle.std.proofs.Common.{◌≡◌, ◌≢◌, inl, inr, ℕ, ◌-◌, Bool, true, false, nat_eq, List, drop, length, map, set, Option, Some, None, is_some, MatchOption, option_map, option_and_then, slice_get, Ok, Result, refl, sym, ◌∙◌, ap, subst, eqb-true, length-set}
 use Rattle.std.proofs.lemmas.Bool.Decides.{eqb_tells}
 use Rattle.std.proofs.lemmas.Option.{slice_get-map}
 use Rattle.omx_types.specs.declared.handle.Handle.{Handle}
@@ -68,17 +68,24 @@ filed_tied c o file p q e T R =
     }
 
 -- the part at the place is another
-pub parts_set : {S K : Type 0} (cs : List Component) (parts : List (Option (ShownPart S K))) (i : ℕ) (c d : Component) (q : Option (ShownPart S K)) (p : ShownPart S K) → slice_get cs i ≡ Some c → slice_get parts i ≡ Some q → IsPartOf d p
+pub parts_set : {S K : Type 0} (cs : List Component) (parts : List (Option (ShownPart S K))) (i : ℕ) (c d : Component) (q : Option (ShownPart S K)) (p : ShownPart S K) → slice_get cs i ≡ Some c → slice_get parts i ≡ Some q → IsPartOf d p → d.work ≡ None
     → ArePartsOf cs parts → ArePartsOf (set cs i d) (set parts i (Some p))
-parts_set {S = S} {K = K} cs parts i c d q p at here D P j x t out =
-    let own : j ≡ i → (y : ShownPart S K) × (slice_get (set parts i (Some p)) j ≡ Some (Some y)) × IsPartOf x y = λ e.
-    let z : Some x ≡ Some d = sym t ∙ rw e (get_set_same cs i c d at) in
-    let s : x ≡ d = cc in
-    (p, rw e (get_set_same parts i q (Some p) here), subst (λ (y : Component). IsPartOf y p) (sym s) D) in
-    let other : j ≢ i → (y : ShownPart S K) × (slice_get (set parts i (Some p)) j ≡ Some (Some y)) × IsPartOf x y = λ e.
-    let z = P j x (sym (get_set_other cs i j d e) ∙ t) out in
-    (z.0, get_set_other parts i j (Some p) e ∙ z.1, z.2) in
-    elim (eqb_tells j i) [ inl e ↦ own e.1 | inr e ↦ other e.1 ]
+parts_set {S = S} {K = K} cs parts i c d q p at here D none P = record { there = there; away = away }
+  where
+    same : (j : ℕ) (x : Component) → slice_get (set cs i d) j ≡ Some x → j ≡ i → x ≡ d
+    same j x t e = let z : Some x ≡ Some d = sym t ∙ rw e (get_set_same cs i c d at) in cc
+
+    there : (j : ℕ) (x : Component) → slice_get (set cs i d) j ≡ Some x → x.work ≡ None → (y : ShownPart S K) × (slice_get (set parts i (Some p)) j ≡ Some (Some y)) × IsPartOf x y
+    there j x t out = elim (eqb_tells j i) [
+      | inl e ↦ (p, rw e.1 (get_set_same parts i q (Some p) here), subst (λ (y : Component). IsPartOf y p) (sym (same j x t e.1)) D)
+      | inr e ↦ let z = P.there j x (sym (get_set_other cs i j d e.1) ∙ t) out in (z.0, get_set_other parts i j (Some p) e.1 ∙ z.1, z.2)
+    ]
+
+    away : (j : ℕ) (x : Component) → slice_get (set cs i d) j ≡ Some x → is_some x.work ≡ true → slice_get (set parts i (Some p)) j ≡ Some None
+    away j x t works = elim (eqb_tells j i) [
+      | inl e ↦ let a : true ≡ false = sym works ∙ ap is_some (ap (λ (y : Component). y.work) (same j x t e.1) ∙ none) in absurd cc
+      | inr e ↦ get_set_other parts i j (Some p) e.1 ∙ P.away j x (sym (get_set_other cs i j d e.1) ∙ t) works
+    ]
 
 -- the number stands where it stood, as a component gives way to another of its number
 pub placed_set : (n : ℕ) (cs : List Component) (i : ℕ) (c d : Component) → slice_get cs i ≡ Some c → number_of d ≡ number_of c → place_numbered n (set cs i d) ≡ place_numbered n cs
@@ -123,10 +130,10 @@ module _ {S K C : Type 0} (progress : C → Progress) (g : Shown S K C) (k : Ent
   pub filed_whole : Steps (kept progress g) (kept progress (record { core = k; parts = set g.parts i (Some p) })) (λ w v. Step w (acts.Attach h file) (acts.Plain (Ok tt)) v)
   filed_whole = changed_whole progress g k (acts.Attach h file) (acts.Plain (Ok tt)) I (λ w B. tt) T (with_file i c file) (set (components_of g.core.entries) i (record c { file = Some (attached file) })) (set g.parts i (Some p)) stay there parts
 
-  pub filed_is_whole : first_due (look_of k) ≡ None → IsWhole progress (record { core = k; parts = set g.parts i (Some p) })
-  filed_is_whole closed = changed_is_whole progress g k (acts.Attach h file) (acts.Plain (Ok tt)) I (λ w B. tt) T (with_file i c file) (set (components_of g.core.entries) i (record c { file = Some (attached file) })) (set g.parts i (Some p)) stay there parts
+  pub filed_is_whole : c.work ≡ None → first_due (look_of k) ≡ None → IsWhole progress (record { core = k; parts = set g.parts i (Some p) })
+  filed_is_whole free closed = changed_is_whole progress g k (acts.Attach h file) (acts.Plain (Ok tt)) I (λ w B. tt) T (with_file i c file) (set (components_of g.core.entries) i (record c { file = Some (attached file) })) (set g.parts i (Some p)) stay there parts
       closed (length-set g.parts i (Some p) ∙ (I.count ∙ sym (length-set (components_of g.core.entries) i (record c { file = Some (attached file) }))))
-      (parts_set (components_of g.core.entries) g.parts i c (record c { file = Some (attached file) }) q p at here tied I.parts)
+      (parts_set (components_of g.core.entries) g.parts i c (record c { file = Some (attached file) }) q p at here tied free I.parts)
 
   -- the numbers stand where they stood
   numbers : (n : ℕ) → place_numbered n (components_of k.entries) ≡ place_numbered n (components_of g.core.entries)

@@ -1,5 +1,5 @@
 -- A component's work goes out of a graph, with its part.
-use Rattle.std.proofs.Common.{◌≡◌, ◌≢◌, inl, inr, ℕ, ◌+◌, Bool, true, false, ◌||◌, List, [], ◌∷◌, length, map, set, find, Option, Some, None, MatchOption, option_map, option_and_then, slice_get, Ok, Err, Result, refl, sym, ◌∙◌, ap, subst, length-set}
+use Rattle.std.proofs.Common.{◌≡◌, ◌≢◌, inl, inr, ℕ, ◌+◌, Bool, true, false, ◌||◌, List, [], ◌∷◌, length, map, set, find, Option, Some, None, is_some, MatchOption, option_map, option_and_then, slice_get, Ok, Err, Result, refl, sym, ◌∙◌, ap, subst, length-set}
 use Rattle.std.proofs.lemmas.Bool.Decides.{eqb_tells}
 use Rattle.omx_types.specs.declared.handle.Handle.{Handle}
 use Rattle.omx_types.specs.declared.error.OmxError.{OmxError}
@@ -161,17 +161,26 @@ placed_at xs None x e = absurd cc
 placed_at xs (Some j) x e = (j, refl, e)
 
 part_gone : {S K : Type 0} (cs : List Component) (parts : List (Option (ShownPart S K))) (i : ℕ) (c d : Component) (work : Work) → slice_get cs i ≡ Some c → d.work ≡ Some work
-    → ArePartsOf cs parts → ArePartsOf (set cs i d) (set parts i None)
-part_gone {S = S} {K = K} cs parts i c d work at out P j x t none =
-    let own : j ≡ i → (y : ShownPart S K) × (slice_get (set parts i None) j ≡ Some (Some y)) × IsPartOf x y = λ e.
-    let z : Some x ≡ Some d = sym t ∙ rw e (get_set_same cs i c d at) in
-    let s : x ≡ d = cc in
-    let a : Some work ≡ None = sym out ∙ (ap (λ (y : Component). y.work) (sym s) ∙ none) in
-    absurd cc in
-    let other : j ≢ i → (y : ShownPart S K) × (slice_get (set parts i None) j ≡ Some (Some y)) × IsPartOf x y = λ e.
-    let z = P j x (sym (get_set_other cs i j d e) ∙ t) none in
-    (z.0, get_set_other parts i j None e ∙ z.1, z.2) in
-    elim (eqb_tells j i) [ inl e ↦ own e.1 | inr e ↦ other e.1 ]
+    → (o : Option (ShownPart S K)) → slice_get parts i ≡ Some o → ArePartsOf cs parts → ArePartsOf (set cs i d) (set parts i None)
+part_gone {S = S} {K = K} cs parts i c d work at out o here P = record { there = there; away = away }
+  where
+    there : (j : ℕ) (x : Component) → slice_get (set cs i d) j ≡ Some x → x.work ≡ None → (y : ShownPart S K) × (slice_get (set parts i None) j ≡ Some (Some y)) × IsPartOf x y
+    there j x t none =
+        let own : j ≡ i → (y : ShownPart S K) × (slice_get (set parts i None) j ≡ Some (Some y)) × IsPartOf x y = λ e.
+        let z : Some x ≡ Some d = sym t ∙ rw e (get_set_same cs i c d at) in
+        let s : x ≡ d = cc in
+        let a : Some work ≡ None = sym out ∙ (ap (λ (y : Component). y.work) (sym s) ∙ none) in
+        absurd cc in
+        let other : j ≢ i → (y : ShownPart S K) × (slice_get (set parts i None) j ≡ Some (Some y)) × IsPartOf x y = λ e.
+        let z = P.there j x (sym (get_set_other cs i j d e) ∙ t) none in
+        (z.0, get_set_other parts i j None e ∙ z.1, z.2) in
+        elim (eqb_tells j i) [ inl e ↦ own e.1 | inr e ↦ other e.1 ]
+
+    away : (j : ℕ) (x : Component) → slice_get (set cs i d) j ≡ Some x → is_some x.work ≡ true → slice_get (set parts i None) j ≡ Some None
+    away j x t works = elim (eqb_tells j i) [
+      | inl e ↦ rw e.1 (get_set_same parts i o None here)
+      | inr e ↦ get_set_other parts i j None e.1 ∙ P.away j x (sym (get_set_other cs i j d e.1) ∙ t) works
+    ]
 
 module _ {S K C : Type 0} (progress : C → Progress) (g : Shown S K C) (k : Entries C) (h : Handle) (i : ℕ) (c : Component) (x : WorkSeen) (I : IsWhole progress g)
     (place : place_of h (components_of g.core.entries) ≡ Some i) (at : slice_get (components_of g.core.entries) i ≡ Some c)
@@ -212,10 +221,10 @@ module _ {S K C : Type 0} (progress : C → Progress) (g : Shown S K C) (k : Ent
         (y.2, λ z e. far w s z (ap (λ (ss : List Stream). find (is_stream_of (number_of c)) ss) (sym K.streams) ∙ e)),
       )
 
-  pub gone_is_whole : first_due (look_of k) ≡ None → IsWhole progress (record { core = k; parts = set g.parts i None })
-  gone_is_whole closed = changed_is_whole progress g k (acts.Claim h) (acts.Claimed (Ok (ClaimedWork x))) I (λ w B. tt) T mid (set (components_of g.core.entries) i out) (set g.parts i None) stay there parts
+  pub gone_is_whole : (o : Option (ShownPart S K)) → slice_get g.parts i ≡ Some o → first_due (look_of k) ≡ None → IsWhole progress (record { core = k; parts = set g.parts i None })
+  gone_is_whole o here closed = changed_is_whole progress g k (acts.Claim h) (acts.Claimed (Ok (ClaimedWork x))) I (λ w B. tt) T mid (set (components_of g.core.entries) i out) (set g.parts i None) stay there parts
       closed (length-set g.parts i None ∙ (I.count ∙ sym (length-set (components_of g.core.entries) i out)))
-      (part_gone (components_of g.core.entries) g.parts i c out (work_of (look_of g.core).headers c) at refl I.parts)
+      (part_gone (components_of g.core.entries) g.parts i c out (work_of (look_of g.core).headers c) at refl o here I.parts)
 
   -- the numbers stand where they stood
   numbers : (n : ℕ) → place_numbered n (components_of k.entries) ≡ place_numbered n (components_of g.core.entries)

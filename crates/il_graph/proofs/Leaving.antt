@@ -32,10 +32,13 @@ pub at_named_is : (h : Handle) (w : World) (change : ℕ → Component → World
 at_named_is h w change i c p at = rw (p, at) refl
 
 parts_left : {S K : Type 0} (cs : List Component) (parts : List (Option (ShownPart S K))) (i : ℕ) → ArePartsOf cs parts → ArePartsOf (remove cs i) (remove parts i)
-parts_left cs parts i P j d at out =
-    let m = if nat_lt j i then j else suc j in
-    let z = P m d (sym (get_removed cs i j) ∙ at) out in
-    (z.0, get_removed parts i j ∙ z.1, z.2)
+parts_left cs parts i P = record {
+  there = λ j d at out.
+      let m = if nat_lt j i then j else suc j in
+      let z = P.there m d (sym (get_removed cs i j) ∙ at) out in
+      (z.0, get_removed parts i j ∙ z.1, z.2);
+  away = λ j d at out. let m = if nat_lt j i then j else suc j in get_removed parts i j ∙ P.away m d (sym (get_removed cs i j) ∙ at) out;
+}
 
 module _ {S K C : Type 0} (progress : C → Progress) (g : Shown S K C) (k : Entries C) (h : Handle) (i : ℕ) (c : Component) (file : Option Attached) (I : IsWhole progress g)
     (place : place_of h (components_of g.core.entries) ≡ Some i) (at : slice_get (components_of g.core.entries) i ≡ Some c)

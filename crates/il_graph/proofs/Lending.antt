@@ -47,7 +47,7 @@ part_of_it f c x T (Some p) e = let q : f p ≡ x = cc in (p, refl, subst (IsPar
 pub part_there : {S K P : Type 0} (f : P → ShownPart S K) (cs : List Component) (items : List (Option P)) (i : ℕ) (c : Component) (o : Option P) → ArePartsOf cs (map (option_map f) items) → slice_get cs i ≡ Some c → c.work ≡ None
     → slice_get items i ≡ Some o → (p : P) × (o ≡ Some p) × IsPartOf c (f p)
 part_there f cs items i c o A at free here =
-    let x = A i c at free in
+    let x = A.there i c at free in
     let e : Some (option_map f o) ≡ Some (Some x.0) = sym (slice_get-map (option_map f) items i ∙ ap (option_map (option_map f)) here) ∙ x.1 in
     let d : option_map f o ≡ Some x.0 = cc in
     part_of_it f c x.0 x.2 o d

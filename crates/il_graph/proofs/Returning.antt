@@ -1,6 +1,7 @@
 -- A work that is out as its holder sees it may be brought back from its step.
-use Rattle.std.proofs.Common.{◌≡◌, ℕ, ◌+◌, Bool, true, false, ◌||◌, List, [], ◌∷◌, Option, Some, None, IsSomeAnd, MatchOption, option_and_then, slice_get, Ok, refl, sym, ◌∙◌, ap, subst}
+use Rattle.std.proofs.Common.{◌≡◌, ℕ, ◌+◌, Bool, true, false, ◌||◌, List, [], ◌∷◌, Option, Some, None, IsSomeAnd, MatchOption, All, option_map, option_and_then, slice_get, Ok, refl, sym, ◌∙◌, ap, subst}
 use Rattle.std.specs.Prelude.{is_some, IfSome}
+use Rattle.std.proofs.lemmas.List.Elements.{All-head, All-tail}
 use Rattle.omx_types.specs.declared.fault.PartFault.{PartFault}
 use Rattle.omx_types.specs.declared.handle.Handle.{Handle}
 use Rattle.omx_types.specs.declared.kind.Kind.TheVariants as kinds
@@ -8,18 +9,19 @@ use Rattle.part_api.specs.Terms.{Terms}
 use Rattle.il_machine.specs.declared.header.HeaderState.{HeaderState}
 use Rattle.il_machine.specs.declared.header.Owner.TheVariants as owners
 use Rattle.il_machine.specs.Answers.{component_named}
-use Rattle.il_machine.specs.Claims.{Claim, ClaimedWork, WorkSeen}
+use Rattle.il_machine.specs.Claims.{CarriedHeader, Claim, ClaimedWork, WorkSeen}
 use Rattle.il_machine.specs.Finishing.{gone_through}
-use Rattle.il_machine.specs.Look.{Look}
+use Rattle.il_machine.specs.Headers.{find_header}
+use Rattle.il_machine.specs.Look.{Look, look}
 use Rattle.il_machine.specs.Parts.{terms_of}
 use Rattle.il_machine.specs.Sound.{Sound}
 use Rattle.il_machine.specs.Stepping.{WorkDone, IsAnnounced, IsStep}
 use Rattle.il_machine.specs.Whole.{HasDone, IsBack, PartSeen}
-use Rattle.il_machine.specs.World.{Component, Stream, Work, World, component_numbered, place_of, stream_of}
+use Rattle.il_machine.specs.World.{Component, HeaderRecord, Stream, Work, World, component_numbered, place_of, stream_of}
 use Rattle.machine_laws.proofs.Finding.{either}
 use Rattle.machine_laws.proofs.Granting.{placed_there}
 use Rattle.machine_laws.proofs.Keys.{is_there}
-use Rattle.history_laws.specs.Works.{IsHeldOut}
+use Rattle.history_laws.specs.Works.{HeaderStays, IsHeldOut}
 use Rattle.history_laws.proofs.HeldOut.{claims_held, held_meets, held_tells}
 use Rattle.whole_laws.proofs.Parts.{done_alike}
 use Rattle.whole_laws.proofs.Works.{through_nothing}
@@ -130,3 +132,18 @@ lent_known component port (Some h ∷ places) l A = (((A.0).0, known_lent compon
 -- those that went out may come back as the same ones
 pub handed_back : (component : ℕ) (before after : List (Option BufferHeader)) (l : Look) → AreLent component before l → AreSame before after → AreHandedBack after l
 handed_back component before after l A same = known_same l.key l.headers.header 0 before after same (lent_known component 0 before l A)
+
+-- headers that stay as they are known stay those of a work
+of_record : (o p : Option HeaderRecord) (P : HeaderState → Type 0) → p ≡ o → MatchOption (option_map (λ (r : HeaderRecord). r.state) o) ⊥ P → MatchOption (option_map (λ (r : HeaderRecord). r.state) p) ⊥ P
+of_record o p P e h = rw e h
+
+pub still_known : (w v : World) (port : ℕ) (headers : List (Option BufferHeader)) → v.key ≡ w.key → All (HeaderStays w.headers v.headers) (carried_from port headers) → AreHeadersOf w.key (look w).headers.header port headers
+    → AreHeadersOf v.key (look v).headers.header port headers
+still_known w v port [] k A E = tt
+still_known w v port (None ∷ headers) k A E = (tt, still_known w v (port + 1) headers k A E.1)
+still_known w v port (Some h ∷ headers) k A E =
+    let x : CarriedHeader = record { port = port; header = h.held } in
+    let rest = carried_from (port + 1) headers in
+    let P = HeaderStays w.headers v.headers in
+    let known = of_record (find_header h.held.number w.headers) (find_header h.held.number v.headers) (λ s. IsHeaderOf s h) (All-head P x rest A) (E.0).1 in
+    (((E.0).0 ∙ sym k, known), still_known w v (port + 1) headers k (All-tail P x rest A) E.1)

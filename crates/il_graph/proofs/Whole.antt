@@ -1,5 +1,5 @@
 -- What an act that leaves the parts alone makes of a graph with its parts.
-use Rattle.std.proofs.Common.{◌≡◌, ℕ, nat_eq, List, length, map, Option, Some, None, option_map, option_and_then, slice_get, refl, sym, ◌∙◌, ap, subst}
+use Rattle.std.proofs.Common.{◌≡◌, ℕ, nat_eq, List, length, map, Option, Some, None, is_some, option_map, option_and_then, slice_get, refl, sym, ◌∙◌, ap, subst}
 use Rattle.std.proofs.lemmas.List.{length-map}
 use Rattle.il_machine.specs.declared.answer.Progress.{Progress}
 use Rattle.il_machine.specs.World.{Component, World, is_numbered, place_numbered}
@@ -33,19 +33,22 @@ places_alike n cs ds e =
 module _ {S K : Type 0} where
   -- each component of now has the part that it had
   pub parts_alike : (cs ds : List Component) (parts : List (Option (ShownPart S K))) → map part_of ds ≡ map part_of cs → ArePartsOf cs parts → ArePartsOf ds parts
-  parts_alike cs ds parts alike P i d at out =
-      let x = stayed cs ds i d alike at in
-      let z = P i x.0 x.1 (ap (λ (p : PartOf). p.work) x.2 ∙ out) in (
-        z.0,
-        z.1,
-        record {
-          kind = z.2.kind ∙ ap (λ (p : PartOf). p.kind) x.2;
-          lawful = z.2.lawful;
-          file = z.2.file ∙ ap (λ (p : PartOf). p.file) x.2;
-          attached = z.2.attached ∙ ap (λ (p : PartOf). p.file) x.2;
-          failed = z.2.failed ∙ ap (λ (p : PartOf). p.failed) x.2;
-        },
-      )
+  parts_alike cs ds parts alike P = record {
+    there = λ i d at out.
+        let x = stayed cs ds i d alike at in
+        let z = P.there i x.0 x.1 (ap (λ (p : PartOf). p.work) x.2 ∙ out) in (
+          z.0,
+          z.1,
+          record {
+            kind = z.2.kind ∙ ap (λ (p : PartOf). p.kind) x.2;
+            lawful = z.2.lawful;
+            file = z.2.file ∙ ap (λ (p : PartOf). p.file) x.2;
+            attached = z.2.attached ∙ ap (λ (p : PartOf). p.file) x.2;
+            failed = z.2.failed ∙ ap (λ (p : PartOf). p.failed) x.2;
+          },
+        );
+    away = λ i d at out. let x = stayed cs ds i d alike at in P.away i x.0 x.1 (ap (λ (p : PartOf). is_some p.work) x.2 ∙ out);
+  }
 
 pub count_alike : (cs ds : List Component) → map part_of ds ≡ map part_of cs → length cs ≡ length ds
 count_alike cs ds alike = sym (length-map cs part_of) ∙ (ap length (sym alike) ∙ length-map ds part_of)

@@ -1,6 +1,6 @@
 -- What a contract sees of a graph: what its core keeps, and the part of each component, in the same order. The part of a component whose work
 -- is out isn't there.
-use Rattle.std.specs.Prelude.{◌≡◌, ◌≢◌, ℕ, ◌-◌, Bool, List, map, drop, length, slice_get, Option, Some, None, option_map, option_and_then}
+use Rattle.std.specs.Prelude.{◌≡◌, ◌≢◌, ℕ, ◌-◌, Bool, true, List, map, drop, length, slice_get, Option, Some, None, is_some, option_map, option_and_then}
 use Rattle.il_machine.specs.declared.answer.Progress.{Progress}
 use Rattle.il_machine.specs.World.{Component, World, place_numbered}
 use Rattle.il_machine.specs.Look.{Look}
@@ -42,10 +42,10 @@ module _ {S K : Type 0} where
     pub attached : p.terms.file ≡ c.file
     pub failed : p.failed ≡ c.part.failed
 
-  -- each component whose work isn't out has its part
-  abbrev pub ArePartsOf : List Component → List (Option (ShownPart S K)) → Type 0
-  ArePartsOf components parts = (i : ℕ) (c : Component) → slice_get components i ≡ Some c → c.work ≡ None
-      → (p : ShownPart S K) × (slice_get parts i ≡ Some (Some p)) × IsPartOf c p
+  -- Each component whose work isn't out has its part; the part of one whose work is out went with it.
+  pub record ArePartsOf (components : List Component) (parts : List (Option (ShownPart S K))) : Type 0 where
+    pub there : (i : ℕ) (c : Component) → slice_get components i ≡ Some c → c.work ≡ None → (p : ShownPart S K) × (slice_get parts i ≡ Some (Some p)) × IsPartOf c p
+    pub away : (i : ℕ) (c : Component) → slice_get components i ≡ Some c → is_some c.work ≡ true → slice_get parts i ≡ Some None
 
 module _ {S K C : Type 0} where
   -- what is kept, where the client objects have this progress

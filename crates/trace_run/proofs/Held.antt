@@ -27,6 +27,7 @@ use Rattle.history_laws.proofs.Named.{is_named, named_there}
 use Rattle.header_core.specs.BufferHeader.{BufferHeader}
 use Rattle.port_stock.specs.Conditions.{IsHeaderOf}
 use Rattle.il_flow.specs.Places.{AreHeadersOf, carried_from}
+use Rattle.il_graph.proofs.Returning.{still_known}
 use Rattle.trace_run.specs.declared.names.NamedComponent.{NamedComponent}
 use Rattle.trace_run.specs.Lines.{Entry}
 use Rattle.trace_run.specs.Standing.{IsNamed}
@@ -35,20 +36,6 @@ use Rattle.trace_run.proofs.Seats.{place_named}
 use Rattle.trace_run.specs.Works.{HeldWork, seen_of, AreOfWorld, IsHeld, IsAmong, AreApart, AreHeld, HasItsOwn, TakesWork, BackSo}
 
 -- ---- one work
-
-of_record : (o p : Option HeaderRecord) (P : HeaderState → Type 0) → p ≡ o → MatchOption (option_map (λ (r : HeaderRecord). r.state) o) ⊥ P → MatchOption (option_map (λ (r : HeaderRecord). r.state) p) ⊥ P
-of_record o p P e h = rw e h
-
-of_world : (w v : World) (port : ℕ) (headers : List (Option BufferHeader)) → v.key ≡ w.key → All (HeaderStays w.headers v.headers) (carried_from port headers) → AreHeadersOf w.key (look w).headers.header port headers
-    → AreHeadersOf v.key (look v).headers.header port headers
-of_world w v port [] k A E = tt
-of_world w v port (None ∷ headers) k A E = (tt, of_world w v (port + 1) headers k A E.1)
-of_world w v port (Some h ∷ headers) k A E =
-    let x : CarriedHeader = record { port = port; header = h.held } in
-    let rest = carried_from (port + 1) headers in
-    let P = HeaderStays w.headers v.headers in
-    let known = of_record (find_header h.held.number w.headers) (find_header h.held.number v.headers) (λ s. IsHeaderOf s h) (All-head P x rest A) (E.0).1 in
-    (((E.0).0 ∙ sym k, known), of_world w v (port + 1) headers k (All-tail P x rest A) E.1)
 
 held_step : (w : World) (a : Act) (r : Reply) (v : World) (x : HeldWork) → Sound w → Meets w a → Step w a r v → returns_work x.handle.generation a r ≡ false → IsHeld w x → IsHeld v x
 held_step w a r v x S M h n H = record {
@@ -60,7 +47,7 @@ held_step w a r v x S M h n H = record {
   file = H.file;
   unfailed = H.unfailed;
   gone = H.gone;
-  headers = of_world w v 0 x.headers (steps_key w a r v S M h) (steps_unchanged w a r v (seen_of H.terms x) H.stream S M h n H.out) H.headers;
+  headers = still_known w v 0 x.headers (steps_key w a r v S M h) (steps_unchanged w a r v (seen_of H.terms x) H.stream S M h n H.out) H.headers;
 }
 
 pub out_of : (w : World) (x : HeldWork) → IsHeld w x → has_work_out x.handle.generation w ≡ true

@@ -42,7 +42,6 @@ impl<S: Source, K: Sink, C: Client> Graph<S, K, C> {
     pub fn finish(&mut self, done: Done<S, K>)
         requires comes { (w : World) × (took : List ℕ) × (Stands (kept C.progress self.old) w × Returns w (seen_done took done) (shown (⟦<AnyPart<S, K> as Part>⟧.left done.part) (⟦<AnyPart<S, K> as Part>⟧.rest done.part) (⟦<AnyPart<S, K> as Part>⟧.kept done.part) (⟦<AnyPart<S, K> as Part>⟧.writing done.part))) }
         requires its { IsSomeAnd (component_named done.component (look_of self.old).components) (λ c. IsItsOwn c done.announces done.fault (⟦<AnyPart<S, K> as Part>⟧.terms done.part) (⟦<AnyPart<S, K> as Part>⟧.failed done.part)) }
-        requires gone { file_of done.component.generation self.old ≡ None }
         requires handed { AreHandedBack done.headers (look_of self.old) }
         ensures step { (took : List ℕ) → StepsWhere (kept C.progress self.old) (kept C.progress self.new)
             (λ w. Returns w (seen_done took done) (shown (⟦<AnyPart<S, K> as Part>⟧.left done.part) (⟦<AnyPart<S, K> as Part>⟧.rest done.part) (⟦<AnyPart<S, K> as Part>⟧.kept done.part) (⟦<AnyPart<S, K> as Part>⟧.writing done.part)))

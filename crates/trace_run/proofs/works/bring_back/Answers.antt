@@ -1,7 +1,5 @@
-use Rattle.il_graph.specs.Shown.{file_of}
 use Rattle.trace_run.specs.Standing.{graph_kept}
 use Rattle.trace_run.proofs.Backs.{brought_back, comes, handed_back, its_own}
-use Rattle.trace_run.proofs.Freeing.{no_file}
 use Rattle.trace_run.proofs.works.bring_back.Goals as goal
 
 pub finish-requires-clause-comes : goal.finish-requires-clause-comes
@@ -9,9 +7,6 @@ finish-requires-clause-comes c = comes c.args.held c.run-done.result _ _ _ c.run
 
 pub finish-requires-clause-its : goal.finish-requires-clause-its
 finish-requires-clause-its c = its_own c.args.held c.run-done.result _ _ _ c.run-done.ensures (graph_kept c.args.graph.now) c.requires
-
-pub finish-requires-clause-gone : goal.finish-requires-clause-gone
-finish-requires-clause-gone c = no_file (file_of c.run-done.result.component.generation c.args.graph.now)
 
 pub finish-requires-clause-handed : goal.finish-requires-clause-handed
 finish-requires-clause-handed c = handed_back c.args.held c.run-done.result _ _ _ c.run-done.ensures (graph_kept c.args.graph.now) c.requires

@@ -177,7 +177,7 @@ invariant_of-self g c =
     let mine : number_of F.component ≡ c.args.h.generation = ap (λ (k : Handle). k.generation) (own p G G G c.args.h i F (λ k. refl)) in
     let held : slice_get (map (option_map f) items) i ≡ Some (Some (f part)) = slice_get-map (option_map f) items i ∙ ap (option_map (option_map f)) there in
     let after : map (option_map f) (set items i (Some c.give_file.new.part)) ≡ set (map (option_map f) items) i (Some q) = map_set (option_map f) items i (Some c.give_file.new.part) in
-    (c.self.invariant.0, rw after (filed_is_whole p _ c.close_out.new.self c.args.h i F.component O I F.place F.at X (Some (f part)) q held D tied c.close_out.ensures.settled))
+    (c.self.invariant.0, rw after (filed_is_whole p _ c.close_out.new.self c.args.h i F.component O I F.place F.at X (Some (f part)) q held D tied free c.close_out.ensures.settled))
 
 pub returns-clause-step : goal.returns-clause-step
 returns-clause-step g c =

@@ -295,7 +295,7 @@ invariant_of-self g c =
     let mine : number_of F.component ≡ c.args.h.generation = ap (λ (k : Handle). k.generation) (own p G G G c.args.h i F (λ k. refl)) in
     let after : map (option_map f) (set items i c.take.new.self) ≡ set (map (option_map f) items) i None = map_set (option_map f) items i c.take.new.self ∙ ap (λ (o : Option (AnyPart (g.row.S.Denot) (g.row.K.Denot) g.S.Source g.K.Sink)). set (map (option_map f) items) i (option_map f o)) c.take.ensures.after in
     let held : slice_get (map (option_map f) items) i ≡ Some (Some (f part)) = slice_get-map (option_map f) items i ∙ ap (option_map (option_map f)) there in
-    (c.self.invariant.0, rw after (gone_is_whole p _ c.close_out.new.self c.args.h i F.component (lent_work F.component places) I F.place F.at X c.close_out.ensures.settled))
+    (c.self.invariant.0, rw after (gone_is_whole p _ c.close_out.new.self c.args.h i F.component (lent_work F.component places) I F.place F.at X (Some (f part)) held c.close_out.ensures.settled))
 
 pub returns-clause-step : goal.returns-clause-step
 returns-clause-step g c =

@@ -27,7 +27,7 @@ use Rattle.il_flow.specs.Works.{seen_done}
 use Rattle.il_graph.specs.Finishing.{Returns}
 use Rattle.il_graph.specs.Shown.{Shown, IsWhole, file_of, kept, seen_of}
 use Rattle.il_graph.proofs.Calling.{Found, and_some, found}
-use Rattle.il_graph.proofs.Back.{IsReturn, back_whole, brought_done, brought_is, comes_back, file_back, files_stay, held_back, is_brought, is_told, is_whole, items_within, map_back, no_file, number_named, old_file, own_is, own_none, own_part, return_of, seen_as, step_returns, told_returns, works_so}
+use Rattle.il_graph.proofs.Back.{IsReturn, back_whole, brought_done, brought_is, comes_back, file_back, files_stay, held_back, is_brought, is_told, is_whole, items_within, map_back, no_file, number_named, old_file, own_is, own_none, own_part, return_of, seen_as, step_returns, told_returns, work_out, works_so}
 use Rattle.il_graph.proofs.Whole.{bare, sound_in}
 use Rattle.il_graph.proofs.graph.Graph.finish.Goals as goal
 
@@ -121,7 +121,7 @@ end_part-requires g c =
     let here : slice_get items i ≡ Some c.index_mut.result.now = slice_get-get_or items i c.index_mut.result.now within ∙ ap Some (sym c.index_mut.ensures.value) in
     let there : slice_get (map (option_map f) items) i ≡ Some (option_map f c.index_mut.result.now) = slice_get-map (option_map f) items i ∙ ap (option_map (option_map f)) here in
     subst (λ (x : Option (AnyPart g.row.S.Denot g.row.K.Denot g.S.Source g.K.Sink)). option_and_then (λ part. part_file part) x ≡ None) (sym c.replace.ensures.value)
-    (no_file g.S.Source.told g.K.Sink.told g.K.Sink.name c.index_mut.result.now (old_file p _ i k0 d.component.generation (option_map f c.index_mut.result.now) I F.at n there (rw (← c.self.view_is) at c.requires.gone)))
+    (no_file g.S.Source.told g.K.Sink.told g.K.Sink.name c.index_mut.result.now (old_file p _ i k0 (option_map f c.index_mut.result.now) I F.at (work_out _ k0.work O.work) there))
 
 pub invariant_of-self : goal.invariant_of-self
 invariant_of-self g c =
@@ -301,7 +301,7 @@ end_part-requires-2 g c =
     let here : slice_get items i ≡ Some c.index_mut-2.result.now = slice_get-get_or items i c.index_mut-2.result.now within ∙ ap Some (sym c.index_mut-2.ensures.value) in
     let there : slice_get (map (option_map f) items) i ≡ Some (option_map f c.index_mut-2.result.now) = slice_get-map (option_map f) items i ∙ ap (option_map (option_map f)) here in
     subst (λ (x : Option (AnyPart g.row.S.Denot g.row.K.Denot g.S.Source g.K.Sink)). option_and_then (λ part. part_file part) x ≡ None) (sym c.replace-2.ensures.value)
-    (no_file g.S.Source.told g.K.Sink.told g.K.Sink.name c.index_mut-2.result.now (old_file p _ i k0 d.component.generation (option_map f c.index_mut-2.result.now) I F.at n there (rw (← c.self.view_is) at c.requires.gone)))
+    (no_file g.S.Source.told g.K.Sink.told g.K.Sink.name c.index_mut-2.result.now (old_file p _ i k0 (option_map f c.index_mut-2.result.now) I F.at (work_out _ k0.work O.work) there))
 
 pub invariant_of-self-2 : goal.invariant_of-self-2
 invariant_of-self-2 g c =

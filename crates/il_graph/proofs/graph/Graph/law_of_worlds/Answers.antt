@@ -19,7 +19,7 @@ returns g c =
       rests = λ w S. closed_rests w (ap first_due S.looks ∙ c.self.invariant.1.closed);
       told = λ w S. laws.told w (bare p _ w S);
       files = λ i x at none.
-          let p = c.self.invariant.1.parts i x at none in
+          let p = c.self.invariant.1.parts.there i x at none in
           ap (λ (o : Option (Option (ShownPart (g.row.S.Denot) (g.row.K.Denot)))). option_map attached_of (option_and_then (option_and_then (λ (q : ShownPart (g.row.S.Denot) (g.row.K.Denot)). q.file)) o)) p.1 ∙ (p.2).file;
       out = laws.out;
     })
