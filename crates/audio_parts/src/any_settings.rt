@@ -90,7 +90,7 @@ impl<S: Source, K: Sink> AnyPart<S, K> {
             Kind::Alaw => AnyPart::Encoder(new_encoder(alloc, Law::ALaw)?),
             Kind::Mulaw => AnyPart::Encoder(new_encoder(alloc, Law::MuLaw)?),
             Kind::Gain => {
-                let effect = Gaining::new(alloc, PCM, PCM, ONE)?;
+                let effect = Gaining::new(PCM, PCM, ONE);
                 AnyPart::Gain(Gain::new(alloc, effect)?)
             }
             Kind::Mixer(inputs) => AnyPart::Mixer(new_mixer(alloc, inputs)?),

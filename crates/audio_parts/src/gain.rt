@@ -1,14 +1,12 @@
-ghost use Rattle.std.specs.Prelude.{◌≡◌, ◌*◌, ◌≤◌, [], ◌∷◌, length, vec_len, IfOk, None};
+ghost use Rattle.std.specs.Prelude.{◌≡◌, ◌*◌, ◌≤◌, [], ◌∷◌, length, None};
 ghost use Rattle.omx_types.specs.declared.kind.Kind.TheVariants as kinds;
 ghost use Rattle.part_forms.specs.Effects.{gained_bytes};
 ghost use Rattle.part_forms.specs.Manners.{gaining};
 
-use crate::OutOfMemory;
 use crate::effect::Effect;
 use crate::one_input::OneInput;
 use omx_types::Format;
 use pcm_ops::{bytes_of, gain_into, samples_of};
-use std::alloc::Global;
 
 /// The part of a gain.
 pub type Gain = OneInput<Gaining>;
@@ -19,32 +17,24 @@ pub struct Gaining {
     pub(crate) input: Format,
     pub(crate) output: Format,
     pub(crate) gain: u32,
-    before: Vec<i16>,
-    after: Vec<i16>,
     ghost small: { gain ≤ 65535 },
-    ghost before_room: { vec_len before ≡ 4096 },
-    ghost after_room: { vec_len after ≡ 4096 },
 }
 
+/// So many samples are worked on at once.
+const PIECE: usize = 256;
+
 impl Gaining {
-    pub(crate) fn new(
-        alloc: Global,
-        input: Format,
-        output: Format,
-        gain: u32,
-    ) -> Result<Gaining, OutOfMemory>
+    pub(crate) fn new(input: Format, output: Format, gain: u32) -> Gaining
         requires { gain ≤ 65535 }
-        ensures input { IfOk result (λ it. it.input ≡ input) }
-        ensures output { IfOk result (λ it. it.output ≡ output) }
-        ensures gain { IfOk result (λ it. it.gain ≡ gain) }
+        ensures input { result.input ≡ input }
+        ensures output { result.output ≡ output }
+        ensures gain { result.gain ≡ gain }
     {
-        Ok(Gaining {
+        Gaining {
             input,
             output,
             gain,
-            before: vec![in alloc; 0; 4096]?,
-            after: vec![in alloc; 0; 4096]?,
-        })
+        }
     }
 }
 
@@ -72,23 +62,34 @@ fn gain_bytes(from: &[u8], gain: u32, before: &mut [i16], after: &mut [i16], to:
     bytes_of(after, to);
 }
 
-/// The same with the front of each register.
-fn gain_front(
-    from: &[u8],
-    gain: u32,
-    before: &mut [i16],
-    after: &mut [i16],
-    count: usize,
-    to: &mut [u8],
-)
+/// The same of one piece.
+fn gain_piece(from: &[u8], gain: u32, count: usize, to: &mut [u8])
     requires small { gain ≤ 65535 }
+    requires few { count ≤ 256 }
     requires from { length from.now ≡ count * 2 }
-    requires before { count ≤ length before.old }
-    requires after { count ≤ length after.old }
     requires to { length to.old ≡ count * 2 }
     ensures { to.new ≡ gained_bytes gain from.now }
 {
+    let mut before = [0; PIECE];
+    let mut after = [0; PIECE];
     gain_bytes(from, gain, &mut before[..count], &mut after[..count], to);
+}
+
+/// The same piece by piece, so that no memory is taken for the samples.
+fn gain_pieces(from: &[u8], gain: u32, count: usize, to: &mut [u8])
+    requires small { gain ≤ 65535 }
+    requires from { length from.now ≡ count * 2 }
+    requires to { length to.old ≡ count * 2 }
+    ensures { to.new ≡ gained_bytes gain from.now }
+{
+    if count <= PIECE {
+        gain_piece(from, gain, count, to);
+        return;
+    }
+    let (first, rest) = from.split_at(2 * PIECE);
+    let (first_to, rest_to) = to.split_at_mut(2 * PIECE);
+    gain_piece(first, gain, PIECE, first_to);
+    gain_pieces(rest, gain, count - PIECE, rest_to);
 }
 
 impl Effect for Gaining {
@@ -109,14 +110,7 @@ impl Effect for Gaining {
     }
 
     fn apply(&mut self, count: usize, from: &[u8], to: &mut [u8]) {
-        gain_front(
-            from,
-            self.gain,
-            &mut self.before,
-            &mut self.after,
-            count,
-            to,
-        );
+        gain_pieces(from, self.gain, count, to);
     }
 
     fn set_format(&mut self, port: u32, format: Format) {
