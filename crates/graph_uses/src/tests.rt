@@ -1,4 +1,5 @@
 mod buffers;
+mod client;
 mod files;
 mod handles;
 mod pair;
