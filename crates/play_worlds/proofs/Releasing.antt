@@ -46,7 +46,7 @@ use Rattle.play_worlds.proofs.Runs.{did, did_none}
 
 -- ---- leaving
 
-leaves_at : (phase stage : ℕ) → phase ≤ 4 → holds_at (pending_at phase stage) (λ y. same_state y.target states.Loaded) ≡ true → (stage ≡ 2) × ((phase ≡ 0) ⊎ (phase ≡ 4))
+pub leaves_at : (phase stage : ℕ) → phase ≤ 4 → holds_at (pending_at phase stage) (λ y. same_state y.target states.Loaded) ≡ true → (stage ≡ 2) × ((phase ≡ 0) ⊎ (phase ≡ 4))
 leaves_at phase zero l h = absurd cc
 leaves_at phase (suc zero) l h = absurd cc
 leaves_at zero (suc (suc zero)) l h = (refl, inl refl)
@@ -62,39 +62,39 @@ leaving_is x p w l c key peer input E =
     let g : is_going_to states.Loaded E.component ≡ holds_at (pending_at p.phase (p.stage c)) (λ y. same_state y.target states.Loaded) = ap (λ (y : Component). is_going_to states.Loaded y) (E.actor).stands in
     rw ((E.end).state, i) g
 
-at_leaving : (phase stage : ℕ) → phase ≡ 4 → stage ≡ 2 → holds_at (pending_at phase stage) (λ y. same_state y.target states.Loaded) ≡ true
+pub at_leaving : (phase stage : ℕ) → phase ≡ 4 → stage ≡ 2 → holds_at (pending_at phase stage) (λ y. same_state y.target states.Loaded) ≡ true
 at_leaving phase stage e f = rw (e, f) refl
 
 -- ---- the headers at home
 
-some_length : {A : Type 0} (xs : List A) → 0 < length xs → is_empty xs ≡ false
+pub some_length : {A : Type 0} (xs : List A) → 0 < length xs → is_empty xs ≡ false
 some_length [] e = absurd (omega arith)
 some_length (n ∷ ns) e = refl
 
-no_empty : {A : Type 0} (xs : List A) → is_empty xs ≡ false → 0 < length xs
+pub no_empty : {A : Type 0} (xs : List A) → is_empty xs ≡ false → 0 < length xs
 no_empty [] e = absurd cc
 no_empty (n ∷ ns) e = omega arith
 
-home_by_length : (by : Bool) (y : LinkState) (todos dones : PortKey → List ℕ) (o i : PortKey) → y.ready ≡ length (todos o) → length y.sent ≡ length (dones o) → length y.held ≡ length (todos i) → y.spent ≡ length (dones i)
+pub home_by_length : (by : Bool) (y : LinkState) (todos dones : PortKey → List ℕ) (o i : PortKey) → y.ready ≡ length (todos o) → length y.sent ≡ length (dones o) → length y.held ≡ length (todos i) → y.spent ≡ length (dones i)
     → HasHome by y → 0 < length (todos (home_by by o i) ++ dones (home_by by o i))
 home_by_length true y todos dones o i r s h d H = let a = length-append (todos o) (dones o) in omega (arith, r, s, H, a)
 home_by_length false y todos dones o i r s h d H = let a = length-append (todos i) (dones i) in omega (arith, h, d, H, a)
 
-length_by_home : (by : Bool) (y : LinkState) (todos dones : PortKey → List ℕ) (o i : PortKey) → y.ready ≡ length (todos o) → length y.sent ≡ length (dones o) → length y.held ≡ length (todos i) → y.spent ≡ length (dones i)
+pub length_by_home : (by : Bool) (y : LinkState) (todos dones : PortKey → List ℕ) (o i : PortKey) → y.ready ≡ length (todos o) → length y.sent ≡ length (dones o) → length y.held ≡ length (todos i) → y.spent ≡ length (dones i)
     → 0 < length (todos (home_by by o i) ++ dones (home_by by o i)) → HasHome by y
 length_by_home true y todos dones o i r s h d H = let a = length-append (todos o) (dones o) in omega (arith, r, s, H, a)
 length_by_home false y todos dones o i r s h d H = let a = length-append (todos i) (dones i) in omega (arith, h, d, H, a)
 
-ready_less : (k : ℕ) (q : List Filled) (y : LinkState) (n : ℕ) → k ≡ suc n → less_sent k q y ≡ record y { ready = n }
+pub ready_less : (k : ℕ) (q : List Filled) (y : LinkState) (n : ℕ) → k ≡ suc n → less_sent k q y ≡ record y { ready = n }
 ready_less k q y n e = rw e refl
 
-sent_less : (k : ℕ) (q : List Filled) (y : LinkState) (h : Filled) (rest : List Filled) → k ≡ 0 → q ≡ h ∷ rest → less_sent k q y ≡ record y { sent = rest }
+pub sent_less : (k : ℕ) (q : List Filled) (y : LinkState) (h : Filled) (rest : List Filled) → k ≡ 0 → q ≡ h ∷ rest → less_sent k q y ≡ record y { sent = rest }
 sent_less k q y h rest e f = rw (e, f) refl
 
-held_less : (q : List Filled) (y : LinkState) (h : Filled) (rest : List Filled) → q ≡ h ∷ rest → less_held q y ≡ record y { held = rest }
+pub held_less : (q : List Filled) (y : LinkState) (h : Filled) (rest : List Filled) → q ≡ h ∷ rest → less_held q y ≡ record y { held = rest }
 held_less q y h rest f = rw f refl
 
-spent_less : (q : List Filled) (y : LinkState) → q ≡ [] → less_held q y ≡ record y { spent = y.spent - 1 }
+pub spent_less : (q : List Filled) (y : LinkState) → q ≡ [] → less_held q y ≡ record y { spent = y.spent - 1 }
 spent_less q y f = rw f refl
 
 less_closed : (k : ℕ) (q : List Filled) (y : LinkState) → ((less_sent k q y).closed ≡ y.closed) × ((less_sent k q y).taken ≡ y.taken)
@@ -106,7 +106,7 @@ held_closed : (q : List Filled) (y : LinkState) → ((less_held q y).closed ≡ 
 held_closed [] y = (refl, refl)
 held_closed (h ∷ q) y = (refl, refl)
 
-released_closed : (by : Bool) (y : LinkState) → ((released by y).closed ≡ y.closed) × ((released by y).taken ≡ y.taken)
+pub released_closed : (by : Bool) (y : LinkState) → ((released by y).closed ≡ y.closed) × ((released by y).taken ≡ y.taken)
 released_closed true y = less_closed y.ready y.sent y
 released_closed false y = held_closed y.held y
 
@@ -200,7 +200,7 @@ module _ (x : Cast) (p : Play) (w : World) (W : IsPlayWorld x p w) (l : ℕ) (b 
 
 -- ---- the act
 
-three_false : {X : Type 0} (a b c : Bool) (f g h : X) → a ≡ false → b ≡ false → c ≡ false → (if a then Some f else (if b then Some g else (if c then Some h else None))) ≡ None
+pub three_false : {X : Type 0} (a b c : Bool) (f g h : X) → a ≡ false → b ≡ false → c ≡ false → (if a then Some f else (if b then Some g else (if c then Some h else None))) ≡ None
 three_false a b c f g h i j k = rw (i, j, k) refl
 
 not_disabling : (by : Bool) (k : Change) → k.output ≡ 0 → k.input ≡ 0 → IsDisabling (port_at by k) → ⊥
@@ -247,7 +247,7 @@ module _ (x : Cast) (p : Play) (w : World) (W : IsPlayWorld x p w) (l : ℕ) (b 
   home_some : 0 < length (todos (home_at x l) ++ dones (home_at x l)) → HasHome ((x.layout).by_output l) ((p.flow).link l)
   home_some H = let L = lengths in length_by_home ((x.layout).by_output l) ((p.flow).link l) todos dones (output_at x l) (input_at x l) L.ready L.sent L.held L.spent H
 
-in_home : (w : World) (q : Port) (key : PortKey) → q.key ≡ key → in_port (seen w.headers) q ≡ (seen w.headers).todo key ++ (seen w.headers).done key
+pub in_home : (w : World) (q : Port) (key : PortKey) → q.key ≡ key → in_port (seen w.headers) q ≡ (seen w.headers).todo key ++ (seen w.headers).done key
 in_home w q key e = ap (λ (k : PortKey). (seen w.headers).todo k ++ (seen w.headers).done k) e
 
 release_acts : (x : Cast) (p : Play) (w : World) (l : ℕ) (h : Handle) (result : Result Acted OmxError) (v : World) (E : AreEnds x p w l) → Names x w (supplier x.layout l) h → Release w h (home_at x l).port result v
