@@ -1,6 +1,7 @@
 pub mod Linking
 pub mod Sides
 pub mod Passing
+pub mod Resting
 pub mod Backs
 pub mod Overs
 pub mod Releases

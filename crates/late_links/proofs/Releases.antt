@@ -54,14 +54,12 @@ use Rattle.late_acts.proofs.Turning.{all_told, half_of, no_work_at}
 use Rattle.late_links.proofs.Backs.{disabling_at, state_valid}
 use Rattle.late_links.proofs.Linking.{link_changed}
 use Rattle.late_links.proofs.Passing.{left_keeps}
+use Rattle.late_links.proofs.Resting.{IsResting, low, none_draining, none_filling}
 use Rattle.late_links.proofs.Sides.{IsSide, home_is, home_supplies, joined_made, side, supplier_is, supplies}
 
 -- why the supplier unmakes: its component leaves, or its port is disabling
 abbrev Leaves : LateCast → Play → ℕ → Type 0
 Leaves x p l = (p.phase ≡ 4) ⊎ ((((x.cast).layout).is_late l ≡ true) × IsDisabling (port_at (((x.cast).layout).by_output l) (p.change l)))
-
-worked_none : (w : World) (key : PortKey) (i : ℕ) (a : Component) → key.component ≡ i → slice_get w.components i ≡ Some a → a.work ≡ None → work_in w.components key ≡ []
-worked_none w key i a n e f = rw (n, e, f) refl
 
 module _ (x : LateCast) (recent : ℕ) (p : Play) (w : World) (W : IsLateWorld x recent p w) (l : ℕ) (b : l < links_of x.cast) (L : Leaves x p l) where
   abbrev by : Bool
@@ -73,38 +71,14 @@ module _ (x : LateCast) (recent : ℕ) (p : Play) (w : World) (W : IsLateWorld x
   abbrev y0 : LinkEnds
   y0 = ends_of x.cast works p l
 
-  -- both ports are below Steady again where one is disabling
-  low : (o : Bool) → ((x.cast).layout).is_late l ≡ true → IsDisabling (port_at by (p.change l)) → (port_at o (p.change l) < 7) × (3 ≤ (p.change l).step) × ((p.change l).step ≤ 4)
-  low o t d =
-      let K = (W.reached).changes l b in
-      let h = half_of (p.change l) K.order by (omega arith) (omega arith) in
-      let most : (p.change l).step ≤ 4 = either (nat_le (p.change l).step 4) (λ u. leb-true (p.change l).step 4 u) (λ u.
-      let five = leb-false (p.change l).step 4 u in
-      absurd (not_low by ((K.order).told (omega arith)) d)) in
-      (waits o (let a = (K.order).output_waits (omega arith) in omega arith) (let a = (K.order).input_waits (omega arith) in omega arith), h.0, most)
-    where
-      not_low : (s : Bool) → (4 ≤ (p.change l).output) × (4 ≤ (p.change l).input) → IsDisabling (port_at s (p.change l)) → ⊥
-      not_low true h e = let a = h.0 in omega arith
-      not_low false h e = let a = h.1 in omega arith
-
-      waits : (s : Bool) → (p.change l).output < 7 → (p.change l).input < 7 → port_at s (p.change l) < 7
-      waits true g h = g
-      waits false g h = h
-
-  side_free : (o : Bool) → (S : IsSide x recent p w l o) → (S.component).work ≡ None
-  side_free o S = elim L [
-    | inl four ↦ elim (none_or_some (S.component).work) [
-      | inl n ↦ n
-      | inr k ↦ let z = ((S.actor).work k.0 k.1).phase in absurd (omega arith)
-    ]
-    | inr d ↦ let r = low o d.0 d.1 in no_work_at x recent p w W l b d.0 (component_at (x.cast).layout o l) o refl S.component S.there S.actor r.0 (let s = r.1 in omega arith)
-  ]
+  resting : IsResting x p l by
+  resting = elim L [ inl four ↦ inl (λ e. omega arith) | inr d ↦ inr d ]
 
   no_fill : works (output_at x.cast l) ≡ []
-  no_fill = let S = side x recent p w W l true b in worked_none w (output_at x.cast l) _ S.component refl S.there (side_free true S)
+  no_fill = none_filling x recent p w W l b by resting
 
   no_drain : works (input_at x.cast l) ≡ []
-  no_drain = let S = side x recent p w W l false b in worked_none w (input_at x.cast l) _ S.component refl S.there (side_free false S)
+  no_drain = none_draining x recent p w W l b by resting
 
   apart : same_key (input_at x.cast l) (output_at x.cast l) ≡ false
   apart = let D = W.wired l b in keys_apart (input_at x.cast l) (output_at x.cast l) (λ e. D.apart (sym e))
@@ -167,7 +141,7 @@ module _ (x : LateCast) (recent : ℕ) (p : Play) (w : World) (W : IsLateWorld x
     | inr d ↦ left_keeps x p q k refl refl (ap headers_of (changed_else (released by) l p.flow k d))
     | inl e ↦ elim L [
       | inl four ↦ at_last k four
-      | inr d ↦ subst (λ (j : ℕ). left_to_make x.cast q j ≤ left_to_make x.cast p j) (sym e) (early d.0 (low by d.0 d.1).2 (two d.0 d.1))
+      | inr d ↦ subst (λ (j : ℕ). left_to_make x.cast q j ≤ left_to_make x.cast p j) (sym e) (early d.0 (low x recent p w W l b by by d.0 d.1).2 (two d.0 d.1))
     ]
   ]
     where

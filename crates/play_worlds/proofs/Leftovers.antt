@@ -49,13 +49,13 @@ use Rattle.play_worlds.proofs.Runs.{did, did_none}
 
 -- ---- on the way to the second Idle
 
-going_at : (phase stage : ℕ) → holds_at (pending_at phase stage) (λ y. same_state y.target states.Idle) ≡ true → stage ≡ 2
+pub going_at : (phase stage : ℕ) → holds_at (pending_at phase stage) (λ y. same_state y.target states.Idle) ≡ true → stage ≡ 2
 going_at phase zero h = absurd cc
 going_at phase (suc zero) h = absurd cc
 going_at phase (suc (suc zero)) h = refl
 going_at phase (suc (suc (suc n))) h = absurd cc
 
-at_going : (phase stage : ℕ) → phase ≡ 3 → stage ≡ 2 → holds_at (pending_at phase stage) (λ y. same_state y.target states.Idle) ≡ true
+pub at_going : (phase stage : ℕ) → phase ≡ 3 → stage ≡ 2 → holds_at (pending_at phase stage) (λ y. same_state y.target states.Idle) ≡ true
 at_going phase stage e f = rw (e, f) refl
 
 going_is : (x : Cast) (p : Play) (w : World) (c : ℕ) (a : Component) → IsActor x p w c a → is_going_to states.Idle a ≡ holds_at (pending_at p.phase (p.stage c)) (λ y. same_state y.target states.Idle)
@@ -95,13 +95,13 @@ front_map f [] h = absurd h
 front_map f (n ∷ ns) h = (n, ns, refl)
 
 -- of the end that doesn't supply the link: done is empty, and todo isn't
-record IsLeft (lists dones : PortKey → List ℕ) (key : PortKey) : Type 0 where
-  none : dones key ≡ []
-  number : ℕ
-  rest : List ℕ
-  some : lists key ≡ number ∷ rest
+pub record IsLeft (lists dones : PortKey → List ℕ) (key : PortKey) : Type 0 where
+  pub none : dones key ≡ []
+  pub number : ℕ
+  pub rest : List ℕ
+  pub some : lists key ≡ number ∷ rest
 
-left_by : (by : Bool) (y : LinkState) (f g : ℕ → Filled) (todos dones : PortKey → List ℕ) (o i : PortKey) → y.ready ≡ length (todos o) → y.sent ≡ map f (dones o) → y.held ≡ map g (todos i) → y.spent ≡ length (dones i) → HasUnused by y
+pub left_by : (by : Bool) (y : LinkState) (f g : ℕ → Filled) (todos dones : PortKey → List ℕ) (o i : PortKey) → y.ready ≡ length (todos o) → y.sent ≡ map f (dones o) → y.held ≡ map g (todos i) → y.spent ≡ length (dones i) → HasUnused by y
     → IsLeft todos dones (home_by by i o)
 left_by true y f g todos dones o i r s h d U =
     let k = front_map g (todos i) (subst (λ (q : List Filled). IsFront (λ h. Unit {0}) q) h U.1) in
@@ -110,22 +110,22 @@ left_by false y f g todos dones o i r s h d U =
     let k = some_length (todos o) (omega (arith, r, U.1)) in
     record { none = no_map f (dones o) (sym s ∙ U.0); number = k.0; rest = k.1; some = k.2 }
 
-by_left : (by : Bool) (y : LinkState) (f g : ℕ → Filled) (todos dones : PortKey → List ℕ) (o i : PortKey) → y.ready ≡ length (todos o) → y.sent ≡ map f (dones o) → y.held ≡ map g (todos i) → y.spent ≡ length (dones i) → IsLeft todos dones (home_by by i o)
+pub by_left : (by : Bool) (y : LinkState) (f g : ℕ → Filled) (todos dones : PortKey → List ℕ) (o i : PortKey) → y.ready ≡ length (todos o) → y.sent ≡ map f (dones o) → y.held ≡ map g (todos i) → y.spent ≡ length (dones i) → IsLeft todos dones (home_by by i o)
     → HasUnused by y
 by_left true y f g todos dones o i r s h d L = (d ∙ ap length L.none, subst (λ (q : List Filled). IsFront (λ h. Unit {0}) q) (sym (h ∙ ap (map g) L.some)) tt)
 by_left false y f g todos dones o i r s h d L =
     let n : length (todos o) ≡ suc (length L.rest) = ap length L.some in
     (s ∙ ap (map f) L.none, omega (arith, r, n))
 
-is_nil : {A : Type 0} (xs : List A) → is_empty xs ≡ true → xs ≡ []
+pub is_nil : {A : Type 0} (xs : List A) → is_empty xs ≡ true → xs ≡ []
 is_nil [] e = refl
 is_nil (y ∷ xs) e = absurd cc
 
-unused_none : {X : Type 0} (s r e d t : Bool) (f g h : X) → s ≡ false → r ≡ true → t ≡ false → (if s then Some f else (if not r && not e then Some g else (if d && (not r || t) then Some h else None))) ≡ None
+pub unused_none : {X : Type 0} (s r e d t : Bool) (f g h : X) → s ≡ false → r ≡ true → t ≡ false → (if s then Some f else (if not r && not e then Some g else (if d && (not r || t) then Some h else None))) ≡ None
 unused_none s r e true t f g h a b c = rw (a, b, c) refl
 unused_none s r e false t f g h a b c = rw (a, b) refl
 
-both_left : (d r t : Bool) → d ≡ true → (d && (not r || t)) ≡ false → (r ≡ true) × (t ≡ false)
+pub both_left : (d r t : Bool) → d ≡ true → (d && (not r || t)) ≡ false → (r ≡ true) × (t ≡ false)
 both_left true true t e f = (refl, f)
 both_left true false t e f = absurd cc
 both_left false r t e f = absurd cc
@@ -146,15 +146,15 @@ back_taken : (q : List Filled) (y : LinkState) → (back_held q y).taken ≡ y.t
 back_taken [] y = refl
 back_taken (h ∷ q) y = refl
 
-unused_closed : (by : Bool) (y : LinkState) → (given_unused by y).closed ≡ y.closed
+pub unused_closed : (by : Bool) (y : LinkState) → (given_unused by y).closed ≡ y.closed
 unused_closed true y = back_closed y.held y
 unused_closed false y = refl
 
-unused_taken : (by : Bool) (y : LinkState) → (given_unused by y).taken ≡ y.taken
+pub unused_taken : (by : Bool) (y : LinkState) → (given_unused by y).taken ≡ y.taken
 unused_taken true y = back_taken y.held y
 unused_taken false y = refl
 
-cleared_link : (x : Cast) (to : PortKey) (spot : Spot) (r : HeaderRecord) → HasLink x r → HasLink x (put_at to spot (cleared r))
+pub cleared_link : (x : Cast) (to : PortKey) (spot : Spot) (r : HeaderRecord) → HasLink x r → HasLink x (put_at to spot (cleared r))
 cleared_link x to spot r H = record {
   link = H.link;
   below = H.below;
