@@ -5,3 +5,4 @@ pub mod Resting
 pub mod Backs
 pub mod Overs
 pub mod Releases
+pub mod Unuseds

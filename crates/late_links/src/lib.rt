@@ -2,7 +2,7 @@
 //! while the link is being changed. Stated on functions that do nothing.
 #![tactic(auto)]
 
-ghost use Rattle.std.specs.Prelude.{◌≡◌, ℕ, ◌<◌, false, Result, Ok};
+ghost use Rattle.std.specs.Prelude.{◌≡◌, ℕ, ◌<◌, true, false, Result, Ok};
 ghost use Rattle.omx_types.specs.declared.error.OmxError.{OmxError};
 ghost use Rattle.omx_types.specs.declared.handle.Handle.{Handle};
 ghost use Rattle.il_machine.specs.declared.answer.Acted.{Acted};
@@ -29,7 +29,7 @@ pub fn law_of_late_hand_overs()
         → HandOver w h (home_at x.cast l).port result v → result ≡ Ok Did → CanAct (x.cast).layout p (Act.HandOver l) }
 {}
 
-/// The other end hands back a header of its done exactly where the model can.
+/// The other end hands back a header, of its done or unused, exactly where the model can.
 pub fn law_of_late_hand_backs()
     ensures done { (x : LateCast) (recent : ℕ) (p : Play) (w : World) (l : ℕ) (h : Handle) (result : Result Acted OmxError) (v : World)
         → IsLateWorld x recent p w → CanAct (x.cast).layout p (Act.HandBack l) → Names x.cast w (other_component (x.cast).layout l) h
@@ -39,6 +39,14 @@ pub fn law_of_late_hand_backs()
         → IsLateWorld x recent p w → l < links_of x.cast → Names x.cast w (other_component (x.cast).layout l) h
         → HandBack w h (away_at x.cast l).port result v → result ≡ Ok Did
         → is_empty ((seen w.headers).done (away_at x.cast l)) ≡ false → CanAct (x.cast).layout p (Act.HandBack l) }
+    ensures unused { (x : LateCast) (recent : ℕ) (p : Play) (w : World) (l : ℕ) (h : Handle) (result : Result Acted OmxError) (v : World)
+        → IsLateWorld x recent p w → CanAct (x.cast).layout p (Act.HandUnused l) → Names x.cast w (other_component (x.cast).layout l) h
+        → HandBack w h (away_at x.cast l).port result v
+        → (result ≡ Ok Did) × LateLeadsTo x recent (acted (x.cast).layout (Act.HandUnused l) p) v }
+    ensures unused_can { (x : LateCast) (recent : ℕ) (p : Play) (w : World) (l : ℕ) (h : Handle) (result : Result Acted OmxError) (v : World)
+        → IsLateWorld x recent p w → l < links_of x.cast → Names x.cast w (other_component (x.cast).layout l) h
+        → HandBack w h (away_at x.cast l).port result v → result ≡ Ok Did
+        → is_empty ((seen w.headers).done (away_at x.cast l)) ≡ true → CanAct (x.cast).layout p (Act.HandUnused l) }
 {}
 
 /// The supplier of a link unmakes a header exactly where the model can.
