@@ -1,7 +1,6 @@
 -- The work of a late source that announces comes back: its port is held, and that its settings changed is queued.
-use Rattle.std.proofs.Common.{◌≡◌, ◌≢◌, ◌⊎◌, inl, inr, ℕ, zero, suc, ◌+◌, ◌<◌, ◌≤◌, Bool, true, false, not, ◌&&◌, nat_le, if◌then◌else◌, is_some, List, [], ◌∷◌, ◌++◌, map, set, slice_get, Option, Some, None, MatchOption, refl, sym, ◌∙◌, ap, subst, append_assoc, arith}
+use Rattle.std.proofs.Common.{◌≡◌, inl, inr, ℕ, ◌+◌, ◌<◌, ◌≤◌, Bool, true, false, nat_le, if◌then◌else◌, is_some, List, [], ◌∷◌, ◌++◌, slice_get, Option, Some, None, MatchOption, refl, sym, ◌∙◌, ap, subst, append_assoc, arith}
 use Rattle.std.proofs.lemmas.Bool.{cases_eq}
-use Rattle.omx_types.specs.declared.command.Command.{Command}
 use Rattle.omx_types.specs.declared.command.Event.TheVariants.{PortSettingsChanged}
 use Rattle.omx_types.specs.declared.command.Note.{Note}
 use Rattle.omx_types.specs.declared.command.Note.TheVariants.{Told}
@@ -12,18 +11,15 @@ use Rattle.il_machine.specs.declared.port.PortKey.{PortKey}
 use Rattle.il_machine.specs.declared.port.PortState.{PortState}
 use Rattle.il_machine.specs.Due.{ClosesTo}
 use Rattle.il_machine.specs.Finishing.{Finish, announced, announced_at, end_note, finished, finished_by, with_landed}
-use Rattle.il_machine.specs.Parts.{file_format}
 use Rattle.il_machine.specs.Queued.{notes_given}
-use Rattle.il_machine.specs.Settings.{same_format}
 use Rattle.il_machine.specs.Sound.{Sound}
 use Rattle.il_machine.specs.Stepping.{IsDoneOf, WorkDone}
 use Rattle.il_machine.specs.World.{Component, Work, World, changed_at, number_of, place_numbered, port_of, stream_of, with_component, with_port}
-use Rattle.machine_laws.proofs.Finding.{either}
 use Rattle.machine_laws.proofs.Finishing.{sound_finished}
 use Rattle.machine_laws.proofs.Keys.{at_there}
 use Rattle.play_model.specs.Acts.{Act, CanAct, acted}
 use Rattle.play_model.specs.Changes.{Change, IsHalfChanged, port_at, told_on}
-use Rattle.play_model.specs.Play.{IsRunning, Play, component_at}
+use Rattle.play_model.specs.Play.{Play}
 use Rattle.play_model.proofs.Handing.{act_reaches}
 use Rattle.play_links.specs.View.{picked_at, worked_at}
 use Rattle.play_worlds.specs.Cast.{components_of, giver_of, input_at, links_of, output_at, script_place}
@@ -33,7 +29,7 @@ use Rattle.play_worlds.specs.Wiring.{link_to}
 use Rattle.play_worlds.specs.Worlds.{ends_untold}
 use Rattle.play_worlds.proofs.Ends.{place_there}
 use Rattle.late_worlds.specs.Changing.{at_links, is_joined_at, is_set_at, state_by, told_of_port}
-use Rattle.late_worlds.specs.Late.{HasHeard, IsActorAt, IsAnnouncement, IsEndAt, IsLateWorld, IsWorkAt, LateCast, announced_note, commands_of_end, left_to_make, notes_of_end, port_commands, port_notes, port_number, settings_notes, settings_of_end}
+use Rattle.late_worlds.specs.Late.{HasHeard, IsActorAt, IsLateWorld, LateCast, announced_note, commands_of_end, left_to_make, notes_of_end, port_commands, port_notes, port_number, settings_notes, settings_of_end}
 use Rattle.late_worlds.proofs.Ports.{announced_state}
 use Rattle.late_acts.specs.Leading.{LateLeadsTo}
 use Rattle.late_acts.proofs.Around.{change_else, change_here, end_stated}

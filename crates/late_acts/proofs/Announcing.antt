@@ -1,7 +1,6 @@
 -- A late source that must announce is claimed: its work has no header.
-use Rattle.std.proofs.Common.{◌≡◌, ◌≢◌, ◌⊎◌, inl, inr, ℕ, zero, suc, ◌+◌, ◌<◌, ◌≤◌, Bool, true, false, not, ◌&&◌, ◌||◌, nat_le, nat_lt, if◌then◌else◌, is_none, is_some, List, [], ◌∷◌, ◌++◌, filter, length, length-append, map, slice_get, sum_by, Option, Some, None, Result, Ok, refl, sym, ◌∙◌, ap, subst, le-ltb, arith}
+use Rattle.std.proofs.Common.{◌≡◌, inl, inr, ℕ, zero, suc, ◌<◌, ◌≤◌, Bool, true, false, not, ◌||◌, nat_lt, if◌then◌else◌, is_some, List, [], ◌∷◌, ◌++◌, filter, length, length-append, map, slice_get, sum_by, Some, None, Result, Ok, refl, sym, ◌∙◌, ap, subst, le-ltb, arith}
 use Rattle.std.specs.List.{list_any}
-use Rattle.std.proofs.lemmas.Bool.{cases_eq}
 use Rattle.std.proofs.lemmas.List.Sums.{count_by-le-length}
 use Rattle.omx_types.specs.declared.error.OmxError.{OmxError}
 use Rattle.omx_types.specs.declared.format.Format.{Format}
@@ -12,26 +11,23 @@ use Rattle.il_machine.specs.declared.port.Port.{Port}
 use Rattle.il_machine.specs.declared.port.PortState.{PortState}
 use Rattle.il_machine.specs.Answers.{plain}
 use Rattle.il_machine.specs.Claims.{Claim, Claimed, ClaimedBusy, ClaimedEnded, ClaimedEvents, ClaimedNotRunning, ClaimedWork, Claims, WorkSeen, claim_idle, data_test, gives_header, held_test, is_claimable, is_output_port, is_unannounced, must_announce, picked, reserve_for, room_test, seen_work, wanted, with_work, work_of}
-use Rattle.il_machine.specs.Due.{ClosesTo, each_port}
+use Rattle.il_machine.specs.Due.{each_port}
 use Rattle.il_machine.specs.Finishing.{end_note}
 use Rattle.il_machine.specs.Headers.{seen}
-use Rattle.il_machine.specs.Kinds.{is_late, is_sink}
 use Rattle.il_machine.specs.Lists.{first_of_these}
 use Rattle.il_machine.specs.Look.{look}
 use Rattle.il_machine.specs.Parts.{file_format}
-use Rattle.il_machine.specs.Ports.{is_at_rest, is_input_port, is_open}
+use Rattle.il_machine.specs.Ports.{is_input_port, is_open}
 use Rattle.il_machine.specs.Queued.{notes_given}
-use Rattle.il_machine.specs.Room.{events_in, is_event, port_reserve, room, used}
+use Rattle.il_machine.specs.Room.{events_in, is_event, port_reserve, room}
 use Rattle.il_machine.specs.Settings.{same_format}
 use Rattle.il_machine.specs.Sound.{Sound}
-use Rattle.il_machine.specs.States.{is_executing}
 use Rattle.il_machine.specs.World.{Component, Work, World, number_of, port_of, ports_of, with_component}
-use Rattle.machine_laws.proofs.Claiming.{claim_passes, sound_claimed}
+use Rattle.machine_laws.proofs.Claiming.{sound_claimed}
 use Rattle.machine_laws.proofs.Finding.{either}
 use Rattle.play_model.specs.Acts.{Act, CanAct}
-use Rattle.play_model.specs.Changes.{Change}
 use Rattle.play_model.specs.Play.{IsRunning, Play}
-use Rattle.play_worlds.specs.Cast.{components_of, giver_of, links_of, script_place}
+use Rattle.play_worlds.specs.Cast.{giver_of, links_of, script_place}
 use Rattle.play_worlds.specs.Telling.{out_of, state_note}
 use Rattle.play_worlds.specs.Worlds.{Names, ends_untold}
 use Rattle.play_worlds.proofs.Claimable.{at_rest_none, first_append, first_map, passes}
@@ -40,11 +36,11 @@ use Rattle.play_worlds.proofs.Lists.{resolved, sum_none}
 use Rattle.play_worlds.proofs.Resting.{all_true}
 use Rattle.play_worlds.proofs.Rooms.{port_of_state, state_notes, used_at_rest}
 use Rattle.late_worlds.specs.Changing.{at_links}
-use Rattle.late_worlds.specs.Late.{IsActorAt, IsAnnouncement, IsLateWorld, IsWorkAt, LateCast, commands_of_end, notes_of_end, port_commands, port_notes, settings_notes, settings_of_end}
+use Rattle.late_worlds.specs.Late.{IsActorAt, IsLateWorld, IsWorkAt, LateCast, commands_of_end, notes_of_end, port_commands, port_notes, settings_notes, settings_of_end}
 use Rattle.late_acts.specs.Leading.{LateLeadsTo}
 use Rattle.late_acts.proofs.Ends.{HasEnd, end_inside, end_there, first_port, gives_late, no_sink, one_port, source_lists}
-use Rattle.late_acts.proofs.Kept.{IsGoingOn, IsKept, actor_goes_on, kept}
-use Rattle.late_acts.proofs.Standing.{commands_are, late_commands_are, no_loss, pending_is, runs, state_is}
+use Rattle.late_acts.proofs.Kept.{IsGoingOn, actor_goes_on, kept}
+use Rattle.late_acts.proofs.Standing.{late_commands_are, no_loss, runs}
 
 pub any_there : {X : Type 0} (test : X → Bool) (xs : List X) (i : ℕ) (y : X) → slice_get xs i ≡ Some y → test y ≡ true → list_any test xs ≡ true
 any_there test [] i y e t = absurd cc

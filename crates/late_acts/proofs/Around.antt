@@ -1,5 +1,5 @@
 -- A world of a play with late sources in which the change of one link has gone on, and of the rest all stayed.
-use Rattle.std.proofs.Common.{◌≡◌, ◌≢◌, ◌⊎◌, inl, inr, ℕ, zero, suc, ◌+◌, ◌<◌, ◌≤◌, Bool, true, false, not, ◌||◌, nat_eq, nat_le, if◌then◌else◌, is_some, List, [], ◌++◌, length, set, slice_get, sum_by, find, map, Option, Some, None, option_and_then, MatchOption, refl, sym, ◌∙◌, ap, subst, eq-eqb, ne_eqb, le-leb, arith}
+use Rattle.std.proofs.Common.{◌≡◌, ◌≢◌, ◌⊎◌, inl, inr, ℕ, zero, suc, ◌<◌, ◌≤◌, Bool, true, false, not, ◌||◌, nat_le, is_some, List, [], ◌++◌, length, slice_get, sum_by, Option, Some, MatchOption, refl, sym, ◌∙◌, ap, subst, eq-eqb, ne_eqb, le-leb, arith}
 use Rattle.std.proofs.lemmas.Bool.{cases_eq}
 use Rattle.il_machine.specs.declared.answer.Progress.{Progress}
 use Rattle.il_machine.specs.declared.port.Port.{Port}
@@ -13,19 +13,18 @@ use Rattle.il_machine.specs.Sound.{Sound}
 use Rattle.il_machine.specs.Units.{need_of}
 use Rattle.il_machine.specs.World.{Component, HeaderRecord, Stream, Work, World, number_of, port_of, stream_of}
 use Rattle.omx_types.specs.declared.command.Note.{Note}
-use Rattle.flow_model.specs.Network.{IsInput, IsOutput}
-use Rattle.flow_model.specs.Progress.{IsLinkOf, sum_to}
+use Rattle.flow_model.specs.Progress.{sum_to}
 use Rattle.play_model.specs.Acts.{with_change}
 use Rattle.play_model.specs.Changes.{Change, IsHalfChanged, port_at}
 use Rattle.play_model.specs.Play.{HasPorts, Play, component_at}
 use Rattle.play_model.specs.Reached.{IsReached}
 use Rattle.play_links.specs.View.{LinkEnds, link_view}
-use Rattle.play_worlds.specs.Cast.{Cast, IsCast, components_of, links_of, script_place, output_at, input_at, giver_of, taker_of}
+use Rattle.play_worlds.specs.Cast.{Cast, IsCast, components_of, links_of, script_place, output_at, input_at}
 use Rattle.play_worlds.specs.Standing.{commands_at, standing}
-use Rattle.play_worlds.specs.Telling.{heard, heard_of, last_note, out_of, progress_by, state_note, unheard}
+use Rattle.play_worlds.specs.Telling.{heard, heard_of, last_note, out_of, progress_by, state_note}
 use Rattle.play_worlds.specs.Wiring.{IsSomeEnd, ends_of, link_to, port_in, work_in}
-use Rattle.play_worlds.specs.Worlds.{HasLink, ends_untold}
-use Rattle.late_worlds.specs.Changing.{at_links, is_joined_at, is_set, is_set_at, state_by, told_of_port}
+use Rattle.play_worlds.specs.Worlds.{ends_untold}
+use Rattle.late_worlds.specs.Changing.{is_joined_at, is_set, is_set_at, state_by, told_of_port}
 use Rattle.late_worlds.specs.Late.{HasHeard, IsActorAt, IsAnnouncement, IsEndAt, IsLateWorld, IsWiredAt, IsWorkAt, LateCast, announced_note, commands_of_end, end_of_link, left_to_make, notes_of_end, port_commands, port_notes, port_number, settings_notes, settings_of_end}
 use Rattle.late_acts.proofs.Lists.{links_same}
 

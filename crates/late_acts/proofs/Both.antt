@@ -1,27 +1,26 @@
 -- The change of a link has gone on at both its ends.
-use Rattle.std.proofs.Common.{◌≡◌, ◌≢◌, ◌⊎◌, inl, inr, ℕ, ◌<◌, ◌≤◌, Bool, true, false, not, List, [], ◌∷◌, find, length, set, slice_get, sum_by, Option, Some, option_and_then, refl, sym, ◌∙◌, ap, subst, arith}
+use Rattle.std.proofs.Common.{◌≡◌, ◌≢◌, ◌⊎◌, inl, inr, ℕ, ◌<◌, ◌≤◌, Bool, true, false, List, set, slice_get, sum_by, Option, Some, option_and_then, refl, sym, ◌∙◌, ap, subst}
 use Rattle.std.proofs.lemmas.Bool.{cases_eq}
 use Rattle.std.proofs.lemmas.List.{length-set}
 use Rattle.il_machine.specs.declared.port.Port.{Port}
 use Rattle.il_machine.specs.declared.port.PortKey.{PortKey}
 use Rattle.il_machine.specs.Headers.{find_header, is_for}
-use Rattle.il_machine.specs.Queued.{notes_given}
 use Rattle.il_machine.specs.Sound.{Sound}
 use Rattle.il_machine.specs.Tunnels.{agreed}
 use Rattle.il_machine.specs.Units.{need_of, units_of}
-use Rattle.il_machine.specs.World.{Component, HeaderRecord, Stream, World, is_stream_of, number_of, port_of, stream_of}
+use Rattle.il_machine.specs.World.{Component, HeaderRecord, World, port_of}
 use Rattle.machine_laws.proofs.Every.{at_set, set_else, set_there}
 use Rattle.play_model.specs.Acts.{with_change}
 use Rattle.play_model.specs.Changes.{Change, IsHalfChanged}
 use Rattle.play_model.specs.Play.{Play, component_at}
 use Rattle.play_model.specs.Reached.{IsReached}
 use Rattle.play_links.specs.View.{worked_at}
-use Rattle.play_worlds.specs.Cast.{Cast, components_of, giver_of, input_at, links_of, output_at, script_place, supplier_of, taker_of}
+use Rattle.play_worlds.specs.Cast.{components_of, giver_of, input_at, links_of, output_at, script_place, supplier_of, taker_of}
 use Rattle.play_worlds.specs.Wiring.{IsSomeEnd, port_in, work_in}
 use Rattle.play_worlds.proofs.Lists.{got_set, sum_same}
 use Rattle.late_worlds.specs.Changing.{is_joined_at}
 use Rattle.late_worlds.specs.Late.{IsActorAt, IsEndAt, IsLateWorld, IsWiredAt, LateCast, end_of_link, left_to_make}
-use Rattle.late_acts.proofs.Around.{IsAround, IsLatest, IsQuiet, actor_beside, around, ends_differ}
+use Rattle.late_acts.proofs.Around.{IsLatest, IsQuiet, actor_beside, around, ends_differ}
 
 module _ (x : LateCast) (recent later : ℕ) (p : Play) (l : ℕ) (g : Change → Change) where
   abbrev q : Play

@@ -1,5 +1,5 @@
 -- A claim of which the work announces was one of a late source that must.
-use Rattle.std.proofs.Common.{◌≡◌, ◌⊎◌, inl, inr, ℕ, zero, suc, ◌+◌, ◌<◌, ◌≤◌, Bool, true, false, not, ◌&&◌, ◌||◌, nat_eq, nat_le, List, slice_get, Option, Some, None, Result, Ok, refl, sym, ◌∙◌, ap, subst, eq-eqb, le-leb, leb-false, arith}
+use Rattle.std.proofs.Common.{◌≡◌, ◌⊎◌, inl, inr, ℕ, zero, suc, ◌<◌, ◌≤◌, true, false, not, ◌&&◌, nat_le, slice_get, Some, Result, Ok, refl, sym, ◌∙◌, ap, subst, eq-eqb, le-leb, leb-false, arith}
 use Rattle.omx_types.specs.declared.error.OmxError.{OmxError}
 use Rattle.omx_types.specs.declared.format.Format.{Format}
 use Rattle.omx_types.specs.declared.format.Format.TheVariants as formats
@@ -24,7 +24,7 @@ use Rattle.machine_laws.proofs.Keys.{none_or_some}
 use Rattle.machine_laws.proofs.Lookups.{port_parts}
 use Rattle.play_model.specs.Acts.{Act, CanAct}
 use Rattle.play_model.specs.Play.{IsRunning, Play}
-use Rattle.play_worlds.specs.Cast.{components_of, giver_of, input_at, links_of, output_at, script_place, taker_of}
+use Rattle.play_worlds.specs.Cast.{components_of, giver_of, links_of, script_place, taker_of}
 use Rattle.play_worlds.specs.Wiring.{IsSomeEnd}
 use Rattle.play_worlds.specs.Worlds.{Names}
 use Rattle.play_worlds.proofs.Claims.{claims_none, claims_some, never_work}
@@ -94,8 +94,7 @@ module _ (x : LateCast) (recent : ℕ) (p : Play) (w : World) (W : IsLateWorld x
             let index : i ≡ (x.cast).output_port k = sym (ap (λ (z : PortKey). z.port) key) ∙ ap (λ (z : PortKey). z.port) h in
             let s : Some E.port ≡ Some y = sym E.there ∙ (ap (port_of a) (sym index) ∙ r.2) in
             let is : E.port ≡ y = cc in
-            let held : is_held_at true (p.change k).step ≡ false = sym (ap (λ (z : PortState). z.held) (E.end).state) ∙ (ap (λ (z : Port). z.state.held) is ∙ is_not y.state.held g.1) in
-            (
+            let held : is_held_at true (p.change k).step ≡ false = sym (ap (λ (z : PortState). z.held) (E.end).state) ∙ (ap (λ (z : Port). z.state.held) is ∙ is_not y.state.held g.1) in (
               k,
               t,
               S.below,
@@ -139,10 +138,14 @@ claim_announces x recent p w c h result v work W b N K s says =
           let R1 : IsRunning p (giver_of x.cast l) = subst (λ (j : ℕ). IsRunning p j) (sym same) R0 in
           let e : slice_get w.components (script_place x.cast (giver_of x.cast l)) ≡ Some a = ap (λ (j : ℕ). slice_get w.components (script_place x.cast j)) same ∙ g.1 in
           let is = claimed_is x recent p w W l L.2 L.3 a e L.4 R1 C.free in
-          let there : with_work (script_place x.cast c) a (work_of (seen w.headers) a) w ≡ with_work (script_place x.cast (giver_of x.cast l)) a (work_of (seen w.headers) a) w = ap (λ (j : ℕ). with_work (script_place x.cast j) a (work_of (seen w.headers) a) w) (sym same) in
-          (l, same, (L.2, L.3, R1, L.4), record {
-            effect = with_work (script_place x.cast c) a (work_of (seen w.headers) a) w;
-            play = subst (λ (y : World). IsLateWorld x recent p y) (sym (there ∙ is)) (claim_plays x recent p w W l L.2 L.3 a e L.4 R1 C.free);
-            closes = r.1;
-          })
+          let there : with_work (script_place x.cast c) a (work_of (seen w.headers) a) w ≡ with_work (script_place x.cast (giver_of x.cast l)) a (work_of (seen w.headers) a) w = ap (λ (j : ℕ). with_work (script_place x.cast j) a (work_of (seen w.headers) a) w) (sym same) in (
+            l,
+            same,
+            (L.2, L.3, R1, L.4),
+            record {
+              effect = with_work (script_place x.cast c) a (work_of (seen w.headers) a) w;
+              play = subst (λ (y : World). IsLateWorld x recent p y) (sym (there ∙ is)) (claim_plays x recent p w W l L.2 L.3 a e L.4 R1 C.free);
+              closes = r.1;
+            },
+          )
     ]

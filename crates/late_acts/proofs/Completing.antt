@@ -1,5 +1,5 @@
 -- The end of a disable or an enable is told.
-use Rattle.std.proofs.Common.{◌≡◌, ◌≢◌, ◌⊎◌, inl, inr, ℕ, zero, suc, ◌+◌, ◌<◌, ◌≤◌, Bool, true, false, not, nat_le, is_some, List, [], ◌∷◌, ◌++◌, slice_get, Option, Some, None, refl, sym, ◌∙◌, ap, subst, arith}
+use Rattle.std.proofs.Common.{◌≡◌, ◌≢◌, inl, inr, ℕ, ◌+◌, ◌<◌, ◌≤◌, Bool, true, false, not, nat_le, [], ◌∷◌, ◌++◌, slice_get, Some, refl, sym, ◌∙◌, ap, subst, arith}
 use Rattle.std.proofs.lemmas.Bool.{cases_eq}
 use Rattle.omx_types.specs.declared.command.Completion.{Completion}
 use Rattle.omx_types.specs.declared.command.Completion.TheVariants as completions
@@ -13,21 +13,21 @@ use Rattle.il_machine.specs.Components.{noted_by}
 use Rattle.il_machine.specs.Finishing.{end_note}
 use Rattle.il_machine.specs.Notes.{EndNote, back_in}
 use Rattle.il_machine.specs.Queued.{notes_given}
-use Rattle.il_machine.specs.World.{Component, Work, World, number_of, with_component}
+use Rattle.il_machine.specs.World.{Component, World, number_of, with_component}
 use Rattle.machine_laws.proofs.Notices.{sound_ended}
 use Rattle.play_model.specs.Acts.{Act, CanAct, acted}
 use Rattle.play_model.specs.Changes.{Change, HasCompletion, IsHalfChanged, IsInOrder, port_at, port_on}
-use Rattle.play_model.specs.Play.{HasPorts, Play, component_at}
+use Rattle.play_model.specs.Play.{Play, component_at}
 use Rattle.play_model.proofs.Handing.{act_reaches}
 use Rattle.flow_model.specs.Progress.{IsLinkOf}
-use Rattle.play_worlds.specs.Cast.{Cast, components_of, links_of, script_place}
+use Rattle.play_worlds.specs.Cast.{links_of, script_place}
 use Rattle.play_worlds.specs.Standing.{commands_at, standing}
-use Rattle.play_worlds.specs.Telling.{heard, last_note, state_note, unheard}
+use Rattle.play_worlds.specs.Telling.{heard, last_note, state_note}
 use Rattle.play_worlds.specs.Wiring.{link_to}
 use Rattle.play_worlds.specs.Worlds.{Names, ends_untold}
 use Rattle.play_worlds.proofs.Notes.{ended_at, heard_back, no_state_note}
 use Rattle.late_worlds.specs.Changing.{commands_of_port, is_joined_at, is_set_at, notes_of_port, state_by, told_of_port}
-use Rattle.late_worlds.specs.Late.{HasHeard, IsActorAt, IsLateWorld, IsWorkAt, LateCast, announced_note, end_of_link, port_commands, port_notes, port_number, settings_notes}
+use Rattle.late_worlds.specs.Late.{HasHeard, IsActorAt, IsLateWorld, LateCast, announced_note, end_of_link, port_number, settings_notes}
 use Rattle.late_worlds.proofs.Ports.{other_state, told_state}
 use Rattle.late_acts.specs.Leading.{LateLeadsTo}
 use Rattle.late_acts.proofs.Announced.{left_same}
@@ -35,7 +35,7 @@ use Rattle.late_acts.proofs.Around.{change_else, change_here, end_moves}
 use Rattle.late_acts.proofs.Ends.{HasEnd, end_inside, end_there, ends_apart}
 use Rattle.late_acts.proofs.One.{IsTurned, IsTurnedAt, actor_turned, turned}
 use Rattle.late_acts.proofs.Telling.{front}
-use Rattle.late_acts.proofs.Turning.{all_told, alone_half, commands_here, commands_turned, half_of, half_stays, heard_turned, is_recent, no_work_at, notes_after, notes_here, port_next, port_other, ports_turned, sent_step, settings_at, settings_here, settings_turned, step_stays, which, rises_turned}
+use Rattle.late_acts.proofs.Turning.{all_told, alone_half, commands_turned, half_of, half_stays, is_recent, notes_after, notes_here, port_next, port_other, ports_turned, settings_at, settings_here, settings_turned, step_stays, which, rises_turned}
 
 -- what is queued, and told once that is heard
 pub record IsCompletion (n port : ℕ) : Type 0 where

@@ -1,24 +1,20 @@
 -- How many headers a link has that isn't without its tunnel.
-use Rattle.std.proofs.Common.{◌≡◌, ◌≢◌, ℕ, ◌<◌, Bool, true, false, not, if◌then◌else◌, List, slice_get, Option, Some, None, option_and_then, refl, sym, ◌∙◌, ap, subst, arith}
-use Rattle.il_machine.specs.declared.port.Link.{Link}
-use Rattle.il_machine.specs.declared.port.Port.{Port}
-use Rattle.il_machine.specs.declared.port.PortKey.{PortKey}
+use Rattle.std.proofs.Common.{◌≡◌, ℕ, ◌<◌, Bool, true, false, if◌then◌else◌, slice_get, Some, None, refl, sym, ◌∙◌, ap}
 use Rattle.il_machine.specs.declared.port.PortState.{PortState}
 use Rattle.il_machine.specs.Headers.{is_for, seen}
 use Rattle.il_machine.specs.Sound.{port_at}
-use Rattle.il_machine.specs.World.{Component, World, number_of, port_of}
+use Rattle.il_machine.specs.World.{Component, World, number_of}
 use Rattle.machine_laws.proofs.Lookups.{port_at_is}
 use Rattle.machine_laws.proofs.Parts.{parts_of, ports_in_list}
 use Rattle.flow_model.specs.Network.{headers_of}
 use Rattle.play_model.specs.Play.{Play, component_at, made}
 use Rattle.play_links.specs.Tunnel.{IsTunnel, IsWorkedAt}
-use Rattle.play_links.specs.View.{worked_at}
 use Rattle.play_links.proofs.Counts.{made_for_link, to_input, to_output}
-use Rattle.play_worlds.specs.Cast.{Cast, components_of, giver_of, input_at, links_of, output_at, script_place, supplier_of, taker_of}
+use Rattle.play_worlds.specs.Cast.{giver_of, input_at, links_of, output_at, script_place, supplier_of, taker_of}
 use Rattle.play_worlds.specs.Wiring.{ends_of, link_to, work_in}
 use Rattle.play_worlds.proofs.Counting.{count_same, same_tests}
 use Rattle.late_worlds.specs.Changing.{is_joined_at}
-use Rattle.late_worlds.specs.Late.{IsActorAt, IsLateWorld, LateCast, end_of_link}
+use Rattle.late_worlds.specs.Late.{IsLateWorld, LateCast, end_of_link}
 use Rattle.late_acts.proofs.Ends.{HasEnd, actor_there, end_inside, end_there}
 
 module _ (x : LateCast) (recent : ℕ) (p : Play) (w : World) (W : IsLateWorld x recent p w) (l : ℕ) (b : l < links_of x.cast) where

@@ -1,9 +1,8 @@
 -- The tunnel of a link that is being changed is dropped.
-use Rattle.std.proofs.Common.{◌≡◌, ◌≢◌, ◌⊎◌, inl, inr, ℕ, zero, suc, ◌+◌, ◌-◌, ◌<◌, ◌≤◌, Bool, true, false, not, ◌&&◌, ◌||◌, nat_eq, nat_le, if◌then◌else◌, List, [], ◌∷◌, slice_get, Option, Some, None, Result, Ok, Err, refl, sym, ◌∙◌, ap, subst, eqb-true, eq-eqb, arith}
+use Rattle.std.proofs.Common.{◌≡◌, inl, inr, ℕ, ◌+◌, ◌≤◌, Bool, true, false, nat_le, if◌then◌else◌, List, [], ◌∷◌, slice_get, Option, Some, None, Result, Ok, Err, refl, sym, ◌∙◌, ap, subst, arith}
 use Rattle.std.proofs.lemmas.Bool.{cases_eq}
 use Rattle.omx_types.specs.declared.error.OmxError.{OmxError}
 use Rattle.omx_types.specs.declared.handle.Handle.{Handle}
-use Rattle.omx_types.specs.declared.handle.PortId.{PortId}
 use Rattle.il_machine.specs.declared.header.HeaderState.{HeaderState}
 use Rattle.il_machine.specs.declared.port.Link.{Link}
 use Rattle.il_machine.specs.declared.port.Port.{Port}
@@ -14,24 +13,24 @@ use Rattle.il_machine.specs.Due.{ClosesTo}
 use Rattle.il_machine.specs.Headers.{count_headers, find_header, is_for, same_key, seen, weight}
 use Rattle.il_machine.specs.Lists.{holds_at}
 use Rattle.il_machine.specs.Look.{look}
-use Rattle.il_machine.specs.Ports.{has_no_header, is_input_port}
+use Rattle.il_machine.specs.Ports.{has_no_header}
 use Rattle.il_machine.specs.Sound.{Sound}
-use Rattle.il_machine.specs.Tunnels.{BothPorts, DropTunnel, agreed, are_output_and_input, both_parted, drop_refusal, holds_of_both, is_joined_with, parted}
+use Rattle.il_machine.specs.Tunnels.{BothPorts, DropTunnel, agreed, are_output_and_input, both_parted, drop_refusal, is_joined_with}
 use Rattle.il_machine.specs.World.{Component, HeaderRecord, World, port_of, with_component, with_port}
 use Rattle.machine_laws.proofs.Finding.{either, found_head, found_tail}
 use Rattle.machine_laws.proofs.Keys.{key_same}
 use Rattle.machine_laws.proofs.Tunnels.{sound_parted}
 use Rattle.play_model.specs.Acts.{Act, CanAct, acted}
 use Rattle.play_model.specs.Changes.{Change, conducted}
-use Rattle.play_model.specs.Play.{Play, component_at, made}
+use Rattle.play_model.specs.Play.{Play}
 use Rattle.play_model.proofs.Handing.{act_reaches}
-use Rattle.play_worlds.specs.Cast.{Cast, components_of, giver_of, input_at, links_of, output_at, script_place, supplier_of, taker_of}
+use Rattle.play_worlds.specs.Cast.{giver_of, input_at, output_at, script_place, taker_of}
 use Rattle.play_worlds.specs.Wiring.{link_to}
-use Rattle.play_worlds.specs.Worlds.{Names, to_make}
+use Rattle.play_worlds.specs.Worlds.{Names}
 use Rattle.play_worlds.proofs.Arrivals.{unmade_by}
 use Rattle.play_worlds.proofs.Lists.{resolved}
 use Rattle.late_worlds.specs.Changing.{is_joined_at, is_set_at, state_by}
-use Rattle.late_worlds.specs.Late.{IsActorAt, IsEndAt, IsLateWorld, IsWiredAt, LateCast, end_of_link, left_to_make, port_number}
+use Rattle.late_worlds.specs.Late.{IsEndAt, IsLateWorld, LateCast, end_of_link, left_to_make}
 use Rattle.late_worlds.proofs.Ports.{dropped_state}
 use Rattle.late_acts.specs.Leading.{LateLeadsTo}
 use Rattle.late_acts.proofs.Around.{change_here, end_stated}
@@ -197,9 +196,11 @@ drop_leads x recent p w l g h result v W C four N M s =
     let r1 = resolved plain w g result v (λ i c. Resolving plain w h result v (λ j d. Then i c j d)) i a.0 N a.1 s in
     let r2 = resolved plain w h result v (λ j d. Then i a.0 j d) j d.0 M d.1 r1 in
     let t = parted_so (drop_refusal (look w).headers (port_of a.0 ((x.cast).output_port l)) (port_of d.0 ((x.cast).input_port l))) result w v (port_of a.0 ((x.cast).output_port l)) (port_of d.0 ((x.cast).input_port l)) E.port F.port
-    (λ a1 b1. both_parted i a.0 a1 j d.0 b1 w) (drop_accepted x recent p w W l C four a.0 d.0 a.1 d.1) E.there F.there r2 in
-    (t.0, record {
-      effect = both_parted i a.0 E.port j d.0 F.port w;
-      play = subst (λ (u : World). IsLateWorld x l (acted (x.cast).layout (Act.Conduct l) p) u) (sym (parted_is x recent p w W l C four a.0 d.0 a.1 d.1)) (drop_plays x recent p w W l C four a.0 d.0 a.1 d.1);
-      closes = t.1;
-    })
+    (λ a1 b1. both_parted i a.0 a1 j d.0 b1 w) (drop_accepted x recent p w W l C four a.0 d.0 a.1 d.1) E.there F.there r2 in (
+      t.0,
+      record {
+        effect = both_parted i a.0 E.port j d.0 F.port w;
+        play = subst (λ (u : World). IsLateWorld x l (acted (x.cast).layout (Act.Conduct l) p) u) (sym (parted_is x recent p w W l C four a.0 d.0 a.1 d.1)) (drop_plays x recent p w W l C four a.0 d.0 a.1 d.1);
+        closes = t.1;
+      },
+    )

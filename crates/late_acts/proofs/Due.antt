@@ -1,9 +1,7 @@
 -- What is due at a port of a play with late sources: the end of its disable or enable, exactly where the model can.
-use Rattle.std.proofs.Common.{◌≡◌, ◌≢◌, ◌⊎◌, inl, inr, ℕ, zero, suc, ◌+◌, ◌<◌, ◌≤◌, Bool, true, false, not, ◌&&◌, ◌||◌, nat_eq, nat_le, if◌then◌else◌, List, [], ◌∷◌, slice_get, Option, Some, None, refl, sym, ◌∙◌, ap, subst, eqb-true, eq-eqb, le-leb, leb-true, leb-false, arith}
-use Rattle.std.proofs.lemmas.Bool.{cases_eq}
+use Rattle.std.proofs.Common.{◌≡◌, ◌⊎◌, inl, inr, ℕ, zero, suc, ◌<◌, ◌≤◌, Bool, true, false, not, ◌||◌, nat_eq, nat_le, if◌then◌else◌, List, [], ◌∷◌, slice_get, Option, Some, None, refl, sym, ◌∙◌, ap, subst, eqb-true, eq-eqb, le-leb, leb-true, leb-false, arith}
 use Rattle.std.proofs.lemmas.Option.{slice_get_within}
 use Rattle.il_machine.specs.declared.port.Link.{Link}
-use Rattle.il_machine.specs.declared.port.Mode.{Mode}
 use Rattle.il_machine.specs.declared.port.Port.{Port}
 use Rattle.il_machine.specs.declared.port.PortKey.{PortKey}
 use Rattle.il_machine.specs.declared.port.PortState.{PortState}
@@ -12,7 +10,7 @@ use Rattle.il_machine.specs.Headers.{Seen, is_for, seen}
 use Rattle.il_machine.specs.Lists.{first_of_these}
 use Rattle.il_machine.specs.Ports.{has_no_header, is_populated}
 use Rattle.il_machine.specs.States.{is_down}
-use Rattle.il_machine.specs.World.{Component, World, number_of, port_of, ports_of}
+use Rattle.il_machine.specs.World.{Component, World, port_of, ports_of}
 use Rattle.machine_laws.proofs.Closing.{closed_rests}
 use Rattle.machine_laws.proofs.Finding.{either}
 use Rattle.machine_laws.proofs.Happening.{IsDueAt, due_where}
@@ -21,7 +19,7 @@ use Rattle.play_model.specs.Acts.{Act, CanAct, acted}
 use Rattle.play_model.specs.Changes.{Change, IsInOrder, IsPortDue, port_at}
 use Rattle.play_model.specs.Play.{Play, component_at, made}
 use Rattle.play_model.specs.Reached.{IsChanging}
-use Rattle.play_worlds.specs.Cast.{components_of, links_of, script_place}
+use Rattle.play_worlds.specs.Cast.{links_of, script_place}
 use Rattle.play_worlds.specs.Standing.{state_at}
 use Rattle.play_worlds.specs.Wiring.{link_to}
 use Rattle.play_worlds.proofs.Arrivals.{unmade_by}
@@ -29,10 +27,10 @@ use Rattle.play_worlds.proofs.Supplying.{populated_by}
 use Rattle.late_worlds.specs.Changing.{is_joined_at, mode_at, state_by}
 use Rattle.late_worlds.specs.Late.{IsActorAt, IsEndAt, IsLateWorld, LateCast, end_of_link, port_number}
 use Rattle.late_acts.proofs.Counting.{made_at_end}
-use Rattle.late_acts.proofs.Ends.{HasEnd, IsPortAt, actor_there, end_inside, end_there, port_end}
+use Rattle.late_acts.proofs.Ends.{actor_there, end_inside, end_there, port_end}
 use Rattle.late_acts.proofs.Happening.{happen_plays, happened_is}
 use Rattle.late_acts.proofs.Standing.{state_is}
-use Rattle.late_acts.proofs.Turning.{all_told, half_of, sent_step}
+use Rattle.late_acts.proofs.Turning.{all_told, half_of}
 
 some_is : {X : Type 0} (a b : X) → Some a ≡ Some b → a ≡ b
 some_is a b e = cc

@@ -1,26 +1,24 @@
 -- The components and ports at the ends of a link of a play with late sources; what is at the one port of a late source, and at links that
 -- aren't being changed.
-use Rattle.std.proofs.Common.{◌≡◌, ◌≢◌, ◌⊎◌, inl, inr, ℕ, zero, suc, ◌+◌, ◌<◌, ◌≤◌, Bool, true, false, not, nat_lt, List, [], ◌∷◌, ◌++◌, slice_get, Option, Some, option_and_then, refl, sym, ◌∙◌, ap, subst, ltb-true, ltb-false, arith}
-use Rattle.std.proofs.lemmas.Bool.{cases_eq}
+use Rattle.std.proofs.Common.{◌≡◌, ◌≢◌, ◌⊎◌, inl, inr, ℕ, zero, suc, ◌<◌, ◌≤◌, Bool, true, false, not, nat_lt, List, slice_get, Some, refl, sym, ◌∙◌, ap, subst, ltb-true, ltb-false, arith}
 use Rattle.std.proofs.lemmas.Option.{slice_get_within}
 use Rattle.omx_types.specs.declared.kind.Kind.{Kind}
 use Rattle.omx_types.specs.declared.kind.Kind.TheVariants as kinds
 use Rattle.il_machine.specs.declared.port.Port.{Port}
 use Rattle.il_machine.specs.declared.port.PortKey.{PortKey}
 use Rattle.il_machine.specs.Kinds.{is_late, is_sink, ports_in}
-use Rattle.il_machine.specs.World.{Component, World, number_of, port_of}
+use Rattle.il_machine.specs.World.{Component, World, port_of}
 use Rattle.machine_laws.proofs.Finding.{either}
 use Rattle.machine_laws.proofs.Lookups.{port_parts}
 use Rattle.machine_laws.proofs.Parts.{parts_of}
-use Rattle.flow_model.specs.Network.{IsInput, IsOutput}
 use Rattle.play_model.specs.Changes.{Change, IsHalfChanged, IsInOrder, port_at}
 use Rattle.play_model.specs.Play.{Play, component_at}
-use Rattle.play_worlds.specs.Cast.{Cast, components_of, giver_of, input_at, links_of, output_at, script_place, taker_of}
+use Rattle.play_worlds.specs.Cast.{components_of, giver_of, input_at, links_of, output_at, script_place, taker_of}
 use Rattle.play_worlds.specs.Wiring.{port_in}
 use Rattle.play_worlds.proofs.Lists.{get_there}
-use Rattle.late_worlds.specs.Late.{IsActorAt, IsEndAt, IsLateWorld, LateCast, commands_of_end, end_of_link, notes_of_end, port_commands, port_notes, port_number, settings_notes, settings_of_end}
+use Rattle.late_worlds.specs.Late.{IsActorAt, IsEndAt, IsLateWorld, LateCast, end_of_link, port_number}
 use Rattle.late_worlds.specs.Changing.{at_links}
-use Rattle.late_acts.proofs.Lists.{links_one, links_none}
+use Rattle.late_acts.proofs.Lists.{links_one}
 
 pub actor_there : (x : LateCast) (recent : ℕ) (p : Play) (w : World) (c : ℕ) → IsLateWorld x recent p w → c < components_of x.cast → (a : Component) × (slice_get w.components (script_place x.cast c) ≡ Some a) × IsActorAt x recent p w c a
 actor_there x recent p w c W l =

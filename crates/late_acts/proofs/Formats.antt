@@ -1,15 +1,13 @@
 -- Formats that go beside each other, and the settings of a component of which a port gets the format of its late source's link.
-use Rattle.std.proofs.Common.{◌≡◌, ◌≢◌, inl, inr, ℕ, zero, suc, ◌<◌, Bool, true, false, not, ◌&&◌, ◌||◌, nat_eq, List, [], ◌∷◌, filter, map, set, slice_get, Option, Some, option_map, refl, sym, ◌∙◌, ap, subst, eqb-true, eq-eqb, arith}
+use Rattle.std.proofs.Common.{◌≡◌, ℕ, zero, suc, true, false, nat_eq, List, [], ◌∷◌, filter, slice_get, Some, refl, sym, ◌∙◌, ap, subst, eqb-true, eq-eqb}
 use Rattle.std.specs.List.{list_all}
-use Rattle.std.proofs.lemmas.Bool.{cases_eq}
 use Rattle.omx_types.specs.declared.format.Format.{Format}
 use Rattle.omx_types.specs.declared.format.Format.TheVariants.{Pcm, Alaw, Mulaw, Auto}
 use Rattle.omx_types.specs.declared.kind.Kind.{Kind}
 use Rattle.omx_types.specs.Formats.{channels_of, is_auto, rate_of}
 use Rattle.il_machine.specs.declared.port.PortSetting.{PortSetting}
-use Rattle.il_machine.specs.Settings.{Settings, are_fitting, fits, formats_of, is_known, is_splitter, same_format, same_rate_and_channels, with_setting}
+use Rattle.il_machine.specs.Settings.{Settings, are_fitting, fits, formats_of, is_known, is_splitter, same_format, same_rate_and_channels}
 use Rattle.machine_laws.proofs.Accepting.{both_of, is_not}
-use Rattle.machine_laws.proofs.Every.{at_set}
 use Rattle.machine_laws.proofs.Finding.{either}
 use Rattle.play_worlds.proofs.Resting.{all_true}
 use Rattle.play_worlds.proofs.Wanted.{filter_from}

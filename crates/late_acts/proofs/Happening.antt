@@ -1,53 +1,42 @@
 -- The disable or the enable of a port of a link that is being changed ends.
-use Rattle.std.proofs.Common.{◌≡◌, ◌≢◌, ◌⊎◌, inl, inr, ℕ, zero, suc, ◌+◌, ◌<◌, ◌≤◌, Bool, true, false, not, ◌&&◌, ◌||◌, nat_eq, nat_le, if◌then◌else◌, List, [], ◌∷◌, ◌++◌, slice_get, Option, Some, None, refl, sym, ◌∙◌, ap, subst, append_assoc, append-nil, eqb-true, eq-eqb, le-leb, arith}
-use Rattle.std.proofs.lemmas.Bool.{cases_eq}
-use Rattle.std.proofs.lemmas.Option.{slice_get_within}
+use Rattle.std.proofs.Common.{◌≡◌, ◌≢◌, inl, inr, ℕ, ◌+◌, ◌<◌, ◌≤◌, Bool, true, false, not, nat_le, List, [], ◌∷◌, ◌++◌, slice_get, Some, None, refl, sym, ◌∙◌, ap, subst, append_assoc, arith}
 use Rattle.omx_types.specs.declared.command.Completion.{Completion}
 use Rattle.omx_types.specs.declared.command.Completion.TheVariants as completions
 use Rattle.omx_types.specs.declared.command.Event.TheVariants.{CmdComplete}
 use Rattle.omx_types.specs.declared.command.Note.{Note}
 use Rattle.omx_types.specs.declared.command.Note.TheVariants.{Told}
 use Rattle.il_machine.specs.declared.port.Link.{Link}
-use Rattle.il_machine.specs.declared.port.Mode.{Mode}
-use Rattle.il_machine.specs.declared.port.Mode.TheVariants.{Disabling, Enabling, Steady}
+use Rattle.il_machine.specs.declared.port.Mode.TheVariants.{Steady}
 use Rattle.il_machine.specs.declared.port.Port.{Port}
 use Rattle.il_machine.specs.declared.port.PortKey.{PortKey}
 use Rattle.il_machine.specs.declared.port.PortState.{PortState}
-use Rattle.il_machine.specs.Due.{Flush, Happens, IsClosed, PortMode, Thing, Transition, WaitingMark, all_told, at_port, due_in, happened, is_flush_due, is_mark_due, is_mode_due, is_transition_due, mode_completion, mode_happened, things_of}
+use Rattle.il_machine.specs.Due.{all_told, mode_completion, mode_happened}
 use Rattle.il_machine.specs.Finishing.{end_note}
-use Rattle.il_machine.specs.Headers.{Seen, is_for, seen}
-use Rattle.il_machine.specs.Lists.{first_of_these}
-use Rattle.il_machine.specs.Look.{look}
-use Rattle.il_machine.specs.Ports.{has_no_header, is_populated, is_steady}
+use Rattle.il_machine.specs.Ports.{is_steady}
 use Rattle.il_machine.specs.Queued.{notes_given}
 use Rattle.il_machine.specs.Sound.{Sound}
-use Rattle.il_machine.specs.States.{is_down}
-use Rattle.il_machine.specs.World.{Component, Work, World, number_of, port_of, ports_of, told, with_component, with_port}
-use Rattle.machine_laws.proofs.Closing.{closed_rests}
+use Rattle.il_machine.specs.World.{Component, World, number_of, with_component, with_port}
 use Rattle.machine_laws.proofs.Finding.{either}
-use Rattle.machine_laws.proofs.Happening.{IsDueAt, due_where, sound_happened, sound_mode}
-use Rattle.machine_laws.proofs.Lookups.{port_parts}
+use Rattle.machine_laws.proofs.Happening.{sound_mode}
 use Rattle.play_model.specs.Acts.{Act, CanAct, acted}
-use Rattle.play_model.specs.Changes.{Change, IsHalfChanged, IsInOrder, IsPortDue, port_at, port_on}
+use Rattle.play_model.specs.Changes.{Change, IsHalfChanged, IsPortDue, port_at, port_on}
 use Rattle.play_model.specs.Play.{Play, component_at, made}
 use Rattle.play_model.proofs.Handing.{act_reaches}
 use Rattle.play_worlds.specs.Cast.{components_of, links_of, script_place}
-use Rattle.play_worlds.specs.Standing.{commands_at, standing, state_at}
+use Rattle.play_worlds.specs.Standing.{commands_at, standing}
 use Rattle.play_worlds.specs.Telling.{heard, out_of, state_note, unheard}
 use Rattle.play_worlds.specs.Wiring.{link_to}
 use Rattle.play_worlds.specs.Worlds.{ends_untold}
 use Rattle.play_worlds.proofs.Notes.{no_state_note}
 use Rattle.late_worlds.specs.Changing.{commands_of_port, is_joined_at, is_set_at, mode_at, notes_of_port, state_by, told_of_port}
-use Rattle.late_worlds.specs.Late.{IsActorAt, IsLateWorld, LateCast, announced_note, end_of_link, port_commands, port_notes, port_number, settings_notes}
+use Rattle.late_worlds.specs.Late.{IsActorAt, IsLateWorld, LateCast, announced_note, end_of_link, port_notes, port_number, settings_notes}
 use Rattle.late_worlds.proofs.Ports.{disabled_state, enabled_state, other_state}
 use Rattle.late_acts.proofs.Announced.{left_same}
-use Rattle.late_acts.proofs.Around.{change_else, change_here, end_stated}
-use Rattle.late_acts.proofs.Counting.{made_at_end}
-use Rattle.late_acts.proofs.Ends.{HasEnd, IsPortAt, actor_there, end_inside, end_there, ends_apart, port_end}
+use Rattle.late_acts.proofs.Around.{change_here, end_stated}
+use Rattle.late_acts.proofs.Ends.{HasEnd, end_inside, end_there, ends_apart}
 use Rattle.late_acts.proofs.One.{IsTurned, IsTurnedAt, actor_turned, turned}
 use Rattle.late_acts.proofs.Ports.{port_else, port_here}
-use Rattle.late_acts.proofs.Standing.{state_is}
-use Rattle.late_acts.proofs.Turning.{all_told as all_up, alone_half, commands_after, commands_here, commands_turned, half_of, half_stays, heard_turned, no_work_at, notes_after, notes_here, port_next, port_other, rises_turned, settings_at, settings_here, settings_turned, step_stays}
+use Rattle.late_acts.proofs.Turning.{all_told as all_up, alone_half, commands_turned, half_of, half_stays, heard_turned, no_work_at, notes_after, notes_here, port_next, port_other, rises_turned, settings_at, settings_here, settings_turned, step_stays}
 
 -- ---- the port before and after
 

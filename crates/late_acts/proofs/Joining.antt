@@ -1,9 +1,7 @@
 -- The tunnel of a link that is being changed is set up again.
-use Rattle.std.proofs.Common.{◌≡◌, ◌≢◌, ◌⊎◌, inl, inr, ℕ, zero, suc, ◌+◌, ◌-◌, ◌<◌, ◌≤◌, Bool, true, false, not, ◌&&◌, ◌||◌, max, nat_eq, nat_le, if◌then◌else◌, is_some, List, [], ◌∷◌, set, slice_get, Option, Some, None, Result, Ok, Err, refl, sym, ◌∙◌, ap, subst, eqb-true, eq-eqb, ne_eqb, arith}
-use Rattle.std.proofs.lemmas.Bool.{cases_eq}
+use Rattle.std.proofs.Common.{◌≡◌, ◌≢◌, ℕ, zero, suc, ◌+◌, ◌<◌, Bool, true, false, not, ◌&&◌, max, nat_eq, nat_le, if◌then◌else◌, is_some, List, [], ◌∷◌, set, slice_get, Option, Some, None, Result, Ok, Err, refl, sym, ◌∙◌, ap, subst, ne_eqb, arith}
 use Rattle.omx_types.specs.declared.error.OmxError.{OmxError}
 use Rattle.omx_types.specs.declared.handle.Handle.{Handle}
-use Rattle.omx_types.specs.declared.handle.PortId.{PortId}
 use Rattle.omx_types.specs.declared.param.Supplier.{Supplier}
 use Rattle.il_machine.specs.declared.header.HeaderState.{HeaderState}
 use Rattle.il_machine.specs.declared.port.Link.{Link}
@@ -16,38 +14,37 @@ use Rattle.il_machine.specs.Due.{ClosesTo}
 use Rattle.il_machine.specs.Headers.{Once, count_headers, find_header, is_for, seen, weight}
 use Rattle.il_machine.specs.Look.{look}
 use Rattle.il_machine.specs.Parameters.{is_fixed}
-use Rattle.il_machine.specs.Ports.{has_no_header, is_input_port, is_joined}
-use Rattle.il_machine.specs.Settings.{Settings, same_format, with_setting}
+use Rattle.il_machine.specs.Ports.{has_no_header, is_joined}
+use Rattle.il_machine.specs.Settings.{same_format, with_setting}
 use Rattle.il_machine.specs.Sound.{Sound}
 use Rattle.il_machine.specs.States.{is_invalid}
-use Rattle.il_machine.specs.Tunnels.{BothPorts, SetupTunnel, agreed, agreed_of, are_output_and_input, both_joined, holds_of_both, joined_to, setup_refusal, widened}
+use Rattle.il_machine.specs.Tunnels.{BothPorts, SetupTunnel, agreed, agreed_of, are_output_and_input, both_joined, joined_to, setup_refusal, widened}
 use Rattle.il_machine.specs.World.{Component, HeaderRecord, World, number_of, port_of, same_handle, with_component, with_port}
 use Rattle.machine_laws.proofs.Finding.{either, found_head, found_tail}
 use Rattle.machine_laws.proofs.Lookups.{port_parts}
-use Rattle.machine_laws.proofs.Parts.{parts_of}
 use Rattle.machine_laws.proofs.Tunnels.{sound_joined}
 use Rattle.play_model.specs.Acts.{Act, CanAct, acted}
-use Rattle.play_model.specs.Changes.{Change, conducted, port_at}
-use Rattle.play_model.specs.Play.{Play, component_at, made}
+use Rattle.play_model.specs.Changes.{Change, conducted}
+use Rattle.play_model.specs.Play.{Play, component_at}
 use Rattle.play_model.proofs.Handing.{act_reaches}
-use Rattle.play_worlds.specs.Cast.{Cast, components_of, giver_of, input_at, links_of, output_at, script_place, supplier_of, taker_of}
+use Rattle.play_worlds.specs.Cast.{giver_of, input_at, links_of, output_at, script_place, supplier_of, taker_of}
 use Rattle.play_worlds.specs.Standing.{state_at}
 use Rattle.play_worlds.specs.Wiring.{link_to}
 use Rattle.play_worlds.specs.Worlds.{Names}
 use Rattle.play_worlds.proofs.Arrivals.{unmade_by}
 use Rattle.play_worlds.proofs.Lists.{resolved}
 use Rattle.late_worlds.specs.Changing.{is_enabled_at, is_joined_at, is_set_at, state_by}
-use Rattle.late_worlds.specs.Late.{IsActorAt, IsEndAt, IsLateWorld, IsWiredAt, LateCast, end_of_link, left_to_make, port_number}
+use Rattle.late_worlds.specs.Late.{IsActorAt, IsEndAt, IsLateWorld, LateCast, end_of_link}
 use Rattle.late_worlds.proofs.Ports.{joined_again}
 use Rattle.late_acts.specs.Leading.{LateLeadsTo}
 use Rattle.late_acts.proofs.Announced.{left_same}
 use Rattle.late_acts.proofs.Around.{change_here, end_stated}
 use Rattle.late_acts.proofs.Both.{AreTurned, both_turned}
 use Rattle.late_acts.proofs.Claiming.{format_itself}
-use Rattle.late_acts.proofs.Ends.{HasEnd, actor_there, end_inside, end_there, ends_apart}
+use Rattle.late_acts.proofs.Ends.{HasEnd, actor_there, end_inside, end_there}
 use Rattle.late_acts.proofs.One.{actor_turned}
 use Rattle.late_acts.proofs.Ports.{port_else, port_here}
-use Rattle.late_acts.proofs.Retuning.{IsRetuning, disabled, later_half, none_made, retuned_turn, turn}
+use Rattle.late_acts.proofs.Retuning.{IsRetuning, disabled, later_half, retuned_turn, turn}
 use Rattle.late_acts.proofs.Standing.{state_is}
 
 -- none of the headers passes a test that none of them passes
@@ -275,9 +272,11 @@ join_leads x recent p w l g h result v W C seven N M s =
     let r1 = resolved plain w g result v (λ i c. Resolving plain w h result v (λ j d. Then i c j d)) i a.0 N a.1 s in
     let r2 = resolved plain w h result v (λ j d. Then i a.0 j d) j d.0 M d.1 r1 in
     let t = joined_so (setup_refusal (look w).headers a.0 d.0 (port_of a.0 ((x.cast).output_port l)) (port_of d.0 ((x.cast).input_port l))) result w v (port_of a.0 ((x.cast).output_port l)) (port_of d.0 ((x.cast).input_port l)) E.port F.port
-    (λ s a1 b1. both_joined s i a.0 a1 j d.0 b1 w) (setup_accepted x recent p w W l C seven a.0 d.0 a.1 d.1) E.there F.there r2 in
-    (t.0 ∙ ap (λ (s : Supplier). Ok s) (supplier x recent p w W l C seven a.0 d.0 a.1 d.1), record {
-      effect = both_joined (agreed_of E.port F.port) i a.0 E.port j d.0 F.port w;
-      play = subst (λ (u : World). IsLateWorld x l (acted (x.cast).layout (Act.Conduct l) p) u) (sym (both_are x recent p w W l C seven a.0 d.0 a.1 d.1)) (join_plays x recent p w W l C seven a.0 d.0 a.1 d.1);
-      closes = t.1;
-    })
+    (λ s a1 b1. both_joined s i a.0 a1 j d.0 b1 w) (setup_accepted x recent p w W l C seven a.0 d.0 a.1 d.1) E.there F.there r2 in (
+      t.0 ∙ ap (λ (s : Supplier). Ok s) (supplier x recent p w W l C seven a.0 d.0 a.1 d.1),
+      record {
+        effect = both_joined (agreed_of E.port F.port) i a.0 E.port j d.0 F.port w;
+        play = subst (λ (u : World). IsLateWorld x l (acted (x.cast).layout (Act.Conduct l) p) u) (sym (both_are x recent p w W l C seven a.0 d.0 a.1 d.1)) (join_plays x recent p w W l C seven a.0 d.0 a.1 d.1);
+        closes = t.1;
+      },
+    )

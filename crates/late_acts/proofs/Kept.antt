@@ -1,7 +1,6 @@
 -- A world of a play with late sources in which one component gave way to another with the same ports, and no link was changed.
-use Rattle.std.proofs.Common.{◌≡◌, ◌≢◌, inl, inr, ℕ, ◌<◌, ◌≤◌, Bool, true, false, List, [], ◌∷◌, ◌++◌, find, length, set, slice_get, sum_by, Option, Some, option_and_then, MatchOption, refl, sym, ◌∙◌, ap, subst, arith}
+use Rattle.std.proofs.Common.{◌≡◌, ◌≢◌, inl, inr, ℕ, ◌<◌, ◌≤◌, Bool, true, List, [], ◌∷◌, ◌++◌, find, length, set, slice_get, sum_by, Option, Some, option_and_then, MatchOption, refl, sym, ◌∙◌, ap, subst, arith}
 use Rattle.std.proofs.lemmas.List.{length-set}
-use Rattle.std.proofs.Math.Path.{fun_ext}
 use Rattle.omx_types.specs.declared.command.Note.{Note}
 use Rattle.il_machine.specs.declared.answer.Progress.{Progress}
 use Rattle.il_machine.specs.declared.port.Port.{Port}
@@ -13,25 +12,21 @@ use Rattle.il_machine.specs.Kinds.{is_late, is_sink, is_source}
 use Rattle.il_machine.specs.Parameters.{overflows}
 use Rattle.il_machine.specs.Parts.{file_format, frames_of}
 use Rattle.il_machine.specs.Queued.{notes_given}
-use Rattle.il_machine.specs.Settings.{Settings, fits}
+use Rattle.il_machine.specs.Settings.{Settings}
 use Rattle.il_machine.specs.Sound.{Sound}
 use Rattle.il_machine.specs.Units.{need_of, units_of}
 use Rattle.il_machine.specs.World.{Component, HeaderRecord, PartState, Stream, Work, World, is_stream_of, number_of, port_of, ports_from, stream_of}
 use Rattle.machine_laws.proofs.Every.{at_set}
-use Rattle.flow_model.specs.Network.{Flow}
-use Rattle.flow_model.specs.Progress.{sum_to}
-use Rattle.play_model.specs.Changes.{Change}
-use Rattle.play_model.specs.Play.{HasPorts, Play}
+use Rattle.play_model.specs.Play.{Play}
 use Rattle.play_model.specs.Reached.{IsReached}
 use Rattle.play_links.specs.View.{LinkEnds, link_view, worked_at}
-use Rattle.play_worlds.specs.Cast.{Cast, components_of, links_of, script_place, output_at, input_at}
+use Rattle.play_worlds.specs.Cast.{components_of, script_place, output_at, input_at}
 use Rattle.play_worlds.specs.Standing.{commands_at, standing}
 use Rattle.play_worlds.specs.Telling.{heard, heard_of, last_note, last_told, out_of, progress_by, state_note, unheard}
 use Rattle.play_worlds.specs.Wiring.{IsSomeEnd, ends_of, port_in, work_in}
 use Rattle.play_worlds.specs.Worlds.{IsBeforeRest, IsPart, ends_untold}
 use Rattle.play_worlds.proofs.Lists.{got_set, sum_same}
-use Rattle.late_worlds.specs.Changing.{is_joined_at, state_by}
-use Rattle.late_worlds.specs.Late.{HasHeard, IsActorAt, IsAnnouncement, IsEndAt, IsLateWorld, IsSetFor, IsWiredAt, IsWorkAt, LateCast, left_to_make, port_commands, port_notes, settings_notes}
+use Rattle.late_worlds.specs.Late.{HasHeard, IsActorAt, IsLateWorld, IsSetFor, IsWorkAt, LateCast, port_commands, port_notes, settings_notes}
 use Rattle.late_acts.proofs.Around.{wired_moves}
 
 module _ (x : LateCast) (recent : ℕ) (p : Play) (stage : ℕ → ℕ) (told : ℕ → Bool) where

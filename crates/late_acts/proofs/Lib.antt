@@ -11,7 +11,6 @@ pub mod Claiming
 pub mod Turning
 pub mod Telling
 pub mod Completing
-
 pub mod Sending
 pub mod Running
 pub mod Counting

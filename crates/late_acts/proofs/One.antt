@@ -1,10 +1,8 @@
 -- The change of a link has gone on at one of its ends: the component there gave way to another, of which one port stands otherwise.
-use Rattle.std.proofs.Common.{◌≡◌, ◌≢◌, ◌⊎◌, inl, inr, ℕ, ◌<◌, ◌≤◌, Bool, true, false, not, List, [], ◌∷◌, ◌++◌, find, length, set, slice_get, sum_by, Option, Some, option_and_then, MatchOption, refl, sym, ◌∙◌, ap, subst, arith}
+use Rattle.std.proofs.Common.{◌≡◌, ◌≢◌, inl, inr, ℕ, ◌<◌, ◌≤◌, Bool, true, false, not, List, [], ◌∷◌, ◌++◌, find, length, set, slice_get, sum_by, Option, Some, option_and_then, MatchOption, refl, sym, ◌∙◌, ap, subst, arith}
 use Rattle.std.proofs.lemmas.Bool.{cases_eq}
 use Rattle.std.proofs.lemmas.List.{length-set}
 use Rattle.omx_types.specs.declared.command.Note.{Note}
-use Rattle.omx_types.specs.declared.kind.Kind.{Kind}
-use Rattle.il_machine.specs.declared.answer.Progress.{Progress}
 use Rattle.il_machine.specs.declared.port.Port.{Port}
 use Rattle.il_machine.specs.declared.port.PortKey.{PortKey}
 use Rattle.il_machine.specs.Finishing.{end_note}
@@ -12,20 +10,17 @@ use Rattle.il_machine.specs.Kinds.{is_late, is_sink, is_source}
 use Rattle.il_machine.specs.Parameters.{overflows}
 use Rattle.il_machine.specs.Parts.{file_format, frames_of}
 use Rattle.il_machine.specs.Queued.{notes_given}
-use Rattle.il_machine.specs.Settings.{fits}
 use Rattle.il_machine.specs.Sound.{Sound}
 use Rattle.il_machine.specs.Tunnels.{agreed}
 use Rattle.il_machine.specs.Units.{need_of, units_of}
 use Rattle.il_machine.specs.World.{Component, PartState, Stream, Work, World, is_stream_of, number_of, port_of, stream_of}
 use Rattle.machine_laws.proofs.Every.{at_set, set_else, set_there}
-use Rattle.machine_laws.proofs.Lookups.{port_parts}
-use Rattle.flow_model.specs.Network.{IsOutput}
 use Rattle.play_model.specs.Acts.{with_change}
 use Rattle.play_model.specs.Changes.{Change, IsHalfChanged, port_at}
 use Rattle.play_model.specs.Play.{Play, component_at}
 use Rattle.play_model.specs.Reached.{IsReached}
 use Rattle.play_links.specs.View.{worked_at}
-use Rattle.play_worlds.specs.Cast.{Cast, IsCast, components_of, links_of, script_place, output_at, input_at}
+use Rattle.play_worlds.specs.Cast.{components_of, links_of, script_place, output_at, input_at}
 use Rattle.play_worlds.specs.Standing.{commands_at, standing}
 use Rattle.play_worlds.specs.Telling.{heard, last_note, state_note, unheard}
 use Rattle.play_worlds.specs.Wiring.{IsSomeEnd, link_to, port_in, work_in}
@@ -33,7 +28,7 @@ use Rattle.play_worlds.specs.Worlds.{IsPart, ends_untold}
 use Rattle.play_worlds.proofs.Lists.{got_set, sum_same}
 use Rattle.late_worlds.specs.Changing.{is_joined_at, is_set_at, state_by}
 use Rattle.late_worlds.specs.Late.{HasHeard, IsActorAt, IsEndAt, IsLateWorld, IsSetFor, IsWiredAt, IsWorkAt, LateCast, end_of_link, left_to_make, port_commands, port_notes, port_number, settings_notes}
-use Rattle.late_acts.proofs.Around.{IsAround, IsLatest, IsQuiet, actor_beside, around, change_else, change_here, end_moves, ends_differ}
+use Rattle.late_acts.proofs.Around.{IsLatest, IsQuiet, actor_beside, around, change_here, end_moves, ends_differ}
 
 -- ---- the component
 

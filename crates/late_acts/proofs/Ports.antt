@@ -1,10 +1,10 @@
 -- The ports of a component of which the state or the setting of one is another.
-use Rattle.std.proofs.Common.{◌≡◌, ◌≢◌, inl, inr, ℕ, zero, suc, ◌+◌, ◌<◌, true, false, nat_eq, if◌then◌else◌, List, [], ◌∷◌, set, slice_get, Some, refl, sym, ◌∙◌, ap, subst, eq-eqb, ne_eqb, arith}
+use Rattle.std.proofs.Common.{◌≡◌, ◌≢◌, ℕ, zero, suc, ◌+◌, ◌<◌, true, false, nat_eq, List, [], ◌∷◌, set, slice_get, Some, refl, sym, ◌∙◌, ap, eq-eqb, ne_eqb, arith}
 use Rattle.omx_types.specs.declared.command.PortSel.TheVariants.{One}
 use Rattle.il_machine.specs.declared.port.Port.{Port}
 use Rattle.il_machine.specs.declared.port.PortSetting.{PortSetting}
 use Rattle.il_machine.specs.declared.port.PortState.{PortState}
-use Rattle.il_machine.specs.Commands.{is_selected, selected_from, with_selected}
+use Rattle.il_machine.specs.Commands.{selected_from, with_selected}
 use Rattle.il_machine.specs.Settings.{with_setting}
 use Rattle.il_machine.specs.World.{Component, number_of, port_of, ports_from, with_port}
 use Rattle.machine_laws.proofs.Lookups.{port_parts}

@@ -1,24 +1,22 @@
 -- The two ends of a link between its disable and its enable: nothing is queued at them of it, and no work of theirs is out.
-use Rattle.std.proofs.Common.{◌≡◌, ◌≢◌, ◌⊎◌, inl, inr, ℕ, zero, suc, ◌+◌, ◌<◌, ◌≤◌, Bool, true, false, not, nat_le, List, [], ◌∷◌, ◌++◌, slice_get, Option, Some, None, refl, sym, ◌∙◌, ap, subst, le-leb, arith}
+use Rattle.std.proofs.Common.{◌≡◌, ◌≢◌, inl, inr, ℕ, zero, suc, ◌+◌, ◌<◌, ◌≤◌, Bool, true, false, not, nat_le, List, [], ◌++◌, slice_get, Some, None, refl, sym, ◌∙◌, ap, subst, le-leb, arith}
 use Rattle.std.proofs.lemmas.Bool.{cases_eq}
-use Rattle.omx_types.specs.declared.command.Command.{Command}
-use Rattle.il_machine.specs.declared.port.Link.{Link}
 use Rattle.il_machine.specs.declared.port.PortState.{PortState}
 use Rattle.il_machine.specs.Finishing.{end_note}
 use Rattle.il_machine.specs.Queued.{notes_given}
 use Rattle.il_machine.specs.Settings.{Settings}
-use Rattle.il_machine.specs.World.{Component, Work, World, number_of, with_component}
+use Rattle.il_machine.specs.World.{Component, World, number_of}
 use Rattle.play_model.specs.Acts.{Act, CanAct, acted}
 use Rattle.play_model.specs.Changes.{Change, IsHalfChanged, IsInOrder, conducted, port_at}
 use Rattle.play_model.specs.Play.{Play, component_at, made}
-use Rattle.play_worlds.specs.Cast.{Cast, components_of, links_of, script_place}
+use Rattle.play_worlds.specs.Cast.{links_of, script_place}
 use Rattle.play_worlds.specs.Standing.{commands_at, standing}
 use Rattle.play_worlds.specs.Telling.{heard, last_note, state_note, unheard}
 use Rattle.play_worlds.specs.Worlds.{ends_untold}
 use Rattle.late_worlds.specs.Changing.{commands_of_port, notes_of_port, told_of_port}
-use Rattle.late_worlds.specs.Late.{HasHeard, IsActorAt, IsLateWorld, IsSetFor, LateCast, announced_note, port_commands, port_notes, port_number, settings_notes}
-use Rattle.late_acts.proofs.Around.{IsQuiet, change_else, change_here}
-use Rattle.late_acts.proofs.Ends.{HasEnd, end_inside, end_there, ends_apart}
+use Rattle.late_worlds.specs.Late.{HasHeard, IsActorAt, IsLateWorld, IsSetFor, LateCast, announced_note, port_notes, port_number, settings_notes}
+use Rattle.late_acts.proofs.Around.{IsQuiet, change_else}
+use Rattle.late_acts.proofs.Ends.{end_inside, ends_apart}
 use Rattle.late_acts.proofs.One.{IsTurned}
 use Rattle.late_acts.proofs.Sending.{IsTurnOf, turn_of}
 use Rattle.late_acts.proofs.Turning.{commands_turned, heard_turned, no_work_at, notes_turned, rises_turned, settings_at, settings_turned}

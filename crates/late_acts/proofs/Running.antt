@@ -1,5 +1,5 @@
 -- A component runs the disable or enable that is queued at it.
-use Rattle.std.proofs.Common.{◌≡◌, ◌≢◌, ◌⊎◌, inl, inr, ℕ, zero, suc, ◌+◌, ◌<◌, ◌≤◌, Bool, true, false, not, ◌&&◌, nat_eq, nat_le, if◌then◌else◌, List, [], ◌∷◌, ◌++◌, slice_get, Option, Some, None, Result, Ok, refl, sym, ◌∙◌, ap, subst, eqb-true, arith}
+use Rattle.std.proofs.Common.{◌≡◌, ◌≢◌, ◌⊎◌, inl, inr, ℕ, zero, suc, ◌+◌, ◌<◌, ◌≤◌, Bool, true, false, not, nat_le, List, [], ◌∷◌, ◌++◌, slice_get, Some, None, Result, Ok, refl, sym, ◌∙◌, ap, subst, eqb-true, arith}
 use Rattle.std.proofs.lemmas.Bool.{cases_eq}
 use Rattle.omx_types.specs.declared.command.Command.{Command}
 use Rattle.omx_types.specs.declared.command.PortSel.{PortSel}
@@ -8,8 +8,6 @@ use Rattle.omx_types.specs.declared.error.OmxError.{OmxError}
 use Rattle.omx_types.specs.declared.handle.Handle.{Handle}
 use Rattle.il_machine.specs.declared.answer.Acted.{Acted}
 use Rattle.il_machine.specs.declared.answer.Acted.TheVariants as acted_as
-use Rattle.il_machine.specs.declared.answer.Why.{Why}
-use Rattle.il_machine.specs.declared.answer.Why.TheVariants as why
 use Rattle.il_machine.specs.declared.port.Link.{Link}
 use Rattle.il_machine.specs.declared.port.Port.{Port}
 use Rattle.il_machine.specs.declared.port.PortKey.{PortKey}
@@ -19,7 +17,7 @@ use Rattle.il_machine.specs.Commands.{RunCommand, busy_port, carried_out, disabl
 use Rattle.il_machine.specs.Finishing.{end_note}
 use Rattle.il_machine.specs.Look.{look}
 use Rattle.il_machine.specs.Sound.{Sound}
-use Rattle.il_machine.specs.World.{Component, Work, World, port_of, ports_of, with_component, with_port}
+use Rattle.il_machine.specs.World.{Component, World, port_of, ports_of, with_component, with_port}
 use Rattle.machine_laws.proofs.Change.{out_there, sound_taking_units}
 use Rattle.machine_laws.proofs.Finding.{either}
 use Rattle.machine_laws.proofs.Lookups.{port_parts}
@@ -27,7 +25,7 @@ use Rattle.machine_laws.proofs.Parts.{parts_of}
 use Rattle.machine_laws.proofs.Running.{change_run, fair_run, sound_run}
 use Rattle.machine_laws.proofs.Units.{resources_of}
 use Rattle.play_model.specs.Acts.{Act, CanAct, acted}
-use Rattle.play_model.specs.Changes.{Change, HasCommand, IsHalfChanged, IsInOrder, port_at, port_on}
+use Rattle.play_model.specs.Changes.{Change, HasCommand, IsHalfChanged, port_at, port_on}
 use Rattle.play_model.specs.Play.{Play, component_at}
 use Rattle.play_model.proofs.Handing.{act_reaches}
 use Rattle.play_worlds.specs.Cast.{components_of, links_of, script_place}
@@ -38,14 +36,14 @@ use Rattle.play_worlds.specs.Worlds.{Names, ends_untold}
 use Rattle.play_worlds.proofs.Lists.{resolved}
 use Rattle.play_worlds.proofs.Runs.{did, did_none}
 use Rattle.late_worlds.specs.Changing.{commands_of_port, is_joined_at, is_set_at, notes_of_port, state_by, told_of_port}
-use Rattle.late_worlds.specs.Late.{IsActorAt, IsLateWorld, LateCast, announced_note, commands_of_end, end_of_link, port_commands, port_notes, port_number, settings_notes}
+use Rattle.late_worlds.specs.Late.{IsActorAt, IsLateWorld, LateCast, announced_note, commands_of_end, end_of_link, port_commands, port_number, settings_notes}
 use Rattle.late_worlds.proofs.Ports.{disabling_state, enabling_state, other_state}
 use Rattle.late_acts.specs.Conducting.{port_command}
 use Rattle.late_acts.specs.Leading.{LateLeadsTo}
 use Rattle.late_acts.proofs.Announced.{left_same}
-use Rattle.late_acts.proofs.Around.{change_else, change_here, end_stated}
+use Rattle.late_acts.proofs.Around.{change_here, end_stated}
 use Rattle.late_acts.proofs.Ends.{HasEnd, actor_there, end_inside, end_there, ends_apart}
-use Rattle.late_acts.proofs.Lists.{HasQueued, links_some}
+use Rattle.late_acts.proofs.Lists.{links_some}
 use Rattle.late_acts.proofs.One.{IsTurned, IsTurnedAt, actor_turned, turned}
 use Rattle.late_acts.proofs.Ports.{port_else, port_here, selected_one}
 use Rattle.late_acts.proofs.Standing.{commands_are, late_commands_are}
@@ -71,26 +69,32 @@ after_port : {B : Type 0} (f : ℕ → B) (o : Bool) (k : Change) (n : ℕ) → 
 after_port f o k n e = ap f (port_next o k) ∙ ap (λ m. f (m + 1)) e
 
 carried_by : (o : Bool) (k : Change) → HasCommand (port_at o k) → (disables : Bool) × IsCarried o disables k
-carried_by o k (inl e) = (true, record {
-  queued = λ j. ap (λ m. commands_of_port m j) e;
-  done = λ j. after_port (λ m. commands_of_port m j) o k 1 e;
-  notes = λ j. after_port (λ m. notes_of_port m j) o k 1 e ∙ sym (ap (λ m. notes_of_port m j) e);
-  told = λ j. after_port (λ m. told_of_port m j) o k 1 e ∙ sym (ap (λ m. told_of_port m j) e);
-  steady = λ link. rw e refl;
-  state = λ link. disabling_state k link o e;
-  some = omega arith;
-  unsteady = omega arith;
-})
-carried_by o k (inr e) = (false, record {
-  queued = λ j. ap (λ m. commands_of_port m j) e;
-  done = λ j. after_port (λ m. commands_of_port m j) o k 5 e;
-  notes = λ j. after_port (λ m. notes_of_port m j) o k 5 e ∙ sym (ap (λ m. notes_of_port m j) e);
-  told = λ j. after_port (λ m. told_of_port m j) o k 5 e ∙ sym (ap (λ m. told_of_port m j) e);
-  steady = λ link. rw e refl;
-  state = λ link. enabling_state k link o e;
-  some = omega arith;
-  unsteady = omega arith;
-})
+carried_by o k (inl e) = (
+  true,
+  record {
+    queued = λ j. ap (λ m. commands_of_port m j) e;
+    done = λ j. after_port (λ m. commands_of_port m j) o k 1 e;
+    notes = λ j. after_port (λ m. notes_of_port m j) o k 1 e ∙ sym (ap (λ m. notes_of_port m j) e);
+    told = λ j. after_port (λ m. told_of_port m j) o k 1 e ∙ sym (ap (λ m. told_of_port m j) e);
+    steady = λ link. rw e refl;
+    state = λ link. disabling_state k link o e;
+    some = omega arith;
+    unsteady = omega arith;
+  },
+)
+carried_by o k (inr e) = (
+  false,
+  record {
+    queued = λ j. ap (λ m. commands_of_port m j) e;
+    done = λ j. after_port (λ m. commands_of_port m j) o k 5 e;
+    notes = λ j. after_port (λ m. notes_of_port m j) o k 5 e ∙ sym (ap (λ m. notes_of_port m j) e);
+    told = λ j. after_port (λ m. told_of_port m j) o k 5 e ∙ sym (ap (λ m. told_of_port m j) e);
+    steady = λ link. rw e refl;
+    state = λ link. enabling_state k link o e;
+    some = omega arith;
+    unsteady = omega arith;
+  },
+)
 
 not_busy : (sel : PortSel) (test : PortState → Bool) (ps : List Port) → ((i : ℕ) (y : Port) → slice_get ps i ≡ Some y → is_selected sel y.key.port ≡ true → test y.state ≡ false) → busy_port sel test ps ≡ None
 not_busy sel test [] h = refl
@@ -266,12 +270,14 @@ run_port_leads x recent p w l o h result v W C N s =
     let i : ℕ = script_place x.cast c in
     let a = actor_there x recent p w c W (end_inside x recent p w W o l C.0) in
     let u : World = with_component i (run_front (look w) (a.0).commands a.0) w in
-    let t = did (run_idle a.0 (a.0).commands) result w u v (goes x recent p w W l o C a.0 a.1) (run_acts x w c h result v a.0 a.1 N s) in
-    (t.0, record {
-      effect = u;
-      play = subst (λ (z : Component). IsLateWorld x recent (acted (x.cast).layout (Act.RunPort l o) p) (with_component i z w)) (sym (ran_is x recent p w W l o C a.0 a.1)) (run_plays x recent p w W l o C a.0 a.1);
-      closes = t.1;
-    })
+    let t = did (run_idle a.0 (a.0).commands) result w u v (goes x recent p w W l o C a.0 a.1) (run_acts x w c h result v a.0 a.1 N s) in (
+      t.0,
+      record {
+        effect = u;
+        play = subst (λ (z : Component). IsLateWorld x recent (acted (x.cast).layout (Act.RunPort l o) p) (with_component i z w)) (sym (ran_is x recent p w W l o C a.0 a.1)) (run_plays x recent p w W l o C a.0 a.1);
+        closes = t.1;
+      },
+    )
 
 -- what runs is the StateSet, or a disable or an enable of a link
 some_command : (n port : ℕ) (d : Command) (ds : List Command) → commands_of_port n port ≡ d ∷ ds → HasCommand n

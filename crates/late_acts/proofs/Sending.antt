@@ -1,24 +1,22 @@
 -- The conductor sends a disable or an enable to an end of a link.
-use Rattle.std.proofs.Common.{◌≡◌, ◌≢◌, ◌⊎◌, inl, inr, ℕ, zero, suc, ◌+◌, ◌<◌, ◌≤◌, Bool, true, false, not, ◌||◌, nat_le, nat_lt, is_none, List, [], ◌∷◌, ◌++◌, length, length-append, slice_get, sum_by, Option, Some, None, Result, Ok, Err, refl, sym, ◌∙◌, ap, subst, le-leb, le-ltb, arith}
+use Rattle.std.proofs.Common.{◌≡◌, ◌≢◌, inl, inr, ℕ, zero, suc, ◌<◌, ◌≤◌, Bool, true, false, not, nat_le, nat_lt, List, [], ◌∷◌, ◌++◌, length, length-append, slice_get, Option, Some, None, Result, Ok, Err, refl, sym, ◌∙◌, ap, subst, le-leb, le-ltb, arith}
 use Rattle.std.proofs.lemmas.Bool.{cases_eq}
 use Rattle.std.proofs.lemmas.List.Sums.{count_by-le-length}
 use Rattle.omx_types.specs.declared.command.Command.{Command}
-use Rattle.omx_types.specs.declared.command.Command.TheVariants.{PortDisable, PortEnable}
-use Rattle.omx_types.specs.declared.command.PortSel.TheVariants.{One}
 use Rattle.omx_types.specs.declared.error.OmxError.{OmxError}
 use Rattle.omx_types.specs.declared.handle.Handle.{Handle}
 use Rattle.il_machine.specs.declared.port.Link.{Link}
 use Rattle.il_machine.specs.declared.port.Port.{Port}
 use Rattle.il_machine.specs.Answers.{Answers, plain}
-use Rattle.il_machine.specs.Commands.{SendCommand, is_at_once, lacks_command_room, lacks_port, send_refusal, sent}
+use Rattle.il_machine.specs.Commands.{SendCommand, send_refusal, sent}
 use Rattle.il_machine.specs.Due.{ClosesTo}
 use Rattle.il_machine.specs.Finishing.{end_note}
 use Rattle.il_machine.specs.Look.{look}
 use Rattle.il_machine.specs.Queued.{notes_given}
-use Rattle.il_machine.specs.Room.{cost_of, events_in, is_event, port_reserve, room, used}
+use Rattle.il_machine.specs.Room.{events_in, is_event, port_reserve, room}
 use Rattle.il_machine.specs.Sound.{Sound}
 use Rattle.il_machine.specs.States.{is_invalid}
-use Rattle.il_machine.specs.World.{Component, Work, World, number_of, port_of, with_component}
+use Rattle.il_machine.specs.World.{Component, World, number_of, with_component}
 use Rattle.machine_laws.proofs.Change.{out_there, sound_component}
 use Rattle.machine_laws.proofs.Parts.{parts_of}
 use Rattle.machine_laws.proofs.Sending.{change_sent, fair_sent, sound_sent}
@@ -28,8 +26,8 @@ use Rattle.play_model.specs.Changes.{Change, IsHalfChanged, IsInOrder, conducted
 use Rattle.play_model.specs.Play.{Play, component_at}
 use Rattle.play_model.proofs.Handing.{act_reaches}
 use Rattle.play_worlds.specs.Cast.{components_of, links_of, script_place}
-use Rattle.play_worlds.specs.Standing.{commands_at, pending_at, standing, state_at, target}
-use Rattle.play_worlds.specs.Telling.{heard, out_of, state_note, unheard}
+use Rattle.play_worlds.specs.Standing.{commands_at, pending_at, standing, state_at}
+use Rattle.play_worlds.specs.Telling.{heard, out_of, state_note}
 use Rattle.play_worlds.specs.Wiring.{link_to}
 use Rattle.play_worlds.specs.Worlds.{Names, ends_untold}
 use Rattle.play_worlds.proofs.Lists.{resolved}
@@ -414,9 +412,11 @@ send_leads x recent p w l o disables h result v W C is N s =
     let a = actor_there x recent p w c W (end_inside x recent p w W o l C.below) in
     let u : World = with_component i (sent command a.0) w in
     let r = resolved plain w h result v (λ i d. Answers (send_refusal (look w) d command) result w v (λ _. ClosesTo (with_component i (sent command d) w) v)) i a.0 N a.1 s in
-    let t = taken (send_refusal (look w) a.0 command) result w u v (accepted x recent p w W l C o disables is a.0 a.1) r in
-    (t.0, record {
-      effect = u;
-      play = subst (λ (z : Component). IsLateWorld x l (acted (x.cast).layout (Act.Conduct l) p) (with_component i z w)) (sym (sent_is x recent p w W l C o disables is a.0 a.1)) (send_plays x recent p w W l C o disables is a.0 a.1);
-      closes = t.1;
-    })
+    let t = taken (send_refusal (look w) a.0 command) result w u v (accepted x recent p w W l C o disables is a.0 a.1) r in (
+      t.0,
+      record {
+        effect = u;
+        play = subst (λ (z : Component). IsLateWorld x l (acted (x.cast).layout (Act.Conduct l) p) (with_component i z w)) (sym (sent_is x recent p w W l C o disables is a.0 a.1)) (send_plays x recent p w W l C o disables is a.0 a.1);
+        closes = t.1;
+      },
+    )

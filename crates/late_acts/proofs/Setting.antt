@@ -1,11 +1,9 @@
 -- A port of a link that is being changed gets the format of its late source's file.
-use Rattle.std.proofs.Common.{◌≡◌, ◌≢◌, ◌⊎◌, inl, inr, ℕ, zero, suc, ◌+◌, ◌*◌, ◌/◌, ◌<◌, ◌≤◌, Bool, true, false, not, ◌&&◌, ◌||◌, nat_eq, nat_le, nat_lt, if◌then◌else◌, is_some, List, [], ◌∷◌, length, set, slice_get, Option, Some, None, Result, Ok, Err, refl, sym, ◌∙◌, ap, subst, le-leb, leb-true, lt-ltb, arith}
-use Rattle.std.proofs.lemmas.Bool.{cases_eq}
+use Rattle.std.proofs.Common.{◌≡◌, ◌≢◌, inl, inr, ℕ, zero, suc, ◌+◌, ◌*◌, ◌/◌, ◌<◌, ◌≤◌, Bool, true, false, not, ◌&&◌, ◌||◌, nat_le, nat_lt, if◌then◌else◌, is_some, [], ◌∷◌, slice_get, Option, Some, None, Result, Ok, Err, refl, sym, ◌∙◌, ap, subst, le-leb, lt-ltb, arith}
 use Rattle.std.proofs.lemmas.Option.{get_or_from_slice_get, slice_get_within}
 use Rattle.std.proofs.Math.Nat.{div-mul-le_self}
 use Rattle.omx_types.specs.declared.error.OmxError.{OmxError}
 use Rattle.omx_types.specs.declared.format.Format.{Format}
-use Rattle.omx_types.specs.declared.format.Format.TheVariants as formats
 use Rattle.omx_types.specs.declared.handle.Handle.{Handle}
 use Rattle.omx_types.specs.declared.kind.Kind.{Kind}
 use Rattle.omx_types.specs.declared.kind.Kind.TheVariants as kinds
@@ -24,38 +22,37 @@ use Rattle.il_machine.specs.declared.port.PortState.{PortState}
 use Rattle.il_machine.specs.Answers.{Answers, plain}
 use Rattle.il_machine.specs.Due.{ClosesTo, unheld}
 use Rattle.il_machine.specs.Files.{file_port_format, is_wrong_format}
-use Rattle.il_machine.specs.Headers.{is_for, seen}
-use Rattle.il_machine.specs.Kinds.{is_auto, is_input, is_input_format, is_late, is_output_format, is_port_format, is_sink, is_source, ports_in}
-use Rattle.il_machine.specs.Lists.{any_of, holds_at}
+use Rattle.il_machine.specs.Headers.{seen}
+use Rattle.il_machine.specs.Kinds.{is_auto, is_input, is_late, is_port_format, is_source, ports_in}
+use Rattle.il_machine.specs.Lists.{any_of}
 use Rattle.il_machine.specs.Look.{look}
-use Rattle.il_machine.specs.Parameters.{SetParameter, is_fixed, is_format_fixed, is_format_free, is_off_file, is_settable, is_too_large, keeps_format, overflows, set_parameter_refusal, unheld_at, with_value, would_fit}
+use Rattle.il_machine.specs.Parameters.{SetParameter, is_fixed, is_format_fixed, is_off_file, is_settable, is_too_large, keeps_format, overflows, set_parameter_refusal, unheld_at, with_value, would_fit}
 use Rattle.il_machine.specs.Parts.{file_format}
-use Rattle.il_machine.specs.Ports.{has_no_header, is_input_port, is_joined}
-use Rattle.il_machine.specs.Settings.{Settings, changed_by, fits, is_between, is_definition_of, is_within_limits, same_bool, same_format, setting_at, with_setting}
+use Rattle.il_machine.specs.Ports.{has_no_header, is_joined}
+use Rattle.il_machine.specs.Settings.{Settings, changed_by, fits, is_between, is_definition_of, is_within_limits, same_bool, same_format, with_setting}
 use Rattle.il_machine.specs.Sound.{Sound, may_have}
 use Rattle.il_machine.specs.States.{is_invalid}
-use Rattle.il_machine.specs.World.{Component, World, port_of, with_component, with_port}
+use Rattle.il_machine.specs.World.{Component, World, with_component, with_port}
 use Rattle.machine_laws.proofs.Accepting.{both_of, is_not}
 use Rattle.machine_laws.proofs.Every.{at_set}
 use Rattle.machine_laws.proofs.Finding.{either}
-use Rattle.machine_laws.proofs.Keys.{none_or_some}
 use Rattle.machine_laws.proofs.Lookups.{port_parts}
 use Rattle.machine_laws.proofs.Parts.{parts_of}
 use Rattle.machine_laws.proofs.Tunnels.{definition_parts}
 use Rattle.machine_laws.proofs.Values.{sound_set}
 use Rattle.flow_model.specs.Network.{IsInput, IsOutput}
 use Rattle.play_model.specs.Acts.{Act, CanAct, acted}
-use Rattle.play_model.specs.Changes.{Change, conducted, port_at}
+use Rattle.play_model.specs.Changes.{Change, conducted}
 use Rattle.play_model.specs.Play.{Play, component_at}
 use Rattle.play_model.proofs.Handing.{act_reaches}
-use Rattle.play_worlds.specs.Cast.{Cast, components_of, giver_of, input_at, links_of, output_at, script_place, taker_of}
+use Rattle.play_worlds.specs.Cast.{giver_of, script_place}
 use Rattle.play_worlds.specs.Standing.{state_at}
 use Rattle.play_worlds.specs.Wiring.{link_to}
 use Rattle.play_worlds.specs.Worlds.{Names}
 use Rattle.play_worlds.proofs.Arrivals.{unmade_by}
 use Rattle.play_worlds.proofs.Lists.{resolved}
 use Rattle.late_worlds.specs.Changing.{is_enabled_at, is_held_at, is_joined_at, is_set, is_set_at, state_by}
-use Rattle.late_worlds.specs.Late.{IsActorAt, IsAlike, IsEndAt, IsLateWorld, IsSetFor, LateCast, end_of_link, left_to_make, port_number}
+use Rattle.late_worlds.specs.Late.{IsActorAt, IsAlike, IsEndAt, IsLateWorld, IsSetFor, LateCast, end_of_link, port_number}
 use Rattle.late_worlds.proofs.Ports.{set_input_state, set_output_state}
 use Rattle.late_acts.specs.Conducting.{IsSetStep, definition_key, planned}
 use Rattle.late_acts.specs.Leading.{LateLeadsTo}
@@ -453,9 +450,11 @@ set_leads x recent p w l o h result v W C is N s =
     let a = actor_there x recent p w c W (end_inside x recent p w W o l C.below) in
     let u : World = with_component i (with_value key value a.0) w in
     let r = resolved plain w h result v (λ i d. Answers (set_parameter_refusal (look w).headers d key value) result w v (λ _. ClosesTo (with_component i (with_value key value d) w) v)) i a.0 N a.1 s in
-    let t = set_so (set_parameter_refusal (look w).headers a.0 key value) result w u v (set_accepted x recent p w W l C o is a.0 a.1) r in
-    (t.0, record {
-      effect = u;
-      play = subst (λ (z : Component). IsLateWorld x l (acted (x.cast).layout (Act.Conduct l) p) (with_component i z w)) (sym (set_is x recent p w W l C o is a.0 a.1)) (set_plays x recent p w W l C o is a.0 a.1);
-      closes = t.1;
-    })
+    let t = set_so (set_parameter_refusal (look w).headers a.0 key value) result w u v (set_accepted x recent p w W l C o is a.0 a.1) r in (
+      t.0,
+      record {
+        effect = u;
+        play = subst (λ (z : Component). IsLateWorld x l (acted (x.cast).layout (Act.Conduct l) p) (with_component i z w)) (sym (set_is x recent p w W l C o is a.0 a.1)) (set_plays x recent p w W l C o is a.0 a.1);
+        closes = t.1;
+      },
+    )

@@ -1,7 +1,6 @@
 -- Where a component of a play with late sources stands: what the machine finds of it, by the model's phase and stage.
-use Rattle.std.proofs.Common.{◌≡◌, ◌⊎◌, inl, inr, ℕ, zero, suc, ◌≤◌, Bool, true, false, is_none, List, [], ◌++◌, Option, Some, None, refl, sym, ◌∙◌, ap, arith}
+use Rattle.std.proofs.Common.{◌≡◌, inl, inr, ℕ, ◌≤◌, true, false, is_none, List, ◌++◌, Option, sym, ◌∙◌, ap, arith}
 use Rattle.omx_types.specs.declared.command.Command.{Command}
-use Rattle.omx_types.specs.declared.state.State.{State}
 use Rattle.il_machine.specs.States.{is_executing}
 use Rattle.il_machine.specs.declared.answer.Pending.{Pending}
 use Rattle.il_machine.specs.Ports.{is_at_rest}

@@ -1,43 +1,37 @@
 -- A note of a change is told: that the settings changed, or the end of a disable or an enable.
-use Rattle.std.proofs.Common.{◌≡◌, ◌≢◌, ◌⊎◌, inl, inr, ℕ, zero, suc, ◌+◌, ◌<◌, ◌≤◌, Bool, true, false, not, nat_le, is_some, List, [], ◌∷◌, ◌++◌, slice_get, Option, Some, None, MatchOption, refl, sym, ◌∙◌, ap, subst, append-nil, arith}
+use Rattle.std.proofs.Common.{◌≡◌, ◌≢◌, inl, inr, ℕ, ◌<◌, ◌≤◌, Bool, true, false, nat_le, is_some, List, [], ◌∷◌, ◌++◌, slice_get, Some, None, refl, sym, ◌∙◌, ap, subst, arith}
 use Rattle.std.proofs.lemmas.Bool.{cases_eq}
-use Rattle.omx_types.specs.declared.command.Completion.TheVariants as completions
-use Rattle.omx_types.specs.declared.command.Event.TheVariants.{CmdComplete, PortSettingsChanged}
+use Rattle.omx_types.specs.declared.command.Event.TheVariants.{PortSettingsChanged}
 use Rattle.omx_types.specs.declared.command.Note.{Note}
 use Rattle.omx_types.specs.declared.command.Note.TheVariants.{Told}
 use Rattle.omx_types.specs.declared.handle.Handle.{Handle}
 use Rattle.il_machine.specs.declared.answer.Progress.{Progress}
 use Rattle.il_machine.specs.declared.port.Port.{Port}
-use Rattle.il_machine.specs.declared.port.PortKey.{PortKey}
 use Rattle.il_machine.specs.declared.port.Link.{Link}
-use Rattle.il_machine.specs.declared.port.PortState.{PortState}
 use Rattle.il_machine.specs.Components.{noted_by}
-use Rattle.il_machine.specs.Due.{ClosesTo}
 use Rattle.il_machine.specs.Finishing.{end_note}
 use Rattle.il_machine.specs.Notes.{EndNote, back_in}
 use Rattle.il_machine.specs.Queued.{notes_given}
-use Rattle.il_machine.specs.Sound.{Sound}
-use Rattle.il_machine.specs.World.{Component, Work, World, number_of, port_of, with_component}
+use Rattle.il_machine.specs.World.{Component, World, number_of, with_component}
 use Rattle.machine_laws.proofs.Notices.{sound_ended}
 use Rattle.play_model.specs.Acts.{Act, CanAct, acted}
-use Rattle.play_model.specs.Changes.{Change, HasCompletion, IsHalfChanged, port_at, port_on, told_on}
-use Rattle.play_model.specs.Play.{HasPorts, Play, component_at}
+use Rattle.play_model.specs.Changes.{Change, IsHalfChanged, port_at, told_on}
+use Rattle.play_model.specs.Play.{Play, component_at}
 use Rattle.play_model.proofs.Handing.{act_reaches}
-use Rattle.play_worlds.specs.Cast.{Cast, components_of, giver_of, input_at, links_of, output_at, script_place}
+use Rattle.play_worlds.specs.Cast.{giver_of, input_at, links_of, output_at, script_place}
 use Rattle.play_worlds.specs.Standing.{commands_at, standing}
-use Rattle.play_worlds.specs.Telling.{heard, last_note, out_of, state_note, unheard}
+use Rattle.play_worlds.specs.Telling.{heard, last_note, out_of, state_note}
 use Rattle.play_worlds.specs.Wiring.{link_to}
 use Rattle.play_worlds.specs.Worlds.{Names, ends_untold}
 use Rattle.play_worlds.proofs.Notes.{ended_at, heard_back, no_state_note}
-use Rattle.late_worlds.specs.Changing.{commands_of_port, is_joined_at, is_set_at, notes_of_port, state_by, told_of_port}
-use Rattle.late_worlds.specs.Late.{HasHeard, IsActorAt, IsEndAt, IsLateWorld, IsWorkAt, LateCast, announced_note, end_of_link, notes_of_end, port_commands, port_notes, port_number, settings_notes, settings_of_end}
-use Rattle.late_worlds.proofs.Ports.{told_state}
+use Rattle.late_worlds.specs.Changing.{is_joined_at, is_set_at, notes_of_port, state_by, told_of_port}
+use Rattle.late_worlds.specs.Late.{HasHeard, IsActorAt, IsLateWorld, LateCast, announced_note, notes_of_end, port_notes, port_number, settings_notes, settings_of_end}
 use Rattle.late_acts.specs.Leading.{LateLeadsTo}
 use Rattle.late_acts.proofs.Announced.{left_same}
-use Rattle.late_acts.proofs.Around.{change_else, change_here, end_moves, end_stated}
+use Rattle.late_acts.proofs.Around.{change_else, change_here, end_moves}
 use Rattle.late_acts.proofs.Ends.{HasEnd, end_inside, end_there, ends_apart, no_sink, one_end, source_lists}
 use Rattle.late_acts.proofs.One.{IsTurned, IsTurnedAt, actor_turned, turned}
-use Rattle.late_acts.proofs.Turning.{commands_here, commands_turned, heard_turned, its_output, no_work_at, notes_here, notes_turned, ports_turned, settings_here, settings_turned, rises_turned}
+use Rattle.late_acts.proofs.Turning.{commands_turned, no_work_at, notes_turned, rises_turned}
 
 -- ---- the note that is out, in front of those in the queue
 
@@ -208,4 +202,3 @@ settings_lead x recent p w l h v a W C N e o s =
     record { effect = with_component (script_place x.cast (giver_of x.cast l)) (back_in a) w; play = settings_told x recent p w W l C a e o n.0 n.1; closes = ended_at w h v (script_place x.cast (giver_of x.cast l)) a N e s }
 
 -- ---- the end of a disable or an enable
-

@@ -1,5 +1,5 @@
 -- The component at the end of a link at which the change goes on: what is queued at it, what was heard of it, and its work.
-use Rattle.std.proofs.Common.{◌≡◌, ◌≢◌, ◌⊎◌, inl, inr, ℕ, zero, suc, ◌+◌, ◌<◌, ◌≤◌, Bool, true, false, not, nat_le, if◌then◌else◌, is_some, List, [], ◌∷◌, ◌++◌, slice_get, sum_by, Option, Some, None, refl, sym, ◌∙◌, ap, subst, leb-true, leb-false, arith}
+use Rattle.std.proofs.Common.{◌≡◌, ◌≢◌, ◌⊎◌, inl, inr, ℕ, zero, suc, ◌+◌, ◌<◌, ◌≤◌, Bool, true, false, not, nat_le, is_some, List, [], slice_get, sum_by, Option, Some, None, refl, sym, ◌∙◌, ap, subst, leb-true, leb-false, arith}
 use Rattle.std.proofs.lemmas.Bool.{cases_eq}
 use Rattle.omx_types.specs.declared.command.Completion.{Completion}
 use Rattle.omx_types.specs.declared.command.Note.{Note}
@@ -7,11 +7,11 @@ use Rattle.il_machine.specs.declared.answer.Progress.{Progress}
 use Rattle.il_machine.specs.declared.port.Link.{Link}
 use Rattle.il_machine.specs.declared.port.Port.{Port}
 use Rattle.il_machine.specs.Room.{port_reserve}
-use Rattle.il_machine.specs.World.{Component, Work, World}
-use Rattle.il_machine.specs.Kinds.{is_late, is_source}
+use Rattle.il_machine.specs.World.{Component, World}
+use Rattle.il_machine.specs.Kinds.{is_late}
 use Rattle.machine_laws.proofs.Finding.{either}
 use Rattle.machine_laws.proofs.Keys.{none_or_some}
-use Rattle.flow_model.specs.Network.{IsInput, IsOutput}
+use Rattle.flow_model.specs.Network.{IsOutput}
 use Rattle.play_model.specs.Acts.{with_change}
 use Rattle.play_model.specs.Changes.{Change, IsHalfChanged, IsInOrder, port_at, port_on}
 use Rattle.play_model.specs.Play.{HasPorts, Play, component_at}
@@ -20,10 +20,10 @@ use Rattle.play_worlds.specs.Wiring.{link_to}
 use Rattle.play_worlds.proofs.Lists.{sum_none}
 use Rattle.play_worlds.proofs.Rooms.{port_of_state}
 use Rattle.late_worlds.specs.Changing.{at_links, commands_of_port, notes_of_port, state_by, told_of_port}
-use Rattle.late_worlds.specs.Late.{HasHeard, IsActorAt, IsAnnouncement, IsLateWorld, IsWorkAt, LateCast, announced_note, commands_of_end, end_of_link, notes_of_end, port_commands, port_notes, port_number, settings_notes, settings_of_end}
+use Rattle.late_worlds.specs.Late.{HasHeard, IsActorAt, IsLateWorld, LateCast, announced_note, commands_of_end, end_of_link, notes_of_end, port_commands, port_notes, port_number, settings_notes, settings_of_end}
 use Rattle.late_acts.proofs.Around.{IsLatest, change_else, change_here, none_told}
 use Rattle.late_acts.proofs.Claiming.{late_reads}
-use Rattle.late_acts.proofs.Ends.{IsPortAt, ends_apart, one_end, port_end, source_lists, unbroken_port}
+use Rattle.late_acts.proofs.Ends.{IsPortAt, ends_apart, one_end, port_end, unbroken_port}
 use Rattle.late_acts.proofs.Lists.{links_none, links_one, links_same}
 
 -- what is queued of a link's settings, by its change

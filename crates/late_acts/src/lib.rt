@@ -100,7 +100,7 @@ pub fn law_of_port_happenings()
         → IsLateWorld x recent p w → (happens : Happens w v)
         → ((happens.thing ≡ Transition) × (is_transition_due (seen w.headers) happens.component ≡ true))
         ⊎ ((l : ℕ) × (output : Bool) × CanAct (x.cast).layout p (Act.HappenPort l output)
-            × IsLateWorld x recent (acted (x.cast).layout (Act.HappenPort l output) p) v) }
+        × IsLateWorld x recent (acted (x.cast).layout (Act.HappenPort l output) p) v) }
     ensures none { (x : LateCast) (recent : ℕ) (p : Play) (w : World) (l : ℕ) (output : Bool)
         → IsLateWorld x recent p w → IsClosed w → CanAct (x.cast).layout p (Act.HappenPort l output) → ⊥ }
 {}

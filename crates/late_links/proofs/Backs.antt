@@ -1,5 +1,5 @@
 -- hand_back of a header of done.
-use Rattle.std.proofs.Common.{◌≡◌, ◌≢◌, inl, inr, ℕ, zero, suc, ◌+◌, ◌<◌, ◌≤◌, Bool, true, false, not, ◌&&◌, ◌||◌, if◌then◌else◌, List, [], ◌∷◌, length, length-append, map, slice_get, Option, Some, None, Result, Ok, refl, sym, ◌∙◌, ap, subst, arith}
+use Rattle.std.proofs.Common.{◌≡◌, inl, inr, ℕ, zero, suc, ◌<◌, Bool, true, false, not, ◌&&◌, ◌||◌, if◌then◌else◌, List, [], ◌∷◌, length-append, Some, None, Result, Ok, refl, sym, ◌∙◌, ap, subst, arith}
 use Rattle.omx_types.specs.declared.error.OmxError.{OmxError}
 use Rattle.omx_types.specs.declared.handle.Handle.{Handle}
 use Rattle.omx_types.specs.declared.state.State.TheVariants as states
@@ -7,7 +7,6 @@ use Rattle.il_machine.specs.declared.answer.Acted.{Acted}
 use Rattle.il_machine.specs.declared.answer.Acted.TheVariants as acted_as
 use Rattle.il_machine.specs.declared.answer.Why.TheVariants as why
 use Rattle.il_machine.specs.declared.header.Spot.TheVariants.{TodoBack}
-use Rattle.il_machine.specs.declared.port.Link.{Link}
 use Rattle.il_machine.specs.declared.port.Port.{Port}
 use Rattle.il_machine.specs.declared.port.PortKey.{PortKey}
 use Rattle.il_machine.specs.Answers.{Acts, plain}
@@ -22,13 +21,13 @@ use Rattle.il_machine.specs.World.{Component, World, port_of}
 use Rattle.machine_laws.proofs.Accepting.{passed}
 use Rattle.machine_laws.proofs.Finding.{either}
 use Rattle.machine_laws.proofs.Flowing.{sound_returned}
-use Rattle.flow_model.specs.Moves.{IsFront, Move, moved}
+use Rattle.flow_model.specs.Moves.{IsFront, moved}
 use Rattle.flow_model.specs.Network.{Filled, LinkState, headers_of}
 use Rattle.play_model.specs.Acts.{Act, CanAct, acted, hand}
-use Rattle.play_model.specs.Play.{HasDone, IsExecuting, Play, component_at, made, other_component}
+use Rattle.play_model.specs.Play.{HasDone, IsExecuting, Play, component_at, other_component}
 use Rattle.play_model.specs.Reached.{IsReached}
 use Rattle.play_model.proofs.Handing.{act_reaches}
-use Rattle.play_worlds.specs.Cast.{Cast, away_at, home_at, home_by, input_at, links_of, output_at, script_place}
+use Rattle.play_worlds.specs.Cast.{away_at, home_at, home_by, input_at, links_of, output_at, script_place}
 use Rattle.play_worlds.specs.Standing.{state_at, target}
 use Rattle.play_worlds.specs.Wiring.{link_to}
 use Rattle.play_worlds.specs.Worlds.{Names}
@@ -39,10 +38,10 @@ use Rattle.play_worlds.proofs.Sends.{never_invalid}
 use Rattle.play_worlds.proofs.Terms.{early_stage, executes_back, late_stage, state_running}
 use Rattle.play_model.specs.Changes.{port_at}
 use Rattle.late_worlds.specs.Changing.{is_joined_at, mode_at}
-use Rattle.late_worlds.specs.Late.{IsActorAt, IsEndAt, IsLateWorld, LateCast, end_of_link, port_number}
+use Rattle.late_worlds.specs.Late.{IsActorAt, IsLateWorld, LateCast, end_of_link, port_number}
 use Rattle.late_acts.specs.Leading.{LateLeadsTo}
 use Rattle.late_acts.proofs.Due.{early_port}
-use Rattle.late_acts.proofs.Ends.{HasEnd, end_inside}
+use Rattle.late_acts.proofs.Ends.{end_inside}
 use Rattle.late_acts.proofs.Turning.{all_told, half_of}
 use Rattle.late_acts.proofs.Standing.{state_is}
 use Rattle.late_links.proofs.Passing.{comes_back, goes_on}
@@ -250,7 +249,7 @@ back_can x recent p w l h result v W b N s did f =
       b,
       subst (λ (c : ℕ). IsExecuting p c) (sym (other_is (x.cast).layout l)) R,
       by_done (not by) ((p.flow).link l) _ (λ k. (seen w.headers).done k) (output_at x.cast l) (input_at x.cast l) k.0 k.1 (ap (λ (z : LinkState). z.sent) V) (ap (λ (z : LinkState). z.spent) V)
-      (ap (λ (k : PortKey). (seen w.headers).done k) (flip by (output_at x.cast l) (input_at x.cast l)) ∙ k.2),
+          (ap (λ (k : PortKey). (seen w.headers).done k) (flip by (output_at x.cast l) (input_at x.cast l)) ∙ k.2),
     )
   where
     its_port : (s : Bool) → (end_of_link x.cast s l).port ≡ port_number x.cast s l

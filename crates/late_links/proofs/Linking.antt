@@ -1,23 +1,23 @@
 -- A world of a play with late sources in which the headers of one link changed, and all components stayed.
-use Rattle.std.proofs.Common.{◌≡◌, ◌≢◌, inl, inr, ℕ, ◌+◌, ◌<◌, ◌≤◌, Bool, true, false, List, find, slice_get, Option, Some, MatchOption, refl, sym, ◌∙◌, ap, subst, arith}
+use Rattle.std.proofs.Common.{◌≡◌, ◌≢◌, inl, inr, ℕ, ◌+◌, ◌<◌, ◌≤◌, Bool, true, false, List, Some, sym, ◌∙◌, ap, subst}
 use Rattle.std.proofs.lemmas.Bool.{cases_eq}
 use Rattle.il_machine.specs.declared.port.Port.{Port}
 use Rattle.il_machine.specs.declared.port.PortKey.{PortKey}
 use Rattle.il_machine.specs.Headers.{find_header, is_for}
 use Rattle.il_machine.specs.Sound.{Sound}
-use Rattle.il_machine.specs.World.{Component, HeaderRecord, Work, World, number_of}
+use Rattle.il_machine.specs.World.{Component, HeaderRecord, World}
 use Rattle.flow_model.specs.Moves.{with_link}
 use Rattle.flow_model.specs.Network.{LinkState}
 use Rattle.flow_model.specs.Progress.{all_headers, sum_to}
-use Rattle.play_model.specs.Play.{HasPorts, Play}
+use Rattle.play_model.specs.Play.{Play}
 use Rattle.play_model.specs.Reached.{IsReached}
 use Rattle.play_links.specs.View.{LinkEnds, link_view}
-use Rattle.play_worlds.specs.Cast.{components_of, links_of, script_place}
+use Rattle.play_worlds.specs.Cast.{links_of}
 use Rattle.play_worlds.specs.Wiring.{ends_of, work_in}
-use Rattle.play_worlds.specs.Worlds.{HasLink, IsPart}
+use Rattle.play_worlds.specs.Worlds.{HasLink}
 use Rattle.play_worlds.proofs.Passing.{changed_else, changed_here, kept_by, view_as}
 use Rattle.late_worlds.specs.Changing.{is_joined_at}
-use Rattle.late_worlds.specs.Late.{HasHeard, IsActorAt, IsEndAt, IsLateWorld, IsWiredAt, IsWorkAt, LateCast, end_of_link, left_to_make, made_again}
+use Rattle.late_worlds.specs.Late.{IsActorAt, IsEndAt, IsLateWorld, LateCast, end_of_link, left_to_make, made_again}
 
 module _ (x : LateCast) (recent : ℕ) (p : Play) (w : World) (W : IsLateWorld x recent p w) (l : ℕ) (b : l < links_of x.cast) (change : LinkState → LinkState) (ks : List HeaderRecord) (m : ℕ) where
   abbrev pub works : PortKey → List ℕ

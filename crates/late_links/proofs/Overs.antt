@@ -1,11 +1,10 @@
 -- hand_over of the front of done.
-use Rattle.std.proofs.Common.{◌≡◌, ◌≢◌, ◌⊎◌, inl, inr, ℕ, zero, suc, ◌+◌, ◌<◌, ◌≤◌, Bool, true, false, not, ◌&&◌, ◌||◌, if◌then◌else◌, List, [], ◌∷◌, length, map, slice_get, Option, Some, None, Result, Ok, refl, sym, ◌∙◌, ap, subst, arith}
+use Rattle.std.proofs.Common.{◌≡◌, inl, inr, ℕ, zero, suc, ◌<◌, Bool, true, false, not, ◌&&◌, if◌then◌else◌, List, ◌∷◌, Some, None, Result, Ok, refl, sym, ◌∙◌, ap, subst, arith}
 use Rattle.omx_types.specs.declared.error.OmxError.{OmxError}
 use Rattle.omx_types.specs.declared.handle.Handle.{Handle}
 use Rattle.il_machine.specs.declared.answer.Acted.{Acted}
 use Rattle.il_machine.specs.declared.answer.Acted.TheVariants as acted_as
 use Rattle.il_machine.specs.declared.header.Spot.TheVariants.{TodoBack}
-use Rattle.il_machine.specs.declared.port.Link.{Link}
 use Rattle.il_machine.specs.declared.port.Port.{Port}
 use Rattle.il_machine.specs.declared.port.PortKey.{PortKey}
 use Rattle.il_machine.specs.declared.port.PortState.{PortState}
@@ -15,10 +14,10 @@ use Rattle.il_machine.specs.Flow.{HandOver, end_of, handed_over, is_giving, othe
 use Rattle.il_machine.specs.Headers.{put, seen, unchanged}
 use Rattle.il_machine.specs.Lists.{is_empty}
 use Rattle.il_machine.specs.Look.{look}
-use Rattle.il_machine.specs.Ports.{is_at_rest, is_open, is_steady, is_supplied_by, is_supplier}
+use Rattle.il_machine.specs.Ports.{is_at_rest, is_open, is_steady, is_supplier}
 use Rattle.il_machine.specs.Sound.{Sound}
 use Rattle.il_machine.specs.States.{is_executing, is_running}
-use Rattle.il_machine.specs.World.{Component, World, number_of, port_of}
+use Rattle.il_machine.specs.World.{Component, World, port_of}
 use Rattle.machine_laws.proofs.Accepting.{both_of, not_not, passed}
 use Rattle.machine_laws.proofs.Finding.{either}
 use Rattle.machine_laws.proofs.Flowing.{sound_handed_over}
@@ -26,10 +25,10 @@ use Rattle.flow_model.specs.Moves.{moved}
 use Rattle.flow_model.specs.Network.{LinkState}
 use Rattle.play_model.specs.Acts.{Act, ArePorts, CanAct, acted, hand}
 use Rattle.play_model.specs.Changes.{IsSteadyPort, port_at}
-use Rattle.play_model.specs.Play.{HasDone, IsRunning, Play, component_at, other_component, supplier}
+use Rattle.play_model.specs.Play.{HasDone, IsRunning, Play, component_at, supplier}
 use Rattle.play_model.specs.Reached.{IsReached}
 use Rattle.play_model.proofs.Handing.{act_reaches}
-use Rattle.play_worlds.specs.Cast.{Cast, away_at, home_at, home_by, input_at, links_of, output_at, script_place}
+use Rattle.play_worlds.specs.Cast.{home_at, home_by, input_at, links_of, output_at, script_place}
 use Rattle.play_worlds.specs.Wiring.{link_to}
 use Rattle.play_worlds.specs.Worlds.{Names}
 use Rattle.play_worlds.proofs.Ends.{place_there}
@@ -38,13 +37,12 @@ use Rattle.play_worlds.proofs.Lists.{resolved_port}
 use Rattle.play_worlds.proofs.Runs.{did, did_none}
 use Rattle.play_worlds.proofs.Terms.{state_running}
 use Rattle.late_worlds.specs.Changing.{is_enabled_at, is_joined_at, mode_at}
-use Rattle.late_worlds.specs.Late.{IsActorAt, IsEndAt, IsLateWorld, LateCast, end_of_link, port_number}
+use Rattle.late_worlds.specs.Late.{IsLateWorld, LateCast, end_of_link, port_number}
 use Rattle.late_acts.specs.Leading.{LateLeadsTo}
-use Rattle.late_acts.proofs.Ends.{HasEnd}
 use Rattle.late_acts.proofs.Standing.{runs, runs_back, state_is}
 use Rattle.late_links.proofs.Backs.{done_made}
 use Rattle.late_links.proofs.Passing.{comes_back, goes_on}
-use Rattle.late_links.proofs.Sides.{IsSide, away_is, home_is, home_supplies, joined_made, link_of, other_is, side, supplier_is, supplies}
+use Rattle.late_links.proofs.Sides.{IsSide, home_is, home_supplies, joined_made, link_of, other_is, side, supplier_is, supplies}
 
 -- ---- a port that is steady is open
 

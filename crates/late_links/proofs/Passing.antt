@@ -1,17 +1,16 @@
 -- A header goes on, or comes back: the model's two moves.
-use Rattle.std.proofs.Common.{◌≡◌, ◌≢◌, inl, inr, ℕ, ◌+◌, ◌<◌, ◌≤◌, Bool, true, false, not, List, [], ◌∷◌, Some, refl, sym, ◌∙◌, ap, subst, arith}
+use Rattle.std.proofs.Common.{◌≡◌, ◌≢◌, inl, inr, ℕ, ◌<◌, ◌≤◌, Bool, true, false, List, [], ◌∷◌, Some, refl, sym, ◌∙◌, ap, arith}
 use Rattle.std.proofs.lemmas.Bool.{cases_eq}
 use Rattle.il_machine.specs.declared.port.PortKey.{PortKey}
 use Rattle.il_machine.specs.declared.header.Spot.{Spot}
 use Rattle.il_machine.specs.declared.header.Spot.TheVariants.{TodoBack}
-use Rattle.il_machine.specs.Headers.{Once, find_header, is_for, put, put_at, same_key, seen, unchanged}
+use Rattle.il_machine.specs.Headers.{find_header, is_for, put, put_at, same_key, seen, unchanged}
 use Rattle.il_machine.specs.Sound.{Sound}
 use Rattle.il_machine.specs.World.{HeaderRecord, World}
 use Rattle.machine_laws.proofs.Listed.{done_in, first_in}
 use Rattle.machine_laws.proofs.Replacing.{replaced_put}
 use Rattle.flow_model.specs.Moves.{Can, Move, moved, sent_back, sent_on, with_link}
-use Rattle.flow_model.specs.Network.{Filled, Flow, LinkState, headers_of}
-use Rattle.flow_model.specs.Progress.{sum_to}
+use Rattle.flow_model.specs.Network.{Filled, LinkState, headers_of}
 use Rattle.flow_model.proofs.Full.{move_headers}
 use Rattle.play_model.specs.Play.{Play, made}
 use Rattle.play_model.specs.Reached.{IsReached}
@@ -20,7 +19,6 @@ use Rattle.play_links.proofs.Counts.{keys_apart}
 use Rattle.play_links.proofs.Hands.{back_beside, hand_back, hand_on, on_beside}
 use Rattle.play_worlds.specs.Cast.{input_at, links_of, output_at}
 use Rattle.play_worlds.specs.Wiring.{ends_of, work_in}
-use Rattle.play_worlds.specs.Worlds.{HasLink}
 use Rattle.play_worlds.proofs.Flowing.{link_kept, links_apart, not_worked, put_links}
 use Rattle.late_worlds.specs.Changing.{is_joined_at}
 use Rattle.late_worlds.specs.Late.{IsLateWorld, LateCast, end_of_link, left_to_make}

@@ -1,58 +1,16 @@
 -- A link both of whose ends rest: no work of theirs has a header of it.
-use Rattle.std.proofs.Common.{◌≡◌, ◌≢◌, ◌⊎◌, inl, inr, ℕ, zero, suc, ◌+◌, ◌-◌, ◌<◌, ◌≤◌, Bool, true, false, not, ◌&&◌, ◌||◌, nat_le, if◌then◌else◌, List, [], ◌∷◌, ◌++◌, length, length-append, map, slice_get, Option, Some, None, Result, Ok, refl, sym, ◌∙◌, ap, subst, leb-true, leb-false, le-leb, arith}
-use Rattle.std.proofs.lemmas.Bool.{cases_eq}
-use Rattle.omx_types.specs.declared.error.OmxError.{OmxError}
-use Rattle.omx_types.specs.declared.handle.Handle.{Handle}
-use Rattle.omx_types.specs.declared.state.State.TheVariants as states
-use Rattle.il_machine.specs.declared.answer.Acted.{Acted}
-use Rattle.il_machine.specs.declared.answer.Acted.TheVariants as acted_as
-use Rattle.il_machine.specs.declared.answer.Why.TheVariants as why
-use Rattle.il_machine.specs.declared.port.Port.{Port}
+use Rattle.std.proofs.Common.{◌≡◌, ◌≢◌, ◌⊎◌, inl, inr, ℕ, ◌<◌, ◌≤◌, Bool, true, false, nat_le, [], slice_get, Some, None, refl, leb-true, leb-false, arith}
 use Rattle.il_machine.specs.declared.port.PortKey.{PortKey}
-use Rattle.il_machine.specs.declared.port.PortState.{PortState}
-use Rattle.il_machine.specs.Answers.{Acts, plain}
-use Rattle.il_machine.specs.Flow.{Release, front_unmade, in_port, release_idle}
-use Rattle.il_machine.specs.Headers.{find_header, is_for, same_key, seen, without}
-use Rattle.il_machine.specs.Lists.{holds_at, is_empty}
-use Rattle.il_machine.specs.Look.{look}
-use Rattle.il_machine.specs.Ports.{is_disabling, is_going_to, is_supplier, leaving}
-use Rattle.il_machine.specs.Sound.{Sound}
-use Rattle.il_machine.specs.States.{is_invalid, same_state}
-use Rattle.il_machine.specs.World.{Component, HeaderRecord, World, port_of}
-use Rattle.machine_laws.proofs.Accepting.{not_not, passed}
-use Rattle.machine_laws.proofs.Finding.{either, without_else, without_same}
-use Rattle.machine_laws.proofs.Flowing.{sound_released}
+use Rattle.il_machine.specs.World.{Component, World}
+use Rattle.machine_laws.proofs.Finding.{either}
 use Rattle.machine_laws.proofs.Keys.{none_or_some}
-use Rattle.machine_laws.proofs.Listed.{done_in, first_in, todo_in}
-use Rattle.flow_model.specs.Network.{Filled, LinkState, headers_of}
-use Rattle.flow_model.specs.Progress.{sum_to}
-use Rattle.play_model.specs.Acts.{Act, CanAct, acted, released}
 use Rattle.play_model.specs.Changes.{IsDisabling, port_at}
-use Rattle.play_model.specs.Play.{HasHome, IsLeaving, Play, component_at, made, supplier}
-use Rattle.play_model.proofs.Handing.{act_reaches}
-use Rattle.play_links.specs.View.{LinkEnds, filled, is_in, link_view, worked_at}
-use Rattle.play_links.proofs.Counts.{keys_apart}
-use Rattle.play_links.proofs.Made.{done_beside, todo_beside, unmade_held, unmade_ready, unmade_sent, unmade_spent}
-use Rattle.play_links.proofs.Same.{length_map, link_same}
-use Rattle.play_worlds.specs.Cast.{Cast, components_of, home_at, home_by, input_at, links_of, output_at, script_place}
-use Rattle.play_worlds.specs.Standing.{pending_at}
-use Rattle.play_worlds.specs.Wiring.{ends_of, work_in}
-use Rattle.play_worlds.specs.Worlds.{HasLink, Names, to_make}
-use Rattle.play_worlds.proofs.Flowing.{key_not, not_worked}
-use Rattle.play_worlds.proofs.Lists.{resolved_port}
-use Rattle.play_worlds.proofs.Passing.{changed_else, changed_here}
-use Rattle.play_worlds.proofs.Releasing.{at_leaving, held_less, home_by_length, in_home, leaves_at, length_by_home, no_empty, ready_less, released_closed, sent_less, some_length, spent_less, three_false}
-use Rattle.play_worlds.proofs.Runs.{did, did_none}
-use Rattle.late_worlds.specs.Changing.{is_joined_at, mode_at}
-use Rattle.late_worlds.specs.Late.{IsActorAt, IsLateWorld, LateCast, end_of_link, left_to_make, port_number}
-use Rattle.late_acts.specs.Leading.{LateLeadsTo}
-use Rattle.late_acts.proofs.Around.{sum_fewer}
-use Rattle.late_acts.proofs.Due.{early_port}
-use Rattle.late_acts.proofs.Ends.{HasEnd, end_inside}
-use Rattle.late_acts.proofs.Standing.{pending_is, state_is}
-use Rattle.late_acts.proofs.Turning.{all_told, half_of, no_work_at}
-
-use Rattle.late_links.proofs.Sides.{IsSide, home_is, home_supplies, joined_made, side, supplier_is, supplies}
+use Rattle.play_model.specs.Play.{Play, component_at}
+use Rattle.play_worlds.specs.Cast.{input_at, links_of, output_at}
+use Rattle.play_worlds.specs.Wiring.{work_in}
+use Rattle.late_worlds.specs.Late.{IsLateWorld, LateCast}
+use Rattle.late_acts.proofs.Turning.{half_of, no_work_at}
+use Rattle.late_links.proofs.Sides.{IsSide, side}
 
 -- the components don't run, or the port at this side is disabling
 abbrev pub IsResting : LateCast → Play → ℕ → Bool → Type 0

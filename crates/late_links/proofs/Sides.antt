@@ -1,20 +1,17 @@
 -- The two sides of a link of a play with late sources that has its tunnel: the one that supplies it, and the other.
-use Rattle.std.proofs.Common.{◌≡◌, ◌≢◌, ◌⊎◌, inl, inr, ℕ, zero, suc, ◌+◌, ◌<◌, ◌≤◌, Bool, true, false, not, ◌&&◌, ◌||◌, nat_le, if◌then◌else◌, List, slice_get, Option, Some, None, refl, sym, ◌∙◌, ap, subst, leb-true, leb-false, le-leb, arith}
+use Rattle.std.proofs.Common.{◌≡◌, inl, ℕ, ◌<◌, Bool, true, false, not, nat_le, if◌then◌else◌, slice_get, Some, None, refl, sym, ◌∙◌, ap, leb-false, arith}
 use Rattle.il_machine.specs.declared.port.Link.{Link}
 use Rattle.il_machine.specs.declared.port.Port.{Port}
 use Rattle.il_machine.specs.declared.port.PortKey.{PortKey}
 use Rattle.il_machine.specs.declared.port.PortState.{PortState}
-use Rattle.il_machine.specs.Flow.{end_of, other_end}
 use Rattle.il_machine.specs.Ports.{is_supplied_by, is_supplier}
-use Rattle.il_machine.specs.World.{Component, World, number_of, port_of}
+use Rattle.il_machine.specs.World.{Component, World}
 use Rattle.machine_laws.proofs.Finding.{either}
-use Rattle.play_model.specs.Changes.{Change, IsInOrder, port_at}
 use Rattle.play_model.specs.Play.{Layout, Play, component_at, made, other_component, supplier}
-use Rattle.play_worlds.specs.Cast.{Cast, away_at, components_of, home_at, home_by, input_at, links_of, output_at, script_place, supplier_by, supplier_of}
+use Rattle.play_worlds.specs.Cast.{Cast, away_at, home_at, home_by, input_at, links_of, output_at, script_place, supplier_by}
 use Rattle.play_worlds.specs.Wiring.{link_to}
-use Rattle.play_worlds.proofs.Ends.{place_there}
-use Rattle.late_worlds.specs.Changing.{is_joined_at, state_by}
-use Rattle.late_worlds.specs.Late.{IsActorAt, IsEndAt, IsLateWorld, LateCast, end_of_link, port_number}
+use Rattle.late_worlds.specs.Changing.{is_joined_at}
+use Rattle.late_worlds.specs.Late.{IsActorAt, IsEndAt, IsLateWorld, LateCast, end_of_link}
 use Rattle.late_acts.proofs.Ends.{HasEnd, actor_there, end_inside, end_there}
 
 -- ---- sides by their names

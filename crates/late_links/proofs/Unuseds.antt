@@ -1,5 +1,5 @@
 -- hand_back of a header that was not used: on the way to Idle, or while its port is disabling.
-use Rattle.std.proofs.Common.{◌≡◌, ◌≢◌, ◌⊎◌, inl, inr, ℕ, zero, suc, ◌+◌, ◌<◌, ◌≤◌, Bool, true, false, not, ◌&&◌, ◌||◌, if◌then◌else◌, List, [], ◌∷◌, length, map, slice_get, Option, Some, None, Result, Ok, refl, sym, ◌∙◌, ap, subst, arith}
+use Rattle.std.proofs.Common.{◌≡◌, ◌≢◌, ◌⊎◌, inl, inr, ℕ, suc, ◌+◌, ◌<◌, Bool, true, false, not, ◌&&◌, ◌||◌, List, [], ◌∷◌, length, map, Some, None, Result, Ok, refl, sym, ◌∙◌, ap, subst, arith}
 use Rattle.std.proofs.lemmas.Bool.{cases_eq}
 use Rattle.omx_types.specs.declared.error.OmxError.{OmxError}
 use Rattle.omx_types.specs.declared.handle.Handle.{Handle}
@@ -8,19 +8,18 @@ use Rattle.il_machine.specs.declared.answer.Acted.{Acted}
 use Rattle.il_machine.specs.declared.answer.Acted.TheVariants as acted_as
 use Rattle.il_machine.specs.declared.answer.Why.TheVariants as why
 use Rattle.il_machine.specs.declared.header.Spot.{Spot}
-use Rattle.il_machine.specs.declared.port.Link.{Link}
 use Rattle.il_machine.specs.declared.port.Port.{Port}
 use Rattle.il_machine.specs.declared.port.PortKey.{PortKey}
 use Rattle.il_machine.specs.declared.port.PortState.{PortState}
 use Rattle.il_machine.specs.Answers.{Acts, plain}
 use Rattle.il_machine.specs.Flow.{HandBack, back_idle, handed_back, supplied_spot}
-use Rattle.il_machine.specs.Headers.{cleared, find_header, put, put_at, same_key, seen}
+use Rattle.il_machine.specs.Headers.{cleared, put, same_key, seen}
 use Rattle.il_machine.specs.Lists.{holds_at, is_empty}
 use Rattle.il_machine.specs.Look.{look}
 use Rattle.il_machine.specs.Ports.{id_of, is_disabling, is_going_to, is_input_port, is_supplied_by, is_supplier, returning}
 use Rattle.il_machine.specs.Sound.{Sound}
 use Rattle.il_machine.specs.States.{is_executing, is_invalid, is_running, same_state}
-use Rattle.il_machine.specs.World.{Component, HeaderRecord, World, port_of}
+use Rattle.il_machine.specs.World.{Component, World, port_of}
 use Rattle.machine_laws.proofs.Accepting.{both_of, passed}
 use Rattle.machine_laws.proofs.Finding.{either}
 use Rattle.machine_laws.proofs.Flowing.{sound_returned}
@@ -35,7 +34,7 @@ use Rattle.play_links.specs.View.{LinkEnds, filled, is_in, link_view}
 use Rattle.play_links.proofs.Counts.{keys_apart}
 use Rattle.play_links.proofs.Same.{link_same}
 use Rattle.play_links.proofs.Unused.{from_input, from_output, input_beside, output_beside}
-use Rattle.play_worlds.specs.Cast.{Cast, away_at, home_at, home_by, input_at, links_of, output_at, script_place}
+use Rattle.play_worlds.specs.Cast.{away_at, home_at, home_by, input_at, links_of, output_at, script_place}
 use Rattle.play_worlds.specs.Standing.{pending_at, state_at}
 use Rattle.play_worlds.specs.Wiring.{ends_of, link_to, work_in}
 use Rattle.play_worlds.specs.Worlds.{Names}
@@ -47,11 +46,10 @@ use Rattle.play_worlds.proofs.Passing.{changed_else, changed_here}
 use Rattle.play_worlds.proofs.Runs.{did, did_none}
 use Rattle.play_worlds.proofs.Terms.{early_stage, executes_back, state_running}
 use Rattle.late_worlds.specs.Changing.{is_joined_at, mode_at}
-use Rattle.late_worlds.specs.Late.{IsActorAt, IsLateWorld, LateCast, end_of_link, left_to_make, port_number}
+use Rattle.late_worlds.specs.Late.{IsLateWorld, LateCast, end_of_link, left_to_make, port_number}
 use Rattle.late_acts.specs.Leading.{LateLeadsTo}
 use Rattle.late_acts.proofs.Around.{sum_fewer}
 use Rattle.late_acts.proofs.Due.{early_port}
-use Rattle.late_acts.proofs.Ends.{HasEnd}
 use Rattle.late_acts.proofs.Standing.{pending_is, state_is}
 use Rattle.late_links.proofs.Backs.{disabling_at, state_valid}
 use Rattle.late_links.proofs.Linking.{link_changed}
@@ -297,13 +295,16 @@ module _ (x : LateCast) (recent : ℕ) (p : Play) (w : World) (W : IsLateWorld x
       let a3 = passed (is_empty ((seen w.headers).done y.key) && (not (returning a y) || is_empty ((seen w.headers).todo y.key))) _ _ a2.1 in
       let g = both_left (is_empty ((seen w.headers).done y.key)) (returning a y) (is_empty ((seen w.headers).todo y.key)) e a3.0 in
       let R = return_gives g.0 in
-      let k = not_empty ((seen w.headers).todo y.key) g.1 in
-      (b, so_gives R, unleft x recent p w W l b (rests R) (record {
-        none = is_nil ((seen w.headers).done (away_at x.cast l)) f;
-        number = k.0;
-        rest = k.1;
-        some = ap (λ (z : PortKey). (seen w.headers).todo z) (sym key_is) ∙ k.2;
-      }))
+      let k = not_empty ((seen w.headers).todo y.key) g.1 in (
+        b,
+        so_gives R,
+        unleft x recent p w W l b (rests R) (record {
+          none = is_nil ((seen w.headers).done (away_at x.cast l)) f;
+          number = k.0;
+          rest = k.1;
+          some = ap (λ (z : PortKey). (seen w.headers).todo z) (sym key_is) ∙ k.2;
+        }),
+      )
 
 unused_acts : (x : LateCast) (recent : ℕ) (p : Play) (w : World) (l : ℕ) (h : Handle) (result : Result Acted OmxError) (v : World) (W : IsLateWorld x recent p w) (b : l < links_of x.cast) → Names x.cast w (other_component (x.cast).layout l) h
     → HandBack w h (away_at x.cast l).port result v

@@ -1,5 +1,5 @@
 -- While a component isn't at the end of its StateSet no link is half changed: nothing of a change is queued at it, and its ports rest.
-use Rattle.std.proofs.Common.{◌≡◌, ◌≢◌, ◌⊎◌, inl, inr, ℕ, zero, suc, ◌+◌, ◌<◌, ◌≤◌, Bool, true, false, not, List, [], ◌∷◌, ◌++◌, length, length-append, slice_get, sum_by, Option, Some, None, refl, sym, ◌∙◌, ap, subst, arith}
+use Rattle.std.proofs.Common.{◌≡◌, ◌≢◌, ◌⊎◌, inl, inr, ℕ, zero, suc, ◌<◌, ◌≤◌, Bool, true, false, not, List, [], ◌∷◌, ◌++◌, length, length-append, slice_get, sum_by, Some, refl, sym, ◌∙◌, ap, arith}
 use Rattle.std.proofs.lemmas.List.Sums.{count_by-le-length}
 use Rattle.omx_types.specs.declared.command.Note.{Note}
 use Rattle.il_machine.specs.declared.port.Link.{Link}
@@ -7,8 +7,7 @@ use Rattle.il_machine.specs.Finishing.{end_note}
 use Rattle.il_machine.specs.Queued.{notes_given}
 use Rattle.il_machine.specs.Room.{events_in, is_event, port_reserve}
 use Rattle.il_machine.specs.World.{Component, World, number_of}
-use Rattle.machine_laws.proofs.Finding.{either}
-use Rattle.play_model.specs.Changes.{Change, IsHalfChanged, IsInOrder, port_at}
+use Rattle.play_model.specs.Changes.{Change, IsHalfChanged, port_at}
 use Rattle.play_model.specs.Play.{Play, component_at}
 use Rattle.play_worlds.specs.Cast.{components_of, links_of, script_place}
 use Rattle.play_worlds.specs.Standing.{commands_at, standing}
@@ -19,7 +18,7 @@ use Rattle.play_worlds.proofs.Lists.{sum_none}
 use Rattle.play_worlds.proofs.Rooms.{end_notes, port_of_state, state_notes}
 use Rattle.late_worlds.specs.Changing.{state_by}
 use Rattle.late_worlds.specs.Late.{IsActorAt, IsLateWorld, LateCast, announced_note, commands_of_end, end_of_link, notes_of_end, port_commands, port_notes, settings_notes, settings_of_end}
-use Rattle.late_acts.proofs.Ends.{IsPortAt, port_end, source_lists, unbroken_port}
+use Rattle.late_acts.proofs.Ends.{port_end, source_lists, unbroken_port}
 use Rattle.late_acts.proofs.Lists.{links_none, links_some}
 
 append_nil : {A : Type 0} (xs : List A) → xs ++ [] ≡ xs

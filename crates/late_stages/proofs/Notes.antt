@@ -1,7 +1,6 @@
 -- A note is taken, which is nothing for the play; its client object is given back once the completion of the StateSet or the end of the
 -- stream was heard.
-use Rattle.std.proofs.Common.{◌≡◌, ◌≢◌, ◌⊎◌, inl, inr, ℕ, zero, suc, ◌+◌, ◌<◌, ◌≤◌, Bool, true, false, not, ◌&&◌, nat_eq, if◌then◌else◌, List, [], ◌∷◌, ◌++◌, slice_get, Option, Some, None, Result, refl, sym, ◌∙◌, ap, subst, eq-eqb, ne_eqb, arith}
-use Rattle.std.proofs.lemmas.Bool.{cases_eq}
+use Rattle.std.proofs.Common.{◌≡◌, ◌⊎◌, inl, inr, ℕ, zero, suc, ◌<◌, Bool, true, false, nat_eq, if◌then◌else◌, List, [], ◌∷◌, ◌++◌, slice_get, Option, Some, None, Result, refl, sym, ◌∙◌, ap, subst}
 use Rattle.omx_types.specs.declared.command.Completion.TheVariants as completions
 use Rattle.omx_types.specs.declared.command.Event.{Event}
 use Rattle.omx_types.specs.declared.command.Event.TheVariants.{BufferFlag, CmdComplete, PortSettingsChanged}
@@ -11,39 +10,26 @@ use Rattle.omx_types.specs.declared.error.OmxError.{OmxError}
 use Rattle.omx_types.specs.declared.handle.Handle.{Handle}
 use Rattle.il_machine.specs.declared.answer.Progress.{Progress}
 use Rattle.il_machine.specs.Answers.{plain}
-use Rattle.il_machine.specs.Components.{noted_by}
-use Rattle.il_machine.specs.Due.{ClosesTo}
 use Rattle.il_machine.specs.Finishing.{end_note}
-use Rattle.il_machine.specs.Kinds.{is_late, is_sink}
-use Rattle.il_machine.specs.Notes.{EndNote, TakeFrom, TakeNote, Took, back_in, first_taken, with_given}
+use Rattle.il_machine.specs.Notes.{TakeFrom, TakeNote, Took, first_taken, with_given}
 use Rattle.il_machine.specs.Queued.{notes_given}
 use Rattle.il_machine.specs.Room.{is_event}
 use Rattle.il_machine.specs.Sound.{Sound}
-use Rattle.il_machine.specs.World.{Component, World, number_of, with_component}
-use Rattle.machine_laws.proofs.Finding.{either}
-use Rattle.machine_laws.proofs.Notices.{sound_ended, sound_given}
-use Rattle.flow_model.specs.Network.{IsOutput}
-use Rattle.play_model.specs.Acts.{Act, CanAct, acted}
-use Rattle.play_model.specs.Changes.{HasCompletion, port_at}
-use Rattle.play_model.specs.Play.{Layout, Play, component_at}
-use Rattle.play_model.proofs.Handing.{act_reaches}
+use Rattle.il_machine.specs.World.{Component, World, number_of}
+use Rattle.machine_laws.proofs.Notices.{sound_given}
+use Rattle.play_model.specs.Changes.{port_at}
+use Rattle.play_model.specs.Play.{Layout, Play}
 use Rattle.play_worlds.specs.Cast.{components_of, links_of, script_place}
-use Rattle.play_worlds.specs.Standing.{commands_at, standing, target}
-use Rattle.play_worlds.specs.Telling.{heard, last_note, last_told, out_of, state_note, unheard}
+use Rattle.play_worlds.specs.Standing.{target}
+use Rattle.play_worlds.specs.Telling.{last_note, out_of, state_note}
 use Rattle.play_worlds.specs.Worlds.{Names, ends_untold}
 use Rattle.play_worlds.proofs.Lists.{resolved}
-use Rattle.play_worlds.proofs.Notes.{ended_at, given_else, given_here, heard_back, heard_same, last_push, no_state_note, told_else, unheard_same}
-use Rattle.play_worlds.proofs.Sends.{stage_else, stage_here}
-use Rattle.play_worlds.proofs.Stages.{tell_stands, told_now}
+use Rattle.play_worlds.proofs.Notes.{given_else, given_here, heard_same, last_push, unheard_same}
 use Rattle.late_worlds.specs.Changing.{at_ends, at_links, notes_of_port}
-use Rattle.late_worlds.specs.Late.{HasHeard, IsActorAt, IsLateWorld, LateCast, announced_note, notes_of_end, port_commands, port_notes, port_number, settings_notes, settings_of_end}
-use Rattle.late_worlds.proofs.Early.{sink_not_late}
+use Rattle.late_worlds.specs.Late.{HasHeard, IsActorAt, IsLateWorld, LateCast, announced_note, notes_of_end, port_notes, port_number, settings_notes, settings_of_end}
 use Rattle.late_acts.specs.Leading.{LateLeadsTo}
 use Rattle.late_acts.proofs.Ends.{actor_there}
-use Rattle.late_acts.proofs.Kept.{IsGoingOn, IsKept, actor_goes_on, kept}
-use Rattle.late_acts.proofs.Lists.{links_none}
-use Rattle.late_acts.proofs.Telling.{front}
-use Rattle.late_stages.proofs.Calm.{appended, no_commands, no_port_notes, stands_so}
+use Rattle.late_acts.proofs.Kept.{IsGoingOn, actor_goes_on, kept}
 
 -- ---- each note is an event
 

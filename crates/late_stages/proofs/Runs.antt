@@ -1,5 +1,5 @@
 -- A component runs the StateSet that is queued at it.
-use Rattle.std.proofs.Common.{◌≡◌, ◌≢◌, inl, inr, ℕ, ◌<◌, ◌≤◌, true, false, cond, List, [], ◌∷◌, ◌++◌, slice_get, Option, Some, None, Result, Ok, refl, sym, ◌∙◌, ap, subst, arith}
+use Rattle.std.proofs.Common.{◌≡◌, ◌≢◌, inl, inr, ℕ, ◌<◌, ◌≤◌, true, false, cond, ◌++◌, slice_get, Some, None, Result, Ok, refl, sym, ◌∙◌, ap, subst, arith}
 use Rattle.std.proofs.lemmas.Bool.{cases_eq}
 use Rattle.omx_types.specs.declared.error.OmxError.{OmxError}
 use Rattle.omx_types.specs.declared.handle.Handle.{Handle}
@@ -31,7 +31,7 @@ use Rattle.play_worlds.proofs.Stages.{ran, run_goes, run_is, run_stands, run_tol
 use Rattle.late_worlds.specs.Late.{IsActorAt, IsLateWorld, LateCast, port_commands, port_notes, settings_notes}
 use Rattle.late_acts.specs.Leading.{LateLeadsTo}
 use Rattle.late_acts.proofs.Ends.{actor_there}
-use Rattle.late_acts.proofs.Kept.{IsGoingOn, IsKept, actor_goes_on, kept}
+use Rattle.late_acts.proofs.Kept.{IsGoingOn, actor_goes_on, kept}
 use Rattle.late_stages.proofs.Calm.{appended, no_commands, stands_so}
 use Rattle.late_stages.proofs.Sends.{heard_on}
 

@@ -1,5 +1,5 @@
 -- The conductor's StateSet is sent to a component.
-use Rattle.std.proofs.Common.{◌≡◌, ◌≢◌, inl, inr, ℕ, ◌<◌, ◌≤◌, Bool, true, false, ◌||◌, nat_le, nat_lt, List, [], ◌∷◌, ◌++◌, length, slice_get, Option, Some, None, Result, Ok, Err, refl, sym, ◌∙◌, ap, subst, le-ltb, arith}
+use Rattle.std.proofs.Common.{◌≡◌, ◌≢◌, inl, inr, ℕ, ◌<◌, ◌≤◌, false, nat_le, nat_lt, [], ◌++◌, length, slice_get, Option, Some, None, Result, Ok, Err, refl, sym, ◌∙◌, ap, subst, le-ltb, arith}
 use Rattle.omx_types.specs.declared.command.Command.{Command}
 use Rattle.omx_types.specs.declared.command.Command.TheVariants.{StateSet}
 use Rattle.omx_types.specs.declared.error.OmxError.{OmxError}
@@ -10,7 +10,7 @@ use Rattle.il_machine.specs.Commands.{SendCommand, lacks_command_room, send_refu
 use Rattle.il_machine.specs.Due.{ClosesTo}
 use Rattle.il_machine.specs.Finishing.{end_note}
 use Rattle.il_machine.specs.Look.{look}
-use Rattle.il_machine.specs.Room.{room, used}
+use Rattle.il_machine.specs.Room.{room}
 use Rattle.il_machine.specs.Sound.{Sound}
 use Rattle.il_machine.specs.States.{is_invalid}
 use Rattle.il_machine.specs.World.{Component, World, with_component}
@@ -30,10 +30,10 @@ use Rattle.play_worlds.proofs.Lists.{resolved}
 use Rattle.play_worlds.proofs.Rooms.{used_at_rest}
 use Rattle.play_worlds.proofs.Sends.{never_invalid, stage_else, stage_here}
 use Rattle.play_worlds.proofs.Stages.{not_at_once, queued, send_stands, send_told, sent_is}
-use Rattle.late_worlds.specs.Late.{HasHeard, IsActorAt, IsLateWorld, IsWorkAt, LateCast, port_commands, port_notes, settings_notes}
+use Rattle.late_worlds.specs.Late.{HasHeard, IsActorAt, IsLateWorld, LateCast, port_commands, port_notes, settings_notes}
 use Rattle.late_acts.specs.Leading.{LateLeadsTo}
 use Rattle.late_acts.proofs.Ends.{actor_there}
-use Rattle.late_acts.proofs.Kept.{IsGoingOn, IsKept, actor_goes_on, kept}
+use Rattle.late_acts.proofs.Kept.{IsGoingOn, actor_goes_on, kept}
 use Rattle.late_stages.proofs.Calm.{appended, calm, few_events, no_commands, stands_so}
 
 -- what was heard of a component stays while it has told nothing more
