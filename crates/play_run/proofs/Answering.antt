@@ -20,7 +20,8 @@ use Rattle.play_worlds.specs.Cast.{Cast}
 use Rattle.play_worlds.specs.Worlds.{IsPlayWorld, LeadsTo, happenings}
 use Rattle.play_worlds.proofs.Closings.{closes_lead}
 use Rattle.play_worlds.proofs.Happenings.{rests_all}
-use Rattle.play_run.specs.Playing.{AreClientsIn, HasParts, HaveNoWork, IsAct, IsConducting, IsPlaying, IsStanding, PlayingValue, cast, is_did, kept_of, layout_of}
+use Rattle.play_graphs.specs.Graphs.{kept_of}
+use Rattle.play_run.specs.Playing.{AreClientsIn, HasParts, HaveNoWork, IsAct, IsConducting, IsPlaying, IsStanding, PlayingValue, cast, is_did, layout_of}
 
 -- an act of the play that begins no state, and leaves none to be sent
 pub record IsWithin (w : Layout) (p : Play) (a : Act) : Type 0 where

@@ -1,7 +1,17 @@
 -- Where the graph of a plan stands before its play, the play begins.
-use Rattle.std.proofs.Common.{◌≡◌, ◌<◌, ℕ, zero, suc, false, List, [], ◌∷◌, ◌++◌, length, map, replicate, slice_get, Option, Some, None, refl, sym, ◌∙◌, ap, subst, arith}
+use Rattle.std.proofs.Common.{◌≡◌, ◌<◌, ℕ, zero, suc, false, List, [], ◌∷◌, ◌++◌, length, map, replicate, slice_get, All, Option, Some, None, refl, sym, ◌∙◌, ap, subst, arith}
+use Rattle.std.specs.Prelude.{IsSomeAnd, option_and_then, slice_index_or}
+use Rattle.std.proofs.lemmas.List.Elements.{All-head, All-tail}
 use Rattle.std.proofs.lemmas.Option.{slice_get_within}
-use Rattle.il_machine.specs.World.{Component}
+use Rattle.omx_types.specs.declared.handle.Handle.{Handle}
+use Rattle.audio_parts.specs.declared.part_file.PartFile.{PartFile}
+use Rattle.il_machine.specs.declared.answer.Progress.{Progress}
+use Rattle.il_machine.specs.Files.{Offered}
+use Rattle.il_machine.specs.Look.{look}
+use Rattle.il_machine.specs.World.{Component, World, place_of}
+use Rattle.graph_core.specs.Clients.{IsOut}
+use Rattle.graph_core.specs.Entries.{client_named, look_of}
+use Rattle.il_graph.specs.Shown.{Shown}
 use Rattle.il_machine.specs.Components.{no_progress}
 use Rattle.il_machine.specs.Due.{IsClosed}
 use Rattle.il_machine.specs.Kinds.{is_sink}
@@ -19,8 +29,14 @@ use Rattle.play_loop.specs.Turns.{CanPlay}
 use Rattle.play_worlds.specs.Cast.{components_of, script_place}
 use Rattle.play_worlds.specs.Openings.{opening}
 use Rattle.play_worlds.proofs.Openings.{opens}
+use Rattle.play_forms.specs.Plans.{PlanValue}
+use Rattle.play_plans.specs.Casting.{place_of as place_of_turn}
 use Rattle.play_plans.specs.Conducting.{HasSinks}
-use Rattle.play_run.specs.Playing.{HaveNoWork, IsConducting, IsPlaying, PlayingValue, cast, kept_of, layout_of}
+use Rattle.play_openings.specs.Assemblies.{HasNoLate}
+use Rattle.play_openings.proofs.Opened.{early_opens}
+use Rattle.play_graphs.specs.Making.{CanMake, IsMadeOf}
+use Rattle.play_graphs.specs.Graphs.{kept_of}
+use Rattle.play_run.specs.Playing.{HaveNoWork, IsConducting, IsPlaying, PlayingValue, cast, layout_of}
 use Rattle.play_run.specs.Opening.{IsOpeningGraph}
 use Rattle.play_run.proofs.Answering.{rests_there}
 use Rattle.play_run.proofs.Counting.{few_acts}
@@ -67,6 +83,40 @@ none_late : (joints : List Joint) (from : ℕ) (parts : List PartLine) → ((pla
 none_late joints from [] h = refl
 none_late joints from (part ∷ parts) h =
     ap (λ (l : List _). l ++ late_links joints (suc from) parts) (not_late part.form from (link_from joints from) (h 0 part refl)) ∙ none_late joints (suc from) parts (λ place p e. h (suc place) p e)
+
+-- ---- the graph that was made
+
+never_out : (w : World) (h : Handle) → ((i : ℕ) (a : Component) → slice_get w.components i ≡ Some a → a.client_out ≡ false) → IsOut h (look w) → ⊥
+never_out w h each O = by_place (place_of h w.components) O
+  where
+    at_place : (i : ℕ) (o : Option Component) → slice_get w.components i ≡ o → IsSomeAnd o (λ (c : Component). c.client_out ≡ true) → ⊥
+    at_place i None e t = t
+    at_place i (Some c) e t = let z : false ≡ true = sym (each i c e) ∙ t in absurd cc
+
+    by_place : (o : Option ℕ) → IsSomeAnd (option_and_then (slice_get w.components) o) (λ (c : Component). c.client_out ≡ true) → ⊥
+    by_place None t = t
+    by_place (Some i) t = at_place i (slice_get w.components i) refl t
+
+pub opens_so : {S K : Type 0} (plan : PlanValue) (offered_by : PartFile S K → Offered) (entries : List (Option (PartFile S K))) (g : Shown S K Progress) → IsMadeOf plan offered_by entries g → CanMake plan offered_by entries → HasNoLate plan
+    → ((h : Handle) → client_named h g.core ≡ Some None → IsOut h (look_of g.core)) → IsOpeningGraph plan g
+opens_so plan offered_by entries g M C early out =
+    let A = M C.files C.ready C.offered in
+    record {
+      world = A.world;
+      stands = A.stands;
+      opening = early_opens plan C.files A.handles A.world A.ready early A.built;
+      valid = A.ready.valid;
+      early = early;
+      clients = λ h e. never_out A.world h (λ i a f. ap (λ (y : Component). y.client_out) (A.built.built.components.each i a f).fresh_else) (subst (IsOut h) (sym A.stands.looks) (out h e));
+    }
+
+words_small : (xs : List ℕ) → All (λ (n : ℕ). n < 18446744073709551616) xs → (i : ℕ) → slice_index_or xs i 0 < 18446744073709551616
+words_small [] A i = omega arith
+words_small (x ∷ xs) A zero = All-head (λ (n : ℕ). n < 18446744073709551616) x xs A
+words_small (x ∷ xs) A (suc i) = words_small xs (All-tail (λ (n : ℕ). n < 18446744073709551616) x xs A) i
+
+pub frames_small : (plan : PlanValue) → All (λ (n : ℕ). n < 18446744073709551616) plan.frames → (c : ℕ) → c < components_of (cast plan) → ((layout_of plan).network).frames c < 18446744073709551616
+frames_small plan A c b = words_small plan.frames A (place_of_turn plan c)
 
 module _ {S K : Type 0} (x : PlayingValue S K) (O : IsOpeningGraph x.plan x.graph) (new : x.conductor ≡ conductors.cast_of x.plan) where
   has_sinks : HasSinks (cast x.plan) (conductors.cast_of x.plan)

@@ -18,8 +18,9 @@ use Rattle.play_worlds.specs.Worlds.{Names}
 use Rattle.play_worlds.proofs.Runs.{run_can, run_leads}
 use Rattle.play_plans.specs.Casting.{place_of}
 use Rattle.play_plans.proofs.Turns.{all_turns}
-use Rattle.play_run.specs.Playing.{IsAct, IsHandleAt, IsPlaying, IsStanding, PlayingValue, cast, is_did, kept_of, layout_of}
-use Rattle.play_run.proofs.Naming.{named_at}
+use Rattle.play_graphs.specs.Graphs.{IsHandleAt, kept_of}
+use Rattle.play_run.specs.Playing.{IsAct, IsPlaying, IsStanding, PlayingValue, cast, is_did, layout_of}
+use Rattle.play_graphs.proofs.Naming.{named_at}
 use Rattle.play_run.proofs.Working.{still_none}
 use Rattle.play_run.proofs.Answering.{keeps_in, not_did, on_graph, one_came, run_within, turn_goes}
 

@@ -38,9 +38,11 @@ use Rattle.play_worlds.proofs.Sends.{send_leads}
 use Rattle.stream_plan.proofs.Lists.{set_at, set_other, slice_get_front}
 use Rattle.play_plans.specs.Conducting.{HasViews, IsConductorOf}
 use Rattle.play_plans.proofs.Conducting.{conductor_hears, conductor_over, conductor_sends, conductor_steady, conductor_waits, conductor_whole}
-use Rattle.play_run.specs.Playing.{HasParts, IsConducting, IsHandleAt, IsPlaying, IsProgressAt, IsStanding, PlayingValue, cast, kept_of, layout_of}
+use Rattle.play_graphs.specs.Graphs.{IsHandleAt, kept_of}
+use Rattle.play_run.specs.Playing.{HasParts, IsConducting, IsPlaying, IsProgressAt, IsStanding, PlayingValue, cast, layout_of}
 use Rattle.play_run.specs.Sending.{AreViews, CanSend, IsCalm, IsOnSend, IsUnsent, SendsTo, SentOf, state_in}
-use Rattle.play_run.proofs.Naming.{all_clients_in, named_at}
+use Rattle.play_graphs.proofs.Naming.{named_at}
+use Rattle.play_run.proofs.Naming.{all_clients_in}
 use Rattle.play_run.proofs.Working.{still_none}
 use Rattle.play_run.proofs.Answering.{happened_phase, happened_sent, happened_unsent, keeps_in, on_graph, parts_of, rests_there, stands_then}
 

@@ -1,5 +1,6 @@
 mod Answering
 mod Beginning
+mod Closing
 mod Commanding
 mod Conducting
 mod Counting

@@ -35,9 +35,10 @@ use Rattle.play_worlds.proofs.Leftovers.{unused_can, unused_leads}
 use Rattle.play_plans.specs.Casting.{IsLinkCast, flow_of, joint_of, no_joint}
 use Rattle.play_plans.proofs.Links.{takers_within}
 use Rattle.play_plans.proofs.Casts.{plan_has_cast}
-use Rattle.play_run.specs.Playing.{IsAct, IsHandleAt, IsPlaying, IsStanding, PlayingValue, cast, is_did, kept_of, layout_of}
+use Rattle.play_graphs.specs.Graphs.{IsHandleAt, kept_of}
+use Rattle.play_run.specs.Playing.{IsAct, IsPlaying, IsStanding, PlayingValue, cast, is_did, layout_of}
 use Rattle.play_run.specs.Turning.{IsBack}
-use Rattle.play_run.proofs.Naming.{named_at}
+use Rattle.play_graphs.proofs.Naming.{named_at}
 use Rattle.play_run.proofs.Working.{still_none}
 use Rattle.play_run.proofs.Answering.{Came, keeps_in, not_did, on_graph, one_came, stays, turn_goes}
 
@@ -133,12 +134,6 @@ module _ {S K : Type 0} (x : PlayingValue S K) (g : Shown S K Progress) (l : ℕ
         (back_came r p w v.0 Z.play (giver_named H p Z) v.2)
 
 -- ---- the same, of what is known where a call was made
-
-pub takers_there : (plan : PlanValue) (l : ℕ) (j : Joint) → IsValid plan → l < length plan.joints → j ≡ joint_of plan l → j.taker < length plan.parts
-takers_there plan l j V b J = subst (λ (k : Joint). k.taker < length plan.parts) (sym J) (takers_within plan.parts plan.joints V.joined l (joint_of plan l) (slice_get-get_or plan.joints l no_joint b))
-
-pub givers_there : (plan : PlanValue) (l : ℕ) (j : Joint) → IsValid plan → l < length plan.joints → j ≡ joint_of plan l → j.giver < length plan.parts
-givers_there plan l j V b J = subst (λ (k : Joint). k.giver < length plan.parts) (sym J) (givers_within plan.parts plan.joints V.joined l (joint_of plan l) (slice_get-get_or plan.joints l no_joint b))
 
 module _ {S K : Type 0} where
   pub supply_turns : (y x : PlayingValue S K) → y ≡ x → (g : Shown S K Progress) (l : ℕ) (j : Joint) (h : Handle) (r : Result Acted CallError) (d : Bool) → l < length x.plan.joints → j ≡ joint_of x.plan l → IsHandleAt x.graph j.taker h

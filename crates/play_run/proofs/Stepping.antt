@@ -42,7 +42,8 @@ use Rattle.play_worlds.proofs.Closings.{idle_closes}
 use Rattle.play_worlds.proofs.Finishes.{finish_leads}
 use Rattle.play_worlds.proofs.Sends.{actor_there}
 use Rattle.play_plans.specs.Casting.{place_of}
-use Rattle.play_run.specs.Playing.{HaveNoWork, IsHandleAt, IsPlaying, PlayingValue, cast, kept_of, layout_of}
+use Rattle.play_graphs.specs.Graphs.{IsHandleAt, kept_of}
+use Rattle.play_run.specs.Playing.{HaveNoWork, IsPlaying, PlayingValue, cast, layout_of}
 use Rattle.play_run.specs.Turning.{HasFailed, IsStepOf, outcome_of}
 use Rattle.play_run.proofs.Working.{all_in, none_out}
 use Rattle.play_run.proofs.Commanding.{component_named_in}

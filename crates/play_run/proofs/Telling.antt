@@ -46,7 +46,8 @@ use Rattle.play_worlds.proofs.Lists.{resolved}
 use Rattle.play_worlds.proofs.Notes.{an_event, takes, tell_end_leads, tell_leads}
 use Rattle.play_worlds.proofs.Sends.{actor_there}
 use Rattle.play_plans.specs.Casting.{place_of as place_in}
-use Rattle.play_run.specs.Playing.{AreClientsIn, IsHandleAt, IsPlaying, IsStanding, PlayingValue, cast, client_progress, kept_of, layout_of}
+use Rattle.play_graphs.specs.Graphs.{IsHandleAt, client_progress, kept_of}
+use Rattle.play_run.specs.Playing.{AreClientsIn, IsPlaying, IsStanding, PlayingValue, cast, layout_of}
 use Rattle.play_run.specs.Turning.{IsEvent, IsTelling, told_by}
 use Rattle.play_run.proofs.Naming.{all_clients_in}
 use Rattle.play_run.proofs.Working.{still_none}

@@ -1,3 +1,4 @@
+pub mod Closing
 pub mod Opening
 pub mod Playing
 pub mod Sending

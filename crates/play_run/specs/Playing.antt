@@ -5,12 +5,11 @@ use Rattle.il_machine.specs.declared.answer.Acted.{Acted}
 use Rattle.il_machine.specs.declared.answer.Acted.TheVariants.{Did, Idle}
 use Rattle.il_machine.specs.declared.answer.Progress.{Progress}
 use Rattle.il_machine.specs.World.{Component, World}
-use Rattle.il_machine.specs.Look.{look}
 use Rattle.il_machine.specs.Sound.{Sound}
-use Rattle.il_machine.specs.Components.{handle_at, progress_of}
-use Rattle.il_machine.specs.Whole.{Always, Kept, Stands}
+use Rattle.il_machine.specs.Components.{progress_of}
+use Rattle.il_machine.specs.Whole.{Always, Stands}
 use Rattle.graph_core.specs.Entries.{Entries, client_named}
-use Rattle.il_graph.specs.Shown.{Shown, kept}
+use Rattle.il_graph.specs.Shown.{Shown}
 use Rattle.conductor.specs.Hearing.{ConductorValue}
 use Rattle.play_forms.specs.Plans.{IsValid, PlanValue}
 use Rattle.play_model.specs.Play.{Layout, Play}
@@ -19,10 +18,7 @@ use Rattle.play_worlds.specs.Cast.{Cast, components_of}
 use Rattle.play_worlds.specs.Worlds.{IsPlayWorld}
 use Rattle.play_plans.specs.Casting.{cast_of}
 use Rattle.play_plans.specs.Conducting.{HasSinks}
-
--- a client object of a play is its progress
-abbrev pub client_progress : Progress → Progress
-client_progress client = client
+use Rattle.play_graphs.specs.Graphs.{kept_of}
 
 -- No port prefers a supplier, so the input supplies each link.
 abbrev pub cast : PlanValue → Cast
@@ -56,9 +52,6 @@ abbrev pub AreSent : Layout → Play → Type 0
 AreSent w p = (c : ℕ) → c < (w.network).components → p.stage c ≢ 0
 
 module _ {S K : Type 0} where
-  abbrev pub kept_of : Shown S K Progress → Kept
-  kept_of graph = kept client_progress graph
-
   -- The graph has a component for each of the plan's, and their client objects are in.
   pub record HasParts (x : PlayingValue S K) : Type 0 where
     pub world : World
@@ -82,9 +75,6 @@ module _ {S K : Type 0} where
   pub record IsPlaying (x : PlayingValue S K) (p : Play) : Type 0 where
     pub standing : IsStanding x p
     pub sent : AreSent (layout_of x.plan) p
-
-  abbrev pub IsHandleAt : Shown S K Progress → ℕ → Handle → Type 0
-  IsHandleAt graph place h = Always (kept_of graph) (λ w. handle_at place (look w) ≡ Some h)
 
   -- so much was told of the component at the place
   abbrev pub IsProgressAt : Shown S K Progress → ℕ → Progress → Type 0

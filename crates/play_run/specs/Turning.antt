@@ -12,7 +12,8 @@ use Rattle.il_machine.specs.Whole.{Stands}
 use Rattle.play_model.specs.Acts.{Act}
 use Rattle.play_model.specs.Play.{Play}
 use Rattle.play_worlds.specs.Worlds.{IsPlayWorld}
-use Rattle.play_run.specs.Playing.{AreClientsIn, HaveNoWork, PlayingValue, cast, kept_of}
+use Rattle.play_graphs.specs.Graphs.{kept_of}
+use Rattle.play_run.specs.Playing.{AreClientsIn, HaveNoWork, PlayingValue, cast}
 
 -- the other end of the link hands back a header that it filled or emptied, or one that it didn't use
 abbrev pub IsBack : ℕ → Act → Type 0

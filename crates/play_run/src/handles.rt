@@ -2,7 +2,8 @@
 
 ghost use Rattle.std.specs.Prelude.{◌≡◌, ◌<◌, ◌≤◌, length};
 ghost use Rattle.play_plans.specs.Casting.{joint_of, place_of};
-ghost use Rattle.play_run.specs.Playing.{HasParts, IsHandleAt, IsProgressAt};
+ghost use Rattle.play_graphs.specs.Graphs.{IsHandleAt};
+ghost use Rattle.play_run.specs.Playing.{HasParts, IsProgressAt};
 
 use crate::playing::Playing;
 use il_graph::{Handle, Progress};

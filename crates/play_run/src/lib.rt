@@ -8,5 +8,6 @@ mod links;
 mod player;
 mod playing;
 mod sending;
+mod words;
 
 pub use playing::Playing;

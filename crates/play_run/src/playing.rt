@@ -1,10 +1,14 @@
 //! What a play keeps.
 
+use crate::words::law_of_words;
+use audio_parts::PartFile;
 use conductor::{Conductor, PlayClient};
-use il_graph::Graph;
+use il_graph::{Graph, OutOfMemory};
 use omx_types::PartFault;
 use outside_io::{Sink, Source};
+use play_graphs::{end_graph, make_graph};
 use play_loop::play_on;
+use std::alloc::Global;
 use std::marker::Model;
 use stream_plan::Plan;
 
@@ -24,10 +28,38 @@ impl<S: Source, K: Sink> Model for Playing<S, K> {
 }
 
 impl<S: Source, K: Sink> Playing<S, K> {
-    ghost use Rattle.std.specs.Prelude.{◌≡◌, IfErr, OnOk};
+    ghost use Rattle.std.specs.Prelude.{◌≡◌, length, IfErr, IfOk, OnErr, OnOk};
+    ghost use Rattle.il_graph.specs.Shown.{offered};
     ghost use Rattle.play_loop.specs.Turns.{CanPlay, EndsOf};
+    ghost use Rattle.play_openings.specs.Assemblies.{HasNoLate};
+    ghost use Rattle.play_graphs.specs.Making.{AreGone, CanMake};
+    ghost use Rattle.play_run.specs.Closing.{GivesBack, HasPlayed};
     ghost use Rattle.play_run.specs.Playing.{IsPlaying, layout_of};
     ghost use Rattle.play_run.specs.Turning.{HasFailed};
+
+    /// A play of the plan that is ready to begin. Its files stand by the places of their components; where memory is wanted they stay.
+    pub fn new(
+        alloc: Global,
+        plan: Plan,
+        files: &mut [Option<PartFile<S, K>>],
+    ) -> Result<Playing<S, K>, OutOfMemory>
+        requires files { CanMake plan (offered S.offset S.size S.told K.told) files.old }
+        requires early { HasNoLate plan }
+        ensures plan { IfOk result (λ playing. playing.plan ≡ plan) }
+        ensures ready { IfOk result (λ playing. CanPlay (layout_of plan) (IsPlaying playing) 340282366920938463463374607431768211455) }
+        ensures gone { OnOk result (AreGone (length plan.parts) files.new) }
+        ensures unmade { OnErr result (files.new ≡ files.old) }
+    {
+        let conductor = Conductor::new(alloc, &plan)?;
+        let graph = make_graph(alloc, &plan, files)?;
+        graph.law_of_worlds();
+        law_of_words(plan.frames());
+        Ok(Playing {
+            graph,
+            plan,
+            conductor,
+        })
+    }
 
     /// Plays to the end, or until a part fails.
     pub fn play(&mut self) -> Result<(), PartFault>
@@ -37,5 +69,20 @@ impl<S: Source, K: Sink> Playing<S, K> {
         ensures failed { IfErr result (HasFailed self.new) }
     {
         play_on(self)
+    }
+    /// Ends a play that is over. Each file comes to the place of its component.
+    pub fn end(self, files: &mut [Option<PartFile<S, K>>])
+        requires played { HasPlayed self }
+        requires many { length files.old ≡ length self.plan.parts }
+        requires gone { AreGone (length self.plan.parts) files.old }
+        ensures many { length files.new ≡ length files.old }
+        ensures back { GivesBack self files.new }
+    {
+        let Playing {
+            graph,
+            plan,
+            conductor: _conductor,
+        } = self;
+        end_graph(graph, &plan, files);
     }
 }

@@ -1,7 +1,8 @@
 use Rattle.std.proofs.Common.{sym, ◌∙◌, subst, arith}
 use Rattle.il_machine.specs.Due.{IsClosed}
 use Rattle.il_machine.specs.Whole.{Always}
-use Rattle.play_run.specs.Playing.{PlayingValue, kept_of}
+use Rattle.play_graphs.specs.Graphs.{kept_of}
+use Rattle.play_run.specs.Playing.{PlayingValue}
 use Rattle.play_run.proofs.Answering.{has_parts}
 use Rattle.play_run.proofs.Conducting.{is_calm, may_send_by, quiet_turns, sent_turns, told_many}
 use Rattle.play_run.proofs.playing.Playing.conduct.Goals as goal

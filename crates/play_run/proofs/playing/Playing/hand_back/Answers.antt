@@ -1,5 +1,6 @@
 use Rattle.play_run.proofs.Answering.{has_parts}
-use Rattle.play_run.proofs.Linking.{givers_there, back_turns}
+use Rattle.play_graphs.proofs.Standing.{givers_there}
+use Rattle.play_run.proofs.Linking.{back_turns}
 use Rattle.play_run.proofs.playing.Playing.hand_back.Goals as goal
 
 pub handle-h-requires-clause-there : goal.handle-h-requires-clause-there

@@ -1,5 +1,6 @@
 use Rattle.play_run.proofs.Answering.{has_parts}
-use Rattle.play_run.proofs.Linking.{takers_there, over_turns}
+use Rattle.play_graphs.proofs.Standing.{takers_there}
+use Rattle.play_run.proofs.Linking.{over_turns}
 use Rattle.play_run.proofs.playing.Playing.hand_over.Goals as goal
 
 pub handle-h-requires-clause-there : goal.handle-h-requires-clause-there

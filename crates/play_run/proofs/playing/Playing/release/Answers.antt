@@ -1,5 +1,6 @@
 use Rattle.play_run.proofs.Answering.{has_parts}
-use Rattle.play_run.proofs.Linking.{takers_there, release_turns}
+use Rattle.play_graphs.proofs.Standing.{takers_there}
+use Rattle.play_run.proofs.Linking.{release_turns}
 use Rattle.play_run.proofs.playing.Playing.release.Goals as goal
 
 pub handle-h-requires-clause-there : goal.handle-h-requires-clause-there

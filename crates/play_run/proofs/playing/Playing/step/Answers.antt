@@ -1,7 +1,7 @@
 use Rattle.std.proofs.Common.{Err, refl, sym}
 use Rattle.il_graph.specs.Shown.{look_of}
 use Rattle.il_graph.proofs.Returning.{are_terms_at, handed_back, terms_at}
-use Rattle.play_run.specs.Playing.{kept_of}
+use Rattle.play_graphs.specs.Graphs.{kept_of}
 use Rattle.play_run.proofs.Answering.{has_parts}
 use Rattle.play_run.proofs.Commanding.{place_there, turn_there}
 use Rattle.play_run.proofs.Stepping.{may_come, no_work_same, step_failed, step_turned, unclaimed_turns, worked}

@@ -6,7 +6,7 @@ use Rattle.note_queues.specs.declared.taken.Took.{Took}
 use Rattle.note_queues.specs.Queues.{took_of}
 use Rattle.graph_core.specs.Changes.{OnNoNote}
 use Rattle.graph_core.specs.Clients.{TakesClient}
-use Rattle.play_run.specs.Playing.{kept_of}
+use Rattle.play_graphs.specs.Graphs.{kept_of}
 use Rattle.play_run.proofs.Answering.{has_parts}
 use Rattle.play_run.proofs.Commanding.{place_there, turn_there}
 use Rattle.play_run.proofs.Telling.{event_for, tell_turns, untold_turns}

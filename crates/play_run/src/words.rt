@@ -1,0 +1,12 @@
+ghost use Rattle.std.specs.Prelude.{◌<◌, All};
+
+/// Each is a number of 64 bits.
+pub(crate) fn law_of_words(words: &[u64])
+    ensures { All (λ word. word < 18446744073709551616) words.now }
+{
+    let [first, rest @ ..] = words else {
+        return;
+    };
+    let _first = *first;
+    law_of_words(rest);
+}
