@@ -7,8 +7,6 @@ mod acts;
 #[cfg(test)]
 mod clock;
 #[cfg(test)]
-mod component;
-#[cfg(test)]
 mod generator;
 #[cfg(test)]
 mod packets;

@@ -1,3 +1,5 @@
+//! A new component, and the client object that it was given.
+
 use il_component::Component;
 use note_queues::ProgressClient;
 use omx_types::{Handle, Kind, State};
