@@ -6,8 +6,6 @@ mod kinds;
 mod laws;
 mod limits;
 mod params;
-#[cfg(test)]
-mod tests;
 
 pub use kinds::{inputs, outputs, ports};
 pub use laws::{law_of_all_else, law_of_get_after_set};

@@ -4,3 +4,5 @@
 
 #[cfg(test)]
 mod component;
+#[cfg(test)]
+mod params;

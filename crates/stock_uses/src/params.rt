@@ -1,7 +1,9 @@
+//! The ports of each kind with their defaults, and the formats that each may have.
+
 ghost use Rattle.il_machine.specs.Settings.{IsSized};
 
-use crate::Params;
 use omx_types::{Format, Kind, OmxError, Param, ParamKey, PortDefinition, Supplier, Version};
+use param_store::Params;
 
 const PCM: Format = Format::Pcm {
     rate: 8000,
