@@ -2,6 +2,5 @@ pub mod Kept
 pub mod Conditions
 pub mod Entries
 pub mod Rings
-pub mod Example
 pub mod Blocks
 pub mod Ending

@@ -15,8 +15,6 @@ mod entry;
 mod port;
 mod ports;
 mod stock;
-#[cfg(test)]
-mod tests;
 
 pub use entry::is_made_for;
 pub use stock::Stock;

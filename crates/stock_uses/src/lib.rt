@@ -6,3 +6,5 @@
 mod component;
 #[cfg(test)]
 mod params;
+#[cfg(test)]
+mod stock;

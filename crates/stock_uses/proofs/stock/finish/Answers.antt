@@ -2,7 +2,7 @@ use Rattle.std.proofs.Common.{◌≡◌, arith}
 use Rattle.il_machine.specs.Headers.{is_for}
 use Rattle.il_machine.specs.Stock.{header_unmade}
 use Rattle.port_stock.specs.Kept.{stocked}
-use Rattle.port_stock.proofs.tests.finish.Goals as goal
+use Rattle.stock_uses.proofs.stock.finish.Goals as goal
 
 pub remove_ports-requires : goal.remove_ports-requires
 remove_ports-requires c = λ key p e.

@@ -1,12 +1,14 @@
+//! A header that waits in a list of its port, is marked or cleared there, and leaves it.
+
 ghost use Rattle.std.specs.Prelude.{◌≡◌, length, None, IfOk};
 ghost use Rattle.port_stock.specs.Kept.{stocked};
 ghost use Rattle.port_stock.specs.Conditions.{IsOutside};
-ghost use Rattle.port_stock.specs.Example.{IsLeft, one_header, two_ports};
+ghost use Rattle.stock_uses.specs.TwoPorts.{IsLeft, one_header, two_ports};
 
-use crate::{OutOfMemory, Stock};
 use header_core::{Header, Memory};
 use il_machine::{Home, Mark, Owner, PortKey, Spot};
 use omx_types::Handle;
+use port_stock::{OutOfMemory, Stock};
 use std::alloc::{AllocError, Global};
 use std::test::Fail;
 
