@@ -10,8 +10,6 @@ mod client;
 mod laws;
 mod notes;
 mod taken;
-#[cfg(test)]
-mod tests;
 
 pub use client::{Client, ProgressClient};
 pub use laws::law_of_room;

@@ -5,6 +5,8 @@
 #[cfg(test)]
 mod component;
 #[cfg(test)]
+mod notes;
+#[cfg(test)]
 mod params;
 #[cfg(test)]
 mod stock;

@@ -1,11 +1,13 @@
+//! What a client object keeps of what it was told, and the queues of a component with one port.
+
 ghost use Rattle.std.specs.Prelude.{◌≡◌, drop, IsSome, IfOk};
 ghost use Rattle.il_machine.specs.Components.{moved_by, no_progress};
 ghost use Rattle.note_queues.specs.Queues.{no_notes};
 
-use crate::{Call, Client, Full, Notes, OutOfMemory, ProgressClient, Taken, Took};
 use block_region::Region;
 use header_core::{Header, Key, Memory, Store};
 use il_machine::Progress;
+use note_queues::{Call, Client, Full, Notes, OutOfMemory, ProgressClient, Taken, Took};
 use omx_types::{Command, Completion, Event, OmxError, State};
 use std::alloc::Global;
 use std::process::Abort;
