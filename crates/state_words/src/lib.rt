@@ -2,8 +2,6 @@
 #![tactic(auto)]
 
 mod code;
-#[cfg(test)]
-mod tests;
 mod threads;
 mod view;
 mod words;

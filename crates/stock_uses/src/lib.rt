@@ -10,3 +10,5 @@ mod notes;
 mod params;
 #[cfg(test)]
 mod stock;
+#[cfg(test)]
+mod words;

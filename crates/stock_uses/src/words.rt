@@ -1,10 +1,11 @@
 //! A reader sees no state older than what it was told, also while another thread shows.
+
 ghost use Rattle.std.specs.Prelude.{◌≡◌, ◌+◌, ◌<◌, ◌^◌};
 ghost use Rattle.state_words.specs.Shown.{version_of};
 ghost use Rattle.state_words.specs.Tokens.{IsShowerOf, IsReaderOf, known_by, count};
 
-use crate::words::{Reader, Shower, StateWords};
 use omx_types::State;
+use state_words::{Reader, Shower, StateWords};
 use std::process::Abort;
 use std::test::Fail;
 use std::thread;
