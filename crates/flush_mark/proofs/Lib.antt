@@ -1,3 +1,2 @@
 pub mod ResetSteps
-pub mod Tunnels
 pub mod Marks

@@ -1,3 +1,2 @@
 pub mod Leading
 pub mod Flushing
-pub mod Example

@@ -6,8 +6,6 @@
 
 mod flushing;
 mod marking;
-#[cfg(test)]
-mod tests;
 
 pub use flushing::{flush_settled, reset_home};
 pub use marking::attach_mark;

@@ -1,1 +1,2 @@
 pub mod TwoPorts
+pub mod Tunnel

@@ -5,6 +5,8 @@
 #[cfg(test)]
 mod component;
 #[cfg(test)]
+mod flushes;
+#[cfg(test)]
 mod notes;
 #[cfg(test)]
 mod params;

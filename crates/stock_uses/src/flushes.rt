@@ -1,10 +1,12 @@
+//! Four headers of a tunnel: a flush resets those that are at home, and a mark goes to the first that has none.
+
 ghost use Rattle.std.specs.Prelude.{◌≡◌, ◌<◌, ◌+◌, length, true, IfOk, Some};
 ghost use Rattle.il_machine.specs.declared.header.Home.TheVariants as homes;
 ghost use Rattle.port_stock.specs.Kept.{stocked};
 ghost use Rattle.port_stock.specs.Conditions.{IsOutside, is_home_among};
-ghost use Rattle.flush_mark.specs.Example.{HasBoth, IsEnd, IsFilled, IsTunnel, input, output};
+ghost use Rattle.stock_uses.specs.Tunnel.{HasBoth, IsEnd, IsFilled, IsTunnel, input, output};
 
-use crate::{attach_mark, flush_settled, reset_home};
+use flush_mark::{attach_mark, flush_settled, reset_home};
 use header_core::{Header, Memory};
 use il_machine::{Home, Link, Mark, Mode, Port, PortKey, PortSetting, PortState, Spot};
 use omx_types::{Format, Handle, PortDefinition, Supplier};
