@@ -8,8 +8,6 @@
 mod header;
 mod key;
 mod memory;
-#[cfg(test)]
-mod tests;
 mod threads;
 
 pub use header::{Header, TooLong};

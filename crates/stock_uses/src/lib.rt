@@ -7,6 +7,8 @@ mod component;
 #[cfg(test)]
 mod flushes;
 #[cfg(test)]
+mod headers;
+#[cfg(test)]
 mod notes;
 #[cfg(test)]
 mod params;

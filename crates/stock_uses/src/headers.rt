@@ -1,11 +1,13 @@
+//! A header over memory of the client's own, and one with a block of a region.
+
 ghost use Rattle.std.specs.Prelude.{◌≡◌, ◌+◌, ◌<◌, length, false, IfOk};
 ghost use Rattle.block_region.specs.Regions.{IsFresh};
 ghost use Rattle.header_core.specs.Keys.{key_number};
 ghost use Rattle.header_core.specs.BufferHeader.{bytes_of, fresh, is_clients};
 ghost use Rattle.header_core.specs.declared.memory.Store.TheVariants.{Own};
 
-use crate::{Header, Key, Memory, Store, TooLong};
 use block_region::Region;
+use header_core::{Header, Key, Memory, Store, TooLong};
 use il_machine::Mark;
 use omx_types::Handle;
 use std::alloc::{AllocError, Global};
