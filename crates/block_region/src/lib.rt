@@ -12,8 +12,6 @@ mod memory;
 mod region;
 mod roster;
 mod seal;
-#[cfg(test)]
-mod tests;
 mod threads;
 
 pub use block::Block;

@@ -1,7 +1,9 @@
+//! Blocks are apart from one another, and a region has them all again in the end.
+
 ghost use Rattle.std.specs.Prelude.{◌≡◌, ◌+◌, ◌<◌, ◌≤◌, [], All, length, vec_len, vec_capacity};
 ghost use Rattle.block_region.specs.Regions.{IsTaken};
 
-use crate::{Block, Region};
+use block_region::{Block, Region};
 use std::test::Fail;
 
 fn take_one(region: &mut Region) -> Block
