@@ -3,7 +3,5 @@
 
 mod book;
 mod row;
-#[cfg(test)]
-mod tests;
 
 pub use book::{Ask, Book};

@@ -5,6 +5,8 @@
 #[cfg(test)]
 mod blocks;
 #[cfg(test)]
+mod book;
+#[cfg(test)]
 mod component;
 #[cfg(test)]
 mod flushes;

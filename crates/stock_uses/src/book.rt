@@ -1,4 +1,6 @@
-use crate::{Ask, Book};
+//! Units that are all held, and those that are given up for the first waiter.
+
+use resource_book::{Ask, Book};
 
 #[test]
 fn units_all_held(rt: HostRuntime) {
