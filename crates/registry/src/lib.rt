@@ -5,8 +5,6 @@ mod entry;
 mod handles;
 mod laws;
 mod names;
-#[cfg(test)]
-mod tests;
 
 pub use handles::{Refuse, Registry};
 pub use laws::law_of_stale_handles;

@@ -13,6 +13,8 @@ mod flushes;
 #[cfg(test)]
 mod headers;
 #[cfg(test)]
+mod names;
+#[cfg(test)]
 mod notes;
 #[cfg(test)]
 mod params;

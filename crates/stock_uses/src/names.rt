@@ -1,5 +1,7 @@
-use crate::find;
+//! The names of components, and texts that are none.
+
 use omx_types::{Kind, OmxError};
+use registry::find;
 use std::test::Fail;
 
 #[test]
