@@ -7,9 +7,6 @@ ghost use Rattle.state_rules.specs.Asked.{asked};
 
 use omx_types::State;
 
-#[cfg(test)]
-mod tests;
-
 /// What a state that is asked for comes to.
 #[derive(Clone, Copy, Debug, PartialEq, Eq)]
 pub enum Asked {

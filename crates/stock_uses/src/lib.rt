@@ -19,6 +19,8 @@ mod notes;
 #[cfg(test)]
 mod params;
 #[cfg(test)]
+mod states;
+#[cfg(test)]
 mod stock;
 #[cfg(test)]
 mod words;

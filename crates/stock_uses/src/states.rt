@@ -1,5 +1,7 @@
-use crate::{Asked, ask, is_down, is_executing, is_lawful, is_running, is_same, is_up};
+//! The ten lawful transitions, what a state that is asked for comes to, and the sorts of states.
+
 use omx_types::State::{self, Executing, Idle, Invalid, Loaded, Pause, WaitForResources};
+use state_rules::{Asked, ask, is_down, is_executing, is_lawful, is_running, is_same, is_up};
 
 const STATES: [State; 6] = [Invalid, Loaded, Idle, Executing, Pause, WaitForResources];
 
