@@ -23,4 +23,6 @@ mod states;
 #[cfg(test)]
 mod stock;
 #[cfg(test)]
+mod tunnels;
+#[cfg(test)]
 mod words;

@@ -9,9 +9,6 @@ ghost use Rattle.il_machine.specs.Tunnels.{agreed};
 use il_machine::Port;
 use omx_types::{Format, Supplier};
 
-#[cfg(test)]
-mod tests;
-
 /// Which end makes the headers of a tunnel, by the preferences of its output and its input. The input's is asked first.
 pub fn agree_supplier(output: Supplier, input: Supplier) -> Supplier
     ensures { result ≡ agreed output input }

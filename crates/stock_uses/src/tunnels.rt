@@ -1,6 +1,8 @@
-use crate::{agree_supplier, compatible};
+//! Who supplies a tunnel, by the preferences of both ends, and which formats are one.
+
 use omx_types::Format;
 use omx_types::Supplier::{Input, Output, Unspecified};
+use tunnel_rules::{agree_supplier, compatible};
 
 #[test]
 fn takes_the_inputs_preference(rt: HostRuntime) {
