@@ -12,3 +12,5 @@ mod generator;
 mod packets;
 #[cfg(test)]
 mod parts;
+#[cfg(test)]
+mod scripts;

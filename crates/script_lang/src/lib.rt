@@ -28,6 +28,3 @@ pub use script::{Script, ScriptError, ScriptFault, read_script};
 pub use text::Text;
 
 pub type OutOfMemory = AllocError;
-
-#[cfg(test)]
-mod tests;

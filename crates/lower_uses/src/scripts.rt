@@ -1,5 +1,7 @@
-use super::*;
+//! Scripts of traces and of plays, and the first fault of texts that are none.
+
 use omx_types::ScriptWhy;
+use script_lang::{Script, ScriptError, read_script};
 use std::alloc::Global;
 use std::test::Fail;
 
