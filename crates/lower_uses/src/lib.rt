@@ -9,6 +9,8 @@ mod clock;
 #[cfg(test)]
 mod generator;
 #[cfg(test)]
+mod heads;
+#[cfg(test)]
 mod packets;
 #[cfg(test)]
 mod parts;

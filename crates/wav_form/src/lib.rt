@@ -12,6 +12,3 @@ mod writing;
 pub use heads::{WavHead, read_head};
 pub use laws::{head_again, one_answer};
 pub use writing::head_bytes;
-
-#[cfg(test)]
-mod tests;

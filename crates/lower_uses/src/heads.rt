@@ -1,8 +1,10 @@
-use super::*;
+//! Heads of WAV files as usual tools write them, those that are refused, and those that are written.
+
 use omx_types::{Format, WavFault};
 use outside_io::{Fail, FailKind, Media, MemoryMedia, MemorySource};
 use std::alloc::{AllocError, Global};
 use std::test::Fail as Failure;
+use wav_form::{WavHead, head_bytes, read_head};
 
 const RIFF: &[u8] = b"RIFF\xff\xff\xff\xffWAVE";
 
