@@ -12,8 +12,6 @@ mod moving;
 mod plans;
 mod sink;
 mod source;
-#[cfg(test)]
-mod tests;
 mod whole;
 
 pub use fails::{Fail, FailKind, FileName};

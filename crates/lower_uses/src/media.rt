@@ -1,4 +1,9 @@
-use super::*;
+//! Files of a media in memory, and each call that can fail in its turn.
+
+use outside_io::{
+    Fail, FailKind, Media, MemoryMedia, MemorySink, MemorySource, OutOfMemory, PumpFault, Refused,
+    Sink, Source, Unread, pump, read_whole, write_whole,
+};
 use std::alloc::Global;
 use std::test::Fail as Failure;
 
