@@ -16,6 +16,3 @@ pub use numbers::{one_numeral, put_number, read_u64};
 pub use read_numbers::{number_in, small_number_in};
 pub use script::{is_first_line, is_skipped};
 pub use words::{BadWord, next_word};
-
-#[cfg(test)]
-mod tests;

@@ -11,6 +11,8 @@ mod generator;
 #[cfg(test)]
 mod heads;
 #[cfg(test)]
+mod lines;
+#[cfg(test)]
 mod media;
 #[cfg(test)]
 mod packets;

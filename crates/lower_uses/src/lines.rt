@@ -1,4 +1,6 @@
-use super::*;
+//! The words of a line, and numbers as words.
+
+use line_text::{BadWord, next_word, put_hex, put_number, read_u64};
 use std::test::Fail;
 
 #[test]
