@@ -11,6 +11,3 @@ mod slices;
 
 pub use alaw::{alaw_decode, alaw_decode_all, alaw_encode, alaw_encode_all};
 pub use mulaw::{mulaw_decode, mulaw_decode_all, mulaw_encode, mulaw_encode_all};
-
-#[cfg(test)]
-mod tests;

@@ -7,6 +7,8 @@ mod acts;
 #[cfg(test)]
 mod clock;
 #[cfg(test)]
+mod codes;
+#[cfg(test)]
 mod generator;
 #[cfg(test)]
 mod heads;

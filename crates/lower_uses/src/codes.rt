@@ -1,6 +1,9 @@
-// Against values from outside: codes worked by hand, and the Recommendation's tables of decoded
-// values.
-use super::*;
+//! Both laws against values from outside: codes worked by hand, and the Recommendation's tables of decoded values.
+
+use g711_law::{
+    alaw_decode, alaw_decode_all, alaw_encode, alaw_encode_all, mulaw_decode, mulaw_decode_all,
+    mulaw_encode, mulaw_encode_all,
+};
 
 /// What each A-law code stands for: the Recommendation's 13-bit values times 8.
 const ALAW_VALUES: [i16; 256] = [
