@@ -21,4 +21,6 @@ mod packets;
 #[cfg(test)]
 mod parts;
 #[cfg(test)]
+mod samples;
+#[cfg(test)]
 mod scripts;

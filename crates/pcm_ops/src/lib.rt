@@ -8,6 +8,3 @@ mod items;
 
 pub use bytes::{bytes_of, samples_of};
 pub use effects::{clamp_into, copy_into, gain_into, mix_into};
-
-#[cfg(test)]
-mod tests;

@@ -1,9 +1,8 @@
-// Against values from outside: the bytes of a file that other tools wrote, and extremes worked by
-// hand.
+//! Against values from outside: the bytes of a file that other tools wrote, and extremes worked by hand.
+
 ghost use Rattle.std.specs.Prelude.{◌≤◌};
 
-use super::*;
-use crate::items::{clamped, scaled};
+use pcm_ops::{bytes_of, clamp_into, copy_into, gain_into, mix_into, samples_of};
 
 #[test]
 fn bytes_and_samples(rt: HostRuntime) {
@@ -54,6 +53,22 @@ fn some_samples() -> [i16; 70] {
     samples
 }
 
+/// What is added to a sum for one sample.
+fn mixed(x: i16, weight: u32) -> i32
+    requires { weight ≤ 65535 }
+{
+    let mut sum = [0];
+    mix_into(&mut sum, &[x], weight);
+    sum[0]
+}
+
+fn clamped(x: i32) -> i16 {
+    let mut to = [0];
+    clamp_into(&[x], &mut to);
+    to[0]
+}
+
+/// Slices go through vectors, and a sample by itself doesn't.
 #[test]
 fn slices_as_scalars(rt: HostRuntime) {
     let samples = some_samples();
@@ -62,12 +77,12 @@ fn slices_as_scalars(rt: HostRuntime) {
         let mut sum = [0_i32; 70];
         gain_into(&samples[..n], 5000, &mut to[..n]);
         for i in 0..n {
-            assert_eq!(rt; to[i], clamped(scaled(samples[i], 5000)), "{i} of {n}");
+            assert_eq!(rt; to[i], gained(samples[i], 5000), "{i} of {n}");
         }
         mix_into(&mut sum[..n], &samples[..n], 60_000);
         clamp_into(&sum[..n], &mut to[..n]);
         for i in 0..n {
-            assert_eq!(rt; sum[i], scaled(samples[i], 60_000), "{i} of {n}");
+            assert_eq!(rt; sum[i], mixed(samples[i], 60_000), "{i} of {n}");
             assert_eq!(rt; to[i], clamped(sum[i]), "{i} of {n}");
         }
     }
