@@ -20,6 +20,3 @@ pub use tracing::trace;
 
 /// Want of memory.
 pub type OutOfMemory = std::alloc::AllocError;
-
-#[cfg(test)]
-mod tests;
