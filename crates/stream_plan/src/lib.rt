@@ -17,6 +17,3 @@ pub use plan::Plan;
 pub use play_forms::{Flow, Joint, PlanFault};
 
 pub type OutOfMemory = AllocError;
-
-#[cfg(test)]
-mod tests;

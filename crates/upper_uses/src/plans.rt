@@ -1,8 +1,10 @@
-use crate::{Plan, PlanFault};
+//! Scripts that have no plan, by the fault that comes first, and the orders and frames of plans.
+
 use omx_types::Format;
 use script_lang::read_script;
 use std::alloc::Global;
 use std::test::Fail;
+use stream_plan::{Plan, PlanFault};
 use wav_form::WavHead;
 
 /// The fault of planning a script with these heads, or that it has none; None where the text is no script.
