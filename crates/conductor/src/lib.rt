@@ -18,6 +18,3 @@ pub use laws::law_of_phases;
 pub use phase::{ChangeStep, LateLink, Phase};
 
 pub type OutOfMemory = AllocError;
-
-#[cfg(test)]
-mod tests;

@@ -3,4 +3,6 @@
 #![tactic(auto)]
 
 #[cfg(test)]
+mod phases;
+#[cfg(test)]
 mod plans;

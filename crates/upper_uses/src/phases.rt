@@ -1,4 +1,6 @@
-use super::*;
+//! When all components are told to go on, and the change of a late source's link.
+
+use conductor::{ChangeStep, Conductor, Phase, PlayClient};
 use il_machine::Progress;
 use note_queues::Client;
 use omx_types::{Completion, Event, OmxError, State};
