@@ -4,8 +4,8 @@ use Rattle.play_run.specs.Playing.{PlayingValue}
 use Rattle.play_run.proofs.Beginning.{can_play, frames_small, opens_so}
 use Rattle.play_run.proofs.playing.Playing.new.Goals as goal
 
-pub new-conductor-requires : goal.new-conductor-requires
-new-conductor-requires g c = c.requires.files.ready.valid.most
+pub new-requires : goal.new-requires
+new-requires g c = c.requires.files.ready.valid.most
 
 pub returns-clause-ready : goal.returns-clause-ready
 returns-clause-ready g c =
