@@ -1,15 +1,12 @@
 -- Where a play is over, its graph can be taken apart: each component is Loaded with nothing pending, and no header is made.
-use Rattle.std.proofs.Common.{◌≡◌, ◌≢◌, ◌⊎◌, inl, inr, ℕ, ◌+◌, ◌<◌, ◌≤◌, Bool, true, false, not, ◌||◌, List, [], ◌∷◌, length, slice_get, Option, Some, None, option_map, is_some, All, refl, sym, ◌∙◌, ap, subst, arith}
+use Rattle.std.proofs.Common.{◌≡◌, ◌≢◌, inl, inr, ℕ, ◌<◌, Bool, true, false, ◌||◌, List, [], ◌∷◌, length, slice_get, Some, None, option_map, refl, sym, ◌∙◌, ap, subst, arith}
 use Rattle.std.proofs.lemmas.Option.{slice_get_within}
-use Rattle.omx_types.specs.declared.handle.Handle.{Handle}
 use Rattle.omx_types.specs.declared.state.State.TheVariants.{Loaded}
-use Rattle.il_machine.specs.declared.answer.Progress.{Progress}
-use Rattle.il_machine.specs.declared.answer.Pending.{Pending}
 use Rattle.il_machine.specs.declared.port.Link.{Link}
 use Rattle.il_machine.specs.declared.port.Port.{Port}
 use Rattle.il_machine.specs.declared.port.PortKey.{PortKey}
 use Rattle.il_machine.specs.declared.port.PortState.{PortState}
-use Rattle.il_machine.specs.Headers.{count_headers, find_header, is_for, seen, weight}
+use Rattle.il_machine.specs.Headers.{count_headers, find_header, is_for, weight}
 use Rattle.il_machine.specs.Ports.{IsCalmPort}
 use Rattle.il_machine.specs.States.{is_invalid, is_loaded}
 use Rattle.il_machine.specs.World.{Component, HeaderRecord, World, number_of, port_of}
@@ -18,22 +15,19 @@ use Rattle.machine_laws.proofs.Every.{at_place, from_places}
 use Rattle.machine_laws.proofs.Finding.{found_head}
 use Rattle.machine_laws.proofs.Lookups.{port_parts}
 use Rattle.machine_laws.proofs.Parts.{parts_of}
-use Rattle.dismantling.specs.Dismantling.{AreLinks, HasEnd, IsParted, IsQuiet, IsResting}
-use Rattle.dismantling.specs.Dismantling.{IsSomeEnd as IsSomeJoined}
-use Rattle.play_forms.specs.Plans.{PlanValue}
+use Rattle.dismantling.specs.Dismantling.{AreLinks, HasEnd, IsQuiet, IsResting}
 use Rattle.play_model.specs.Play.{Play}
 use Rattle.play_model.specs.Reached.{IsOver}
 use Rattle.play_model.proofs.Files.{over_unmade}
 use Rattle.play_plans.specs.Casting.{joint_of}
-use Rattle.play_worlds.specs.Cast.{Cast, components_of, giver_of, input_at, links_of, output_at, script_place, taker_of}
+use Rattle.play_worlds.specs.Cast.{Cast, components_of, input_at, output_at, script_place}
 use Rattle.play_worlds.specs.Standing.{pending_at, state_at}
-use Rattle.play_worlds.specs.Wiring.{IsEnd, IsWired, joined_state, link_to, port_in}
+use Rattle.play_worlds.specs.Wiring.{joined_state, link_to, port_in}
 use Rattle.play_worlds.proofs.Counting.{made_output}
 use Rattle.play_worlds.proofs.Lists.{get_there}
-use Rattle.play_graphs.specs.Graphs.{kept_of}
 use Rattle.play_graphs.specs.Ending.{HasEnded, StandsFor, ends_of}
 use Rattle.play_graphs.proofs.Naming.{named_at}
-use Rattle.play_run.specs.Playing.{IsPlaying, IsStanding, PlayingValue, cast, layout_of}
+use Rattle.play_run.specs.Playing.{IsStanding, PlayingValue, cast, layout_of}
 use Rattle.play_run.specs.Closing.{HasPlayed}
 use Rattle.play_graphs.proofs.Standing.{givers_there, takers_there}
 use Rattle.play_run.proofs.Linking.{link_is}

@@ -20,7 +20,6 @@ use Rattle.il_graph.specs.Shown.{Shown}
 use Rattle.il_graph.specs.Stood.{OnIdle}
 use Rattle.play_forms.specs.declared.joint.Joint.{Joint}
 use Rattle.play_forms.specs.Flows.{no_flow}
-use Rattle.play_forms.proofs.Plainly.{givers_within}
 use Rattle.play_forms.specs.Plans.{IsValid, PlanValue}
 use Rattle.play_model.specs.Play.{Play}
 use Rattle.play_model.specs.Acts.{Act, CanAct}
@@ -33,7 +32,6 @@ use Rattle.play_worlds.proofs.Handing.{over_can, over_leads}
 use Rattle.play_worlds.proofs.Returns.{back_can, back_leads}
 use Rattle.play_worlds.proofs.Leftovers.{unused_can, unused_leads}
 use Rattle.play_plans.specs.Casting.{IsLinkCast, flow_of, joint_of, no_joint}
-use Rattle.play_plans.proofs.Links.{takers_within}
 use Rattle.play_plans.proofs.Casts.{plan_has_cast}
 use Rattle.play_graphs.specs.Graphs.{IsHandleAt, kept_of}
 use Rattle.play_run.specs.Playing.{IsAct, IsPlaying, IsStanding, PlayingValue, cast, is_did, layout_of}

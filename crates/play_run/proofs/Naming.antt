@@ -1,9 +1,7 @@
 -- The component that a handle names, and whether its client object is in.
-use Rattle.std.proofs.Common.{◌≡◌, ℕ, zero, suc, ◌<◌, Bool, true, false, nat_eq, eqb-true, if◌then◌else◌, List, [], ◌∷◌, length, slice_get, Option, Some, None, option_map, option_and_then, is_none, Result, Ok, Err, refl, sym, ◌∙◌, ap, subst, arith}
-use Rattle.std.proofs.lemmas.Bool.Decides.{nat_tests}
-use Rattle.std.proofs.lemmas.Bool.{and_parts}
+use Rattle.std.proofs.Common.{◌≡◌, ℕ, zero, suc, ◌<◌, Bool, false, if◌then◌else◌, List, [], ◌∷◌, length, slice_get, Option, Some, None, option_map, option_and_then, is_none, Result, Ok, Err, refl, sym, ◌∙◌, ap, subst, arith}
 use Rattle.omx_types.specs.declared.handle.Handle.{Handle}
-use Rattle.il_machine.specs.World.{Component, World, is_at, number_of, place_of, same_handle}
+use Rattle.il_machine.specs.World.{Component, World, place_of}
 use Rattle.il_machine.specs.Answers.{component_named, looked}
 use Rattle.il_machine.specs.Look.{Look, look}
 use Rattle.il_machine.specs.Components.{handle_at, progress_answer, progress_of}
@@ -11,11 +9,7 @@ use Rattle.il_machine.specs.declared.answer.Progress.{Progress}
 use Rattle.il_machine.specs.Whole.{Always, Stands}
 use Rattle.omx_types.specs.declared.error.OmxError.{OmxError}
 use Rattle.play_worlds.proofs.Lists.{get_there}
-use Rattle.il_machine.specs.Places.{first_place}
-use Rattle.il_machine.specs.Sound.{AreRising, Sound}
-use Rattle.il_machine.proofs.Places.{is_first_place}
-use Rattle.machine_laws.proofs.Finding.{either}
-use Rattle.machine_laws.proofs.Lookups.{rises_at}
+use Rattle.il_machine.specs.Sound.{Sound}
 use Rattle.il_component.specs.Entries.{Entry, component_of}
 use Rattle.graph_core.specs.Entries.{Entries, client_named, components_of}
 use Rattle.graph_core.proofs.Replacing.{entry_place_is}

@@ -1,5 +1,4 @@
 -- A play that is over.
-use Rattle.il_machine.specs.World.{World}
 use Rattle.audio_parts.specs.declared.part_file.PartFile.{PartFile}
 use Rattle.std.specs.Prelude.{List, Option}
 use Rattle.play_model.specs.Play.{Play}

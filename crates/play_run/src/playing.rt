@@ -70,6 +70,7 @@ impl<S: Source, K: Sink> Playing<S, K> {
     {
         play_on(self)
     }
+
     /// Ends a play that is over. Each file comes to the place of its component.
     pub fn end(self, files: &mut [Option<PartFile<S, K>>])
         requires played { HasPlayed self }
