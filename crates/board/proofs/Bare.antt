@@ -1,12 +1,14 @@
 -- Histories with readers, and without.
-use Rattle.std.proofs.Common.{◌≡◌, ℕ, ◌∙◌, ap, refl, Option, Some, List, [], ◌∷◌, ◌++◌, map}
+use Rattle.std.proofs.Common.{◌≡◌, ap, refl, Option, Some, List, [], ◌∷◌, ◌++◌, map}
 use Rattle.turnstile.specs.declared.entry.Entry.{Entry}
-use Rattle.turnstile.specs.Entries.{entry}
 use Rattle.state_words.specs.declared.words.Reader.{Reader}
-use Rattle.graph_acts.specs.Plain.{Sight, plain_act, plain_reply}
+use Rattle.il_machine.specs.Acts as acts
+use Rattle.graph_acts.specs.declared.act.Act.{Act}
+use Rattle.graph_acts.specs.declared.act.Reply.{Reply}
+use Rattle.graph_acts.specs.Plain.{Sight, Unsaid, plain_act, plain_reply}
 use Rattle.board.specs.declared.asked.Asked.{Asked}
 use Rattle.board.specs.declared.asked.Told.{Told}
-use Rattle.board.specs.Asking.{bare, bare_log, last_told, plain_log, plain_entry}
+use Rattle.board.specs.Asking.{ArePlain, bare, bare_log, last_told}
 
 map_snoc : {X Y : Type 0} (f : X → Y) (xs : List X) (x : X) → map f (xs ++ x ∷ []) ≡ map f xs ++ f x ∷ []
 map_snoc f [] x = refl
@@ -20,6 +22,9 @@ module _ {S K C : Type 0} where
   told_last r [] e = refl
   told_last r (x ∷ xs) e = told_last (Some x.reply.reader) xs e
 
-  pub plain_snoc : (see : Sight S K C) (log : List (Entry (Asked S K C) (Told S K C))) (pass : ℕ) (a : Asked S K C) (r : Told S K C)
-      → plain_log see (bare_log (log ++ entry pass a r ∷ [])) ≡ plain_log see (bare_log log) ++ (plain_act see a.act, plain_reply r.reply) ∷ []
-  plain_snoc see log pass a r = ap (plain_log see) (bare_snoc log (entry pass a r)) ∙ map_snoc (plain_entry see) (bare_log log) (entry pass a.act r.reply)
+  pub plain_more : (see : Sight S K C) (log : List (Entry (Act S K C) (Reply S K C))) (xs : List (acts.Act × acts.Reply)) (e : Entry (Act S K C) (Reply S K C)) (u : Unsaid)
+      → ArePlain see log xs → ArePlain see (log ++ e ∷ []) (xs ++ (plain_act see u e.act, plain_reply u e.reply) ∷ [])
+  plain_more see [] [] e u A = ((u, refl), tt)
+  plain_more see [] (x ∷ xs) e u A = absurd A
+  plain_more see (y ∷ log) [] e u A = absurd A
+  plain_more see (y ∷ log) (x ∷ xs) e u A = (A.0, plain_more see log xs e u A.1)

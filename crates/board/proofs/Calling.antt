@@ -8,12 +8,13 @@ use Rattle.graph_acts.specs.declared.act.Act.{Act}
 use Rattle.graph_acts.specs.declared.act.Reply.{Reply}
 use Rattle.graph_acts.specs.Plain.{Sight}
 use Rattle.graph_acts.specs.Replying.{IsReplyTo, AreReplies}
-use Rattle.graph_acts.specs.Holding.{header_number, client_handle, header_given, client_gone, headers_held, clients_held, taken_in, client_out}
+use Rattle.graph_acts.specs.Holding.{header_number, client_handle, header_given, client_gone, headers_held, clients_held, taken_in, client_out, work_come, work_gone, works_held}
+use Rattle.graph_acts.specs.Working.{work_number}
 use Rattle.board.specs.declared.asked.Asked.{Asked}
 use Rattle.board.specs.declared.asked.Told.{Told}
 use Rattle.board.specs.declared.watched.Watched.{Watched}
 use Rattle.board.specs.Asking.{bare_log}
-use Rattle.board.specs.Boards.{IsCalled, headers_after, clients_after}
+use Rattle.board.specs.Boards.{IsCalled, headers_after, clients_after, works_after}
 use Rattle.board.proofs.Bare.{bare_snoc}
 use Rattle.board.proofs.Owning.{replies_last}
 
@@ -27,6 +28,9 @@ module _ {S K C : Type 0} (see : Sight S K C) (headers : Bool) (first : Watched 
 
     pub clients_called : clients_held see.progress (bare_log w.mine) ≡ clients_after see.progress act reply (clients_held see.progress (bare_log v.mine))
     clients_called = ap (clients_held see.progress) added ∙ held_snoc client_handle same_handle client_gone (client_out see.progress) [] (bare_log v.mine) (entry v.number act reply)
+
+    pub works_called : works_held (bare_log w.mine) ≡ works_after act reply (works_held (bare_log v.mine))
+    works_called = ap works_held added ∙ held_snoc work_number nat_eq work_gone work_come [] (bare_log v.mine) (entry v.number act reply)
 
     pub reply_called : IsReplyTo act reply
     reply_called =

@@ -3,12 +3,13 @@ use Rattle.std.proofs.Common.{◌≡◌, zero, suc, ◌≤◌, ◌∙◌, sym, a
 use Rattle.omx_types.specs.declared.state.State.{State}
 use Rattle.omx_types.specs.declared.state.State.TheVariants.{Invalid}
 use Rattle.il_machine.specs.World.{World}
+use Rattle.il_graph.specs.Shown.{SoundWhole, kept}
 use Rattle.graph_acts.specs.Plain.{Sight}
 use Rattle.state_words.specs.Shown.{States, last_or, firsts}
 use Rattle.state_words.specs.Tokens.{IsShowerOf}
 use Rattle.board.specs.declared.watched.Watched.{Watched}
 use Rattle.board.specs.Watching.{start}
-use Rattle.board.specs.Histories.{known_of, words_of, IsTidy, HasVersions, Reaches, Legal, StandsAfter}
+use Rattle.board.specs.Histories.{graph_of, known_of, words_of, IsTidy, HasVersions, Reaches, Legal, StandsAfter}
 
 pub firsts_last : (xs : List State) → map (last_or Invalid) (firsts xs) ≡ xs
 firsts_last [] = refl
@@ -24,10 +25,19 @@ firsts_count [] = refl
 firsts_count (x ∷ xs) = ap suc (firsts_count xs)
 
 module _ {S K C : Type 0} (see : Sight S K C) where
-  pub opens : (value : Watched S K C) → IsTidy value → HasVersions (known_of value) 0 → Legal see value [] × StandsAfter see value [] value
-  opens value T V =
-      let R : (w : World) → Reaches see value w [] = λ w. record { world = w; all = known_of value; shown = start; reader = tt; objects = λ p x h. absurd h } in (
-        record { replies = tt; worlds = λ w s. R w; apart = λ p q x y h. absurd h; reader = tt },
+  pub opens : (value : Watched S K C) → SoundWhole (kept see.progress (graph_of value)) → IsTidy value → HasVersions (known_of value) 0 → Legal see value [] × StandsAfter see value [] value
+  opens value W T V =
+      let R : (w : World) → Reaches see value w [] = λ w. record {
+        world = w;
+        acts = [];
+        plain = tt;
+        all = known_of value;
+        shown = start;
+        reader = tt;
+        objects = λ p x h. absurd h;
+        works = record { out = λ p x h. absurd h; apart = λ p q x y h. absurd h; all = λ n is. inl is };
+      } in (
+        record { one = W; replies = tt; worlds = λ w s. R w; apart = λ p q x y h. absurd h; reader = tt },
         record {
           worlds = λ w s. record { reaches = R w; stands = s; states = refl };
           headers = record { out = λ p x h. absurd h; apart = λ p q x y h. absurd h; all = λ k is. inl is };
@@ -40,9 +50,9 @@ module _ {S K C : Type 0} (see : Sight S K C) where
       )
 
   -- the states at first are shown, each under version 0
-  pub opens_so : (value : Watched S K C) (states : List State) → known_of value ≡ firsts states → value.states.items ≡ states → length value.handles.items ≤ 32 → length states ≡ length value.handles.items
+  pub opens_so : (value : Watched S K C) (states : List State) → SoundWhole (kept see.progress (graph_of value)) → known_of value ≡ firsts states → value.states.items ≡ states → length value.handles.items ≤ 32 → length states ≡ length value.handles.items
       → IsShowerOf (words_of value) value.shower → Legal see value [] × StandsAfter see value [] value
-  opens_so value states k is few same S = opens value
+  opens_so value states W k is few same S = opens value W
       (record {
         shower = S;
         few = few;

@@ -1,7 +1,7 @@
 -- An act takes in what its pass holds, and a reply is of its act's kind.
-use Rattle.std.proofs.Common.{◌≡◌, ℕ, ◌∙◌, sym, refl, Bool, nat_eq, eqb-true, eq-eqb, Some, Result, Ok, Err, List, [], ◌∷◌, ◌++◌}
+use Rattle.std.proofs.Common.{◌≡◌, ℕ, ◌∙◌, sym, ap, refl, Bool, nat_eq, eqb-true, eq-eqb, Some, Result, Ok, Err, List, [], ◌∷◌, ◌++◌}
 use Rattle.il_machine.specs.World.{same_handle}
-use Rattle.il_machine.specs.declared.answer.Progress.{Progress}
+use Rattle.omx_types.specs.declared.handle.Handle.{Handle}
 use Rattle.header_core.specs.BufferHeader.{BufferHeader}
 use Rattle.turnstile.specs.declared.entry.Entry.{Entry}
 use Rattle.held_things.specs.Held.{Has, Tells, IsOwn}
@@ -11,7 +11,9 @@ use Rattle.graph_acts.specs.declared.act.Act.TheVariants as asks
 use Rattle.graph_acts.specs.declared.act.Reply.{Reply}
 use Rattle.graph_acts.specs.declared.act.Reply.TheVariants as replies
 use Rattle.graph_acts.specs.Replying.{IsReplyTo, AreReplies}
-use Rattle.graph_acts.specs.Holding.{HoldsHeader, May, header_number, client_handle, headers_held, clients_held, taken_in, freed_in, emptied_in, filled_in, on_ok, client_in}
+use Rattle.graph_acts.specs.Holding.{HoldsHeader, May, header_number, client_handle, headers_held, clients_held, works_held, taken_in, freed_in, emptied_in, filled_in, on_ok, client_in}
+use Rattle.graph_acts.specs.Plain.{Sight}
+use Rattle.graph_acts.specs.Working.{work_back, work_number}
 
 pub tells_numbers : Tells nat_eq
 tells_numbers = record { is = λ a b h. eqb-true a b h; itself = λ a. eq-eqb a a refl }
@@ -47,12 +49,16 @@ module _ {S K C : Type 0} where
   holds : (mine : List (Entry (Act S K C) (Reply S K C))) (header : BufferHeader) (k : ℕ) → HoldsHeader mine header → header.held.number ≡ k → (x : BufferHeader) × Has (headers_held mine) x × (x.held.number ≡ k)
   holds mine header k h e = (h.0, h.1, sym h.2.number ∙ e)
 
-  pub own_headers : (progress : C → Progress) (headers : Bool) (mine : List (Entry (Act S K C) (Reply S K C))) (a : Act S K C) (r : Reply S K C) → May progress headers mine a → IsOwn header_number (headers_held mine) (taken_in a r)
-  own_headers progress headers mine (asks.FreeBuffer h port header) r m k e = holds mine header k m (freed_number header r k e)
-  own_headers progress headers mine (asks.EmptyThisBuffer h port header) r m k e = holds mine header k m (emptied_number header r k e)
-  own_headers progress headers mine (asks.FillThisBuffer h port header) r m k e = holds mine header k m (filled_number header r k e)
-  own_headers progress headers mine _ r m k e = absurd cc
+  pub own_headers : (see : Sight S K C) (headers : Bool) (mine : List (Entry (Act S K C) (Reply S K C))) (a : Act S K C) (r : Reply S K C) → May see headers mine a → IsOwn header_number (headers_held mine) (taken_in a r)
+  own_headers see headers mine (asks.FreeBuffer h port header) r m k e = holds mine header k m (freed_number header r k e)
+  own_headers see headers mine (asks.EmptyThisBuffer h port header) r m k e = holds mine header k m (emptied_number header r k e)
+  own_headers see headers mine (asks.FillThisBuffer h port header) r m k e = holds mine header k m (filled_number header r k e)
+  own_headers see headers mine _ r m k e = absurd cc
 
-  pub own_clients : (progress : C → Progress) (headers : Bool) (mine : List (Entry (Act S K C) (Reply S K C))) (a : Act S K C) → May progress headers mine a → IsOwn client_handle (clients_held progress mine) (client_in a)
-  own_clients progress headers mine (asks.EndNote h client) m k e = (record { handle = h; progress = progress client }, m, cc)
-  own_clients progress headers mine _ m k e = absurd cc
+  pub own_clients : (see : Sight S K C) (headers : Bool) (mine : List (Entry (Act S K C) (Reply S K C))) (a : Act S K C) → May see headers mine a → IsOwn client_handle (clients_held see.progress mine) (client_in a)
+  own_clients see headers mine (asks.EndNote h client) m k e = (record { handle = h; progress = see.progress client }, m, cc)
+  own_clients see headers mine _ m k e = absurd cc
+
+  pub own_works : (see : Sight S K C) (headers : Bool) (mine : List (Entry (Act S K C) (Reply S K C))) (a : Act S K C) → May see headers mine a → IsOwn work_number (works_held mine) (work_back a)
+  own_works see headers mine (asks.Finish done) m n e = let is : done.component.generation ≡ n = cc in (m.0, m.1, ap (λ (h : Handle). h.generation) (sym m.2.component) ∙ is)
+  own_works see headers mine _ m n e = absurd cc

@@ -31,7 +31,7 @@ use Rattle.board.proofs.Going.{headers_go, clients_go, reach}
 
 module _ {S K C : Type 0} (see : Sight S K C) (headers : Bool) (first old new : Watched S K C) (log : List (Entry (Asked S K C) (Told S K C))) (pass : ℕ) (a : Asked S K C) (r : Told S K C) (place : ℕ) where
   -- the value after the act and after each changed state was shown
-  pub served_so : Due (Legal see) (StandsAfter see) (MayAsk see.progress headers) first log pass old a place → IsLawful see.progress (graph_of old) → IsLawful see.progress (graph_of new)
+  pub served_so : Due (Legal see) (StandsAfter see) (MayAsk see headers) first log pass old a place → IsLawful see.progress (graph_of old) → IsLawful see.progress (graph_of new)
       → Moved see a.act r.reply (graph_of old) (graph_of new)
       → words_of new ≡ words_of old → new.handles.items ≡ old.handles.items → IsTidy new
       → ((w : World) → Stands (graphs.kept see.progress (graph_of new)) w → SeenIn old.handles.items w (known_of old) (known_of new))
@@ -40,7 +40,7 @@ module _ {S K C : Type 0} (see : Sight S K C) (headers : Bool) (first old new : 
       → Legal see first (log ++ entry pass a r ∷ []) × StandsAfter see first (log ++ entry pass a r ∷ []) new
   served_so due L N M words handles tidy seen versions of within =
       let U = due.stood in
-      let m : May see.progress headers (own pass (bare_log log)) a.act = subst (λ l. May see.progress headers l a.act) (own_bare pass log) due.may_ask.0 in
+      let m : May see headers (own pass (bare_log log)) a.act = subst (λ l. May see headers l a.act) (own_bare pass log) due.may_ask.0 in
       let e = bare_snoc log (entry pass a r) in
       let H : HeadersAreHeld (graph_of first) (bare_log (log ++ entry pass a r ∷ [])) (graph_of new) = subst (λ l. HeadersAreHeld (graph_of first) l (graph_of new)) (sym e)
       (headers_go see headers (graph_of first) (graph_of old) (bare_log log) pass (graph_of new) a.act r.reply U.headers m M) in
@@ -53,6 +53,7 @@ module _ {S K C : Type 0} (see : Sight S K C) (headers : Bool) (first old new : 
       record { reaches = Q.0; stands = Q.1; states = Q.2 } in
       let count : length (log ++ entry pass a r ∷ []) ≡ length log + 1 = length-append log (entry pass a r ∷ []) in (
         record {
+          one = due.is_legal.one;
           replies = subst AreReplies (sym e) (replies_more (bare_log log) (entry pass a.act r.reply) due.is_legal.replies M.replied);
           worlds = λ w s. (W w s).reaches;
           apart = λ p q x y h g k. O.apart p q x y h g k;
@@ -72,7 +73,7 @@ module _ {S K C : Type 0} (see : Sight S K C) (headers : Bool) (first old new : 
 module _ {S K C : Type 0} (see : Sight S K C) (headers : Bool) (first old : Watched S K C) (log : List (Entry (Asked S K C) (Told S K C))) (pass : ℕ) (a : Asked S K C) (place : ℕ) where
   -- the same by the calls that do it: the act, the showing, and the telling
   pub finish : (served' : Served S K C) (shown : Watched S K C) (from : Shower) (to : Reader) (reply : Reply S K C)
-      → Due (Legal see) (StandsAfter see) (MayAsk see.progress headers) first log pass old a place → IsLawful see.progress (graph_of old) → IsLawful see.progress served'.graph
+      → Due (Legal see) (StandsAfter see) (MayAsk see headers) first log pass old a place → IsLawful see.progress (graph_of old) → IsLawful see.progress served'.graph
       → Moved see a.act reply (graph_of old) served'.graph → ShowsChanges see.progress (record old { served = served' }) shown
       → IsShowerOf (words_of shown) from → IsReaderOf (words_of shown) to → known_by from ≡ known_by shown.shower → Within (known_by shown.shower) (known to)
       → Legal see first (log ++ entry pass a (record { reply = reply; reader = to }) ∷ []) × StandsAfter see first (log ++ entry pass a (record { reply = reply; reader = to }) ∷ []) (record shown { shower = from })

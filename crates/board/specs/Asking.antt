@@ -1,12 +1,12 @@
 -- A history of acts with readers, and the same without them.
-use Rattle.std.specs.Prelude.{List, [], ◌∷◌, map, Option, Some}
+use Rattle.std.specs.Prelude.{◌≡◌, List, [], ◌∷◌, map, Option, Some}
 use Rattle.turnstile.specs.declared.entry.Entry.{Entry}
 use Rattle.turnstile.specs.Entries.{entry}
 use Rattle.il_machine.specs.Acts as acts
 use Rattle.state_words.specs.declared.words.Reader.{Reader}
 use Rattle.graph_acts.specs.declared.act.Act.{Act}
 use Rattle.graph_acts.specs.declared.act.Reply.{Reply}
-use Rattle.graph_acts.specs.Plain.{Sight, plain_act, plain_reply}
+use Rattle.graph_acts.specs.Plain.{Sight, Unsaid, plain_act, plain_reply}
 use Rattle.board.specs.declared.asked.Asked.{Asked}
 use Rattle.board.specs.declared.asked.Told.{Told}
 
@@ -22,9 +22,13 @@ module _ {S K C : Type 0} where
   last_told r [] = r
   last_told r (e ∷ es) = last_told (Some e.reply.reader) es
 
-  abbrev pub plain_entry : Sight S K C → Entry (Act S K C) (Reply S K C) → acts.Act × acts.Reply
-  plain_entry see e = (plain_act see e.act, plain_reply e.reply)
+  -- the entry as the machine may have it, by some values of what it doesn't tell
+  abbrev pub IsPlain : Sight S K C → Entry (Act S K C) (Reply S K C) → acts.Act × acts.Reply → Type 0
+  IsPlain see e x = (u : Unsaid) × (x ≡ (plain_act see u e.act, plain_reply u e.reply))
 
-  -- the history as the machine has it
-  abbrev pub plain_log : Sight S K C → List (Entry (Act S K C) (Reply S K C)) → List (acts.Act × acts.Reply)
-  plain_log see log = map (plain_entry see) log
+  -- the history as the machine may have it, entry by entry
+  abbrev pub ArePlain : Sight S K C → List (Entry (Act S K C) (Reply S K C)) → List (acts.Act × acts.Reply) → Type 0
+  ArePlain see [] [] = Unit {0}
+  ArePlain see [] (x ∷ xs) = ⊥
+  ArePlain see (e ∷ log) [] = ⊥
+  ArePlain see (e ∷ log) (x ∷ xs) = IsPlain see e x × ArePlain see log xs

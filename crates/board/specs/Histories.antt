@@ -1,8 +1,8 @@
 -- A history of turns from the value of the board's making, and the value that stands after it.
-use Rattle.std.specs.Prelude.{◌≡◌, ℕ, ◌≤◌, ◌<◌, ◌^◌, Bool, List, length, map, None, MatchOption}
+use Rattle.std.specs.Prelude.{◌≡◌, ℕ, ◌≤◌, ◌<◌, ◌^◌, Bool, true, List, length, map, None, MatchOption}
 use Rattle.std.specs.Arc.{arc_value}
 use Rattle.omx_types.specs.declared.state.State.TheVariants.{Invalid}
-use Rattle.il_machine.specs.declared.answer.Progress.{Progress}
+use Rattle.il_machine.specs.Acts as acts
 use Rattle.il_machine.specs.World.{World}
 use Rattle.il_machine.specs.Buffers.{IsWithClient}
 use Rattle.il_machine.specs.Whole.{Stands}
@@ -16,16 +16,18 @@ use Rattle.state_words.specs.Shown.{States, Within, last_or, version_of}
 use Rattle.state_words.specs.Tokens.{IsShowerOf, IsReaderOf, known, known_by}
 use Rattle.state_words.specs.declared.words.StateWords.{StateWords}
 use Rattle.held_things.specs.Held.{Has, AreHeld}
+use Rattle.history_laws.specs.Works.{has_work_out}
 use Rattle.run_laws.specs.Objects.{IsObjectOut}
 use Rattle.graph_acts.specs.declared.act.Act.{Act}
 use Rattle.graph_acts.specs.declared.act.Reply.{Reply}
 use Rattle.graph_acts.specs.Plain.{Sight}
 use Rattle.graph_acts.specs.Replying.{AreReplies}
-use Rattle.graph_acts.specs.Holding.{OutClient, header_number, client_handle, headers_held, clients_held, IsGone, IsGoneSo, May, Clear, Can}
+use Rattle.graph_acts.specs.Holding.{OutClient, header_number, client_handle, headers_held, clients_held, works_held, IsGone, IsGoneSo, May, Clear, Can}
+use Rattle.graph_acts.specs.Working.{IsWorkIn, work_number}
 use Rattle.board.specs.declared.asked.Asked.{Asked}
 use Rattle.board.specs.declared.asked.Told.{Told}
 use Rattle.board.specs.declared.watched.Watched.{Watched}
-use Rattle.board.specs.Asking.{bare_log, last_told, plain_log}
+use Rattle.board.specs.Asking.{ArePlain, bare_log, last_told}
 use Rattle.board.specs.Watching.{Shown}
 
 -- no more versions than places
@@ -49,23 +51,33 @@ module _ {S K C : Type 0} where
     pub count : length (known_of v) ≡ length v.handles.items
     pub states : v.states.items ≡ map (last_or Invalid) (known_of v)
 
+module _ {S K C : Type 0} where
   abbrev pub HeadersAreHeld : graphs.Shown S K C → List (Entry (Act S K C) (Reply S K C)) → graphs.Shown S K C → Type 0
   HeadersAreHeld first log now = AreHeld header_number (λ p. headers_held (own p log)) (λ h. IsHandedIn h (look_of now.core)) (λ n. IsWithClient n (look_of now.core)) (λ n. IsWithClient n (look_of first.core))
 
   abbrev pub ClientsAreHeld : Sight S K C → graphs.Shown S K C → List (Entry (Act S K C) (Reply S K C)) → graphs.Shown S K C → Type 0
   ClientsAreHeld see first log now = AreHeld client_handle (λ p. clients_held see.progress (own p log)) (IsGoneSo now) (IsGone now) (IsGone first)
 
+  -- the same of works, in the worlds at first and now
+  abbrev pub WorksAreHeld : World → List (Entry (Act S K C) (Reply S K C)) → World → Type 0
+  WorksAreHeld first log now = AreHeld work_number (λ p. works_held (own p log)) (IsWorkIn now) (λ n. has_work_out n now ≡ true) (λ n. has_work_out n first ≡ true)
+
   -- Where the history leads from w: the states of each component on the way, all of which the reader knows that came back last. There each
-  -- client object that a pass holds is out, and was told all that was given for its component.
+  -- client object that a pass holds is out, and was told all that was given for its component; and the works that are out are with passes.
   pub record Reaches (see : Sight S K C) (first : Watched S K C) (w : World) (log : List (Entry (Asked S K C) (Told S K C))) : Type 0 where
     pub world : World
+    pub acts : List (acts.Act × acts.Reply)
+    pub plain : ArePlain see (bare_log log) acts
     pub all : List States
-    pub shown : Shown first.handles.items w (known_of first) (plain_log see (bare_log log)) world all
+    pub shown : Shown first.handles.items w (known_of first) acts world all
     pub reader : MatchOption (last_told None log) (Unit {0}) (λ r. Within all (known r))
     pub objects : (p : ℕ) (x : OutClient) → Has (clients_held see.progress (own p (bare_log log))) x → IsObjectOut x.handle world × WasTold x.handle x.progress world
+    pub works : WorksAreHeld w (bare_log log) world
 
   -- From each world that the first graph stands for, the acts and replies are a run of the machine; and each reply is of its act's kind.
+  -- There is such a world.
   pub record Legal (see : Sight S K C) (first : Watched S K C) (log : List (Entry (Asked S K C) (Told S K C))) : Type 0 where
+    pub one : graphs.SoundWhole (graphs.kept see.progress (graph_of first))
     pub replies : AreReplies (bare_log log)
     pub worlds : (w : World) → Stands (graphs.kept see.progress (graph_of first)) w → Reaches see first w log
     -- a client object that is out is with one pass
@@ -88,14 +100,14 @@ module _ {S K C : Type 0} where
     pub tidy : IsTidy v
     pub versions : HasVersions (known_of v) (length log)
 
-  abbrev pub MayAsk : (C → Progress) → Bool → Watched S K C → List (Entry (Asked S K C) (Told S K C)) → Asked S K C → Type 0
-  MayAsk progress headers first own a = May progress headers (bare_log own) a.act × IsReaderOf (words_of first) a.reader
+  abbrev pub MayAsk : Sight S K C → Bool → Watched S K C → List (Entry (Asked S K C) (Told S K C)) → Asked S K C → Type 0
+  MayAsk see headers first own a = May see headers (bare_log own) a.act × IsReaderOf (words_of first) a.reader
 
-  abbrev pub IsClear : (C → Progress) → List (Entry (Asked S K C) (Told S K C)) → Type 0
-  IsClear progress own = Clear progress (bare_log own)
+  abbrev pub IsClear : Sight S K C → List (Entry (Asked S K C) (Told S K C)) → Type 0
+  IsClear see own = Clear see (bare_log own)
 
   pub record CanServe (see : Sight S K C) (v : Watched S K C) (a : Asked S K C) (place : ℕ) : Type 0 where
-    pub can : Can see.progress (graph_of v) a.act
+    pub can : Can see (graph_of v) a.act
     pub reader : IsReaderOf (words_of v) a.reader
     pub tidy : IsTidy v
     pub versions : HasVersions (known_of v) place

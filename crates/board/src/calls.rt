@@ -6,7 +6,7 @@ ghost use Rattle.state_words.specs.Shown.{Within, LastIs};
 ghost use Rattle.graph_acts.specs.Plain.{sight_of};
 ghost use Rattle.graph_acts.specs.Replying.{IsReplyTo};
 ghost use Rattle.graph_acts.specs.Holding.{May};
-ghost use Rattle.board.specs.Boards.{first_of, pass_view, own_calls, seen_states, headers, clients, headers_after, clients_after, IsOf, IsCalled, HasSeen};
+ghost use Rattle.board.specs.Boards.{first_of, pass_view, own_calls, seen_states, headers, clients, works, headers_after, clients_after, works_after, IsOf, IsCalled, HasSeen};
 
 use crate::asked::{Asked, Told};
 use crate::boards::Board;
@@ -40,12 +40,13 @@ impl<S: Source, K: Sink, C: Client> Board<S, K, C> {
         act: Act<S, K, C>,
     ) -> Result<(u64, Reply<S, K, C>), Act<S, K, C>>
         requires pass { IsOf self.now pass.old }
-        requires may { May C.progress C.HEADERS (own_calls pass.old) act }
+        requires may { May (sight_of C.progress S.offset S.size S.told K.told) C.HEADERS (own_calls pass.old) act }
         ensures pass { IsOf self.now pass.new × IsSamePass (pass_view pass.old) (pass_view pass.new) }
         ensures ok { IfOk result (λ r. IsCalled (sight_of C.progress S.offset S.size S.told K.told) C.HEADERS (first_of self.now) (pass_view pass.old) act r.0 r.1 (pass_view pass.new)) }
         ensures reply { IfOk result (λ r. IsReplyTo act r.1) }
         ensures headers { IfOk result (λ r. headers pass.new ≡ headers_after act r.1 (headers pass.old)) }
         ensures clients { IfOk result (λ r. clients C.progress pass.new ≡ clients_after C.progress act r.1 (clients C.progress pass.old)) }
+        ensures works { IfOk result (λ r. works pass.new ≡ works_after act r.1 (works pass.old)) }
         ensures shown { OnOk result (HasSeen (sight_of C.progress S.offset S.size S.told K.told) self.now pass.new) }
         ensures known { Within (seen_states pass.old) (seen_states pass.new) }
         ensures err { IfErr result (λ back. (back ≡ act) × ((pass_view pass.new).seen ≡ (pass_view pass.old).seen) × (own_calls pass.new ≡ own_calls pass.old) × IsPastPlaces (pass_view pass.new).ticket) }

@@ -10,7 +10,7 @@ ghost use Rattle.graph_acts.specs.Plain.{sight_of};
 ghost use Rattle.board.specs.declared.asked.Asked.{Asked};
 ghost use Rattle.board.specs.declared.asked.Told.{Told};
 ghost use Rattle.board.specs.declared.watched.Watched.{Watched};
-ghost use Rattle.board.specs.Asking.{bare_log, plain_log};
+ghost use Rattle.board.specs.Asking.{ArePlain, bare_log};
 ghost use Rattle.board.specs.Histories.{Legal, graph_of};
 ghost use Rattle.board.specs.Together.{AreOneRun};
 
@@ -22,5 +22,5 @@ use outside_io::{Sink, Source};
 pub fn law_of_histories<S: Source, K: Sink, C: Client>()
     ensures { (key units : ℕ) (xs : List (MachineAct × MachineReply)) (w : World) (first : Watched S K C) (log : List (Entry (Asked S K C) (Told S K C)))
         → Run (no_world key units) xs w → Stands (kept C.progress (graph_of first)) w → Legal (sight_of C.progress S.offset S.size S.told K.told) first log
-        → AreOneRun key units xs (plain_log (sight_of C.progress S.offset S.size S.told K.told) (bare_log log)) }
+        → (ys : List (MachineAct × MachineReply)) × ArePlain (sight_of C.progress S.offset S.size S.told K.told) (bare_log log) ys × AreOneRun key units xs ys }
 {}

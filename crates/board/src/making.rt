@@ -1,7 +1,8 @@
 //! A board is made, its passes split and meet, and it ends.
 ghost use Rattle.std.specs.Prelude.{◌≡◌, ◌≤◌, ◌<◌, ◌^◌, [], ◌∷◌, ◌++◌, length, slice_get, option_map, IfOk, IfErr, OnOk};
 ghost use Rattle.il_machine.specs.Whole.{Always};
-ghost use Rattle.il_graph.specs.Shown.{kept, SoundWhole};
+ghost use Rattle.graph_core.specs.Ending.{IsAllIn};
+ghost use Rattle.il_graph.specs.Shown.{kept, look_of};
 ghost use Rattle.turnstile.specs.Turns.{rooted, parent, child};
 ghost use Rattle.turnstile.specs.Passes.{Joined};
 ghost use Rattle.state_words.specs.Shown.{States, Within, firsts};
@@ -9,7 +10,7 @@ ghost use Rattle.graph_acts.specs.Plain.{sight_of};
 ghost use Rattle.graph_acts.specs.Holding.{Clear};
 ghost use Rattle.board.specs.Watching.{seat_of, AreSeats, HasMore};
 ghost use Rattle.board.specs.Histories.{Legal, MayAsk, known_of};
-ghost use Rattle.board.specs.Boards.{first_of, first_graph, pass_view, own_calls, seen_states, IsOf, IsWhole, Closed};
+ghost use Rattle.board.specs.Boards.{first_of, first_graph, pass_view, own_calls, seen_states, IsOf, IsWhole, HasNoFiles, Closed};
 
 use crate::boards::Board;
 use crate::pass::BoardPass;
@@ -156,10 +157,10 @@ impl<S: Source, K: Sink, C: Client> Board<S, K, C> {
     /// The root has then seen one history with all that both had seen, and every state that either had seen.
     pub fn meet(&self, root: &mut BoardPass<S, K, C>, pass: BoardPass<S, K, C>)
         requires root { IsOf self.now root.old × ((pass_view root.old).number ≡ 0) }
-        requires pass { IsOf self.now pass × Clear C.progress (own_calls pass) }
+        requires pass { IsOf self.now pass × Clear (sight_of C.progress S.offset S.size S.told K.told) (own_calls pass) }
         ensures root { IsOf self.now root.new × ((pass_view root.new).number ≡ 0) × ((pass_view root.new).splits ≡ (pass_view root.old).splits) × ((pass_view root.new).mine ≡ (pass_view root.old).mine) }
         ensures listed { (pass_view root.new).joined ≡ (pass_view root.old).joined ++ ((pass_view pass).number, (pass_view pass).mine) ∷ [] }
-        ensures history { Joined (Legal (sight_of C.progress S.offset S.size S.told K.told)) (MayAsk C.progress C.HEADERS) (first_of self.now) (pass_view root.old) (pass_view pass) (pass_view root.new) }
+        ensures history { Joined (Legal (sight_of C.progress S.offset S.size S.told K.told)) (MayAsk (sight_of C.progress S.offset S.size S.told K.told) C.HEADERS) (first_of self.now) (pass_view root.old) (pass_view pass) (pass_view root.new) }
         ensures known { Within (seen_states root.old) (seen_states root.new) × Within (seen_states pass) (seen_states root.new) }
     {
         let BoardPass { turn, reader } = pass;
@@ -167,19 +168,14 @@ impl<S: Source, K: Sink, C: Client> Board<S, K, C> {
         self.words.learn(&mut root.reader, reader);
     }
 
-    /// There is a world that the first graph stands for.
-    pub fn law_of_first(&self)
-        ensures { SoundWhole (kept C.progress (first_graph self.now)) }
-    {
-        let _ = &self.turns;
-    }
-
-    /// The graph, once each other pass was met. Where nothing was out of it at first, nothing is now.
+    /// The graph, once each other pass was met. Where nothing was out of it at first, nothing is now; and where then no component has a
+    /// file, the graph can be closed.
     pub fn close(self, root: BoardPass<S, K, C>) -> Graph<S, K, C>
-        requires root { IsOf self root × ((pass_view root).number ≡ 0) × Clear C.progress (own_calls root) }
+        requires root { IsOf self root × ((pass_view root).number ≡ 0) × Clear (sight_of C.progress S.offset S.size S.told K.told) (own_calls root) }
         requires joined { length (pass_view root).joined ≡ (pass_view root).splits }
         ensures closed { Closed (sight_of C.progress S.offset S.size S.told K.told) C.HEADERS (first_of self) (pass_view root) result }
         ensures whole { IsWhole (first_graph self) → IsWhole result }
+        ensures all_in { IsWhole (first_graph self) → HasNoFiles result → IsAllIn (look_of result) }
     {
         let Board {
             turns,
@@ -195,6 +191,7 @@ impl<S: Source, K: Sink, C: Client> Board<S, K, C> {
             states: _,
         } = turns.close(turn);
         let Served { graph, alloc: _ } = served;
+        graph.law_of_worlds();
         graph
     }
 }

@@ -7,6 +7,7 @@ use state_words::Reader;
 use turnstile::Pass;
 
 /// A pass of a board. One that is dropped is never met, so its board is not closed.
+#[derive(Drop)]
 pub struct BoardPass<S: Source, K: Sink, C: Client> {
     pub(crate) turn: Pass<Watched<S, K, C>>,
     pub(crate) reader: Reader,

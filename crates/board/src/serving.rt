@@ -19,9 +19,9 @@ impl<S: Source, K: Sink, C: Client> Serve for Watched<S, K, C> {
 
     ghost stands = { StandsAfter (sight_of C.progress S.offset S.size S.told K.told) };
 
-    ghost may = { MayAsk C.progress C.HEADERS };
+    ghost may = { MayAsk (sight_of C.progress S.offset S.size S.told K.told) C.HEADERS };
 
-    ghost clear = { IsClear C.progress };
+    ghost clear = { IsClear (sight_of C.progress S.offset S.size S.told K.told) };
 
     ghost can_serve = { CanServe (sight_of C.progress S.offset S.size S.told K.told) };
 

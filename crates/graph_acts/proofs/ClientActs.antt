@@ -1,5 +1,5 @@
 -- The acts that make and free components, and those by which client objects go out and in.
-use Rattle.std.proofs.Common.{◌≡◌, ◌≢◌, ◌⊎◌, inl, inr, ℕ, ◌<◌, ◌∙◌, sym, ap, subst, refl, true, false, nat_eq, eq-eqb, ne_eqb, Option, Some, None, IfSome, IsSome, IfOk, OnOk, OnErr, Result, Ok, Err, MatchOption, List, arith}
+use Rattle.std.proofs.Common.{◌≡◌, inl, inr, ℕ, ◌<◌, ◌∙◌, sym, ap, subst, refl, true, false, nat_eq, eq-eqb, ne_eqb, Option, Some, None, IfSome, IfOk, OnOk, OnErr, Result, Ok, Err, List, arith}
 use Rattle.std.specs.Prelude.{option_and_then}
 use Rattle.omx_types.specs.declared.handle.Handle.{Handle}
 use Rattle.omx_types.specs.declared.error.OmxError.{OmxError}
@@ -9,17 +9,15 @@ use Rattle.omx_types.specs.declared.command.Event.TheVariants as events
 use Rattle.omx_types.specs.declared.command.Completion.TheVariants as completions
 use Rattle.omx_types.specs.declared.error.CallError.{CallError}
 use Rattle.il_machine.specs.declared.answer.Progress.{Progress as Reached}
-use Rattle.il_machine.specs.World.{Component, World, same_handle}
-use Rattle.il_machine.specs.Look.{Look, look}
+use Rattle.il_machine.specs.World.{World, same_handle}
+use Rattle.il_machine.specs.Look.{look}
 use Rattle.il_machine.specs.Answers.{component_named, AnswersOrMemory}
 use Rattle.il_machine.specs.Components.{GetHandle, get_handle_refusal, progress_of, noted_by}
 use Rattle.il_machine.specs.Whole.{Stands, Always, Steps}
 use Rattle.il_machine.specs.Sound.{Sound}
-use Rattle.il_machine.specs.Buffers.{IsWithClient}
 use Rattle.il_machine.specs.Acts as acts
 use Rattle.il_machine.specs.Notes.{TookNote}
 use Rattle.il_machine.specs.Run.{Step, Meets}
-use Rattle.header_core.specs.BufferHeader.{BufferHeader}
 use Rattle.note_queues.specs.declared.taken.Taken.{Taken}
 use Rattle.note_queues.specs.declared.taken.Taken.TheVariants.{Told, EmptyDone, FillDone}
 use Rattle.note_queues.specs.declared.taken.Took.{Took}
@@ -30,14 +28,13 @@ use Rattle.history_laws.specs.Given as given
 use Rattle.history_laws.proofs.GivenNotes.{progress_told}
 use Rattle.graph_core.specs.Entries.{look_of, client_named, client_of}
 use Rattle.il_graph.specs.Shown.{Shown, SoundWhole, kept}
-use Rattle.graph_core.specs.Changes.{IsHandedIn}
 use Rattle.graph_core.specs.Clients.{KeepsClients, KeepsAllClients, TakesClient, IsOut, WasTold, AreTold, IsPortDone}
-use Rattle.il_graph.specs.HandedIn.{StayHandedIn, IsHandedOut, IsNoteHandedOut, IsTookHandedOut}
+use Rattle.il_graph.specs.HandedIn.{StayHandedIn, IsNoteHandedOut, IsTookHandedOut}
 use Rattle.il_graph.specs.declared.freed.Freed.{Freed}
 use Rattle.il_graph.specs.Stood.{plainly, with_record, tookly, IsTookDone}
 use Rattle.machine_laws.proofs.Finding.{either}
 use Rattle.machine_laws.proofs.Keys.{there_is, is_there}
-use Rattle.graph_acts.specs.Holding.{OutClient, header_in, took_header, took_client, IsGone, IsGoneSo}
+use Rattle.graph_acts.specs.Holding.{header_in, took_header, took_client, IsGone}
 use Rattle.graph_acts.specs.Moving.{MovesHeaders, MovesClients}
 use Rattle.run_laws.proofs.Naming.{handle_is, handle_itself, named_below, named_one}
 use Rattle.graph_acts.proofs.Worlds.{out_there}

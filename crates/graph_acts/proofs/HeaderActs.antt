@@ -1,30 +1,16 @@
 -- The acts on headers of client ports.
-use Rattle.std.proofs.Common.{◌≡◌, ◌≢◌, ◌⊎◌, inl, inr, ℕ, ◌∙◌, sym, ap, subst, refl, false, Option, Some, None, IfSome, IfOk, OnOk, OnErr, Result, Ok, Err, List, []}
+use Rattle.std.proofs.Common.{◌≡◌, inl, inr, sym, subst, None, IfOk, OnOk, OnErr, Result, Ok, Err}
 use mathlib.Core.Logic.{dite}
 use native.Mathlib.Decide.{ℕ_discrete}
-use Rattle.omx_types.specs.declared.handle.Handle.{Handle}
-use Rattle.omx_types.specs.declared.error.OmxError.{OmxError}
-use Rattle.omx_types.specs.declared.error.CallError.{CallError}
-use Rattle.il_machine.specs.declared.answer.Progress.{Progress as Reached}
-use Rattle.il_machine.specs.World.{World}
-use Rattle.il_machine.specs.Look.{Look}
-use Rattle.il_machine.specs.Whole.{Stands}
 use Rattle.il_machine.specs.Buffers.{IsWithClient}
-use Rattle.il_machine.specs.Run.{Step}
-use Rattle.header_core.specs.BufferHeader.{BufferHeader, IsSized}
+use Rattle.header_core.specs.BufferHeader.{BufferHeader}
 use Rattle.graph_core.specs.Entries.{look_of}
-use Rattle.il_graph.specs.Shown.{Shown, kept}
+use Rattle.il_graph.specs.Shown.{Shown}
 use Rattle.graph_core.specs.Changes.{IsHandedIn}
-use Rattle.graph_core.specs.Clients.{KeepsAllClients}
 use Rattle.il_graph.specs.HandedIn.{StayHandedIn, KeepsOthersHandedIn, IsTakenIn, IsHandedOut}
-use Rattle.graph_acts.specs.declared.act.Act.{Act}
-use Rattle.graph_acts.specs.declared.act.Act.TheVariants as asks
-use Rattle.graph_acts.specs.declared.act.Reply.{Reply}
-use Rattle.graph_acts.specs.declared.act.Reply.TheVariants as replies
-use Rattle.graph_acts.specs.Plain.{plain_act, plain_reply}
 use Rattle.graph_acts.specs.Holding.{ok_header, on_ok}
-use Rattle.graph_acts.specs.Moving.{MovesHeaders, Moved}
-use Rattle.graph_acts.proofs.Acts.{headers_stay, clients_stay}
+use Rattle.graph_acts.specs.Moving.{MovesHeaders}
+use Rattle.graph_acts.proofs.Acts.{headers_stay}
 
 module _ {S K C : Type 0} where
   -- the graph is as before

@@ -1,4 +1,7 @@
+pub mod Lasting
 pub mod Worlds
 pub mod Acts
 pub mod HeaderActs
 pub mod ClientActs
+pub mod WorkActs
+pub mod Comeback

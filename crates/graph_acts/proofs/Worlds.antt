@@ -1,5 +1,5 @@
 -- What worlds say of headers and client objects.
-use Rattle.std.proofs.Common.{◌≡◌, ℕ, ◌≤◌, ◌∙◌, sym, ap, subst, refl, length, true, Option, Some, None, MatchOption, IsSomeAnd, All, Result, Ok, Err, List, [], ◌∷◌, arith}
+use Rattle.std.proofs.Common.{◌≡◌, ◌≤◌, ◌∙◌, sym, subst, refl, length, true, Option, Some, None, MatchOption, IsSomeAnd, Result, Ok, Err, [], ◌∷◌}
 use Rattle.std.proofs.lemmas.List.Elements.{All-nil, All-cons}
 use Rattle.omx_types.specs.declared.handle.Handle.{Handle}
 use Rattle.omx_types.specs.declared.error.OmxError.{OmxError}

@@ -1,8 +1,10 @@
--- What a pass holds by its own entries: headers and client objects that it got and hasn't given back. And what it may ask.
-use Rattle.std.specs.Prelude.{◌≡◌, ℕ, Bool, true, nat_eq, List, [], Option, Some, None, Result, Ok, Err}
+-- What a pass holds by its own entries: headers, client objects and works that it got and hasn't given back. And what it may ask.
+use Rattle.std.specs.Prelude.{◌≡◌, ℕ, Bool, true, nat_eq, List, [], Option, Some, None, IsSomeAnd, Result, Ok, Err}
 use Rattle.omx_types.specs.declared.handle.Handle.{Handle}
 use Rattle.il_machine.specs.declared.answer.Progress.{Progress as Reached}
-use Rattle.il_machine.specs.World.{same_handle}
+use Rattle.il_machine.specs.Answers.{component_named}
+use Rattle.il_machine.specs.Whole.{Stands}
+use Rattle.il_machine.specs.World.{World, same_handle}
 use Rattle.il_machine.specs.Components.{no_progress, noted_by}
 use Rattle.header_core.specs.BufferHeader.{BufferHeader, is_clients}
 use Rattle.note_queues.specs.declared.taken.Taken.{Taken}
@@ -13,13 +15,19 @@ use Rattle.note_queues.specs.Queues.{note_of}
 use Rattle.graph_core.specs.Entries.{look_of, client_named}
 use Rattle.graph_core.specs.Changes.{IsHandedIn}
 use Rattle.graph_core.specs.Clients.{IsPortDone}
-use Rattle.il_graph.specs.Shown.{Shown}
+use Rattle.graph_core.specs.Finishing.{AreHandedBack}
+use Rattle.audio_parts.specs.Shown.{ShownPart}
+use Rattle.il_flow.specs.Works.{DoneOf, seen_done}
+use Rattle.il_graph.specs.Finishing.{IsItsOwn, Returns}
+use Rattle.il_graph.specs.Shown.{Shown, kept, seen_of}
 use Rattle.turnstile.specs.declared.entry.Entry.{Entry}
 use Rattle.held_things.specs.Held.{Has, held_from}
 use Rattle.graph_acts.specs.declared.act.Act.{Act}
 use Rattle.graph_acts.specs.declared.act.Act.TheVariants as asks
 use Rattle.graph_acts.specs.declared.act.Reply.{Reply}
 use Rattle.graph_acts.specs.declared.act.Reply.TheVariants as replies
+use Rattle.graph_acts.specs.Plain.{Sight}
+use Rattle.graph_acts.specs.Working.{IsRunOf, OutWork, work_back, work_given, work_number}
 
 -- a component's client object that went out, and what its progress is once it was told the note
 pub record OutClient : Type 0 where
@@ -119,6 +127,17 @@ module _ {S K C : Type 0} where
   abbrev pub clients_held : (C → Reached) → List (Entry (Act S K C) (Reply S K C)) → List OutClient
   clients_held progress own = held_from client_handle same_handle client_gone (client_out progress) [] own
 
+module _ {S K C : Type 0} where
+  abbrev pub work_gone : Act S K C → Reply S K C → Option ℕ
+  work_gone a r = work_back a
+
+  abbrev pub work_come : Act S K C → Reply S K C → Option (OutWork S K)
+  work_come a r = work_given r
+
+  -- the works that were got and not brought back
+  abbrev pub works_held : List (Entry (Act S K C) (Reply S K C)) → List (OutWork S K)
+  works_held own = held_from work_number nat_eq work_gone work_come [] own
+
 -- ---- what is out of a graph
 
 -- the client object of the component is out
@@ -129,14 +148,21 @@ IsGone g h = client_named h g.core ≡ Some None
 abbrev pub IsGoneSo : {S K C : Type 0} → Shown S K C → OutClient → Type 0
 IsGoneSo g x = IsGone g x.handle × IsPortDone x.progress.port
 
+-- a work that comes back is the component's, and some world that the graph stands for has it out
+pub record CanFinish {S K C : Type 0} (see : Sight S K C) (g : Shown S K C) (done : DoneOf (ShownPart S K)) : Type 0 where
+  pub comes : (w : World) × (took : List ℕ) × (Stands (kept see.progress g) w × Returns w (seen_done took done) (seen_of (done.part)))
+  pub its : IsSomeAnd (component_named done.component (look_of g.core).components) (λ c. IsItsOwn c done.announces done.fault (done.part).terms (done.part).failed)
+  pub handed : AreHandedBack done.headers (look_of g.core)
+
 -- what the graph's call for the act asks
-abbrev pub Can : {S K C : Type 0} → (C → Reached) → Shown S K C → Act S K C → Type 0
-Can progress g (asks.GetHandle name client) = progress client ≡ no_progress
-Can progress g (asks.FreeBuffer h port header) = IsHandedIn header (look_of g.core)
-Can progress g (asks.EmptyThisBuffer h port header) = IsHandedIn header (look_of g.core)
-Can progress g (asks.FillThisBuffer h port header) = IsHandedIn header (look_of g.core)
-Can progress g (asks.EndNote h client) = IsGone g h × IsPortDone (progress client).port
-Can progress g _ = Unit {0}
+abbrev pub Can : {S K C : Type 0} → Sight S K C → Shown S K C → Act S K C → Type 0
+Can see g (asks.GetHandle name client) = see.progress client ≡ no_progress
+Can see g (asks.FreeBuffer h port header) = IsHandedIn header (look_of g.core)
+Can see g (asks.EmptyThisBuffer h port header) = IsHandedIn header (look_of g.core)
+Can see g (asks.FillThisBuffer h port header) = IsHandedIn header (look_of g.core)
+Can see g (asks.EndNote h client) = IsGone g h × IsPortDone (see.progress client).port
+Can see g (asks.Finish done) = CanFinish see g done
+Can see g _ = Unit {0}
 
 -- ---- what a pass may ask
 
@@ -154,17 +180,21 @@ module _ {S K C : Type 0} where
   abbrev pub HoldsClient : (C → Reached) → List (Entry (Act S K C) (Reply S K C)) → Handle → Reached → Type 0
   HoldsClient progress own h told = Has (clients_held progress own) (record { handle = h; progress = told })
 
+  abbrev pub HoldsWork : List (Entry (Act S K C) (Reply S K C)) → DoneOf (ShownPart S K) → Type 0
+  HoldsWork own done = (got : OutWork S K) × Has (works_held own) got × IsRunOf got done
+
   -- A pass with these entries of its own may ask it. `headers` says whether client objects of this type are given headers.
-  abbrev pub May : (C → Reached) → Bool → List (Entry (Act S K C) (Reply S K C)) → Act S K C → Type 0
-  May progress headers own (asks.GetHandle name client) = progress client ≡ no_progress
-  May progress headers own (asks.AllocateBuffer h port) = headers ≡ true
-  May progress headers own (asks.UseBuffer h port bytes) = headers ≡ true
-  May progress headers own (asks.FreeBuffer h port header) = HoldsHeader own header
-  May progress headers own (asks.EmptyThisBuffer h port header) = HoldsHeader own header
-  May progress headers own (asks.FillThisBuffer h port header) = HoldsHeader own header
-  May progress headers own (asks.EndNote h client) = HoldsClient progress own h (progress client)
-  May progress headers own _ = Unit {0}
+  abbrev pub May : Sight S K C → Bool → List (Entry (Act S K C) (Reply S K C)) → Act S K C → Type 0
+  May see headers own (asks.GetHandle name client) = see.progress client ≡ no_progress
+  May see headers own (asks.AllocateBuffer h port) = headers ≡ true
+  May see headers own (asks.UseBuffer h port bytes) = headers ≡ true
+  May see headers own (asks.FreeBuffer h port header) = HoldsHeader own header
+  May see headers own (asks.EmptyThisBuffer h port header) = HoldsHeader own header
+  May see headers own (asks.FillThisBuffer h port header) = HoldsHeader own header
+  May see headers own (asks.EndNote h client) = HoldsClient see.progress own h (see.progress client)
+  May see headers own (asks.Finish done) = HoldsWork own done
+  May see headers own _ = Unit {0}
 
   -- it holds nothing
-  abbrev pub Clear : (C → Reached) → List (Entry (Act S K C) (Reply S K C)) → Type 0
-  Clear progress own = (headers_held own ≡ []) × (clients_held progress own ≡ [])
+  abbrev pub Clear : Sight S K C → List (Entry (Act S K C) (Reply S K C)) → Type 0
+  Clear see own = (headers_held own ≡ []) × (clients_held see.progress own ≡ []) × (works_held own ≡ [])

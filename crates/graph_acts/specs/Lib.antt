@@ -1,4 +1,7 @@
+pub mod Hiding
+pub mod Lending
 pub mod Plain
 pub mod Replying
 pub mod Holding
 pub mod Moving
+pub mod Working

@@ -37,6 +37,8 @@ module _ {S K C : Type 0} where
   IsReplyTo (asks.Release a b) (replies.Release result) = Unit {0}
   IsReplyTo (asks.HandOver a b) (replies.HandOver result) = Unit {0}
   IsReplyTo (asks.HandBack a b) (replies.HandBack result) = Unit {0}
+  IsReplyTo (asks.Claim a) (replies.Claim result) = Unit {0}
+  IsReplyTo (asks.Finish a) replies.Finish = Unit {0}
   IsReplyTo asks.Grant (replies.Grant answer) = Unit {0}
   IsReplyTo asks.Preempt (replies.Preempt answer) = Unit {0}
   IsReplyTo _ _ = ⊥

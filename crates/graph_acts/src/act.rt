@@ -1,13 +1,16 @@
 //! What is asked of a graph in a turn, and what it answers.
 
+use crate::claimed::Claimed;
+use crate::lent::DoneWork;
 use header_core::Header;
 use il_graph::{Freed, PartFile};
 use il_machine::{Acted, Granted, PortView, Preempted, Progress};
 use note_queues::Took;
 use omx_types::{CallError, Command, Handle, OmxError, Param, ParamKey, PortId, State, Supplier};
+use outside_io::{Sink, Source};
 
 /// One call of a graph with its arguments, in their order.
-pub enum Act<S, K, C> {
+pub enum Act<S: Source, K: Sink, C> {
     GetHandle(String, C),
     FreeHandle(Handle),
     Attach(Handle, PartFile<S, K>),
@@ -33,12 +36,14 @@ pub enum Act<S, K, C> {
     Release(Handle, u32),
     HandOver(Handle, u32),
     HandBack(Handle, u32),
+    Claim(Handle),
+    Finish(DoneWork<S, K>),
     Grant,
     Preempt,
 }
 
 /// What the call answers.
-pub enum Reply<S, K, C> {
+pub enum Reply<S: Source, K: Sink, C> {
     GetHandle(Result<Handle, (CallError, C)>),
     FreeHandle(Result<Freed<S, K, C>, OmxError>),
     Attach(Result<(), (OmxError, PartFile<S, K>)>),
@@ -64,6 +69,8 @@ pub enum Reply<S, K, C> {
     Release(Result<Acted, OmxError>),
     HandOver(Result<Acted, OmxError>),
     HandBack(Result<Acted, OmxError>),
+    Claim(Result<Claimed<S, K>, OmxError>),
+    Finish,
     Grant(Granted),
     Preempt(Preempted),
 }

@@ -3,11 +3,17 @@
 
 mod act;
 mod buffers;
+mod claimed;
 mod handles;
+mod laws;
+mod lent;
 mod looks;
 mod notes;
 mod quiet;
 mod served;
+mod works;
 
 pub use act::{Act, Reply};
+pub use claimed::Claimed;
+pub use lent::{DoneWork, LentWork};
 pub use served::Served;

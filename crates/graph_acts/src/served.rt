@@ -18,7 +18,7 @@ pub struct Served<S: Source, K: Sink, C: Client> {
 impl<S: Source, K: Sink, C: Client> Served<S, K, C> {
     /// Makes the graph's call for the act.
     pub fn answer(&mut self, act: Act<S, K, C>) -> Reply<S, K, C>
-        requires lawful { Can C.progress self.old.graph act }
+        requires lawful { Can (sight_of C.progress S.offset S.size S.told K.told) self.old.graph act }
         ensures { Moved (sight_of C.progress S.offset S.size S.told K.told) act result self.old.graph self.new.graph }
     {
         match act {
@@ -47,6 +47,8 @@ impl<S: Source, K: Sink, C: Client> Served<S, K, C> {
             Act::Release(h, port) => self.release(h, port),
             Act::HandOver(h, port) => self.hand_over(h, port),
             Act::HandBack(h, port) => self.hand_back(h, port),
+            Act::Claim(h) => self.claim(h),
+            Act::Finish(done) => self.finish(done),
             Act::Grant => self.grant(),
             Act::Preempt => self.preempt(),
         }

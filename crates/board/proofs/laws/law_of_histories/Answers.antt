@@ -1,5 +1,4 @@
 use Rattle.graph_acts.specs.Plain.{sight_of}
-use Rattle.board.specs.Asking.{bare_log, plain_log}
 use Rattle.board.specs.Histories.{known_of}
 use Rattle.board.proofs.OneRun.{run_of_shown, one_run}
 use Rattle.board.proofs.laws.law_of_histories.Goals as goal
@@ -8,4 +7,4 @@ pub returns : goal.returns
 returns g c = λ key units xs w first log r s l.
     let see = sight_of g.C.Client.progress g.S.Source.offset g.S.Source.size g.S.Source.told g.K.Sink.told in
     let R = l.worlds w s in
-    one_run key units xs (plain_log see (bare_log log)) w R.world r (run_of_shown first.handles.items w (known_of first) (plain_log see (bare_log log)) R.world R.all R.shown)
+    (R.acts, R.plain, one_run key units xs R.acts w R.world r (run_of_shown first.handles.items w (known_of first) R.acts R.world R.all R.shown))

@@ -1,15 +1,19 @@
 use Rattle.std.proofs.Common.{refl}
-use Rattle.graph_acts.proofs.Acts.{clients_stay}
+use Rattle.graph_acts.specs.declared.act.Act.TheVariants as asks
+use Rattle.graph_acts.specs.declared.act.Reply.TheVariants as replies
+use Rattle.graph_acts.specs.Plain.{sight_of}
+use Rattle.graph_acts.proofs.Acts.{clients_stay, works_alone}
 use Rattle.graph_acts.proofs.HeaderActs.{headers_taken}
 use Rattle.graph_acts.proofs.served.Served.free_buffer.Goals as goal
 
 pub returns : goal.returns
 returns g c = record {
-  step = λ w s m. c.free_buffer.ensures.step w s;
+  step = λ w s u k m. c.free_buffer.ensures.step w s;
   replied = c.free_buffer.ensures.handed_back;
   sized = tt;
   headers = headers_taken c.free_buffer.result c.args.header c.args.self.now.graph c.free_buffer.new.self c.free_buffer.ensures.held c.free_buffer.ensures.taken c.free_buffer.ensures.unchanged;
   clients = clients_stay c.args.self.now.graph c.free_buffer.new.self c.free_buffer.ensures.clients;
-  leaves = λ h x w s. (refl, refl);
-  told = tt;
+  leaves = λ h x w s u. (refl, refl);
+  told = λ u. tt;
+  works = works_alone (sight_of g.C.Client.progress g.S.Source.offset g.S.Source.size g.S.Source.told g.K.Sink.told) (asks.FreeBuffer c.args.h c.args.port c.args.header) (replies.FreeBuffer c.free_buffer.result) c.args.self.now.graph c.free_buffer.new.self (λ n u. (refl, refl));
 }

@@ -1,3 +1,8 @@
+use Rattle.std.proofs.Common.{refl}
+use Rattle.graph_acts.specs.declared.act.Act.TheVariants as asks
+use Rattle.graph_acts.specs.declared.act.Reply.TheVariants as replies
+use Rattle.graph_acts.specs.Plain.{sight_of}
+use Rattle.graph_acts.proofs.Acts.{works_alone}
 use Rattle.graph_acts.proofs.ClientActs.{took_headers, took_clients, took_leaves, took_told}
 use Rattle.graph_acts.proofs.served.Served.take_note.Goals as goal
 
@@ -10,11 +15,12 @@ returns g c =
     let new = c.take_note-took.new.self in
     let took = c.take_note-took.result in
     let p = g.C.Client.progress in record {
-      step = λ w s m. e.step w s;
+      step = λ w s u k m. e.step w s;
       replied = tt;
       sized = tt;
       headers = took_headers took old new e.held e.handed e.unchanged;
       clients = took_clients p c.args.h took old new e.client e.done e.clients e.unchanged;
-      leaves = λ k gone w s. took_leaves p c.args.h took old new k w s (l.sound w s) (l.told w s) l.out e.client gone;
-      told = took_told p c.args.h took old new l.sound l.told n.out e.client;
+      leaves = λ k gone w s u. took_leaves p c.args.h took old new k w s (l.sound w s) (l.told w s) l.out e.client gone;
+      told = λ u. took_told p c.args.h took old new l.sound l.told n.out e.client;
+      works = works_alone (sight_of g.C.Client.progress g.S.Source.offset g.S.Source.size g.S.Source.told g.K.Sink.told) (asks.TakeNote c.args.h) (replies.TakeNote took) old new (λ n u. (refl, refl));
     }
