@@ -1,5 +1,5 @@
 -- A file comes to a component's part.
-use Rattle.std.proofs.Common.{◌≡◌, ◌≢◌, inl, inr, ℕ, ◌-◌, Bool, true, false, nat_eq, List, drop, length, map, set, Option, Some, None, is_some, MatchOption, option_map, option_and_then, slice_get, Ok, Result, refl, sym, ◌∙◌, ap, subst, eqb-true, length-set}
+use Rattle.std.proofs.Common.{◌≡◌, inl, inr, ℕ, ◌-◌, true, false, nat_eq, List, drop, map, set, Option, Some, None, is_some, option_map, option_and_then, slice_get, Ok, refl, sym, ◌∙◌, ap, subst, eqb-true, length-set}
 use Rattle.std.proofs.lemmas.Bool.Decides.{eqb_tells}
 use Rattle.std.proofs.lemmas.Option.{slice_get-map}
 use Rattle.omx_types.specs.declared.handle.Handle.{Handle}
@@ -33,8 +33,8 @@ use Rattle.graph_core.specs.Entries.{Entries, components_of, look_of}
 use Rattle.graph_core.specs.Entries as core
 use Rattle.graph_core.proofs.Replacing.{first_mapped}
 use Rattle.audio_parts.specs.Shown.{ShownPart}
-use Rattle.il_graph.specs.Shown.{Shown, IsWhole, IsPartOf, ArePartsOf, KeepsFiles, seen_parts, file_at, file_of, kept, offered, seen_of}
-use Rattle.il_graph.proofs.PartsStay.{PartsStay, part_of, after_effect}
+use Rattle.il_graph.specs.Shown.{Shown, IsWhole, IsPartOf, ArePartsOf, KeepsFiles, seen_parts, file_of, kept, offered, seen_of}
+use Rattle.il_graph.proofs.PartsStay.{PartsStay, after_effect}
 use Rattle.il_graph.proofs.Whole.{places_alike, bare, sound_in, changed_whole, changed_alike, changed_is_whole}
 use Rattle.il_graph.proofs.Places.{told_set}
 use Rattle.il_graph.proofs.Leaving.{at_named_is}

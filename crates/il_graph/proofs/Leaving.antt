@@ -1,18 +1,16 @@
 -- A component leaves a graph with its part.
-use Rattle.std.proofs.Common.{◌≡◌, ◌≢◌, ℕ, suc, Bool, true, nat_lt, List, length, map, remove, Option, Some, None, option_map, option_and_then, slice_get, Ok, if◌then◌else◌, refl, sym, ◌∙◌, ap, subst, eqb-true}
+use Rattle.std.proofs.Common.{◌≡◌, ℕ, suc, nat_lt, List, remove, Option, Some, None, option_map, option_and_then, slice_get, Ok, if◌then◌else◌, refl, sym, ◌∙◌, ap, subst}
 use Rattle.omx_types.specs.declared.handle.Handle.{Handle}
 use Rattle.part_api.specs.declared.attached.Attached.{Attached}
 use Rattle.il_machine.specs.declared.answer.Progress.{Progress}
 use Rattle.il_machine.specs.World.{Component, World, number_of, place_of, place_numbered, is_numbered}
-use Rattle.il_machine.specs.Places.{first_place}
 use Rattle.il_machine.proofs.Places.{is_first_place}
 use Rattle.il_machine.specs.Look.{Look}
 use Rattle.il_machine.specs.Components.{without_component}
 use Rattle.il_machine.specs.Due.{first_due}
 use Rattle.il_machine.specs.Acts as acts
-use Rattle.il_machine.specs.Effect.{at_named, effect}
+use Rattle.il_machine.specs.Effect.{at_named}
 use Rattle.il_machine.specs.Run.{Step}
-use Rattle.il_machine.specs.Sound.{Sound}
 use Rattle.il_machine.specs.Whole.{PartSeen, HasParts, Stands, Steps}
 use Rattle.machine_laws.proofs.Pairs.{apart_numbers}
 use Rattle.machine_laws.proofs.Granting.{placed_there}
@@ -23,7 +21,7 @@ use Rattle.graph_core.specs.Entries.{Entries, components_of, look_of}
 use Rattle.graph_core.specs.Entries as core
 use Rattle.audio_parts.specs.Shown.{ShownPart}
 use Rattle.il_graph.specs.Shown.{Shown, IsWhole, ArePartsOf, KeepsFiles, seen_parts, file_at, file_of, kept, seen_of}
-use Rattle.il_graph.proofs.PartsStay.{PartsStay, part_of, after_effect}
+use Rattle.il_graph.proofs.PartsStay.{PartsStay, after_effect}
 use Rattle.il_graph.proofs.Whole.{places_alike, bare, sound_in, changed_whole, changed_alike, changed_is_whole}
 use Rattle.il_graph.proofs.Places.{told_left, removed_alike}
 

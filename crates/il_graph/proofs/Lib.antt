@@ -38,3 +38,4 @@ pub mod Coming
 pub mod Ending
 pub mod Back
 pub mod Returning
+pub mod Written

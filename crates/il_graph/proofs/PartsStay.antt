@@ -1,5 +1,5 @@
 -- The parts stay in all acts but those that make, free, attach, claim and finish, and in the close-out.
-use Rattle.std.proofs.Common.{◌≡◌, ◌⊎◌, inl, inr, ℕ, zero, suc, List, [], ◌∷◌, map, set, Option, Some, None, option_map, slice_get, find, Bool, Ok, refl, sym, ◌∙◌, ap, subst, not}
+use Rattle.std.proofs.Common.{◌≡◌, ℕ, zero, suc, List, [], ◌∷◌, map, set, Option, Some, None, option_map, slice_get, find, Bool, Ok, refl, sym, ◌∙◌, ap, subst, not}
 use Rattle.std.proofs.lemmas.Option.{slice_get-map}
 use Rattle.omx_types.specs.declared.handle.Handle.{Handle}
 use Rattle.omx_types.specs.declared.kind.Kind.{Kind}
@@ -17,10 +17,7 @@ use Rattle.il_machine.specs.World.{changed_at, Component, HeaderRecord, Stream, 
 use Rattle.il_machine.specs.Headers.{seen, unchanged, cleared}
 use Rattle.il_machine.specs.Look.{look}
 use Rattle.il_machine.specs.Ports.{is_input_port}
-use Rattle.il_machine.specs.Parameters.{with_value}
 use Rattle.il_machine.specs.Tunnels.{joined_to, parted}
-use Rattle.il_machine.specs.Commands.{sent, run_front}
-use Rattle.il_machine.specs.Buffers.{unpopulated}
 use Rattle.il_machine.specs.Notes.{TakenEvent, TakenEmpty, TakenFilled, TookNote, first_taken, back_in}
 use Rattle.il_machine.specs.Flow.{in_port, front_unmade, front_put, at_link, handed_back, returned, front_noticed, supplied_spot}
 use Rattle.il_machine.specs.Due.{Thing, Transition, Flush, PortMode, WaitingMark, arrived, transition_happened, at_port, flush_happened, mode_happened, mark_happened, happened, Happens, HappenTimes, ClosesTo}
@@ -32,7 +29,7 @@ use Rattle.il_machine.specs.Acts as acts
 use Rattle.il_machine.specs.Effect.{at_named, at_named_port, at_both, effect}
 use Rattle.il_machine.specs.Run.{Step}
 use Rattle.il_machine.specs.Sound.{Sound}
-use Rattle.il_machine.specs.Whole.{PartSeen, HasDone, HasParts}
+use Rattle.il_machine.specs.Whole.{PartSeen, HasParts}
 use Rattle.machine_laws.proofs.Granting.{best_among, victim_there, changed_there}
 use Rattle.machine_laws.proofs.Steps.{HandsIn}
 use Rattle.history_laws.proofs.Outcome.{turn, Turn, Outcome, Nothing, Done}

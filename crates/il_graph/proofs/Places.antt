@@ -1,10 +1,10 @@
 -- The parts of components by the components' numbers, as one component leaves, comes, or gets another part.
-use Rattle.std.proofs.Common.{◌≡◌, ◌≢◌, ℕ, zero, suc, ◌<◌, Bool, true, false, nat_lt, List, [], ◌∷◌, ◌++◌, length, map, remove, set, Option, Some, None, option_map, option_and_then, slice_get, if◌then◌else◌, refl, sym, ◌∙◌, ap, subst, eqb-true, eq-eqb, ne_eqb, arith}
-use Rattle.std.proofs.lemmas.Bool.Decides.{nat_tests, eqb_tells}
+use Rattle.std.proofs.Common.{◌≡◌, ◌≢◌, ℕ, zero, suc, true, false, List, [], ◌∷◌, ◌++◌, length, remove, set, Option, Some, None, option_map, option_and_then, slice_get, refl, sym, ◌∙◌, ap, eq-eqb, ne_eqb, arith}
+use Rattle.std.proofs.lemmas.Bool.Decides.{eqb_tells}
 use Rattle.std.proofs.Common.{inl, inr}
 use Rattle.il_machine.specs.World.{Component, number_of, is_numbered}
 use Rattle.il_machine.specs.Places.{first_place}
-use Rattle.whole_laws.proofs.Lists.{get_set_same, get_set_other}
+use Rattle.whole_laws.proofs.Lists.{get_set_other}
 
 module _ {A B : Type 0} (f : A → Option B) where
   -- what is told of the one at a place

@@ -1,5 +1,5 @@
 -- What an act that leaves the parts alone makes of a graph with its parts.
-use Rattle.std.proofs.Common.{◌≡◌, ℕ, nat_eq, List, length, map, Option, Some, None, is_some, option_map, option_and_then, slice_get, refl, sym, ◌∙◌, ap, subst}
+use Rattle.std.proofs.Common.{◌≡◌, ℕ, nat_eq, List, length, map, Option, None, is_some, option_and_then, sym, ◌∙◌, ap, subst}
 use Rattle.std.proofs.lemmas.List.{length-map}
 use Rattle.il_machine.specs.declared.answer.Progress.{Progress}
 use Rattle.il_machine.specs.World.{Component, World, is_numbered, place_numbered}
@@ -10,7 +10,7 @@ use Rattle.il_machine.specs.Due.{first_due}
 use Rattle.il_machine.specs.Acts.{Act, Reply}
 use Rattle.il_machine.specs.Run.{Step}
 use Rattle.il_machine.specs.Sound.{Sound}
-use Rattle.il_machine.specs.Whole.{Kept, PartSeen, HasParts, Stands, Steps, StepsWhere, Always}
+use Rattle.il_machine.specs.Whole.{Kept, HasParts, Stands, Steps, StepsWhere, Always}
 use Rattle.machine_laws.proofs.Steps.{HandsIn, sound_after}
 use Rattle.whole_laws.specs.Bare.{StandsBare, StepsBare, StepsBareWhere, AlwaysBare}
 use Rattle.whole_laws.proofs.Seeing.{sound_world}
@@ -19,7 +19,7 @@ use Rattle.graph_core.specs.Entries as core
 use Rattle.graph_core.specs.Standing.{SoundWorld}
 use Rattle.graph_core.proofs.Replacing.{first_mapped}
 use Rattle.audio_parts.specs.Shown.{ShownPart}
-use Rattle.il_graph.specs.Shown.{Shown, SoundWhole, IsWhole, IsPartOf, ArePartsOf, KeepsAllFiles, seen_parts, file_at, kept}
+use Rattle.il_graph.specs.Shown.{Shown, IsWhole, ArePartsOf, KeepsAllFiles, seen_parts, file_at, kept}
 use Rattle.il_graph.proofs.PartsStay.{PartOf, part_of, PartsStay, LeavesParts, step_stays, stayed, has_parts_stay}
 
 -- components with the same parts have the same numbers at the same places

@@ -1,5 +1,5 @@
 -- A part that was just made, and one to which a file came.
-use Rattle.std.specs.Prelude.{◌≡◌, ℕ, Bool, true, false, List, [], Option, Some, None}
+use Rattle.std.specs.Prelude.{◌≡◌, Bool, true, false, [], Some, None}
 use Rattle.omx_types.specs.declared.kind.Kind.{Kind}
 use Rattle.part_api.specs.Terms.{Terms}
 use Rattle.il_machine.specs.Files.{Offered, stream_with}

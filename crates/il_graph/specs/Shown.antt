@@ -1,8 +1,9 @@
 -- What a contract sees of a graph: what its core keeps, and the part of each component, in the same order. The part of a component whose work
 -- is out isn't there.
-use Rattle.std.specs.Prelude.{◌≡◌, ◌≢◌, ℕ, ◌-◌, Bool, true, List, map, drop, length, slice_get, Option, Some, None, is_some, option_map, option_and_then}
+use Rattle.std.specs.Prelude.{◌≡◌, ◌≢◌, ℕ, ◌-◌, true, List, map, drop, length, slice_get, Option, Some, None, is_some, option_map, option_and_then}
+use Rattle.std.specs.Io.KnownBytes.{append_known}
 use Rattle.il_machine.specs.declared.answer.Progress.{Progress}
-use Rattle.il_machine.specs.World.{Component, World, place_numbered}
+use Rattle.il_machine.specs.World.{Component, Stream, World, component_numbered, place_numbered, stream_of}
 use Rattle.il_machine.specs.Look.{Look}
 use Rattle.il_machine.specs.Due.{first_due}
 use Rattle.il_machine.specs.Files.{Offered, OfferedFrom, OfferedTo}
@@ -68,6 +69,11 @@ module _ {S K C : Type 0} where
   -- the file object of a component whose work isn't out is of the file that the component has
   abbrev pub HaveTheirFiles : Shown S K C → Type 0
   HaveTheirFiles g = (i : ℕ) (c : Component) → slice_get (components_of g.core.entries) i ≡ Some c → c.work ≡ None → option_map attached_of (file_at g i) ≡ c.file
+
+  -- What the file of a sink tells whose work isn't out is what it told when it came, and then what was written to it.
+  abbrev pub TellWritten : (K → Option (List ℕ)) → Shown S K C → World → Type 0
+  TellWritten told g w = (number frames : ℕ) (c : Component) (s : Stream) (snk : K) → component_numbered number w ≡ Some c → c.work ≡ None → stream_of number w ≡ Some s
+      → file_of number g ≡ Some (files.To snk frames) → told snk ≡ append_known s.known s.written
 
   -- each component has the file object that it had
   abbrev pub KeepsAllFiles : Shown S K C → Shown S K C → Type 0

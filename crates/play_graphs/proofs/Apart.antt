@@ -14,7 +14,7 @@ use Rattle.machine_laws.proofs.Every.{from_places, set_else, set_there}
 use Rattle.audio_parts.specs.AnyParts.{attached_of}
 use Rattle.audio_parts.specs.declared.part_file.PartFile.{PartFile}
 use Rattle.graph_core.specs.Ending.{IsAllIn}
-use Rattle.il_graph.specs.Shown.{Shown, look_of}
+use Rattle.il_graph.specs.Shown.{Shown, file_of, look_of}
 use Rattle.assembling.proofs.Places.{get_there}
 use Rattle.dismantling.specs.Dismantling.{AreFirst, AreLinks, IsSameButPorts, IsUnjoined}
 use Rattle.dismantling.proofs.Freeing.{frees}
@@ -40,6 +40,12 @@ more_ports w v u A B = record {
       let a = A.each i b.0 b.1 in
       (a.0, a.1, b.2 ∙ ap (λ (y : Component). record y { ports = c.ports }) a.2);
 }
+
+below_or : (i j : ℕ) → i ≤ j → (i < j) ⊎ (j ≡ i)
+below_or zero zero l = inr refl
+below_or zero (suc j) l = inl (omega arith)
+below_or (suc i) zero l = absurd (omega (arith, l))
+below_or (suc i) (suc j) l = elim (below_or i j (omega (arith, l))) [ inl h ↦ inl (omega (arith, h)) | inr h ↦ inr (ap suc h) ]
 
 module _ {S K : Type 0} where
   pub stands_then : (A B : World → Type 0) (C : World → World → Type 0) (g k : Shown S K Progress) → StandsFor A g → StepsWhere (kept_of g) (kept_of k) A (λ w v. B v × C w v) → StandsFor B k
@@ -99,6 +105,15 @@ module _ {S K : Type 0} where
         let F = frees place w v.0 h a.0 r U (named_at w place h U.quiet.sound (H w s)) a.1 v.2 in
         (v.0, v.1, a.0, a.1, F.0, F.1, F.2)
 
+    -- its number is its place
+    pub named_number : StandsFor (IsUnjoined (place + 1)) g → h.generation ≡ place
+    named_number (w, s, U) =
+        let m = U.many in
+        let a = get_there w.components place (omega arith) in
+        let e : Some (a.0).handle ≡ Some h = sym (ap (option_map (λ (c : Component). c.handle)) a.1) ∙ H w s in
+        let same : (a.0).handle ≡ h = cc in
+        ap (λ (k : Handle). k.generation) (sym same) ∙ U.quiet.numbered place a.0 a.1
+
     pub never_refused : (e : OmxError) → StandsFor (IsUnjoined (place + 1)) g → Steps (kept_of g) (kept_of k) (λ w v. FreeHandle w h (Err e) v) → ⊥
     never_refused e (w, s, U) steps = let F = (freed_in (Err e) steps w s U).4 in absurd cc
 
@@ -146,12 +161,6 @@ module _ {S K : Type 0} where
           ];
         },
       )
-    where
-      below_or : (i j : ℕ) → i ≤ j → (i < j) ⊎ (j ≡ i)
-      below_or zero zero l = inr refl
-      below_or zero (suc j) l = inl (omega arith)
-      below_or (suc i) zero l = absurd (omega (arith, l))
-      below_or (suc i) (suc j) l = elim (below_or i j (omega (arith, l))) [ inl h ↦ inl (omega (arith, h)) | inr h ↦ inr (ap suc h) ]
 
   pub freed_down : (places left place : ℕ) → left ≡ place + 1 → (g k m : Shown S K Progress) (entries news : List (Option (PartFile S K))) (file : Option (PartFile S K)) → news ≡ set entries place file → slice_get entries place ≡ Some None
       → StepsWhere (kept_of g) (kept_of k) (IsUnjoined places) (λ w v. IsFreed places left w v entries)
@@ -160,6 +169,14 @@ module _ {S K : Type 0} where
   freed_down places left place next g k m entries news file put free one other =
       subst (λ (es : List (Option (PartFile S K))). StepsWhere (kept_of g) (kept_of m) (IsUnjoined places) (λ w v. IsFreed places place w v es)) (sym put)
       (freed_next places place g k m entries file free (subst (λ (n : ℕ). StepsWhere (kept_of g) (kept_of k) (IsUnjoined places) (λ w v. IsFreed places n w v entries)) next one) other)
+
+  -- the file objects of the last places are back
+  pub came_next : (g : Shown S K Progress) (place k : ℕ) {left : ℕ} → left ≡ place + 1 → (entries news : List (Option (PartFile S K))) (file : Option (PartFile S K)) → news ≡ set entries place file → slice_get entries place ≡ Some None
+      → file ≡ file_of place g → (left ≤ k → slice_get entries k ≡ Some (file_of k g)) → place ≤ k → slice_get news k ≡ Some (file_of k g)
+  came_next g place k next entries news file put free is came l = ap (λ (es : List (Option (PartFile S K))). slice_get es k) put ∙ elim (below_or place k l) [
+    | inl later ↦ set_else entries place k file (λ q. omega (arith, q, later)) ∙ came (omega (arith, next, later))
+    | inr same ↦ ap (slice_get (set entries place file)) same ∙ (set_there entries place None file free ∙ (ap (λ (o : Option (PartFile S K)). Some o) is ∙ ap (λ (n : ℕ). Some (file_of n g)) (sym same)))
+  ]
 
   pub still_left : (places left : ℕ) (g k : Shown S K Progress) (entries : List (Option (PartFile S K))) → StandsFor (IsUnjoined places) g → StepsWhere (kept_of g) (kept_of k) (IsUnjoined places) (λ w v. IsFreed places left w v entries) → StandsFor (IsUnjoined left) k
   still_left places left g k entries (w, s, U) steps = let v = steps w s U in (v.0, v.1, v.2.left_in)

@@ -6,7 +6,7 @@ use Rattle.il_machine.specs.World.{Component, World}
 use Rattle.il_machine.specs.Whole.{Stands}
 use Rattle.audio_parts.specs.AnyParts.{attached_of}
 use Rattle.audio_parts.specs.declared.part_file.PartFile.{PartFile}
-use Rattle.il_graph.specs.Shown.{Shown}
+use Rattle.il_graph.specs.Shown.{Shown, file_of}
 use Rattle.dismantling.specs.Dismantling.{IsParted}
 use Rattle.play_forms.specs.Plans.{PlanValue}
 use Rattle.play_plans.specs.Casting.{joint_of}
@@ -27,6 +27,10 @@ pub record HasEnded (plan : PlanValue) (w : World) : Type 0 where
   pub joined : HasParted plan 0 w
 
 module _ {S K : Type 0} where
+  -- What came back of each component is the file object that the graph had of it. A component's number is its place.
+  abbrev pub AreFilesOf : Shown S K Progress → ℕ → List (Option (PartFile S K)) → Type 0
+  AreFilesOf graph places entries = (place : ℕ) → place < places → slice_get entries place ≡ Some (file_of place graph)
+
   -- the graph stands for such a world
   abbrev pub StandsFor : (World → Type 0) → Shown S K Progress → Type 0
   StandsFor Kind graph = (w : World) × Stands (kept_of graph) w × Kind w

@@ -5,7 +5,7 @@ ghost use Rattle.il_machine.specs.World.{World};
 ghost use Rattle.il_machine.specs.Whole.{Always};
 ghost use Rattle.dismantling.specs.Dismantling.{AreLinks};
 ghost use Rattle.play_graphs.specs.Graphs.{kept_of};
-ghost use Rattle.play_graphs.specs.Ending.{AreBack, HasEnded, StandsFor, ends_of};
+ghost use Rattle.play_graphs.specs.Ending.{AreBack, AreFilesOf, HasEnded, StandsFor, ends_of};
 ghost use Rattle.play_graphs.specs.Making.{AreGone};
 
 use crate::freeing::free_all;
@@ -31,6 +31,7 @@ pub fn end_graph<S: Source, K: Sink>(
     requires ended { StandsFor (HasEnded plan.now) graph }
     ensures many { length files.new ≡ length files.old }
     ensures back { Always (kept_of graph) (λ w. HasEnded plan.now w → AreBack w files.new) }
+    ensures files { AreFilesOf graph (length plan.now.parts) files.new }
 {
     part_all(&mut graph, plan);
     free_all(&mut graph, plan, files);

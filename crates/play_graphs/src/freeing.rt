@@ -2,9 +2,10 @@
 
 ghost use Rattle.std.specs.Prelude.{◌≡◌, ◌+◌, ◌<◌, ◌≤◌, length, slice_get, slice_set, Some, None};
 ghost use Rattle.il_machine.specs.Whole.{StepsWhere};
+ghost use Rattle.il_graph.specs.Shown.{file_of, KeepsFiles};
 ghost use Rattle.dismantling.specs.Dismantling.{AreFirst, IsUnjoined};
 ghost use Rattle.play_graphs.specs.Graphs.{kept_of};
-ghost use Rattle.play_graphs.specs.Ending.{AreBack, IsBackAt, StandsFor};
+ghost use Rattle.play_graphs.specs.Ending.{AreBack, AreFilesOf, IsBackAt, StandsFor};
 ghost use Rattle.play_graphs.specs.Making.{AreGone};
 
 use crate::handles::{count, handle};
@@ -21,7 +22,9 @@ fn free<S: Source, K: Sink>(
     place: u32,
 ) -> Option<PartFile<S, K>>
     requires { StandsFor (IsUnjoined (place + 1)) graph.old }
-    ensures { StepsWhere (kept_of graph.old) (kept_of graph.new) (IsUnjoined (place + 1)) (λ w v. IsUnjoined place v × AreFirst place w v × IsBackAt w place result) }
+    ensures steps { StepsWhere (kept_of graph.old) (kept_of graph.new) (IsUnjoined (place + 1)) (λ w v. IsUnjoined place v × AreFirst place w v × IsBackAt w place result) }
+    ensures file { result ≡ file_of place graph.old }
+    ensures files { KeepsFiles place graph.old graph.new }
 {
     let h = handle(graph, place);
     match graph.free_handle(h) {
@@ -54,6 +57,7 @@ pub(crate) fn free_all<S: Source, K: Sink>(
     requires stands { StandsFor (IsUnjoined (length plan.now.parts)) graph.old }
     ensures many { length files.new ≡ length files.old }
     ensures steps { StepsWhere (kept_of graph.old) (kept_of graph.new) (IsUnjoined (length plan.now.parts)) (λ w v. IsUnjoined 0 v × AreBack w files.new) }
+    ensures files { AreFilesOf graph.old (length plan.now.parts) files.new }
 {
     let mut left = count(plan);
     while left > 0 {

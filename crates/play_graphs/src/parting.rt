@@ -2,6 +2,7 @@
 
 ghost use Rattle.std.specs.Prelude.{◌+◌, ◌<◌, ◌≤◌, length};
 ghost use Rattle.il_machine.specs.Whole.{StepsWhere};
+ghost use Rattle.il_graph.specs.Shown.{KeepsAllFiles};
 ghost use Rattle.dismantling.specs.Dismantling.{AreLinks, IsSameButPorts};
 ghost use Rattle.play_graphs.specs.Graphs.{kept_of};
 ghost use Rattle.play_graphs.specs.Ending.{HasParted, StandsFor, ends_of};
@@ -17,7 +18,8 @@ fn part<S: Source, K: Sink>(graph: &mut Graph<S, K, PlayClient>, plan: &Plan, li
     requires there { link < length plan.now.joints }
     requires links { AreLinks (ends_of plan.now) (length plan.now.joints) }
     requires stands { StandsFor (HasParted plan.now link) graph.old }
-    ensures { StepsWhere (kept_of graph.old) (kept_of graph.new) (HasParted plan.now link) (λ w v. HasParted plan.now (link + 1) v × IsSameButPorts w v) }
+    ensures steps { StepsWhere (kept_of graph.old) (kept_of graph.new) (HasParted plan.now link) (λ w v. HasParted plan.now (link + 1) v × IsSameButPorts w v) }
+    ensures files { KeepsAllFiles graph.old graph.new }
 {
     let joint = joint(plan, link);
     let output = PortId {
@@ -36,7 +38,8 @@ pub(crate) fn part_all<S: Source, K: Sink>(graph: &mut Graph<S, K, PlayClient>, 
     requires few { length plan.now.joints ≤ 1024 }
     requires links { AreLinks (ends_of plan.now) (length plan.now.joints) }
     requires stands { StandsFor (HasParted plan.now 0) graph.old }
-    ensures { StepsWhere (kept_of graph.old) (kept_of graph.new) (HasParted plan.now 0) (λ w v. HasParted plan.now (length plan.now.joints) v × IsSameButPorts w v) }
+    ensures steps { StepsWhere (kept_of graph.old) (kept_of graph.new) (HasParted plan.now 0) (λ w v. HasParted plan.now (length plan.now.joints) v × IsSameButPorts w v) }
+    ensures files { KeepsAllFiles graph.old graph.new }
 {
     for link in 0..link_count(plan) {
         part(graph, plan, link);

@@ -9,7 +9,7 @@ ghost use Rattle.il_machine.specs.Due.{IsClosed};
 ghost use Rattle.machine_laws.specs.Laws.{NothingDue};
 ghost use Rattle.graph_core.specs.Entries.{client_named, look_of};
 ghost use Rattle.il_graph.specs.Runs.{AreReturnedWhereSettled, HasLegalTrails, WereAllDue};
-ghost use Rattle.il_graph.specs.Shown.{kept, HaveTheirFiles, SoundWhole};
+ghost use Rattle.il_graph.specs.Shown.{kept, HaveTheirFiles, SoundWhole, TellWritten};
 ghost use Rattle.graph_core.specs.Clients.{AreTold, IsOut};
 
 use crate::graph::Graph;
@@ -19,7 +19,8 @@ use outside_io::{Sink, Source};
 
 impl<S: Source, K: Sink, C: Client> Graph<S, K, C> {
     /// There is a world that the graph stands for. Each is sound, has its census and its room, and has nothing due; and each client object that is
-    /// in has the progress of all events that were given for its component. A component whose work isn't out has its file object.
+    /// in has the progress of all events that were given for its component. A component whose work isn't out has its file object, and a sink's
+    /// tells what was written to it.
     pub fn law_of_worlds(&self)
         ensures one { SoundWhole (kept C.progress self.now) }
         ensures sound { Always (kept C.progress self.now) Sound }
@@ -29,6 +30,7 @@ impl<S: Source, K: Sink, C: Client> Graph<S, K, C> {
         ensures rests { Always (kept C.progress self.now) NothingDue }
         ensures told { Always (kept C.progress self.now) (AreTold C.progress self.now.core) }
         ensures files { HaveTheirFiles self.now }
+        ensures written { Always (kept C.progress self.now) (TellWritten K.told self.now) }
         ensures out { (h : Handle) → client_named h self.now.core ≡ Some None → IsOut h (look_of self.now.core) }
     {
         self.core.law_of_worlds();

@@ -7,5 +7,5 @@ handle-requires g c = giver_by c.args.plan.now c.args.link c.requires.there c.jo
 pub handle-requires-2 : goal.handle-requires-2
 handle-requires-2 g c = taker_by c.args.plan.now c.args.link c.requires.there c.joint-joint.result c.joint-joint.ensures c.args.graph.now c.requires.stands
 
-pub returns : goal.returns
-returns g c = part_by c.args.plan.now c.args.link c.requires.there c.joint-joint.result c.joint-joint.ensures c.args.graph.now c.drop_tunnel.new.self c.handle.result c.handle-2.result c.drop_tunnel.result c.requires.links c.handle.ensures c.handle-2.ensures c.drop_tunnel.ensures.step
+pub returns-clause-steps : goal.returns-clause-steps
+returns-clause-steps g c = part_by c.args.plan.now c.args.link c.requires.there c.joint-joint.result c.joint-joint.ensures c.args.graph.now c.drop_tunnel.new.self c.handle.result c.handle-2.result c.drop_tunnel.result c.requires.links c.handle.ensures c.handle-2.ensures c.drop_tunnel.ensures.step

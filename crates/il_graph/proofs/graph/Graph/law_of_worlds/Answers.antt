@@ -1,9 +1,10 @@
-use Rattle.std.proofs.Common.{◌∙◌, ap, Option, option_map, option_and_then}
+use Rattle.std.proofs.Common.{◌∙◌, ap, refl, Option, option_map, option_and_then}
 use Rattle.audio_parts.specs.AnyParts.{attached_of}
-use Rattle.audio_parts.specs.Shown.{ShownPart}
+use Rattle.audio_parts.specs.Shown.{ShownPart, shown_by}
 use Rattle.il_machine.specs.Due.{first_due}
 use Rattle.machine_laws.proofs.Closing.{closed_rests}
 use Rattle.il_graph.proofs.Whole.{bare}
+use Rattle.il_graph.proofs.Written.{shown_kept, tell_written}
 use Rattle.il_graph.proofs.graph.Graph.law_of_worlds.Goals as goal
 
 pub returns : goal.returns
@@ -21,5 +22,6 @@ returns g c =
       files = λ i x at none.
           let p = c.self.invariant.1.parts.there i x at none in
           ap (λ (o : Option (Option (ShownPart (g.row.S.Denot) (g.row.K.Denot)))). option_map attached_of (option_and_then (option_and_then (λ (q : ShownPart (g.row.S.Denot) (g.row.K.Denot)). q.file)) o)) p.1 ∙ (p.2).file;
+      written = λ w S. tell_written p (shown_by g.S.Source.told g.K.Sink.told g.K.Sink.name) g.K.Sink.told (λ part snk frames file. shown_kept g.S.Source.told g.K.Sink.told g.K.Sink.name part snk frames file) _ c.self.inside.parts.items refl c.self.invariant.1 w S;
       out = laws.out;
     })
