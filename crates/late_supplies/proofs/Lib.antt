@@ -1,0 +1,4 @@
+pub mod Accepting
+pub mod Counting
+pub mod Making
+pub mod Supplying
