@@ -1,0 +1,24 @@
+-- A play with late sources begins.
+use Rattle.std.proofs.Common.{◌≡◌, ℕ, List, length, refl}
+use Rattle.omx_types.specs.declared.handle.Handle.{Handle}
+use Rattle.il_machine.specs.Run.{Run}
+use Rattle.il_machine.specs.World.{World, no_world}
+use Rattle.assembling.specs.Building.{building}
+use Rattle.assembling.specs.Stages.{IsStage, Joining}
+use Rattle.assembling.proofs.Building.{built_so}
+use Rattle.play_forms.specs.Plans.{PlanValue}
+use Rattle.play_worlds.specs.Openings.{opening}
+use Rattle.play_openings.specs.Assemblies.{IsReady, PlayFiles, assembly_of, late_cast_of}
+use Rattle.play_openings.proofs.Lawful.{plan_lawful}
+use Rattle.play_openings.proofs.Opened.{assembled_opens}
+use Rattle.late_worlds.specs.Late.{IsLateWorld}
+use Rattle.late_worlds.proofs.Opened.{late_opens}
+use Rattle.late_happenings.specs.Waiting.{IsWaiting}
+
+pub play_begins : (plan : PlanValue) (files : PlayFiles) (handles : List Handle) (recent : ℕ) (w : World) → IsReady plan files → IsStage (assembly_of plan files) (Joining (length plan.joints)) handles w
+    → IsLateWorld (late_cast_of plan) recent opening w × IsWaiting ((late_cast_of plan).cast).layout opening
+play_begins plan files handles recent w R S = (late_opens (late_cast_of plan) recent w (assembled_opens plan files handles w R S), λ l b t e s. refl)
+
+pub play_built : (plan : PlanValue) (files : PlayFiles) (key : ℕ) (handles : List Handle) (recent : ℕ) (w : World) → IsReady plan files → length handles ≡ length plan.parts → Run (no_world key plan.units) (building (assembly_of plan files) handles) w
+    → IsLateWorld (late_cast_of plan) recent opening w × IsWaiting ((late_cast_of plan).cast).layout opening
+play_built plan files key handles recent w R m r = play_begins plan files handles recent w R (built_so (assembly_of plan files) key handles w (plan_lawful plan files R) m r)
