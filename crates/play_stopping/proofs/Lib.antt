@@ -1,0 +1,5 @@
+pub mod Joining
+pub mod Noted
+pub mod Stopped
+pub mod Cleared
+pub mod Plays

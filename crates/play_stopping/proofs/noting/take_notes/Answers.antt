@@ -1,0 +1,12 @@
+use Rattle.halting.specs.Halting.{HasEvents, IsSameButNotes}
+use Rattle.play_stopping.proofs.Joining.{notes_then, stands_then, steps_then}
+use Rattle.play_stopping.proofs.noting.take_notes.Goals as goal
+
+pub take_next-requires : goal.take_next-requires
+take_next-requires g c = stands_then IsSameButNotes (HasEvents c.args.place) (HasEvents c.args.place) c.args.graph.now c.loop.graph c.requires c.loop.invariant
+
+pub loop-preserved : goal.loop-preserved
+loop-preserved g c = steps_then IsSameButNotes (HasEvents c.args.place) (HasEvents c.args.place) (HasEvents c.args.place) notes_then c.args.graph.now c.loop.graph c.take_next.new.graph c.loop.invariant c.take_next.ensures.steps
+
+pub returns-clause-steps : goal.returns-clause-steps
+returns-clause-steps g c = steps_then IsSameButNotes (HasEvents c.args.place) (HasEvents c.args.place) (HasEvents c.args.place) notes_then c.args.graph.now c.loop.graph c.take_next.new.graph c.loop.invariant c.take_next.ensures.steps

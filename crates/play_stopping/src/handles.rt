@@ -1,0 +1,46 @@
+//! The components and links of a play's graph, by their numbers in the plan.
+
+ghost use Rattle.std.specs.Prelude.{◌≡◌, ◌<◌, ◌≤◌, length};
+ghost use Rattle.play_plans.specs.Casting.{joint_of};
+ghost use Rattle.play_graphs.specs.Graphs.{IsHandleAt};
+ghost use Rattle.play_graphs.specs.Making.{IsMade};
+
+use conductor::PlayClient;
+use il_graph::{Graph, Handle};
+use outside_io::{Sink, Source};
+use play_forms::Joint;
+use stream_plan::Plan;
+
+/// The component at the place.
+pub(crate) fn handle<S: Source, K: Sink>(graph: &Graph<S, K, PlayClient>, place: u32) -> Handle
+    requires { IsMade place graph.now }
+    ensures { IsHandleAt graph.now place result }
+{
+    match graph.handle_at(place) {
+        Some(h) => h,
+        None => unreachable!(),
+    }
+}
+
+/// How many components there are.
+pub(crate) fn count(plan: &Plan) -> u32
+    requires { length plan.now.parts ≤ 32 }
+    ensures { result ≡ length plan.now.parts }
+{
+    plan.parts().len() as u32
+}
+
+/// How many links there are.
+pub(crate) fn link_count(plan: &Plan) -> u32
+    requires { length plan.now.joints ≤ 1024 }
+    ensures { result ≡ length plan.now.joints }
+{
+    plan.joints().len() as u32
+}
+
+pub(crate) fn joint(plan: &Plan, link: u32) -> Joint
+    requires { link < length plan.now.joints }
+    ensures { result ≡ joint_of plan.now link }
+{
+    plan.joints()[link as usize]
+}

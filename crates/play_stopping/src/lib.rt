@@ -1,0 +1,14 @@
+//! The graph of a play is brought to rest at any time, as after a part's fault, and taken apart: the notes of each component are
+//! taken, each component is made Invalid, the headers of each link go home and are released, and then the graph ends, which gives
+//! the files back. None of these acts is refused.
+#![tactic(auto)]
+
+mod clearing;
+mod components;
+mod ending;
+mod handles;
+mod laws;
+mod noting;
+
+pub use ending::stop_graph;
+pub use laws::law_of_stops;
