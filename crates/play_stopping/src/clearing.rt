@@ -2,7 +2,7 @@
 
 ghost use Rattle.std.specs.Prelude.{◌≡◌, ◌+◌, ◌<◌, ◌≤◌, false, true, length, IsFalse, IsTrue};
 ghost use Rattle.il_machine.specs.Whole.{StepsWhere};
-ghost use Rattle.il_graph.specs.Shown.{look_of};
+ghost use Rattle.il_graph.specs.Shown.{KeepsAllFiles, look_of};
 ghost use Rattle.dismantling.specs.Dismantling.{AreLinks};
 ghost use Rattle.halting.specs.Halting.{KeepsFiles, headers_at};
 ghost use Rattle.play_graphs.specs.Graphs.{kept_of};
@@ -37,6 +37,7 @@ fn hand_back<S: Source, K: Sink>(
     requires links { AreLinks (ends_of plan.now) (length plan.now.joints) }
     requires stands { StandsFor (HasCleared plan.now link) graph.old }
     ensures steps { StepsWhere (kept_of graph.old) (kept_of graph.new) (HasCleared plan.now link) (λ w v. HasCleared plan.now link v × KeepsFiles w v) }
+    ensures files { KeepsAllFiles graph.old graph.new }
     ensures fewer { IsTrue result → headers_at (ends_of plan.now false link) (look_of graph.new) < headers_at (ends_of plan.now false link) (look_of graph.old) }
     ensures none { IsFalse result → headers_at (ends_of plan.now false link) (look_of graph.new) ≡ 0 }
 {
@@ -50,7 +51,8 @@ fn bring_back<S: Source, K: Sink>(graph: &mut Graph<S, K, PlayClient>, plan: &Pl
     requires there { link < length plan.now.joints }
     requires links { AreLinks (ends_of plan.now) (length plan.now.joints) }
     requires stands { StandsFor (HasCleared plan.now link) graph.old }
-    ensures { StepsWhere (kept_of graph.old) (kept_of graph.new) (HasCleared plan.now link) (λ w v. HasBrought plan.now link v × KeepsFiles w v) }
+    ensures steps { StepsWhere (kept_of graph.old) (kept_of graph.new) (HasCleared plan.now link) (λ w v. HasBrought plan.now link v × KeepsFiles w v) }
+    ensures files { KeepsAllFiles graph.old graph.new }
 {
     while hand_back(graph, plan, link) {}
 }
@@ -60,6 +62,7 @@ fn release<S: Source, K: Sink>(graph: &mut Graph<S, K, PlayClient>, plan: &Plan,
     requires there { link < length plan.now.joints }
     requires stands { StandsFor (HasBrought plan.now link) graph.old }
     ensures steps { StepsWhere (kept_of graph.old) (kept_of graph.new) (HasBrought plan.now link) (λ w v. HasBrought plan.now link v × KeepsFiles w v) }
+    ensures files { KeepsAllFiles graph.old graph.new }
     ensures fewer { IsTrue result → headers_at (ends_of plan.now true link) (look_of graph.new) < headers_at (ends_of plan.now true link) (look_of graph.old) }
     ensures none { IsFalse result → headers_at (ends_of plan.now true link) (look_of graph.new) ≡ 0 }
 {
@@ -72,7 +75,8 @@ fn release<S: Source, K: Sink>(graph: &mut Graph<S, K, PlayClient>, plan: &Plan,
 fn unmake<S: Source, K: Sink>(graph: &mut Graph<S, K, PlayClient>, plan: &Plan, link: u32)
     requires there { link < length plan.now.joints }
     requires stands { StandsFor (HasBrought plan.now link) graph.old }
-    ensures { StepsWhere (kept_of graph.old) (kept_of graph.new) (HasBrought plan.now link) (λ w v. HasCleared plan.now (link + 1) v × KeepsFiles w v) }
+    ensures steps { StepsWhere (kept_of graph.old) (kept_of graph.new) (HasBrought plan.now link) (λ w v. HasCleared plan.now (link + 1) v × KeepsFiles w v) }
+    ensures files { KeepsAllFiles graph.old graph.new }
 {
     while release(graph, plan, link) {}
 }
@@ -82,7 +86,8 @@ pub(crate) fn clear_links<S: Source, K: Sink>(graph: &mut Graph<S, K, PlayClient
     requires few { length plan.now.joints ≤ 1024 }
     requires links { AreLinks (ends_of plan.now) (length plan.now.joints) }
     requires stands { StandsFor (HasCleared plan.now 0) graph.old }
-    ensures { StepsWhere (kept_of graph.old) (kept_of graph.new) (HasCleared plan.now 0) (λ w v. HasCleared plan.now (length plan.now.joints) v × KeepsFiles w v) }
+    ensures steps { StepsWhere (kept_of graph.old) (kept_of graph.new) (HasCleared plan.now 0) (λ w v. HasCleared plan.now (length plan.now.joints) v × KeepsFiles w v) }
+    ensures files { KeepsAllFiles graph.old graph.new }
 {
     for link in 0..link_count(plan) {
         bring_back(graph, plan, link);

@@ -2,6 +2,7 @@
 
 ghost use Rattle.std.specs.Prelude.{◌≤◌, length};
 ghost use Rattle.il_machine.specs.Whole.{StepsWhere};
+ghost use Rattle.il_graph.specs.Shown.{KeepsAllFiles};
 ghost use Rattle.halting.specs.Halting.{CanStop, IsStoppedIn, KeepsFiles};
 ghost use Rattle.play_graphs.specs.Graphs.{kept_of};
 ghost use Rattle.play_graphs.specs.Ending.{StandsFor};
@@ -17,7 +18,8 @@ use stream_plan::Plan;
 /// Makes the component at the place Invalid, which has no note.
 fn make_invalid<S: Source, K: Sink>(graph: &mut Graph<S, K, PlayClient>, place: u32)
     requires { StandsFor (CanStop place) graph.old }
-    ensures { StepsWhere (kept_of graph.old) (kept_of graph.new) (CanStop place) (IsStoppedIn place) }
+    ensures steps { StepsWhere (kept_of graph.old) (kept_of graph.new) (CanStop place) (IsStoppedIn place) }
+    ensures files { KeepsAllFiles graph.old graph.new }
 {
     let h = handle(graph, place);
     graph.law_of_worlds();
@@ -31,7 +33,8 @@ fn make_invalid<S: Source, K: Sink>(graph: &mut Graph<S, K, PlayClient>, place: 
 pub(crate) fn stop_components<S: Source, K: Sink>(graph: &mut Graph<S, K, PlayClient>, plan: &Plan)
     requires few { length plan.now.parts ≤ 32 }
     requires stands { StandsFor (HasStopped plan.now 0) graph.old }
-    ensures { StepsWhere (kept_of graph.old) (kept_of graph.new) (HasStopped plan.now 0) (λ w v. HasStopped plan.now (length plan.now.parts) v × KeepsFiles w v) }
+    ensures steps { StepsWhere (kept_of graph.old) (kept_of graph.new) (HasStopped plan.now 0) (λ w v. HasStopped plan.now (length plan.now.parts) v × KeepsFiles w v) }
+    ensures files { KeepsAllFiles graph.old graph.new }
 {
     for place in 0..count(plan) {
         take_notes(graph, place);

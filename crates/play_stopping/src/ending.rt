@@ -4,7 +4,7 @@ ghost use Rattle.std.specs.Prelude.{◌≡◌, ◌≤◌, length};
 ghost use Rattle.il_machine.specs.Whole.{Always};
 ghost use Rattle.dismantling.specs.Dismantling.{AreLinks};
 ghost use Rattle.play_graphs.specs.Graphs.{kept_of};
-ghost use Rattle.play_graphs.specs.Ending.{AreBack, StandsFor, ends_of};
+ghost use Rattle.play_graphs.specs.Ending.{AreBack, AreFilesOf, StandsFor, ends_of};
 ghost use Rattle.play_graphs.specs.Making.{AreGone};
 ghost use Rattle.play_stopping.specs.Stops.{HasStopped};
 
@@ -32,6 +32,7 @@ pub fn stop_graph<S: Source, K: Sink>(
     requires stands { StandsFor (HasStopped plan.now 0) graph }
     ensures many { length files.new ≡ length files.old }
     ensures back { Always (kept_of graph) (λ w. HasStopped plan.now 0 w → AreBack w files.new) }
+    ensures files { AreFilesOf graph (length plan.now.parts) files.new }
 {
     stop_components(&mut graph, plan);
     clear_links(&mut graph, plan);

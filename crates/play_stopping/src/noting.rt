@@ -2,7 +2,7 @@
 
 ghost use Rattle.std.specs.Prelude.{◌≡◌, ◌<◌, IsFalse, IsTrue};
 ghost use Rattle.il_machine.specs.Whole.{StepsWhere};
-ghost use Rattle.il_graph.specs.Shown.{look_of};
+ghost use Rattle.il_graph.specs.Shown.{KeepsAllFiles, look_of};
 ghost use Rattle.halting.specs.Halting.{HasEvents, IsSameButNotes, notes_at};
 ghost use Rattle.play_graphs.specs.Graphs.{kept_of};
 ghost use Rattle.play_graphs.specs.Ending.{StandsFor};
@@ -33,6 +33,7 @@ fn told_of(call: Call<PlayClient>) -> PlayClient
 fn take_next<S: Source, K: Sink>(graph: &mut Graph<S, K, PlayClient>, place: u32) -> bool
     requires { StandsFor (HasEvents place) graph.old }
     ensures steps { StepsWhere (kept_of graph.old) (kept_of graph.new) (HasEvents place) (λ w v. HasEvents place v × IsSameButNotes w v) }
+    ensures files { KeepsAllFiles graph.old graph.new }
     ensures fewer { IsTrue result → notes_at place (look_of graph.new) < notes_at place (look_of graph.old) }
     ensures none { IsFalse result → notes_at place (look_of graph.new) ≡ 0 }
 {
@@ -55,6 +56,7 @@ fn take_next<S: Source, K: Sink>(graph: &mut Graph<S, K, PlayClient>, place: u32
 pub(crate) fn take_notes<S: Source, K: Sink>(graph: &mut Graph<S, K, PlayClient>, place: u32)
     requires { StandsFor (HasEvents place) graph.old }
     ensures steps { StepsWhere (kept_of graph.old) (kept_of graph.new) (HasEvents place) (λ w v. HasEvents place v × IsSameButNotes w v) }
+    ensures files { KeepsAllFiles graph.old graph.new }
     ensures none { notes_at place (look_of graph.new) ≡ 0 }
 {
     while take_next(graph, place) {}

@@ -1,3 +1,4 @@
+use Rattle.std.proofs.Common.{◌∙◌}
 use Rattle.halting.specs.Halting.{KeepsFiles}
 use Rattle.play_stopping.specs.Stops.{HasBrought}
 use Rattle.play_stopping.proofs.Cleared.{all_unmade}
@@ -5,13 +6,20 @@ use Rattle.play_stopping.proofs.Joining.{files_then, stands_then, steps_then}
 use Rattle.play_stopping.proofs.clearing.unmake.Goals as goal
 
 pub release-requires-clause-stands : goal.release-requires-clause-stands
-release-requires-clause-stands g c = stands_then KeepsFiles (HasBrought c.args.plan.now c.args.link) (HasBrought c.args.plan.now c.args.link) c.args.graph.now c.loop.graph c.requires.stands c.loop.invariant
+release-requires-clause-stands g c = stands_then KeepsFiles (HasBrought c.args.plan.now c.args.link) (HasBrought c.args.plan.now c.args.link) c.args.graph.now c.loop.graph c.requires.stands c.loop.invariant.steps
 
 pub loop-preserved : goal.loop-preserved
-loop-preserved g c = steps_then KeepsFiles (HasBrought c.args.plan.now c.args.link) (HasBrought c.args.plan.now c.args.link) (HasBrought c.args.plan.now c.args.link) files_then c.args.graph.now c.loop.graph c.release.new.graph c.loop.invariant c.release.ensures.steps
+loop-preserved g c =
+    record {
+      steps = steps_then KeepsFiles (HasBrought c.args.plan.now c.args.link) (HasBrought c.args.plan.now c.args.link) (HasBrought c.args.plan.now c.args.link) files_then c.args.graph.now c.loop.graph c.release.new.graph c.loop.invariant.steps c.release.ensures.steps;
+      files = λ number. c.release.ensures.files number ∙ c.loop.invariant.files number;
+    }
 
-pub returns : goal.returns
-returns g c =
+pub returns-clause-steps : goal.returns-clause-steps
+returns-clause-steps g c =
     all_unmade c.args.plan.now c.args.link c.args.graph.now c.release.new.graph
-    (steps_then KeepsFiles (HasBrought c.args.plan.now c.args.link) (HasBrought c.args.plan.now c.args.link) (HasBrought c.args.plan.now c.args.link) files_then c.args.graph.now c.loop.graph c.release.new.graph c.loop.invariant c.release.ensures.steps)
+    (steps_then KeepsFiles (HasBrought c.args.plan.now c.args.link) (HasBrought c.args.plan.now c.args.link) (HasBrought c.args.plan.now c.args.link) files_then c.args.graph.now c.loop.graph c.release.new.graph c.loop.invariant.steps c.release.ensures.steps)
     (c.release.ensures.none c.loop-test.false)
+
+pub returns-clause-files : goal.returns-clause-files
+returns-clause-files g c = λ number. c.release.ensures.files number ∙ c.loop.invariant.files number

@@ -1,4 +1,4 @@
-use Rattle.std.proofs.Common.{◌≡◌, Ok, subst}
+use Rattle.std.proofs.Common.{◌≡◌, Ok, subst, ◌∙◌}
 use Rattle.il_machine.specs.declared.answer.Progress.{Progress}
 use Rattle.il_machine.specs.Notes.{TakeNote}
 use Rattle.il_machine.specs.Whole.{Steps}
@@ -42,3 +42,6 @@ returns-in-Ok-None-clause-none g c = λ f.
     let step = subst (λ (t : Took Progress). Steps (kept_of c.args.graph.now) (kept_of c.take_note.new.self) (λ w v. TakeNote w c.handle-h.result (Ok (took_of t)) v)) c.in-Ok-None.field-0-is c.in-Ok-None.ensures.step in
     let same = subst (λ (t : Took Progress). OnNoNote t (c.take_note.new.self ≡ c.args.graph.now)) c.in-Ok-None.field-0-is c.in-Ok-None.ensures.idle in
     none_left c.args.place c.args.graph.now c.take_note.new.self c.handle-h.result c.handle-h.ensures c.requires step same
+
+pub returns-in-Ok-Call-clause-files : goal.returns-in-Ok-Call-clause-files
+returns-in-Ok-Call-clause-files g c = λ number. c.end_note.ensures.files number ∙ c.take_note.ensures.files number
