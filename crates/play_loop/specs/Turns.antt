@@ -131,3 +131,7 @@ pub record HasEnded (w : Layout) (start now : Play) : Type 0 where
 -- each play that could go on is over
 abbrev pub EndsOf : Layout → (Play → Type 0) → (Play → Type 0) → Type 0
 EndsOf w old new = (p : Play) → old p → IsGoing w p → (q : Play) × new q × HasEnded w p q
+
+-- each play that is stood for is over
+abbrev pub AreOver : Layout → (Play → Type 0) → Type 0
+AreOver w plays = (p : Play) → plays p → IsOver w p

@@ -6,7 +6,7 @@
 ghost use Rattle.std.specs.Prelude.{◌≡◌, ◌<◌, ◌≤◌, ℕ, Bool, true, false, IfOk, OnOk, IfErr};
 ghost use Rattle.play_model.specs.Play.{Layout, Play};
 ghost use Rattle.play_model.specs.Reached.{IsOver};
-ghost use Rattle.play_loop.specs.Turns.{CanPlay, EndsOf, IsOfComponent, IsOfLink, IsSend, RoundsOf, SomePlay, TurnsOf};
+ghost use Rattle.play_loop.specs.Turns.{AreOver, CanPlay, EndsOf, IsOfComponent, IsOfLink, IsSend, RoundsOf, SomePlay, TurnsOf};
 
 /// What makes the acts of a play: a graph with its conductor. Each call that moves it answers whether an act was accepted.
 pub trait Player {
@@ -17,6 +17,9 @@ pub trait Player {
 
     /// The plays that it stands for: what has gone through a part need not be kept.
     ghost Plays: { Self → Play → Type 0 };
+
+    /// What its turns lead to beside the plays, as long as no part fails.
+    ghost Leads: { Self → Self → Type 0 };
 
     /// What holds once a part has failed.
     ghost HasFailed: { Self → Self.Fault → Type 0 };
@@ -39,7 +42,8 @@ pub trait Player {
     fn send(&mut self) -> bool
         requires { SomePlay (Plays self.old) }
         ensures layout { layout self.new ≡ layout self.old }
-        ensures turned { TurnsOf (layout self.old) (Plays self.old) (Plays self.new) result IsSend };
+        ensures turned { TurnsOf (layout self.old) (Plays self.old) (Plays self.new) result IsSend }
+        ensures leads { Leads self.old self.new };
 
     /// A note is told, a command run, a work claimed, run and finished, as far as each can be.
     fn component_turn(&mut self, component: u32) -> Result<bool, Self::Fault>
@@ -48,6 +52,7 @@ pub trait Player {
         ensures layout { layout self.new ≡ layout self.old }
         ensures turned { IfOk result (λ acted. TurnsOf (layout self.old) (Plays self.old) (Plays self.new) acted
             (IsOfComponent (layout self.old) component)) }
+        ensures leads { OnOk result (Leads self.old self.new) }
         ensures failed { IfErr result (HasFailed self.new) };
 
     /// A header is made, unmade, handed over, handed back, as far as each can be.
@@ -55,7 +60,12 @@ pub trait Player {
         requires there { link < (layout self.old).network.links }
         requires stands { SomePlay (Plays self.old) }
         ensures layout { layout self.new ≡ layout self.old }
-        ensures turned { TurnsOf (layout self.old) (Plays self.old) (Plays self.new) result (IsOfLink link) };
+        ensures turned { TurnsOf (layout self.old) (Plays self.old) (Plays self.new) result (IsOfLink link) }
+        ensures leads { Leads self.old self.new };
+
+    ghost leads_to_itself: { (x : Self) → Leads x x };
+
+    ghost leads_on: { (x y z : Self) → Leads x y → Leads y z → Leads x z };
 }
 
 /// One round over the conductor, the components and the links. Something was accepted, since something can be.
@@ -64,6 +74,7 @@ fn round<P: Player>(player: &mut P) -> Result<bool, P::Fault>
     ensures layout { P.layout player.new ≡ P.layout player.old }
     ensures round { IfOk result (λ did. RoundsOf (P.layout player.old) (P.Plays player.old) (P.Plays player.new) did
         (P.layout player.old).network.components (P.layout player.old).network.links) }
+    ensures leads { OnOk result (P.Leads player.old player.new) }
     ensures failed { IfErr result (P.HasFailed player.new) }
 {
     let mut did = player.send();
@@ -85,6 +96,8 @@ pub fn play_on<P: Player>(player: &mut P) -> Result<(), P::Fault>
     requires { CanPlay (P.layout player.old) (P.Plays player.old) 340282366920938463463374607431768211455 }
     ensures layout { P.layout player.new ≡ P.layout player.old }
     ensures over { OnOk result (EndsOf (P.layout player.old) (P.Plays player.old) (P.Plays player.new)) }
+    ensures all { OnOk result (AreOver (P.layout player.new) (P.Plays player.new)) }
+    ensures leads { OnOk result (P.Leads player.old player.new) }
     ensures failed { IfErr result (P.HasFailed player.new) }
 {
     // Each round makes an act, and a play has fewer.

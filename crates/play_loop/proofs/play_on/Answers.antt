@@ -1,5 +1,5 @@
 use Rattle.std.proofs.Common.{◌∙◌, Bool, sym, subst}
-use Rattle.play_model.specs.Play.{Layout, Play}
+use Rattle.play_model.specs.Play.{Layout}
 use Rattle.play_model.specs.Reached.{IsOver}
 use Rattle.play_loop.specs.Turns.{IsRound, RoundsOf}
 use Rattle.flow_model.proofs.Queues.{both}
@@ -9,6 +9,7 @@ use Rattle.play_loop.proofs.play_on.Goals as goal
 pub loop-round-init : goal.loop-round-init
 loop-round-init g c = record {
   layout = λ i. g.P.Player.layout c.args.player.now;
+  leads = g.met.P.Player.leads_to_itself c.args.player.now;
   way = λ p s G. (p, s, way_begins (g.P.Player.layout c.args.player.now) p G);
 }
 
@@ -23,6 +24,8 @@ returns-then-is_over g c =
       over = λ p s G.
           let W = c.loop-round.invariant.way p s G in
           (W.0, W.1, record { reached = ((W.2).going).reached; ran = (W.2).ran; over = subst (λ (s : Layout). IsOver s W.0) same (c.is_over.ensures.yes c.if-is_over.true W.0 W.1) });
+      all = λ p s. c.is_over.ensures.yes c.if-is_over.true p s;
+      leads = c.loop-round.invariant.leads;
       failed = tt;
     }
 
@@ -46,6 +49,7 @@ loop-round-preserved g c =
     let rounds = subst (λ (s : Layout). RoundsOf s (g.P.Player.Plays c.loop-round.player) (g.P.Player.Plays c.round.new.player) c.in_ok-round.field-0 s.network.components s.network.links) same c.in_ok-round.ensures.round in
     record {
       layout = c.round.ensures.layout ∙ same;
+      leads = g.met.P.Player.leads_on c.args.player.now c.loop-round.player c.round.new.player c.loop-round.invariant.leads c.in_ok-round.ensures.leads;
       way = λ p s G.
           let W = c.loop-round.invariant.way p s G in
           let R = rounds W.0 W.1 (W.2).going in

@@ -12,6 +12,7 @@ loop-c-init g c =
     let w : Layout = g.P.Player.layout c.args.player.now in
     record {
       layout = c.send-did.ensures.layout;
+      leads = c.send-did.ensures.leads;
       round = λ p s G. let T = c.send-did.ensures.turned p s in (T.0, T.1, round_begins w p G T.0 c.send-did.result T.2);
       some = let T = c.send-did.ensures.turned c.requires.0 c.requires.1 in (T.0, T.1);
     }
@@ -22,6 +23,7 @@ loop-c-preserved g c =
     let turns = subst (λ (s : Layout). TurnsOf s (g.P.Player.Plays c.loop-c.player) (g.P.Player.Plays c.component_turn.new.self) c.in_ok-acted.acted (IsOfComponent s c.loop-c.c)) c.loop-c.invariant.layout c.in_ok-acted.ensures.turned in
     record {
       layout = c.component_turn.ensures.layout ∙ c.loop-c.invariant.layout;
+      leads = g.met.P.Player.leads_on c.args.player.now c.loop-c.player c.component_turn.new.self c.loop-c.invariant.leads c.in_ok-acted.ensures.leads;
       round = λ p s G.
           let R = c.loop-c.invariant.round p s G in
           let T = turns R.0 R.1 in
@@ -35,6 +37,7 @@ loop-l-preserved g c =
     let turns = subst (λ (s : Layout). TurnsOf s (g.P.Player.Plays c.loop-l.player) (g.P.Player.Plays c.link_turn-acted.new.self) c.link_turn-acted.result (IsOfLink c.loop-l.l)) c.loop-l.invariant.layout c.link_turn-acted.ensures.turned in
     record {
       layout = c.link_turn-acted.ensures.layout ∙ c.loop-l.invariant.layout;
+      leads = g.met.P.Player.leads_on c.args.player.now c.loop-l.player c.link_turn-acted.new.self c.loop-l.invariant.leads c.link_turn-acted.ensures.leads;
       round = λ p s G.
           let R = c.loop-l.invariant.round p s G in
           let T = turns R.0 R.1 in

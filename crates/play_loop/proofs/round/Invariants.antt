@@ -7,6 +7,7 @@ abbrev pub invariant-loop-c : goal.invariant-loop-c
 invariant-loop-c g l = record {
   layout : g.P.Player.layout l.player ≡ g.P.Player.layout l.fn.player;
   round : RoundsOf (g.P.Player.layout l.fn.player) (g.P.Player.Plays l.fn.player) (g.P.Player.Plays l.player) l.did l.c 0;
+  leads : g.P.Player.Leads l.fn.player l.player;
   some : SomePlay (g.P.Player.Plays l.player);
 }
 
@@ -14,5 +15,6 @@ abbrev pub invariant-loop-l : goal.invariant-loop-l
 invariant-loop-l g l = record {
   layout : g.P.Player.layout l.player ≡ g.P.Player.layout l.fn.player;
   round : RoundsOf (g.P.Player.layout l.fn.player) (g.P.Player.Plays l.fn.player) (g.P.Player.Plays l.player) l.did l.components l.l;
+  leads : g.P.Player.Leads l.fn.player l.player;
   some : SomePlay (g.P.Player.Plays l.player);
 }
