@@ -16,12 +16,14 @@ use Rattle.conductor.specs.Hearing.{ConductorValue}
 use Rattle.play_model.specs.Play.{Layout, Play}
 use Rattle.play_model.specs.Acts.{Act, CanAct, CanActs, acted, all_acted}
 use Rattle.play_loop.specs.Turns.{CanNone, IsAtRest, SomePlay, Turned, TurnsOf}
+use Rattle.play_log.specs.Kept.{LogValue}
 use Rattle.play_worlds.specs.Cast.{Cast}
 use Rattle.play_worlds.specs.Worlds.{IsPlayWorld, LeadsTo, happenings}
 use Rattle.play_worlds.proofs.Closings.{closes_lead}
 use Rattle.play_worlds.proofs.Happenings.{rests_all}
 use Rattle.play_graphs.specs.Graphs.{kept_of}
-use Rattle.play_run.specs.Playing.{AreClientsIn, HasParts, HaveNoWork, IsAct, IsConducting, IsPlaying, IsStanding, PlayingValue, cast, is_did, layout_of}
+use Rattle.play_run.specs.Playing.{AreClientsIn, HasParts, HaveNoWork, IsAct, IsConducting, IsPlaying, IsStanding, LeadsOn, PlayingValue, TurnsTo, cast, is_did, layout_of}
+use Rattle.play_run.specs.Recording.{IsRecorded}
 
 -- an act of the play that begins no state, and leaves none to be sent
 pub record IsWithin (w : Layout) (p : Play) (a : Act) : Type 0 where
@@ -80,8 +82,9 @@ pub keeps_in : {C : Type 0} (g k : Entries C) → KeepsAllClients g k → AreCli
 keeps_in g k K In = λ h e. In h (sym (K h) ∙ e)
 
 module _ {S K : Type 0} where
-  abbrev pub on_graph : PlayingValue S K → Shown S K Progress → PlayingValue S K
-  on_graph x g = record x { graph = g }
+  -- with another graph and another log
+  abbrev pub with_both : PlayingValue S K → Shown S K Progress → LogValue → PlayingValue S K
+  with_both x g log = record x { graph = g; log = log }
 
   pub parts_of : (x : PlayingValue S K) (p : Play) → IsStanding x p → HasParts x
   parts_of x p Z = record { world = Z.world; stands = Z.stands; sound = (Z.play).sound; valid = Z.valid; many = (Z.play).many; clients = Z.clients }
@@ -90,39 +93,64 @@ module _ {S K : Type 0} where
   has_parts x (p, Y) = parts_of x p Y.standing
 
   -- with its close-out the act leads to a world of the play
-  pub stands_then : (x : PlayingValue S K) (g : Shown S K Progress) (p q : Play) (v : World) → IsStanding x p → Stands (kept_of g) v → HaveNoWork v → AreClientsIn g.core → IsPlayWorld (cast x.plan) q v → q.phase ≡ p.phase → IsStanding (on_graph x g) q
-  stands_then x g p q v Z st works clients W e = record {
-    world = v;
-    stands = st;
-    play = W;
-    valid = Z.valid;
-    works = works;
-    clients = clients;
-    conducting = same_conducting (cast x.plan) p q x.conductor e Z.conducting;
-  }
+  pub stands_then : (x : PlayingValue S K) (g : Shown S K Progress) (log : LogValue) (p q : Play) (v : World) (Z : IsStanding x p) → Stands (kept_of g) v → HaveNoWork v → AreClientsIn g.core → IsPlayWorld (cast x.plan) q v → q.phase ≡ p.phase
+      → IsRecorded x.plan.parts Z.opening v log → (Y : IsStanding (with_both x g log) q) × (Y.files ≡ Z.files)
+  stands_then x g log p q v Z st works clients W e R = (
+    record {
+      world = v;
+      stands = st;
+      play = W;
+      valid = Z.valid;
+      works = works;
+      clients = clients;
+      conducting = same_conducting (cast x.plan) p q x.conductor e Z.conducting;
+      files = Z.files;
+      opening = Z.opening;
+      begins = Z.begins;
+      recorded = R;
+    },
+    refl,
+  )
 
-  pub turn_goes : (x : PlayingValue S K) (g : Shown S K Progress) (p : Play) (v : World) (did : Bool) (P : Act → Type 0)
-      → IsPlaying x p → Stands (kept_of g) v → HaveNoWork v → AreClientsIn g.core → (did ≡ false → g ≡ x.graph) → Came (cast x.plan) p v did P
-      → (q : Play) × IsPlaying (on_graph x g) q × Turned (layout_of x.plan) p q did P
-  turn_goes x g p v true P Y st works clients same C =
+  -- nothing was accepted, and nothing told
+  still : (x : PlayingValue S K) (g : Shown S K Progress) (log : LogValue) (P : Act → Type 0) (p : Play) (Y : IsPlaying x p) → g ≡ x.graph → log ≡ x.log → CanNone (layout_of x.plan) p P
+      → (q : Play) × (Z : IsPlaying (with_both x g log) q) × Turned (layout_of x.plan) p q false P × (Z.standing.files ≡ Y.standing.files)
+  still x g log P p Y same silent none =
+      let is : x ≡ with_both x g log = λ i. record x { graph = sym same i; log = sym silent i } in
+      subst (λ (z : PlayingValue S K). (q : Play) × (Z : IsPlaying z q) × Turned (layout_of x.plan) p q false P × (Z.standing.files ≡ Y.standing.files)) is (p, Y, (refl, none), refl)
+
+  pub turn_goes : (x : PlayingValue S K) (g : Shown S K Progress) (log : LogValue) (p : Play) (v : World) (did : Bool) (P : Act → Type 0) (Y : IsPlaying x p)
+      → Stands (kept_of g) v → HaveNoWork v → AreClientsIn g.core → (did ≡ false → g ≡ x.graph) → (did ≡ false → log ≡ x.log) → (did ≡ true → IsRecorded x.plan.parts Y.standing.opening v log) → Came (cast x.plan) p v did P
+      → (q : Play) × (Z : IsPlaying (with_both x g log) q) × Turned (layout_of x.plan) p q did P × (Z.standing.files ≡ Y.standing.files)
+  turn_goes x g log p v true P Y st works clients same silent R C =
       let y = cast x.plan in
       let w = layout_of x.plan in
       let L = C.4 in
       let H = closes_lead y (acted w C.0 p) L.effect v L.play L.closes in
       let q : Play = all_acted w (happenings H.places) (acted w C.0 p) in
-      let e : q.phase ≡ p.phase = happened_phase w H.places (acted w C.0 p) ∙ (C.3).phase in (
+      let e : q.phase ≡ p.phase = happened_phase w H.places (acted w C.0 p) ∙ (C.3).phase in
+      let S = stands_then x g log p q v Y.standing st works clients H.play e (R refl) in (
         q,
         record {
-          standing = stands_then x g p q v Y.standing st works clients H.play e;
+          standing = S.0;
           sent = λ c b. happened_sent w H.places (acted w C.0 p) c ((C.3).sent c (Y.sent c b));
         },
         (record { acts = C.0 ∷ happenings H.places; some = omega arith; enabled = (C.2, H.can); after = refl }, rests_there y q v H.play (L.closes).closed),
+        S.1,
       )
-  turn_goes x g p v false P Y st works clients same C = (p, subst (λ (y : Shown S K Progress). IsPlaying (on_graph x y) p) (sym (same refl)) Y, (refl, C))
+  turn_goes x g log p v false P Y st works clients same silent R C = still x g log P p Y (same refl) (silent refl) C
 
   -- nothing was accepted
-  pub turn_stays : (x : PlayingValue S K) (g : Shown S K Progress) (P : Act → Type 0) → g ≡ x.graph → ((p : Play) → IsPlaying x p → CanNone (layout_of x.plan) p P) → TurnsOf (layout_of x.plan) (IsPlaying x) (IsPlaying (on_graph x g)) false P
-  turn_stays x g P same none = λ p Y. (p, subst (λ (y : Shown S K Progress). IsPlaying (on_graph x y) p) (sym same) Y, (refl, none p Y))
+  pub turn_stays : (x : PlayingValue S K) (g : Shown S K Progress) (P : Act → Type 0) → g ≡ x.graph → ((p : Play) → IsPlaying x p → CanNone (layout_of x.plan) p P) → TurnsTo x (with_both x g x.log) false P
+  turn_stays x g P same none = λ p Y. still x g x.log P p Y same refl (none p Y)
+
+  -- ---- what a turn says to the loop
+
+  pub turned_of : (x y : PlayingValue S K) (did : Bool) (P : Act → Type 0) → TurnsTo x y did P → TurnsOf (layout_of x.plan) (IsPlaying x) (IsPlaying y) did P
+  turned_of x y did P T = λ p Y. let t = T p Y in (t.0, t.1, t.2)
+
+  pub leads_of : (x y : PlayingValue S K) (did : Bool) (P : Act → Type 0) → y.plan ≡ x.plan → TurnsTo x y did P → LeadsOn x y
+  leads_of x y did P same T = record { plan = same; plays = λ p Y. let t = T p Y in (t.0, t.1, t.3) }
 
 -- ---- an answer
 

@@ -32,9 +32,14 @@ use Rattle.play_worlds.proofs.Openings.{opens}
 use Rattle.play_forms.specs.Plans.{PlanValue}
 use Rattle.play_plans.specs.Casting.{place_of as place_of_turn}
 use Rattle.play_plans.specs.Conducting.{HasSinks}
-use Rattle.play_openings.specs.Assemblies.{HasNoLate}
+use Rattle.play_openings.specs.Assemblies.{HasNoLate, IsReady, PlayFiles}
 use Rattle.play_openings.proofs.Opened.{early_opens}
-use Rattle.play_graphs.specs.Making.{CanMake, IsMadeOf}
+use Rattle.play_graphs.specs.Making.{AreOffered, IsMadeOf}
+use Rattle.std.proofs.lemmas.List.Elements.{All-nil}
+use Rattle.play_log.specs.Logged.{Keeps}
+use Rattle.play_log.specs.Scenes.{Scene, scene_of}
+use Rattle.play_run.specs.Closing.{HasBegun}
+use Rattle.play_run.specs.Recording.{FreesNone, IsByPlayer, IsRecorded, IsWhole}
 use Rattle.play_graphs.specs.Graphs.{kept_of}
 use Rattle.play_run.specs.Playing.{HaveNoWork, IsConducting, IsPlaying, PlayingValue, cast, layout_of}
 use Rattle.play_run.specs.Opening.{IsOpeningGraph}
@@ -97,14 +102,15 @@ never_out w h each O = by_place (place_of h w.components) O
     by_place None t = t
     by_place (Some i) t = at_place i (slice_get w.components i) refl t
 
-pub opens_so : {S K : Type 0} (plan : PlanValue) (offered_by : PartFile S K → Offered) (entries : List (Option (PartFile S K))) (g : Shown S K Progress) → IsMadeOf plan offered_by entries g → CanMake plan offered_by entries → HasNoLate plan
-    → ((h : Handle) → client_named h g.core ≡ Some None → IsOut h (look_of g.core)) → IsOpeningGraph plan g
-opens_so plan offered_by entries g M C early out =
-    let A = M C.files C.ready C.offered in
+pub opens_so : {S K : Type 0} (plan : PlanValue) (offered_by : PartFile S K → Offered) (entries : List (Option (PartFile S K))) (g : Shown S K Progress) → IsMadeOf plan offered_by entries g → HasNoLate plan → ((h : Handle) → client_named h g.core ≡ Some None → IsOut h (look_of g.core))
+    → (files : PlayFiles) → IsReady plan files → AreOffered plan files offered_by entries → IsOpeningGraph plan files g
+opens_so plan offered_by entries g M early out files ready offered =
+    let A = M files ready offered in
     record {
       world = A.world;
       stands = A.stands;
-      opening = early_opens plan C.files A.handles A.world A.ready early A.built;
+      opening = early_opens plan files A.handles A.world A.ready early A.built;
+      begins = (A.handles, A.built);
       valid = A.ready.valid;
       early = early;
       clients = λ h e. never_out A.world h (λ i a f. ap (λ (y : Component). y.client_out) (A.built.built.components.each i a f).fresh_else) (subst (IsOut h) (sym A.stands.looks) (out h e));
@@ -118,7 +124,7 @@ words_small (x ∷ xs) A (suc i) = words_small xs (All-tail (λ (n : ℕ). n < 1
 pub frames_small : (plan : PlanValue) → All (λ (n : ℕ). n < 18446744073709551616) plan.frames → (c : ℕ) → c < components_of (cast plan) → ((layout_of plan).network).frames c < 18446744073709551616
 frames_small plan A c b = words_small plan.frames A (place_of_turn plan c)
 
-module _ {S K : Type 0} (x : PlayingValue S K) (O : IsOpeningGraph x.plan x.graph) (new : x.conductor ≡ conductors.cast_of x.plan) where
+module _ {S K : Type 0} (x : PlayingValue S K) (files : PlayFiles) (O : IsOpeningGraph x.plan files x.graph) (new : x.conductor ≡ conductors.cast_of x.plan) (closed : Always (kept_of x.graph) IsClosed) (empty : (s : Scene) → Keeps s [] x.log) where
   has_sinks : HasSinks (cast x.plan) (conductors.cast_of x.plan)
   has_sinks = record {
     many = map_many (x.plan).parts;
@@ -143,19 +149,41 @@ module _ {S K : Type 0} (x : PlayingValue S K) (O : IsOpeningGraph x.plan x.grap
       inside : (place : ℕ) (a : Component) → slice_get O.world.components place ≡ Some a → length O.world.components ≡ components_of (cast x.plan) → place < components_of (cast x.plan)
       inside place a e m = let w = slice_get_within O.world.components place a e in omega arith
 
-  begins_playing : IsPlaying x opening
-  begins_playing = record {
-    standing = record { world = O.world; stands = O.stands; play = opens (cast x.plan) O.world O.opening; valid = O.valid; works = no_works; clients = O.clients; conducting = conducting };
-    sent = λ c b e. absurd (omega (arith, e));
-  }
+  nothing_recorded : IsRecorded x.plan.parts O.world O.world x.log
+  nothing_recorded = record { history = []; runs = refl; alone = All-nil IsByPlayer; whole = All-nil IsWhole; stay = All-nil FreesNone; keeps = empty (scene_of x.plan.parts O.world) }
 
-  pub can_play : Always (kept_of x.graph) IsClosed → ((c : ℕ) → c < components_of (cast x.plan) → ((layout_of x.plan).network).frames c < 18446744073709551616) → CanPlay (layout_of x.plan) (IsPlaying x) 340282366920938463463374607431768211455
-  unfolding begins_playing
-  can_play closed frames =
-      let W = begins_playing.standing.play in
+  begins_playing : (Y : IsPlaying x opening) × (Y.standing.files ≡ files) × (Y.standing.world ≡ O.world)
+  begins_playing = (
+    record {
+      standing = record {
+        world = O.world;
+        stands = O.stands;
+        play = opens (cast x.plan) O.world O.opening;
+        valid = O.valid;
+        works = no_works;
+        clients = O.clients;
+        conducting = conducting;
+        files = files;
+        opening = O.world;
+        begins = record { opens = O.begins; closed = closed O.world O.stands };
+        recorded = nothing_recorded;
+      };
+      sent = λ c b e. absurd (omega (arith, e));
+    },
+    refl,
+    refl,
+  )
+
+  pub has_begun : HasBegun x files
+  has_begun = (opening, begins_playing.0, begins_playing.1)
+
+  pub can_play : ((c : ℕ) → c < components_of (cast x.plan) → ((layout_of x.plan).network).frames c < 18446744073709551616) → CanPlay (layout_of x.plan) (IsPlaying x) 340282366920938463463374607431768211455
+  can_play frames =
+      let Y : IsPlaying x opening = begins_playing.0 in
+      let W = Y.standing.play in
       record {
         play = opening;
-        stands = begins_playing;
-        going = record { reached = W.reached; rest = rests_there (cast x.plan) opening O.world W (closed O.world O.stands) };
+        stands = Y;
+        going = record { reached = W.reached; rest = rests_there (cast x.plan) opening Y.standing.world W (closed Y.standing.world Y.standing.stands) };
         few = few_acts x.plan W.early O.valid.most W.cast.few frames;
       }

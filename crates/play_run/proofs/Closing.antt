@@ -1,5 +1,5 @@
 -- Where a play is over, its graph can be taken apart: each component is Loaded with nothing pending, and no header is made.
-use Rattle.std.proofs.Common.{◌≡◌, ◌≢◌, inl, inr, ℕ, ◌<◌, Bool, true, false, ◌||◌, List, [], ◌∷◌, length, slice_get, Some, None, option_map, refl, sym, ◌∙◌, ap, subst, arith}
+use Rattle.std.proofs.Common.{◌≡◌, ◌≢◌, inl, inr, ℕ, ◌<◌, Bool, true, false, not, ◌&&◌, ◌||◌, All, List, [], ◌∷◌, ◌++◌, length, slice_get, Some, None, Result, Ok, Err, OnOk, option_map, refl, sym, ◌∙◌, ap, subst, arith}
 use Rattle.std.proofs.lemmas.Option.{slice_get_within}
 use Rattle.omx_types.specs.declared.state.State.TheVariants.{Loaded}
 use Rattle.il_machine.specs.declared.port.Link.{Link}
@@ -22,13 +22,21 @@ use Rattle.play_model.proofs.Files.{over_unmade}
 use Rattle.play_plans.specs.Casting.{joint_of}
 use Rattle.play_worlds.specs.Cast.{Cast, components_of, input_at, output_at, script_place}
 use Rattle.play_worlds.specs.Standing.{pending_at, state_at}
+use Rattle.play_worlds.specs.Telling.{notes_at, out_of}
+use Rattle.play_worlds.specs.Worlds.{ends_untold}
+use Rattle.il_machine.specs.Queued.{notes_given}
+use Rattle.play_log.specs.Kept.{LogValue}
+use Rattle.play_results.specs.Worlds.{IsAtEnd}
 use Rattle.play_worlds.specs.Wiring.{joined_state, link_to, port_in}
 use Rattle.play_worlds.proofs.Counting.{made_output}
 use Rattle.play_worlds.proofs.Lists.{get_there}
 use Rattle.play_graphs.specs.Ending.{HasEnded, StandsFor, ends_of}
 use Rattle.play_graphs.proofs.Naming.{named_at}
-use Rattle.play_run.specs.Playing.{IsStanding, PlayingValue, cast, layout_of}
-use Rattle.play_run.specs.Closing.{HasPlayed}
+use Rattle.play_run.specs.Logging.{IsKeptTo}
+use Rattle.play_run.specs.Playing.{IsPlaying, IsStanding, LeadsOn, PlayingValue, cast, layout_of}
+use Rattle.play_loop.specs.Turns.{AreOver}
+use Rattle.play_openings.specs.Assemblies.{PlayFiles}
+use Rattle.play_run.specs.Closing.{HasBegun, HasPlayed, HasPlayedWith, KeepsLog}
 use Rattle.play_graphs.proofs.Standing.{givers_there, takers_there}
 use Rattle.play_run.proofs.Linking.{link_is}
 use Rattle.play_run.proofs.Naming.{all_clients_in}
@@ -42,6 +50,14 @@ calm_joined link = record { steady = refl; quiet = refl; unmarked = refl }
 
 at_four : (phase stage : ℕ) → phase ≡ 4 → stage ≡ 4 → (state_at phase stage ≡ Loaded) × (pending_at phase stage ≡ None)
 at_four phase stage e f = rw (e, f) (refl, refl)
+
+none_at_four : (phase stage : ℕ) (ends : Bool) → phase ≡ 4 → stage ≡ 4 → ends ≡ false → notes_at phase stage ends ≡ []
+none_at_four phase stage ends e f g = rw (e, f, g) refl
+
+told_end : (sink ended told : Bool) → (sink ≡ true → told ≡ true) → (sink && ended && not told) ≡ false
+told_end true true told h = let t = h refl in rw t refl
+told_end true false told h = refl
+told_end false ended told h = refl
 
 loaded_down : (a : Component) → a.state ≡ Loaded → (is_loaded a.state || is_invalid a.state) ≡ true
 loaded_down a e = rw e refl
@@ -181,6 +197,27 @@ module _ {S K : Type 0} (x : PlayingValue S K) (p : Play) (Z : IsStanding x p) (
           client = all_clients_in x Z.clients w Z.stands i a.handle a (named_at w i a.handle (Z.play).sound (ap (option_map (λ (c : Component). c.handle)) e)) e;
         }
 
+    -- nothing waits to be told
+    all_told : a.notes ≡ []
+    all_told =
+        let A = (Z.play).actors turn a turn_below there in
+        let f = over.phase in
+        let told : ends_untold y p turn ≡ false = told_end (y.layout.is_sink turn) ((p.flow).ended turn) (p.told turn) (λ t. A.over (omega arith) t) in
+        let n = none_at_four p.phase (p.stage turn) (ends_untold y p turn) over.phase (over.all turn turn_below) told in
+        sym (ap (λ (b : Bool). out_of b (notes_given (number_of a) w) ++ a.notes) resting.client) ∙ (A.notes ∙ n)
+
+    at_end : IsAtEnd a
+    at_end =
+        let A = (Z.play).actors turn a turn_below there in
+        let four = at_four p.phase (p.stage turn) over.phase (over.all turn turn_below) in
+        record {
+          state = ap (λ (c : Component). c.state) A.stands ∙ four.0;
+          rests = ap (λ (c : Component). c.pending) A.stands ∙ four.1;
+          told = all_told;
+          work = resting.work;
+          client = resting.client;
+        }
+
   -- ---- headers
 
   none_made : (hs : List HeaderRecord) → w.headers ≡ hs → w.headers ≡ []
@@ -212,9 +249,36 @@ module _ {S K : Type 0} (x : PlayingValue S K) (p : Play) (Z : IsStanding x p) (
     };
   }
 
+  pub all_at_end : All IsAtEnd w.components
+  all_at_end = from_places IsAtEnd w.components at_end
+
+  pub no_headers : w.headers ≡ []
+  no_headers = none_made w.headers refl
+
 module _ {S K : Type 0} (x : PlayingValue S K) where
+  pub keeps_log : (log : LogValue) → log ≡ x.log → KeepsLog x log
+  keeps_log log e = λ p Y over.
+      let Z = Y.standing in
+      let R = Z.recorded in
+      subst (λ (l : LogValue). IsKeptTo x.plan Z.files l Z.world) (sym e) (record {
+        opening = Z.opening;
+        begins = Z.begins;
+        history = R.history;
+        runs = R.runs;
+        alone = R.alone;
+        whole = R.whole;
+        keeps = R.keeps;
+        components = all_at_end x p Z over;
+        headers = no_headers x p Z over;
+      })
+
   pub stands_ended : HasPlayed x → StandsFor (HasEnded x.plan) x.graph
   stands_ended (p, Y, over) = (Y.standing.world, Y.standing.stands, has_ended x p Y.standing over)
 
   pub play_links : HasPlayed x → AreLinks (ends_of x.plan) (length x.plan.joints)
   play_links (p, Y, over) = links_apart x p Y.standing over
+
+-- where each of its plays is over, that which began with the files is
+pub has_played : {S K E : Type 0} (old new : PlayingValue S K) (r : Result (Unit {0}) E) → OnOk r (AreOver (layout_of new.plan) (IsPlaying new)) → OnOk r (LeadsOn old new) → OnOk r ((given : PlayFiles) → HasBegun old given → HasPlayedWith new given)
+has_played old new (Ok done) over leads = λ given begun. let q = leads.plays begun.0 begun.1 in (q.0, q.1, over q.0 q.1, q.2 ∙ begun.2)
+has_played old new (Err e) over leads = tt

@@ -1,9 +1,10 @@
 -- A component's command is run.
-use Rattle.std.proofs.Common.{◌≡◌, ◌<◌, ℕ, Bool, length, Some, Result, refl, sym, ◌∙◌, ap, subst, arith}
+use Rattle.std.proofs.Common.{◌≡◌, ◌<◌, ℕ, Bool, true, false, length, Some, Ok, Result, refl, sym, ◌∙◌, ap, subst, arith}
 use Rattle.std.specs.Prelude.{OnErr}
 use Rattle.omx_types.specs.declared.handle.Handle.{Handle}
 use Rattle.omx_types.specs.declared.error.OmxError.{OmxError}
 use Rattle.il_machine.specs.declared.answer.Acted.{Acted}
+use Rattle.il_machine.specs.declared.answer.Acted.TheVariants.{Did}
 use Rattle.il_machine.specs.declared.answer.Progress.{Progress}
 use Rattle.il_machine.specs.Acts as acts
 use Rattle.il_machine.specs.Commands.{RunCommand}
@@ -13,16 +14,19 @@ use Rattle.il_graph.specs.Shown.{Shown}
 use Rattle.il_graph.specs.Stood.{OnIdle}
 use Rattle.play_model.specs.Play.{Play}
 use Rattle.play_model.specs.Acts.{Act}
-use Rattle.play_loop.specs.Turns.{SomePlay, TurnsOf}
+use Rattle.play_loop.specs.Turns.{SomePlay}
+use Rattle.play_log.specs.Kept.{LogValue}
 use Rattle.play_worlds.specs.Worlds.{Names}
 use Rattle.play_worlds.proofs.Runs.{run_can, run_leads}
 use Rattle.play_plans.specs.Casting.{place_of}
 use Rattle.play_plans.proofs.Turns.{all_turns}
 use Rattle.play_graphs.specs.Graphs.{IsHandleAt, kept_of}
-use Rattle.play_run.specs.Playing.{IsAct, IsPlaying, IsStanding, PlayingValue, cast, is_did, layout_of}
+use Rattle.play_run.specs.Playing.{IsAct, IsPlaying, IsStanding, PlayingValue, TurnsTo, cast, is_did, layout_of}
+use Rattle.play_run.specs.Recording.{IsRecorded, IsToldOf}
 use Rattle.play_graphs.proofs.Naming.{named_at}
 use Rattle.play_run.proofs.Working.{still_none}
-use Rattle.play_run.proofs.Answering.{keeps_in, not_did, on_graph, one_came, run_within, turn_goes}
+use Rattle.play_run.proofs.Recording.{goes_on}
+use Rattle.play_run.proofs.Answering.{is_ok, keeps_in, not_did, one_came, run_within, turn_goes, with_both}
 
 module _ {S K : Type 0} where
   -- ---- a component by its turn
@@ -38,24 +42,27 @@ module _ {S K : Type 0} where
 
   -- ---- its command
 
-  ran : (x : PlayingValue S K) (g : Shown S K Progress) (c place : ℕ) (h : Handle) (r : Result Acted OmxError) → c < length x.plan.parts → place ≡ place_of x.plan c → IsHandleAt x.graph place h → KeepsAllClients x.graph.core g.core
-      → Steps (kept_of x.graph) (kept_of g) (λ w v. RunCommand w h r v) → OnErr r (g ≡ x.graph) → OnIdle r (g ≡ x.graph) → TurnsOf (layout_of x.plan) (IsPlaying x) (IsPlaying (on_graph x g)) (is_did r) (IsAct (Act.Run c))
-  ran x g c place h r b e H keeps steps er id = λ p Y.
+  ran : (x : PlayingValue S K) (g : Shown S K Progress) (log : LogValue) (c place : ℕ) (h : Handle) (r : Result Acted OmxError) → c < length x.plan.parts → place ≡ place_of x.plan c → IsHandleAt x.graph place h → KeepsAllClients x.graph.core g.core
+      → Steps (kept_of x.graph) (kept_of g) (λ w v. RunCommand w h r v) → OnErr r (g ≡ x.graph) → OnIdle r (g ≡ x.graph)
+      → (is_did r ≡ false → log ≡ x.log) → (is_did r ≡ true → IsToldOf x.plan.parts place x.log (λ k. acts.RunCommand k) (acts.Acted (Ok Did)) log) → TurnsTo x (with_both x g log) (is_did r) (IsAct (Act.Run c))
+  ran x g log c place h r b e H keeps steps er id silent told = λ p Y.
       let Z = Y.standing in
       let w = Z.world in
       let v = steps w Z.stands in
       let N = component_named_in x c place h e H p Z in
-      turn_goes x g p v.0 (is_did r) (IsAct (Act.Run c)) Y v.1
+      let R : is_did r ≡ true → IsRecorded x.plan.parts Z.opening v.0 log = λ t. goes_on x p Z place h H v.0 (λ k. acts.RunCommand k) (acts.Acted (Ok Did)) log (told t) refl tt
+      (subst (λ (a : Result Acted OmxError). RunCommand w h a v.0) (is_ok r t) v.2) tt (λ n. refl) in
+      turn_goes x g log p v.0 (is_did r) (IsAct (Act.Run c)) Y v.1
       (still_none w (acts.RunCommand h) (acts.Acted r) v.0 (Z.play).sound tt v.2 (λ n. refl) Z.works)
-      (keeps_in x.graph.core g.core keeps Z.clients) (not_did r er id)
+      (keeps_in x.graph.core g.core keeps Z.clients) (not_did r er id) silent R
       (one_came (cast x.plan) p v.0 (Act.Run c) r (run_within (layout_of x.plan) p c)
       (λ C. run_leads (cast x.plan) p w c h r v.0 Z.play C N v.2)
       (λ d. run_can (cast x.plan) p w c h r v.0 Z.play b N v.2 d))
 
-  pub run_turns : (y x : PlayingValue S K) → y ≡ x → (g : Shown S K Progress) (c place : ℕ) (h : Handle) (r : Result Acted OmxError) (d : Bool) → c < length x.plan.parts → place ≡ place_of x.plan c → IsHandleAt x.graph place h
+  pub run_turns : (y x : PlayingValue S K) → y ≡ x → (g : Shown S K Progress) (log : LogValue) (c place : ℕ) (h : Handle) (r : Result Acted OmxError) (d : Bool) → c < length x.plan.parts → place ≡ place_of x.plan c → IsHandleAt x.graph place h
       → KeepsAllClients y.graph.core g.core → Steps (kept_of y.graph) (kept_of g) (λ w v. RunCommand w h r v) → OnErr r (g ≡ y.graph) → OnIdle r (g ≡ y.graph) → d ≡ is_did r
-      → TurnsOf (layout_of x.plan) (IsPlaying x) (IsPlaying (on_graph y g)) d (IsAct (Act.Run c))
-  run_turns y x is g c place h r d b J H keeps steps e i D =
-      subst (λ (z : PlayingValue S K). c < length z.plan.parts → place ≡ place_of z.plan c → IsHandleAt z.graph place h → TurnsOf (layout_of z.plan) (IsPlaying z) (IsPlaying (on_graph y g)) d (IsAct (Act.Run c))) is
-      (λ b J H. subst (λ (o : Bool). TurnsOf (layout_of y.plan) (IsPlaying y) (IsPlaying (on_graph y g)) o (IsAct (Act.Run c))) (sym D) (ran y g c place h r b J H keeps steps e i))
+      → (d ≡ false → log ≡ y.log) → (d ≡ true → IsToldOf y.plan.parts place y.log (λ k. acts.RunCommand k) (acts.Acted (Ok Did)) log) → TurnsTo x (with_both y g log) d (IsAct (Act.Run c))
+  run_turns y x is g log c place h r d b J H keeps steps e i D silent told =
+      subst (λ (z : PlayingValue S K). c < length z.plan.parts → place ≡ place_of z.plan c → IsHandleAt z.graph place h → TurnsTo z (with_both y g log) d (IsAct (Act.Run c))) is
+      (λ b J H. subst (λ (o : Bool). TurnsTo y (with_both y g log) o (IsAct (Act.Run c))) (sym D) (ran y g log c place h r b J H keeps steps e i (λ f. silent (D ∙ f)) (λ t. told (D ∙ t))))
       b J H

@@ -1,5 +1,5 @@
 -- A state that was begun is sent to each component, and nothing that is sent makes another one due.
-use Rattle.std.proofs.Common.{◌≡◌, ◌≢◌, ◌+◌, ◌<◌, ◌≤◌, ℕ, Bool, true, false, nat_eq, List, [], ◌∷◌, length, map, set, take, slice_get, Option, Some, None, option_map, Result, refl, sym, ◌∙◌, ap, subst, eqb-true, eq-eqb, ne_eqb, arith}
+use Rattle.std.proofs.Common.{◌≡◌, ◌≢◌, ◌+◌, ◌<◌, ◌≤◌, ℕ, Bool, true, false, nat_eq, List, [], ◌∷◌, length, map, set, take, slice_get, Option, Some, None, option_map, Result, Ok, refl, sym, ◌∙◌, ap, subst, eqb-true, eq-eqb, ne_eqb, arith}
 use Rattle.std.specs.Prelude.{filter}
 use Rattle.std.proofs.lemmas.List.{length-take-le}
 use Rattle.omx_types.specs.declared.handle.Handle.{Handle}
@@ -25,7 +25,7 @@ use Rattle.conductor.specs.Phases.{Conducts}
 use Rattle.play_forms.specs.Plans.{PlanValue}
 use Rattle.play_model.specs.Play.{Layout, Play}
 use Rattle.play_model.specs.Acts.{Act, CanAct, acted, all_acted}
-use Rattle.play_loop.specs.Turns.{CanNone, IsAtRest, IsSend, SomePlay, Turned, TurnsOf}
+use Rattle.play_loop.specs.Turns.{CanNone, IsAtRest, IsSend, SomePlay, Turned}
 use Rattle.play_loop.proofs.Running.{no_run, run_more}
 use Rattle.play_worlds.specs.Cast.{Cast, components_of, script_place}
 use Rattle.play_worlds.specs.Standing.{target}
@@ -39,12 +39,15 @@ use Rattle.stream_plan.proofs.Lists.{set_at, set_other, slice_get_front}
 use Rattle.play_plans.specs.Conducting.{HasViews, IsConductorOf}
 use Rattle.play_plans.proofs.Conducting.{conductor_hears, conductor_over, conductor_sends, conductor_steady, conductor_waits, conductor_whole}
 use Rattle.play_graphs.specs.Graphs.{IsHandleAt, kept_of}
-use Rattle.play_run.specs.Playing.{HasParts, IsConducting, IsPlaying, IsProgressAt, IsStanding, PlayingValue, cast, layout_of}
+use Rattle.play_run.specs.Playing.{HasParts, IsConducting, IsPlaying, IsProgressAt, IsStanding, PlayingValue, TurnsTo, cast, layout_of}
+use Rattle.play_run.specs.Recording.{IsToldOf}
+use Rattle.play_run.proofs.Recording.{goes_on}
+use Rattle.play_log.specs.Kept.{LogValue}
 use Rattle.play_run.specs.Sending.{AreViews, CanSend, IsCalm, IsOnSend, IsUnsent, SendsTo, SentOf, state_in}
 use Rattle.play_graphs.proofs.Naming.{named_at}
 use Rattle.play_run.proofs.Naming.{all_clients_in}
 use Rattle.play_run.proofs.Working.{still_none}
-use Rattle.play_run.proofs.Answering.{happened_phase, happened_sent, happened_unsent, keeps_in, on_graph, parts_of, rests_there, stands_then}
+use Rattle.play_run.proofs.Answering.{happened_phase, happened_sent, happened_unsent, keeps_in, parts_of, rests_there, stands_then, with_both}
 
 -- ---- the stages
 
@@ -53,12 +56,13 @@ unsent_else p w c j n z = rw (ne_eqb j c n) z
 
 module _ {S K : Type 0} where
   pub send_begins : (x : PlayingValue S K) (state : State) → SendsTo x x state 0
-  send_begins x state = λ p Z U. (p, Z, record { ran = no_run (layout_of x.plan) p; phase = refl; sent = record { later = λ c b l. U.later c b; before = λ c b l. absurd (omega arith) } })
+  send_begins x state = λ p Z U. (p, Z, record { ran = no_run (layout_of x.plan) p; phase = refl; sent = record { later = λ c b l. U.later c b; before = λ c b l. absurd (omega arith) } }, refl)
 
-  module _ (y : PlayingValue S K) (g : Shown S K Progress) (state : State) (place : ℕ) (h : Handle) (r : Result (Unit {0}) OmxError) (b : place < length y.plan.parts) (H : IsHandleAt y.graph place h)
+  module _ (y : PlayingValue S K) (g : Shown S K Progress) (log : LogValue) (state : State) (place : ℕ) (h : Handle) (r : Result (Unit {0}) OmxError) (b : place < length y.plan.parts) (H : IsHandleAt y.graph place h)
+      (told : IsToldOf y.plan.parts place y.log (λ k. acts.SendCommand k (StateSet state)) (acts.Plain (Ok tt)) log)
       (keeps : KeepsAllClients y.graph.core g.core) (steps : Steps (kept_of y.graph) (kept_of g) (λ w v. SendCommand w h (StateSet state) r v)) where
     -- one more component has it
-    pub sends_more : (x : PlayingValue S K) → y.plan ≡ x.plan → SendsTo x y state place → SendsTo x (on_graph y g) state (place + 1)
+    pub sends_more : (x : PlayingValue S K) → y.plan ≡ x.plan → SendsTo x y state place → SendsTo x (with_both y g log) state (place + 1)
     sends_more x same before = λ p Z U.
         let t = before p Z U in
         let q : Play = t.0 in
@@ -74,13 +78,16 @@ module _ {S K : Type 0} where
         let v = steps Y.world Y.stands in
         let is : state ≡ target q.phase = U.state_is ∙ ap target (sym O.phase) in
         let s = subst (λ (a : State). SendCommand Y.world h (StateSet a) r v.0) is v.2 in
-        let L = (send_leads z q Y.world c h r v.0 Y.play C N s).1 in
+        let leads = send_leads z q Y.world c h r v.0 Y.play C N s in
+        let L = leads.1 in
         let G = closes_lead z (acted w (Act.Send c) q) L.effect v.0 L.play L.closes in
         let u : Play = all_acted w (happenings G.places) (acted w (Act.Send c) q) in
         let phase : u.phase ≡ q.phase = happened_phase w G.places (acted w (Act.Send c) q) in
-        let works = still_none Y.world (acts.SendCommand h (StateSet state)) (acts.Plain r) v.0 (Y.play).sound tt v.2 (λ n. refl) Y.works in (
+        let works = still_none Y.world (acts.SendCommand h (StateSet state)) (acts.Plain r) v.0 (Y.play).sound tt v.2 (λ n. refl) Y.works in
+        let R = goes_on y q Y place h H v.0 (λ k. acts.SendCommand k (StateSet state)) (acts.Plain (Ok tt)) log told refl tt (subst (λ (a : Result (Unit {0}) OmxError). SendCommand Y.world h (StateSet state) a v.0) leads.0 v.2) tt (λ n. refl) in
+        let S = stands_then y g log q u v.0 Y v.1 works (keeps_in y.graph.core g.core keeps Y.clients) G.play phase R in (
           u,
-          stands_then y g q u v.0 Y v.1 works (keeps_in y.graph.core g.core keeps Y.clients) G.play phase,
+          S.0,
           subst (λ (plan : PlanValue). IsOnSend (layout_of plan) p u (place + 1)) same (record {
             ran = run_more w p q u O.ran (record { acts = Act.Send c ∷ happenings G.places; enabled = (C, G.can); after = refl });
             phase = phase ∙ O.phase;
@@ -94,13 +101,15 @@ module _ {S K : Type 0} where
                   O.sent.before j d (omega (arith, l, other)) e)));
             };
           }),
+          S.1 ∙ t.3,
         )
 
-  pub sends_next : (y l x : PlayingValue S K) → y ≡ l → (g : Shown S K Progress) (state : State) (place : ℕ) (h : Handle) (r : Result (Unit {0}) OmxError) → l.plan ≡ x.plan → place < length x.plan.parts → IsHandleAt l.graph place h
-      → KeepsAllClients y.graph.core g.core → Steps (kept_of y.graph) (kept_of g) (λ w v. SendCommand w h (StateSet state) r v) → SendsTo x l state place → SendsTo x (on_graph y g) state (place + 1)
-  sends_next y l x is g state place h r same b H keeps steps before =
-      subst (λ (z : PlayingValue S K). z.plan ≡ x.plan → IsHandleAt z.graph place h → SendsTo x z state place → SendsTo x (on_graph y g) state (place + 1)) is
-      (λ same H before. sends_more y g state place h r (subst (λ (plan : PlanValue). place < length plan.parts) (sym same) b) H keeps steps x same before)
+  pub sends_next : (y l x : PlayingValue S K) → y ≡ l → (g : Shown S K Progress) (log : LogValue) (state : State) (place : ℕ) (h : Handle) (r : Result (Unit {0}) OmxError) → l.plan ≡ x.plan → place < length x.plan.parts → IsHandleAt l.graph place h
+      → IsToldOf y.plan.parts place y.log (λ k. acts.SendCommand k (StateSet state)) (acts.Plain (Ok tt)) log
+      → KeepsAllClients y.graph.core g.core → Steps (kept_of y.graph) (kept_of g) (λ w v. SendCommand w h (StateSet state) r v) → SendsTo x l state place → SendsTo x (with_both y g log) state (place + 1)
+  sends_next y l x is g log state place h r same b H told keeps steps before =
+      subst (λ (z : PlayingValue S K). z.plan ≡ x.plan → IsHandleAt z.graph place h → SendsTo x z state place → SendsTo x (with_both y g log) state (place + 1)) is
+      (λ same H before. sends_more y g log state place h r (subst (λ (plan : PlanValue). place < length plan.parts) (sym same) b) H told keeps steps x same before)
       same H before
 
   -- the graph stands for such a play
@@ -121,6 +130,7 @@ module _ {S K : Type 0} where
               O.sent.before c b ((Z.play).cast.placed c b));
         },
         O.ran,
+        t.3,
       )
 
 -- ---- the conductor
@@ -173,8 +183,23 @@ module _ {S K : Type 0} where
   abbrev pub with_conductor : PlayingValue S K → ConductorValue → PlayingValue S K
   with_conductor x value = record x { conductor = value }
 
-  conducted : (x : PlayingValue S K) (p q : Play) (value : ConductorValue) (Z : IsStanding x p) → IsPlayWorld (cast x.plan) q Z.world → IsConductorOf (cast x.plan) q value → IsStanding (with_conductor x value) q
-  conducted x p q value Z W V = record { world = Z.world; stands = Z.stands; play = W; valid = Z.valid; works = Z.works; clients = Z.clients; conducting = conducts (cast x.plan) q value V }
+  conducted : (x : PlayingValue S K) (p q : Play) (value : ConductorValue) (Z : IsStanding x p) → IsPlayWorld (cast x.plan) q Z.world → IsConductorOf (cast x.plan) q value → (Y : IsStanding (with_conductor x value) q) × (Y.files ≡ Z.files)
+  conducted x p q value Z W V = (
+    record {
+      world = Z.world;
+      stands = Z.stands;
+      play = W;
+      valid = Z.valid;
+      works = Z.works;
+      clients = Z.clients;
+      conducting = conducts (cast x.plan) q value V;
+      files = Z.files;
+      opening = Z.opening;
+      begins = Z.begins;
+      recorded = Z.recorded;
+    },
+    refl,
+  )
 
   -- nothing is sent: no state is due, and none that was begun is still to be sent
   pub nothing_sent : (x : PlayingValue S K) (p : Play) → IsPlaying x p → (CanAct (layout_of x.plan) p Act.Begin → ⊥) → CanNone (layout_of x.plan) p IsSend
@@ -198,18 +223,19 @@ module _ {S K : Type 0} where
   nothing_sent x p Y never (Act.Step c n last) o C = o
 
   module _ (x : PlayingValue S K) (views : List (Option Progress)) (many : length views ≡ length x.plan.parts) (seen : AreViews x.graph views (length x.plan.parts)) (next : ConductorValue) where
-    still : (p : Play) (Y : IsPlaying x p) → next ≡ heard_by x.conductor views → (CanAct (layout_of x.plan) p Act.Begin → ⊥) → (q : Play) × IsPlaying (with_conductor x next) q × Turned (layout_of x.plan) p q false IsSend
+    still : (p : Play) (Y : IsPlaying x p) → next ≡ heard_by x.conductor views → (CanAct (layout_of x.plan) p Act.Begin → ⊥) → (q : Play) × (Z : IsPlaying (with_conductor x next) q) × Turned (layout_of x.plan) p q false IsSend × (Z.standing.files ≡ Y.standing.files)
     still p Y e never =
         let V = hears x p Y.standing views many seen in
-        (p, record { standing = conducted x p p next Y.standing Y.standing.play (subst (IsConductorOf (cast x.plan) p) (sym e) V); sent = Y.sent }, (refl, nothing_sent x p Y never))
+        let S = conducted x p p next Y.standing Y.standing.play (subst (IsConductorOf (cast x.plan) p) (sym e) V) in
+        (p, record { standing = S.0; sent = Y.sent }, (refl, nothing_sent x p Y never), S.1)
 
-    pub wait_turns : Conducts (heard_by x.conductor views) phases.Wait next → TurnsOf (layout_of x.plan) (IsPlaying x) (IsPlaying (with_conductor x next)) false IsSend
+    pub wait_turns : Conducts (heard_by x.conductor views) phases.Wait next → TurnsTo x (with_conductor x next) false IsSend
     wait_turns H = λ p Y.
         let V = hears x p Y.standing views many seen in
         let c = conductor_waits (cast x.plan) p Y.standing.world (heard_by x.conductor views) next Y.standing.play V H in
         still p Y c.2 c.0
 
-    pub over_turns : Conducts (heard_by x.conductor views) phases.Over next → TurnsOf (layout_of x.plan) (IsPlaying x) (IsPlaying (with_conductor x next)) false IsSend
+    pub over_turns : Conducts (heard_by x.conductor views) phases.Over next → TurnsTo x (with_conductor x next) false IsSend
     over_turns H = λ p Y.
         let V = hears x p Y.standing views many seen in
         let c = conductor_over (cast x.plan) p Y.standing.world (heard_by x.conductor views) next Y.standing.play V H in
@@ -223,26 +249,29 @@ module _ {S K : Type 0} where
 
     -- a state is begun
     module _ (state : State) (H : Conducts (heard_by x.conductor views) (phases.Send state) next) where
-      pub record HasBegun (p : Play) : Type 0 where
+      pub record HasBegun (p : Play) (Y : IsPlaying x p) : Type 0 where
         pub can : CanAct (layout_of x.plan) p Act.Begin
         pub standing : IsStanding (with_conductor x next) (acted (layout_of x.plan) Act.Begin p)
+        pub same : standing.files ≡ Y.standing.files
         pub unsent : IsUnsent (layout_of x.plan) (acted (layout_of x.plan) Act.Begin p) state
 
-      pub has_begun : (p : Play) → IsPlaying x p → HasBegun p
+      pub has_begun : (p : Play) (Y : IsPlaying x p) → HasBegun p Y
       has_begun p Y =
           let Z = Y.standing in
           let V = hears x p Z views many seen in
           let c = conductor_sends (cast x.plan) p Z.world (heard_by x.conductor views) next state Z.play V H in
+          let S = conducted x p (acted (layout_of x.plan) Act.Begin p) next Z (begins (cast x.plan) p Z.world Z.play c.0) c.2 in
           record {
             can = c.0;
-            standing = conducted x p (acted (layout_of x.plan) Act.Begin p) next Z (begins (cast x.plan) p Z.world Z.play c.0) c.2;
+            standing = S.0;
+            same = S.1;
             unsent = record { state_is = c.1; later = λ j d. refl };
           }
 
       pub can_send : SomePlay (IsPlaying x) → CanSend (with_conductor x next) state
       can_send (p, Y) = let B = has_begun p Y in (acted (layout_of x.plan) Act.Begin p, (B.standing, B.unsent))
 
-      pub send_turns : (y : PlayingValue S K) → y.plan ≡ x.plan → SentOf (with_conductor x next) y state → Always (kept_of y.graph) IsClosed → TurnsOf (layout_of x.plan) (IsPlaying x) (IsPlaying y) true IsSend
+      pub send_turns : (y : PlayingValue S K) → y.plan ≡ x.plan → SentOf (with_conductor x next) y state → Always (kept_of y.graph) IsClosed → TurnsTo x y true IsSend
       send_turns y same sent closed = λ p Y.
           let B = has_begun p Y in
           let T = sent (acted (layout_of x.plan) Act.Begin p) B.standing B.unsent in
@@ -253,6 +282,7 @@ module _ {S K : Type 0} where
               record { acts = Act.Begin ∷ (T.2).acts; some = omega arith; enabled = (B.can, (T.2).enabled); after = (T.2).after },
               subst (λ (plan : PlanValue). IsAtRest (layout_of plan) T.0) same (rests_there (cast y.plan) T.0 Q.standing.world Q.standing.play (closed Q.standing.world Q.standing.stands)),
             ),
+            T.3 ∙ B.same,
           )
 
   -- ---- what is seen, one component more
@@ -287,11 +317,11 @@ module _ {S K : Type 0} where
     some_here : SomePlay (IsPlaying x) → SomePlay (IsPlaying y)
     some_here s = subst (λ (z : PlayingValue S K). SomePlay (IsPlaying z)) (sym is) s
 
-    pub wait_answer : Conducts (heard_by y.conductor (take n all)) phases.Wait next → TurnsOf (layout_of x.plan) (IsPlaying x) (IsPlaying (with_conductor y next)) false IsSend
-    wait_answer H = subst (λ (z : PlayingValue S K). TurnsOf (layout_of z.plan) (IsPlaying z) (IsPlaying (with_conductor y next)) false IsSend) is (wait_turns y (take n all) many_here seen_here next H)
+    pub wait_answer : Conducts (heard_by y.conductor (take n all)) phases.Wait next → TurnsTo x (with_conductor y next) false IsSend
+    wait_answer H = subst (λ (z : PlayingValue S K). TurnsTo z (with_conductor y next) false IsSend) is (wait_turns y (take n all) many_here seen_here next H)
 
-    pub over_answer : Conducts (heard_by y.conductor (take n all)) phases.Over next → TurnsOf (layout_of x.plan) (IsPlaying x) (IsPlaying (with_conductor y next)) false IsSend
-    over_answer H = subst (λ (z : PlayingValue S K). TurnsOf (layout_of z.plan) (IsPlaying z) (IsPlaying (with_conductor y next)) false IsSend) is (over_turns y (take n all) many_here seen_here next H)
+    pub over_answer : Conducts (heard_by y.conductor (take n all)) phases.Over next → TurnsTo x (with_conductor y next) false IsSend
+    over_answer H = subst (λ (z : PlayingValue S K). TurnsTo z (with_conductor y next) false IsSend) is (over_turns y (take n all) many_here seen_here next H)
 
     pub no_failure : SomePlay (IsPlaying x) → Conducts (heard_by y.conductor (take n all)) phases.Failed next → ⊥
     no_failure s H = never_fails y (take n all) many_here seen_here next (some_here s) H
@@ -303,8 +333,8 @@ module _ {S K : Type 0} where
     may_send s state H = can_send y (take n all) many_here seen_here next state H (some_here s)
 
     pub send_answer : (state : State) → Conducts (heard_by y.conductor (take n all)) (phases.Send state) next → (z : PlayingValue S K) → z.plan ≡ y.plan → SentOf (with_conductor y next) z state → Always (kept_of z.graph) IsClosed
-        → TurnsOf (layout_of x.plan) (IsPlaying x) (IsPlaying z) true IsSend
-    send_answer state H z same sent closed = subst (λ (q : PlayingValue S K). TurnsOf (layout_of q.plan) (IsPlaying q) (IsPlaying z) true IsSend) is (send_turns y (take n all) many_here seen_here next state H z same sent closed)
+        → TurnsTo x z true IsSend
+    send_answer state H z same sent closed = subst (λ (q : PlayingValue S K). TurnsTo q z true IsSend) is (send_turns y (take n all) many_here seen_here next state H z same sent closed)
 
     -- ---- by what it answers
 
@@ -326,10 +356,10 @@ module _ {S K : Type 0} where
     may_send_by s phase state e H = may_send s state (subst (λ (q : Phase). Conducts (heard_by y.conductor (take n all)) q next) (sends_it phase state e) H)
 
     pub sent_turns : (phase : Phase) (state : State) → state_in phase ≡ Some state → Conducts (heard_by y.conductor (take n all)) phase next → (z : PlayingValue S K) → z.plan ≡ y.plan → SentOf (with_conductor y next) z state → Always (kept_of z.graph) IsClosed
-        → TurnsOf (layout_of x.plan) (IsPlaying x) (IsPlaying z) true IsSend
+        → TurnsTo x z true IsSend
     sent_turns phase state e H z same sent closed = send_answer state (subst (λ (q : Phase). Conducts (heard_by y.conductor (take n all)) q next) (sends_it phase state e) H) z same sent closed
 
-    pub quiet_turns : (phase : Phase) → state_in phase ≡ None → Conducts (heard_by y.conductor (take n all)) phase next → TurnsOf (layout_of x.plan) (IsPlaying x) (IsPlaying (with_conductor y next)) false IsSend
+    pub quiet_turns : (phase : Phase) → state_in phase ≡ None → Conducts (heard_by y.conductor (take n all)) phase next → TurnsTo x (with_conductor y next) false IsSend
     quiet_turns (phases.Send state) e H = absurd cc
     quiet_turns phases.Wait e H = wait_answer H
     quiet_turns phases.Over e H = over_answer H

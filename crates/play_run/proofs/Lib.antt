@@ -6,7 +6,9 @@ mod Conducting
 mod Counting
 mod Ending
 mod Linking
+mod Logs
 mod Naming
+mod Recording
 mod Rounding
 mod Stepping
 mod Telling

@@ -1,5 +1,5 @@
 -- The calls of a link's turn.
-use Rattle.std.proofs.Common.{◌≡◌, inl, inr, ◌<◌, ℕ, Bool, false, length, Some, Ok, Err, Result, refl, sym, ◌∙◌, ap, subst, arith}
+use Rattle.std.proofs.Common.{◌≡◌, inl, inr, ◌<◌, ℕ, Bool, true, false, length, Some, Ok, Err, Result, refl, sym, ◌∙◌, ap, subst, arith}
 use Rattle.std.specs.Prelude.{OnErr}
 use Rattle.std.proofs.lemmas.Option.{slice_get-get_or}
 use Rattle.omx_types.specs.declared.handle.Handle.{Handle}
@@ -23,7 +23,7 @@ use Rattle.play_forms.specs.Flows.{no_flow}
 use Rattle.play_forms.specs.Plans.{IsValid, PlanValue}
 use Rattle.play_model.specs.Play.{Play}
 use Rattle.play_model.specs.Acts.{Act, CanAct}
-use Rattle.play_loop.specs.Turns.{TurnsOf}
+use Rattle.play_log.specs.Kept.{LogValue}
 use Rattle.play_worlds.specs.Cast.{away_at, giver_of, taker_of}
 use Rattle.play_worlds.specs.Worlds.{IsPlayWorld, Names}
 use Rattle.play_worlds.proofs.Making.{supply_can, supply_leads}
@@ -34,11 +34,13 @@ use Rattle.play_worlds.proofs.Leftovers.{unused_can, unused_leads}
 use Rattle.play_plans.specs.Casting.{IsLinkCast, flow_of, joint_of, no_joint}
 use Rattle.play_plans.proofs.Casts.{plan_has_cast}
 use Rattle.play_graphs.specs.Graphs.{IsHandleAt, kept_of}
-use Rattle.play_run.specs.Playing.{IsAct, IsPlaying, IsStanding, PlayingValue, cast, is_did, layout_of}
+use Rattle.play_run.specs.Playing.{IsAct, IsStanding, PlayingValue, TurnsTo, cast, is_did, layout_of}
+use Rattle.play_run.specs.Recording.{IsRecorded, IsToldOf}
 use Rattle.play_run.specs.Turning.{IsBack}
 use Rattle.play_graphs.proofs.Naming.{named_at}
 use Rattle.play_run.proofs.Working.{still_none}
-use Rattle.play_run.proofs.Answering.{Came, keeps_in, not_did, on_graph, one_came, stays, turn_goes}
+use Rattle.play_run.proofs.Recording.{goes_on}
+use Rattle.play_run.proofs.Answering.{Came, is_ok, keeps_in, not_did, one_came, stays, turn_goes, with_both}
 
 -- ---- the ends of a link
 
@@ -59,44 +61,50 @@ module _ {S K : Type 0} (x : PlayingValue S K) (g : Shown S K Progress) (l : ℕ
       named_at Y.world (joint_of x.plan l).giver h (Y.play).sound (H Y.world Y.stands) ∙ ap Some (sym e)
 
   module _ (keeps : KeepsAllClients x.graph.core g.core) where
-    pub supplied : (r : Result Acted CallError) → IsHandleAt x.graph (joint_of x.plan l).taker h → Steps (kept_of x.graph) (kept_of g) (λ w v. Supply w h (joint_of x.plan l).input r v)
-        → OnErr r (g ≡ x.graph) → OnIdle r (g ≡ x.graph) → TurnsOf (layout_of x.plan) (IsPlaying x) (IsPlaying (on_graph x g)) (is_did r) (IsAct (Act.Supply l))
-    supplied r H steps e i = λ p Y.
+    pub supplied : (r : Result Acted CallError) (log : LogValue) → (is_did r ≡ false → log ≡ x.log) → (is_did r ≡ true → IsToldOf x.plan.parts (joint_of x.plan l).taker x.log (λ k. acts.Supply k (joint_of x.plan l).input) (acts.Supplied (Ok Did)) log) → IsHandleAt x.graph (joint_of x.plan l).taker h → Steps (kept_of x.graph) (kept_of g) (λ w v. Supply w h (joint_of x.plan l).input r v)
+        → OnErr r (g ≡ x.graph) → OnIdle r (g ≡ x.graph) → TurnsTo x (with_both x g log) (is_did r) (IsAct (Act.Supply l))
+    supplied r log silent told H steps e i = λ p Y.
         let Z = Y.standing in
         let w = Z.world in
         let v = steps w Z.stands in
         let N = taker_named H p Z in
-        turn_goes x g p v.0 (is_did r) (IsAct (Act.Supply l)) Y v.1
+        let R : is_did r ≡ true → IsRecorded x.plan.parts Z.opening v.0 log = λ t. goes_on x p Z (joint_of x.plan l).taker h H v.0 (λ k. acts.Supply k (joint_of x.plan l).input) (acts.Supplied (Ok Did)) log (told t) refl tt
+        (subst (λ (a : Result Acted CallError). Supply w h (joint_of x.plan l).input a v.0) (is_ok r t) v.2) tt (λ n. refl) in
+        turn_goes x g log p v.0 (is_did r) (IsAct (Act.Supply l)) Y v.1
         (still_none w (acts.Supply h (joint_of x.plan l).input) (acts.Supplied r) v.0 (Z.play).sound tt v.2 (λ n. refl) Z.works)
-        (keeps_in x.graph.core g.core keeps Z.clients) (not_did r e i)
+        (keeps_in x.graph.core g.core keeps Z.clients) (not_did r e i) silent R
         (one_came (cast x.plan) p v.0 (Act.Supply l) r (stays (layout_of x.plan) p (Act.Supply l) refl (λ c. refl))
         (λ C. supply_leads (cast x.plan) p w l h r v.0 Z.play C N v.2)
         (λ d. supply_can (cast x.plan) p w l h r v.0 Z.play b N v.2 d))
 
-    pub released : (r : Result Acted OmxError) → IsHandleAt x.graph (joint_of x.plan l).taker h → Steps (kept_of x.graph) (kept_of g) (λ w v. Release w h (joint_of x.plan l).input r v)
-        → OnErr r (g ≡ x.graph) → OnIdle r (g ≡ x.graph) → TurnsOf (layout_of x.plan) (IsPlaying x) (IsPlaying (on_graph x g)) (is_did r) (IsAct (Act.Release l))
-    released r H steps e i = λ p Y.
+    pub released : (r : Result Acted OmxError) (log : LogValue) → (is_did r ≡ false → log ≡ x.log) → (is_did r ≡ true → IsToldOf x.plan.parts (joint_of x.plan l).taker x.log (λ k. acts.Release k (joint_of x.plan l).input) (acts.Acted (Ok Did)) log) → IsHandleAt x.graph (joint_of x.plan l).taker h → Steps (kept_of x.graph) (kept_of g) (λ w v. Release w h (joint_of x.plan l).input r v)
+        → OnErr r (g ≡ x.graph) → OnIdle r (g ≡ x.graph) → TurnsTo x (with_both x g log) (is_did r) (IsAct (Act.Release l))
+    released r log silent told H steps e i = λ p Y.
         let Z = Y.standing in
         let w = Z.world in
         let v = steps w Z.stands in
         let N = taker_named H p Z in
-        turn_goes x g p v.0 (is_did r) (IsAct (Act.Release l)) Y v.1
+        let R : is_did r ≡ true → IsRecorded x.plan.parts Z.opening v.0 log = λ t. goes_on x p Z (joint_of x.plan l).taker h H v.0 (λ k. acts.Release k (joint_of x.plan l).input) (acts.Acted (Ok Did)) log (told t) refl tt
+        (subst (λ (a : Result Acted OmxError). Release w h (joint_of x.plan l).input a v.0) (is_ok r t) v.2) tt (λ n. refl) in
+        turn_goes x g log p v.0 (is_did r) (IsAct (Act.Release l)) Y v.1
         (still_none w (acts.Release h (joint_of x.plan l).input) (acts.Acted r) v.0 (Z.play).sound tt v.2 (λ n. refl) Z.works)
-        (keeps_in x.graph.core g.core keeps Z.clients) (not_did r e i)
+        (keeps_in x.graph.core g.core keeps Z.clients) (not_did r e i) silent R
         (one_came (cast x.plan) p v.0 (Act.Release l) r (stays (layout_of x.plan) p (Act.Release l) refl (λ c. refl))
         (λ C. release_leads (cast x.plan) p w l h r v.0 Z.play C N v.2)
         (λ d. release_can (cast x.plan) p w l h r v.0 Z.play b N v.2 d))
 
-    pub handed_over : (r : Result Acted OmxError) → IsHandleAt x.graph (joint_of x.plan l).taker h → Steps (kept_of x.graph) (kept_of g) (λ w v. HandOver w h (joint_of x.plan l).input r v)
-        → OnErr r (g ≡ x.graph) → OnIdle r (g ≡ x.graph) → TurnsOf (layout_of x.plan) (IsPlaying x) (IsPlaying (on_graph x g)) (is_did r) (IsAct (Act.HandOver l))
-    handed_over r H steps e i = λ p Y.
+    pub handed_over : (r : Result Acted OmxError) (log : LogValue) → (is_did r ≡ false → log ≡ x.log) → (is_did r ≡ true → IsToldOf x.plan.parts (joint_of x.plan l).taker x.log (λ k. acts.HandOver k (joint_of x.plan l).input) (acts.Acted (Ok Did)) log) → IsHandleAt x.graph (joint_of x.plan l).taker h → Steps (kept_of x.graph) (kept_of g) (λ w v. HandOver w h (joint_of x.plan l).input r v)
+        → OnErr r (g ≡ x.graph) → OnIdle r (g ≡ x.graph) → TurnsTo x (with_both x g log) (is_did r) (IsAct (Act.HandOver l))
+    handed_over r log silent told H steps e i = λ p Y.
         let Z = Y.standing in
         let w = Z.world in
         let v = steps w Z.stands in
         let N = taker_named H p Z in
-        turn_goes x g p v.0 (is_did r) (IsAct (Act.HandOver l)) Y v.1
+        let R : is_did r ≡ true → IsRecorded x.plan.parts Z.opening v.0 log = λ t. goes_on x p Z (joint_of x.plan l).taker h H v.0 (λ k. acts.HandOver k (joint_of x.plan l).input) (acts.Acted (Ok Did)) log (told t) refl tt
+        (subst (λ (a : Result Acted OmxError). HandOver w h (joint_of x.plan l).input a v.0) (is_ok r t) v.2) tt (λ n. refl) in
+        turn_goes x g log p v.0 (is_did r) (IsAct (Act.HandOver l)) Y v.1
         (still_none w (acts.HandOver h (joint_of x.plan l).input) (acts.Acted r) v.0 (Z.play).sound tt v.2 (λ n. refl) Z.works)
-        (keeps_in x.graph.core g.core keeps Z.clients) (not_did r e i)
+        (keeps_in x.graph.core g.core keeps Z.clients) (not_did r e i) silent R
         (one_came (cast x.plan) p v.0 (Act.HandOver l) r (stays (layout_of x.plan) p (Act.HandOver l) refl (λ c. refl))
         (λ C. over_leads (cast x.plan) p w l h r v.0 Z.play C N v.2)
         (λ d. over_can (cast x.plan) p w l h r v.0 Z.play b N v.2 d))
@@ -120,52 +128,58 @@ module _ {S K : Type 0} (x : PlayingValue S K) (g : Shown S K Progress) (l : ℕ
       | inr e ↦ let d = (unused_leads (cast x.plan) p w l h (Err z) v W (subst (λ (y : Act). CanAct (layout_of x.plan) p y) e C) N s).0 in absurd cc
     ]
 
-    pub handed_back : (r : Result Acted OmxError) → IsHandleAt x.graph (joint_of x.plan l).giver h → Steps (kept_of x.graph) (kept_of g) (λ w v. HandBack w h (joint_of x.plan l).output r v)
-        → OnErr r (g ≡ x.graph) → OnIdle r (g ≡ x.graph) → TurnsOf (layout_of x.plan) (IsPlaying x) (IsPlaying (on_graph x g)) (is_did r) (IsBack l)
-    handed_back r H steps e i = λ p Y.
+    pub handed_back : (r : Result Acted OmxError) (log : LogValue) → (is_did r ≡ false → log ≡ x.log) → (is_did r ≡ true → IsToldOf x.plan.parts (joint_of x.plan l).giver x.log (λ k. acts.HandBack k (joint_of x.plan l).output) (acts.Acted (Ok Did)) log) → IsHandleAt x.graph (joint_of x.plan l).giver h → Steps (kept_of x.graph) (kept_of g) (λ w v. HandBack w h (joint_of x.plan l).output r v)
+        → OnErr r (g ≡ x.graph) → OnIdle r (g ≡ x.graph) → TurnsTo x (with_both x g log) (is_did r) (IsBack l)
+    handed_back r log silent told H steps e i = λ p Y.
         let Z = Y.standing in
         let w = Z.world in
         let v = steps w Z.stands in
-        turn_goes x g p v.0 (is_did r) (IsBack l) Y v.1
+        let R : is_did r ≡ true → IsRecorded x.plan.parts Z.opening v.0 log = λ t. goes_on x p Z (joint_of x.plan l).giver h H v.0 (λ k. acts.HandBack k (joint_of x.plan l).output) (acts.Acted (Ok Did)) log (told t) refl tt
+        (subst (λ (a : Result Acted OmxError). HandBack w h (joint_of x.plan l).output a v.0) (is_ok r t) v.2) tt (λ n. refl) in
+        turn_goes x g log p v.0 (is_did r) (IsBack l) Y v.1
         (still_none w (acts.HandBack h (joint_of x.plan l).output) (acts.Acted r) v.0 (Z.play).sound tt v.2 (λ n. refl) Z.works)
-        (keeps_in x.graph.core g.core keeps Z.clients) (not_did r e i)
+        (keeps_in x.graph.core g.core keeps Z.clients) (not_did r e i) silent R
         (back_came r p w v.0 Z.play (giver_named H p Z) v.2)
 
 -- ---- the same, of what is known where a call was made
 
 module _ {S K : Type 0} where
-  pub supply_turns : (y x : PlayingValue S K) → y ≡ x → (g : Shown S K Progress) (l : ℕ) (j : Joint) (h : Handle) (r : Result Acted CallError) (d : Bool) → l < length x.plan.joints → j ≡ joint_of x.plan l → IsHandleAt x.graph j.taker h
+  pub supply_turns : (y x : PlayingValue S K) → y ≡ x → (g : Shown S K Progress) (log : LogValue) (l : ℕ) (j : Joint) (h : Handle) (r : Result Acted CallError) (d : Bool) → l < length x.plan.joints → j ≡ joint_of x.plan l → IsHandleAt x.graph j.taker h
       → KeepsAllClients y.graph.core g.core → Steps (kept_of y.graph) (kept_of g) (λ w v. Supply w h j.input r v) → OnErr r (g ≡ y.graph) → OnIdle r (g ≡ y.graph) → d ≡ is_did r
-      → TurnsOf (layout_of x.plan) (IsPlaying x) (IsPlaying (on_graph y g)) d (IsAct (Act.Supply l))
-  supply_turns y x is g l j h r d b J H keeps steps e i D =
-      subst (λ (z : PlayingValue S K). l < length z.plan.joints → j ≡ joint_of z.plan l → IsHandleAt z.graph j.taker h → TurnsOf (layout_of z.plan) (IsPlaying z) (IsPlaying (on_graph y g)) d (IsAct (Act.Supply l))) is
-      (λ b J H. subst (λ (o : Bool). TurnsOf (layout_of y.plan) (IsPlaying y) (IsPlaying (on_graph y g)) o (IsAct (Act.Supply l))) (sym D)
-      (supplied y g l h b keeps r (subst (λ (k : Joint). IsHandleAt y.graph k.taker h) J H) (subst (λ (k : Joint). Steps (kept_of y.graph) (kept_of g) (λ w v. Supply w h k.input r v)) J steps) e i))
+      → (d ≡ false → log ≡ y.log) → (d ≡ true → IsToldOf y.plan.parts j.taker y.log (λ k. acts.Supply k j.input) (acts.Supplied (Ok Did)) log) → TurnsTo x (with_both y g log) d (IsAct (Act.Supply l))
+  supply_turns y x is g log l j h r d b J H keeps steps e i D silent told =
+      subst (λ (z : PlayingValue S K). l < length z.plan.joints → j ≡ joint_of z.plan l → IsHandleAt z.graph j.taker h → TurnsTo z (with_both y g log) d (IsAct (Act.Supply l))) is
+      (λ b J H. subst (λ (o : Bool). TurnsTo y (with_both y g log) o (IsAct (Act.Supply l))) (sym D)
+      (supplied y g l h b keeps r log (λ f. silent (D ∙ f)) (λ t. subst (λ (k : Joint). IsToldOf y.plan.parts k.taker y.log (λ n. acts.Supply n k.input) (acts.Supplied (Ok Did)) log) J (told (D ∙ t)))
+      (subst (λ (k : Joint). IsHandleAt y.graph k.taker h) J H) (subst (λ (k : Joint). Steps (kept_of y.graph) (kept_of g) (λ w v. Supply w h k.input r v)) J steps) e i))
       b J H
 
-  pub release_turns : (y x : PlayingValue S K) → y ≡ x → (g : Shown S K Progress) (l : ℕ) (j : Joint) (h : Handle) (r : Result Acted OmxError) (d : Bool) → l < length x.plan.joints → j ≡ joint_of x.plan l → IsHandleAt x.graph j.taker h
+  pub release_turns : (y x : PlayingValue S K) → y ≡ x → (g : Shown S K Progress) (log : LogValue) (l : ℕ) (j : Joint) (h : Handle) (r : Result Acted OmxError) (d : Bool) → l < length x.plan.joints → j ≡ joint_of x.plan l → IsHandleAt x.graph j.taker h
       → KeepsAllClients y.graph.core g.core → Steps (kept_of y.graph) (kept_of g) (λ w v. Release w h j.input r v) → OnErr r (g ≡ y.graph) → OnIdle r (g ≡ y.graph) → d ≡ is_did r
-      → TurnsOf (layout_of x.plan) (IsPlaying x) (IsPlaying (on_graph y g)) d (IsAct (Act.Release l))
-  release_turns y x is g l j h r d b J H keeps steps e i D =
-      subst (λ (z : PlayingValue S K). l < length z.plan.joints → j ≡ joint_of z.plan l → IsHandleAt z.graph j.taker h → TurnsOf (layout_of z.plan) (IsPlaying z) (IsPlaying (on_graph y g)) d (IsAct (Act.Release l))) is
-      (λ b J H. subst (λ (o : Bool). TurnsOf (layout_of y.plan) (IsPlaying y) (IsPlaying (on_graph y g)) o (IsAct (Act.Release l))) (sym D)
-      (released y g l h b keeps r (subst (λ (k : Joint). IsHandleAt y.graph k.taker h) J H) (subst (λ (k : Joint). Steps (kept_of y.graph) (kept_of g) (λ w v. Release w h k.input r v)) J steps) e i))
+      → (d ≡ false → log ≡ y.log) → (d ≡ true → IsToldOf y.plan.parts j.taker y.log (λ k. acts.Release k j.input) (acts.Acted (Ok Did)) log) → TurnsTo x (with_both y g log) d (IsAct (Act.Release l))
+  release_turns y x is g log l j h r d b J H keeps steps e i D silent told =
+      subst (λ (z : PlayingValue S K). l < length z.plan.joints → j ≡ joint_of z.plan l → IsHandleAt z.graph j.taker h → TurnsTo z (with_both y g log) d (IsAct (Act.Release l))) is
+      (λ b J H. subst (λ (o : Bool). TurnsTo y (with_both y g log) o (IsAct (Act.Release l))) (sym D)
+      (released y g l h b keeps r log (λ f. silent (D ∙ f)) (λ t. subst (λ (k : Joint). IsToldOf y.plan.parts k.taker y.log (λ n. acts.Release n k.input) (acts.Acted (Ok Did)) log) J (told (D ∙ t)))
+      (subst (λ (k : Joint). IsHandleAt y.graph k.taker h) J H) (subst (λ (k : Joint). Steps (kept_of y.graph) (kept_of g) (λ w v. Release w h k.input r v)) J steps) e i))
       b J H
 
-  pub over_turns : (y x : PlayingValue S K) → y ≡ x → (g : Shown S K Progress) (l : ℕ) (j : Joint) (h : Handle) (r : Result Acted OmxError) (d : Bool) → l < length x.plan.joints → j ≡ joint_of x.plan l → IsHandleAt x.graph j.taker h
+  pub over_turns : (y x : PlayingValue S K) → y ≡ x → (g : Shown S K Progress) (log : LogValue) (l : ℕ) (j : Joint) (h : Handle) (r : Result Acted OmxError) (d : Bool) → l < length x.plan.joints → j ≡ joint_of x.plan l → IsHandleAt x.graph j.taker h
       → KeepsAllClients y.graph.core g.core → Steps (kept_of y.graph) (kept_of g) (λ w v. HandOver w h j.input r v) → OnErr r (g ≡ y.graph) → OnIdle r (g ≡ y.graph) → d ≡ is_did r
-      → TurnsOf (layout_of x.plan) (IsPlaying x) (IsPlaying (on_graph y g)) d (IsAct (Act.HandOver l))
-  over_turns y x is g l j h r d b J H keeps steps e i D =
-      subst (λ (z : PlayingValue S K). l < length z.plan.joints → j ≡ joint_of z.plan l → IsHandleAt z.graph j.taker h → TurnsOf (layout_of z.plan) (IsPlaying z) (IsPlaying (on_graph y g)) d (IsAct (Act.HandOver l))) is
-      (λ b J H. subst (λ (o : Bool). TurnsOf (layout_of y.plan) (IsPlaying y) (IsPlaying (on_graph y g)) o (IsAct (Act.HandOver l))) (sym D)
-      (handed_over y g l h b keeps r (subst (λ (k : Joint). IsHandleAt y.graph k.taker h) J H) (subst (λ (k : Joint). Steps (kept_of y.graph) (kept_of g) (λ w v. HandOver w h k.input r v)) J steps) e i))
+      → (d ≡ false → log ≡ y.log) → (d ≡ true → IsToldOf y.plan.parts j.taker y.log (λ k. acts.HandOver k j.input) (acts.Acted (Ok Did)) log) → TurnsTo x (with_both y g log) d (IsAct (Act.HandOver l))
+  over_turns y x is g log l j h r d b J H keeps steps e i D silent told =
+      subst (λ (z : PlayingValue S K). l < length z.plan.joints → j ≡ joint_of z.plan l → IsHandleAt z.graph j.taker h → TurnsTo z (with_both y g log) d (IsAct (Act.HandOver l))) is
+      (λ b J H. subst (λ (o : Bool). TurnsTo y (with_both y g log) o (IsAct (Act.HandOver l))) (sym D)
+      (handed_over y g l h b keeps r log (λ f. silent (D ∙ f)) (λ t. subst (λ (k : Joint). IsToldOf y.plan.parts k.taker y.log (λ n. acts.HandOver n k.input) (acts.Acted (Ok Did)) log) J (told (D ∙ t)))
+      (subst (λ (k : Joint). IsHandleAt y.graph k.taker h) J H) (subst (λ (k : Joint). Steps (kept_of y.graph) (kept_of g) (λ w v. HandOver w h k.input r v)) J steps) e i))
       b J H
 
-  pub back_turns : (y x : PlayingValue S K) → y ≡ x → (g : Shown S K Progress) (l : ℕ) (j : Joint) (h : Handle) (r : Result Acted OmxError) (d : Bool) → l < length x.plan.joints → j ≡ joint_of x.plan l → IsHandleAt x.graph j.giver h
+  pub back_turns : (y x : PlayingValue S K) → y ≡ x → (g : Shown S K Progress) (log : LogValue) (l : ℕ) (j : Joint) (h : Handle) (r : Result Acted OmxError) (d : Bool) → l < length x.plan.joints → j ≡ joint_of x.plan l → IsHandleAt x.graph j.giver h
       → KeepsAllClients y.graph.core g.core → Steps (kept_of y.graph) (kept_of g) (λ w v. HandBack w h j.output r v) → OnErr r (g ≡ y.graph) → OnIdle r (g ≡ y.graph) → d ≡ is_did r
-      → TurnsOf (layout_of x.plan) (IsPlaying x) (IsPlaying (on_graph y g)) d (IsBack l)
-  back_turns y x is g l j h r d b J H keeps steps e i D =
-      subst (λ (z : PlayingValue S K). l < length z.plan.joints → j ≡ joint_of z.plan l → IsHandleAt z.graph j.giver h → TurnsOf (layout_of z.plan) (IsPlaying z) (IsPlaying (on_graph y g)) d (IsBack l)) is
-      (λ b J H. subst (λ (o : Bool). TurnsOf (layout_of y.plan) (IsPlaying y) (IsPlaying (on_graph y g)) o (IsBack l)) (sym D)
-      (handed_back y g l h b keeps r (subst (λ (k : Joint). IsHandleAt y.graph k.giver h) J H) (subst (λ (k : Joint). Steps (kept_of y.graph) (kept_of g) (λ w v. HandBack w h k.output r v)) J steps) e i))
+      → (d ≡ false → log ≡ y.log) → (d ≡ true → IsToldOf y.plan.parts j.giver y.log (λ k. acts.HandBack k j.output) (acts.Acted (Ok Did)) log) → TurnsTo x (with_both y g log) d (IsBack l)
+  back_turns y x is g log l j h r d b J H keeps steps e i D silent told =
+      subst (λ (z : PlayingValue S K). l < length z.plan.joints → j ≡ joint_of z.plan l → IsHandleAt z.graph j.giver h → TurnsTo z (with_both y g log) d (IsBack l)) is
+      (λ b J H. subst (λ (o : Bool). TurnsTo y (with_both y g log) o (IsBack l)) (sym D)
+      (handed_back y g l h b keeps r log (λ f. silent (D ∙ f)) (λ t. subst (λ (k : Joint). IsToldOf y.plan.parts k.giver y.log (λ n. acts.HandBack n k.output) (acts.Acted (Ok Did)) log) J (told (D ∙ t)))
+      (subst (λ (k : Joint). IsHandleAt y.graph k.giver h) J H) (subst (λ (k : Joint). Steps (kept_of y.graph) (kept_of g) (λ w v. HandBack w h k.output r v)) J steps) e i))
       b J H

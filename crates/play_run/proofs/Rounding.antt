@@ -1,22 +1,31 @@
 -- The turns of a link and of a component, made of their calls.
-use Rattle.std.proofs.Common.{◌≡◌, inl, inr, ◌<◌, ◌≤◌, ℕ, zero, suc, Bool, true, false, ◌||◌, length, ap, subst, arith}
+use Rattle.std.proofs.Common.{◌≡◌, inl, inr, ◌<◌, ◌≤◌, ℕ, zero, suc, Bool, true, false, ◌||◌, length, ◌∙◌, ap, subst, arith}
 use Rattle.play_forms.specs.Plans.{PlanValue}
 use Rattle.flow_model.specs.Progress.{sum_to}
-use Rattle.play_model.specs.Play.{Layout, Play}
+use Rattle.play_model.specs.Play.{Play}
 use Rattle.play_model.specs.Acts.{Act}
-use Rattle.play_loop.specs.Turns.{CanNone, IsOfComponent, IsOfLink, SomePlay, Turned, TurnsOf}
-use Rattle.play_loop.proofs.Running.{OfBoth, some_then, turn_of, turns_more}
-use Rattle.play_run.specs.Playing.{IsAct, IsPlaying, PlayingValue, layout_of}
+use Rattle.play_loop.specs.Turns.{CanNone, IsOfComponent, IsOfLink, SomePlay, Turned}
+use Rattle.play_loop.proofs.Running.{OfBoth, turn_more}
+use Rattle.play_run.specs.Playing.{IsAct, IsPlaying, PlayingValue, TurnsTo, layout_of}
 use Rattle.play_run.specs.Turning.{IsBack, IsStepOf, IsTelling}
 
 module _ {S K : Type 0} where
-  pub some_next : (x y : PlayingValue S K) (did : Bool) (P : Act → Type 0) → TurnsOf (layout_of x.plan) (IsPlaying x) (IsPlaying y) did P → SomePlay (IsPlaying x) → SomePlay (IsPlaying y)
-  some_next x y did P T s = some_then (layout_of x.plan) (IsPlaying x) (IsPlaying y) did P T s
+  pub some_next : (x y : PlayingValue S K) (did : Bool) (P : Act → Type 0) → TurnsTo x y did P → SomePlay (IsPlaying x) → SomePlay (IsPlaying y)
+  some_next x y did P T (p, Y) = let t = T p Y in (t.0, t.1)
 
-  pub then_turns : (x y z : PlayingValue S K) → y.plan ≡ x.plan → (one other : Bool) (P Q : Act → Type 0) → TurnsOf (layout_of x.plan) (IsPlaying x) (IsPlaying y) one P → TurnsOf (layout_of y.plan) (IsPlaying y) (IsPlaying z) other Q
-      → TurnsOf (layout_of x.plan) (IsPlaying x) (IsPlaying z) (one || other) (OfBoth P Q)
-  then_turns x y z same one other P Q T U =
-      turns_more (layout_of x.plan) (IsPlaying x) (IsPlaying y) (IsPlaying z) one other P Q T (subst (λ (plan : PlanValue). TurnsOf (layout_of plan) (IsPlaying y) (IsPlaying z) other Q) same U)
+  pub then_turns : (x y z : PlayingValue S K) → y.plan ≡ x.plan → (one other : Bool) (P Q : Act → Type 0) → TurnsTo x y one P → TurnsTo y z other Q → TurnsTo x z (one || other) (OfBoth P Q)
+  then_turns x y z same one other P Q T U = λ p Y.
+      let t = T p Y in
+      let u = U t.0 t.1 in
+      let then : Turned (layout_of x.plan) t.0 u.0 other Q = subst (λ (plan : PlanValue). Turned (layout_of plan) t.0 u.0 other Q) same u.2 in
+      (u.0, u.1, turn_more (layout_of x.plan) p t.0 u.0 one other P Q t.2 then, u.3 ∙ t.3)
+
+  pub as_turn : (x y : PlayingValue S K) (did : Bool) (P Q : Act → Type 0) → ((p : Play) → IsPlaying x p → CanNone (layout_of x.plan) p P → CanNone (layout_of x.plan) p Q) → TurnsTo x y did P → TurnsTo x y did Q
+  as_turn x y did P Q more T = λ p Y. let t = T p Y in (t.0, t.1, by_answer did p t.0 Y t.2, t.3)
+    where
+      by_answer : (did : Bool) (p q : Play) → IsPlaying x p → Turned (layout_of x.plan) p q did P → Turned (layout_of x.plan) p q did Q
+      by_answer true p q Y T = T
+      by_answer false p q Y T = (T.0, more p Y T.1)
 
 -- ---- a link
 
@@ -43,8 +52,16 @@ link_acts l (Act.HappenPort k output) o = absurd o
 link_acts l (Act.TellPort k output) o = absurd o
 link_acts l (Act.Step c n last) o = absurd o
 
-pub link_turns : (w : Layout) (old new : Play → Type 0) (did : Bool) (l : ℕ) → TurnsOf w old new did (OfLink l) → TurnsOf w old new did (IsOfLink l)
-link_turns w old new did l T = λ p s. let t = T p s in (t.0, t.1, turn_of w p t.0 did (OfLink l) (IsOfLink l) (link_acts l) t.2)
+pub link_turns : {S K : Type 0} (x y : PlayingValue S K) (did : Bool) (l : ℕ) → TurnsTo x y did (OfLink l) → TurnsTo x y did (IsOfLink l)
+link_turns x y did l T = as_turn x y did (OfLink l) (IsOfLink l) (λ p Y none a o C. none a (link_acts l a o) C) T
+
+pub whole_turn : {S K : Type 0} (x a b o k : PlayingValue S K) (l : ℕ) (supplied released over back : Bool) → a.plan ≡ x.plan → b.plan ≡ a.plan → o.plan ≡ b.plan
+    → TurnsTo x a supplied (IsAct (Act.Supply l)) → TurnsTo a b released (IsAct (Act.Release l)) → TurnsTo b o over (IsAct (Act.HandOver l)) → TurnsTo o k back (IsBack l) → TurnsTo x k (supplied || released || over || back) (IsOfLink l)
+whole_turn x a b o k l supplied released over back e f h A B O K =
+    let two = then_turns x a b e supplied released (IsAct (Act.Supply l)) (IsAct (Act.Release l)) A B in
+    let three = then_turns x b o (f ∙ e) (supplied || released) over (OfBoth (IsAct (Act.Supply l)) (IsAct (Act.Release l))) (IsAct (Act.HandOver l)) two O in
+    let four = then_turns x o k (h ∙ (f ∙ e)) (supplied || released || over) back (OfBoth (OfBoth (IsAct (Act.Supply l)) (IsAct (Act.Release l))) (IsAct (Act.HandOver l))) (IsBack l) three K in
+    link_turns x k (supplied || released || over || back) l four
 
 -- ---- a component
 
@@ -73,12 +90,15 @@ module _ {S K : Type 0} (x : PlayingValue S K) (c : ℕ) where
   component_none p Y none (Act.TellPort l output) o C = let f = Y.standing.play.early l C.0 in let t = C.1 in absurd cc
   component_none p Y none (Act.Step k n last) o C = none (Act.Step k n last) (inr (n, last, ap (λ (j : ℕ). Act.Step j n last) o)) C
 
-  by_answer : (p q : Play) → IsPlaying x p → (did : Bool) → Turned (layout_of x.plan) p q did (OfComponent c) → Turned (layout_of x.plan) p q did (IsOfComponent (layout_of x.plan) c)
-  by_answer p q Y true T = T
-  by_answer p q Y false T = (T.0, component_none p Y T.1)
+  pub component_turns : (y : PlayingValue S K) (did : Bool) → TurnsTo x y did (OfComponent c) → TurnsTo x y did (IsOfComponent (layout_of x.plan) c)
+  component_turns y did T = as_turn x y did (OfComponent c) (IsOfComponent (layout_of x.plan) c) component_none T
 
-  pub component_turns : (y : PlayingValue S K) (did : Bool) → TurnsOf (layout_of x.plan) (IsPlaying x) (IsPlaying y) did (OfComponent c) → TurnsOf (layout_of x.plan) (IsPlaying x) (IsPlaying y) did (IsOfComponent (layout_of x.plan) c)
-  component_turns y did T = λ p Y. let t = T p Y in (t.0, t.1, by_answer p t.0 Y did t.2)
+pub actor_turn : {S K : Type 0} (x a b k : PlayingValue S K) (c : ℕ) (told ran stepped : Bool) → a.plan ≡ x.plan → b.plan ≡ a.plan
+    → TurnsTo x a told (IsTelling c) → TurnsTo a b ran (IsAct (Act.Run c)) → TurnsTo b k stepped (IsStepOf c) → TurnsTo x k (told || ran || stepped) (IsOfComponent (layout_of x.plan) c)
+actor_turn x a b k c told ran stepped e f A B K =
+    let two = then_turns x a b e told ran (IsTelling c) (IsAct (Act.Run c)) A B in
+    let three = then_turns x b k (f ∙ e) (told || ran) stepped (OfBoth (IsTelling c) (IsAct (Act.Run c))) (IsStepOf c) two K in
+    component_turns x c k (told || ran || stepped) three
 
 -- ---- how many links there are
 

@@ -1,6 +1,6 @@
 -- A work is claimed, done and brought back: a step of its component.
-use Rattle.std.proofs.Common.{◌≡◌, inl, inr, ◌<◌, ℕ, Bool, true, false, nat_eq, List, [], length, slice_get, Option, Some, None, Result, Ok, refl, sym, ◌∙◌, ap, subst, eqb-true, eq-eqb, ne_eqb}
-use Rattle.std.specs.Prelude.{IfErr, IfOk, MatchOption}
+use Rattle.std.proofs.Common.{◌≡◌, inl, inr, ◌<◌, ℕ, true, false, nat_eq, List, [], length, slice_get, Option, Some, None, Result, Ok, refl, sym, ◌∙◌, ap, subst, eqb-true, eq-eqb, ne_eqb}
+use Rattle.std.specs.Prelude.{MatchOption}
 use Rattle.omx_types.specs.declared.handle.Handle.{Handle}
 use Rattle.omx_types.specs.declared.error.OmxError.{OmxError}
 use Rattle.omx_types.specs.declared.fault.PartFault.{PartFault}
@@ -34,7 +34,12 @@ use Rattle.il_graph.specs.declared.claimed.Claimed.TheVariants as given
 use Rattle.il_graph.proofs.Back.{number_named}
 use Rattle.play_model.specs.Play.{Play}
 use Rattle.play_model.specs.Acts.{Act, CanAct}
-use Rattle.play_loop.specs.Turns.{CanNone, SomePlay, TurnsOf}
+use Rattle.play_loop.specs.Turns.{CanNone, SomePlay}
+use Rattle.act_text.specs.declared.text.ActText.{ActText}
+use Rattle.script_lang.specs.declared.play_line.PartLine.{PartLine}
+use Rattle.play_log.specs.Kept.{LogValue}
+use Rattle.play_log.specs.Scenes.{scene_of}
+use Rattle.log_texts.specs.Said.{SaysFinish, SaysOf}
 use Rattle.play_worlds.specs.Cast.{Cast, components_of, script_place}
 use Rattle.play_worlds.specs.Worlds.{IsPlayWorld, Names}
 use Rattle.play_worlds.proofs.Claims.{claim_accepted, claim_leads}
@@ -43,20 +48,23 @@ use Rattle.play_worlds.proofs.Finishes.{finish_leads}
 use Rattle.play_worlds.proofs.Sends.{actor_there}
 use Rattle.play_plans.specs.Casting.{place_of}
 use Rattle.play_graphs.specs.Graphs.{IsHandleAt, kept_of}
-use Rattle.play_run.specs.Playing.{HaveNoWork, IsPlaying, PlayingValue, cast, layout_of}
-use Rattle.play_run.specs.Turning.{HasFailed, IsStepOf, outcome_of}
+use Rattle.play_run.specs.Playing.{HaveNoWork, IsPlaying, PlayingValue, TurnsTo, cast}
+use Rattle.play_run.specs.Recording.{IsNameAt, IsTold}
+use Rattle.play_run.specs.Turning.{HasFailed, IsStepOf}
 use Rattle.play_run.proofs.Working.{all_in, none_out}
 use Rattle.play_run.proofs.Commanding.{component_named_in}
-use Rattle.play_run.proofs.Answering.{Came, keeps_in, on_graph, stays, turn_goes, turn_stays}
+use Rattle.play_run.proofs.Recording.{is_player, one_more}
+use Rattle.play_run.proofs.Answering.{Came, keeps_in, stays, turn_goes, turn_stays, with_both}
 
--- the work of the component that the handle names went out, and came back from its step with that fault
-pub record IsWorked (h : Handle) (fault : Option PartFault) (w v : World) : Type 0 where
+-- the work of the component that the handle names went out, and came back from its step with that fault and these frames
+pub record IsWorked (h : Handle) (fault : Option PartFault) (frames : ℕ) (w v : World) : Type 0 where
   pub work : WorkSeen
   pub between : World
   pub goes : Claim w h (Ok (ClaimedWork work)) between
   pub done : WorkDone
   pub its : done.component ≡ h.generation
   pub faults : done.fault ≡ fault
+  pub does : done.frames ≡ frames
   pub meets : Meets between (acts.Finish done)
   pub comes : Finish between done v
 
@@ -72,7 +80,7 @@ module _ (x : Cast) (p : Play) (w : World) (c : ℕ) (h : Handle) (W : IsPlayWor
       let g = claim_accepted x p w c T.0 T.1 h r v a.0 W D N a.1 (at_place (λ (d : Component). d.work ≡ None) w.components (script_place x c) a.0 none a.1) s in
       never g.0 g.1
 
-  module _ (Z : IsClosed w) (fault : Option PartFault) (v : World) (U : IsWorked h fault w v) where
+  module _ (Z : IsClosed w) (fault : Option PartFault) (frames : ℕ) (v : World) (U : IsWorked h fault frames w v) where
     pub between_plays : IsPlayWorld x p U.between
     between_plays = elim (claim_leads x p w c h (Ok (ClaimedWork U.work)) U.between W l N U.goes) [
       | inl s ↦ subst (IsPlayWorld x p) (sym s) W
@@ -120,10 +128,10 @@ module _ (x : Cast) (p : Play) (w : World) (c : ℕ) (h : Handle) (W : IsPlayWor
         none_comes u (acts.Finish U.done) acts.Finished v n between_sound U.meets U.comes refl
         (none_comes w (acts.Claim h) (acts.Claimed (Ok (ClaimedWork U.work))) u n W.sound tt U.goes other (none_out n w none))))
 
-  pub works_came : (Z : IsClosed w) (v : World) → IsWorked h None w v → Came x p v true (IsStepOf c)
-  works_came Z v U =
-      let O = out_there Z None v U in
-      let P = between_plays Z None v U in
+  pub works_came : (Z : IsClosed w) (frames : ℕ) (v : World) → IsWorked h None frames w v → Came x p v true (IsStepOf c)
+  works_came Z frames v U =
+      let O = out_there Z None frames v U in
+      let P = between_plays Z None frames v U in
       let F = finish_leads x p U.between c O.component O.work U.done v P l O.there O.out (U.its ∙ number_is) O.done U.faults U.comes in
       (Act.Step c (U.done).frames F.0, ((U.done).frames, F.0, refl), F.1, stays x.layout p (Act.Step c (U.done).frames F.0) refl (λ k. refl), F.2)
 
@@ -139,10 +147,10 @@ module _ {P : Type 0} (old mid new : Kept) (h : Handle) (t set_to : Terms) (work
   pub may_come : SoundWhole old → (w : World) × (took : List ℕ) × (Stands mid w × Returns w (seen_done took done) q)
   may_come one = let y = goes one.world one.stands in let M = returns one.world one.stands in (y.0, M.0, (y.1, M.1))
 
-  pub worked : work.component ≡ h → (fault : Option PartFault) → done.fault ≡ fault
+  pub worked : work.component ≡ h → (fault : Option PartFault) (frames : ℕ) → done.fault ≡ fault → done.frames ≡ frames
       → ((took : List ℕ) → StepsWhere mid new (λ w. Returns w (seen_done took done) q) (λ w v. Finish w (seen_done took done) v))
-      → (w : World) → Stands old w → (v : World) × Stands new v × IsWorked h fault w v
-  worked its fault f ends w s =
+      → (w : World) → Stands old w → (v : World) × Stands new v × IsWorked h fault frames w v
+  worked its fault frames f d ends w s =
       let y = goes w s in
       let M = returns w s in
       let z = ends M.0 y.0 y.1 M.1 in (
@@ -155,10 +163,23 @@ module _ {P : Type 0} (old mid new : Kept) (h : Handle) (t set_to : Terms) (work
           done = seen_done M.0 done;
           its = ap (λ (k : Handle). k.generation) (same ∙ its);
           faults = f;
+          does = d;
           meets = M.1.0;
           comes = z.2;
         },
       )
+
+-- the log was told that the work went out, and that it came back with these frames
+pub record HasLines (parts : List PartLine) (place frames : ℕ) (old new : LogValue) : Type 0 where
+  pub name : List ℕ
+  pub named : IsNameAt parts place name
+  pub first : ActText
+  pub says_first : (work : WorkSeen) → SaysOf name first (λ k. acts.Claim k) (acts.Claimed (Ok (ClaimedWork work)))
+  pub between : LogValue
+  pub told_first : IsTold old first between
+  pub second : ActText
+  pub says_second : SaysFinish name frames second
+  pub told_second : IsTold between second new
 
 -- ---- the calls
 
@@ -176,9 +197,9 @@ module _ {S K : Type 0} {s : _} {k : _} where
 module _ {S K : Type 0} where
   -- no work was given
   pub unclaimed_turns : (y x : PlayingValue S K) → y ≡ x → (g : Shown S K Progress) (c place : ℕ) (h : Handle) (r : Result Claimed OmxError) → c < length x.plan.parts → place ≡ place_of x.plan c → IsHandleAt x.graph place h
-      → ((w : World) → Stands (kept_of y.graph) w → (v : World) × Claim w h r v) → ((work : WorkSeen) → r ≡ Ok (ClaimedWork work) → ⊥) → g ≡ y.graph → TurnsOf (layout_of x.plan) (IsPlaying x) (IsPlaying (on_graph y g)) false (IsStepOf c)
+      → ((w : World) → Stands (kept_of y.graph) w → (v : World) × Claim w h r v) → ((work : WorkSeen) → r ≡ Ok (ClaimedWork work) → ⊥) → g ≡ y.graph → TurnsTo x (with_both y g y.log) false (IsStepOf c)
   unclaimed_turns y x is g c place h r b J H steps never same =
-      subst (λ (z : PlayingValue S K). c < length z.plan.parts → place ≡ place_of z.plan c → IsHandleAt z.graph place h → TurnsOf (layout_of z.plan) (IsPlaying z) (IsPlaying (on_graph y g)) false (IsStepOf c)) is
+      subst (λ (z : PlayingValue S K). c < length z.plan.parts → place ≡ place_of z.plan c → IsHandleAt z.graph place h → TurnsTo z (with_both y g y.log) false (IsStepOf c)) is
       (λ b J H. turn_stays y g (IsStepOf c) same (λ p Y.
       let Z = Y.standing in
       let v = steps Z.world Z.stands in
@@ -187,21 +208,26 @@ module _ {S K : Type 0} where
 
   module _ (y x : PlayingValue S K) (is : y ≡ x) (m g : Shown S K Progress) (c place : ℕ) (h : Handle) (b : c < length x.plan.parts) (J : place ≡ place_of x.plan c) (H : IsHandleAt x.graph place h)
       (closed : Always (kept_of y.graph) IsClosed) (K1 : KeepsAllClients y.graph.core m.core) (K2 : KeepsAllClients m.core g.core) where
-    pub step_turns : ((w : World) → Stands (kept_of y.graph) w → (v : World) × Stands (kept_of g) v × IsWorked h None w v) → TurnsOf (layout_of x.plan) (IsPlaying x) (IsPlaying (on_graph y g)) true (IsStepOf c)
-    step_turns worked =
-        subst (λ (z : PlayingValue S K). c < length z.plan.parts → place ≡ place_of z.plan c → IsHandleAt z.graph place h → TurnsOf (layout_of z.plan) (IsPlaying z) (IsPlaying (on_graph y g)) true (IsStepOf c)) is
+    pub step_turns : (log : LogValue) (frames : ℕ) → HasLines y.plan.parts place frames y.log log → ((w : World) → Stands (kept_of y.graph) w → (v : World) × Stands (kept_of g) v × IsWorked h None frames w v) → TurnsTo x (with_both y g log) true (IsStepOf c)
+    step_turns log frames L worked =
+        subst (λ (z : PlayingValue S K). c < length z.plan.parts → place ≡ place_of z.plan c → IsHandleAt z.graph place h → TurnsTo z (with_both y g log) true (IsStepOf c)) is
         (λ b J H p Y.
         let Z = Y.standing in
         let N = component_named_in y c place h J H p Z in
         let v = worked Z.world Z.stands in
+        let U : IsWorked h None frames Z.world v.0 = v.2 in
         let shut = closed Z.world Z.stands in
-        turn_goes y g p v.0 true (IsStepOf c) Y v.1 (works_in (cast y.plan) p Z.world c h Z.play b N Z.works shut None v.0 v.2) (keeps_in m.core g.core K2 (keeps_in y.graph.core m.core K1 Z.clients)) (λ f. absurd cc)
-        (works_came (cast y.plan) p Z.world c h Z.play b N Z.works shut v.0 v.2))
+        let s = scene_of y.plan.parts Z.opening in
+        let P = is_player y p Z place h H L.name L.named in
+        let R = one_more y.plan.parts Z.opening Z.world U.between y.log L.between Z.recorded L.first (acts.Claim h) (acts.Claimed (Ok (ClaimedWork U.work))) L.told_first (L.says_first U.work s place (L.named).part h P) refl tt U.goes tt (λ n. refl) in
+        let Q = one_more y.plan.parts Z.opening U.between v.0 L.between log R L.second (acts.Finish U.done) acts.Finished L.told_second (L.says_second s place (L.named).part h U.done P U.its U.does) refl U.meets U.comes U.faults (λ n. refl) in
+        turn_goes y g log p v.0 true (IsStepOf c) Y v.1 (works_in (cast y.plan) p Z.world c h Z.play b N Z.works shut None frames v.0 v.2) (keeps_in m.core g.core K2 (keeps_in y.graph.core m.core K1 Z.clients)) (λ f. absurd cc) (λ f. absurd cc) (λ e. Q)
+        (works_came (cast y.plan) p Z.world c h Z.play b N Z.works shut frames v.0 v.2))
         b J H
 
-    pub step_fails : (fault : PartFault) → ((w : World) → Stands (kept_of y.graph) w → (v : World) × Stands (kept_of g) v × IsWorked h (Some fault) w v) → (p : Play) → IsPlaying x p → HasFailed (on_graph y g) fault
-    step_fails fault worked =
-        subst (λ (z : PlayingValue S K). c < length z.plan.parts → place ≡ place_of z.plan c → IsHandleAt z.graph place h → (p : Play) → IsPlaying z p → HasFailed (on_graph y g) fault) is
+    pub step_fails : (log : LogValue) (frames : ℕ) (fault : PartFault) → ((w : World) → Stands (kept_of y.graph) w → (v : World) × Stands (kept_of g) v × IsWorked h (Some fault) frames w v) → SomePlay (IsPlaying x) → HasFailed (with_both y g log) fault
+    step_fails log frames fault worked (p, Y) =
+        subst (λ (z : PlayingValue S K). c < length z.plan.parts → place ≡ place_of z.plan c → IsHandleAt z.graph place h → (p : Play) → IsPlaying z p → HasFailed (with_both y g log) fault) is
         (λ b J H p Y.
         let Z = Y.standing in
         let N = component_named_in y c place h J H p Z in
@@ -210,24 +236,13 @@ module _ {S K : Type 0} where
         record {
           world = v.0;
           stands = v.1;
-          works = works_in (cast y.plan) p Z.world c h Z.play b N Z.works shut (Some fault) v.0 v.2;
+          works = works_in (cast y.plan) p Z.world c h Z.play b N Z.works shut (Some fault) frames v.0 v.2;
           clients = keeps_in m.core g.core K2 (keeps_in y.graph.core m.core K1 Z.clients);
           play = p;
           before = (v.2).between;
-          played = between_plays (cast y.plan) p Z.world c h Z.play b N Z.works shut (Some fault) v.0 v.2;
+          played = between_plays (cast y.plan) p Z.world c h Z.play b N Z.works shut (Some fault) frames v.0 v.2;
           done = (v.2).done;
           failed = (v.2).faults;
           finishes = (v.2).comes;
         })
-        b J H
-
-    -- by the fault of the step
-    pub step_turned : (fault : Option PartFault) (r : Result Bool PartFault) → r ≡ outcome_of fault → ((w : World) → Stands (kept_of y.graph) w → (v : World) × Stands (kept_of g) v × IsWorked h fault w v)
-        → IfOk r (λ acted. TurnsOf (layout_of x.plan) (IsPlaying x) (IsPlaying (on_graph y g)) acted (IsStepOf c))
-    step_turned None r e worked = subst (λ (q : Result Bool PartFault). IfOk q (λ acted. TurnsOf (layout_of x.plan) (IsPlaying x) (IsPlaying (on_graph y g)) acted (IsStepOf c))) (sym e) (step_turns worked)
-    step_turned (Some fault) r e worked = subst (λ (q : Result Bool PartFault). IfOk q (λ acted. TurnsOf (layout_of x.plan) (IsPlaying x) (IsPlaying (on_graph y g)) acted (IsStepOf c))) (sym e) tt
-
-    pub step_failed : (fault : Option PartFault) (r : Result Bool PartFault) → r ≡ outcome_of fault → ((w : World) → Stands (kept_of y.graph) w → (v : World) × Stands (kept_of g) v × IsWorked h fault w v)
-        → SomePlay (IsPlaying x) → IfErr r (HasFailed (on_graph y g))
-    step_failed None r e worked some = subst (λ (q : Result Bool PartFault). IfErr q (HasFailed (on_graph y g))) (sym e) tt
-    step_failed (Some fault) r e worked (p, Y) = subst (λ (q : Result Bool PartFault). IfErr q (HasFailed (on_graph y g))) (sym e) (step_fails fault worked p Y)
+        b J H p Y

@@ -36,7 +36,12 @@ use Rattle.il_graph.specs.Shown.{Shown}
 use Rattle.il_graph.proofs.PortsDone.{done_moved}
 use Rattle.play_model.specs.Play.{Play}
 use Rattle.play_model.specs.Acts.{Act, CanAct}
-use Rattle.play_loop.specs.Turns.{CanNone, SomePlay, TurnsOf}
+use Rattle.play_loop.specs.Turns.{CanNone, SomePlay}
+use Rattle.act_text.specs.declared.text.ActText.{ActText}
+use Rattle.script_lang.specs.declared.play_line.PartLine.{PartLine}
+use Rattle.play_log.specs.Kept.{LogValue}
+use Rattle.play_log.specs.Scenes.{scene_of}
+use Rattle.log_texts.specs.Said.{SaysOf}
 use Rattle.play_worlds.specs.Cast.{Cast, components_of, script_place}
 use Rattle.play_worlds.specs.Standing.{target}
 use Rattle.play_worlds.specs.Telling.{notes_at, out_of, state_note}
@@ -47,12 +52,14 @@ use Rattle.play_worlds.proofs.Notes.{an_event, takes, tell_end_leads, tell_leads
 use Rattle.play_worlds.proofs.Sends.{actor_there}
 use Rattle.play_plans.specs.Casting.{place_of as place_in}
 use Rattle.play_graphs.specs.Graphs.{IsHandleAt, client_progress, kept_of}
-use Rattle.play_run.specs.Playing.{AreClientsIn, IsPlaying, IsStanding, PlayingValue, cast, layout_of}
+use Rattle.play_run.specs.Playing.{AreClientsIn, IsPlaying, IsStanding, PlayingValue, TurnsTo, cast}
+use Rattle.play_run.specs.Recording.{IsNameAt, IsTold}
 use Rattle.play_run.specs.Turning.{IsEvent, IsTelling, told_by}
 use Rattle.play_run.proofs.Naming.{all_clients_in}
 use Rattle.play_run.proofs.Working.{still_none}
 use Rattle.play_run.proofs.Commanding.{component_named_in}
-use Rattle.play_run.proofs.Answering.{Came, on_graph, stays, tell_within, turn_goes, turn_stays}
+use Rattle.play_run.proofs.Recording.{is_player, one_more}
+use Rattle.play_run.proofs.Answering.{Came, stays, tell_within, turn_goes, turn_stays, with_both}
 
 -- ---- a close-out in which nothing is due
 
@@ -172,6 +179,18 @@ module _ (x : Cast) (p : Play) (w : World) (c : ℕ) (h : Handle) (W : IsPlayWor
       | inr z ↦ let t = tell_end_leads x p mid c h u (first_taken a) P l mid_named mid_there refl s z in (Act.TellEnd c, inr refl, t.0, stays x.layout p (Act.TellEnd c) refl (λ k. refl), t.1)
     ]
 
+-- the log was told that the event was taken, and that the client object came back
+pub record HasLines (parts : List PartLine) (place : ℕ) (event : Event) (old new : LogValue) : Type 0 where
+  pub name : List ℕ
+  pub named : IsNameAt parts place name
+  pub first : ActText
+  pub says_first : SaysOf name first (λ k. acts.TakeNote k) (acts.Took (Ok (TookNote (TakenEvent event))))
+  pub between : LogValue
+  pub told_first : IsTold old first between
+  pub second : ActText
+  pub says_second : (progress : Progress) → SaysOf name second (λ k. acts.EndNote k progress) acts.Ended
+  pub told_second : IsTold between second new
+
 -- ---- the calls
 
 event_is : (taken : Given_) (event : Event) → taken_of taken ≡ TakenEvent event → taken ≡ given.Told event
@@ -193,9 +212,9 @@ in_after y m g h told K L C In = λ k e. either (same_handle k h)
 module _ {S K : Type 0} where
   -- nothing was taken
   pub untold_turns : (y x : PlayingValue S K) → y ≡ x → (g : Shown S K Progress) (c place : ℕ) (h : Handle) (r : Result Took OmxError) → c < length x.plan.parts → place ≡ place_in x.plan c → IsHandleAt x.graph place h
-      → Steps (kept_of y.graph) (kept_of g) (λ w v. TakeNote w h r v) → ((taken : Taken) → r ≡ Ok (TookNote taken) → ⊥) → g ≡ y.graph → TurnsOf (layout_of x.plan) (IsPlaying x) (IsPlaying (on_graph y g)) false (IsTelling c)
+      → Steps (kept_of y.graph) (kept_of g) (λ w v. TakeNote w h r v) → ((taken : Taken) → r ≡ Ok (TookNote taken) → ⊥) → g ≡ y.graph → TurnsTo x (with_both y g y.log) false (IsTelling c)
   untold_turns y x is g c place h r b J H steps never same =
-      subst (λ (z : PlayingValue S K). c < length z.plan.parts → place ≡ place_in z.plan c → IsHandleAt z.graph place h → TurnsOf (layout_of z.plan) (IsPlaying z) (IsPlaying (on_graph y g)) false (IsTelling c)) is
+      subst (λ (z : PlayingValue S K). c < length z.plan.parts → place ≡ place_in z.plan c → IsHandleAt z.graph place h → TurnsTo z (with_both y g y.log) false (IsTelling c)) is
       (λ b J H. turn_stays y g (IsTelling c) same (λ p Y.
       let Z = Y.standing in
       let w = Z.world in
@@ -226,10 +245,10 @@ module _ {S K : Type 0} where
         let is : told ≡ moved_by T.event client = t ∙ ap (λ (n : Given_). told_by n client) (event_is taken T.event T.is) in
         subst (λ (q : Progress). IsPortDone q.port) (sym is) (done_moved T.event client d)
 
-    pub tell_turns_in : (g : Shown S K Progress) (client told : Progress) → told ≡ told_by taken client → Always (kept_of y.graph) (AreTold client_progress y.graph.core) → client_of h y.graph.core ≡ Some client
+    pub tell_turns_in : (g : Shown S K Progress) (log : LogValue) (event : Event) (client told : Progress) → taken ≡ given.Told event → told ≡ moved_by event client → HasLines y.plan.parts place event y.log log → Always (kept_of y.graph) (AreTold client_progress y.graph.core) → client_of h y.graph.core ≡ Some client
         → KeepsClients h y.graph.core m.core → KeepsClients h m.core g.core → client_of h g.core ≡ Some told → StepsWhere (kept_of m) (kept_of g) (WasTold h told) (λ w v. EndNote w h v)
-        → TurnsOf (layout_of y.plan) (IsPlaying y) (IsPlaying (on_graph y g)) true (IsTelling c)
-    tell_turns_in g client told t knew has K1 K2 C ends = λ p Y.
+        → TurnsTo y (with_both y g log) true (IsTelling c)
+    tell_turns_in g log event client told et t L knew has K1 K2 C ends = λ p Y.
         let Z = Y.standing in
         let x = cast y.plan in
         let w = Z.world in
@@ -239,7 +258,9 @@ module _ {S K : Type 0} where
         let v = takes_note w Z.stands in
         let T = is_taken p Z in
         let middle : World = with_given (script_place x c) at.0 (notes.Told T.event) w in
-        let is : told ≡ moved_by T.event client = t ∙ ap (λ (n : Given_). told_by n client) (event_is taken T.event T.is) in
+        let taken_is : taken_of taken ≡ TakenEvent event = ap taken_of et in
+        let event_same : event ≡ T.event = let z : TakenEvent event ≡ TakenEvent T.event = sym taken_is ∙ T.is in cc in
+        let is : told ≡ moved_by T.event client = t ∙ ap (λ (n : Event). moved_by n client) event_same in
         let told_before : WasTold h client w = knew w Z.stands h client has in
         let known : WasTold h told middle = subst (λ (q : Progress). WasTold h q middle) (sym is) (knows x p w c h Z.play b N at.0 at.1 o T.event client told_before) in
         let met : Meets middle (acts.EndNote h told) = subst (λ (q : Progress). Meets middle (acts.EndNote h q)) (sym is) (meets x p w c h Z.play b N at.0 at.1 o T.event client told_before) in
@@ -249,7 +270,12 @@ module _ {S K : Type 0} where
         let sound = sound_step w middle (acts.TakeNote h) (acts.Took (Ok (TookNote (taken_of taken)))) tt took (Z.play).sound in
         let works = still_none w (acts.TakeNote h) (acts.Took (Ok (TookNote (taken_of taken)))) middle (Z.play).sound tt took (λ n. refl) Z.works in
         let after = still_none middle (acts.EndNote h told) acts.Ended u.0 sound met u.2 (λ n. refl) works in
-        turn_goes y g p u.0 true (IsTelling c) Y u.1 after (in_after y.graph.core m.core g.core h told K1 K2 C Z.clients) (λ f. absurd cc)
+        let s = scene_of y.plan.parts Z.opening in
+        let P = is_player y p Z place h H L.name L.named in
+        let took_event = subst (λ (n : Taken). TakeNote w h (Ok (TookNote n)) middle) taken_is took in
+        let R = one_more y.plan.parts Z.opening w middle y.log L.between Z.recorded L.first (acts.TakeNote h) (acts.Took (Ok (TookNote (TakenEvent event)))) L.told_first (L.says_first s place (L.named).part h P) refl tt took_event tt (λ n. refl) in
+        let Q = one_more y.plan.parts Z.opening middle u.0 L.between log R L.second (acts.EndNote h told) acts.Ended L.told_second (L.says_second told s place (L.named).part h P) refl met u.2 tt (λ n. refl) in
+        turn_goes y g log p u.0 true (IsTelling c) Y u.1 after (in_after y.graph.core m.core g.core h told K1 K2 C Z.clients) (λ f. absurd cc) (λ f. absurd cc) (λ e. Q)
         (tells x p w c h Z.play b N at.0 at.1 o T.event T.play u.0 u.2)
 
   -- ---- of what is known where the calls were made
@@ -260,10 +286,11 @@ module _ {S K : Type 0} where
       subst (λ (z : PlayingValue S K). c < length z.plan.parts → place ≡ place_in z.plan c → IsHandleAt z.graph place h → SomePlay (IsPlaying z) → IsEvent taken) is
       (λ b e H s. is_event_in y m c place h taken b e H takes_note closed s) b e H s
 
-  pub tell_turns : (y x : PlayingValue S K) → y ≡ x → (m g : Shown S K Progress) (c place : ℕ) (h : Handle) (taken : Given_) (client told : Progress) → c < length x.plan.parts → place ≡ place_in x.plan c → IsHandleAt x.graph place h
-      → Steps (kept_of y.graph) (kept_of m) (λ w v. TakeNote w h (Ok (TookNote (taken_of taken))) v) → Always (kept_of y.graph) IsClosed → told ≡ told_by taken client → Always (kept_of y.graph) (AreTold client_progress y.graph.core)
+  pub tell_turns : (y x : PlayingValue S K) → y ≡ x → (m g : Shown S K Progress) (log : LogValue) (c place : ℕ) (h : Handle) (taken : Given_) (event : Event) (client told : Progress) → c < length x.plan.parts → place ≡ place_in x.plan c → IsHandleAt x.graph place h
+      → Steps (kept_of y.graph) (kept_of m) (λ w v. TakeNote w h (Ok (TookNote (taken_of taken))) v) → Always (kept_of y.graph) IsClosed → taken ≡ given.Told event → told ≡ moved_by event client → HasLines y.plan.parts place event y.log log
+      → Always (kept_of y.graph) (AreTold client_progress y.graph.core)
       → client_of h y.graph.core ≡ Some client → KeepsClients h y.graph.core m.core → KeepsClients h m.core g.core → client_of h g.core ≡ Some told → StepsWhere (kept_of m) (kept_of g) (WasTold h told) (λ w v. EndNote w h v)
-      → TurnsOf (layout_of x.plan) (IsPlaying x) (IsPlaying (on_graph y g)) true (IsTelling c)
-  tell_turns y x is m g c place h taken client told b e H takes_note closed t knew has K1 K2 C ends =
-      subst (λ (z : PlayingValue S K). c < length z.plan.parts → place ≡ place_in z.plan c → IsHandleAt z.graph place h → TurnsOf (layout_of z.plan) (IsPlaying z) (IsPlaying (on_graph y g)) true (IsTelling c)) is
-      (λ b e H. tell_turns_in y m c place h taken b e H takes_note closed g client told t knew has K1 K2 C ends) b e H
+      → TurnsTo x (with_both y g log) true (IsTelling c)
+  tell_turns y x is m g log c place h taken event client told b e H takes_note closed et t L knew has K1 K2 C ends =
+      subst (λ (z : PlayingValue S K). c < length z.plan.parts → place ≡ place_in z.plan c → IsHandleAt z.graph place h → TurnsTo z (with_both y g log) true (IsTelling c)) is
+      (λ b e H. tell_turns_in y m c place h taken b e H takes_note closed g log event client told et t L knew has K1 K2 C ends) b e H

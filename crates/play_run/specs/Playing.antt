@@ -14,11 +14,15 @@ use Rattle.conductor.specs.Hearing.{ConductorValue}
 use Rattle.play_forms.specs.Plans.{IsValid, PlanValue}
 use Rattle.play_model.specs.Play.{Layout, Play}
 use Rattle.play_model.specs.Acts.{Act}
+use Rattle.play_loop.specs.Turns.{Turned}
 use Rattle.play_worlds.specs.Cast.{Cast, components_of}
 use Rattle.play_worlds.specs.Worlds.{IsPlayWorld}
 use Rattle.play_plans.specs.Casting.{cast_of}
 use Rattle.play_plans.specs.Conducting.{HasSinks}
+use Rattle.play_openings.specs.Assemblies.{PlayFiles}
 use Rattle.play_graphs.specs.Graphs.{kept_of}
+use Rattle.play_log.specs.Kept.{LogValue}
+use Rattle.play_run.specs.Recording.{IsBeginning, IsRecorded}
 
 -- No port prefers a supplier, so the input supplies each link.
 abbrev pub cast : PlanValue → Cast
@@ -42,6 +46,7 @@ pub record PlayingValue (S K : Type 0) : Type 0 where
   pub graph : Shown S K Progress
   pub plan : PlanValue
   pub conductor : ConductorValue
+  pub log : LogValue
 
 -- each client object is in
 abbrev pub AreClientsIn : {C : Type 0} → Entries C → Type 0
@@ -61,7 +66,8 @@ module _ {S K : Type 0} where
     pub many : length world.components ≡ length x.plan.parts
     pub clients : AreClientsIn x.graph.core
 
-  -- The graph stands for a world of the play, in which no work and no client object is out.
+  -- The graph stands for a world of the play, in which no work and no client object is out. The log has the run to it from where the play
+  -- of the plan with these files begins.
   pub record IsStanding (x : PlayingValue S K) (p : Play) : Type 0 where
     pub world : World
     pub stands : Stands (kept_of x.graph) world
@@ -70,11 +76,25 @@ module _ {S K : Type 0} where
     pub works : HaveNoWork world
     pub clients : AreClientsIn x.graph.core
     pub conducting : IsConducting (cast x.plan) p x.conductor
+    pub files : PlayFiles
+    pub opening : World
+    pub begins : IsBeginning x.plan files opening
+    pub recorded : IsRecorded x.plan.parts opening world x.log
 
   -- between two turns
   pub record IsPlaying (x : PlayingValue S K) (p : Play) : Type 0 where
     pub standing : IsStanding x p
     pub sent : AreSent (layout_of x.plan) p
+
+  -- From each play that the one stands for the turn leads to one that the other stands for, and that began with the same files.
+  abbrev pub TurnsTo : PlayingValue S K → PlayingValue S K → Bool → (Act → Type 0) → Type 0
+  TurnsTo x y acted P = (p : Play) (Y : IsPlaying x p)
+      → (q : Play) × (Z : IsPlaying y q) × Turned (layout_of x.plan) p q acted P × (Z.standing.files ≡ Y.standing.files)
+
+  -- The plan stays, and from each play that the one stands for acts lead to one that the other stands for, and that began with the same files.
+  pub record LeadsOn (x y : PlayingValue S K) : Type 0 where
+    pub plan : y.plan ≡ x.plan
+    pub plays : (p : Play) (Y : IsPlaying x p) → (q : Play) × (Z : IsPlaying y q) × (Z.standing.files ≡ Y.standing.files)
 
   -- so much was told of the component at the place
   abbrev pub IsProgressAt : Shown S K Progress → ℕ → Progress → Type 0

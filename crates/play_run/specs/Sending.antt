@@ -43,14 +43,14 @@ module _ {S K : Type 0} where
   abbrev pub CanSend : PlayingValue S K → State → Type 0
   CanSend x state = (p : Play) × (IsStanding x p × IsUnsent (layout_of x.plan) p state)
 
-  -- from each play in which the state was begun and not sent
+  -- from each play in which the state was begun and not sent, to one that began with the same files
   abbrev pub SendsTo : PlayingValue S K → PlayingValue S K → State → ℕ → Type 0
-  SendsTo old new state place = (p : Play) → IsStanding old p → IsUnsent (layout_of old.plan) p state
-      → (q : Play) × IsStanding new q × IsOnSend (layout_of old.plan) p q place
+  SendsTo old new state place = (p : Play) (Y : IsStanding old p) → IsUnsent (layout_of old.plan) p state
+      → (q : Play) × (Z : IsStanding new q) × IsOnSend (layout_of old.plan) p q place × (Z.files ≡ Y.files)
 
   abbrev pub SentOf : PlayingValue S K → PlayingValue S K → State → Type 0
-  SentOf old new state = (p : Play) → IsStanding old p → IsUnsent (layout_of old.plan) p state
-      → (q : Play) × IsPlaying new q × HasRun (layout_of old.plan) p q
+  SentOf old new state = (p : Play) (Y : IsStanding old p) → IsUnsent (layout_of old.plan) p state
+      → (q : Play) × (Z : IsPlaying new q) × HasRun (layout_of old.plan) p q × (Z.standing.files ≡ Y.files)
 
   -- ---- what is seen
 

@@ -1,36 +1,45 @@
 //! The turns of a component: its notes, its commands, and the steps of its part.
 
 ghost use Rattle.std.specs.Prelude.{◌≡◌, ◌<◌, IfErr, IfNone, IfOk, IfSome, length};
+ghost use Rattle.note_queues.specs.declared.taken.Taken.TheVariants.{Told};
+ghost use Rattle.il_machine.specs.Components.{moved_by};
 ghost use Rattle.part_api.specs.Terms.{Terms};
 ghost use Rattle.il_machine.specs.Claims.{ClaimedWork, WorkSeen};
 ghost use Rattle.il_graph.specs.Claiming.{told_by as seen_by};
 ghost use Rattle.il_graph.specs.declared.claimed.Claimed.TheVariants as answers;
 ghost use Rattle.play_model.specs.Acts.{Act};
-ghost use Rattle.play_loop.specs.Turns.{SomePlay, TurnsOf};
-ghost use Rattle.play_run.specs.Playing.{IsAct, IsPlaying, is_did, layout_of};
-ghost use Rattle.play_run.specs.Turning.{HasFailed, IsEvent, IsStepOf, IsTelling, outcome_of, told_by};
+ghost use Rattle.play_loop.specs.Turns.{SomePlay};
+ghost use Rattle.play_run.specs.Playing.{IsAct, IsPlaying, TurnsTo};
+ghost use Rattle.play_run.specs.Turning.{HasFailed, IsEvent, IsStepOf, IsTelling};
 
+use crate::lines::{name_at, tell};
 use crate::links::did;
 use crate::playing::Playing;
 use conductor::PlayClient;
 use il_graph::{Call, Claimed, Client, Took, Work};
+use log_texts::{claimed, ended, finished, ran, took};
 use note_queues::Taken;
-use omx_types::PartFault;
+use omx_types::{Event, PartFault};
 use outside_io::{Sink, Source};
 
-/// The client object, told the event of its note.
-fn told_of(call: Call<PlayClient>) -> PlayClient
-    requires { IsEvent call.taken }
-    ensures { result ≡ told_by call.taken call.client }
+/// The event that the note tells.
+fn event_of(taken: Taken) -> Event
+    requires { IsEvent taken }
+    ensures { taken ≡ Told result }
 {
-    let Call { client, taken } = call;
-    let mut told = client;
     match taken {
-        Taken::Told(event) => told.told(event),
+        Taken::Told(event) => event,
         Taken::EmptyDone(_header) => unreachable!(),
         Taken::FillDone(_header) => unreachable!(),
     }
-    told
+}
+
+/// The client object, told the event.
+fn told_of(mut client: PlayClient, event: Event) -> PlayClient
+    ensures { result ≡ moved_by event client }
+{
+    client.told(event);
+    client
 }
 
 /// The work, if there is one.
@@ -50,32 +59,26 @@ fn work_of<S: Source, K: Sink>(claimed: Claimed<S, K>) -> Option<Work<S, K>>
     }
 }
 
-/// What a step comes to.
-fn outcome(fault: Option<PartFault>) -> Result<bool, PartFault>
-    ensures { result ≡ outcome_of fault }
-{
-    match fault {
-        None => Ok(true),
-        Some(fault) => Err(fault),
-    }
-}
-
 impl<S: Source, K: Sink> Playing<S, K> {
     /// The component's oldest note is told to its client object.
     pub(crate) fn tell(&mut self, component: u32) -> bool
         requires there { component < length self.old.plan.parts }
         requires stands { SomePlay (IsPlaying self.old) }
         ensures plan { self.new.plan ≡ self.old.plan }
-        ensures turned { TurnsOf (layout_of self.old.plan) (IsPlaying self.old) (IsPlaying self.new) result (IsTelling component) }
+        ensures turned { TurnsTo self.old self.new result (IsTelling component) }
     {
         let place = self.place(component);
         let h = self.handle(place);
         self.graph.law_of_worlds();
         match self.graph.take_note(h) {
             Ok(Took::Call(call)) => {
-                let client = told_of(call);
+                let Call { client, taken } = call;
+                let event = event_of(taken);
+                let name = name_at(&self.plan, place);
+                tell(&mut self.log, &took(name, event));
                 self.graph.law_of_worlds();
-                self.graph.end_note(h, client);
+                self.graph.end_note(h, told_of(client, event));
+                tell(&mut self.log, &ended(name));
                 true
             }
             Ok(Took::None) => false,
@@ -89,11 +92,15 @@ impl<S: Source, K: Sink> Playing<S, K> {
         requires there { component < length self.old.plan.parts }
         requires stands { SomePlay (IsPlaying self.old) }
         ensures plan { self.new.plan ≡ self.old.plan }
-        ensures turned { TurnsOf (layout_of self.old.plan) (IsPlaying self.old) (IsPlaying self.new) result (IsAct (Act.Run component)) }
+        ensures turned { TurnsTo self.old self.new result (IsAct (Act.Run component)) }
     {
         let place = self.place(component);
         let h = self.handle(place);
-        did(self.graph.run_command(h))
+        if !did(self.graph.run_command(h)) {
+            return false;
+        }
+        tell(&mut self.log, &ran(name_at(&self.plan, place)));
+        true
     }
 
     /// The component's part does a step.
@@ -101,23 +108,32 @@ impl<S: Source, K: Sink> Playing<S, K> {
         requires there { component < length self.old.plan.parts }
         requires stands { SomePlay (IsPlaying self.old) }
         ensures plan { self.new.plan ≡ self.old.plan }
-        ensures turned { IfOk result (λ acted. TurnsOf (layout_of self.old.plan) (IsPlaying self.old) (IsPlaying self.new) acted (IsStepOf component)) }
+        ensures turned { IfOk result (λ acted. TurnsTo self.old self.new acted (IsStepOf component)) }
         ensures failed { IfErr result (HasFailed self.new) }
     {
         let place = self.place(component);
         let h = self.handle(place);
         self.graph.law_of_worlds();
-        let claimed = match self.graph.claim(h) {
-            Ok(claimed) => claimed,
+        let answer = match self.graph.claim(h) {
+            Ok(answer) => answer,
             Err(_) => return Ok(false),
         };
-        let work = match work_of(claimed) {
+        let work = match work_of(answer) {
             Some(work) => work,
             None => return Ok(false),
         };
+        let name = name_at(&self.plan, place);
+        tell(&mut self.log, &claimed(name));
         let done = work.run();
+        let frames = done.frames();
         let fault = done.fault();
         self.graph.finish(done);
-        outcome(fault)
+        match fault {
+            None => {
+                tell(&mut self.log, &finished(name, frames));
+                Ok(true)
+            }
+            Some(fault) => Err(fault),
+        }
     }
 }

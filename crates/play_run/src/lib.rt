@@ -4,10 +4,13 @@
 
 mod components;
 mod handles;
+mod laws;
+mod lines;
 mod links;
 mod player;
 mod playing;
 mod sending;
 mod words;
 
+pub use laws::law_of_play_logs;
 pub use playing::Playing;

@@ -2,12 +2,14 @@
 
 ghost use Rattle.std.specs.Prelude.{◌≡◌, ◌<◌, length};
 ghost use Rattle.play_model.specs.Acts.{Act};
-ghost use Rattle.play_loop.specs.Turns.{SomePlay, TurnsOf};
-ghost use Rattle.play_run.specs.Playing.{IsAct, IsPlaying, is_did, layout_of};
+ghost use Rattle.play_loop.specs.Turns.{SomePlay};
+ghost use Rattle.play_run.specs.Playing.{IsAct, IsPlaying, TurnsTo, is_did};
 ghost use Rattle.play_run.specs.Turning.{IsBack};
 
+use crate::lines::{port_at, tell};
 use crate::playing::Playing;
 use il_graph::Acted;
+use log_texts::{handed_back, handed_over, released, supplied};
 use outside_io::{Sink, Source};
 
 /// Whether a call was accepted.
@@ -27,11 +29,16 @@ impl<S: Source, K: Sink> Playing<S, K> {
         requires there { link < length self.old.plan.joints }
         requires stands { SomePlay (IsPlaying self.old) }
         ensures plan { self.new.plan ≡ self.old.plan }
-        ensures turned { TurnsOf (layout_of self.old.plan) (IsPlaying self.old) (IsPlaying self.new) result (IsAct (Act.Supply link)) }
+        ensures turned { TurnsTo self.old self.new result (IsAct (Act.Supply link)) }
     {
         let joint = self.joint(link);
         let h = self.handle(joint.taker);
-        did(self.graph.supply(h, joint.input))
+        if !did(self.graph.supply(h, joint.input)) {
+            return false;
+        }
+        let port = port_at(&self.plan, joint.taker, joint.input);
+        tell(&mut self.log, &supplied(port));
+        true
     }
 
     /// The input unmakes a header.
@@ -39,11 +46,16 @@ impl<S: Source, K: Sink> Playing<S, K> {
         requires there { link < length self.old.plan.joints }
         requires stands { SomePlay (IsPlaying self.old) }
         ensures plan { self.new.plan ≡ self.old.plan }
-        ensures turned { TurnsOf (layout_of self.old.plan) (IsPlaying self.old) (IsPlaying self.new) result (IsAct (Act.Release link)) }
+        ensures turned { TurnsTo self.old self.new result (IsAct (Act.Release link)) }
     {
         let joint = self.joint(link);
         let h = self.handle(joint.taker);
-        did(self.graph.release(h, joint.input))
+        if !did(self.graph.release(h, joint.input)) {
+            return false;
+        }
+        let port = port_at(&self.plan, joint.taker, joint.input);
+        tell(&mut self.log, &released(port));
+        true
     }
 
     /// The input hands an emptied header to the output.
@@ -51,11 +63,16 @@ impl<S: Source, K: Sink> Playing<S, K> {
         requires there { link < length self.old.plan.joints }
         requires stands { SomePlay (IsPlaying self.old) }
         ensures plan { self.new.plan ≡ self.old.plan }
-        ensures turned { TurnsOf (layout_of self.old.plan) (IsPlaying self.old) (IsPlaying self.new) result (IsAct (Act.HandOver link)) }
+        ensures turned { TurnsTo self.old self.new result (IsAct (Act.HandOver link)) }
     {
         let joint = self.joint(link);
         let h = self.handle(joint.taker);
-        did(self.graph.hand_over(h, joint.input))
+        if !did(self.graph.hand_over(h, joint.input)) {
+            return false;
+        }
+        let port = port_at(&self.plan, joint.taker, joint.input);
+        tell(&mut self.log, &handed_over(port));
+        true
     }
 
     /// The output hands a filled header to the input, or one that it didn't use.
@@ -63,10 +80,15 @@ impl<S: Source, K: Sink> Playing<S, K> {
         requires there { link < length self.old.plan.joints }
         requires stands { SomePlay (IsPlaying self.old) }
         ensures plan { self.new.plan ≡ self.old.plan }
-        ensures turned { TurnsOf (layout_of self.old.plan) (IsPlaying self.old) (IsPlaying self.new) result (IsBack link) }
+        ensures turned { TurnsTo self.old self.new result (IsBack link) }
     {
         let joint = self.joint(link);
         let h = self.handle(joint.giver);
-        did(self.graph.hand_back(h, joint.output))
+        if !did(self.graph.hand_back(h, joint.output)) {
+            return false;
+        }
+        let port = port_at(&self.plan, joint.giver, joint.output);
+        tell(&mut self.log, &handed_back(port));
+        true
     }
 }

@@ -6,14 +6,17 @@ use outside_io::{Sink, Source};
 use play_loop::Player;
 
 impl<S: Source, K: Sink> Player for Playing<S, K> {
-    ghost use Rattle.play_run.specs.Playing.{IsPlaying, layout_of};
+    ghost use Rattle.play_run.specs.Playing.{IsPlaying, LeadsOn, layout_of};
     ghost use Rattle.play_run.specs.Turning.{HasFailed};
+    ghost use Rattle.play_run.specs.Leading.{leads_on, leads_to_itself};
 
     type Fault = PartFault;
 
     ghost layout = { λ x. layout_of x.plan };
 
     ghost Plays = { λ x. IsPlaying x };
+
+    ghost Leads = { λ x y. LeadsOn x y };
 
     ghost HasFailed = { λ x. HasFailed x };
 
@@ -47,4 +50,8 @@ impl<S: Source, K: Sink> Player for Playing<S, K> {
         let back = self.hand_back(link);
         supplied | released | over | back
     }
+
+    ghost leads_to_itself = { λ x. leads_to_itself x };
+
+    ghost leads_on = { λ x y z. leads_on x y z };
 }

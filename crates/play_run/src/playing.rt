@@ -7,16 +7,18 @@ use il_graph::{Graph, OutOfMemory};
 use omx_types::PartFault;
 use outside_io::{Sink, Source};
 use play_graphs::{end_graph, make_graph};
+use play_log::Log;
 use play_loop::play_on;
 use std::alloc::Global;
 use std::marker::Model;
 use stream_plan::Plan;
 
-/// The graph of a plan's components, in script order, and their conductor.
+/// The graph of a plan's components, in script order, their conductor, and the log of what was done.
 pub struct Playing<S: Source, K: Sink> {
     pub(crate) graph: Graph<S, K, PlayClient>,
     pub(crate) plan: Plan,
     pub(crate) conductor: Conductor,
+    pub(crate) log: Log,
 }
 
 impl<S: Source, K: Sink> Model for Playing<S, K> {
@@ -24,16 +26,16 @@ impl<S: Source, K: Sink> Model for Playing<S, K> {
 
     ghost Value = { PlayingValue S K };
 
-    ghost view = { λ x. record { graph = x.graph; plan = x.plan; conductor = x.conductor } };
+    ghost view = { λ x. record { graph = x.graph; plan = x.plan; conductor = x.conductor; log = x.log } };
 }
 
 impl<S: Source, K: Sink> Playing<S, K> {
     ghost use Rattle.std.specs.Prelude.{◌≡◌, length, IfErr, IfOk, OnErr, OnOk};
     ghost use Rattle.il_graph.specs.Shown.{offered};
     ghost use Rattle.play_loop.specs.Turns.{CanPlay, EndsOf};
-    ghost use Rattle.play_openings.specs.Assemblies.{HasNoLate};
-    ghost use Rattle.play_graphs.specs.Making.{AreGone, CanMake};
-    ghost use Rattle.play_run.specs.Closing.{GivesBack, HasPlayed};
+    ghost use Rattle.play_openings.specs.Assemblies.{HasNoLate, IsReady, PlayFiles};
+    ghost use Rattle.play_graphs.specs.Making.{AreGone, AreOffered, CanMake};
+    ghost use Rattle.play_run.specs.Closing.{GivesBack, HasBegun, HasPlayed, HasPlayedWith, KeepsLog};
     ghost use Rattle.play_run.specs.Playing.{IsPlaying, layout_of};
     ghost use Rattle.play_run.specs.Turning.{HasFailed};
 
@@ -47,6 +49,8 @@ impl<S: Source, K: Sink> Playing<S, K> {
         requires early { HasNoLate plan }
         ensures plan { IfOk result (λ playing. playing.plan ≡ plan) }
         ensures ready { IfOk result (λ playing. CanPlay (layout_of plan) (IsPlaying playing) 340282366920938463463374607431768211455) }
+        ensures begun { IfOk result (λ playing. (given : PlayFiles) → IsReady plan given
+            → AreOffered plan given (offered S.offset S.size S.told K.told) files.old → HasBegun playing given) }
         ensures gone { OnOk result (AreGone (length plan.parts) files.new) }
         ensures unmade { OnErr result (files.new ≡ files.old) }
     {
@@ -58,6 +62,7 @@ impl<S: Source, K: Sink> Playing<S, K> {
             graph,
             plan,
             conductor,
+            log: Log::new(alloc),
         })
     }
 
@@ -66,24 +71,29 @@ impl<S: Source, K: Sink> Playing<S, K> {
         requires { CanPlay (layout_of self.old.plan) (IsPlaying self.old) 340282366920938463463374607431768211455 }
         ensures layout { layout_of self.new.plan ≡ layout_of self.old.plan }
         ensures over { OnOk result (EndsOf (layout_of self.old.plan) (IsPlaying self.old) (IsPlaying self.new)) }
+        ensures plan { OnOk result (self.new.plan ≡ self.old.plan) }
+        ensures played { OnOk result ((given : PlayFiles) → HasBegun self.old given → HasPlayedWith self.new given) }
         ensures failed { IfErr result (HasFailed self.new) }
     {
         play_on(self)
     }
 
-    /// Ends a play that is over. Each file comes to the place of its component.
-    pub fn end(self, files: &mut [Option<PartFile<S, K>>])
+    /// Ends a play that is over. Each file comes to the place of its component. The log is that of the whole play.
+    pub fn end(self, files: &mut [Option<PartFile<S, K>>]) -> Log
         requires played { HasPlayed self }
         requires many { length files.old ≡ length self.plan.parts }
         requires gone { AreGone (length self.plan.parts) files.old }
         ensures many { length files.new ≡ length files.old }
         ensures back { GivesBack self files.new }
+        ensures log { KeepsLog self result }
     {
         let Playing {
             graph,
             plan,
             conductor: _conductor,
+            log,
         } = self;
         end_graph(graph, &plan, files);
+        log
     }
 }

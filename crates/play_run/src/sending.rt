@@ -6,13 +6,15 @@ ghost use Rattle.conductor.specs.Hearing.{heard};
 ghost use Rattle.conductor.specs.Phases.{Conducts, is_at};
 ghost use Rattle.play_model.specs.Reached.{IsOver};
 ghost use Rattle.play_model.specs.Play.{Play};
-ghost use Rattle.play_loop.specs.Turns.{IsSend, SomePlay, TurnsOf};
-ghost use Rattle.play_run.specs.Playing.{HasParts, IsPlaying, layout_of};
+ghost use Rattle.play_loop.specs.Turns.{IsSend, SomePlay};
+ghost use Rattle.play_run.specs.Playing.{HasParts, IsPlaying, TurnsTo, layout_of};
 ghost use Rattle.play_run.specs.Sending.{AreViews, CanSend, IsCalm, SentOf, state_in};
 
+use crate::lines::{name_at, tell};
 use crate::playing::Playing;
 use conductor::{Conductor, Phase};
 use il_graph::{Command, Progress, State};
+use log_texts::sent;
 use outside_io::{Sink, Source};
 
 /// Whether the last state that was told is Loaded.
@@ -63,7 +65,7 @@ impl<S: Source, K: Sink> Playing<S, K> {
         views
     }
 
-    /// Sends the state to all.
+    /// Sends the state to all, of whom none refuses it.
     fn send_all(&mut self, state: State)
         requires { CanSend self.old state }
         ensures plan { self.new.plan ≡ self.old.plan }
@@ -72,6 +74,7 @@ impl<S: Source, K: Sink> Playing<S, K> {
         for place in 0..self.count() {
             let h = self.handle(place);
             let _ = self.graph.send_command(h, Command::StateSet(state));
+            tell(&mut self.log, &sent(name_at(&self.plan, place), state));
         }
     }
 
@@ -79,7 +82,7 @@ impl<S: Source, K: Sink> Playing<S, K> {
     pub(crate) fn conduct(&mut self) -> bool
         requires { SomePlay (IsPlaying self.old) }
         ensures plan { self.new.plan ≡ self.old.plan }
-        ensures turned { TurnsOf (layout_of self.old.plan) (IsPlaying self.old) (IsPlaying self.new) result IsSend }
+        ensures turned { TurnsTo self.old self.new result IsSend }
     {
         let views = self.look();
         let count = self.count() as usize;

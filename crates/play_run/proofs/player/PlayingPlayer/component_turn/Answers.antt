@@ -1,9 +1,10 @@
-use Rattle.std.proofs.Common.{◌∙◌, ◌||◌}
+use Rattle.std.proofs.Common.{◌∙◌}
 use Rattle.play_model.specs.Acts.{Act}
-use Rattle.play_loop.proofs.Running.{OfBoth}
-use Rattle.play_run.specs.Playing.{IsAct}
-use Rattle.play_run.specs.Turning.{IsStepOf, IsTelling}
-use Rattle.play_run.proofs.Rounding.{component_turns, some_next, then_turns}
+use Rattle.play_loop.specs.Turns.{IsOfComponent}
+use Rattle.play_run.specs.Playing.{IsAct, layout_of}
+use Rattle.play_run.specs.Turning.{IsTelling}
+use Rattle.play_run.proofs.Answering.{leads_of, turned_of}
+use Rattle.play_run.proofs.Rounding.{actor_turn, some_next}
 use Rattle.play_run.proofs.player.PlayingPlayer.component_turn.Goals as goal
 
 pub run-ran-requires-clause-stands : goal.run-ran-requires-clause-stands
@@ -16,10 +17,16 @@ step-requires-clause-stands g c =
 
 pub returns-clause-turned : goal.returns-clause-turned
 returns-clause-turned g c =
-    let k = c.args.component in
     let x = c.args.self.now in
     let a = c.tell-told in
     let b = c.run-ran in
-    let two = then_turns x a.new.self b.new.self a.ensures.plan a.result b.result (IsTelling k) (IsAct (Act.Run k)) a.ensures.turned b.ensures.turned in
-    let three = then_turns x b.new.self c.step.new.self (b.ensures.plan ∙ a.ensures.plan) (a.result || b.result) c.in_ok-stepped.stepped (OfBoth (IsTelling k) (IsAct (Act.Run k))) (IsStepOf k) two c.in_ok-stepped.ensures.turned in
-    component_turns x k c.step.new.self (a.result || b.result || c.in_ok-stepped.stepped) three
+    turned_of x c.step.new.self _ (IsOfComponent (layout_of x.plan) c.args.component)
+    (actor_turn x a.new.self b.new.self c.step.new.self c.args.component a.result b.result c.in_ok-stepped.stepped a.ensures.plan b.ensures.plan a.ensures.turned b.ensures.turned c.in_ok-stepped.ensures.turned)
+
+pub returns-clause-leads : goal.returns-clause-leads
+returns-clause-leads g c =
+    let x = c.args.self.now in
+    let a = c.tell-told in
+    let b = c.run-ran in
+    leads_of x c.step.new.self _ (IsOfComponent (layout_of x.plan) c.args.component) (c.step.ensures.plan ∙ (b.ensures.plan ∙ a.ensures.plan))
+    (actor_turn x a.new.self b.new.self c.step.new.self c.args.component a.result b.result c.in_ok-stepped.stepped a.ensures.plan b.ensures.plan a.ensures.turned b.ensures.turned c.in_ok-stepped.ensures.turned)

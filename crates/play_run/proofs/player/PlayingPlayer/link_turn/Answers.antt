@@ -1,9 +1,9 @@
-use Rattle.std.proofs.Common.{◌∙◌, ◌||◌}
+use Rattle.std.proofs.Common.{◌∙◌}
 use Rattle.play_model.specs.Acts.{Act}
-use Rattle.play_loop.proofs.Running.{OfBoth}
-use Rattle.play_run.specs.Playing.{IsAct, IsPlaying, layout_of}
-use Rattle.play_run.specs.Turning.{IsBack}
-use Rattle.play_run.proofs.Rounding.{link_turns, some_next, then_turns}
+use Rattle.play_loop.specs.Turns.{IsOfLink}
+use Rattle.play_run.specs.Playing.{IsAct}
+use Rattle.play_run.proofs.Answering.{leads_of, turned_of}
+use Rattle.play_run.proofs.Rounding.{some_next, whole_turn}
 use Rattle.play_run.proofs.player.PlayingPlayer.link_turn.Goals as goal
 
 pub release-released-requires-clause-stands : goal.release-released-requires-clause-stands
@@ -22,13 +22,15 @@ hand_back-back-requires-clause-stands g c =
 
 pub returns-clause-turned : goal.returns-clause-turned
 returns-clause-turned g c =
-    let l = c.args.link in
     let x = c.args.self.now in
-    let a = c.supply-supplied in
-    let b = c.release-released in
-    let o = c.hand_over-over in
     let k = c.hand_back-back in
-    let two = then_turns x a.new.self b.new.self a.ensures.plan a.result b.result (IsAct (Act.Supply l)) (IsAct (Act.Release l)) a.ensures.turned b.ensures.turned in
-    let three = then_turns x b.new.self o.new.self (b.ensures.plan ∙ a.ensures.plan) (a.result || b.result) o.result (OfBoth (IsAct (Act.Supply l)) (IsAct (Act.Release l))) (IsAct (Act.HandOver l)) two o.ensures.turned in
-    let four = then_turns x o.new.self k.new.self (o.ensures.plan ∙ (b.ensures.plan ∙ a.ensures.plan)) (a.result || b.result || o.result) k.result (OfBoth (OfBoth (IsAct (Act.Supply l)) (IsAct (Act.Release l))) (IsAct (Act.HandOver l))) (IsBack l) three k.ensures.turned in
-    link_turns (layout_of x.plan) (IsPlaying x) (IsPlaying k.new.self) (a.result || b.result || o.result || k.result) l four
+    turned_of x k.new.self _ (IsOfLink c.args.link) (whole_turn x c.supply-supplied.new.self c.release-released.new.self c.hand_over-over.new.self k.new.self c.args.link c.supply-supplied.result c.release-released.result c.hand_over-over.result k.result
+    c.supply-supplied.ensures.plan c.release-released.ensures.plan c.hand_over-over.ensures.plan c.supply-supplied.ensures.turned c.release-released.ensures.turned c.hand_over-over.ensures.turned k.ensures.turned)
+
+pub returns-clause-leads : goal.returns-clause-leads
+returns-clause-leads g c =
+    let x = c.args.self.now in
+    let k = c.hand_back-back in
+    leads_of x k.new.self _ (IsOfLink c.args.link) (k.ensures.plan ∙ (c.hand_over-over.ensures.plan ∙ (c.release-released.ensures.plan ∙ c.supply-supplied.ensures.plan)))
+    (whole_turn x c.supply-supplied.new.self c.release-released.new.self c.hand_over-over.new.self k.new.self c.args.link c.supply-supplied.result c.release-released.result c.hand_over-over.result k.result
+    c.supply-supplied.ensures.plan c.release-released.ensures.plan c.hand_over-over.ensures.plan c.supply-supplied.ensures.turned c.release-released.ensures.turned c.hand_over-over.ensures.turned k.ensures.turned)

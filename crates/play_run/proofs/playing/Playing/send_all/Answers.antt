@@ -1,8 +1,14 @@
-use Rattle.std.proofs.Common.{◌≡◌, ◌<◌, length, ◌∙◌, ap, subst, ℕ, arith}
+use Rattle.std.proofs.Common.{◌≡◌, ◌<◌, length, refl, ◌∙◌, ap, subst, ℕ, arith}
 use Rattle.play_run.specs.Playing.{PlayingValue}
 use Rattle.play_run.specs.Sending.{SendsTo}
-use Rattle.play_run.proofs.Conducting.{sends_all, sends_next}
+use Rattle.play_run.proofs.Conducting.{send_begins, sends_all, sends_next, still_parts}
 use Rattle.play_run.proofs.playing.Playing.send_all.Goals as goal
+
+pub loop-place-init : goal.loop-place-init
+loop-place-init g c = record { plan = refl; sent = send_begins c.args.self.now c.args.state }
+
+pub handle-h-requires-clause-parts : goal.handle-h-requires-clause-parts
+handle-h-requires-clause-parts g c = still_parts c.args.self.now c.loop-place.self c.args.state c.loop-place.place c.requires c.loop-place.invariant.sent
 
 pub loop-place-preserved : goal.loop-place-preserved
 loop-place-preserved g c =
@@ -10,7 +16,8 @@ loop-place-preserved g c =
     let below : c.loop-place.place < length c.args.self.now.plan.parts = omega arith in
     record {
       plan = ap (λ (z : PlayingValue _ _). z.plan) c.self.view_is ∙ c.loop-place.invariant.plan;
-      sent = sends_next _ c.loop-place.self c.args.self.now c.self.view_is c.send_command.new.self c.args.state c.loop-place.place c.handle-h.result c.send_command.result c.loop-place.invariant.plan below c.handle-h.ensures
+      sent = sends_next _ c.loop-place.self c.args.self.now c.self.view_is c.send_command.new.self c.tell.new.log c.args.state c.loop-place.place c.handle-h.result c.send_command.result c.loop-place.invariant.plan below c.handle-h.ensures
+          (record { name = c.name_at.result; said = c.sent.result; named = c.name_at.ensures; says = c.sent.ensures; told = c.tell.ensures })
           c.send_command.ensures.clients c.send_command.ensures.step c.loop-place.invariant.sent;
     }
 

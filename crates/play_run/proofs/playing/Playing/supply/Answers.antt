@@ -1,5 +1,10 @@
+use Rattle.std.proofs.Common.{false, true, ℕ, Ok, refl, sym, ◌∙◌, subst}
+use Rattle.il_machine.specs.declared.answer.Acted.TheVariants.{Did}
+use Rattle.il_machine.specs.Acts as acts
+use Rattle.log_texts.specs.Said.{SaysOf}
 use Rattle.play_run.proofs.Answering.{has_parts}
 use Rattle.play_graphs.proofs.Standing.{takers_there}
+use Rattle.play_run.proofs.Recording.{still_there}
 use Rattle.play_run.proofs.Linking.{supply_turns}
 use Rattle.play_run.proofs.playing.Playing.supply.Goals as goal
 
@@ -9,8 +14,21 @@ handle-h-requires-clause-there g c = takers_there c.args.self.now.plan c.args.li
 pub handle-h-requires-clause-parts : goal.handle-h-requires-clause-parts
 handle-h-requires-clause-parts g c = has_parts c.args.self.now c.requires.stands
 
+pub port_at-port-requires : goal.port_at-port-requires
+port_at-port-requires g c =
+    still_there _ c.args.self.now c.self.view_is c.joint-joint.result.taker (takers_there c.args.self.now.plan c.args.link c.joint-joint.result c.requires.stands.1.standing.valid c.requires.there c.joint-joint.ensures)
+
+pub returns-then-not-did-clause-turned : goal.returns-then-not-did-clause-turned
+returns-then-not-did-clause-turned g c =
+    let call = c.supply.ensures in
+    supply_turns _ c.args.self.now c.self.view_is c.supply.new.self _ c.args.link c.joint-joint.result c.handle-h.result c.supply.result false c.requires.there c.joint-joint.ensures c.handle-h.ensures
+    call.clients call.step call.unchanged call.idle (sym c.if-not-did.true ∙ c.did.ensures) (λ f. refl) (λ t. absurd cc)
+
 pub returns-clause-turned : goal.returns-clause-turned
 returns-clause-turned g c =
     let call = c.supply.ensures in
-    supply_turns _ c.args.self.now c.self.view_is c.supply.new.self c.args.link c.joint-joint.result c.handle-h.result c.supply.result c.did.result c.requires.there c.joint-joint.ensures c.handle-h.ensures
-    call.clients call.step call.unchanged call.idle c.did.ensures
+    let port = c.port_at-port in
+    let says = subst (λ (i : ℕ). SaysOf port.result.component c.supplied.result (λ k. acts.Supply k i) (acts.Supplied (Ok Did))) port.ensures.index c.supplied.ensures in
+    supply_turns _ c.args.self.now c.self.view_is c.supply.new.self c.tell.new.log c.args.link c.joint-joint.result c.handle-h.result c.supply.result true c.requires.there c.joint-joint.ensures c.handle-h.ensures
+    call.clients call.step call.unchanged call.idle (sym c.if-not-did.false ∙ c.did.ensures) (λ f. absurd cc)
+    (λ t. record { name = port.result.component; said = c.supplied.result; named = port.ensures.component; says = says; told = c.tell.ensures })

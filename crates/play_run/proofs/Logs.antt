@@ -1,0 +1,40 @@
+-- The log of a whole play.
+use Rattle.std.proofs.Common.{ℕ, not, List}
+use Rattle.std.proofs.lemmas.List.Elements.{All-filter}
+use Rattle.outside_io.specs.Files.{Outside}
+use Rattle.il_machine.specs.World.{World}
+use Rattle.play_forms.specs.Plans.{PlanValue}
+use Rattle.play_openings.specs.Assemblies.{PlayFiles}
+use Rattle.play_log.specs.Entries.{Entry, is_unprinted, printed}
+use Rattle.play_log.specs.Kept.{LogValue}
+use Rattle.play_log.specs.Logged.{IsLogged, Keeps}
+use Rattle.play_log.specs.Scenes.{Scene, scene_of}
+use Rattle.play_log.proofs.Names.{logged_names}
+use Rattle.play_results.specs.Results.{IsLogOf}
+use Rattle.play_run.specs.Logging.{HaveWritten, IsKeptTo, IsNamedTo}
+use Rattle.play_run.specs.Recording.{IsByPlayer}
+
+pub kept_names : (plan : PlanValue) (files : PlayFiles) (log : LogValue) (text : List ℕ) (ending : World) → IsKeptTo plan files log ending → ((s : Scene) (history : List Entry) → Keeps s history log → IsLogged s history text) → IsNamedTo plan files text ending
+kept_names plan files log text ending K logged =
+    let s = scene_of plan.parts K.opening in
+    let B = K.begins in
+    record {
+      opening = K.opening;
+      opens = B.opens;
+      entries = printed K.history;
+      names = logged_names s K.opening ending K.history text ((B.opens).1).sound B.closed K.runs K.whole (logged s K.history K.keeps);
+      alone = All-filter (λ (entry : Entry). not (is_unprinted entry.reply)) IsByPlayer K.history K.alone;
+      components = K.components;
+      headers = K.headers;
+    }
+
+pub named_joins : (plan : PlanValue) (files : PlayFiles) (new : Outside) (text : List ℕ) (ending : World) → IsNamedTo plan files text ending → HaveWritten plan.parts new ending → IsLogOf plan files new text
+named_joins plan files new text ending N written = record {
+  opening = N.opening;
+  ending = ending;
+  entries = N.entries;
+  opens = N.opens;
+  names = N.names;
+  alone = N.alone;
+  ends = record { components = N.components; headers = N.headers; sinks = written };
+}
