@@ -1,0 +1,85 @@
+-- A source whose head wasn't read.
+use Rattle.std.proofs.Common.{◌≡◌, ◌≢◌, ℕ, List, length, Option, Some, Err, IsTrue, refl, sym, ◌∙◌, ap, subst, arith}
+use Rattle.std.specs.Prelude.{IsSome}
+use Rattle.omx_types.specs.declared.fault.Fault.TheVariants as Faults
+use Rattle.omx_types.specs.declared.fault.WavFault.{WavFault}
+use Rattle.omx_types.specs.declared.fault.WavFault.TheVariants as WavFaults
+use Rattle.outside_io.specs.Causes.{Rose, sum_of_counts}
+use Rattle.outside_io.specs.Files.{GoesOn, Outside}
+use Rattle.outside_io.specs.Moves.{WhereTold}
+use Rattle.outside_io.proofs.Closed.{told_value}
+use Rattle.wav_form.specs.Reading.{Reads}
+use Rattle.wav_form.specs.Stops.{IfShort, StoppedShort, UnlessStopped}
+use Rattle.wav_form.specs.declared.heads.WavHead.{WavHead}
+use Rattle.play_files.specs.Faults.{fault_of_head}
+use Rattle.play_files.specs.Opening.{IsSourceFault, IsSourceRefused}
+use Rattle.play_files.proofs.Closings.{then}
+
+-- what was seen of the source while its head was read
+pub record IsTried (name : List ℕ) (old mid new : Outside) (fault : WavFault) (size : ℕ) (told : Option (List ℕ)) (ends : Option ℕ) (before now : ℕ) : Type 0 where
+  pub first : GoesOn old mid
+  pub last : GoesOn mid new
+  pub first_files : mid.file ≡ old.file
+  pub last_files : new.file ≡ mid.file
+  pub first_reads : mid.read_faults ≡ old.read_faults
+  pub first_writes : mid.write_faults ≡ old.write_faults
+  pub last_writes : new.write_faults ≡ mid.write_faults
+  pub unfailed : before ≡ 0
+  pub rose : fault ≡ WavFaults.Read → Rose before now
+  pub stands : fault ≢ WavFaults.Read → now ≡ before
+  pub added : new.read_faults ≡ sum_of_counts mid.read_faults now
+  pub told_is : told ≡ old.file name
+  pub ends_is : ends ≡ old.ends name
+  pub there : IsTrue old.tells → IsSome (old.file name)
+  pub sized : WhereTold (old.file name) (λ bytes. size ≡ length bytes)
+  pub reads : WhereTold told (λ bytes. UnlessStopped {A = WavHead} (Err fault) (Reads bytes))
+  pub short : IfShort fault (StoppedShort size told ends)
+
+module _ (line : ℕ) (name : List ℕ) (old mid new : Outside) (fault : WavFault) (size : ℕ) (told : Option (List ℕ)) (ends : Option ℕ) (before now : ℕ) (T : IsTried name old mid new fault size told ends before now) where
+  calm : fault ≢ WavFaults.Read → new.read_faults ≡ old.read_faults
+  calm other =
+      let s = T.stands other in
+      let z = T.unfailed in
+      let a = T.added in
+      let f = T.first_reads in
+      let l = (T.last).read_faults in
+      omega arith
+
+  bad : (IsTrue old.tells → (bytes : List ℕ) × (old.file name ≡ Some bytes) × UnlessStopped {A = WavHead} (Err fault) (Reads bytes))
+  bad tells = let held = told_value (old.file name) (T.there tells) in (held.0, held.1, T.reads held.0 (T.told_is ∙ held.1))
+
+  refused : IsSourceFault line name old new (fault_of_head line fault) → (fault_of_head line fault ≢ Faults.ReadFault → fault ≢ WavFaults.Read) → IsSourceRefused line name old new (fault_of_head line fault)
+  refused why other = record {
+    goes_on = then old mid new T.first T.last;
+    files = T.last_files ∙ T.first_files;
+    reads = λ n. calm (other n);
+    writes = T.last_writes ∙ T.first_writes;
+    why = why;
+  }
+
+read_not : (line : ℕ) (fault : WavFault) → fault_of_head line fault ≢ Faults.ReadFault → fault ≢ WavFaults.Read
+read_not line fault n e = n (ap (fault_of_head line) e)
+
+pub head_refused : (line : ℕ) (name : List ℕ) (old mid new : Outside) (fault : WavFault) (size : ℕ) (told : Option (List ℕ)) (ends : Option ℕ) (before now : ℕ) → IsTried name old mid new fault size told ends before now
+    → IsSourceRefused line name old new (fault_of_head line fault)
+head_refused line name old mid new WavFaults.Read size told ends before now T =
+    let rose = T.rose refl in
+    let z = T.unfailed in
+    let a = T.added in
+    let f = T.first_reads in
+    let n : Rose old.read_faults new.read_faults = omega arith in
+    refused line name old mid new WavFaults.Read size told ends before now T n (read_not line WavFaults.Read)
+head_refused line name old mid new (WavFaults.Short at whole) size told ends before now T =
+    let short : StoppedShort size told ends at whole = T.short in
+    let s : StoppedShort whole (old.file name) (old.ends name) at whole =
+    subst (λ (z : ℕ). StoppedShort z (old.file name) (old.ends name) at whole) (sym short.whole)
+    (subst (λ (t : Option (List ℕ)). StoppedShort size t (old.ends name) at whole) T.told_is (subst (λ (e : Option ℕ). StoppedShort size told e at whole) T.ends_is short)) in
+    refused line name old mid new (WavFaults.Short at whole) size told ends before now T
+    (refl, record { stopped = s; whole = λ tells. (let held = told_value (old.file name) (T.there tells) in (held.0, held.1, short.whole ∙ T.sized held.0 held.1)) })
+    (read_not line (WavFaults.Short at whole))
+head_refused line name old mid new (WavFaults.TooLarge large) size told ends before now T = refused line name old mid new (WavFaults.TooLarge large) size told ends before now T (refl, tt, bad line name old mid new _ size told ends before now T) (read_not line (WavFaults.TooLarge large))
+head_refused line name old mid new WavFaults.NotRiff size told ends before now T = refused line name old mid new WavFaults.NotRiff size told ends before now T (refl, tt, bad line name old mid new _ size told ends before now T) (read_not line WavFaults.NotRiff)
+head_refused line name old mid new WavFaults.NoFormat size told ends before now T = refused line name old mid new WavFaults.NoFormat size told ends before now T (refl, tt, bad line name old mid new _ size told ends before now T) (read_not line WavFaults.NoFormat)
+head_refused line name old mid new WavFaults.BadFormat size told ends before now T = refused line name old mid new WavFaults.BadFormat size told ends before now T (refl, tt, bad line name old mid new _ size told ends before now T) (read_not line WavFaults.BadFormat)
+head_refused line name old mid new WavFaults.NoSamples size told ends before now T = refused line name old mid new WavFaults.NoSamples size told ends before now T (refl, tt, bad line name old mid new _ size told ends before now T) (read_not line WavFaults.NoSamples)
+head_refused line name old mid new (WavFaults.UnsupportedTag tag) size told ends before now T = refused line name old mid new (WavFaults.UnsupportedTag tag) size told ends before now T (refl, tt, bad line name old mid new _ size told ends before now T) (read_not line (WavFaults.UnsupportedTag tag))

@@ -1,0 +1,11 @@
+pub mod Lists
+pub mod Results
+pub mod Closings
+pub mod Fronts
+pub mod Reading
+pub mod Heads
+pub mod Writing
+pub mod Openings
+pub mod OwnFiles
+pub mod Ready
+pub mod Stopped

@@ -1,0 +1,37 @@
+use Rattle.std.proofs.Common.{◌≡◌, ℕ, ◌<◌, Some, length, slice_get, refl, subst, arith}
+use Rattle.std.proofs.lemmas.Option.{slice_get_read}
+use Rattle.play_files.specs.Opening.{HaveSinks}
+use Rattle.play_files.specs.Seen.{file_seen, sink_seen, source_seen}
+use Rattle.play_files.proofs.Fronts.{sink_sooner, still_then}
+use Rattle.play_files.proofs.Writing.{other_more, sink_more}
+use Rattle.play_files.proofs.sinks.open_sinks.Goals as goal
+use Rattle.play_files.proofs.sinks.open_sinks.Goals.{in-Some+in-Ok, in_default}
+
+pub loop-place-preserved : goal.loop-place-preserved
+loop-place-preserved g c =
+    let i = c.loop-place.invariant in
+    let seen = file_seen (source_seen g.M.Src.Source.offset g.M.Src.Source.size g.M.Src.Source.told g.M.Src.Source.ends g.M.Src.Source.faults) (sink_seen g.M.Snk.Sink.told g.M.Snk.Sink.name g.M.Snk.Sink.faults) in
+    let old = g.M.Media.outside c.args.media.now in
+    let mid = g.M.Media.outside c.loop-place.media in
+    let parts = c.args.parts.now in
+    let planned = c.args.planned.now in
+    let count = c.loop-place.place in
+    let there : slice_get parts count ≡ Some c.index-parts-place.result = slice_get_read parts _ count c.index-parts-place.result refl c.loop-place-test.true c.index-parts-place.is in
+    let within : count < length c.loop-place.files = (let a = c.loop-place.auto.files in let b = c.requires.many in let d = c.loop-place-test.true in omega arith) in
+    elim c.match-written_name.branch [
+      | in-Some+in-Ok w ↦ rw (w.media-is, w.files-is) (record {
+        still = still_then old mid _ i.still w.in-Ok.ensures.still;
+        have = rw w.put.ensures (sink_more seen old parts planned count c.args.files.now c.loop-place.files i.have c.index-parts-place.result there w.in-Some.name.now _ _ _ w.in-Some.ensures.some
+            (sink_sooner old mid i.still w.in-Some.name.now _ w.in-Ok.ensures.opened) refl refl within);
+      })
+      | in_default w ↦ rw (w.media-is, w.files-is) (record {
+        still = i.still;
+        have = other_more seen old parts planned count c.args.files.now c.loop-place.files i.have c.index-parts-place.result there (rw w.in_default.is at c.written_name.ensures.none);
+      })
+    ]
+
+pub returns-clause-opened : goal.returns-clause-opened
+returns-clause-opened g c =
+    let ends : c.loop-place.place ≡ length c.args.parts.now = (let a = c.loop-place-test.false in let b = c.loop-place.auto.place-end in omega arith) in
+    subst (λ (n : ℕ). HaveSinks (file_seen (source_seen g.M.Src.Source.offset g.M.Src.Source.size g.M.Src.Source.told g.M.Src.Source.ends g.M.Src.Source.faults) (sink_seen g.M.Snk.Sink.told g.M.Snk.Sink.name g.M.Snk.Sink.faults))
+    (g.M.Media.outside c.args.media.now) c.args.parts.now c.args.planned.now n c.args.files.now c.loop-place.files) ends c.loop-place.invariant.have

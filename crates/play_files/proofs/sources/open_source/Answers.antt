@@ -1,0 +1,33 @@
+use Rattle.std.proofs.Common.{Err, ap, subst, sym}
+use Rattle.omx_types.specs.declared.fault.Fault.{Fault}
+use Rattle.play_files.specs.Opening.{IsSourceRefused}
+use Rattle.play_files.proofs.Heads.{head_refused}
+use Rattle.play_files.proofs.sources.open_source.Goals as goal
+
+pub returns-in-Err-read_head-clause-refused : goal.returns-in-Err-read_head-clause-refused
+returns-in-Err-read_head-clause-refused g c =
+    let old = g.M.Media.outside c.args.media.now in
+    let mid = g.M.Media.outside c.source.new.self in
+    let new = g.M.Media.outside c.close_source.new.self in
+    let e = c.in-Err-read_head.ensures in
+    subst (λ (fault : Fault). IsSourceRefused c.args.line c.args.name.now old new fault) (sym c.head_fault.ensures)
+    (head_refused c.args.line c.args.name.now old mid new c.in-Err-read_head.fault (g.M.Src.Source.size c.in-Ok.src) (g.M.Src.Source.told c.in-Ok.src) (g.M.Src.Source.ends c.in-Ok.src) (g.M.Src.Source.faults c.in-Ok.src) (g.M.Src.Source.faults c.read_head.new.src)
+    (record {
+      first = c.source.ensures.goes_on;
+      last = c.close_source.ensures.goes_on;
+      first_files = c.source.ensures.files;
+      last_files = c.close_source.ensures.files;
+      first_reads = c.in-Ok.ensures.reads_stand (λ never. cc);
+      first_writes = c.source.ensures.write_faults;
+      last_writes = c.close_source.ensures.write_faults;
+      unfailed = c.in-Ok.ensures.unfailed;
+      rose = λ is. e.read (ap Err is);
+      stands = λ other. e.stands (λ same. other (cc));
+      added = c.close_source.ensures.added;
+      told_is = c.in-Ok.ensures.told;
+      ends_is = c.in-Ok.ensures.ends;
+      there = c.in-Ok.ensures.there;
+      sized = c.in-Ok.ensures.size;
+      reads = e.reads;
+      short = e.short;
+    }))

@@ -1,0 +1,34 @@
+use Rattle.std.proofs.Common.{◌≡◌, Some, slice_get, refl, arith}
+use Rattle.std.proofs.lemmas.Option.{slice_get_read}
+use Rattle.play_files.specs.Seen.{file_seen, sink_seen, source_seen}
+use Rattle.play_files.proofs.Fronts.{source_sooner, still_then}
+use Rattle.play_files.proofs.Reading.{file_more, none_more}
+use Rattle.play_files.proofs.sources.open_sources.Goals as goal
+use Rattle.play_files.proofs.sources.open_sources.Goals.{in-None, in-Some+in-Ok}
+
+pub loop-part-preserved : goal.loop-part-preserved
+loop-part-preserved g c =
+    let i = c.loop-part.invariant in
+    let seen = file_seen (source_seen g.M.Src.Source.offset g.M.Src.Source.size g.M.Src.Source.told g.M.Src.Source.ends g.M.Src.Source.faults) (sink_seen g.M.Snk.Sink.told g.M.Snk.Sink.name g.M.Snk.Sink.faults) in
+    let old = g.M.Media.outside c.args.media.now in
+    let parts = c.args.parts.now in
+    let count = c.loop-part.part-index in
+    let there : slice_get parts count ≡ Some c.part-item.result = slice_get_read parts _ count c.part-item.result refl c.loop-part-test.true c.part-item.is in
+    elim c.match-read_name.branch [
+      | in-None w ↦ rw (w.media-is, w.heads-is, w.files-is) (record {
+        heads_room = i.heads_room;
+        files_room = (let x = i.files_room in let y = w.put_last.ensures.capacity in omega arith);
+        heads_few = (let x = i.heads_few in omega arith);
+        files_few = (let x = i.files_few in let y = w.put_last.ensures.len in omega arith);
+        still = i.still;
+        read = rw w.put_last.ensures.items (none_more seen old parts count c.loop-part.heads.items c.loop-part.files.items i.read c.part-item.result there w.in-None.ensures.none);
+      })
+      | in-Some+in-Ok w ↦ rw (w.media-is, w.heads-is, w.files-is) (record {
+        heads_room = (let x = i.heads_room in let y = w.put_last-in-Ok-2.ensures.capacity in omega arith);
+        files_room = (let x = i.files_room in let y = w.put_last-in-Ok.ensures.capacity in omega arith);
+        heads_few = (let x = i.heads_few in let y = w.put_last-in-Ok-2.ensures.len in omega arith);
+        files_few = (let x = i.files_few in let y = w.put_last-in-Ok.ensures.len in omega arith);
+        still = still_then old _ _ i.still w.in-Ok.ensures.still;
+        read = rw (w.put_last-in-Ok.ensures.items, w.put_last-in-Ok-2.ensures.items) (file_more seen old parts count c.loop-part.heads.items c.loop-part.files.items i.read c.part-item.result there w.in-Some.name.now w.in-Ok.head _ _ w.in-Some.ensures.some (source_sooner old (g.M.Media.outside c.loop-part.media) i.still w.in-Some.name.now w.in-Ok.head _ w.in-Ok.ensures.opened) refl);
+      })
+    ]

@@ -1,0 +1,15 @@
+use Rattle.std.proofs.Common.{◌≤◌, length}
+use Rattle.std.specs.Vec.{vec_capacity, vec_len}
+use Rattle.play_files.specs.Opening.{AreRead, IsStill}
+use Rattle.play_files.specs.Seen.{file_seen, sink_seen, source_seen}
+use Rattle.play_files.proofs.sources.open_sources.Given as goal
+
+abbrev pub invariant-loop-part : goal.invariant-loop-part
+invariant-loop-part g l = record {
+  heads_room : length l.parts ≤ vec_capacity l.heads;
+  files_room : length l.parts ≤ vec_capacity l.files;
+  heads_few : vec_len l.heads ≤ l.part-index;
+  files_few : vec_len l.files ≤ l.part-index;
+  still : IsStill (g.M.Media.outside l.fn.media) (g.M.Media.outside l.media);
+  read : AreRead (file_seen (source_seen g.M.Src.Source.offset g.M.Src.Source.size g.M.Src.Source.told g.M.Src.Source.ends g.M.Src.Source.faults) (sink_seen g.M.Snk.Sink.told g.M.Snk.Sink.name g.M.Snk.Sink.faults)) (g.M.Media.outside l.fn.media) l.parts l.part-index l.heads.items l.files.items;
+}

@@ -1,0 +1,14 @@
+//! The files of a play: opened by its plan, by the places of their components, and closed again. The first fault ends the opening,
+//! and is told with its cause.
+#![tactic(auto)]
+
+mod closing;
+mod faults;
+mod laws;
+mod opening;
+mod sinks;
+mod sources;
+
+pub use closing::close_files;
+pub use laws::law_of_names;
+pub use opening::{Opened, open_files};

@@ -1,0 +1,84 @@
+//! Sinks are opened, in the order of the script.
+
+ghost use Rattle.std.specs.Prelude.{◌≡◌, ℕ, ◌<◌, ◌≤◌, length, slice_get, slice_set, IfErr, IfNone, IfOk, IfSome, OnOk, Some, None};
+ghost use Rattle.play_results.specs.Files.{written_by};
+ghost use Rattle.play_files.specs.Opening.{AreSinksFree, HaveSinks, IsSinkMet, IsSinkOf, IsSinkRefused, IsStill};
+ghost use Rattle.play_files.specs.Seen.{file_seen, sink_seen, source_seen};
+
+use crate::faults::sink_fault;
+use audio_parts::PartFile;
+use omx_types::Fault;
+use outside_io::Media;
+use script_lang::{PartForm, PartLine};
+use std::alloc::Global;
+use std::mem::replace;
+
+/// The name of the file that the component writes.
+fn written_name(form: &PartForm) -> Option<&str>
+    ensures some { IfSome result (λ name. written_by form.now ≡ Some name.now) }
+    ensures none { IfNone result (written_by form.now ≡ None) }
+{
+    match form {
+        PartForm::Sink(file) => Some(file.as_str()),
+        _ => None,
+    }
+}
+
+/// Opens the sink of that line.
+fn open_sink<M: Media>(alloc: Global, media: &mut M, name: &str, line: u32) -> Result<M::Snk, Fault>
+    ensures still { OnOk result (IsStill (M.outside media.old) (M.outside media.new)) }
+    ensures opened { IfOk result (λ snk. IsSinkOf (M.outside media.old) name.now (sink_seen M.Snk.told M.Snk.name M.Snk.faults snk)) }
+    ensures refused { IfErr result (IsSinkRefused line name.now (M.outside media.old) (M.outside media.new)) }
+{
+    match media.sink(alloc, name) {
+        Ok(snk) => Ok(snk),
+        Err(refused) => Err(sink_fault(line, refused)),
+    }
+}
+
+/// Puts a file at a place that has none.
+fn put<F>(files: &mut [Option<F>], place: usize, file: F)
+    requires there { place < length files.old }
+    requires free { slice_get files.old place ≡ Some None }
+    ensures { files.new ≡ slice_set files.old place (Some file) }
+{
+    match replace(&mut files[place], Some(file)) {
+        None => {}
+        Some(_) => unreachable!(),
+    }
+}
+
+/// Opens the sinks of all components, for their planned frames. Where one isn't opened, those before it are.
+pub(crate) fn open_sinks<M: Media>(
+    alloc: Global,
+    media: &mut M,
+    parts: &[PartLine],
+    planned: &[u64],
+    files: &mut [Option<PartFile<M::Src, M::Snk>>],
+) -> Result<(), Fault>
+    requires planned { length planned.now ≡ length parts.now }
+    requires many { length files.old ≡ length parts.now }
+    requires free { AreSinksFree parts.now files.old }
+    ensures still { OnOk result (IsStill (M.outside media.old) (M.outside media.new)) }
+    ensures opened { OnOk result (HaveSinks (file_seen (source_seen M.Src.offset M.Src.size M.Src.told M.Src.ends M.Src.faults) (sink_seen M.Snk.told M.Snk.name M.Snk.faults)) (M.outside media.old) parts.now planned.now (length parts.now) files.old files.new) }
+    ensures met { IfErr result (λ fault. (place : ℕ) × IsSinkMet (M.outside media.old) (M.outside media.new) parts.now place fault
+        × HaveSinks (file_seen (source_seen M.Src.offset M.Src.size M.Src.told M.Src.ends M.Src.faults) (sink_seen M.Snk.told M.Snk.name M.Snk.faults)) (M.outside media.old) parts.now planned.now place files.old files.new) }
+{
+    for place in 0..parts.len() {
+        let part = &parts[place];
+        if let Some(name) = written_name(&part.form) {
+            match open_sink(alloc, media, name, part.line) {
+                Ok(snk) => put(
+                    files,
+                    place,
+                    PartFile::To {
+                        snk,
+                        frames: planned[place],
+                    },
+                ),
+                Err(fault) => return Err(fault),
+            }
+        }
+    }
+    Ok(())
+}
