@@ -63,9 +63,9 @@ same_by (kinds.Mixer number) inputs outputs factors a b output same file = mixed
 same_by (kinds.Splitter number) inputs outputs factors a b output same file = same 0 (omega arith)
 same_by kinds.Sink inputs outputs factors a b output same file = same 0 (omega arith)
 
-pub plain_same : (terms : Terms) (a b : Incoming) (output : ℕ) → IsLawful terms → ((input : ℕ) → input < (shape_of terms).inputs → a.input input ≡ b.input input)
+pub plain_same : (terms : Terms) (a b : Incoming) (output : ℕ) → ((input : ℕ) → input < (shape_of terms).inputs → a.input input ≡ b.input input)
     → (is_source terms.kind ≡ true → a.file ≡ b.file) → (shape_of terms).plain a output ≡ (shape_of terms).plain b output
-plain_same terms a b output lawful same file = same_by terms.kind terms.inputs terms.outputs terms.factors a b output same file
+plain_same terms a b output same file = same_by terms.kind terms.inputs terms.outputs terms.factors a b output same file
 
 -- ---- two stretches
 

@@ -17,11 +17,11 @@ ghost use Rattle.flow_model.specs.Content.{IsPart};
 ghost use Rattle.part_streams.specs.Parts.{part_of};
 ghost use Rattle.part_streams.specs.Sunk.{sunk};
 
-/// The plain function of a part of lawful terms goes stretch by stretch, gives as many frames as come in, and looks at nothing
+/// The plain function of a part of lawful terms goes stretch by stretch, and gives as many frames as come in. It looks at nothing
 /// but the part's inputs, and at the file of a source.
 pub fn law_of_plain_parts()
     ensures parts { (terms : Terms) → IsSized terms.kind → IsLawful terms → IsPart (part_of terms) }
-    ensures same { (terms : Terms) (a b : Incoming) (output : ℕ) → IsLawful terms
+    ensures same { (terms : Terms) (a b : Incoming) (output : ℕ)
         → ((input : ℕ) → input < (shape_of terms).inputs → a.input input ≡ b.input input) → (is_source terms.kind ≡ true → a.file ≡ b.file)
         → (shape_of terms).plain a output ≡ (shape_of terms).plain b output }
 {}
