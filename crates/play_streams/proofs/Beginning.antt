@@ -1,0 +1,81 @@
+-- The streams where nothing was done yet, and as the conductor begins the next state.
+use Rattle.std.proofs.Common.{◌≡◌, inr, ℕ, ◌*◌, ◌≤◌, nat_eq, List, [], length, refl, ◌∙◌, ap, eqb-true, arith}
+use Rattle.std.proofs.lemmas.Bool.{eqb-false}
+use Rattle.std.proofs.Math.Nat.{zero-mul}
+use Rattle.il_machine.specs.World.{World, number_of, stream_of}
+use Rattle.machine_laws.proofs.Finding.{either}
+use Rattle.machine_laws.proofs.Keys.{at_there}
+use Rattle.flow_model.specs.Network.{Filled, frames_in, IsNetwork}
+use Rattle.flow_model.specs.Account.{IsOpening, IsSound}
+use Rattle.flow_model.specs.Content.{AreStreams, Contents, IsStream, Streams}
+use Rattle.flow_model.specs.Progress.{AllEnded}
+use Rattle.flow_model.proofs.Measure.{complete}
+use Rattle.flow_model.proofs.Plain.{ended_plain, opening_streams}
+use Rattle.play_model.specs.Play.{Play}
+use Rattle.play_model.specs.Acts.{Act, CanAct, acted}
+use Rattle.play_model.proofs.Reaching.{ended_from}
+use Rattle.play_worlds.specs.Cast.{Cast, components_of, taker_of}
+use Rattle.play_worlds.specs.Worlds.{IsPlayWorld}
+use Rattle.play_streams.specs.Flowing.{flowing_in}
+use Rattle.play_streams.specs.Contents.{HasContents, network_of}
+use Rattle.play_streams.specs.Streams.{EachSink, HasStreams}
+use Rattle.play_streams.proofs.Bounded.{network_bounded, sound_bounded}
+use Rattle.play_streams.proofs.Keeping.{no_bytes}
+use Rattle.play_streams.proofs.Links.{flow_long}
+
+module _ (x : Cast) (k : Contents) (p : Play) (w : World) (W : IsPlayWorld x p w) where
+  pub net_is : IsNetwork (network_of x)
+  net_is = network_bounded (x.layout).network ((W.cast).layout).network
+
+  pub sound_is : p.phase ≤ 2 → IsSound (network_of x) p.flow
+  sound_is e = sound_bounded (x.layout).network p.flow ((W.reached).sound e)
+
+  -- ---- nothing was done yet
+
+  abbrev none : Streams
+  none = record { taken = λ l. []; flowing = λ l. [] }
+
+  opening_flow : IsOpening (x.layout).network p.flow → HasContents x k w → AreStreams (network_of x) k p.flow (record { taken = λ l. []; flowing = flowing_in x w })
+  opening_flow O C l d =
+      let S : IsStream (network_of x) k p.flow none l = opening_streams (network_of x) k p.flow none C.lawful (record { done = O.done; going = O.going; empty = O.empty; taken = O.taken; open_ = O.open_ }) (record { taken = λ j. refl; flowing = λ j. refl }) l d in
+      let long : length (flowing_in x w l) ≡ 0 = flow_long x p w W l d ∙ ap (λ (h : List Filled). frames_in h * x.unit l) (O.empty l) ∙ zero-mul (x.unit l) in
+      let nil = no_bytes (flowing_in x w l) long in
+      record { given = nil ∙ S.given; taken = S.taken; flowing = ap length nil ∙ S.flowing }
+
+  pub opening_has : p.phase ≤ 1 → HasContents x k w
+      → EachSink x w (λ l a s. s.written ≡ [])
+      → HasStreams x k p w
+  opening_has e C none_written =
+      let O = (W.reached).opening e in
+      record {
+        contents = C;
+        taken = λ l. [];
+        flowing = λ z. opening_flow O C;
+        whole = λ z. absurd (omega arith);
+        done = λ z c l. absurd (omega arith);
+        sinks = λ l a s d sink f g.
+            let c : ℕ = taker_of x l in
+            let A = W.actors c a (((W.cast).layout).network.inside l d) f in
+            let done = at_there (stream_of (number_of a) w) (λ z. z.frames ≡ (p.flow).done c) s g A.done in
+            inr (none_written l a s d sink f g, done ∙ O.done c, O.going c);
+      }
+
+  -- ---- the next state is begun
+
+  pub begun_streams : CanAct x.layout p Act.Begin → HasStreams x k p w → HasStreams x k (acted x.layout Act.Begin p) w
+  begun_streams C H =
+      let all : p.phase ≡ 2 → AllEnded (network_of x) p.flow = λ two c d. ended_from x.layout p W.reached two (C.ends two) (components_of x) c (omega arith) d in
+      record {
+        contents = H.contents;
+        taken = H.taken;
+        flowing = λ e. H.flowing (omega arith);
+        whole = λ e stream P l b. either (nat_eq p.phase 2)
+            (λ t.
+            let two : p.phase ≡ 2 = eqb-true _ _ t in
+            ended_plain (network_of x) k p.flow (record { taken = H.taken; flowing = flowing_in x w }) stream net_is (H.contents).lawful (sound_is (omega arith)) (H.flowing (omega arith)) (all two) P l b)
+            (λ t. let n = eqb-false _ _ t in H.whole (omega arith) stream P l b);
+        done = λ e c b. either (nat_eq p.phase 2)
+            (λ t. let two : p.phase ≡ 2 = eqb-true _ _ t in (complete (network_of x) p.flow net_is (sound_is (omega arith)) (all two)).done c b)
+            (λ t. let n = eqb-false _ _ t in H.done (omega arith) c b);
+        sinks = H.sinks;
+      }

@@ -1,0 +1,4 @@
+pub mod Flowing
+pub mod Contents
+pub mod Streams
+pub mod Fronts

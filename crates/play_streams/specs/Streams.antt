@@ -1,0 +1,46 @@
+-- The streams of a play's world: what each input has taken, what is on its way to it, and what the files of the sinks have taken.
+use Rattle.std.specs.Prelude.{◌≡◌, ℕ, ◌<◌, ◌≤◌, ◌⊎◌, Bool, true, false, List, [], slice_get, Option, Some}
+use Rattle.omx_types.specs.declared.format.Format.{Format}
+use Rattle.part_api.specs.Terms.{Terms}
+use Rattle.part_api.specs.declared.attached.Attached.{Attached}
+use Rattle.part_api.specs.declared.attached.Attached.TheVariants.{To}
+use Rattle.il_machine.specs.Parts.{terms_of}
+use Rattle.il_machine.specs.Stepping.{format_at}
+use Rattle.il_machine.specs.World.{Component, Stream, World, number_of, stream_of}
+use Rattle.flow_model.specs.Content.{Contents, AreStreams, ArePlain}
+use Rattle.play_model.specs.Play.{Play}
+use Rattle.play_worlds.specs.Cast.{Cast, components_of, links_of, script_place, taker_of}
+use Rattle.part_streams.specs.Sunk.{sunk}
+use Rattle.play_streams.specs.Flowing.{flowing_in}
+use Rattle.play_streams.specs.Contents.{HasContents, network_of}
+
+-- what a sink's file has taken of so many frames; another component's takes nothing
+abbrev pub sunk_by : Option Attached → Format → ℕ → List ℕ → List ℕ
+sunk_by (Some (To planned)) format frames bytes = sunk format planned frames bytes
+sunk_by _ format frames bytes = []
+
+abbrev pub sunk_of : Terms → ℕ → List ℕ → List ℕ
+sunk_of terms frames bytes = sunk_by terms.file (format_at terms 0) frames bytes
+
+-- The file of a sink has taken what one step of all that it has taken writes; before its first step, nothing.
+abbrev pub HasSunk : Terms → Stream → Bool → List ℕ → Type 0
+HasSunk terms s ended bytes = (s.written ≡ sunk_of terms s.frames bytes) ⊎ ((s.written ≡ []) × (s.frames ≡ 0) × (ended ≡ false))
+
+-- Of each link into a sink, by the sink's component and what has gone through it.
+abbrev pub EachSink : Cast → World → (ℕ → Component → Stream → Type 0) → Type 0
+EachSink x w P = (l : ℕ) (a : Component) (s : Stream) → l < links_of x → (x.layout).is_sink (taker_of x l) ≡ true
+    → slice_get w.components (script_place x (taker_of x l)) ≡ Some a → stream_of (number_of a) w ≡ Some s → P l a s
+
+-- each input has taken the whole stream of its link, which the plain functions give
+abbrev pub HasAll : Cast → Contents → (ℕ → List ℕ) → Type 0
+HasAll x k taken = (stream : ℕ → List ℕ) → ArePlain (network_of x) k stream → (l : ℕ) → l < links_of x → taken l ≡ stream l
+
+pub record HasStreams (x : Cast) (k : Contents) (p : Play) (w : World) : Type 0 where
+  pub contents : HasContents x k w
+  -- what the input of each link has taken
+  pub taken : ℕ → List ℕ
+  -- until the second Idle is begun the streams are the model's; from then on nothing flows
+  pub flowing : p.phase ≤ 2 → AreStreams (network_of x) k p.flow (record { taken = taken; flowing = flowing_in x w })
+  pub whole : 3 ≤ p.phase → HasAll x k taken
+  pub done : 3 ≤ p.phase → (c : ℕ) → c < components_of x → (p.flow).done c ≡ ((x.layout).network).frames c
+  pub sinks : EachSink x w (λ l a s. HasSunk (terms_of a) s ((p.flow).ended (taker_of x l)) (taken l))
