@@ -34,7 +34,6 @@ use Rattle.il_machine.specs.World.{Component, World, with_component}
 use Rattle.machine_laws.proofs.Claiming.{claim_passes}
 use Rattle.machine_laws.proofs.Finding.{either}
 use Rattle.machine_laws.proofs.Keys.{none_or_some}
-use Rattle.flow_model.specs.Content.{Contents}
 use Rattle.flow_model.specs.Network.{LinkState}
 use Rattle.play_model.specs.Play.{IsLeaving, IsReturning, Play, other_component, supplier}
 use Rattle.play_model.specs.Changes.{IsDisabling, port_at}
@@ -54,6 +53,7 @@ use Rattle.play_worlds.proofs.Releasing.{release_can}
 use Rattle.play_worlds.proofs.Returns.{back_acts}
 use Rattle.play_worlds.proofs.Sends.{actor_there}
 use Rattle.play_worlds.proofs.Stages.{sent_is}
+use Rattle.play_streams.specs.Contents.{PlayContents}
 use Rattle.play_streams.specs.Streams.{HasStreams}
 use Rattle.play_streams.proofs.Keeping.{Keeps, KeepsFlow, seat, streams_kept}
 use Rattle.play_streams.proofs.Closing.{IsQuiet, IsQuietAt, closes_keep, closes_quiet, flow_none, flow_twice, keeps_none, keeps_twice, one_flow, one_keeps, one_quiet, quiet_world}
@@ -62,7 +62,7 @@ use Rattle.play_streams.proofs.Handing.{back_flow, on_flow}
 
 -- ---- an act with its close-out
 
-module _ (x : Cast) (k : Contents) (p q : Play) (w v : World) (W : IsPlayWorld x p w) (H : HasStreams x k p w) (V : IsPlayWorld x q v) (same : q.phase ≡ p.phase) where
+module _ (x : Cast) (k : PlayContents) (p q : Play) (w v : World) (W : IsPlayWorld x p w) (H : HasStreams x k p w) (V : IsPlayWorld x q v) (same : q.phase ≡ p.phase) where
   -- the world stays
   pub world_stays : v ≡ w → HasStreams x k q v
   world_stays e = streams_kept x k p q w v W V same (subst (λ (u : World). Keeps w u) (sym e) (keeps_none w)) (λ t. subst (λ (u : World). KeepsFlow x w u) (sym e) (flow_none x w)) H
@@ -130,7 +130,7 @@ quiet_begun a d state B e Q = elim B.pending [
   }
 ]
 
-module _ (x : Cast) (k : Contents) (p q : Play) (w v : World) (W : IsPlayWorld x p w) (H : HasStreams x k p w) (V : IsPlayWorld x q v) (same : q.phase ≡ p.phase) (c : ℕ) (h : Handle) (b : c < components_of x) (N : Names x w c h) where
+module _ (x : Cast) (k : PlayContents) (p q : Play) (w v : World) (W : IsPlayWorld x p w) (H : HasStreams x k p w) (V : IsPlayWorld x q v) (same : q.phase ≡ p.phase) (c : ℕ) (h : Handle) (b : c < components_of x) (N : Names x w c h) where
   abbrev i : ℕ
   i = script_place x c
 
@@ -206,7 +206,7 @@ link_stays i a q link w e = rw e (by_lists ((seen w.headers).done q.key) ((seen 
     by_lists [] (n ∷ ns) = (refl, refl)
     by_lists (n ∷ ns) todo = (refl, refl)
 
-module _ (x : Cast) (k : Contents) (p q : Play) (w v : World) (W : IsPlayWorld x p w) (H : HasStreams x k p w) (V : IsPlayWorld x q v) (same : q.phase ≡ p.phase) (l : ℕ) (h : Handle) (b : l < links_of x) where
+module _ (x : Cast) (k : PlayContents) (p q : Play) (w v : World) (W : IsPlayWorld x p w) (H : HasStreams x k p w) (V : IsPlayWorld x q v) (same : q.phase ≡ p.phase) (l : ℕ) (h : Handle) (b : l < links_of x) where
   E : AreEnds x p w l
   E = ends_there x p w l W b
 

@@ -7,7 +7,7 @@ use Rattle.machine_laws.proofs.Finding.{either}
 use Rattle.machine_laws.proofs.Keys.{at_there}
 use Rattle.flow_model.specs.Network.{Filled, frames_in, IsNetwork}
 use Rattle.flow_model.specs.Account.{IsOpening, IsSound}
-use Rattle.flow_model.specs.Content.{AreStreams, Contents, IsStream, Streams}
+use Rattle.flow_model.specs.Content.{AreStreams, IsStream, Streams}
 use Rattle.flow_model.specs.Progress.{AllEnded}
 use Rattle.flow_model.proofs.Measure.{complete}
 use Rattle.flow_model.proofs.Plain.{ended_plain, opening_streams}
@@ -17,13 +17,13 @@ use Rattle.play_model.proofs.Reaching.{ended_from}
 use Rattle.play_worlds.specs.Cast.{Cast, components_of, taker_of}
 use Rattle.play_worlds.specs.Worlds.{IsPlayWorld}
 use Rattle.play_streams.specs.Flowing.{flowing_in}
-use Rattle.play_streams.specs.Contents.{HasContents, network_of}
+use Rattle.play_streams.specs.Contents.{PlayContents, HasContents, network_of}
 use Rattle.play_streams.specs.Streams.{EachSink, HasStreams}
 use Rattle.play_streams.proofs.Bounded.{network_bounded, sound_bounded}
 use Rattle.play_streams.proofs.Keeping.{no_bytes}
 use Rattle.play_streams.proofs.Links.{flow_long}
 
-module _ (x : Cast) (k : Contents) (p : Play) (w : World) (W : IsPlayWorld x p w) where
+module _ (x : Cast) (k : PlayContents) (p : Play) (w : World) (W : IsPlayWorld x p w) where
   pub net_is : IsNetwork (network_of x)
   net_is = network_bounded (x.layout).network ((W.cast).layout).network
 
@@ -35,9 +35,9 @@ module _ (x : Cast) (k : Contents) (p : Play) (w : World) (W : IsPlayWorld x p w
   abbrev none : Streams
   none = record { taken = λ l. []; flowing = λ l. [] }
 
-  opening_flow : IsOpening (x.layout).network p.flow → HasContents x k w → AreStreams (network_of x) k p.flow (record { taken = λ l. []; flowing = flowing_in x w })
+  opening_flow : IsOpening (x.layout).network p.flow → HasContents x k w → AreStreams (network_of x) k.model p.flow (record { taken = λ l. []; flowing = flowing_in x w })
   opening_flow O C l d =
-      let S : IsStream (network_of x) k p.flow none l = opening_streams (network_of x) k p.flow none C.lawful (record { done = O.done; going = O.going; empty = O.empty; taken = O.taken; open_ = O.open_ }) (record { taken = λ j. refl; flowing = λ j. refl }) l d in
+      let S : IsStream (network_of x) k.model p.flow none l = opening_streams (network_of x) k.model p.flow none C.lawful (record { done = O.done; going = O.going; empty = O.empty; taken = O.taken; open_ = O.open_ }) (record { taken = λ j. refl; flowing = λ j. refl }) l d in
       let long : length (flowing_in x w l) ≡ 0 = flow_long x p w W l d ∙ ap (λ (h : List Filled). frames_in h * x.unit l) (O.empty l) ∙ zero-mul (x.unit l) in
       let nil = no_bytes (flowing_in x w l) long in
       record { given = nil ∙ S.given; taken = S.taken; flowing = ap length nil ∙ S.flowing }
@@ -72,7 +72,7 @@ module _ (x : Cast) (k : Contents) (p : Play) (w : World) (W : IsPlayWorld x p w
         whole = λ e stream P l b. either (nat_eq p.phase 2)
             (λ t.
             let two : p.phase ≡ 2 = eqb-true _ _ t in
-            ended_plain (network_of x) k p.flow (record { taken = H.taken; flowing = flowing_in x w }) stream net_is (H.contents).lawful (sound_is (omega arith)) (H.flowing (omega arith)) (all two) P l b)
+            ended_plain (network_of x) k.model p.flow (record { taken = H.taken; flowing = flowing_in x w }) stream net_is (H.contents).lawful (sound_is (omega arith)) (H.flowing (omega arith)) (all two) P l b)
             (λ t. let n = eqb-false _ _ t in H.whole (omega arith) stream P l b);
         done = λ e c b. either (nat_eq p.phase 2)
             (λ t. let two : p.phase ≡ 2 = eqb-true _ _ t in (complete (network_of x) p.flow net_is (sound_is (omega arith)) (all two)).done c b)

@@ -24,7 +24,7 @@ use Rattle.machine_laws.proofs.Parts.{parts_of}
 use Rattle.machine_laws.proofs.Tunnels.{definition_parts}
 use Rattle.flow_model.specs.Network.{IsInput, frames_in, queue}
 use Rattle.flow_model.specs.Account.{IsSound}
-use Rattle.flow_model.specs.Content.{ArePlain, Contents, IsFrontOf as IsModelFront, IsStream, Streams}
+use Rattle.flow_model.specs.Content.{ArePlain, IsFrontOf as IsModelFront, IsStream, Streams}
 use Rattle.flow_model.proofs.Fronts.{fronts}
 use Rattle.flow_model.proofs.Measure.{within}
 use Rattle.play_model.specs.Play.{Play}
@@ -34,7 +34,7 @@ use Rattle.play_worlds.proofs.Wanted.{end_place, has_port_at}
 use Rattle.part_streams.specs.Sunk.{sunk}
 use Rattle.part_streams.proofs.Sinks.{sunk_joined}
 use Rattle.play_streams.specs.Flowing.{flowing_in}
-use Rattle.play_streams.specs.Contents.{network_of}
+use Rattle.play_streams.specs.Contents.{PlayContents, network_of}
 use Rattle.play_streams.specs.Streams.{EachSink, HasStreams, sunk_by, sunk_of}
 use Rattle.play_streams.specs.Fronts.{AreFronts, AreWritten, whole_text}
 use Rattle.play_streams.proofs.Beginning.{net_is, sound_is}
@@ -130,19 +130,19 @@ module _ (x : Cast) (p : Play) (w : World) (W : IsPlayWorld x p w) (l : ℕ) (d 
         let r = (((W.reached).sound early).components c inside).longest (((W.cast).layout).network.unfed l d) in
         ap (λ (j : ℕ). ((p.flow).link j).taken) (sym (only_input r.0 r.1)) ∙ r.2
 
-  module _ (k : Contents) (H : HasStreams x k p w) (stream : ℕ → List ℕ) (Q : ArePlain (network_of x) k stream) (sink : (x.layout).is_sink c ≡ true) (early : p.phase ≤ 2) where
+  module _ (k : PlayContents) (H : HasStreams x k p w) (stream : ℕ → List ℕ) (Q : ArePlain (network_of x) k.model stream) (sink : (x.layout).is_sink c ≡ true) (early : p.phase ≤ 2) where
     abbrev st : Streams
     st = record { taken = H.taken; flowing = flowing_in x w }
 
-    pub F : IsModelFront (H.taken l ++ flowing_in x w l) (stream l) ((((x.layout).network).frames (giver_of x l) - (p.flow).done (giver_of x l)) * k.unit l)
-    F = fronts (network_of x) k p.flow st stream (net_is x k p w W) (H.contents).lawful (sound_is x k p w W early) (H.flowing early) Q l d
+    pub F : IsModelFront (H.taken l ++ flowing_in x w l) (stream l) ((((x.layout).network).frames (giver_of x l) - (p.flow).done (giver_of x l)) * (k.model).unit l)
+    F = fronts (network_of x) k.model p.flow st stream (net_is x k p w W) (H.contents).lawful (sound_is x k p w W early) (H.flowing early) Q l d
 
     pub taken_begins : H.taken l ++ (flowing_in x w l ++ F.rest) ≡ stream l
     taken_begins = sym (append_assoc (H.taken l) (flowing_in x w l) F.rest) ∙ F.is
 
     pub taken_long : length (H.taken l) ≡ (p.flow).done c * frame_bytes_of (format_at (terms_of a) 0)
     taken_long =
-        let S : IsStream (network_of x) k p.flow st l = H.flowing early l d in
+        let S : IsStream (network_of x) k.model p.flow st l = H.flowing early l d in
         let u = (H.contents).units l d in
         let b = sink_unit sink in
         let t = sink_taken sink early in
@@ -150,7 +150,7 @@ module _ (x : Cast) (p : Play) (w : World) (W : IsPlayWorld x p w) (l : ℕ) (d 
 
     pub stream_long : length (stream l) ≡ ((x.layout).network).frames c * frame_bytes_of (format_at (terms_of a) 0)
     stream_long =
-        let S : IsStream (network_of x) k p.flow st l = H.flowing early l d in
+        let S : IsStream (network_of x) k.model p.flow st l = H.flowing early l d in
         let N = (x.layout).network in
         let sound : IsSound N p.flow = (W.reached).sound early in
         let u = (H.contents).units l d in
@@ -162,16 +162,16 @@ module _ (x : Cast) (p : Play) (w : World) (W : IsPlayWorld x p w) (l : ℕ) (d 
         let one = length-append (H.taken l ++ flowing_in x w l) F.rest in
         let two = length-append (H.taken l) (flowing_in x w l) in
         let all : (y.taken + frames_in (queue y)) + (N.frames g - (p.flow).done g) ≡ N.frames g = omega arith in
-        let sum : length (stream l) ≡ ((y.taken + frames_in (queue y)) + (N.frames g - (p.flow).done g)) * k.unit l =
-        ap length (sym F.is) ∙ (one ∙ ((λ i. (two ∙ ((λ j. S.taken j + S.flowing j) ∙ sym (add-mul y.taken (frames_in (queue y)) (k.unit l)))) i + F.size i) ∙ sym (add-mul (y.taken + frames_in (queue y)) (N.frames g - (p.flow).done g) (k.unit l)))) in
+        let sum : length (stream l) ≡ ((y.taken + frames_in (queue y)) + (N.frames g - (p.flow).done g)) * (k.model).unit l =
+        ap length (sym F.is) ∙ (one ∙ ((λ i. (two ∙ ((λ j. S.taken j + S.flowing j) ∙ sym (add-mul y.taken (frames_in (queue y)) ((k.model).unit l)))) i + F.size i) ∙ sym (add-mul (y.taken + frames_in (queue y)) (N.frames g - (p.flow).done g) ((k.model).unit l)))) in
         let b = sink_unit sink in
         let m = sink_frames sink in
-        sum ∙ (ap (λ (j : ℕ). j * k.unit l) all ∙ (λ i. m i * (u ∙ sym b) i))
+        sum ∙ (ap (λ (j : ℕ). j * (k.model).unit l) all ∙ (λ i. m i * (u ∙ sym b) i))
 
 -- ---- all sinks
 
-module _ (x : Cast) (k : Contents) (p : Play) (w : World) (W : IsPlayWorld x p w) (H : HasStreams x k p w) (stream : ℕ → List ℕ) (Q : ArePlain (network_of x) k stream) where
-  pub written_whole : 3 ≤ p.phase → AreWritten x w stream
+module _ (x : Cast) (k : PlayContents) (p : Play) (w : World) (W : IsPlayWorld x p w) (H : HasStreams x k p w) (stream : ℕ → List ℕ) (Q : ArePlain (network_of x) k.model stream) where
+  pub written_whole : 3 ≤ p.phase → AreWritten x k w stream
   written_whole late l a s d sink e g =
       let c : ℕ = taker_of x l in
       let I = (((W.cast).layout).network).inside l d in
@@ -180,11 +180,11 @@ module _ (x : Cast) (k : Contents) (p : Play) (w : World) (W : IsPlayWorld x p w
       let all = done ∙ H.done late c I in
       let whole = H.whole late stream Q l d in
       elim (H.sinks l a s d sink e g) [
-        | inl h ↦ h ∙ (λ i. sunk_of (terms_of a) (all i) (whole i))
+        | inl h ↦ h ∙ (λ i. sunk_of ((H.contents).terms c a I e i) (all i) (whole i))
         | inr h ↦ let o = (W.reached).ended late c I in let r = h.2 in absurd cc
       ]
 
-  pub written_begins : EachSink x w (λ l a s. Begins s.written (whole_text x l a (stream l)))
+  pub written_begins : EachSink x w (λ l a s. Begins s.written (whole_text x k l (stream l)))
   written_begins l a s d sink e g = either (nat_le p.phase 2)
       (λ t.
       let early = leb-true p.phase 2 t in
@@ -199,10 +199,10 @@ module _ (x : Cast) (k : Contents) (p : Play) (w : World) (W : IsPlayWorld x p w
             let B = sunk_begins a.file (format_at (terms_of a) 0) s.frames (((x.layout).network).frames c) (H.taken l) _ (omega arith)
             (taken_long x p w W l d a e k H stream Q sink early ∙ ap (λ (j : ℕ). j * frame_bytes_of (format_at (terms_of a) 0)) (sym done))
             (ap length is ∙ stream_long x p w W l d a e k H stream Q sink early) in
-            (B.0, ap (λ (z : List ℕ). z ++ B.0) h ∙ (B.1 ∙ ap (sunk_of (terms_of a) (((x.layout).network).frames c)) is))
-        | inr h ↦ (whole_text x l a (stream l), ap (λ (z : List ℕ). z ++ whole_text x l a (stream l)) h.0)
+            (B.0, ap (λ (z : List ℕ). z ++ B.0) h ∙ (B.1 ∙ (λ i. sunk_of ((H.contents).terms c a I e i) (((x.layout).network).frames c) (is i))))
+        | inr h ↦ (whole_text x k l (stream l), ap (λ (z : List ℕ). z ++ whole_text x k l (stream l)) h.0)
       ])
-      (λ t. let late = leb-false p.phase 2 t in begins_all s.written (whole_text x l a (stream l)) (written_whole (omega arith) l a s d sink e g))
+      (λ t. let late = leb-false p.phase 2 t in begins_all s.written (whole_text x k l (stream l)) (written_whole (omega arith) l a s d sink e g))
 
-  pub written_fronts : AreFronts x w stream
-  written_fronts l a s d sink e g = front_of s.written (whole_text x l a (stream l)) (written_begins l a s d sink e g)
+  pub written_fronts : AreFronts x k w stream
+  written_fronts l a s d sink e g = front_of s.written (whole_text x k l (stream l)) (written_begins l a s d sink e g)

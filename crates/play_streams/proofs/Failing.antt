@@ -12,7 +12,7 @@ use Rattle.il_machine.specs.Stepping.{WorkDone, format_at, step_frames, text_of,
 use Rattle.il_machine.specs.World.{Component, Stream, Work, World, is_stream_of, number_of, stream_of}
 use Rattle.machine_laws.proofs.Every.{at_set}
 use Rattle.flow_model.specs.Network.{IsInput}
-use Rattle.flow_model.specs.Content.{ArePlain, Contents, frames_taken}
+use Rattle.flow_model.specs.Content.{ArePlain, frames_taken}
 use Rattle.flow_model.proofs.Measure.{within}
 use Rattle.play_model.specs.Play.{Play}
 use Rattle.play_model.specs.Acts.{Act, acted}
@@ -23,7 +23,7 @@ use Rattle.play_worlds.specs.Worlds.{IsActor, IsPlayWorld}
 use Rattle.play_worlds.proofs.Numbers.{step_acts}
 use Rattle.play_worlds.proofs.Told.{stream_gone, stream_else}
 use Rattle.play_streams.specs.Flowing.{flowing_in}
-use Rattle.play_streams.specs.Contents.{network_of}
+use Rattle.play_streams.specs.Contents.{PlayContents, network_of}
 use Rattle.play_streams.specs.Fronts.{AreFronts, whole_text}
 use Rattle.play_streams.specs.Streams.{EachSink, HasStreams, HasSunk, sunk_of}
 use Rattle.play_streams.proofs.Closing.{closes_keep}
@@ -41,7 +41,7 @@ goes_on written took text all T B =
     let whole : took ++ rest ≡ text = ap (λ (z : List ℕ). z ++ rest) T.2 ∙ take-append-drop T.0 text in
     (rest ++ B.0, append_assoc written took (rest ++ B.0) ∙ (ap (λ (z : List ℕ). written ++ z) (sym (append_assoc took rest B.0) ∙ ap (λ (z : List ℕ). z ++ B.0) whole) ∙ (sym (append_assoc written text B.0) ∙ B.1)))
 
-module _ (x : Cast) (k : Contents) (p : Play) (w : World) (W : IsPlayWorld x p w) (H : HasStreams x k p w) (stream : ℕ → List ℕ) (Q : ArePlain (network_of x) k stream) (c : ℕ) (a : Component) (work : Work) (b : c < components_of x)
+module _ (x : Cast) (k : PlayContents) (p : Play) (w : World) (W : IsPlayWorld x p w) (H : HasStreams x k p w) (stream : ℕ → List ℕ) (Q : ArePlain (network_of x) k.model stream) (c : ℕ) (a : Component) (work : Work) (b : c < components_of x)
     (e : slice_get w.components (script_place x c) ≡ Some a) (f : a.work ≡ Some work) (s : Stream) (g : stream_of (number_of a) w ≡ Some s) where
   abbrev t : Terms
   t = terms_in a work
@@ -111,37 +111,35 @@ module _ (x : Cast) (k : Contents) (p : Play) (w : World) (W : IsPlayWorld x p w
     kept : Keeps u v
     kept = closes_keep u v C
 
-    fails_begin : EachSink x v (λ l y z. Begins z.written (whole_text x l y (stream l)))
+    fails_begin : EachSink x v (λ l y z. Begins z.written (whole_text x k l (stream l)))
     fails_begin l y z d sink h j =
         let r : ℕ = taker_of x l in
         let inside = (((W.cast).layout).network).inside l d in
         let m = mapped_there seat (slice_get v.components (script_place x r)) (slice_get u.components (script_place x r)) y (kept.seats (script_place x r)) h in
-        let terms : terms_of y ≡ terms_of m.0 = ap (λ (q : Terms × ℕ). q.0) m.2 in
         let number : number_of y ≡ number_of m.0 = ap (λ (q : Terms × ℕ). q.1) m.2 in
         let streams = kept.streams in
         let was : stream_of (number_of m.0) u ≡ Some z = sym (λ i. find (is_stream_of (number i)) (streams i)) ∙ j in
-        let there : Begins z.written (whole_text x l m.0 (stream l)) = elim (at_set w.components (script_place x c) (script_place x r) (stepped_back a s its) m.0 m.1) [
+        elim (at_set w.components (script_place x c) (script_place x r) (stepped_back a s its) m.0 m.1) [
           | inl q ↦
               let same : r ≡ c = (W.cast).apart r c inside b q.0 in
               let own : stream_of (number_of m.0) u ≡ Some (gone_through its s) = ap (λ (i : Component). stream_of (number_of i) u) q.1 ∙ stream_gone w u (number_of a) (gone_through its) s (λ i. refl) refl g in
               let is : gone_through its s ≡ z = let o : Some (gone_through its s) ≡ Some z = sym own ∙ was in cc in
               let B = goes_on s.written its.took (text_of t s n zs) _ front (step_begins l d same (subst (λ (i : ℕ). (x.layout).is_sink i ≡ true) same sink)) in
-              let set : t ≡ terms_of m.0 = terms_is x p w c a W e b A work f s g ∙ ap terms_of (sym q.1) in
-              let all : sunk_of t (((x.layout).network).frames c) (stream l) ≡ whole_text x l m.0 (stream l) = λ i. sunk_of (set i) (((x.layout).network).frames (sym same i)) (stream l) in
-              subst (λ (i : Stream). Begins i.written (whole_text x l m.0 (stream l))) is (B.0, B.1 ∙ all)
+              let set : t ≡ k.terms r = terms_is x p w c a W e b A work f s g ∙ ((H.contents).terms c a b e ∙ ap k.terms (sym same)) in
+              let all : sunk_of t (((x.layout).network).frames c) (stream l) ≡ whole_text x k l (stream l) = λ i. sunk_of (set i) (((x.layout).network).frames (sym same i)) (stream l) in
+              subst (λ (i : Stream). Begins i.written (whole_text x k l (stream l))) is (B.0, B.1 ∙ all)
           | inr q ↦
               let B = W.actors r m.0 inside q.1 in
               let away : number_of m.0 ≢ number_of a = λ o. q.0 (sym B.number ∙ (o ∙ A.number)) in
               let before : stream_of (number_of m.0) w ≡ Some z = sym (stream_else w u (number_of a) (number_of m.0) (gone_through its) (λ i. refl) refl away) ∙ was in
               written_begins x k p w W H stream Q l m.0 z d sink q.1 before
-        ] in
-        subst (λ (i : Terms). Begins z.written (sunk_of i (((x.layout).network).frames r) (stream l))) (sym terms) there
+        ]
 
 -- ---- the call
 
-pub failed_fronts : (x : Cast) (k : Contents) (p : Play) (w v : World) (c : ℕ) (a : Component) (work : Work) (its : WorkDone) (fault : PartFault) (stream : ℕ → List ℕ) → IsPlayWorld x p w → HasStreams x k p w → ArePlain (network_of x) k stream → c < components_of x
-    → slice_get w.components (script_place x c) ≡ Some a → a.work ≡ Some work → its.component ≡ script_place x c → IsDoneOf w a work its → its.fault ≡ Some fault → Finish w its v → AreFronts x v stream
+pub failed_fronts : (x : Cast) (k : PlayContents) (p : Play) (w v : World) (c : ℕ) (a : Component) (work : Work) (its : WorkDone) (fault : PartFault) (stream : ℕ → List ℕ) → IsPlayWorld x p w → HasStreams x k p w → ArePlain (network_of x) k.model stream → c < components_of x
+    → slice_get w.components (script_place x c) ≡ Some a → a.work ≡ Some work → its.component ≡ script_place x c → IsDoneOf w a work its → its.fault ≡ Some fault → Finish w its v → AreFronts x k v stream
 failed_fronts x k p w v c a work its fault stream W H Q b e f h D o G = λ l y z d sink i j.
     let B : IsBack x w v c a work its = comes_back x p w v c a work its W b e f h D G in
     let S : IsStepBy (Some fault) (terms_in a work) B.stream (carried w.headers work.headers) its = subst (λ (q : Option PartFault). IsStepBy q (terms_in a work) B.stream (carried w.headers work.headers) its) o B.step in
-    front_of z.written (whole_text x l y (stream l)) (fails_begin x k p w W H stream Q c a work b e f B.stream B.found its S.3 v B.closes l y z d sink i j)
+    front_of z.written (whole_text x k l (stream l)) (fails_begin x k p w W H stream Q c a work b e f B.stream B.found its S.3 v B.closes l y z d sink i j)

@@ -9,14 +9,13 @@ use Rattle.il_machine.specs.World.{Component, PartState, Stream, World, is_strea
 use Rattle.machine_laws.proofs.Finding.{either}
 use Rattle.machine_laws.proofs.Keys.{at_there, there_is}
 use Rattle.flow_model.specs.Network.{Filled, frames_in, queue}
-use Rattle.flow_model.specs.Content.{Contents, Incoming, Streams, AreStreams, IsStream, came}
+use Rattle.flow_model.specs.Content.{Incoming, Streams, AreStreams, IsStream, came}
 use Rattle.play_model.specs.Play.{Play}
 use Rattle.play_worlds.specs.Cast.{Cast, components_of, links_of, script_place, giver_of, taker_of}
 use Rattle.play_worlds.specs.Worlds.{IsBeforeRest, IsPlayWorld}
 use Rattle.play_worlds.proofs.Sends.{actor_there}
-use Rattle.part_streams.specs.Parts.{part_of}
 use Rattle.play_streams.specs.Flowing.{flowing_in}
-use Rattle.play_streams.specs.Contents.{HasContents, Tells, network_of}
+use Rattle.play_streams.specs.Contents.{PlayContents, HasContents, Tells, network_of}
 use Rattle.play_streams.specs.Streams.{HasStreams, HasSunk}
 use Rattle.play_streams.proofs.Links.{flow_long}
 
@@ -46,7 +45,7 @@ pub no_bytes : (xs : List ℕ) → length xs ≡ 0 → xs ≡ []
 no_bytes [] h = refl
 no_bytes (x ∷ xs) h = absurd (omega arith)
 
-module _ (x : Cast) (k : Contents) (p q : Play) (w v : World) (W : IsPlayWorld x p w) (V : IsPlayWorld x q v) (same : q.phase ≡ p.phase) (K : Keeps w v) (F : p.phase ≡ 2 → KeepsFlow x w v) (H : HasStreams x k p w) where
+module _ (x : Cast) (k : PlayContents) (p q : Play) (w v : World) (W : IsPlayWorld x p w) (V : IsPlayWorld x q v) (same : q.phase ≡ p.phase) (K : Keeps w v) (F : p.phase ≡ 2 → KeepsFlow x w v) (H : HasStreams x k p w) where
   -- a component as it was
   record Was (c : ℕ) (b : Component) : Type 0 where
     component : Component
@@ -135,11 +134,12 @@ module _ (x : Cast) (k : Contents) (p q : Play) (w v : World) (W : IsPlayWorld x
       let C = H.contents in
       record {
         lawful = C.lawful;
-        parts = λ c b l e. let R = was c b e in C.parts c R.component l R.there ∙ sym (ap part_of R.terms);
+        terms = λ c b l e. let R = was c b e in R.terms ∙ C.terms c R.component l R.there;
+        parts = C.parts;
         files = λ c b l e s.
             let R = was c b e in
             let source : is_source (R.component).settings.kind ≡ true = ap (λ (t : Terms). is_source t.kind) (sym R.terms) ∙ s in
-            subst (λ (o : Option Stream). MatchOption o ⊥ (λ z. Tells z.known (k.file c))) (sym R.stream) (C.files c R.component l R.there source);
+            subst (λ (o : Option Stream). MatchOption o ⊥ (λ z. Tells z.known ((k.model).file c))) (sym R.stream) (C.files c R.component l R.there source);
         outputs = C.outputs;
         inputs = C.inputs;
         units = C.units;
@@ -151,21 +151,21 @@ module _ (x : Cast) (k : Contents) (p q : Play) (w v : World) (W : IsPlayWorld x
   abbrev after : Streams
   after = record { taken = H.taken; flowing = flowing_in x v }
 
-  came_same : (c : ℕ) → c < components_of x → came (network_of x) k q.flow after c ≡ came (network_of x) k p.flow before c
+  came_same : (c : ℕ) → c < components_of x → came (network_of x) k.model q.flow after c ≡ came (network_of x) k.model p.flow before c
   came_same c l =
       let d = done_same c l in
-      λ i. came (network_of x) k (record p.flow { done = λ j. d i }) before c
+      λ i. came (network_of x) k.model (record p.flow { done = λ j. d i }) before c
 
-  streams_same : p.phase ≤ 2 → AreStreams (network_of x) k q.flow after
+  streams_same : p.phase ≤ 2 → AreStreams (network_of x) k.model q.flow after
   streams_same e l d =
-      let S : IsStream (network_of x) k p.flow before l = H.flowing e l d in
+      let S : IsStream (network_of x) k.model p.flow before l = H.flowing e l d in
       let g : ℕ = giver_of x l in
       let f = flowing_same e l d in
       let n = frames_same e l d in
       record {
-        given = ap (λ (z : List ℕ). H.taken l ++ z) f ∙ (S.given ∙ ap (λ (z : Incoming). (k.part g).plain z (k.output l)) (sym (came_same g (giver_below l d))));
-        taken = S.taken ∙ ap (λ (z : ℕ). z * k.unit l) (sym (taken_same e l d));
-        flowing = ap length f ∙ (S.flowing ∙ ap (λ (z : ℕ). z * k.unit l) (sym n));
+        given = ap (λ (z : List ℕ). H.taken l ++ z) f ∙ (S.given ∙ ap (λ (z : Incoming). ((k.model).part g).plain z ((k.model).output l)) (sym (came_same g (giver_below l d))));
+        taken = S.taken ∙ ap (λ (z : ℕ). z * (k.model).unit l) (sym (taken_same e l d));
+        flowing = ap length f ∙ (S.flowing ∙ ap (λ (z : ℕ). z * (k.model).unit l) (sym n));
       }
 
   pub streams_kept : HasStreams x k q v

@@ -25,16 +25,17 @@ use Rattle.machine_laws.proofs.Fitting.{source_format}
 use Rattle.machine_laws.proofs.Keys.{at_there}
 use Rattle.machine_laws.proofs.Parts.{parts_of}
 use Rattle.flow_model.specs.Network.{IsInput, IsOutput}
-use Rattle.flow_model.specs.Content.{Contents, Streams, frames_taken, padded, piece as model_piece}
+use Rattle.flow_model.specs.Content.{Part, Streams, frames_taken, padded, piece as model_piece}
 use Rattle.play_model.specs.Play.{Play}
 use Rattle.play_worlds.specs.Cast.{Cast, components_of, script_place}
 use Rattle.play_worlds.specs.Worlds.{IsActor, IsPlayWorld}
 use Rattle.play_worlds.proofs.Lengths.{at_all, drop_at, frames_of_ports, source_early}
 use Rattle.play_worlds.proofs.Lists.{get_there}
 use Rattle.play_worlds.proofs.Numbers.{source_goes}
+use Rattle.part_streams.specs.Parts.{part_of}
 use Rattle.part_streams.proofs.Plain.{plain_same}
 use Rattle.play_streams.specs.Flowing.{flowing_in}
-use Rattle.play_streams.specs.Contents.{HasContents, Tells, network_of}
+use Rattle.play_streams.specs.Contents.{PlayContents, HasContents, Tells, network_of}
 use Rattle.play_streams.proofs.Bounded.{input_out, source_below}
 use Rattle.play_streams.proofs.Coming.{input_is}
 
@@ -97,17 +98,20 @@ module _ (x : Cast) (p : Play) (w : World) (c : ℕ) (a : Component) (W : IsPlay
       let F = at_all (IsFrame shape.channels shape.output_frame) t.outputs 0 (st.0).definition.format ports.output there in
       ap (λ (u : ℕ). j * u) (ap frame_bytes_of (is ∙ at) ∙ F.size)
 
-  module _ (k : Contents) (C : HasContents x k w) (piece : List ℕ) (G : Gives t s n piece) where
+  module _ (k : PlayContents) (C : HasContents x k w) (piece : List ℕ) (G : Gives t s n piece) where
     abbrev of : ℕ
-    of = (k.part c).output_frame
+    of = ((k.model).part c).output_frame
+
+    part_is : (k.model).part c ≡ part_of (terms_of a)
+    part_is = C.parts c b ∙ sym (ap part_of (C.terms c a b e))
 
     of_is : shape.output_frame ≡ of
-    of_is = ap (λ (z : Terms). (shape_of z).output_frame) terms_is ∙ sym (ap (λ z. z.output_frame) (C.parts c a b e))
+    of_is = ap (λ (z : Terms). (shape_of z).output_frame) terms_is ∙ sym (ap (λ (z : Part). z.output_frame) part_is)
 
-    file_is : is_source a.settings.kind ≡ true → piece ≡ take (n * of) (drop ((p.flow).done c * of) (k.file c))
+    file_is : is_source a.settings.kind ≡ true → piece ≡ take (n * of) (drop ((p.flow).done c * of) ((k.model).file c))
     file_is q =
         let T : IsTold s.known (bytes_given t s) (n * frame_bytes_of (file_format a.file)) piece = subst (λ (z : Bool). MatchBool z (IsTold s.known (bytes_given t s) (n * frame_bytes_of (file_format a.file)) piece) (piece ≡ [])) q G in
-        let F : Tells s.known (k.file c) = at_there (stream_of (number_of a) w) (λ z. Tells z.known (k.file c)) s g (C.files c a b e q) in
+        let F : Tells s.known ((k.model).file c) = at_there (stream_of (number_of a) w) (λ z. Tells z.known ((k.model).file c)) s g (C.files c a b e q) in
         let done : s.frames ≡ (p.flow).done c = at_there (stream_of (number_of a) w) (λ z. z.frames ≡ (p.flow).done c) s g A.done in
         let net : ((x.layout).network).is_source c ≡ true = sym A.source ∙ q in
         let few = (source_goes x p w c a W e b A work f s g net).0 in
@@ -117,37 +121,37 @@ module _ (x : Cast) (p : Play) (w : World) (c : ℕ) (a : Component) (W : IsPlay
         let count : n * frame_bytes_of (file_format a.file) ≡ n * of = file_unit n a.file refl q (omega arith) ∙ ap (λ (z : ℕ). n * z) of_is in
         let room : ((p.flow).done c + n) * of ≤ ((x.layout).network).frames c * of = mul-le-mul_right of few in
         let sum = add-mul ((p.flow).done c) n of in
-        told_piece s.known ((p.flow).done c * of) (n * of) piece (k.file c) (subst (λ (z : ℕ). IsTold s.known z (n * of) piece) place (subst (λ (z : ℕ). IsTold s.known (bytes_given t s) z piece) count T)) F (omega arith)
+        told_piece s.known ((p.flow).done c * of) (n * of) piece ((k.model).file c) (subst (λ (z : ℕ). IsTold s.known z (n * of) piece) place (subst (λ (z : ℕ). IsTold s.known (bytes_given t s) z piece) count T)) F (omega arith)
 
     abbrev st : (ℕ → List ℕ) → Streams
     st taken = record { taken = taken; flowing = flowing_in x w }
 
     -- what an output gets
-    pub made_is : (taken : ℕ → List ℕ) (l : ℕ) → IsOutput (x.layout).network c l → made_at t (incoming t n zs piece) (x.output_port l) ≡ (k.part c).plain (model_piece (network_of x) k p.flow (st taken) c n) (k.output l)
+    pub made_is : (taken : ℕ → List ℕ) (l : ℕ) → IsOutput (x.layout).network c l → made_at t (incoming t n zs piece) (x.output_port l) ≡ ((k.model).part c).plain (model_piece (network_of x) k.model p.flow (st taken) c n) ((k.model).output l)
     made_is taken l O =
-        let P = model_piece (network_of x) k p.flow (st taken) c n in
-        let part = C.parts c a b e in
+        let P = model_piece (network_of x) k.model p.flow (st taken) c n in
+        let part = part_is in
         let D = (C.lawful).inputs c in
-        let inputs : (k.part c).inputs ≡ shape.inputs = ap (λ z. z.inputs) part ∙ ap (λ (z : Terms). (shape_of z).inputs) (sym terms_is) in
-        let output : x.output_port l - length t.inputs ≡ k.output l =
-        sym (C.outputs l O.below ∙ ((λ i. x.output_port l - (k.part (O.given_by i)).inputs) ∙ (let m = inputs ∙ sym ports.input_count in ap (λ (z : ℕ). x.output_port l - z) m))) in
+        let inputs : ((k.model).part c).inputs ≡ shape.inputs = ap (λ z. z.inputs) part ∙ ap (λ (z : Terms). (shape_of z).inputs) (sym terms_is) in
+        let output : x.output_port l - length t.inputs ≡ (k.model).output l =
+        sym (C.outputs l O.below ∙ ((λ i. x.output_port l - ((k.model).part (O.given_by i)).inputs) ∙ (let m = inputs ∙ sym ports.input_count in ap (λ (z : ℕ). x.output_port l - z) m))) in
         let came : Incoming = record { input = P.input; file = P.file } in
         plain_same t (incoming t n zs piece) came (x.output_port l - length t.inputs)
         (λ i d.
-        let low : i < (k.part c).inputs = omega arith in
+        let low : i < ((k.model).part c).inputs = omega arith in
         let I = D i low in
-        let j : ℕ = k.input c i in
+        let j : ℕ = (k.model).input c i in
         let J : IsInput (x.layout).network c j = input_out (x.layout).network c j I.0 in
         let port = C.inputs c i low in
-        let unit : x.unit j ≡ (k.part c).input_frame = sym (C.units j J.below) ∙ I.1 in
+        let unit : x.unit j ≡ ((k.model).part c).input_frame = sym (C.units j J.below) ∙ I.1 in
         let same = sym (C.units j J.below) in
-        let here = lt-ltb i (k.part c).inputs low in
+        let here = lt-ltb i ((k.model).part c).inputs low in
         ap (λ (z : ℕ). (incoming t n zs piece).input z) (sym port)
         ∙ (input_is x p w c a W e b A work f s g j J
         ∙ ((λ τ. padded (n * unit τ) (take (frames_taken n ((p.flow).link j) * same τ) (flowing_in x w j)))
-        ∙ sym (ap (λ (z : Bool). if z then padded (n * (k.part c).input_frame) (take (frames_taken n ((p.flow).link j) * k.unit j) (flowing_in x w j)) else []) here))))
+        ∙ sym (ap (λ (z : Bool). if z then padded (n * ((k.model).part c).input_frame) (take (frames_taken n ((p.flow).link j) * (k.model).unit j) (flowing_in x w j)) else []) here))))
         (λ q.
         let source = source_below (x.layout).network c b ∙ (sym A.source ∙ q) in
-        file_is q ∙ sym (ap (λ (z : Bool). if z then take (n * of) (drop ((p.flow).done c * of) (k.file c)) else []) source))
+        file_is q ∙ sym (ap (λ (z : Bool). if z then take (n * of) (drop ((p.flow).done c * of) ((k.model).file c)) else []) source))
         ∙ (ap (λ (z : Terms). (shape_of z).plain came (x.output_port l - length t.inputs)) terms_is
-        ∙ (ap ((shape_of (terms_of a)).plain came) output ∙ sym (ap (λ z. z.plain P (k.output l)) part)))
+        ∙ (ap ((shape_of (terms_of a)).plain came) output ∙ sym (ap (λ z. z.plain P ((k.model).output l)) part)))

@@ -16,7 +16,7 @@ use Rattle.machine_laws.proofs.Finishing.{sound_finished}
 use Rattle.machine_laws.proofs.Keys.{at_there, there_is}
 use Rattle.flow_model.specs.Network.{IsOutput, Network}
 use Rattle.flow_model.specs.Moves.{Move, moved}
-use Rattle.flow_model.specs.Content.{AreStreams, Contents, IsStream, Streams, frames_taken, streamed, piece as model_piece}
+use Rattle.flow_model.specs.Content.{AreStreams, IsStream, Streams, frames_taken, streamed, piece as model_piece}
 use Rattle.flow_model.proofs.Streams.{move_streams}
 use Rattle.play_model.specs.Play.{Play}
 use Rattle.play_model.specs.Acts.{Act, acted}
@@ -27,9 +27,8 @@ use Rattle.play_worlds.proofs.Finishes.{finish_plays}
 use Rattle.play_worlds.proofs.Landings.{done}
 use Rattle.play_worlds.proofs.Numbers.{step_acts}
 use Rattle.play_worlds.proofs.Told.{stream_gone, stream_else}
-use Rattle.part_streams.specs.Parts.{part_of}
 use Rattle.play_streams.specs.Flowing.{flowing_in}
-use Rattle.play_streams.specs.Contents.{HasContents, Tells, network_of}
+use Rattle.play_streams.specs.Contents.{PlayContents, HasContents, Tells, network_of}
 use Rattle.play_streams.specs.Streams.{HasStreams, HasSunk, sunk_of}
 use Rattle.play_streams.proofs.Beginning.{net_is, sound_is}
 use Rattle.play_streams.proofs.Bounded.{step_bounded}
@@ -41,7 +40,7 @@ use Rattle.play_streams.proofs.Sinking.{written_next}
 
 module _ (x : Cast) (p : Play) (w : World) (c : ℕ) (a : Component) (W : IsPlayWorld x p w) (e : slice_get w.components (script_place x c) ≡ Some a) (b : c < components_of x) (A : IsActor x p w c a) (work : Work) (f : a.work ≡ Some work)
     (s : Stream) (g : stream_of (number_of a) w ≡ Some s) (piece : List ℕ) (G : Gives (terms_in a work) s (step_frames (terms_in a work) s (carried w.headers work.headers)) piece) (m : ℕ) (text : List ℕ)
-    (written : text ≡ text_of (terms_in a work) s (step_frames (terms_in a work) s (carried w.headers work.headers)) (carried w.headers work.headers)) (k : Contents) (H : HasStreams x k p w) where
+    (written : text ≡ text_of (terms_in a work) s (step_frames (terms_in a work) s (carried w.headers work.headers)) (carried w.headers work.headers)) (k : PlayContents) (H : HasStreams x k p w) where
   abbrev i : ℕ
   i = script_place x c
 
@@ -73,7 +72,7 @@ module _ (x : Cast) (p : Play) (w : World) (c : ℕ) (a : Component) (W : IsPlay
   st = record { taken = H.taken; flowing = flowing_in x w }
 
   abbrev after : Streams
-  after = streamed net k p.flow (Move.Step c n ends) st
+  after = streamed net k.model p.flow (Move.Step c n ends) st
 
   C : HasContents x k w
   C = H.contents
@@ -83,7 +82,7 @@ module _ (x : Cast) (p : Play) (w : World) (c : ℕ) (a : Component) (W : IsPlay
 
   -- ---- the bytes on their way
 
-  unit_is : (l : ℕ) → l < links_of x → k.unit l ≡ x.unit l
+  unit_is : (l : ℕ) → l < links_of x → (k.model).unit l ≡ x.unit l
   unit_is l d = C.units l d
 
   flows : (l : ℕ) → l < links_of x → flowing_in x v l ≡ after.flowing l
@@ -92,30 +91,30 @@ module _ (x : Cast) (p : Play) (w : World) (c : ℕ) (a : Component) (W : IsPlay
         let u = unit_is l d in
         flow_in x p w c a W e b A work f s g piece G m text l (record { below = d; taken_by = o })
         ∙ ((λ τ. drop (frames_taken n ((p.flow).link l) * sym u τ) (flowing_in x w l))
-        ∙ sym (ap (λ (z : Bool). if z then drop (frames_taken n ((p.flow).link l) * k.unit l) (flowing_in x w l) else (if nat_eq (giver_of x l) c then flowing_in x w l ++ (k.part c).plain (model_piece net k p.flow st c n) (k.output l) else flowing_in x w l)) (eq-eqb (taker_of x l) c o)))
+        ∙ sym (ap (λ (z : Bool). if z then drop (frames_taken n ((p.flow).link l) * (k.model).unit l) (flowing_in x w l) else (if nat_eq (giver_of x l) c then flowing_in x w l ++ ((k.model).part c).plain (model_piece net k.model p.flow st c n) ((k.model).output l) else flowing_in x w l)) (eq-eqb (taker_of x l) c o)))
     | inr o ↦ elim (cases_eq (giver_of x l) c) [
       | inl r ↦
           let O : IsOutput (x.layout).network c l = record { below = d; given_by = r } in
           flow_out x p w c a W e b A work f s g piece G m text l o O
           ∙ (ap (λ (z : List ℕ). flowing_in x w l ++ z) (made_is x p w c a W e b A work f s g k C piece G H.taken l O)
-          ∙ sym (else_ l o ∙ ap (λ (z : Bool). if z then flowing_in x w l ++ (k.part c).plain (model_piece net k p.flow st c n) (k.output l) else flowing_in x w l) (eq-eqb (giver_of x l) c r)))
+          ∙ sym (else_ l o ∙ ap (λ (z : Bool). if z then flowing_in x w l ++ ((k.model).part c).plain (model_piece net k.model p.flow st c n) ((k.model).output l) else flowing_in x w l) (eq-eqb (giver_of x l) c r)))
       | inr r ↦
           flow_off x p w c a W e b A work f s g piece G m text l d o r
-          ∙ sym (else_ l o ∙ ap (λ (z : Bool). if z then flowing_in x w l ++ (k.part c).plain (model_piece net k p.flow st c n) (k.output l) else flowing_in x w l) (ne_eqb (giver_of x l) c r))
+          ∙ sym (else_ l o ∙ ap (λ (z : Bool). if z then flowing_in x w l ++ ((k.model).part c).plain (model_piece net k.model p.flow st c n) ((k.model).output l) else flowing_in x w l) (ne_eqb (giver_of x l) c r))
     ]
   ]
     where
-      else_ : (l : ℕ) → taker_of x l ≢ c → after.flowing l ≡ (if nat_eq (giver_of x l) c then flowing_in x w l ++ (k.part c).plain (model_piece net k p.flow st c n) (k.output l) else flowing_in x w l)
-      else_ l o = ap (λ (z : Bool). if z then drop (frames_taken n ((p.flow).link l) * k.unit l) (flowing_in x w l) else (if nat_eq (giver_of x l) c then flowing_in x w l ++ (k.part c).plain (model_piece net k p.flow st c n) (k.output l) else flowing_in x w l)) (ne_eqb (taker_of x l) c o)
+      else_ : (l : ℕ) → taker_of x l ≢ c → after.flowing l ≡ (if nat_eq (giver_of x l) c then flowing_in x w l ++ ((k.model).part c).plain (model_piece net k.model p.flow st c n) ((k.model).output l) else flowing_in x w l)
+      else_ l o = ap (λ (z : Bool). if z then drop (frames_taken n ((p.flow).link l) * (k.model).unit l) (flowing_in x w l) else (if nat_eq (giver_of x l) c then flowing_in x w l ++ ((k.model).part c).plain (model_piece net k.model p.flow st c n) ((k.model).output l) else flowing_in x w l)) (ne_eqb (taker_of x l) c o)
 
-  streams_after : AreStreams net k (moved net (Move.Step c n ends) p.flow) after
+  streams_after : AreStreams net k.model (moved net (Move.Step c n ends) p.flow) after
   streams_after =
       let can = step_acts x p w c a W e b A work f s g in
-      move_streams net k p.flow st (Move.Step c n ends) (net_is x k p w W) C.lawful (sound_is x k p w W early) (step_bounded (x.layout).network p.flow c n ends can.1) (H.flowing early)
+      move_streams net k.model p.flow st (Move.Step c n ends) (net_is x k p w W) C.lawful (sound_is x k p w W early) (step_bounded (x.layout).network p.flow c n ends can.1) (H.flowing early)
 
-  flowing_after : AreStreams net k q.flow (record { taken = after.taken; flowing = flowing_in x v })
+  flowing_after : AreStreams net k.model q.flow (record { taken = after.taken; flowing = flowing_in x v })
   flowing_after l d =
-      let S : IsStream net k (moved net (Move.Step c n ends) p.flow) after l = streams_after l d in
+      let S : IsStream net k.model (moved net (Move.Step c n ends) p.flow) after l = streams_after l d in
       let F = flows l d in
       record { given = ap (λ (z : List ℕ). after.taken l ++ z) F ∙ S.given; taken = S.taken; flowing = ap length F ∙ S.flowing }
 
@@ -149,7 +148,8 @@ module _ (x : Cast) (p : Play) (w : World) (c : ℕ) (a : Component) (W : IsPlay
   contents_after : HasContents x k v
   contents_after = record {
     lawful = C.lawful;
-    parts = λ j y d h. let Z = was j y h in C.parts j Z.component d Z.there ∙ sym (ap part_of Z.terms);
+    terms = λ j y d h. let Z = was j y h in Z.terms ∙ C.terms j Z.component d Z.there;
+    parts = C.parts;
     files = λ j y d h src.
         let Z = was j y h in
         let source : is_source (Z.component).settings.kind ≡ true = ap (λ (z : Terms). is_source z.kind) (sym Z.terms) ∙ src in
@@ -158,9 +158,9 @@ module _ (x : Cast) (p : Play) (w : World) (c : ℕ) (a : Component) (W : IsPlay
           | inl o ↦
               let same : Z.component ≡ a = let z : Some Z.component ≡ Some a = sym Z.there ∙ (ap (λ (u : ℕ). slice_get w.components (script_place x u)) o ∙ e) in cc in
               let now : stream_of (number_of y) v ≡ Some (gone_through its s) = ap (λ (z : ℕ). stream_of z v) (Z.number ∙ ap number_of same) ∙ gone in
-              let known : Tells s.known (k.file j) = at_there (stream_of (number_of a) w) (λ z. Tells z.known (k.file j)) s g (subst (λ (z : Component). MatchOption (stream_of (number_of z) w) ⊥ (λ u. Tells u.known (k.file j))) same F) in
-              subst (λ (o : Option Stream). MatchOption o ⊥ (λ z. Tells z.known (k.file j))) (sym now) known
-          | inr o ↦ subst (λ (o : Option Stream). MatchOption o ⊥ (λ z. Tells z.known (k.file j))) (sym (beside j y Z d o)) F
+              let known : Tells s.known ((k.model).file j) = at_there (stream_of (number_of a) w) (λ z. Tells z.known ((k.model).file j)) s g (subst (λ (z : Component). MatchOption (stream_of (number_of z) w) ⊥ (λ u. Tells u.known ((k.model).file j))) same F) in
+              subst (λ (o : Option Stream). MatchOption o ⊥ (λ z. Tells z.known ((k.model).file j))) (sym now) known
+          | inr o ↦ subst (λ (o : Option Stream). MatchOption o ⊥ (λ z. Tells z.known ((k.model).file j))) (sym (beside j y Z d o)) F
         ];
     outputs = C.outputs;
     inputs = C.inputs;
@@ -172,11 +172,11 @@ module _ (x : Cast) (p : Play) (w : World) (c : ℕ) (a : Component) (W : IsPlay
   taken_in : (l : ℕ) → l < links_of x → taker_of x l ≡ c → after.taken l ≡ H.taken l ++ take (frames_taken n ((p.flow).link l) * x.unit l) (flowing_in x w l)
   taken_in l d o =
       let u = unit_is l d in
-      ap (λ (z : Bool). if z then H.taken l ++ take (frames_taken n ((p.flow).link l) * k.unit l) (flowing_in x w l) else H.taken l) (eq-eqb (taker_of x l) c o)
+      ap (λ (z : Bool). if z then H.taken l ++ take (frames_taken n ((p.flow).link l) * (k.model).unit l) (flowing_in x w l) else H.taken l) (eq-eqb (taker_of x l) c o)
       ∙ (λ τ. H.taken l ++ take (frames_taken n ((p.flow).link l) * u τ) (flowing_in x w l))
 
   taken_else : (l : ℕ) → taker_of x l ≢ c → after.taken l ≡ H.taken l
-  taken_else l o = ap (λ (z : Bool). if z then H.taken l ++ take (frames_taken n ((p.flow).link l) * k.unit l) (flowing_in x w l) else H.taken l) (ne_eqb (taker_of x l) c o)
+  taken_else l o = ap (λ (z : Bool). if z then H.taken l ++ take (frames_taken n ((p.flow).link l) * (k.model).unit l) (flowing_in x w l) else H.taken l) (ne_eqb (taker_of x l) c o)
 
   sinks_after : (l : ℕ) (y : Component) (z : Stream) → l < links_of x → (x.layout).is_sink (taker_of x l) ≡ true → slice_get v.components (script_place x (taker_of x l)) ≡ Some y → stream_of (number_of y) v ≡ Some z
       → HasSunk (terms_of y) z ((q.flow).ended (taker_of x l)) (after.taken l)
@@ -253,7 +253,7 @@ comes_back x p w v c a work its W b e f k D F =
       closes = subst (λ (y : World). ClosesTo y v) is closes;
     }
 
-pub finish_streams : (x : Cast) (k : Contents) (p q : Play) (w v : World) (c : ℕ) (a : Component) (work : Work) (its : WorkDone) → IsPlayWorld x p w → HasStreams x k p w → IsPlayWorld x q v → q.phase ≡ p.phase → c < components_of x → slice_get w.components (script_place x c) ≡ Some a
+pub finish_streams : (x : Cast) (k : PlayContents) (p q : Play) (w v : World) (c : ℕ) (a : Component) (work : Work) (its : WorkDone) → IsPlayWorld x p w → HasStreams x k p w → IsPlayWorld x q v → q.phase ≡ p.phase → c < components_of x → slice_get w.components (script_place x c) ≡ Some a
     → a.work ≡ Some work → its.component ≡ script_place x c → IsDoneOf w a work its → its.fault ≡ None → Finish w its v → HasStreams x k q v
 finish_streams x k p q w v c a work its W H V same b e f h D o F =
     let A = W.actors c a b e in

@@ -1,5 +1,6 @@
 -- The contents of a play: what each component's part does, and what the files of its sources hold.
 use Rattle.std.specs.Prelude.{◌≡◌, ℕ, ◌-◌, ◌<◌, nat_le, ◌||◌, true, List, ◌++◌, slice_get, Option, Some, None, MatchOption}
+use Rattle.part_api.specs.Terms.{Terms}
 use Rattle.il_machine.specs.Kinds.{is_source}
 use Rattle.il_machine.specs.Parts.{terms_of}
 use Rattle.il_machine.specs.World.{Component, World, number_of, stream_of}
@@ -20,12 +21,18 @@ abbrev pub Tells : Option (List ℕ) → List ℕ → Type 0
 Tells None bytes = ⊥
 Tells (Some known) bytes = (rest : List ℕ) × (known ≡ bytes ++ rest)
 
--- Those of a world's components, as they are set, and of the files that came to them.
-pub record HasContents (x : Cast) (k : Contents) (w : World) : Type 0 where
-  pub lawful : AreContents (network_of x) k
-  pub parts : (c : ℕ) (a : Component) → c < components_of x → slice_get w.components (script_place x c) ≡ Some a → k.part c ≡ part_of (terms_of a)
+-- What the components of a play are set to, and so what they are as parts of its network; and what the files of its sources hold.
+pub record PlayContents : Type 0 where
+  pub terms : ℕ → Terms
+  pub model : Contents
+
+-- The world's components are set so, and their files hold that.
+pub record HasContents (x : Cast) (k : PlayContents) (w : World) : Type 0 where
+  pub lawful : AreContents (network_of x) k.model
+  pub terms : (c : ℕ) (a : Component) → c < components_of x → slice_get w.components (script_place x c) ≡ Some a → terms_of a ≡ k.terms c
+  pub parts : (c : ℕ) → c < components_of x → (k.model).part c ≡ part_of (k.terms c)
   pub files : (c : ℕ) (a : Component) → c < components_of x → slice_get w.components (script_place x c) ≡ Some a → is_source a.settings.kind ≡ true
-      → MatchOption (stream_of (number_of a) w) ⊥ (λ s. Tells s.known (k.file c))
-  pub outputs : (l : ℕ) → l < links_of x → k.output l ≡ x.output_port l - (k.part (giver_of x l)).inputs
-  pub inputs : (c i : ℕ) → i < (k.part c).inputs → x.input_port (k.input c i) ≡ i
-  pub units : (l : ℕ) → l < links_of x → k.unit l ≡ x.unit l
+      → MatchOption (stream_of (number_of a) w) ⊥ (λ s. Tells s.known ((k.model).file c))
+  pub outputs : (l : ℕ) → l < links_of x → (k.model).output l ≡ x.output_port l - ((k.model).part (giver_of x l)).inputs
+  pub inputs : (c i : ℕ) → i < ((k.model).part c).inputs → x.input_port ((k.model).input c i) ≡ i
+  pub units : (l : ℕ) → l < links_of x → (k.model).unit l ≡ x.unit l
