@@ -50,7 +50,7 @@ one_same : (kind : Kind) (inputs outputs : List Format) (factors : List ℕ) (a 
     → a.input 0 ≡ b.input 0 → gives kind inputs outputs factors a output ≡ gives kind inputs outputs factors b output
 one_same kind inputs outputs factors a b output h e = h a ∙ (ap (λ piece. gives kind inputs outputs factors (record { input = λ input. piece; file = [] }) output) e ∙ sym (h b))
 
-same_by : (kind : Kind) (inputs outputs : List Format) (factors : List ℕ) (a b : Incoming) (output : ℕ)
+pub same_by : (kind : Kind) (inputs outputs : List Format) (factors : List ℕ) (a b : Incoming) (output : ℕ)
     → ((input : ℕ) → input < (shape_by kind inputs outputs factors).inputs → a.input input ≡ b.input input) → (is_source kind ≡ true → a.file ≡ b.file)
     → gives kind inputs outputs factors a output ≡ gives kind inputs outputs factors b output
 same_by kinds.Source inputs outputs factors a b output same file = file refl

@@ -2,7 +2,7 @@
 //! sink's steps write. Stated on functions that do nothing; the play's streams stand on them.
 #![tactic(auto)]
 
-ghost use Rattle.std.specs.Prelude.{◌≡◌, ℕ, ◌+◌, ◌-◌, ◌*◌, ◌<◌, true, false, List, ◌++◌, length};
+ghost use Rattle.std.specs.Prelude.{◌≡◌, ℕ, ◌+◌, ◌-◌, ◌*◌, ◌<◌, ◌≤◌, true, false, List, ◌++◌, length};
 ghost use Rattle.omx_types.specs.declared.format.Format.{Format};
 ghost use Rattle.omx_types.specs.Formats.{IsWithinLimits, frame_bytes_of};
 ghost use Rattle.part_api.specs.Streams.{Incoming};
@@ -13,17 +13,22 @@ ghost use Rattle.part_forms.specs.Sinking.{sink_text};
 ghost use Rattle.part_forms.specs.Writing.{written};
 ghost use Rattle.audio_parts.specs.Shapes.{IsLawful};
 ghost use Rattle.il_machine.specs.Lists.{is_empty};
-ghost use Rattle.flow_model.specs.Content.{IsPart};
+ghost use Rattle.flow_model.specs.Content.{IsPart, padded};
 ghost use Rattle.part_streams.specs.Parts.{part_of};
 ghost use Rattle.part_streams.specs.Sunk.{sunk};
 
 /// The plain function of a part of lawful terms goes stretch by stretch, and gives as many frames as come in. It looks at nothing
-/// but the part's inputs, and at the file of a source.
+/// but the part's inputs, and at the file of a source; and zeros behind the shorter inputs change nothing.
 pub fn law_of_plain_parts()
     ensures parts { (terms : Terms) → IsSized terms.kind → IsLawful terms → IsPart (part_of terms) }
     ensures same { (terms : Terms) (a b : Incoming) (output : ℕ)
         → ((input : ℕ) → input < (shape_of terms).inputs → a.input input ≡ b.input input) → (is_source terms.kind ≡ true → a.file ≡ b.file)
         → (shape_of terms).plain a output ≡ (shape_of terms).plain b output }
+    ensures padded { (terms : Terms) (size : ℕ) (came : Incoming) (output : ℕ)
+        → ((input : ℕ) → input < (shape_of terms).inputs → length (came.input input) ≤ size)
+        → (is_source terms.kind ≡ false → (input : ℕ) × (input < (shape_of terms).inputs) × (length (came.input input) ≡ size))
+        → (shape_of terms).plain (record { input = λ input. padded size (came.input input); file = came.file }) output
+        ≡ (shape_of terms).plain came output }
 {}
 
 /// What a sink's file has taken is never empty. With the next step it is what one step of all the frames writes; and once all
