@@ -38,6 +38,7 @@ use Rattle.play_graphs.specs.Making.{AreOffered, IsMadeOf}
 use Rattle.std.proofs.lemmas.List.Elements.{All-nil}
 use Rattle.play_log.specs.Logged.{Keeps}
 use Rattle.play_log.specs.Scenes.{Scene, scene_of}
+use Rattle.play_streams.proofs.Beginning.{opening_has}
 use Rattle.play_run.specs.Closing.{HasBegun}
 use Rattle.play_run.specs.Recording.{FreesNone, IsByPlayer, IsRecorded, IsWhole}
 use Rattle.play_graphs.specs.Graphs.{kept_of}
@@ -167,6 +168,7 @@ module _ {S K : Type 0} (x : PlayingValue S K) (files : PlayFiles) (O : IsOpenin
         opening = O.world;
         begins = record { opens = O.begins; closed = closed O.world O.stands };
         recorded = nothing_recorded;
+        streams = λ k C E. opening_has (cast x.plan) k opening O.world (opens (cast x.plan) O.world O.opening) (omega arith) C E;
       };
       sent = λ c b e. absurd (omega (arith, e));
     },

@@ -39,7 +39,7 @@ use Rattle.stream_plan.proofs.Lists.{set_at, set_other, slice_get_front}
 use Rattle.play_plans.specs.Conducting.{HasViews, IsConductorOf}
 use Rattle.play_plans.proofs.Conducting.{conductor_hears, conductor_over, conductor_sends, conductor_steady, conductor_waits, conductor_whole}
 use Rattle.play_graphs.specs.Graphs.{IsHandleAt, kept_of}
-use Rattle.play_run.specs.Playing.{HasParts, IsConducting, IsPlaying, IsProgressAt, IsStanding, PlayingValue, TurnsTo, cast, layout_of}
+use Rattle.play_run.specs.Playing.{HasStreamsFrom, HasParts, IsConducting, IsPlaying, IsProgressAt, IsStanding, PlayingValue, TurnsTo, cast, layout_of}
 use Rattle.play_run.specs.Recording.{IsToldOf}
 use Rattle.play_run.proofs.Recording.{goes_on}
 use Rattle.play_log.specs.Kept.{LogValue}
@@ -47,6 +47,8 @@ use Rattle.play_run.specs.Sending.{AreViews, CanSend, IsCalm, IsOnSend, IsUnsent
 use Rattle.play_graphs.proofs.Naming.{named_at}
 use Rattle.play_run.proofs.Naming.{all_clients_in}
 use Rattle.play_run.proofs.Working.{still_none}
+use Rattle.play_streams.proofs.Acts.{send_streams}
+use Rattle.play_streams.proofs.Beginning.{begun_streams}
 use Rattle.play_run.proofs.Answering.{happened_phase, happened_sent, happened_unsent, keeps_in, parts_of, rests_there, stands_then, with_both}
 
 -- ---- the stages
@@ -85,7 +87,7 @@ module _ {S K : Type 0} where
         let phase : u.phase ≡ q.phase = happened_phase w G.places (acted w (Act.Send c) q) in
         let works = still_none Y.world (acts.SendCommand h (StateSet state)) (acts.Plain r) v.0 (Y.play).sound tt v.2 (λ n. refl) Y.works in
         let R = goes_on y q Y place h H v.0 (λ k. acts.SendCommand k (StateSet state)) (acts.Plain (Ok tt)) log told refl tt (subst (λ (a : Result (Unit {0}) OmxError). SendCommand Y.world h (StateSet state) a v.0) leads.0 v.2) tt (λ n. refl) in
-        let S = stands_then y g log q u v.0 Y v.1 works (keeps_in y.graph.core g.core keeps Y.clients) G.play phase R in (
+        let S = stands_then y g log q u v.0 Y v.1 works (keeps_in y.graph.core g.core keeps Y.clients) G.play phase R (λ n C E. send_streams z n q u Y.world v.0 Y.play (Y.streams n C E) G.play phase c h k.1 N r s) in (
           u,
           S.0,
           subst (λ (plan : PlanValue). IsOnSend (layout_of plan) p u (place + 1)) same (record {
@@ -183,8 +185,8 @@ module _ {S K : Type 0} where
   abbrev pub with_conductor : PlayingValue S K → ConductorValue → PlayingValue S K
   with_conductor x value = record x { conductor = value }
 
-  conducted : (x : PlayingValue S K) (p q : Play) (value : ConductorValue) (Z : IsStanding x p) → IsPlayWorld (cast x.plan) q Z.world → IsConductorOf (cast x.plan) q value → (Y : IsStanding (with_conductor x value) q) × (Y.files ≡ Z.files)
-  conducted x p q value Z W V = (
+  conducted : (x : PlayingValue S K) (p q : Play) (value : ConductorValue) (Z : IsStanding x p) → IsPlayWorld (cast x.plan) q Z.world → IsConductorOf (cast x.plan) q value → HasStreamsFrom (cast x.plan) Z.opening q Z.world → (Y : IsStanding (with_conductor x value) q) × (Y.files ≡ Z.files)
+  conducted x p q value Z W V F = (
     record {
       world = Z.world;
       stands = Z.stands;
@@ -197,6 +199,7 @@ module _ {S K : Type 0} where
       opening = Z.opening;
       begins = Z.begins;
       recorded = Z.recorded;
+      streams = F;
     },
     refl,
   )
@@ -226,7 +229,7 @@ module _ {S K : Type 0} where
     still : (p : Play) (Y : IsPlaying x p) → next ≡ heard_by x.conductor views → (CanAct (layout_of x.plan) p Act.Begin → ⊥) → (q : Play) × (Z : IsPlaying (with_conductor x next) q) × Turned (layout_of x.plan) p q false IsSend × (Z.standing.files ≡ Y.standing.files)
     still p Y e never =
         let V = hears x p Y.standing views many seen in
-        let S = conducted x p p next Y.standing Y.standing.play (subst (IsConductorOf (cast x.plan) p) (sym e) V) in
+        let S = conducted x p p next Y.standing Y.standing.play (subst (IsConductorOf (cast x.plan) p) (sym e) V) Y.standing.streams in
         (p, record { standing = S.0; sent = Y.sent }, (refl, nothing_sent x p Y never), S.1)
 
     pub wait_turns : Conducts (heard_by x.conductor views) phases.Wait next → TurnsTo x (with_conductor x next) false IsSend
@@ -260,7 +263,7 @@ module _ {S K : Type 0} where
           let Z = Y.standing in
           let V = hears x p Z views many seen in
           let c = conductor_sends (cast x.plan) p Z.world (heard_by x.conductor views) next state Z.play V H in
-          let S = conducted x p (acted (layout_of x.plan) Act.Begin p) next Z (begins (cast x.plan) p Z.world Z.play c.0) c.2 in
+          let S = conducted x p (acted (layout_of x.plan) Act.Begin p) next Z (begins (cast x.plan) p Z.world Z.play c.0) c.2 (λ k C E. begun_streams (cast x.plan) k p Z.world Z.play c.0 (Z.streams k C E)) in
           record {
             can = c.0;
             standing = S.0;

@@ -54,7 +54,14 @@ use Rattle.play_run.specs.Turning.{HasFailed, IsStepOf}
 use Rattle.play_run.proofs.Working.{all_in, none_out}
 use Rattle.play_run.proofs.Commanding.{component_named_in}
 use Rattle.play_run.proofs.Recording.{is_player, one_more}
-use Rattle.play_run.proofs.Answering.{Came, keeps_in, stays, turn_goes, turn_stays, with_both}
+use Rattle.flow_model.specs.Content.{ArePlain}
+use Rattle.play_streams.specs.Contents.{PlayContents, network_of}
+use Rattle.play_streams.specs.Fronts.{AreFronts}
+use Rattle.play_streams.specs.Streams.{HasStreams}
+use Rattle.play_streams.proofs.Acts.{claim_streams}
+use Rattle.play_streams.proofs.Failing.{failed_fronts}
+use Rattle.play_streams.proofs.Stepping.{finish_streams}
+use Rattle.play_run.proofs.Answering.{StreamsGo, Came, keeps_in, stays, turn_goes, turn_stays, with_both}
 
 -- the work of the component that the handle names went out, and came back from its step with that fault and these frames
 pub record IsWorked (h : Handle) (fault : Option PartFault) (frames : ℕ) (w v : World) : Type 0 where
@@ -134,6 +141,20 @@ module _ (x : Cast) (p : Play) (w : World) (c : ℕ) (h : Handle) (W : IsPlayWor
       let P = between_plays Z None frames v U in
       let F = finish_leads x p U.between c O.component O.work U.done v P l O.there O.out (U.its ∙ number_is) O.done U.faults U.comes in
       (Act.Step c (U.done).frames F.0, ((U.done).frames, F.0, refl), F.1, stays x.layout p (Act.Step c (U.done).frames F.0) refl (λ k. refl), F.2)
+
+  -- the bytes that it took and gave have moved
+  pub worked_streams : (Z : IsClosed w) (frames : ℕ) (v : World) (U : IsWorked h None frames w v) (k : PlayContents) (q : Play) → HasStreams x k p w → IsPlayWorld x q v → q.phase ≡ p.phase → HasStreams x k q v
+  worked_streams Z frames v U k q H V e =
+      let O = out_there Z None frames v U in
+      let P = between_plays Z None frames v U in
+      finish_streams x k p q U.between v c O.component O.work U.done P (claim_streams x k p p w U.between W H P refl c h l N (Ok (ClaimedWork U.work)) U.goes) V e l O.there O.out (U.its ∙ number_is) O.done U.faults U.comes
+
+  -- after a step that failed, too, the sinks' files have taken fronts
+  pub failed_streams : (Z : IsClosed w) (fault : PartFault) (frames : ℕ) (v : World) (U : IsWorked h (Some fault) frames w v) (k : PlayContents) → HasStreams x k p w → (stream : ℕ → List ℕ) → ArePlain (network_of x) k.model stream → AreFronts x k v stream
+  failed_streams Z fault frames v U k H stream Q =
+      let O = out_there Z (Some fault) frames v U in
+      let P = between_plays Z (Some fault) frames v U in
+      failed_fronts x k p U.between v c O.component O.work U.done fault stream P (claim_streams x k p p w U.between W H P refl c h l N (Ok (ClaimedWork U.work)) U.goes) Q l O.there O.out (U.its ∙ number_is) O.done U.faults U.comes
 
 -- ---- a claim, a run and a finish
 
@@ -221,7 +242,8 @@ module _ {S K : Type 0} where
         let P = is_player y p Z place h H L.name L.named in
         let R = one_more y.plan.parts Z.opening Z.world U.between y.log L.between Z.recorded L.first (acts.Claim h) (acts.Claimed (Ok (ClaimedWork U.work))) L.told_first (L.says_first U.work s place (L.named).part h P) refl tt U.goes tt (λ n. refl) in
         let Q = one_more y.plan.parts Z.opening U.between v.0 L.between log R L.second (acts.Finish U.done) acts.Finished L.told_second (L.says_second s place (L.named).part h U.done P U.its U.does) refl U.meets U.comes U.faults (λ n. refl) in
-        turn_goes y g log p v.0 true (IsStepOf c) Y v.1 (works_in (cast y.plan) p Z.world c h Z.play b N Z.works shut None frames v.0 v.2) (keeps_in m.core g.core K2 (keeps_in y.graph.core m.core K1 Z.clients)) (λ f. absurd cc) (λ f. absurd cc) (λ e. Q)
+        let F : true ≡ true → StreamsGo (cast y.plan) p Z.opening v.0 = λ t q V ph k C E. worked_streams (cast y.plan) p Z.world c h Z.play b N Z.works shut frames v.0 v.2 k q (Z.streams k C E) V ph in
+        turn_goes y g log p v.0 true (IsStepOf c) Y v.1 (works_in (cast y.plan) p Z.world c h Z.play b N Z.works shut None frames v.0 v.2) (keeps_in m.core g.core K2 (keeps_in y.graph.core m.core K1 Z.clients)) (λ f. absurd cc) (λ f. absurd cc) (λ e. Q) F
         (works_came (cast y.plan) p Z.world c h Z.play b N Z.works shut frames v.0 v.2))
         b J H
 
@@ -244,5 +266,9 @@ module _ {S K : Type 0} where
           done = (v.2).done;
           failed = (v.2).faults;
           finishes = (v.2).comes;
+          files = Z.files;
+          opening = Z.opening;
+          begins = Z.begins;
+          fronts = λ k C E. failed_streams (cast y.plan) p Z.world c h Z.play b N Z.works shut fault frames v.0 v.2 k (Z.streams k C E);
         })
         b J H p Y

@@ -55,11 +55,12 @@ use Rattle.play_graphs.specs.Graphs.{IsHandleAt, client_progress, kept_of}
 use Rattle.play_run.specs.Playing.{AreClientsIn, IsPlaying, IsStanding, PlayingValue, TurnsTo, cast}
 use Rattle.play_run.specs.Recording.{IsNameAt, IsTold}
 use Rattle.play_run.specs.Turning.{IsEvent, IsTelling, told_by}
+use Rattle.play_streams.proofs.Acts.{end_streams, take_streams}
 use Rattle.play_run.proofs.Naming.{all_clients_in}
 use Rattle.play_run.proofs.Working.{still_none}
 use Rattle.play_run.proofs.Commanding.{component_named_in}
 use Rattle.play_run.proofs.Recording.{is_player, one_more}
-use Rattle.play_run.proofs.Answering.{Came, stays, tell_within, turn_goes, turn_stays, with_both}
+use Rattle.play_run.proofs.Answering.{StreamsGo, Came, stays, tell_within, turn_goes, turn_stays, with_both}
 
 -- ---- a close-out in which nothing is due
 
@@ -153,7 +154,7 @@ module _ (x : Cast) (p : Play) (w : World) (c : ℕ) (h : Handle) (W : IsPlayWor
     mid_there : slice_get mid.components (script_place x c) ≡ Some (first_taken a)
     mid_there = set_there w.components (script_place x c) a (first_taken a) e
 
-    mid_named : Names x mid c h
+    pub mid_named : Names x mid c h
     mid_named =
         let cs = set w.components (script_place x c) (first_taken a) in
         is_first_place (is_at h) cs ∙ (place_set (is_at h) w.components (script_place x c) a (first_taken a) e refl ∙ (sym (is_first_place (is_at h) w.components) ∙ N))
@@ -275,7 +276,9 @@ module _ {S K : Type 0} where
         let took_event = subst (λ (n : Taken). TakeNote w h (Ok (TookNote n)) middle) taken_is took in
         let R = one_more y.plan.parts Z.opening w middle y.log L.between Z.recorded L.first (acts.TakeNote h) (acts.Took (Ok (TookNote (TakenEvent event)))) L.told_first (L.says_first s place (L.named).part h P) refl tt took_event tt (λ n. refl) in
         let Q = one_more y.plan.parts Z.opening middle u.0 L.between log R L.second (acts.EndNote h told) acts.Ended L.told_second (L.says_second told s place (L.named).part h P) refl met u.2 tt (λ n. refl) in
-        turn_goes y g log p u.0 true (IsTelling c) Y u.1 after (in_after y.graph.core m.core g.core h told K1 K2 C Z.clients) (λ f. absurd cc) (λ f. absurd cc) (λ e. Q)
+        let F : true ≡ true → StreamsGo x p Z.opening u.0 = λ t q W ph k D E.
+            end_streams x k p q middle u.0 T.play (take_streams x k p p w middle Z.play (Z.streams k D E) T.play refl c h b N (Ok (TookNote (taken_of taken))) took) W ph c h b (mid_named x p w c h Z.play b N at.0 at.1 o T.event) u.2 in
+        turn_goes y g log p u.0 true (IsTelling c) Y u.1 after (in_after y.graph.core m.core g.core h told K1 K2 C Z.clients) (λ f. absurd cc) (λ f. absurd cc) (λ e. Q) F
         (tells x p w c h Z.play b N at.0 at.1 o T.event T.play u.0 u.2)
 
   -- ---- of what is known where the calls were made

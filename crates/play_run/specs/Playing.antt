@@ -22,6 +22,8 @@ use Rattle.play_plans.specs.Conducting.{HasSinks}
 use Rattle.play_openings.specs.Assemblies.{PlayFiles}
 use Rattle.play_graphs.specs.Graphs.{kept_of}
 use Rattle.play_log.specs.Kept.{LogValue}
+use Rattle.play_streams.specs.Contents.{HasContents, PlayContents}
+use Rattle.play_streams.specs.Streams.{EachSink, HasStreams}
 use Rattle.play_run.specs.Recording.{IsBeginning, IsRecorded}
 
 -- No port prefers a supplier, so the input supplies each link.
@@ -48,6 +50,11 @@ pub record PlayingValue (S K : Type 0) : Type 0 where
   pub conductor : ConductorValue
   pub log : LogValue
 
+-- The bytes that move are those of the files: from an opening where no sink's file has taken anything, whatever the components give there
+-- has its streams in the world.
+abbrev pub HasStreamsFrom : Cast → World → Play → World → Type 0
+HasStreamsFrom x opening p w = (k : PlayContents) → HasContents x k opening → EachSink x opening (λ l a s. s.written ≡ []) → HasStreams x k p w
+
 -- each client object is in
 abbrev pub AreClientsIn : {C : Type 0} → Entries C → Type 0
 AreClientsIn g = (h : Handle) → client_named h g ≡ Some None → ⊥
@@ -67,7 +74,7 @@ module _ {S K : Type 0} where
     pub clients : AreClientsIn x.graph.core
 
   -- The graph stands for a world of the play, in which no work and no client object is out. The log has the run to it from where the play
-  -- of the plan with these files begins.
+  -- of the plan with these files begins, and so have come the bytes that are on their way.
   pub record IsStanding (x : PlayingValue S K) (p : Play) : Type 0 where
     pub world : World
     pub stands : Stands (kept_of x.graph) world
@@ -80,6 +87,7 @@ module _ {S K : Type 0} where
     pub opening : World
     pub begins : IsBeginning x.plan files opening
     pub recorded : IsRecorded x.plan.parts opening world x.log
+    pub streams : HasStreamsFrom (cast x.plan) opening p world
 
   -- between two turns
   pub record IsPlaying (x : PlayingValue S K) (p : Play) : Type 0 where

@@ -1,5 +1,5 @@
 -- The acts that a call of a play tries, and what a note tells.
-use Rattle.std.specs.Prelude.{◌≡◌, ◌⊎◌, ℕ, Bool, true, Option, None, Some, Result, Ok, Err}
+use Rattle.std.specs.Prelude.{◌≡◌, ◌⊎◌, ℕ, Bool, true, Option, None, Some, Result, Ok, Err, List, []}
 use Rattle.il_machine.specs.declared.answer.Progress.{Progress}
 use Rattle.il_machine.specs.Components.{moved_by}
 use Rattle.note_queues.specs.declared.taken.Taken.{Taken}
@@ -11,8 +11,15 @@ use Rattle.il_machine.specs.Finishing.{Finish}
 use Rattle.il_machine.specs.Whole.{Stands}
 use Rattle.play_model.specs.Acts.{Act}
 use Rattle.play_model.specs.Play.{Play}
+use Rattle.flow_model.specs.Content.{ArePlain}
+use Rattle.play_worlds.specs.Cast.{Cast}
 use Rattle.play_worlds.specs.Worlds.{IsPlayWorld}
+use Rattle.play_openings.specs.Assemblies.{PlayFiles}
+use Rattle.play_streams.specs.Contents.{HasContents, PlayContents, network_of}
+use Rattle.play_streams.specs.Fronts.{AreFronts}
+use Rattle.play_streams.specs.Streams.{EachSink}
 use Rattle.play_graphs.specs.Graphs.{kept_of}
+use Rattle.play_run.specs.Recording.{IsBeginning}
 use Rattle.play_run.specs.Playing.{AreClientsIn, HaveNoWork, PlayingValue, cast}
 
 -- the other end of the link hands back a header that it filled or emptied, or one that it didn't use
@@ -43,6 +50,11 @@ abbrev pub outcome_of : Option PartFault → Result Bool PartFault
 outcome_of None = Ok true
 outcome_of (Some fault) = Err fault
 
+-- From an opening where no sink's file has taken anything, the files of the sinks have taken fronts of their whole texts.
+abbrev pub HasFrontsFrom : Cast → World → World → Type 0
+HasFrontsFrom x opening w = (k : PlayContents) → HasContents x k opening → EachSink x opening (λ l a s. s.written ≡ [])
+    → (stream : ℕ → List ℕ) → ArePlain (network_of x) k.model stream → AreFronts x k w stream
+
 module _ {S K : Type 0} where
   -- The graph stands for what a step with that fault left of a world of the play. No work and no client object is out.
   pub record HasFailed (x : PlayingValue S K) (fault : PartFault) : Type 0 where
@@ -56,3 +68,8 @@ module _ {S K : Type 0} where
     pub done : WorkDone
     pub failed : done.fault ≡ Some fault
     pub finishes : Finish before done world
+    pub files : PlayFiles
+    pub opening : World
+    pub begins : IsBeginning x.plan files opening
+    -- what the sinks' files have taken are fronts of what they were to take
+    pub fronts : HasFrontsFrom (cast x.plan) opening world
