@@ -23,7 +23,7 @@ use Rattle.play_openings.specs.Assemblies.{PlayFiles}
 use Rattle.play_graphs.specs.Graphs.{kept_of}
 use Rattle.play_log.specs.Kept.{LogValue}
 use Rattle.play_streams.specs.Contents.{HasContents, PlayContents}
-use Rattle.play_streams.specs.Streams.{EachSink, HasStreams}
+use Rattle.play_streams.specs.Streams.{AreNew, HasStreams}
 use Rattle.play_run.specs.Recording.{IsBeginning, IsRecorded}
 
 -- No port prefers a supplier, so the input supplies each link.
@@ -50,10 +50,10 @@ pub record PlayingValue (S K : Type 0) : Type 0 where
   pub conductor : ConductorValue
   pub log : LogValue
 
--- The bytes that move are those of the files: from an opening where no sink's file has taken anything, whatever the components give there
+-- The bytes that move are those of the files: from an opening where each sink's file is new, whatever the components give there
 -- has its streams in the world.
 abbrev pub HasStreamsFrom : Cast → World → Play → World → Type 0
-HasStreamsFrom x opening p w = (k : PlayContents) → HasContents x k opening → EachSink x opening (λ l a s. s.written ≡ []) → HasStreams x k p w
+HasStreamsFrom x opening p w = (k : PlayContents) → HasContents x k opening → AreNew x opening → HasStreams x k p w
 
 -- each client object is in
 abbrev pub AreClientsIn : {C : Type 0} → Entries C → Type 0

@@ -17,7 +17,7 @@ use Rattle.play_worlds.specs.Worlds.{IsPlayWorld}
 use Rattle.play_openings.specs.Assemblies.{PlayFiles}
 use Rattle.play_streams.specs.Contents.{HasContents, PlayContents, network_of}
 use Rattle.play_streams.specs.Fronts.{AreFronts}
-use Rattle.play_streams.specs.Streams.{EachSink}
+use Rattle.play_streams.specs.Streams.{AreNew}
 use Rattle.play_graphs.specs.Graphs.{kept_of}
 use Rattle.play_run.specs.Recording.{IsBeginning}
 use Rattle.play_run.specs.Playing.{AreClientsIn, HaveNoWork, PlayingValue, cast}
@@ -50,9 +50,9 @@ abbrev pub outcome_of : Option PartFault → Result Bool PartFault
 outcome_of None = Ok true
 outcome_of (Some fault) = Err fault
 
--- From an opening where no sink's file has taken anything, the files of the sinks have taken fronts of their whole texts.
+-- From an opening where each sink's file is new, the files of the sinks have taken fronts of their whole texts.
 abbrev pub HasFrontsFrom : Cast → World → World → Type 0
-HasFrontsFrom x opening w = (k : PlayContents) → HasContents x k opening → EachSink x opening (λ l a s. s.written ≡ [])
+HasFrontsFrom x opening w = (k : PlayContents) → HasContents x k opening → AreNew x opening
     → (stream : ℕ → List ℕ) → ArePlain (network_of x) k.model stream → AreFronts x k w stream
 
 module _ {S K : Type 0} where

@@ -18,7 +18,7 @@ use Rattle.play_worlds.specs.Cast.{Cast, components_of, taker_of}
 use Rattle.play_worlds.specs.Worlds.{IsPlayWorld}
 use Rattle.play_streams.specs.Flowing.{flowing_in}
 use Rattle.play_streams.specs.Contents.{PlayContents, HasContents, network_of}
-use Rattle.play_streams.specs.Streams.{EachSink, HasStreams}
+use Rattle.play_streams.specs.Streams.{AreNew, HasStreams}
 use Rattle.play_streams.proofs.Bounded.{network_bounded, sound_bounded}
 use Rattle.play_streams.proofs.Keeping.{no_bytes}
 use Rattle.play_streams.proofs.Links.{flow_long}
@@ -43,9 +43,9 @@ module _ (x : Cast) (k : PlayContents) (p : Play) (w : World) (W : IsPlayWorld x
       record { given = nil ∙ S.given; taken = S.taken; flowing = ap length nil ∙ S.flowing }
 
   pub opening_has : p.phase ≤ 1 → HasContents x k w
-      → EachSink x w (λ l a s. s.written ≡ [])
+      → AreNew x w
       → HasStreams x k p w
-  opening_has e C none_written =
+  opening_has e C new =
       let O = (W.reached).opening e in
       record {
         contents = C;
@@ -53,11 +53,12 @@ module _ (x : Cast) (k : PlayContents) (p : Play) (w : World) (W : IsPlayWorld x
         flowing = λ z. opening_flow O C;
         whole = λ z. absurd (omega arith);
         done = λ z c l. absurd (omega arith);
+        new = λ l a s d sink f g. (new l a s d sink f g).0;
         sinks = λ l a s d sink f g.
             let c : ℕ = taker_of x l in
             let A = W.actors c a (((W.cast).layout).network.inside l d) f in
             let done = at_there (stream_of (number_of a) w) (λ z. z.frames ≡ (p.flow).done c) s g A.done in
-            inr (none_written l a s d sink f g, done ∙ O.done c, O.going c);
+            inr ((new l a s d sink f g).1, done ∙ O.done c, O.going c);
       }
 
   -- ---- the next state is begun
@@ -77,5 +78,6 @@ module _ (x : Cast) (k : PlayContents) (p : Play) (w : World) (W : IsPlayWorld x
         done = λ e c b. either (nat_eq p.phase 2)
             (λ t. let two : p.phase ≡ 2 = eqb-true _ _ t in (complete (network_of x) p.flow net_is (sound_is (omega arith)) (all two)).done c b)
             (λ t. let n = eqb-false _ _ t in H.done (omega arith) c b);
+        new = H.new;
         sinks = H.sinks;
       }

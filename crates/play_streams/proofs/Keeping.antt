@@ -175,6 +175,7 @@ module _ (x : Cast) (k : PlayContents) (p q : Play) (w v : World) (W : IsPlayWor
     flowing = λ e. streams_same (omega arith);
     whole = λ e. H.whole (omega arith);
     done = λ e c l. done_same c l ∙ H.done (omega arith) c l;
+    new = λ l b s d sink e f. let R = was (taker_of x l) b e in H.new l R.component s d sink R.there (sym R.stream ∙ f);
     sinks = λ l b s d sink e f.
         let c : ℕ = taker_of x l in
         let R = was c b e in

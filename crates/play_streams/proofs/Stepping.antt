@@ -1,5 +1,5 @@
 -- A work comes back without a fault: the streams of the world are the model's after its step, and a sink's file took what the step writes.
-use Rattle.std.proofs.Common.{◌≡◌, ◌≢◌, inl, inr, ℕ, ◌+◌, ◌*◌, ◌<◌, ◌≤◌, Bool, true, false, nat_eq, if◌then◌else◌, List, ◌++◌, length, drop, take, slice_get, Option, Some, None, MatchOption, refl, sym, ◌∙◌, ap, subst, eq-eqb, ne_eqb, arith}
+use Rattle.std.proofs.Common.{[], ◌≡◌, ◌≢◌, inl, inr, ℕ, ◌+◌, ◌*◌, ◌<◌, ◌≤◌, Bool, true, false, nat_eq, if◌then◌else◌, List, ◌++◌, length, drop, take, slice_get, Option, Some, None, MatchOption, refl, sym, ◌∙◌, ap, subst, eq-eqb, ne_eqb, arith}
 use Rattle.std.proofs.lemmas.Bool.{cases_eq}
 use Rattle.omx_types.specs.declared.fault.PartFault.{PartFault}
 use Rattle.part_api.specs.Terms.{Terms}
@@ -208,6 +208,20 @@ module _ (x : Cast) (p : Play) (w : World) (c : ℕ) (a : Component) (W : IsPlay
             (subst (λ (u : List ℕ). HasSunk (terms_of Z.component) z ((p.flow).ended r) u) (sym taken) old))
       ]
 
+  new_after : (l : ℕ) (y : Component) (z : Stream) → l < links_of x → (x.layout).is_sink (taker_of x l) ≡ true → slice_get v.components (script_place x (taker_of x l)) ≡ Some y → stream_of (number_of y) v ≡ Some z → z.known ≡ Some []
+  new_after l y z d sink h j =
+      let r : ℕ = taker_of x l in
+      let Z = was r y h in
+      elim (cases_eq r c) [
+        | inl o ↦
+            let at : slice_get w.components (script_place x r) ≡ Some a = ap (λ (u : ℕ). slice_get w.components (script_place x u)) o ∙ e in
+            let same : Z.component ≡ a = let q : Some Z.component ≡ Some a = sym Z.there ∙ at in cc in
+            let now : stream_of (number_of y) v ≡ Some (gone_through its s) = ap (λ (u : ℕ). stream_of u v) (Z.number ∙ ap number_of same) ∙ gone in
+            let is : gone_through its s ≡ z = let q : Some (gone_through its s) ≡ Some z = sym now ∙ j in cc in
+            ap (λ (u : Stream). u.known) (sym is) ∙ H.new l a s d sink at g
+        | inr o ↦ H.new l Z.component z d sink Z.there (sym (beside r y Z ((((W.cast).layout).network).inside l d) o) ∙ j)
+      ]
+
   pub step_streams : HasStreams x k q v
   step_streams = record {
     contents = contents_after;
@@ -215,6 +229,7 @@ module _ (x : Cast) (p : Play) (w : World) (c : ℕ) (a : Component) (W : IsPlay
     flowing = λ l. flowing_after;
     whole = λ l. let z = early in absurd (omega arith);
     done = λ l. let z = early in absurd (omega arith);
+    new = new_after;
     sinks = sinks_after;
   }
 

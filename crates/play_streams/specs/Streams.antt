@@ -31,6 +31,10 @@ abbrev pub EachSink : Cast → World → (ℕ → Component → Stream → Type 
 EachSink x w P = (l : ℕ) (a : Component) (s : Stream) → l < links_of x → (x.layout).is_sink (taker_of x l) ≡ true
     → slice_get w.components (script_place x (taker_of x l)) ≡ Some a → stream_of (number_of a) w ≡ Some s → P l a s
 
+-- each sink's file came empty, and has taken nothing
+abbrev pub AreNew : Cast → World → Type 0
+AreNew x w = EachSink x w (λ l a s. (s.known ≡ Some []) × (s.written ≡ []))
+
 -- each input has taken the whole stream of its link, which the plain functions give
 abbrev pub HasAll : Cast → PlayContents → (ℕ → List ℕ) → Type 0
 HasAll x k taken = (stream : ℕ → List ℕ) → ArePlain (network_of x) k.model stream → (l : ℕ) → l < links_of x → taken l ≡ stream l
@@ -43,4 +47,6 @@ pub record HasStreams (x : Cast) (k : PlayContents) (p : Play) (w : World) : Typ
   pub flowing : p.phase ≤ 2 → AreStreams (network_of x) k.model p.flow (record { taken = taken; flowing = flowing_in x w })
   pub whole : 3 ≤ p.phase → HasAll x k taken
   pub done : 3 ≤ p.phase → (c : ℕ) → c < components_of x → (p.flow).done c ≡ ((x.layout).network).frames c
+  -- each sink's file was empty when it came
+  pub new : EachSink x w (λ l a s. s.known ≡ Some [])
   pub sinks : EachSink x w (λ l a s. HasSunk (terms_of a) s ((p.flow).ended (taker_of x l)) (taken l))

@@ -25,13 +25,13 @@ ghost use Rattle.play_worlds.specs.Standing.{target};
 ghost use Rattle.play_worlds.specs.Worlds.{IsPlayWorld, Names};
 ghost use Rattle.play_streams.specs.Contents.{HasContents, PlayContents, network_of};
 ghost use Rattle.play_streams.specs.Fronts.{AreFronts, AreWritten};
-ghost use Rattle.play_streams.specs.Streams.{EachSink, HasStreams};
+ghost use Rattle.play_streams.specs.Streams.{AreNew, HasStreams};
 
 /// A world in which nothing flowed yet, and no sink's file took anything, has streams; so it has as the conductor begins the next
 /// StateSet, and as it is read as another play in the same phase.
 pub fn law_of_begun_streams()
     ensures opened { (x : Cast) (k : PlayContents) (p : Play) (w : World) → IsPlayWorld x p w → p.phase ≤ 1 → HasContents x k w
-        → EachSink x w (λ l a s. s.written ≡ []) → HasStreams x k p w }
+        → AreNew x w → HasStreams x k p w }
     ensures begun { (x : Cast) (k : PlayContents) (p : Play) (w : World) → IsPlayWorld x p w → CanAct x.layout p Act.Begin
         → HasStreams x k p w → HasStreams x k (acted x.layout Act.Begin p) w }
     ensures read { (x : Cast) (k : PlayContents) (p q : Play) (w : World) → IsPlayWorld x p w → HasStreams x k p w
