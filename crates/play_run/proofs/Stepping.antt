@@ -258,6 +258,7 @@ module _ {S K : Type 0} where
         record {
           world = v.0;
           stands = v.1;
+          valid = Z.valid;
           works = works_in (cast y.plan) p Z.world c h Z.play b N Z.works shut (Some fault) frames v.0 v.2;
           clients = keeps_in m.core g.core K2 (keeps_in y.graph.core m.core K1 Z.clients);
           play = p;

@@ -29,11 +29,10 @@ use Rattle.machine_laws.proofs.Steps.{sound_step}
 use Rattle.note_queues.specs.Queues.{taken_of}
 use Rattle.note_queues.specs.declared.taken.Taken.{Taken as Given_}
 use Rattle.note_queues.specs.declared.taken.Taken.TheVariants as given
-use Rattle.graph_core.specs.Clients.{AreTold, IsPortDone, KeepsClients, WasTold}
+use Rattle.graph_core.specs.Clients.{AreTold, KeepsClients, WasTold}
 use Rattle.graph_core.specs.Entries.{Entries, client_named, client_of}
 use Rattle.graph_core.proofs.Registering.{same_fields}
 use Rattle.il_graph.specs.Shown.{Shown}
-use Rattle.il_graph.proofs.PortsDone.{done_moved}
 use Rattle.play_model.specs.Play.{Play}
 use Rattle.play_model.specs.Acts.{Act, CanAct}
 use Rattle.play_loop.specs.Turns.{CanNone, SomePlay}
@@ -54,7 +53,7 @@ use Rattle.play_plans.specs.Casting.{place_of as place_in}
 use Rattle.play_graphs.specs.Graphs.{IsHandleAt, client_progress, kept_of}
 use Rattle.play_run.specs.Playing.{AreClientsIn, IsPlaying, IsStanding, PlayingValue, TurnsTo, cast}
 use Rattle.play_run.specs.Recording.{IsNameAt, IsTold}
-use Rattle.play_run.specs.Turning.{IsEvent, IsTelling, told_by}
+use Rattle.play_run.specs.Turning.{IsEvent, IsTelling}
 use Rattle.play_streams.proofs.Acts.{end_streams, take_streams}
 use Rattle.play_run.proofs.Naming.{all_clients_in}
 use Rattle.play_run.proofs.Working.{still_none}
@@ -239,12 +238,6 @@ module _ {S K : Type 0} where
 
     pub is_event_in : SomePlay (IsPlaying y) → IsEvent taken
     is_event_in (p, Y) = let T = is_taken p Y.standing in subst IsEvent (sym (event_is taken T.event T.is)) tt
-
-    pub port_done_in : SomePlay (IsPlaying y) → (client told : Progress) → told ≡ told_by taken client → IsPortDone client.port → IsPortDone told.port
-    port_done_in (p, Y) client told t d =
-        let T = is_taken p Y.standing in
-        let is : told ≡ moved_by T.event client = t ∙ ap (λ (n : Given_). told_by n client) (event_is taken T.event T.is) in
-        subst (λ (q : Progress). IsPortDone q.port) (sym is) (done_moved T.event client d)
 
     pub tell_turns_in : (g : Shown S K Progress) (log : LogValue) (event : Event) (client told : Progress) → taken ≡ given.Told event → told ≡ moved_by event client → HasLines y.plan.parts place event y.log log → Always (kept_of y.graph) (AreTold client_progress y.graph.core) → client_of h y.graph.core ≡ Some client
         → KeepsClients h y.graph.core m.core → KeepsClients h m.core g.core → client_of h g.core ≡ Some told → StepsWhere (kept_of m) (kept_of g) (WasTold h told) (λ w v. EndNote w h v)

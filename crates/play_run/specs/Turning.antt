@@ -1,7 +1,5 @@
 -- The acts that a call of a play tries, and what a note tells.
-use Rattle.std.specs.Prelude.{◌≡◌, ◌⊎◌, ℕ, Bool, true, Option, None, Some, Result, Ok, Err, List, []}
-use Rattle.il_machine.specs.declared.answer.Progress.{Progress}
-use Rattle.il_machine.specs.Components.{moved_by}
+use Rattle.std.specs.Prelude.{◌≡◌, ◌⊎◌, ℕ, Bool, List, Some}
 use Rattle.note_queues.specs.declared.taken.Taken.{Taken}
 use Rattle.note_queues.specs.declared.taken.Taken.TheVariants.{Told}
 use Rattle.omx_types.specs.declared.fault.PartFault.{PartFault}
@@ -9,6 +7,7 @@ use Rattle.il_machine.specs.World.{World}
 use Rattle.il_machine.specs.Stepping.{WorkDone}
 use Rattle.il_machine.specs.Finishing.{Finish}
 use Rattle.il_machine.specs.Whole.{Stands}
+use Rattle.play_forms.specs.Plans.{IsValid}
 use Rattle.play_model.specs.Acts.{Act}
 use Rattle.play_model.specs.Play.{Play}
 use Rattle.flow_model.specs.Content.{ArePlain}
@@ -38,17 +37,7 @@ abbrev pub IsEvent : Taken → Type 0
 IsEvent (Told event) = Unit {0}
 IsEvent other = ⊥
 
--- the progress of one who was told the note
-abbrev pub told_by : Taken → Progress → Progress
-told_by (Told event) client = moved_by event client
-told_by other client = client
-
 -- ---- a part fails
-
--- what a step comes to, by its fault
-abbrev pub outcome_of : Option PartFault → Result Bool PartFault
-outcome_of None = Ok true
-outcome_of (Some fault) = Err fault
 
 -- From an opening where each sink's file is new, the files of the sinks have taken fronts of their whole texts.
 abbrev pub HasFrontsFrom : Cast → World → World → Type 0
@@ -60,6 +49,7 @@ module _ {S K : Type 0} where
   pub record HasFailed (x : PlayingValue S K) (fault : PartFault) : Type 0 where
     pub world : World
     pub stands : Stands (kept_of x.graph) world
+    pub valid : IsValid x.plan
     pub works : HaveNoWork world
     pub clients : AreClientsIn x.graph.core
     pub play : Play

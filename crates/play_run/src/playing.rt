@@ -96,4 +96,18 @@ impl<S: Source, K: Sink> Playing<S, K> {
         end_graph(graph, &plan, files);
         log
     }
+
+    /// Takes a play apart that didn't come to its end. Its graph stands as it was left, and is to be ended.
+    pub fn into_graph(self) -> (Graph<S, K, PlayClient>, Plan)
+        ensures graph { result.0 ≡ self.graph }
+        ensures plan { result.1 ≡ self.plan }
+    {
+        let Playing {
+            graph,
+            plan,
+            conductor: _conductor,
+            log: _log,
+        } = self;
+        (graph, plan)
+    }
 }
