@@ -21,8 +21,8 @@ pub trait Player {
     /// What its turns lead to beside the plays, as long as no part fails.
     ghost Leads: { Self → Self → Type 0 };
 
-    /// What holds once a part has failed.
-    ghost HasFailed: { Self → Self.Fault → Type 0 };
+    /// What a turn in which a part fails leads to.
+    ghost Fails: { Self → Self → Self.Fault → Type 0 };
 
     fn components(&self) -> u32
         requires { SomePlay (Plays self.now) }
@@ -53,7 +53,7 @@ pub trait Player {
         ensures turned { IfOk result (λ acted. TurnsOf (layout self.old) (Plays self.old) (Plays self.new) acted
             (IsOfComponent (layout self.old) component)) }
         ensures leads { OnOk result (Leads self.old self.new) }
-        ensures failed { IfErr result (HasFailed self.new) };
+        ensures failed { IfErr result (Fails self.old self.new) };
 
     /// A header is made, unmade, handed over, handed back, as far as each can be.
     fn link_turn(&mut self, link: u32) -> bool
@@ -66,6 +66,8 @@ pub trait Player {
     ghost leads_to_itself: { (x : Self) → Leads x x };
 
     ghost leads_on: { (x y z : Self) → Leads x y → Leads y z → Leads x z };
+
+    ghost fails_on: { (x y z : Self) (fault : Self.Fault) → Leads x y → Fails y z fault → Fails x z fault };
 }
 
 /// One round over the conductor, the components and the links. Something was accepted, since something can be.
@@ -75,7 +77,7 @@ fn round<P: Player>(player: &mut P) -> Result<bool, P::Fault>
     ensures round { IfOk result (λ did. RoundsOf (P.layout player.old) (P.Plays player.old) (P.Plays player.new) did
         (P.layout player.old).network.components (P.layout player.old).network.links) }
     ensures leads { OnOk result (P.Leads player.old player.new) }
-    ensures failed { IfErr result (P.HasFailed player.new) }
+    ensures failed { IfErr result (P.Fails player.old player.new) }
 {
     let mut did = player.send();
     let components = player.components();
@@ -98,7 +100,7 @@ pub fn play_on<P: Player>(player: &mut P) -> Result<(), P::Fault>
     ensures over { OnOk result (EndsOf (P.layout player.old) (P.Plays player.old) (P.Plays player.new)) }
     ensures all { OnOk result (AreOver (P.layout player.new) (P.Plays player.new)) }
     ensures leads { OnOk result (P.Leads player.old player.new) }
-    ensures failed { IfErr result (P.HasFailed player.new) }
+    ensures failed { IfErr result (P.Fails player.old player.new) }
 {
     // Each round makes an act, and a play has fewer.
     for _round in 0..u128::MAX {

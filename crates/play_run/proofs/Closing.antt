@@ -36,6 +36,10 @@ use Rattle.play_run.specs.Logging.{IsKeptTo}
 use Rattle.play_run.specs.Playing.{IsPlaying, IsStanding, LeadsOn, PlayingValue, cast, layout_of}
 use Rattle.play_loop.specs.Turns.{AreOver}
 use Rattle.play_openings.specs.Assemblies.{PlayFiles}
+use Rattle.std.specs.Prelude.{IfErr}
+use Rattle.play_loop.specs.Turns.{SomePlay}
+use Rattle.play_run.specs.declared.failure.Failure.{Failure}
+use Rattle.play_run.specs.Turning.{FailsOn, HasFailed, HasFailedWith}
 use Rattle.play_run.specs.Closing.{HasBegun, HasPlayed, HasPlayedWith, KeepsLog}
 use Rattle.play_graphs.proofs.Standing.{givers_there, takers_there}
 use Rattle.play_run.proofs.Linking.{link_is}
@@ -282,3 +286,12 @@ module _ {S K : Type 0} (x : PlayingValue S K) where
 pub has_played : {S K E : Type 0} (old new : PlayingValue S K) (r : Result (Unit {0}) E) → OnOk r (AreOver (layout_of new.plan) (IsPlaying new)) → OnOk r (LeadsOn old new) → OnOk r ((given : PlayFiles) → HasBegun old given → HasPlayedWith new given)
 has_played old new (Ok done) over leads = λ given begun. let q = leads.plays begun.0 begun.1 in (q.0, q.1, over q.0 q.1, q.2 ∙ begun.2)
 has_played old new (Err e) over leads = tt
+
+-- where a part failed, it did in one that began with the same files
+pub has_failed : {S K : Type 0} (old new : PlayingValue S K) (r : Result (Unit {0}) Failure) → SomePlay (IsPlaying old) → IfErr r (FailsOn old new) → IfErr r (HasFailed new)
+has_failed old new (Ok done) some fails = tt
+has_failed old new (Err failure) (p, Y) fails = (fails.fails p Y).0
+
+pub has_failed_with : {S K : Type 0} (old new : PlayingValue S K) (r : Result (Unit {0}) Failure) → IfErr r (FailsOn old new) → IfErr r (λ failure. (given : PlayFiles) → HasBegun old given → HasFailedWith new failure given)
+has_failed_with old new (Ok done) fails = tt
+has_failed_with old new (Err failure) fails = λ given begun. let F = fails.fails begun.0 begun.1 in (F.0, F.1 ∙ begun.2)

@@ -50,7 +50,7 @@ use Rattle.play_plans.specs.Casting.{place_of}
 use Rattle.play_graphs.specs.Graphs.{IsHandleAt, kept_of}
 use Rattle.play_run.specs.Playing.{HaveNoWork, IsPlaying, PlayingValue, TurnsTo, cast}
 use Rattle.play_run.specs.Recording.{IsNameAt, IsTold}
-use Rattle.play_run.specs.Turning.{HasFailed, IsStepOf}
+use Rattle.play_run.specs.Turning.{FailsOn, IsStepOf}
 use Rattle.play_run.proofs.Working.{all_in, none_out}
 use Rattle.play_run.proofs.Commanding.{component_named_in}
 use Rattle.play_run.proofs.Recording.{is_player, one_more}
@@ -247,29 +247,35 @@ module _ {S K : Type 0} where
         (works_came (cast y.plan) p Z.world c h Z.play b N Z.works shut frames v.0 v.2))
         b J H
 
-    pub step_fails : (log : LogValue) (frames : ℕ) (fault : PartFault) → ((w : World) → Stands (kept_of y.graph) w → (v : World) × Stands (kept_of g) v × IsWorked h (Some fault) frames w v) → SomePlay (IsPlaying x) → HasFailed (with_both y g log) fault
-    step_fails log frames fault worked (p, Y) =
-        subst (λ (z : PlayingValue S K). c < length z.plan.parts → place ≡ place_of z.plan c → IsHandleAt z.graph place h → (p : Play) → IsPlaying z p → HasFailed (with_both y g log) fault) is
-        (λ b J H p Y.
-        let Z = Y.standing in
-        let N = component_named_in y c place h J H p Z in
-        let v = worked Z.world Z.stands in
-        let shut = closed Z.world Z.stands in
-        record {
-          world = v.0;
-          stands = v.1;
-          valid = Z.valid;
-          works = works_in (cast y.plan) p Z.world c h Z.play b N Z.works shut (Some fault) frames v.0 v.2;
-          clients = keeps_in m.core g.core K2 (keeps_in y.graph.core m.core K1 Z.clients);
-          play = p;
-          before = (v.2).between;
-          played = between_plays (cast y.plan) p Z.world c h Z.play b N Z.works shut (Some fault) frames v.0 v.2;
-          done = (v.2).done;
-          failed = (v.2).faults;
-          finishes = (v.2).comes;
-          files = Z.files;
-          opening = Z.opening;
-          begins = Z.begins;
-          fronts = λ k C E. failed_streams (cast y.plan) p Z.world c h Z.play b N Z.works shut fault frames v.0 v.2 k (Z.streams k C E);
+    pub step_fails : (log : LogValue) (frames : ℕ) (fault : PartFault) → ((w : World) → Stands (kept_of y.graph) w → (v : World) × Stands (kept_of g) v × IsWorked h (Some fault) frames w v) → FailsOn x (with_both y g log) (record { component = place; fault = fault })
+    step_fails log frames fault worked =
+        subst (λ (z : PlayingValue S K). c < length z.plan.parts → place ≡ place_of z.plan c → IsHandleAt z.graph place h → FailsOn z (with_both y g log) (record { component = place; fault = fault })) is
+        (λ b J H. record {
+          plan = refl;
+          fails = λ p Y.
+              let Z = Y.standing in
+              let N = component_named_in y c place h J H p Z in
+              let v = worked Z.world Z.stands in
+              let shut = closed Z.world Z.stands in (
+                record {
+                  world = v.0;
+                  stands = v.1;
+                  valid = Z.valid;
+                  works = works_in (cast y.plan) p Z.world c h Z.play b N Z.works shut (Some fault) frames v.0 v.2;
+                  clients = keeps_in m.core g.core K2 (keeps_in y.graph.core m.core K1 Z.clients);
+                  play = p;
+                  before = (v.2).between;
+                  played = between_plays (cast y.plan) p Z.world c h Z.play b N Z.works shut (Some fault) frames v.0 v.2;
+                  done = (v.2).done;
+                  its = (v.2).its ∙ (number_is (cast y.plan) p Z.world c h Z.play b N Z.works ∙ sym J);
+                  failed = (v.2).faults;
+                  finishes = (v.2).comes;
+                  files = Z.files;
+                  opening = Z.opening;
+                  begins = Z.begins;
+                  fronts = λ k C E. failed_streams (cast y.plan) p Z.world c h Z.play b N Z.works shut fault frames v.0 v.2 k (Z.streams k C E);
+                },
+                refl,
+              );
         })
-        b J H p Y
+        b J H

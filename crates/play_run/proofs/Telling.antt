@@ -270,7 +270,7 @@ module _ {S K : Type 0} where
         let R = one_more y.plan.parts Z.opening w middle y.log L.between Z.recorded L.first (acts.TakeNote h) (acts.Took (Ok (TookNote (TakenEvent event)))) L.told_first (L.says_first s place (L.named).part h P) refl tt took_event tt (λ n. refl) in
         let Q = one_more y.plan.parts Z.opening middle u.0 L.between log R L.second (acts.EndNote h told) acts.Ended L.told_second (L.says_second told s place (L.named).part h P) refl met u.2 tt (λ n. refl) in
         let F : true ≡ true → StreamsGo x p Z.opening u.0 = λ t q W ph k D E.
-            end_streams x k p q middle u.0 T.play (take_streams x k p p w middle Z.play (Z.streams k D E) T.play refl c h b N (Ok (TookNote (taken_of taken))) took) W ph c h b (mid_named x p w c h Z.play b N at.0 at.1 o T.event) u.2 in
+        end_streams x k p q middle u.0 T.play (take_streams x k p p w middle Z.play (Z.streams k D E) T.play refl c h b N (Ok (TookNote (taken_of taken))) took) W ph c h b (mid_named x p w c h Z.play b N at.0 at.1 o T.event) u.2 in
         turn_goes y g log p u.0 true (IsTelling c) Y u.1 after (in_after y.graph.core m.core g.core h told K1 K2 C Z.clients) (λ f. absurd cc) (λ f. absurd cc) (λ e. Q) F
         (tells x p w c h Z.play b N at.0 at.1 o T.event T.play u.0 u.2)
 

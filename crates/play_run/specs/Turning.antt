@@ -2,7 +2,7 @@
 use Rattle.std.specs.Prelude.{◌≡◌, ◌⊎◌, ℕ, Bool, List, Some}
 use Rattle.note_queues.specs.declared.taken.Taken.{Taken}
 use Rattle.note_queues.specs.declared.taken.Taken.TheVariants.{Told}
-use Rattle.omx_types.specs.declared.fault.PartFault.{PartFault}
+use Rattle.play_run.specs.declared.failure.Failure.{Failure}
 use Rattle.il_machine.specs.World.{World}
 use Rattle.il_machine.specs.Stepping.{WorkDone}
 use Rattle.il_machine.specs.Finishing.{Finish}
@@ -19,7 +19,7 @@ use Rattle.play_streams.specs.Fronts.{AreFronts}
 use Rattle.play_streams.specs.Streams.{AreNew}
 use Rattle.play_graphs.specs.Graphs.{kept_of}
 use Rattle.play_run.specs.Recording.{IsBeginning}
-use Rattle.play_run.specs.Playing.{AreClientsIn, HaveNoWork, PlayingValue, cast}
+use Rattle.play_run.specs.Playing.{AreClientsIn, HaveNoWork, IsPlaying, PlayingValue, cast}
 
 -- the other end of the link hands back a header that it filled or emptied, or one that it didn't use
 abbrev pub IsBack : ℕ → Act → Type 0
@@ -45,8 +45,8 @@ HasFrontsFrom x opening w = (k : PlayContents) → HasContents x k opening → A
     → (stream : ℕ → List ℕ) → ArePlain (network_of x) k.model stream → AreFronts x k w stream
 
 module _ {S K : Type 0} where
-  -- The graph stands for what a step with that fault left of a world of the play. No work and no client object is out.
-  pub record HasFailed (x : PlayingValue S K) (fault : PartFault) : Type 0 where
+  -- The graph stands for what the step that failed left of a world of the play. No work and no client object is out.
+  pub record HasFailed (x : PlayingValue S K) (failure : Failure) : Type 0 where
     pub world : World
     pub stands : Stands (kept_of x.graph) world
     pub valid : IsValid x.plan
@@ -56,10 +56,21 @@ module _ {S K : Type 0} where
     pub before : World
     pub played : IsPlayWorld (cast x.plan) play before
     pub done : WorkDone
-    pub failed : done.fault ≡ Some fault
+    pub its : done.component ≡ failure.component
+    pub failed : done.fault ≡ Some failure.fault
     pub finishes : Finish before done world
     pub files : PlayFiles
     pub opening : World
     pub begins : IsBeginning x.plan files opening
     -- what the sinks' files have taken are fronts of what they were to take
     pub fronts : HasFrontsFrom (cast x.plan) opening world
+
+  -- so it is, and the play began with the files
+  abbrev pub HasFailedWith : PlayingValue S K → Failure → PlayFiles → Type 0
+  HasFailedWith x failure given = (F : HasFailed x failure) × (F.files ≡ given)
+
+  -- The plan stays, and from each play that the one stands for a step that failed leads to what the other stands for. It began with the
+  -- same files.
+  pub record FailsOn (x y : PlayingValue S K) (failure : Failure) : Type 0 where
+    pub plan : y.plan ≡ x.plan
+    pub fails : (p : Play) (Y : IsPlaying x p) → HasFailedWith y failure Y.standing.files

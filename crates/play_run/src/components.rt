@@ -10,8 +10,9 @@ ghost use Rattle.il_graph.specs.declared.claimed.Claimed.TheVariants as answers;
 ghost use Rattle.play_model.specs.Acts.{Act};
 ghost use Rattle.play_loop.specs.Turns.{SomePlay};
 ghost use Rattle.play_run.specs.Playing.{IsAct, IsPlaying, TurnsTo};
-ghost use Rattle.play_run.specs.Turning.{HasFailed, IsEvent, IsStepOf, IsTelling};
+ghost use Rattle.play_run.specs.Turning.{FailsOn, IsEvent, IsStepOf, IsTelling};
 
+use crate::failure::Failure;
 use crate::lines::{name_at, tell};
 use crate::links::did;
 use crate::playing::Playing;
@@ -19,7 +20,7 @@ use conductor::PlayClient;
 use il_graph::{Call, Claimed, Client, Took, Work};
 use log_texts::{claimed, ended, finished, ran, took};
 use note_queues::Taken;
-use omx_types::{Event, PartFault};
+use omx_types::Event;
 use outside_io::{Sink, Source};
 
 /// The event that the note tells.
@@ -104,12 +105,12 @@ impl<S: Source, K: Sink> Playing<S, K> {
     }
 
     /// The component's part does a step.
-    pub(crate) fn step(&mut self, component: u32) -> Result<bool, PartFault>
+    pub(crate) fn step(&mut self, component: u32) -> Result<bool, Failure>
         requires there { component < length self.old.plan.parts }
         requires stands { SomePlay (IsPlaying self.old) }
         ensures plan { self.new.plan ≡ self.old.plan }
         ensures turned { IfOk result (λ acted. TurnsTo self.old self.new acted (IsStepOf component)) }
-        ensures failed { IfErr result (HasFailed self.new) }
+        ensures failed { IfErr result (FailsOn self.old self.new) }
     {
         let place = self.place(component);
         let h = self.handle(place);
@@ -133,7 +134,10 @@ impl<S: Source, K: Sink> Playing<S, K> {
                 tell(&mut self.log, &finished(name, frames));
                 Ok(true)
             }
-            Some(fault) => Err(fault),
+            Some(fault) => Err(Failure {
+                component: place,
+                fault,
+            }),
         }
     }
 }

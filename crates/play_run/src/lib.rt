@@ -3,6 +3,7 @@
 #![tactic(auto)]
 
 mod components;
+mod failure;
 mod handles;
 mod laws;
 mod lines;
@@ -12,5 +13,6 @@ mod playing;
 mod sending;
 mod words;
 
+pub use failure::Failure;
 pub use laws::law_of_play_logs;
 pub use playing::Playing;

@@ -1,16 +1,16 @@
 //! A play is played by the loop of `play_loop`.
 
+use crate::failure::Failure;
 use crate::playing::Playing;
-use omx_types::PartFault;
 use outside_io::{Sink, Source};
 use play_loop::Player;
 
 impl<S: Source, K: Sink> Player for Playing<S, K> {
     ghost use Rattle.play_run.specs.Playing.{IsPlaying, LeadsOn, layout_of};
-    ghost use Rattle.play_run.specs.Turning.{HasFailed};
-    ghost use Rattle.play_run.specs.Leading.{leads_on, leads_to_itself};
+    ghost use Rattle.play_run.specs.Turning.{FailsOn};
+    ghost use Rattle.play_run.specs.Leading.{fails_on, leads_on, leads_to_itself};
 
-    type Fault = PartFault;
+    type Fault = Failure;
 
     ghost layout = { λ x. layout_of x.plan };
 
@@ -18,7 +18,7 @@ impl<S: Source, K: Sink> Player for Playing<S, K> {
 
     ghost Leads = { λ x y. LeadsOn x y };
 
-    ghost HasFailed = { λ x. HasFailed x };
+    ghost Fails = { λ x y. FailsOn x y };
 
     fn components(&self) -> u32 {
         self.count()
@@ -36,7 +36,7 @@ impl<S: Source, K: Sink> Player for Playing<S, K> {
         self.conduct()
     }
 
-    fn component_turn(&mut self, component: u32) -> Result<bool, PartFault> {
+    fn component_turn(&mut self, component: u32) -> Result<bool, Failure> {
         let told = self.tell(component);
         let ran = self.run(component);
         let stepped = self.step(component)?;
@@ -54,4 +54,6 @@ impl<S: Source, K: Sink> Player for Playing<S, K> {
     ghost leads_to_itself = { λ x. leads_to_itself x };
 
     ghost leads_on = { λ x y z. leads_on x y z };
+
+    ghost fails_on = { λ x y z failure. fails_on x y z failure };
 }

@@ -1,10 +1,10 @@
 //! What a play keeps.
 
+use crate::failure::Failure;
 use crate::words::law_of_words;
 use audio_parts::PartFile;
 use conductor::{Conductor, PlayClient};
 use il_graph::{Graph, OutOfMemory};
-use omx_types::PartFault;
 use outside_io::{Sink, Source};
 use play_graphs::{end_graph, make_graph};
 use play_log::Log;
@@ -37,7 +37,7 @@ impl<S: Source, K: Sink> Playing<S, K> {
     ghost use Rattle.play_graphs.specs.Making.{AreGone, AreOffered, CanMake};
     ghost use Rattle.play_run.specs.Closing.{GivesBack, HasBegun, HasPlayed, HasPlayedWith, KeepsLog};
     ghost use Rattle.play_run.specs.Playing.{IsPlaying, layout_of};
-    ghost use Rattle.play_run.specs.Turning.{HasFailed};
+    ghost use Rattle.play_run.specs.Turning.{HasFailed, HasFailedWith};
 
     /// A play of the plan that is ready to begin. Its files stand by the places of their components; where memory is wanted they stay.
     pub fn new(
@@ -67,13 +67,15 @@ impl<S: Source, K: Sink> Playing<S, K> {
     }
 
     /// Plays to the end, or until a part fails.
-    pub fn play(&mut self) -> Result<(), PartFault>
+    pub fn play(&mut self) -> Result<(), Failure>
         requires { CanPlay (layout_of self.old.plan) (IsPlaying self.old) 340282366920938463463374607431768211455 }
         ensures layout { layout_of self.new.plan ≡ layout_of self.old.plan }
         ensures over { OnOk result (EndsOf (layout_of self.old.plan) (IsPlaying self.old) (IsPlaying self.new)) }
         ensures plan { OnOk result (self.new.plan ≡ self.old.plan) }
         ensures played { OnOk result ((given : PlayFiles) → HasBegun self.old given → HasPlayedWith self.new given) }
         ensures failed { IfErr result (HasFailed self.new) }
+        ensures stopped { OnErr result (self.new.plan ≡ self.old.plan) }
+        ensures failed_with { IfErr result (λ failure. (given : PlayFiles) → HasBegun self.old given → HasFailedWith self.new failure given) }
     {
         play_on(self)
     }

@@ -1,8 +1,10 @@
-use Rattle.std.proofs.Common.{◌∙◌}
+use Rattle.std.proofs.Common.{rules, IfErr, ◌∙◌}
+use Rattle.std.proofs.lemmas.Result.{IfErr-weaker}
 use Rattle.play_model.specs.Acts.{Act}
 use Rattle.play_loop.specs.Turns.{IsOfComponent}
 use Rattle.play_run.specs.Playing.{IsAct, layout_of}
-use Rattle.play_run.specs.Turning.{IsTelling}
+use Rattle.play_run.specs.Turning.{FailsOn, IsTelling}
+use Rattle.play_run.specs.Leading.{fails_on, leads_on}
 use Rattle.play_run.proofs.Answering.{leads_of, turned_of}
 use Rattle.play_run.proofs.Rounding.{actor_turn, some_next}
 use Rattle.play_run.proofs.player.PlayingPlayer.component_turn.Goals as goal
@@ -30,3 +32,12 @@ returns-clause-leads g c =
     let b = c.run-ran in
     leads_of x c.step.new.self _ (IsOfComponent (layout_of x.plan) c.args.component) (c.step.ensures.plan ∙ (b.ensures.plan ∙ a.ensures.plan))
     (actor_turn x a.new.self b.new.self c.step.new.self c.args.component a.result b.result c.in_ok-stepped.stepped a.ensures.plan b.ensures.plan a.ensures.turned b.ensures.turned c.in_ok-stepped.ensures.turned)
+
+pub returns-in_err-stepped-clause-failed : goal.returns-in_err-stepped-clause-failed
+returns-in_err-stepped-clause-failed g c =
+    let x = c.args.self.now in
+    let a = c.tell-told in
+    let b = c.run-ran in
+    let failed : IfErr c.from_residual.result (FailsOn b.new.self c.step.new.self) = search rules in
+    let leads = leads_on x a.new.self b.new.self (leads_of x a.new.self a.result (IsTelling c.args.component) a.ensures.plan a.ensures.turned) (leads_of a.new.self b.new.self b.result (IsAct (Act.Run c.args.component)) b.ensures.plan b.ensures.turned) in
+    IfErr-weaker c.from_residual.result _ _ (λ failure fails. fails_on x b.new.self c.step.new.self failure leads fails) failed

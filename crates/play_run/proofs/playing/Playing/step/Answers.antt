@@ -94,4 +94,4 @@ returns-in-Some-fault-clause-failed g c =
     let run = c.run-done.ensures in
     let done = worked (kept_of c.self.inside.graph) (kept_of c.claim.new.self) (kept_of c.finish.new.self) h t _ work c.run-done.result _ _ c.law_of_worlds.ensures.sound steps run.component set_so run.step run.announced (λ a. rw (run.unstepped a) refl) its (Some c.in-Some-fault.fault) c.frames-frames.result (sym c.fault-fault.ensures ∙ c.in-Some-fault.is) (sym c.frames-frames.ensures) c.finish.ensures.step in
     step_fails _ c.args.self.now c.self.view_is c.claim.new.self c.finish.new.self c.args.component c.place-place.result h c.requires.there c.place-place.ensures c.handle-h.ensures
-    c.law_of_worlds.ensures.closed c.claim.ensures.clients c.finish.ensures.clients c.tell.new.log c.frames-frames.result c.in-Some-fault.fault done c.requires.stands
+    c.law_of_worlds.ensures.closed c.claim.ensures.clients c.finish.ensures.clients c.tell.new.log c.frames-frames.result c.in-Some-fault.fault done
