@@ -4,3 +4,4 @@ pub mod Going
 pub mod Offering
 pub mod Naming
 pub mod Apart
+pub mod Filed

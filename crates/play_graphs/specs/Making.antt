@@ -7,7 +7,7 @@ use Rattle.il_machine.specs.Files.{Offered}
 use Rattle.il_machine.specs.World.{World}
 use Rattle.il_machine.specs.Whole.{Stands}
 use Rattle.audio_parts.specs.declared.part_file.PartFile.{PartFile}
-use Rattle.il_graph.specs.Shown.{Shown}
+use Rattle.il_graph.specs.Shown.{Shown, file_of}
 use Rattle.play_forms.specs.Plans.{PlanValue}
 use Rattle.play_plans.specs.Casting.{flow_of, joint_of}
 use Rattle.assembling.specs.Stages.{IsStage, Stage, Joining, Setting}
@@ -60,6 +60,10 @@ module _ {S K : Type 0} where
   -- Those of the first places are gone.
   abbrev pub AreGone : ℕ → List (Option (PartFile S K)) → Type 0
   AreGone places entries = (place : ℕ) → place < places → slice_get entries place ≡ Some None
+
+  -- The components of the first places have the file objects that stood there.
+  abbrev pub HaveCome : ℕ → List (Option (PartFile S K)) → Shown S K Progress → Type 0
+  HaveCome places entries graph = (place : ℕ) (file : PartFile S K) → place < places → slice_get entries place ≡ Some (Some file) → file_of place graph ≡ Some file
 
   -- The graph of the plan can be made with them.
   pub record CanMake (plan : PlanValue) (offered_by : PartFile S K → Offered) (entries : List (Option (PartFile S K))) : Type 0 where

@@ -1,10 +1,10 @@
 //! Sources and sinks get their files.
 
-ghost use Rattle.std.specs.Prelude.{◌≡◌, ◌+◌, ◌<◌, ◌≤◌, length, Some};
-ghost use Rattle.il_graph.specs.Shown.{offered};
+ghost use Rattle.std.specs.Prelude.{◌≡◌, ◌+◌, ◌<◌, ◌≤◌, length, IfSome, Some};
+ghost use Rattle.il_graph.specs.Shown.{file_of, offered, KeepsFiles};
 ghost use Rattle.assembling.specs.Stages.{Filing};
 ghost use Rattle.play_openings.specs.Assemblies.{PlayFiles};
-ghost use Rattle.play_graphs.specs.Making.{AreGone, AreOffered, IsAt, IsOfferedAt};
+ghost use Rattle.play_graphs.specs.Making.{AreGone, AreOffered, HaveCome, IsAt, IsOfferedAt};
 
 use crate::handles::{count, handle};
 use audio_parts::PartFile;
@@ -22,7 +22,9 @@ fn attach<S: Source, K: Sink>(
 )
     requires there { place < length plan.now.parts }
     requires stands { (files : PlayFiles) × IsAt plan.now files (Filing place) graph.old × IsOfferedAt plan.now files (offered S.offset S.size S.told K.told) place (Some file) }
-    ensures { (files : PlayFiles) → IsAt plan.now files (Filing place) graph.old → IsOfferedAt plan.now files (offered S.offset S.size S.told K.told) place (Some file) → IsAt plan.now files (Filing (place + 1)) graph.new }
+    ensures goes { (files : PlayFiles) → IsAt plan.now files (Filing place) graph.old → IsOfferedAt plan.now files (offered S.offset S.size S.told K.told) place (Some file) → IsAt plan.now files (Filing (place + 1)) graph.new }
+    ensures file { file_of place graph.new ≡ Some file }
+    ensures files { KeepsFiles place graph.old graph.new }
 {
     let h = handle(graph, place);
     match graph.attach(h, file) {
@@ -40,7 +42,9 @@ fn give_file<S: Source, K: Sink>(
 )
     requires there { place < length plan.now.parts }
     requires stands { (files : PlayFiles) × IsAt plan.now files (Filing place) graph.old × IsOfferedAt plan.now files (offered S.offset S.size S.told K.told) place file }
-    ensures { (files : PlayFiles) → IsAt plan.now files (Filing place) graph.old → IsOfferedAt plan.now files (offered S.offset S.size S.told K.told) place file → IsAt plan.now files (Filing (place + 1)) graph.new }
+    ensures goes { (files : PlayFiles) → IsAt plan.now files (Filing place) graph.old → IsOfferedAt plan.now files (offered S.offset S.size S.told K.told) place file → IsAt plan.now files (Filing (place + 1)) graph.new }
+    ensures file { IfSome file (λ its. file_of place graph.new ≡ Some its) }
+    ensures files { KeepsFiles place graph.old graph.new }
 {
     match file {
         None => {}
@@ -59,6 +63,7 @@ pub(crate) fn give_files<S: Source, K: Sink>(
     requires stands { (given : PlayFiles) × IsAt plan.now given (Filing 0) graph.old × AreOffered plan.now given (offered S.offset S.size S.told K.told) files.old }
     ensures goes { (given : PlayFiles) → IsAt plan.now given (Filing 0) graph.old → AreOffered plan.now given (offered S.offset S.size S.told K.told) files.old → IsAt plan.now given (Filing (length plan.now.parts)) graph.new }
     ensures gone { AreGone (length plan.now.parts) files.new }
+    ensures came { HaveCome (length plan.now.parts) files.old graph.new }
 {
     for place in 0..count(plan) {
         let file = files[place as usize].take();

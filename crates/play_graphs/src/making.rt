@@ -2,6 +2,7 @@
 
 ghost use Rattle.std.specs.Prelude.{length, IfOk, OnOk, OnErr, ◌≡◌};
 ghost use Rattle.il_graph.specs.Shown.{offered};
+ghost use Rattle.play_graphs.specs.Ending.{AreFilesOf};
 ghost use Rattle.play_graphs.specs.Making.{AreGone, CanMake, IsMadeOf};
 
 use crate::components::make_components;
@@ -25,6 +26,7 @@ pub fn make_graph<S: Source, K: Sink>(
 ) -> Result<Graph<S, K, PlayClient>, OutOfMemory>
     requires { CanMake plan.now (offered S.offset S.size S.told K.told) files.old }
     ensures made { IfOk result (IsMadeOf plan.now (offered S.offset S.size S.told K.told) files.old) }
+    ensures files { IfOk result (λ graph. AreFilesOf graph (length plan.now.parts) files.old) }
     ensures gone { OnOk result (AreGone (length plan.now.parts) files.new) }
     ensures unmade { OnErr result (files.new ≡ files.old) }
 {
@@ -40,5 +42,6 @@ pub fn make_graph<S: Source, K: Sink>(
     set_ends(&mut graph, plan);
     give_files(&mut graph, plan, files);
     join_all(&mut graph, plan);
+    graph.law_of_worlds();
     Ok(graph)
 }

@@ -1,6 +1,7 @@
 //! The links are set up as tunnels (OpenMAX IL 1.1.2, `OMX_SetupTunnel`).
 
 ghost use Rattle.std.specs.Prelude.{◌+◌, ◌<◌, ◌≤◌, length};
+ghost use Rattle.il_graph.specs.Shown.{KeepsAllFiles};
 ghost use Rattle.assembling.specs.Stages.{Joining};
 ghost use Rattle.play_graphs.specs.Making.{GoesOn, SomeAt};
 
@@ -14,7 +15,8 @@ use stream_plan::Plan;
 fn join<S: Source, K: Sink>(graph: &mut Graph<S, K, PlayClient>, plan: &Plan, link: u32)
     requires there { link < length plan.now.joints }
     requires stands { SomeAt plan.now (Joining link) graph.old }
-    ensures { GoesOn plan.now (Joining link) (Joining (link + 1)) graph.old graph.new }
+    ensures goes { GoesOn plan.now (Joining link) (Joining (link + 1)) graph.old graph.new }
+    ensures files { KeepsAllFiles graph.old graph.new }
 {
     let joint = joint(plan, link);
     let output = PortId {
@@ -32,7 +34,8 @@ fn join<S: Source, K: Sink>(graph: &mut Graph<S, K, PlayClient>, plan: &Plan, li
 pub(crate) fn join_all<S: Source, K: Sink>(graph: &mut Graph<S, K, PlayClient>, plan: &Plan)
     requires few { length plan.now.joints ≤ 1024 }
     requires stands { SomeAt plan.now (Joining 0) graph.old }
-    ensures { GoesOn plan.now (Joining 0) (Joining (length plan.now.joints)) graph.old graph.new }
+    ensures goes { GoesOn plan.now (Joining 0) (Joining (length plan.now.joints)) graph.old graph.new }
+    ensures files { KeepsAllFiles graph.old graph.new }
 {
     for link in 0..link_count(plan) {
         join(graph, plan, link);

@@ -1,7 +1,9 @@
-use Rattle.std.proofs.Common.{◌∙◌, ap}
+use Rattle.std.proofs.Common.{length, ◌∙◌, ap}
 use Rattle.il_machine.specs.Whole.{no_kept}
 use Rattle.play_graphs.proofs.Building.{starts}
 use Rattle.play_graphs.proofs.Going.{on_ends, on_factors, on_files, on_tunnels}
+use Rattle.il_graph.specs.Shown.{offered}
+use Rattle.play_graphs.proofs.Filed.{files_of, still_come}
 use Rattle.play_graphs.proofs.Standing.{few_links}
 use Rattle.play_graphs.proofs.making.make_graph.Goals as goal
 
@@ -55,4 +57,16 @@ returns-clause-made g c = λ files R O.
     let one = on_factors plan files c.in_ok-graph.graph c.make_components.new.graph zero c.in-Ok.ensures.made in
     let two = on_ends plan files c.make_components.new.graph c.set_factors.new.graph one c.set_factors.ensures in
     let three = on_files plan files c.set_factors.new.graph c.set_ends.new.graph two c.set_ends.ensures in
-    c.join_all.ensures files (on_tunnels plan files c.give_files.new.graph (c.give_files.ensures.goes files three O))
+    c.join_all.ensures.goes files (on_tunnels plan files c.give_files.new.graph (c.give_files.ensures.goes files three O))
+
+pub returns-clause-files : goal.returns-clause-files
+returns-clause-files g c =
+    let C = c.requires in
+    let plan = c.args.plan.now in
+    let zero = starts plan _ c.in_ok-graph.graph (c.in_ok-graph.ensures ∙ ap (no_kept _) c.units.ensures) C.files C.ready in
+    let one = on_factors plan C.files c.in_ok-graph.graph c.make_components.new.graph zero c.in-Ok.ensures.made in
+    let two = on_ends plan C.files c.make_components.new.graph c.set_factors.new.graph one c.set_factors.ensures in
+    let three = on_files plan C.files c.set_factors.new.graph c.set_ends.new.graph two c.set_ends.ensures in
+    let made = c.join_all.ensures.goes C.files (on_tunnels plan C.files c.give_files.new.graph (c.give_files.ensures.goes C.files three C.offered)) in
+    files_of plan C.files (offered g.S.Source.offset g.S.Source.size g.S.Source.told g.K.Sink.told) c.args.files.now c.join_all.new.graph made C.offered C.many c.law_of_worlds.ensures.files
+    (still_come (length plan.parts) c.args.files.now c.give_files.new.graph c.join_all.new.graph c.join_all.ensures.files c.give_files.ensures.came)

@@ -10,5 +10,5 @@ handle-requires g c = end_made_by c.args.plan.now (Joining c.args.link) c.args.l
 pub handle-requires-2 : goal.handle-requires-2
 handle-requires-2 g c = end_made_by c.args.plan.now (Joining c.args.link) c.args.link true c.joint-joint.result c.joint-joint.result.taker c.args.graph.now c.requires.there c.joint-joint.ensures refl (λ files. refl) c.requires.stands
 
-pub returns : goal.returns
-returns g c = join_by c.args.plan.now c.args.graph.now c.setup_tunnel.new.self c.args.link c.joint-joint.result c.handle.result c.handle-2.result c.setup_tunnel.result c.requires.there c.joint-joint.ensures c.handle.ensures c.handle-2.ensures c.setup_tunnel.ensures.step
+pub returns-clause-goes : goal.returns-clause-goes
+returns-clause-goes g c = join_by c.args.plan.now c.args.graph.now c.setup_tunnel.new.self c.args.link c.joint-joint.result c.handle.result c.handle-2.result c.setup_tunnel.result c.requires.there c.joint-joint.ensures c.handle.ensures c.handle-2.ensures c.setup_tunnel.ensures.step
