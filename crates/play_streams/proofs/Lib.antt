@@ -15,3 +15,4 @@ pub mod Sinking
 pub mod Stepping
 pub mod Ends
 pub mod Failing
+pub mod Still

@@ -235,7 +235,7 @@ module _ (x : Cast) (p : Play) (w : World) (c : ℕ) (a : Component) (W : IsPlay
 
 -- ---- the call
 
-finished_is : (i : ℕ) (a : Component) (its : WorkDone) (w : World) (work : Work) (s : Stream) → a.work ≡ Some work → work.announces ≡ false → stream_of (number_of a) w ≡ Some s → finished i a its w ≡ with_landed i a its s w
+pub finished_is : (i : ℕ) (a : Component) (its : WorkDone) (w : World) (work : Work) (s : Stream) → a.work ≡ Some work → work.announces ≡ false → stream_of (number_of a) w ≡ Some s → finished i a its w ≡ with_landed i a its s w
 finished_is i a its w work s f h g =
     ap (λ (o : Option Work). finished_by i a its o w) f
     ∙ (ap (λ (z : Bool). if z then with_component i (announced a) w else changed_at (stream_of (number_of a) w) w (λ u. with_landed i a its u w)) h

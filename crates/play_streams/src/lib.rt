@@ -25,7 +25,7 @@ ghost use Rattle.play_worlds.specs.Standing.{target};
 ghost use Rattle.play_worlds.specs.Worlds.{IsPlayWorld, Names};
 ghost use Rattle.play_streams.specs.Contents.{HasContents, PlayContents, network_of};
 ghost use Rattle.play_streams.specs.Fronts.{AreFronts, AreWritten};
-ghost use Rattle.play_streams.specs.Streams.{AreNew, HasStreams};
+ghost use Rattle.play_streams.specs.Streams.{AreNew, EachSink, HasStreams};
 
 /// A world in which nothing flowed yet, and no sink's file took anything, has streams; so it has as the conductor begins the next
 /// StateSet, and as it is read as another play in the same phase.
@@ -84,7 +84,7 @@ pub fn law_of_stepped_streams()
 {}
 
 /// From the second Idle on the file of each sink has taken what is written of its link's whole stream, as the plain functions
-/// give it; at each moment before, and after a step that failed, a front of that.
+/// give it; at each moment before, and after a step that failed, a front of that. That each came empty is kept.
 pub fn law_of_written_streams()
     ensures whole { (x : Cast) (k : PlayContents) (p : Play) (w : World) (stream : ℕ → List ℕ)
         → IsPlayWorld x p w → HasStreams x k p w → ArePlain (network_of x) k.model stream → 3 ≤ p.phase → AreWritten x k w stream }
@@ -94,4 +94,6 @@ pub fn law_of_written_streams()
         → IsPlayWorld x p w → HasStreams x k p w → ArePlain (network_of x) k.model stream → c < components_of x
         → slice_get w.components (script_place x c) ≡ Some a → a.work ≡ Some work
         → done.component ≡ script_place x c → IsDoneOf w a work done → done.fault ≡ Some fault → Finish w done v → AreFronts x k v stream }
+    ensures new { (x : Cast) (p : Play) (w v : World) (done : WorkDone) → IsPlayWorld x p w → EachSink x w (λ l a s. s.known ≡ Some [])
+        → Finish w done v → EachSink x v (λ l a s. s.known ≡ Some []) }
 {}

@@ -1,0 +1,137 @@
+-- After a work came back the components are still there, with their numbers and the streams of their files.
+use Rattle.std.proofs.Common.{◌≡◌, inl, inr, ℕ, ◌<◌, nat_eq, [], find, slice_get, Option, Some, option_map, MatchOption, refl, sym, ◌∙◌, ap, subst, eqb-true, arith}
+use Rattle.std.proofs.lemmas.Bool.{eqb-false}
+use Rattle.std.proofs.lemmas.Option.{slice_get_within}
+use Rattle.part_api.specs.Terms.{Terms}
+use Rattle.il_machine.specs.Due.{ClosesTo}
+use Rattle.il_machine.specs.Finishing.{Finish, finished, finished_by, gone_through, stepped_back, with_landed}
+use Rattle.il_machine.specs.Stepping.{WorkDone}
+use Rattle.il_machine.specs.World.{Component, Stream, Work, World, is_stream_of, number_of, place_numbered, stream_of}
+use Rattle.machine_laws.proofs.Finding.{either}
+use Rattle.machine_laws.proofs.Keys.{none_or_some, there_is}
+use Rattle.play_model.specs.Play.{Play}
+use Rattle.play_worlds.specs.Cast.{Cast, components_of, script_place, taker_of}
+use Rattle.play_worlds.specs.Worlds.{IsPlayWorld}
+use Rattle.play_worlds.proofs.Lists.{got_set}
+use Rattle.play_worlds.proofs.Sends.{actor_there}
+use Rattle.play_worlds.proofs.Told.{stream_else, stream_gone}
+use Rattle.play_streams.specs.Streams.{EachSink}
+use Rattle.play_streams.proofs.Closing.{closes_keep}
+use Rattle.play_streams.proofs.Keeping.{mapped_there, seat}
+use Rattle.play_streams.proofs.Stepping.{finished_is}
+
+-- the component of that turn, and its stream
+pub record IsStillThere (x : Cast) (v : World) (c : ℕ) : Type 0 where
+  pub component : Component
+  pub there : slice_get v.components (script_place x c) ≡ Some component
+  pub number : number_of component ≡ script_place x c
+  pub stream : Stream
+  pub found : stream_of (number_of component) v ≡ Some stream
+
+pub still_there : (x : Cast) (p : Play) (w : World) (c : ℕ) → IsPlayWorld x p w → c < components_of x → IsStillThere x w c
+still_there x p w c W l =
+    let g = actor_there x p w c W l in
+    let s = there_is (stream_of (number_of g.0) w) (λ z. z.frames ≡ (p.flow).done c) (g.2).done in
+    record { component = g.0; there = g.1; number = (g.2).number; stream = s.0; found = s.1 }
+
+closed_there : (x : Cast) (u v : World) (c : ℕ) → ClosesTo u v → IsStillThere x u c → IsStillThere x v c
+closed_there x u v c C T =
+    let K = closes_keep u v C in
+    let m = mapped_there seat (slice_get u.components (script_place x c)) (slice_get v.components (script_place x c)) T.component (sym (K.seats (script_place x c))) T.there in
+    let number : number_of m.0 ≡ number_of T.component = ap (λ (z : Terms × ℕ). z.1) (sym m.2) in
+    let streams = K.streams in
+    record { component = m.0; there = m.1; number = number ∙ T.number; stream = T.stream; found = (λ i. find (is_stream_of (number i)) (streams i)) ∙ T.found }
+
+landed_there : (x : Cast) (w : World) (place : ℕ) (a : Component) (its : WorkDone) (s : Stream) (c : ℕ) → slice_get w.components place ≡ Some a → stream_of (number_of a) w ≡ Some s → IsStillThere x w c → IsStillThere x (with_landed place a its s w) c
+landed_there x w place a its s c e f T =
+    let u : World = with_landed place a its s w in
+    let was : option_map seat (slice_get u.components (script_place x c)) ≡ option_map seat (slice_get w.components (script_place x c)) = got_set (option_map seat) w.components place (script_place x c) a (stepped_back a s its) e refl in
+    let m = mapped_there seat (slice_get w.components (script_place x c)) (slice_get u.components (script_place x c)) T.component (sym was) T.there in
+    let number : number_of m.0 ≡ number_of T.component = ap (λ (z : Terms × ℕ). z.1) (sym m.2) in
+    let found : (z : Stream) × (stream_of (number_of T.component) u ≡ Some z) = either (nat_eq (number_of T.component) (number_of a))
+    (λ t. (gone_through its s, ap (λ (n : ℕ). stream_of n u) (eqb-true (number_of T.component) (number_of a) t) ∙ stream_gone w u (number_of a) (gone_through its) s (λ i. refl) refl f))
+    (λ t. (T.stream, stream_else w u (number_of a) (number_of T.component) (gone_through its) (λ i. refl) refl (eqb-false (number_of T.component) (number_of a) t) ∙ T.found))
+    in
+    record { component = m.0; there = m.1; number = number ∙ T.number; stream = found.0; found = ap (λ (n : ℕ). stream_of n u) number ∙ found.1 }
+
+-- ---- what they were
+
+-- the component with the stream, which told the same
+record IsOld (w : World) (place : ℕ) (z : Stream) : Type 0 where
+  component : Component
+  there : slice_get w.components place ≡ Some component
+  stream : Stream
+  found : stream_of (number_of component) w ≡ Some stream
+  known : z.known ≡ stream.known
+
+closed_old : (u v : World) (place : ℕ) (b : Component) (z : Stream) → ClosesTo u v → slice_get v.components place ≡ Some b → stream_of (number_of b) v ≡ Some z → IsOld u place z
+closed_old u v place b z C e f =
+    let K = closes_keep u v C in
+    let m = mapped_there seat (slice_get v.components place) (slice_get u.components place) b (K.seats place) e in
+    let number : number_of b ≡ number_of m.0 = ap (λ (y : Terms × ℕ). y.1) m.2 in
+    let streams = K.streams in
+    record { component = m.0; there = m.1; stream = z; found = sym (λ i. find (is_stream_of (number i)) (streams i)) ∙ f; known = refl }
+
+landed_old : (w : World) (i : ℕ) (a : Component) (its : WorkDone) (s : Stream) (place : ℕ) (b : Component) (z : Stream) → slice_get w.components i ≡ Some a → stream_of (number_of a) w ≡ Some s
+    → slice_get (with_landed i a its s w).components place ≡ Some b → stream_of (number_of b) (with_landed i a its s w) ≡ Some z → IsOld w place z
+landed_old w i a its s place b z e f g h =
+    let u : World = with_landed i a its s w in
+    let was : option_map seat (slice_get u.components place) ≡ option_map seat (slice_get w.components place) = got_set (option_map seat) w.components i place a (stepped_back a s its) e refl in
+    let m = mapped_there seat (slice_get u.components place) (slice_get w.components place) b was g in
+    let number : number_of b ≡ number_of m.0 = ap (λ (y : Terms × ℕ). y.1) m.2 in
+    let now : stream_of (number_of m.0) u ≡ Some z = ap (λ (n : ℕ). stream_of n u) (sym number) ∙ h in
+    either (nat_eq (number_of m.0) (number_of a))
+    (λ t.
+    let own = eqb-true (number_of m.0) (number_of a) t in
+    let q : Some (gone_through its s) ≡ Some z = sym (ap (λ (n : ℕ). stream_of n u) own ∙ stream_gone w u (number_of a) (gone_through its) s (λ j. refl) refl f) ∙ now in
+    let is : gone_through its s ≡ z = cc in
+    record { component = m.0; there = m.1; stream = s; found = ap (λ (n : ℕ). stream_of n w) own ∙ f; known = ap (λ (y : Stream). y.known) (sym is) })
+    (λ t.
+    let else_ = stream_else w u (number_of a) (number_of m.0) (gone_through its) (λ j. refl) refl (eqb-false (number_of m.0) (number_of a) t) in
+    record { component = m.0; there = m.1; stream = z; found = sym else_ ∙ now; known = refl })
+
+-- ---- the call
+
+-- what it leaves before the close-out: the world as it was, or with the work landed
+data Leaves (w v : World) (its : WorkDone) : Type 0 where
+  Nothing : ClosesTo w v → Leaves w v its
+  Landed : (place : ℕ) (a : Component) (s : Stream) → slice_get w.components place ≡ Some a → stream_of (number_of a) w ≡ Some s → ClosesTo (with_landed place a its s w) v → Leaves w v its
+
+leaves : (x : Cast) (p : Play) (w v : World) (its : WorkDone) → IsPlayWorld x p w → Finish w its v → Leaves w v its
+leaves x p w v its W G =
+    let i = there_is (place_numbered its.component w.components) (λ j. MatchOption (slice_get w.components j) ⊥ (λ y. ClosesTo (finished j y its w) v)) G in
+    let a = there_is (slice_get w.components i.0) (λ y. ClosesTo (finished i.0 y its w) v) i.2 in
+    let m = W.many in
+    let inside = slice_get_within w.components i.0 a.0 a.1 in
+    let t = (W.cast).each i.0 (omega arith) in
+    let e : slice_get w.components (script_place x t.0) ≡ Some a.0 = ap (slice_get w.components) t.2 ∙ a.1 in
+    let A = W.actors t.0 a.0 t.1 e in
+    elim (none_or_some (a.0).work) [
+      | inl none ↦ Nothing (subst (λ (u : World). ClosesTo u v) (ap (λ (o : Option Work). finished_by i.0 a.0 its o w) none) a.2)
+      | inr some ↦
+          let s = there_is (stream_of (number_of a.0) w) (λ z. z.frames ≡ (p.flow).done t.0) A.done in
+          let is = finished_is i.0 a.0 its w some.0 s.0 some.1 (A.work some.0 some.1).steps s.1 in
+          Landed i.0 a.0 s.0 a.1 s.1 (subst (λ (u : World). ClosesTo u v) is a.2)
+    ]
+
+pub finish_there : (x : Cast) (p : Play) (w v : World) (its : WorkDone) → IsPlayWorld x p w → Finish w its v → (c : ℕ) → c < components_of x → IsStillThere x v c
+finish_there x p w v its W G c l = elim (leaves x p w v its W G) [
+  | Nothing C ↦ closed_there x w v c C (still_there x p w c W l)
+  | Landed place a s e f C ↦ closed_there x (with_landed place a its s w) v c C (landed_there x w place a its s c e f (still_there x p w c W l))
+]
+
+finish_old : (x : Cast) (p : Play) (w v : World) (its : WorkDone) (place : ℕ) (b : Component) (z : Stream) → IsPlayWorld x p w → Finish w its v → slice_get v.components place ≡ Some b → stream_of (number_of b) v ≡ Some z → IsOld w place z
+finish_old x p w v its place b z W G e f = elim (leaves x p w v its W G) [
+  | Nothing C ↦ closed_old w v place b z C e f
+  | Landed i a s g h C ↦
+      let u : World = with_landed i a its s w in
+      let O = closed_old u v place b z C e f in
+      let P = landed_old w i a its s place O.component O.stream g h O.there O.found in
+      record { component = P.component; there = P.there; stream = P.stream; found = P.found; known = O.known ∙ P.known }
+]
+
+-- what the files of the sinks told stays
+pub finish_new : (x : Cast) (p : Play) (w v : World) (its : WorkDone) → IsPlayWorld x p w → EachSink x w (λ l a s. s.known ≡ Some []) → Finish w its v → EachSink x v (λ l a s. s.known ≡ Some [])
+finish_new x p w v its W N G l b z d sink e f =
+    let O = finish_old x p w v its (script_place x (taker_of x l)) b z W G e f in
+    O.known ∙ N l O.component O.stream d sink O.there O.found
