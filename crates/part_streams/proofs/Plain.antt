@@ -90,7 +90,7 @@ joins_by (kinds.Mixer number) inputs outputs factors frames more first second ou
 joins_by (kinds.Splitter number) inputs outputs factors frames more first second output s f H K = refl
 joins_by kinds.Sink inputs outputs factors frames more first second output s f H K = refl
 
-no_input : (kind : Kind) (inputs outputs : List Format) (factors : List ℕ) → is_source kind ≡ true → (shape_by kind inputs outputs factors).inputs ≡ 0
+pub no_input : (kind : Kind) (inputs outputs : List Format) (factors : List ℕ) → is_source kind ≡ true → (shape_by kind inputs outputs factors).inputs ≡ 0
 no_input kinds.Source inputs outputs factors h = refl
 no_input kinds.Late inputs outputs factors h = refl
 no_input kinds.Decoder inputs outputs factors h = absurd cc

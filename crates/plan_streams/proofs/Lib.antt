@@ -1,0 +1,9 @@
+pub mod Finding
+pub mod Ports
+pub mod Turns
+pub mod Files
+pub mod Contents
+pub mod Plainly
+pub mod Opened
+pub mod Ends
+pub mod Texts

@@ -1,0 +1,67 @@
+-- What the files of a plan's sinks have taken.
+use Rattle.std.proofs.Common.{[], ◌≡◌, ℕ, ◌<◌, ◌≤◌, Bool, List, Some, MatchOption, sym, ◌∙◌, ap, subst}
+use Rattle.outside_io.specs.Files.{Outside}
+use Rattle.il_machine.specs.Finishing.{Finish}
+use Rattle.il_machine.specs.Stepping.{WorkDone, IsFrontOf}
+use Rattle.il_machine.specs.World.{Stream, World, stream_of}
+use Rattle.machine_laws.proofs.Keys.{is_there}
+use Rattle.flow_model.specs.Content.{ArePlain}
+use Rattle.play_forms.specs.Plain.{sink_text}
+use Rattle.play_forms.specs.Plans.{PlanValue}
+use Rattle.play_model.specs.Play.{Play}
+use Rattle.play_worlds.specs.Cast.{Cast, components_of, taker_of}
+use Rattle.play_worlds.specs.Worlds.{IsPlayWorld}
+use Rattle.play_plans.specs.Casting.{cast_of}
+use Rattle.play_openings.specs.Assemblies.{IsReady, PlayFiles}
+use Rattle.play_results.specs.Files.{AreFiles, IsWriter}
+use Rattle.play_results.specs.Worlds.{HasWritten}
+use Rattle.play_streams.specs.Contents.{PlayContents, network_of}
+use Rattle.play_streams.specs.Fronts.{AreFronts, whole_text}
+use Rattle.play_streams.specs.Streams.{EachSink, HasStreams}
+use Rattle.play_streams.proofs.Ends.{written_fronts, written_whole}
+use Rattle.play_streams.proofs.Still.{IsStillThere, finish_there, still_there}
+use Rattle.plan_streams.specs.Contents.{contents_of, streams_of}
+use Rattle.plan_streams.specs.Texts.{CameEmpty, HasWrittenFront}
+use Rattle.plan_streams.proofs.Ends.{sink_link}
+use Rattle.plan_streams.proofs.Plainly.{plan_plain}
+
+module _ (old : Outside) (plan : PlanValue) (files : PlayFiles) (samples : List (List ℕ)) (by_output : ℕ → Bool) (R : IsReady plan files) (F : AreFiles old plan.parts files samples) where
+  abbrev x : Cast
+  x = cast_of by_output plan
+
+  abbrev k : PlayContents
+  k = contents_of plan files samples
+
+  abbrev stream : ℕ → List ℕ
+  stream = streams_of plan samples
+
+  plain_there : ArePlain (network_of (cast_of by_output plan)) (contents_of plan files samples).model (streams_of plan samples)
+  plain_there = plan_plain old plan files samples R F by_output
+
+  -- of each link into a sink, and so of each sink
+  each_text : (v : World) (P : List ℕ → Stream → Type 0) → EachSink x v (λ l a s. P (whole_text x k l (stream l)) s) → ((c : ℕ) → c < components_of x → IsStillThere x v c)
+      → (place : ℕ) (name : List ℕ) → IsWriter plan.parts place name → MatchOption (stream_of place v) ⊥ (P (sink_text plan samples place))
+  each_text v P E still place name I =
+      let L = sink_link old plan files samples R F by_output place I.0 name I.1 I.2 in
+      let T = still (taker_of x L.link) L.inside in
+      is_there (stream_of place v) (P (sink_text plan samples place)) T.stream (ap (λ (n : ℕ). stream_of n v) (sym (T.number ∙ L.at)) ∙ T.found)
+      (subst (λ (text : List ℕ). P text T.stream) L.text (E L.link T.component T.stream L.below L.sink T.there T.found))
+
+  module _ (p : Play) (w : World) (W : IsPlayWorld (cast_of by_output plan) p w) (H : HasStreams (cast_of by_output plan) (contents_of plan files samples) p w) where
+    pub texts_whole : 3 ≤ p.phase → (place : ℕ) (name : List ℕ) → IsWriter plan.parts place name → HasWritten w place (sink_text plan samples place)
+    texts_whole late = each_text w (λ text s. s.written ≡ text) (written_whole x k p w W H stream plain_there late) (λ c l. still_there x p w c W l)
+
+    pub texts_fronts : (place : ℕ) (name : List ℕ) → IsWriter plan.parts place name → HasWrittenFront w place (sink_text plan samples place)
+    texts_fronts = each_text w (λ text s. IsFrontOf text s.written) (written_fronts x k p w W H stream plain_there) (λ c l. still_there x p w c W l)
+
+    pub texts_new : (place : ℕ) (name : List ℕ) → IsWriter plan.parts place name → CameEmpty w place
+    texts_new = each_text w (λ text s. s.known ≡ Some []) H.new (λ c l. still_there x p w c W l)
+
+  -- a work came back with a fault
+  pub texts_failed : (p : Play) (w v : World) (done : WorkDone) → IsPlayWorld (cast_of by_output plan) p w → Finish w done v → AreFronts (cast_of by_output plan) (contents_of plan files samples) v (streams_of plan samples)
+      → (place : ℕ) (name : List ℕ) → IsWriter plan.parts place name → HasWrittenFront v place (sink_text plan samples place)
+  texts_failed p w v done W G E = each_text v (λ text s. IsFrontOf text s.written) E (finish_there x p w v done W G)
+
+  pub texts_failed_new : (p : Play) (w v : World) (done : WorkDone) → IsPlayWorld (cast_of by_output plan) p w → Finish w done v → EachSink (cast_of by_output plan) v (λ l a s. s.known ≡ Some [])
+      → (place : ℕ) (name : List ℕ) → IsWriter plan.parts place name → CameEmpty v place
+  texts_failed_new p w v done W G E = each_text v (λ text s. s.known ≡ Some []) E (finish_there x p w v done W G)
