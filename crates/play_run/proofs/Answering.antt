@@ -1,10 +1,10 @@
 -- What a call came to in the world of a play, and so what its turn leads to.
-use Rattle.std.proofs.Common.{◌≡◌, ◌≢◌, ℕ, Bool, true, false, nat_eq, eqb-true, if◌then◌else◌, List, [], ◌∷◌, Ok, Err, Result, refl, sym, ◌∙◌, ap, subst, arith}
+use Rattle.std.proofs.Common.{find, ◌≡◌, ◌≢◌, ℕ, Bool, true, false, nat_eq, eqb-true, if◌then◌else◌, List, [], ◌∷◌, Ok, Err, Result, refl, sym, ◌∙◌, ap, subst, arith}
 use Rattle.machine_laws.proofs.Finding.{either}
 use Rattle.il_machine.specs.declared.answer.Acted.{Acted}
 use Rattle.il_machine.specs.declared.answer.Acted.TheVariants.{Did, Idle}
 use Rattle.il_machine.specs.declared.answer.Progress.{Progress}
-use Rattle.il_machine.specs.World.{World}
+use Rattle.il_machine.specs.World.{World, is_stream_of}
 use Rattle.il_machine.specs.Due.{IsClosed}
 use Rattle.il_machine.specs.Whole.{Stands}
 use Rattle.std.specs.Prelude.{OnErr}
@@ -22,7 +22,7 @@ use Rattle.play_worlds.specs.Worlds.{IsPlayWorld, LeadsTo, happenings}
 use Rattle.play_worlds.proofs.Closings.{closes_lead}
 use Rattle.play_worlds.proofs.Happenings.{rests_all}
 use Rattle.play_graphs.specs.Graphs.{kept_of}
-use Rattle.play_run.specs.Playing.{AreClientsIn, HasParts, HaveNoWork, HasStreamsFrom, IsAct, IsConducting, IsPlaying, IsStanding, LeadsOn, PlayingValue, TurnsTo, cast, is_did, layout_of}
+use Rattle.play_run.specs.Playing.{AreClientsIn, HasParts, HaveNoWork, HasStreamsFrom, IsAct, IsConducting, IsPlaying, IsStanding, LeadsOn, PlayingValue, ToldAlike, TurnsTo, cast, is_did, layout_of}
 use Rattle.play_run.specs.Recording.{IsRecorded}
 
 -- an act of the play that begins no state, and leaves none to be sent
@@ -72,6 +72,13 @@ tell_within w p d = record { phase = refl; sent = λ c n. goes_to c d 4 (p.stage
 abbrev pub StreamsGo : Cast → Play → World → World → Type 0
 StreamsGo x p opening v = (q : Play) → IsPlayWorld x q v → q.phase ≡ p.phase → HasStreamsFrom x opening q v
 
+-- no file went through anything
+pub told_same : (opening w v : World) → ToldAlike opening w → v.streams ≡ w.streams → ToldAlike opening v
+told_same opening w v T e = λ n t q. T n t (ap (find (is_stream_of n)) (sym e) ∙ q)
+
+pub told_on : (opening w v : World) → ToldAlike opening w → ToldAlike w v → ToldAlike opening v
+told_on opening w v T U = λ n t q. let s = U n t q in let o = T n s.0 s.1 in (o.0, o.1, s.2 ∙ o.2)
+
 -- nothing is due in a closed world of a play
 pub rests_there : (x : Cast) (p : Play) (v : World) → IsPlayWorld x p v → IsClosed v → IsAtRest x.layout p
 rests_there x p v W Z = record {
@@ -98,8 +105,8 @@ module _ {S K : Type 0} where
 
   -- with its close-out the act leads to a world of the play
   pub stands_then : (x : PlayingValue S K) (g : Shown S K Progress) (log : LogValue) (p q : Play) (v : World) (Z : IsStanding x p) → Stands (kept_of g) v → HaveNoWork v → AreClientsIn g.core → IsPlayWorld (cast x.plan) q v → q.phase ≡ p.phase
-      → IsRecorded x.plan.parts Z.opening v log → HasStreamsFrom (cast x.plan) Z.opening q v → (Y : IsStanding (with_both x g log) q) × (Y.files ≡ Z.files)
-  stands_then x g log p q v Z st works clients W e R F = (
+      → IsRecorded x.plan.parts Z.opening v log → HasStreamsFrom (cast x.plan) Z.opening q v → ToldAlike Z.opening v → (Y : IsStanding (with_both x g log) q) × (Y.files ≡ Z.files)
+  stands_then x g log p q v Z st works clients W e R F T = (
     record {
       world = v;
       stands = st;
@@ -113,6 +120,7 @@ module _ {S K : Type 0} where
       begins = Z.begins;
       recorded = R;
       streams = F;
+      told = T;
     },
     refl,
   )
@@ -126,16 +134,16 @@ module _ {S K : Type 0} where
 
   pub turn_goes : (x : PlayingValue S K) (g : Shown S K Progress) (log : LogValue) (p : Play) (v : World) (did : Bool) (P : Act → Type 0) (Y : IsPlaying x p)
       → Stands (kept_of g) v → HaveNoWork v → AreClientsIn g.core → (did ≡ false → g ≡ x.graph) → (did ≡ false → log ≡ x.log) → (did ≡ true → IsRecorded x.plan.parts Y.standing.opening v log)
-      → (did ≡ true → StreamsGo (cast x.plan) p Y.standing.opening v) → Came (cast x.plan) p v did P
+      → (did ≡ true → StreamsGo (cast x.plan) p Y.standing.opening v) → (did ≡ true → ToldAlike Y.standing.opening v) → Came (cast x.plan) p v did P
       → (q : Play) × (Z : IsPlaying (with_both x g log) q) × Turned (layout_of x.plan) p q did P × (Z.standing.files ≡ Y.standing.files)
-  turn_goes x g log p v true P Y st works clients same silent R F C =
+  turn_goes x g log p v true P Y st works clients same silent R F T C =
       let y = cast x.plan in
       let w = layout_of x.plan in
       let L = C.4 in
       let H = closes_lead y (acted w C.0 p) L.effect v L.play L.closes in
       let q : Play = all_acted w (happenings H.places) (acted w C.0 p) in
       let e : q.phase ≡ p.phase = happened_phase w H.places (acted w C.0 p) ∙ (C.3).phase in
-      let S = stands_then x g log p q v Y.standing st works clients H.play e (R refl) (F refl q H.play e) in (
+      let S = stands_then x g log p q v Y.standing st works clients H.play e (R refl) (F refl q H.play e) (T refl) in (
         q,
         record {
           standing = S.0;
@@ -144,7 +152,7 @@ module _ {S K : Type 0} where
         (record { acts = C.0 ∷ happenings H.places; some = omega arith; enabled = (C.2, H.can); after = refl }, rests_there y q v H.play (L.closes).closed),
         S.1,
       )
-  turn_goes x g log p v false P Y st works clients same silent R F C = still x g log P p Y (same refl) (silent refl) C
+  turn_goes x g log p v false P Y st works clients same silent R F T C = still x g log P p Y (same refl) (silent refl) C
 
   -- nothing was accepted
   pub turn_stays : (x : PlayingValue S K) (g : Shown S K Progress) (P : Act → Type 0) → g ≡ x.graph → ((p : Play) → IsPlaying x p → CanNone (layout_of x.plan) p P) → TurnsTo x (with_both x g x.log) false P

@@ -169,6 +169,7 @@ module _ {S K : Type 0} (x : PlayingValue S K) (files : PlayFiles) (O : IsOpenin
         begins = record { opens = O.begins; closed = closed O.world O.stands };
         recorded = nothing_recorded;
         streams = λ k C E. opening_has (cast x.plan) k opening O.world (opens (cast x.plan) O.world O.opening) (omega arith) C E;
+        told = λ n t q. (t, q, refl);
       };
       sent = λ c b e. absurd (omega (arith, e));
     },

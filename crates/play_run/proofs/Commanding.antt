@@ -26,8 +26,9 @@ use Rattle.play_run.specs.Recording.{IsRecorded, IsToldOf}
 use Rattle.play_graphs.proofs.Naming.{named_at}
 use Rattle.play_run.proofs.Working.{still_none}
 use Rattle.play_run.proofs.Recording.{goes_on}
+use Rattle.il_graph.proofs.PartsStay.{step_stays}
 use Rattle.play_streams.proofs.Acts.{run_streams}
-use Rattle.play_run.proofs.Answering.{StreamsGo, is_ok, keeps_in, not_did, one_came, run_within, turn_goes, with_both}
+use Rattle.play_run.proofs.Answering.{StreamsGo, told_same, is_ok, keeps_in, not_did, one_came, run_within, turn_goes, with_both}
 
 module _ {S K : Type 0} where
   -- ---- a component by its turn
@@ -56,7 +57,7 @@ module _ {S K : Type 0} where
       let F : is_did r ≡ true → StreamsGo (cast x.plan) p Z.opening v.0 = λ t q W ph k C E. run_streams (cast x.plan) k p q w v.0 Z.play (Z.streams k C E) W ph c h b N r v.2 in
       turn_goes x g log p v.0 (is_did r) (IsAct (Act.Run c)) Y v.1
       (still_none w (acts.RunCommand h) (acts.Acted r) v.0 (Z.play).sound tt v.2 (λ n. refl) Z.works)
-      (keeps_in x.graph.core g.core keeps Z.clients) (not_did r er id) silent R F
+      (keeps_in x.graph.core g.core keeps Z.clients) (not_did r er id) silent R F (λ t. told_same Z.opening w v.0 Z.told (step_stays w (Z.play).sound (acts.RunCommand h) (acts.Acted r) v.0 tt tt v.2).streams)
       (one_came (cast x.plan) p v.0 (Act.Run c) r (run_within (layout_of x.plan) p c)
       (λ C. run_leads (cast x.plan) p w c h r v.0 Z.play C N v.2)
       (λ d. run_can (cast x.plan) p w c h r v.0 Z.play b N v.2 d))

@@ -47,9 +47,10 @@ use Rattle.play_run.specs.Sending.{AreViews, CanSend, IsCalm, IsOnSend, IsUnsent
 use Rattle.play_graphs.proofs.Naming.{named_at}
 use Rattle.play_run.proofs.Naming.{all_clients_in}
 use Rattle.play_run.proofs.Working.{still_none}
+use Rattle.il_graph.proofs.PartsStay.{step_stays}
 use Rattle.play_streams.proofs.Acts.{send_streams}
 use Rattle.play_streams.proofs.Beginning.{begun_streams}
-use Rattle.play_run.proofs.Answering.{happened_phase, happened_sent, happened_unsent, keeps_in, parts_of, rests_there, stands_then, with_both}
+use Rattle.play_run.proofs.Answering.{happened_phase, happened_sent, happened_unsent, keeps_in, parts_of, rests_there, stands_then, told_same, with_both}
 
 -- ---- the stages
 
@@ -87,7 +88,7 @@ module _ {S K : Type 0} where
         let phase : u.phase ≡ q.phase = happened_phase w G.places (acted w (Act.Send c) q) in
         let works = still_none Y.world (acts.SendCommand h (StateSet state)) (acts.Plain r) v.0 (Y.play).sound tt v.2 (λ n. refl) Y.works in
         let R = goes_on y q Y place h H v.0 (λ k. acts.SendCommand k (StateSet state)) (acts.Plain (Ok tt)) log told refl tt (subst (λ (a : Result (Unit {0}) OmxError). SendCommand Y.world h (StateSet state) a v.0) leads.0 v.2) tt (λ n. refl) in
-        let S = stands_then y g log q u v.0 Y v.1 works (keeps_in y.graph.core g.core keeps Y.clients) G.play phase R (λ n C E. send_streams z n q u Y.world v.0 Y.play (Y.streams n C E) G.play phase c h k.1 N r s) in (
+        let S = stands_then y g log q u v.0 Y v.1 works (keeps_in y.graph.core g.core keeps Y.clients) G.play phase R (λ n C E. send_streams z n q u Y.world v.0 Y.play (Y.streams n C E) G.play phase c h k.1 N r s) (told_same Y.opening Y.world v.0 Y.told (step_stays Y.world (Y.play).sound (acts.SendCommand h (StateSet state)) (acts.Plain r) v.0 tt tt v.2).streams) in (
           u,
           S.0,
           subst (λ (plan : PlanValue). IsOnSend (layout_of plan) p u (place + 1)) same (record {
@@ -200,6 +201,7 @@ module _ {S K : Type 0} where
       begins = Z.begins;
       recorded = Z.recorded;
       streams = F;
+      told = Z.told;
     },
     refl,
   )

@@ -40,8 +40,9 @@ use Rattle.play_run.specs.Turning.{IsBack}
 use Rattle.play_graphs.proofs.Naming.{named_at}
 use Rattle.play_run.proofs.Working.{still_none}
 use Rattle.play_run.proofs.Recording.{goes_on}
+use Rattle.il_graph.proofs.PartsStay.{step_stays}
 use Rattle.play_streams.proofs.Acts.{back_streams, over_streams, release_streams, supply_streams}
-use Rattle.play_run.proofs.Answering.{Came, StreamsGo, is_ok, keeps_in, not_did, one_came, stays, turn_goes, with_both}
+use Rattle.play_run.proofs.Answering.{Came, StreamsGo, told_same, is_ok, keeps_in, not_did, one_came, stays, turn_goes, with_both}
 
 -- ---- the ends of a link
 
@@ -74,7 +75,7 @@ module _ {S K : Type 0} (x : PlayingValue S K) (g : Shown S K Progress) (l : ℕ
         let F : is_did r ≡ true → StreamsGo (cast x.plan) p Z.opening v.0 = λ t q W ph k C E. supply_streams (cast x.plan) k p q w v.0 Z.play (Z.streams k C E) W ph l h b r N v.2 in
         turn_goes x g log p v.0 (is_did r) (IsAct (Act.Supply l)) Y v.1
         (still_none w (acts.Supply h (joint_of x.plan l).input) (acts.Supplied r) v.0 (Z.play).sound tt v.2 (λ n. refl) Z.works)
-        (keeps_in x.graph.core g.core keeps Z.clients) (not_did r e i) silent R F
+        (keeps_in x.graph.core g.core keeps Z.clients) (not_did r e i) silent R F (λ t. told_same Z.opening w v.0 Z.told (step_stays w (Z.play).sound (acts.Supply h (joint_of x.plan l).input) (acts.Supplied r) v.0 tt tt v.2).streams)
         (one_came (cast x.plan) p v.0 (Act.Supply l) r (stays (layout_of x.plan) p (Act.Supply l) refl (λ c. refl))
         (λ C. supply_leads (cast x.plan) p w l h r v.0 Z.play C N v.2)
         (λ d. supply_can (cast x.plan) p w l h r v.0 Z.play b N v.2 d))
@@ -91,7 +92,7 @@ module _ {S K : Type 0} (x : PlayingValue S K) (g : Shown S K Progress) (l : ℕ
         let F : is_did r ≡ true → StreamsGo (cast x.plan) p Z.opening v.0 = λ t q W ph k C E. release_streams (cast x.plan) k p q w v.0 Z.play (Z.streams k C E) W ph l h b r N v.2 in
         turn_goes x g log p v.0 (is_did r) (IsAct (Act.Release l)) Y v.1
         (still_none w (acts.Release h (joint_of x.plan l).input) (acts.Acted r) v.0 (Z.play).sound tt v.2 (λ n. refl) Z.works)
-        (keeps_in x.graph.core g.core keeps Z.clients) (not_did r e i) silent R F
+        (keeps_in x.graph.core g.core keeps Z.clients) (not_did r e i) silent R F (λ t. told_same Z.opening w v.0 Z.told (step_stays w (Z.play).sound (acts.Release h (joint_of x.plan l).input) (acts.Acted r) v.0 tt tt v.2).streams)
         (one_came (cast x.plan) p v.0 (Act.Release l) r (stays (layout_of x.plan) p (Act.Release l) refl (λ c. refl))
         (λ C. release_leads (cast x.plan) p w l h r v.0 Z.play C N v.2)
         (λ d. release_can (cast x.plan) p w l h r v.0 Z.play b N v.2 d))
@@ -108,7 +109,7 @@ module _ {S K : Type 0} (x : PlayingValue S K) (g : Shown S K Progress) (l : ℕ
         let F : is_did r ≡ true → StreamsGo (cast x.plan) p Z.opening v.0 = λ t q W ph k C E. over_streams (cast x.plan) k p q w v.0 Z.play (Z.streams k C E) W ph l h b r N v.2 in
         turn_goes x g log p v.0 (is_did r) (IsAct (Act.HandOver l)) Y v.1
         (still_none w (acts.HandOver h (joint_of x.plan l).input) (acts.Acted r) v.0 (Z.play).sound tt v.2 (λ n. refl) Z.works)
-        (keeps_in x.graph.core g.core keeps Z.clients) (not_did r e i) silent R F
+        (keeps_in x.graph.core g.core keeps Z.clients) (not_did r e i) silent R F (λ t. told_same Z.opening w v.0 Z.told (step_stays w (Z.play).sound (acts.HandOver h (joint_of x.plan l).input) (acts.Acted r) v.0 tt tt v.2).streams)
         (one_came (cast x.plan) p v.0 (Act.HandOver l) r (stays (layout_of x.plan) p (Act.HandOver l) refl (λ c. refl))
         (λ C. over_leads (cast x.plan) p w l h r v.0 Z.play C N v.2)
         (λ d. over_can (cast x.plan) p w l h r v.0 Z.play b N v.2 d))
@@ -143,7 +144,7 @@ module _ {S K : Type 0} (x : PlayingValue S K) (g : Shown S K Progress) (l : ℕ
         let F : is_did r ≡ true → StreamsGo (cast x.plan) p Z.opening v.0 = λ t q W ph k C E. back_streams (cast x.plan) k p q w v.0 Z.play (Z.streams k C E) W ph l h b r (giver_named H p Z) v.2 in
         turn_goes x g log p v.0 (is_did r) (IsBack l) Y v.1
         (still_none w (acts.HandBack h (joint_of x.plan l).output) (acts.Acted r) v.0 (Z.play).sound tt v.2 (λ n. refl) Z.works)
-        (keeps_in x.graph.core g.core keeps Z.clients) (not_did r e i) silent R F
+        (keeps_in x.graph.core g.core keeps Z.clients) (not_did r e i) silent R F (λ t. told_same Z.opening w v.0 Z.told (step_stays w (Z.play).sound (acts.HandBack h (joint_of x.plan l).output) (acts.Acted r) v.0 tt tt v.2).streams)
         (back_came r p w v.0 Z.play (giver_named H p Z) v.2)
 
 -- ---- the same, of what is known where a call was made

@@ -48,7 +48,7 @@ use Rattle.play_worlds.proofs.Finishes.{finish_leads}
 use Rattle.play_worlds.proofs.Sends.{actor_there}
 use Rattle.play_plans.specs.Casting.{place_of}
 use Rattle.play_graphs.specs.Graphs.{IsHandleAt, kept_of}
-use Rattle.play_run.specs.Playing.{HaveNoWork, IsPlaying, PlayingValue, TurnsTo, cast}
+use Rattle.play_run.specs.Playing.{ToldAlike, HaveNoWork, IsPlaying, PlayingValue, TurnsTo, cast}
 use Rattle.play_run.specs.Recording.{IsNameAt, IsTold}
 use Rattle.play_run.specs.Turning.{FailsOn, IsStepOf}
 use Rattle.play_run.proofs.Working.{all_in, none_out}
@@ -60,8 +60,9 @@ use Rattle.play_streams.specs.Fronts.{AreFronts}
 use Rattle.play_streams.specs.Streams.{HasStreams}
 use Rattle.play_streams.proofs.Acts.{claim_streams}
 use Rattle.play_streams.proofs.Failing.{failed_fronts}
+use Rattle.play_streams.proofs.Still.{claim_stays, finish_told}
 use Rattle.play_streams.proofs.Stepping.{finish_streams}
-use Rattle.play_run.proofs.Answering.{StreamsGo, Came, keeps_in, stays, turn_goes, turn_stays, with_both}
+use Rattle.play_run.proofs.Answering.{StreamsGo, told_on, told_same, Came, keeps_in, stays, turn_goes, turn_stays, with_both}
 
 -- the work of the component that the handle names went out, and came back from its step with that fault and these frames
 pub record IsWorked (h : Handle) (fault : Option PartFault) (frames : ℕ) (w v : World) : Type 0 where
@@ -141,6 +142,11 @@ module _ (x : Cast) (p : Play) (w : World) (c : ℕ) (h : Handle) (W : IsPlayWor
       let P = between_plays Z None frames v U in
       let F = finish_leads x p U.between c O.component O.work U.done v P l O.there O.out (U.its ∙ number_is) O.done U.faults U.comes in
       (Act.Step c (U.done).frames F.0, ((U.done).frames, F.0, refl), F.1, stays x.layout p (Act.Step c (U.done).frames F.0) refl (λ k. refl), F.2)
+
+  -- what the files told when they came stays
+  pub worked_told : (Z : IsClosed w) (fault : Option PartFault) (frames : ℕ) (v : World) → IsWorked h fault frames w v → ToldAlike w v
+  worked_told Z fault frames v U =
+      told_on w U.between v (told_same w w U.between (λ n t q. (t, q, refl)) (claim_stays x p w U.between c h (Ok (ClaimedWork U.work)) W l N U.goes)) (finish_told x p U.between v U.done (between_plays Z fault frames v U) U.comes)
 
   -- the bytes that it took and gave have moved
   pub worked_streams : (Z : IsClosed w) (frames : ℕ) (v : World) (U : IsWorked h None frames w v) (k : PlayContents) (q : Play) → HasStreams x k p w → IsPlayWorld x q v → q.phase ≡ p.phase → HasStreams x k q v
@@ -243,7 +249,7 @@ module _ {S K : Type 0} where
         let R = one_more y.plan.parts Z.opening Z.world U.between y.log L.between Z.recorded L.first (acts.Claim h) (acts.Claimed (Ok (ClaimedWork U.work))) L.told_first (L.says_first U.work s place (L.named).part h P) refl tt U.goes tt (λ n. refl) in
         let Q = one_more y.plan.parts Z.opening U.between v.0 L.between log R L.second (acts.Finish U.done) acts.Finished L.told_second (L.says_second s place (L.named).part h U.done P U.its U.does) refl U.meets U.comes U.faults (λ n. refl) in
         let F : true ≡ true → StreamsGo (cast y.plan) p Z.opening v.0 = λ t q V ph k C E. worked_streams (cast y.plan) p Z.world c h Z.play b N Z.works shut frames v.0 v.2 k q (Z.streams k C E) V ph in
-        turn_goes y g log p v.0 true (IsStepOf c) Y v.1 (works_in (cast y.plan) p Z.world c h Z.play b N Z.works shut None frames v.0 v.2) (keeps_in m.core g.core K2 (keeps_in y.graph.core m.core K1 Z.clients)) (λ f. absurd cc) (λ f. absurd cc) (λ e. Q) F
+        turn_goes y g log p v.0 true (IsStepOf c) Y v.1 (works_in (cast y.plan) p Z.world c h Z.play b N Z.works shut None frames v.0 v.2) (keeps_in m.core g.core K2 (keeps_in y.graph.core m.core K1 Z.clients)) (λ f. absurd cc) (λ f. absurd cc) (λ e. Q) F (λ e. told_on Z.opening Z.world v.0 Z.told (worked_told (cast y.plan) p Z.world c h Z.play b N Z.works shut None frames v.0 v.2))
         (works_came (cast y.plan) p Z.world c h Z.play b N Z.works shut frames v.0 v.2))
         b J H
 
@@ -273,6 +279,7 @@ module _ {S K : Type 0} where
                   files = Z.files;
                   opening = Z.opening;
                   begins = Z.begins;
+                  told = told_on Z.opening Z.world v.0 Z.told (worked_told (cast y.plan) p Z.world c h Z.play b N Z.works shut (Some fault) frames v.0 v.2);
                   fronts = λ k C E. failed_streams (cast y.plan) p Z.world c h Z.play b N Z.works shut fault frames v.0 v.2 k (Z.streams k C E);
                 },
                 refl,

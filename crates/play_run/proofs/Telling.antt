@@ -54,12 +54,13 @@ use Rattle.play_graphs.specs.Graphs.{IsHandleAt, client_progress, kept_of}
 use Rattle.play_run.specs.Playing.{AreClientsIn, IsPlaying, IsStanding, PlayingValue, TurnsTo, cast}
 use Rattle.play_run.specs.Recording.{IsNameAt, IsTold}
 use Rattle.play_run.specs.Turning.{IsEvent, IsTelling}
+use Rattle.il_graph.proofs.PartsStay.{step_stays}
 use Rattle.play_streams.proofs.Acts.{end_streams, take_streams}
 use Rattle.play_run.proofs.Naming.{all_clients_in}
 use Rattle.play_run.proofs.Working.{still_none}
 use Rattle.play_run.proofs.Commanding.{component_named_in}
 use Rattle.play_run.proofs.Recording.{is_player, one_more}
-use Rattle.play_run.proofs.Answering.{StreamsGo, Came, stays, tell_within, turn_goes, turn_stays, with_both}
+use Rattle.play_run.proofs.Answering.{StreamsGo, told_same, Came, stays, tell_within, turn_goes, turn_stays, with_both}
 
 -- ---- a close-out in which nothing is due
 
@@ -271,7 +272,7 @@ module _ {S K : Type 0} where
         let Q = one_more y.plan.parts Z.opening middle u.0 L.between log R L.second (acts.EndNote h told) acts.Ended L.told_second (L.says_second told s place (L.named).part h P) refl met u.2 tt (λ n. refl) in
         let F : true ≡ true → StreamsGo x p Z.opening u.0 = λ t q W ph k D E.
         end_streams x k p q middle u.0 T.play (take_streams x k p p w middle Z.play (Z.streams k D E) T.play refl c h b N (Ok (TookNote (taken_of taken))) took) W ph c h b (mid_named x p w c h Z.play b N at.0 at.1 o T.event) u.2 in
-        turn_goes y g log p u.0 true (IsTelling c) Y u.1 after (in_after y.graph.core m.core g.core h told K1 K2 C Z.clients) (λ f. absurd cc) (λ f. absurd cc) (λ e. Q) F
+        turn_goes y g log p u.0 true (IsTelling c) Y u.1 after (in_after y.graph.core m.core g.core h told K1 K2 C Z.clients) (λ f. absurd cc) (λ f. absurd cc) (λ e. Q) F (λ e. told_same Z.opening middle u.0 (told_same Z.opening w middle Z.told refl) (step_stays middle sound (acts.EndNote h told) acts.Ended u.0 tt tt u.2).streams)
         (tells x p w c h Z.play b N at.0 at.1 o T.event T.play u.0 u.2)
 
   -- ---- of what is known where the calls were made

@@ -4,7 +4,7 @@ use Rattle.omx_types.specs.declared.handle.Handle.{Handle}
 use Rattle.il_machine.specs.declared.answer.Acted.{Acted}
 use Rattle.il_machine.specs.declared.answer.Acted.TheVariants.{Did, Idle}
 use Rattle.il_machine.specs.declared.answer.Progress.{Progress}
-use Rattle.il_machine.specs.World.{Component, World}
+use Rattle.il_machine.specs.World.{Component, Stream, World, stream_of}
 use Rattle.il_machine.specs.Sound.{Sound}
 use Rattle.il_machine.specs.Components.{progress_of}
 use Rattle.il_machine.specs.Whole.{Always, Stands}
@@ -55,6 +55,10 @@ pub record PlayingValue (S K : Type 0) : Type 0 where
 abbrev pub HasStreamsFrom : Cast → World → Play → World → Type 0
 HasStreamsFrom x opening p w = (k : PlayContents) → HasContents x k opening → AreNew x opening → HasStreams x k p w
 
+-- what each component's file told when it came is the same
+abbrev pub ToldAlike : World → World → Type 0
+ToldAlike opening w = (number : ℕ) (t : Stream) → stream_of number w ≡ Some t → (s : Stream) × (stream_of number opening ≡ Some s) × (t.known ≡ s.known)
+
 -- each client object is in
 abbrev pub AreClientsIn : {C : Type 0} → Entries C → Type 0
 AreClientsIn g = (h : Handle) → client_named h g ≡ Some None → ⊥
@@ -88,6 +92,7 @@ module _ {S K : Type 0} where
     pub begins : IsBeginning x.plan files opening
     pub recorded : IsRecorded x.plan.parts opening world x.log
     pub streams : HasStreamsFrom (cast x.plan) opening p world
+    pub told : ToldAlike opening world
 
   -- between two turns
   pub record IsPlaying (x : PlayingValue S K) (p : Play) : Type 0 where

@@ -19,7 +19,7 @@ use Rattle.play_streams.specs.Fronts.{AreFronts}
 use Rattle.play_streams.specs.Streams.{AreNew}
 use Rattle.play_graphs.specs.Graphs.{kept_of}
 use Rattle.play_run.specs.Recording.{IsBeginning}
-use Rattle.play_run.specs.Playing.{AreClientsIn, HaveNoWork, IsPlaying, PlayingValue, cast}
+use Rattle.play_run.specs.Playing.{AreClientsIn, HaveNoWork, IsPlaying, PlayingValue, ToldAlike, cast}
 
 -- the other end of the link hands back a header that it filled or emptied, or one that it didn't use
 abbrev pub IsBack : ℕ → Act → Type 0
@@ -63,6 +63,7 @@ module _ {S K : Type 0} where
     pub opening : World
     pub begins : IsBeginning x.plan files opening
     -- what the sinks' files have taken are fronts of what they were to take
+    pub told : ToldAlike opening world
     pub fronts : HasFrontsFrom (cast x.plan) opening world
 
   -- so it is, and the play began with the files

@@ -1,8 +1,14 @@
 -- After a work came back the components are still there, with their numbers and the streams of their files.
-use Rattle.std.proofs.Common.{◌≡◌, inl, inr, ℕ, ◌<◌, nat_eq, [], find, slice_get, Option, Some, option_map, MatchOption, refl, sym, ◌∙◌, ap, subst, eqb-true, arith}
+use Rattle.std.proofs.Common.{◌≡◌, inl, inr, ℕ, ◌<◌, nat_eq, [], find, slice_get, Option, Some, option_map, MatchOption, refl, sym, ◌∙◌, ap, subst, eqb-true, arith, Result}
 use Rattle.std.proofs.lemmas.Bool.{eqb-false}
 use Rattle.std.proofs.lemmas.Option.{slice_get_within}
 use Rattle.part_api.specs.Terms.{Terms}
+use Rattle.omx_types.specs.declared.error.OmxError.{OmxError}
+use Rattle.omx_types.specs.declared.handle.Handle.{Handle}
+use Rattle.il_machine.specs.Answers.{plain}
+use Rattle.il_machine.specs.Claims.{Claim, Claimed, Claims, claim_idle, with_work, work_of}
+use Rattle.il_machine.specs.Headers.{seen}
+use Rattle.il_machine.specs.Look.{look}
 use Rattle.il_machine.specs.Due.{ClosesTo}
 use Rattle.il_machine.specs.Finishing.{Finish, finished, finished_by, gone_through, stepped_back, with_landed}
 use Rattle.il_machine.specs.Stepping.{WorkDone}
@@ -11,8 +17,9 @@ use Rattle.machine_laws.proofs.Finding.{either}
 use Rattle.machine_laws.proofs.Keys.{none_or_some, there_is}
 use Rattle.play_model.specs.Play.{Play}
 use Rattle.play_worlds.specs.Cast.{Cast, components_of, script_place, taker_of}
-use Rattle.play_worlds.specs.Worlds.{IsPlayWorld}
-use Rattle.play_worlds.proofs.Lists.{got_set}
+use Rattle.play_worlds.specs.Worlds.{IsPlayWorld, Names}
+use Rattle.play_worlds.proofs.Claims.{claims_none, claims_some}
+use Rattle.play_worlds.proofs.Lists.{got_set, resolved}
 use Rattle.play_worlds.proofs.Sends.{actor_there}
 use Rattle.play_worlds.proofs.Told.{stream_else, stream_gone}
 use Rattle.play_streams.specs.Streams.{EachSink}
@@ -135,3 +142,33 @@ pub finish_new : (x : Cast) (p : Play) (w v : World) (its : WorkDone) → IsPlay
 finish_new x p w v its W N G l b z d sink e f =
     let O = finish_old x p w v its (script_place x (taker_of x l)) b z W G e f in
     O.known ∙ N l O.component O.stream d sink O.there O.found
+
+-- ---- what each file told
+
+-- by the number of its component
+pub finish_told : (x : Cast) (p : Play) (w v : World) (its : WorkDone) → IsPlayWorld x p w → Finish w its v → (n : ℕ) (t : Stream) → stream_of n v ≡ Some t → (s : Stream) × (stream_of n w ≡ Some s) × (t.known ≡ s.known)
+finish_told x p w v its W G n t e = elim (leaves x p w v its W G) [
+  | Nothing C ↦ let streams = (closes_keep w v C).streams in (t, sym (λ i. find (is_stream_of n) (streams i)) ∙ e, refl)
+  | Landed i a s g f C ↦
+      let u : World = with_landed i a its s w in
+      let streams = (closes_keep u v C).streams in
+      let now : stream_of n u ≡ Some t = sym (λ j. find (is_stream_of n) (streams j)) ∙ e in
+      either (nat_eq n (number_of a))
+      (λ q.
+      let own = eqb-true n (number_of a) q in
+      let z : Some (gone_through its s) ≡ Some t = sym (ap (λ (m : ℕ). stream_of m u) own ∙ stream_gone w u (number_of a) (gone_through its) s (λ j. refl) refl f) ∙ now in
+      let is : gone_through its s ≡ t = cc in
+      (s, ap (λ (m : ℕ). stream_of m w) own ∙ f, ap (λ (y : Stream). y.known) (sym is)))
+      (λ q. (t, sym (stream_else w u (number_of a) n (gone_through its) (λ j. refl) refl (eqb-false n (number_of a) q)) ∙ now, refl))
+]
+
+pub claim_stays : (x : Cast) (p : Play) (w v : World) (c : ℕ) (h : Handle) (result : Result Claimed OmxError) → IsPlayWorld x p w → c < components_of x → Names x w c h → Claim w h result v → v.streams ≡ w.streams
+claim_stays x p w v c h result W b N s =
+    let g = actor_there x p w c W b in
+    let a : Component = g.0 in
+    let i : ℕ = script_place x c in
+    let r : Claims (claim_idle (look w) a) i a w result v = resolved plain w h result v (λ j y. Claims (claim_idle (look w) y) j y w result v) i a N g.1 s in
+    elim (none_or_some (claim_idle (look w) a)) [
+      | inr z ↦ ap (λ (y : World). y.streams) (claims_some (claim_idle (look w) a) z.0 i a w result v z.1 r).1
+      | inl n ↦ (closes_keep (with_work i a (work_of (seen w.headers) a) w) v (claims_none (claim_idle (look w) a) i a w result v n r).1).streams
+    ]
