@@ -5,6 +5,7 @@ use Rattle.std.proofs.lemmas.Bool.{cases_lt}
 use Rattle.std.proofs.lemmas.List.{length-map}
 use Rattle.std.proofs.lemmas.List.Sums.{sum_by-cons}
 use Rattle.std.proofs.lemmas.Option.{slice_get_within}
+use Rattle.omx_types.specs.declared.format.Format.{Format}
 use Rattle.omx_types.specs.declared.fault.Fault.{Fault}
 use Rattle.omx_types.specs.declared.fault.Fault.TheVariants as Faults
 use Rattle.outside_io.specs.Files.{GoesOn, Outside}
@@ -16,12 +17,12 @@ use Rattle.script_lang.specs.declared.play_line.PartLine.{PartLine}
 use Rattle.stream_plan.proofs.Lists.{slice_get_mapped}
 use Rattle.assembling.proofs.Places.{get_there}
 use Rattle.play_forms.specs.Parts.{source_number}
-use Rattle.play_results.specs.Files.{IsWriter, written_by}
+use Rattle.play_results.specs.Files.{IsWriter, read_by, written_by}
 use Rattle.play_files.specs.Closing.{AreApart, AreClosed, IsSinkAt, failed_reads}
 use Rattle.play_files.specs.Left.{AreEmptied, HaveHeads}
 use Rattle.play_files.specs.Names.{HaveOwnFiles}
-use Rattle.play_files.specs.Opening.{AreOpen, AreRead, HasAt, HasHead, IsOpenFor, IsReadBy, IsReadFor, IsSinkFault, IsSourceFault, IsSourceRefused, IsSinkOf, IsStill, IsWrittenBy}
-use Rattle.play_files.specs.Seen.{FileSeen, Reads, SinkSeen, Writes, files_seen}
+use Rattle.play_files.specs.Opening.{AreOpen, AreRead, HasAt, HasHead, IsOpenFor, IsReadBy, IsReadFor, IsSinkFault, IsSourceFault, IsSourceOf, IsSourceRefused, IsSinkOf, IsStill, IsWrittenBy}
+use Rattle.play_files.specs.Seen.{FileSeen, Reads, SinkSeen, SourceSeen, Writes, files_seen}
 use Rattle.play_files.proofs.Closings.{then}
 use Rattle.play_files.proofs.Fronts.{sooner}
 use Rattle.play_files.proofs.Ready.{open_writes, read_reads}
@@ -80,6 +81,31 @@ open_sink_is old held planned forms.Mulaw sink frames o = absurd cc
 open_sink_is old held planned (forms.Gain gain) sink frames o = absurd cc
 open_sink_is old held planned (forms.Mixer weights) sink frames o = absurd cc
 open_sink_is old held planned (forms.Splitter outputs) sink frames o = absurd cc
+
+-- an open source is that of a component that reads
+read_source_is : (old : Outside) (held : Option WavHead) (form : PartForm) (source : SourceSeen) (format : Format) (frames : ℕ) → IsReadFor old held form (Some (Reads source format frames))
+    → (name : List ℕ) × (read_by form ≡ Some name) × ((head : WavHead) × IsSourceOf old name head source)
+read_source_is old held (forms.Source name) source format frames r = (name, refl, (r.0, r.4))
+read_source_is old held (forms.Late name) source format frames r = (name, refl, (r.0, r.4))
+read_source_is old held forms.Decoder source format frames r = absurd cc
+read_source_is old held forms.Alaw source format frames r = absurd cc
+read_source_is old held forms.Mulaw source format frames r = absurd cc
+read_source_is old held (forms.Gain gain) source format frames r = absurd cc
+read_source_is old held (forms.Mixer weights) source format frames r = absurd cc
+read_source_is old held (forms.Splitter outputs) source format frames r = absurd cc
+read_source_is old held (forms.Sink name) source format frames r = absurd cc
+
+open_source_is : (old : Outside) (held : Option WavHead) (planned : ℕ) (form : PartForm) (source : SourceSeen) (format : Format) (frames : ℕ) → IsOpenFor old held planned form (Some (Reads source format frames))
+    → (name : List ℕ) × (read_by form ≡ Some name) × ((head : WavHead) × IsSourceOf old name head source)
+open_source_is old held planned (forms.Source name) source format frames o = (name, refl, (o.0, o.4))
+open_source_is old held planned (forms.Late name) source format frames o = (name, refl, (o.0, o.4))
+open_source_is old held planned forms.Decoder source format frames o = absurd cc
+open_source_is old held planned forms.Alaw source format frames o = absurd cc
+open_source_is old held planned forms.Mulaw source format frames o = absurd cc
+open_source_is old held planned (forms.Gain gain) source format frames o = absurd cc
+open_source_is old held planned (forms.Mixer weights) source format frames o = absurd cc
+open_source_is old held planned (forms.Splitter outputs) source format frames o = absurd cc
+open_source_is old held planned (forms.Sink name) source format frames o = absurd o
 
 -- the sink of a component that writes
 sink_of : (old : Outside) (planned : ℕ) (name : List ℕ) (file : Option FileSeen) → IsWrittenBy old planned name file → (sink : SinkSeen) × (frames : ℕ) × (file ≡ Some (Writes sink frames)) × IsSinkOf old name sink
@@ -176,6 +202,13 @@ module _ {F : Type 0} (seen : F → FileSeen) (entries : List (Option F)) where
           | inl o ↦ let s = open_sink_is old _ _ (h.0).form sink frames o.1 in (o.0, (s.0, (h.0, h.1, s.1), s.2))
           | inr r ↦ absurd (read_no_sink old _ (h.0).form sink frames r)
         ]
+
+    -- so is a source
+    pub source_here : (place : ℕ) (source : SourceSeen) (format : Format) (frames : ℕ) → slice_get (files_seen seen entries) place ≡ Some (Some (Reads source format frames))
+        → (part : PartLine) × (slice_get parts place ≡ Some part) × ((name : List ℕ) × (read_by part.form ≡ Some name) × ((head : WavHead) × IsSourceOf old name head source))
+    source_here place source format frames at =
+        let h = open_here place (Some (Reads source format frames)) at in
+        (h.0, h.1, elim h.2 [ inl o ↦ open_source_is old _ _ (h.0).form source format frames o.1 | inr r ↦ read_source_is old _ (h.0).form source format frames r ])
 
     calm_here : (place : ℕ) (file : Option FileSeen) → slice_get (files_seen seen entries) place ≡ Some file → failed_reads file ≡ 0
     calm_here place file e =
