@@ -1,0 +1,276 @@
+-- What a play comes to, whose files were open.
+use Rattle.std.proofs.Common.{◌≡◌, ◌≢◌, ℕ, ◌<◌, ◌≤◌, ◌^◌, List, Bool, true, false, length, slice_get, Option, Some, Result, Ok, Err, IsTrue, IsFalse, OnOk, IfOk, IfErr, inl, inr, refl, sym, ◌∙◌, ap, subst, arith}
+use Rattle.std.specs.List.{sum_by}
+use Rattle.std.proofs.lemmas.List.{take_all}
+use Rattle.omx_types.specs.declared.fault.Fault.{Fault}
+use Rattle.omx_types.specs.declared.fault.Fault.TheVariants as Faults
+use Rattle.omx_types.specs.declared.fault.Which.TheVariants.{Line}
+use Rattle.outside_io.specs.Causes.{Rose, sum_of_counts}
+use Rattle.outside_io.specs.Files.{GoesOn, Outside, SameBut}
+use Rattle.outside_io.specs.Whole.{HasWriteReason, IsKeptOrFrontOf, IsShort}
+use Rattle.outside_io.specs.declared.media.Refused.{Refused}
+use Rattle.outside_io.specs.declared.media.Refused.TheVariants as Refusals
+use Rattle.outside_io.specs.declared.source.Failed.{Failed}
+use Rattle.il_machine.specs.Stepping.{IsFrontOf as IsFront}
+use Rattle.script_lang.specs.declared.play_line.PartLine.{PartLine}
+use Rattle.script_lang.specs.declared.script.Script.{Script}
+use Rattle.play_forms.specs.Plain.{sink_text}
+use Rattle.play_forms.specs.Plans.{PlanValue}
+use Rattle.play_openings.specs.Assemblies.{IsReady, PlayFiles}
+use Rattle.play_results.specs.Files.{AreFiles, IsNoSink, IsWriter, read_by}
+use Rattle.play_results.specs.Results.{HoldSinks, IsLogOf, OthersAreKept}
+use Rattle.play_results.specs.Worlds.{HasWritten}
+use Rattle.play_files.specs.Closing.{AreClosed, failed_reads, failed_writes}
+use Rattle.play_files.specs.Names.{HaveOwnFiles}
+use Rattle.play_files.specs.Opening.{IsStill}
+use Rattle.play_files.specs.Seen.{FileSeen, files_seen}
+use Rattle.play_files.specs.Whole.{AreAllOpen, play_files}
+use Rattle.play_files.proofs.Closings.{then}
+use Rattle.play_files.proofs.Fronts.{later}
+use Rattle.play_files.proofs.Stopped.{source_here}
+use Rattle.play_course.specs.declared.player.RunFault.{RunFault}
+use Rattle.play_course.specs.declared.player.RunFault.TheVariants as Runs
+use Rattle.play_course.specs.declared.settling.Ran.{Ran}
+use Rattle.play_course.specs.Courses.{HasEnded, HasRun}
+use Rattle.play_course.specs.Outcomes.{CountsStand, IsBroken, IsDone, IsLogFault, IsRunFault, IsUnlogged}
+use Rattle.play_course.specs.Players.{AreFilesOf, AreSamples, IsWhole}
+use Rattle.play_course.specs.Running.{HasTaken, IsRunCause}
+use Rattle.play_course.specs.Settling.{fault_of_log, line_in, settled}
+use Rattle.play_course.specs.Sums.{planned_summary}
+use Rattle.play_course.proofs.Ways.{are_files_of, counted, front, held, others, samples_of, was_opened}
+
+-- ---- by its counts
+
+-- the short source of a component is told by its line
+abbrev pub IsTold : List PartLine → Outside → ℕ → ℕ → ℕ → Type 0
+IsTold parts old place at size =
+    (part : PartLine) × (name : List ℕ) × (slice_get parts place ≡ Some part) × (read_by part.form ≡ Some name) × IsShort name old at size
+
+read_rose : (after : List (Option FileSeen)) (old mid new : Outside) (closed : Result (Unit {0}) Failed) (more : ℕ) → IsStill old mid → mid.read_faults < 2 ^ 64 → AreClosed after mid new closed
+    → more ≤ sum_by failed_reads after → 1 ≤ more → Rose old.read_faults new.read_faults
+read_rose after old mid new closed more S few C le one = let a = C.reads few in let b = S.reads in omega arith
+
+write_rose : (after : List (Option FileSeen)) (old mid new : Outside) (closed : Result (Unit {0}) Failed) (more : ℕ) → IsStill old mid → AreClosed after mid new closed
+    → more ≤ sum_by failed_writes after → 1 ≤ more → Rose old.write_faults new.write_faults
+write_rose after old mid new closed more S C le one = let a = C.writes in let b = S.writes in omega arith
+
+closing_rose : (old mid new sum : ℕ) → mid ≡ old → Rose (sum_of_counts mid sum) new → Rose old new
+closing_rose old mid new sum same rose = omega arith
+
+why : (parts : List PartLine) (before after : List (Option FileSeen)) (old mid new : Outside) (few : mid.read_faults < 2 ^ 64) → IsStill old mid
+    → ((place at size : ℕ) → IsRunCause before after (Runs.Short place at size) → IsTold parts old place at size)
+    → (reads writes : Bool) (ran : Result Ran RunFault) (closed : Result (Unit {0}) Failed) → (IsTrue reads → Rose mid.read_faults new.read_faults) → (IsFalse reads → new.read_faults ≡ mid.read_faults)
+    → (IsTrue writes → Rose mid.write_faults new.write_faults) → (IsFalse writes → new.write_faults ≡ mid.write_faults) → AreClosed after mid new closed → IfErr ran (IsRunCause before after)
+    → (fault : Fault) → settled parts ran closed reads writes ≡ Err fault → IsRunFault parts old new fault
+why parts before after old mid new few S short true writes ran closed read unread wrote unwritten C cause fault e =
+    let s : Faults.ReadFault ≡ fault = cc in
+    let r = read refl in
+    let a = S.reads in
+    let rose : Rose old.read_faults new.read_faults = omega arith in
+    subst (IsRunFault parts old new) s rose
+why parts before after old mid new few S short false true ran closed read unread wrote unwritten C cause fault e =
+    let s : Faults.WriteFault ≡ fault = cc in
+    let r = wrote refl in
+    let a = S.writes in
+    let rose : Rose old.write_faults new.write_faults = omega arith in
+    subst (IsRunFault parts old new) s (rose, unread refl ∙ S.reads)
+why parts before after old mid new few S short false false (Ok it) (Ok done) read unread wrote unwritten C cause fault e = absurd cc
+why parts before after old mid new few S short false false (Ok it) (Err failed) read unread wrote unwritten C cause fault e =
+    let s : Faults.WriteFault ≡ fault = cc in
+    subst (IsRunFault parts old new) s (closing_rose old.write_faults mid.write_faults new.write_faults _ S.writes C.failed, unread refl ∙ S.reads)
+why parts before after old mid new few S short false false (Err Runs.OutOfMemory) closed read unread wrote unwritten C cause fault e =
+    let s : Faults.OutOfMemory ≡ fault = cc in
+    subst (IsRunFault parts old new) s tt
+why parts before after old mid new few S short false false (Err Runs.Read) closed read unread wrote unwritten C (place, a, b, was, (format, frames, at), rose) fault e =
+    let s : Faults.ReadFault ≡ fault = cc in
+    let le : b.faults ≤ sum_by failed_reads after = counted failed_reads after place _ at in
+    let one : 1 ≤ b.faults = omega arith in
+    subst (IsRunFault parts old new) s (read_rose after old mid new closed b.faults S few C le one)
+why parts before after old mid new few S short false false (Err Runs.Write) closed read unread wrote unwritten C (place, a, b, planned, count, was, at, rose) fault e =
+    let s : Faults.WriteFault ≡ fault = cc in
+    let le : b.faults ≤ sum_by failed_writes after = counted failed_writes after place _ at in
+    let one : 1 ≤ b.faults = omega arith in
+    subst (IsRunFault parts old new) s (write_rose after old mid new closed b.faults S C le one, unread refl ∙ S.reads)
+why parts before after old mid new few S short false false (Err (Runs.Short place at size)) (Ok done) read unread wrote unwritten C cause fault e =
+    let s : Faults.Short (Line (line_in (slice_get parts place))) at size ≡ fault = cc in
+    let t = short place at size cause in
+    subst (IsRunFault parts old new) s (record { reads = unread refl ∙ S.reads; writes = unwritten refl ∙ S.writes }, (place, t.0, t.1, t.2, t.3, ap (λ (o : Option PartLine). Line (line_in o)) t.2, t.4))
+why parts before after old mid new few S short false false (Err (Runs.Short place at size)) (Err failed) read unread wrote unwritten C cause fault e =
+    let s : Faults.WriteFault ≡ fault = cc in
+    subst (IsRunFault parts old new) s (closing_rose old.write_faults mid.write_faults new.write_faults _ S.writes C.failed, unread refl ∙ S.reads)
+
+-- done whole: no count rose, and all was closed
+record IsCalm (reads writes : Bool) (ran : Result Ran RunFault) (closed : Result (Unit {0}) Failed) (it : Ran) : Type 0 where
+  unread : IsFalse reads
+  unwritten : IsFalse writes
+  ran_is : ran ≡ Ok it
+  closed_is : closed ≡ Ok tt
+
+calm : (parts : List PartLine) (reads writes : Bool) (ran : Result Ran RunFault) (closed : Result (Unit {0}) Failed) (it : Ran) → settled parts ran closed reads writes ≡ Ok it → IsCalm reads writes ran closed it
+calm parts true writes ran closed it e = absurd cc
+calm parts false true ran closed it e = absurd cc
+calm parts false false (Ok r) (Ok done) it e = record { unread = refl; unwritten = refl; ran_is = cc; closed_is = refl }
+calm parts false false (Ok r) (Err failed) it e = absurd cc
+calm parts false false (Err fault) closed it e = absurd cc
+
+-- ---- a play whose files were open
+
+module _ {F : Type 0} (seen : F → FileSeen) (script : Script) (name log : List ℕ) (old mid new : Outside) (plan : PlanValue) (entries : List (Option F)) (O : AreAllOpen seen script old mid plan entries) (own : HaveOwnFiles name log plan.parts) where
+  -- each sink took a front of its text
+  fronts : (after : List (Option FileSeen)) (ran : Result Ran RunFault) → HasRun plan (files_seen seen entries) after ran → (samples : List (List ℕ)) → AreSamples plan (play_files seen O.heads entries) samples
+      → (place : ℕ) (its : List ℕ) → IsWriter plan.parts place its → (bytes : List ℕ) × HasTaken (files_seen seen entries) after place bytes × IsFront (sink_text plan samples place) bytes
+  fronts after (Ok it) R samples S place its w =
+      let W = R.whole (play_files seen O.heads entries) O.ready (are_files_of seen script name log old mid plan entries O own) in
+      let t = W.took place its w in
+      let is = t.3 samples S in
+      (t.0, t.1, (length (sink_text plan samples place), omega arith, is ∙ sym (take_all (length (sink_text plan samples place)) (sink_text plan samples place) (omega arith))))
+  fronts after (Err fault) R samples S place its w = R.failed (play_files seen O.heads entries) O.ready (are_files_of seen script name log old mid plan entries O own) samples S place its w
+
+  short_told : (place at size : ℕ) (after : List (Option FileSeen)) → IsRunCause (files_seen seen entries) after (Runs.Short place at size) → IsTold plan.parts old place at size
+  short_told place at size after (source, (format, frames, there), G) =
+      let p = source_here seen entries old plan.parts plan.frames (length plan.parts) O.heads O.opened place source format frames there in
+      let I = p.2.2.1 in
+      let head = p.2.2.0 in
+      let whole = G.whole in
+      let below = G.below in (
+        p.0,
+        p.2.0,
+        p.1,
+        p.2.1,
+        record {
+          below = omega arith;
+          stopped = λ end is. (let s = G.stopped end (I.ends ∙ is) in let b = I.starts end is in let f = I.offset in omega arith);
+          whole = λ bytes is. whole ∙ I.whole bytes is;
+        },
+      )
+
+  module _ (result : Result Ran Fault) (H : HasEnded plan plan.parts (files_seen seen entries) mid new result) where
+    pub goes : GoesOn old new
+    goes = then old mid new (O.still).goes_on (H.closes).goes_on
+
+    pub broken : (fault : Fault) → result ≡ Err fault → IsBroken script old new fault
+    broken fault e = record {
+      plan = plan;
+      files = play_files seen O.heads entries;
+      opened = was_opened seen script name log old mid plan entries O own;
+      why = why plan.parts (files_seen seen entries) H.after old mid new H.few O.still (λ place at size c. short_told place at size H.after c) H.reads H.writes H.ran H.closed H.read H.unread H.wrote H.unwritten H.closes (H.has_run).cause fault (sym H.is ∙ e);
+      left = λ tells.
+          (let f = O.files_are tells in
+          record {
+            samples = f.0;
+            files_are = f.1;
+            sinks = λ place its w.
+                (let t = fronts H.after H.ran H.has_run f.0 (samples_of old plan (play_files seen O.heads entries) f.0 f.1) place its w in
+                front seen script name log old mid plan entries O own H.after (H.has_run).same tells new H.closed H.closes place its t.0 (sink_text plan f.0 place) w t.1 t.2);
+            others = others seen script name log old mid plan entries O own H.after (H.has_run).same tells new H.closed H.closes;
+          });
+    }
+
+    module _ (it : Ran) (e : result ≡ Ok it) where
+      calm_is : IsCalm H.reads H.writes H.ran H.closed it
+      calm_is = calm plan.parts H.reads H.writes H.ran H.closed it (sym H.is ∙ e)
+
+      pub stand : CountsStand old new
+      stand = record { reads = H.unread calm_is.unread ∙ (O.still).reads; writes = H.unwritten calm_is.unwritten ∙ (O.still).writes }
+
+      pub told : it.summary ≡ planned_summary plan
+      told = subst (λ (r : Result Ran RunFault). IfOk r (λ x. x.summary ≡ planned_summary plan)) calm_is.ran_is (H.has_run).told
+
+      whole : IsWhole plan (play_files seen O.heads entries) (files_seen seen entries) H.after it.text.items
+      whole =
+          let all = subst (λ (r : Result Ran RunFault). IfOk r (λ x. (given : PlayFiles) → IsReady plan given → AreFilesOf plan given (files_seen seen entries) → IsWhole plan given (files_seen seen entries) H.after x.text.items)) calm_is.ran_is (H.has_run).whole in
+          all (play_files seen O.heads entries) O.ready (are_files_of seen script name log old mid plan entries O own)
+
+      -- the sinks' names hold what was written
+      holds : IsTrue old.tells → (place : ℕ) (its bytes : List ℕ) → IsWriter plan.parts place its → HasTaken (files_seen seen entries) H.after place bytes → new.file its ≡ Some bytes
+      holds tells place its bytes w T =
+          subst (λ (r : Result (Unit {0}) Failed). OnOk r (new.file its ≡ Some bytes)) calm_is.closed_is (held seen script name log old mid plan entries O own H.after (H.has_run).same tells new H.closed H.closes place its bytes w T)
+
+      no_log : IsNoSink plan.parts log
+      no_log place w = own.log_other place log w refl
+
+      module _ (final : Outside) (tells : IsTrue old.tells) (same : SameBut log new final) where
+        keeps : (place : ℕ) (its : List ℕ) → IsWriter plan.parts place its → final.file its ≡ new.file its
+        keeps place its w = same its (own.log_other place its w)
+
+        pub log_of : IsLogOf plan (play_files seen O.heads entries) final it.text.items
+        log_of = record {
+          opening = whole.opening;
+          ending = whole.ending;
+          entries = whole.entries;
+          opens = whole.opens;
+          names = whole.names;
+          alone = whole.alone;
+          ends = record {
+            components = whole.components;
+            headers = whole.headers;
+            sinks = λ place its text w holding.
+                (let t = whole.took place its w in
+                let s : Some t.0 ≡ Some text = sym (holds tells place its t.0 w t.1) ∙ (sym (keeps place its w) ∙ holding) in
+                let is : t.0 ≡ text = cc in
+                subst (HasWritten whole.ending place) is t.2);
+          };
+        }
+
+        pub hold_sinks : (samples : List (List ℕ)) → AreFiles old plan.parts (play_files seen O.heads entries) samples → HoldSinks plan samples final
+        hold_sinks samples A place its w =
+            let t = whole.took place its w in
+            keeps place its w ∙ (holds tells place its t.0 w t.1 ∙ ap Some (t.3 samples (samples_of old plan (play_files seen O.heads entries) samples A)))
+
+        pub others_kept : OthersAreKept plan.parts log old final
+        others_kept n other none = same n other ∙ others seen script name log old mid plan entries O own H.after (H.has_run).same tells new H.closed H.closes n none
+
+        pub log_before : new.file log ≡ old.file log
+        log_before = others seen script name log old mid plan entries O own H.after (H.has_run).same tells new H.closed H.closes log no_log
+
+      pub done : (final : Outside) → (IsTrue old.tells → SameBut log new final) → (IsTrue old.tells → final.file log ≡ Some it.text.items) → IsDone script log old final it.summary
+      done final same held_log = record {
+        plan = plan;
+        files = play_files seen O.heads entries;
+        opened = was_opened seen script name log old mid plan entries O own;
+        told = told;
+        held = λ tells.
+            (let f = O.files_are tells in
+            record {
+              samples = f.0;
+              files_are = f.1;
+              sinks = hold_sinks final tells (same tells) f.0 f.1;
+              text = it.text.items;
+              logged = held_log tells;
+              log_is = log_of final tells (same tells);
+              others = others_kept final tells (same tells);
+            });
+      }
+
+      pub unlogged : (final : Outside) (fault : Fault) → (IsTrue old.tells → SameBut log new final) → (IsTrue old.tells → IsKeptOrFrontOf (new.file log) (final.file log) it.text.items) → IsLogFault log old final fault
+          → IsUnlogged script log old final fault
+      unlogged final fault same front why = record {
+        plan = plan;
+        files = play_files seen O.heads entries;
+        opened = was_opened seen script name log old mid plan entries O own;
+        why = why;
+        left = λ tells.
+            (let f = O.files_are tells in
+            record {
+              samples = f.0;
+              files_are = f.1;
+              sinks = hold_sinks final tells (same tells) f.0 f.1;
+              text = it.text.items;
+              log_is = log_of final tells (same tells);
+              front = elim (front tells) [ inl k ↦ inl (k ∙ log_before final tells (same tells)) | inr k ↦ inr k ];
+              others = others_kept final tells (same tells);
+            });
+      }
+
+-- why the log wasn't written
+pub log_why : (log text : List ℕ) (old new final : Outside) (refused : Refused) → GoesOn old new → CountsStand old new → HasWriteReason log new final refused → final.read_faults ≡ new.read_faults
+    → (refused ≢ Refusals.Failed → final.write_faults ≡ new.write_faults) → IsLogFault log old final (fault_of_log refused)
+log_why log text old new final Refusals.Absent on S R read stands =
+    let n : Refusals.Absent ≢ Refusals.Failed = λ s. cc in (
+      refl,
+      later old.absences new.absences final.absences on.absences R.0,
+      subst (λ (may : List ℕ → Bool). IsTrue (may log)) on.may_refuse R.1,
+      record { reads = read ∙ S.reads; writes = stands n ∙ S.writes },
+    )
+log_why log text old new final Refusals.Failed on S R read stands = (later old.write_faults new.write_faults final.write_faults on.write_faults R, read ∙ S.reads)
+log_why log text old new final Refusals.OutOfMemory on S R read stands = tt

@@ -1,0 +1,4 @@
+pub mod Sinks
+pub mod Running
+pub mod Ways
+pub mod Ends

@@ -1,0 +1,6 @@
+pub mod Running
+pub mod Players
+pub mod Sums
+pub mod Settling
+pub mod Outcomes
+pub mod Courses

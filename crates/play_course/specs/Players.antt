@@ -1,0 +1,54 @@
+-- What a player is given, and what it makes of it.
+use Rattle.std.specs.Prelude.{◌≡◌, ℕ, ◌*◌, List, [], All, length, take, slice_get, count_by, Option, Some, option_map}
+use Rattle.omx_types.specs.Formats.{frame_bytes_of}
+use Rattle.il_machine.specs.Stepping.{IsFrontOf}
+use Rattle.il_machine.specs.World.{World}
+use Rattle.wav_form.specs.declared.heads.WavHead.{WavHead}
+use Rattle.play_forms.specs.Parts.{is_source_part, source_number}
+use Rattle.play_forms.specs.Plain.{sink_text}
+use Rattle.play_forms.specs.Plans.{PlanValue}
+use Rattle.play_openings.specs.Assemblies.{IsReady, PlayFiles, file_at}
+use Rattle.play_log.specs.Entries.{Entry}
+use Rattle.play_log.specs.Naming.{IsNaming}
+use Rattle.play_log.specs.Scenes.{scene_of}
+use Rattle.play_results.specs.Files.{IsReader, IsWriter}
+use Rattle.play_results.specs.Worlds.{HasWritten, IsAtEnd, IsOpening}
+use Rattle.play_files.specs.Seen.{FileSeen, offer}
+use Rattle.play_course.specs.Running.{HasTaken}
+
+-- these are the files, by the places of the plan's components
+abbrev pub AreFilesOf : PlanValue → PlayFiles → List (Option FileSeen) → Type 0
+AreFilesOf plan files entries = (place : ℕ) (file : Option FileSeen) → slice_get entries place ≡ Some file → option_map offer file ≡ file_at plan files place
+
+-- The plan is ready to be played with them.
+pub record CanPlay (plan : PlanValue) (entries : List (Option FileSeen)) : Type 0 where
+  pub files : PlayFiles
+  pub ready : IsReady plan files
+  pub many : length entries ≡ length plan.parts
+  pub are : AreFilesOf plan files entries
+
+-- the samples of the files that tell their bytes
+pub record AreSamples (plan : PlanValue) (files : PlayFiles) (samples : List (List ℕ)) : Type 0 where
+  pub many : length samples ≡ count_by is_source_part plan.parts
+  pub each : (place : ℕ) (name : List ℕ) → IsReader plan.parts place name
+      → (head : WavHead) × (known : List ℕ) × (slice_get files.heads (source_number plan.parts place) ≡ Some head) × (files.known place ≡ Some known)
+      × (slice_get samples (source_number plan.parts place) ≡ Some (take (head.frames * frame_bytes_of head.format) known))
+
+-- What a whole play leaves: the text of its log names acts of the thread that plays, from where the play of the plan begins to its end; and each
+-- sink took what was written to it, which is its text of the plain function.
+pub record IsWhole (plan : PlanValue) (files : PlayFiles) (before after : List (Option FileSeen)) (text : List ℕ) : Type 0 where
+  pub opening : World
+  pub ending : World
+  pub entries : List Entry
+  pub opens : IsOpening plan files opening
+  pub names : IsNaming (scene_of plan.parts opening) opening text entries ending
+  pub alone : All (λ entry. entry.pass ≡ 0) entries
+  pub components : All IsAtEnd ending.components
+  pub headers : ending.headers ≡ []
+  pub took : (place : ℕ) (name : List ℕ) → IsWriter plan.parts place name
+      → (bytes : List ℕ) × HasTaken before after place bytes × HasWritten ending place bytes × ((samples : List (List ℕ)) → AreSamples plan files samples → bytes ≡ sink_text plan samples place)
+
+-- what one leaves that failed: each sink took a front of its text
+abbrev pub IsFailed : PlanValue → PlayFiles → List (Option FileSeen) → List (Option FileSeen) → Type 0
+IsFailed plan files before after = (samples : List (List ℕ)) → AreSamples plan files samples → (place : ℕ) (name : List ℕ) → IsWriter plan.parts place name
+    → (bytes : List ℕ) × HasTaken before after place bytes × IsFrontOf (sink_text plan samples place) bytes

@@ -1,0 +1,101 @@
+//! The whole course of a play.
+
+ghost use Rattle.std.specs.Prelude.{◌≡◌, ℕ, List, IfErr, IfOk, OnOk};
+ghost use Rattle.outside_io.specs.Files.{GoesOn};
+ghost use Rattle.script_lang.specs.PlayScripts.{IsPlayScript};
+ghost use Rattle.play_openings.specs.Assemblies.{HasNoLate};
+ghost use Rattle.play_files.specs.Seen.{file_seen, files_seen, sink_seen, source_seen};
+ghost use Rattle.play_course.specs.Courses.{HasEnded, HasRun};
+ghost use Rattle.play_course.specs.Outcomes.{CountsStand, HasNoLateLine, IsDone, IsUndone};
+ghost use Rattle.play_course.specs.Players.{CanPlay};
+
+use crate::player::{Player, RunFault};
+use crate::settling::{Ran, has_risen, log_fault, parts_of, settle};
+use crate::summary::{Summary, summary_of};
+use audio_parts::PartFile;
+use omx_types::Fault;
+use outside_io::{Media, Sink, Source, write_whole};
+use play_files::{Opened, close_files, open_files};
+use script_lang::{PartLine, Script};
+use std::alloc::Global;
+use stream_plan::Plan;
+
+/// Runs a play whose files are open. What is told of its sinks is known by its plan.
+fn run<S: Source, K: Sink, P: Player<S, K>>(
+    alloc: Global,
+    plan: Plan,
+    files: &mut [Option<PartFile<S, K>>],
+    player: &mut P,
+) -> Result<Ran, RunFault>
+    requires ready { CanPlay plan (files_seen (file_seen (source_seen S.offset S.size S.told S.ends S.faults) (sink_seen K.told K.name K.faults)) files.old) }
+    requires early { HasNoLate plan }
+    ensures { HasRun plan (files_seen (file_seen (source_seen S.offset S.size S.told S.ends S.faults) (sink_seen K.told K.name K.faults)) files.old)
+        (files_seen (file_seen (source_seen S.offset S.size S.told S.ends S.faults) (sink_seen K.told K.name K.faults)) files.new) result }
+{
+    let summary = match summary_of(alloc, &plan) {
+        Ok(summary) => summary,
+        Err(_) => return Err(RunFault::OutOfMemory),
+    };
+    match player.run(alloc, plan, files) {
+        Ok(text) => Ok(Ran { text, summary }),
+        Err(fault) => Err(fault),
+    }
+}
+
+/// Runs a play, and closes its files.
+fn run_and_close<M: Media, P: Player<M::Src, M::Snk>>(
+    alloc: Global,
+    media: &mut M,
+    parts: &[PartLine],
+    opened: Opened<M::Src, M::Snk>,
+    player: &mut P,
+) -> Result<Ran, Fault>
+    requires ready { CanPlay opened.plan (files_seen (file_seen (source_seen M.Src.offset M.Src.size M.Src.told M.Src.ends M.Src.faults) (sink_seen M.Snk.told M.Snk.name M.Snk.faults)) opened.files.items) }
+    requires early { HasNoLate opened.plan }
+    ensures { HasEnded opened.plan parts.now (files_seen (file_seen (source_seen M.Src.offset M.Src.size M.Src.told M.Src.ends M.Src.faults) (sink_seen M.Snk.told M.Snk.name M.Snk.faults)) opened.files.items) (M.outside media.old) (M.outside media.new) result }
+{
+    let Opened { plan, mut files } = opened;
+    let read_before = media.read_faults();
+    let write_before = media.write_faults();
+    let ran = run(alloc, plan, files.as_mut_slice(), player);
+    let closed = close_files(media, files);
+    let reads = has_risen(read_before, media.read_faults());
+    let writes = has_risen(write_before, media.write_faults());
+    settle(parts, ran, closed, reads, writes)
+}
+
+/// Plays a script: opens its files, has them played, closes them, and writes the log. On a fault every file that was opened is closed again,
+/// and on one before the log was to be written there is none.
+pub fn play_script<M: Media, P: Player<M::Src, M::Snk>>(
+    alloc: Global,
+    script: &Script,
+    media: &mut M,
+    log: &str,
+    player: &mut P,
+) -> Result<Summary, Fault>
+    requires script { (name : List ℕ) × (text : List ℕ) × IsPlayScript name log.now text script.now }
+    requires early { HasNoLateLine script.now }
+    ensures goes_on { GoesOn (M.outside media.old) (M.outside media.new) }
+    ensures done { IfOk result (IsDone script.now log.now (M.outside media.old) (M.outside media.new)) }
+    ensures stand { OnOk result (CountsStand (M.outside media.old) (M.outside media.new)) }
+    ensures undone { IfErr result (IsUndone script.now log.now (M.outside media.old) (M.outside media.new)) }
+{
+    let opened = match open_files(alloc, media, script) {
+        Ok(opened) => opened,
+        Err(fault) => return Err(fault),
+    };
+    let Ran { text, summary } = match run_and_close(
+        alloc,
+        media,
+        parts_of(script),
+        opened,
+        player,
+    ) {
+        Ok(ran) => ran,
+        Err(fault) => return Err(fault),
+    };
+    match write_whole(alloc, media, log, text.as_slice()) {
+        Ok(()) => Ok(summary),
+        Err(refused) => Err(log_fault(refused)),
+    }
+}

@@ -1,0 +1,48 @@
+//! Who plays a play whose files are open.
+
+use audio_parts::PartFile;
+use outside_io::{Sink, Source};
+use std::alloc::Global;
+use stream_plan::Plan;
+
+/// Why the run of a play failed. Where parts failed for several causes, a failed read comes before a failed write, and that before a
+/// short source; of several of these the first in the script is told, by the place of its component.
+#[derive(Clone, Copy, Debug, PartialEq, Eq)]
+pub enum RunFault {
+    OutOfMemory,
+    Read,
+    Write,
+    /// The source gave nothing at `at`, below its `size`.
+    Short { place: u32, at: u64, size: u64 },
+}
+
+/// Runs a play from its open files to its end, or until a part fails. In both cases each file comes back to its place.
+pub trait Player<S: Source, K: Sink> {
+    ghost use Rattle.std.specs.Prelude.{IfErr, IfOk, OnErr};
+    ghost use Rattle.play_openings.specs.Assemblies.{HasNoLate, IsReady, PlayFiles};
+    ghost use Rattle.play_files.specs.Seen.{file_seen, files_seen, sink_seen, source_seen};
+    ghost use Rattle.play_course.specs.Running.{AreSameFiles, IsRunCause};
+    ghost use Rattle.play_course.specs.Players.{AreFilesOf, CanPlay, IsFailed, IsWhole};
+
+    /// Plays the plan with its files, and answers the text of its log.
+    fn run(
+        &mut self,
+        alloc: Global,
+        plan: Plan,
+        files: &mut [Option<PartFile<S, K>>],
+    ) -> Result<Vec<u8>, RunFault>
+        requires ready { CanPlay plan (files_seen (file_seen (source_seen S.offset S.size S.told S.ends S.faults) (sink_seen K.told K.name K.faults)) files.old) }
+        requires early { HasNoLate plan }
+        ensures same { AreSameFiles (files_seen (file_seen (source_seen S.offset S.size S.told S.ends S.faults) (sink_seen K.told K.name K.faults)) files.old)
+            (files_seen (file_seen (source_seen S.offset S.size S.told S.ends S.faults) (sink_seen K.told K.name K.faults)) files.new) }
+        ensures whole { IfOk result (λ text. (given : PlayFiles) → IsReady plan given
+            → AreFilesOf plan given (files_seen (file_seen (source_seen S.offset S.size S.told S.ends S.faults) (sink_seen K.told K.name K.faults)) files.old)
+            → IsWhole plan given (files_seen (file_seen (source_seen S.offset S.size S.told S.ends S.faults) (sink_seen K.told K.name K.faults)) files.old)
+            (files_seen (file_seen (source_seen S.offset S.size S.told S.ends S.faults) (sink_seen K.told K.name K.faults)) files.new) text.items) }
+        ensures failed { OnErr result ((given : PlayFiles) → IsReady plan given
+            → AreFilesOf plan given (files_seen (file_seen (source_seen S.offset S.size S.told S.ends S.faults) (sink_seen K.told K.name K.faults)) files.old)
+            → IsFailed plan given (files_seen (file_seen (source_seen S.offset S.size S.told S.ends S.faults) (sink_seen K.told K.name K.faults)) files.old)
+            (files_seen (file_seen (source_seen S.offset S.size S.told S.ends S.faults) (sink_seen K.told K.name K.faults)) files.new)) }
+        ensures cause { IfErr result (IsRunCause (files_seen (file_seen (source_seen S.offset S.size S.told S.ends S.faults) (sink_seen K.told K.name K.faults)) files.old)
+            (files_seen (file_seen (source_seen S.offset S.size S.told S.ends S.faults) (sink_seen K.told K.name K.faults)) files.new)) };
+}
