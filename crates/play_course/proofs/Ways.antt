@@ -23,7 +23,7 @@ use Rattle.play_files.specs.Whole.{AreAllOpen, play_files}
 use Rattle.play_files.proofs.Stopped.{sink_here, unseen_at}
 use Rattle.play_course.specs.Outcomes.{WasOpened}
 use Rattle.play_course.specs.Players.{AreFilesOf, AreSamples, CanPlay}
-use Rattle.play_course.specs.Running.{AreSameFiles, HasTaken, IsSameFile, IsSameSink}
+use Rattle.play_course.specs.Running.{AreSameFiles, HasTaken, IsSameFile}
 
 -- ---- what the files tell
 
@@ -73,7 +73,7 @@ module _ {F : Type 0} (seen : F → FileSeen) (script : Script) (name log : List
         let p = get_there (files_seen seen entries) place (omega arith) in
         (p.0, p.1, same.each place p.0 b p.1 e)
 
-    sink_was : (a : Option FileSeen) (b : SinkSeen) (frames : ℕ) → IsSameFile a (Some (Writes b frames)) → (s : SinkSeen) × (n : ℕ) × (a ≡ Some (Writes s n)) × IsSameSink s b
+    sink_was : (a : Option FileSeen) (b : SinkSeen) (frames : ℕ) → IsSameFile a (Some (Writes b frames)) → (s : SinkSeen) × (n : ℕ) × (a ≡ Some (Writes s n)) × (b.name ≡ s.name)
     sink_was (Some (Writes s n)) b frames h = (s, n, refl, h)
     sink_was (Some (Reads s format n)) b frames h = absurd h
     sink_was None b frames h = absurd h
@@ -84,7 +84,7 @@ module _ {F : Type 0} (seen : F → FileSeen) (script : Script) (name log : List
         let w = was_at place (Some (Writes sink frames)) at in
         let s = sink_was w.0 sink frames w.2 in
         let t = the_sink place s.0 (s.1, w.1 ∙ ap Some s.2) in
-        (t.0, t.1, λ tells. s.3.name_is ∙ (t.2).name_is tells)
+        (t.0, t.1, λ tells. s.3 ∙ (t.2).name_is tells)
 
     module _ (tells : IsTrue old.tells) where
       pub still_apart : AreApart after
