@@ -28,11 +28,11 @@ use Rattle.play_worlds.specs.Telling.{heard, out_of, state_note, unheard}
 use Rattle.play_worlds.specs.Wiring.{link_to}
 use Rattle.play_worlds.specs.Worlds.{ends_untold}
 use Rattle.play_worlds.proofs.Ends.{place_there}
-use Rattle.late_worlds.specs.Changing.{at_links, is_joined_at, is_set_at, state_by, told_of_port}
+use Rattle.late_worlds.specs.Changing.{IsPast, at_links, is_joined_at, is_set_at, state_by, told_of_port}
 use Rattle.late_worlds.specs.Late.{HasHeard, IsActorAt, IsLateWorld, LateCast, announced_note, commands_of_end, left_to_make, notes_of_end, port_commands, port_notes, port_number, settings_notes, settings_of_end}
 use Rattle.late_worlds.proofs.Ports.{announced_state}
 use Rattle.late_acts.specs.Leading.{LateLeadsTo}
-use Rattle.late_acts.proofs.Around.{change_else, change_here, end_stated}
+use Rattle.late_acts.proofs.Around.{change_else, change_here, end_stated, ports_told}
 use Rattle.late_acts.proofs.Announcing.{its, its_end, no_commands, no_port_notes, no_settings, off_file, untold, untouched}
 use Rattle.late_acts.proofs.Ends.{HasEnd, end_inside, ends_apart, first_port, one_end, source_lists}
 use Rattle.late_acts.proofs.One.{IsTurned, IsTurnedAt, actor_turned, turned}
@@ -151,6 +151,9 @@ module _ (x : LateCast) (recent : ℕ) (p : Play) (w : World) (W : IsLateWorld x
         subst (λ (i : Bool). is_some (told_of_port (port_at i (q.change l)) (port_number x.cast i l)) ≡ true) r.1 (subst (λ (i : ℕ). is_some (told_of_port (port_at s (q.change i)) (port_number x.cast s i)) ≡ true) r.0 u) in
         let o : false ≡ true = sym (ap (λ (n : ℕ). is_some (told_of_port n (port_number x.cast true l))) z) ∙ v in
         absurd cc;
+    past = λ s j d g t.
+        let r = H.past s j d g t in
+        subst (λ (z : ℕ). IsPast z (port_number x.cast s j) h.port) (sym (ports_told l p s j)) r;
     nothing = H.nothing;
   }
 

@@ -15,7 +15,7 @@ use Rattle.il_machine.specs.World.{Component, HeaderRecord, Stream, Work, World,
 use Rattle.omx_types.specs.declared.command.Note.{Note}
 use Rattle.flow_model.specs.Progress.{sum_to}
 use Rattle.play_model.specs.Acts.{with_change}
-use Rattle.play_model.specs.Changes.{Change, IsHalfChanged, port_at}
+use Rattle.play_model.specs.Changes.{Change, IsHalfChanged, port_at, told_on}
 use Rattle.play_model.specs.Play.{HasPorts, Play, component_at}
 use Rattle.play_model.specs.Reached.{IsReached}
 use Rattle.play_links.specs.View.{LinkEnds, link_view}
@@ -24,7 +24,7 @@ use Rattle.play_worlds.specs.Standing.{commands_at, standing}
 use Rattle.play_worlds.specs.Telling.{heard, heard_of, last_note, out_of, progress_by, state_note}
 use Rattle.play_worlds.specs.Wiring.{IsSomeEnd, ends_of, link_to, port_in, work_in}
 use Rattle.play_worlds.specs.Worlds.{ends_untold}
-use Rattle.late_worlds.specs.Changing.{is_joined_at, is_set, is_set_at, state_by, told_of_port}
+use Rattle.late_worlds.specs.Changing.{IsPast, is_joined_at, is_set, is_set_at, state_by, told_of_port}
 use Rattle.late_worlds.specs.Late.{HasHeard, IsActorAt, IsAnnouncement, IsEndAt, IsLateWorld, IsWiredAt, IsWorkAt, LateCast, announced_note, commands_of_end, end_of_link, left_to_make, notes_of_end, port_commands, port_notes, port_number, settings_notes, settings_of_end}
 use Rattle.late_acts.proofs.Lists.{links_same}
 
@@ -91,6 +91,17 @@ change_here l g p = rw (eq-eqb l l refl) refl
 
 pub change_else : (l : ℕ) (g : Change → Change) (p : Play) (k : ℕ) → k ≢ l → (with_change l g p).change k ≡ p.change k
 change_else l g p k n = rw (ne_eqb k l n) refl
+
+-- no port goes on when the settings are announced, or told
+pub ports_told : (l : ℕ) (p : Play) (s : Bool) (j : ℕ) → port_at s ((with_change l told_on p).change j) ≡ port_at s (p.change j)
+ports_told l p s j = elim (cases_eq j l) [
+  | inl e ↦ subst (λ (i : ℕ). port_at s ((with_change l told_on p).change i) ≡ port_at s (p.change i)) (sym e) (ap (port_at s) (change_here l told_on p) ∙ same s (p.change l))
+  | inr n ↦ ap (port_at s) (change_else l told_on p j n)
+]
+  where
+    same : (s : Bool) (k : Change) → port_at s (told_on k) ≡ port_at s k
+    same true k = refl
+    same false k = refl
 
 -- Seen from this end nothing happens: what its port is at stays, and at the output the settings were told before.
 pub record IsQuiet (s : Bool) (k next : Change) : Type 0 where
@@ -173,6 +184,7 @@ module _ (x : LateCast) (recent later : ℕ) (p : Play) (l : ℕ) (g : Change �
                 let y : is_some (told_of_port (port_at s k) (port_number x.cast s l)) ≡ true = subst (λ (i : ℕ). is_some (told_of_port (port_at s (p.change i)) (port_number x.cast s i)) ≡ true) z.0 v in
                 absurd (none_told s k (port_number x.cast s l) z.1 z.2 y)
           ];
+      past = λ s j b a t. subst (λ (z : ℕ). IsPast z (port_number x.cast s j) h.port) (sym (port_same s j a)) (H.past s j b a t);
       nothing = H.nothing;
     }
 

@@ -1,5 +1,5 @@
 -- The end of a disable or an enable is told.
-use Rattle.std.proofs.Common.{◌≡◌, ◌≢◌, inl, inr, ℕ, ◌+◌, ◌<◌, ◌≤◌, Bool, true, false, not, nat_le, [], ◌∷◌, ◌++◌, slice_get, Some, refl, sym, ◌∙◌, ap, subst, arith}
+use Rattle.std.proofs.Common.{◌≡◌, ◌≢◌, inl, inr, ℕ, ◌+◌, ◌<◌, ◌≤◌, Bool, true, false, not, nat_le, [], ◌∷◌, ◌++◌, slice_get, Option, Some, refl, sym, ◌∙◌, ap, subst, arith}
 use Rattle.std.proofs.lemmas.Bool.{cases_eq}
 use Rattle.omx_types.specs.declared.command.Completion.{Completion}
 use Rattle.omx_types.specs.declared.command.Completion.TheVariants as completions
@@ -26,29 +26,37 @@ use Rattle.play_worlds.specs.Telling.{heard, last_note, state_note}
 use Rattle.play_worlds.specs.Wiring.{link_to}
 use Rattle.play_worlds.specs.Worlds.{Names, ends_untold}
 use Rattle.play_worlds.proofs.Notes.{ended_at, heard_back, no_state_note}
-use Rattle.late_worlds.specs.Changing.{commands_of_port, is_joined_at, is_set_at, notes_of_port, state_by, told_of_port}
+use Rattle.late_worlds.specs.Changing.{IsPast, commands_of_port, is_joined_at, is_set_at, notes_of_port, state_by, told_of_port}
 use Rattle.late_worlds.specs.Late.{HasHeard, IsActorAt, IsLateWorld, LateCast, announced_note, end_of_link, port_number, settings_notes}
 use Rattle.late_worlds.proofs.Ports.{other_state, told_state}
 use Rattle.late_acts.specs.Leading.{LateLeadsTo}
 use Rattle.late_acts.proofs.Announced.{left_same}
-use Rattle.late_acts.proofs.Around.{change_else, change_here, end_moves}
+use Rattle.late_acts.proofs.Around.{change_else, change_here, end_moves, ends_differ}
 use Rattle.late_acts.proofs.Ends.{HasEnd, end_inside, end_there, ends_apart}
 use Rattle.late_acts.proofs.One.{IsTurned, IsTurnedAt, actor_turned, turned}
 use Rattle.late_acts.proofs.Telling.{front}
 use Rattle.late_acts.proofs.Turning.{all_told, alone_half, commands_turned, half_of, half_stays, is_recent, notes_after, notes_here, port_next, port_other, ports_turned, settings_at, settings_here, settings_turned, step_stays, which, rises_turned}
+
+-- which port a disable or an enable is told of
+abbrev pub told_number : Option Completion → ℕ
+told_number (Some (completions.Disable m)) = m
+told_number (Some (completions.Enable m)) = m
+told_number _ = 0
 
 -- what is queued, and told once that is heard
 pub record IsCompletion (n port : ℕ) : Type 0 where
   pub completion : Completion
   pub queued : notes_of_port n port ≡ Told (CmdComplete completion) ∷ []
   pub told : told_of_port (n + 1) port ≡ Some completion
+  pub named : told_number (Some completion) ≡ port
+  pub past : IsPast (n + 1) port (Some completion)
   pub heard_as : (h : Progress) → noted_by (Told (CmdComplete completion)) h ≡ record h { port = Some completion }
   pub quiet : notes_of_port (n + 1) port ≡ []
   pub commanded : commands_of_port (n + 1) port ≡ commands_of_port n port
 
 pub completion_is : (n port : ℕ) → HasCompletion n → IsCompletion n port
-completion_is n port (inl e) = subst (λ (m : ℕ). IsCompletion m port) (sym e) (record { completion = completions.Disable port; queued = refl; told = refl; heard_as = λ h. refl; quiet = refl; commanded = refl })
-completion_is n port (inr e) = subst (λ (m : ℕ). IsCompletion m port) (sym e) (record { completion = completions.Enable port; queued = refl; told = refl; heard_as = λ h. refl; quiet = refl; commanded = refl })
+completion_is n port (inl e) = subst (λ (m : ℕ). IsCompletion m port) (sym e) (record { completion = completions.Disable port; queued = refl; told = refl; named = refl; past = (λ f. omega arith, λ f. cc); heard_as = λ h. refl; quiet = refl; commanded = refl })
+completion_is n port (inr e) = subst (λ (m : ℕ). IsCompletion m port) (sym e) (record { completion = completions.Enable port; queued = refl; told = refl; named = refl; past = (λ f. omega arith, λ f. omega arith); heard_as = λ h. refl; quiet = refl; commanded = refl })
 
 completing : (n : ℕ) → HasCompletion n → (1 ≤ n) × (n < 8)
 completing n (inl e) = (omega arith, omega arith)
@@ -134,6 +142,26 @@ module _ (x : LateCast) (recent : ℕ) (p : Play) (w : World) (W : IsLateWorld x
   its_link true s = inr (record { below = C.0; given_by = subst (λ (v : Bool). component_at (x.cast).layout v l ≡ c) s refl })
   its_link false s = inl (record { below = C.0; taken_by = subst (λ (v : Bool). component_at (x.cast).layout v l ≡ c) s refl })
 
+  -- no other port of the component has this number
+  apart_number : (s : Bool) (j : ℕ) → j < links_of x.cast → j ≢ l → component_at (x.cast).layout s j ≡ c → port_number x.cast s j ≢ port
+  apart_number s j d m g f = ends_differ x.cast W.cast_is s o j l d C.0 m (key_is s j ∙ ((λ i. record { component = script_place x.cast (g i); port = f i }) ∙ sym (key_is o l)))
+    where
+      key_is : (s : Bool) (j : ℕ) → end_of_link x.cast s j ≡ record { component = script_place x.cast (component_at (x.cast).layout s j); port = port_number x.cast s j }
+      key_is true j = refl
+      key_is false j = refl
+
+  past_now : (s : Bool) (j : ℕ) → j < links_of x.cast → component_at (x.cast).layout s j ≡ c → ((x.cast).layout).is_late j ≡ true → IsPast (port_at s (q.change j)) (port_number x.cast s j) (Some D.completion)
+  past_now s j d g t = elim (which x recent recent p l (port_on o) c o refl apart s j g) [
+    | inl z ↦
+        let f : IsPast (port_at o (q.change l)) (port_number x.cast o l) (Some D.completion) = subst (λ (m : ℕ). IsPast m port (Some D.completion)) (sym (ap (port_at o) (change_here l (port_on o) p) ∙ here)) D.past in
+        let r : IsPast (port_at s (q.change l)) (port_number x.cast s l) (Some D.completion) = subst (λ (i : Bool). IsPast (port_at i (q.change l)) (port_number x.cast i l) (Some D.completion)) (sym z.1) f in
+        subst (λ (i : ℕ). IsPast (port_at s (q.change i)) (port_number x.cast s i) (Some D.completion)) (sym z.0) r
+    | inr n ↦
+        let m = apart_number s j d n g in
+        let r = D.named in
+        (λ f. absurd (m (ap (told_number) (sym f) ∙ r)), λ f. absurd (m (ap (told_number) (sym f) ∙ r)))
+  ]
+
   heard_now : HasHeard x.cast recent q c (heard v b)
   heard_now =
       let is : n ≡ Told (CmdComplete D.completion) = let s = split in cc in
@@ -152,6 +180,7 @@ module _ (x : LateCast) (recent : ℕ) (p : Play) (w : World) (W : IsLateWorld x
                   sym (subst (λ (i : ℕ). told_of_port (port_at s (q.change i)) (port_number x.cast s i) ≡ Some D.completion) (sym r) f)
               | inr z ↦ absurd (z r)
             ];
+        past = past_now;
         nothing = λ none. let f : true ≡ false = sym C.1 ∙ none l (its_link o refl) in absurd cc;
       })
 

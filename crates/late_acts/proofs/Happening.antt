@@ -209,7 +209,7 @@ module _ (x : LateCast) (recent : ℕ) (p : Play) (w : World) (W : IsLateWorld x
         part = refl;
         stands = ap (λ (z : Component). record (record z { ports = b.ports }) { notes = a.notes ++ note ∷ [] }) A.stands ∙ (λ j. record (standing p.phase (p.stage c) b) { commands = commands_at p.phase (p.stage c) ++ sym cs j });
         notes = notes_now;
-        heard_so = heard_turned x recent recent p l (port_on o) c o refl apart (inl refl) (S.told port) (λ _. ap (nat_le 2) (step_stays o k)) (heard w a) A.heard_so;
+        heard_so = heard_turned x recent recent p l (port_on o) c o refl apart (inl refl) (let m = port_next o k in omega arith) (S.told port) (λ _. ap (nat_le 2) (step_stays o k)) (heard w a) A.heard_so;
         out = A.out;
         work = λ work f. let z : None ≡ Some work = sym free ∙ f in absurd cc;
       }

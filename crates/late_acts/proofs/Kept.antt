@@ -46,6 +46,7 @@ module _ (x : LateCast) (recent : ℕ) (p : Play) (stage : ℕ → ℕ) (told : 
       error = H.error;
       settings = H.settings;
       port = H.port;
+      past = H.past;
       nothing = H.nothing;
     }
 

@@ -131,7 +131,7 @@ module _ (x : LateCast) (recent : ℕ) (p : Play) (w : World) (W : IsLateWorld x
             part = refl;
             stands = ap (λ (z : Component). record z { settings = settings; ports = ports }) A.stands ∙ (λ i. record (standing p.phase (p.stage c) b) { commands = commands_at p.phase (p.stage c) ++ sym cs i });
             notes = A.notes ∙ (λ i. state_note p.phase (p.stage c) ++ (sym ss i ++ (sym ns i ++ end_note (ends_untold x.cast p c))));
-            heard_so = heard_turned x recent l p l conducted c o refl apart turn.latest (ap (λ m. told_of_port m port) same) two (heard w a) A.heard_so;
+            heard_so = heard_turned x recent l p l conducted c o refl apart turn.latest (let s = same in omega arith) (ap (λ m. told_of_port m port) same) two (heard w a) A.heard_so;
             out = A.out;
             work = λ work f. let z : None ≡ Some work = sym no_work ∙ f in absurd cc;
           } in

@@ -216,7 +216,7 @@ module _ (x : LateCast) (recent : ℕ) (p : Play) (w : World) (W : IsLateWorld x
         part = refl;
         stands = ap (λ (z : Component). record (record z { commands = [] }) { ports = b.ports }) A.stands ∙ (λ j. record (standing p.phase (p.stage c) b) { commands = sym late j ++ sym cs j });
         notes = A.notes ∙ (λ j. state_note p.phase (p.stage c) ++ (sym ss j ++ (sym ns j ++ end_note (ends_untold x.cast p c))));
-        heard_so = heard_turned x recent recent p l (port_on o) c o refl apart (inl refl) ((S.1).told port) (λ _. ap (nat_le 2) (step_stays o k)) (heard w a) A.heard_so;
+        heard_so = heard_turned x recent recent p l (port_on o) c o refl apart (inl refl) (let m = port_next o k in omega arith) ((S.1).told port) (λ _. ap (nat_le 2) (step_stays o k)) (heard w a) A.heard_so;
         out = A.out;
         work = λ work f. let z : None ≡ Some work = sym free ∙ f in absurd cc;
       }

@@ -354,7 +354,7 @@ module _ (x : LateCast) (recent : ℕ) (p : Play) (w : World) (W : IsLateWorld x
         stands = ap (λ (z : Component). record z { commands = a.commands ++ command ∷ [] }) A.stands
             ∙ (λ i. record (standing p.phase (p.stage c) b) { commands = (ap (λ (cs : List Command). cs ++ command ∷ []) cs0 ∙ ((λ j. sym late j ++ sym cs1 j))) i });
         notes = A.notes ∙ (λ i. state_note p.phase (p.stage c) ++ (sym ss i ++ (sym ns i ++ end_note (ends_untold x.cast p c))));
-        heard_so = heard_turned x recent l p l conducted c o refl apart T.latest (S.told port) two (heard w a) A.heard_so;
+        heard_so = heard_turned x recent l p l conducted c o refl apart T.latest S.rises (S.told port) two (heard w a) A.heard_so;
         out = A.out;
         work = λ work f. let z : None ≡ Some work = sym free ∙ f in absurd cc;
       }

@@ -24,11 +24,11 @@ use Rattle.play_worlds.specs.Telling.{heard, last_note, out_of, state_note}
 use Rattle.play_worlds.specs.Wiring.{link_to}
 use Rattle.play_worlds.specs.Worlds.{Names, ends_untold}
 use Rattle.play_worlds.proofs.Notes.{ended_at, heard_back, no_state_note}
-use Rattle.late_worlds.specs.Changing.{is_joined_at, is_set_at, notes_of_port, state_by, told_of_port}
+use Rattle.late_worlds.specs.Changing.{IsPast, is_joined_at, is_set_at, notes_of_port, state_by, told_of_port}
 use Rattle.late_worlds.specs.Late.{HasHeard, IsActorAt, IsLateWorld, LateCast, announced_note, notes_of_end, port_notes, port_number, settings_notes, settings_of_end}
 use Rattle.late_acts.specs.Leading.{LateLeadsTo}
 use Rattle.late_acts.proofs.Announced.{left_same}
-use Rattle.late_acts.proofs.Around.{change_else, change_here, end_moves}
+use Rattle.late_acts.proofs.Around.{change_else, change_here, end_moves, ports_told}
 use Rattle.late_acts.proofs.Ends.{HasEnd, end_inside, end_there, ends_apart, no_sink, one_end, source_lists}
 use Rattle.late_acts.proofs.One.{IsTurned, IsTurnedAt, actor_turned, turned}
 use Rattle.late_acts.proofs.Turning.{commands_turned, no_work_at, notes_turned, rises_turned}
@@ -120,6 +120,9 @@ module _ (x : LateCast) (recent : ℕ) (p : Play) (w : World) (W : IsLateWorld x
             subst (λ (i : Bool). is_some (told_of_port (port_at i (q.change l)) (port_number x.cast i l)) ≡ true) r.1 (subst (λ (i : ℕ). is_some (told_of_port (port_at s (q.change i)) (port_number x.cast s i)) ≡ true) r.0 u) in
             let f : false ≡ true = sym (ap (λ (i : ℕ). is_some (told_of_port i (port_number x.cast true l))) z) ∙ m in
             absurd cc;
+        past = λ s j d g t.
+            let r = H.past s j d g t in
+            subst (λ (z : ℕ). IsPast z (port_number x.cast s j) (heard w a).port) (sym (ports_told l p s j)) r;
         nothing = λ none. let f : true ≡ false = sym C.1 ∙ none l (inr (record { below = C.0; given_by = refl })) in absurd cc;
       })
 

@@ -79,9 +79,17 @@ module _ (x : LateCast) (recent later : ℕ) (p : Play) (l : ℕ) (g : Change �
   pub settings_turned : settings_at x.cast o l (g k) ≡ settings_at x.cast o l k → settings_notes x.cast q c ≡ settings_notes x.cast p c
   settings_turned h = settings_are q ∙ (lists_turned (settings_at x.cast) h ∙ sym (settings_are p))
 
-  pub heard_turned : IsLatest recent later l k → told_of_port (port_at o (g k)) (port_number x.cast o l) ≡ told_of_port (port_at o k) (port_number x.cast o l) → (o ≡ true → nat_le 2 (g k).step ≡ nat_le 2 k.step)
+  pub rises_turned : port_at o k ≤ port_at o (g k) → (s : Bool) (j : ℕ) → component_at (x.cast).layout s j ≡ c → port_at s (p.change j) ≤ port_at s (q.change j)
+  rises_turned r s j a = elim (which s j a) [
+    | inl w ↦
+        let now : port_at o k ≤ port_at o (q.change l) = subst (λ (z : Change). port_at o k ≤ port_at o z) (sym (change_here l g p)) r in
+        subst (λ (i : ℕ). port_at s (p.change i) ≤ port_at s (q.change i)) (sym w.0) (subst (λ (u : Bool). port_at u (p.change l) ≤ port_at u (q.change l)) (sym w.1) now)
+    | inr n ↦ subst (λ (z : Change). port_at s (p.change j) ≤ port_at s z) (sym (change_else l g p j n)) (omega arith)
+  ]
+
+  pub heard_turned : IsLatest recent later l k → port_at o k ≤ port_at o (g k) → told_of_port (port_at o (g k)) (port_number x.cast o l) ≡ told_of_port (port_at o k) (port_number x.cast o l) → (o ≡ true → nat_le 2 (g k).step ≡ nat_le 2 k.step)
       → (h : Progress) → HasHeard x.cast recent p c h → HasHeard x.cast later q c h
-  heard_turned latest same two h H = record {
+  heard_turned latest more same two h H = record {
     state = H.state;
     eos = H.eos;
     error = H.error;
@@ -105,16 +113,12 @@ module _ (x : LateCast) (recent later : ℕ) (p : Play) (l : ℕ) (g : Change �
               was ∙ (ap (told p s) (sym n) ∙ sym e)
           | inr z ↦ absurd (none_told s k (port_number x.cast s l) z.1 z.2 (subst (λ (i : ℕ). is_some (told p s i) ≡ true) z.0 v))
         ];
+    past = λ s j b a t.
+        let m = rises_turned more s j a in
+        let r = H.past s j b a t in
+        (λ f. let n = r.0 f in omega arith, λ f. let n = r.1 f in omega arith);
     nothing = H.nothing;
   }
-
-  pub rises_turned : port_at o k ≤ port_at o (g k) → (s : Bool) (j : ℕ) → component_at (x.cast).layout s j ≡ c → port_at s (p.change j) ≤ port_at s (q.change j)
-  rises_turned r s j a = elim (which s j a) [
-    | inl w ↦
-        let now : port_at o k ≤ port_at o (q.change l) = subst (λ (z : Change). port_at o k ≤ port_at o z) (sym (change_here l g p)) r in
-        subst (λ (i : ℕ). port_at s (p.change i) ≤ port_at s (q.change i)) (sym w.0) (subst (λ (u : Bool). port_at u (p.change l) ≤ port_at u (q.change l)) (sym w.1) now)
-    | inr n ↦ subst (λ (z : Change). port_at s (p.change j) ≤ port_at s z) (sym (change_else l g p j n)) (omega arith)
-  ]
 
   pub ports_turned : port_at o k ≤ port_at o (g k) → HasPorts (x.cast).layout p c → HasPorts (x.cast).layout q c
   ports_turned h P = record { outputs = λ j O t. more true j O.given_by (P.outputs j O t); inputs = λ j I t. more false j I.taken_by (P.inputs j I t) }

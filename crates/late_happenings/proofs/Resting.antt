@@ -166,7 +166,7 @@ module _ (x : LateCast) (recent : ℕ) (p : Play) (w : World) (W : IsLateWorld x
         late_format = A.late_format;
         file = A.file;
         notes = rest_notes;
-        heard_so = record { state = H.state ∙ (ap (last_told p.phase) z ∙ (sym (reached_told p.phase) ∙ ap (last_told p.phase) (sym now_three))); eos = H.eos; error = H.error; settings = H.settings; port = H.port; nothing = H.nothing };
+        heard_so = record { state = H.state ∙ (ap (last_told p.phase) z ∙ (sym (reached_told p.phase) ∙ ap (last_told p.phase) (sym now_three))); eos = H.eos; error = H.error; settings = H.settings; port = H.port; past = H.past; nothing = H.nothing };
         out = A.out;
         part = record {
           whole = (A.part).whole;
@@ -196,7 +196,7 @@ module _ (x : LateCast) (recent : ℕ) (p : Play) (w : World) (W : IsLateWorld x
         late_format = B.late_format;
         file = B.file;
         notes = B.notes ∙ (λ t. state_note p.phase (sym same t) ++ (settings_notes x.cast q d ++ (port_notes x.cast q d ++ end_note (ends_untold x.cast q d))));
-        heard_so = record { state = H.state ∙ ap (last_told p.phase) (sym same); eos = H.eos; error = H.error; settings = H.settings; port = H.port; nothing = H.nothing };
+        heard_so = record { state = H.state ∙ ap (last_told p.phase) (sym same); eos = H.eos; error = H.error; settings = H.settings; port = H.port; past = H.past; nothing = H.nothing };
         out = B.out;
         part = record {
           whole = (B.part).whole;

@@ -45,7 +45,7 @@ module _ (x : LateCast) (recent : ℕ) (p : Play) (w : World) (W : IsLateWorld x
       late_format = A.late_format;
       file = A.file;
       notes = A.notes;
-      heard_so = (let H = A.heard_so in record { state = H.state; eos = H.eos; error = H.error; settings = H.settings; port = H.port; nothing = H.nothing });
+      heard_so = (let H = A.heard_so in record { state = H.state; eos = H.eos; error = H.error; settings = H.settings; port = H.port; past = H.past; nothing = H.nothing });
       out = A.out;
       part = record { whole = (A.part).whole; ended = (A.part).ended; inputs = λ B j I. (A.part).inputs B j I ∙ sym (closed_stays j) };
       done = A.done;

@@ -38,7 +38,7 @@ use Rattle.late_stages.proofs.Calm.{appended, calm, few_events, no_commands, sta
 
 -- what was heard of a component stays while it has told nothing more
 pub heard_on : (x : LateCast) (recent : ℕ) (p : Play) (stage : ℕ → ℕ) (c : ℕ) (h : Progress) → last_told p.phase (stage c) ≡ last_told p.phase (p.stage c) → HasHeard x.cast recent p c h → HasHeard x.cast recent (record p { stage = stage }) c h
-heard_on x recent p stage c h e H = record { state = H.state ∙ sym e; eos = H.eos; error = H.error; settings = H.settings; port = H.port; nothing = H.nothing }
+heard_on x recent p stage c h e H = record { state = H.state ∙ sym e; eos = H.eos; error = H.error; settings = H.settings; port = H.port; past = H.past; nothing = H.nothing }
 
 module _ (x : LateCast) (recent : ℕ) (p : Play) (w : World) (W : IsLateWorld x recent p w) (c : ℕ) (l : c < components_of x.cast) (z : p.stage c ≡ 0) (a : Component) (e : slice_get w.components (script_place x.cast c) ≡ Some a) where
   abbrev i : ℕ

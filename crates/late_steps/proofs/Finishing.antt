@@ -144,7 +144,7 @@ module _ (x : LateCast) (recent : ℕ) (p : Play) (w : World) (W : IsLateWorld x
         late_format = A.late_format;
         file = A.file;
         notes = notes_now;
-        heard_so = record { state = B.state; eos = B.eos; error = B.error; settings = B.settings; port = B.port; nothing = B.nothing };
+        heard_so = record { state = B.state; eos = B.eos; error = B.error; settings = B.settings; port = B.port; past = B.past; nothing = B.nothing };
         out = A.out;
         part = record {
           whole = (A.part).whole;
@@ -213,7 +213,7 @@ module _ (x : LateCast) (recent : ℕ) (p : Play) (w : World) (W : IsLateWorld x
         late_format = B.late_format;
         file = B.file;
         notes = B.notes ∙ (λ j. state_note p.phase (p.stage k) ++ (settings_notes x.cast p k ++ (port_notes x.cast p k ++ end_note (((x.cast).layout).is_sink k && sym same j && not (p.told k)))));
-        heard_so = record { state = H0.state; eos = H0.eos; error = H0.error; settings = H0.settings; port = H0.port; nothing = H0.nothing };
+        heard_so = record { state = H0.state; eos = H0.eos; error = H0.error; settings = H0.settings; port = H0.port; past = H0.past; nothing = H0.nothing };
         out = B.out;
         part = record { whole = (B.part).whole; ended = λ R. (B.part).ended R ∙ sym same; inputs = λ R l I. (B.part).inputs R l I ∙ sym (closed_else k l o I) };
         done = subst (λ (r : Option Stream). MatchOption r ⊥ (λ u. u.frames ≡ (q.flow).done k)) (sym z) (subst (λ (r : ℕ). MatchOption (stream_of (number_of y) w) ⊥ (λ u. u.frames ≡ r)) (sym (done_else k o)) B.done);

@@ -72,6 +72,7 @@ module _ (x : LateCast) (recent : ℕ) (p : Play) (w : World) (W : IsLateWorld x
         error = H.error;
         settings = H.settings;
         port = H.port;
+        past = H.past;
         nothing = H.nothing;
       }
 

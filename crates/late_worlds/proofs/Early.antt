@@ -144,6 +144,7 @@ module _ (x : LateCast) (p : Play) (w : World) (N : HasNoLate x.cast) (R : IsRea
     error = ap (λ (y : Progress). y.error) e;
     settings = λ l O k. never l O.below k;
     port = λ output b O k t. never recent b k;
+    past = λ output b g O k. never b g k;
     nothing = λ n. (ap (λ (y : Progress). y.settings) e, ap (λ (y : Progress). y.port) e);
   }
 

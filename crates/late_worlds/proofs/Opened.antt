@@ -2,6 +2,7 @@
 use Rattle.std.proofs.Common.{◌≡◌, ℕ, zero, suc, ◌+◌, ◌<◌, ◌≤◌, Bool, true, false, ◌&&◌, if◌then◌else◌, nat_eq, List, [], ◌++◌, get_or, replicate, slice_get, slice_index_or, option_and_then, is_some, Option, Some, None, refl, sym, ◌∙◌, ap, subst, arith}
 use Rattle.std.proofs.lemmas.Option.{slice_get_within}
 use Rattle.omx_types.specs.declared.command.Command.{Command}
+use Rattle.omx_types.specs.declared.command.Completion.TheVariants as completions
 use Rattle.il_machine.specs.declared.answer.Progress.{Progress}
 use Rattle.il_machine.specs.declared.port.PortKey.{PortKey}
 use Rattle.il_machine.specs.Components.{no_progress}
@@ -72,6 +73,10 @@ heard_nothing x recent c h e = record {
   error = ap (λ (y : Progress). y.error) e;
   settings = λ l O k. ap (λ (y : Progress). is_some y.settings) e;
   port = λ output b O k t. absurd (nothing_told x recent output t);
+  past = λ output l b g t. (
+    λ f. let z : None ≡ Some (completions.Disable (port_number x output l)) = sym (ap (λ (y : Progress). y.port) e) ∙ f in absurd cc,
+    λ f. let z : None ≡ Some (completions.Enable (port_number x output l)) = sym (ap (λ (y : Progress). y.port) e) ∙ f in absurd cc,
+  );
   nothing = λ n. (ap (λ (y : Progress). y.settings) e, ap (λ (y : Progress). y.port) e);
 }
 

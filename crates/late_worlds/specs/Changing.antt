@@ -1,6 +1,6 @@
 -- What the change of a late source's link makes of its two ports: how they stand by how far it is, and what is queued at their
 -- components. A link that isn't changed stands as one of whose change nothing was done.
-use Rattle.std.specs.Prelude.{ℕ, zero, suc, Bool, true, false, not, ◌&&◌, ◌||◌, nat_eq, nat_le, if◌then◌else◌, List, [], ◌∷◌, ◌++◌, Option, Some, None}
+use Rattle.std.specs.Prelude.{◌≡◌, ◌≤◌, ℕ, zero, suc, Bool, true, false, not, ◌&&◌, ◌||◌, nat_eq, nat_le, if◌then◌else◌, List, [], ◌∷◌, ◌++◌, Option, Some, None}
 use Rattle.omx_types.specs.declared.command.Command.{Command}
 use Rattle.omx_types.specs.declared.command.Command.TheVariants.{PortDisable, PortEnable}
 use Rattle.omx_types.specs.declared.command.Completion.{Completion}
@@ -52,6 +52,10 @@ told_of_port (suc (suc (suc (suc (suc (suc zero)))))) port = Some (completions.D
 told_of_port (suc (suc (suc (suc (suc (suc (suc zero))))))) port = Some (completions.Disable port)
 told_of_port (suc (suc (suc (suc (suc (suc (suc (suc n)))))))) port = Some (completions.Enable port)
 told_of_port _ port = None
+
+-- where that the port was disabled, or enabled, was told last, it has come so far
+abbrev pub IsPast : ℕ → ℕ → Option Completion → Type 0
+IsPast n port told = (told ≡ Some (completions.Disable port) → 4 ≤ n) × (told ≡ Some (completions.Enable port) → 8 ≤ n)
 
 -- ---- both ports, by the acts of the conductor
 

@@ -35,7 +35,7 @@ use Rattle.play_worlds.specs.Standing.{commands_at, standing}
 use Rattle.play_worlds.specs.Telling.{heard, last_note, last_told, state_note, unheard}
 use Rattle.play_worlds.specs.Wiring.{IsSomeEnd, ends_of, link_to, port_in, work_in}
 use Rattle.play_worlds.specs.Worlds.{HasLink, IsPart, ends_untold, to_make}
-use Rattle.late_worlds.specs.Changing.{at_links, commands_of_port, is_joined_at, is_set, notes_of_port, state_by, told_of_port}
+use Rattle.late_worlds.specs.Changing.{IsPast, at_links, commands_of_port, is_joined_at, is_set, notes_of_port, state_by, told_of_port}
 
 -- a cast, and the format that goes through each link
 pub record LateCast : Type 0 where
@@ -109,6 +109,7 @@ pub record HasHeard (x : Cast) (recent : ℕ) (p : Play) (c : ℕ) (h : Progress
   pub port : (output : Bool) → recent < links_of x → component_at x.layout output recent ≡ c → (x.layout).is_late recent ≡ true
       → is_some (told_of_port (port_at output (p.change recent)) (port_number x output recent)) ≡ true
       → h.port ≡ told_of_port (port_at output (p.change recent)) (port_number x output recent)
+  pub past : (output : Bool) (l : ℕ) → l < links_of x → component_at x.layout output l ≡ c → (x.layout).is_late l ≡ true → IsPast (port_at output (p.change l)) (port_number x output l) h.port
   -- one without a late source's link has told nothing of these
   pub nothing : ((l : ℕ) → IsLinkOf (x.layout).network c l → (x.layout).is_late l ≡ false) → (h.settings ≡ None) × (h.port ≡ None)
 
