@@ -61,14 +61,14 @@ begun_told (suc phase) = refl
 begun_progress : (phase : ℕ) (told : Bool) → progress_at (suc phase) 0 told ≡ progress_at phase 4 told
 begun_progress phase told = let e = begun_told phase in λ i. record { state = e i; eos = told; error = None; settings = None; port = None }
 
-next_state : (phase : ℕ) (state : State) → slice_get all_states phase ≡ Some state → (phase < 4) × (state ≡ target (phase + 1))
+pub next_state : (phase : ℕ) (state : State) → slice_get all_states phase ≡ Some state → (phase < 4) × (state ≡ target (phase + 1))
 next_state zero state e = (omega arith, cc)
 next_state (suc zero) state e = (omega arith, cc)
 next_state (suc (suc zero)) state e = (omega arith, cc)
 next_state (suc (suc (suc zero))) state e = (omega arith, cc)
 next_state (suc (suc (suc (suc k)))) state e = absurd cc
 
-state_next : (phase : ℕ) → phase < 4 → slice_get all_states phase ≡ Some (target (phase + 1))
+pub state_next : (phase : ℕ) → phase < 4 → slice_get all_states phase ≡ Some (target (phase + 1))
 state_next zero l = refl
 state_next (suc zero) l = refl
 state_next (suc (suc zero)) l = refl
@@ -77,11 +77,11 @@ state_next (suc (suc (suc (suc k)))) l = absurd (omega arith)
 
 -- ---- lists
 
-none_of : {X : Type 0} (test : X → Bool) (xs : List X) → ((i : ℕ) (y : X) → slice_get xs i ≡ Some y → test y ≡ false) → list_any test xs ≡ false
+pub none_of : {X : Type 0} (test : X → Bool) (xs : List X) → ((i : ℕ) (y : X) → slice_get xs i ≡ Some y → test y ≡ false) → list_any test xs ≡ false
 none_of test [] h = refl
 none_of test (y ∷ xs) h = rw (h 0 y refl) (none_of test xs (λ i z e. h (suc i) z e))
 
-over_at : (sinks : List Bool) (told : List Progress) (i : ℕ) (sink : Bool) (y : Progress) → sinks_over sinks told ≡ true → slice_get sinks i ≡ Some sink → slice_get told i ≡ Some y → sink ≡ true → y.eos ≡ true
+pub over_at : (sinks : List Bool) (told : List Progress) (i : ℕ) (sink : Bool) (y : Progress) → sinks_over sinks told ≡ true → slice_get sinks i ≡ Some sink → slice_get told i ≡ Some y → sink ≡ true → y.eos ≡ true
 over_at [] told i sink y h e f s = absurd cc
 over_at (b ∷ sinks) [] i sink y h e f s = absurd cc
 over_at (b ∷ sinks) (z ∷ told) zero sink y h e f s =
@@ -92,7 +92,7 @@ over_at (b ∷ sinks) (z ∷ told) zero sink y h e f s =
     ap (λ (q : Progress). q.eos) (sym is) ∙ u
 over_at (b ∷ sinks) (z ∷ told) (suc i) sink y h e f s = over_at sinks told i sink y (both_of (not b || z.eos) (sinks_over sinks told) h).1 e f s
 
-at_over : (sinks : List Bool) (told : List Progress) → ((i : ℕ) (sink : Bool) (y : Progress) → slice_get sinks i ≡ Some sink → slice_get told i ≡ Some y → sink ≡ true → y.eos ≡ true) → sinks_over sinks told ≡ true
+pub at_over : (sinks : List Bool) (told : List Progress) → ((i : ℕ) (sink : Bool) (y : Progress) → slice_get sinks i ≡ Some sink → slice_get told i ≡ Some y → sink ≡ true → y.eos ≡ true) → sinks_over sinks told ≡ true
 at_over [] told h = refl
 at_over (b ∷ sinks) [] h = refl
 at_over (b ∷ sinks) (z ∷ told) h =
@@ -100,12 +100,12 @@ at_over (b ∷ sinks) (z ∷ told) h =
     let first : (not b || z.eos) ≡ true = either b (λ t. ap (λ (q : Bool). not q || z.eos) t ∙ h 0 b z refl refl t) (λ t. ap (λ (q : Bool). not q || z.eos) t) in
     λ i. first i && rest i
 
-views_many : (olds : List Progress) (views : List (Option Progress)) → length olds ≡ length views → length (heard_views olds views) ≡ length olds
+pub views_many : (olds : List Progress) (views : List (Option Progress)) → length olds ≡ length views → length (heard_views olds views) ≡ length olds
 views_many [] views e = refl
 views_many (y ∷ olds) [] e = absurd (omega arith)
 views_many (y ∷ olds) (v ∷ views) e = ap suc (views_many olds views (omega arith))
 
-view_at : (olds : List Progress) (views : List (Option Progress)) (i : ℕ) (old : Progress) (view : Option Progress) → slice_get olds i ≡ Some old → slice_get views i ≡ Some view → slice_get (heard_views olds views) i ≡ Some (heard_view old view)
+pub view_at : (olds : List Progress) (views : List (Option Progress)) (i : ℕ) (old : Progress) (view : Option Progress) → slice_get olds i ≡ Some old → slice_get views i ≡ Some view → slice_get (heard_views olds views) i ≡ Some (heard_view old view)
 view_at [] views i old view e f = absurd cc
 view_at (y ∷ olds) [] i old view e f = absurd cc
 view_at (y ∷ olds) (v ∷ views) zero old view e f = let s : y ≡ old = cc in let t : v ≡ view = cc in λ i. Some (heard_view (s i) (t i))

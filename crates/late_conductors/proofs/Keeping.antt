@@ -1,0 +1,159 @@
+-- What a conductor knows stays so by the acts of a play.
+use Rattle.std.proofs.Common.{◌≡◌, inl, inr, ℕ, zero, suc, ◌+◌, ◌≤◌, Bool, true, false, ◌||◌, nat_eq, if◌then◌else◌, List, slice_get, Some, sym, ◌∙◌, ap, subst, arith}
+use Rattle.std.proofs.lemmas.Bool.{cases_eq}
+use Rattle.conductor.specs.declared.phase.LateLink.{LateLink}
+use Rattle.play_model.specs.Acts.{Act, CanAct, acted, with_change}
+use Rattle.play_model.specs.Acts.Act.{Begin, Send, Run, Happen, Tell, TellEnd, Supply, Release, HandOver, HandBack, HandUnused, Announce, TellSettings, Conduct, RunPort, HappenPort, TellPort, Step}
+use Rattle.play_model.specs.Changes.{Change, conducted, port_on, told_on}
+use Rattle.play_model.specs.Play.{Layout, Play}
+use Rattle.play_worlds.specs.Cast.{Cast}
+use Rattle.play_plans.proofs.Links.{two_ways}
+use Rattle.late_acts.proofs.Around.{change_else, change_here}
+use Rattle.late_conductors.specs.Conducting.{AreCarriedOut, AreLates, IsCarriedOut, IsLateAt, IsLateOf, IsOwnAct, IsToldBy, IsUnderWay}
+
+-- ---- a change goes on
+
+pub record IsFurther (k j : Change) : Type 0 where
+  pub outputs : k.output ≤ j.output
+  pub inputs : k.input ≤ j.input
+  pub way : (n : ℕ) → IsUnderWay n k.step → IsUnderWay n j.step
+  pub out : (n : ℕ) → IsCarriedOut n k.step → IsCarriedOut n j.step
+
+stays : (k : Change) → IsFurther k k
+stays k = record { outputs = omega arith; inputs = omega arith; way = λ n u. u; out = λ n u. u }
+
+-- its settings are announced, or told
+telling : (k : Change) → k.step ≤ 1 → IsFurther k (told_on k)
+telling k l = record { outputs = omega arith; inputs = omega arith; way = way k.step l; out = out k.step l }
+  where
+    way : (s : ℕ) → s ≤ 1 → (n : ℕ) → IsUnderWay n s → IsUnderWay n (s + 1)
+    way s l zero u = omega arith
+    way s l (suc zero) u = let a = u.0 in absurd (omega arith)
+    way s l (suc (suc zero)) u = let a = u.0 in absurd (omega arith)
+    way s l (suc (suc (suc zero))) u = let a = u.0 in absurd (omega arith)
+    way s l (suc (suc (suc (suc n)))) u = absurd u
+
+    out : (s : ℕ) → s ≤ 1 → (n : ℕ) → IsCarriedOut n s → IsCarriedOut n (s + 1)
+    out s l zero u = omega arith
+    out s l (suc zero) u = absurd (omega arith)
+    out s l (suc (suc zero)) u = absurd (omega arith)
+    out s l (suc (suc (suc zero))) u = absurd (omega arith)
+    out s l (suc (suc (suc (suc n)))) u = absurd u
+
+porting : (o : Bool) (k : Change) → IsFurther k (port_on o k)
+porting true k = record { outputs = omega arith; inputs = omega arith; way = λ n u. u; out = λ n u. u }
+porting false k = record { outputs = omega arith; inputs = omega arith; way = λ n u. u; out = λ n u. u }
+
+at_change : (l : ℕ) (g : Change → Change) (p : Play) → IsFurther (p.change l) (g (p.change l)) → (k : ℕ) → IsFurther (p.change k) ((with_change l g p).change k)
+at_change l g p F k = elim (cases_eq k l) [
+  | inl e ↦ subst (λ (i : ℕ). IsFurther (p.change i) ((with_change l g p).change i)) (sym e) (subst (λ (z : Change). IsFurther (p.change l) z) (sym (change_here l g p)) F)
+  | inr n ↦ subst (λ (z : Change). IsFurther (p.change k) z) (sym (change_else l g p k n)) (stays (p.change k))
+]
+
+further : (w : Layout) (p : Play) (act : Act) → CanAct w p act → IsOwnAct act → (k : ℕ) → IsFurther (p.change k) ((acted w act p).change k)
+further w p Begin C O k = absurd O
+further w p (Conduct l) C O k = absurd O
+further w p (Announce l) C O k = at_change l told_on p (telling (p.change l) (let z = C.3 in omega arith)) k
+further w p (TellSettings l) C O k = at_change l told_on p (telling (p.change l) (let z = C.3 in omega arith)) k
+further w p (RunPort l o) C O k = at_change l (port_on o) p (porting o (p.change l)) k
+further w p (HappenPort l o) C O k = at_change l (port_on o) p (porting o (p.change l)) k
+further w p (TellPort l o) C O k = at_change l (port_on o) p (porting o (p.change l)) k
+further w p (Send c) C O k = stays (p.change k)
+further w p (Run c) C O k = stays (p.change k)
+further w p (Happen c) C O k = stays (p.change k)
+further w p (Tell c) C O k = stays (p.change k)
+further w p (TellEnd c) C O k = stays (p.change k)
+further w p (Supply l) C O k = stays (p.change k)
+further w p (Release l) C O k = stays (p.change k)
+further w p (HandOver l) C O k = stays (p.change k)
+further w p (HandBack l) C O k = stays (p.change k)
+further w p (HandUnused l) C O k = stays (p.change k)
+further w p (Step c n last) C O k = stays (p.change k)
+
+-- ---- one link
+
+told_further : (k j : Change) (late : LateLink) → k.output ≤ j.output → k.input ≤ j.input → IsToldBy k late → IsToldBy j late
+told_further k j late a b T = record {
+  output_disabled = λ t. let m = T.output_disabled t in omega arith;
+  input_disabled = λ t. let m = T.input_disabled t in omega arith;
+  output_enabled = λ t. let m = T.output_enabled t in omega arith;
+  input_enabled = λ t. let m = T.input_enabled t in omega arith;
+}
+
+late_further : (x : Cast) (recent : ℕ) (p q : Play) (l : ℕ) (late : LateLink) → IsFurther (p.change l) (q.change l) → IsLateAt x recent p l late → IsLateAt x recent q l late
+late_further x recent p q l late F K = record {
+  of_link = K.of_link;
+  way = F.way late.steps K.way;
+  told = told_further (p.change l) (q.change l) late F.outputs F.inputs K.told;
+  disabled = K.disabled;
+  latest = K.latest;
+}
+
+-- ---- all of them
+
+pub lates_kept : (x : Cast) (recent : ℕ) (p : Play) (act : Act) (lates : List LateLink) → CanAct x.layout p act → IsOwnAct act → AreLates x recent p lates → AreLates x recent (acted x.layout act p) lates
+lates_kept x recent p act lates C O L = record {
+  each = λ i late e. let k = L.each i late e in (k.0, late_further x recent p (acted x.layout act p) k.0 late (further x.layout p act C O k.0) k.1);
+  some = λ l b t. let k = L.some l b t in (k.0, k.1, k.2, late_further x recent p (acted x.layout act p) l k.1 (further x.layout p act C O l) k.3);
+  rising = L.rising;
+}
+
+pub carried_kept : (x : Cast) (p : Play) (act : Act) (lates : List LateLink) → CanAct x.layout p act → IsOwnAct act → AreCarriedOut x p lates → AreCarriedOut x (acted x.layout act p) lates
+carried_kept x p act lates C O D i l late e N = (further x.layout p act C O l).out late.steps (D i l late e N)
+
+-- a source has one entry
+pub one_entry : (x : Cast) (recent : ℕ) (p : Play) (lates : List LateLink) → AreLates x recent p lates → (i j : ℕ) (a b : LateLink) → slice_get lates i ≡ Some a → slice_get lates j ≡ Some b → a.source ≡ b.source → (i ≡ j) × (a ≡ b)
+one_entry x recent p lates L i j a b e f s = elim (two_ways i j) [
+  | inl h ↦ let r = L.rising i j a b h e f in absurd (omega arith)
+  | inr h ↦ elim h [
+    | inl k ↦ let g : Some a ≡ Some b = sym e ∙ (ap (slice_get lates) k ∙ f) in (k, cc)
+    | inr k ↦ let r = L.rising j i b a k f e in absurd (omega arith)
+  ]
+]
+
+-- both are of one link
+pub same_source : (x : Cast) (k l : ℕ) (a b : LateLink) → IsLateOf x k a → IsLateOf x l b → k ≡ l → a.source ≡ b.source
+same_source x k l a b K L e = K.source ∙ (ap (λ (i : ℕ). (x.layout).place (((x.layout).network).giver i)) e ∙ sym L.source)
+
+-- ---- an act of the conductor
+
+module _ (x : Cast) (p : Play) (l i : ℕ) (late : LateLink) (lates : List LateLink) (L : AreLates x l p lates) (e : slice_get lates i ≡ Some late) (N : IsLateOf x l late) (more : IsUnderWay late.steps ((p.change l).step + 1)) where
+  abbrev q : Play
+  q = acted x.layout (Act.Conduct l) p
+
+  ports_rise : (k : Change) → (k.output ≤ (conducted k).output) × (k.input ≤ (conducted k).input)
+  ports_rise k = (rises (nat_eq k.step 2 || nat_eq k.step 8) k.output, rises (nat_eq k.step 3 || nat_eq k.step 9) k.input)
+    where
+      rises : (b : Bool) (n : ℕ) → n ≤ (if b then n + 1 else n)
+      rises true n = omega arith
+      rises false n = omega arith
+
+  there : (other : LateLink) (j k : ℕ) → slice_get lates j ≡ Some other → IsLateAt x l p k other → IsLateAt x l q k other
+  there other j k f K = elim (cases_eq k l) [
+    | inl s ↦
+        let same = (one_entry x l p lates L i j late other e f (same_source x l k late other N K.of_link (sym s))).1 in
+        let n : other.steps ≡ late.steps = ap (λ (y : LateLink). y.steps) (sym same) in
+        let r = ports_rise (p.change l) in
+        let now : q.change k ≡ conducted (p.change k) = subst (λ (m : ℕ). q.change m ≡ conducted (p.change m)) (sym s) (change_here l conducted p) in
+        let w : IsUnderWay other.steps ((p.change k).step + 1) = subst (λ (m : ℕ). IsUnderWay other.steps ((p.change m).step + 1)) (sym s) (subst (λ (m : ℕ). IsUnderWay m ((p.change l).step + 1)) (sym n) more) in
+        let both = ports_rise (p.change k) in
+        record {
+          of_link = K.of_link;
+          way = subst (λ (z : Change). IsUnderWay other.steps z.step) (sym now) w;
+          told = subst (λ (z : Change). IsToldBy z other) (sym now) (told_further (p.change k) (conducted (p.change k)) other both.0 both.1 K.told);
+          disabled = K.disabled;
+          latest = K.latest;
+        }
+    | inr n ↦ late_further x l p q k other (subst (λ (z : Change). IsFurther (p.change k) z) (sym (change_else l conducted p k n)) (stays (p.change k))) K
+  ]
+
+  pub lates_conducted : AreLates x l q lates
+  lates_conducted = record {
+    each = λ j other f. let k = L.each j other f in (k.0, there other j k.0 f k.1);
+    some = λ k b t. let r = L.some k b t in (r.0, r.1, r.2, there r.1 r.0 k r.2 r.3);
+    rising = L.rising;
+  }
+
+pub conduct_keeps : (x : Cast) (p : Play) (l i : ℕ) (late : LateLink) (lates : List LateLink) → AreLates x l p lates → slice_get lates i ≡ Some late → IsLateOf x l late
+    → IsUnderWay late.steps ((p.change l).step + 1) → AreLates x l (acted x.layout (Act.Conduct l) p) lates
+conduct_keeps x p l i late lates L e N more = lates_conducted x p l i late lates L e N more

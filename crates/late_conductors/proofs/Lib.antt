@@ -1,0 +1,5 @@
+pub mod Hearing
+pub mod Keeping
+pub mod Standing
+pub mod Sending
+pub mod Changing

@@ -1,0 +1,117 @@
+-- What a conductor knows while a play with late sources is where the model has it.
+use Rattle.std.specs.Prelude.{◌≡◌, ◌≢◌, ℕ, zero, suc, ◌<◌, ◌≤◌, true, false, nat_le, List, length, slice_get, Some}
+use Rattle.il_machine.specs.declared.answer.Progress.{Progress}
+use Rattle.conductor.specs.declared.phase.ChangeStep.{ChangeStep}
+use Rattle.conductor.specs.declared.phase.ChangeStep.TheVariants.{Disable, Retune, Enable}
+use Rattle.conductor.specs.declared.phase.LateLink.{LateLink}
+use Rattle.conductor.specs.Hearing.{ConductorValue}
+use Rattle.conductor.specs.Phases.{is_changed, is_disabled}
+use Rattle.play_model.specs.Acts.{Act, CanAct}
+use Rattle.play_model.specs.Changes.{Change}
+use Rattle.play_model.specs.Play.{Play}
+use Rattle.play_worlds.specs.Cast.{Cast, components_of, giver_of, links_of, script_place, taker_of}
+use Rattle.play_plans.specs.Conducting.{HasSinks}
+use Rattle.late_worlds.specs.Late.{HasHeard}
+
+-- ---- a step, by the conductor's acts of a change
+
+-- how far the change is when it is answered, and once it is carried out
+abbrev pub step_from : ChangeStep → ℕ
+step_from Disable = 2
+step_from Retune = 4
+step_from Enable = 8
+
+abbrev pub step_to : ChangeStep → ℕ
+step_to Disable = 4
+step_to Retune = 8
+step_to Enable = 10
+
+-- So many steps were answered, and the last of them is being carried out, or is carried out.
+abbrev pub IsUnderWay : ℕ → ℕ → Type 0
+IsUnderWay zero acts = acts ≤ 2
+IsUnderWay (suc zero) acts = (2 ≤ acts) × (acts ≤ 4)
+IsUnderWay (suc (suc zero)) acts = (4 ≤ acts) × (acts ≤ 8)
+IsUnderWay (suc (suc (suc zero))) acts = (8 ≤ acts) × (acts ≤ 10)
+IsUnderWay _ acts = ⊥
+
+abbrev pub IsCarriedOut : ℕ → ℕ → Type 0
+IsCarriedOut zero acts = acts ≤ 2
+IsCarriedOut (suc zero) acts = acts ≡ 4
+IsCarriedOut (suc (suc zero)) acts = acts ≡ 8
+IsCarriedOut (suc (suc (suc zero))) acts = acts ≡ 10
+IsCarriedOut _ acts = ⊥
+
+-- ---- what it knows of a link
+
+-- the late source and the taker by their places; a late source has one port
+pub record IsLateOf (x : Cast) (l : ℕ) (entry : LateLink) : Type 0 where
+  pub below : l < links_of x
+  pub late : (x.layout).is_late l ≡ true
+  pub source : entry.source ≡ script_place x (giver_of x l)
+  pub taker : entry.taker ≡ script_place x (taker_of x l)
+  pub input : entry.input ≡ x.input_port l
+  pub first : x.output_port l ≡ 0
+
+-- what it holds for told is told
+pub record IsToldBy (k : Change) (late : LateLink) : Type 0 where
+  pub output_disabled : late.output_disabled ≡ true → 4 ≤ k.output
+  pub input_disabled : late.input_disabled ≡ true → 4 ≤ k.input
+  pub output_enabled : late.output_enabled ≡ true → 8 ≤ k.output
+  pub input_enabled : late.input_enabled ≡ true → 8 ≤ k.input
+
+-- and of all that is told it knows
+pub record HasHeardOf (k : Change) (late : LateLink) : Type 0 where
+  pub output_disabled : late.output_disabled ≡ nat_le 4 k.output
+  pub input_disabled : late.input_disabled ≡ nat_le 4 k.input
+  pub output_enabled : late.output_enabled ≡ nat_le 8 k.output
+  pub input_enabled : late.input_enabled ≡ nat_le 8 k.input
+
+-- Of the links whose changes were begun and aren't known to be done, there is this one alone.
+pub record IsLateAt (x : Cast) (recent : ℕ) (p : Play) (l : ℕ) (late : LateLink) : Type 0 where
+  pub of_link : IsLateOf x l late
+  pub way : IsUnderWay late.steps (p.change l).step
+  pub told : IsToldBy (p.change l) late
+  pub disabled : 2 ≤ late.steps → is_disabled late ≡ true
+  pub latest : 1 ≤ late.steps → is_changed late ≡ false → l ≡ recent
+
+-- ---- what it knows of them all
+
+-- one for each late source, by their order in the script
+pub record AreLates (x : Cast) (recent : ℕ) (p : Play) (lates : List LateLink) : Type 0 where
+  pub each : (i : ℕ) (late : LateLink) → slice_get lates i ≡ Some late → (l : ℕ) × IsLateAt x recent p l late
+  pub some : (l : ℕ) → l < links_of x → (x.layout).is_late l ≡ true → (i : ℕ) × (late : LateLink) × (slice_get lates i ≡ Some late) × IsLateAt x recent p l late
+  pub rising : (i j : ℕ) (a b : LateLink) → i < j → slice_get lates i ≡ Some a → slice_get lates j ≡ Some b → a.source < b.source
+
+abbrev pub AreCarriedOut : Cast → Play → List LateLink → Type 0
+AreCarriedOut x p lates = (i l : ℕ) (late : LateLink) → slice_get lates i ≡ Some late → IsLateOf x l late → IsCarriedOut late.steps (p.change l).step
+
+-- ---- a conductor
+
+-- before it hears what was told since
+pub record IsLateConducting (x : Cast) (recent : ℕ) (p : Play) (value : ConductorValue) : Type 0 where
+  pub sinks : HasSinks x value
+  pub many : length value.told ≡ components_of x
+  pub lates : AreLates x recent p value.lates
+  pub sends : value.sends ≡ p.phase
+
+-- it has heard all that was told, and each step that it answered is carried out
+pub record IsLateConductor (x : Cast) (recent : ℕ) (p : Play) (value : ConductorValue) : Type 0 where
+  pub conducting : IsLateConducting x recent p value
+  pub told : (c : ℕ) → c < components_of x → (h : Progress) × (slice_get value.told (script_place x c) ≡ Some h) × HasHeard x recent p c h
+  pub heard : (i l : ℕ) (late : LateLink) → slice_get value.lates i ≡ Some late → IsLateOf x l late → HasHeardOf (p.change l) late
+  pub carried : AreCarriedOut x p value.lates
+
+-- What it is that it answers a step of a change: what the step begins with can be done.
+pub record IsChangeOf (x : Cast) (p : Play) (component : ℕ) (step : ChangeStep) (next : ConductorValue) (l : ℕ) : Type 0 where
+  pub can : CanAct x.layout p (Act.Conduct l)
+  pub its_source : component ≡ script_place x (giver_of x l)
+  pub from : (p.change l).step ≡ step_from step
+  pub conducting : IsLateConducting x l p next
+  -- once that is carried out of it, and the others are as they were
+  pub carried : (q : Play) → (q.change l).step ≡ step_to step → ((k : ℕ) → k ≢ l → (q.change k).step ≡ (p.change k).step) → AreCarriedOut x q next.lates
+
+-- an act of the play that the conductor doesn't order
+abbrev pub IsOwnAct : Act → Type 0
+IsOwnAct Act.Begin = ⊥
+IsOwnAct (Act.Conduct l) = ⊥
+IsOwnAct _ = Unit {0}
