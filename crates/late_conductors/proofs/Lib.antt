@@ -3,3 +3,4 @@ pub mod Keeping
 pub mod Standing
 pub mod Sending
 pub mod Changing
+pub mod Casting

@@ -2,20 +2,23 @@
 //! nothing.
 #![tactic(auto)]
 
-ghost use Rattle.std.specs.Prelude.{◌≡◌, ℕ, ◌+◌, List, slice_get, Option, Some};
+ghost use Rattle.std.specs.Prelude.{◌≡◌, ℕ, ◌+◌, Bool, List, slice_get, Option, Some};
 ghost use Rattle.omx_types.specs.declared.state.State.{State};
 ghost use Rattle.il_machine.specs.declared.answer.Progress.{Progress};
 ghost use Rattle.il_machine.specs.World.{World};
 ghost use Rattle.conductor.specs.declared.phase.ChangeStep.{ChangeStep};
 ghost use Rattle.conductor.specs.declared.phase.LateLink.{LateLink};
 ghost use Rattle.conductor.specs.declared.phase.Phase.TheVariants.{Change, Failed, Over, Send, Wait};
+ghost use Rattle.conductor.specs.Casting.{late_links};
 ghost use Rattle.conductor.specs.Hearing.{ConductorValue, heard};
 ghost use Rattle.conductor.specs.Phases.{Conducts};
+ghost use Rattle.play_forms.specs.Plans.{IsValid, PlanValue};
 ghost use Rattle.play_model.specs.Play.{Play};
 ghost use Rattle.play_model.specs.Reached.{IsOver};
 ghost use Rattle.play_model.specs.Acts.{Act, CanAct, acted};
 ghost use Rattle.play_worlds.specs.Cast.{Cast, giver_of, script_place};
 ghost use Rattle.play_worlds.specs.Standing.{target};
+ghost use Rattle.play_plans.specs.Casting.{cast_of};
 ghost use Rattle.play_plans.specs.Conducting.{HasViews};
 ghost use Rattle.late_worlds.specs.Late.{IsLateWorld, LateCast};
 ghost use Rattle.late_conductors.specs.Conducting.{AreCarriedOut, AreLates, IsChangeOf, IsLateConducting, IsLateConductor, IsLateOf, IsOwnAct, IsUnderWay, step_from};
@@ -59,4 +62,11 @@ pub fn law_of_late_knowledge()
     ensures conducted { (x : Cast) (p : Play) (l i : ℕ) (late : LateLink) (lates : List LateLink)
         → AreLates x l p lates → slice_get lates i ≡ Some late → IsLateOf x l late
         → IsUnderWay late.steps ((p.change l).step + 1) → AreLates x l (acted x.layout (Act.Conduct l) p) lates }
+{}
+
+/// Before its play the conductor of a valid plan knows each late source's link, and that nothing was changed.
+pub fn law_of_late_castings()
+    ensures begins { (plan : PlanValue) (by_output : ℕ → Bool) (recent : ℕ) (p : Play) → IsValid plan → ((l : ℕ) → (p.change l).step ≡ 0)
+        → AreLates (cast_of by_output plan) recent p (late_links plan.joints 0 plan.parts)
+        × AreCarriedOut (cast_of by_output plan) p (late_links plan.joints 0 plan.parts) }
 {}
