@@ -1,15 +1,16 @@
 -- What a conductor knows stays so by the acts of a play.
-use Rattle.std.proofs.Common.{◌≡◌, inl, inr, ℕ, zero, suc, ◌+◌, ◌≤◌, Bool, true, false, ◌||◌, nat_eq, if◌then◌else◌, List, slice_get, Some, sym, ◌∙◌, ap, subst, arith}
+use Rattle.std.proofs.Common.{◌≡◌, inl, inr, ℕ, zero, suc, ◌+◌, ◌≤◌, Bool, true, false, ◌||◌, nat_eq, if◌then◌else◌, List, [], ◌∷◌, slice_get, Some, refl, sym, ◌∙◌, ap, subst, arith}
 use Rattle.std.proofs.lemmas.Bool.{cases_eq}
 use Rattle.conductor.specs.declared.phase.LateLink.{LateLink}
-use Rattle.play_model.specs.Acts.{Act, CanAct, acted, with_change}
+use Rattle.play_model.specs.Acts.{Act, CanAct, CanActs, acted, all_acted, with_change}
 use Rattle.play_model.specs.Acts.Act.{Begin, Send, Run, Happen, Tell, TellEnd, Supply, Release, HandOver, HandBack, HandUnused, Announce, TellSettings, Conduct, RunPort, HappenPort, TellPort, Step}
 use Rattle.play_model.specs.Changes.{Change, conducted, port_on, told_on}
 use Rattle.play_model.specs.Play.{Layout, Play}
 use Rattle.play_worlds.specs.Cast.{Cast}
 use Rattle.play_plans.proofs.Links.{two_ways}
 use Rattle.late_acts.proofs.Around.{change_else, change_here}
-use Rattle.late_conductors.specs.Conducting.{AreCarriedOut, AreLates, IsCarriedOut, IsLateAt, IsLateOf, IsOwnAct, IsToldBy, IsUnderWay}
+use Rattle.late_acts.proofs.Turning.{step_stays}
+use Rattle.late_conductors.specs.Conducting.{AreCarriedOut, AreLates, AreOnLink, HasGoneOn, IsCarriedOut, IsLateAt, IsLateOf, IsOwnAct, IsToldBy, IsUnderWay}
 
 -- ---- a change goes on
 
@@ -157,3 +158,77 @@ module _ (x : Cast) (p : Play) (l i : ℕ) (late : LateLink) (lates : List LateL
 pub conduct_keeps : (x : Cast) (p : Play) (l i : ℕ) (late : LateLink) (lates : List LateLink) → AreLates x l p lates → slice_get lates i ≡ Some late → IsLateOf x l late
     → IsUnderWay late.steps ((p.change l).step + 1) → AreLates x l (acted x.layout (Act.Conduct l) p) lates
 conduct_keeps x p l i late lates L e N more = lates_conducted x p l i late lates L e N more
+
+-- ---- a step that is carried out
+
+-- between two places of its way it is under way
+way_between : (steps low n : ℕ) → IsUnderWay steps low → IsUnderWay steps (low + (n + 1)) → IsUnderWay steps (low + 1)
+way_between zero low n a b = omega arith
+way_between (suc zero) low n a b = let c = a.0 in let d = b.1 in (omega arith, omega arith)
+way_between (suc (suc zero)) low n a b = let c = a.0 in let d = b.1 in (omega arith, omega arith)
+way_between (suc (suc (suc zero))) low n a b = let c = a.0 in let d = b.1 in (omega arith, omega arith)
+way_between (suc (suc (suc (suc k)))) low n a b = absurd a
+
+port_stays : (l : ℕ) (o : Bool) (p : Play) (k : ℕ) → ((with_change l (port_on o) p).change k).step ≡ (p.change k).step
+port_stays l o p k = elim (cases_eq k l) [
+  | inl e ↦ subst (λ (i : ℕ). ((with_change l (port_on o) p).change i).step ≡ (p.change i).step) (sym e) (ap (λ (z : Change). z.step) (change_here l (port_on o) p) ∙ step_stays o (p.change l))
+  | inr n ↦ ap (λ (z : Change). z.step) (change_else l (port_on o) p k n)
+]
+
+on_after : (l : ℕ) (p m q : Play) (n : ℕ) → ((k : ℕ) → (m.change k).step ≡ (p.change k).step) → HasGoneOn l m q n → HasGoneOn l p q n
+on_after l p m q n same G = record { on_link = G.on_link ∙ ap (λ (s : ℕ). s + n) (same l); others = λ k d. G.others k d ∙ same k }
+
+on_one : (k l : ℕ) (p q : Play) (n : ℕ) → k ≡ l → HasGoneOn l (with_change k conducted p) q n → HasGoneOn l p q (n + 1)
+on_one k l p q n e = subst (λ (j : ℕ). HasGoneOn l (with_change j conducted p) q n → HasGoneOn l p q (n + 1)) (sym e) (λ G.
+    let s : ((with_change l conducted p).change l).step ≡ (p.change l).step + 1 = ap (λ (z : Change). z.step) (change_here l conducted p) in
+    let g = G.on_link in
+    record { on_link = omega arith; others = λ i d. G.others i d ∙ ap (λ (z : Change). z.step) (change_else l conducted p i d) })
+
+-- of its link the last step answered is under way
+its_way : (x : Cast) (recent : ℕ) (p : Play) (l i : ℕ) (late : LateLink) (lates : List LateLink) → AreLates x recent p lates → slice_get lates i ≡ Some late → IsLateOf x l late → IsUnderWay late.steps (p.change l).step
+its_way x recent p l i late lates L e N =
+    let r = L.some l N.below N.late in
+    let same = (one_entry x recent p lates L r.0 i r.1 late r.2 e (same_source x l l r.1 late (r.3).of_link N refl)).1 in
+    subst (λ (y : LateLink). IsUnderWay y.steps (p.change l).step) same (r.3).way
+
+-- one more of the conductor's, and what is still to come
+one_on : (x : Cast) (p : Play) (k l i n m : ℕ) (late : LateLink) (lates : List LateLink) → k ≡ l → n ≡ m + 1 → AreLates x l p lates → slice_get lates i ≡ Some late → IsLateOf x l late → IsUnderWay late.steps ((p.change l).step + n)
+    → AreLates x l (acted x.layout (Act.Conduct k) p) lates × IsUnderWay late.steps (((acted x.layout (Act.Conduct k) p).change l).step + m)
+one_on x p k l i n m late lates s f L e N more =
+    let whole : IsUnderWay late.steps ((p.change l).step + (m + 1)) = subst (λ (z : ℕ). IsUnderWay late.steps ((p.change l).step + z)) f more in
+    let now : ((acted x.layout (Act.Conduct l) p).change l).step ≡ (p.change l).step + 1 = ap (λ (z : Change). z.step) (change_here l conducted p) in
+    let rest : (p.change l).step + (m + 1) ≡ ((acted x.layout (Act.Conduct l) p).change l).step + m = omega arith in
+    let lates_then = lates_conducted x p l i late lates L e N (way_between late.steps (p.change l).step m (its_way x l p l i late lates L e N) whole) in
+    subst (λ (j : ℕ). AreLates x l (acted x.layout (Act.Conduct j) p) lates × IsUnderWay late.steps (((acted x.layout (Act.Conduct j) p).change l).step + m)) (sym s) (lates_then, subst (λ (z : ℕ). IsUnderWay late.steps z) rest whole)
+
+pub acts_keep : (x : Cast) (p : Play) (l i n : ℕ) (late : LateLink) (lates : List LateLink) (acts : List Act) → CanActs x.layout p acts → AreOnLink l acts n → AreLates x l p lates → slice_get lates i ≡ Some late → IsLateOf x l late
+    → IsUnderWay late.steps ((p.change l).step + n) → AreLates x l (all_acted x.layout acts p) lates × HasGoneOn l p (all_acted x.layout acts p) n
+acts_keep x p l i n late lates [] C O L e N more = (L, record { on_link = omega arith; others = λ k d. refl })
+acts_keep x p l i n late lates (Happen c ∷ acts) C O L e N more =
+    let r = acts_keep x (acted x.layout (Act.Happen c) p) l i n late lates acts C.1 O (lates_kept x l p (Act.Happen c) lates C.0 tt L) e N more in
+    (r.0, on_after l p (acted x.layout (Act.Happen c) p) (all_acted x.layout acts (acted x.layout (Act.Happen c) p)) n (λ k. refl) r.1)
+acts_keep x p l i n late lates (HappenPort k o ∷ acts) C O L e N more =
+    let m : Play = acted x.layout (Act.HappenPort k o) p in
+    let same = port_stays k o p in
+    let r = acts_keep x m l i n late lates acts C.1 O (lates_kept x l p (Act.HappenPort k o) lates C.0 tt L) e N (subst (λ (s : ℕ). IsUnderWay late.steps (s + n)) (sym (same l)) more) in
+    (r.0, on_after l p m (all_acted x.layout acts m) n same r.1)
+acts_keep x p l i n late lates (Conduct k ∷ acts) C O L e N more =
+    let q : Play = acted x.layout (Act.Conduct k) p in
+    let one = one_on x p k l i n O.1 late lates O.0 O.2 L e N more in
+    let r = acts_keep x q l i O.1 late lates acts C.1 O.3 one.0 e N one.1 in
+    (r.0, subst (λ (z : ℕ). HasGoneOn l p (all_acted x.layout acts q) z) (sym O.2) (on_one k l p (all_acted x.layout acts q) O.1 O.0 r.1))
+acts_keep x p l i n late lates (Begin ∷ acts) C O L e N more = absurd O
+acts_keep x p l i n late lates (Send c ∷ acts) C O L e N more = absurd O
+acts_keep x p l i n late lates (Run c ∷ acts) C O L e N more = absurd O
+acts_keep x p l i n late lates (Tell c ∷ acts) C O L e N more = absurd O
+acts_keep x p l i n late lates (TellEnd c ∷ acts) C O L e N more = absurd O
+acts_keep x p l i n late lates (Supply k ∷ acts) C O L e N more = absurd O
+acts_keep x p l i n late lates (Release k ∷ acts) C O L e N more = absurd O
+acts_keep x p l i n late lates (HandOver k ∷ acts) C O L e N more = absurd O
+acts_keep x p l i n late lates (HandBack k ∷ acts) C O L e N more = absurd O
+acts_keep x p l i n late lates (HandUnused k ∷ acts) C O L e N more = absurd O
+acts_keep x p l i n late lates (Announce k ∷ acts) C O L e N more = absurd O
+acts_keep x p l i n late lates (TellSettings k ∷ acts) C O L e N more = absurd O
+acts_keep x p l i n late lates (RunPort k o ∷ acts) C O L e N more = absurd O
+acts_keep x p l i n late lates (TellPort k o ∷ acts) C O L e N more = absurd O
+acts_keep x p l i n late lates (Step c k last ∷ acts) C O L e N more = absurd O

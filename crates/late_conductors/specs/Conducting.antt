@@ -1,5 +1,5 @@
 -- What a conductor knows while a play with late sources is where the model has it.
-use Rattle.std.specs.Prelude.{◌≡◌, ◌≢◌, ℕ, zero, suc, ◌<◌, ◌≤◌, true, false, nat_le, List, length, slice_get, Some}
+use Rattle.std.specs.Prelude.{◌≡◌, ◌≢◌, ℕ, zero, suc, ◌+◌, ◌<◌, ◌≤◌, true, false, nat_le, List, [], ◌∷◌, length, slice_get, Some}
 use Rattle.il_machine.specs.declared.answer.Progress.{Progress}
 use Rattle.conductor.specs.declared.phase.ChangeStep.{ChangeStep}
 use Rattle.conductor.specs.declared.phase.ChangeStep.TheVariants.{Disable, Retune, Enable}
@@ -115,3 +115,16 @@ abbrev pub IsOwnAct : Act → Type 0
 IsOwnAct Act.Begin = ⊥
 IsOwnAct (Act.Conduct l) = ⊥
 IsOwnAct _ = Unit {0}
+
+-- these acts are so many of the conductor's on the link, and what happens in their close-outs
+abbrev pub AreOnLink : ℕ → List Act → ℕ → Type 0
+AreOnLink l [] n = n ≡ 0
+AreOnLink l (Act.Conduct k ∷ acts) n = (k ≡ l) × (m : ℕ) × (n ≡ m + 1) × AreOnLink l acts m
+AreOnLink l (Act.Happen c ∷ acts) n = AreOnLink l acts n
+AreOnLink l (Act.HappenPort k output ∷ acts) n = AreOnLink l acts n
+AreOnLink l (_ ∷ acts) n = ⊥
+
+-- the conductor's acts of the link have gone on by so many, and those of no other
+pub record HasGoneOn (l : ℕ) (p q : Play) (n : ℕ) : Type 0 where
+  pub on_link : (q.change l).step ≡ (p.change l).step + n
+  pub others : (k : ℕ) → k ≢ l → (q.change k).step ≡ (p.change k).step

@@ -15,13 +15,13 @@ ghost use Rattle.conductor.specs.Phases.{Conducts};
 ghost use Rattle.play_forms.specs.Plans.{IsValid, PlanValue};
 ghost use Rattle.play_model.specs.Play.{Play};
 ghost use Rattle.play_model.specs.Reached.{IsOver};
-ghost use Rattle.play_model.specs.Acts.{Act, CanAct, acted};
+ghost use Rattle.play_model.specs.Acts.{Act, CanAct, CanActs, acted, all_acted};
 ghost use Rattle.play_worlds.specs.Cast.{Cast, giver_of, script_place};
 ghost use Rattle.play_worlds.specs.Standing.{target};
 ghost use Rattle.play_plans.specs.Casting.{cast_of};
 ghost use Rattle.play_plans.specs.Conducting.{HasViews};
 ghost use Rattle.late_worlds.specs.Late.{IsLateWorld, LateCast};
-ghost use Rattle.late_conductors.specs.Conducting.{AreCarriedOut, AreLates, IsChangeOf, IsLateConducting, IsLateConductor, IsLateOf, IsOwnAct, IsUnderWay, step_from};
+ghost use Rattle.late_conductors.specs.Conducting.{AreCarriedOut, AreLates, AreOnLink, HasGoneOn, IsChangeOf, IsLateConducting, IsLateConductor, IsLateOf, IsOwnAct, IsUnderWay, step_from};
 
 /// A conductor that has heard what the components told sends the next state exactly where the model begins one, goes on with the change
 /// of a link exactly where the model does, and says that all is over exactly where it is. It never fails.
@@ -62,6 +62,10 @@ pub fn law_of_late_knowledge()
     ensures conducted { (x : Cast) (p : Play) (l i : ℕ) (late : LateLink) (lates : List LateLink)
         → AreLates x l p lates → slice_get lates i ≡ Some late → IsLateOf x l late
         → IsUnderWay late.steps ((p.change l).step + 1) → AreLates x l (acted x.layout (Act.Conduct l) p) lates }
+    ensures on_link { (x : Cast) (p : Play) (l i n : ℕ) (late : LateLink) (lates : List LateLink) (acts : List Act)
+        → CanActs x.layout p acts → AreOnLink l acts n → AreLates x l p lates → slice_get lates i ≡ Some late → IsLateOf x l late
+        → IsUnderWay late.steps ((p.change l).step + n)
+        → AreLates x l (all_acted x.layout acts p) lates × HasGoneOn l p (all_acted x.layout acts p) n }
 {}
 
 /// Before its play the conductor of a valid plan knows each late source's link, and that nothing was changed.
