@@ -201,22 +201,41 @@ one_on x p k l i n m late lates s f L e N more =
     let lates_then = lates_conducted x p l i late lates L e N (way_between late.steps (p.change l).step m (its_way x l p l i late lates L e N) whole) in
     subst (λ (j : ℕ). AreLates x l (acted x.layout (Act.Conduct j) p) lates × IsUnderWay late.steps (((acted x.layout (Act.Conduct j) p).change l).step + m)) (sym s) (lates_then, subst (λ (z : ℕ). IsUnderWay late.steps z) rest whole)
 
+pub acts_gone : (w : Layout) (p : Play) (l n : ℕ) (acts : List Act) → AreOnLink l acts n → HasGoneOn l p (all_acted w acts p) n
+acts_gone w p l n [] O = record { on_link = omega arith; others = λ k d. refl }
+acts_gone w p l n (Happen c ∷ acts) O = on_after l p (acted w (Act.Happen c) p) (all_acted w acts (acted w (Act.Happen c) p)) n (λ k. refl) (acts_gone w (acted w (Act.Happen c) p) l n acts O)
+acts_gone w p l n (HappenPort k o ∷ acts) O =
+    let m : Play = acted w (Act.HappenPort k o) p in
+    on_after l p m (all_acted w acts m) n (port_stays k o p) (acts_gone w m l n acts O)
+acts_gone w p l n (Conduct k ∷ acts) O =
+    let q : Play = acted w (Act.Conduct k) p in
+    subst (λ (z : ℕ). HasGoneOn l p (all_acted w acts q) z) (sym O.2) (on_one k l p (all_acted w acts q) O.1 O.0 (acts_gone w q l O.1 acts O.3))
+acts_gone w p l n (Begin ∷ acts) O = absurd O
+acts_gone w p l n (Send c ∷ acts) O = absurd O
+acts_gone w p l n (Run c ∷ acts) O = absurd O
+acts_gone w p l n (Tell c ∷ acts) O = absurd O
+acts_gone w p l n (TellEnd c ∷ acts) O = absurd O
+acts_gone w p l n (Supply k ∷ acts) O = absurd O
+acts_gone w p l n (Release k ∷ acts) O = absurd O
+acts_gone w p l n (HandOver k ∷ acts) O = absurd O
+acts_gone w p l n (HandBack k ∷ acts) O = absurd O
+acts_gone w p l n (HandUnused k ∷ acts) O = absurd O
+acts_gone w p l n (Announce k ∷ acts) O = absurd O
+acts_gone w p l n (TellSettings k ∷ acts) O = absurd O
+acts_gone w p l n (RunPort k o ∷ acts) O = absurd O
+acts_gone w p l n (TellPort k o ∷ acts) O = absurd O
+acts_gone w p l n (Step c k last ∷ acts) O = absurd O
+
 pub acts_keep : (x : Cast) (p : Play) (l i n : ℕ) (late : LateLink) (lates : List LateLink) (acts : List Act) → CanActs x.layout p acts → AreOnLink l acts n → AreLates x l p lates → slice_get lates i ≡ Some late → IsLateOf x l late
-    → IsUnderWay late.steps ((p.change l).step + n) → AreLates x l (all_acted x.layout acts p) lates × HasGoneOn l p (all_acted x.layout acts p) n
-acts_keep x p l i n late lates [] C O L e N more = (L, record { on_link = omega arith; others = λ k d. refl })
-acts_keep x p l i n late lates (Happen c ∷ acts) C O L e N more =
-    let r = acts_keep x (acted x.layout (Act.Happen c) p) l i n late lates acts C.1 O (lates_kept x l p (Act.Happen c) lates C.0 tt L) e N more in
-    (r.0, on_after l p (acted x.layout (Act.Happen c) p) (all_acted x.layout acts (acted x.layout (Act.Happen c) p)) n (λ k. refl) r.1)
+    → IsUnderWay late.steps ((p.change l).step + n) → AreLates x l (all_acted x.layout acts p) lates
+acts_keep x p l i n late lates [] C O L e N more = L
+acts_keep x p l i n late lates (Happen c ∷ acts) C O L e N more = acts_keep x (acted x.layout (Act.Happen c) p) l i n late lates acts C.1 O (lates_kept x l p (Act.Happen c) lates C.0 tt L) e N more
 acts_keep x p l i n late lates (HappenPort k o ∷ acts) C O L e N more =
     let m : Play = acted x.layout (Act.HappenPort k o) p in
-    let same = port_stays k o p in
-    let r = acts_keep x m l i n late lates acts C.1 O (lates_kept x l p (Act.HappenPort k o) lates C.0 tt L) e N (subst (λ (s : ℕ). IsUnderWay late.steps (s + n)) (sym (same l)) more) in
-    (r.0, on_after l p m (all_acted x.layout acts m) n same r.1)
+    acts_keep x m l i n late lates acts C.1 O (lates_kept x l p (Act.HappenPort k o) lates C.0 tt L) e N (subst (λ (s : ℕ). IsUnderWay late.steps (s + n)) (sym (port_stays k o p l)) more)
 acts_keep x p l i n late lates (Conduct k ∷ acts) C O L e N more =
-    let q : Play = acted x.layout (Act.Conduct k) p in
     let one = one_on x p k l i n O.1 late lates O.0 O.2 L e N more in
-    let r = acts_keep x q l i O.1 late lates acts C.1 O.3 one.0 e N one.1 in
-    (r.0, subst (λ (z : ℕ). HasGoneOn l p (all_acted x.layout acts q) z) (sym O.2) (on_one k l p (all_acted x.layout acts q) O.1 O.0 r.1))
+    acts_keep x (acted x.layout (Act.Conduct k) p) l i O.1 late lates acts C.1 O.3 one.0 e N one.1
 acts_keep x p l i n late lates (Begin ∷ acts) C O L e N more = absurd O
 acts_keep x p l i n late lates (Send c ∷ acts) C O L e N more = absurd O
 acts_keep x p l i n late lates (Run c ∷ acts) C O L e N more = absurd O

@@ -13,7 +13,7 @@ ghost use Rattle.conductor.specs.Casting.{late_links};
 ghost use Rattle.conductor.specs.Hearing.{ConductorValue, heard};
 ghost use Rattle.conductor.specs.Phases.{Conducts};
 ghost use Rattle.play_forms.specs.Plans.{IsValid, PlanValue};
-ghost use Rattle.play_model.specs.Play.{Play};
+ghost use Rattle.play_model.specs.Play.{Layout, Play};
 ghost use Rattle.play_model.specs.Reached.{IsOver};
 ghost use Rattle.play_model.specs.Acts.{Act, CanAct, CanActs, acted, all_acted};
 ghost use Rattle.play_worlds.specs.Cast.{Cast, giver_of, script_place};
@@ -65,7 +65,8 @@ pub fn law_of_late_knowledge()
     ensures on_link { (x : Cast) (p : Play) (l i n : ℕ) (late : LateLink) (lates : List LateLink) (acts : List Act)
         → CanActs x.layout p acts → AreOnLink l acts n → AreLates x l p lates → slice_get lates i ≡ Some late → IsLateOf x l late
         → IsUnderWay late.steps ((p.change l).step + n)
-        → AreLates x l (all_acted x.layout acts p) lates × HasGoneOn l p (all_acted x.layout acts p) n }
+        → AreLates x l (all_acted x.layout acts p) lates }
+    ensures gone { (w : Layout) (p : Play) (l n : ℕ) (acts : List Act) → AreOnLink l acts n → HasGoneOn l p (all_acted w acts p) n }
 {}
 
 /// Before its play the conductor of a valid plan knows each late source's link, and that nothing was changed.
