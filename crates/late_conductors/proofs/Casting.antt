@@ -1,5 +1,5 @@
 -- What the conductor of a plan knows before its play: of each late source's link nothing was told or answered.
-use Rattle.std.proofs.Common.{◌≡◌, ◌⊎◌, inl, inr, ℕ, zero, suc, ◌+◌, ◌<◌, Bool, true, ◌==◌, nat_le, nat_lt, if◌then◌else◌, List, [], ◌∷◌, ◌++◌, find, length, slice_get, Option, Some, None, refl, sym, ◌∙◌, ap, subst, eqb-true, eq-eqb, ltb-true, arith}
+use Rattle.std.proofs.Common.{◌≡◌, ◌⊎◌, inl, inr, ℕ, zero, suc, ◌+◌, ◌<◌, Bool, true, ◌==◌, nat_le, nat_lt, if◌then◌else◌, List, [], ◌∷◌, ◌++◌, find, length, map, replicate, slice_get, Option, Some, None, refl, sym, ◌∙◌, ap, subst, eqb-true, eq-eqb, ltb-true, arith}
 use Rattle.std.proofs.lemmas.Option.{slice_get_within}
 use Rattle.machine_laws.proofs.Accepting.{both_of}
 use Rattle.machine_laws.proofs.Finding.{either}
@@ -11,14 +11,18 @@ use Rattle.play_forms.specs.declared.joint.Joint.{Joint}
 use Rattle.play_forms.specs.Parts.{has_output, kind_of, passes_at}
 use Rattle.play_forms.specs.Plans.{IsValid, PlanValue}
 use Rattle.conductor.specs.declared.phase.LateLink.{LateLink}
-use Rattle.conductor.specs.Casting.{late_link, late_links, link_from, unchanged}
+use Rattle.conductor.specs.Casting.{is_sink as is_sink_form, late_link, late_links, link_from, unchanged}
+use Rattle.conductor.specs.Casting as conductors
+use Rattle.il_machine.specs.Components.{no_progress}
+use Rattle.il_machine.specs.Kinds.{is_sink}
+use Rattle.play_plans.specs.Conducting.{HasSinks}
 use Rattle.play_model.specs.Play.{Play}
-use Rattle.play_worlds.specs.Cast.{Cast, links_of}
+use Rattle.play_worlds.specs.Cast.{Cast, links_of, script_place}
 use Rattle.play_worlds.proofs.Lists.{get_there}
 use Rattle.play_plans.specs.Casting.{IsCastOf, cast_of}
 use Rattle.play_plans.proofs.Casts.{plan_has_cast}
 use Rattle.play_plans.proofs.Links.{one_output, ports_of_joint, there}
-use Rattle.late_conductors.specs.Conducting.{AreCarriedOut, AreLates, IsCarriedOut, IsLateAt}
+use Rattle.late_conductors.specs.Conducting.{AreCarriedOut, AreLates, IsCarriedOut, IsLateAt, IsLateConducting}
 
 -- ---- the entries of a part
 
@@ -126,6 +130,32 @@ module _ (joints : List Joint) where
       rest : List LateLink
       rest = late_links joints (suc from) parts
 
+-- ---- lists
+
+same_sink : (form : PartForm) → is_sink_form form ≡ is_sink (kind_of form)
+same_sink (forms.Source file) = refl
+same_sink (forms.Late file) = refl
+same_sink forms.Decoder = refl
+same_sink forms.Alaw = refl
+same_sink forms.Mulaw = refl
+same_sink (forms.Gain gain) = refl
+same_sink (forms.Mixer weights) = refl
+same_sink (forms.Splitter outputs) = refl
+same_sink (forms.Sink file) = refl
+
+sink_at : (parts : List PartLine) (place : ℕ) → place < length parts → slice_get (map (λ (part : PartLine). is_sink_form part.form) parts) place ≡ Some (passes_at is_sink (slice_get parts place))
+sink_at [] place b = absurd (omega arith)
+sink_at (part ∷ parts) zero b = ap Some (same_sink part.form)
+sink_at (part ∷ parts) (suc place) b = sink_at parts place (omega arith)
+
+map_many : (parts : List PartLine) → length (map (λ (part : PartLine). is_sink_form part.form) parts) ≡ length parts
+map_many [] = refl
+map_many (part ∷ parts) = ap suc (map_many parts)
+
+replicate_many : (n : ℕ) → length (replicate n no_progress) ≡ n
+replicate_many zero = refl
+replicate_many (suc n) = ap suc (replicate_many n)
+
 -- ---- the link of a late source
 
 found_at : (test : Joint → Bool) (joints : List Joint) (joint : Joint) → find test joints ≡ Some joint → (k : ℕ) × (slice_get joints k ≡ Some joint) × (test joint ≡ true)
@@ -223,6 +253,16 @@ module _ (plan : PlanValue) (by_output : ℕ → Bool) (recent : ℕ) (p : Play)
     rising = sources_rise plan.joints 0 plan.parts;
   }
 
+  -- ---- its sinks
+
+  has_sinks : HasSinks x (conductors.cast_of plan)
+  has_sinks = record {
+    many = map_many plan.parts;
+    each = λ c b.
+        let N = (V.placed).placed c (script_place x c) (C.placed c b) in
+        sink_at plan.parts (script_place x c) N.there;
+  }
+
   carried_begin : AreCarriedOut x p (late_links plan.joints 0 plan.parts)
   carried_begin i l late e N =
       let r = entry_at plan.joints 0 plan.parts i late e in
@@ -230,5 +270,14 @@ module _ (plan : PlanValue) (by_output : ℕ → Bool) (recent : ℕ) (p : Play)
       let none : 0 ≡ late.steps = ap (λ (y : LateLink). y.steps) (sym (r.3).is) in
       subst (λ (m : ℕ). IsCarriedOut m (p.change l).step) none (omega arith)
 
-pub plan_begins : (plan : PlanValue) (by_output : ℕ → Bool) (recent : ℕ) (p : Play) → IsValid plan → ((l : ℕ) → (p.change l).step ≡ 0) → AreLates (cast_of by_output plan) recent p (late_links plan.joints 0 plan.parts) × AreCarriedOut (cast_of by_output plan) p (late_links plan.joints 0 plan.parts)
-plan_begins plan by_output recent p V new = (lates_begin plan by_output recent p V new, carried_begin plan by_output recent p V new)
+pub plan_begins : (plan : PlanValue) (by_output : ℕ → Bool) (recent : ℕ) (p : Play) → IsValid plan → p.phase ≡ 0 → ((l : ℕ) → (p.change l).step ≡ 0)
+    → IsLateConducting (cast_of by_output plan) recent p (conductors.cast_of plan) × AreCarriedOut (cast_of by_output plan) p (conductors.cast_of plan).lates
+plan_begins plan by_output recent p V e new = (
+  record {
+    sinks = has_sinks plan by_output recent p V new;
+    many = replicate_many (length plan.parts);
+    lates = lates_begin plan by_output recent p V new;
+    sends = sym e;
+  },
+  carried_begin plan by_output recent p V new,
+)

@@ -44,7 +44,23 @@ way_from Retune (suc (suc (suc zero))) acts C e = absurd (omega arith)
 way_from Enable (suc (suc (suc zero))) acts C e = absurd (omega arith)
 way_from step (suc (suc (suc (suc n)))) acts C e = absurd C
 
--- and once it is carried out
+-- and until it is carried out
+way_on : (step : ChangeStep) (steps was : ℕ) → IsCarriedOut steps was → was ≡ step_from step → (acts : ℕ) → step_from step ≤ acts → acts ≤ step_to step → IsUnderWay (steps + 1) acts
+way_on Disable zero was C e acts l m = (omega arith, omega arith)
+way_on Disable (suc zero) was C e acts l m = absurd (omega arith)
+way_on Disable (suc (suc zero)) was C e acts l m = absurd (omega arith)
+way_on Disable (suc (suc (suc zero))) was C e acts l m = absurd (omega arith)
+way_on Retune zero was C e acts l m = absurd (omega arith)
+way_on Retune (suc zero) was C e acts l m = (omega arith, omega arith)
+way_on Retune (suc (suc zero)) was C e acts l m = absurd (omega arith)
+way_on Retune (suc (suc (suc zero))) was C e acts l m = absurd (omega arith)
+way_on Enable zero was C e acts l m = absurd (omega arith)
+way_on Enable (suc zero) was C e acts l m = absurd (omega arith)
+way_on Enable (suc (suc zero)) was C e acts l m = (omega arith, omega arith)
+way_on Enable (suc (suc (suc zero))) was C e acts l m = absurd (omega arith)
+way_on step (suc (suc (suc (suc n)))) was C e acts l m = absurd C
+
+-- and once it is
 out_to : (step : ChangeStep) (steps was acts : ℕ) → IsCarriedOut steps was → was ≡ step_from step → acts ≡ step_to step → IsCarriedOut (steps + 1) acts
 out_to Disable zero was acts C e f = f
 out_to Retune zero was acts C e f = absurd (omega arith)
@@ -238,6 +254,11 @@ module _ (x : LateCast) (recent : ℕ) (p : Play) (w : World) (W : IsLateWorld x
       its_source = s ∙ O.source;
       from = from;
       conducting = record { sinks = record { many = ((V.conducting).sinks).many; each = ((V.conducting).sinks).each }; many = (V.conducting).many; lates = lates_next; sends = (V.conducting).sends };
+      number = number;
+      known = one_step_more late;
+      there = set_there value.lates number late (one_step_more late) D.there;
+      of_link = here.of_link;
+      way = way_on step late.steps (p.change l).step out from;
       carried = carried_next;
     }
 

@@ -107,6 +107,12 @@ pub record IsChangeOf (x : Cast) (p : Play) (component : ℕ) (step : ChangeStep
   pub its_source : component ≡ script_place x (giver_of x l)
   pub from : (p.change l).step ≡ step_from step
   pub conducting : IsLateConducting x l p next
+  -- which it is in what it knows, and that it is under way from there on
+  pub number : ℕ
+  pub known : LateLink
+  pub there : slice_get next.lates number ≡ Some known
+  pub of_link : IsLateOf x l known
+  pub way : (acts : ℕ) → step_from step ≤ acts → acts ≤ step_to step → IsUnderWay known.steps acts
   -- once that is carried out of it, and the others are as they were
   pub carried : (q : Play) → (q.change l).step ≡ step_to step → ((k : ℕ) → k ≢ l → (q.change k).step ≡ (p.change k).step) → AreCarriedOut x q next.lates
 

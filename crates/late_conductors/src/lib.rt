@@ -9,7 +9,7 @@ ghost use Rattle.il_machine.specs.World.{World};
 ghost use Rattle.conductor.specs.declared.phase.ChangeStep.{ChangeStep};
 ghost use Rattle.conductor.specs.declared.phase.LateLink.{LateLink};
 ghost use Rattle.conductor.specs.declared.phase.Phase.TheVariants.{Change, Failed, Over, Send, Wait};
-ghost use Rattle.conductor.specs.Casting.{late_links};
+ghost use Rattle.conductor.specs.Casting as conductors;
 ghost use Rattle.conductor.specs.Hearing.{ConductorValue, heard};
 ghost use Rattle.conductor.specs.Phases.{Conducts};
 ghost use Rattle.play_forms.specs.Plans.{IsValid, PlanValue};
@@ -69,9 +69,9 @@ pub fn law_of_late_knowledge()
     ensures gone { (w : Layout) (p : Play) (l n : ℕ) (acts : List Act) → AreOnLink l acts n → HasGoneOn l p (all_acted w acts p) n }
 {}
 
-/// Before its play the conductor of a valid plan knows each late source's link, and that nothing was changed.
+/// Before its play the conductor of a valid plan knows its sinks and each late source's link, and that nothing was begun or changed.
 pub fn law_of_late_castings()
-    ensures begins { (plan : PlanValue) (by_output : ℕ → Bool) (recent : ℕ) (p : Play) → IsValid plan → ((l : ℕ) → (p.change l).step ≡ 0)
-        → AreLates (cast_of by_output plan) recent p (late_links plan.joints 0 plan.parts)
-        × AreCarriedOut (cast_of by_output plan) p (late_links plan.joints 0 plan.parts) }
+    ensures begins { (plan : PlanValue) (by_output : ℕ → Bool) (recent : ℕ) (p : Play) → IsValid plan → p.phase ≡ 0 → ((l : ℕ) → (p.change l).step ≡ 0)
+        → IsLateConducting (cast_of by_output plan) recent p (conductors.cast_of plan)
+        × AreCarriedOut (cast_of by_output plan) p (conductors.cast_of plan).lates }
 {}
