@@ -1,5 +1,5 @@
 -- A play with late sources begins.
-use Rattle.std.proofs.Common.{◌≡◌, ℕ, List, length, refl}
+use Rattle.std.proofs.Common.{◌≡◌, ℕ, false, List, length, refl, arith}
 use Rattle.omx_types.specs.declared.handle.Handle.{Handle}
 use Rattle.il_machine.specs.Run.{Run}
 use Rattle.il_machine.specs.World.{World, no_world}
@@ -14,6 +14,9 @@ use Rattle.play_openings.proofs.Opened.{assembled_opens}
 use Rattle.late_worlds.specs.Late.{IsLateWorld}
 use Rattle.late_worlds.proofs.Opened.{late_opens}
 use Rattle.late_happenings.specs.Waiting.{IsWaiting}
+use Rattle.conductor.specs.Casting as conductors
+use Rattle.late_conductors.proofs.Casting.{plan_begins}
+use Rattle.late_turns.specs.Playing.{IsLatePlaying}
 
 pub play_begins : (plan : PlanValue) (files : PlayFiles) (handles : List Handle) (recent : ℕ) (w : World) → IsReady plan files → IsStage (assembly_of plan files) (Joining (length plan.joints)) handles w
     → IsLateWorld (late_cast_of plan) recent opening w × IsWaiting ((late_cast_of plan).cast).layout opening
@@ -22,3 +25,15 @@ play_begins plan files handles recent w R S = (late_opens (late_cast_of plan) re
 pub play_built : (plan : PlanValue) (files : PlayFiles) (key : ℕ) (handles : List Handle) (recent : ℕ) (w : World) → IsReady plan files → length handles ≡ length plan.parts → Run (no_world key plan.units) (building (assembly_of plan files) handles) w
     → IsLateWorld (late_cast_of plan) recent opening w × IsWaiting ((late_cast_of plan).cast).layout opening
 play_built plan files key handles recent w R m r = play_begins plan files handles recent w R (built_so (assembly_of plan files) key handles w (plan_lawful plan files R) m r)
+
+-- with its conductor
+pub begins_playing : (plan : PlanValue) (files : PlayFiles) (handles : List Handle) (recent : ℕ) (w : World) → IsReady plan files → IsStage (assembly_of plan files) (Joining (length plan.joints)) handles w
+    → IsLatePlaying (late_cast_of plan) recent opening w (conductors.cast_of plan)
+begins_playing plan files handles recent w R S =
+    let B = play_begins plan files handles recent w R S in
+    let D = plan_begins plan (λ l. false) recent opening R.valid refl (λ l. refl) in
+    record {
+      standing = record { play = B.0; waiting = B.1; conducting = D.0 };
+      sent = λ c b e. absurd (omega (arith, e));
+      carried = D.1;
+    }

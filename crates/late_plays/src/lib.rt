@@ -8,6 +8,7 @@ ghost use Rattle.il_machine.specs.World.{World, no_world};
 ghost use Rattle.assembling.specs.Building.{building};
 ghost use Rattle.assembling.specs.Stages.{IsStage, Joining};
 ghost use Rattle.dismantling.specs.Dismantling.{AreLinks, IsParted};
+ghost use Rattle.conductor.specs.Casting as conductors;
 ghost use Rattle.play_forms.specs.Plans.{PlanValue};
 ghost use Rattle.play_model.specs.Play.{Play};
 ghost use Rattle.play_model.specs.Reached.{IsOver};
@@ -16,10 +17,11 @@ ghost use Rattle.play_worlds.specs.Openings.{opening};
 ghost use Rattle.play_openings.specs.Assemblies.{IsReady, PlayFiles, assembly_of, late_cast_of};
 ghost use Rattle.late_worlds.specs.Late.{IsLateWorld, LateCast};
 ghost use Rattle.late_happenings.specs.Waiting.{IsWaiting};
+ghost use Rattle.late_turns.specs.Playing.{IsLatePlaying};
 ghost use Rattle.late_plays.specs.Sides.{sides_of};
 
 /// The graph of a plan that is ready, once it is assembled, is a world of the plan's play in which nothing was begun, also with late
-/// sources.
+/// sources; and with its conductor the play begins.
 pub fn law_of_late_beginnings()
     ensures begins { (plan : PlanValue) (files : PlayFiles) (handles : List Handle) (recent : ℕ) (w : World) → IsReady plan files
         → IsStage (assembly_of plan files) (Joining (length plan.joints)) handles w
@@ -27,6 +29,9 @@ pub fn law_of_late_beginnings()
     ensures built { (plan : PlanValue) (files : PlayFiles) (key : ℕ) (handles : List Handle) (recent : ℕ) (w : World) → IsReady plan files
         → length handles ≡ length plan.parts → Run (no_world key plan.units) (building (assembly_of plan files) handles) w
         → IsLateWorld (late_cast_of plan) recent opening w × IsWaiting ((late_cast_of plan).cast).layout opening }
+    ensures plays { (plan : PlanValue) (files : PlayFiles) (handles : List Handle) (recent : ℕ) (w : World) → IsReady plan files
+        → IsStage (assembly_of plan files) (Joining (length plan.joints)) handles w
+        → IsLatePlaying (late_cast_of plan) recent opening w (conductors.cast_of plan) }
 {}
 
 /// Where a play is over all its components rest with all its links and no header, so that its graph can be taken apart.
