@@ -2,7 +2,7 @@
 //! close-out. Stated on functions that do nothing.
 #![tactic(auto)]
 
-ghost use Rattle.std.specs.Prelude.{◌≡◌, ℕ};
+ghost use Rattle.std.specs.Prelude.{ℕ};
 ghost use Rattle.il_machine.specs.Due.{ClosesTo, Happens, IsClosed};
 ghost use Rattle.il_machine.specs.World.{World};
 ghost use Rattle.play_loop.specs.Turns.{HasActed, IsAtRest};

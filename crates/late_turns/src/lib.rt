@@ -2,10 +2,11 @@
 //! with its whole close-out. Stated on functions that do nothing.
 #![tactic(auto)]
 
-ghost use Rattle.std.specs.Prelude.{List, None, Ok, Option, Result, Some, ◌+◌, false, slice_get, true, ◌<◌, ◌≡◌, ◌⊎◌, ℕ};
+ghost use Rattle.std.specs.Prelude.{List, None, Ok, Option, Result, Some, ◌+◌, false, slice_get, true, ◌<◌, ◌≡◌, ℕ};
 ghost use Rattle.omx_types.specs.declared.error.CallError.{CallError};
 ghost use Rattle.omx_types.specs.declared.error.OmxError.{OmxError};
 ghost use Rattle.omx_types.specs.declared.handle.Handle.{Handle};
+ghost use Rattle.omx_types.specs.declared.state.State.{State};
 ghost use Rattle.il_machine.specs.declared.answer.Acted.{Acted};
 ghost use Rattle.il_machine.specs.Claims.{Claim, Claimed, ClaimedWork, WorkSeen};
 ghost use Rattle.il_machine.specs.Commands.{RunCommand};
@@ -15,20 +16,19 @@ ghost use Rattle.il_machine.specs.Lists.{is_empty};
 ghost use Rattle.il_machine.specs.Notes.{EndNote};
 ghost use Rattle.il_machine.specs.Stepping.{IsDoneOf, WorkDone};
 ghost use Rattle.il_machine.specs.World.{Component, Work, World};
-ghost use Rattle.omx_types.specs.declared.state.State.{State};
 ghost use Rattle.il_machine.specs.declared.answer.Progress.{Progress};
 ghost use Rattle.conductor.specs.declared.phase.ChangeStep.{ChangeStep};
 ghost use Rattle.conductor.specs.declared.phase.LateLink.{LateLink};
 ghost use Rattle.conductor.specs.declared.phase.Phase.TheVariants.{Send, Wait};
 ghost use Rattle.conductor.specs.Hearing.{ConductorValue, heard};
 ghost use Rattle.conductor.specs.Phases.{Conducts};
-ghost use Rattle.play_worlds.specs.Standing.{target};
-ghost use Rattle.play_plans.specs.Conducting.{HasViews};
 ghost use Rattle.play_model.specs.Acts.{Act, CanAct, acted};
 ghost use Rattle.play_model.specs.Play.{Play, other_component, supplier};
 ghost use Rattle.play_loop.specs.Turns.{CanNone, IsSend};
+ghost use Rattle.play_worlds.specs.Standing.{target};
 ghost use Rattle.play_worlds.specs.Cast.{away_at, components_of, home_at, links_of, script_place};
 ghost use Rattle.play_worlds.specs.Worlds.{Names};
+ghost use Rattle.play_plans.specs.Conducting.{HasViews};
 ghost use Rattle.late_worlds.specs.Late.{IsLateWorld, LateCast};
 ghost use Rattle.late_acts.specs.Leading.{LateLeadsTo};
 ghost use Rattle.late_happenings.specs.Waiting.{IsWaiting};
