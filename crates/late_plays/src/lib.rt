@@ -9,7 +9,7 @@ ghost use Rattle.assembling.specs.Building.{building};
 ghost use Rattle.assembling.specs.Stages.{IsStage, Joining};
 ghost use Rattle.dismantling.specs.Dismantling.{AreLinks, IsParted};
 ghost use Rattle.conductor.specs.Casting as conductors;
-ghost use Rattle.play_forms.specs.Plans.{PlanValue};
+ghost use Rattle.play_forms.specs.Plans.{IsValid, PlanValue};
 ghost use Rattle.play_model.specs.Play.{Play};
 ghost use Rattle.play_model.specs.Reached.{IsOver};
 ghost use Rattle.play_worlds.specs.Cast.{links_of};
@@ -18,7 +18,7 @@ ghost use Rattle.play_openings.specs.Assemblies.{IsReady, PlayFiles, assembly_of
 ghost use Rattle.late_worlds.specs.Late.{IsLateWorld, LateCast};
 ghost use Rattle.late_happenings.specs.Waiting.{IsWaiting};
 ghost use Rattle.late_turns.specs.Playing.{IsLatePlaying};
-ghost use Rattle.late_plays.specs.Sides.{sides_of};
+ghost use Rattle.late_plays.specs.Sides.{plan_sides, sides_of};
 
 /// The graph of a plan that is ready, once it is assembled, is a world of the plan's play in which nothing was begun, also with late
 /// sources; and with its conductor the play begins.
@@ -39,4 +39,9 @@ pub fn law_of_late_ends()
     ensures links { (x : LateCast) (recent : ℕ) (p : Play) (w : World) → IsLateWorld x recent p w → AreLinks (sides_of x.cast) (links_of x.cast) }
     ensures joined { (x : LateCast) (recent : ℕ) (p : Play) (w : World) → IsLateWorld x recent p w → IsOver (x.cast).layout p
         → IsParted (sides_of x.cast) (links_of x.cast) 0 w }
+    ensures plan_links { (plan : PlanValue) (recent : ℕ) (p : Play) (w : World) → IsValid plan → IsLateWorld (late_cast_of plan) recent p w
+        → AreLinks (plan_sides plan) (length plan.joints) }
+    ensures plan { (plan : PlanValue) (recent : ℕ) (p : Play) (w : World) → IsValid plan → IsLateWorld (late_cast_of plan) recent p w
+        → IsOver ((late_cast_of plan).cast).layout p
+        → (length w.components ≡ length plan.parts) × IsParted (plan_sides plan) (length plan.joints) 0 w }
 {}
