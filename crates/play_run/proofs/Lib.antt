@@ -13,3 +13,4 @@ mod Rounding
 mod Stepping
 mod Telling
 mod Working
+pub mod Halting

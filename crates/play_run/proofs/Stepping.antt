@@ -34,7 +34,7 @@ use Rattle.il_graph.specs.declared.claimed.Claimed.TheVariants as given
 use Rattle.il_graph.proofs.Back.{number_named}
 use Rattle.play_model.specs.Play.{Play}
 use Rattle.play_model.specs.Acts.{Act, CanAct}
-use Rattle.play_loop.specs.Turns.{CanNone, SomePlay}
+use Rattle.play_loop.specs.Turns.{CanNone}
 use Rattle.act_text.specs.declared.text.ActText.{ActText}
 use Rattle.script_lang.specs.declared.play_line.PartLine.{PartLine}
 use Rattle.play_log.specs.Kept.{LogValue}
@@ -48,7 +48,7 @@ use Rattle.play_worlds.proofs.Finishes.{finish_leads}
 use Rattle.play_worlds.proofs.Sends.{actor_there}
 use Rattle.play_plans.specs.Casting.{place_of}
 use Rattle.play_graphs.specs.Graphs.{IsHandleAt, kept_of}
-use Rattle.play_run.specs.Playing.{ToldAlike, HaveNoWork, IsPlaying, PlayingValue, TurnsTo, cast}
+use Rattle.play_run.specs.Playing.{ToldAlike, HaveNoWork, PlayingValue, TurnsTo, cast}
 use Rattle.play_run.specs.Recording.{IsNameAt, IsTold}
 use Rattle.play_run.specs.Turning.{FailsOn, IsStepOf}
 use Rattle.play_run.proofs.Working.{all_in, none_out}

@@ -5,4 +5,5 @@ pub mod Opening
 pub mod Playing
 pub mod Recording
 pub mod Sending
+pub mod Stopping
 pub mod Turning

@@ -11,6 +11,7 @@ mod links;
 mod player;
 mod playing;
 mod sending;
+mod stopping;
 mod words;
 
 pub use failure::Failure;

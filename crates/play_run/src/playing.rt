@@ -31,9 +31,12 @@ impl<S: Source, K: Sink> Model for Playing<S, K> {
 
 impl<S: Source, K: Sink> Playing<S, K> {
     ghost use Rattle.std.specs.Prelude.{◌≡◌, length, IfErr, IfOk, OnErr, OnOk};
-    ghost use Rattle.il_graph.specs.Shown.{offered};
+    ghost use Rattle.il_machine.specs.Whole.{Always};
+    ghost use Rattle.il_graph.specs.Shown.{offered, TellWritten};
     ghost use Rattle.play_loop.specs.Turns.{CanPlay, EndsOf};
     ghost use Rattle.play_openings.specs.Assemblies.{HasNoLate, IsReady, PlayFiles};
+    ghost use Rattle.play_graphs.specs.Ending.{AreFilesOf};
+    ghost use Rattle.play_graphs.specs.Graphs.{kept_of};
     ghost use Rattle.play_graphs.specs.Making.{AreGone, AreOffered, CanMake};
     ghost use Rattle.play_run.specs.Closing.{GivesBack, HasBegun, HasPlayed, HasPlayedWith, KeepsLog};
     ghost use Rattle.play_run.specs.Playing.{IsPlaying, layout_of};
@@ -51,6 +54,7 @@ impl<S: Source, K: Sink> Playing<S, K> {
         ensures ready { IfOk result (λ playing. CanPlay (layout_of plan) (IsPlaying playing) 340282366920938463463374607431768211455) }
         ensures begun { IfOk result (λ playing. (given : PlayFiles) → IsReady plan given
             → AreOffered plan given (offered S.offset S.size S.told K.told) files.old → HasBegun playing given) }
+        ensures files { IfOk result (λ playing. AreFilesOf playing.graph (length plan.parts) files.old) }
         ensures gone { OnOk result (AreGone (length plan.parts) files.new) }
         ensures unmade { OnErr result (files.new ≡ files.old) }
     {
@@ -87,6 +91,8 @@ impl<S: Source, K: Sink> Playing<S, K> {
         requires gone { AreGone (length self.plan.parts) files.old }
         ensures many { length files.new ≡ length files.old }
         ensures back { GivesBack self files.new }
+        ensures files { AreFilesOf self.graph (length self.plan.parts) files.new }
+        ensures written { Always (kept_of self.graph) (TellWritten K.told self.graph) }
         ensures log { KeepsLog self result }
     {
         let Playing {
@@ -95,6 +101,7 @@ impl<S: Source, K: Sink> Playing<S, K> {
             conductor: _conductor,
             log,
         } = self;
+        graph.law_of_worlds();
         end_graph(graph, &plan, files);
         log
     }

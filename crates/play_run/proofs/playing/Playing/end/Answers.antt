@@ -1,7 +1,8 @@
 use Rattle.std.proofs.Common.{◌≤◌, length, sym, ap, subst}
 use Rattle.il_machine.specs.Whole.{Always}
+use Rattle.il_graph.specs.Shown.{TellWritten}
 use Rattle.dismantling.specs.Dismantling.{AreLinks}
-use Rattle.play_graphs.specs.Ending.{AreBack, HasEnded, StandsFor, ends_of}
+use Rattle.play_graphs.specs.Ending.{AreBack, AreFilesOf, HasEnded, StandsFor, ends_of}
 use Rattle.play_graphs.specs.Graphs.{kept_of}
 use Rattle.play_graphs.specs.Making.{AreGone}
 use Rattle.play_run.specs.Playing.{PlayingValue}
@@ -32,3 +33,9 @@ returns-clause-back g c = λ p Y over.
 
 pub returns-clause-log : goal.returns-clause-log
 returns-clause-log g c = keeps_log c.args.self c.self.inside.log (ap (λ (x : PlayingValue g.row.S.Denot g.row.K.Denot). x.log) c.self.view_is)
+
+pub returns-clause-files : goal.returns-clause-files
+returns-clause-files g c = subst (λ (x : PlayingValue g.row.S.Denot g.row.K.Denot). AreFilesOf x.graph (length x.plan.parts) c.end_graph.new.files) c.self.view_is c.end_graph.ensures.files
+
+pub returns-clause-written : goal.returns-clause-written
+returns-clause-written g c = subst (λ (x : PlayingValue g.row.S.Denot g.row.K.Denot). Always (kept_of x.graph) (TellWritten g.K.Sink.told x.graph)) c.self.view_is c.law_of_worlds.ensures.written
