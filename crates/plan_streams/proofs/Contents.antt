@@ -4,7 +4,6 @@ use Rattle.std.specs.List.{position_or_len}
 use Rattle.std.proofs.lemmas.Bool.{leb-false}
 use Rattle.omx_types.specs.declared.kind.Kind.{Kind}
 use Rattle.omx_types.specs.Formats.{frame_bytes_of}
-use Rattle.outside_io.specs.Files.{Outside}
 use Rattle.part_api.specs.Streams.{Shape}
 use Rattle.part_api.specs.Terms.{Terms}
 use Rattle.part_forms.specs.Kinds.{inputs_of, is_source, outputs_of, ports_in}
@@ -24,7 +23,7 @@ use Rattle.play_plans.specs.Casting.{cast_of, joint_of, place_of, turn_of}
 use Rattle.play_plans.proofs.Links.{one_output, some_input}
 use Rattle.play_openings.specs.Assemblies.{IsReady, PlayFiles}
 use Rattle.play_openings.proofs.Lawful.{link_is}
-use Rattle.play_results.specs.Files.{AreFiles}
+use Rattle.play_results.specs.Files.{AreSamples}
 use Rattle.part_streams.specs.Parts.{part_of}
 use Rattle.part_streams.proofs.Plain.{no_input, parts}
 use Rattle.play_streams.specs.Contents.{network_of}
@@ -148,10 +147,10 @@ module _ (plan : PlanValue) (files : PlayFiles) (samples : List (List ℕ)) (R :
         let n = model_inputs c (place_of plan c) s.0 s.1 in
         omega arith)
 
-    module _ (old : Outside) (F : AreFiles old plan.parts files samples) where
+    module _ (F : AreSamples plan files samples) where
       file_long : (c place : ℕ) (part : PartLine) → IsSeat plan c place part → is_source (kind_of part.form) ≡ true → length (k.file c) ≡ net.frames c * (k.part c).output_frame
       file_long c place part S h =
-          let D = source_file old plan files samples R F place part S.there h in
+          let D = source_file plan files samples R F place part S.there h in
           let e = S.place_is in
           let p = part_is plan c place part S in
           let file : k.file c ≡ samples_at samples plan.parts place = λ i. samples_by plan samples (e i) (p i) in

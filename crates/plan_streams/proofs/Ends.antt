@@ -5,7 +5,6 @@ use Rattle.omx_types.specs.declared.format.Format.TheVariants.{Auto}
 use Rattle.omx_types.specs.declared.kind.Kind.{Kind}
 use Rattle.omx_types.specs.declared.kind.Kind.TheVariants as kinds
 use Rattle.omx_types.specs.Formats.{IsWithinLimits, frame_bytes_of}
-use Rattle.outside_io.specs.Files.{Outside}
 use Rattle.part_forms.specs.Kinds.{inputs_of, is_source, outputs_of}
 use Rattle.il_machine.specs.Files.{attached}
 use Rattle.il_machine.specs.Kinds.{is_sink}
@@ -22,7 +21,7 @@ use Rattle.play_worlds.specs.Cast.{Cast, script_place, taker_of}
 use Rattle.play_plans.specs.Casting.{cast_of, place_of, turn_of}
 use Rattle.play_openings.specs.Assemblies.{IsReady, PlayFiles, file_of, kind_in}
 use Rattle.play_openings.proofs.Lawful.{link_is}
-use Rattle.play_results.specs.Files.{AreFiles, written_by}
+use Rattle.play_results.specs.Files.{AreSamples, written_by}
 use Rattle.part_streams.specs.Sunk.{sunk}
 use Rattle.part_streams.proofs.Sinks.{sunk_whole}
 use Rattle.play_streams.specs.Fronts.{whole_text}
@@ -54,7 +53,7 @@ pub record IsSinkLink (plan : PlanValue) (files : PlayFiles) (samples : List (Li
   pub at : script_place (cast_of by_output plan) (taker_of (cast_of by_output plan) link) ≡ place
   pub text : whole_text (cast_of by_output plan) (contents_of plan files samples) link (streams_of plan samples link) ≡ sink_text plan samples place
 
-module _ (old : Outside) (plan : PlanValue) (files : PlayFiles) (samples : List (List ℕ)) (R : IsReady plan files) (F : AreFiles old plan.parts files samples) (by_output : ℕ → Bool) where
+module _ (plan : PlanValue) (files : PlayFiles) (samples : List (List ℕ)) (R : IsReady plan files) (F : AreSamples plan files samples) (by_output : ℕ → Bool) where
   abbrev x : Cast
   x = cast_of by_output plan
 
@@ -109,7 +108,7 @@ module _ (old : Outside) (plan : PlanValue) (files : PlayFiles) (samples : List 
 
     stream_is : streams_of plan samples Z.link ≡ stream
     unfolding Z
-    stream_is = sym (into_is old plan files samples R F by_output c place part S seat.0 0 low)
+    stream_is = sym (into_is plan files samples R F by_output c place part S seat.0 0 low)
 
     frames_are : ((x.layout).network).frames c ≡ planned
     frames_are = ap (λ (p : ℕ). slice_index_or plan.frames p 0) S.place_is
@@ -120,7 +119,7 @@ module _ (old : Outside) (plan : PlanValue) (files : PlayFiles) (samples : List 
     stream_long : length stream ≡ planned * frame_bytes_of format
     unfolding Z
     stream_long =
-        let r = one_long old plan files samples R F by_output c place part S seat.0 (all_before old plan files samples R F by_output c) (source_is old plan files samples R F by_output c place part S seat.0 ∙ not_source) in
+        let r = one_long plan files samples R F by_output c place part S seat.0 (all_before plan files samples R F by_output c) (source_is plan files samples R F by_output c place part S seat.0 ∙ not_source) in
         let n = one in
         let few = r.1 in
         let first : r.0 ≡ 0 = omega arith in

@@ -1,11 +1,10 @@
 -- The file of a source of a plan: its samples, and how many there are.
-use Rattle.std.proofs.Common.{◌≡◌, ℕ, ◌*◌, ◌<◌, true, false, List, [], drop, length, slice_get, slice_index_or, unwrap_or, Option, Some, refl, ◌∙◌, ap, arith}
-use Rattle.std.proofs.lemmas.List.{length-drop, length-take-le}
+use Rattle.std.proofs.Common.{◌≡◌, ℕ, ◌*◌, ◌<◌, true, false, List, [], take, length, slice_get, slice_index_or, unwrap_or, Option, Some, refl, ◌∙◌, ap, arith}
+use Rattle.std.proofs.lemmas.List.{length-take-le}
 use Rattle.std.proofs.lemmas.Option.{get_or_from_slice_get}
 use Rattle.omx_types.specs.declared.kind.Kind.{Kind}
 use Rattle.omx_types.specs.declared.kind.Kind.TheVariants as kinds
 use Rattle.omx_types.specs.Formats.{frame_bytes_of}
-use Rattle.outside_io.specs.Files.{Outside}
 use Rattle.part_forms.specs.Kinds.{is_source, outputs_of}
 use Rattle.script_lang.specs.declared.play_line.PartForm.{PartForm}
 use Rattle.script_lang.specs.declared.play_line.PartForm.TheVariants as forms
@@ -14,14 +13,14 @@ use Rattle.wav_form.specs.declared.heads.WavHead.{WavHead}
 use Rattle.play_forms.specs.declared.flow.Flow.{Flow}
 use Rattle.play_forms.specs.Flows.{flow_of_head, no_flow}
 use Rattle.play_forms.specs.Parts.{kind_of, source_number}
-use Rattle.play_forms.specs.Plain.{format_out, samples_at, samples_of_file}
+use Rattle.play_forms.specs.Plain.{format_out, samples_at}
 use Rattle.play_forms.specs.Plans.{PlanValue}
 use Rattle.play_forms.specs.Settling.{into}
 use Rattle.stream_plan.proofs.Flows.{flow_of_source}
 use Rattle.play_plans.specs.Casting.{flow_of, joint_of}
 use Rattle.play_openings.specs.Assemblies.{IsReady, PlayFiles}
 use Rattle.play_openings.proofs.Lawful.{flow_given, link_is, same_part}
-use Rattle.play_results.specs.Files.{AreFiles, read_by}
+use Rattle.play_results.specs.Files.{AreSamples, read_by}
 use Rattle.plan_streams.proofs.Ports.{at_output}
 
 source_reads : (form : PartForm) → is_source (kind_of form) ≡ true → (name : List ℕ) × (read_by form ≡ Some name)
@@ -49,25 +48,24 @@ source_output kinds.Sink h = absurd cc
 -- the file that the source at the place reads
 pub record HasSamples (plan : PlanValue) (files : PlayFiles) (samples : List (List ℕ)) (place : ℕ) (part : PartLine) : Type 0 where
   pub head : WavHead
-  pub bytes : List ℕ
+  pub rest : List ℕ
   pub head_is : slice_get files.heads (source_number plan.parts place) ≡ Some head
-  pub known : files.known place ≡ Some (drop head.start bytes)
-  pub samples_are : samples_at samples plan.parts place ≡ samples_of_file head bytes
+  pub known : files.known place ≡ Some rest
+  pub samples_are : samples_at samples plan.parts place ≡ take (head.frames * frame_bytes_of head.format) rest
   pub long : length (samples_at samples plan.parts place) ≡ head.frames * frame_bytes_of head.format
   pub frames : slice_index_or plan.frames place 0 ≡ head.frames
   pub format : format_out plan place (kind_of part.form) 0 ≡ head.format
 
-pub source_file : (old : Outside) (plan : PlanValue) (files : PlayFiles) (samples : List (List ℕ)) → IsReady plan files → AreFiles old plan.parts files samples → (place : ℕ) (part : PartLine)
+pub source_file : (plan : PlanValue) (files : PlayFiles) (samples : List (List ℕ)) → IsReady plan files → AreSamples plan files samples → (place : ℕ) (part : PartLine)
     → slice_get plan.parts place ≡ Some part → is_source (kind_of part.form) ≡ true → HasSamples plan files samples place part
-source_file old plan files samples R F place part e h =
+source_file plan files samples R F place part e h =
     let r = source_reads part.form h in
     let I = F.sources place r.0 (part, e, r.1) in
     let head : WavHead = I.head in
     let heads = files.heads in
-    let here : samples_at samples plan.parts place ≡ samples_of_file head I.bytes = ap (λ (o : Option (List ℕ)). unwrap_or o []) I.samples_are in
+    let here : samples_at samples plan.parts place ≡ take (head.frames * frame_bytes_of head.format) I.known = ap (λ (o : Option (List ℕ)). unwrap_or o []) I.samples_are in
     let room = R.bytes place part head e h I.head_is in
     let there = I.there in
-    let left = length-drop head.start I.bytes in
     let Z = at_output plan files R place part e 0 (source_output (kind_of part.form) h) in
     let K = link_is plan files R Z.link Z.below in
     let same : K.part false ≡ part = same_part plan.parts _ _ (K.part false) part (K.part_there false) e Z.giver in
@@ -82,11 +80,11 @@ source_file old plan files samples R F place part e h =
     in
     record {
       head = head;
-      bytes = I.bytes;
+      rest = I.known;
       head_is = I.head_is;
-      known = I.known;
+      known = I.known_is;
       samples_are = here;
-      long = ap length here ∙ length-take-le (head.frames * frame_bytes_of head.format) (drop head.start I.bytes) (omega arith);
+      long = ap length here ∙ length-take-le (head.frames * frame_bytes_of head.format) I.known (omega arith);
       frames = frames;
       format = Z.format ∙ ap (λ (y : Flow). y.format) given;
     }

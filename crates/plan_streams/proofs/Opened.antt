@@ -9,7 +9,6 @@ use Rattle.omx_types.specs.declared.format.Format.{Format}
 use Rattle.omx_types.specs.declared.kind.Kind.{Kind}
 use Rattle.omx_types.specs.declared.kind.Kind.TheVariants as kinds
 use Rattle.omx_types.specs.Formats.{frame_bytes_of}
-use Rattle.outside_io.specs.Files.{Outside}
 use Rattle.part_forms.specs.Kinds.{inputs_of, is_source, outputs_of, ports_in}
 use Rattle.audio_parts.specs.Kinds.{default_factors}
 use Rattle.il_machine.specs.declared.port.PortSetting.{PortSetting}
@@ -43,7 +42,7 @@ use Rattle.assembling.proofs.Places.{stream_found}
 use Rattle.play_openings.specs.Assemblies.{HasNoLate, IsReady, PlayFiles, assembly_of, factors_in, file_at, file_of, is_late_link, kind_in, opening_format}
 use Rattle.play_openings.proofs.Lawful.{late_is, link_is}
 use Rattle.play_openings.proofs.Opened.{early_opens}
-use Rattle.play_results.specs.Files.{AreFiles, written_by}
+use Rattle.play_results.specs.Files.{AreSamples, written_by}
 use Rattle.play_results.specs.Worlds.{IsOpening}
 use Rattle.play_streams.specs.Contents.{HasContents, Tells}
 use Rattle.play_streams.specs.Streams.{AreNew, HasStreams}
@@ -136,7 +135,7 @@ tells (Some known) file e = let s : known ≡ file = cc in ([], s ∙ sym (appen
 
 -- ---- the world
 
-module _ (old : Outside) (plan : PlanValue) (files : PlayFiles) (samples : List (List ℕ)) (R : IsReady plan files) (early : HasNoLate plan) (F : AreFiles old plan.parts files samples) (handles : List Handle) (w : World)
+module _ (plan : PlanValue) (files : PlayFiles) (samples : List (List ℕ)) (R : IsReady plan files) (early : HasNoLate plan) (F : AreSamples plan files samples) (handles : List Handle) (w : World)
     (B : IsStage (assembly_of plan files) (Joining (length plan.joints)) handles w) where
   abbrev s : Assembly
   s = assembly_of plan files
@@ -221,7 +220,7 @@ module _ (old : Outside) (plan : PlanValue) (files : PlayFiles) (samples : List 
 
     known_there : is_source (kind_of part.form) ≡ true → (stream_by (file_at plan files place) place).known ≡ Some (samples_at samples plan.parts place)
     known_there h =
-        let D = samples_of old plan files samples R F place part e h in
+        let D = samples_of plan files samples R F place part e h in
         let own : file_at plan files place ≡ file_of kind (Some D.head) (slice_index_or plan.frames place 0) (files.there place) (files.known place) =
         λ i. file_of (kind_in (e i)) (D.head_is i) (slice_index_or plan.frames place 0) (files.there place) (files.known place)
         in
@@ -236,7 +235,7 @@ module _ (old : Outside) (plan : PlanValue) (files : PlayFiles) (samples : List 
 
   pub contents_there : HasContents (cast_of (λ l. false) plan) (contents_of plan files samples) w
   contents_there = record {
-    lawful = plan_contents plan files samples R (λ l. false) old F;
+    lawful = plan_contents plan files samples R (λ l. false) F;
     terms = λ c a b f.
         let t = seat_at plan R.valid c b in
         terms_set (place_of plan c) t.0 a (t.1).there f ∙ sym (terms_is plan files c (place_of plan c) t.0 t.1);
@@ -281,12 +280,12 @@ module _ (old : Outside) (plan : PlanValue) (files : PlayFiles) (samples : List 
 
 -- ---- the world in which the play begins
 
-module _ (old : Outside) (plan : PlanValue) (files : PlayFiles) (samples : List (List ℕ)) (w : World) (R : IsReady plan files) (N : HasNoLate plan) (F : AreFiles old plan.parts files samples) (B : IsOpening plan files w) where
+module _ (plan : PlanValue) (files : PlayFiles) (samples : List (List ℕ)) (w : World) (R : IsReady plan files) (N : HasNoLate plan) (F : AreSamples plan files samples) (B : IsOpening plan files w) where
   pub opening_contents : HasContents (cast_of (λ l. false) plan) (contents_of plan files samples) w
-  opening_contents = contents_there old plan files samples R N F B.0 w B.1
+  opening_contents = contents_there plan files samples R N F B.0 w B.1
 
   pub opening_new : AreNew (cast_of (λ l. false) plan) w
-  opening_new = all_new old plan files samples R N F B.0 w B.1
+  opening_new = all_new plan files samples R N F B.0 w B.1
 
   pub opening_streams : HasStreams (cast_of (λ l. false) plan) (contents_of plan files samples) opening w
   opening_streams =

@@ -4,7 +4,6 @@ use Rattle.std.proofs.Common.{◌≡◌, ◌⊎◌, inl, inr, ℕ, zero, suc, �
 use Rattle.std.proofs.lemmas.Option.{get_or_from_slice_get, slice_get-get_or}
 use Rattle.std.proofs.Math.Nat.{mul-le-mul_right}
 use Rattle.omx_types.specs.declared.kind.Kind.{Kind}
-use Rattle.outside_io.specs.Files.{Outside}
 use Rattle.part_api.specs.Streams.{Incoming as PartIncoming}
 use Rattle.part_api.specs.Terms.{Terms}
 use Rattle.part_forms.specs.Kinds.{inputs_of, is_source}
@@ -27,7 +26,7 @@ use Rattle.play_plans.proofs.Casts.{plan_has_cast}
 use Rattle.play_plans.proofs.Limits.{in_limits}
 use Rattle.play_openings.specs.Assemblies.{IsReady, PlayFiles}
 use Rattle.play_openings.proofs.Lawful.{link_is, same_part}
-use Rattle.play_results.specs.Files.{AreFiles}
+use Rattle.play_results.specs.Files.{AreSamples}
 use Rattle.part_streams.proofs.Padding.{plain_padded}
 use Rattle.part_streams.proofs.Plain.{plain_same}
 use Rattle.play_streams.specs.Contents.{network_of}
@@ -42,7 +41,7 @@ pub plan_is_cast : (plan : PlanValue) (files : PlayFiles) (by_output : ℕ → B
 plan_is_cast plan files by_output R =
     plan_casts plan files.heads (cast_of by_output plan) R.valid R.flows R.frames R.fit (in_limits plan files.heads R.valid R.flows R.fit R.scripted R.heads_are) (plan_has_cast plan by_output R.valid)
 
-module _ (old : Outside) (plan : PlanValue) (files : PlayFiles) (samples : List (List ℕ)) (R : IsReady plan files) (F : AreFiles old plan.parts files samples) (by_output : ℕ → Bool) where
+module _ (plan : PlanValue) (files : PlayFiles) (samples : List (List ℕ)) (R : IsReady plan files) (F : AreSamples plan files samples) (by_output : ℕ → Bool) where
   abbrev net : Network
   net = network_of (cast_of by_output plan)
 
@@ -56,7 +55,7 @@ module _ (old : Outside) (plan : PlanValue) (files : PlayFiles) (samples : List 
   values = plain plan samples
 
   L : AreContents net k
-  L = plan_contents plan files samples R by_output old F
+  L = plan_contents plan files samples R by_output F
 
   N : IsNetwork net
   N = network_bounded (((cast_of by_output plan).layout).network) (((plan_is_cast plan files by_output R).layout).network)

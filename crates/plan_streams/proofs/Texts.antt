@@ -1,6 +1,5 @@
 -- What the files of a plan's sinks have taken.
 use Rattle.std.proofs.Common.{[], ◌≡◌, ℕ, ◌<◌, ◌≤◌, Bool, List, Some, MatchOption, sym, ◌∙◌, ap, subst}
-use Rattle.outside_io.specs.Files.{Outside}
 use Rattle.il_machine.specs.Finishing.{Finish}
 use Rattle.il_machine.specs.Stepping.{WorkDone, IsFrontOf}
 use Rattle.il_machine.specs.World.{Stream, World, stream_of}
@@ -13,7 +12,7 @@ use Rattle.play_worlds.specs.Cast.{Cast, components_of, taker_of}
 use Rattle.play_worlds.specs.Worlds.{IsPlayWorld}
 use Rattle.play_plans.specs.Casting.{cast_of}
 use Rattle.play_openings.specs.Assemblies.{IsReady, PlayFiles}
-use Rattle.play_results.specs.Files.{AreFiles, IsWriter}
+use Rattle.play_results.specs.Files.{AreSamples, IsWriter}
 use Rattle.play_results.specs.Worlds.{HasWritten}
 use Rattle.play_streams.specs.Contents.{PlayContents, network_of}
 use Rattle.play_streams.specs.Fronts.{AreFronts, whole_text}
@@ -25,7 +24,7 @@ use Rattle.plan_streams.specs.Texts.{CameEmpty, HasWrittenFront}
 use Rattle.plan_streams.proofs.Ends.{sink_link}
 use Rattle.plan_streams.proofs.Plainly.{plan_plain}
 
-module _ (old : Outside) (plan : PlanValue) (files : PlayFiles) (samples : List (List ℕ)) (by_output : ℕ → Bool) (R : IsReady plan files) (F : AreFiles old plan.parts files samples) where
+module _ (plan : PlanValue) (files : PlayFiles) (samples : List (List ℕ)) (by_output : ℕ → Bool) (R : IsReady plan files) (F : AreSamples plan files samples) where
   abbrev x : Cast
   x = cast_of by_output plan
 
@@ -36,13 +35,13 @@ module _ (old : Outside) (plan : PlanValue) (files : PlayFiles) (samples : List 
   stream = streams_of plan samples
 
   plain_there : ArePlain (network_of (cast_of by_output plan)) (contents_of plan files samples).model (streams_of plan samples)
-  plain_there = plan_plain old plan files samples R F by_output
+  plain_there = plan_plain plan files samples R F by_output
 
   -- of each link into a sink, and so of each sink
   each_text : (v : World) (P : List ℕ → Stream → Type 0) → EachSink x v (λ l a s. P (whole_text x k l (stream l)) s) → ((c : ℕ) → c < components_of x → IsStillThere x v c)
       → (place : ℕ) (name : List ℕ) → IsWriter plan.parts place name → MatchOption (stream_of place v) ⊥ (P (sink_text plan samples place))
   each_text v P E still place name I =
-      let L = sink_link old plan files samples R F by_output place I.0 name I.1 I.2 in
+      let L = sink_link plan files samples R F by_output place I.0 name I.1 I.2 in
       let T = still (taker_of x L.link) L.inside in
       is_there (stream_of place v) (P (sink_text plan samples place)) T.stream (ap (λ (n : ℕ). stream_of n v) (sym (T.number ∙ L.at)) ∙ T.found)
       (subst (λ (text : List ℕ). P text T.stream) L.text (E L.link T.component T.stream L.below L.sink T.there T.found))

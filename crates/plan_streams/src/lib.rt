@@ -3,7 +3,6 @@
 #![tactic(auto)]
 
 ghost use Rattle.std.specs.Prelude.{◌≡◌, ℕ, ◌≤◌, Bool, false, List, [], Some};
-ghost use Rattle.outside_io.specs.Files.{Outside};
 ghost use Rattle.il_machine.specs.Finishing.{Finish};
 ghost use Rattle.il_machine.specs.Stepping.{WorkDone};
 ghost use Rattle.il_machine.specs.World.{World};
@@ -15,7 +14,7 @@ ghost use Rattle.play_worlds.specs.Openings.{opening};
 ghost use Rattle.play_worlds.specs.Worlds.{IsPlayWorld};
 ghost use Rattle.play_plans.specs.Casting.{cast_of};
 ghost use Rattle.play_openings.specs.Assemblies.{HasNoLate, IsReady, PlayFiles};
-ghost use Rattle.play_results.specs.Files.{AreFiles, IsWriter};
+ghost use Rattle.play_results.specs.Files.{AreSamples, IsWriter};
 ghost use Rattle.play_results.specs.Worlds.{HasWritten, IsOpening};
 ghost use Rattle.play_streams.specs.Contents.{HasContents, network_of};
 ghost use Rattle.play_streams.specs.Fronts.{AreFronts};
@@ -26,52 +25,52 @@ ghost use Rattle.plan_streams.specs.Texts.{CameEmpty, HasWrittenFront};
 /// The parts of a plan that is ready, with the samples of its files, are those of its network, and the plan's plain function gives
 /// the network's streams.
 pub fn law_of_plan_contents()
-    ensures contents { (old : Outside) (plan : PlanValue) (files : PlayFiles) (samples : List (List ℕ)) (by_output : ℕ → Bool)
-        → IsReady plan files → AreFiles old plan.parts files samples
+    ensures contents { (plan : PlanValue) (files : PlayFiles) (samples : List (List ℕ)) (by_output : ℕ → Bool)
+        → IsReady plan files → AreSamples plan files samples
         → AreContents (network_of (cast_of by_output plan)) (contents_of plan files samples).model }
-    ensures plain { (old : Outside) (plan : PlanValue) (files : PlayFiles) (samples : List (List ℕ)) (by_output : ℕ → Bool)
-        → IsReady plan files → AreFiles old plan.parts files samples
+    ensures plain { (plan : PlanValue) (files : PlayFiles) (samples : List (List ℕ)) (by_output : ℕ → Bool)
+        → IsReady plan files → AreSamples plan files samples
         → ArePlain (network_of (cast_of by_output plan)) (contents_of plan files samples).model (streams_of plan samples) }
 {}
 
 /// In the world in which the play of a plan begins the components are set as the plan's contents say, the files of its sources hold
 /// their samples, and those of its sinks are new: so it has streams, in which nothing flowed yet.
 pub fn law_of_plan_openings()
-    ensures contents { (old : Outside) (plan : PlanValue) (files : PlayFiles) (samples : List (List ℕ)) (w : World)
-        → IsReady plan files → HasNoLate plan → AreFiles old plan.parts files samples → IsOpening plan files w
+    ensures contents { (plan : PlanValue) (files : PlayFiles) (samples : List (List ℕ)) (w : World)
+        → IsReady plan files → HasNoLate plan → AreSamples plan files samples → IsOpening plan files w
         → HasContents (cast_of (λ l. false) plan) (contents_of plan files samples) w }
-    ensures new { (old : Outside) (plan : PlanValue) (files : PlayFiles) (samples : List (List ℕ)) (w : World)
-        → IsReady plan files → HasNoLate plan → AreFiles old plan.parts files samples → IsOpening plan files w
+    ensures new { (plan : PlanValue) (files : PlayFiles) (samples : List (List ℕ)) (w : World)
+        → IsReady plan files → HasNoLate plan → AreSamples plan files samples → IsOpening plan files w
         → AreNew (cast_of (λ l. false) plan) w }
-    ensures streams { (old : Outside) (plan : PlanValue) (files : PlayFiles) (samples : List (List ℕ)) (w : World)
-        → IsReady plan files → HasNoLate plan → AreFiles old plan.parts files samples → IsOpening plan files w
+    ensures streams { (plan : PlanValue) (files : PlayFiles) (samples : List (List ℕ)) (w : World)
+        → IsReady plan files → HasNoLate plan → AreSamples plan files samples → IsOpening plan files w
         → HasStreams (cast_of (λ l. false) plan) (contents_of plan files samples) opening w }
 {}
 
 /// From the second Idle on the file of each sink has taken its text of the plain function; at each moment before, and after a step
 /// that failed, a front of it. It was empty when it came.
 pub fn law_of_plan_texts()
-    ensures whole { (old : Outside) (plan : PlanValue) (files : PlayFiles) (samples : List (List ℕ)) (by_output : ℕ → Bool)
+    ensures whole { (plan : PlanValue) (files : PlayFiles) (samples : List (List ℕ)) (by_output : ℕ → Bool)
         (p : Play) (w : World) (place : ℕ) (name : List ℕ)
-        → IsReady plan files → AreFiles old plan.parts files samples → IsPlayWorld (cast_of by_output plan) p w
+        → IsReady plan files → AreSamples plan files samples → IsPlayWorld (cast_of by_output plan) p w
         → HasStreams (cast_of by_output plan) (contents_of plan files samples) p w → IsWriter plan.parts place name
         → 3 ≤ p.phase → HasWritten w place (sink_text plan samples place) }
-    ensures fronts { (old : Outside) (plan : PlanValue) (files : PlayFiles) (samples : List (List ℕ)) (by_output : ℕ → Bool)
+    ensures fronts { (plan : PlanValue) (files : PlayFiles) (samples : List (List ℕ)) (by_output : ℕ → Bool)
         (p : Play) (w : World) (place : ℕ) (name : List ℕ)
-        → IsReady plan files → AreFiles old plan.parts files samples → IsPlayWorld (cast_of by_output plan) p w
+        → IsReady plan files → AreSamples plan files samples → IsPlayWorld (cast_of by_output plan) p w
         → HasStreams (cast_of by_output plan) (contents_of plan files samples) p w → IsWriter plan.parts place name
         → HasWrittenFront w place (sink_text plan samples place) }
-    ensures new { (old : Outside) (plan : PlanValue) (files : PlayFiles) (samples : List (List ℕ)) (by_output : ℕ → Bool)
+    ensures new { (plan : PlanValue) (files : PlayFiles) (samples : List (List ℕ)) (by_output : ℕ → Bool)
         (p : Play) (w : World) (place : ℕ) (name : List ℕ)
-        → IsReady plan files → AreFiles old plan.parts files samples → IsPlayWorld (cast_of by_output plan) p w
+        → IsReady plan files → AreSamples plan files samples → IsPlayWorld (cast_of by_output plan) p w
         → HasStreams (cast_of by_output plan) (contents_of plan files samples) p w → IsWriter plan.parts place name → CameEmpty w place }
-    ensures failed { (old : Outside) (plan : PlanValue) (files : PlayFiles) (samples : List (List ℕ)) (by_output : ℕ → Bool)
+    ensures failed { (plan : PlanValue) (files : PlayFiles) (samples : List (List ℕ)) (by_output : ℕ → Bool)
         (p : Play) (w v : World) (done : WorkDone) (place : ℕ) (name : List ℕ)
-        → IsReady plan files → AreFiles old plan.parts files samples → IsPlayWorld (cast_of by_output plan) p w → Finish w done v
+        → IsReady plan files → AreSamples plan files samples → IsPlayWorld (cast_of by_output plan) p w → Finish w done v
         → AreFronts (cast_of by_output plan) (contents_of plan files samples) v (streams_of plan samples) → IsWriter plan.parts place name
         → HasWrittenFront v place (sink_text plan samples place) }
-    ensures failed_new { (old : Outside) (plan : PlanValue) (files : PlayFiles) (samples : List (List ℕ)) (by_output : ℕ → Bool)
+    ensures failed_new { (plan : PlanValue) (files : PlayFiles) (samples : List (List ℕ)) (by_output : ℕ → Bool)
         (p : Play) (w v : World) (done : WorkDone) (place : ℕ) (name : List ℕ)
-        → IsReady plan files → AreFiles old plan.parts files samples → IsPlayWorld (cast_of by_output plan) p w → Finish w done v
+        → IsReady plan files → AreSamples plan files samples → IsPlayWorld (cast_of by_output plan) p w → Finish w done v
         → EachSink (cast_of by_output plan) v (λ l a s. s.known ≡ Some []) → IsWriter plan.parts place name → CameEmpty v place }
 {}

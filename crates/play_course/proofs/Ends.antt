@@ -17,7 +17,7 @@ use Rattle.script_lang.specs.declared.script.Script.{Script}
 use Rattle.play_forms.specs.Plain.{sink_text}
 use Rattle.play_forms.specs.Plans.{PlanValue}
 use Rattle.play_openings.specs.Assemblies.{IsReady, PlayFiles}
-use Rattle.play_results.specs.Files.{AreFiles, IsNoSink, IsWriter, read_by}
+use Rattle.play_results.specs.Files.{AreFiles, AreSamples, IsNoSink, IsWriter, read_by}
 use Rattle.play_results.specs.Results.{HoldSinks, IsLogOf, OthersAreKept}
 use Rattle.play_results.specs.Worlds.{HasWritten}
 use Rattle.play_files.specs.Closing.{AreClosed, failed_reads, failed_writes}
@@ -33,7 +33,7 @@ use Rattle.play_course.specs.declared.player.RunFault.TheVariants as Runs
 use Rattle.play_course.specs.declared.settling.Ran.{Ran}
 use Rattle.play_course.specs.Courses.{HasEnded, HasRun}
 use Rattle.play_course.specs.Outcomes.{CountsStand, IsBroken, IsDone, IsLogFault, IsRunFault, IsUnlogged}
-use Rattle.play_course.specs.Players.{AreFilesOf, AreSamples, IsWhole}
+use Rattle.play_course.specs.Players.{AreFilesOf, IsWhole}
 use Rattle.play_course.specs.Running.{HasTaken, IsRunCause}
 use Rattle.play_course.specs.Settling.{fault_of_log, line_in, settled}
 use Rattle.play_course.specs.Sums.{planned_summary}

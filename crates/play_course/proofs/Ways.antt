@@ -14,7 +14,7 @@ use Rattle.script_lang.specs.declared.script.Script.{Script}
 use Rattle.assembling.proofs.Places.{get_there}
 use Rattle.play_forms.specs.Plans.{PlanValue}
 use Rattle.play_openings.specs.Assemblies.{PlayFiles}
-use Rattle.play_results.specs.Files.{AreFiles, IsNoSink, IsWriter, written_by}
+use Rattle.play_results.specs.Files.{AreFiles, AreSamples, IsNoSink, IsWriter, written_by}
 use Rattle.play_files.specs.Closing.{AreApart, AreClosed, IsNoneOf, IsSinkAt}
 use Rattle.play_files.specs.Names.{HaveOwnFiles}
 use Rattle.play_files.specs.Opening.{IsSinkOf}
@@ -22,7 +22,8 @@ use Rattle.play_files.specs.Seen.{FileSeen, Reads, SinkSeen, Writes, files_seen,
 use Rattle.play_files.specs.Whole.{AreAllOpen, play_files}
 use Rattle.play_files.proofs.Stopped.{sink_here, unseen_at}
 use Rattle.play_course.specs.Outcomes.{WasOpened}
-use Rattle.play_course.specs.Players.{AreFilesOf, AreSamples, CanPlay}
+use Rattle.std.proofs.lemmas.List.{length-drop}
+use Rattle.play_course.specs.Players.{AreFilesOf, CanPlay}
 use Rattle.play_course.specs.Running.{AreSameFiles, HasTaken, IsSameFile}
 
 -- ---- what the files tell
@@ -31,7 +32,17 @@ use Rattle.play_course.specs.Running.{AreSameFiles, HasTaken, IsSameFile}
 pub samples_of : (old : Outside) (plan : PlanValue) (files : PlayFiles) (samples : List (List ℕ)) → AreFiles old plan.parts files samples → AreSamples plan files samples
 samples_of old plan files samples A = record {
   many = A.all;
-  each = λ place name r. (let R = A.sources place name r in (R.head, drop (R.head).start R.bytes, R.head_is, R.known, R.samples_are));
+  sources = λ place name r.
+      let R = A.sources place name r in
+      record {
+        head = R.head;
+        known = drop (R.head).start R.bytes;
+        head_is = R.head_is;
+        known_is = R.known;
+        there = R.there ∙ sym (length-drop (R.head).start R.bytes);
+        samples_are = R.samples_are;
+      };
+  sinks = A.sinks;
 }
 
 -- where one of many counts rose, their sum isn't none

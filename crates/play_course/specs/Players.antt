@@ -11,7 +11,7 @@ use Rattle.play_openings.specs.Assemblies.{IsReady, PlayFiles, file_at}
 use Rattle.play_log.specs.Entries.{Entry}
 use Rattle.play_log.specs.Naming.{IsNaming}
 use Rattle.play_log.specs.Scenes.{scene_of}
-use Rattle.play_results.specs.Files.{IsReader, IsWriter}
+use Rattle.play_results.specs.Files.{AreSamples, IsWriter}
 use Rattle.play_results.specs.Worlds.{HasWritten, IsAtEnd, IsOpening}
 use Rattle.play_files.specs.Seen.{FileSeen, offer}
 use Rattle.play_course.specs.Running.{HasTaken}
@@ -26,13 +26,6 @@ pub record CanPlay (plan : PlanValue) (entries : List (Option FileSeen)) : Type 
   pub ready : IsReady plan files
   pub many : length entries ≡ length plan.parts
   pub are : AreFilesOf plan files entries
-
--- the samples of the files that tell their bytes
-pub record AreSamples (plan : PlanValue) (files : PlayFiles) (samples : List (List ℕ)) : Type 0 where
-  pub many : length samples ≡ count_by is_source_part plan.parts
-  pub each : (place : ℕ) (name : List ℕ) → IsReader plan.parts place name
-      → (head : WavHead) × (known : List ℕ) × (slice_get files.heads (source_number plan.parts place) ≡ Some head) × (files.known place ≡ Some known)
-      × (slice_get samples (source_number plan.parts place) ≡ Some (take (head.frames * frame_bytes_of head.format) known))
 
 -- What a whole play leaves: the text of its log names acts of the thread that plays, from where the play of the plan begins to its end; and each
 -- sink took what was written to it, which is its text of the plain function.

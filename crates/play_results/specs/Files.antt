@@ -1,5 +1,5 @@
 -- The files that a play's script names.
-use Rattle.std.specs.Prelude.{◌≡◌, ℕ, ◌-◌, List, [], drop, length, slice_get, count_by, Option, Some, None, Ok}
+use Rattle.std.specs.Prelude.{◌≡◌, ℕ, ◌-◌, List, [], drop, length, slice_get, count_by, Option, Some, None, Ok, ◌*◌, take}
 use Rattle.outside_io.specs.Files.{Outside}
 use Rattle.script_lang.specs.declared.play_line.PartForm.{PartForm}
 use Rattle.script_lang.specs.declared.play_line.PartForm.TheVariants.{Source, Late, Sink}
@@ -7,7 +7,9 @@ use Rattle.script_lang.specs.declared.play_line.PartLine.{PartLine}
 use Rattle.wav_form.specs.declared.heads.WavHead.{WavHead}
 use Rattle.wav_form.specs.Reading.{Reads}
 use Rattle.play_forms.specs.Parts.{is_source_part, source_number}
+use Rattle.omx_types.specs.Formats.{frame_bytes_of}
 use Rattle.play_forms.specs.Plain.{samples_of_file}
+use Rattle.play_forms.specs.Plans.{PlanValue}
 use Rattle.play_openings.specs.Assemblies.{PlayFiles}
 
 abbrev pub read_by : PartForm → Option (List ℕ)
@@ -47,3 +49,18 @@ pub record AreFiles (old : Outside) (parts : List PartLine) (files : PlayFiles) 
   pub all : length samples ≡ count_by is_source_part parts
   pub sources : (place : ℕ) (name : List ℕ) → IsReader parts place name → IsReadAs old place (source_number parts place) name files samples
   pub sinks : (place : ℕ) (name : List ℕ) → IsWriter parts place name → files.known place ≡ Some []
+
+-- Of the source with that number among the sources, its file tells the bytes behind its head, and these are its samples.
+pub record IsSampled (files : PlayFiles) (samples : List (List ℕ)) (place number : ℕ) : Type 0 where
+  pub head : WavHead
+  pub known : List ℕ
+  pub head_is : slice_get files.heads number ≡ Some head
+  pub known_is : files.known place ≡ Some known
+  pub there : files.there place ≡ length known
+  pub samples_are : slice_get samples number ≡ Some (take (head.frames * frame_bytes_of head.format) known)
+
+-- What the files of a plan tell: those of the sources their samples, and those of the sinks that they are empty.
+pub record AreSamples (plan : PlanValue) (files : PlayFiles) (samples : List (List ℕ)) : Type 0 where
+  pub many : length samples ≡ count_by is_source_part plan.parts
+  pub sources : (place : ℕ) (name : List ℕ) → IsReader plan.parts place name → IsSampled files samples place (source_number plan.parts place)
+  pub sinks : (place : ℕ) (name : List ℕ) → IsWriter plan.parts place name → files.known place ≡ Some []

@@ -4,6 +4,6 @@ use Rattle.plan_streams.proofs.law_of_plan_contents.Goals as goal
 
 pub returns : goal.returns
 returns c = record {
-  contents = λ old plan files samples by_output R F. plan_contents plan files samples R by_output old F;
-  plain = λ old plan files samples by_output R F. plan_plain old plan files samples R F by_output;
+  contents = λ plan files samples by_output R F. plan_contents plan files samples R by_output F;
+  plain = λ plan files samples by_output R F. plan_plain plan files samples R F by_output;
 }
