@@ -3,6 +3,8 @@ pub mod Causes
 pub mod FileParts
 pub mod FileTerms
 pub mod Kinds
+pub mod ObjectLaws
+pub mod Objects
 pub mod Ready
 pub mod Shapes
 pub mod Shown

@@ -1,5 +1,5 @@
 -- What is shown of a part of any kind, by what its file tells.
-use Rattle.std.specs.Prelude.{ℕ, ◌*◌, Bool, false, List, [], ◌∷◌, Option, None, Some, option_map, vec_len}
+use Rattle.std.specs.Prelude.{ℕ, ◌*◌, Bool, List, [], ◌∷◌, Option, None, Some, option_map, vec_len}
 use Rattle.omx_types.specs.declared.kind.Kind.TheVariants as kinds
 use Rattle.omx_types.specs.Formats.{frame_bytes_of}
 use Rattle.part_api.specs.Terms.{Terms, Writing}

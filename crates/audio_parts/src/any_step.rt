@@ -1,14 +1,16 @@
 //! One step of a part of any kind.
 ghost use Rattle.std.specs.Prelude.{◌⊎◌};
 ghost use Rattle.audio_parts.specs.declared.any_part.AnyPart.TheVariants.{Source as ReadsFile, Decoder, Encoder, Gain as Gains, Mixer as Mixes, Splitter as Splits, Sink as WritesFile};
-ghost use Rattle.audio_parts.specs.AnyParts.{has_failed, read_of, written_of};
+ghost use Rattle.audio_parts.specs.AnyParts.{file_of, has_failed, read_of, written_of};
 ghost use Rattle.audio_parts.specs.Causes.{ReadCause, WriteCause};
+ghost use Rattle.audio_parts.specs.Objects.{ObjectShows, ObjectStays};
 ghost use Rattle.audio_parts.specs.Ready.{IsReady};
 ghost use Rattle.part_forms.specs.Sinking.{writes_of};
 
 use crate::any_part::AnyPart;
 use crate::coder::{G711Decoder, G711Encoder};
 use crate::gain::Gain;
+use crate::keeping_part::KeepingPart;
 use crate::mixer::Mixer;
 use crate::splitter::Splitter;
 use crate::wav_sink::WavSink;
@@ -49,51 +51,19 @@ impl<S: Source, K: Sink> Part for AnyPart<S, K> {
     ghost has_cause = { λ old new fault. ReadCause (λ it. S.size it.source) (λ it. S.ends it.source) (λ it. it.next) (λ it. S.faults it.source) (read_of old) (read_of new) fault ⊎ WriteCause (λ it. K.faults it.sink) (written_of old) (written_of new) fault };
 
     fn begin(&mut self, frames: u32) {
-        match self {
-            AnyPart::Source(part) => part.begin(frames),
-            AnyPart::Decoder(part) => part.begin(frames),
-            AnyPart::Encoder(part) => part.begin(frames),
-            AnyPart::Gain(part) => part.begin(frames),
-            AnyPart::Mixer(part) => part.begin(frames),
-            AnyPart::Splitter(part) => part.begin(frames),
-            AnyPart::Sink(part) => part.begin(frames),
-        }
+        self.begin_kept(frames);
     }
 
     fn take(&mut self, input: u32, piece: &[u8]) {
-        match self {
-            AnyPart::Source(part) => part.take(input, piece),
-            AnyPart::Decoder(part) => part.take(input, piece),
-            AnyPart::Encoder(part) => part.take(input, piece),
-            AnyPart::Gain(part) => part.take(input, piece),
-            AnyPart::Mixer(part) => part.take(input, piece),
-            AnyPart::Splitter(part) => part.take(input, piece),
-            AnyPart::Sink(part) => part.take(input, piece),
-        }
+        self.take_kept(input, piece);
     }
 
     fn step(&mut self) -> Option<PartFault> {
-        match self {
-            AnyPart::Source(part) => part.step(),
-            AnyPart::Decoder(part) => part.step(),
-            AnyPart::Encoder(part) => part.step(),
-            AnyPart::Gain(part) => part.step(),
-            AnyPart::Mixer(part) => part.step(),
-            AnyPart::Splitter(part) => part.step(),
-            AnyPart::Sink(part) => part.step(),
-        }
+        self.step_kept()
     }
 
     fn put(&mut self, output: u32, piece: &mut [u8]) {
-        match self {
-            AnyPart::Source(part) => part.put(output, piece),
-            AnyPart::Decoder(part) => part.put(output, piece),
-            AnyPart::Encoder(part) => part.put(output, piece),
-            AnyPart::Gain(part) => part.put(output, piece),
-            AnyPart::Mixer(part) => part.put(output, piece),
-            AnyPart::Splitter(part) => part.put(output, piece),
-            AnyPart::Sink(part) => part.put(output, piece),
-        }
+        self.put_kept(output, piece);
     }
 
     fn joins(&self) {
@@ -105,6 +75,60 @@ impl<S: Source, K: Sink> Part for AnyPart<S, K> {
             AnyPart::Mixer(part) => part.joins(),
             AnyPart::Splitter(part) => part.joins(),
             AnyPart::Sink(part) => part.joins(),
+        }
+    }
+}
+
+impl<S: Source, K: Sink> KeepingPart for AnyPart<S, K> {
+    ghost keeps = { λ old new. ObjectStays S.size S.told S.ends S.faults K.name K.faults (file_of old) (file_of new) };
+
+    ghost shows = { λ part fault. ObjectShows S.size S.ends S.faults K.faults fault (file_of part) };
+
+    fn begin_kept(&mut self, frames: u32) {
+        match self {
+            AnyPart::Source(part) => part.begin_kept(frames),
+            AnyPart::Decoder(part) => part.begin(frames),
+            AnyPart::Encoder(part) => part.begin(frames),
+            AnyPart::Gain(part) => part.begin(frames),
+            AnyPart::Mixer(part) => part.begin(frames),
+            AnyPart::Splitter(part) => part.begin(frames),
+            AnyPart::Sink(part) => part.begin_kept(frames),
+        }
+    }
+
+    fn take_kept(&mut self, input: u32, piece: &[u8]) {
+        match self {
+            AnyPart::Source(part) => part.take_kept(input, piece),
+            AnyPart::Decoder(part) => part.take(input, piece),
+            AnyPart::Encoder(part) => part.take(input, piece),
+            AnyPart::Gain(part) => part.take(input, piece),
+            AnyPart::Mixer(part) => part.take(input, piece),
+            AnyPart::Splitter(part) => part.take(input, piece),
+            AnyPart::Sink(part) => part.take_kept(input, piece),
+        }
+    }
+
+    fn step_kept(&mut self) -> Option<PartFault> {
+        match self {
+            AnyPart::Source(part) => part.step_kept(),
+            AnyPart::Decoder(part) => part.step(),
+            AnyPart::Encoder(part) => part.step(),
+            AnyPart::Gain(part) => part.step(),
+            AnyPart::Mixer(part) => part.step(),
+            AnyPart::Splitter(part) => part.step(),
+            AnyPart::Sink(part) => part.step_kept(),
+        }
+    }
+
+    fn put_kept(&mut self, output: u32, piece: &mut [u8]) {
+        match self {
+            AnyPart::Source(part) => part.put_kept(output, piece),
+            AnyPart::Decoder(part) => part.put(output, piece),
+            AnyPart::Encoder(part) => part.put(output, piece),
+            AnyPart::Gain(part) => part.put(output, piece),
+            AnyPart::Mixer(part) => part.put(output, piece),
+            AnyPart::Splitter(part) => part.put(output, piece),
+            AnyPart::Sink(part) => part.put_kept(output, piece),
         }
     }
 }

@@ -4,15 +4,18 @@ ghost use Rattle.part_api.specs.Streams.{Incoming};
 ghost use Rattle.part_forms.specs.Kinds.{is_source};
 ghost use Rattle.part_forms.specs.Shapes.{shape_of};
 ghost use Rattle.part_forms.specs.Sinking.{writes_of};
+ghost use Rattle.audio_parts.specs.AnyParts.{file_of};
 ghost use Rattle.audio_parts.specs.FileTerms.{IsOfKind, IsOfTerms};
+ghost use Rattle.audio_parts.specs.ObjectLaws.{object_further, object_itself};
 ghost use Rattle.audio_parts.specs.Ready.{IsReady};
 
 use crate::any_part::AnyPart;
+use crate::keeping_part::KeepingPart;
 use outside_io::{Sink, Source};
 use part_api::Part;
 
 /// A part of a component of some kind: its terms say what it does, what it does with its file, and which faults it may have.
-pub trait KindPart: Part {
+pub trait KindPart: KeepingPart {
     /// How many inputs it has.
     fn inputs(&self) -> u32
         ensures { result ≡ (Self.shape self.now).inputs };
@@ -38,6 +41,12 @@ pub trait KindPart: Part {
         ensures writes { (part : Self) (incoming : Incoming) → Self.writes part incoming ≡ writes_of (Self.writing part) (incoming.input 0) }
         ensures reads { (incoming : Incoming) → is_source (Self.terms self.now).kind ≡ true → Self.carries self.now incoming → length incoming.file ≡ (Self.sizes self.now).output }
         ensures faults { (after : Self) (fault : Fault) → Self.has_cause self.now after fault → IsOfKind (Self.terms self.now).kind fault };
+
+    /// The object of its file stays where nothing is done.
+    ghost itself: { (part : Self) → Self.keeps part part };
+
+    /// It stays over two calls where it stays over each.
+    ghost further: { (before mid after : Self) → Self.keeps before mid → Self.keeps mid after → Self.keeps before after };
 }
 
 impl<S: Source, K: Sink> KindPart for AnyPart<S, K> {
@@ -88,4 +97,8 @@ impl<S: Source, K: Sink> KindPart for AnyPart<S, K> {
             AnyPart::Sink(_) => {}
         }
     }
+
+    ghost itself = { λ part. object_itself S.size S.told S.ends S.faults K.name K.faults (file_of part) };
+
+    ghost further = { λ before mid after. object_further S.size S.told S.ends S.faults K.name K.faults (file_of before) (file_of mid) (file_of after) };
 }

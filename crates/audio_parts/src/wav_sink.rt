@@ -1,12 +1,14 @@
-ghost use Rattle.std.specs.Prelude.{◌≡◌, ◌*◌, ◌≤◌, true, false, take, vec_len, IfOk, None, Some};
+ghost use Rattle.std.specs.Prelude.{◌≡◌, ◌*◌, ◌≤◌, true, false, take, vec_len, IfOk, MatchOption, None, Some};
 ghost use Rattle.std.specs.Option.{ForSome};
 ghost use Rattle.omx_types.specs.Formats.{IsWithinLimits, frame_bytes_of};
 ghost use Rattle.audio_parts.specs.Causes.{WriteCause};
 ghost use Rattle.audio_parts.specs.FileParts.{sink_terms, writing_of};
+ghost use Rattle.audio_parts.specs.Objects.{BothOrNone, SinkShows, SinkStays, WrittenStays};
 ghost use Rattle.audio_parts.specs.Ready.{IsReady};
 ghost use Rattle.part_forms.specs.Sinking.{sinking, sink_sizes, writes_of};
 
 use crate::OutOfMemory;
+use crate::keeping_part::KeepingPart;
 use crate::register::{clear_front, set_front};
 use crate::sink_file::SinkFile;
 use omx_types::{Format, PartFault};
@@ -166,17 +168,41 @@ impl<K: Sink> Part for WavSink<K> {
     ghost has_cause = { λ old new. WriteCause (λ it. K.faults it.sink) old.file new.file };
 
     fn begin(&mut self, frames: u32) {
+        self.begin_kept(frames);
+    }
+
+    fn take(&mut self, input: u32, piece: &[u8]) {
+        self.take_kept(input, piece);
+    }
+
+    fn step(&mut self) -> Option<PartFault> {
+        self.step_kept()
+    }
+
+    fn put(&mut self, output: u32, piece: &mut [u8]) {
+        self.put_kept(output, piece);
+    }
+
+    fn joins(&self) {}
+}
+
+impl<K: Sink> KeepingPart for WavSink<K> {
+    ghost keeps = { λ old new. BothOrNone (WrittenStays (SinkStays K.name K.faults)) old.file new.file };
+
+    ghost shows = { λ part fault. MatchOption part.file ⊥ (λ it. SinkShows K.faults fault it.sink) };
+
+    fn begin_kept(&mut self, frames: u32) {
         self.frames = frames;
         self.length = (frames * self.format.frame_bytes()) as usize;
         self.due = true;
         clear_front(&mut self.register, self.length);
     }
 
-    fn take(&mut self, _input: u32, piece: &[u8]) {
+    fn take_kept(&mut self, _input: u32, piece: &[u8]) {
         set_front(&mut self.register, piece, self.length);
     }
 
-    fn step(&mut self) -> Option<PartFault> {
+    fn step_kept(&mut self) -> Option<PartFault> {
         let Some(file) = &mut self.file else {
             self.due = false;
             return None;
@@ -194,9 +220,7 @@ impl<K: Sink> Part for WavSink<K> {
         }
     }
 
-    fn put(&mut self, _output: u32, piece: &mut [u8]) {
+    fn put_kept(&mut self, _output: u32, piece: &mut [u8]) {
         piece.copy_from_slice(&self.register[..self.length]);
     }
-
-    fn joins(&self) {}
 }

@@ -1,13 +1,15 @@
-ghost use Rattle.std.specs.Prelude.{◌≡◌, ◌+◌, ◌*◌, ◌<◌, ◌≤◌, true, false, [], length, take, vec_len, option_map, IfOk, None, Some};
+ghost use Rattle.std.specs.Prelude.{◌≡◌, ◌+◌, ◌*◌, ◌<◌, ◌≤◌, true, false, [], length, take, vec_len, option_map, IfOk, MatchOption, None, Some};
 ghost use Rattle.std.specs.Option.{ForSome};
 ghost use Rattle.omx_types.specs.Formats.{IsWithinLimits, frame_bytes_of};
 ghost use Rattle.audio_parts.specs.Causes.{ReadCause};
 ghost use Rattle.audio_parts.specs.FileParts.{source_terms};
+ghost use Rattle.audio_parts.specs.Objects.{BothOrNone, ReadStays, SourceShows, SourceStays};
 ghost use Rattle.part_api.specs.Streams.{Incoming};
 ghost use Rattle.part_forms.specs.Files.{sourcing, rest_of, none_left};
 ghost use Rattle.audio_parts.specs.Ready.{IsReady};
 
 use crate::OutOfMemory;
+use crate::keeping_part::KeepingPart;
 use crate::register::clear_front;
 use crate::source_file::SourceFile;
 use omx_types::{Format, PartFault};
@@ -197,15 +199,39 @@ impl<S: Source> Part for WavSource<S> {
     ghost has_cause = { λ old new. ReadCause (λ it. S.size it.source) (λ it. S.ends it.source) (λ it. it.next) (λ it. S.faults it.source) old.file new.file };
 
     fn begin(&mut self, frames: u32) {
+        self.begin_kept(frames);
+    }
+
+    fn take(&mut self, input: u32, piece: &[u8]) {
+        self.take_kept(input, piece);
+    }
+
+    fn step(&mut self) -> Option<PartFault> {
+        self.step_kept()
+    }
+
+    fn put(&mut self, output: u32, piece: &mut [u8]) {
+        self.put_kept(output, piece);
+    }
+
+    fn joins(&self) {}
+}
+
+impl<S: Source> KeepingPart for WavSource<S> {
+    ghost keeps = { λ old new. BothOrNone (ReadStays (SourceStays S.size S.told S.ends S.faults)) old.file new.file };
+
+    ghost shows = { λ part fault. MatchOption part.file ⊥ (λ it. SourceShows S.size S.ends S.faults fault it.source) };
+
+    fn begin_kept(&mut self, frames: u32) {
         self.frames = frames;
         self.length = (frames * self.format.frame_bytes()) as usize;
         self.due = true;
         clear_front(&mut self.register, self.length);
     }
 
-    fn take(&mut self, _input: u32, _piece: &[u8]) {}
+    fn take_kept(&mut self, _input: u32, _piece: &[u8]) {}
 
-    fn step(&mut self) -> Option<PartFault> {
+    fn step_kept(&mut self) -> Option<PartFault> {
         let Some(file) = &mut self.file else {
             self.due = false;
             return None;
@@ -223,9 +249,7 @@ impl<S: Source> Part for WavSource<S> {
         }
     }
 
-    fn put(&mut self, _output: u32, piece: &mut [u8]) {
+    fn put_kept(&mut self, _output: u32, piece: &mut [u8]) {
         piece.copy_from_slice(&self.register[..self.length]);
     }
-
-    fn joins(&self) {}
 }
