@@ -1,7 +1,6 @@
 -- The headers of a work by the numbers of their ports.
 use Rattle.std.specs.Prelude.{◌≡◌, ℕ, ◌+◌, ◌<◌, ◌≤◌, false, List, [], ◌∷◌, Option, Some, None, option_map, MatchOption}
 use Rattle.part_api.specs.Terms.{Terms}
-use Rattle.il_machine.specs.Claims.{CarriedHeader}
 use Rattle.il_machine.specs.Stepping.{frames_at, is_last}
 use Rattle.il_machine.specs.declared.header.HeaderState.{HeaderState}
 use Rattle.header_core.specs.BufferHeader.{BufferHeader, is_clients}

@@ -12,8 +12,9 @@ ghost use Rattle.il_flow.specs.Steps.{WasBroken, WasDone, came_in, shown, steppe
 
 use crate::frames::is_last;
 use crate::layout::Layout;
+use audio_parts::KindPart;
 use header_core::Header;
-use part_api::{Part, PartFault};
+use part_api::PartFault;
 
 /// The bytes of so many frames, or all bytes where they are fewer.
 #[tactic(auto, using(crate::proofs::Bytes::whole_frames, crate::proofs::Bytes::fewer))]
@@ -52,7 +53,7 @@ fn empty_header(header: &mut Header, frames: u32, frame: usize)
 }
 
 /// Puts an output's frames to the front of a memory.
-fn put_front<P: Part>(part: &mut P, memory: &mut [u8], bytes: usize, output: u32)
+fn put_front<P: KindPart>(part: &mut P, memory: &mut [u8], bytes: usize, output: u32)
     requires room { bytes ≤ length memory.old }
     requires stepped { P.can_put part.old output }
     requires whole { bytes ≡ (P.sizes part.old).output }
@@ -69,12 +70,13 @@ fn put_front<P: Part>(part: &mut P, memory: &mut [u8], bytes: usize, output: u32
     ensures left { P.left part.new ≡ P.left part.old }
     ensures kept { P.kept part.new ≡ P.kept part.old }
     ensures writing { P.writing part.new ≡ P.writing part.old }
+    ensures object { P.keeps part.old part.new }
 {
-    part.put(output, &mut memory[..bytes]);
+    part.put_kept(output, &mut memory[..bytes]);
 }
 
 /// Puts an output's frames into its header.
-fn fill_header<P: Part>(
+fn fill_header<P: KindPart>(
     part: &mut P,
     header: &mut Header,
     frames: u32,
@@ -98,6 +100,7 @@ fn fill_header<P: Part>(
     ensures left { P.left part.new ≡ P.left part.old }
     ensures kept { P.kept part.new ≡ P.kept part.old }
     ensures writing { P.writing part.new ≡ P.writing part.old }
+    ensures object { P.keeps part.old part.new }
 {
     let bytes = front_bytes(frames, frame, header.size() as usize);
     let memory = header.refill(bytes as u32, eos_flags(over));
@@ -112,7 +115,7 @@ fn eos_flags(over: bool) -> u32
 }
 
 /// Takes the frames of an input's header that has some.
-fn take_header<P: Part>(part: &mut P, header: &Header, layout: Layout, frames: u32, port: u32)
+fn take_header<P: KindPart>(part: &mut P, header: &Header, layout: Layout, frames: u32, port: u32)
     requires layout { IsLaidOut layout (P.terms part.old) (P.shape part.old) }
     requires open { port < layout.inputs → P.can_take part.old port }
     requires sizes { P.sizes part.old ≡ sizes_of (P.shape part.old) frames }
@@ -129,15 +132,16 @@ fn take_header<P: Part>(part: &mut P, header: &Header, layout: Layout, frames: u
     ensures left { P.left part.new ≡ P.left part.old }
     ensures kept { P.kept part.new ≡ P.kept part.old }
     ensures writing { P.writing part.new ≡ P.writing part.old }
+    ensures object { P.keeps part.old part.new }
     ensures causes { (after : P) (fault : Fault) → P.has_cause part.new after fault → P.has_cause part.old after fault }
 {
     if port < layout.inputs && !is_last(layout, 0, port, header) {
-        part.take(port, front(header, frames, layout.input_frame));
+        part.take_kept(port, front(header, frames, layout.input_frame));
     }
 }
 
 /// Takes the frames of each input's header, from this port on.
-fn take_headers<P: Part>(
+fn take_headers<P: KindPart>(
     part: &mut P,
     places: &[Option<Header>],
     layout: Layout,
@@ -160,6 +164,7 @@ fn take_headers<P: Part>(
     ensures left { P.left part.new ≡ P.left part.old }
     ensures kept { P.kept part.new ≡ P.kept part.old }
     ensures writing { P.writing part.new ≡ P.writing part.old }
+    ensures object { P.keeps part.old part.new }
     ensures causes { (after : P) (fault : Fault) → P.has_cause part.new after fault → P.has_cause part.old after fault }
 {
     match places {
@@ -173,7 +178,7 @@ fn take_headers<P: Part>(
 }
 
 /// Takes the frames of the step out of an input's header, or puts those that the part made into an output's.
-fn put_header<P: Part>(
+fn put_header<P: KindPart>(
     part: &mut P,
     header: &mut Header,
     layout: Layout,
@@ -199,6 +204,7 @@ fn put_header<P: Part>(
     ensures left { P.left part.new ≡ P.left part.old }
     ensures kept { P.kept part.new ≡ P.kept part.old }
     ensures writing { P.writing part.new ≡ P.writing part.old }
+    ensures object { P.keeps part.old part.new }
 {
     if port < layout.inputs {
         empty_header(header, frames, layout.input_frame);
@@ -209,7 +215,7 @@ fn put_header<P: Part>(
 }
 
 /// The same where the port gave a header.
-fn put_place<P: Part>(
+fn put_place<P: KindPart>(
     part: &mut P,
     place: &mut Option<Header>,
     layout: Layout,
@@ -235,6 +241,7 @@ fn put_place<P: Part>(
     ensures left { P.left part.new ≡ P.left part.old }
     ensures kept { P.kept part.new ≡ P.kept part.old }
     ensures writing { P.writing part.new ≡ P.writing part.old }
+    ensures object { P.keeps part.old part.new }
 {
     match place {
         Some(header) => put_header(part, header, layout, frames, port, over),
@@ -243,7 +250,7 @@ fn put_place<P: Part>(
 }
 
 /// The same for each header, from this port on.
-fn put_headers<P: Part>(
+fn put_headers<P: KindPart>(
     part: &mut P,
     places: &mut [Option<Header>],
     layout: Layout,
@@ -269,6 +276,7 @@ fn put_headers<P: Part>(
     ensures left { P.left part.new ≡ P.left part.old }
     ensures kept { P.kept part.new ≡ P.kept part.old }
     ensures writing { P.writing part.new ≡ P.writing part.old }
+    ensures object { P.keeps part.old part.new }
 {
     if let Some((place, rest)) = places.split_first_mut() {
         put_place(part, place, layout, frames, port, over);
@@ -277,7 +285,7 @@ fn put_headers<P: Part>(
 }
 
 /// One step: what comes in is taken, and what goes out is put, where the file doesn't fail. Answers its fault.
-pub(crate) fn step_part<P: Part>(
+pub(crate) fn step_part<P: KindPart>(
     part: &mut P,
     places: &mut [Option<Header>],
     layout: Layout,
@@ -306,10 +314,12 @@ pub(crate) fn step_part<P: Part>(
         (P.writes mid (came_in (P.terms part.old) (P.shape part.old) frames places.old))) }
     ensures untouched { IfSome result (λ fault. places.new ≡ places.old) }
     ensures cause { IfSome result (P.has_cause part.old part.new) }
+    ensures object { P.keeps part.old part.new }
+    ensures shows { IfSome result (P.shows part.new) }
 {
-    part.begin(frames);
+    part.begin_kept(frames);
     take_headers(part, places, layout, frames, 0);
-    if let Some(fault) = part.step() {
+    if let Some(fault) = part.step_kept() {
         return Some(fault);
     }
     put_headers(part, places, layout, frames, 0, over);

@@ -54,6 +54,8 @@ impl<P: KindPart> Work<P> {
         ensures announced { self.announces ≡ true → IsAnnounced (seen_done [] result) }
         ensures unstepped { self.announces ≡ true → result.part ≡ self.part }
         ensures cause { IfSome result.fault (P.has_cause self.part result.part) }
+        ensures kept { P.keeps self.part result.part }
+        ensures shows { IfSome result.fault (P.shows result.part) }
     {
         let Work {
             component,
