@@ -7,6 +7,7 @@ use Rattle.omx_types.specs.Formats.{frame_bytes_of}
 use Rattle.part_forms.specs.Kinds.{is_source}
 use Rattle.part_api.specs.declared.attached.Attached.{Attached}
 use Rattle.part_api.specs.declared.attached.Attached.TheVariants.{From, To}
+use Rattle.audio_parts.specs.Objects.{Held}
 use Rattle.audio_parts.specs.declared.any_part.AnyPart.{AnyPart}
 use Rattle.audio_parts.specs.declared.any_part.AnyPart.TheVariants.{Source, Sink}
 use Rattle.audio_parts.specs.declared.source_file.SourceFile.{SourceFile}
@@ -24,6 +25,9 @@ abbrev pub file_of : {S K : Type 0} {s : _} {k : _} → AnyPart S K s k → Opti
 file_of (Source part) = option_map (λ it. files.From it.source it.format it.attached) part.file
 file_of (Sink part) = option_map (λ it. files.To it.sink it.planned) part.file
 file_of _ = None
+
+abbrev pub held_of : {S K : Type 0} {s : _} {k : _} → AnyPart S K s k → Held S K
+held_of part = record { failed = has_failed part; file = file_of part }
 
 abbrev pub attached_of : {S K : Type 0} → PartFile S K → Attached
 attached_of (files.From src format frames) = From format frames

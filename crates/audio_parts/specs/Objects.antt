@@ -1,21 +1,29 @@
 -- The object of a part's file: what stays of it over a step, and what a fault shows of it.
-use Rattle.std.specs.Prelude.{◌≡◌, ℕ, ◌≤◌, List, Option, None, Some, MatchOption}
+use Rattle.std.specs.Prelude.{◌≡◌, ℕ, ◌≤◌, max, Bool, false, List, Option, None, Some}
 use Rattle.omx_types.specs.declared.fault.PartFault.{PartFault}
-use Rattle.omx_types.specs.declared.fault.PartFault.TheVariants.{Read, Write, Short}
-use Rattle.outside_io.specs.Stops.{GaveNothing}
+use Rattle.outside_io.specs.Moves.{WhereTold}
+use Rattle.audio_parts.specs.Causes.{HasReadCause, HasWriteCause}
 use Rattle.audio_parts.specs.declared.part_file.PartFile.{PartFile}
 use Rattle.audio_parts.specs.declared.part_file.PartFile.TheVariants.{From, To}
 use Rattle.audio_parts.specs.declared.source_file.SourceFile.{SourceFile}
 use Rattle.audio_parts.specs.declared.sink_file.SinkFile.{SinkFile}
 
+-- what a part holds: whether a step of it failed, and its file
+pub record Held (S K : Type 0) : Type 0 where
+  pub failed : Bool
+  pub file : Option (PartFile S K)
+
 -- ---- what stays
 
--- a source has the size, the told bytes and the told end that it had, and its count of faults didn't fall
-pub record SourceStays {S : Type 0} (size_of : S → ℕ) (told_of : S → Option (List ℕ)) (ends_of : S → Option ℕ) (faults_of : S → ℕ) (before now : S) : Type 0 where
+-- A source has the size, the told bytes and the told end that it had, and its count of faults didn't fall. Where no step failed it
+-- moved forward, and read nothing behind its told end.
+pub record SourceStays {S : Type 0} (size_of : S → ℕ) (told_of : S → Option (List ℕ)) (ends_of : S → Option ℕ) (offset_of faults_of : S → ℕ) (failed : Bool) (before now : S) : Type 0 where
   pub size : size_of now ≡ size_of before
   pub told : told_of now ≡ told_of before
   pub ends : ends_of now ≡ ends_of before
   pub faults : faults_of before ≤ faults_of now
+  pub forward : failed ≡ false → offset_of before ≤ offset_of now
+  pub stops : failed ≡ false → WhereTold (ends_of before) (λ end. offset_of now ≤ max end (offset_of before))
 
 -- a sink has the name that it had, and its count of faults didn't fall
 pub record SinkStays {K : Type 0} (name_of : K → List ℕ) (faults_of : K → ℕ) (before now : K) : Type 0 where
@@ -43,29 +51,40 @@ FileStays source sink (To snk frames) (To snk' frames') = (frames' ≡ frames) �
 FileStays source sink (From src format frames) (To snk frames') = ⊥
 FileStays source sink (To snk frames) (From src format frames') = ⊥
 
+-- a part that has not failed had not failed before
+abbrev pub StaysUnfailed : Bool → Bool → Type 0
+StaysUnfailed before now = now ≡ false → before ≡ false
+
 -- a part has no file before and now, or the object that it had
-abbrev pub ObjectStays : {S K : Type 0} → (S → ℕ) → (S → Option (List ℕ)) → (S → Option ℕ) → (S → ℕ) → (K → List ℕ) → (K → ℕ)
-    → Option (PartFile S K) → Option (PartFile S K) → Type 0
-ObjectStays size told ends faults name sink_faults = BothOrNone (FileStays (SourceStays size told ends faults) (SinkStays name sink_faults))
+abbrev pub ObjectStays : {S K : Type 0} → (S → ℕ) → (S → Option (List ℕ)) → (S → Option ℕ) → (S → ℕ) → (S → ℕ) → (K → List ℕ) → (K → ℕ)
+    → Held S K → Held S K → Type 0
+ObjectStays size told ends offset faults name sink_faults before now =
+    StaysUnfailed before.failed now.failed
+    × BothOrNone (FileStays (SourceStays size told ends offset faults now.failed) (SinkStays name sink_faults)) before.file now.file
 
 -- ---- what a fault shows
 
--- a source failed, or gave nothing below its size
-abbrev pub SourceShows : {S : Type 0} → (S → ℕ) → (S → Option ℕ) → (S → ℕ) → PartFault → S → Type 0
-SourceShows size ends faults Read src = 1 ≤ faults src
-SourceShows size ends faults Write src = ⊥
-SourceShows size ends faults (Short at told_size) src = (start : ℕ) × GaveNothing (size src) (ends src) start at told_size
+-- of a source: it failed, or gave nothing below its size, read from where it stood before
+abbrev pub SourceShows : {S : Type 0} → (S → ℕ) → (S → Option ℕ) → (S → ℕ) → (S → ℕ) → PartFault → S → S → Type 0
+SourceShows size ends offset faults fault before now = HasReadCause (size before) (ends before) (offset before) (faults before) (faults now) fault
 
--- a sink failed
-abbrev pub SinkShows : {K : Type 0} → (K → ℕ) → PartFault → K → Type 0
-SinkShows faults Read snk = ⊥
-SinkShows faults Write snk = 1 ≤ faults snk
-SinkShows faults (Short at told_size) snk = ⊥
+-- of a sink: it failed
+abbrev pub SinkShows : {K : Type 0} → (K → ℕ) → PartFault → K → K → Type 0
+SinkShows faults fault before now = HasWriteCause (faults before) (faults now) fault
 
-abbrev pub FileShows : {S K : Type 0} → (S → Type 0) → (K → Type 0) → PartFile S K → Type 0
-FileShows source sink (From src format frames) = source src
-FileShows source sink (To snk frames) = sink snk
+-- both are there, and stand in this relation
+abbrev pub OnBoth : {A : Type 0} → (A → A → Type 0) → Option A → Option A → Type 0
+OnBoth R (Some a) (Some b) = R a b
+OnBoth R None other = ⊥
+OnBoth R (Some a) None = ⊥
 
--- behind a step that answered this fault the part has a file, whose object shows it
-abbrev pub ObjectShows : {S K : Type 0} → (S → ℕ) → (S → Option ℕ) → (S → ℕ) → (K → ℕ) → PartFault → Option (PartFile S K) → Type 0
-ObjectShows size ends faults sink_faults fault object = MatchOption object ⊥ (FileShows (SourceShows size ends faults fault) (SinkShows sink_faults fault))
+abbrev pub FileShows : {S K : Type 0} → (S → S → Type 0) → (K → K → Type 0) → PartFile S K → PartFile S K → Type 0
+FileShows source sink (From src format frames) (From src' format' frames') = source src src'
+FileShows source sink (To snk frames) (To snk' frames') = sink snk snk'
+FileShows source sink (From src format frames) (To snk frames') = ⊥
+FileShows source sink (To snk frames) (From src format frames') = ⊥
+
+-- a part that had not failed before has a file, whose object shows since then that a step answered this fault
+abbrev pub ObjectShows : {S K : Type 0} → (S → ℕ) → (S → Option ℕ) → (S → ℕ) → (S → ℕ) → (K → ℕ) → PartFault → Held S K → Held S K → Type 0
+ObjectShows size ends offset faults sink_faults fault before now =
+    (before.failed ≡ false) × OnBoth (FileShows (SourceShows size ends offset faults fault) (SinkShows sink_faults fault)) before.file now.file

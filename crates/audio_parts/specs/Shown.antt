@@ -11,6 +11,7 @@ use Rattle.audio_parts.specs.declared.source_file.SourceFile.{SourceFile}
 use Rattle.audio_parts.specs.declared.sink_file.SinkFile.{SinkFile}
 use Rattle.audio_parts.specs.declared.part_file.PartFile.{PartFile}
 use Rattle.audio_parts.specs.AnyParts.{file_of, has_failed}
+use Rattle.audio_parts.specs.Objects.{Held}
 use Rattle.audio_parts.specs.FileParts.{sink_terms, source_terms, writing_of}
 
 pub record ShownPart (S K : Type 0) : Type 0 where
@@ -24,6 +25,9 @@ pub record ShownPart (S K : Type 0) : Type 0 where
   pub kept : Option (List ℕ)
   pub writing : Option Writing
   pub file : Option (PartFile S K)
+
+abbrev pub held_in : {S K : Type 0} → ShownPart S K → Held S K
+held_in part = record { failed = part.failed; file = part.file }
 
 -- ---- what is set
 

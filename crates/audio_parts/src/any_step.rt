@@ -1,7 +1,7 @@
 //! One step of a part of any kind.
 ghost use Rattle.std.specs.Prelude.{◌⊎◌};
 ghost use Rattle.audio_parts.specs.declared.any_part.AnyPart.TheVariants.{Source as ReadsFile, Decoder, Encoder, Gain as Gains, Mixer as Mixes, Splitter as Splits, Sink as WritesFile};
-ghost use Rattle.audio_parts.specs.AnyParts.{file_of, has_failed, read_of, written_of};
+ghost use Rattle.audio_parts.specs.AnyParts.{has_failed, held_of, read_of, written_of};
 ghost use Rattle.audio_parts.specs.Causes.{ReadCause, WriteCause};
 ghost use Rattle.audio_parts.specs.Objects.{ObjectShows, ObjectStays};
 ghost use Rattle.audio_parts.specs.Ready.{IsReady};
@@ -80,9 +80,9 @@ impl<S: Source, K: Sink> Part for AnyPart<S, K> {
 }
 
 impl<S: Source, K: Sink> KeepingPart for AnyPart<S, K> {
-    ghost keeps = { λ old new. ObjectStays S.size S.told S.ends S.faults K.name K.faults (file_of old) (file_of new) };
+    ghost keeps = { λ old new. ObjectStays S.size S.told S.ends S.offset S.faults K.name K.faults (held_of old) (held_of new) };
 
-    ghost shows = { λ part fault. ObjectShows S.size S.ends S.faults K.faults fault (file_of part) };
+    ghost shows = { λ old new fault. ObjectShows S.size S.ends S.offset S.faults K.faults fault (held_of old) (held_of new) };
 
     fn begin_kept(&mut self, frames: u32) {
         match self {

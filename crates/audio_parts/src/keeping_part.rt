@@ -12,11 +12,12 @@ use part_api::Part;
 /// A part that tells what stays of the object of its file. Each call does the same as that of `Part` with the front of its
 /// name, and says besides that the object stays.
 pub trait KeepingPart: Part {
-    /// The object of its file stays: what it has for its life is the same, and its count of faults didn't fall.
+    /// The object of its file stays: what it has for its life is the same, its count of faults didn't fall, and where no step
+    /// failed a source moved forward, and not behind its told end.
     ghost keeps: { Self → Self → Type 0 };
 
-    /// The object of its file shows that a step of the part answered this fault.
-    ghost shows: { Self → Fault → Type 0 };
+    /// The object of its file shows that a step of the part answered this fault, since a time when no step had failed.
+    ghost shows: { Self → Self → Fault → Type 0 };
 
     fn begin_kept(&mut self, frames: u32)
         requires few { frames * (Self.shape self.old).channels ≤ 4096 }
@@ -77,7 +78,7 @@ pub trait KeepingPart: Part {
         ensures writing { IfNone result (Self.writing self.new ≡ written (Self.writing self.old)) }
         ensures name { name_of (Self.writing self.new) ≡ name_of (Self.writing self.old) }
         ensures object { keeps self.old self.new }
-        ensures shows { IfSome result (shows self.new) };
+        ensures shows { IfSome result (shows self.old self.new) };
 
     fn put_kept(&mut self, output: u32, piece: &mut [u8])
         requires stepped { Self.can_put self.old output }

@@ -4,9 +4,9 @@ ghost use Rattle.part_api.specs.Streams.{Incoming};
 ghost use Rattle.part_forms.specs.Kinds.{is_source};
 ghost use Rattle.part_forms.specs.Shapes.{shape_of};
 ghost use Rattle.part_forms.specs.Sinking.{writes_of};
-ghost use Rattle.audio_parts.specs.AnyParts.{file_of};
+ghost use Rattle.audio_parts.specs.AnyParts.{held_of};
 ghost use Rattle.audio_parts.specs.FileTerms.{IsOfKind, IsOfTerms};
-ghost use Rattle.audio_parts.specs.ObjectLaws.{object_further, object_itself};
+ghost use Rattle.audio_parts.specs.ObjectLaws.{object_further, object_itself, shows_earlier, shows_later};
 ghost use Rattle.audio_parts.specs.Ready.{IsReady};
 
 use crate::any_part::AnyPart;
@@ -47,6 +47,12 @@ pub trait KindPart: KeepingPart {
 
     /// It stays over two calls where it stays over each.
     ghost further: { (before mid after : Self) → Self.keeps before mid → Self.keeps mid after → Self.keeps before after };
+
+    /// What a fault shows since some call it shows since an earlier one.
+    ghost earlier: { (before mid after : Self) (fault : Fault) → Self.keeps before mid → Self.shows mid after fault → Self.shows before after fault };
+
+    /// It shows the same after a later one.
+    ghost later: { (before mid after : Self) (fault : Fault) → Self.shows before mid fault → Self.keeps mid after → Self.shows before after fault };
 }
 
 impl<S: Source, K: Sink> KindPart for AnyPart<S, K> {
@@ -98,7 +104,11 @@ impl<S: Source, K: Sink> KindPart for AnyPart<S, K> {
         }
     }
 
-    ghost itself = { λ part. object_itself S.size S.told S.ends S.faults K.name K.faults (file_of part) };
+    ghost itself = { λ part. object_itself S.size S.told S.ends S.offset S.faults K.name K.faults (held_of part) };
 
-    ghost further = { λ before mid after. object_further S.size S.told S.ends S.faults K.name K.faults (file_of before) (file_of mid) (file_of after) };
+    ghost further = { λ before mid after. object_further S.size S.told S.ends S.offset S.faults K.name K.faults (held_of before) (held_of mid) (held_of after) };
+
+    ghost earlier = { λ before mid after fault. shows_earlier S.size S.told S.ends S.offset S.faults K.name K.faults fault (held_of before) (held_of mid) (held_of after) };
+
+    ghost later = { λ before mid after fault. shows_later S.size S.told S.ends S.offset S.faults K.name K.faults fault (held_of before) (held_of mid) (held_of after) };
 }

@@ -1,9 +1,9 @@
-ghost use Rattle.std.specs.Prelude.{◌≡◌, ◌*◌, ◌≤◌, true, false, take, vec_len, IfOk, MatchOption, None, Some};
+ghost use Rattle.std.specs.Prelude.{◌≡◌, ◌*◌, ◌≤◌, true, false, take, vec_len, IfOk, None, Some};
 ghost use Rattle.std.specs.Option.{ForSome};
 ghost use Rattle.omx_types.specs.Formats.{IsWithinLimits, frame_bytes_of};
 ghost use Rattle.audio_parts.specs.Causes.{WriteCause};
 ghost use Rattle.audio_parts.specs.FileParts.{sink_terms, writing_of};
-ghost use Rattle.audio_parts.specs.Objects.{BothOrNone, SinkShows, SinkStays, WrittenStays};
+ghost use Rattle.audio_parts.specs.Objects.{BothOrNone, OnBoth, SinkShows, SinkStays, StaysUnfailed, WrittenStays};
 ghost use Rattle.audio_parts.specs.Ready.{IsReady};
 ghost use Rattle.part_forms.specs.Sinking.{sinking, sink_sizes, writes_of};
 
@@ -34,6 +34,7 @@ pub struct WavSink<K: Sink> {
     ghost room: { vec_len register ≡ 8192 },
     ghost whole: { length ≡ frames * frame_bytes_of format },
     ghost small: { length ≤ 8192 },
+    ghost unfailed: { due ≡ true → failed ≡ false },
     ghost agrees: { due ≡ true → ForSome file (λ it. it.planned * frame_bytes_of format ≤ 134217728) },
 }
 
@@ -187,9 +188,9 @@ impl<K: Sink> Part for WavSink<K> {
 }
 
 impl<K: Sink> KeepingPart for WavSink<K> {
-    ghost keeps = { λ old new. BothOrNone (WrittenStays (SinkStays K.name K.faults)) old.file new.file };
+    ghost keeps = { λ old new. StaysUnfailed old.failed new.failed × BothOrNone (WrittenStays (SinkStays K.name K.faults)) old.file new.file };
 
-    ghost shows = { λ part fault. MatchOption part.file ⊥ (λ it. SinkShows K.faults fault it.sink) };
+    ghost shows = { λ old new fault. (old.failed ≡ false) × OnBoth (λ before now. SinkShows K.faults fault before.sink now.sink) old.file new.file };
 
     fn begin_kept(&mut self, frames: u32) {
         self.frames = frames;

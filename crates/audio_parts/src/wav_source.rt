@@ -1,9 +1,9 @@
-ghost use Rattle.std.specs.Prelude.{◌≡◌, ◌+◌, ◌*◌, ◌<◌, ◌≤◌, true, false, [], length, take, vec_len, option_map, IfOk, MatchOption, None, Some};
+ghost use Rattle.std.specs.Prelude.{◌≡◌, ◌+◌, ◌*◌, ◌<◌, ◌≤◌, true, false, [], length, take, vec_len, option_map, IfOk, None, Some};
 ghost use Rattle.std.specs.Option.{ForSome};
 ghost use Rattle.omx_types.specs.Formats.{IsWithinLimits, frame_bytes_of};
 ghost use Rattle.audio_parts.specs.Causes.{ReadCause};
 ghost use Rattle.audio_parts.specs.FileParts.{source_terms};
-ghost use Rattle.audio_parts.specs.Objects.{BothOrNone, ReadStays, SourceShows, SourceStays};
+ghost use Rattle.audio_parts.specs.Objects.{BothOrNone, OnBoth, ReadStays, SourceShows, SourceStays, StaysUnfailed};
 ghost use Rattle.part_api.specs.Streams.{Incoming};
 ghost use Rattle.part_forms.specs.Files.{sourcing, rest_of, none_left};
 ghost use Rattle.audio_parts.specs.Ready.{IsReady};
@@ -41,6 +41,7 @@ pub struct WavSource<S: Source> {
     ghost enough: { due ≡ true → frames ≤ none_left (option_map (λ it. it.left) file) },
     ghost unfailed: { due ≡ true → failed ≡ false },
     ghost agrees: { due ≡ true → ForSome file (λ it. it.format ≡ format) },
+    ghost stands: { failed ≡ false → ForSome file (λ it. it.next ≡ S.offset it.source) },
 }
 
 impl<S: Source> WavSource<S> {
@@ -218,9 +219,9 @@ impl<S: Source> Part for WavSource<S> {
 }
 
 impl<S: Source> KeepingPart for WavSource<S> {
-    ghost keeps = { λ old new. BothOrNone (ReadStays (SourceStays S.size S.told S.ends S.faults)) old.file new.file };
+    ghost keeps = { λ old new. StaysUnfailed old.failed new.failed × BothOrNone (ReadStays (SourceStays S.size S.told S.ends S.offset S.faults new.failed)) old.file new.file };
 
-    ghost shows = { λ part fault. MatchOption part.file ⊥ (λ it. SourceShows S.size S.ends S.faults fault it.source) };
+    ghost shows = { λ old new fault. (old.failed ≡ false) × OnBoth (λ before now. SourceShows S.size S.ends S.offset S.faults fault before.source now.source) old.file new.file };
 
     fn begin_kept(&mut self, frames: u32) {
         self.frames = frames;
