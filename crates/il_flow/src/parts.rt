@@ -315,7 +315,7 @@ pub(crate) fn step_part<P: KindPart>(
     ensures untouched { IfSome result (λ fault. places.new ≡ places.old) }
     ensures cause { IfSome result (P.has_cause part.old part.new) }
     ensures object { P.keeps part.old part.new }
-    ensures shows { IfSome result (P.shows part.new) }
+    ensures shows { IfSome result (P.shows part.old part.new) }
 {
     part.begin_kept(frames);
     take_headers(part, places, layout, frames, 0);

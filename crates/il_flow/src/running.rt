@@ -75,7 +75,7 @@ pub(crate) fn do_step<P: KindPart>(part: &mut P, places: &mut [Option<Header>]) 
         component result.frames result.fault (carried_from 0 places.new) (shown (P.left part.new) (P.rest part.new) (P.kept part.new) (P.writing part.new)) }
     ensures cause { IfSome result.fault (P.has_cause part.old part.new) }
     ensures object { P.keeps part.old part.new }
-    ensures shows { IfSome result.fault (P.shows part.new) }
+    ensures shows { IfSome result.fault (P.shows part.old part.new) }
 {
     part.is_by_terms();
     let layout = layout_of(part);

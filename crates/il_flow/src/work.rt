@@ -55,7 +55,7 @@ impl<P: KindPart> Work<P> {
         ensures unstepped { self.announces ≡ true → result.part ≡ self.part }
         ensures cause { IfSome result.fault (P.has_cause self.part result.part) }
         ensures kept { P.keeps self.part result.part }
-        ensures shows { IfSome result.fault (P.shows result.part) }
+        ensures shows { IfSome result.fault (P.shows self.part result.part) }
     {
         let Work {
             component,
