@@ -62,6 +62,7 @@ pub(crate) fn give_files<S: Source, K: Sink>(
     requires many { length files.old ≡ length plan.now.parts }
     requires stands { (given : PlayFiles) × IsAt plan.now given (Filing 0) graph.old × AreOffered plan.now given (offered S.offset S.size S.told K.told) files.old }
     ensures goes { (given : PlayFiles) → IsAt plan.now given (Filing 0) graph.old → AreOffered plan.now given (offered S.offset S.size S.told K.told) files.old → IsAt plan.now given (Filing (length plan.now.parts)) graph.new }
+    ensures many { length files.new ≡ length files.old }
     ensures gone { AreGone (length plan.now.parts) files.new }
     ensures came { HaveCome (length plan.now.parts) files.old graph.new }
 {

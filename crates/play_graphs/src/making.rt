@@ -26,6 +26,7 @@ pub fn make_graph<S: Source, K: Sink>(
 ) -> Result<Graph<S, K, PlayClient>, OutOfMemory>
     requires { CanMake plan.now (offered S.offset S.size S.told K.told) files.old }
     ensures made { IfOk result (IsMadeOf plan.now (offered S.offset S.size S.told K.told) files.old) }
+    ensures many { length files.new ≡ length files.old }
     ensures files { IfOk result (λ graph. AreFilesOf graph (length plan.now.parts) files.old) }
     ensures gone { OnOk result (AreGone (length plan.now.parts) files.new) }
     ensures unmade { OnErr result (files.new ≡ files.old) }
