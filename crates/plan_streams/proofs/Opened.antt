@@ -42,7 +42,7 @@ use Rattle.assembling.proofs.Places.{stream_found}
 use Rattle.play_openings.specs.Assemblies.{HasNoLate, IsReady, PlayFiles, assembly_of, factors_in, file_at, file_of, is_late_link, kind_in, opening_format}
 use Rattle.play_openings.proofs.Lawful.{late_is, link_is}
 use Rattle.play_openings.proofs.Opened.{early_opens}
-use Rattle.play_results.specs.Files.{AreSamples, written_by}
+use Rattle.play_results.specs.Files.{AreSamples, IsWriter, written_by}
 use Rattle.play_results.specs.Worlds.{IsOpening}
 use Rattle.play_streams.specs.Contents.{HasContents, Tells}
 use Rattle.play_streams.specs.Streams.{AreNew, HasStreams}
@@ -129,11 +129,57 @@ sink_writes (forms.Gain gain) h = absurd cc
 sink_writes (forms.Mixer weights) h = absurd cc
 sink_writes (forms.Splitter outputs) h = absurd cc
 
+writer_is_sink : (form : PartForm) (name : List ℕ) → written_by form ≡ Some name → is_sink (kind_of form) ≡ true
+writer_is_sink (forms.Sink file) name e = refl
+writer_is_sink (forms.Source file) name e = absurd cc
+writer_is_sink (forms.Late file) name e = absurd cc
+writer_is_sink forms.Decoder name e = absurd cc
+writer_is_sink forms.Alaw name e = absurd cc
+writer_is_sink forms.Mulaw name e = absurd cc
+writer_is_sink (forms.Gain gain) name e = absurd cc
+writer_is_sink (forms.Mixer weights) name e = absurd cc
+writer_is_sink (forms.Splitter outputs) name e = absurd cc
+
 tells : (o : Option (List ℕ)) (file : List ℕ) → o ≡ Some file → Tells o file
 tells None file e = absurd cc
 tells (Some known) file e = let s : known ≡ file = cc in ([], s ∙ sym (append-nil file))
 
 -- ---- the world
+
+module _ (plan : PlanValue) (files : PlayFiles) (handles : List Handle) (w : World) (B : IsStage (assembly_of plan files) (Joining (length plan.joints)) handles w) where
+
+  module _ (place : ℕ) (part : PartLine) (a : Component) (e : slice_get plan.parts place ≡ Some part) (f : slice_get w.components place ≡ Some a) where
+    -- the stream of the component's file
+    pub opening_stream : stream_of (number_of a) w ≡ Some (stream_by (file_at plan files place) place)
+    opening_stream =
+        let S = B.sound in
+        let V = B.built in
+        let b = slice_get_within w.components place a f in
+        let m = V.many in
+        let many : length w.streams ≡ length plan.parts = sym (length-map w.streams (λ (y : Stream). y.component)) ∙ (ap length S.streams ∙ (length-map w.components number_of ∙ m)) in
+        let number = (V.components.each place a f).number in
+        let found = stream_found w.streams 0 place (λ j st g.
+        let l = slice_get_within w.streams j st g in
+        let z : Some st ≡ Some (stream_by (file_by (assembly_of plan files) true j) j) = sym g ∙ V.streams j (omega arith) in
+        let is : st ≡ stream_by (file_by (assembly_of plan files) true j) j = cc in
+        ap (λ (y : Stream). y.component) is ∙ (stream_component (file_by (assembly_of plan files) true j) j ∙ (let o : j ≡ 0 + j = omega arith in o)))
+        in
+        ap (λ (n : ℕ). stream_of n w) (number ∙ (let o : place ≡ 0 + place = omega arith in o)) ∙ (found ∙ V.streams place (omega arith))
+
+  -- what the file of a sink told when it came
+  pub opening_known : (place : ℕ) (name : List ℕ) → IsWriter plan.parts place name → (st : Stream) → stream_of place w ≡ Some st → st.known ≡ files.known place
+  opening_known place name (part, e, writes) st g =
+      let m = (B.built).many in
+      let l = slice_get_within plan.parts place part e in
+      let a = get_there w.components place (omega arith) in
+      let sink = writer_is_sink part.form name writes in
+      let own : file_at plan files place ≡ file_of (kind_of part.form) (slice_get files.heads (source_number plan.parts place)) (slice_index_or plan.frames place 0) (files.there place) (files.known place) =
+      ap (λ (o : Option PartLine). file_of (kind_in o) (slice_get files.heads (source_number plan.parts place)) (slice_index_or plan.frames place 0) (files.there place) (files.known place)) e
+      in
+      let number = ((B.built).components.each place a.0 a.1).number in
+      let z : Some st ≡ Some (stream_by (file_at plan files place) place) = sym g ∙ (ap (λ (n : ℕ). stream_of n w) (sym number) ∙ opening_stream place part a.0 e a.1) in
+      let is : st ≡ stream_by (file_at plan files place) place = cc in
+      ap (λ (y : Stream). y.known) is ∙ (ap (λ o. (stream_by o place).known) own ∙ known_of_sink (kind_of part.form) (slice_get files.heads (source_number plan.parts place)) (slice_index_or plan.frames place 0) (files.there place) (files.known place) place sink)
 
 module _ (plan : PlanValue) (files : PlayFiles) (samples : List (List ℕ)) (R : IsReady plan files) (early : HasNoLate plan) (F : AreSamples plan files samples) (handles : List Handle) (w : World)
     (B : IsStage (assembly_of plan files) (Joining (length plan.joints)) handles w) where
@@ -203,20 +249,7 @@ module _ (plan : PlanValue) (files : PlayFiles) (samples : List (List ℕ)) (R :
         λ i. record { kind = k i; inputs = inputs i; outputs = outputs i; factors = factors i; file = file i }
 
     stream_there : stream_of (number_of a) w ≡ Some (stream_by (file_at plan files place) place)
-    stream_there =
-        let S = B.sound in
-        let V = B.built in
-        let b = slice_get_within w.components place a f in
-        let m = V.many in
-        let many : length w.streams ≡ length plan.parts = sym (length-map w.streams (λ (y : Stream). y.component)) ∙ (ap length S.streams ∙ (length-map w.components number_of ∙ m)) in
-        let number = (built.each place a f).number in
-        let found = stream_found w.streams 0 place (λ j st g.
-        let l = slice_get_within w.streams j st g in
-        let z : Some st ≡ Some (stream_by (file_by s true j) j) = sym g ∙ V.streams j (omega arith) in
-        let is : st ≡ stream_by (file_by s true j) j = cc in
-        ap (λ (y : Stream). y.component) is ∙ (stream_component (file_by s true j) j ∙ (let o : j ≡ 0 + j = omega arith in o)))
-        in
-        ap (λ (n : ℕ). stream_of n w) (number ∙ (let o : place ≡ 0 + place = omega arith in o)) ∙ (found ∙ V.streams place (omega arith))
+    stream_there = opening_stream plan files handles w B place part a e f
 
     known_there : is_source (kind_of part.form) ≡ true → (stream_by (file_at plan files place) place).known ≡ Some (samples_at samples plan.parts place)
     known_there h =
