@@ -228,24 +228,15 @@ module _ {F : Type 0} (seen : F → FileSeen) (entries : List (Option F)) where
           own.sinks place other x.1.0 x.1.1 (subst (λ (n : List ℕ). IsWriter parts other n) (sym nb ∙ (sym e ∙ na)) y.1.1)
 
       -- a sink that was opened and closed again has a new file
-      pub emptied : (mid new : Outside) (result : Result (Unit {0}) Failed) → mid.file ≡ old.file → AreClosed (files_seen seen entries) mid new result → AreEmptied parts old new
+      pub emptied : (mid new : Outside) (result : Result (Unit {0}) Failed) → mid.file ≡ old.file → AreClosed (files_seen seen entries) mid new result → AreEmptied parts count old new
       emptied mid new result same C = record {
-        sinks = λ place name (part, e, wr). elim (cases_lt place count) [
-          | inl lt ↦
-              let h = O.first place part lt e in
-              let o = sink_of old (slice_index_or planned place 0) name (option_map seen h.0) (open_writes old (slice_get heads (source_number parts place)) (slice_index_or planned place 0) part.form name (option_map seen h.0) wr h.2) in
-              let at : IsSinkAt (files_seen seen entries) place o.0 = (o.1, slice_get_mapped (option_map seen) entries place h.0 h.1 ∙ ap Some o.2) in
-              let front = C.front are_apart place o.0 at [] ((o.3).told tells) in
-              inr (ap new.file (sym ((o.3).name_is tells)) ∙ (front.1 ∙ ap Some (take_none front.0 [] refl)))
-          | inr le ↦ inl (
-              C.others name (λ other sink at is.
-              (let x = sink_here other sink at in
-              let same : other ≡ place = own.sinks other place name (subst (λ (n : List ℕ). IsWriter parts other n) (sym ((x.1.2).name_is tells) ∙ is) x.1.1) (part, e, wr) in
-              let b = x.0 in
-              omega (arith, same, b, le)))
-              ∙ ap (λ (f : List ℕ → Option (List ℕ)). f name) same)
-        ];
-        others = λ name none. C.others name (λ place sink at is. (let x = sink_here place sink at in none place (subst (λ (n : List ℕ). IsWriter parts place n) (sym ((x.1.2).name_is tells) ∙ is) x.1.1))) ∙ ap (λ (f : List ℕ → Option (List ℕ)). f name) same;
+        sinks = λ place name lt (part, e, wr).
+            (let h = O.first place part lt e in
+            let o = sink_of old (slice_index_or planned place 0) name (option_map seen h.0) (open_writes old (slice_get heads (source_number parts place)) (slice_index_or planned place 0) part.form name (option_map seen h.0) wr h.2) in
+            let at : IsSinkAt (files_seen seen entries) place o.0 = (o.1, slice_get_mapped (option_map seen) entries place h.0 h.1 ∙ ap Some o.2) in
+            let front = C.front are_apart place o.0 at [] ((o.3).told tells) in
+            ap new.file (sym ((o.3).name_is tells)) ∙ (front.1 ∙ ap Some (take_none front.0 [] refl)));
+        others = λ name none. C.others name (λ place sink at is. (let x = sink_here place sink at in none place x.0 (subst (λ (n : List ℕ). IsWriter parts place n) (sym ((x.1.2).name_is tells) ∙ is) x.1.1))) ∙ ap (λ (f : List ℕ → Option (List ℕ)). f name) same;
       }
 
 -- ---- a fault, once what was open is closed

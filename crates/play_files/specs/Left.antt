@@ -9,7 +9,7 @@ use Rattle.play_forms.specs.declared.plan_fault.PlanFault.{PlanFault}
 use Rattle.play_forms.specs.Parts.{source_number}
 use Rattle.play_forms.specs.Plans.{IsFaultOfScript, IsFit, IsFitFault, IsFitted, IsPlanOfScript, PlanValue}
 use Rattle.play_openings.specs.Assemblies.{PlayFiles}
-use Rattle.play_results.specs.Files.{AreFiles, IsNoSink, IsReader, IsWriter, written_by}
+use Rattle.play_results.specs.Files.{AreFiles, IsReader, IsWriter, written_by}
 use Rattle.play_files.specs.Faults.{fault_of_plan}
 use Rattle.play_files.specs.Opening.{HasHead, IsSinkFault, IsSourceMet, IsStill}
 
@@ -43,10 +43,10 @@ pub record IsUnfit (planned : PlanValue) (old new : Outside) (fault : Fault) : T
   pub told : fault ≡ fault_of_plan why
   pub still : IsStill old new
 
--- each sink's name is as before, or holds a new file, and each other name is as before
-pub record AreEmptied (parts : List PartLine) (old new : Outside) : Type 0 where
-  pub sinks : (place : ℕ) (name : List ℕ) → IsWriter parts place name → (new.file name ≡ old.file name) ⊎ (new.file name ≡ Some [])
-  pub others : (name : List ℕ) → IsNoSink parts name → new.file name ≡ old.file name
+-- the name of each sink before the place holds a new file, and each other name is as before
+pub record AreEmptied (parts : List PartLine) (count : ℕ) (old new : Outside) : Type 0 where
+  pub sinks : (place : ℕ) (name : List ℕ) → place < count → IsWriter parts place name → new.file name ≡ Some []
+  pub others : (name : List ℕ) → ((place : ℕ) → place < count → IsWriter parts place name → ⊥) → new.file name ≡ old.file name
 
 -- a sink wasn't opened, and those before it were
 pub record IsUnwritten (planned : PlanValue) (old new : Outside) (fault : Fault) : Type 0 where
@@ -63,7 +63,7 @@ pub record IsUnwritten (planned : PlanValue) (old new : Outside) (fault : Fault)
   pub name : List ℕ
   pub writes : written_by part.form ≡ Some name
   pub why : IsSinkFault part.line name old new fault
-  pub left : IsTrue old.tells → AreEmptied plan.parts old new
+  pub left : IsTrue old.tells → AreEmptied plan.parts place old new
 
 -- why the files of a play aren't open, and what is left
 abbrev pub IsUnopened : Script → Outside → Outside → Fault → Type 0
