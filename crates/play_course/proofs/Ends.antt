@@ -243,8 +243,8 @@ module _ {F : Type 0} (seen : F → FileSeen) (script : Script) (name log : List
       }
 
       pub unlogged : (final : Outside) (fault : Fault) → (IsTrue old.tells → SameBut log new final) → (IsTrue old.tells → IsKeptOrFrontOf (new.file log) (final.file log) it.text.items) → IsLogFault log old final fault
-          → IsUnlogged script log old final fault
-      unlogged final fault same front why = record {
+          → (fault ≢ Faults.WriteFault → final.file log ≡ new.file log) → IsUnlogged script log old final fault
+      unlogged final fault same front why kept = record {
         plan = plan;
         files = play_files seen O.heads entries;
         opened = was_opened seen script name log old mid plan entries O own;
@@ -260,6 +260,7 @@ module _ {F : Type 0} (seen : F → FileSeen) (script : Script) (name log : List
               front = elim (front tells) [ inl k ↦ inl (k ∙ log_before final tells (same tells)) | inr k ↦ inr k ];
               others = others_kept final tells (same tells);
             });
+        unmade = λ tells n. kept n ∙ log_before final tells (same tells);
       }
 
 -- why the log wasn't written
@@ -274,3 +275,9 @@ log_why log text old new final Refusals.Absent on S R read stands =
     )
 log_why log text old new final Refusals.Failed on S R read stands = (later old.write_faults new.write_faults final.write_faults on.write_faults R, read ∙ S.reads)
 log_why log text old new final Refusals.OutOfMemory on S R read stands = tt
+
+-- unless a write failed, its name is as before
+pub unmade_by : (log : List ℕ) (new final : Outside) (refused : Refused) → HasWriteReason log new final refused → fault_of_log refused ≢ Faults.WriteFault → final.file log ≡ new.file log
+unmade_by log new final Refusals.Absent R n = ap (λ (f : List ℕ → Option (List ℕ)). f log) R.2
+unmade_by log new final Refusals.Failed R n = absurd (n refl)
+unmade_by log new final Refusals.OutOfMemory R n = ap (λ (f : List ℕ → Option (List ℕ)). f log) R

@@ -1,5 +1,5 @@
 -- What a play comes to.
-use Rattle.std.specs.Prelude.{◌≡◌, ◌⊎◌, ℕ, false, List, slice_get, Some, IsTrue}
+use Rattle.std.specs.Prelude.{◌≡◌, ◌≢◌, ◌⊎◌, ℕ, false, List, slice_get, Some, IsTrue}
 use Rattle.omx_types.specs.declared.fault.Fault.{Fault}
 use Rattle.omx_types.specs.declared.fault.Fault.TheVariants as Faults
 use Rattle.omx_types.specs.declared.fault.Which.TheVariants.{Line, Log}
@@ -105,6 +105,7 @@ pub record IsUnlogged (script : Script) (log : List ℕ) (old new : Outside) (fa
   pub opened : WasOpened script old plan files
   pub why : IsLogFault log old new fault
   pub left : IsTrue old.tells → IsLogLeft log plan files old new
+  pub unmade : IsTrue old.tells → fault ≢ Faults.WriteFault → new.file log ≡ old.file log
 
 -- why a play wasn't done whole, and what it left: its files weren't opened, its run failed, or its log wasn't written
 abbrev pub IsUndone : Script → List ℕ → Outside → Outside → Fault → Type 0

@@ -12,7 +12,7 @@ use Rattle.play_files.proofs.OwnFiles.{own_files}
 use Rattle.play_course.specs.Courses.{HasEnded}
 use Rattle.play_course.specs.Outcomes.{IsUndone}
 use Rattle.play_course.specs.Settling.{parts_of}
-use Rattle.play_course.proofs.Ends.{broken, done, goes, log_why, stand, unlogged}
+use Rattle.play_course.proofs.Ends.{broken, done, goes, log_why, stand, unlogged, unmade_by}
 use Rattle.play_course.proofs.course.play_script.Goals as goal
 
 its_parts : (script : Script) (planned : PlanValue) (parts : List PartLine) → IsPlanOfScript script planned → parts ≡ planned.parts → parts_of script ≡ parts
@@ -96,4 +96,5 @@ returns-clause-undone g c =
     (inr (inr (unlogged seen script R.0 log old mid new plan files O own c.run_and_close.result H c.in-Ok-run_and_close.ran c.in-Ok-run_and_close.is final _
     (λ tells. c.write_whole.ensures.others (on.tells ∙ tells))
     (λ tells. subst (λ (text : List ℕ). IsKeptOrFrontOf (new.file log) (final.file log) text) c.as_slice.ensures.value (e.front (on.tells ∙ tells)))
-    (log_why log c.as_slice.result.now old new final refused on S e.reason e.read_faults (λ n. e.write_stands (λ same. n (cc)))))))
+    (log_why log c.as_slice.result.now old new final refused on S e.reason e.read_faults (λ n. e.write_stands (λ same. n (cc))))
+    (unmade_by log new final refused e.reason))))
