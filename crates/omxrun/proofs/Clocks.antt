@@ -1,9 +1,8 @@
 -- What the run of a clock's script comes to.
-use Rattle.std.proofs.Common.{◌≡◌, ◌≢◌, ◌⊎◌, inl, inr, ℕ, ◌<◌, ◌≤◌, List, [], length, Option, Some, Result, Ok, Err, OnOk, IfErr, IsTrue, IsSome, ap, sym, subst, refl, ◌∙◌, arith}
+use Rattle.std.proofs.Common.{◌≡◌, ◌≢◌, ◌⊎◌, inl, inr, ℕ, ◌<◌, List, length, Option, Some, Result, Ok, Err, OnOk, IfErr, IsTrue, IsSome, ap, sym, subst, refl, ◌∙◌, arith}
 use Rattle.std.specs.Io.KnownBytes.{append_known}
 use Rattle.outside_io.specs.Causes.{Rose}
 use Rattle.outside_io.specs.Files.{Outside}
-use Rattle.outside_io.specs.Moves.{AppendsFront}
 use Rattle.outside_io.specs.Whole.{HasReadReason, WasOpened}
 use Rattle.outside_io.specs.declared.whole.Unread.{Unread}
 use Rattle.outside_io.specs.declared.whole.Unread.TheVariants as Unreads
@@ -18,15 +17,13 @@ use Rattle.clock_core.specs.Printed.{clock_text, IsStopped}
 use Rattle.clock_core.specs.Script.{IsFaulty, IsScript}
 use Rattle.clock_core.proofs.OneFault.{one-fault, script-no_fault}
 use Rattle.omxrun.specs.Asked.{IsGiven, IsFaultless, IsOrMemory}
-use Rattle.omxrun.specs.Clocked.{RunsTo, IsClockIn, IsClockOf, IsClockOutcome, HasClockReason, CanClock, IsUnclocked}
-use Rattle.omxrun.specs.Faults.{fault_of_trace_script}
+use Rattle.omxrun.specs.Clocked.{RunsTo, IsClockOf, IsClockOutcome, HasClockReason, CanClock, IsUnclocked}
+use Rattle.omxrun.specs.Faults.{fault_of_script}
 use Rattle.omxrun.specs.Reasons.{CountsStand}
 use Rattle.omxrun.specs.Texts.{fault_line}
 use Rattle.omxrun.specs.Told.{IsPrinted, status_of}
-use Rattle.omxrun.specs.Traced.{HasScriptReason}
 use Rattle.omxrun.proofs.Causes.{on_ok}
-use Rattle.omxrun.proofs.Complete.{none-some, printed-status}
-use Rattle.omxrun.proofs.Outcomes.{same-text}
+use Rattle.omxrun.proofs.Complete.{none-some, printed-status, same-text}
 use Rattle.omxrun.proofs.Runs.{front-none}
 use Rattle.omxrun.proofs.Traces.{front-whole, unread-reason}
 
@@ -37,7 +34,7 @@ HasRunTo bytes old new before now status =
 
 -- ---- a script that wasn't read
 
-pub unread-clock : (name : List ℕ) (old new : Outside) (unread : Unread) → HasReadReason name 65536 old new unread → (IsTrue old.tells → WasOpened unread → IsSome (old.file name)) → (unread ≢ Unreads.Failed → new.read_faults ≡ old.read_faults) → new.write_faults ≡ old.write_faults → HasClockReason name old new (fault_of_trace_script unread)
+pub unread-clock : (name : List ℕ) (old new : Outside) (unread : Unread) → HasReadReason name 65536 old new unread → (IsTrue old.tells → WasOpened unread → IsSome (old.file name)) → (unread ≢ Unreads.Failed → new.read_faults ≡ old.read_faults) → new.write_faults ≡ old.write_faults → HasClockReason name old new (fault_of_script unread)
 unread-clock name old new Unreads.Absent reason there stands writes = unread-reason name old new Unreads.Absent reason there stands writes
 unread-clock name old new Unreads.Failed reason there stands writes = unread-reason name old new Unreads.Failed reason there stands writes
 unread-clock name old new (Unreads.TooLong size) reason there stands writes = λ tells.

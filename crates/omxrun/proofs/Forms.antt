@@ -3,7 +3,7 @@ use Rattle.std.proofs.Common.{◌≡◌, ℕ, ◌<◌, ◌^◌, List, [], ◌∷
 use Rattle.std.specs.Fmt.{decimal}
 use Rattle.std.specs.Str.Parse.{digits_value}
 use Rattle.std.proofs.lemmas.Fmt.{decimal_is_IsNumeral}
-use Rattle.omxrun.specs.Words.{Asked, to_trace, to_play, to_make, to_clock, to_pack, to_unpack, AreWordsOf, AreNoForm, IsAllowed, words_for, IsPlay, IsMake, ArePair}
+use Rattle.omxrun.specs.Words.{Asked, to_trace, to_play, to_make, to_clock, to_pack, to_unpack, AreWordsOf, AreNoForm, IsAllowed, words_for, IsPlay, IsMake}
 
 -- the first byte of the first word
 abbrev first_byte : List (List ℕ) → ℕ

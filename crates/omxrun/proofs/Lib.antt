@@ -2,14 +2,14 @@ pub mod Causes
 pub mod Clocks
 pub mod Commands
 pub mod Complete
+pub mod Files
 pub mod Forms
-pub mod Fronts
+pub mod Lefts
 pub mod Makes
 pub mod Moves
 pub mod Outcomes
+pub mod PlayEnds
 pub mod Runs
-pub mod Sounds
 pub mod Traces
 pub mod TurnEnds
-pub mod Tunnels
 pub mod Turns

@@ -1,10 +1,9 @@
 -- What packing and unpacking the files that were opened come to.
-use Rattle.std.proofs.Common.{◌≡◌, ◌≢◌, ◌⊎◌, inl, inr, ℕ, ◌≤◌, ◌<◌, List, [], length, Option, Some, Result, Ok, Err, OnOk, OnErr, IfOk, IfErr, IsTrue, IsSome, ap, sym, subst, refl, ◌∙◌, arith}
+use Rattle.std.proofs.Common.{◌≡◌, ◌⊎◌, inl, inr, ℕ, ◌≤◌, List, [], length, Option, Some, Result, Ok, Err, OnOk, OnErr, IfOk, IfErr, IsTrue, IsSome, ap, sym, subst, refl, ◌∙◌, arith}
 use Rattle.std.specs.Io.KnownBytes.{append_known}
 use Rattle.outside_io.specs.Causes.{Rose, sum_of_counts}
 use Rattle.outside_io.specs.Files.{Outside, GoesOn, SameBut, IsFrontOf}
 use Rattle.outside_io.specs.Moves.{AppendsFront, WhereTold}
-use Rattle.outside_io.specs.Stops.{GaveNothing}
 use Rattle.outside_io.proofs.Closed.{told_value}
 use Rattle.omx_types.specs.declared.fault.Fault.{Fault}
 use Rattle.omx_types.specs.declared.fault.Fault.TheVariants as Faults
@@ -21,7 +20,7 @@ use Rattle.wav_form.specs.Reading.{Reads}
 use Rattle.wav_form.specs.declared.heads.WavHead.{WavHead}
 use Rattle.omxrun.specs.Packets.{IsShortFile, IsWholeOrShort, fault_of_rtp, packing_done, unpacking_done, with_text, PacksTo, UnpacksTo, StoppedUnpacking}
 use Rattle.omxrun.specs.Reasons.{CountsStand}
-use Rattle.omxrun.specs.Turned.{Written, Giving, Stopping, IsAlone, text_in}
+use Rattle.omxrun.specs.Turned.{Giving, Stopping, IsAlone, text_in}
 use Rattle.omxrun.specs.declared.done.Done.{Done}
 use Rattle.omxrun.proofs.Causes.{later}
 use Rattle.omxrun.proofs.Turns.{IsOfBytes, IsMoved, HasMoveReason, IsClosed, at-name}

@@ -23,12 +23,11 @@ use Rattle.script_lang.specs.declared.script.Script.{Script}
 use Rattle.script_lang.specs.declared.script.ScriptFault.{ScriptFault}
 use Rattle.trace_run.specs.Traced.{GotTrace, GotFront, GotLines, IsStopped}
 use Rattle.omxrun.specs.Asked.{IsGiven, CanTrace, IsUntraced, IsFaultless, IsOrMemory}
-use Rattle.omxrun.specs.Faults.{fault_of_trace_script}
+use Rattle.omxrun.specs.Faults.{fault_of_script}
 use Rattle.omxrun.specs.Texts.{fault_line}
 use Rattle.omxrun.specs.Told.{IsPrinted, status_of}
 use Rattle.omxrun.specs.Traced.{HasScriptReason, TracesTo, IsTraceOf, IsTraceOutcome}
-use Rattle.omxrun.proofs.Complete.{none-some, printed-status}
-use Rattle.omxrun.proofs.Outcomes.{same-text}
+use Rattle.omxrun.proofs.Complete.{none-some, printed-status, same-text}
 
 -- ---- fronts of a text and what follows it
 
@@ -50,7 +49,7 @@ front-behind old mid new text more behind (k, within, is) =
 
 -- ---- a script that wasn't read
 
-pub unread-reason : (name : List ℕ) (old new : Outside) (unread : Unread) → HasReadReason name 65536 old new unread → (IsTrue old.tells → WasOpened unread → IsSome (old.file name)) → (unread ≢ Unreads.Failed → new.read_faults ≡ old.read_faults) → new.write_faults ≡ old.write_faults → HasScriptReason name old new (fault_of_trace_script unread)
+pub unread-reason : (name : List ℕ) (old new : Outside) (unread : Unread) → HasReadReason name 65536 old new unread → (IsTrue old.tells → WasOpened unread → IsSome (old.file name)) → (unread ≢ Unreads.Failed → new.read_faults ≡ old.read_faults) → new.write_faults ≡ old.write_faults → HasScriptReason name old new (fault_of_script unread)
 unread-reason name old new Unreads.Absent reason there stands writes = reason
 unread-reason name old new Unreads.Failed reason there stands writes = reason
 unread-reason name old new (Unreads.TooLong size) reason there stands writes = λ tells.

@@ -1,6 +1,5 @@
 -- Where all is told and no count rises, what turning a file comes to.
-use Rattle.std.proofs.Common.{◌≡◌, ◌⊎◌, inl, inr, ℕ, ◌≤◌, List, length, Option, Some, Result, Ok, Err, IsTrue, IsFalse, Bool, ap, sym, subst, refl, ◌∙◌, arith}
-use Rattle.outside_io.specs.Causes.{Rose}
+use Rattle.std.proofs.Common.{◌≡◌, inl, inr, ℕ, ◌≤◌, List, length, Option, Some, Result, Ok, Err, IsTrue, IsFalse, Bool, ap, sym, subst, refl, ◌∙◌, arith}
 use Rattle.outside_io.specs.Files.{Outside}
 use Rattle.omx_types.specs.declared.fault.Fault.{Fault}
 use Rattle.omx_types.specs.declared.fault.Fault.TheVariants as Faults
@@ -9,15 +8,13 @@ use Rattle.omx_types.specs.declared.fault.WavFault.{WavFault}
 use Rattle.omx_types.specs.declared.fault.Status.{Status}
 use Rattle.omx_types.specs.declared.fault.Status.TheVariants as Statuses
 use Rattle.rtp_parts.specs.Answers.{StoppedPacking, packing_of, counts_of, packets_file}
-use Rattle.wav_form.specs.Reading.{Reads}
 use Rattle.wav_form.specs.declared.heads.WavHead.{WavHead}
 use Rattle.omxrun.specs.Asked.{IsFaultless, IsOrMemory}
 use Rattle.omxrun.specs.Packets.{PacksTo, UnpacksTo, StoppedUnpacking, packing_done, with_text}
 use Rattle.omxrun.specs.Told.{IsTold, status_of}
 use Rattle.omxrun.specs.Turned.{Written, Giving, Stopping, Comes, HasTurnReason, IsTurnOutcome, CanTurn}
 use Rattle.omxrun.specs.declared.done.Done.{Done}
-use Rattle.omxrun.proofs.Complete.{ReadsOnce, none-some, told-status}
-use Rattle.omxrun.proofs.Outcomes.{same-text}
+use Rattle.omxrun.proofs.Complete.{ReadsOnce, none-some, same-text, told-status}
 
 abbrev GivesOnce : Giving → Type 0
 GivesOnce Gives = (bytes : List ℕ) (one other : Result Written Fault) → Gives bytes one → Gives bytes other → one ≡ other

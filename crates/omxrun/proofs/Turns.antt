@@ -1,7 +1,5 @@
 -- What comes of the files where one is turned into another.
-use Rattle.std.proofs.Common.{◌≡◌, ◌⊎◌, inl, inr, ℕ, ◌≤◌, List, [], length, take, Option, Some, None, Result, Ok, Err, OnOk, OnErr, IfOk, IfErr, IsTrue, IsSome, ap, sym, subst, refl, ◌∙◌, arith}
-use Rattle.std.specs.Io.KnownBytes.{append_known}
-use Rattle.std.proofs.Math.Seq.{take-length}
+use Rattle.std.proofs.Common.{◌≡◌, ◌⊎◌, inl, inr, ℕ, List, [], length, take, Option, Some, Result, Ok, Err, OnOk, OnErr, IfOk, IfErr, IsTrue, ap, sym, subst, ◌∙◌}
 use Rattle.outside_io.specs.Causes.{Rose}
 use Rattle.outside_io.specs.Files.{Outside, SameBut, IsFrontOf}
 use Rattle.outside_io.specs.Moves.{AppendsFront, WhereTold}
@@ -11,7 +9,7 @@ use Rattle.omx_types.specs.declared.fault.Fault.TheVariants as Faults
 use Rattle.omx_types.specs.declared.fault.Which.TheVariants as Files
 use Rattle.omxrun.specs.Opened.{HasOpenReason}
 use Rattle.omxrun.specs.Reasons.{CountsStand}
-use Rattle.omxrun.specs.Turned.{Written, Giving, Stopping, text_in, Comes, IsTurned, IsKeptOrBegun, HasTurnReason, IsAlone, IsUnopened, IsTurnOutcome}
+use Rattle.omxrun.specs.Turned.{Written, Giving, Stopping, text_in, Comes, HasTurnReason, IsAlone, IsUnopened, IsTurnOutcome}
 use Rattle.omxrun.specs.declared.done.Done.{Done}
 
 -- ---- files that weren't opened

@@ -1,5 +1,5 @@
 -- When a command comes to its end, and which fault it must tell.
-use Rattle.std.specs.Prelude.{◌≡◌, ◌⊎◌, ℕ, ◌≤◌, List, length, Some, IsFalse, IsTrue, Ok, Err}
+use Rattle.std.specs.Prelude.{◌≡◌, ◌≢◌, ◌⊎◌, ℕ, ◌<◌, ◌≤◌, List, length, slice_get, Some, IsFalse, IsTrue, Ok, Err}
 use Rattle.outside_io.specs.Causes.{Rose}
 use Rattle.outside_io.specs.Files.{Outside}
 use Rattle.omx_types.specs.declared.fault.Fault.TheVariants.{OutOfMemory}
@@ -9,11 +9,20 @@ use Rattle.omx_types.specs.declared.fault.Status.TheVariants.{Fault}
 use Rattle.omx_types.specs.declared.fault.ScriptWhy.{ScriptWhy}
 use Rattle.load_gen.specs.Script.{first_name, second_name, script_name}
 use Rattle.script_lang.specs.LineByLine.{fault_at}
+use Rattle.script_lang.specs.PlayScripts.{IsPlayScript, PlayReadsAs}
 use Rattle.script_lang.specs.Scripts.{IsScript, ReadsAs}
+use Rattle.script_lang.specs.declared.play_line.PartLine.{PartLine}
 use Rattle.script_lang.specs.declared.script.Script.{Script}
 use Rattle.wav_form.specs.declared.heads.WavHead.{WavHead}
 use Rattle.wav_form.specs.Reading.{Reads}
-use Rattle.omxrun.specs.Script.{IsTunnel, IsNoTunnel}
+use Rattle.play_forms.specs.declared.plan_fault.PlanFault.{PlanFault}
+use Rattle.play_forms.specs.declared.plan_fault.PlanFault.TheVariants as Plans
+use Rattle.play_forms.specs.Plans.{IsFaultOfScript, IsFitFault, IsFitted, IsPlanOfScript, PlanValue}
+use Rattle.play_results.specs.Files.{IsReader, IsWriter, read_by}
+use Rattle.play_files.specs.Left.{HaveHeads}
+use Rattle.play_course.specs.Outcomes.{HasNoLateLine}
+use Rattle.play_course.specs.Settling.{parts_of}
+use Rattle.omxrun.specs.Plays.{HasLateIn}
 use Rattle.omxrun.specs.Words.{Asked, to_trace, to_play, to_make, to_clock, to_pack, to_unpack}
 
 -- the forms of words that aren't built yet: a play by workers
@@ -32,38 +41,67 @@ pub record IsGiven (old : Outside) (name bytes : List ℕ) : Type 0 where
   pub told_end : old.ends name ≡ Some end
   pub whole : length bytes ≤ end
 
--- the script is told, given whole, and no form that is played
-pub record IsUnplayed (script log : List ℕ) (old : Outside) : Type 0 where
+-- the script is told and given whole, and is this one of a play
+pub record IsAsked (name log : List ℕ) (old : Outside) (script : Script) : Type 0 where
   pub tells : IsTrue old.tells
   pub text : List ℕ
-  pub given : IsGiven old script text
-  pub no_tunnel : IsNoTunnel script log text
+  pub given : IsGiven old name text
+  pub is : IsPlayScript name log text script
 
--- the script tunnels a source, and both are told and given whole
-pub record IsReadable (script log : List ℕ) (old : Outside) (source sink bytes : List ℕ) : Type 0 where
+-- it is told and given whole, and is none, by this fault
+pub record IsUnread (name log : List ℕ) (old : Outside) (line : ℕ) (why : ScriptWhy) : Type 0 where
   pub tells : IsTrue old.tells
-  pub text : List ℕ
-  pub given : IsGiven old script text
-  pub tunnel : IsTunnel script log text source sink
-  pub source_given : IsGiven old source bytes
-
--- the source's file has this fault
-pub record IsFaulty (script log : List ℕ) (old : Outside) (fault : WavFault) : Type 0 where
-  pub source : List ℕ
-  pub sink : List ℕ
   pub bytes : List ℕ
-  pub readable : IsReadable script log old source sink bytes
+  pub given : IsGiven old name bytes
+  pub refused : PlayReadsAs name log bytes (Err (fault_at line why))
+
+-- it has a late source
+pub record IsLate (name log : List ℕ) (old : Outside) : Type 0 where
+  pub script : Script
+  pub asked : IsAsked name log old script
+  pub late : HasLateIn (parts_of script)
+
+-- it has no plan, by this fault, which isn't want of memory
+pub record HasNoPlan (name log : List ℕ) (old : Outside) (why : PlanFault) : Type 0 where
+  pub script : Script
+  pub asked : IsAsked name log old script
+  pub early : HasNoLateLine script
+  pub is : IsFaultOfScript script why
+  pub shape : why ≢ Plans.OutOfMemory
+
+-- the file of that name is given to its end, and is valid
+abbrev pub IsSound : Outside → List ℕ → Type 0
+IsSound old name = (bytes : List ℕ) × (head : WavHead) × IsGiven old name bytes × Reads bytes (Ok head)
+
+-- the script's plan is there, and the source in that line has this fault; those before it are sound
+pub record IsFaulty (name log : List ℕ) (old : Outside) (line : ℕ) (fault : WavFault) : Type 0 where
+  pub script : Script
+  pub asked : IsAsked name log old script
+  pub early : HasNoLateLine script
+  pub plan : PlanValue
+  pub is_plan : IsPlanOfScript script plan
+  pub place : ℕ
+  pub part : PartLine
+  pub there : slice_get (parts_of script) place ≡ Some part
+  pub line_is : line ≡ part.line
+  pub file : List ℕ
+  pub reads_file : read_by part.form ≡ Some file
+  pub bytes : List ℕ
+  pub given : IsGiven old file bytes
   pub reads : Reads bytes (Err fault)
+  pub before : (other : ℕ) (file : List ℕ) → other < place → IsReader (parts_of script) other file → IsSound old file
 
--- the source's file is valid, and neither sink nor log is refused
-pub record CanPlay (script log : List ℕ) (old : Outside) : Type 0 where
-  pub source : List ℕ
-  pub sink : List ℕ
-  pub bytes : List ℕ
-  pub readable : IsReadable script log old source sink bytes
-  pub head : WavHead
-  pub reads : Reads bytes (Ok head)
-  pub sink_let_in : IsFalse (old.may_refuse sink)
+-- the script's plan is there and fits its sources, which are sound, and neither a sink nor the log is refused
+pub record CanPlay (name log : List ℕ) (old : Outside) : Type 0 where
+  pub script : Script
+  pub asked : IsAsked name log old script
+  pub early : HasNoLateLine script
+  pub plan : PlanValue
+  pub is_plan : IsPlanOfScript script plan
+  pub sources : (place : ℕ) (file : List ℕ) → IsReader (parts_of script) place file → IsSound old file
+  pub fits : (plan fitted : PlanValue) (heads : List WavHead) (why : PlanFault) → IsPlanOfScript script plan
+      → HaveHeads old plan.parts (length plan.parts) heads → IsFitted plan heads fitted → IsFitFault fitted why → ⊥
+  pub sinks_let_in : (place : ℕ) (file : List ℕ) → IsWriter (parts_of script) place file → IsFalse (old.may_refuse file)
   pub log_let_in : IsFalse (old.may_refuse log)
 
 -- the script is told and given whole, and is one

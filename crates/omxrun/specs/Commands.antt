@@ -9,7 +9,7 @@ use Rattle.omxrun.specs.Clocked.{IsClockOutcome}
 use Rattle.omxrun.specs.Making.{IsMakeOutcome}
 use Rattle.rtp_parts.specs.Answers.{StoppedPacking}
 use Rattle.omxrun.specs.Packets.{PacksTo, UnpacksTo, StoppedUnpacking}
-use Rattle.omxrun.specs.Played.{IsOutcome}
+use Rattle.omxrun.specs.Plays.{IsPlayOutcome, IsToldOf}
 use Rattle.omxrun.specs.Told.{IsPrinted, IsTold, status_of}
 use Rattle.omxrun.specs.Traced.{IsTraceOutcome}
 use Rattle.omxrun.specs.Turned.{IsTurnOutcome}
@@ -22,7 +22,7 @@ HasRun (to_trace script) old new told told_new before now status =
     (outcome : Result (Unit {0}) Fault) × (text : List ℕ) × IsTraceOutcome script old new outcome text
     × IsPrinted (status_of outcome) text told told_new before now status
 HasRun (to_play script workers log) old new told told_new before now status =
-    (workers ≡ 0 → (outcome : Result Done Fault) × IsOutcome script log old new outcome × IsTold outcome told told_new before now status)
+    (workers ≡ 0 → (outcome : Result (List ℕ) Fault) × IsPlayOutcome script log old new outcome × IsToldOf outcome told told_new before now status)
     × (1 ≤ workers → (new ≡ old) × IsTold (Err (NotBuilt Unbuilts.Words)) told told_new before now status)
 HasRun (to_make seed frames folder) old new told told_new before now status =
     (outcome : Result Done Fault) × IsMakeOutcome seed frames folder old new outcome × IsTold outcome told told_new before now status

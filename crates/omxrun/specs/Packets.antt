@@ -1,13 +1,13 @@
 -- What packing and unpacking a file's bytes give.
-use Rattle.std.specs.Prelude.{◌≡◌, ℕ, List, length, Option, Result, Ok, Err}
+use Rattle.std.specs.Prelude.{◌≡◌, ℕ, List, Option, Result, Ok, Err}
 use Rattle.outside_io.specs.Stops.{GaveNothing}
 use Rattle.omx_types.specs.declared.fault.Fault.{Fault}
 use Rattle.omx_types.specs.declared.fault.Fault.TheVariants as Faults
 use Rattle.omx_types.specs.declared.fault.PacketsWhy.TheVariants as Whys
 use Rattle.omx_types.specs.declared.fault.Which.TheVariants.{Input}
 use Rattle.omx_types.specs.declared.fault.WavFault.{WavFault}
-use Rattle.rtp_parts.specs.Answers.{Packing, packing_of, counts_of, packets_file, unpacked_counts}
-use Rattle.rtp_parts.specs.Unpacking.{Unpacking, unpacked, wav_of}
+use Rattle.rtp_parts.specs.Answers.{packing_of, counts_of, packets_file, unpacked_counts}
+use Rattle.rtp_parts.specs.Unpacking.{unpacked, wav_of}
 use Rattle.rtp_parts.specs.declared.fault.RtpFault.{RtpFault}
 use Rattle.rtp_parts.specs.declared.fault.RtpFault.TheVariants as RtpFaults
 use Rattle.rtp_parts.specs.declared.packing.Packed.{Packed}

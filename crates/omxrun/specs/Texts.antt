@@ -91,11 +91,6 @@ fault_text (Faults.NotRun line why) = codes "no: log line " ++ (decimal line ++ 
 abbrev pub fault_line : Fault → List ℕ
 fault_line fault = fault_text fault ++ codes "\n"
 
--- what is printed after a play of one sink, which the script names `b`
-abbrev pub played_text : ℕ → ℕ → List ℕ
-played_text frames bytes =
-    codes "sink b " ++ (decimal frames ++ (codes " frames " ++ (decimal bytes ++ codes " bytes\nok\n")))
-
 -- what is printed after files were made
 abbrev pub made_text : ℕ → List ℕ
 made_text frames = codes "made " ++ (decimal frames ++ codes " frames\n")

@@ -1,6 +1,6 @@
 -- What comes of the files where a command turns one into another. `Gives` says of each file's bytes what they come to: the
 -- other file's bytes and what is told of them, or a fault of these bytes. `Stops` says where a source may give nothing.
-use Rattle.std.specs.Prelude.{◌≡◌, ◌⊎◌, ℕ, ◌<◌, List, [], length, Option, Some, None, Result, Ok, Err, IsTrue, IsFalse, IsSome, IfOk, IfErr, OnOk, OnErr}
+use Rattle.std.specs.Prelude.{◌≡◌, ◌⊎◌, ℕ, List, [], length, Option, Some, None, Result, Ok, Err, IsTrue, IsFalse, IsSome, IfOk, IfErr, OnOk, OnErr}
 use Rattle.outside_io.specs.Causes.{Rose}
 use Rattle.outside_io.specs.Files.{Outside, SameBut, IsFrontOf}
 use Rattle.omx_types.specs.declared.fault.Fault.{Fault}

@@ -6,15 +6,14 @@ ghost use Rattle.std.specs.Vec.Iter.{into_iter_items};
 
 mod clock;
 mod done;
-mod files;
 mod making;
 mod packed_texts;
 mod packets;
 mod play;
 mod print;
 mod run;
-mod run_pair;
 mod script;
+mod summary;
 #[cfg(test)]
 mod tests;
 mod text;

@@ -1,84 +1,84 @@
-ghost use Rattle.std.specs.Prelude.{◌≡◌, ◌≢◌, IfOk, IfErr, OnErr, IsTrue};
+ghost use Rattle.std.specs.Prelude.{◌≡◌, ◌≤◌, ℕ, List, Result, IfOk, IfErr, OnOk};
 ghost use Rattle.outside_io.specs.Files.{GoesOn};
-ghost use Rattle.outside_io.specs.Whole.{HasReadReason, HasWriteReason};
-ghost use Rattle.omxrun.specs.Faults.{fault_of_script, fault_of_log};
-ghost use Rattle.omxrun.specs.Played.{IsOutcome, IsEndsOutcome};
-ghost use Rattle.omxrun.specs.Script.{AreApart};
+ghost use Rattle.script_lang.specs.PlayScripts.{IsPlayScript};
+ghost use Rattle.omxrun.specs.Plays.{HasPlayReason, IsPlayCourse, IsPlayOutcome, IsToldOf, WasRead};
+ghost use Rattle.omxrun.specs.Reasons.{CountsStand};
 
-use crate::done::Done;
-use crate::files::play_files;
-use crate::script::{SCRIPT_BYTES, ends_of};
-use omx_types::{Fault, Unbuilt, Which};
-use outside_io::{Media, Refused, Unread, read_whole, write_whole};
+use crate::print::{print, tell};
+use crate::script::{SCRIPT_BYTES, has_late, parts_of};
+use crate::summary::text_of_play;
+use crate::trace::{refused_fault, unread_fault};
+use omx_types::{Fault, Status, Unbuilt};
+use outside_io::{Media, Sink, read_whole};
+use play_course::{Player, play_script};
+use play_files::law_of_names;
+use script_lang::{Script, read_script};
 use std::alloc::Global;
 
-/// The log of a play.
-const LOG_TEXT: &[u8] = b"end\n";
-
-/// Plays the files that the script names, and writes the log.
-pub fn play<M: Media>(alloc: Global, media: &mut M, script: &str, log: &str) -> Result<Done, Fault>
-    ensures goes_on { GoesOn (M.outside media.old) (M.outside media.new) }
-    ensures outcome { IsOutcome script.now log.now (M.outside media.old) (M.outside media.new) result }
-{
-    let text = match read_whole(alloc, media, script, SCRIPT_BYTES) {
-        Ok(text) => text,
-        Err(unread) => return Err(script_fault(unread)),
-    };
-    match ends_of(&text, script, log) {
-        Some(ends) => play_ends(alloc, media, ends.source, ends.sink, log),
-        None => Err(Fault::NotBuilt {
-            what: Unbuilt::Script,
-        }),
-    }
-}
-
-/// Plays the source's file into the sink's, and writes the log.
-fn play_ends<M: Media>(
+/// Plays the script in the file of that name, and prints what is told of its sinks, or the line of a fault.
+pub fn play_file<M: Media, P: Player<M::Src, M::Snk>, O: Sink>(
     alloc: Global,
     media: &mut M,
-    source: &str,
-    sink: &str,
+    name: &str,
     log: &str,
-) -> Result<Done, Fault>
-    requires { sink.now ≢ log.now }
+    player: &mut P,
+    out: &mut O,
+) -> Status
     ensures goes_on { GoesOn (M.outside media.old) (M.outside media.new) }
-    ensures outcome { IsEndsOutcome source.now sink.now log.now (M.outside media.old) (M.outside media.new) result }
+    ensures later { O.faults out.old ≤ O.faults out.new }
+    ensures played { (outcome : Result (List ℕ) Fault) × IsPlayOutcome name.now log.now (M.outside media.old) (M.outside media.new) outcome
+        × IsToldOf outcome (O.told out.old) (O.told out.new) (O.faults out.old) (O.faults out.new) result }
 {
-    match play_files(alloc, media, source, sink) {
-        Ok(done) => match write_whole(alloc, media, log, LOG_TEXT) {
-            Ok(()) => Ok(done),
-            Err(refused) => Err(log_fault(refused)),
-        },
-        Err(fault) => Err(fault),
+    law_of_names();
+    match script_of(alloc, media, name, log) {
+        Ok(script) => play_read(alloc, media, &script, log, player, out),
+        Err(fault) => tell(Err(fault), out),
     }
 }
 
-/// What a script that wasn't read is for the play.
-fn script_fault(unread: Unread) -> Fault
-    ensures { result ≡ fault_of_script unread }
+/// The script of a play in the file of that name.
+fn script_of<M: Media>(alloc: Global, media: &mut M, name: &str, log: &str) -> Result<Script, Fault>
+    ensures goes_on { GoesOn (M.outside media.old) (M.outside media.new) }
+    ensures kept { (M.outside media.new).file ≡ (M.outside media.old).file }
+    ensures read { IfOk result (WasRead name.now log.now (M.outside media.old) (M.outside media.new)) }
+    ensures reason { IfErr result (HasPlayReason name.now log.now (M.outside media.old) (M.outside media.new)) }
 {
-    match unread {
-        Unread::Absent => Fault::Absent(Which::Script),
-        Unread::Failed => Fault::ReadFault,
-        Unread::TooLong { size: _ } => Fault::NotBuilt {
+    let text = match read_whole(alloc, media, name, SCRIPT_BYTES) {
+        Ok(text) => text,
+        Err(unread) => return Err(unread_fault(unread)),
+    };
+    match read_script(alloc, &text, true, name, log) {
+        Ok(script) => Ok(script),
+        Err(error) => Err(refused_fault(error)),
+    }
+}
+
+/// Plays a script. One with a late source isn't played yet.
+fn play_read<M: Media, P: Player<M::Src, M::Snk>, O: Sink>(
+    alloc: Global,
+    media: &mut M,
+    script: &Script,
+    log: &str,
+    player: &mut P,
+    out: &mut O,
+) -> Status
+    requires { (name : List ℕ) × (text : List ℕ) × IsPlayScript name log.now text script.now }
+    ensures goes_on { GoesOn (M.outside media.old) (M.outside media.new) }
+    ensures later { O.faults out.old ≤ O.faults out.new }
+    ensures played { (outcome : Result (List ℕ) Fault) × IsPlayCourse script.now log.now (M.outside media.old) (M.outside media.new) outcome
+        × IsToldOf outcome (O.told out.old) (O.told out.new) (O.faults out.old) (O.faults out.new) result }
+{
+    if has_late(parts_of(script)) {
+        let late = Fault::NotBuilt {
             what: Unbuilt::Script,
-        },
-        Unread::Short { at, size } => Fault::Short {
-            which: Which::Script,
-            at,
-            size,
-        },
-        Unread::OutOfMemory => Fault::OutOfMemory,
+        };
+        return tell(Err(late), out);
     }
-}
-
-/// What a log that wasn't written is for the play.
-fn log_fault(refused: Refused) -> Fault
-    ensures { result ≡ fault_of_log refused }
-{
-    match refused {
-        Refused::Absent => Fault::Absent(Which::Log),
-        Refused::Failed => Fault::WriteFault,
-        Refused::OutOfMemory => Fault::OutOfMemory,
+    match play_script(alloc, script, media, log, player) {
+        Ok(summary) => {
+            let text = text_of_play(parts_of(script), summary.sinks());
+            print(&text, Status::Ok, out)
+        }
+        Err(undone) => tell(Err(undone), out),
     }
 }

@@ -1,10 +1,10 @@
 ghost use Rattle.std.specs.Prelude.{◌≡◌, ◌≤◌, Result};
-ghost use Rattle.omxrun.specs.Told.{IsTold, outcome_text, status_of as status_of_outcome};
+ghost use Rattle.omxrun.specs.Told.{IsPrinted, IsTold, outcome_text, status_of as status_of_outcome};
 
 use crate::done::Done;
 use crate::packed_texts::{text_of_packed, text_of_unpacked};
 use crate::text::Text;
-use crate::texts::{text_of_fault, text_of_make, text_of_play};
+use crate::texts::{text_of_fault, text_of_make};
 use omx_types::{Fault, Status};
 use outside_io::{Sink, write_all};
 
@@ -13,14 +13,21 @@ pub fn tell<O: Sink>(outcome: Result<Done, Fault>, out: &mut O) -> Status
     ensures later { O.faults out.old ≤ O.faults out.new }
     ensures told { IsTold outcome (O.told out.old) (O.told out.new) (O.faults out.old) (O.faults out.new) result }
 {
-    let text = text_of(outcome);
+    print(&text_of(outcome), status_of(outcome), out)
+}
+
+/// Prints a text, which has this status where it is printed whole.
+pub fn print<O: Sink>(text: &Text, wanted: Status, out: &mut O) -> Status
+    ensures later { O.faults out.old ≤ O.faults out.new }
+    ensures printed { IsPrinted wanted text.now (O.told out.old) (O.told out.new) (O.faults out.old) (O.faults out.new) result }
+{
     let before = out.faults();
     let written = write_all(out, text.as_slice());
     let now = out.faults();
     match written {
         Ok(()) => {
             if now == before {
-                status_of(outcome)
+                wanted
             } else {
                 Status::Fault(Fault::WriteFault)
             }
@@ -33,7 +40,6 @@ fn text_of(outcome: Result<Done, Fault>) -> Text
     ensures { result ≡ outcome_text outcome }
 {
     match outcome {
-        Ok(Done::Played { frames, bytes }) => text_of_play(frames, bytes),
         Ok(Done::Made { frames }) => text_of_make(frames),
         Ok(Done::Packed(counts)) => text_of_packed(counts),
         Ok(Done::Unpacked(counts)) => text_of_unpacked(counts),

@@ -5,13 +5,15 @@ ghost use Rattle.omx_types.specs.declared.fault.Which.TheVariants.{Line};
 ghost use Rattle.omx_types.specs.declared.fault.ScriptWhy.{ScriptWhy};
 ghost use Rattle.omx_types.specs.declared.fault.WavFault.{WavFault};
 ghost use Rattle.omxrun.specs.declared.done.Done.{Done};
-ghost use Rattle.omxrun.specs.Asked.{IsUnbuilt, IsUntraced, CanTrace, IsUnplayed, IsFaulty, CanPlay, CanMake, IsFaultless, IsOrMemory};
+ghost use Rattle.play_forms.specs.declared.plan_fault.PlanFault.{PlanFault};
+ghost use Rattle.play_files.specs.Faults.{fault_of_plan};
+ghost use Rattle.omxrun.specs.Asked.{IsUnbuilt, IsUntraced, CanTrace, IsUnread, IsLate, HasNoPlan, IsFaulty, CanPlay, CanMake, IsFaultless, IsOrMemory};
 ghost use Rattle.omxrun.specs.Clocked.{IsClockOutcome, CanClock, IsUnclocked};
 ghost use Rattle.omxrun.specs.Commands.{HasRun};
 ghost use Rattle.omxrun.specs.Making.{IsMakeOutcome};
 ghost use Rattle.rtp_parts.specs.Answers.{StoppedPacking};
 ghost use Rattle.omxrun.specs.Packets.{PacksTo, UnpacksTo, StoppedUnpacking};
-ghost use Rattle.omxrun.specs.Played.{IsOutcome};
+ghost use Rattle.omxrun.specs.Plays.{IsPlayOutcome, IsToldOf};
 ghost use Rattle.omxrun.specs.Told.{IsPrinted, IsTold, status_of};
 ghost use Rattle.omxrun.specs.Traced.{IsTraceOutcome};
 ghost use Rattle.omxrun.specs.Turned.{Written, IsTurnOutcome, CanTurn};
@@ -21,13 +23,16 @@ use crate::clock::clock_file;
 use crate::done::Done;
 use crate::making::make_files;
 use crate::packets::{pack_file, unpack_file};
-use crate::play::play;
+use crate::play::play_file;
 use crate::print::tell;
 use crate::trace::trace_file;
 use crate::words::{Command, command_of};
 use omx_types::{Fault, Status, Unbuilt};
 use outside_io::{Media, Sink};
-use script_lang::one_outcome;
+use play_course::Player;
+use play_forms::law_of_plans;
+use play_thread::OneThread;
+use script_lang::{one_outcome, one_play};
 use std::alloc::Global;
 use std::sync::Wait;
 use std::thread::Threads;
@@ -56,9 +61,9 @@ pub fn run_words<R: Threads + Wait + Sync, M: Media, O: Sink>(
         × IsPrinted (status_of outcome) text (O.told out.old) (O.told out.new) (O.faults out.old) (O.faults out.new) result }
 
     // A play: what it came to, and what is printed of that.
-    ensures play { (script log : List ℕ) → AreWordsOf (map string_bytes words.now) (to_play script 0 log) → (outcome : Result Done Fault)
-        × IsOutcome script log (M.outside media.old) (M.outside media.new) outcome
-        × IsTold outcome (O.told out.old) (O.told out.new) (O.faults out.old) (O.faults out.new) result }
+    ensures play { (script log : List ℕ) → AreWordsOf (map string_bytes words.now) (to_play script 0 log) → (outcome : Result (List ℕ) Fault)
+        × IsPlayOutcome script log (M.outside media.old) (M.outside media.new) outcome
+        × IsToldOf outcome (O.told out.old) (O.told out.new) (O.faults out.old) (O.faults out.new) result }
 
     // Files that are made: what it came to, and what is printed of that.
     ensures make { (seed frames : ℕ) (folder : List ℕ) → AreWordsOf (map string_bytes words.now) (to_make seed frames folder) → (outcome : Result Done Fault)
@@ -85,12 +90,18 @@ pub fn run_words<R: Threads + Wait + Sync, M: Media, O: Sink>(
     ensures complete_trace { (script : List ℕ) → AreWordsOf (map string_bytes words.now) (to_trace script) →
         IsFaultless (M.outside media.old) (M.outside media.new) (O.faults out.old) (O.faults out.new) →
         CanTrace script (M.outside media.old) → IsOrMemory result Status.Ok }
+    ensures unread { (script log : List ℕ) (line : ℕ) (why : ScriptWhy) → AreWordsOf (map string_bytes words.now) (to_play script 0 log) →
+        IsFaultless (M.outside media.old) (M.outside media.new) (O.faults out.old) (O.faults out.new) →
+        IsUnread script log (M.outside media.old) line why → IsOrMemory result (Status.Fault (Fault.Script line why)) }
     ensures unplayed { (script log : List ℕ) → AreWordsOf (map string_bytes words.now) (to_play script 0 log) →
         IsFaultless (M.outside media.old) (M.outside media.new) (O.faults out.old) (O.faults out.new) →
-        IsUnplayed script log (M.outside media.old) → IsOrMemory result (Status.Fault (Fault.NotBuilt Unbuilt.Script)) }
-    ensures faulty { (script log : List ℕ) (fault : WavFault) → AreWordsOf (map string_bytes words.now) (to_play script 0 log) →
+        IsLate script log (M.outside media.old) → IsOrMemory result (Status.Fault (Fault.NotBuilt Unbuilt.Script)) }
+    ensures unplanned { (script log : List ℕ) (why : PlanFault) → AreWordsOf (map string_bytes words.now) (to_play script 0 log) →
         IsFaultless (M.outside media.old) (M.outside media.new) (O.faults out.old) (O.faults out.new) →
-        IsFaulty script log (M.outside media.old) fault → IsOrMemory result (Status.Fault (Fault.BadMedia (Line 2) fault)) }
+        HasNoPlan script log (M.outside media.old) why → IsOrMemory result (Status.Fault (fault_of_plan why)) }
+    ensures faulty { (script log : List ℕ) (line : ℕ) (fault : WavFault) → AreWordsOf (map string_bytes words.now) (to_play script 0 log) →
+        IsFaultless (M.outside media.old) (M.outside media.new) (O.faults out.old) (O.faults out.new) →
+        IsFaulty script log (M.outside media.old) line fault → IsOrMemory result (Status.Fault (Fault.BadMedia (Line line) fault)) }
     ensures complete { (script log : List ℕ) → AreWordsOf (map string_bytes words.now) (to_play script 0 log) →
         IsFaultless (M.outside media.old) (M.outside media.new) (O.faults out.old) (O.faults out.new) →
         CanPlay script log (M.outside media.old) → IsOrMemory result Status.Ok }
@@ -112,17 +123,20 @@ pub fn run_words<R: Threads + Wait + Sync, M: Media, O: Sink>(
 {
     one_answer();
     one_outcome();
+    one_play();
+    law_of_plans();
     match command_of(words) {
-        Some(command) => run_command(alloc, command, media, out),
+        Some(command) => run_command(alloc, command, media, &mut OneThread, out),
         None => tell(Err(Fault::Usage), out),
     }
 }
 
 /// Does what a command asks for, and prints what it came to.
-fn run_command<M: Media, O: Sink>(
+fn run_command<M: Media, P: Player<M::Src, M::Snk>, O: Sink>(
     alloc: Global,
     command: Command<'_>,
     media: &mut M,
+    player: &mut P,
     out: &mut O,
 ) -> Status
     requires { IsAllowed (asked_by command) }
@@ -136,10 +150,7 @@ fn run_command<M: Media, O: Sink>(
             script,
             workers,
             log,
-        } => {
-            let outcome = play_with(alloc, media, script, workers, log);
-            tell(outcome, out)
-        }
+        } => play_with(alloc, media, script, workers, log, player, out),
         Command::Make {
             seed,
             frames,
@@ -155,22 +166,28 @@ fn run_command<M: Media, O: Sink>(
 }
 
 /// A play without workers is the one that is built.
-fn play_with<M: Media>(
+fn play_with<M: Media, P: Player<M::Src, M::Snk>, O: Sink>(
     alloc: Global,
     media: &mut M,
     script: &str,
     workers: u64,
     log: &str,
-) -> Result<Done, Fault>
+    player: &mut P,
+    out: &mut O,
+) -> Status
     ensures goes_on { GoesOn (M.outside media.old) (M.outside media.new) }
-    ensures played { workers ≡ 0 → IsOutcome script.now log.now (M.outside media.old) (M.outside media.new) result }
-    ensures unbuilt { 1 ≤ workers → (M.outside media.new ≡ M.outside media.old) × (result ≡ Err (Fault.NotBuilt Unbuilt.Words)) }
+    ensures later { O.faults out.old ≤ O.faults out.new }
+    ensures played { workers ≡ 0 → (outcome : Result (List ℕ) Fault) × IsPlayOutcome script.now log.now (M.outside media.old) (M.outside media.new) outcome
+        × IsToldOf outcome (O.told out.old) (O.told out.new) (O.faults out.old) (O.faults out.new) result }
+    ensures unbuilt { 1 ≤ workers → (M.outside media.new ≡ M.outside media.old)
+        × IsTold (Err (Fault.NotBuilt Unbuilt.Words)) (O.told out.old) (O.told out.new) (O.faults out.old) (O.faults out.new) result }
 {
     if workers == 0 {
-        play(alloc, media, script, log)
+        play_file(alloc, media, script, log, player, out)
     } else {
-        Err(Fault::NotBuilt {
+        let words = Fault::NotBuilt {
             what: Unbuilt::Words,
-        })
+        };
+        tell(Err(words), out)
     }
 }

@@ -109,7 +109,7 @@ fn check_play<R: Threads + Wait + Sync + Alloc<A = Global> + Abort>(
     assert!(rt;
         ran.media
             .file("log")
-            .is_some_and(|bytes| bytes == b"end\n".as_slice())
+            .is_some_and(|bytes| bytes.ends_with(b"\nend\n"))
     );
     Ok(())
 }
@@ -189,8 +189,24 @@ fn words_and_scripts(rt: HostRuntime) -> Result<(), Failure> {
         &PLAY,
         script,
         THREE_SAMPLES,
+        b"script line 3: name twice\n",
+        1,
+    )?;
+    check_words(
+        &rt,
+        &PLAY,
+        b"omx 1 play\nlate a in.wav\nsink b out.wav\nlink a.0 b.0 2 4096\n",
+        THREE_SAMPLES,
         b"not built: script\n",
         10,
+    )?;
+    check_words(
+        &rt,
+        &PLAY,
+        b"omx 1 play\nunits 2\nsource a in.wav\nsink b out.wav\nlink a.0 b.0 2 4096\n",
+        THREE_SAMPLES,
+        b"units: have 2 need 3\n",
+        9,
     )?;
     check_words(
         &rt,

@@ -6,7 +6,7 @@ use line_text::put_number;
 use std::marker::Model;
 
 /// The room of a text, in bytes. The longest that is printed has fewer.
-const ROOM: usize = 256;
+const ROOM: usize = 2560;
 
 /// A text of a few lines, in place.
 #[derive(Drop)]
@@ -30,7 +30,7 @@ impl Text {
     }
 
     pub fn push(&mut self, piece: &[u8])
-        requires { length self.old + length piece.now ≤ 256 }
+        requires { length self.old + length piece.now ≤ 2560 }
         ensures bytes { self.new ≡ self.old ++ piece.now }
         ensures len { length self.new ≡ length self.old + length piece.now }
     {
@@ -39,7 +39,7 @@ impl Text {
 
     /// Appends the decimal digits of a number.
     pub fn push_number(&mut self, number: u64)
-        requires { length self.old + 20 ≤ 256 }
+        requires { length self.old + 20 ≤ 2560 }
         ensures bytes { self.new ≡ self.old ++ decimal number }
         ensures len { length self.new ≤ length self.old + 20 }
     {

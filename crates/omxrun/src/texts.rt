@@ -1,6 +1,6 @@
 ghost use Rattle.std.specs.Prelude.{◌≡◌, ◌+◌, ◌≤◌, ◌++◌, length, codes};
 ghost use Rattle.std.specs.Fmt.{decimal};
-ghost use Rattle.omxrun.specs.Texts.{fault_text, played_text, made_text, which_text, wav_text, why_text, packets_text, audit_text, unbuilt_text};
+ghost use Rattle.omxrun.specs.Texts.{fault_text, made_text, which_text, wav_text, why_text, packets_text, audit_text, unbuilt_text};
 
 use crate::text::Text;
 use omx_types::{AuditWhy, Fault, PacketsWhy, ScriptWhy, Unbuilt, WavFault, Which};
@@ -12,19 +12,6 @@ pub fn text_of_fault(fault: Fault) -> Text
     let mut text = Text::new();
     put_fault(&mut text, fault);
     text.push(b"\n");
-    text
-}
-
-/// What a play of one sink prints.
-pub fn text_of_play(frames: u64, bytes: u64) -> Text
-    ensures { result ≡ played_text frames bytes }
-{
-    let mut text = Text::new();
-    text.push(b"sink b ");
-    text.push_number(frames);
-    text.push(b" frames ");
-    text.push_number(bytes);
-    text.push(b" bytes\nok\n");
     text
 }
 

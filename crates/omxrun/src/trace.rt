@@ -1,7 +1,7 @@
 ghost use Rattle.std.specs.Prelude.{◌≡◌, ◌≤◌, List, ℕ, Result, false, IfOk, IfErr, OnOk};
 ghost use Rattle.outside_io.specs.Files.{GoesOn};
 ghost use Rattle.script_lang.specs.Scripts.{IsOfCommand};
-ghost use Rattle.omxrun.specs.Faults.{fault_of_trace_script, fault_of_reading};
+ghost use Rattle.omxrun.specs.Faults.{fault_of_script, fault_of_reading};
 ghost use Rattle.omxrun.specs.Reasons.{CountsStand};
 ghost use Rattle.omxrun.specs.Told.{IsPrinted, status_of};
 ghost use Rattle.omxrun.specs.Traced.{IsScriptIn, HasScriptReason, TracesTo, IsTraceOutcome};
@@ -50,9 +50,9 @@ fn script_in<M: Media>(alloc: Global, media: &mut M, name: &str) -> Result<Scrip
     }
 }
 
-/// What a script that wasn't read is for the trace.
+/// What a script that wasn't read is for a command that reads one.
 pub fn unread_fault(unread: Unread) -> Fault
-    ensures { result ≡ fault_of_trace_script unread }
+    ensures { result ≡ fault_of_script unread }
 {
     match unread {
         Unread::Absent => Fault::Absent(Which::Script),
@@ -70,8 +70,8 @@ pub fn unread_fault(unread: Unread) -> Fault
     }
 }
 
-/// What bytes that are no script are for the trace.
-fn refused_fault(error: ScriptError) -> Fault
+/// What bytes that are no script are for a command that reads one.
+pub fn refused_fault(error: ScriptError) -> Fault
     ensures { result ≡ fault_of_reading error }
 {
     match error {

@@ -1,4 +1,4 @@
-use Rattle.std.proofs.Common.{◌≡◌, ℕ, List, Some, Result, IfErr, IsTrue, ap, sym, subst, ◌∙◌}
+use Rattle.std.proofs.Common.{◌≡◌, ℕ, List, Some, Result, IfErr, IsTrue, sym, subst, ◌∙◌}
 use Rattle.outside_io.proofs.Closed.{told_value}
 use Rattle.rtp_parts.specs.Answers.{StoppedPacking}
 use Rattle.omx_types.specs.declared.fault.Fault.{Fault}

@@ -2,8 +2,8 @@ use Rattle.std.proofs.Common.{map, string_bytes, refl}
 use Rattle.omxrun.specs.Words.{to_trace, to_play, to_make, to_clock, to_pack, to_unpack, asked_by}
 use Rattle.omxrun.proofs.Clocks.{complete_clock, unclocked}
 use Rattle.omxrun.proofs.Commands.{run-asked, unbuilt-run}
-use Rattle.omxrun.proofs.Complete.{complete, faulty, unplayed}
 use Rattle.omxrun.proofs.Makes.{complete_make}
+use Rattle.omxrun.proofs.PlayEnds.{complete, faulty, unplanned, unplayed, unread}
 use Rattle.omxrun.proofs.TurnEnds.{complete_pack, complete_unpack}
 use Rattle.omxrun.proofs.Traces.{complete_trace, untraced}
 use Rattle.omxrun.proofs.run.run_words.Goals as goal
@@ -32,7 +32,13 @@ pub returns-in-None-clause-unplayed : goal.returns-in-None-clause-unplayed
 returns-in-None-clause-unplayed g c = λ script log words none has. absurd (c.in-None.ensures.none (to_play script 0 log) words)
 
 pub returns-in-None-clause-faulty : goal.returns-in-None-clause-faulty
-returns-in-None-clause-faulty g c = λ script log fault words none has. absurd (c.in-None.ensures.none (to_play script 0 log) words)
+returns-in-None-clause-faulty g c = λ script log line fault words none has. absurd (c.in-None.ensures.none (to_play script 0 log) words)
+
+pub returns-in-None-clause-unread : goal.returns-in-None-clause-unread
+returns-in-None-clause-unread g c = λ script log line why words none has. absurd (c.in-None.ensures.none (to_play script 0 log) words)
+
+pub returns-in-None-clause-unplanned : goal.returns-in-None-clause-unplanned
+returns-in-None-clause-unplanned g c = λ script log why words none has. absurd (c.in-None.ensures.none (to_play script 0 log) words)
 
 pub returns-in-None-clause-complete : goal.returns-in-None-clause-complete
 returns-in-None-clause-complete g c = λ script log words none can. absurd (c.in-None.ensures.none (to_play script 0 log) words)
@@ -93,20 +99,30 @@ returns-in-Some-clause-complete_trace g c = λ script words none can.
     complete_trace script (g.M.Media.outside c.args.media.now) (g.M.Media.outside c.run_command.new.media) (g.O.Sink.told c.args.out.now) (g.O.Sink.told c.run_command.new.out) (g.O.Sink.faults c.args.out.now) (g.O.Sink.faults c.run_command.new.out) c.run_command.result c.one_outcome.ensures.same
     (run-asked (map string_bytes c.args.words.now) (to_trace script) (g.M.Media.outside c.args.media.now) (g.M.Media.outside c.run_command.new.media) (g.O.Sink.told c.args.out.now) (g.O.Sink.told c.run_command.new.out) (g.O.Sink.faults c.args.out.now) (g.O.Sink.faults c.run_command.new.out) c.run_command.result (asked_by c.in-Some.command) c.in-Some.ensures.some c.run_command.ensures.run words) none can
 
+pub returns-in-Some-clause-unread : goal.returns-in-Some-clause-unread
+returns-in-Some-clause-unread g c = λ script log line why words none has.
+    let played = (run-asked (map string_bytes c.args.words.now) (to_play script 0 log) (g.M.Media.outside c.args.media.now) (g.M.Media.outside c.run_command.new.media) (g.O.Sink.told c.args.out.now) (g.O.Sink.told c.run_command.new.out) (g.O.Sink.faults c.args.out.now) (g.O.Sink.faults c.run_command.new.out) c.run_command.result (asked_by c.in-Some.command) c.in-Some.ensures.some c.run_command.ensures.run words).0 refl in
+    unread c.one_play.ensures.same script log (g.M.Media.outside c.args.media.now) (g.M.Media.outside c.run_command.new.media) (g.O.Sink.faults c.args.out.now) (g.O.Sink.faults c.run_command.new.out) (g.O.Sink.told c.args.out.now) (g.O.Sink.told c.run_command.new.out) line why played.0 c.run_command.result played.1 played.2 none has
+
 pub returns-in-Some-clause-unplayed : goal.returns-in-Some-clause-unplayed
 returns-in-Some-clause-unplayed g c = λ script log words none has.
     let played = (run-asked (map string_bytes c.args.words.now) (to_play script 0 log) (g.M.Media.outside c.args.media.now) (g.M.Media.outside c.run_command.new.media) (g.O.Sink.told c.args.out.now) (g.O.Sink.told c.run_command.new.out) (g.O.Sink.faults c.args.out.now) (g.O.Sink.faults c.run_command.new.out) c.run_command.result (asked_by c.in-Some.command) c.in-Some.ensures.some c.run_command.ensures.run words).0 refl in
-    unplayed script log (g.M.Media.outside c.args.media.now) (g.M.Media.outside c.run_command.new.media) (g.O.Sink.faults c.args.out.now) (g.O.Sink.faults c.run_command.new.out) (g.O.Sink.told c.args.out.now) (g.O.Sink.told c.run_command.new.out) played.0 c.run_command.result played.1 played.2 none has
+    unplayed c.one_play.ensures.same script log (g.M.Media.outside c.args.media.now) (g.M.Media.outside c.run_command.new.media) (g.O.Sink.faults c.args.out.now) (g.O.Sink.faults c.run_command.new.out) (g.O.Sink.told c.args.out.now) (g.O.Sink.told c.run_command.new.out) played.0 c.run_command.result played.1 played.2 none has
+
+pub returns-in-Some-clause-unplanned : goal.returns-in-Some-clause-unplanned
+returns-in-Some-clause-unplanned g c = λ script log why words none has.
+    let played = (run-asked (map string_bytes c.args.words.now) (to_play script 0 log) (g.M.Media.outside c.args.media.now) (g.M.Media.outside c.run_command.new.media) (g.O.Sink.told c.args.out.now) (g.O.Sink.told c.run_command.new.out) (g.O.Sink.faults c.args.out.now) (g.O.Sink.faults c.run_command.new.out) c.run_command.result (asked_by c.in-Some.command) c.in-Some.ensures.some c.run_command.ensures.run words).0 refl in
+    unplanned c.one_play.ensures.same c.law_of_plans.ensures.planned c.law_of_plans.ensures.first script log (g.M.Media.outside c.args.media.now) (g.M.Media.outside c.run_command.new.media) (g.O.Sink.faults c.args.out.now) (g.O.Sink.faults c.run_command.new.out) (g.O.Sink.told c.args.out.now) (g.O.Sink.told c.run_command.new.out) why played.0 c.run_command.result played.1 played.2 none has
 
 pub returns-in-Some-clause-faulty : goal.returns-in-Some-clause-faulty
-returns-in-Some-clause-faulty g c = λ script log fault words none has.
+returns-in-Some-clause-faulty g c = λ script log line fault words none has.
     let played = (run-asked (map string_bytes c.args.words.now) (to_play script 0 log) (g.M.Media.outside c.args.media.now) (g.M.Media.outside c.run_command.new.media) (g.O.Sink.told c.args.out.now) (g.O.Sink.told c.run_command.new.out) (g.O.Sink.faults c.args.out.now) (g.O.Sink.faults c.run_command.new.out) c.run_command.result (asked_by c.in-Some.command) c.in-Some.ensures.some c.run_command.ensures.run words).0 refl in
-    faulty script log (g.M.Media.outside c.args.media.now) (g.M.Media.outside c.run_command.new.media) (g.O.Sink.faults c.args.out.now) (g.O.Sink.faults c.run_command.new.out) (g.O.Sink.told c.args.out.now) (g.O.Sink.told c.run_command.new.out) played.0 c.run_command.result fault c.one_answer.ensures.same played.1 played.2 none has
+    faulty c.one_play.ensures.same c.one_answer.ensures.same c.law_of_plans.ensures.planned script log (g.M.Media.outside c.args.media.now) (g.M.Media.outside c.run_command.new.media) (g.O.Sink.faults c.args.out.now) (g.O.Sink.faults c.run_command.new.out) (g.O.Sink.told c.args.out.now) (g.O.Sink.told c.run_command.new.out) line fault played.0 c.run_command.result played.1 played.2 none has
 
 pub returns-in-Some-clause-complete : goal.returns-in-Some-clause-complete
-returns-in-Some-clause-complete g c = λ script log words none can.
+returns-in-Some-clause-complete g c = λ script log words none has.
     let played = (run-asked (map string_bytes c.args.words.now) (to_play script 0 log) (g.M.Media.outside c.args.media.now) (g.M.Media.outside c.run_command.new.media) (g.O.Sink.told c.args.out.now) (g.O.Sink.told c.run_command.new.out) (g.O.Sink.faults c.args.out.now) (g.O.Sink.faults c.run_command.new.out) c.run_command.result (asked_by c.in-Some.command) c.in-Some.ensures.some c.run_command.ensures.run words).0 refl in
-    complete script log (g.M.Media.outside c.args.media.now) (g.M.Media.outside c.run_command.new.media) (g.O.Sink.faults c.args.out.now) (g.O.Sink.faults c.run_command.new.out) (g.O.Sink.told c.args.out.now) (g.O.Sink.told c.run_command.new.out) played.0 c.run_command.result c.one_answer.ensures.same played.1 played.2 none can
+    complete c.one_play.ensures.same c.one_answer.ensures.same c.law_of_plans.ensures.planned script log (g.M.Media.outside c.args.media.now) (g.M.Media.outside c.run_command.new.media) (g.O.Sink.faults c.args.out.now) (g.O.Sink.faults c.run_command.new.out) (g.O.Sink.told c.args.out.now) (g.O.Sink.told c.run_command.new.out) played.0 c.run_command.result played.1 played.2 none has
 
 pub returns-in-Some-clause-complete_make : goal.returns-in-Some-clause-complete_make
 returns-in-Some-clause-complete_make g c = λ seed frames folder words none can.
