@@ -1,5 +1,5 @@
 -- What a call came to in the world of a play, and so what its turn leads to.
-use Rattle.std.proofs.Common.{find, ◌≡◌, ◌≢◌, ℕ, Bool, true, false, nat_eq, eqb-true, if◌then◌else◌, List, [], ◌∷◌, Ok, Err, Result, refl, sym, ◌∙◌, ap, subst, arith}
+use Rattle.std.proofs.Common.{find, Option, ◌≡◌, ◌≢◌, ℕ, Bool, true, false, nat_eq, eqb-true, if◌then◌else◌, List, [], ◌∷◌, Ok, Err, Result, refl, sym, ◌∙◌, ap, subst, arith}
 use Rattle.machine_laws.proofs.Finding.{either}
 use Rattle.il_machine.specs.declared.answer.Acted.{Acted}
 use Rattle.il_machine.specs.declared.answer.Acted.TheVariants.{Did, Idle}
@@ -10,7 +10,9 @@ use Rattle.il_machine.specs.Whole.{Stands}
 use Rattle.std.specs.Prelude.{OnErr}
 use Rattle.graph_core.specs.Entries.{Entries}
 use Rattle.graph_core.specs.Clients.{KeepsAllClients}
-use Rattle.il_graph.specs.Shown.{Shown}
+use Rattle.audio_parts.specs.Objects.{Held}
+use Rattle.audio_parts.specs.declared.part_file.PartFile.{PartFile}
+use Rattle.il_graph.specs.Shown.{KeepsAllFiles, Shown, file_of}
 use Rattle.il_graph.specs.Stood.{OnIdle}
 use Rattle.conductor.specs.Hearing.{ConductorValue}
 use Rattle.play_model.specs.Play.{Layout, Play}
@@ -22,7 +24,7 @@ use Rattle.play_worlds.specs.Worlds.{IsPlayWorld, LeadsTo, happenings}
 use Rattle.play_worlds.proofs.Closings.{closes_lead}
 use Rattle.play_worlds.proofs.Happenings.{rests_all}
 use Rattle.play_graphs.specs.Graphs.{kept_of}
-use Rattle.play_run.specs.Playing.{AreClientsIn, HasParts, HaveNoWork, HasStreamsFrom, IsAct, IsConducting, IsPlaying, IsStanding, LeadsOn, PlayingValue, ToldAlike, TurnsTo, cast, is_did, layout_of}
+use Rattle.play_run.specs.Playing.{AreClientsIn, HasParts, HaveNoWork, HasStreamsFrom, IsAct, IsConducting, IsPlaying, IsStanding, LeadsOn, PlayingValue, ToldAlike, TurnsTo, FilesStay, unfailed, cast, is_did, layout_of}
 use Rattle.play_run.specs.Recording.{IsRecorded}
 
 -- an act of the play that begins no state, and leaves none to be sent
@@ -163,8 +165,17 @@ module _ {S K : Type 0} where
   pub turned_of : (x y : PlayingValue S K) (did : Bool) (P : Act → Type 0) → TurnsTo x y did P → TurnsOf (layout_of x.plan) (IsPlaying x) (IsPlaying y) did P
   turned_of x y did P T = λ p Y. let t = T p Y in (t.0, t.1, t.2)
 
-  pub leads_of : (x y : PlayingValue S K) (did : Bool) (P : Act → Type 0) → y.plan ≡ x.plan → TurnsTo x y did P → LeadsOn x y
-  leads_of x y did P same T = record { plan = same; plays = λ p Y. let t = T p Y in (t.0, t.1, t.3) }
+  pub leads_of : (Stays : Held S K → Held S K → Type 0) (x y : PlayingValue S K) (did : Bool) (P : Act → Type 0) → y.plan ≡ x.plan → FilesStay Stays x y → TurnsTo x y did P → LeadsOn Stays x y
+  leads_of Stays x y did P same objects T = record { plan = same; objects = objects; plays = λ p Y. let t = T p Y in (t.0, t.1, t.3) }
+
+  -- nor where the graph is the same
+  pub files_same : (Stays : Held S K → Held S K → Type 0) → ((a : Held S K) → Stays a a) → (y x : PlayingValue S K) → y ≡ x → (g : Shown S K Progress) (log : LogValue) → g ≡ y.graph → FilesStay Stays x (with_both y g log)
+  files_same Stays itself y x is g log same = subst (λ (z : PlayingValue S K). FilesStay Stays z (with_both y g log)) is
+      (λ n. subst (λ (k : Shown S K Progress). Stays (unfailed (file_of n y.graph)) (unfailed (file_of n k))) (sym same) (itself (unfailed (file_of n y.graph))))
+
+  -- where no file object changes
+  pub files_stay : (Stays : Held S K → Held S K → Type 0) → ((a : Held S K) → Stays a a) → (x y : PlayingValue S K) → KeepsAllFiles x.graph y.graph → FilesStay Stays x y
+  files_stay Stays itself x y keeps = λ n. subst (λ (file : Option (PartFile S K)). Stays (unfailed (file_of n x.graph)) (unfailed file)) (sym (keeps n)) (itself (unfailed (file_of n x.graph)))
 
 -- ---- an answer
 

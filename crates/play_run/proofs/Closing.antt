@@ -33,13 +33,15 @@ use Rattle.play_worlds.proofs.Lists.{get_there}
 use Rattle.play_graphs.specs.Ending.{HasEnded, StandsFor, ends_of}
 use Rattle.play_graphs.proofs.Naming.{named_at}
 use Rattle.play_run.specs.Logging.{IsKeptTo}
-use Rattle.play_run.specs.Playing.{IsPlaying, IsStanding, LeadsOn, PlayingValue, cast, layout_of}
+use Rattle.play_run.specs.Playing.{FilesStay, IsPlaying, IsStanding, LeadsOn, PlayingValue, cast, layout_of}
 use Rattle.play_loop.specs.Turns.{AreOver}
 use Rattle.play_openings.specs.Assemblies.{PlayFiles}
-use Rattle.std.specs.Prelude.{IfErr}
+use Rattle.std.specs.Prelude.{IfErr, OnErr}
+use Rattle.omx_types.specs.declared.fault.PartFault.{PartFault}
+use Rattle.audio_parts.specs.Objects.{Held}
 use Rattle.play_loop.specs.Turns.{SomePlay}
 use Rattle.play_run.specs.declared.failure.Failure.{Failure}
-use Rattle.play_run.specs.Turning.{FailsOn, HasFailed, HasFailedWith}
+use Rattle.play_run.specs.Turning.{FailsOn, FileShows, FilesStayed, HasFailed, HasFailedWith}
 use Rattle.play_run.specs.Closing.{HasBegun, HasPlayed, HasPlayedWith, KeepsLog}
 use Rattle.play_graphs.proofs.Standing.{givers_there, takers_there}
 use Rattle.play_run.proofs.Linking.{link_is}
@@ -283,15 +285,28 @@ module _ {S K : Type 0} (x : PlayingValue S K) where
   play_links (p, Y, over) = links_apart x p Y.standing over
 
 -- where each of its plays is over, that which began with the files is
-pub has_played : {S K E : Type 0} (old new : PlayingValue S K) (r : Result (Unit {0}) E) → OnOk r (AreOver (layout_of new.plan) (IsPlaying new)) → OnOk r (LeadsOn old new) → OnOk r ((given : PlayFiles) → HasBegun old given → HasPlayedWith new given)
-has_played old new (Ok done) over leads = λ given begun. let q = leads.plays begun.0 begun.1 in (q.0, q.1, over q.0 q.1, q.2 ∙ begun.2)
-has_played old new (Err e) over leads = tt
+pub has_played : {S K E : Type 0} (Stays : Held S K → Held S K → Type 0) (old new : PlayingValue S K) (r : Result (Unit {0}) E) → OnOk r (AreOver (layout_of new.plan) (IsPlaying new)) → OnOk r (LeadsOn Stays old new) → OnOk r ((given : PlayFiles) → HasBegun old given → HasPlayedWith new given)
+has_played Stays old new (Ok done) over leads = λ given begun. let q = leads.plays begun.0 begun.1 in (q.0, q.1, over q.0 q.1, q.2 ∙ begun.2)
+has_played Stays old new (Err e) over leads = tt
 
 -- where a part failed, it did in one that began with the same files
-pub has_failed : {S K : Type 0} (old new : PlayingValue S K) (r : Result (Unit {0}) Failure) → SomePlay (IsPlaying old) → IfErr r (FailsOn old new) → IfErr r (HasFailed new)
-has_failed old new (Ok done) some fails = tt
-has_failed old new (Err failure) (p, Y) fails = (fails.fails p Y).0
+pub has_failed : {S K : Type 0} (Stays : Held S K → Held S K → Type 0) (Shows : PartFault → Held S K → Held S K → Type 0) (old new : PlayingValue S K) (r : Result (Unit {0}) Failure) → SomePlay (IsPlaying old) → IfErr r (FailsOn Stays Shows old new) → IfErr r (HasFailed new)
+has_failed Stays Shows old new (Ok done) some fails = tt
+has_failed Stays Shows old new (Err failure) (p, Y) fails = (fails.fails p Y).0
 
-pub has_failed_with : {S K : Type 0} (old new : PlayingValue S K) (r : Result (Unit {0}) Failure) → IfErr r (FailsOn old new) → IfErr r (λ failure. (given : PlayFiles) → HasBegun old given → HasFailedWith new failure given)
-has_failed_with old new (Ok done) fails = tt
-has_failed_with old new (Err failure) fails = λ given begun. let F = fails.fails begun.0 begun.1 in (F.0, F.1 ∙ begun.2)
+pub has_failed_with : {S K : Type 0} (Stays : Held S K → Held S K → Type 0) (Shows : PartFault → Held S K → Held S K → Type 0) (old new : PlayingValue S K) (r : Result (Unit {0}) Failure) → IfErr r (FailsOn Stays Shows old new) → IfErr r (λ failure. (given : PlayFiles) → HasBegun old given → HasFailedWith new failure given)
+has_failed_with Stays Shows old new (Ok done) fails = tt
+has_failed_with Stays Shows old new (Err failure) fails = λ given begun. let F = fails.fails begun.0 begun.1 in (F.0, F.1 ∙ begun.2)
+
+-- the file objects stay in both cases
+pub objects_played : {S K E : Type 0} (Stays : Held S K → Held S K → Type 0) (old new : PlayingValue S K) (r : Result (Unit {0}) E) → OnOk r (LeadsOn Stays old new) → OnOk r (FilesStay Stays old new)
+objects_played Stays old new (Ok done) leads = leads.objects
+objects_played Stays old new (Err e) leads = tt
+
+pub objects_failed : {S K : Type 0} (Stays : Held S K → Held S K → Type 0) (Shows : PartFault → Held S K → Held S K → Type 0) (old new : PlayingValue S K) (r : Result (Unit {0}) Failure) → IfErr r (FailsOn Stays Shows old new) → OnErr r (FilesStayed Stays old new)
+objects_failed Stays Shows old new (Ok done) fails = tt
+objects_failed Stays Shows old new (Err failure) fails = fails.objects
+
+pub failure_shows : {S K : Type 0} (Stays : Held S K → Held S K → Type 0) (Shows : PartFault → Held S K → Held S K → Type 0) (old new : PlayingValue S K) (r : Result (Unit {0}) Failure) → IfErr r (FailsOn Stays Shows old new) → IfErr r (FileShows Shows old new)
+failure_shows Stays Shows old new (Ok done) fails = tt
+failure_shows Stays Shows old new (Err failure) fails = fails.shows

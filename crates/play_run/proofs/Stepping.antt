@@ -1,6 +1,7 @@
 -- A work is claimed, done and brought back: a step of its component.
-use Rattle.std.proofs.Common.{◌≡◌, inl, inr, ◌<◌, ℕ, true, false, nat_eq, List, [], length, slice_get, Option, Some, None, Result, Ok, refl, sym, ◌∙◌, ap, subst, eqb-true, eq-eqb, ne_eqb}
-use Rattle.std.specs.Prelude.{MatchOption}
+use Rattle.std.proofs.Common.{◌≡◌, inl, inr, ◌<◌, ℕ, true, false, nat_eq, List, [], length, slice_get, Option, Some, None, Result, Ok, refl, sym, ◌∙◌, ap, subst, eqb-true, eq-eqb, ne_eqb, Bool, ◌≢◌}
+use Rattle.std.specs.Prelude.{MatchOption, is_some}
+use Rattle.std.proofs.lemmas.Bool.{cases_eq}
 use Rattle.omx_types.specs.declared.handle.Handle.{Handle}
 use Rattle.omx_types.specs.declared.error.OmxError.{OmxError}
 use Rattle.omx_types.specs.declared.fault.PartFault.{PartFault}
@@ -23,7 +24,8 @@ use Rattle.history_laws.specs.Works.{has_work_out}
 use Rattle.history_laws.proofs.Freed.{none_comes, none_left}
 use Rattle.history_laws.proofs.Named.{is_named, named_there}
 use Rattle.graph_core.specs.Clients.{KeepsAllClients}
-use Rattle.il_graph.specs.Shown.{Shown, SoundWhole}
+use Rattle.audio_parts.specs.declared.part_file.PartFile.{PartFile}
+use Rattle.il_graph.specs.Shown.{KeepsFiles, Shown, SoundWhole, file_of}
 use Rattle.il_graph.specs.Claiming.{IsSoFar, OnNoWork, told_by}
 use Rattle.il_flow.specs.Places.{carried_from}
 use Rattle.il_flow.specs.Works.{ComesBack, DoneOf, WorkOf, seen_done, seen_work}
@@ -34,7 +36,7 @@ use Rattle.il_graph.specs.declared.claimed.Claimed.TheVariants as given
 use Rattle.il_graph.proofs.Back.{number_named}
 use Rattle.play_model.specs.Play.{Play}
 use Rattle.play_model.specs.Acts.{Act, CanAct}
-use Rattle.play_loop.specs.Turns.{CanNone}
+use Rattle.play_loop.specs.Turns.{CanNone, SomePlay}
 use Rattle.act_text.specs.declared.text.ActText.{ActText}
 use Rattle.script_lang.specs.declared.play_line.PartLine.{PartLine}
 use Rattle.play_log.specs.Kept.{LogValue}
@@ -48,12 +50,13 @@ use Rattle.play_worlds.proofs.Finishes.{finish_leads}
 use Rattle.play_worlds.proofs.Sends.{actor_there}
 use Rattle.play_plans.specs.Casting.{place_of}
 use Rattle.play_graphs.specs.Graphs.{IsHandleAt, kept_of}
-use Rattle.play_run.specs.Playing.{ToldAlike, HaveNoWork, PlayingValue, TurnsTo, cast}
+use Rattle.play_run.specs.Playing.{unfailed, ToldAlike, HaveNoWork, PlayingValue, TurnsTo, cast, IsPlaying}
 use Rattle.play_run.specs.Recording.{IsNameAt, IsTold}
-use Rattle.play_run.specs.Turning.{FailsOn, IsStepOf}
+use Rattle.play_run.specs.Turning.{FailsOn, FileShows, FilesStayed, IsStepOf}
 use Rattle.play_run.proofs.Working.{all_in, none_out}
 use Rattle.play_run.proofs.Commanding.{component_named_in}
 use Rattle.play_run.proofs.Recording.{is_player, one_more}
+use Rattle.audio_parts.specs.Objects.{Held}
 use Rattle.flow_model.specs.Content.{ArePlain}
 use Rattle.play_streams.specs.Contents.{PlayContents, network_of}
 use Rattle.play_streams.specs.Fronts.{AreFronts}
@@ -253,11 +256,13 @@ module _ {S K : Type 0} where
         (works_came (cast y.plan) p Z.world c h Z.play b N Z.works shut frames v.0 v.2))
         b J H
 
-    pub step_fails : (log : LogValue) (frames : ℕ) (fault : PartFault) → ((w : World) → Stands (kept_of y.graph) w → (v : World) × Stands (kept_of g) v × IsWorked h (Some fault) frames w v) → FailsOn x (with_both y g log) (record { component = place; fault = fault })
-    step_fails log frames fault worked =
-        subst (λ (z : PlayingValue S K). c < length z.plan.parts → place ≡ place_of z.plan c → IsHandleAt z.graph place h → FailsOn z (with_both y g log) (record { component = place; fault = fault })) is
-        (λ b J H. record {
+    pub step_fails : {Stays : Held S K → Held S K → Type 0} {Shows : PartFault → Held S K → Held S K → Type 0} (log : LogValue) (frames : ℕ) (fault : PartFault) → ((w : World) → Stands (kept_of y.graph) w → (v : World) × Stands (kept_of g) v × IsWorked h (Some fault) frames w v) → FilesStayed Stays x (with_both y g log) → FileShows Shows x (with_both y g log) (record { component = place; fault = fault }) → FailsOn Stays Shows x (with_both y g log) (record { component = place; fault = fault })
+    step_fails {Stays = Stays} {Shows = Shows} log frames fault worked objects shows =
+        subst (λ (z : PlayingValue S K). c < length z.plan.parts → place ≡ place_of z.plan c → IsHandleAt z.graph place h → FilesStayed Stays z (with_both y g log) → FileShows Shows z (with_both y g log) (record { component = place; fault = fault }) → FailsOn Stays Shows z (with_both y g log) (record { component = place; fault = fault })) is
+        (λ b J H objects shows. record {
           plan = refl;
+          objects = objects;
+          shows = shows;
           fails = λ p Y.
               let Z = Y.standing in
               let N = component_named_in y c place h J H p Z in
@@ -273,6 +278,7 @@ module _ {S K : Type 0} where
                   before = (v.2).between;
                   played = between_plays (cast y.plan) p Z.world c h Z.play b N Z.works shut (Some fault) frames v.0 v.2;
                   done = (v.2).done;
+                  there = subst (λ (j : ℕ). j < length y.plan.parts) (sym J) ((Z.play).cast.placed c b);
                   its = (v.2).its ∙ (number_is (cast y.plan) p Z.world c h Z.play b N Z.works ∙ sym J);
                   failed = (v.2).faults;
                   finishes = (v.2).comes;
@@ -285,4 +291,55 @@ module _ {S K : Type 0} where
                 refl,
               );
         })
-        b J H
+        b J H objects shows
+
+-- ---- the file objects
+
+-- the number is of the component at the place
+pub own_number : {S K : Type 0} (x : PlayingValue S K) (c place : ℕ) (h : Handle) → c < length x.plan.parts → place ≡ place_of x.plan c → IsHandleAt x.graph place h → SomePlay (IsPlaying x) → h.generation ≡ place
+own_number x c place h b J H (p, Y) =
+    number_is (cast x.plan) p Y.standing.world c h Y.standing.play b (component_named_in x c place h J H p Y.standing) Y.standing.works ∙ sym J
+
+module _ {S K : Type 0} (Stays : Held S K → Held S K → Type 0) (itself : (a : Held S K) → Stays a a) (g m k : Shown S K Progress) (number : ℕ) (a b : Held S K) (whole : a.failed ≡ false) (its : a.file ≡ file_of number g)
+    (back : file_of number k ≡ b.file) (goes : KeepsFiles number g m) (comes : KeepsFiles number m k) (stays : Stays a b) where
+  held_before : a ≡ unfailed (file_of number g)
+  held_before i = record { failed = whole i; file = its i }
+
+  held_after : b ≡ record { failed = b.failed; file = file_of number k }
+  held_after i = record { failed = b.failed; file = sym back i }
+
+  own_stays : Stays (unfailed (file_of number g)) (record { failed = b.failed; file = file_of number k })
+  own_stays = subst (λ (z : Held S K). Stays z (record { failed = b.failed; file = file_of number k })) held_before (subst (Stays a) held_after stays)
+
+  else_stays : (n : ℕ) → n ≢ number → Stays (unfailed (file_of n g)) (unfailed (file_of n k))
+  else_stays n e = subst (λ (file : Option (PartFile S K)). Stays (unfailed (file_of n g)) (unfailed file)) (sym (comes n e ∙ goes n e)) (itself (unfailed (file_of n g)))
+
+  -- of a step that didn't fail
+  pub work_stays : b.failed ≡ false → (n : ℕ) → Stays (unfailed (file_of n g)) (unfailed (file_of n k))
+  work_stays so n = elim (cases_eq n number) [
+    | inl e ↦
+        subst (λ (j : ℕ). Stays (unfailed (file_of j g)) (unfailed (file_of j k))) (sym e)
+        (subst (λ (o : Bool). Stays (unfailed (file_of number g)) (record { failed = o; file = file_of number k })) so own_stays)
+    | inr e ↦ else_stays n e
+  ]
+
+  pub work_stayed : (n : ℕ) → (failed : Bool) × Stays (unfailed (file_of n g)) (record { failed = failed; file = file_of n k })
+  work_stayed n = elim (cases_eq n number) [
+    | inl e ↦ (b.failed, subst (λ (j : ℕ). Stays (unfailed (file_of j g)) (record { failed = b.failed; file = file_of j k })) (sym e) own_stays)
+    | inr e ↦ (false, else_stays n e)
+  ]
+
+-- what the object shows that came back
+pub work_shows : {S K : Type 0} (Shows : Held S K → Held S K → Type 0) (g k : Shown S K Progress) (number place : ℕ) (a b : Held S K) → a.failed ≡ false → a.file ≡ file_of number g → file_of number k ≡ b.file → number ≡ place → Shows a b
+    → (failed : Bool) × Shows (unfailed (file_of place g)) (record { failed = failed; file = file_of place k })
+work_shows {S = S} {K = K} Shows g k number place a b whole its back own shows = (
+  b.failed,
+  subst (λ (n : ℕ). Shows (unfailed (file_of n g)) (record { failed = b.failed; file = file_of n k })) own
+      (subst (λ (z : Held S K). Shows z (record { failed = b.failed; file = file_of number k })) (λ i. record { failed = whole i; file = its i })
+      (subst (Shows a) (λ i. record { failed = b.failed; file = sym back i }) shows)),
+)
+
+-- a part whose step didn't fail hasn't failed
+pub still_whole : (announces : Bool) (before after : Bool) (fault : Option PartFault) → before ≡ false → fault ≡ None → (announces ≡ false → after ≡ is_some fault) → (announces ≡ true → after ≡ before) → after ≡ false
+still_whole false before after fault whole none stepped same = stepped refl ∙ ap is_some none
+still_whole true before after fault whole none stepped same = same refl ∙ whole

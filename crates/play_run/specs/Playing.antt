@@ -1,5 +1,5 @@
 -- The plays that a graph with its conductor stands for.
-use Rattle.std.specs.Prelude.{◌≡◌, ◌≢◌, ◌<◌, ℕ, Bool, true, false, [], All, length, slice_get, Some, None, Result, Ok, Err}
+use Rattle.std.specs.Prelude.{◌≡◌, ◌≢◌, ◌<◌, ℕ, Bool, true, false, [], All, length, slice_get, Some, None, Result, Ok, Err, Option}
 use Rattle.omx_types.specs.declared.handle.Handle.{Handle}
 use Rattle.il_machine.specs.declared.answer.Acted.{Acted}
 use Rattle.il_machine.specs.declared.answer.Acted.TheVariants.{Did, Idle}
@@ -9,7 +9,9 @@ use Rattle.il_machine.specs.Sound.{Sound}
 use Rattle.il_machine.specs.Components.{progress_of}
 use Rattle.il_machine.specs.Whole.{Always, Stands}
 use Rattle.graph_core.specs.Entries.{Entries, client_named}
-use Rattle.il_graph.specs.Shown.{Shown}
+use Rattle.audio_parts.specs.Objects.{Held}
+use Rattle.audio_parts.specs.declared.part_file.PartFile.{PartFile}
+use Rattle.il_graph.specs.Shown.{Shown, file_of}
 use Rattle.conductor.specs.Hearing.{ConductorValue}
 use Rattle.play_forms.specs.Plans.{IsValid, PlanValue}
 use Rattle.play_model.specs.Play.{Layout, Play}
@@ -104,9 +106,19 @@ module _ {S K : Type 0} where
   TurnsTo x y acted P = (p : Play) (Y : IsPlaying x p)
       → (q : Play) × (Z : IsPlaying y q) × Turned (layout_of x.plan) p q acted P × (Z.standing.files ≡ Y.standing.files)
 
-  -- The plan stays, and from each play that the one stands for acts lead to one that the other stands for, and that began with the same files.
-  pub record LeadsOn (x y : PlayingValue S K) : Type 0 where
+  -- a file object of a part that hasn't failed
+  abbrev pub unfailed : Option (PartFile S K) → Held S K
+  unfailed file = record { failed = false; file = file }
+
+  -- each component's file object stays
+  abbrev pub FilesStay : (Held S K → Held S K → Type 0) → PlayingValue S K → PlayingValue S K → Type 0
+  FilesStay Stays x y = (number : ℕ) → Stays (unfailed (file_of number x.graph)) (unfailed (file_of number y.graph))
+
+  -- The plan and the file objects stay, and from each play that the one stands for acts lead to one that the other stands for, and that began
+  -- with the same files.
+  pub record LeadsOn (Stays : Held S K → Held S K → Type 0) (x y : PlayingValue S K) : Type 0 where
     pub plan : y.plan ≡ x.plan
+    pub objects : FilesStay Stays x y
     pub plays : (p : Play) (Y : IsPlaying x p) → (q : Play) × (Z : IsPlaying y q) × (Z.standing.files ≡ Y.standing.files)
 
   -- so much was told of the component at the place

@@ -1,5 +1,5 @@
 -- The acts that a call of a play tries, and what a note tells.
-use Rattle.std.specs.Prelude.{◌≡◌, ◌⊎◌, ℕ, Bool, List, Some}
+use Rattle.std.specs.Prelude.{◌≡◌, ◌⊎◌, ℕ, Bool, List, Some, true, ◌<◌, length}
 use Rattle.note_queues.specs.declared.taken.Taken.{Taken}
 use Rattle.note_queues.specs.declared.taken.Taken.TheVariants.{Told}
 use Rattle.play_run.specs.declared.failure.Failure.{Failure}
@@ -18,8 +18,11 @@ use Rattle.play_streams.specs.Contents.{HasContents, PlayContents, network_of}
 use Rattle.play_streams.specs.Fronts.{AreFronts}
 use Rattle.play_streams.specs.Streams.{AreNew}
 use Rattle.play_graphs.specs.Graphs.{kept_of}
+use Rattle.omx_types.specs.declared.fault.PartFault.{PartFault}
+use Rattle.audio_parts.specs.Objects.{Held}
+use Rattle.il_graph.specs.Shown.{file_of}
 use Rattle.play_run.specs.Recording.{IsBeginning}
-use Rattle.play_run.specs.Playing.{AreClientsIn, HaveNoWork, IsPlaying, PlayingValue, ToldAlike, cast}
+use Rattle.play_run.specs.Playing.{AreClientsIn, HaveNoWork, IsPlaying, PlayingValue, ToldAlike, cast, unfailed}
 
 -- the other end of the link hands back a header that it filled or emptied, or one that it didn't use
 abbrev pub IsBack : ℕ → Act → Type 0
@@ -56,6 +59,7 @@ module _ {S K : Type 0} where
     pub before : World
     pub played : IsPlayWorld (cast x.plan) play before
     pub done : WorkDone
+    pub there : failure.component < length x.plan.parts
     pub its : done.component ≡ failure.component
     pub failed : done.fault ≡ Some failure.fault
     pub finishes : Finish before done world
@@ -70,8 +74,18 @@ module _ {S K : Type 0} where
   abbrev pub HasFailedWith : PlayingValue S K → Failure → PlayFiles → Type 0
   HasFailedWith x failure given = (F : HasFailed x failure) × (F.files ≡ given)
 
-  -- The plan stays, and from each play that the one stands for a step that failed leads to what the other stands for. It began with the
-  -- same files.
-  pub record FailsOn (x y : PlayingValue S K) (failure : Failure) : Type 0 where
+  -- each component's file object stays, of one that may have failed now
+  abbrev pub FilesStayed : (Held S K → Held S K → Type 0) → PlayingValue S K → PlayingValue S K → Type 0
+  FilesStayed Stays x y = (number : ℕ) → (failed : Bool) × Stays (unfailed (file_of number x.graph)) (record { failed = failed; file = file_of number y.graph })
+
+  -- the file object of the component that failed shows the fault
+  abbrev pub FileShows : (PartFault → Held S K → Held S K → Type 0) → PlayingValue S K → PlayingValue S K → Failure → Type 0
+  FileShows Shows x y failure = (failed : Bool) × Shows failure.fault (unfailed (file_of failure.component x.graph)) (record { failed = failed; file = file_of failure.component y.graph })
+
+  -- The plan and the file objects stay, and from each play that the one stands for a step that failed leads to what the other stands for. It
+  -- began with the same files.
+  pub record FailsOn (Stays : Held S K → Held S K → Type 0) (Shows : PartFault → Held S K → Held S K → Type 0) (x y : PlayingValue S K) (failure : Failure) : Type 0 where
     pub plan : y.plan ≡ x.plan
+    pub objects : FilesStayed Stays x y
+    pub shows : FileShows Shows x y failure
     pub fails : (p : Play) (Y : IsPlaying x p) → HasFailedWith y failure Y.standing.files

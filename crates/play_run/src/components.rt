@@ -1,15 +1,17 @@
 //! The turns of a component: its notes, its commands, and the steps of its part.
 
-ghost use Rattle.std.specs.Prelude.{◌≡◌, ◌<◌, IfErr, IfNone, IfOk, IfSome, length};
+ghost use Rattle.std.specs.Prelude.{◌≡◌, ◌<◌, IfErr, IfNone, IfOk, IfSome, OnOk, length};
 ghost use Rattle.note_queues.specs.declared.taken.Taken.TheVariants.{Told};
 ghost use Rattle.il_machine.specs.Components.{moved_by};
 ghost use Rattle.part_api.specs.Terms.{Terms};
 ghost use Rattle.il_machine.specs.Claims.{ClaimedWork, WorkSeen};
+ghost use Rattle.audio_parts.specs.Objects.{ObjectShows, ObjectStays};
+ghost use Rattle.il_graph.specs.Shown.{KeepsAllFiles};
 ghost use Rattle.il_graph.specs.Claiming.{told_by as seen_by};
 ghost use Rattle.il_graph.specs.declared.claimed.Claimed.TheVariants as answers;
 ghost use Rattle.play_model.specs.Acts.{Act};
 ghost use Rattle.play_loop.specs.Turns.{SomePlay};
-ghost use Rattle.play_run.specs.Playing.{IsAct, IsPlaying, TurnsTo};
+ghost use Rattle.play_run.specs.Playing.{FilesStay, IsAct, IsPlaying, TurnsTo};
 ghost use Rattle.play_run.specs.Turning.{FailsOn, IsEvent, IsStepOf, IsTelling};
 
 use crate::failure::Failure;
@@ -66,6 +68,7 @@ impl<S: Source, K: Sink> Playing<S, K> {
         requires there { component < length self.old.plan.parts }
         requires stands { SomePlay (IsPlaying self.old) }
         ensures plan { self.new.plan ≡ self.old.plan }
+        ensures files { KeepsAllFiles self.old.graph self.new.graph }
         ensures turned { TurnsTo self.old self.new result (IsTelling component) }
     {
         let place = self.place(component);
@@ -93,6 +96,7 @@ impl<S: Source, K: Sink> Playing<S, K> {
         requires there { component < length self.old.plan.parts }
         requires stands { SomePlay (IsPlaying self.old) }
         ensures plan { self.new.plan ≡ self.old.plan }
+        ensures files { KeepsAllFiles self.old.graph self.new.graph }
         ensures turned { TurnsTo self.old self.new result (IsAct (Act.Run component)) }
     {
         let place = self.place(component);
@@ -109,8 +113,10 @@ impl<S: Source, K: Sink> Playing<S, K> {
         requires there { component < length self.old.plan.parts }
         requires stands { SomePlay (IsPlaying self.old) }
         ensures plan { self.new.plan ≡ self.old.plan }
+        ensures objects { OnOk result (FilesStay (ObjectStays S.size S.told S.ends S.offset S.faults K.name K.faults) self.old self.new) }
         ensures turned { IfOk result (λ acted. TurnsTo self.old self.new acted (IsStepOf component)) }
-        ensures failed { IfErr result (FailsOn self.old self.new) }
+        ensures failed { IfErr result (FailsOn (ObjectStays S.size S.told S.ends S.offset S.faults K.name K.faults)
+            (ObjectShows S.size S.ends S.offset S.faults K.faults) self.old self.new) }
     {
         let place = self.place(component);
         let h = self.handle(place);

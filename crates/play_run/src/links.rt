@@ -1,6 +1,7 @@
 //! The turns of a link, whose headers its input supplies.
 
 ghost use Rattle.std.specs.Prelude.{◌≡◌, ◌<◌, length};
+ghost use Rattle.il_graph.specs.Shown.{KeepsAllFiles};
 ghost use Rattle.play_model.specs.Acts.{Act};
 ghost use Rattle.play_loop.specs.Turns.{SomePlay};
 ghost use Rattle.play_run.specs.Playing.{IsAct, IsPlaying, TurnsTo, is_did};
@@ -29,6 +30,7 @@ impl<S: Source, K: Sink> Playing<S, K> {
         requires there { link < length self.old.plan.joints }
         requires stands { SomePlay (IsPlaying self.old) }
         ensures plan { self.new.plan ≡ self.old.plan }
+        ensures files { KeepsAllFiles self.old.graph self.new.graph }
         ensures turned { TurnsTo self.old self.new result (IsAct (Act.Supply link)) }
     {
         let joint = self.joint(link);
@@ -46,6 +48,7 @@ impl<S: Source, K: Sink> Playing<S, K> {
         requires there { link < length self.old.plan.joints }
         requires stands { SomePlay (IsPlaying self.old) }
         ensures plan { self.new.plan ≡ self.old.plan }
+        ensures files { KeepsAllFiles self.old.graph self.new.graph }
         ensures turned { TurnsTo self.old self.new result (IsAct (Act.Release link)) }
     {
         let joint = self.joint(link);
@@ -63,6 +66,7 @@ impl<S: Source, K: Sink> Playing<S, K> {
         requires there { link < length self.old.plan.joints }
         requires stands { SomePlay (IsPlaying self.old) }
         ensures plan { self.new.plan ≡ self.old.plan }
+        ensures files { KeepsAllFiles self.old.graph self.new.graph }
         ensures turned { TurnsTo self.old self.new result (IsAct (Act.HandOver link)) }
     {
         let joint = self.joint(link);
@@ -80,6 +84,7 @@ impl<S: Source, K: Sink> Playing<S, K> {
         requires there { link < length self.old.plan.joints }
         requires stands { SomePlay (IsPlaying self.old) }
         ensures plan { self.new.plan ≡ self.old.plan }
+        ensures files { KeepsAllFiles self.old.graph self.new.graph }
         ensures turned { TurnsTo self.old self.new result (IsBack link) }
     {
         let joint = self.joint(link);

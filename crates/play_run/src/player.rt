@@ -6,6 +6,8 @@ use outside_io::{Sink, Source};
 use play_loop::Player;
 
 impl<S: Source, K: Sink> Player for Playing<S, K> {
+    ghost use Rattle.audio_parts.specs.ObjectLaws.{object_further, object_itself, shows_earlier};
+    ghost use Rattle.audio_parts.specs.Objects.{ObjectShows, ObjectStays};
     ghost use Rattle.play_run.specs.Playing.{IsPlaying, LeadsOn, layout_of};
     ghost use Rattle.play_run.specs.Turning.{FailsOn};
     ghost use Rattle.play_run.specs.Leading.{fails_on, leads_on, leads_to_itself};
@@ -16,9 +18,9 @@ impl<S: Source, K: Sink> Player for Playing<S, K> {
 
     ghost Plays = { λ x. IsPlaying x };
 
-    ghost Leads = { λ x y. LeadsOn x y };
+    ghost Leads = { λ x y. LeadsOn (ObjectStays S.size S.told S.ends S.offset S.faults K.name K.faults) x y };
 
-    ghost Fails = { λ x y. FailsOn x y };
+    ghost Fails = { λ x y. FailsOn (ObjectStays S.size S.told S.ends S.offset S.faults K.name K.faults) (ObjectShows S.size S.ends S.offset S.faults K.faults) x y };
 
     fn components(&self) -> u32 {
         self.count()
@@ -51,9 +53,9 @@ impl<S: Source, K: Sink> Player for Playing<S, K> {
         supplied | released | over | back
     }
 
-    ghost leads_to_itself = { λ x. leads_to_itself x };
+    ghost leads_to_itself = { λ x. leads_to_itself (ObjectStays S.size S.told S.ends S.offset S.faults K.name K.faults) (ObjectShows S.size S.ends S.offset S.faults K.faults) (object_itself S.size S.told S.ends S.offset S.faults K.name K.faults) x };
 
-    ghost leads_on = { λ x y z. leads_on x y z };
+    ghost leads_on = { λ x y z. leads_on (ObjectStays S.size S.told S.ends S.offset S.faults K.name K.faults) (ObjectShows S.size S.ends S.offset S.faults K.faults) (object_further S.size S.told S.ends S.offset S.faults K.name K.faults) x y z };
 
-    ghost fails_on = { λ x y z failure. fails_on x y z failure };
+    ghost fails_on = { λ x y z failure. fails_on (ObjectStays S.size S.told S.ends S.offset S.faults K.name K.faults) (ObjectShows S.size S.ends S.offset S.faults K.faults) (object_further S.size S.told S.ends S.offset S.faults K.name K.faults) (shows_earlier S.size S.told S.ends S.offset S.faults K.name K.faults) x y z failure };
 }

@@ -34,13 +34,14 @@ impl<S: Source, K: Sink> Playing<S, K> {
     ghost use Rattle.il_machine.specs.Whole.{Always};
     ghost use Rattle.il_graph.specs.Shown.{offered, TellWritten};
     ghost use Rattle.play_loop.specs.Turns.{CanPlay, EndsOf};
+    ghost use Rattle.audio_parts.specs.Objects.{ObjectShows, ObjectStays};
     ghost use Rattle.play_openings.specs.Assemblies.{HasNoLate, IsReady, PlayFiles};
     ghost use Rattle.play_graphs.specs.Ending.{AreFilesOf};
     ghost use Rattle.play_graphs.specs.Graphs.{kept_of};
     ghost use Rattle.play_graphs.specs.Making.{AreGone, AreOffered, CanMake};
     ghost use Rattle.play_run.specs.Closing.{GivesBack, HasBegun, HasPlayed, HasPlayedWith, KeepsLog};
-    ghost use Rattle.play_run.specs.Playing.{IsPlaying, layout_of};
-    ghost use Rattle.play_run.specs.Turning.{HasFailed, HasFailedWith};
+    ghost use Rattle.play_run.specs.Playing.{FilesStay, IsPlaying, layout_of};
+    ghost use Rattle.play_run.specs.Turning.{FileShows, FilesStayed, HasFailed, HasFailedWith};
 
     /// A play of the plan that is ready to begin. Its files stand by the places of their components; where memory is wanted they stay.
     pub fn new(
@@ -54,6 +55,7 @@ impl<S: Source, K: Sink> Playing<S, K> {
         ensures ready { IfOk result (λ playing. CanPlay (layout_of plan) (IsPlaying playing) 340282366920938463463374607431768211455) }
         ensures begun { IfOk result (λ playing. (given : PlayFiles) → IsReady plan given
             → AreOffered plan given (offered S.offset S.size S.told K.told) files.old → HasBegun playing given) }
+        ensures many { length files.new ≡ length files.old }
         ensures files { IfOk result (λ playing. AreFilesOf playing.graph (length plan.parts) files.old) }
         ensures gone { OnOk result (AreGone (length plan.parts) files.new) }
         ensures unmade { OnErr result (files.new ≡ files.old) }
@@ -76,8 +78,11 @@ impl<S: Source, K: Sink> Playing<S, K> {
         ensures layout { layout_of self.new.plan ≡ layout_of self.old.plan }
         ensures over { OnOk result (EndsOf (layout_of self.old.plan) (IsPlaying self.old) (IsPlaying self.new)) }
         ensures plan { OnOk result (self.new.plan ≡ self.old.plan) }
+        ensures objects { OnOk result (FilesStay (ObjectStays S.size S.told S.ends S.offset S.faults K.name K.faults) self.old self.new) }
         ensures played { OnOk result ((given : PlayFiles) → HasBegun self.old given → HasPlayedWith self.new given) }
         ensures failed { IfErr result (HasFailed self.new) }
+        ensures objects_then { OnErr result (FilesStayed (ObjectStays S.size S.told S.ends S.offset S.faults K.name K.faults) self.old self.new) }
+        ensures shows { IfErr result (FileShows (ObjectShows S.size S.ends S.offset S.faults K.faults) self.old self.new) }
         ensures stopped { OnErr result (self.new.plan ≡ self.old.plan) }
         ensures failed_with { IfErr result (λ failure. (given : PlayFiles) → HasBegun self.old given → HasFailedWith self.new failure given) }
     {

@@ -2,6 +2,7 @@
 
 ghost use Rattle.std.specs.Prelude.{◌≡◌, ◌≤◌, true, false, length, take};
 ghost use Rattle.omx_types.specs.declared.state.State.TheVariants.{Loaded};
+ghost use Rattle.il_graph.specs.Shown.{KeepsAllFiles};
 ghost use Rattle.conductor.specs.Hearing.{heard};
 ghost use Rattle.conductor.specs.Phases.{Conducts, is_at};
 ghost use Rattle.play_model.specs.Reached.{IsOver};
@@ -69,6 +70,7 @@ impl<S: Source, K: Sink> Playing<S, K> {
     fn send_all(&mut self, state: State)
         requires { CanSend self.old state }
         ensures plan { self.new.plan ≡ self.old.plan }
+        ensures files { KeepsAllFiles self.old.graph self.new.graph }
         ensures sent { SentOf self.old self.new state }
     {
         for place in 0..self.count() {
@@ -82,6 +84,7 @@ impl<S: Source, K: Sink> Playing<S, K> {
     pub(crate) fn conduct(&mut self) -> bool
         requires { SomePlay (IsPlaying self.old) }
         ensures plan { self.new.plan ≡ self.old.plan }
+        ensures files { KeepsAllFiles self.old.graph self.new.graph }
         ensures turned { TurnsTo self.old self.new result IsSend }
     {
         let views = self.look();

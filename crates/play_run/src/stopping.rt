@@ -7,6 +7,7 @@ use play_stopping::stop_graph;
 
 impl<S: Source, K: Sink> Playing<S, K> {
     ghost use Rattle.std.specs.Prelude.{◌≡◌, length};
+    ghost use Rattle.il_machine.specs.Sound.{Sound};
     ghost use Rattle.il_machine.specs.Whole.{Always};
     ghost use Rattle.il_graph.specs.Shown.{TellWritten};
     ghost use Rattle.play_graphs.specs.Ending.{AreFilesOf};
@@ -21,6 +22,7 @@ impl<S: Source, K: Sink> Playing<S, K> {
         requires gone { AreGone (length self.plan.parts) files.old }
         ensures many { length files.new ≡ length files.old }
         ensures back { GivesBackStopped self files.new }
+        ensures sound { Always (kept_of self.graph) Sound }
         ensures written { Always (kept_of self.graph) (TellWritten K.told self.graph) }
         ensures files { AreFilesOf self.graph (length self.plan.parts) files.new }
     {

@@ -1,11 +1,14 @@
 use Rattle.std.proofs.Common.{rules, IfErr, ◌∙◌}
 use Rattle.std.proofs.lemmas.Result.{IfErr-weaker}
+use Rattle.audio_parts.specs.ObjectLaws.{object_further, object_itself, shows_earlier}
+use Rattle.audio_parts.specs.Objects.{ObjectShows, ObjectStays}
+use Rattle.il_graph.specs.Shown.{file_of}
 use Rattle.play_model.specs.Acts.{Act}
 use Rattle.play_loop.specs.Turns.{IsOfComponent}
-use Rattle.play_run.specs.Playing.{IsAct, layout_of}
+use Rattle.play_run.specs.Playing.{FilesStay, IsAct, layout_of, unfailed}
 use Rattle.play_run.specs.Turning.{FailsOn, IsTelling}
 use Rattle.play_run.specs.Leading.{fails_on, leads_on}
-use Rattle.play_run.proofs.Answering.{leads_of, turned_of}
+use Rattle.play_run.proofs.Answering.{files_stay, leads_of, turned_of}
 use Rattle.play_run.proofs.Rounding.{actor_turn, some_next}
 use Rattle.play_run.proofs.player.PlayingPlayer.component_turn.Goals as goal
 
@@ -30,7 +33,9 @@ returns-clause-leads g c =
     let x = c.args.self.now in
     let a = c.tell-told in
     let b = c.run-ran in
-    leads_of x c.step.new.self _ (IsOfComponent (layout_of x.plan) c.args.component) (c.step.ensures.plan ∙ (b.ensures.plan ∙ a.ensures.plan))
+    let two : FilesStay (ObjectStays g.S.Source.size g.S.Source.told g.S.Source.ends g.S.Source.offset g.S.Source.faults g.K.Sink.name g.K.Sink.faults) x b.new.self = files_stay (ObjectStays g.S.Source.size g.S.Source.told g.S.Source.ends g.S.Source.offset g.S.Source.faults g.K.Sink.name g.K.Sink.faults) (object_itself g.S.Source.size g.S.Source.told g.S.Source.ends g.S.Source.offset g.S.Source.faults g.K.Sink.name g.K.Sink.faults) x b.new.self (λ n. b.ensures.files n ∙ a.ensures.files n) in
+    leads_of (ObjectStays g.S.Source.size g.S.Source.told g.S.Source.ends g.S.Source.offset g.S.Source.faults g.K.Sink.name g.K.Sink.faults) x c.step.new.self _ (IsOfComponent (layout_of x.plan) c.args.component) (c.step.ensures.plan ∙ (b.ensures.plan ∙ a.ensures.plan))
+    (λ n. object_further _ _ _ _ _ _ _ (unfailed (file_of n x.graph)) (unfailed (file_of n b.new.self.graph)) (unfailed (file_of n c.step.new.self.graph)) (two n) (c.in_ok-stepped.ensures.objects n))
     (actor_turn x a.new.self b.new.self c.step.new.self c.args.component a.result b.result c.in_ok-stepped.stepped a.ensures.plan b.ensures.plan a.ensures.turned b.ensures.turned c.in_ok-stepped.ensures.turned)
 
 pub returns-in_err-stepped-clause-failed : goal.returns-in_err-stepped-clause-failed
@@ -38,6 +43,8 @@ returns-in_err-stepped-clause-failed g c =
     let x = c.args.self.now in
     let a = c.tell-told in
     let b = c.run-ran in
-    let failed : IfErr c.from_residual.result (FailsOn b.new.self c.step.new.self) = search rules in
-    let leads = leads_on x a.new.self b.new.self (leads_of x a.new.self a.result (IsTelling c.args.component) a.ensures.plan a.ensures.turned) (leads_of a.new.self b.new.self b.result (IsAct (Act.Run c.args.component)) b.ensures.plan b.ensures.turned) in
-    IfErr-weaker c.from_residual.result _ _ (λ failure fails. fails_on x b.new.self c.step.new.self failure leads fails) failed
+    let failed : IfErr c.from_residual.result (FailsOn (ObjectStays g.S.Source.size g.S.Source.told g.S.Source.ends g.S.Source.offset g.S.Source.faults g.K.Sink.name g.K.Sink.faults) (ObjectShows g.S.Source.size g.S.Source.ends g.S.Source.offset g.S.Source.faults g.K.Sink.faults) b.new.self c.step.new.self) = search rules in
+    let leads = leads_on (ObjectStays g.S.Source.size g.S.Source.told g.S.Source.ends g.S.Source.offset g.S.Source.faults g.K.Sink.name g.K.Sink.faults) (ObjectShows g.S.Source.size g.S.Source.ends g.S.Source.offset g.S.Source.faults g.K.Sink.faults) (object_further g.S.Source.size g.S.Source.told g.S.Source.ends g.S.Source.offset g.S.Source.faults g.K.Sink.name g.K.Sink.faults) x a.new.self b.new.self
+    (leads_of (ObjectStays g.S.Source.size g.S.Source.told g.S.Source.ends g.S.Source.offset g.S.Source.faults g.K.Sink.name g.K.Sink.faults) x a.new.self a.result (IsTelling c.args.component) a.ensures.plan (files_stay (ObjectStays g.S.Source.size g.S.Source.told g.S.Source.ends g.S.Source.offset g.S.Source.faults g.K.Sink.name g.K.Sink.faults) (object_itself g.S.Source.size g.S.Source.told g.S.Source.ends g.S.Source.offset g.S.Source.faults g.K.Sink.name g.K.Sink.faults) x a.new.self a.ensures.files) a.ensures.turned)
+    (leads_of (ObjectStays g.S.Source.size g.S.Source.told g.S.Source.ends g.S.Source.offset g.S.Source.faults g.K.Sink.name g.K.Sink.faults) a.new.self b.new.self b.result (IsAct (Act.Run c.args.component)) b.ensures.plan (files_stay (ObjectStays g.S.Source.size g.S.Source.told g.S.Source.ends g.S.Source.offset g.S.Source.faults g.K.Sink.name g.K.Sink.faults) (object_itself g.S.Source.size g.S.Source.told g.S.Source.ends g.S.Source.offset g.S.Source.faults g.K.Sink.name g.K.Sink.faults) a.new.self b.new.self b.ensures.files) b.ensures.turned) in
+    IfErr-weaker c.from_residual.result _ _ (λ failure fails. fails_on (ObjectStays g.S.Source.size g.S.Source.told g.S.Source.ends g.S.Source.offset g.S.Source.faults g.K.Sink.name g.K.Sink.faults) (ObjectShows g.S.Source.size g.S.Source.ends g.S.Source.offset g.S.Source.faults g.K.Sink.faults) (object_further g.S.Source.size g.S.Source.told g.S.Source.ends g.S.Source.offset g.S.Source.faults g.K.Sink.name g.K.Sink.faults) (shows_earlier g.S.Source.size g.S.Source.told g.S.Source.ends g.S.Source.offset g.S.Source.faults g.K.Sink.name g.K.Sink.faults) x b.new.self c.step.new.self failure leads fails) failed

@@ -39,3 +39,6 @@ returns-clause-files g c = subst (λ (x : PlayingValue g.row.S.Denot g.row.K.Den
 
 pub returns-clause-written : goal.returns-clause-written
 returns-clause-written g c = subst (λ (x : PlayingValue g.row.S.Denot g.row.K.Denot). Always (kept_of x.graph) (TellWritten g.K.Sink.told x.graph)) c.self.view_is c.law_of_worlds.ensures.written
+
+pub returns-clause-sound : goal.returns-clause-sound
+returns-clause-sound g c = subst (λ (x : PlayingValue g.row.S.Denot g.row.K.Denot). Always (kept_of x.graph) Sound) c.self.view_is c.law_of_worlds.ensures.sound

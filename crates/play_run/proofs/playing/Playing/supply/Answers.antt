@@ -1,7 +1,9 @@
-use Rattle.std.proofs.Common.{false, true, ℕ, Ok, refl, sym, ◌∙◌, subst}
+use Rattle.std.proofs.Common.{false, true, ℕ, Ok, refl, sym, ◌∙◌, ap, subst}
 use Rattle.il_machine.specs.declared.answer.Acted.TheVariants.{Did}
 use Rattle.il_machine.specs.Acts as acts
 use Rattle.log_texts.specs.Said.{SaysOf}
+use Rattle.il_graph.specs.Shown.{file_of}
+use Rattle.play_run.specs.Playing.{PlayingValue}
 use Rattle.play_run.proofs.Answering.{has_parts}
 use Rattle.play_graphs.proofs.Standing.{takers_there}
 use Rattle.play_run.proofs.Recording.{still_there}
@@ -32,3 +34,6 @@ returns-clause-turned g c =
     supply_turns _ c.args.self.now c.self.view_is c.supply.new.self c.tell.new.log c.args.link c.joint-joint.result c.handle-h.result c.supply.result true c.requires.there c.joint-joint.ensures c.handle-h.ensures
     call.clients call.step call.unchanged call.idle (sym c.if-not-did.false ∙ c.did.ensures) (λ f. absurd cc)
     (λ t. record { name = port.result.component; said = c.supplied.result; named = port.ensures.component; says = says; told = c.tell.ensures })
+
+pub returns-clause-files : goal.returns-clause-files
+returns-clause-files g c = λ number. c.supply.ensures.files number ∙ ap (λ (z : PlayingValue g.row.S.Denot g.row.K.Denot). file_of number z.graph) c.self.view_is
