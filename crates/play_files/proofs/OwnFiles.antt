@@ -1,5 +1,5 @@
 -- The sinks of a play's script have files of their own.
-use Rattle.std.proofs.Common.{◌≡◌, ◌≢◌, ◌⊎◌, inl, inr, ℕ, zero, suc, ◌+◌, Bool, true, false, not, ◌||◌, List, [], ◌∷◌, ◌++◌, codes, length, slice_get, Some, Ok, Err, refl, sym, ◌∙◌, ap, subst}
+use Rattle.std.proofs.Common.{◌≡◌, ◌≢◌, ◌⊎◌, inl, inr, ℕ, ◌+◌, Bool, true, false, not, ◌||◌, List, [], ◌∷◌, ◌++◌, codes, length, Some, Ok, Err, refl, sym, ◌∙◌, ap, subst}
 use Rattle.std.specs.Prelude.{IsTrue}
 use Rattle.std.specs.List.{list_any}
 use Rattle.std.specs.Str.{bytes_eq}
@@ -18,6 +18,7 @@ use Rattle.script_lang.specs.declared.play_line.PartLine.{PartLine}
 use Rattle.script_lang.specs.declared.play_saying.PlaySaid.{PlaySaid}
 use Rattle.script_lang.specs.declared.play_saying.PlaySaid.TheVariants.{Nothing, Units, Form, Fault}
 use Rattle.script_lang.specs.declared.script.Script.{Script}
+use Rattle.machine_laws.proofs.Every.{none_passes}
 use Rattle.assembling.proofs.Places.{pushed_at}
 use Rattle.play_forms.specs.Plans.{IsPlanOfScript, PlanValue}
 use Rattle.play_results.specs.Files.{IsReader, IsWriter, read_by, written_by}
@@ -35,11 +36,6 @@ neither false b e = (refl, e)
 
 other_bytes : (a b : List ℕ) → bytes_eq a b ≡ false → a ≢ b
 other_bytes a b e s = let t : bytes_eq a b ≡ true = (bytes_eq-Decides a b).1 s in absurd cc
-
-none_at : {A : Type 0} (p : A → Bool) (xs : List A) (k : ℕ) (x : A) → list_any p xs ≡ false → slice_get xs k ≡ Some x → p x ≡ false
-none_at p [] k x e f = absurd cc
-none_at p (y ∷ xs) zero x e f = let s : y ≡ x = cc in ap p (sym s) ∙ (neither (p y) (list_any p xs) e).0
-none_at p (y ∷ xs) (suc k) x e f = none_at p xs k x (neither (p y) (list_any p xs) e).1 f
 
 writes_it : (form : PartForm) (name : List ℕ) → written_by form ≡ Some name → writes_file name form ≡ true
 writes_it (forms.Sink file) name e = (bytes_eq-Decides file name).1 (cc)
@@ -81,11 +77,11 @@ free_sink script log parts (forms.Sink file) name clear e =
       script_other = λ t. other_bytes file script taken.0 (s ∙ t);
       log_other = λ t. other_bytes file log taken.1 (s ∙ t);
       unwritten = λ k (part, there, w).
-          (let n = none_at (λ (part : PartLine). writes_file file part.form || reads_file file part.form) parts k part both.1 there in
+          (let n = none_passes (λ (part : PartLine). writes_file file part.form || reads_file file part.form) parts k part both.1 there in
           let a = (neither (writes_file file part.form) (reads_file file part.form) n).0 in
           let b = writes_it part.form file (w ∙ ap Some (sym s)) in absurd cc);
       unread = λ k (part, there, r).
-          (let n = none_at (λ (part : PartLine). writes_file file part.form || reads_file file part.form) parts k part both.1 there in
+          (let n = none_passes (λ (part : PartLine). writes_file file part.form || reads_file file part.form) parts k part both.1 there in
           let a = (neither (writes_file file part.form) (reads_file file part.form) n).1 in
           let b = reads_it part.form file (r ∙ ap Some (sym s)) in absurd cc);
     }
@@ -101,12 +97,12 @@ free_sink script log parts (forms.Splitter outputs) name clear e = absurd cc
 free_source : (script log : List ℕ) (parts : List PartLine) (form : PartForm) (name : List ℕ) → file_clashes script log parts form ≡ false → read_by form ≡ Some name → (k : ℕ) → IsWriter parts k name → ⊥
 free_source script log parts (forms.Source file) name clear e k (part, there, w) =
     let s : file ≡ name = cc in
-    let n = none_at (λ (part : PartLine). writes_file file part.form) parts k part (neither (is_taken script log file) (list_any (λ (part : PartLine). writes_file file part.form) parts) clear).1 there in
+    let n = none_passes (λ (part : PartLine). writes_file file part.form) parts k part (neither (is_taken script log file) (list_any (λ (part : PartLine). writes_file file part.form) parts) clear).1 there in
     let b = writes_it part.form file (w ∙ ap Some (sym s)) in
     absurd cc
 free_source script log parts (forms.Late file) name clear e k (part, there, w) =
     let s : file ≡ name = cc in
-    let n = none_at (λ (part : PartLine). writes_file file part.form) parts k part (neither (is_taken script log file) (list_any (λ (part : PartLine). writes_file file part.form) parts) clear).1 there in
+    let n = none_passes (λ (part : PartLine). writes_file file part.form) parts k part (neither (is_taken script log file) (list_any (λ (part : PartLine). writes_file file part.form) parts) clear).1 there in
     let b = writes_it part.form file (w ∙ ap Some (sym s)) in
     absurd cc
 free_source script log parts (forms.Sink file) name clear e k w = absurd cc

@@ -16,7 +16,8 @@ use Rattle.play_forms.specs.Parts.{is_source_part, kind_of, source_number}
 use Rattle.play_results.specs.Files.{read_by}
 use Rattle.play_files.specs.Opening.{AreRead, IsReadBy, IsReadFor, IsSourceOf}
 use Rattle.play_files.specs.Seen.{FileSeen, Reads, SourceSeen}
-use Rattle.play_files.proofs.Lists.{kept_before, put_behind}
+use Rattle.machine_laws.proofs.Every.{push_there}
+use Rattle.play_files.proofs.Lists.{put_behind}
 
 -- ---- which components read
 
@@ -66,7 +67,7 @@ none_for old held (forms.Sink file) e = refl
 
 -- with one head more, what is read is
 read_by_more : (old : Outside) (heads : List WavHead) (head : WavHead) (n : ℕ) (name : List ℕ) (file : Option FileSeen) → IsReadBy old (slice_get heads n) name file → IsReadBy old (slice_get (heads ++ head ∷ []) n) name file
-read_by_more old heads head n name (Some (Reads source format frames)) r = (r.0, kept_before heads head n r.0 r.1, r.2, r.3, r.4)
+read_by_more old heads head n name (Some (Reads source format frames)) r = (r.0, push_there heads n head r.0 r.1, r.2, r.3, r.4)
 read_by_more old heads head n name (Some (FileSeen.Writes sink frames)) r = absurd r
 read_by_more old heads head n name None r = absurd r
 
@@ -100,7 +101,7 @@ module _ {F : Type 0} (seen : F → FileSeen) (old : Outside) (parts : List Part
           R.numbered ∙ sym (count_by_more_no is_source_part parts count part (slice_get_within parts count part there) (ap is_source_part (get_or_from_slice_get parts count part part there) ∙ form_reads_not part.form none));
       lawful = R.lawful;
       each = λ place other b e. elim (cases_lt place count) [
-        | inl lt ↦ let h = R.each place other lt e in (h.0, kept_before entries None place h.0 h.1, h.2)
+        | inl lt ↦ let h = R.each place other lt e in (h.0, push_there entries place None h.0 h.1, h.2)
         | inr le ↦
             let s = at_next place other b (λ l. omega (arith, l, le)) e in
             (None, put_behind entries None place (let m = R.many in let p = s.0 in omega arith), rw s.1 (none_for old (slice_get heads (source_number parts place)) part.form none))
@@ -118,7 +119,7 @@ module _ {F : Type 0} (seen : F → FileSeen) (old : Outside) (parts : List Part
           numbered = (let a = length-append heads (head ∷ []) in let b = R.numbered in omega arith);
           lawful = λ k h e. elim (pushed_at heads k head h e) [ inl p ↦ R.lawful k h p | inr p ↦ (source.size, subst (λ (y : WavHead). FitsFile y source.size) (sym p.1) S.fits) ];
           each = λ place other b e. elim (cases_lt place count) [
-            | inl lt ↦ let h = R.each place other lt e in (h.0, kept_before entries (Some file) place h.0 h.1, read_for_more old heads head (source_number parts place) other.form (option_map seen h.0) h.2)
+            | inl lt ↦ let h = R.each place other lt e in (h.0, push_there entries place (Some file) h.0 h.1, read_for_more old heads head (source_number parts place) other.form (option_map seen h.0) h.2)
             | inr le ↦
                 let s = at_next place other b (λ l. omega (arith, l, le)) e in
                 let n : source_number parts place ≡ length heads = ap (source_number parts) s.0 ∙ sym R.numbered in

@@ -27,7 +27,8 @@ use Rattle.play_results.specs.Files.{AreFiles, IsReadAs, IsReader, read_by, writ
 use Rattle.play_files.specs.Opening.{AreOpen, HasAt, IsOpenFor, IsReadBy, IsReadFor, IsSinkOf, IsSourceOf, IsWrittenBy}
 use Rattle.play_files.specs.Seen.{FileSeen, Reads, SinkSeen, SourceSeen, Writes, offer}
 use Rattle.play_files.specs.Stopping.{IsWhole}
-use Rattle.play_files.proofs.Lists.{kept_before, put_behind}
+use Rattle.machine_laws.proofs.Every.{push_there}
+use Rattle.play_files.proofs.Lists.{put_behind}
 use Rattle.play_files.proofs.Reading.{form_reads, form_reads_not}
 use Rattle.play_files.specs.Whole.{known_by, offer_at, play_files, there_by}
 
@@ -138,7 +139,7 @@ module _ (parts : List PartLine) (value : ℕ → List ℕ) where
     record {
       many = length-append values (value count ∷ []) ∙ (let m = V.many in let y = count_by_more_yes is_source_part parts count part (slice_get_within parts count part there) (ap is_source_part (get_or_from_slice_get parts count part part there) ∙ form_reads part.form name r) in omega arith);
       each = λ place other its b e n. elim (cases_lt place count) [
-        | inl lt ↦ kept_before values (value count) (source_number parts place) (value place) (V.each place other its lt e n)
+        | inl lt ↦ push_there values (source_number parts place) (value count) (value place) (V.each place other its lt e n)
         | inr le ↦ let s : place ≡ count = omega arith in
             put_behind values (value count) (source_number parts place) (ap (source_number parts) s ∙ sym V.many) ∙ ap (λ (k : ℕ). Some (value k)) (sym s)
       ];
