@@ -8,6 +8,7 @@ use Rattle.machine_laws.proofs.Steps.{sound_run_of, sound_none}
 use Rattle.machine_laws.proofs.Standing.{sound_census}
 use Rattle.history_laws.proofs.TrailLaw.{trails_of_runs}
 use Rattle.history_laws.proofs.ClosedLaw.{runs_closed}
+use Rattle.history_laws.proofs.RunLaw.{all_were_due}
 use Rattle.run_laws.proofs.Joining.{run_joined, run_snoc, run_moves}
 use Rattle.run_laws.proofs.Delivering.{run_front}
 use Rattle.state_words.specs.Shown.{States}
@@ -24,4 +25,4 @@ one_run key units xs ys w v r s =
     let sound = sound_run_of (no_world key units) v (xs ++ ys) whole (sound_none key units) in
     let census = sound_census v sound in
     let m = run_moves (no_world key units) v (xs ++ ys) whole in
-    record { world = v; run = whole; sound = sound; closed = runs_closed key units (xs ++ ys) v whole; census = census.0; room = census.1; moves = m.0; run_moves = m.1; trails = trails_of_runs key units (xs ++ ys) m.0 v m.1; delivered = λ number A. run_front (no_world key units) v (xs ++ ys) number (sound_none key units) whole A }
+    record { world = v; run = whole; sound = sound; closed = runs_closed key units (xs ++ ys) v whole; due = λ number x. all_were_due key units (xs ++ ys) v number x whole; census = census.0; room = census.1; moves = m.0; run_moves = m.1; trails = trails_of_runs key units (xs ++ ys) m.0 v m.1; delivered = λ number A. run_front (no_world key units) v (xs ++ ys) number (sound_none key units) whole A }

@@ -10,7 +10,7 @@ use Rattle.il_machine.specs.Components.{handle_at, state_answer}
 use Rattle.il_machine.specs.Sound.{Sound}
 use Rattle.run_laws.proofs.Naming.{own_named}
 use Rattle.state_words.specs.Shown.{States}
-use Rattle.board.specs.Watching.{seat_of, AreSeats, HasMore}
+use Rattle.board.specs.Watching.{seat_of, AreFirstSeats, AreSeats, HasMore}
 
 take_some : {X : Type 0} (xs : List X) (i : ℕ) (x : X) → slice_get xs i ≡ Some x → take (suc i) xs ≡ take i xs ++ x ∷ []
 take_some [] i x e = absurd cc
@@ -58,14 +58,14 @@ seat_there w place h error S at is =
 
 -- ---- all of them
 
-pub seats_none : (w : World) → AreSeats 0 [] [] w
+pub seats_none : (w : World) → AreFirstSeats 0 [] [] w
 seats_none w = record { handles = refl; states = refl }
 
 at_seat : (o : Option Component) (h : Handle) (state : State) → Some (h, state) ≡ option_map seat_of o → (c : Component) × (o ≡ Some c) × (h ≡ c.handle) × (state ≡ c.state)
 at_seat None h state e = absurd cc
 at_seat (Some c) h state e = let p : (h, state) ≡ seat_of c = cc in (c, refl, ap (λ (s : Handle × State). s.0) p, ap (λ (s : Handle × State). s.1) p)
 
-pub seats_some : (w : World) (i : ℕ) (handles : List Handle) (states : States) (h : Handle) (state : State) → AreSeats i handles states w → Some (h, state) ≡ option_map seat_of (slice_get w.components i) → AreSeats (suc i) (handles ++ h ∷ []) (states ++ state ∷ []) w
+pub seats_some : (w : World) (i : ℕ) (handles : List Handle) (states : States) (h : Handle) (state : State) → AreFirstSeats i handles states w → Some (h, state) ≡ option_map seat_of (slice_get w.components i) → AreFirstSeats (suc i) (handles ++ h ∷ []) (states ++ state ∷ []) w
 seats_some w i handles states h state A e =
     let x = at_seat (slice_get w.components i) h state e in
     let t = take_some w.components i x.0 x.1 in record {
@@ -73,7 +73,7 @@ seats_some w i handles states h state A e =
       states = (λ k. A.states k ++ x.3 k ∷ []) ∙ sym (ap (map (λ (c : Component). c.state)) t ∙ map_last (λ (c : Component). c.state) (take i w.components) x.0);
     }
 
-pub seats_same : (w : World) (i : ℕ) (handles : List Handle) (states : States) → AreSeats i handles states w → None ≡ option_map seat_of (slice_get w.components i) → AreSeats (suc i) handles states w
+pub seats_same : (w : World) (i : ℕ) (handles : List Handle) (states : States) → AreFirstSeats i handles states w → None ≡ option_map seat_of (slice_get w.components i) → AreFirstSeats (suc i) handles states w
 seats_same w i handles states A e =
     let t = take_none w.components i (no_seat (slice_get w.components i) e) in record {
       handles = A.handles ∙ sym (ap (map (λ (c : Component). c.handle)) t);
@@ -86,14 +86,14 @@ seats_same w i handles states A e =
 
 -- ---- one seat more
 
-pub seats_next : (w : World) (i : ℕ) (o : Option (Handle × State)) (handles : List Handle) (states : States) (handles' : List Handle) (states' : States) → AreSeats i handles states w → o ≡ option_map seat_of (slice_get w.components i)
-    → HasMore o handles states handles' states' → AreSeats (i + 1) handles' states' w
+pub seats_next : (w : World) (i : ℕ) (o : Option (Handle × State)) (handles : List Handle) (states : States) (handles' : List Handle) (states' : States) → AreFirstSeats i handles states w → o ≡ option_map seat_of (slice_get w.components i)
+    → HasMore o handles states handles' states' → AreFirstSeats (i + 1) handles' states' w
 seats_next w i None handles states handles' states' A e M =
     let n : suc i ≡ i + 1 = omega arith in
-    subst (λ m. AreSeats m handles' states' w) n (subst (λ (x : List Handle × States). AreSeats (suc i) x.0 x.1 w) (λ k. (sym M.0 k, sym M.1 k)) (seats_same w i handles states A e))
+    subst (λ m. AreFirstSeats m handles' states' w) n (subst (λ (x : List Handle × States). AreFirstSeats (suc i) x.0 x.1 w) (λ k. (sym M.0 k, sym M.1 k)) (seats_same w i handles states A e))
 seats_next w i (Some s) handles states handles' states' A e M =
     let n : suc i ≡ i + 1 = omega arith in
-    subst (λ m. AreSeats m handles' states' w) n (subst (λ (x : List Handle × States). AreSeats (suc i) x.0 x.1 w) (λ k. (sym M.0 k, sym M.1 k)) (seats_some w i handles states s.0 s.1 A e))
+    subst (λ m. AreFirstSeats m handles' states' w) n (subst (λ (x : List Handle × States). AreFirstSeats (suc i) x.0 x.1 w) (λ k. (sym M.0 k, sym M.1 k)) (seats_some w i handles states s.0 s.1 A e))
 
 pub counts_next : (i : ℕ) (o : Option (Handle × State)) (handles : List Handle) (states : States) (handles' : List Handle) (states' : States) → length handles ≤ i → length states ≡ length handles
     → HasMore o handles states handles' states' → (length handles' ≤ i + 1) × (length states' ≡ length handles')
@@ -105,3 +105,22 @@ counts_next i (Some s) handles states handles' states' le same M =
     let a : length handles' ≡ length handles + 1 = ap (λ (l : List Handle). length l) M.0 ∙ length-append handles (s.0 ∷ []) in
     let b : length states' ≡ length states + 1 = ap (λ (l : States). length l) M.1 ∙ length-append states (s.1 ∷ []) in
     (omega (arith, le, a), omega (arith, same, a, b))
+
+-- ---- no more
+
+take_all : {X : Type 0} (xs : List X) (i : ℕ) → slice_get xs i ≡ None → take i xs ≡ xs
+take_all [] zero e = refl
+take_all [] (suc i) e = refl
+take_all (y ∷ ys) zero e = absurd cc
+take_all (y ∷ ys) (suc i) e = ap (λ l. y ∷ l) (take_all ys i e)
+
+no_handle : (o : Option Component) → None ≡ option_map (λ c. c.handle) o → o ≡ None
+no_handle None e = refl
+no_handle (Some c) e = absurd cc
+
+pub seats_all : (w : World) (i : ℕ) (handles : List Handle) (states : States) → AreFirstSeats i handles states w → None ≡ handle_at i (look w) → AreSeats handles states w
+seats_all w i handles states A e =
+    let t = take_all w.components i (no_handle (slice_get w.components i) e) in record {
+      handles = A.handles ∙ ap (map (λ (c : Component). c.handle)) t;
+      states = A.states ∙ ap (map (λ (c : Component). c.state)) t;
+    }

@@ -106,4 +106,5 @@ module _ {S K C : Type 0} where
     pub mine : own 0 log ≡ v.mine
     pub joined : (i : ℕ) (x : ℕ × List (Entry (Asked S K C) (Told S K C))) → get_elem? v.joined i ≡ some x → own x.0 log ≡ x.1
     pub each : (p : ℕ) → p ≤ v.splits → IsClear see (own p log)
+    pub all : (p : ℕ) → 0 < p → p ≤ v.splits → (i : ℕ) × (get_elem? v.joined i ≡ some (p, own p log))
     pub no_other : (p : ℕ) → v.splits < p → own p log ≡ []

@@ -5,3 +5,4 @@ pub mod Serving
 pub mod Showing
 pub mod Boards
 pub mod Together
+pub mod Opening

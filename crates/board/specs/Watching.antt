@@ -21,8 +21,13 @@ abbrev pub HasMore : Option (Handle × State) → List Handle → States → Lis
 HasMore None handles states handles' states' = (handles' ≡ handles) × (states' ≡ states)
 HasMore (Some s) handles states handles' states' = (handles' ≡ handles ++ s.0 ∷ []) × (states' ≡ states ++ s.1 ∷ [])
 
--- these are the handles and the states of the first so many components of the world, in the order of their numbers
-pub record AreSeats (many : ℕ) (seated : List Handle) (stated : States) (w : World) : Type 0 where
+-- these are the handles and the states of the components of the world, in the order of their numbers
+pub record AreSeats (seated : List Handle) (stated : States) (w : World) : Type 0 where
+  pub handles : seated ≡ map (λ c. c.handle) w.components
+  pub states : stated ≡ map (λ c. c.state) w.components
+
+-- of the first so many of them
+pub record AreFirstSeats (many : ℕ) (seated : List Handle) (stated : States) (w : World) : Type 0 where
   pub handles : seated ≡ map (λ c. c.handle) (take many w.components)
   pub states : stated ≡ map (λ c. c.state) (take many w.components)
 

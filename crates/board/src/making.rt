@@ -1,18 +1,16 @@
-//! A board is made, its passes split and meet, and it ends.
-ghost use Rattle.std.specs.Prelude.{◌≡◌, ◌≤◌, ◌<◌, ◌^◌, [], ◌∷◌, ◌++◌, length, slice_get, option_map, IfOk, IfErr, OnOk};
+//! A board is made.
+ghost use Rattle.std.specs.Prelude.{◌≡◌, ◌≤◌, length, option_map, slice_get, IfOk, IfErr, OnOk};
 ghost use Rattle.il_machine.specs.Whole.{Always};
-ghost use Rattle.graph_core.specs.Ending.{IsAllIn};
-ghost use Rattle.il_graph.specs.Shown.{kept, look_of};
-ghost use Rattle.turnstile.specs.Turns.{rooted, parent, child};
-ghost use Rattle.turnstile.specs.Passes.{Joined};
-ghost use Rattle.state_words.specs.Shown.{States, Within, firsts};
-ghost use Rattle.graph_acts.specs.Plain.{sight_of};
-ghost use Rattle.graph_acts.specs.Holding.{Clear};
+ghost use Rattle.il_graph.specs.Shown.{kept};
+ghost use Rattle.turnstile.specs.Turns.{rooted};
+ghost use Rattle.state_words.specs.Shown.{States, firsts};
 ghost use Rattle.board.specs.Watching.{seat_of, AreSeats, HasMore};
-ghost use Rattle.board.specs.Histories.{Legal, MayAsk, known_of};
-ghost use Rattle.board.specs.Boards.{first_of, first_graph, pass_view, own_calls, seen_states, IsOf, IsWhole, HasNoFiles, Closed};
+ghost use Rattle.board.specs.Histories.{known_of};
+ghost use Rattle.board.specs.Opening.{AreLooks};
+ghost use Rattle.board.specs.Boards.{first_of, first_graph, pass_view, seen_states, IsOf};
 
 use crate::boards::Board;
+use crate::looks::Looks;
 use crate::pass::BoardPass;
 use crate::watched::Watched;
 use graph_acts::Served;
@@ -20,7 +18,7 @@ use il_graph::Graph;
 use note_queues::Client;
 use omx_types::{Handle, State};
 use outside_io::{Sink, Source};
-use state_words::StateWords;
+use state_words::{Reader, StateWords};
 use std::alloc::{AllocError, Global};
 use std::sync::Arc;
 use turnstile::Turnstile;
@@ -64,7 +62,7 @@ fn seats<S: Source, K: Sink, C: Client>(
     graph: &Graph<S, K, C>,
 ) -> Result<(Vec<Handle>, Vec<State>), AllocError>
     ensures counts { IfOk result (λ r. (length r.0.items ≤ 32) × (length r.1.items ≡ length r.0.items)) }
-    ensures seats { IfOk result (λ r. Always (kept C.progress graph.now) (AreSeats 32 r.0.items r.1.items)) }
+    ensures seats { IfOk result (λ r. Always (kept C.progress graph.now) (AreSeats r.0.items r.1.items)) }
 {
     let mut handles = Vec::new(alloc);
     let mut states = Vec::new(alloc);
@@ -74,7 +72,73 @@ fn seats<S: Source, K: Sink, C: Client>(
             Err(e) => return Err(e),
         }
     }
-    Ok((handles, states))
+    // A graph has no more than 32, which no clause of it says.
+    match graph.handle_at(32) {
+        None => Ok((handles, states)),
+        Some(_) => Err(AllocError),
+    }
+}
+
+// The seats of the graph, with the words that show them.
+fn look_at<S: Source, K: Sink, C: Client>(
+    alloc: Global,
+    graph: &Graph<S, K, C>,
+) -> Result<Looks, AllocError>
+    ensures looks { IfOk result AreLooks }
+    ensures seats { IfOk result (λ l. Always (kept C.progress graph.now) (AreSeats l.handles.items l.states.items)) }
+{
+    let (handles, states) = seats(alloc, graph)?;
+    let copied = Vec::from_slice(alloc, handles.as_slice())?;
+    let (words, shower, reader) = StateWords::new(alloc, states.as_slice())?;
+    let Ok(words) = Arc::new(alloc, words) else {
+        return Err(AllocError);
+    };
+    let Ok(theirs) = Arc::try_clone(&words) else {
+        return Err(AllocError);
+    };
+    Ok(Looks {
+        words,
+        theirs,
+        shower,
+        reader,
+        copied,
+        handles,
+        states,
+    })
+}
+
+impl Looks {
+    // The value that is served, and what its board and the first pass keep.
+    fn over<S: Source, K: Sink, C: Client>(
+        self,
+        served: Served<S, K, C>,
+    ) -> (
+        Watched<S, K, C>,
+        Arc<StateWords, Global>,
+        Vec<Handle>,
+        Reader,
+    )
+        ensures value { result.0 ≡ record { served = served; words = self.theirs; shower = self.shower; handles = self.handles; states = self.states } }
+        ensures rest { (result.1 ≡ self.words) × (result.2 ≡ self.copied) × (result.3 ≡ self.reader) }
+    {
+        let Looks {
+            words,
+            theirs,
+            shower,
+            reader,
+            copied,
+            handles,
+            states,
+        } = self;
+        let watched = Watched {
+            served,
+            words: theirs,
+            shower,
+            handles,
+            states,
+        };
+        (watched, words, copied, reader)
+    }
 }
 
 impl<S: Source, K: Sink, C: Client> Board<S, K, C> {
@@ -84,114 +148,26 @@ impl<S: Source, K: Sink, C: Client> Board<S, K, C> {
         graph: Graph<S, K, C>,
     ) -> Result<(Board<S, K, C>, BoardPass<S, K, C>), (OutOfMemory, Graph<S, K, C>)>
         ensures ok { IfOk result (λ t. IsOf t.0 t.1 × (first_graph t.0 ≡ graph) × (pass_view t.1 ≡ rooted (first_of t.0))) }
-        ensures watched { IfOk result (λ t. Always (kept C.progress graph) (λ w. (states : States) × AreSeats 32 (first_of t.0).handles.items states w × (known_of (first_of t.0) ≡ firsts states))) }
+        ensures watched { IfOk result (λ t. Always (kept C.progress graph) (λ w. (states : States) × AreSeats (first_of t.0).handles.items states w × (known_of (first_of t.0) ≡ firsts states))) }
         ensures known { IfOk result (λ t. seen_states t.1 ≡ known_of (first_of t.0)) }
         ensures err { IfErr result (λ e. e.1 ≡ graph) }
     {
         graph.law_of_worlds();
-        let (handles, states) = match seats(alloc, &graph) {
-            Ok(seats) => seats,
+        let looks = match look_at(alloc, &graph) {
+            Ok(looks) => looks,
             Err(e) => return Err((e, graph)),
         };
-        let copied = match Vec::from_slice(alloc, handles.as_slice()) {
-            Ok(copied) => copied,
-            Err(e) => return Err((e, graph)),
-        };
-        let (words, shower, reader) = match StateWords::new(alloc, states.as_slice()) {
-            Ok(made) => made,
-            Err(e) => return Err((e, graph)),
-        };
-        let words = match Arc::new(alloc, words) {
-            Ok(words) => words,
-            Err(_) => return Err((AllocError, graph)),
-        };
-        let theirs = match Arc::try_clone(&words) {
-            Ok(theirs) => theirs,
-            Err(_) => return Err((AllocError, graph)),
-        };
-        let served = Served { graph, alloc };
-        match Turnstile::new(
-            alloc,
-            Watched {
-                served,
-                words: theirs,
-                shower,
-                handles,
-                states,
-            },
-        ) {
-            Ok((turns, turn)) => Ok((
-                Board {
+        let (watched, words, handles, reader) = looks.over(Served { graph, alloc });
+        match Turnstile::new(alloc, watched) {
+            Ok((turns, turn)) => {
+                let board = Board {
                     turns,
                     words,
-                    handles: copied,
-                },
-                BoardPass { turn, reader },
-            )),
-            Err((e, watched)) => {
-                let Watched {
-                    served,
-                    words: _,
-                    shower: _,
-                    handles: _,
-                    states: _,
-                } = watched;
-                let Served { graph, alloc: _ } = served;
-                Err((e, graph))
+                    handles,
+                };
+                Ok((board, BoardPass { turn, reader }))
             }
+            Err((e, watched)) => Err((e, watched.into_graph())),
         }
-    }
-
-    /// A pass that has seen as much as the root.
-    pub fn split(&self, root: &mut BoardPass<S, K, C>) -> BoardPass<S, K, C>
-        requires pass { IsOf self.now root.old × ((pass_view root.old).number ≡ 0) × ((pass_view root.old).splits < 2 ^ 32) }
-        ensures root { IsOf self.now root.new × (pass_view root.new ≡ parent (pass_view root.old)) × (seen_states root.new ≡ seen_states root.old) }
-        ensures child { IsOf self.now result × (pass_view result ≡ child (pass_view root.old)) × (seen_states result ≡ seen_states root.old) }
-    {
-        BoardPass {
-            turn: self.turns.split(&mut root.turn),
-            reader: self.words.split(&mut root.reader),
-        }
-    }
-
-    /// The root has then seen one history with all that both had seen, and every state that either had seen.
-    pub fn meet(&self, root: &mut BoardPass<S, K, C>, pass: BoardPass<S, K, C>)
-        requires root { IsOf self.now root.old × ((pass_view root.old).number ≡ 0) }
-        requires pass { IsOf self.now pass × Clear (sight_of C.progress S.offset S.size S.told K.told) (own_calls pass) }
-        ensures root { IsOf self.now root.new × ((pass_view root.new).number ≡ 0) × ((pass_view root.new).splits ≡ (pass_view root.old).splits) × ((pass_view root.new).mine ≡ (pass_view root.old).mine) }
-        ensures listed { (pass_view root.new).joined ≡ (pass_view root.old).joined ++ ((pass_view pass).number, (pass_view pass).mine) ∷ [] }
-        ensures history { Joined (Legal (sight_of C.progress S.offset S.size S.told K.told)) (MayAsk (sight_of C.progress S.offset S.size S.told K.told) C.HEADERS) (first_of self.now) (pass_view root.old) (pass_view pass) (pass_view root.new) }
-        ensures known { Within (seen_states root.old) (seen_states root.new) × Within (seen_states pass) (seen_states root.new) }
-    {
-        let BoardPass { turn, reader } = pass;
-        self.turns.join(&mut root.turn, turn);
-        self.words.learn(&mut root.reader, reader);
-    }
-
-    /// The graph, once each other pass was met. Where nothing was out of it at first, nothing is now; and where then no component has a
-    /// file, the graph can be closed.
-    pub fn close(self, root: BoardPass<S, K, C>) -> Graph<S, K, C>
-        requires root { IsOf self root × ((pass_view root).number ≡ 0) × Clear (sight_of C.progress S.offset S.size S.told K.told) (own_calls root) }
-        requires joined { length (pass_view root).joined ≡ (pass_view root).splits }
-        ensures closed { Closed (sight_of C.progress S.offset S.size S.told K.told) C.HEADERS (first_of self) (pass_view root) result }
-        ensures whole { IsWhole (first_graph self) → IsWhole result }
-        ensures all_in { IsWhole (first_graph self) → HasNoFiles result → IsAllIn (look_of result) }
-    {
-        let Board {
-            turns,
-            words: _,
-            handles: _,
-        } = self;
-        let BoardPass { turn, reader: _ } = root;
-        let Watched {
-            served,
-            words: _,
-            shower: _,
-            handles: _,
-            states: _,
-        } = turns.close(turn);
-        let Served { graph, alloc: _ } = served;
-        graph.law_of_worlds();
-        graph
     }
 }

@@ -1,8 +1,8 @@
 use Rattle.std.proofs.Common.{◌≡◌, ◌≤◌, length}
 use Rattle.il_machine.specs.Whole.{Always}
 use Rattle.il_graph.specs.Shown.{kept}
-use Rattle.board.specs.Watching.{AreSeats}
+use Rattle.board.specs.Watching.{AreFirstSeats}
 use Rattle.board.proofs.making.seats.Given as goal
 
 abbrev pub invariant-loop-place : goal.invariant-loop-place
-invariant-loop-place g l = (length l.handles.items ≤ l.place) × (length l.states.items ≡ length l.handles.items) × Always (kept g.C.Client.progress l.graph) (AreSeats l.place l.handles.items l.states.items)
+invariant-loop-place g l = (length l.handles.items ≤ l.place) × (length l.states.items ≡ length l.handles.items) × Always (kept g.C.Client.progress l.graph) (AreFirstSeats l.place l.handles.items l.states.items)
