@@ -1,5 +1,6 @@
 pub mod Bare
 pub mod Owning
+pub mod Busying
 pub mod Going
 pub mod Serves
 pub mod LastCall

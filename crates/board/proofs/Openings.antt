@@ -8,6 +8,7 @@ use Rattle.graph_acts.specs.Plain.{Sight}
 use Rattle.state_words.specs.Shown.{States, last_or, firsts}
 use Rattle.state_words.specs.Tokens.{IsShowerOf}
 use Rattle.board.specs.declared.watched.Watched.{Watched}
+use Rattle.board.specs.Busy.{none}
 use Rattle.board.specs.Watching.{start}
 use Rattle.board.specs.Histories.{graph_of, known_of, words_of, IsTidy, HasVersions, Reaches, Legal, StandsAfter}
 
@@ -37,7 +38,7 @@ module _ {S K C : Type 0} (see : Sight S K C) where
         objects = λ p x h. absurd h;
         works = record { out = λ p x h. absurd h; apart = λ p q x y h. absurd h; all = λ n is. inl is };
       } in (
-        record { one = W; replies = tt; worlds = λ w s. R w; apart = λ p q x y h. absurd h; reader = tt },
+        record { one = W; replies = tt; worlds = λ w s. R w; busy = none; apart = λ p q x y h. absurd h; reader = tt },
         record {
           worlds = λ w s. record { reaches = R w; stands = s; states = refl };
           headers = record { out = λ p x h. absurd h; apart = λ p q x y h. absurd h; all = λ k is. inl is };

@@ -21,13 +21,14 @@ use Rattle.board.specs.declared.asked.Asked.{Asked}
 use Rattle.board.specs.declared.asked.Told.{Told}
 use Rattle.board.specs.declared.watched.Watched.{Watched}
 use Rattle.board.specs.Asking.{bare_log}
+use Rattle.board.specs.Busy.{AreBusyWhereOut, next}
 use Rattle.board.specs.Watching.{SeenIn}
 use Rattle.board.specs.Histories.{HasVersions, IsTidy, HeadersAreHeld, ClientsAreHeld, Arrives, Legal, StandsAfter, MayAsk, graph_of, known_of, words_of}
 use Rattle.board.specs.Serving.{own_bare}
 use Rattle.board.specs.Showing.{ShowsChanges}
 use Rattle.board.proofs.Bare.{bare_snoc, told_last}
 use Rattle.board.proofs.Owning.{replies_more}
-use Rattle.board.proofs.Going.{headers_go, clients_go, reach}
+use Rattle.board.proofs.Going.{headers_go, clients_go, reach, busy_here}
 
 module _ {S K C : Type 0} (see : Sight S K C) (headers : Bool) (first old new : Watched S K C) (log : List (Entry (Asked S K C) (Told S K C))) (pass : ℕ) (a : Asked S K C) (r : Told S K C) (place : ℕ) where
   -- the value after the act and after each changed state was shown
@@ -51,11 +52,15 @@ module _ {S K C : Type 0} (see : Sight S K C) (headers : Bool) (first old new : 
       let Q = reach see headers first (graph_of old) (graph_of new) log pass a r (graph_of first) L N U.headers U.clients m M w A.reaches A.stands (known_of new)
       (λ v t. subst (λ l. SeenIn first.handles.items v l (known_of new)) (sym A.states) (subst (λ hs. SeenIn hs v (known_of old) (known_of new)) U.handles (seen v t))) within in
       record { reaches = Q.0; stands = Q.1; states = Q.2 } in
+      let one = due.is_legal.one in
+      let A = U.worlds one.world one.stands in
       let count : length (log ++ entry pass a r ∷ []) ≡ length log + 1 = length-append log (entry pass a r ∷ []) in (
         record {
           one = due.is_legal.one;
           replies = subst AreReplies (sym e) (replies_more (bare_log log) (entry pass a.act r.reply) due.is_legal.replies M.replied);
           worlds = λ w s. (W w s).reaches;
+          busy = subst (AreBusyWhereOut see) (sym e) (next (bare_log log) (entry pass a.act r.reply) due.is_legal.busy
+              (busy_here see headers first (graph_of old) (graph_of new) log pass a r (graph_of first) L U.headers U.clients m M one.world A.reaches A.stands));
           apart = λ p q x y h g k. O.apart p q x y h g k;
           reader = subst (λ (o : Option Reader). MatchOption o (Unit {0}) (IsReaderOf (words_of first))) (sym (told_last None log (entry pass a r))) (subst (λ (t : StateWords). IsReaderOf t r.reader) U.words of);
         },

@@ -28,6 +28,7 @@ use Rattle.board.specs.declared.asked.Asked.{Asked}
 use Rattle.board.specs.declared.asked.Told.{Told}
 use Rattle.board.specs.declared.watched.Watched.{Watched}
 use Rattle.board.specs.Asking.{ArePlain, bare_log, last_told}
+use Rattle.board.specs.Busy.{AreBusyWhereOut}
 use Rattle.board.specs.Watching.{Shown}
 
 -- no more versions than places
@@ -80,6 +81,8 @@ module _ {S K C : Type 0} where
     pub one : graphs.SoundWhole (graphs.kept see.progress (graph_of first))
     pub replies : AreReplies (bare_log log)
     pub worlds : (w : World) → Stands (graphs.kept see.progress (graph_of first)) w → Reaches see first w log
+    -- while a client object is with a pass, a note of its component is answered Busy
+    pub busy : AreBusyWhereOut see (bare_log log)
     -- a client object that is out is with one pass
     pub apart : (p q : ℕ) (x y : OutClient) → Has (clients_held see.progress (own p (bare_log log))) x → Has (clients_held see.progress (own q (bare_log log))) y → x.handle ≡ y.handle → p ≡ q
     -- the reader that came back last is one of the words

@@ -1,5 +1,6 @@
 pub mod Asking
 pub mod Watching
+pub mod Busy
 pub mod Histories
 pub mod Serving
 pub mod Showing
