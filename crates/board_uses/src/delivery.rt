@@ -3,8 +3,11 @@ ghost use Rattle.std.specs.Prelude.{◌≡◌, [], ◌∷◌};
 ghost use Rattle.il_machine.specs.Components.{noted_by};
 ghost use Rattle.note_queues.specs.Queues.{note_of};
 ghost use Rattle.turnstile.specs.Passes.{IsSamePass};
-ghost use Rattle.board.specs.Boards.{pass_view, headers, clients, works, IsOf};
-ghost use Rattle.board_uses.specs.Delivering.{out_client, headers_got};
+ghost use Rattle.graph_acts.specs.declared.act.Act.TheVariants as asks;
+ghost use Rattle.graph_acts.specs.declared.act.Reply.TheVariants as replies;
+ghost use Rattle.graph_acts.specs.Plain.{sight_of};
+ghost use Rattle.board.specs.Boards.{first_of, pass_view, headers, clients, works, IsCalled, IsOf};
+ghost use Rattle.board_uses.specs.Delivering.{out_client, headers_got, DoesDeliver};
 
 use board::{Act, Board, BoardPass, Reply};
 use note_queues::{Call, Client, Taken, Took};
@@ -47,6 +50,7 @@ fn end<S: Source, K: Sink, C: Client, R: Wait>(
     requires pass { IsOf board.now pass.old }
     requires holds { clients C.progress pass.old ≡ out_client h (C.progress client) ∷ [] }
     ensures pass { IsOf board.now pass.new × IsSamePass (pass_view pass.old) (pass_view pass.new) }
+    ensures call { IsCalled (sight_of C.progress S.offset S.size S.told K.told) C.HEADERS (first_of board.now) (pass_view pass.old) (asks.EndNote h client) result replies.EndNote (pass_view pass.new) }
     ensures clients { clients C.progress pass.new ≡ [] }
     ensures headers { headers pass.new ≡ headers pass.old }
     ensures works { works pass.new ≡ works pass.old }
@@ -73,6 +77,7 @@ pub fn deliver<S: Source, K: Sink, C: Client, R: Wait>(
     requires pass { IsOf board.now pass.old }
     requires holds { clients C.progress pass.old ≡ [] }
     ensures pass { IsOf board.now pass.new × IsSamePass (pass_view pass.old) (pass_view pass.new) }
+    ensures calls { DoesDeliver C.progress h result pass.old pass.new }
     ensures clients { clients C.progress pass.new ≡ [] }
     ensures headers { headers pass.new ≡ headers_got result (headers pass.old) }
     ensures works { works pass.new ≡ works pass.old }

@@ -2,6 +2,8 @@
 #![tactic(auto)]
 
 mod delivery;
+#[cfg(test)]
+mod tests;
 mod working;
 
 pub use delivery::{Delivered, deliver};

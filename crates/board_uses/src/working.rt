@@ -1,8 +1,12 @@
 //! A component's work goes out in one turn, is done while no turn is held, and comes back in another.
 ghost use Rattle.std.specs.Prelude.{◌≡◌, [], ◌∷◌};
 ghost use Rattle.turnstile.specs.Passes.{IsSamePass};
+ghost use Rattle.graph_acts.specs.declared.act.Act.TheVariants as asks;
+ghost use Rattle.graph_acts.specs.declared.act.Reply.TheVariants as replies;
+ghost use Rattle.graph_acts.specs.Plain.{sight_of};
 ghost use Rattle.graph_acts.specs.Working.{OutWork, IsRunOf};
-ghost use Rattle.board.specs.Boards.{pass_view, headers, clients, works, IsOf};
+ghost use Rattle.board.specs.Boards.{first_of, pass_view, headers, clients, works, IsCalled, IsOf};
+ghost use Rattle.board_uses.specs.Stepping.{DoesStep};
 
 use board::{Act, Board, BoardPass, Claimed, DoneWork, Reply};
 use note_queues::Client;
@@ -32,6 +36,7 @@ fn bring_back<S: Source, K: Sink, C: Client, R: Wait>(
     requires pass { IsOf board.now pass.old }
     requires holds { (got : OutWork S K) × (works pass.old ≡ got ∷ []) × IsRunOf got done }
     ensures pass { IsOf board.now pass.new × IsSamePass (pass_view pass.old) (pass_view pass.new) }
+    ensures call { IsCalled (sight_of C.progress S.offset S.size S.told K.told) C.HEADERS (first_of board.now) (pass_view pass.old) (asks.Finish done) result replies.Finish (pass_view pass.new) }
     ensures works { works pass.new ≡ [] }
     ensures clients { clients C.progress pass.new ≡ clients C.progress pass.old }
     ensures headers { headers pass.new ≡ headers pass.old }
@@ -58,6 +63,7 @@ pub fn work_once<S: Source, K: Sink, C: Client, R: Wait>(
     requires pass { IsOf board.now pass.old }
     requires holds { works pass.old ≡ [] }
     ensures pass { IsOf board.now pass.new × IsSamePass (pass_view pass.old) (pass_view pass.new) }
+    ensures calls { DoesStep h result pass.old pass.new }
     ensures works { works pass.new ≡ [] }
     ensures clients { clients C.progress pass.new ≡ clients C.progress pass.old }
     ensures headers { headers pass.new ≡ headers pass.old }

@@ -1,0 +1,7 @@
+mod asking;
+mod client;
+mod history;
+mod peeks;
+mod places;
+mod rounds;
+mod threads;
