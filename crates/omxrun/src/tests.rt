@@ -203,9 +203,9 @@ fn words_and_scripts(rt: HostRuntime) -> Result<(), Failure> {
     check_words(
         &rt,
         &PLAY,
-        b"omx 1 play\nunits 2\nsource a in.wav\nsink b out.wav\nlink a.0 b.0 2 4096\n",
+        b"omx 1 play\nunits 1\nsource a in.wav\nsink b out.wav\nlink a.0 b.0 2 4096\n",
         THREE_SAMPLES,
-        b"units: have 2 need 3\n",
+        b"units: have 1 need 2\n",
         9,
     )?;
     check_words(
