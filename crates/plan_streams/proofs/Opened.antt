@@ -147,7 +147,6 @@ tells (Some known) file e = let s : known ≡ file = cc in ([], s ∙ sym (appen
 -- ---- the world
 
 module _ (plan : PlanValue) (files : PlayFiles) (handles : List Handle) (w : World) (B : IsStage (assembly_of plan files) (Joining (length plan.joints)) handles w) where
-
   module _ (place : ℕ) (part : PartLine) (a : Component) (e : slice_get plan.parts place ≡ Some part) (f : slice_get w.components place ≡ Some a) where
     -- the stream of the component's file
     pub opening_stream : stream_of (number_of a) w ≡ Some (stream_by (file_at plan files place) place)
