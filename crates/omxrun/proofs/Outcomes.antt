@@ -56,6 +56,7 @@ done-before script log old mid new summary on same D = record {
       record {
         samples = H.samples;
         files_are = files-before old mid _ D.files H.samples same H.files_are;
+        told = H.told;
         sinks = H.sinks;
         text = H.text;
         logged = H.logged;

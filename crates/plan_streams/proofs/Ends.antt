@@ -1,11 +1,13 @@
 -- What the file of a plan's sink is to take is its text of the plain function.
-use Rattle.std.proofs.Common.{◌≡◌, ℕ, ◌*◌, ◌<◌, Bool, true, false, List, [], ◌++◌, length, get_or, slice_get, slice_index_or, Some, refl, sym, ◌∙◌, ap, subst, option_map, arith}
+use Rattle.std.proofs.Common.{◌≡◌, ℕ, ◌+◌, ◌*◌, ◌/◌, ◌%◌, ◌<◌, Bool, true, false, List, [], ◌++◌, length, length-append, get_or, slice_get, slice_index_or, Some, refl, sym, ◌∙◌, ap, subst, option_map, arith}
 use Rattle.omx_types.specs.declared.format.Format.{Format}
 use Rattle.omx_types.specs.declared.format.Format.TheVariants.{Auto}
+use Rattle.omx_types.specs.declared.format.Format.TheVariants as formats
 use Rattle.omx_types.specs.declared.kind.Kind.{Kind}
 use Rattle.omx_types.specs.declared.kind.Kind.TheVariants as kinds
 use Rattle.omx_types.specs.Formats.{IsWithinLimits, frame_bytes_of}
 use Rattle.part_forms.specs.Kinds.{inputs_of, is_source, outputs_of}
+use Rattle.part_forms.specs.Writing.{head_len, head_of, pad_of, written}
 use Rattle.il_machine.specs.Files.{attached}
 use Rattle.il_machine.specs.Kinds.{is_sink}
 use Rattle.script_lang.specs.declared.play_line.PartForm.{PartForm}
@@ -28,6 +30,7 @@ use Rattle.play_streams.specs.Fronts.{whole_text}
 use Rattle.play_streams.specs.Streams.{sunk_by, sunk_of}
 use Rattle.plan_streams.specs.Contents.{contents_of, streams_of}
 use Rattle.plan_streams.specs.Terms.{terms_by, terms_in}
+use Rattle.plan_streams.specs.Texts.{size_of}
 use Rattle.plan_streams.proofs.Contents.{input_unit, link_in, model_inputs}
 use Rattle.plan_streams.proofs.Plainly.{all_before, into_is, one_long, source_is}
 use Rattle.plan_streams.proofs.Ports.{IsAtInput}
@@ -43,6 +46,21 @@ sink_form forms.Mulaw name h = absurd cc
 sink_form (forms.Gain gain) name h = absurd cc
 sink_form (forms.Mixer weights) name h = absurd cc
 sink_form (forms.Splitter outputs) name h = absurd cc
+
+-- how long a written file is
+length_head : (format : Format) (frames : ℕ) → length (head_of format frames) ≡ head_len format
+length_head (formats.Pcm rate channels) frames = refl
+length_head (formats.Alaw rate channels) frames = refl
+length_head (formats.Mulaw rate channels) frames = refl
+length_head formats.Auto frames = refl
+
+length_pad : (size : ℕ) → length (pad_of size) ≡ size % 2
+length_pad size = grind arith
+
+length_written : (format : Format) (bytes : List ℕ) → length (written format bytes) ≡ head_len format + length bytes + length bytes % 2
+length_written format bytes =
+    let frames = length bytes / frame_bytes_of format in
+    omega (arith, length-append (head_of format frames ++ bytes) (pad_of (length bytes)), length-append (head_of format frames) bytes, length_head format frames, length_pad (length bytes))
 
 -- a link into a sink, and what goes through it
 pub record IsSinkLink (plan : PlanValue) (files : PlayFiles) (samples : List (List ℕ)) (by_output : ℕ → Bool) (place : ℕ) : Type 0 where
@@ -125,6 +143,9 @@ module _ (plan : PlanValue) (files : PlayFiles) (samples : List (List ℕ)) (R :
         let first : r.0 ≡ 0 = omega arith in
         let unit : (k.part c).input_frame ≡ frame_bytes_of format = sym (input_unit plan files samples R c place part S 0 low) ∙ ap frame_bytes_of (sym Z.format) in
         ap (λ (i : ℕ). length (into [] plan.joints values place i)) (sym first) ∙ (r.2 ∙ (λ i. frames_are i * unit i))
+
+    pub text_long : length (sink_text plan samples place) ≡ size_of format planned
+    text_long = length_written format stream ∙ (λ i. head_len format + stream_long i + stream_long i % 2)
 
     limits : IsWithinLimits format
     limits = let K = link_is plan files R Z.link Z.below in subst IsWithinLimits (sym Z.format) (K.lawful).format

@@ -1,5 +1,8 @@
 -- What the file of a component is to have taken.
-use Rattle.std.specs.Prelude.{◌≡◌, ℕ, List, [], Some, MatchOption}
+use Rattle.std.specs.Prelude.{◌≡◌, ℕ, ◌+◌, ◌*◌, ◌%◌, List, [], Some, MatchOption}
+use Rattle.omx_types.specs.declared.format.Format.{Format}
+use Rattle.omx_types.specs.Formats.{frame_bytes_of}
+use Rattle.part_forms.specs.Writing.{head_len}
 use Rattle.il_machine.specs.Stepping.{IsFrontOf}
 use Rattle.il_machine.specs.World.{World, stream_of}
 
@@ -10,3 +13,7 @@ HasWrittenFront w number text = MatchOption (stream_of number w) ⊥ (λ s. IsFr
 -- it was empty when it came
 abbrev pub CameEmpty : World → ℕ → Type 0
 CameEmpty w number = MatchOption (stream_of number w) ⊥ (λ s. s.known ≡ Some [])
+
+-- the size of the file of so many frames
+abbrev pub size_of : Format → ℕ → ℕ
+size_of format frames = head_len format + frames * frame_bytes_of format + frames * frame_bytes_of format % 2

@@ -2,11 +2,12 @@
 //! samples of the files of its sources. Stated on functions that do nothing; the play of a plan stands on them.
 #![tactic(auto)]
 
-ghost use Rattle.std.specs.Prelude.{◌≡◌, ℕ, ◌≤◌, Bool, false, List, [], Some};
+ghost use Rattle.std.specs.Prelude.{◌≡◌, ℕ, ◌≤◌, Bool, false, List, [], length, slice_index_or, Some};
 ghost use Rattle.il_machine.specs.Finishing.{Finish};
 ghost use Rattle.il_machine.specs.Stepping.{WorkDone};
 ghost use Rattle.il_machine.specs.World.{World};
 ghost use Rattle.flow_model.specs.Content.{AreContents, ArePlain};
+ghost use Rattle.play_forms.specs.Fitting.{format_into};
 ghost use Rattle.play_forms.specs.Plain.{sink_text};
 ghost use Rattle.play_forms.specs.Plans.{PlanValue};
 ghost use Rattle.play_model.specs.Play.{Play};
@@ -20,7 +21,7 @@ ghost use Rattle.play_streams.specs.Contents.{HasContents, network_of};
 ghost use Rattle.play_streams.specs.Fronts.{AreFronts};
 ghost use Rattle.play_streams.specs.Streams.{AreNew, EachSink, HasStreams};
 ghost use Rattle.plan_streams.specs.Contents.{contents_of, streams_of};
-ghost use Rattle.plan_streams.specs.Texts.{CameEmpty, HasWrittenFront};
+ghost use Rattle.plan_streams.specs.Texts.{CameEmpty, HasWrittenFront, size_of};
 
 /// The parts of a plan that is ready, with the samples of its files, are those of its network, and the plan's plain function gives
 /// the network's streams.
@@ -48,7 +49,7 @@ pub fn law_of_plan_openings()
 {}
 
 /// From the second Idle on the file of each sink has taken its text of the plain function; at each moment before, and after a step
-/// that failed, a front of it. It was empty when it came.
+/// that failed, a front of it. It was empty when it came. The whole text has the size of a file of the planned frames.
 pub fn law_of_plan_texts()
     ensures whole { (plan : PlanValue) (files : PlayFiles) (samples : List (List ℕ)) (by_output : ℕ → Bool)
         (p : Play) (w : World) (place : ℕ) (name : List ℕ)
@@ -73,4 +74,7 @@ pub fn law_of_plan_texts()
         (p : Play) (w v : World) (done : WorkDone) (place : ℕ) (name : List ℕ)
         → IsReady plan files → AreSamples plan files samples → IsPlayWorld (cast_of by_output plan) p w → Finish w done v
         → EachSink (cast_of by_output plan) v (λ l a s. s.known ≡ Some []) → IsWriter plan.parts place name → CameEmpty v place }
+    ensures sizes { (plan : PlanValue) (files : PlayFiles) (samples : List (List ℕ)) (place : ℕ) (name : List ℕ)
+        → IsReady plan files → AreSamples plan files samples → IsWriter plan.parts place name
+        → length (sink_text plan samples place) ≡ size_of (format_into plan.joints plan.flows place 0) (slice_index_or plan.frames place 0) }
 {}

@@ -37,6 +37,7 @@ use Rattle.play_course.specs.Players.{AreFilesOf, IsWhole}
 use Rattle.play_course.specs.Running.{HasTaken, IsRunCause}
 use Rattle.play_course.specs.Settling.{fault_of_log, line_in, settled}
 use Rattle.play_course.specs.Sums.{planned_summary}
+use Rattle.play_course.proofs.Told.{summary_is}
 use Rattle.play_course.proofs.Ways.{are_files_of, counted, front, held, others, samples_of, was_opened}
 
 -- ---- by its counts
@@ -234,6 +235,7 @@ module _ {F : Type 0} (seen : F → FileSeen) (script : Script) (name log : List
             record {
               samples = f.0;
               files_are = f.1;
+              told = told ∙ summary_is plan (play_files seen O.heads entries) f.0 (was_opened seen script name log old mid plan entries O own).ready (samples_of old plan (play_files seen O.heads entries) f.0 f.1);
               sinks = hold_sinks final tells (same tells) f.0 f.1;
               text = it.text.items;
               logged = held_log tells;

@@ -1,4 +1,5 @@
 pub mod Sinks
 pub mod Running
 pub mod Ways
+pub mod Told
 pub mod Ends

@@ -15,7 +15,7 @@ use Rattle.play_forms.specs.Plans.{IsFit, IsFitted, IsPlanOfScript, PlanValue}
 use Rattle.play_openings.specs.Assemblies.{IsReady, PlayFiles}
 use Rattle.play_results.specs.Files.{AreFiles, IsNoSink, IsWriter, read_by}
 use Rattle.play_results.specs.Results.{HoldSinks, IsLogOf, OthersAreKept}
-use Rattle.play_results.specs.Summaries.{SinkLine}
+use Rattle.play_results.specs.Summaries.{SinkLine, summary_of}
 use Rattle.play_files.specs.Left.{IsUnopened}
 use Rattle.play_course.specs.Settling.{parts_of}
 use Rattle.play_course.specs.Sums.{planned_summary}
@@ -39,10 +39,11 @@ pub record WasOpened (script : Script) (old : Outside) (plan : PlanValue) (files
 
 -- ---- done whole
 
--- the sinks' names hold their texts, and the log's name its log
-pub record AreHeld (log : List ℕ) (plan : PlanValue) (files : PlayFiles) (old new : Outside) : Type 0 where
+-- the sinks' names hold their texts, and the log's name its log; of each sink the summary tells the frames and how long its text is
+pub record AreHeld (log : List ℕ) (plan : PlanValue) (files : PlayFiles) (old new : Outside) (summary : List SinkLine) : Type 0 where
   pub samples : List (List ℕ)
   pub files_are : AreFiles old plan.parts files samples
+  pub told : summary ≡ summary_of plan samples
   pub sinks : HoldSinks plan samples new
   pub text : List ℕ
   pub logged : new.file log ≡ Some text
@@ -54,7 +55,7 @@ pub record IsDone (script : Script) (log : List ℕ) (old new : Outside) (summar
   pub files : PlayFiles
   pub opened : WasOpened script old plan files
   pub told : summary ≡ planned_summary plan
-  pub held : IsTrue old.tells → AreHeld log plan files old new
+  pub held : IsTrue old.tells → AreHeld log plan files old new summary
 
 -- ---- a fault in the run
 

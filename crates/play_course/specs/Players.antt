@@ -1,10 +1,7 @@
 -- What a player is given, and what it makes of it.
-use Rattle.std.specs.Prelude.{◌≡◌, ℕ, ◌*◌, List, [], All, length, take, slice_get, count_by, Option, Some, option_map}
-use Rattle.omx_types.specs.Formats.{frame_bytes_of}
+use Rattle.std.specs.Prelude.{◌≡◌, ℕ, List, [], All, length, slice_get, Option, Some, option_map}
 use Rattle.il_machine.specs.Stepping.{IsFrontOf}
 use Rattle.il_machine.specs.World.{World}
-use Rattle.wav_form.specs.declared.heads.WavHead.{WavHead}
-use Rattle.play_forms.specs.Parts.{is_source_part, source_number}
 use Rattle.play_forms.specs.Plain.{sink_text}
 use Rattle.play_forms.specs.Plans.{PlanValue}
 use Rattle.play_openings.specs.Assemblies.{IsReady, PlayFiles, file_at}

@@ -1,3 +1,5 @@
+use Rattle.std.proofs.Common.{false}
+use Rattle.plan_streams.proofs.Ends.{text_long}
 use Rattle.plan_streams.proofs.Texts.{texts_failed, texts_failed_new, texts_fronts, texts_new, texts_whole}
 use Rattle.plan_streams.proofs.law_of_plan_texts.Goals as goal
 
@@ -8,4 +10,5 @@ returns c = record {
   new = λ plan files samples by_output p w place name R F W H I. texts_new plan files samples by_output R F p w W H place name I;
   failed = λ plan files samples by_output p w v done place name R F W G E I. texts_failed plan files samples by_output R F p w v done W G E place name I;
   failed_new = λ plan files samples by_output p w v done place name R F W G E I. texts_failed_new plan files samples by_output R F p w v done W G E place name I;
+  sizes = λ plan files samples place name R F I. text_long plan files samples R F (λ l. false) place I.0 name I.1 I.2;
 }
