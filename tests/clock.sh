@@ -2,10 +2,7 @@
 # Runs each clock script of tests/clock and examples/clock with the built program, and compares what it prints and its
 # status with the text beside it, whose last line is 'status N'. The texts were worked out from the rules by an
 # independent model. Its last line is 'clock: N passed, M failed'.
-set -eu
-top=$(cd "$(dirname "${BASH_SOURCE[0]}")/.." && pwd)
-program=$top/crates/omxrun/out/omxrun
-"$top/omxrun" >/dev/null || true
+. "$(dirname "${BASH_SOURCE[0]}")/program.sh"
 got=$(mktemp)
 trap 'rm -f "$got"' EXIT
 

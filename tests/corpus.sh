@@ -1,10 +1,8 @@
 #!/usr/bin/env bash
 # Plays each WAV file of tests/corpus with the built program, and compares what it prints, its status and
 # the file that it writes with what the index says. Its last line is 'corpus: N passed, M failed'.
-set -eu
-top=$(cd "$(dirname "${BASH_SOURCE[0]}")/.." && pwd)
-"$top/omxrun" >/dev/null || true
-exec python3 - "$top/tests/corpus" "$top/crates/omxrun/out/omxrun" <<'PY'
+. "$(dirname "${BASH_SOURCE[0]}")/program.sh"
+exec python3 - "$top/tests/corpus" "$program" <<'PY'
 import os, shutil, struct, subprocess, sys, tempfile
 
 folder, program = sys.argv[1:]

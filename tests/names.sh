@@ -1,14 +1,11 @@
 #!/usr/bin/env bash
 # Plays a file into a second name of itself, of the script or of the sink, on real files with the built program: each
 # such sink or log is a write fault, status 5, and no byte is lost. Its last line is 'names: N passed, M failed'.
-set -eu
-top=$(cd "$(dirname "${BASH_SOURCE[0]}")/.." && pwd)
-"$top/omxrun" >/dev/null || true
-exec python3 - "$top" <<'PY'
+. "$(dirname "${BASH_SOURCE[0]}")/program.sh"
+exec python3 - "$top" "$program" <<'PY'
 import os, subprocess, sys, tempfile
 
-top = sys.argv[1]
-program = os.path.join(top, 'crates/omxrun/out/omxrun')
+top, program = sys.argv[1:]
 sound = open(os.path.join(top, 'examples/first/in.wav'), 'rb').read()
 refused, played = ('write fault\n', 5), ('sink b 3 frames 50 bytes\nok\n', 0)
 

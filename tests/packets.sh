@@ -3,18 +3,15 @@
 # by_struct.py builds. In the folders `pack` and `unpack` NAME.in is the first file, NAME.out what is printed, with a
 # line 'status N' at its end, and NAME.new the second file, where the status is 0; a long one is compressed. An
 # independent model worked them out from the rules. Its last line is 'packets: N passed, M failed'.
-set -eu
-top=$(cd "$(dirname "${BASH_SOURCE[0]}")/.." && pwd)
-"$top/omxrun" >/dev/null || true
-exec python3 - "$top" <<'PY'
+. "$(dirname "${BASH_SOURCE[0]}")/program.sh"
+exec python3 - "$top" "$program" <<'PY'
 import gzip, os, subprocess, sys, tempfile
 
-top = sys.argv[1]
+top, program = sys.argv[1:]
 sys.dont_write_bytecode = True
 sys.path.insert(0, os.path.join(top, 'tests/packets'))
 import by_struct
 
-program = os.path.join(top, 'crates/omxrun/out/omxrun')
 
 
 def content(path):

@@ -3,14 +3,11 @@
 # stand in an empty folder when the program starts; `out`, what is printed, with a line 'status N' at its end; and the files
 # of `after`, which are there at the end beside those of `before`. Of a log only its last line is looked at. An independent
 # model worked them out from the rules. Its last line is 'plays: N passed, M failed'.
-set -eu
-top=$(cd "$(dirname "${BASH_SOURCE[0]}")/.." && pwd)
-"$top/omxrun" >/dev/null || true
-exec python3 - "$top" <<'PY'
+. "$(dirname "${BASH_SOURCE[0]}")/program.sh"
+exec python3 - "$top" "$program" <<'PY'
 import os, subprocess, sys, tempfile
 
-top = sys.argv[1]
-program = os.path.join(top, 'crates/omxrun/out/omxrun')
+top, program = sys.argv[1:]
 plays = os.path.join(top, 'tests/plays')
 
 

@@ -2,14 +2,11 @@
 # Runs each trace script of tests/traces with the built program, and compares what it prints and its status with the
 # text beside it, whose last line is 'status N'. The texts were worked out from the rules by an independent model.
 # Its last line is 'traces: N passed, M failed'.
-set -eu
-top=$(cd "$(dirname "${BASH_SOURCE[0]}")/.." && pwd)
-"$top/omxrun" >/dev/null || true
-exec python3 - "$top" <<'PY'
+. "$(dirname "${BASH_SOURCE[0]}")/program.sh"
+exec python3 - "$top" "$program" <<'PY'
 import os, subprocess, sys
 
-top = sys.argv[1]
-program = os.path.join(top, 'crates/omxrun/out/omxrun')
+top, program = sys.argv[1:]
 
 
 def told(folder, script):

@@ -1,0 +1,5 @@
+# Sourced by the tests of the program, which is built first where its sources changed.
+set -eu
+top=$(cd "$(dirname "${BASH_SOURCE[0]}")/.." && pwd)
+program=$top/crates/omxrun/out/omxrun
+"$top/omxrun" >/dev/null || true
