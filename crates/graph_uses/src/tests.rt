@@ -2,7 +2,6 @@ mod buffers;
 mod client;
 mod files;
 mod handles;
-mod pair;
 mod tunnels;
 mod units;
 mod working;

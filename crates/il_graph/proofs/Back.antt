@@ -1,5 +1,5 @@
 -- A component's work comes back to a graph, with its part.
-use Rattle.std.proofs.Common.{◌≡◌, ◌≢◌, inl, inr, ℕ, zero, suc, ◌+◌, ◌<◌, Bool, true, false, ◌||◌, List, [], ◌∷◌, length, map, set, Option, Some, None, MatchOption, IsSomeAnd, option_map, option_and_then, slice_get, ◌&&◌, nat_eq, refl, sym, ◌∙◌, ap, subst, arith, eqb-true, length-set}
+use Rattle.std.proofs.Common.{◌≡◌, ◌≢◌, ℕ, zero, suc, ◌<◌, Bool, true, false, ◌||◌, List, [], ◌∷◌, length, map, set, Option, Some, None, MatchOption, IsSomeAnd, option_map, option_and_then, slice_get, ◌&&◌, nat_eq, refl, sym, ◌∙◌, ap, subst, arith, eqb-true, length-set}
 use Rattle.std.specs.Prelude.{is_some, unwrap_or}
 use Rattle.std.proofs.lemmas.List.{length-map}
 use Rattle.std.proofs.lemmas.Option.{slice_get-map}
@@ -13,17 +13,14 @@ use Rattle.il_machine.specs.Acts as acts
 use Rattle.il_machine.specs.Answers.{component_named}
 use Rattle.il_machine.specs.Due.{first_due, ClosesTo}
 use Rattle.il_machine.specs.Effect.{at_numbered}
-use Rattle.il_machine.specs.Finishing.{announced, announced_at, Finish, finished, gone_through, part_after, part_by, stepped_back, with_landed}
-use Rattle.il_machine.specs.Kinds.{is_source}
+use Rattle.il_machine.specs.Finishing.{announced, announced_at, Finish, finished, gone_through, part_by, stepped_back}
 use Rattle.il_machine.specs.Look.{Look}
 use Rattle.il_machine.specs.Parts.{file_format, frames_left, terms_of}
-use Rattle.il_machine.specs.Run.{Meets, Step}
 use Rattle.il_machine.specs.Settings.{same_format}
 use Rattle.il_machine.specs.Sound.{Sound}
 use Rattle.il_machine.specs.Stepping.{WorkDone, IsDoneBy, IsDoneOf}
-use Rattle.il_machine.specs.Whole.{HasDone, HasParts, IsBack, PartSeen, Stands, StepsWhere}
-use Rattle.il_machine.specs.World.{Component, Stream, Work, World, component_numbered, is_at, number_of, place_numbered, place_of, port_of, same_handle, stream_of, with_component}
-use Rattle.il_machine.specs.Places.{first_place}
+use Rattle.il_machine.specs.Whole.{HasDone, HasParts, PartSeen, Stands, StepsWhere}
+use Rattle.il_machine.specs.World.{Component, Stream, Work, World, component_numbered, is_at, number_of, place_numbered, place_of, port_of, same_handle, stream_of}
 use Rattle.il_machine.proofs.Places.{is_first_place, passes_at}
 use Rattle.machine_laws.proofs.Finding.{either}
 use Rattle.machine_laws.proofs.Granting.{placed_there}
@@ -40,7 +37,6 @@ use Rattle.work_landing.specs.Places.{carried_from}
 use Rattle.graph_core.specs.Entries.{Entries, component_at, components_of, look_of}
 use Rattle.graph_core.specs.Entries as core
 use Rattle.graph_core.specs.Finishing.{ComesBack}
-use Rattle.graph_core.specs.Standing.{SoundWorld}
 use Rattle.graph_core.proofs.Announced.{told_is}
 use Rattle.graph_core.proofs.Finished.{finished_is}
 use Rattle.audio_parts.specs.declared.any_part.AnyPart.{AnyPart}
@@ -56,7 +52,7 @@ use Rattle.il_flow.specs.Steps.{shown}
 use Rattle.il_flow.specs.Works.{DoneOf, seen_done}
 use Rattle.il_graph.specs.Finishing.{IsItsOwn, Returns, failed_by}
 use Rattle.il_graph.specs.HandedIn.{KeepsHandedIn}
-use Rattle.il_graph.specs.Shown.{Shown, IsWhole, IsPartOf, ArePartsOf, KeepsFiles, seen_of, seen_parts, file_at, file_of, kept}
+use Rattle.il_graph.specs.Shown.{Shown, IsWhole, IsPartOf, KeepsFiles, seen_of, seen_parts, file_of, kept}
 use Rattle.il_graph.proofs.Calling.{at_some}
 use Rattle.il_graph.proofs.HandedIn.{keeps_at}
 use Rattle.il_graph.proofs.Filing.{number_placed, parts_set, placed_set}

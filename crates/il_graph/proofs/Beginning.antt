@@ -1,9 +1,7 @@
 -- A graph with no component.
-use Rattle.std.proofs.Common.{◌≡◌, [], List, Some, slice_get, refl, sym, ◌∙◌, ap, subst}
+use Rattle.std.proofs.Common.{◌≡◌, [], List, refl, ◌∙◌, ap}
 use Rattle.il_machine.specs.declared.answer.Progress.{Progress}
-use Rattle.il_machine.specs.World.{Component, World}
 use Rattle.il_machine.specs.Look.{Look}
-use Rattle.il_machine.specs.Due.{first_due}
 use Rattle.graph_core.specs.Entries.{Entries, components_of, look_of}
 use Rattle.graph_core.specs.Entries as core
 use Rattle.graph_core.specs.Standing.{SoundWorld}

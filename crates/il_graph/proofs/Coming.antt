@@ -1,5 +1,5 @@
 -- A component comes to a graph with its part.
-use Rattle.std.proofs.Common.{◌≡◌, ◌≢◌, inl, inr, ℕ, zero, suc, ◌+◌, ◌<◌, Bool, true, false, List, [], ◌∷◌, ◌++◌, length, map, Option, Some, None, is_some, All, option_map, option_and_then, slice_get, Ok, refl, sym, ◌∙◌, ap, subst, ne_eqb, arith}
+use Rattle.std.proofs.Common.{◌≡◌, inl, inr, ℕ, suc, ◌<◌, true, false, List, [], ◌∷◌, ◌++◌, length, Option, Some, None, is_some, All, option_map, option_and_then, slice_get, Ok, refl, sym, ◌∙◌, ap, subst, ne_eqb, arith}
 use Rattle.std.proofs.lemmas.List.{length-map, length-append, map-append}
 use Rattle.omx_types.specs.declared.handle.Handle.{Handle}
 use Rattle.omx_types.specs.declared.kind.Kind.{Kind}
@@ -15,7 +15,7 @@ use Rattle.il_machine.specs.Parts.{terms_of}
 use Rattle.il_machine.specs.Acts as acts
 use Rattle.il_machine.specs.Run.{Step}
 use Rattle.il_machine.specs.Whole.{PartSeen, HasDone, HasParts, Stands, Steps}
-use Rattle.machine_laws.proofs.Every.{from_places, at_place}
+use Rattle.machine_laws.proofs.Every.{from_places}
 use Rattle.machine_laws.proofs.Lookups.{rises_at}
 use Rattle.whole_laws.specs.Bare.{StandsBare, StepsBare}
 use Rattle.whole_laws.proofs.Lists.{get_last, get_before_last, get_at_last}
@@ -25,7 +25,7 @@ use Rattle.graph_core.specs.Entries.{Entries, components_of, look_of}
 use Rattle.graph_core.specs.Entries as core
 use Rattle.audio_parts.specs.Shown.{ShownPart}
 use Rattle.il_graph.specs.Shown.{Shown, IsWhole, IsPartOf, ArePartsOf, KeepsFiles, seen_parts, file_of, kept, seen_of}
-use Rattle.il_graph.proofs.PartsStay.{PartsStay, part_of, after_effect}
+use Rattle.il_graph.proofs.PartsStay.{PartsStay, after_effect}
 use Rattle.il_graph.proofs.Whole.{places_alike, bare, sound_in, changed_whole, changed_alike, changed_is_whole}
 use Rattle.il_graph.proofs.Places.{told_come, told_new}
 

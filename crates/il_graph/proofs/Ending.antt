@@ -1,5 +1,5 @@
 -- A world that the graph stands for, in which a progress is that of all events that were given for a component whose client object is out.
-use Rattle.std.proofs.Common.{◌≡◌, ◌≢◌, ℕ, true, List, Option, Some, slice_get, option_and_then, sym, ◌∙◌, ap}
+use Rattle.std.proofs.Common.{◌≡◌, ℕ, true, List, Some, slice_get, option_and_then, ◌∙◌, ap}
 use Rattle.omx_types.specs.declared.handle.Handle.{Handle}
 use Rattle.il_machine.specs.declared.answer.Progress.{Progress}
 use Rattle.il_machine.specs.World.{Component, World, number_of, place_of}

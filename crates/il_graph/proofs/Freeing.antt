@@ -3,8 +3,8 @@ use Rattle.std.proofs.Common.{◌≡◌, ℕ, Option, None, Ok, MatchOption}
 use Rattle.part_api.specs.declared.attached.Attached.{Attached}
 use Rattle.omx_types.specs.declared.handle.Handle.{Handle}
 use Rattle.il_machine.specs.declared.answer.Progress.{Progress}
-use Rattle.il_machine.specs.World.{Component, World}
-use Rattle.il_machine.specs.Look.{Look, look}
+use Rattle.il_machine.specs.World.{Component}
+use Rattle.il_machine.specs.Look.{Look}
 use Rattle.il_machine.specs.Due.{ClosesTo}
 use Rattle.il_machine.specs.Components.{FreeHandle, free_refusal, without_component}
 use Rattle.whole_laws.specs.Bare.{StepsBare}

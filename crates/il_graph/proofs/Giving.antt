@@ -1,5 +1,5 @@
 -- What a work that goes out of a graph is given: a part on which all is set, and headers of its ports.
-use Rattle.std.proofs.Common.{◌≡◌, ℕ, Bool, true, false, List, [], map, Option, Some, None, MatchOption, IfSome, option_map, option_and_then, slice_get, refl, sym, ◌∙◌, ap, subst}
+use Rattle.std.proofs.Common.{◌≡◌, ℕ, Bool, true, false, List, [], map, Option, Some, None, option_map, option_and_then, slice_get, refl, sym, ◌∙◌, ap, subst}
 use Rattle.std.proofs.lemmas.Option.{slice_get-map}
 use Rattle.omx_types.specs.declared.handle.Handle.{Handle}
 use Rattle.part_api.specs.Terms.{Terms, Writing}
@@ -11,7 +11,7 @@ use Rattle.il_machine.specs.Parts.{factors_by, terms_of}
 use Rattle.il_machine.specs.Claims.{claim_idle, must_announce}
 use Rattle.il_machine.specs.Sound.{IsSound}
 use Rattle.il_machine.specs.Stock.{Stocked}
-use Rattle.il_machine.specs.Whole.{HasDone, PartSeen, Stands}
+use Rattle.il_machine.specs.Whole.{HasDone, Stands}
 use Rattle.header_core.specs.BufferHeader.{BufferHeader}
 use Rattle.graph_core.specs.Claiming.{AreFronts, HasFronts, gives_to}
 use Rattle.graph_core.specs.Entries.{components_of}
@@ -23,10 +23,10 @@ use Rattle.il_flow.specs.Layouts.{ports_of as ports_by}
 use Rattle.il_flow.specs.Places.{AreWithin, carried_from}
 use Rattle.il_flow.specs.Sound.{HaveOutputs}
 use Rattle.il_flow.specs.Steps.{shown}
-use Rattle.il_graph.specs.Claiming.{AreTermsOf, IsSoFar}
+use Rattle.il_graph.specs.Claiming.{AreTermsOf}
 use Rattle.il_graph.specs.Finishing.{IsItsOwn}
 use Rattle.il_graph.specs.Preparing.{prepared, prepared_where, with_formats}
-use Rattle.il_graph.specs.Shown.{IsPartOf, IsWhole, Shown, kept, seen_of, seen_parts}
+use Rattle.il_graph.specs.Shown.{IsPartOf, Shown, kept, seen_of}
 use Rattle.il_graph.proofs.Back.{or_false}
 use Rattle.il_graph.proofs.Calling.{and_some}
 use Rattle.il_graph.proofs.Going.{prepared_done}

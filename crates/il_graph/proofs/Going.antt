@@ -1,5 +1,5 @@
 -- A component's work goes out of a graph, with its part.
-use Rattle.std.proofs.Common.{◌≡◌, ◌≢◌, inl, inr, ℕ, ◌+◌, Bool, true, false, ◌||◌, List, [], ◌∷◌, length, map, set, find, Option, Some, None, is_some, MatchOption, option_map, option_and_then, slice_get, Ok, Err, Result, refl, sym, ◌∙◌, ap, subst, length-set}
+use Rattle.std.proofs.Common.{◌≡◌, ◌≢◌, inl, inr, ℕ, ◌+◌, Bool, true, List, [], ◌∷◌, set, find, Option, Some, None, is_some, MatchOption, option_map, option_and_then, slice_get, Ok, Result, refl, sym, ◌∙◌, ap, subst, length-set}
 use Rattle.std.proofs.lemmas.Bool.Decides.{eqb_tells}
 use Rattle.omx_types.specs.declared.handle.Handle.{Handle}
 use Rattle.omx_types.specs.declared.error.OmxError.{OmxError}
@@ -7,13 +7,13 @@ use Rattle.part_api.specs.Terms.{Terms, Writing}
 use Rattle.part_forms.specs.Sinking.{reformatted}
 use Rattle.il_machine.specs.declared.answer.Progress.{Progress}
 use Rattle.il_machine.specs.declared.port.PortSetting.{PortSetting}
-use Rattle.il_machine.specs.World.{Component, Stream, Work, World, number_of, place_of, place_numbered, stream_of, is_stream_of}
-use Rattle.il_machine.specs.Headers.{Seen, seen}
+use Rattle.il_machine.specs.World.{Component, Stream, Work, World, number_of, place_of, place_numbered, is_stream_of}
+use Rattle.il_machine.specs.Headers.{seen}
 use Rattle.il_machine.specs.Look.{Look, look}
-use Rattle.il_machine.specs.Answers.{plain, Resolving, component_named}
+use Rattle.il_machine.specs.Answers.{plain, component_named}
 use Rattle.il_machine.specs.Due.{first_due, ClosesTo}
 use Rattle.il_machine.specs.Parts.{factors_by, terms_of}
-use Rattle.il_machine.specs.Claims.{CarriedHeader, Claim, Claimed, ClaimedWork, Claims, WorkSeen, carried, claim_idle, must_announce, seen_work, with_work, work_of}
+use Rattle.il_machine.specs.Claims.{CarriedHeader, Claim, Claimed, ClaimedWork, Claims, WorkSeen, carried, claim_idle, must_announce, with_work, work_of}
 use Rattle.il_machine.specs.Acts as acts
 use Rattle.il_machine.specs.Run.{Step}
 use Rattle.il_machine.specs.Whole.{PartSeen, HasDone, HasParts, IsWriting, Stands, Steps}
@@ -37,7 +37,7 @@ use Rattle.port_rules.specs.declared.claiming.NoWork.{NoWork}
 use Rattle.port_rules.specs.declared.claiming.NoWork.TheVariants as answers
 use Rattle.il_graph.specs.declared.claimed.Claimed.{Claimed as Answer}
 use Rattle.il_graph.specs.Claiming.{IsSoFar, answer_of, told_by}
-use Rattle.il_graph.specs.Preparing.{prepared, with_factors, with_formats, with_port_format}
+use Rattle.il_graph.specs.Preparing.{prepared, with_formats, with_port_format}
 use Rattle.il_graph.specs.Shown.{Shown, IsWhole, IsPartOf, ArePartsOf, KeepsFiles, seen_parts, file_at, file_of, kept, seen_of}
 use Rattle.il_graph.proofs.Back.{number_named}
 use Rattle.il_graph.proofs.Calling.{Found, at_some}

@@ -9,7 +9,7 @@ use Rattle.il_machine.specs.World.{Component, World}
 use Rattle.il_machine.specs.Look.{Look, look}
 use Rattle.il_machine.specs.Due.{ClosesTo}
 use Rattle.il_machine.specs.Units.{first_waiter, victim, granted_units, preempted_units, with_changed, grant_idle, preempt_idle, Grant, Preempt}
-use Rattle.whole_laws.specs.Bare.{StandsBare, StepsBare}
+use Rattle.whole_laws.specs.Bare.{StepsBare}
 use Rattle.machine_laws.proofs.Keys.{there_is}
 use Rattle.whole_laws.proofs.Answering.{then_closes}
 use Rattle.whole_laws.proofs.Following.{as_change, stay}

@@ -1,11 +1,10 @@
 -- The part of a component that a call found.
-use Rattle.std.proofs.Common.{◌≡◌, ℕ, ◌+◌, ◌-◌, ◌*◌, ◌<◌, ◌≤◌, Bool, true, false, not, ◌&&◌, ◌||◌, nat_lt, List, [], ◌∷◌, drop, length, map, Option, Some, None, MatchOption, option_map, slice_get, All, refl, sym, ◌∙◌, ap, subst, ltb-false, arith}
+use Rattle.std.proofs.Common.{◌≡◌, ℕ, ◌-◌, ◌*◌, ◌<◌, ◌≤◌, Bool, true, false, not, ◌||◌, nat_lt, List, [], ◌∷◌, drop, length, map, Option, Some, None, option_map, slice_get, refl, ◌∙◌, ap, subst, ltb-false, arith}
 use Rattle.std.specs.Prelude.{is_some}
 use Rattle.std.specs.List.{list_any}
 use Rattle.std.proofs.lemmas.List.{length-map}
 use Rattle.std.proofs.lemmas.Option.{slice_get_within}
 use Rattle.omx_types.specs.declared.format.Format.{Format}
-use Rattle.omx_types.specs.declared.handle.Handle.{Handle}
 use Rattle.omx_types.specs.declared.kind.Kind.{Kind}
 use Rattle.omx_types.specs.declared.kind.Kind.TheVariants as kinds
 use Rattle.omx_types.specs.declared.state.State.{State}
@@ -23,17 +22,16 @@ use Rattle.il_machine.specs.Look.{Look}
 use Rattle.il_machine.specs.Parameters.{is_settable, is_too_large}
 use Rattle.il_machine.specs.Ports.{is_at_rest, is_joined, has_no_header}
 use Rattle.il_machine.specs.States.{is_loaded, is_invalid, is_running}
-use Rattle.il_machine.specs.World.{Component, Work, World, ports_of}
-use Rattle.il_machine.specs.Sound.{IsConnected, IsSound, IsSoundWork, Sound, may_work}
+use Rattle.il_machine.specs.World.{Component, Work, ports_of}
+use Rattle.il_machine.specs.Sound.{IsConnected, IsSound, may_work}
 use Rattle.machine_laws.proofs.Accepting.{both_of, not_not, passed}
 use Rattle.machine_laws.proofs.Every.{at_place}
 use Rattle.audio_parts.specs.AnyParts.{MayAttach, OnFrom}
 use Rattle.audio_parts.specs.declared.part_file.PartFile.{PartFile}
 use Rattle.audio_parts.specs.declared.part_file.PartFile.TheVariants as files
 use Rattle.audio_parts.specs.Shown.{ShownPart}
-use Rattle.graph_core.specs.Entries.{Entries, components_of}
+use Rattle.graph_core.specs.Entries.{components_of}
 use Rattle.il_graph.specs.Shown.{ArePartsOf, Shown, IsWhole, IsPartOf, offered}
-use Rattle.il_graph.proofs.Calling.{Found}
 use Rattle.il_graph.proofs.Lending.{part_there}
 use Rattle.il_graph.proofs.Ready.{either_of}
 

@@ -1,11 +1,10 @@
 -- The headers of a work stay in it over the close-out.
 use Rattle.std.proofs.Common.{◌≡◌, ℕ, List, [], ◌∷◌, Option, Some, None, MatchOption, option_map, refl, sym, ◌∙◌, ap, subst}
 use Rattle.il_machine.specs.declared.answer.Progress.{Progress}
-use Rattle.il_machine.specs.declared.header.HeaderState.{HeaderState}
 use Rattle.il_machine.specs.declared.header.Owner.TheVariants as owners
 use Rattle.il_machine.specs.World.{HeaderRecord, World}
 use Rattle.il_machine.specs.Headers.{find_header, seen}
-use Rattle.il_machine.specs.Look.{Look, look}
+use Rattle.il_machine.specs.Look.{Look}
 use Rattle.il_machine.specs.Due.{ClosesTo}
 use Rattle.history_laws.proofs.HeldOut.{times_outs}
 use Rattle.history_laws.proofs.KeyLaw.{closing_key}

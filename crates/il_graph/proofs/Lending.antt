@@ -1,12 +1,11 @@
 -- A work of a component that goes out of a graph: what is true of its part and of its headers.
-use Rattle.std.proofs.Common.{◌≡◌, ◌≢◌, inl, inr, ℕ, suc, zero, ◌+◌, ◌<◌, ◌≤◌, Bool, true, false, not, ◌&&◌, nat_lt, nat_le, List, [], ◌∷◌, length, map, filter, Option, Some, None, MatchOption, option_map, slice_get, All, refl, sym, ◌∙◌, ap, subst, ltb-true, ltb-false, arith}
+use Rattle.std.proofs.Common.{◌≡◌, ℕ, suc, zero, ◌+◌, ◌<◌, ◌≤◌, Bool, true, false, not, ◌&&◌, nat_lt, nat_le, List, [], ◌∷◌, length, map, filter, Option, Some, None, option_map, slice_get, refl, sym, ◌∙◌, ap, subst, arith}
 use Rattle.std.specs.Prelude.{is_some}
 use Rattle.std.proofs.Math.ListN.{get_or}
 use Rattle.std.proofs.lemmas.Bool.Decides.{nat_tests}
 use Rattle.std.proofs.lemmas.List.{length-map}
 use Rattle.std.proofs.lemmas.Option.{slice_get-map}
 use Rattle.part_api.specs.Terms.{Terms}
-use Rattle.il_machine.specs.declared.answer.Progress.{Progress}
 use Rattle.il_machine.specs.declared.port.Port.{Port}
 use Rattle.il_machine.specs.declared.port.PortKey.{PortKey}
 use Rattle.il_machine.specs.declared.port.PortSetting.{PortSetting}
@@ -19,24 +18,21 @@ use Rattle.il_machine.specs.World.{Component, number_of, ports_from, ports_of}
 use Rattle.il_machine.specs.Headers.{Seen}
 use Rattle.il_machine.specs.Look.{Look}
 use Rattle.il_machine.specs.Ports.{is_input_port}
-use Rattle.il_machine.specs.Claims.{claim_idle, gives_header, is_output_port, must_announce, room_test, wanted}
-use Rattle.il_machine.specs.Sound.{IsSound, IsLawfulSetting, Sound}
+use Rattle.il_machine.specs.Claims.{claim_idle, gives_header, is_output_port, must_announce, room_test}
+use Rattle.il_machine.specs.Sound.{IsSound, IsLawfulSetting}
 use Rattle.il_machine.specs.Stock.{Stocked}
-use Rattle.il_machine.specs.Whole.{PartSeen, HasDone, HasParts, Stands}
-use Rattle.machine_laws.proofs.Accepting.{both_of, passed}
-use Rattle.machine_laws.proofs.Claiming.{IsClaimable, claim_passes}
-use Rattle.machine_laws.proofs.Every.{at_place}
+use Rattle.machine_laws.proofs.Accepting.{passed}
+use Rattle.machine_laws.proofs.Claiming.{claim_passes}
 use Rattle.header_core.specs.BufferHeader.{BufferHeader}
 use Rattle.port_stock.specs.Conditions.{number_of as header_number}
-use Rattle.graph_core.specs.Claiming.{AreFree, AreFronts, IsFrontWhere, gives_to, key_at, out_where}
-use Rattle.graph_core.specs.Entries.{components_of}
+use Rattle.graph_core.specs.Claiming.{AreFree, AreFronts, gives_to, key_at, out_where}
 use Rattle.graph_core.proofs.Picked.{Agree, agree_next}
 use Rattle.audio_parts.specs.Shapes.{IsLawful}
 use Rattle.audio_parts.specs.Shown.{ShownPart}
 use Rattle.il_flow.specs.Layouts.{ports_of as ports_by}
 use Rattle.il_flow.specs.Places.{AreWithin, carried_from}
 use Rattle.il_flow.specs.Sound.{HaveOutputs}
-use Rattle.il_graph.specs.Shown.{Shown, IsWhole, IsPartOf, ArePartsOf, kept}
+use Rattle.il_graph.specs.Shown.{IsPartOf, ArePartsOf}
 
 -- ---- its part
 

@@ -1,10 +1,4 @@
-pub mod Causing
-pub mod Falling
 pub mod Fronts
-pub mod Kept
-pub mod Moving
-pub mod Pairs
-pub mod Streaming
 pub mod Looking
 pub mod Calling
 pub mod Clients
@@ -25,7 +19,6 @@ pub mod Ready
 pub mod Makable
 pub mod Newly
 pub mod Leaving
-pub mod Filed
 pub mod Fileless
 pub mod Filing
 pub mod Going

@@ -1,10 +1,9 @@
 -- Headers that may be made, and headers that are handed in.
-use Rattle.std.proofs.Common.{◌≡◌, ℕ, ◌≤◌, Bool, true, false, not, ◌||◌, nat_lt, List, length, Option, Some, None, MatchOption, IsSomeAnd, refl, sym, ◌∙◌, ap, subst, ltb-false, arith}
-use Rattle.std.specs.Prelude.{is_none, is_some}
+use Rattle.std.proofs.Common.{◌≡◌, ℕ, false, not, ◌||◌, nat_lt, List, length, Option, Some, None, MatchOption, IsSomeAnd, refl, sym, subst, ltb-false}
+use Rattle.std.specs.Prelude.{is_some}
 use Rattle.omx_types.specs.declared.handle.Handle.{Handle}
 use Rattle.omx_types.specs.declared.error.OmxError.TheVariants as errors
 use Rattle.il_machine.specs.declared.answer.Progress.{Progress}
-use Rattle.il_machine.specs.declared.port.Link.{Link}
 use Rattle.il_machine.specs.declared.port.Port.{Port}
 use Rattle.il_machine.specs.declared.header.HeaderState.{HeaderState}
 use Rattle.il_machine.specs.declared.header.Owner.TheVariants as owners
@@ -14,7 +13,7 @@ use Rattle.il_machine.specs.States.{is_invalid}
 use Rattle.il_machine.specs.World.{Component, port_of}
 use Rattle.il_machine.specs.Buffers.{allocate_refusal, has_no_block, has_no_number, is_bad_length, use_refusal}
 use Rattle.machine_laws.proofs.Accepting.{not_not, passed}
-use Rattle.header_core.specs.BufferHeader.{BufferHeader, cleared, is_clients}
+use Rattle.header_core.specs.BufferHeader.{BufferHeader, cleared}
 use Rattle.port_stock.specs.Conditions.{IsHeaderOf}
 use Rattle.graph_core.specs.Changes.{IsHandedIn, IsMakable}
 use Rattle.graph_core.specs.Entries.{Entries, component_at, look_of}

@@ -1,5 +1,5 @@
 -- A part that was just made is that of a component that was just made.
-use Rattle.std.proofs.Common.{◌≡◌, ℕ, ◌<◌, true, false, nat_eq, nat_le, length, refl, sym, ap, option_map, arith}
+use Rattle.std.proofs.Common.{◌≡◌, ℕ, ◌<◌, false, nat_eq, nat_le, length, refl, sym, ap, option_map, arith}
 use Rattle.std.proofs.lemmas.Bool.Decides.{nat_tests}
 use Rattle.omx_types.specs.declared.handle.Handle.{Handle}
 use Rattle.omx_types.specs.declared.kind.Kind.{Kind}

@@ -1,12 +1,10 @@
 -- A part on which all is set that is set of its component has the component's terms.
-use Rattle.std.proofs.Common.{◌≡◌, ◌≢◌, ℕ, suc, zero, ◌+◌, ◌-◌, ◌<◌, ◌≤◌, Bool, true, false, nat_lt, List, [], ◌∷◌, ◌++◌, length, map, take, drop, set, Option, Some, None, slice_get, if◌then◌else◌, refl, sym, ◌∙◌, ap, subst, append-nil, append_assoc, length-append, length-set, ltb-true, ltb-false, arith}
-use Rattle.std.specs.Prelude.{slice_set}
+use Rattle.std.proofs.Common.{◌≡◌, ℕ, suc, zero, ◌+◌, ◌-◌, ◌<◌, ◌≤◌, true, false, List, [], ◌∷◌, ◌++◌, length, take, drop, set, if◌then◌else◌, refl, sym, ◌∙◌, ap, append-nil, append_assoc, length-append, length-set, ltb-true, ltb-false, arith}
 use Rattle.omx_types.specs.declared.format.Format.{Format}
-use Rattle.part_api.specs.Terms.{Terms, Writing}
-use Rattle.part_forms.specs.Sinking.{reformatted}
+use Rattle.part_api.specs.Terms.{Terms}
 use Rattle.il_machine.specs.declared.port.PortSetting.{PortSetting}
 use Rattle.il_machine.specs.Settings.{formats_of}
-use Rattle.audio_parts.specs.Kinds.{is_input, with_factor, with_format}
+use Rattle.audio_parts.specs.Kinds.{is_input, with_format}
 use Rattle.audio_parts.specs.Shown.{ShownPart}
 use Rattle.il_graph.specs.Preparing.{with_factors, with_formats, with_input_factor, with_port_format}
 

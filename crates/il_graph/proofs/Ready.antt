@@ -1,9 +1,8 @@
 -- A component that gives a work that is no announcement: its part, with all that is set of the component, may begin a step.
-use Rattle.std.proofs.Common.{◌≡◌, ◌≢◌, inl, inr, ℕ, suc, zero, ◌+◌, ◌*◌, ◌<◌, ◌≤◌, Bool, true, false, not, ◌&&◌, ◌||◌, nat_le, List, [], ◌∷◌, ◌++◌, length, map, filter, take, drop, replicate, Option, Some, None, slice_get, refl, sym, ◌∙◌, ap, subst, leb-true, arith}
+use Rattle.std.proofs.Common.{◌≡◌, ℕ, suc, zero, ◌+◌, ◌*◌, ◌≤◌, Bool, true, false, not, ◌&&◌, ◌||◌, nat_le, List, [], ◌∷◌, ◌++◌, length, map, take, drop, Option, Some, None, slice_get, refl, sym, ◌∙◌, ap, subst, leb-true, arith}
 use Rattle.std.specs.List.{AllByRecursion, list_all, list_any}
-use Rattle.std.proofs.lemmas.List.{length-replicate, length-map}
+use Rattle.std.proofs.lemmas.List.{length-replicate}
 use Rattle.omx_types.specs.declared.format.Format.{Format}
-use Rattle.omx_types.specs.declared.format.Format.TheVariants as formats
 use Rattle.omx_types.specs.declared.kind.Kind.{Kind}
 use Rattle.omx_types.specs.declared.state.State.{State}
 use Rattle.omx_types.specs.declared.state.State.TheVariants as states
@@ -20,21 +19,21 @@ use Rattle.il_machine.specs.declared.port.PortState.{PortState}
 use Rattle.il_machine.specs.Lists.{first_of_these}
 use Rattle.il_machine.specs.States.{is_executing, is_loaded, is_invalid}
 use Rattle.il_machine.specs.Ports.{is_at_rest}
-use Rattle.il_machine.specs.Kinds.{inputs_of, outputs_of, ports_in, is_input, is_format_of, is_port_format, is_source, is_late, is_sink}
-use Rattle.il_machine.specs.Settings.{IsSized, IsWhole, Settings, are_fitting, fits, formats_of, is_definition_of, is_known, is_within_limits, is_between, same_format, setting_at, default_setting, weights_in}
+use Rattle.il_machine.specs.Kinds.{inputs_of, outputs_of, ports_in, is_input, is_late}
+use Rattle.il_machine.specs.Settings.{IsSized, Settings, are_fitting, fits, formats_of, is_definition_of, is_known, is_within_limits, is_between, same_format, default_setting, weights_in}
 use Rattle.il_machine.specs.World.{Component, number_of, ports_from, ports_of}
 use Rattle.il_machine.specs.Look.{Look}
 use Rattle.il_machine.specs.Parts.{factors_by, file_format, terms_of}
 use Rattle.il_machine.specs.Files.{file_port_format}
-use Rattle.il_machine.specs.Claims.{Claimed, claim_idle, held_test, is_unannounced, must_announce}
-use Rattle.il_machine.specs.Sound.{IsLawfulSetting, IsSound, is_fit, may_have}
-use Rattle.machine_laws.proofs.Accepting.{both_of, not_not, passed}
+use Rattle.il_machine.specs.Claims.{claim_idle, held_test, is_unannounced, must_announce}
+use Rattle.il_machine.specs.Sound.{IsLawfulSetting, IsSound, may_have}
+use Rattle.machine_laws.proofs.Accepting.{both_of, passed}
 use Rattle.machine_laws.proofs.Claiming.{IsClaimable, claim_passes}
 use Rattle.machine_laws.proofs.Finding.{either}
 use Rattle.machine_laws.proofs.Fitting.{all_known, fit_alike, fit_splitter, known_format, sink_room, source_format}
 use Rattle.history_laws.proofs.StillOut.{format_is}
 use Rattle.audio_parts.specs.Kinds.{MayBe, MayHave, default_factors, with_factor, with_format}
-use Rattle.audio_parts.specs.Ready.{AreFitting, Fit, FitsFile, IsReady}
+use Rattle.audio_parts.specs.Ready.{AreFitting, FitsFile, IsReady}
 use Rattle.audio_parts.specs.Shapes.{IsLawful}
 use Rattle.audio_parts.specs.Shown.{ShownPart}
 use Rattle.il_graph.specs.Preparing.{MayHaveAll, MaySet, prepared, with_factors, with_formats, with_input_factor, with_port_format}

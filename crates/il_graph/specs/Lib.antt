@@ -1,16 +1,9 @@
-pub mod Causes
 pub mod Claiming
 pub mod Filed
 pub mod Finishing
 pub mod HandedIn
-pub mod Headers
 pub mod NoFiles
-pub mod Playing
 pub mod Preparing
 pub mod Runs
-pub mod Sent
 pub mod Shown
-pub mod SinkSteps
-pub mod SourceSteps
 pub mod Stood
-pub mod Streams

@@ -1,5 +1,4 @@
-//! A graph of audio components: the calls of the integration layer's core, each a step of the machine; and a source and a sink with
-//! headers on their way between them.
+//! A graph of audio components: the calls of the integration layer's core, each a step of the machine.
 //!
 //! What each call of `Graph` refuses, and in which order, stands in its clause `step`, by the definitions of `il_machine`;
 //! `docs/MACHINE.md` tells it in words.
@@ -9,7 +8,6 @@ mod claimed;
 mod freed;
 mod graph;
 mod no_file;
-mod pair;
 
 pub use audio_parts::PartFile;
 pub use claimed::{Claimed, Done, Work};
@@ -23,7 +21,6 @@ pub use omx_types::{
     CallError, Command, Completion, Event, Format, Handle, OmxError, Param, ParamKey,
     PortDefinition, PortId, PortSel, State, Supplier, Version,
 };
-pub use pair::{Pair, QueueName};
 
 /// Want of memory.
 pub type OutOfMemory = std::alloc::AllocError;

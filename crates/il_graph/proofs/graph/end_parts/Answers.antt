@@ -1,4 +1,4 @@
-use Rattle.std.proofs.Common.{◌≡◌, Option, Some, None, option_and_then, sym, ◌∙◌, ap}
+use Rattle.std.proofs.Common.{◌≡◌, Option, Some, None, option_and_then, sym, ◌∙◌}
 use Rattle.std.proofs.lemmas.List.Elements.{All-pop}
 use Rattle.audio_parts.specs.AnyParts.{file_of as part_file}
 use Rattle.audio_parts.specs.declared.any_part.AnyPart.{AnyPart}

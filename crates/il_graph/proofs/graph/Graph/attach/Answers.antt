@@ -1,4 +1,4 @@
-use Rattle.std.proofs.Common.{◌≡◌, ◌<◌, ℕ, List, length, map, set, Option, Some, None, MatchOption, option_map, slice_get, Ok, Err, refl, sym, ◌∙◌, ap, subst, arith}
+use Rattle.std.proofs.Common.{◌≡◌, ◌<◌, length, map, set, Some, None, MatchOption, option_map, slice_get, Ok, Err, refl, sym, ◌∙◌, ap, subst, arith}
 use Rattle.std.proofs.lemmas.Option.{slice_get-get_or, slice_get-map}
 use Rattle.omx_types.specs.declared.handle.Handle.{Handle}
 use Rattle.omx_types.specs.declared.kind.Kind.{Kind}
@@ -14,7 +14,7 @@ use Rattle.il_machine.specs.Acts as acts
 use Rattle.whole_laws.specs.Bare.{StepsBare}
 use Rattle.whole_laws.proofs.Lists.{map_set}
 use Rattle.il_component.specs.Files.{offered as file_offered}
-use Rattle.graph_core.specs.Entries.{component_at, kept, look_of}
+use Rattle.graph_core.specs.Entries.{component_at, kept}
 use Rattle.audio_parts.specs.AnyParts.{MayAttach, attached_of}
 use Rattle.audio_parts.specs.Shown.{shown_by}
 use Rattle.il_graph.specs.Shown.{IsPartOf, offered}

@@ -1,4 +1,4 @@
-use Rattle.std.proofs.Common.{refl, slice_get, ◌≡◌, Some}
+use Rattle.std.proofs.Common.{refl}
 use Rattle.std.proofs.lemmas.Option.{slice_get-get_or}
 use Rattle.audio_parts.specs.Shown.{shown_by}
 use Rattle.il_graph.proofs.Fileless.{fileless}

@@ -1,16 +1,13 @@
-use Rattle.std.proofs.Common.{◌≡◌, ℕ, ◌<◌, Bool, true, false, List, length, map, set, Option, Some, None, IsSomeAnd, MatchOption, option_map, option_and_then, slice_get, refl, sym, ◌∙◌, ap, subst, arith}
+use Rattle.std.proofs.Common.{◌≡◌, ℕ, ◌<◌, true, false, List, length, map, Option, Some, None, IsSomeAnd, option_map, option_and_then, slice_get, sym, ◌∙◌, ap, subst, arith}
 use Rattle.std.specs.Prelude.{unwrap_or}
 use Rattle.std.proofs.lemmas.Option.{slice_get-get_or, slice_get-map}
-use Rattle.omx_types.specs.declared.fault.PartFault.{PartFault}
 use Rattle.omx_types.specs.declared.handle.Handle.{Handle}
-use Rattle.header_core.specs.BufferHeader.{BufferHeader}
-use Rattle.il_machine.specs.Answers.{component_named}
 use Rattle.il_machine.specs.Finishing.{Finish}
 use Rattle.il_machine.specs.Stepping.{WorkDone}
-use Rattle.il_machine.specs.Whole.{PartSeen, Stands, StepsWhere}
+use Rattle.il_machine.specs.Whole.{PartSeen}
 use Rattle.il_machine.specs.World.{Component, World, number_of}
 use Rattle.whole_laws.specs.Bare.{StandsBare, StepsBareWhere}
-use Rattle.audio_parts.specs.Shown.{ShownPart, shown_by}
+use Rattle.audio_parts.specs.Shown.{shown_by}
 use Rattle.work_landing.specs.declared.step.Step.{Step as Stepped}
 use Rattle.work_landing.specs.Landed.{done_by}
 use Rattle.il_component.specs.Entries.{component_of}
@@ -22,10 +19,9 @@ use Rattle.il_machine.specs.Look.{Look}
 use Rattle.il_machine.specs.Sound.{Sound}
 use Rattle.graph_core.specs.Entries.{Entries, components_of, component_at, look_of}
 use Rattle.graph_core.specs.Entries as core
-use Rattle.graph_core.specs.Finishing.{AreHandedBack}
 use Rattle.il_flow.specs.Works.{seen_done}
 use Rattle.il_graph.specs.Finishing.{Returns}
-use Rattle.il_graph.specs.Shown.{Shown, IsWhole, file_of, kept, seen_of}
+use Rattle.il_graph.specs.Shown.{seen_of}
 use Rattle.il_graph.proofs.Calling.{Found, and_some, found}
 use Rattle.il_graph.proofs.Back.{IsReturn, back_whole, brought_done, brought_is, comes_back, file_back, files_stay, held_back, is_brought, is_told, is_whole, items_within, map_back, no_file, number_named, old_file, own_is, own_none, own_part, return_of, seen_as, step_returns, told_returns, work_out, works_so}
 use Rattle.il_graph.proofs.Whole.{bare, sound_in}

@@ -1,11 +1,10 @@
-use Rattle.std.proofs.Common.{◌≡◌, List, [], ◌∷◌, ◌++◌, map, Option, Some, option_map, sym, ◌∙◌, ap, subst, Ok, Err, refl, arith}
+use Rattle.std.proofs.Common.{◌≡◌, [], ◌∷◌, ◌++◌, map, Some, option_map, sym, ◌∙◌, ap, subst, Ok, Err, refl, arith}
 use Rattle.std.proofs.lemmas.List.{length-map, map-append}
 use Rattle.il_machine.specs.Lists.{first_of_these}
 use Rattle.il_machine.specs.Components.{GetHandle, name_refusals}
 use Rattle.graph_core.specs.Entries.{kept, look_of}
 use Rattle.whole_laws.specs.Bare.{StepsBare}
 use Rattle.omx_types.specs.declared.error.CallError.TheVariants.{OutOfMemory}
-use Rattle.il_machine.specs.Look.{Look}
 use Rattle.machine_laws.proofs.Coming.{kind_sized}
 use Rattle.audio_parts.specs.Shown.{shown_by}
 use Rattle.il_graph.proofs.Naming.{found_kind, found_error, name_refused, full_refused, memory_wanted, made}

@@ -1,4 +1,4 @@
-use Rattle.std.proofs.Common.{sym, ◌∙◌, refl}
+use Rattle.std.proofs.Common.{◌∙◌, refl}
 use Rattle.il_machine.specs.declared.answer.Granted.TheVariants as grants
 use Rattle.il_machine.specs.Acts as acts
 use Rattle.il_graph.proofs.Granting.{no_grant, granted}

@@ -1,4 +1,3 @@
-use Rattle.std.proofs.Common.{◌≡◌}
 use Rattle.il_graph.proofs.Beginning.{begins}
 use Rattle.il_graph.proofs.graph.Graph.new.Goals as goal
 

@@ -6,7 +6,6 @@ use Rattle.il_machine.specs.Look.{Look, look}
 use Rattle.il_machine.specs.Due.{ClosesTo}
 use Rattle.il_machine.specs.Answers.{Answers}
 use Rattle.il_machine.specs.Buffers.{AtPort, Held, use_refusal, client_header, with_header, held_of}
-use Rattle.header_core.specs.BufferHeader.{is_clients}
 use Rattle.graph_core.specs.Entries.{look_of, component_at}
 use Rattle.il_graph.proofs.Calling.{Found, found, not_found, refused_at}
 use Rattle.il_graph.proofs.Handing.{clients_of, changed_on, and_said, made_header, done_at}

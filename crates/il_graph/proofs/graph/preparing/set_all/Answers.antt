@@ -1,7 +1,6 @@
-use Rattle.std.proofs.Common.{◌≡◌, ℕ, List, length, take, sym, ◌∙◌, ap, arith}
+use Rattle.std.proofs.Common.{◌≡◌, length, take, sym, ◌∙◌, ap, arith}
 use Rattle.omx_types.specs.declared.kind.Kind.{Kind}
 use Rattle.omx_types.specs.declared.kind.Kind.TheVariants as kinds
-use Rattle.il_machine.specs.declared.port.PortSetting.{PortSetting}
 use Rattle.il_machine.specs.Parts.{factors_by}
 use Rattle.il_machine.specs.Settings.{weights_in}
 use Rattle.audio_parts.specs.Shown.{ShownPart, shown_by, terms_by}
