@@ -135,7 +135,7 @@ module _ (x : LateCast) (recent : ℕ) (p : Play) (w : World) (W : IsLateWorld x
         (λ s. untold_told (((x.cast).layout).is_sink c) ((p.flow).ended c) (p.told c) (A.over (let f = over.phase in omega arith) s))
         (λ f. rw f refl)
 
-    all_heard : unheard w a ≡ []
+    pub all_heard : unheard w a ≡ []
     all_heard =
         let s0 = (at_four p.phase (p.stage c) over.phase (over.all c c_below)).2 in
         let s1 = no_settings in

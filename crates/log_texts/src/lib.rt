@@ -2,16 +2,18 @@
 #![tactic(auto)]
 
 ghost use Rattle.std.specs.Prelude.{Ok};
-ghost use Rattle.omx_types.specs.declared.command.Command.TheVariants.{StateSet};
+ghost use Rattle.omx_types.specs.declared.command.Command.TheVariants.{PortDisable, PortEnable, StateSet};
+ghost use Rattle.omx_types.specs.declared.command.PortSel.TheVariants.{One};
 ghost use Rattle.il_machine.specs.declared.answer.Acted.TheVariants.{Did};
 ghost use Rattle.il_machine.specs.declared.answer.Progress.{Progress};
 ghost use Rattle.il_machine.specs.Acts as acts;
 ghost use Rattle.il_machine.specs.Claims.{ClaimedWork, WorkSeen};
 ghost use Rattle.il_machine.specs.Notes.{TakenEvent, TookNote};
-ghost use Rattle.log_texts.specs.Said.{SaysFinish, SaysOf};
+ghost use Rattle.play_log.specs.Saying.{port_at};
+ghost use Rattle.log_texts.specs.Said.{SaysFinish, SaysOf, SaysOfBoth, SaysPort};
 
 use act_text::{ActText, Name, PortName, TextAct, TextReply};
-use omx_types::{Event, State};
+use omx_types::{Event, Format, PortSel, State, Supplier};
 
 /// A state was sent.
 pub fn sent(component: Name, state: State) -> ActText
@@ -110,5 +112,70 @@ pub fn finished(component: Name, frames: u32) -> ActText
     ActText {
         act: TextAct::Finish(component),
         reply: TextReply::Finished { frames },
+    }
+}
+
+/// The port's disable was sent.
+pub fn disabled(port: PortName) -> ActText
+    ensures { SaysOf port.component result (λ h. acts.SendCommand h (PortDisable (One port.index))) (acts.Plain (Ok tt)) }
+{
+    ActText {
+        act: TextAct::SendDisable {
+            component: port.component,
+            ports: PortSel::One(port.index),
+        },
+        reply: TextReply::Done,
+    }
+}
+
+/// The port's enable was sent.
+pub fn enabled(port: PortName) -> ActText
+    ensures { SaysOf port.component result (λ h. acts.SendCommand h (PortEnable (One port.index))) (acts.Plain (Ok tt)) }
+{
+    ActText {
+        act: TextAct::SendEnable {
+            component: port.component,
+            ports: PortSel::One(port.index),
+        },
+        reply: TextReply::Done,
+    }
+}
+
+/// The tunnel of two ports was dropped.
+pub fn dropped(first: PortName, second: PortName) -> ActText
+    ensures { SaysOfBoth first.component second.component result
+        (λ h k. acts.DropTunnel (port_at h first.index) (port_at k second.index)) (acts.Plain (Ok tt)) }
+{
+    ActText {
+        act: TextAct::DropTunnel { first, second },
+        reply: TextReply::Done,
+    }
+}
+
+/// The port's definition was set.
+pub fn set_port(port: PortName, format: Format, count: u32, size: u32) -> ActText
+    ensures { SaysPort port.component port.index format count size result }
+{
+    ActText {
+        act: TextAct::SetPort {
+            port,
+            format,
+            count,
+            size,
+        },
+        reply: TextReply::Done,
+    }
+}
+
+/// A tunnel of two ports was set up, whose headers that end makes.
+pub fn joined(first: PortName, second: PortName, supplier: Supplier) -> ActText
+    ensures { SaysOfBoth first.component second.component result
+        (λ h k. acts.SetupTunnel (port_at h first.index) (port_at k second.index)) (acts.Joined (Ok supplier)) }
+{
+    ActText {
+        act: TextAct::Tunnel { first, second },
+        reply: TextReply::Supplier {
+            input: matches!(supplier, Supplier::Input),
+        },
     }
 }

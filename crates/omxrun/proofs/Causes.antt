@@ -2,7 +2,7 @@
 use Rattle.std.proofs.Common.{◌≡◌, ℕ, ◌≤◌, Result, Ok, Err, OnOk, ◌∙◌, arith}
 use Rattle.outside_io.specs.Causes.{Rose}
 use Rattle.outside_io.specs.Files.{Outside}
-use Rattle.omxrun.specs.Reasons.{CountsStand}
+use Rattle.play_course.specs.Outcomes.{CountsStand}
 
 -- a count that rose later rose
 pub later : (old mid new : ℕ) → old ≤ mid → Rose mid new → Rose old new

@@ -19,7 +19,7 @@ use Rattle.clock_core.proofs.OneFault.{one-fault, script-no_fault}
 use Rattle.omxrun.specs.Asked.{IsGiven, IsFaultless, IsOrMemory}
 use Rattle.omxrun.specs.Clocked.{RunsTo, IsClockOf, IsClockOutcome, HasClockReason, CanClock, IsUnclocked}
 use Rattle.omxrun.specs.Faults.{fault_of_script}
-use Rattle.omxrun.specs.Reasons.{CountsStand}
+use Rattle.play_course.specs.Outcomes.{CountsStand}
 use Rattle.omxrun.specs.Texts.{fault_line}
 use Rattle.omxrun.specs.Told.{IsPrinted, status_of}
 use Rattle.omxrun.proofs.Causes.{on_ok}

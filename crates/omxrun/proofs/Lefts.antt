@@ -20,7 +20,7 @@ use Rattle.play_files.specs.Left.{IsUnwritten}
 use Rattle.play_files.specs.Names.{HaveOwnFiles}
 use Rattle.play_files.specs.Opening.{IsSinkFault}
 use Rattle.play_course.specs.Outcomes.{IsBroken, IsLogFault, IsRunFault, IsUndone, IsUnlogged}
-use Rattle.omxrun.specs.Plays.{IsEarly, IsUndoneBy, WasRead}
+use Rattle.omxrun.specs.Plays.{IsEarly, WasRead}
 use Rattle.omxrun.proofs.Files.{files-before}
 
 -- a sink's file is no other line's, and neither the script nor the log
@@ -149,7 +149,7 @@ module _ (names : OwnNames) (name log : List ℕ) (old mid new : Outside) (scrip
         others = λ other n none. at-file other old mid new W.files (L.others other n none);
       }
 
-  undone-left : IsTrue old.tells → IsUndone script log mid new fault → IsLeft name log old new
+  pub undone-left : IsTrue old.tells → IsUndone script log mid new fault → IsLeft name log old new
   undone-left tells (inl (inl U)) = inl ((U.still).files ∙ W.files)
   undone-left tells (inl (inr (planned, is, inl U))) = let M = U.met in inl ((M.refused).files ∙ W.files)
   undone-left tells (inl (inr (planned, is, inr (inl U)))) = inl ((U.still).files ∙ W.files)
@@ -157,7 +157,7 @@ module _ (names : OwnNames) (name log : List ℕ) (old mid new : Outside) (scrip
   undone-left tells (inr (inl B)) = inr (broken-left tells B)
   undone-left tells (inr (inr U)) = inr (unlogged-left tells U)
 
-  undone-early : IsUndone script log mid new fault → IsEarly fault → new.file ≡ old.file
+  pub undone-early : IsUndone script log mid new fault → IsEarly fault → new.file ≡ old.file
   undone-early (inl (inl U)) early = (U.still).files ∙ W.files
   undone-early (inl (inr (planned, is, inl U))) early = let M = U.met in (M.refused).files ∙ W.files
   undone-early (inl (inr (planned, is, inr (inl U)))) early = (U.still).files ∙ W.files
@@ -168,7 +168,7 @@ module _ (names : OwnNames) (name log : List ℕ) (old mid new : Outside) (scrip
   same-log : new.file ≡ mid.file → new.file log ≡ old.file log
   same-log same = ap (λ (f : List ℕ → Option (List ℕ)). f log) (same ∙ W.files)
 
-  undone-log : IsTrue old.tells → IsUndone script log mid new fault → fault ≢ Faults.WriteFault → new.file log ≡ old.file log
+  pub undone-log : IsTrue old.tells → IsUndone script log mid new fault → fault ≢ Faults.WriteFault → new.file log ≡ old.file log
   undone-log tells (inl (inl U)) n = same-log (U.still).files
   undone-log tells (inl (inr (planned, is, inl U))) n = let M = U.met in same-log (M.refused).files
   undone-log tells (inl (inr (planned, is, inr (inl U)))) n = same-log (U.still).files
@@ -182,15 +182,3 @@ module _ (names : OwnNames) (name log : List ℕ) (old mid new : Outside) (scrip
       let O = own G.planned B.plan G.is_plan (G.fitted).parts in
       at-file log old mid new W.files (A.others log (λ place v. O.log_other place log v refl))
   undone-log tells (inr (inr U)) n = at-file log old mid new W.files (U.unmade ((W.goes_on).tells ∙ tells) n)
-
-  pub by-left : IsTrue old.tells → IsUndoneBy script log mid new fault → IsLeft name log old new
-  by-left tells (inl (late, same, is)) = inl (ap (λ (o : Outside). o.file) same ∙ W.files)
-  by-left tells (inr (early, undone)) = undone-left tells undone
-
-  pub by-early : IsUndoneBy script log mid new fault → IsEarly fault → new.file ≡ old.file
-  by-early (inl (late, same, is)) _ = ap (λ (o : Outside). o.file) same ∙ W.files
-  by-early (inr (early, undone)) is = undone-early undone is
-
-  pub by-log : IsTrue old.tells → IsUndoneBy script log mid new fault → fault ≢ Faults.WriteFault → new.file log ≡ old.file log
-  by-log tells (inl (late, same, is)) n = same-log (ap (λ (o : Outside). o.file) same)
-  by-log tells (inr (early, undone)) n = undone-log tells undone n

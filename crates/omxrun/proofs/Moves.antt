@@ -19,7 +19,7 @@ use Rattle.rtp_parts.specs.declared.unpacking.Unpacked.{Unpacked}
 use Rattle.wav_form.specs.Reading.{Reads}
 use Rattle.wav_form.specs.declared.heads.WavHead.{WavHead}
 use Rattle.omxrun.specs.Packets.{IsShortFile, IsWholeOrShort, fault_of_rtp, packing_done, unpacking_done, with_text, PacksTo, UnpacksTo, StoppedUnpacking}
-use Rattle.omxrun.specs.Reasons.{CountsStand}
+use Rattle.play_course.specs.Outcomes.{CountsStand}
 use Rattle.omxrun.specs.Turned.{Giving, Stopping, IsAlone, text_in}
 use Rattle.omxrun.specs.declared.done.Done.{Done}
 use Rattle.omxrun.proofs.Causes.{later}

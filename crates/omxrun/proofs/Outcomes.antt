@@ -21,7 +21,7 @@ use Rattle.omxrun.specs.Faults.{fault_of_reading, fault_of_script}
 use Rattle.omxrun.specs.Plays.{HasPlayReason, IsPlayCourse, IsPlayOutcome, WasRead}
 use Rattle.omxrun.proofs.Causes.{CountsStand-then}
 use Rattle.omxrun.proofs.Files.{files-before}
-use Rattle.omxrun.proofs.Lefts.{OwnNames, by-early, by-left, by-log}
+use Rattle.omxrun.proofs.Lefts.{OwnNames, undone-early, undone-left, undone-log}
 use Rattle.omxrun.proofs.Traces.{unread-reason}
 
 -- ---- a script that wasn't read
@@ -73,7 +73,6 @@ read-outcome names name log old mid new script (Ok printed) W C = record {
     text = W.text;
     held = W.held;
     is = W.is;
-    early = C.early;
     done = let d = C.done in (d.0, done-before script log old mid new d.0 W.goes_on W.files d.1, d.2);
   };
   stand = CountsStand-then old mid new W.stand C.stand;
@@ -86,9 +85,9 @@ read-outcome names name log old mid new script (Err fault) W C = record {
   played = tt;
   stand = tt;
   unplayed = inr (script, mid, W, C.undone);
-  left = λ tells. by-left names name log old mid new script W fault tells C.undone;
-  early = by-early names name log old mid new script W fault C.undone;
-  unlogged = λ tells. by-log names name log old mid new script W fault tells C.undone;
+  left = λ tells. undone-left names name log old mid new script W fault tells C.undone;
+  early = undone-early names name log old mid new script W fault C.undone;
+  unlogged = λ tells. undone-log names name log old mid new script W fault tells C.undone;
 }
 
 pub unread-outcome : (name log : List ℕ) (old new : Outside) (fault : Fault) → new.file ≡ old.file → HasPlayReason name log old new fault → IsPlayOutcome name log old new (Err fault)

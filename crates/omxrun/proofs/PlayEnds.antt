@@ -1,7 +1,7 @@
 -- Where all is told and no count rises, what a play comes to.
 use Rattle.std.proofs.lemmas.Bool.{cases_lt}
 use Rattle.std.proofs.lemmas.Option.{slice_get_within}
-use Rattle.std.proofs.Common.{◌≡◌, ◌≢◌, ◌⊎◌, inl, inr, ℕ, ◌<◌, Bool, List, length, slice_get, Option, Some, Result, Ok, Err, IsTrue, IsFalse, ap, sym, subst, refl, ◌∙◌, arith}
+use Rattle.std.proofs.Common.{◌≡◌, ◌≢◌, ◌⊎◌, inl, inr, ℕ, ◌<◌, ◌≤◌, Bool, List, length, slice_get, Option, Some, Result, Ok, Err, IsTrue, IsFalse, ap, sym, subst, refl, ◌∙◌, arith}
 use Rattle.outside_io.specs.Causes.{Rose}
 use Rattle.outside_io.specs.Files.{Outside}
 use Rattle.outside_io.specs.Whole.{IsShort}
@@ -10,7 +10,6 @@ use Rattle.omx_types.specs.declared.fault.Fault.TheVariants as Faults
 use Rattle.omx_types.specs.declared.fault.Which.{Which}
 use Rattle.omx_types.specs.declared.fault.Which.TheVariants as Files
 use Rattle.omx_types.specs.declared.fault.ScriptWhy.{ScriptWhy}
-use Rattle.omx_types.specs.declared.fault.Unbuilt.TheVariants as Unbuilts
 use Rattle.omx_types.specs.declared.fault.Status.{Status}
 use Rattle.omx_types.specs.declared.fault.Status.TheVariants as Statuses
 use Rattle.omx_types.specs.declared.fault.WavFault.{WavFault}
@@ -21,24 +20,24 @@ use Rattle.script_lang.specs.declared.play_line.PartLine.{PartLine}
 use Rattle.script_lang.specs.declared.script.Script.{Script}
 use Rattle.script_lang.specs.declared.script.Script.TheVariants.{Play, Trace}
 use Rattle.script_lang.specs.declared.script.ScriptFault.{ScriptFault}
-use Rattle.part_forms.specs.Kinds.{is_late}
 use Rattle.wav_form.specs.declared.heads.WavHead.{WavHead}
 use Rattle.wav_form.specs.Reading.{Reads}
 use Rattle.play_forms.specs.declared.joint.Joint.{Joint}
 use Rattle.play_forms.specs.declared.plan_fault.PlanFault.{PlanFault}
 use Rattle.play_forms.specs.declared.plan_fault.PlanFault.TheVariants as Plans
-use Rattle.play_forms.specs.Joints.{joints_of}
-use Rattle.play_forms.specs.Parts.{kind_of}
-use Rattle.play_forms.specs.Plans.{IsFaultOfScript, IsFitFault, IsFitted, IsPlanOf, IsPlanOfScript, IsSameFault, IsShapeFault, PlanValue}
+use Rattle.play_forms.specs.Joints.{AllJoin, AllLinked, headers_of, joints_of}
+use Rattle.play_forms.specs.Parts.{units_needed}
+use Rattle.play_forms.specs.Placing.{IsOrder}
+use Rattle.play_forms.specs.Plans.{IsFaultOfScript, IsFit, IsFitFault, IsFitted, IsPlanOf, IsPlanOfScript, IsSameFault, IsShapeFault, IsValid, PlanValue}
 use Rattle.play_openings.specs.Assemblies.{PlayFiles}
 use Rattle.play_results.specs.Files.{AreFiles, IsReader, IsWriter, read_by}
 use Rattle.play_files.specs.Faults.{fault_of_plan}
 use Rattle.play_files.specs.Left.{HaveHeads, IsUnplanned, IsUnread as IsUnopenedSource, IsUnfit, IsUnwritten}
 use Rattle.play_files.specs.Opening.{IsShortHead, IsSinkFault, IsSourceFault}
-use Rattle.play_course.specs.Outcomes.{HasNoLateLine, IsLogFault, IsRunFault, IsUndone}
+use Rattle.play_course.specs.Outcomes.{IsLogFault, IsRunFault, IsUndone, WasOpened}
 use Rattle.play_course.specs.Settling.{parts_of}
-use Rattle.omxrun.specs.Asked.{CanPlay, HasNoPlan, IsAsked, IsFaulty, IsFaultless, IsGiven, IsLate, IsOrMemory, IsSound, IsUnread}
-use Rattle.omxrun.specs.Plays.{HasLateIn, HasPlayReason, IsPlayOutcome, IsToldOf, IsUnplayed, WasRead, play_text}
+use Rattle.omxrun.specs.Asked.{CanPlay, HasNoPlan, IsAsked, IsFaulty, IsFaultless, IsGiven, IsMisfitted, IsOrMemory, IsSound, IsUnread}
+use Rattle.omxrun.specs.Plays.{HasPlayReason, IsPlayOutcome, IsToldOf, IsUnplayed, WasRead, play_text}
 use Rattle.omxrun.specs.Told.{status_of}
 use Rattle.omxrun.proofs.Complete.{ReadsOnce, err-same, none-some, printed-status, same-text, true-false}
 
@@ -326,9 +325,6 @@ module _ (reads_once : ReadsOnce) (plans_once : PlansOnce) (script : Script) (lo
       run-last (B.plan).parts mid new fault calm (λ place file r. (let s = L.sources place file (reader-in script O.planned B.plan place file O.is_plan (O.fitted).parts r) in (s.0, s.2))) B.why
   undone-last (inr (inr U)) = log-last log mid new fault calm L.log_let_in U.why
 
-late-none : (script : Script) → HasLateIn (parts_of script) → HasNoLateLine script → ⊥
-late-none script (place, part, there, late) none = let e = none place part there in true-false (is_late (kind_of part.form)) late e
-
 can-let : (name log : List ℕ) (old mid new : Outside) (script : Script) → WasRead name log old mid script → (can : CanPlay name log old) → script ≡ can.script → IsLet script log mid
 can-let name log old mid new script W can e =
     let tells = (can.asked).tells in
@@ -358,10 +354,7 @@ can-last play_once reads_once plans_once name log old new before now fault none 
     script-last play_once name log old new can.script fault (calm-of old new before now none) can.asked reason
 can-last play_once reads_once plans_once name log old new before now fault none can (inr (script, mid, W, U)) =
     let e = read-same play_once name log old mid script can.script W can.asked in
-    elim U [
-      | inl (late, _, _) ↦ absurd (late-none can.script (subst (λ (s : Script). HasLateIn (parts_of s)) e late) can.early)
-      | inr (_, undone) ↦ undone-last reads_once plans_once script log mid new fault (calm-later name log old mid new script W before now none) (can-let name log old mid new script W can e) undone
-    ]
+    undone-last reads_once plans_once script log mid new fault (calm-later name log old mid new script W before now none) (can-let name log old mid new script W can e) U
 
 pub complete : PlayOnce → ReadsOnce → PlansOnce → (name log : List ℕ) (old new : Outside) (before now : ℕ) (told told_new : Option (List ℕ)) (outcome : Result (List ℕ) Fault) (status : Status) → IsPlayOutcome name log old new outcome → IsToldOf outcome told told_new before now status → IsFaultless old new before now → CanPlay name log old → IsOrMemory status Statuses.Ok
 complete play_once reads_once plans_once name log old new before now told told_new (Ok printed) status is told_is none can = inl (play-status (Ok printed) told told_new before now status none.print told_is)
@@ -389,26 +382,10 @@ unread once name log old new before now told told_new line why (Err fault) statu
       | inr (script, mid, W, U) ↦ absurd (none-read once name log W.text old line why script has.tells W.held W.is has)
     ]
 
--- ---- a script with a late source
-
 -- the script that was played is the one that is told
 played-same : PlayOnce → (name log text : List ℕ) (old : Outside) (script asked : Script) → (IsTrue old.tells → old.file name ≡ Some text) → IsPlayScript name log text script → IsAsked name log old asked → script ≡ asked
 played-same once name log text old script asked held is A =
     one-script once name log A.text script asked (subst (λ (t : List ℕ). IsPlayScript name log t script) (same-text text A.text (old.file name) (held A.tells) (A.given).held) is) A.is
-
-pub unplayed : PlayOnce → (name log : List ℕ) (old new : Outside) (before now : ℕ) (told told_new : Option (List ℕ)) (outcome : Result (List ℕ) Fault) (status : Status) → IsPlayOutcome name log old new outcome → IsToldOf outcome told told_new before now status → IsFaultless old new before now → IsLate name log old → IsOrMemory status (Statuses.Fault (Faults.NotBuilt Unbuilts.Script))
-unplayed once name log old new before now told told_new (Ok printed) status is told_is none has =
-    let P = is.played in
-    let e = played-same once name log P.text old P.script has.script P.held P.is has.asked in
-    absurd (late-none P.script (subst (λ (s : Script). HasLateIn (parts_of s)) (sym e) has.late) P.early)
-unplayed once name log old new before now told told_new (Err fault) status is told_is none has =
-    elim is.unplayed [
-      | inl (same, reason) ↦ fault-status fault _ told told_new before now status none.print told_is (inr (script-last once name log old new has.script fault (calm-of old new before now none) has.asked reason))
-      | inr (script, mid, W, inl (late, _, f)) ↦ fault-status fault _ told told_new before now status none.print told_is (inl f)
-      | inr (script, mid, W, inr (early, _)) ↦
-          let e = read-same once name log old mid script has.script W has.asked in
-          absurd (late-none script (subst (λ (s : Script). HasLateIn (parts_of s)) (sym e) has.late) early)
-    ]
 
 -- ---- a script without a plan
 
@@ -450,12 +427,89 @@ unplanned once plans_once faults_once name log old new before now told told_new 
 unplanned once plans_once faults_once name log old new before now told told_new why (Err fault) status is told_is none has =
     elim is.unplayed [
       | inl (same, reason) ↦ fault-status fault _ told told_new before now status none.print told_is (inr (script-last once name log old new has.script fault (calm-of old new before now none) has.asked reason))
-      | inr (script, mid, W, inl (late, _, _)) ↦
-          let e = read-same once name log old mid script has.script W has.asked in
-          absurd (late-none has.script (subst (λ (s : Script). HasLateIn (parts_of s)) e late) has.early)
-      | inr (script, mid, W, inr (early, undone)) ↦
+      | inr (script, mid, W, undone) ↦
           let e = read-same once name log old mid script has.script W has.asked in
           fault-status fault _ told told_new before now status none.print told_is (shape-told plans_once faults_once script log mid new fault why has.shape (subst (λ (s : Script). IsFaultOfScript s why) (sym e) has.is) undone)
+    ]
+
+-- ---- a script whose plan doesn't fit its sources
+
+abbrev pub FitsNot : Type 0
+FitsNot = (plan : PlanValue) (fault : PlanFault) → IsFit plan → IsFitFault plan fault → ⊥
+
+abbrev pub MisfitsOnce : Type 0
+MisfitsOnce = (plan : PlanValue) (fault other : PlanFault) → IsValid plan → IsFitFault plan fault → IsFitFault plan other → fault ≡ other
+
+valid-of : (script : Script) (planned : PlanValue) → IsPlanOfScript script planned → IsValid planned
+valid-of (Play units parts links) planned is = is.valid
+valid-of (Trace units lines) planned is = absurd is
+
+-- a valid plan stays valid with what goes through its links
+fitted-valid : (planned fitted : PlanValue) (heads : List WavHead) → IsValid planned → IsFitted planned heads fitted → IsValid fitted
+fitted-valid planned fitted heads V F =
+    let parts = sym F.parts in
+    let joints = sym F.joints in
+    let order = sym F.order in
+    let units = sym F.units in
+    record {
+      most = subst (λ (ps : List PartLine). length ps ≤ 32) parts V.most;
+      joined = subst (λ (js : List Joint). AllJoin fitted.parts js) joints (subst (λ (ps : List PartLine). AllJoin ps planned.joints) parts V.joined);
+      linked = subst (λ (js : List Joint). AllLinked fitted.parts js) joints (subst (λ (ps : List PartLine). AllLinked ps planned.joints) parts V.linked);
+      few = subst (λ (js : List Joint). headers_of js ≤ 1024) joints V.few;
+      placed = subst (λ (o : List ℕ). IsOrder fitted.joints (length fitted.parts) o) order
+          (subst (λ (js : List Joint). IsOrder js (length fitted.parts) planned.order) joints (subst (λ (ps : List PartLine). IsOrder planned.joints (length ps) planned.order) parts V.placed));
+      enough = subst (λ (u : ℕ). units_needed fitted.parts ≤ u) units (subst (λ (ps : List PartLine). units_needed ps ≤ planned.units) parts V.enough);
+      flows = (F.flows).many ∙ ap length joints;
+      frames = (F.frames).many ∙ ap length parts;
+    }
+
+-- the heads of sources that are told are those of the files
+heads-told : (old : Outside) (parts : List PartLine) (files : PlayFiles) (samples : List (List ℕ)) → AreFiles old parts files samples → HaveHeads old parts (length parts) files.heads
+heads-told old parts files samples A = λ tells place name b reader. (let R = A.sources place name reader in (R.head, R.head_is, (R.bytes, R.held, R.reads)))
+
+module _ (reads_once : ReadsOnce) (plans_once : PlansOnce) (never : FitsNot) (misfits_once : MisfitsOnce) (script : Script) (log : List ℕ) (mid new : Outside) (fault : Fault) (why : PlanFault) (calm : IsCalm mid new) (tells : IsTrue mid.tells)
+    (plan : PlanValue) (is_plan : IsPlanOfScript script plan) (sources : (place : ℕ) (file : List ℕ) → IsReader (parts_of script) place file → IsSound mid file)
+    (misfits : (planned fitted : PlanValue) (heads : List WavHead) → IsPlanOfScript script planned → HaveHeads mid planned.parts (length planned.parts) heads → IsFitted planned heads fitted → IsFitFault fitted why) where
+  fitted-none : (planned fitted : PlanValue) (files : PlayFiles) (samples : List (List ℕ)) → IsPlanOfScript script planned → IsFitted planned files.heads fitted → IsFit fitted → AreFiles mid fitted.parts files samples → ⊥
+  fitted-none planned fitted files samples is F fit A =
+      never fitted why fit (misfits planned fitted files.heads is (heads-told mid planned.parts files samples (subst (λ (ps : List PartLine). AreFiles mid ps files samples) F.parts A)) F)
+
+  opened-none : (fitted : PlanValue) (files : PlayFiles) (samples : List (List ℕ)) → WasOpened script mid fitted files → AreFiles mid fitted.parts files samples → ⊥
+  opened-none fitted files samples O A = fitted-none O.planned fitted files samples O.is_plan O.fitted O.fit A
+
+  misfit-told : IsUndone script log mid new fault → (fault ≡ fault_of_plan why) ⊎ (fault ≡ Faults.OutOfMemory)
+  misfit-told (inl (inl U)) = inr (unplanned-last plans_once script mid new fault plan is_plan U)
+  misfit-told (inl (inr (planned, is, inl U))) =
+      let M = U.met in
+      inr (sound-last reads_once (M.part).line M.name mid new fault tells calm (sources U.place M.name (reader-in script planned planned U.place M.name is refl (M.part, M.there, M.reads))) (M.refused).why)
+  misfit-told (inl (inr (planned, is, inr (inl U)))) =
+      let V = fitted-valid planned U.plan U.heads (valid-of script planned is) U.fitted in
+      inl (U.told ∙ ap fault_of_plan (misfits_once U.plan U.why why V U.is (misfits planned U.plan U.heads is U.have U.fitted)))
+  misfit-told (inl (inr (planned, is, inr (inr U)))) = let f = U.files_are tells in absurd (fitted-none planned U.plan U.files f.0 is U.fitted U.fit f.1)
+  misfit-told (inr (inl B)) = let left = B.left tells in absurd (opened-none B.plan B.files left.samples B.opened left.files_are)
+  misfit-told (inr (inr U)) = let left = U.left tells in absurd (opened-none U.plan U.files left.samples U.opened left.files_are)
+
+pub misfitted : PlayOnce → ReadsOnce → PlansOnce → FitsNot → MisfitsOnce → (name log : List ℕ) (old new : Outside) (before now : ℕ) (told told_new : Option (List ℕ)) (why : PlanFault) (outcome : Result (List ℕ) Fault) (status : Status) → IsPlayOutcome name log old new outcome → IsToldOf outcome told told_new before now status → IsFaultless old new before now → IsMisfitted name log old why → IsOrMemory status (Statuses.Fault (fault_of_plan why))
+misfitted once reads_once plans_once never misfits_once name log old new before now told told_new why (Ok printed) status is told_is none has =
+    let P = is.played in
+    let D = P.done.1 in
+    let O = D.opened in
+    let H = D.held (has.asked).tells in
+    let e = played-same once name log P.text old P.script has.script P.held P.is has.asked in
+    let planned = subst (λ (s : Script). IsPlanOfScript s O.planned) e O.is_plan in
+    let A = subst (λ (ps : List PartLine). AreFiles old ps (D.files) H.samples) (O.fitted).parts H.files_are in
+    absurd (never D.plan why O.fit (has.misfits O.planned D.plan (D.files).heads planned (heads-told old (O.planned).parts D.files H.samples A) O.fitted))
+misfitted once reads_once plans_once never misfits_once name log old new before now told told_new why (Err fault) status is told_is none has =
+    elim is.unplayed [
+      | inl (same, reason) ↦ fault-status fault _ told told_new before now status none.print told_is (inr (script-last once name log old new has.script fault (calm-of old new before now none) has.asked reason))
+      | inr (script, mid, W, undone) ↦
+          let e = read-same once name log old mid script has.script W has.asked in
+          let asked = has.asked in
+          fault-status fault _ told told_new before now status none.print told_is
+          (misfit-told reads_once plans_once never misfits_once script log mid new fault why (calm-later name log old mid new script W before now none) ((W.goes_on).tells ∙ asked.tells) has.plan (subst (λ (s : Script). IsPlanOfScript s has.plan) (sym e) has.is_plan)
+          (λ place file r. sound-later name log old mid new script W file (has.sources place file (subst (λ (s : Script). IsReader (parts_of s) place file) e r)))
+          (λ planned fitted heads is have F. has.misfits planned fitted heads (subst (λ (s : Script). IsPlanOfScript s planned) e is) (heads-before name log old mid new script W asked.tells planned.parts (length planned.parts) heads have) F)
+          undone)
     ]
 
 -- ---- a script with a faulty source
@@ -519,10 +573,7 @@ faulty once reads_once plans_once name log old new before now told told_new line
 faulty once reads_once plans_once name log old new before now told told_new line bad (Err fault) status is told_is none has =
     elim is.unplayed [
       | inl (same, reason) ↦ fault-status fault _ told told_new before now status none.print told_is (inr (script-last once name log old new has.script fault (calm-of old new before now none) has.asked reason))
-      | inr (script, mid, W, inl (late, _, _)) ↦
-          let e = read-same once name log old mid script has.script W has.asked in
-          absurd (late-none has.script (subst (λ (s : Script). HasLateIn (parts_of s)) e late) has.early)
-      | inr (script, mid, W, inr (early, undone)) ↦
+      | inr (script, mid, W, undone) ↦
           let e = read-same once name log old mid script has.script W has.asked in
           let asked = has.asked in
           fault-status fault _ told told_new before now status none.print told_is (subst (λ (n : ℕ). (fault ≡ Faults.BadMedia (Files.Line n) bad) ⊎ (fault ≡ Faults.OutOfMemory)) (sym has.line_is)

@@ -8,7 +8,7 @@ use Rattle.omx_types.specs.declared.fault.Fault.{Fault}
 use Rattle.omx_types.specs.declared.fault.Fault.TheVariants as Faults
 use Rattle.omx_types.specs.declared.fault.Which.TheVariants as Files
 use Rattle.omxrun.specs.Opened.{HasOpenReason}
-use Rattle.omxrun.specs.Reasons.{CountsStand}
+use Rattle.play_course.specs.Outcomes.{CountsStand}
 use Rattle.omxrun.specs.Turned.{Written, Giving, Stopping, text_in, Comes, HasTurnReason, IsAlone, IsUnopened, IsTurnOutcome}
 use Rattle.omxrun.specs.declared.done.Done.{Done}
 

@@ -20,9 +20,7 @@ use Rattle.play_forms.specs.declared.plan_fault.PlanFault.TheVariants as Plans
 use Rattle.play_forms.specs.Plans.{IsFaultOfScript, IsFitFault, IsFitted, IsPlanOfScript, PlanValue}
 use Rattle.play_results.specs.Files.{IsReader, IsWriter, read_by}
 use Rattle.play_files.specs.Left.{HaveHeads}
-use Rattle.play_course.specs.Outcomes.{HasNoLateLine}
 use Rattle.play_course.specs.Settling.{parts_of}
-use Rattle.omxrun.specs.Plays.{HasLateIn}
 use Rattle.omxrun.specs.Words.{Asked, to_trace, to_play, to_make, to_clock, to_pack, to_unpack}
 
 -- the forms of words that aren't built yet: a play by workers
@@ -55,17 +53,10 @@ pub record IsUnread (name log : List ℕ) (old : Outside) (line : ℕ) (why : Sc
   pub given : IsGiven old name bytes
   pub refused : PlayReadsAs name log bytes (Err (fault_at line why))
 
--- it has a late source
-pub record IsLate (name log : List ℕ) (old : Outside) : Type 0 where
-  pub script : Script
-  pub asked : IsAsked name log old script
-  pub late : HasLateIn (parts_of script)
-
 -- it has no plan, by this fault, which isn't want of memory
 pub record HasNoPlan (name log : List ℕ) (old : Outside) (why : PlanFault) : Type 0 where
   pub script : Script
   pub asked : IsAsked name log old script
-  pub early : HasNoLateLine script
   pub is : IsFaultOfScript script why
   pub shape : why ≢ Plans.OutOfMemory
 
@@ -77,7 +68,6 @@ IsSound old name = (bytes : List ℕ) × (head : WavHead) × IsGiven old name by
 pub record IsFaulty (name log : List ℕ) (old : Outside) (line : ℕ) (fault : WavFault) : Type 0 where
   pub script : Script
   pub asked : IsAsked name log old script
-  pub early : HasNoLateLine script
   pub plan : PlanValue
   pub is_plan : IsPlanOfScript script plan
   pub place : ℕ
@@ -91,16 +81,25 @@ pub record IsFaulty (name log : List ℕ) (old : Outside) (line : ℕ) (fault : 
   pub reads : Reads bytes (Err fault)
   pub before : (other : ℕ) (file : List ℕ) → other < place → IsReader (parts_of script) other file → IsSound old file
 
+-- the script's plan is there and its sources are sound, and fitted to their heads it has this fault
+pub record IsMisfitted (name log : List ℕ) (old : Outside) (why : PlanFault) : Type 0 where
+  pub script : Script
+  pub asked : IsAsked name log old script
+  pub plan : PlanValue
+  pub is_plan : IsPlanOfScript script plan
+  pub sources : (place : ℕ) (file : List ℕ) → IsReader (parts_of script) place file → IsSound old file
+  pub misfits : (planned fitted : PlanValue) (heads : List WavHead) → IsPlanOfScript script planned
+      → HaveHeads old planned.parts (length planned.parts) heads → IsFitted planned heads fitted → IsFitFault fitted why
+
 -- the script's plan is there and fits its sources, which are sound, and neither a sink nor the log is refused
 pub record CanPlay (name log : List ℕ) (old : Outside) : Type 0 where
   pub script : Script
   pub asked : IsAsked name log old script
-  pub early : HasNoLateLine script
   pub plan : PlanValue
   pub is_plan : IsPlanOfScript script plan
   pub sources : (place : ℕ) (file : List ℕ) → IsReader (parts_of script) place file → IsSound old file
-  pub fits : (plan fitted : PlanValue) (heads : List WavHead) (why : PlanFault) → IsPlanOfScript script plan
-      → HaveHeads old plan.parts (length plan.parts) heads → IsFitted plan heads fitted → IsFitFault fitted why → ⊥
+  pub fits : (planned fitted : PlanValue) (heads : List WavHead) (why : PlanFault) → IsPlanOfScript script planned
+      → HaveHeads old planned.parts (length planned.parts) heads → IsFitted planned heads fitted → IsFitFault fitted why → ⊥
   pub sinks_let_in : (place : ℕ) (file : List ℕ) → IsWriter (parts_of script) place file → IsFalse (old.may_refuse file)
   pub log_let_in : IsFalse (old.may_refuse log)
 

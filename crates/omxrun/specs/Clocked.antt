@@ -7,7 +7,7 @@ use Rattle.omx_types.specs.declared.fault.ScriptWhy.{ScriptWhy}
 use Rattle.clock_core.specs.Printed.{clock_text}
 use Rattle.clock_core.specs.Script.{IsFaulty, IsScript}
 use Rattle.omxrun.specs.Asked.{IsGiven}
-use Rattle.omxrun.specs.Reasons.{CountsStand}
+use Rattle.play_course.specs.Outcomes.{CountsStand}
 use Rattle.omxrun.specs.Texts.{fault_line}
 use Rattle.omxrun.specs.Traced.{HasScriptReason}
 

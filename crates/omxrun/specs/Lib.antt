@@ -7,7 +7,6 @@ pub mod Names
 pub mod Opened
 pub mod Packets
 pub mod Plays
-pub mod Reasons
 pub mod Texts
 pub mod Told
 pub mod Traced

@@ -3,7 +3,7 @@ use Rattle.std.specs.Prelude.{◌≡◌, ℕ, List, Result, IsTrue, IfOk, IfErr,
 use Rattle.outside_io.specs.Files.{Outside}
 use Rattle.omx_types.specs.declared.fault.Fault.{Fault}
 use Rattle.load_gen.specs.Made.{AreMade, ArePartlyMade, OthersAreKept, HasReason}
-use Rattle.omxrun.specs.Reasons.{CountsStand}
+use Rattle.play_course.specs.Outcomes.{CountsStand}
 use Rattle.omxrun.specs.declared.done.Done.{Done}
 use Rattle.omxrun.specs.declared.done.Done.TheVariants.{Made}
 

@@ -1,34 +1,21 @@
 -- What a play comes to.
-use Rattle.std.specs.Prelude.{◌≡◌, ◌≢◌, ◌⊎◌, ℕ, true, false, List, slice_get, Option, Some, Result, Ok, Err, IsTrue, IfOk, IfErr, OnOk, OnErr}
+use Rattle.std.specs.Prelude.{◌≡◌, ◌≢◌, ◌⊎◌, ℕ, List, Option, Some, Result, Ok, Err, IsTrue, IfOk, IfErr, OnOk, OnErr}
 use Rattle.outside_io.specs.Files.{GoesOn, Outside}
 use Rattle.omx_types.specs.declared.fault.Fault.{Fault}
 use Rattle.omx_types.specs.declared.fault.Fault.TheVariants as Faults
 use Rattle.omx_types.specs.declared.fault.Which.TheVariants as Files
 use Rattle.omx_types.specs.declared.fault.ScriptWhy.{ScriptWhy}
 use Rattle.omx_types.specs.declared.fault.Status.{Status}
-use Rattle.omx_types.specs.declared.fault.Unbuilt.TheVariants as Unbuilts
-use Rattle.part_forms.specs.Kinds.{is_late}
 use Rattle.script_lang.specs.LineByLine.{fault_at}
 use Rattle.script_lang.specs.PlayScripts.{IsPlayScript, PlayReadsAs}
-use Rattle.script_lang.specs.declared.play_line.PartLine.{PartLine}
 use Rattle.script_lang.specs.declared.script.Script.{Script}
-use Rattle.play_forms.specs.Parts.{kind_of}
 use Rattle.play_results.specs.Leaving.{IsLeft}
 use Rattle.play_results.specs.Summaries.{SinkLine, summary_text}
-use Rattle.play_course.specs.Outcomes.{HasNoLateLine, IsDone, IsUndone}
+use Rattle.play_course.specs.Outcomes.{CountsStand, IsDone, IsUndone}
 use Rattle.play_course.specs.Settling.{parts_of}
-use Rattle.omxrun.specs.Reasons.{CountsStand}
 use Rattle.omxrun.specs.Texts.{fault_line}
 use Rattle.omxrun.specs.Told.{IsPrinted, status_of}
 use Rattle.omxrun.specs.Traced.{HasScriptReason}
-
--- ---- late sources, which aren't played yet
-
-abbrev pub HasLateIn : List PartLine → Type 0
-HasLateIn parts = (place : ℕ) × (part : PartLine) × (slice_get parts place ≡ Some part) × (is_late (kind_of part.form) ≡ true)
-
-abbrev pub HasNoLateIn : List PartLine → Type 0
-HasNoLateIn parts = (place : ℕ) (part : PartLine) → slice_get parts place ≡ Some part → is_late (kind_of part.form) ≡ false
 
 -- ---- the script
 
@@ -58,43 +45,35 @@ HasPlayReason name log old new other = HasScriptReason name old new other
 abbrev pub IsDoneWith : Script → List ℕ → Outside → Outside → List ℕ → Type 0
 IsDoneWith script log old new printed = (summary : List SinkLine) × IsDone script log old new summary × (printed ≡ summary_text (parts_of script) summary)
 
--- it has a late source; or it has none, and wasn't played whole
-abbrev pub IsUndoneBy : Script → List ℕ → Outside → Outside → Fault → Type 0
-IsUndoneBy script log old new fault =
-    (HasLateIn (parts_of script) × (new ≡ old) × (fault ≡ Faults.NotBuilt Unbuilts.Script)) ⊎ (HasNoLateLine script × IsUndone script log old new fault)
-
 -- what came of a script that was read; the outcome is what is to be printed, or a fault
 pub record IsPlayCourse (script : Script) (log : List ℕ) (old new : Outside) (outcome : Result (List ℕ) Fault) : Type 0 where
   pub done : IfOk outcome (IsDoneWith script log old new)
-  pub early : OnOk outcome (HasNoLateLine script)
   pub stand : OnOk outcome (CountsStand old new)
-  pub undone : IfErr outcome (IsUndoneBy script log old new)
+  pub undone : IfErr outcome (IsUndone script log old new)
 
 -- ---- the whole
 
--- the file is a script without late sources, which was played whole
+-- the file is a script, which was played whole
 pub record IsPlayed (name log : List ℕ) (old new : Outside) (printed : List ℕ) : Type 0 where
   pub script : Script
   pub text : List ℕ
   pub held : IsTrue old.tells → old.file name ≡ Some text
   pub is : IsPlayScript name log text script
-  pub early : HasNoLateLine script
   pub done : IsDoneWith script log old new printed
 
 -- the file is no script, and no told file changes; or it was read, and this came of it
 abbrev pub IsUnplayed : (name log : List ℕ) → Outside → Outside → Fault → Type 0
 IsUnplayed name log old new fault =
     ((new.file ≡ old.file) × HasPlayReason name log old new fault)
-    ⊎ ((script : Script) × (mid : Outside) × WasRead name log old mid script × IsUndoneBy script log mid new fault)
+    ⊎ ((script : Script) × (mid : Outside) × WasRead name log old mid script × IsUndone script log mid new fault)
 
--- faults that come before a sink is opened
+-- faults that come before a sink is opened; that a plan doesn't fit its files is a fault of the script
 abbrev pub IsEarly : Fault → Type 0
 IsEarly (Faults.Script line why) = Unit {0}
 IsEarly (Faults.BadMedia which fault) = Unit {0}
 IsEarly (Faults.Absent Files.Script) = Unit {0}
 IsEarly (Faults.Short Files.Script at size) = Unit {0}
 IsEarly (Faults.Units have need) = Unit {0}
-IsEarly (Faults.NotBuilt what) = Unit {0}
 IsEarly other = ⊥
 
 -- what a play comes to: done whole only where no read and no write failed; the log is begun only where all sinks hold their texts, and a

@@ -11,7 +11,7 @@ use Rattle.script_lang.specs.LineByLine.{fault_at}
 use Rattle.script_lang.specs.Scripts.{IsScript, ReadsAs}
 use Rattle.script_lang.specs.declared.script.Script.{Script}
 use Rattle.trace_run.specs.Traced.{IsTraced, IsTracedTo}
-use Rattle.omxrun.specs.Reasons.{CountsStand}
+use Rattle.play_course.specs.Outcomes.{CountsStand}
 use Rattle.omxrun.specs.Texts.{fault_line}
 
 -- the file of that name is this script

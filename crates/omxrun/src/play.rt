@@ -2,13 +2,13 @@ ghost use Rattle.std.specs.Prelude.{◌≡◌, ◌≤◌, ℕ, List, Result, IfO
 ghost use Rattle.outside_io.specs.Files.{GoesOn};
 ghost use Rattle.script_lang.specs.PlayScripts.{IsPlayScript};
 ghost use Rattle.omxrun.specs.Plays.{HasPlayReason, IsPlayCourse, IsPlayOutcome, IsToldOf, WasRead};
-ghost use Rattle.omxrun.specs.Reasons.{CountsStand};
+ghost use Rattle.play_course.specs.Outcomes.{CountsStand};
 
 use crate::print::{print, tell};
-use crate::script::{SCRIPT_BYTES, has_late, parts_of};
+use crate::script::{SCRIPT_BYTES, parts_of};
 use crate::summary::text_of_play;
 use crate::trace::{refused_fault, unread_fault};
-use omx_types::{Fault, Status, Unbuilt};
+use omx_types::{Fault, Status};
 use outside_io::{Media, Sink, read_whole};
 use play_course::{Player, play_script};
 use play_files::law_of_names;
@@ -53,7 +53,7 @@ fn script_of<M: Media>(alloc: Global, media: &mut M, name: &str, log: &str) -> R
     }
 }
 
-/// Plays a script. One with a late source isn't played yet.
+/// Plays a script, and prints what is told of its sinks, or the line of a fault.
 fn play_read<M: Media, P: Player<M::Src, M::Snk>, O: Sink>(
     alloc: Global,
     media: &mut M,
@@ -68,12 +68,6 @@ fn play_read<M: Media, P: Player<M::Src, M::Snk>, O: Sink>(
     ensures played { (outcome : Result (List ℕ) Fault) × IsPlayCourse script.now log.now (M.outside media.old) (M.outside media.new) outcome
         × IsToldOf outcome (O.told out.old) (O.told out.new) (O.faults out.old) (O.faults out.new) result }
 {
-    if has_late(parts_of(script)) {
-        let late = Fault::NotBuilt {
-            what: Unbuilt::Script,
-        };
-        return tell(Err(late), out);
-    }
     match play_script(alloc, script, media, log, player) {
         Ok(summary) => {
             let text = text_of_play(parts_of(script), summary.sinks());

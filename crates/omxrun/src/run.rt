@@ -7,7 +7,7 @@ ghost use Rattle.omx_types.specs.declared.fault.WavFault.{WavFault};
 ghost use Rattle.omxrun.specs.declared.done.Done.{Done};
 ghost use Rattle.play_forms.specs.declared.plan_fault.PlanFault.{PlanFault};
 ghost use Rattle.play_files.specs.Faults.{fault_of_plan};
-ghost use Rattle.omxrun.specs.Asked.{IsUnbuilt, IsUntraced, CanTrace, IsUnread, IsLate, HasNoPlan, IsFaulty, CanPlay, CanMake, IsFaultless, IsOrMemory};
+ghost use Rattle.omxrun.specs.Asked.{IsUnbuilt, IsUntraced, CanTrace, IsUnread, HasNoPlan, IsMisfitted, IsFaulty, CanPlay, CanMake, IsFaultless, IsOrMemory};
 ghost use Rattle.omxrun.specs.Clocked.{IsClockOutcome, CanClock, IsUnclocked};
 ghost use Rattle.omxrun.specs.Commands.{HasRun};
 ghost use Rattle.omxrun.specs.Making.{IsMakeOutcome};
@@ -93,15 +93,15 @@ pub fn run_words<R: Threads + Wait + Sync, M: Media, O: Sink>(
     ensures unread { (script log : List ℕ) (line : ℕ) (why : ScriptWhy) → AreWordsOf (map string_bytes words.now) (to_play script 0 log) →
         IsFaultless (M.outside media.old) (M.outside media.new) (O.faults out.old) (O.faults out.new) →
         IsUnread script log (M.outside media.old) line why → IsOrMemory result (Status.Fault (Fault.Script line why)) }
-    ensures unplayed { (script log : List ℕ) → AreWordsOf (map string_bytes words.now) (to_play script 0 log) →
-        IsFaultless (M.outside media.old) (M.outside media.new) (O.faults out.old) (O.faults out.new) →
-        IsLate script log (M.outside media.old) → IsOrMemory result (Status.Fault (Fault.NotBuilt Unbuilt.Script)) }
     ensures unplanned { (script log : List ℕ) (why : PlanFault) → AreWordsOf (map string_bytes words.now) (to_play script 0 log) →
         IsFaultless (M.outside media.old) (M.outside media.new) (O.faults out.old) (O.faults out.new) →
         HasNoPlan script log (M.outside media.old) why → IsOrMemory result (Status.Fault (fault_of_plan why)) }
     ensures faulty { (script log : List ℕ) (line : ℕ) (fault : WavFault) → AreWordsOf (map string_bytes words.now) (to_play script 0 log) →
         IsFaultless (M.outside media.old) (M.outside media.new) (O.faults out.old) (O.faults out.new) →
         IsFaulty script log (M.outside media.old) line fault → IsOrMemory result (Status.Fault (Fault.BadMedia (Line line) fault)) }
+    ensures misfitted { (script log : List ℕ) (why : PlanFault) → AreWordsOf (map string_bytes words.now) (to_play script 0 log) →
+        IsFaultless (M.outside media.old) (M.outside media.new) (O.faults out.old) (O.faults out.new) →
+        IsMisfitted script log (M.outside media.old) why → IsOrMemory result (Status.Fault (fault_of_plan why)) }
     ensures complete { (script log : List ℕ) → AreWordsOf (map string_bytes words.now) (to_play script 0 log) →
         IsFaultless (M.outside media.old) (M.outside media.new) (O.faults out.old) (O.faults out.new) →
         CanPlay script log (M.outside media.old) → IsOrMemory result Status.Ok }

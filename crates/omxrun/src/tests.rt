@@ -29,6 +29,8 @@ const LONG_HEAD: &[u8] =
 
 const SCRIPT: &[u8] = b"omx 1 play\nsource a in.wav\nsink b out.wav\nlink a.0 b.0 2 4096\n";
 
+const LATE: &[u8] = b"omx 1 play\nlate a in.wav\nsink b out.wav\nlink a.0 b.0 2 4096\n";
+
 const DONE: &[u8] = b"sink b 3 frames 50 bytes\nok\n";
 
 const PLAY: [&str; 4] = ["play", "s.omx", "0", "log"];
@@ -114,6 +116,30 @@ fn check_play<R: Threads + Wait + Sync + Alloc<A = Global> + Abort>(
     Ok(())
 }
 
+/// How many of the lines end so.
+fn lines_with(text: &[u8], end: &[u8]) -> usize {
+    text.split(|byte| *byte == b'\n')
+        .filter(|line| line.ends_with(end))
+        .count()
+}
+
+#[test]
+fn late_source_plays(rt: HostRuntime) -> Result<(), Failure> {
+    let media = media_of(rt.alloc(), LATE, THREE_SAMPLES, &[])?;
+    let ran = run(&rt, media, &PLAY, ROOM)?;
+    assert_eq!(rt; ran.printed.as_slice(), DONE);
+    assert!(rt;
+        ran.media
+            .file("out.wav")
+            .is_some_and(|bytes| bytes == THREE_SAMPLES)
+    );
+    assert!(rt;
+        ran.media.file("log").is_some_and(|bytes| lines_with(bytes, b" take a = event settings 0")
+            == 1)
+    );
+    Ok(())
+}
+
 /// Plays where one call fails, and compares what is printed, the status, and how long the output's file is.
 fn check_fail<R: Threads + Wait + Sync + Alloc<A = Global> + Abort>(
     rt: &R,
@@ -192,14 +218,11 @@ fn words_and_scripts(rt: HostRuntime) -> Result<(), Failure> {
         b"script line 3: name twice\n",
         1,
     )?;
-    check_words(
-        &rt,
-        &PLAY,
-        b"omx 1 play\nlate a in.wav\nsink b out.wav\nlink a.0 b.0 2 4096\n",
-        THREE_SAMPLES,
-        b"not built: script\n",
-        10,
-    )?;
+    Ok(())
+}
+
+#[test]
+fn refused_plans(rt: HostRuntime) -> Result<(), Failure> {
     check_words(
         &rt,
         &PLAY,

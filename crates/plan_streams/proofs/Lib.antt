@@ -2,6 +2,7 @@ pub mod Finding
 pub mod Ports
 pub mod Turns
 pub mod Files
+pub mod Links
 pub mod Contents
 pub mod Plainly
 pub mod Opened

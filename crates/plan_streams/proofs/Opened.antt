@@ -1,9 +1,9 @@
--- The assembled graph of a plan is set as the plan's contents say, and its files hold what they say; nothing flowed yet.
-use Rattle.std.proofs.Common.{◌≡◌, ℕ, zero, suc, ◌+◌, ◌*◌, ◌<◌, Bool, true, false, nat_le, List, [], ◌∷◌, length, take, drop, slice_get, slice_index_or, Option, Some, None, option_map, refl, sym, ◌∙◌, ap, append-nil, leb-true, arith}
-use Rattle.std.proofs.lemmas.List.{length-drop, length-map, length-replicate}
+-- The assembled graph of a plan is set as the plan's contents say, but for the formats of its late sources' links, which aren't known yet,
+-- and its files hold what they say; nothing flowed yet.
+use Rattle.std.proofs.Common.{◌≡◌, ℕ, suc, ◌+◌, ◌*◌, ◌<◌, Bool, true, false, nat_le, List, [], ◌∷◌, length, take, drop, slice_get, slice_index_or, Option, Some, None, option_map, refl, sym, ◌∙◌, ap, subst, append-nil, leb-true, arith}
+use Rattle.std.proofs.lemmas.List.{length-drop, length-map, length-replicate, length-take-le}
 use Rattle.std.proofs.lemmas.Bool.{leb-false}
 use Rattle.std.proofs.lemmas.Option.{slice_get-map, slice_get_within}
-use Rattle.std.proofs.Math.Seq.{take-length}
 use Rattle.omx_types.specs.declared.handle.Handle.{Handle}
 use Rattle.omx_types.specs.declared.format.Format.{Format}
 use Rattle.omx_types.specs.declared.kind.Kind.{Kind}
@@ -13,7 +13,7 @@ use Rattle.part_forms.specs.Kinds.{inputs_of, is_source, outputs_of, ports_in}
 use Rattle.audio_parts.specs.Kinds.{default_factors}
 use Rattle.il_machine.specs.declared.port.PortSetting.{PortSetting}
 use Rattle.il_machine.specs.Files.{Offered}
-use Rattle.il_machine.specs.Kinds.{is_sink}
+use Rattle.il_machine.specs.Kinds.{is_auto, is_sink}
 use Rattle.il_machine.specs.Parts.{factors_by, terms_of}
 use Rattle.il_machine.specs.Settings.{Settings, formats_of as set_formats, weights_in}
 use Rattle.il_machine.specs.World.{Component, Stream, World, number_of, stream_of}
@@ -29,44 +29,48 @@ use Rattle.play_forms.specs.Fitting.{format_into}
 use Rattle.play_forms.specs.Parts.{factors_of, kind_of, passes_at, source_number}
 use Rattle.play_forms.specs.Plain.{format_out, formats_of, samples_at}
 use Rattle.play_forms.specs.Plans.{PlanValue}
+use Rattle.stream_plan.proofs.Lists.{slice_get_take}
 use Rattle.play_worlds.specs.Cast.{Cast, script_place}
 use Rattle.play_worlds.specs.Openings.{opening}
 use Rattle.play_worlds.proofs.Lengths.{drop_at}
 use Rattle.play_worlds.proofs.Lists.{get_there}
-use Rattle.play_worlds.proofs.Openings.{opens}
-use Rattle.play_plans.specs.Casting.{cast_of, flow_of, joint_of, place_of}
+use Rattle.play_plans.specs.Casting.{flow_of, joint_of, place_of}
+use Rattle.late_worlds.proofs.Opened.{late_opens}
 use Rattle.assembling.specs.Assembly.{Assembly, component_at}
 use Rattle.assembling.specs.Stages.{AreBuilt, IsStage, Joining, file_by, progress_of, stream_by}
 use Rattle.assembling.proofs.Filing.{stream_component}
 use Rattle.assembling.proofs.Places.{stream_found}
-use Rattle.play_openings.specs.Assemblies.{HasNoLate, IsReady, PlayFiles, assembly_of, factors_in, file_at, file_of, is_late_link, kind_in, opening_format}
-use Rattle.play_openings.proofs.Lawful.{late_is, link_is}
-use Rattle.play_openings.proofs.Opened.{early_opens}
+use Rattle.play_openings.specs.Assemblies.{IsReady, PlayFiles, assembly_of, factors_in, file_at, file_of, is_late_link, kind_in, late_cast_of, opening_format}
+use Rattle.play_openings.proofs.Lawful.{not_late}
+use Rattle.play_openings.proofs.Opened.{assembled_opens}
 use Rattle.play_results.specs.Files.{AreSamples, IsWriter, written_by}
 use Rattle.play_results.specs.Worlds.{IsOpening}
-use Rattle.play_streams.specs.Contents.{HasContents, Tells}
-use Rattle.play_streams.specs.Streams.{AreNew, HasStreams}
-use Rattle.play_streams.proofs.Beginning.{opening_has}
+use Rattle.play_streams.specs.Contents.{Tells}
+use Rattle.play_streams.specs.Streams.{AreNew}
+use Rattle.late_streams.specs.Contents.{AreSetAs, HasLateContents, IsSetAs}
+use Rattle.late_streams.specs.Streams.{HasLateStreams}
+use Rattle.late_streams.proofs.Beginning.{opening_has}
 use Rattle.plan_streams.specs.Contents.{contents_of, samples_by}
 use Rattle.plan_streams.specs.Terms.{terms_by}
 use Rattle.plan_streams.proofs.Contents.{input_is, link_in, no_part_is, plan_contents}
 use Rattle.plan_streams.proofs.Files.{source_file as samples_of}
-use Rattle.plan_streams.proofs.Ports.{at_input, at_output, factors_many}
+use Rattle.plan_streams.proofs.Links.{link_input, link_output}
+use Rattle.plan_streams.proofs.Ports.{at_input, at_output, factors_many, formats_get, formats_many}
 use Rattle.plan_streams.proofs.Turns.{part_is, seat_at, terms_is}
 
 -- ---- lists
 
-front_is : (n : ℕ) (f : ℕ → Format) (xs : List Format) → ((i : ℕ) → i < n → slice_get xs i ≡ Some (f i)) → take n xs ≡ formats_of n f
-front_is zero f xs h = refl
-front_is (suc n) f [] h = let z : None ≡ Some (f 0) = h 0 (omega arith) in absurd cc
-front_is (suc n) f (x ∷ xs) h =
-    let e : Some x ≡ Some (f 0) = h 0 (omega arith) in
-    let s : x ≡ f 0 = cc in
-    let r = front_is n (λ i. f (suc i)) xs (λ i l. h (suc i) (omega arith)) in
-    λ i. s i ∷ r i
-
-all_is : (n : ℕ) (f : ℕ → Format) (xs : List Format) → length xs ≡ n → ((i : ℕ) → i < n → slice_get xs i ≡ Some (f i)) → xs ≡ formats_of n f
-all_is n f xs e h = sym (take-length xs) ∙ (ap (λ (j : ℕ). take j xs) e ∙ front_is n f xs h)
+-- of so many formats, each that is known is the one that the function says
+are_set : (n : ℕ) (f : ℕ → Format) (xs : List Format) → length xs ≡ n → ((i : ℕ) (y : Format) → i < n → slice_get xs i ≡ Some y → is_auto y ≡ false → y ≡ f i) → AreSetAs xs (formats_of n f)
+are_set n f xs e h = record {
+  many = e ∙ sym (formats_many n f);
+  each = λ i y z a b known.
+      let l = slice_get_within xs i y a in
+      let low : i < n = omega arith in
+      let same : Some (f i) ≡ Some z = sym (formats_get n f i low) ∙ b in
+      let is : f i ≡ z = cc in
+      h i y low a known ∙ is;
+}
 
 same_list : (xs ys : List ℕ) → length ys ≡ length xs → ((i x : ℕ) → slice_get xs i ≡ Some x → slice_get ys i ≡ Some x) → ys ≡ xs
 same_list [] [] e h = refl
@@ -180,7 +184,7 @@ module _ (plan : PlanValue) (files : PlayFiles) (handles : List Handle) (w : Wor
       let is : st ≡ stream_by (file_at plan files place) place = cc in
       ap (λ (y : Stream). y.known) is ∙ (ap (λ o. (stream_by o place).known) own ∙ known_of_sink (kind_of part.form) (slice_get files.heads (source_number plan.parts place)) (slice_index_or plan.frames place 0) (files.there place) (files.known place) place sink)
 
-module _ (plan : PlanValue) (files : PlayFiles) (samples : List (List ℕ)) (R : IsReady plan files) (early : HasNoLate plan) (F : AreSamples plan files samples) (handles : List Handle) (w : World)
+module _ (plan : PlanValue) (files : PlayFiles) (samples : List (List ℕ)) (R : IsReady plan files) (F : AreSamples plan files samples) (handles : List Handle) (w : World)
     (B : IsStage (assembly_of plan files) (Joining (length plan.joints)) handles w) where
   abbrev s : Assembly
   s = assembly_of plan files
@@ -198,33 +202,38 @@ module _ (plan : PlanValue) (files : PlayFiles) (samples : List (List ℕ)) (R :
     kind_is : a.settings.kind ≡ kind_of part.form
     kind_is = ap (λ (y : Settings). y.kind) (built.each place a f).settings ∙ ap kind_in e
 
-    -- what is set of the port of an end
-    set_at : (side : Bool) (l port : ℕ) → l < length plan.joints → component_at s side l ≡ place → (s.end side l).port ≡ port → slice_get fs port ≡ Some (flow_of plan l).format
-    set_at side l port b at p =
+    -- what is set of the port of an end, where it is known
+    set_at : (side : Bool) (l port : ℕ) (y : Format) → l < length plan.joints → component_at s side l ≡ place → (s.end side l).port ≡ port → slice_get fs port ≡ Some y → is_auto y ≡ false → y ≡ (flow_of plan l).format
+    set_at side l port y b at p g known =
         let E = built.ends side l a b (ap (slice_get w.components) at ∙ f) in
-        let K = link_is plan files R l b in
-        let late : is_late_link plan l ≡ false = late_is plan files R l K ∙ early (joint_of plan l).giver (K.part false) (K.part_there false) in
-        slice_get-map (λ (y : PortSetting). y.definition.format) a.settings.ports port
-        ∙ (ap (λ (n : ℕ). option_map (λ (y : PortSetting). y.definition.format) (slice_get a.settings.ports n)) (sym p)
-        ∙ (ap (option_map (λ (y : PortSetting). y.definition.format)) E.setting ∙ ap (λ (t : Bool). Some (opening_format t (flow_of plan l).format)) late))
+        let here : slice_get fs port ≡ Some (opening_format (is_late_link plan l) (flow_of plan l).format) =
+        slice_get-map (λ (z : PortSetting). z.definition.format) a.settings.ports port
+        ∙ (ap (λ (n : ℕ). option_map (λ (z : PortSetting). z.definition.format) (slice_get a.settings.ports n)) (sym p)
+        ∙ ap (option_map (λ (z : PortSetting). z.definition.format)) E.setting)
+        in
+        let same : Some y ≡ Some (opening_format (is_late_link plan l) (flow_of plan l).format) = sym g ∙ here in
+        let is : y ≡ opening_format (is_late_link plan l) (flow_of plan l).format = cc in
+        is ∙ not_late (is_late_link plan l) (flow_of plan l).format (ap is_auto (sym is) ∙ known)
 
     ports_many : length fs ≡ ports_in (kind_of part.form)
     ports_many =
         let I = (parts_of w B.sound).components place a f in
         length-map a.settings.ports (λ (y : PortSetting). y.definition.format) ∙ ((I.whole).ports ∙ ap ports_in kind_is)
 
-    inputs_set : take (inputs_of (kind_of part.form)) fs ≡ formats_of (inputs_of (kind_of part.form)) (format_into plan.joints plan.flows place)
-    inputs_set = front_is (inputs_of kind) (format_into plan.joints plan.flows place) fs (λ i l.
+    inputs_set : AreSetAs (take (inputs_of (kind_of part.form)) fs) (formats_of (inputs_of (kind_of part.form)) (format_into plan.joints plan.flows place))
+    inputs_set =
+        let many = ports_many in
+        are_set (inputs_of kind) (format_into plan.joints plan.flows place) (take (inputs_of kind) fs) (length-take-le (inputs_of kind) fs (omega arith)) (λ i y l g known.
         let Z = at_input plan files R place part e i l in
-        set_at true Z.link i Z.below Z.taker Z.port ∙ ap (λ (y : Format). Some y) (sym Z.format))
+        set_at true Z.link i y Z.below Z.taker Z.port (slice_get_take fs (inputs_of kind) i y g).1 known ∙ sym Z.format)
 
-    outputs_set : drop (inputs_of (kind_of part.form)) fs ≡ formats_of (outputs_of (kind_of part.form)) (format_out plan place (kind_of part.form))
+    outputs_set : AreSetAs (drop (inputs_of (kind_of part.form)) fs) (formats_of (outputs_of (kind_of part.form)) (format_out plan place (kind_of part.form)))
     outputs_set =
         let many = ports_many in
         let left = length-drop (inputs_of kind) fs in
-        all_is (outputs_of kind) (format_out plan place kind) (drop (inputs_of kind) fs) (omega arith) (λ i l.
+        are_set (outputs_of kind) (format_out plan place kind) (drop (inputs_of kind) fs) (omega arith) (λ i y l g known.
         let Z = at_output plan files R place part e i l in
-        drop_at (inputs_of kind) fs i ∙ (set_at false Z.link (inputs_of kind + i) Z.below Z.giver Z.port ∙ ap (λ (y : Format). Some y) (sym Z.format)))
+        set_at false Z.link (inputs_of kind + i) y Z.below Z.giver Z.port (sym (drop_at (inputs_of kind) fs i) ∙ g) known ∙ sym Z.format)
 
     factors_set : factors_by (kind_of part.form) a.settings.gain a.settings.weights ≡ factors_of part.form
     factors_set =
@@ -238,14 +247,16 @@ module _ (plan : PlanValue) (files : PlayFiles) (samples : List (List ℕ)) (R :
         let r = (built.each place a f).factors i x (ap (λ o. slice_get (factors_in o) i) e ∙ h) refl in
         ap (λ (y : Kind). slice_get (factors_by y a.settings.gain a.settings.weights) i) (sym own) ∙ r)
 
-    terms_set : terms_of a ≡ terms_by plan files place part
+    terms_set : IsSetAs (terms_of a) (terms_by plan files place part)
     terms_set =
         let k = kind_is in
-        let inputs = ap (λ (y : Kind). take (inputs_of y) fs) k ∙ inputs_set in
-        let outputs = ap (λ (y : Kind). drop (inputs_of y) fs) k ∙ outputs_set in
-        let factors = ap (λ (y : Kind). factors_by y a.settings.gain a.settings.weights) k ∙ factors_set in
-        let file = (built.each place a f).file in
-        λ i. record { kind = k i; inputs = inputs i; outputs = outputs i; factors = factors i; file = file i }
+        record {
+          kind = k;
+          inputs = subst (λ (y : Kind). AreSetAs (take (inputs_of y) fs) (formats_of (inputs_of kind) (format_into plan.joints plan.flows place))) (sym k) inputs_set;
+          outputs = subst (λ (y : Kind). AreSetAs (drop (inputs_of y) fs) (formats_of (outputs_of kind) (format_out plan place kind))) (sym k) outputs_set;
+          factors = ap (λ (y : Kind). factors_by y a.settings.gain a.settings.weights) k ∙ factors_set;
+          file = (built.each place a f).file;
+        }
 
     stream_there : stream_of (number_of a) w ≡ Some (stream_by (file_at plan files place) place)
     stream_there = opening_stream plan files handles w B place part a e f
@@ -263,14 +274,16 @@ module _ (plan : PlanValue) (files : PlayFiles) (samples : List (List ℕ)) (R :
   -- ---- all of it
 
   abbrev x : Cast
-  x = cast_of (λ l. false) plan
+  x = (late_cast_of plan).cast
 
-  pub contents_there : HasContents (cast_of (λ l. false) plan) (contents_of plan files samples) w
+  pub contents_there : HasLateContents (late_cast_of plan) (contents_of plan files samples) w
   contents_there = record {
     lawful = plan_contents plan files samples R (λ l. false) F;
     terms = λ c a b f.
         let t = seat_at plan R.valid c b in
-        terms_set (place_of plan c) t.0 a (t.1).there f ∙ sym (terms_is plan files c (place_of plan c) t.0 t.1);
+        subst (IsSetAs (terms_of a)) (sym (terms_is plan files c (place_of plan c) t.0 t.1)) (terms_set (place_of plan c) t.0 a (t.1).there f);
+    late_output = λ l b h. link_output plan files R l b;
+    late_input = λ l b h. link_input plan files R l b;
     parts = λ c b. refl;
     files = λ c a b f h.
         let t = seat_at plan R.valid c b in
@@ -292,7 +305,7 @@ module _ (plan : PlanValue) (files : PlayFiles) (samples : List (List ℕ)) (R :
           let Z = link_in plan files samples R c (place_of plan c) t.0 t.1 i l in
           ap (λ (j : ℕ). (joint_of plan j).input) (input_is plan files samples R c (place_of plan c) t.0 t.1 i l) ∙ Z.port)
 
-  pub all_new : AreNew (cast_of (λ l. false) plan) w
+  pub all_new : AreNew (late_cast_of plan).cast w
   all_new l a st d sink f g =
       let place : ℕ = script_place x (((x.layout).network).taker l) in
       let m = (B.built).many in
@@ -312,13 +325,14 @@ module _ (plan : PlanValue) (files : PlayFiles) (samples : List (List ℕ)) (R :
 
 -- ---- the world in which the play begins
 
-module _ (plan : PlanValue) (files : PlayFiles) (samples : List (List ℕ)) (w : World) (R : IsReady plan files) (N : HasNoLate plan) (F : AreSamples plan files samples) (B : IsOpening plan files w) where
-  pub opening_contents : HasContents (cast_of (λ l. false) plan) (contents_of plan files samples) w
-  opening_contents = contents_there plan files samples R N F B.0 w B.1
+module _ (plan : PlanValue) (files : PlayFiles) (samples : List (List ℕ)) (w : World) (R : IsReady plan files) (F : AreSamples plan files samples) (B : IsOpening plan files w) where
+  pub opening_contents : HasLateContents (late_cast_of plan) (contents_of plan files samples) w
+  opening_contents = contents_there plan files samples R F B.0 w B.1
 
-  pub opening_new : AreNew (cast_of (λ l. false) plan) w
-  opening_new = all_new plan files samples R N F B.0 w B.1
+  pub opening_new : AreNew (late_cast_of plan).cast w
+  opening_new = all_new plan files samples R F B.0 w B.1
 
-  pub opening_streams : HasStreams (cast_of (λ l. false) plan) (contents_of plan files samples) opening w
+  pub opening_streams : HasLateStreams (late_cast_of plan) (contents_of plan files samples) opening w
   opening_streams =
-      opening_has (cast_of (λ l. false) plan) (contents_of plan files samples) opening w (opens (cast_of (λ l. false) plan) w (early_opens plan files B.0 w R N B.1)) (omega arith) opening_contents opening_new
+      let W = late_opens (late_cast_of plan) 0 w (assembled_opens plan files B.0 w R B.1) in
+      opening_has (late_cast_of plan) (contents_of plan files samples) 0 opening w W (omega arith) opening_contents opening_new

@@ -1,5 +1,5 @@
 -- What the files of a plan's sinks have taken.
-use Rattle.std.proofs.Common.{[], ◌≡◌, ℕ, ◌<◌, ◌≤◌, Bool, List, Some, MatchOption, sym, ◌∙◌, ap, subst}
+use Rattle.std.proofs.Common.{[], ◌≡◌, ℕ, ◌<◌, ◌≤◌, false, List, Some, MatchOption, sym, ◌∙◌, ap, subst}
 use Rattle.il_machine.specs.Finishing.{Finish}
 use Rattle.il_machine.specs.Stepping.{WorkDone, IsFrontOf}
 use Rattle.il_machine.specs.World.{Stream, World, stream_of}
@@ -9,24 +9,28 @@ use Rattle.play_forms.specs.Plain.{sink_text}
 use Rattle.play_forms.specs.Plans.{PlanValue}
 use Rattle.play_model.specs.Play.{Play}
 use Rattle.play_worlds.specs.Cast.{Cast, components_of, taker_of}
-use Rattle.play_worlds.specs.Worlds.{IsPlayWorld}
-use Rattle.play_plans.specs.Casting.{cast_of}
-use Rattle.play_openings.specs.Assemblies.{IsReady, PlayFiles}
+use Rattle.late_worlds.specs.Late.{IsLateWorld, LateCast}
+use Rattle.play_openings.specs.Assemblies.{IsReady, PlayFiles, late_cast_of}
 use Rattle.play_results.specs.Files.{AreSamples, IsWriter}
 use Rattle.play_results.specs.Worlds.{HasWritten}
 use Rattle.play_streams.specs.Contents.{PlayContents, network_of}
 use Rattle.play_streams.specs.Fronts.{AreFronts, whole_text}
-use Rattle.play_streams.specs.Streams.{EachSink, HasStreams}
-use Rattle.play_streams.proofs.Ends.{written_fronts, written_whole}
-use Rattle.play_streams.proofs.Still.{IsStillThere, finish_there, still_there}
+use Rattle.play_streams.specs.Streams.{EachSink}
+use Rattle.play_streams.proofs.Still.{IsStillThere}
+use Rattle.late_streams.specs.Streams.{HasLateStreams}
+use Rattle.late_flows.proofs.Ends.{written_fronts, written_whole}
+use Rattle.late_flows.proofs.Still.{finish_there, still_there}
 use Rattle.plan_streams.specs.Contents.{contents_of, streams_of}
 use Rattle.plan_streams.specs.Texts.{CameEmpty, HasWrittenFront}
 use Rattle.plan_streams.proofs.Ends.{sink_link}
 use Rattle.plan_streams.proofs.Plainly.{plan_plain}
 
-module _ (plan : PlanValue) (files : PlayFiles) (samples : List (List ℕ)) (by_output : ℕ → Bool) (R : IsReady plan files) (F : AreSamples plan files samples) where
+module _ (plan : PlanValue) (files : PlayFiles) (samples : List (List ℕ)) (R : IsReady plan files) (F : AreSamples plan files samples) where
+  abbrev y : LateCast
+  y = late_cast_of plan
+
   abbrev x : Cast
-  x = cast_of by_output plan
+  x = (late_cast_of plan).cast
 
   abbrev k : PlayContents
   k = contents_of plan files samples
@@ -34,33 +38,33 @@ module _ (plan : PlanValue) (files : PlayFiles) (samples : List (List ℕ)) (by_
   abbrev stream : ℕ → List ℕ
   stream = streams_of plan samples
 
-  plain_there : ArePlain (network_of (cast_of by_output plan)) (contents_of plan files samples).model (streams_of plan samples)
-  plain_there = plan_plain plan files samples R F by_output
+  plain_there : ArePlain (network_of (late_cast_of plan).cast) (contents_of plan files samples).model (streams_of plan samples)
+  plain_there = plan_plain plan files samples R F (λ l. false)
 
   -- of each link into a sink, and so of each sink
   each_text : (v : World) (P : List ℕ → Stream → Type 0) → EachSink x v (λ l a s. P (whole_text x k l (stream l)) s) → ((c : ℕ) → c < components_of x → IsStillThere x v c)
       → (place : ℕ) (name : List ℕ) → IsWriter plan.parts place name → MatchOption (stream_of place v) ⊥ (P (sink_text plan samples place))
   each_text v P E still place name I =
-      let L = sink_link plan files samples R F by_output place I.0 name I.1 I.2 in
+      let L = sink_link plan files samples R F (λ l. false) place I.0 name I.1 I.2 in
       let T = still (taker_of x L.link) L.inside in
       is_there (stream_of place v) (P (sink_text plan samples place)) T.stream (ap (λ (n : ℕ). stream_of n v) (sym (T.number ∙ L.at)) ∙ T.found)
       (subst (λ (text : List ℕ). P text T.stream) L.text (E L.link T.component T.stream L.below L.sink T.there T.found))
 
-  module _ (p : Play) (w : World) (W : IsPlayWorld (cast_of by_output plan) p w) (H : HasStreams (cast_of by_output plan) (contents_of plan files samples) p w) where
+  module _ (recent : ℕ) (p : Play) (w : World) (W : IsLateWorld (late_cast_of plan) recent p w) (H : HasLateStreams (late_cast_of plan) (contents_of plan files samples) p w) where
     pub texts_whole : 3 ≤ p.phase → (place : ℕ) (name : List ℕ) → IsWriter plan.parts place name → HasWritten w place (sink_text plan samples place)
-    texts_whole late = each_text w (λ text s. s.written ≡ text) (written_whole x k p w W H stream plain_there late) (λ c l. still_there x p w c W l)
+    texts_whole late = each_text w (λ text s. s.written ≡ text) (written_whole y k recent p w W H stream plain_there late) (λ c l. still_there y recent p w c W l)
 
     pub texts_fronts : (place : ℕ) (name : List ℕ) → IsWriter plan.parts place name → HasWrittenFront w place (sink_text plan samples place)
-    texts_fronts = each_text w (λ text s. IsFrontOf text s.written) (written_fronts x k p w W H stream plain_there) (λ c l. still_there x p w c W l)
+    texts_fronts = each_text w (λ text s. IsFrontOf text s.written) (written_fronts y k recent p w W H stream plain_there) (λ c l. still_there y recent p w c W l)
 
     pub texts_new : (place : ℕ) (name : List ℕ) → IsWriter plan.parts place name → CameEmpty w place
-    texts_new = each_text w (λ text s. s.known ≡ Some []) H.new (λ c l. still_there x p w c W l)
+    texts_new = each_text w (λ text s. s.known ≡ Some []) H.new (λ c l. still_there y recent p w c W l)
 
   -- a work came back with a fault
-  pub texts_failed : (p : Play) (w v : World) (done : WorkDone) → IsPlayWorld (cast_of by_output plan) p w → Finish w done v → AreFronts (cast_of by_output plan) (contents_of plan files samples) v (streams_of plan samples)
+  pub texts_failed : (recent : ℕ) (p : Play) (w v : World) (done : WorkDone) → IsLateWorld (late_cast_of plan) recent p w → Finish w done v → AreFronts (late_cast_of plan).cast (contents_of plan files samples) v (streams_of plan samples)
       → (place : ℕ) (name : List ℕ) → IsWriter plan.parts place name → HasWrittenFront v place (sink_text plan samples place)
-  texts_failed p w v done W G E = each_text v (λ text s. IsFrontOf text s.written) E (finish_there x p w v done W G)
+  texts_failed recent p w v done W G E = each_text v (λ text s. IsFrontOf text s.written) E (finish_there y recent p w v done W G)
 
-  pub texts_failed_new : (p : Play) (w v : World) (done : WorkDone) → IsPlayWorld (cast_of by_output plan) p w → Finish w done v → EachSink (cast_of by_output plan) v (λ l a s. s.known ≡ Some [])
+  pub texts_failed_new : (recent : ℕ) (p : Play) (w v : World) (done : WorkDone) → IsLateWorld (late_cast_of plan) recent p w → Finish w done v → EachSink (late_cast_of plan).cast v (λ l a s. s.known ≡ Some [])
       → (place : ℕ) (name : List ℕ) → IsWriter plan.parts place name → CameEmpty v place
-  texts_failed_new p w v done W G E = each_text v (λ text s. s.known ≡ Some []) E (finish_there x p w v done W G)
+  texts_failed_new recent p w v done W G E = each_text v (λ text s. s.known ≡ Some []) E (finish_there y recent p w v done W G)

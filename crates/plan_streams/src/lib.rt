@@ -2,7 +2,7 @@
 //! samples of the files of its sources. Stated on functions that do nothing; the play of a plan stands on them.
 #![tactic(auto)]
 
-ghost use Rattle.std.specs.Prelude.{◌≡◌, ℕ, ◌≤◌, Bool, false, List, [], length, slice_index_or, Some};
+ghost use Rattle.std.specs.Prelude.{◌≡◌, ℕ, ◌≤◌, Bool, List, [], length, slice_index_or, Some};
 ghost use Rattle.il_machine.specs.Finishing.{Finish};
 ghost use Rattle.il_machine.specs.Stepping.{WorkDone};
 ghost use Rattle.il_machine.specs.World.{World};
@@ -12,14 +12,16 @@ ghost use Rattle.play_forms.specs.Plain.{sink_text};
 ghost use Rattle.play_forms.specs.Plans.{PlanValue};
 ghost use Rattle.play_model.specs.Play.{Play};
 ghost use Rattle.play_worlds.specs.Openings.{opening};
-ghost use Rattle.play_worlds.specs.Worlds.{IsPlayWorld};
 ghost use Rattle.play_plans.specs.Casting.{cast_of};
-ghost use Rattle.play_openings.specs.Assemblies.{HasNoLate, IsReady, PlayFiles};
+ghost use Rattle.late_worlds.specs.Late.{IsLateWorld};
+ghost use Rattle.play_openings.specs.Assemblies.{IsReady, PlayFiles, late_cast_of};
 ghost use Rattle.play_results.specs.Files.{AreSamples, IsWriter};
 ghost use Rattle.play_results.specs.Worlds.{HasWritten, IsOpening};
-ghost use Rattle.play_streams.specs.Contents.{HasContents, network_of};
+ghost use Rattle.play_streams.specs.Contents.{network_of};
 ghost use Rattle.play_streams.specs.Fronts.{AreFronts};
-ghost use Rattle.play_streams.specs.Streams.{AreNew, EachSink, HasStreams};
+ghost use Rattle.play_streams.specs.Streams.{AreNew, EachSink};
+ghost use Rattle.late_streams.specs.Contents.{HasLateContents};
+ghost use Rattle.late_streams.specs.Streams.{HasLateStreams};
 ghost use Rattle.plan_streams.specs.Contents.{contents_of, streams_of};
 ghost use Rattle.plan_streams.specs.Texts.{CameEmpty, HasWrittenFront, size_of};
 
@@ -34,46 +36,47 @@ pub fn law_of_plan_contents()
         → ArePlain (network_of (cast_of by_output plan)) (contents_of plan files samples).model (streams_of plan samples) }
 {}
 
-/// In the world in which the play of a plan begins the components are set as the plan's contents say, the files of its sources hold
-/// their samples, and those of its sinks are new: so it has streams, in which nothing flowed yet.
+/// In the world in which the play of a plan begins the components are set as the plan's contents say, but for the formats that late
+/// sources tell later; the files of its sources hold their samples, and those of its sinks are new: so it has streams, in which
+/// nothing flowed yet.
 pub fn law_of_plan_openings()
     ensures contents { (plan : PlanValue) (files : PlayFiles) (samples : List (List ℕ)) (w : World)
-        → IsReady plan files → HasNoLate plan → AreSamples plan files samples → IsOpening plan files w
-        → HasContents (cast_of (λ l. false) plan) (contents_of plan files samples) w }
+        → IsReady plan files → AreSamples plan files samples → IsOpening plan files w
+        → HasLateContents (late_cast_of plan) (contents_of plan files samples) w }
     ensures new { (plan : PlanValue) (files : PlayFiles) (samples : List (List ℕ)) (w : World)
-        → IsReady plan files → HasNoLate plan → AreSamples plan files samples → IsOpening plan files w
-        → AreNew (cast_of (λ l. false) plan) w }
+        → IsReady plan files → AreSamples plan files samples → IsOpening plan files w
+        → AreNew (late_cast_of plan).cast w }
     ensures streams { (plan : PlanValue) (files : PlayFiles) (samples : List (List ℕ)) (w : World)
-        → IsReady plan files → HasNoLate plan → AreSamples plan files samples → IsOpening plan files w
-        → HasStreams (cast_of (λ l. false) plan) (contents_of plan files samples) opening w }
+        → IsReady plan files → AreSamples plan files samples → IsOpening plan files w
+        → HasLateStreams (late_cast_of plan) (contents_of plan files samples) opening w }
 {}
 
 /// From the second Idle on the file of each sink has taken its text of the plain function; at each moment before, and after a step
 /// that failed, a front of it. It was empty when it came. The whole text has the size of a file of the planned frames.
 pub fn law_of_plan_texts()
-    ensures whole { (plan : PlanValue) (files : PlayFiles) (samples : List (List ℕ)) (by_output : ℕ → Bool)
+    ensures whole { (plan : PlanValue) (files : PlayFiles) (samples : List (List ℕ)) (recent : ℕ)
         (p : Play) (w : World) (place : ℕ) (name : List ℕ)
-        → IsReady plan files → AreSamples plan files samples → IsPlayWorld (cast_of by_output plan) p w
-        → HasStreams (cast_of by_output plan) (contents_of plan files samples) p w → IsWriter plan.parts place name
+        → IsReady plan files → AreSamples plan files samples → IsLateWorld (late_cast_of plan) recent p w
+        → HasLateStreams (late_cast_of plan) (contents_of plan files samples) p w → IsWriter plan.parts place name
         → 3 ≤ p.phase → HasWritten w place (sink_text plan samples place) }
-    ensures fronts { (plan : PlanValue) (files : PlayFiles) (samples : List (List ℕ)) (by_output : ℕ → Bool)
+    ensures fronts { (plan : PlanValue) (files : PlayFiles) (samples : List (List ℕ)) (recent : ℕ)
         (p : Play) (w : World) (place : ℕ) (name : List ℕ)
-        → IsReady plan files → AreSamples plan files samples → IsPlayWorld (cast_of by_output plan) p w
-        → HasStreams (cast_of by_output plan) (contents_of plan files samples) p w → IsWriter plan.parts place name
+        → IsReady plan files → AreSamples plan files samples → IsLateWorld (late_cast_of plan) recent p w
+        → HasLateStreams (late_cast_of plan) (contents_of plan files samples) p w → IsWriter plan.parts place name
         → HasWrittenFront w place (sink_text plan samples place) }
-    ensures new { (plan : PlanValue) (files : PlayFiles) (samples : List (List ℕ)) (by_output : ℕ → Bool)
+    ensures new { (plan : PlanValue) (files : PlayFiles) (samples : List (List ℕ)) (recent : ℕ)
         (p : Play) (w : World) (place : ℕ) (name : List ℕ)
-        → IsReady plan files → AreSamples plan files samples → IsPlayWorld (cast_of by_output plan) p w
-        → HasStreams (cast_of by_output plan) (contents_of plan files samples) p w → IsWriter plan.parts place name → CameEmpty w place }
-    ensures failed { (plan : PlanValue) (files : PlayFiles) (samples : List (List ℕ)) (by_output : ℕ → Bool)
+        → IsReady plan files → AreSamples plan files samples → IsLateWorld (late_cast_of plan) recent p w
+        → HasLateStreams (late_cast_of plan) (contents_of plan files samples) p w → IsWriter plan.parts place name → CameEmpty w place }
+    ensures failed { (plan : PlanValue) (files : PlayFiles) (samples : List (List ℕ)) (recent : ℕ)
         (p : Play) (w v : World) (done : WorkDone) (place : ℕ) (name : List ℕ)
-        → IsReady plan files → AreSamples plan files samples → IsPlayWorld (cast_of by_output plan) p w → Finish w done v
-        → AreFronts (cast_of by_output plan) (contents_of plan files samples) v (streams_of plan samples) → IsWriter plan.parts place name
+        → IsReady plan files → AreSamples plan files samples → IsLateWorld (late_cast_of plan) recent p w → Finish w done v
+        → AreFronts (late_cast_of plan).cast (contents_of plan files samples) v (streams_of plan samples) → IsWriter plan.parts place name
         → HasWrittenFront v place (sink_text plan samples place) }
-    ensures failed_new { (plan : PlanValue) (files : PlayFiles) (samples : List (List ℕ)) (by_output : ℕ → Bool)
+    ensures failed_new { (plan : PlanValue) (files : PlayFiles) (samples : List (List ℕ)) (recent : ℕ)
         (p : Play) (w v : World) (done : WorkDone) (place : ℕ) (name : List ℕ)
-        → IsReady plan files → AreSamples plan files samples → IsPlayWorld (cast_of by_output plan) p w → Finish w done v
-        → EachSink (cast_of by_output plan) v (λ l a s. s.known ≡ Some []) → IsWriter plan.parts place name → CameEmpty v place }
+        → IsReady plan files → AreSamples plan files samples → IsLateWorld (late_cast_of plan) recent p w → Finish w done v
+        → EachSink (late_cast_of plan).cast v (λ l a s. s.known ≡ Some []) → IsWriter plan.parts place name → CameEmpty v place }
     ensures sizes { (plan : PlanValue) (files : PlayFiles) (samples : List (List ℕ)) (place : ℕ) (name : List ℕ)
         → IsReady plan files → AreSamples plan files samples → IsWriter plan.parts place name
         → length (sink_text plan samples place) ≡ size_of (format_into plan.joints plan.flows place 0) (slice_index_or plan.frames place 0) }

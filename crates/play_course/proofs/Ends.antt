@@ -82,15 +82,15 @@ why parts before after old mid new few S short false false (Ok it) (Err failed) 
 why parts before after old mid new few S short false false (Err Runs.OutOfMemory) closed read unread wrote unwritten C cause fault e =
     let s : Faults.OutOfMemory ≡ fault = cc in
     subst (IsRunFault parts old new) s tt
-why parts before after old mid new few S short false false (Err Runs.Read) closed read unread wrote unwritten C (place, b, (format, frames, at), some) fault e =
+why parts before after old mid new few S short false false (Err Runs.Read) closed read unread wrote unwritten C (place, a, b, was, (format, frames, at), rose) fault e =
     let s : Faults.ReadFault ≡ fault = cc in
     let le : b.faults ≤ sum_by failed_reads after = counted failed_reads after place _ at in
-    let one : 1 ≤ b.faults = omega arith in
+    let one : 1 ≤ b.faults = omega (arith, rose) in
     subst (IsRunFault parts old new) s (read_rose after old mid new closed b.faults S few C le one)
-why parts before after old mid new few S short false false (Err Runs.Write) closed read unread wrote unwritten C (place, b, (frames, at), some) fault e =
+why parts before after old mid new few S short false false (Err Runs.Write) closed read unread wrote unwritten C (place, a, b, was, (frames, at), rose) fault e =
     let s : Faults.WriteFault ≡ fault = cc in
     let le : b.faults ≤ sum_by failed_writes after = counted failed_writes after place _ at in
-    let one : 1 ≤ b.faults = omega arith in
+    let one : 1 ≤ b.faults = omega (arith, rose) in
     subst (IsRunFault parts old new) s (write_rose after old mid new closed b.faults S C le one, unread refl ∙ S.reads)
 why parts before after old mid new few S short false false (Err (Runs.Short place at size)) (Ok done) read unread wrote unwritten C cause fault e =
     let s : Faults.Short (Line (line_in (slice_get parts place))) at size ≡ fault = cc in

@@ -85,7 +85,7 @@ module _ {F : Type 0} (seen : F → FileSeen) (script : Script) (name log : List
         (p.0, p.1, same.each place p.0 b p.1 e)
 
     sink_was : (a : Option FileSeen) (b : SinkSeen) (frames : ℕ) → IsSameFile a (Some (Writes b frames)) → (s : SinkSeen) × (n : ℕ) × (a ≡ Some (Writes s n)) × (b.name ≡ s.name)
-    sink_was (Some (Writes s n)) b frames h = (s, n, refl, h)
+    sink_was (Some (Writes s n)) b frames h = (s, n, refl, h.name)
     sink_was (Some (Reads s format n)) b frames h = absurd h
     sink_was None b frames h = absurd h
 

@@ -1,15 +1,13 @@
 -- What a play comes to.
-use Rattle.std.specs.Prelude.{◌≡◌, ◌≢◌, ◌⊎◌, ℕ, false, List, slice_get, Some, IsTrue}
+use Rattle.std.specs.Prelude.{◌≡◌, ◌≢◌, ◌⊎◌, ℕ, List, slice_get, Some, IsTrue}
 use Rattle.omx_types.specs.declared.fault.Fault.{Fault}
 use Rattle.omx_types.specs.declared.fault.Fault.TheVariants as Faults
 use Rattle.omx_types.specs.declared.fault.Which.TheVariants.{Line, Log}
 use Rattle.outside_io.specs.Causes.{Rose}
 use Rattle.outside_io.specs.Files.{IsFrontOf, Outside}
 use Rattle.outside_io.specs.Whole.{IsShort}
-use Rattle.part_forms.specs.Kinds.{is_late}
 use Rattle.script_lang.specs.declared.play_line.PartLine.{PartLine}
 use Rattle.script_lang.specs.declared.script.Script.{Script}
-use Rattle.play_forms.specs.Parts.{kind_of}
 use Rattle.play_forms.specs.Plain.{sink_text}
 use Rattle.play_forms.specs.Plans.{IsFit, IsFitted, IsPlanOfScript, PlanValue}
 use Rattle.play_openings.specs.Assemblies.{IsReady, PlayFiles}
@@ -17,12 +15,7 @@ use Rattle.play_results.specs.Files.{AreFiles, IsNoSink, IsWriter, read_by}
 use Rattle.play_results.specs.Results.{HoldSinks, IsLogOf, OthersAreKept}
 use Rattle.play_results.specs.Summaries.{SinkLine, summary_of}
 use Rattle.play_files.specs.Left.{IsUnopened}
-use Rattle.play_course.specs.Settling.{parts_of}
 use Rattle.play_course.specs.Sums.{planned_summary}
-
--- no line is of a late source
-abbrev pub HasNoLateLine : Script → Type 0
-HasNoLateLine script = (place : ℕ) (part : PartLine) → slice_get (parts_of script) place ≡ Some part → is_late (kind_of part.form) ≡ false
 
 -- no count of failed reads or writes rose
 pub record CountsStand (old new : Outside) : Type 0 where

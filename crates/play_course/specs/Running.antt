@@ -1,7 +1,8 @@
 -- What a play does to its open files.
-use Rattle.std.specs.Prelude.{◌≡◌, ℕ, ◌<◌, List, length, slice_get, Option, Some, None}
+use Rattle.std.specs.Prelude.{◌≡◌, ℕ, ◌≤◌, List, length, slice_get, Option, Some, None}
 use Rattle.std.specs.Io.KnownBytes.{append_known}
 use Rattle.omx_types.specs.declared.format.Format.{Format}
+use Rattle.outside_io.specs.Causes.{Rose}
 use Rattle.outside_io.specs.Stops.{GaveNothing}
 use Rattle.play_course.specs.declared.player.RunFault.{RunFault}
 use Rattle.play_course.specs.declared.player.RunFault.TheVariants as Faults
@@ -12,10 +13,22 @@ use Rattle.play_files.specs.Seen.{FileSeen, Reads, SinkSeen, SourceSeen, Writes}
 abbrev pub IsSourceAt : List (Option FileSeen) → ℕ → SourceSeen → Type 0
 IsSourceAt files place source = (format : Format) × (frames : ℕ) × (slice_get files place ≡ Some (Some (Reads source format frames)))
 
--- a file that is read, or one that is written under the same name
+-- a source that was read further, or failed more often
+pub record IsSameSource (first last : SourceSeen) : Type 0 where
+  pub size : last.size ≡ first.size
+  pub told : last.told ≡ first.told
+  pub ends : last.ends ≡ first.ends
+  pub faults : first.faults ≤ last.faults
+
+-- a sink that was written further, or failed more often
+pub record IsSameSink (first last : SinkSeen) : Type 0 where
+  pub name : last.name ≡ first.name
+  pub faults : first.faults ≤ last.faults
+
+-- a source again, or the sink of the same name
 abbrev pub IsSameFile : Option FileSeen → Option FileSeen → Type 0
-IsSameFile (Some (Reads source format frames)) (Some (Reads last other count)) = Unit {0}
-IsSameFile (Some (Writes sink frames)) (Some (Writes last count)) = last.name ≡ sink.name
+IsSameFile (Some (Reads source format frames)) (Some (Reads last other count)) = IsSameSource source last
+IsSameFile (Some (Writes sink frames)) (Some (Writes last count)) = IsSameSink sink last
 IsSameFile None None = Unit {0}
 IsSameFile before after = ⊥
 
@@ -34,9 +47,9 @@ pub record HasTaken (before after : List (Option FileSeen)) (place : ℕ) (bytes
   pub is : slice_get after place ≡ Some (Some (Writes last count))
   pub took : last.told ≡ append_known first.told bytes
 
--- why the run of a play failed: a file that came back has failed, or a source gave nothing
+-- why the run of a play failed: a file failed since it was given, or a source gave nothing
 abbrev pub IsRunCause : List (Option FileSeen) → List (Option FileSeen) → RunFault → Type 0
 IsRunCause before after Faults.OutOfMemory = Unit {0}
-IsRunCause before after Faults.Read = (place : ℕ) × (source : SourceSeen) × IsSourceAt after place source × (0 < source.faults)
-IsRunCause before after Faults.Write = (place : ℕ) × (sink : SinkSeen) × IsSinkAt after place sink × (0 < sink.faults)
+IsRunCause before after Faults.Read = (place : ℕ) × (first : SourceSeen) × (last : SourceSeen) × IsSourceAt before place first × IsSourceAt after place last × Rose first.faults last.faults
+IsRunCause before after Faults.Write = (place : ℕ) × (first : SinkSeen) × (last : SinkSeen) × IsSinkAt before place first × IsSinkAt after place last × Rose first.faults last.faults
 IsRunCause before after (Faults.Short place at size) = (source : SourceSeen) × IsSourceAt before place source × GaveNothing source.size source.ends source.offset at size

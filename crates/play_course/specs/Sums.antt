@@ -1,18 +1,12 @@
 -- What a play tells of its sinks, by its plan.
-use Rattle.std.specs.Prelude.{ℕ, ◌+◌, ◌*◌, ◌%◌, List, [], ◌∷◌, slice_index_or}
-use Rattle.omx_types.specs.declared.format.Format.{Format}
-use Rattle.omx_types.specs.Formats.{frame_bytes_of}
-use Rattle.part_forms.specs.Writing.{head_len}
+use Rattle.std.specs.Prelude.{ℕ, ◌+◌, List, [], ◌∷◌, slice_index_or}
 use Rattle.script_lang.specs.declared.play_line.PartLine.{PartLine}
 use Rattle.play_forms.specs.Fitting.{format_into}
 use Rattle.play_forms.specs.Plans.{PlanValue}
 use Rattle.play_results.specs.Files.{written_by}
 use Rattle.play_results.specs.Summaries.{SinkLine, with_line}
+use Rattle.plan_streams.specs.Texts.{size_of}
 use Rattle.play_course.specs.declared.summary.SinkLine.{SinkLine as Line}
-
--- the size of the file of so many frames
-abbrev pub size_of : Format → ℕ → ℕ
-size_of format frames = head_len format + frames * frame_bytes_of format + frames * frame_bytes_of format % 2
 
 abbrev pub planned_line : PlanValue → ℕ → SinkLine
 planned_line plan place = record {

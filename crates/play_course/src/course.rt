@@ -3,10 +3,9 @@
 ghost use Rattle.std.specs.Prelude.{◌≡◌, ℕ, List, IfErr, IfOk, OnOk};
 ghost use Rattle.outside_io.specs.Files.{GoesOn};
 ghost use Rattle.script_lang.specs.PlayScripts.{IsPlayScript};
-ghost use Rattle.play_openings.specs.Assemblies.{HasNoLate};
 ghost use Rattle.play_files.specs.Seen.{file_seen, files_seen, sink_seen, source_seen};
 ghost use Rattle.play_course.specs.Courses.{HasEnded, HasRun};
-ghost use Rattle.play_course.specs.Outcomes.{CountsStand, HasNoLateLine, IsDone, IsUndone};
+ghost use Rattle.play_course.specs.Outcomes.{CountsStand, IsDone, IsUndone};
 ghost use Rattle.play_course.specs.Players.{CanPlay};
 
 use crate::player::{Player, RunFault};
@@ -28,7 +27,6 @@ fn run<S: Source, K: Sink, P: Player<S, K>>(
     player: &mut P,
 ) -> Result<Ran, RunFault>
     requires ready { CanPlay plan (files_seen (file_seen (source_seen S.offset S.size S.told S.ends S.faults) (sink_seen K.told K.name K.faults)) files.old) }
-    requires early { HasNoLate plan }
     ensures { HasRun plan (files_seen (file_seen (source_seen S.offset S.size S.told S.ends S.faults) (sink_seen K.told K.name K.faults)) files.old)
         (files_seen (file_seen (source_seen S.offset S.size S.told S.ends S.faults) (sink_seen K.told K.name K.faults)) files.new) result }
 {
@@ -51,7 +49,6 @@ fn run_and_close<M: Media, P: Player<M::Src, M::Snk>>(
     player: &mut P,
 ) -> Result<Ran, Fault>
     requires ready { CanPlay opened.plan (files_seen (file_seen (source_seen M.Src.offset M.Src.size M.Src.told M.Src.ends M.Src.faults) (sink_seen M.Snk.told M.Snk.name M.Snk.faults)) opened.files.items) }
-    requires early { HasNoLate opened.plan }
     ensures { HasEnded opened.plan parts.now (files_seen (file_seen (source_seen M.Src.offset M.Src.size M.Src.told M.Src.ends M.Src.faults) (sink_seen M.Snk.told M.Snk.name M.Snk.faults)) opened.files.items) (M.outside media.old) (M.outside media.new) result }
 {
     let Opened { plan, mut files } = opened;
@@ -74,7 +71,6 @@ pub fn play_script<M: Media, P: Player<M::Src, M::Snk>>(
     player: &mut P,
 ) -> Result<Summary, Fault>
     requires script { (name : List ℕ) × (text : List ℕ) × IsPlayScript name log.now text script.now }
-    requires early { HasNoLateLine script.now }
     ensures goes_on { GoesOn (M.outside media.old) (M.outside media.new) }
     ensures done { IfOk result (IsDone script.now log.now (M.outside media.old) (M.outside media.new)) }
     ensures stand { OnOk result (CountsStand (M.outside media.old) (M.outside media.new)) }

@@ -19,7 +19,7 @@ pub enum RunFault {
 /// Runs a play from its open files to its end, or until a part fails. In both cases each file comes back to its place.
 pub trait Player<S: Source, K: Sink> {
     ghost use Rattle.std.specs.Prelude.{IfErr, IfOk, OnErr};
-    ghost use Rattle.play_openings.specs.Assemblies.{HasNoLate, IsReady, PlayFiles};
+    ghost use Rattle.play_openings.specs.Assemblies.{IsReady, PlayFiles};
     ghost use Rattle.play_files.specs.Seen.{file_seen, files_seen, sink_seen, source_seen};
     ghost use Rattle.play_course.specs.Running.{AreSameFiles, IsRunCause};
     ghost use Rattle.play_course.specs.Players.{AreFilesOf, CanPlay, IsFailed, IsWhole};
@@ -32,7 +32,6 @@ pub trait Player<S: Source, K: Sink> {
         files: &mut [Option<PartFile<S, K>>],
     ) -> Result<Vec<u8>, RunFault>
         requires ready { CanPlay plan (files_seen (file_seen (source_seen S.offset S.size S.told S.ends S.faults) (sink_seen K.told K.name K.faults)) files.old) }
-        requires early { HasNoLate plan }
         ensures same { AreSameFiles (files_seen (file_seen (source_seen S.offset S.size S.told S.ends S.faults) (sink_seen K.told K.name K.faults)) files.old)
             (files_seen (file_seen (source_seen S.offset S.size S.told S.ends S.faults) (sink_seen K.told K.name K.faults)) files.new) }
         ensures whole { IfOk result (λ text. (given : PlayFiles) → IsReady plan given

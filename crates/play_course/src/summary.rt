@@ -6,7 +6,8 @@ ghost use Rattle.play_forms.specs.Flows.{no_flow};
 ghost use Rattle.play_forms.specs.Settling.{into};
 ghost use Rattle.play_openings.specs.Assemblies.{IsReady, PlayFiles};
 ghost use Rattle.play_results.specs.Files.{IsWriter, written_by};
-ghost use Rattle.play_course.specs.Sums.{line_value, planned_line, planned_summary, size_of};
+ghost use Rattle.plan_streams.specs.Texts.{size_of};
+ghost use Rattle.play_course.specs.Sums.{line_value, planned_line, planned_summary};
 
 use omx_types::Format;
 use play_forms::Flow;

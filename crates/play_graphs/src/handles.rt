@@ -1,4 +1,4 @@
-//! The components of a graph that is being made, by their places in the script.
+//! The components and links of a play's graph, by their numbers in the plan.
 
 ghost use Rattle.std.specs.Prelude.{◌≡◌, ◌<◌, ◌≤◌, length};
 ghost use Rattle.play_plans.specs.Casting.{joint_of};
@@ -13,7 +13,7 @@ use play_forms::Joint;
 use stream_plan::Plan;
 
 /// The component at the place.
-pub(crate) fn handle<S: Source, K: Sink>(graph: &Graph<S, K, PlayClient>, place: u32) -> Handle
+pub fn handle<S: Source, K: Sink>(graph: &Graph<S, K, PlayClient>, place: u32) -> Handle
     requires { IsMade place graph.now }
     ensures { IsHandleAt graph.now place result }
 {
@@ -24,7 +24,7 @@ pub(crate) fn handle<S: Source, K: Sink>(graph: &Graph<S, K, PlayClient>, place:
 }
 
 /// How many components there are.
-pub(crate) fn count(plan: &Plan) -> u32
+pub fn count(plan: &Plan) -> u32
     requires { length plan.now.parts ≤ 32 }
     ensures { result ≡ length plan.now.parts }
 {
@@ -32,14 +32,15 @@ pub(crate) fn count(plan: &Plan) -> u32
 }
 
 /// How many links there are.
-pub(crate) fn link_count(plan: &Plan) -> u32
+pub fn link_count(plan: &Plan) -> u32
     requires { length plan.now.joints ≤ 1024 }
     ensures { result ≡ length plan.now.joints }
 {
     plan.joints().len() as u32
 }
 
-pub(crate) fn joint(plan: &Plan, link: u32) -> Joint
+/// The link of that number.
+pub fn joint(plan: &Plan, link: u32) -> Joint
     requires { link < length plan.now.joints }
     ensures { result ≡ joint_of plan.now link }
 {

@@ -16,5 +16,6 @@ mod parting;
 mod tunnels;
 
 pub use ending::end_graph;
+pub use handles::{count, handle, joint, link_count};
 pub use il_graph::OutOfMemory;
 pub use making::make_graph;

@@ -1,11 +1,9 @@
 -- What a call came to in the world of a play, and so what its turn leads to.
-use Rattle.std.proofs.Common.{find, Option, ◌≡◌, ◌≢◌, ℕ, Bool, true, false, nat_eq, eqb-true, if◌then◌else◌, List, [], ◌∷◌, Ok, Err, Result, refl, sym, ◌∙◌, ap, subst, arith}
-use Rattle.machine_laws.proofs.Finding.{either}
+use Rattle.std.proofs.Common.{Option, ◌≡◌, ℕ, Bool, true, false, Ok, Err, Result, refl, sym, ◌∙◌, subst}
 use Rattle.il_machine.specs.declared.answer.Acted.{Acted}
 use Rattle.il_machine.specs.declared.answer.Acted.TheVariants.{Did, Idle}
 use Rattle.il_machine.specs.declared.answer.Progress.{Progress}
-use Rattle.il_machine.specs.World.{World, is_stream_of}
-use Rattle.il_machine.specs.Due.{IsClosed}
+use Rattle.il_machine.specs.World.{World}
 use Rattle.il_machine.specs.Whole.{Stands}
 use Rattle.std.specs.Prelude.{OnErr}
 use Rattle.graph_core.specs.Entries.{Entries}
@@ -14,82 +12,19 @@ use Rattle.audio_parts.specs.Objects.{Held}
 use Rattle.audio_parts.specs.declared.part_file.PartFile.{PartFile}
 use Rattle.il_graph.specs.Shown.{KeepsAllFiles, Shown, file_of}
 use Rattle.il_graph.specs.Stood.{OnIdle}
-use Rattle.conductor.specs.Hearing.{ConductorValue}
-use Rattle.play_model.specs.Play.{Layout, Play}
-use Rattle.play_model.specs.Acts.{Act, CanAct, CanActs, acted, all_acted}
-use Rattle.play_loop.specs.Turns.{CanNone, IsAtRest, SomePlay, Turned, TurnsOf}
+use Rattle.play_model.specs.Play.{Play}
+use Rattle.play_model.specs.Acts.{Act}
+use Rattle.play_loop.specs.Turns.{CanNone, SomePlay, Turned, TurnsOf}
 use Rattle.play_log.specs.Kept.{LogValue}
-use Rattle.play_worlds.specs.Cast.{Cast}
-use Rattle.play_worlds.specs.Worlds.{IsPlayWorld, LeadsTo, happenings}
-use Rattle.play_worlds.proofs.Closings.{closes_lead}
-use Rattle.play_worlds.proofs.Happenings.{rests_all}
+use Rattle.late_turns.specs.Playing.{IsLateStanding}
+use Rattle.late_turns.specs.Turns.{LateCame, is_did}
+use Rattle.late_turns.proofs.Playing.{turn_plays}
+use Rattle.late_turns.proofs.Turning.{turn_goes as late_turn_goes}
+use Rattle.play_openings.specs.Assemblies.{late_cast_of}
 use Rattle.play_graphs.specs.Graphs.{kept_of}
-use Rattle.play_run.specs.Playing.{AreClientsIn, HasParts, HaveNoWork, HasStreamsFrom, IsAct, IsConducting, IsPlaying, IsStanding, LeadsOn, PlayingValue, ToldAlike, TurnsTo, FilesStay, unfailed, cast, is_did, layout_of}
+use Rattle.play_run.specs.Playing.{AreClientsIn, HasParts, HaveNoWork, HasStreamsFrom, IsPlaying, IsStanding, LeadsOn, PlayingValue, ToldAlike, TurnsTo, FilesStay, unfailed, layout_of}
 use Rattle.play_run.specs.Recording.{IsRecorded}
-
--- an act of the play that begins no state, and leaves none to be sent
-pub record IsWithin (w : Layout) (p : Play) (a : Act) : Type 0 where
-  pub phase : (acted w a p).phase ≡ p.phase
-  pub sent : (c : ℕ) → p.stage c ≢ 0 → (acted w a p).stage c ≢ 0
-
--- an act of those was accepted, or none of them can be made
-abbrev pub Came : Cast → Play → World → Bool → (Act → Type 0) → Type 0
-Came x p v true P = (a : Act) × P a × CanAct x.layout p a × IsWithin x.layout p a × LeadsTo x (acted x.layout a p) v
-Came x p v false P = CanNone x.layout p P
-
-pub happened_phase : (w : Layout) (places : List ℕ) (p : Play) → (all_acted w (happenings places) p).phase ≡ p.phase
-happened_phase w [] p = refl
-happened_phase w (c ∷ places) p = happened_phase w places (acted w (Act.Happen c) p)
-
--- what happens makes no stage 0, and leaves one
-happens_from : (c d m : ℕ) → m ≢ 0 → (if nat_eq c d then 3 else m) ≢ 0
-happens_from c d m n = either (nat_eq c d) (λ t. rw t (λ e. absurd (omega (arith, e)))) (λ f. rw f n)
-
-pub happened_sent : (w : Layout) (places : List ℕ) (p : Play) (c : ℕ) → p.stage c ≢ 0 → (all_acted w (happenings places) p).stage c ≢ 0
-happened_sent w [] p c n = n
-happened_sent w (d ∷ places) p c n = happened_sent w places (acted w (Act.Happen d) p) c (happens_from c d (p.stage c) n)
-
-happens_to : (c d m : ℕ) → m ≡ 0 → (c ≡ d → m ≡ 2) → (if nat_eq c d then 3 else m) ≡ 0
-happens_to c d m z two = either (nat_eq c d) (λ t. let e = two (eqb-true _ _ t) in absurd (omega (arith, e, z))) (λ f. rw f z)
-
-pub happened_unsent : (w : Layout) (places : List ℕ) (p : Play) (c : ℕ) → CanActs w p (happenings places) → p.stage c ≡ 0 → (all_acted w (happenings places) p).stage c ≡ 0
-happened_unsent w [] p c C z = z
-happened_unsent w (d ∷ places) p c C z = happened_unsent w places (acted w (Act.Happen d) p) c C.1 (happens_to c d (p.stage c) z (λ e. ap p.stage e ∙ (C.0).1))
-
--- ---- what an act leaves to be sent
-
-pub stays : (w : Layout) (p : Play) (a : Act) → (acted w a p).phase ≡ p.phase → ((c : ℕ) → (acted w a p).stage c ≡ p.stage c) → IsWithin w p a
-stays w p a e s = record { phase = e; sent = λ c n z. n (sym (s c) ∙ z) }
-
-pub goes_to : (c d k m : ℕ) → k ≢ 0 → m ≢ 0 → (if nat_eq c d then k else m) ≢ 0
-goes_to c d k m a b = either (nat_eq c d) (λ t. rw t a) (λ f. rw f b)
-
-pub run_within : (w : Layout) (p : Play) (d : ℕ) → IsWithin w p (Act.Run d)
-run_within w p d = record { phase = refl; sent = λ c n. goes_to c d 2 (p.stage c) (λ e. absurd (omega (arith, e))) n }
-
-pub tell_within : (w : Layout) (p : Play) (d : ℕ) → IsWithin w p (Act.Tell d)
-tell_within w p d = record { phase = refl; sent = λ c n. goes_to c d 4 (p.stage c) (λ e. absurd (omega (arith, e))) n }
-
--- however the world is read as a play in the same phase, it has the streams from the opening
-abbrev pub StreamsGo : Cast → Play → World → World → Type 0
-StreamsGo x p opening v = (q : Play) → IsPlayWorld x q v → q.phase ≡ p.phase → HasStreamsFrom x opening q v
-
--- no file went through anything
-pub told_same : (opening w v : World) → ToldAlike opening w → v.streams ≡ w.streams → ToldAlike opening v
-told_same opening w v T e = λ n t q. T n t (ap (find (is_stream_of n)) (sym e) ∙ q)
-
-pub told_on : (opening w v : World) → ToldAlike opening w → ToldAlike w v → ToldAlike opening v
-told_on opening w v T U = λ n t q. let s = U n t q in let o = T n s.0 s.1 in (o.0, o.1, s.2 ∙ o.2)
-
--- nothing is due in a closed world of a play
-pub rests_there : (x : Cast) (p : Play) (v : World) → IsPlayWorld x p v → IsClosed v → IsAtRest x.layout p
-rests_there x p v W Z = record {
-  components = λ c C. rests_all x p v c W Z C;
-  ports = λ l output C. let f = W.early l C.0 in let t = C.1 in absurd cc;
-}
-
-pub same_conducting : (x : Cast) (p q : Play) (value : ConductorValue) → q.phase ≡ p.phase → IsConducting x p value → IsConducting x q value
-same_conducting x p q value e C = record { sinks = C.sinks; many = C.many; early = C.early; sends = C.sends ∙ sym e }
+use Rattle.play_run.proofs.Streaming.{StreamsGo}
 
 pub keeps_in : {C : Type 0} (g k : Entries C) → KeepsAllClients g k → AreClientsIn g → AreClientsIn k
 keeps_in g k K In = λ h e. In h (sym (K h) ∙ e)
@@ -100,23 +35,23 @@ module _ {S K : Type 0} where
   with_both x g log = record x { graph = g; log = log }
 
   pub parts_of : (x : PlayingValue S K) (p : Play) → IsStanding x p → HasParts x
-  parts_of x p Z = record { world = Z.world; stands = Z.stands; sound = (Z.play).sound; valid = Z.valid; many = (Z.play).many; clients = Z.clients }
+  parts_of x p Z = record { world = Z.world; stands = Z.stands; sound = ((Z.late).play).sound; valid = Z.valid; many = ((Z.late).play).many; clients = Z.clients }
 
   pub has_parts : (x : PlayingValue S K) → SomePlay (IsPlaying x) → HasParts x
   has_parts x (p, Y) = parts_of x p Y.standing
 
-  -- with its close-out the act leads to a world of the play
-  pub stands_then : (x : PlayingValue S K) (g : Shown S K Progress) (log : LogValue) (p q : Play) (v : World) (Z : IsStanding x p) → Stands (kept_of g) v → HaveNoWork v → AreClientsIn g.core → IsPlayWorld (cast x.plan) q v → q.phase ≡ p.phase
-      → IsRecorded x.plan.parts Z.opening v log → HasStreamsFrom (cast x.plan) Z.opening q v → ToldAlike Z.opening v → (Y : IsStanding (with_both x g log) q) × (Y.files ≡ Z.files)
-  stands_then x g log p q v Z st works clients W e R F T = (
+  -- what is known of a standing play in which a turn led to that world
+  pub stands_then : (x : PlayingValue S K) (g : Shown S K Progress) (log : LogValue) (p q : Play) (recent : ℕ) (v : World) (Z : IsStanding x p) → Stands (kept_of g) v → HaveNoWork v → AreClientsIn g.core → IsLateStanding (late_cast_of x.plan) recent q v x.conductor
+      → IsRecorded x.plan.parts Z.opening v log → HasStreamsFrom (late_cast_of x.plan) Z.opening q v → ToldAlike Z.opening v → (Y : IsStanding (with_both x g log) q) × (Y.files ≡ Z.files)
+  stands_then x g log p q recent v Z st works clients L R F T = (
     record {
       world = v;
       stands = st;
-      play = W;
+      recent = recent;
+      late = L;
       valid = Z.valid;
       works = works;
       clients = clients;
-      conducting = same_conducting (cast x.plan) p q x.conductor e Z.conducting;
       files = Z.files;
       opening = Z.opening;
       begins = Z.begins;
@@ -136,24 +71,16 @@ module _ {S K : Type 0} where
 
   pub turn_goes : (x : PlayingValue S K) (g : Shown S K Progress) (log : LogValue) (p : Play) (v : World) (did : Bool) (P : Act → Type 0) (Y : IsPlaying x p)
       → Stands (kept_of g) v → HaveNoWork v → AreClientsIn g.core → (did ≡ false → g ≡ x.graph) → (did ≡ false → log ≡ x.log) → (did ≡ true → IsRecorded x.plan.parts Y.standing.opening v log)
-      → (did ≡ true → StreamsGo (cast x.plan) p Y.standing.opening v) → (did ≡ true → ToldAlike Y.standing.opening v) → Came (cast x.plan) p v did P
+      → (did ≡ true → StreamsGo (late_cast_of x.plan) p Y.standing.opening v) → (did ≡ true → ToldAlike Y.standing.opening v) → LateCame (late_cast_of x.plan) Y.standing.recent p v did P
       → (q : Play) × (Z : IsPlaying (with_both x g log) q) × Turned (layout_of x.plan) p q did P × (Z.standing.files ≡ Y.standing.files)
   turn_goes x g log p v true P Y st works clients same silent R F T C =
-      let y = cast x.plan in
-      let w = layout_of x.plan in
-      let L = C.4 in
-      let H = closes_lead y (acted w C.0 p) L.effect v L.play L.closes in
-      let q : Play = all_acted w (happenings H.places) (acted w C.0 p) in
-      let e : q.phase ≡ p.phase = happened_phase w H.places (acted w C.0 p) ∙ (C.3).phase in
-      let S = stands_then x g log p q v Y.standing st works clients H.play e (R refl) (F refl q H.play e) (T refl) in (
-        q,
-        record {
-          standing = S.0;
-          sent = λ c b. happened_sent w H.places (acted w C.0 p) c ((C.3).sent c (Y.sent c b));
-        },
-        (record { acts = C.0 ∷ happenings H.places; some = omega arith; enabled = (C.2, H.can); after = refl }, rests_there y q v H.play (L.closes).closed),
-        S.1,
-      )
+      let y = late_cast_of x.plan in
+      let Z = Y.standing in
+      let t = late_turn_goes y Z.recent p C.0 Z.world v (Z.late).play (Z.late).waiting C.2 C.3 C.4 in
+      let U = t.1 in
+      let L = turn_plays y Z.recent p t.0 Z.world v x.conductor (record { standing = Z.late; sent = Y.sent; carried = Y.carried }) U in
+      let S = stands_then x g log p t.0 Z.recent v Z st works clients L.standing (R refl) (F refl Z.recent t.0 U.play U.phase) (T refl) in
+      (t.0, record { standing = S.0; sent = L.sent; carried = L.carried }, (U.acted, U.rest), S.1)
   turn_goes x g log p v false P Y st works clients same silent R F T C = still x g log P p Y (same refl) (silent refl) C
 
   -- nothing was accepted
@@ -188,10 +115,3 @@ pub is_ok : {E : Type 0} (r : Result Acted E) → is_did r ≡ true → r ≡ Ok
 is_ok (Ok Did) t = refl
 is_ok (Ok (Idle why)) t = absurd cc
 is_ok (Err x) t = absurd cc
-
--- one act, which is accepted where it can be made, and can be made where it was accepted
-pub one_came : {E : Type 0} (x : Cast) (p : Play) (v : World) (a : Act) (r : Result Acted E) → IsWithin x.layout p a
-    → (CanAct x.layout p a → (r ≡ Ok Did) × LeadsTo x (acted x.layout a p) v) → (r ≡ Ok Did → CanAct x.layout p a) → Came x p v (is_did r) (IsAct a)
-one_came x p v a (Ok Did) e done can = let C = can refl in (a, refl, C, e, (done C).1)
-one_came x p v a (Ok (Idle why)) e done can = λ b s C. let d = (done (subst (λ (y : Act). CanAct x.layout p y) s C)).0 in absurd cc
-one_came x p v a (Err z) e done can = λ b s C. let d = (done (subst (λ (y : Act). CanAct x.layout p y) s C)).0 in absurd cc

@@ -13,22 +13,24 @@ use Rattle.graph_core.specs.Clients.{KeepsAllClients}
 use Rattle.il_graph.specs.Shown.{Shown}
 use Rattle.il_graph.specs.Stood.{OnIdle}
 use Rattle.play_model.specs.Play.{Play}
-use Rattle.play_model.specs.Acts.{Act}
 use Rattle.play_loop.specs.Turns.{SomePlay}
 use Rattle.play_log.specs.Kept.{LogValue}
 use Rattle.play_worlds.specs.Worlds.{Names}
-use Rattle.play_worlds.proofs.Runs.{run_can, run_leads}
 use Rattle.play_plans.specs.Casting.{place_of}
 use Rattle.play_plans.proofs.Turns.{all_turns}
 use Rattle.play_graphs.specs.Graphs.{IsHandleAt, kept_of}
-use Rattle.play_run.specs.Playing.{IsAct, IsPlaying, IsStanding, PlayingValue, TurnsTo, cast, is_did, layout_of}
+use Rattle.play_openings.specs.Assemblies.{late_cast_of}
+use Rattle.late_turns.specs.Turns.{IsRunOf, is_did}
+use Rattle.late_turns.proofs.Coming.{runs_come}
+use Rattle.play_run.specs.Playing.{IsPlaying, IsStanding, PlayingValue, TurnsTo, cast, layout_of}
 use Rattle.play_run.specs.Recording.{IsRecorded, IsToldOf}
 use Rattle.play_graphs.proofs.Naming.{named_at}
 use Rattle.play_run.proofs.Working.{still_none}
 use Rattle.play_run.proofs.Recording.{goes_on}
 use Rattle.il_graph.proofs.PartsStay.{step_stays}
-use Rattle.play_streams.proofs.Acts.{run_streams}
-use Rattle.play_run.proofs.Answering.{StreamsGo, told_same, is_ok, keeps_in, not_did, one_came, run_within, turn_goes, with_both}
+use Rattle.play_run.proofs.Streaming.{RunsOn, StreamsGo, streams_go}
+use Rattle.play_run.proofs.Files.{told_same}
+use Rattle.play_run.proofs.Answering.{is_ok, keeps_in, not_did, turn_goes, with_both}
 
 module _ {S K : Type 0} where
   -- ---- a component by its turn
@@ -37,35 +39,35 @@ module _ {S K : Type 0} where
   turn_there x c (p, Y) b = let n = all_turns x.plan.joints (length x.plan.parts) x.plan.order Y.standing.valid.placed in omega arith
 
   pub place_there : (x : PlayingValue S K) (c place : ℕ) → SomePlay (IsPlaying x) → c < length x.plan.parts → place ≡ place_of x.plan c → place < length x.plan.parts
-  place_there x c place (p, Y) b e = subst (λ (k : ℕ). k < length x.plan.parts) (sym e) (Y.standing.play.cast.placed c b)
+  place_there x c place (p, Y) b e = subst (λ (k : ℕ). k < length x.plan.parts) (sym e) (((Y.standing).late).play.cast_is.placed c b)
 
   pub component_named_in : (x : PlayingValue S K) (c place : ℕ) (h : Handle) → place ≡ place_of x.plan c → IsHandleAt x.graph place h → (p : Play) (Z : IsStanding x p) → Names (cast x.plan) Z.world c h
-  component_named_in x c place h e H p Z = named_at Z.world place h (Z.play).sound (H Z.world Z.stands) ∙ ap Some e
+  component_named_in x c place h e H p Z = named_at Z.world place h ((Z.late).play).sound (H Z.world Z.stands) ∙ ap Some e
 
   -- ---- its command
 
   ran : (x : PlayingValue S K) (g : Shown S K Progress) (log : LogValue) (c place : ℕ) (h : Handle) (r : Result Acted OmxError) → c < length x.plan.parts → place ≡ place_of x.plan c → IsHandleAt x.graph place h → KeepsAllClients x.graph.core g.core
-      → Steps (kept_of x.graph) (kept_of g) (λ w v. RunCommand w h r v) → OnErr r (g ≡ x.graph) → OnIdle r (g ≡ x.graph)
-      → (is_did r ≡ false → log ≡ x.log) → (is_did r ≡ true → IsToldOf x.plan.parts place x.log (λ k. acts.RunCommand k) (acts.Acted (Ok Did)) log) → TurnsTo x (with_both x g log) (is_did r) (IsAct (Act.Run c))
-  ran x g log c place h r b e H keeps steps er id silent told = λ p Y.
+      → RunsOn (late_cast_of x.plan) c h r → Steps (kept_of x.graph) (kept_of g) (λ w v. RunCommand w h r v) → OnErr r (g ≡ x.graph) → OnIdle r (g ≡ x.graph)
+      → (is_did r ≡ false → log ≡ x.log) → (is_did r ≡ true → IsToldOf x.plan.parts place x.log (λ k. acts.RunCommand k) (acts.Acted (Ok Did)) log) → TurnsTo x (with_both x g log) (is_did r) (IsRunOf (layout_of x.plan) c)
+  ran x g log c place h r b e H keeps streams steps er id silent told = λ p Y.
+      let y = late_cast_of x.plan in
       let Z = Y.standing in
       let w = Z.world in
+      let W = (Z.late).play in
       let v = steps w Z.stands in
       let N = component_named_in x c place h e H p Z in
       let R : is_did r ≡ true → IsRecorded x.plan.parts Z.opening v.0 log = λ t. goes_on x p Z place h H v.0 (λ k. acts.RunCommand k) (acts.Acted (Ok Did)) log (told t) refl tt
       (subst (λ (a : Result Acted OmxError). RunCommand w h a v.0) (is_ok r t) v.2) tt (λ n. refl) in
-      let F : is_did r ≡ true → StreamsGo (cast x.plan) p Z.opening v.0 = λ t q W ph k C E. run_streams (cast x.plan) k p q w v.0 Z.play (Z.streams k C E) W ph c h b N r v.2 in
-      turn_goes x g log p v.0 (is_did r) (IsAct (Act.Run c)) Y v.1
-      (still_none w (acts.RunCommand h) (acts.Acted r) v.0 (Z.play).sound tt v.2 (λ n. refl) Z.works)
-      (keeps_in x.graph.core g.core keeps Z.clients) (not_did r er id) silent R F (λ t. told_same Z.opening w v.0 Z.told (step_stays w (Z.play).sound (acts.RunCommand h) (acts.Acted r) v.0 tt tt v.2).streams)
-      (one_came (cast x.plan) p v.0 (Act.Run c) r (run_within (layout_of x.plan) p c)
-      (λ C. run_leads (cast x.plan) p w c h r v.0 Z.play C N v.2)
-      (λ d. run_can (cast x.plan) p w c h r v.0 Z.play b N v.2 d))
+      let F : StreamsGo y p Z.opening v.0 = streams_go y p Z.opening w v.0 Z.streams (streams Z.recent p w v.0 W b N v.2) in
+      turn_goes x g log p v.0 (is_did r) (IsRunOf (layout_of x.plan) c) Y v.1
+      (still_none w (acts.RunCommand h) (acts.Acted r) v.0 W.sound tt v.2 (λ n. refl) Z.works)
+      (keeps_in x.graph.core g.core keeps Z.clients) (not_did r er id) silent R (λ t. F) (λ t. told_same Z.opening w v.0 Z.told (step_stays w W.sound (acts.RunCommand h) (acts.Acted r) v.0 tt tt v.2).streams)
+      (runs_come y Z.recent p w c h r v.0 W b N v.2)
 
   pub run_turns : (y x : PlayingValue S K) → y ≡ x → (g : Shown S K Progress) (log : LogValue) (c place : ℕ) (h : Handle) (r : Result Acted OmxError) (d : Bool) → c < length x.plan.parts → place ≡ place_of x.plan c → IsHandleAt x.graph place h
-      → KeepsAllClients y.graph.core g.core → Steps (kept_of y.graph) (kept_of g) (λ w v. RunCommand w h r v) → OnErr r (g ≡ y.graph) → OnIdle r (g ≡ y.graph) → d ≡ is_did r
-      → (d ≡ false → log ≡ y.log) → (d ≡ true → IsToldOf y.plan.parts place y.log (λ k. acts.RunCommand k) (acts.Acted (Ok Did)) log) → TurnsTo x (with_both y g log) d (IsAct (Act.Run c))
-  run_turns y x is g log c place h r d b J H keeps steps e i D silent told =
-      subst (λ (z : PlayingValue S K). c < length z.plan.parts → place ≡ place_of z.plan c → IsHandleAt z.graph place h → TurnsTo z (with_both y g log) d (IsAct (Act.Run c))) is
-      (λ b J H. subst (λ (o : Bool). TurnsTo y (with_both y g log) o (IsAct (Act.Run c))) (sym D) (ran y g log c place h r b J H keeps steps e i (λ f. silent (D ∙ f)) (λ t. told (D ∙ t))))
+      → KeepsAllClients y.graph.core g.core → RunsOn (late_cast_of y.plan) c h r → Steps (kept_of y.graph) (kept_of g) (λ w v. RunCommand w h r v) → OnErr r (g ≡ y.graph) → OnIdle r (g ≡ y.graph) → d ≡ is_did r
+      → (d ≡ false → log ≡ y.log) → (d ≡ true → IsToldOf y.plan.parts place y.log (λ k. acts.RunCommand k) (acts.Acted (Ok Did)) log) → TurnsTo x (with_both y g log) d (IsRunOf (layout_of x.plan) c)
+  run_turns y x is g log c place h r d b J H keeps streams steps e i D silent told =
+      subst (λ (z : PlayingValue S K). c < length z.plan.parts → place ≡ place_of z.plan c → IsHandleAt z.graph place h → TurnsTo z (with_both y g log) d (IsRunOf (layout_of z.plan) c)) is
+      (λ b J H. subst (λ (o : Bool). TurnsTo y (with_both y g log) o (IsRunOf (layout_of y.plan) c)) (sym D) (ran y g log c place h r b J H keeps streams steps e i (λ f. silent (D ∙ f)) (λ t. told (D ∙ t))))
       b J H

@@ -1,18 +1,20 @@
--- A play in which a part failed can be stopped, and so can one that would go on.
-use Rattle.std.proofs.Common.{◌≡◌, inl, inr, ◌≤◌, false, length, List, Option, option_map, ap}
+-- A play in which a part failed can be stopped.
+use Rattle.std.proofs.Common.{◌≡◌, ◌≤◌, false, length, List, Option, option_map, ap}
 use Rattle.il_machine.specs.Sound.{Sound}
 use Rattle.il_machine.specs.Whole.{Always, Stands}
 use Rattle.il_machine.specs.World.{Component, World}
 use Rattle.audio_parts.specs.declared.part_file.PartFile.{PartFile}
 use Rattle.machine_laws.proofs.Every.{from_places}
 use Rattle.dismantling.specs.Dismantling.{AreLinks}
+use Rattle.late_plays.proofs.Planned.{plan_links}
 use Rattle.play_graphs.specs.Ending.{AreBack, StandsFor, ends_of}
 use Rattle.play_graphs.specs.Graphs.{kept_of}
 use Rattle.play_graphs.proofs.Naming.{named_at}
 use Rattle.play_stopping.specs.Stops.{HasNoneOut, HasStopped}
-use Rattle.play_stopping.proofs.Plays.{few_joints, links_apart, play_stops, work_stops}
-use Rattle.play_run.specs.Playing.{AreClientsIn, HaveNoWork, IsStanding, PlayingValue}
-use Rattle.play_run.specs.Stopping.{CanBeStopped, GivesBackStopped}
+use Rattle.play_stopping.proofs.Plays.{few_joints, work_stops}
+use Rattle.play_run.specs.declared.failure.Failure.{Failure}
+use Rattle.play_run.specs.Playing.{AreClientsIn, HaveNoWork, PlayingValue}
+use Rattle.play_run.specs.Stopping.{GivesBackStopped}
 use Rattle.play_run.specs.Turning.{HasFailed}
 use Rattle.play_run.proofs.Naming.{all_clients_in}
 
@@ -24,24 +26,24 @@ module _ {S K : Type 0} (x : PlayingValue S K) where
         all_clients_in x clients w s i a.handle a (named_at w i a.handle Z (ap (option_map (λ (c : Component). c.handle)) e)) e);
   }
 
-  pub most_stopped : CanBeStopped x → length x.plan.parts ≤ 32
-  most_stopped can = elim can [ inl (fault, F) ↦ F.valid.most | inr (p, Z) ↦ Z.valid.most ]
+  pub most_stopped : (failure : Failure) × HasFailed x failure → length x.plan.parts ≤ 32
+  most_stopped (failure, F) = F.valid.most
 
-  pub few_stopped : CanBeStopped x → length x.plan.joints ≤ 1024
-  few_stopped can = elim can [ inl (fault, F) ↦ few_joints x.plan F.valid F.play F.before F.played | inr (p, Z) ↦ few_joints x.plan Z.valid p Z.world Z.play ]
+  pub few_stopped : (failure : Failure) × HasFailed x failure → length x.plan.joints ≤ 1024
+  few_stopped (failure, F) = few_joints x.plan F.valid F.recent F.play F.before F.played
 
-  pub links_stopped : CanBeStopped x → AreLinks (ends_of x.plan) (length x.plan.joints)
-  links_stopped can = elim can [ inl (fault, F) ↦ links_apart x.plan F.valid F.play F.before F.played | inr (p, Z) ↦ links_apart x.plan Z.valid p Z.world Z.play ]
+  pub links_stopped : (failure : Failure) × HasFailed x failure → AreLinks (ends_of x.plan) (length x.plan.joints)
+  links_stopped (failure, F) = plan_links x.plan F.recent F.play F.before F.valid F.played
 
   module _ (sound : Always (kept_of x.graph) Sound) where
-    failed_stops : (fault : _) (F : HasFailed x fault) → HasStopped x.plan 0 F.world
-    failed_stops fault F = work_stops x.plan F.valid F.play F.before F.played F.done F.world F.finishes (sound F.world F.stands) (none_out F.world F.stands (sound F.world F.stands) F.works F.clients)
+    -- what the work that failed left is joined as before, and no component is Invalid
+    failed_stops : (failure : Failure) (F : HasFailed x failure) → HasStopped x.plan 0 F.world
+    failed_stops failure F =
+        let S = sound F.world F.stands in
+        work_stops x.plan F.valid F.recent F.play F.before F.played F.tunnels F.done F.world F.finishes S (none_out F.world F.stands S F.works F.clients)
 
-    played_stops : (p : _) (Z : IsStanding x p) → HasStopped x.plan 0 Z.world
-    played_stops p Z = play_stops x.plan Z.valid p Z.world Z.play (none_out Z.world Z.stands (sound Z.world Z.stands) Z.works Z.clients)
-
-    pub stands_stopped : CanBeStopped x → StandsFor (HasStopped x.plan 0) x.graph
-    stands_stopped can = elim can [ inl (fault, F) ↦ (F.world, F.stands, failed_stops fault F) | inr (p, Z) ↦ (Z.world, Z.stands, played_stops p Z) ]
+    pub stands_stopped : (failure : Failure) × HasFailed x failure → StandsFor (HasStopped x.plan 0) x.graph
+    stands_stopped (failure, F) = (F.world, F.stands, failed_stops failure F)
 
     pub gives_stopped : (entries : List (Option (PartFile S K))) → Always (kept_of x.graph) (λ w. HasStopped x.plan 0 w → AreBack w entries) → GivesBackStopped x entries
-    gives_stopped entries back = record { failed = λ fault F. back F.world F.stands (failed_stops fault F); standing = λ p Z. back Z.world Z.stands (played_stops p Z) }
+    gives_stopped entries back = λ failure F. back F.world F.stands (failed_stops failure F)

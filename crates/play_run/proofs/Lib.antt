@@ -1,3 +1,4 @@
+mod Acting
 mod Answering
 mod Beginning
 mod Closing
@@ -5,12 +6,18 @@ mod Commanding
 mod Conducting
 mod Counting
 mod Ending
+mod Ends
+mod Files
+mod Hearing
 mod Linking
 mod Logs
 mod Naming
+mod Onward
 mod Recording
 mod Rounding
+mod Stages
 mod Stepping
+mod Streaming
 mod Telling
 mod Working
 pub mod Halting

@@ -1,20 +1,16 @@
 -- The calls of a link's turn.
-use Rattle.std.proofs.Common.{◌≡◌, inl, inr, ◌<◌, ℕ, Bool, true, false, length, Some, Ok, Err, Result, refl, sym, ◌∙◌, ap, subst, arith}
+use Rattle.std.proofs.Common.{◌≡◌, ◌<◌, ℕ, Bool, true, false, length, Some, Ok, Result, refl, sym, ◌∙◌, ap, subst, arith}
 use Rattle.std.specs.Prelude.{OnErr}
 use Rattle.std.proofs.lemmas.Option.{slice_get-get_or}
 use Rattle.omx_types.specs.declared.handle.Handle.{Handle}
 use Rattle.omx_types.specs.declared.error.OmxError.{OmxError}
 use Rattle.omx_types.specs.declared.error.CallError.{CallError}
 use Rattle.il_machine.specs.declared.answer.Acted.{Acted}
-use Rattle.il_machine.specs.declared.answer.Acted.TheVariants.{Did, Idle}
+use Rattle.il_machine.specs.declared.answer.Acted.TheVariants.{Did}
 use Rattle.il_machine.specs.declared.answer.Progress.{Progress}
-use Rattle.il_machine.specs.World.{World}
-use Rattle.il_machine.specs.Lists.{is_empty}
-use Rattle.il_machine.specs.Headers.{seen}
 use Rattle.il_machine.specs.Acts as acts
 use Rattle.il_machine.specs.Flow.{HandBack, HandOver, Release, Supply}
 use Rattle.il_machine.specs.Whole.{Steps}
-use Rattle.machine_laws.proofs.Finding.{either}
 use Rattle.graph_core.specs.Clients.{KeepsAllClients}
 use Rattle.il_graph.specs.Shown.{Shown}
 use Rattle.il_graph.specs.Stood.{OnIdle}
@@ -22,27 +18,25 @@ use Rattle.play_forms.specs.declared.joint.Joint.{Joint}
 use Rattle.play_forms.specs.Flows.{no_flow}
 use Rattle.play_forms.specs.Plans.{IsValid, PlanValue}
 use Rattle.play_model.specs.Play.{Play}
-use Rattle.play_model.specs.Acts.{Act, CanAct}
+use Rattle.play_model.specs.Acts.{Act}
 use Rattle.play_log.specs.Kept.{LogValue}
-use Rattle.play_worlds.specs.Cast.{away_at, giver_of, taker_of}
-use Rattle.play_worlds.specs.Worlds.{IsPlayWorld, Names}
-use Rattle.play_worlds.proofs.Making.{supply_can, supply_leads}
-use Rattle.play_worlds.proofs.Releasing.{release_can, release_leads}
-use Rattle.play_worlds.proofs.Handing.{over_can, over_leads}
-use Rattle.play_worlds.proofs.Returns.{back_can, back_leads}
-use Rattle.play_worlds.proofs.Leftovers.{unused_can, unused_leads}
+use Rattle.play_worlds.specs.Cast.{giver_of, taker_of}
+use Rattle.play_worlds.specs.Worlds.{Names}
+use Rattle.late_turns.specs.Turns.{IsAct, IsBackOf, is_did}
+use Rattle.late_turns.proofs.Coming.{backs_come, overs_come, releases_come, supplies_come}
 use Rattle.play_plans.specs.Casting.{IsLinkCast, flow_of, joint_of, no_joint}
 use Rattle.play_plans.proofs.Casts.{plan_has_cast}
+use Rattle.play_openings.specs.Assemblies.{late_cast_of}
 use Rattle.play_graphs.specs.Graphs.{IsHandleAt, kept_of}
-use Rattle.play_run.specs.Playing.{IsAct, IsStanding, PlayingValue, TurnsTo, cast, is_did, layout_of}
+use Rattle.play_run.specs.Playing.{IsStanding, PlayingValue, TurnsTo, cast}
 use Rattle.play_run.specs.Recording.{IsRecorded, IsToldOf}
-use Rattle.play_run.specs.Turning.{IsBack}
 use Rattle.play_graphs.proofs.Naming.{named_at}
 use Rattle.play_run.proofs.Working.{still_none}
 use Rattle.play_run.proofs.Recording.{goes_on}
 use Rattle.il_graph.proofs.PartsStay.{step_stays}
-use Rattle.play_streams.proofs.Acts.{back_streams, over_streams, release_streams, supply_streams}
-use Rattle.play_run.proofs.Answering.{Came, StreamsGo, told_same, is_ok, keeps_in, not_did, one_came, stays, turn_goes, with_both}
+use Rattle.play_run.proofs.Streaming.{BacksOn, OversOn, ReleasesOn, StreamsGo, SuppliesOn, streams_go}
+use Rattle.play_run.proofs.Files.{told_same}
+use Rattle.play_run.proofs.Answering.{is_ok, keeps_in, not_did, turn_goes, with_both}
 
 -- ---- the ends of a link
 
@@ -55,137 +49,121 @@ module _ {S K : Type 0} (x : PlayingValue S K) (g : Shown S K Progress) (l : ℕ
   taker_named : IsHandleAt x.graph (joint_of x.plan l).taker h → (p : Play) (Y : IsStanding x p) → Names (cast x.plan) Y.world (taker_of (cast x.plan) l) h
   taker_named H p Y =
       let e = (link_is x.plan l Y.valid b).taker in
-      named_at Y.world (joint_of x.plan l).taker h (Y.play).sound (H Y.world Y.stands) ∙ ap Some (sym e)
+      named_at Y.world (joint_of x.plan l).taker h ((Y.late).play).sound (H Y.world Y.stands) ∙ ap Some (sym e)
 
   giver_named : IsHandleAt x.graph (joint_of x.plan l).giver h → (p : Play) (Y : IsStanding x p) → Names (cast x.plan) Y.world (giver_of (cast x.plan) l) h
   giver_named H p Y =
       let e = (link_is x.plan l Y.valid b).giver in
-      named_at Y.world (joint_of x.plan l).giver h (Y.play).sound (H Y.world Y.stands) ∙ ap Some (sym e)
+      named_at Y.world (joint_of x.plan l).giver h ((Y.late).play).sound (H Y.world Y.stands) ∙ ap Some (sym e)
 
   module _ (keeps : KeepsAllClients x.graph.core g.core) where
-    pub supplied : (r : Result Acted CallError) (log : LogValue) → (is_did r ≡ false → log ≡ x.log) → (is_did r ≡ true → IsToldOf x.plan.parts (joint_of x.plan l).taker x.log (λ k. acts.Supply k (joint_of x.plan l).input) (acts.Supplied (Ok Did)) log) → IsHandleAt x.graph (joint_of x.plan l).taker h → Steps (kept_of x.graph) (kept_of g) (λ w v. Supply w h (joint_of x.plan l).input r v)
-        → OnErr r (g ≡ x.graph) → OnIdle r (g ≡ x.graph) → TurnsTo x (with_both x g log) (is_did r) (IsAct (Act.Supply l))
-    supplied r log silent told H steps e i = λ p Y.
+    pub supplied : (r : Result Acted CallError) (log : LogValue) → (is_did r ≡ false → log ≡ x.log) → (is_did r ≡ true → IsToldOf x.plan.parts (joint_of x.plan l).taker x.log (λ k. acts.Supply k (joint_of x.plan l).input) (acts.Supplied (Ok Did)) log) → IsHandleAt x.graph (joint_of x.plan l).taker h → SuppliesOn (late_cast_of x.plan) l h r
+        → Steps (kept_of x.graph) (kept_of g) (λ w v. Supply w h (joint_of x.plan l).input r v) → OnErr r (g ≡ x.graph) → OnIdle r (g ≡ x.graph) → TurnsTo x (with_both x g log) (is_did r) (IsAct (Act.Supply l))
+    supplied r log silent told H streams steps e i = λ p Y.
+        let y = late_cast_of x.plan in
         let Z = Y.standing in
         let w = Z.world in
+        let W = (Z.late).play in
         let v = steps w Z.stands in
         let N = taker_named H p Z in
         let R : is_did r ≡ true → IsRecorded x.plan.parts Z.opening v.0 log = λ t. goes_on x p Z (joint_of x.plan l).taker h H v.0 (λ k. acts.Supply k (joint_of x.plan l).input) (acts.Supplied (Ok Did)) log (told t) refl tt
         (subst (λ (a : Result Acted CallError). Supply w h (joint_of x.plan l).input a v.0) (is_ok r t) v.2) tt (λ n. refl) in
-        let F : is_did r ≡ true → StreamsGo (cast x.plan) p Z.opening v.0 = λ t q W ph k C E. supply_streams (cast x.plan) k p q w v.0 Z.play (Z.streams k C E) W ph l h b r N v.2 in
+        let F : StreamsGo y p Z.opening v.0 = streams_go y p Z.opening w v.0 Z.streams (streams Z.recent p w v.0 W b N v.2) in
         turn_goes x g log p v.0 (is_did r) (IsAct (Act.Supply l)) Y v.1
-        (still_none w (acts.Supply h (joint_of x.plan l).input) (acts.Supplied r) v.0 (Z.play).sound tt v.2 (λ n. refl) Z.works)
-        (keeps_in x.graph.core g.core keeps Z.clients) (not_did r e i) silent R F (λ t. told_same Z.opening w v.0 Z.told (step_stays w (Z.play).sound (acts.Supply h (joint_of x.plan l).input) (acts.Supplied r) v.0 tt tt v.2).streams)
-        (one_came (cast x.plan) p v.0 (Act.Supply l) r (stays (layout_of x.plan) p (Act.Supply l) refl (λ c. refl))
-        (λ C. supply_leads (cast x.plan) p w l h r v.0 Z.play C N v.2)
-        (λ d. supply_can (cast x.plan) p w l h r v.0 Z.play b N v.2 d))
+        (still_none w (acts.Supply h (joint_of x.plan l).input) (acts.Supplied r) v.0 W.sound tt v.2 (λ n. refl) Z.works)
+        (keeps_in x.graph.core g.core keeps Z.clients) (not_did r e i) silent R (λ t. F) (λ t. told_same Z.opening w v.0 Z.told (step_stays w W.sound (acts.Supply h (joint_of x.plan l).input) (acts.Supplied r) v.0 tt tt v.2).streams)
+        (supplies_come y Z.recent p w l h r v.0 W b N v.2)
 
-    pub released : (r : Result Acted OmxError) (log : LogValue) → (is_did r ≡ false → log ≡ x.log) → (is_did r ≡ true → IsToldOf x.plan.parts (joint_of x.plan l).taker x.log (λ k. acts.Release k (joint_of x.plan l).input) (acts.Acted (Ok Did)) log) → IsHandleAt x.graph (joint_of x.plan l).taker h → Steps (kept_of x.graph) (kept_of g) (λ w v. Release w h (joint_of x.plan l).input r v)
-        → OnErr r (g ≡ x.graph) → OnIdle r (g ≡ x.graph) → TurnsTo x (with_both x g log) (is_did r) (IsAct (Act.Release l))
-    released r log silent told H steps e i = λ p Y.
+    pub released : (r : Result Acted OmxError) (log : LogValue) → (is_did r ≡ false → log ≡ x.log) → (is_did r ≡ true → IsToldOf x.plan.parts (joint_of x.plan l).taker x.log (λ k. acts.Release k (joint_of x.plan l).input) (acts.Acted (Ok Did)) log) → IsHandleAt x.graph (joint_of x.plan l).taker h → ReleasesOn (late_cast_of x.plan) l h r
+        → Steps (kept_of x.graph) (kept_of g) (λ w v. Release w h (joint_of x.plan l).input r v) → OnErr r (g ≡ x.graph) → OnIdle r (g ≡ x.graph) → TurnsTo x (with_both x g log) (is_did r) (IsAct (Act.Release l))
+    released r log silent told H streams steps e i = λ p Y.
+        let y = late_cast_of x.plan in
         let Z = Y.standing in
         let w = Z.world in
+        let W = (Z.late).play in
         let v = steps w Z.stands in
         let N = taker_named H p Z in
         let R : is_did r ≡ true → IsRecorded x.plan.parts Z.opening v.0 log = λ t. goes_on x p Z (joint_of x.plan l).taker h H v.0 (λ k. acts.Release k (joint_of x.plan l).input) (acts.Acted (Ok Did)) log (told t) refl tt
         (subst (λ (a : Result Acted OmxError). Release w h (joint_of x.plan l).input a v.0) (is_ok r t) v.2) tt (λ n. refl) in
-        let F : is_did r ≡ true → StreamsGo (cast x.plan) p Z.opening v.0 = λ t q W ph k C E. release_streams (cast x.plan) k p q w v.0 Z.play (Z.streams k C E) W ph l h b r N v.2 in
+        let F : StreamsGo y p Z.opening v.0 = streams_go y p Z.opening w v.0 Z.streams (streams Z.recent p w v.0 W b N v.2) in
         turn_goes x g log p v.0 (is_did r) (IsAct (Act.Release l)) Y v.1
-        (still_none w (acts.Release h (joint_of x.plan l).input) (acts.Acted r) v.0 (Z.play).sound tt v.2 (λ n. refl) Z.works)
-        (keeps_in x.graph.core g.core keeps Z.clients) (not_did r e i) silent R F (λ t. told_same Z.opening w v.0 Z.told (step_stays w (Z.play).sound (acts.Release h (joint_of x.plan l).input) (acts.Acted r) v.0 tt tt v.2).streams)
-        (one_came (cast x.plan) p v.0 (Act.Release l) r (stays (layout_of x.plan) p (Act.Release l) refl (λ c. refl))
-        (λ C. release_leads (cast x.plan) p w l h r v.0 Z.play C N v.2)
-        (λ d. release_can (cast x.plan) p w l h r v.0 Z.play b N v.2 d))
+        (still_none w (acts.Release h (joint_of x.plan l).input) (acts.Acted r) v.0 W.sound tt v.2 (λ n. refl) Z.works)
+        (keeps_in x.graph.core g.core keeps Z.clients) (not_did r e i) silent R (λ t. F) (λ t. told_same Z.opening w v.0 Z.told (step_stays w W.sound (acts.Release h (joint_of x.plan l).input) (acts.Acted r) v.0 tt tt v.2).streams)
+        (releases_come y Z.recent p w l h r v.0 W b N v.2)
 
-    pub handed_over : (r : Result Acted OmxError) (log : LogValue) → (is_did r ≡ false → log ≡ x.log) → (is_did r ≡ true → IsToldOf x.plan.parts (joint_of x.plan l).taker x.log (λ k. acts.HandOver k (joint_of x.plan l).input) (acts.Acted (Ok Did)) log) → IsHandleAt x.graph (joint_of x.plan l).taker h → Steps (kept_of x.graph) (kept_of g) (λ w v. HandOver w h (joint_of x.plan l).input r v)
-        → OnErr r (g ≡ x.graph) → OnIdle r (g ≡ x.graph) → TurnsTo x (with_both x g log) (is_did r) (IsAct (Act.HandOver l))
-    handed_over r log silent told H steps e i = λ p Y.
+    pub handed_over : (r : Result Acted OmxError) (log : LogValue) → (is_did r ≡ false → log ≡ x.log) → (is_did r ≡ true → IsToldOf x.plan.parts (joint_of x.plan l).taker x.log (λ k. acts.HandOver k (joint_of x.plan l).input) (acts.Acted (Ok Did)) log) → IsHandleAt x.graph (joint_of x.plan l).taker h → OversOn (late_cast_of x.plan) l h r
+        → Steps (kept_of x.graph) (kept_of g) (λ w v. HandOver w h (joint_of x.plan l).input r v) → OnErr r (g ≡ x.graph) → OnIdle r (g ≡ x.graph) → TurnsTo x (with_both x g log) (is_did r) (IsAct (Act.HandOver l))
+    handed_over r log silent told H streams steps e i = λ p Y.
+        let y = late_cast_of x.plan in
         let Z = Y.standing in
         let w = Z.world in
+        let W = (Z.late).play in
         let v = steps w Z.stands in
         let N = taker_named H p Z in
         let R : is_did r ≡ true → IsRecorded x.plan.parts Z.opening v.0 log = λ t. goes_on x p Z (joint_of x.plan l).taker h H v.0 (λ k. acts.HandOver k (joint_of x.plan l).input) (acts.Acted (Ok Did)) log (told t) refl tt
         (subst (λ (a : Result Acted OmxError). HandOver w h (joint_of x.plan l).input a v.0) (is_ok r t) v.2) tt (λ n. refl) in
-        let F : is_did r ≡ true → StreamsGo (cast x.plan) p Z.opening v.0 = λ t q W ph k C E. over_streams (cast x.plan) k p q w v.0 Z.play (Z.streams k C E) W ph l h b r N v.2 in
+        let F : StreamsGo y p Z.opening v.0 = streams_go y p Z.opening w v.0 Z.streams (streams Z.recent p w v.0 W b N v.2) in
         turn_goes x g log p v.0 (is_did r) (IsAct (Act.HandOver l)) Y v.1
-        (still_none w (acts.HandOver h (joint_of x.plan l).input) (acts.Acted r) v.0 (Z.play).sound tt v.2 (λ n. refl) Z.works)
-        (keeps_in x.graph.core g.core keeps Z.clients) (not_did r e i) silent R F (λ t. told_same Z.opening w v.0 Z.told (step_stays w (Z.play).sound (acts.HandOver h (joint_of x.plan l).input) (acts.Acted r) v.0 tt tt v.2).streams)
-        (one_came (cast x.plan) p v.0 (Act.HandOver l) r (stays (layout_of x.plan) p (Act.HandOver l) refl (λ c. refl))
-        (λ C. over_leads (cast x.plan) p w l h r v.0 Z.play C N v.2)
-        (λ d. over_can (cast x.plan) p w l h r v.0 Z.play b N v.2 d))
+        (still_none w (acts.HandOver h (joint_of x.plan l).input) (acts.Acted r) v.0 W.sound tt v.2 (λ n. refl) Z.works)
+        (keeps_in x.graph.core g.core keeps Z.clients) (not_did r e i) silent R (λ t. F) (λ t. told_same Z.opening w v.0 Z.told (step_stays w W.sound (acts.HandOver h (joint_of x.plan l).input) (acts.Acted r) v.0 tt tt v.2).streams)
+        (overs_come y Z.recent p w l h r v.0 W b N v.2)
 
-    -- the front of done, or where that is empty a header that wasn't used
-    back_came : (r : Result Acted OmxError) (p : Play) (w v : World) → IsPlayWorld (cast x.plan) p w → Names (cast x.plan) w (giver_of (cast x.plan) l) h → HandBack w h (joint_of x.plan l).output r v
-        → Came (cast x.plan) p v (is_did r) (IsBack l)
-    back_came (Ok Did) p w v W N s = either (is_empty ((seen w.headers).done (away_at (cast x.plan) l)))
-        (λ t.
-        let C = unused_can (cast x.plan) p w l h (Ok Did) v W b N s refl t in
-        (Act.HandUnused l, inr refl, C, stays (layout_of x.plan) p (Act.HandUnused l) refl (λ c. refl), (unused_leads (cast x.plan) p w l h (Ok Did) v W C N s).1))
-        (λ f.
-        let C = back_can (cast x.plan) p w l h (Ok Did) v W b N s refl f in
-        (Act.HandBack l, inl refl, C, stays (layout_of x.plan) p (Act.HandBack l) refl (λ c. refl), (back_leads (cast x.plan) p w l h (Ok Did) v W C N s).1))
-    back_came (Ok (Idle why)) p w v W N s = λ a o C. elim o [
-      | inl e ↦ let d = (back_leads (cast x.plan) p w l h (Ok (Idle why)) v W (subst (λ (y : Act). CanAct (layout_of x.plan) p y) e C) N s).0 in absurd cc
-      | inr e ↦ let d = (unused_leads (cast x.plan) p w l h (Ok (Idle why)) v W (subst (λ (y : Act). CanAct (layout_of x.plan) p y) e C) N s).0 in absurd cc
-    ]
-    back_came (Err z) p w v W N s = λ a o C. elim o [
-      | inl e ↦ let d = (back_leads (cast x.plan) p w l h (Err z) v W (subst (λ (y : Act). CanAct (layout_of x.plan) p y) e C) N s).0 in absurd cc
-      | inr e ↦ let d = (unused_leads (cast x.plan) p w l h (Err z) v W (subst (λ (y : Act). CanAct (layout_of x.plan) p y) e C) N s).0 in absurd cc
-    ]
-
-    pub handed_back : (r : Result Acted OmxError) (log : LogValue) → (is_did r ≡ false → log ≡ x.log) → (is_did r ≡ true → IsToldOf x.plan.parts (joint_of x.plan l).giver x.log (λ k. acts.HandBack k (joint_of x.plan l).output) (acts.Acted (Ok Did)) log) → IsHandleAt x.graph (joint_of x.plan l).giver h → Steps (kept_of x.graph) (kept_of g) (λ w v. HandBack w h (joint_of x.plan l).output r v)
-        → OnErr r (g ≡ x.graph) → OnIdle r (g ≡ x.graph) → TurnsTo x (with_both x g log) (is_did r) (IsBack l)
-    handed_back r log silent told H steps e i = λ p Y.
+    pub handed_back : (r : Result Acted OmxError) (log : LogValue) → (is_did r ≡ false → log ≡ x.log) → (is_did r ≡ true → IsToldOf x.plan.parts (joint_of x.plan l).giver x.log (λ k. acts.HandBack k (joint_of x.plan l).output) (acts.Acted (Ok Did)) log) → IsHandleAt x.graph (joint_of x.plan l).giver h → BacksOn (late_cast_of x.plan) l h r
+        → Steps (kept_of x.graph) (kept_of g) (λ w v. HandBack w h (joint_of x.plan l).output r v) → OnErr r (g ≡ x.graph) → OnIdle r (g ≡ x.graph) → TurnsTo x (with_both x g log) (is_did r) (IsBackOf l)
+    handed_back r log silent told H streams steps e i = λ p Y.
+        let y = late_cast_of x.plan in
         let Z = Y.standing in
         let w = Z.world in
+        let W = (Z.late).play in
         let v = steps w Z.stands in
+        let N = giver_named H p Z in
         let R : is_did r ≡ true → IsRecorded x.plan.parts Z.opening v.0 log = λ t. goes_on x p Z (joint_of x.plan l).giver h H v.0 (λ k. acts.HandBack k (joint_of x.plan l).output) (acts.Acted (Ok Did)) log (told t) refl tt
         (subst (λ (a : Result Acted OmxError). HandBack w h (joint_of x.plan l).output a v.0) (is_ok r t) v.2) tt (λ n. refl) in
-        let F : is_did r ≡ true → StreamsGo (cast x.plan) p Z.opening v.0 = λ t q W ph k C E. back_streams (cast x.plan) k p q w v.0 Z.play (Z.streams k C E) W ph l h b r (giver_named H p Z) v.2 in
-        turn_goes x g log p v.0 (is_did r) (IsBack l) Y v.1
-        (still_none w (acts.HandBack h (joint_of x.plan l).output) (acts.Acted r) v.0 (Z.play).sound tt v.2 (λ n. refl) Z.works)
-        (keeps_in x.graph.core g.core keeps Z.clients) (not_did r e i) silent R F (λ t. told_same Z.opening w v.0 Z.told (step_stays w (Z.play).sound (acts.HandBack h (joint_of x.plan l).output) (acts.Acted r) v.0 tt tt v.2).streams)
-        (back_came r p w v.0 Z.play (giver_named H p Z) v.2)
+        let F : StreamsGo y p Z.opening v.0 = streams_go y p Z.opening w v.0 Z.streams (streams Z.recent p w v.0 W b N v.2) in
+        turn_goes x g log p v.0 (is_did r) (IsBackOf l) Y v.1
+        (still_none w (acts.HandBack h (joint_of x.plan l).output) (acts.Acted r) v.0 W.sound tt v.2 (λ n. refl) Z.works)
+        (keeps_in x.graph.core g.core keeps Z.clients) (not_did r e i) silent R (λ t. F) (λ t. told_same Z.opening w v.0 Z.told (step_stays w W.sound (acts.HandBack h (joint_of x.plan l).output) (acts.Acted r) v.0 tt tt v.2).streams)
+        (backs_come y Z.recent p w l h r v.0 W b N v.2)
 
 -- ---- the same, of what is known where a call was made
 
 module _ {S K : Type 0} where
   pub supply_turns : (y x : PlayingValue S K) → y ≡ x → (g : Shown S K Progress) (log : LogValue) (l : ℕ) (j : Joint) (h : Handle) (r : Result Acted CallError) (d : Bool) → l < length x.plan.joints → j ≡ joint_of x.plan l → IsHandleAt x.graph j.taker h
-      → KeepsAllClients y.graph.core g.core → Steps (kept_of y.graph) (kept_of g) (λ w v. Supply w h j.input r v) → OnErr r (g ≡ y.graph) → OnIdle r (g ≡ y.graph) → d ≡ is_did r
+      → KeepsAllClients y.graph.core g.core → SuppliesOn (late_cast_of y.plan) l h r → Steps (kept_of y.graph) (kept_of g) (λ w v. Supply w h j.input r v) → OnErr r (g ≡ y.graph) → OnIdle r (g ≡ y.graph) → d ≡ is_did r
       → (d ≡ false → log ≡ y.log) → (d ≡ true → IsToldOf y.plan.parts j.taker y.log (λ k. acts.Supply k j.input) (acts.Supplied (Ok Did)) log) → TurnsTo x (with_both y g log) d (IsAct (Act.Supply l))
-  supply_turns y x is g log l j h r d b J H keeps steps e i D silent told =
+  supply_turns y x is g log l j h r d b J H keeps streams steps e i D silent told =
       subst (λ (z : PlayingValue S K). l < length z.plan.joints → j ≡ joint_of z.plan l → IsHandleAt z.graph j.taker h → TurnsTo z (with_both y g log) d (IsAct (Act.Supply l))) is
       (λ b J H. subst (λ (o : Bool). TurnsTo y (with_both y g log) o (IsAct (Act.Supply l))) (sym D)
       (supplied y g l h b keeps r log (λ f. silent (D ∙ f)) (λ t. subst (λ (k : Joint). IsToldOf y.plan.parts k.taker y.log (λ n. acts.Supply n k.input) (acts.Supplied (Ok Did)) log) J (told (D ∙ t)))
-      (subst (λ (k : Joint). IsHandleAt y.graph k.taker h) J H) (subst (λ (k : Joint). Steps (kept_of y.graph) (kept_of g) (λ w v. Supply w h k.input r v)) J steps) e i))
+      (subst (λ (k : Joint). IsHandleAt y.graph k.taker h) J H) streams (subst (λ (k : Joint). Steps (kept_of y.graph) (kept_of g) (λ w v. Supply w h k.input r v)) J steps) e i))
       b J H
 
   pub release_turns : (y x : PlayingValue S K) → y ≡ x → (g : Shown S K Progress) (log : LogValue) (l : ℕ) (j : Joint) (h : Handle) (r : Result Acted OmxError) (d : Bool) → l < length x.plan.joints → j ≡ joint_of x.plan l → IsHandleAt x.graph j.taker h
-      → KeepsAllClients y.graph.core g.core → Steps (kept_of y.graph) (kept_of g) (λ w v. Release w h j.input r v) → OnErr r (g ≡ y.graph) → OnIdle r (g ≡ y.graph) → d ≡ is_did r
+      → KeepsAllClients y.graph.core g.core → ReleasesOn (late_cast_of y.plan) l h r → Steps (kept_of y.graph) (kept_of g) (λ w v. Release w h j.input r v) → OnErr r (g ≡ y.graph) → OnIdle r (g ≡ y.graph) → d ≡ is_did r
       → (d ≡ false → log ≡ y.log) → (d ≡ true → IsToldOf y.plan.parts j.taker y.log (λ k. acts.Release k j.input) (acts.Acted (Ok Did)) log) → TurnsTo x (with_both y g log) d (IsAct (Act.Release l))
-  release_turns y x is g log l j h r d b J H keeps steps e i D silent told =
+  release_turns y x is g log l j h r d b J H keeps streams steps e i D silent told =
       subst (λ (z : PlayingValue S K). l < length z.plan.joints → j ≡ joint_of z.plan l → IsHandleAt z.graph j.taker h → TurnsTo z (with_both y g log) d (IsAct (Act.Release l))) is
       (λ b J H. subst (λ (o : Bool). TurnsTo y (with_both y g log) o (IsAct (Act.Release l))) (sym D)
       (released y g l h b keeps r log (λ f. silent (D ∙ f)) (λ t. subst (λ (k : Joint). IsToldOf y.plan.parts k.taker y.log (λ n. acts.Release n k.input) (acts.Acted (Ok Did)) log) J (told (D ∙ t)))
-      (subst (λ (k : Joint). IsHandleAt y.graph k.taker h) J H) (subst (λ (k : Joint). Steps (kept_of y.graph) (kept_of g) (λ w v. Release w h k.input r v)) J steps) e i))
+      (subst (λ (k : Joint). IsHandleAt y.graph k.taker h) J H) streams (subst (λ (k : Joint). Steps (kept_of y.graph) (kept_of g) (λ w v. Release w h k.input r v)) J steps) e i))
       b J H
 
   pub over_turns : (y x : PlayingValue S K) → y ≡ x → (g : Shown S K Progress) (log : LogValue) (l : ℕ) (j : Joint) (h : Handle) (r : Result Acted OmxError) (d : Bool) → l < length x.plan.joints → j ≡ joint_of x.plan l → IsHandleAt x.graph j.taker h
-      → KeepsAllClients y.graph.core g.core → Steps (kept_of y.graph) (kept_of g) (λ w v. HandOver w h j.input r v) → OnErr r (g ≡ y.graph) → OnIdle r (g ≡ y.graph) → d ≡ is_did r
+      → KeepsAllClients y.graph.core g.core → OversOn (late_cast_of y.plan) l h r → Steps (kept_of y.graph) (kept_of g) (λ w v. HandOver w h j.input r v) → OnErr r (g ≡ y.graph) → OnIdle r (g ≡ y.graph) → d ≡ is_did r
       → (d ≡ false → log ≡ y.log) → (d ≡ true → IsToldOf y.plan.parts j.taker y.log (λ k. acts.HandOver k j.input) (acts.Acted (Ok Did)) log) → TurnsTo x (with_both y g log) d (IsAct (Act.HandOver l))
-  over_turns y x is g log l j h r d b J H keeps steps e i D silent told =
+  over_turns y x is g log l j h r d b J H keeps streams steps e i D silent told =
       subst (λ (z : PlayingValue S K). l < length z.plan.joints → j ≡ joint_of z.plan l → IsHandleAt z.graph j.taker h → TurnsTo z (with_both y g log) d (IsAct (Act.HandOver l))) is
       (λ b J H. subst (λ (o : Bool). TurnsTo y (with_both y g log) o (IsAct (Act.HandOver l))) (sym D)
       (handed_over y g l h b keeps r log (λ f. silent (D ∙ f)) (λ t. subst (λ (k : Joint). IsToldOf y.plan.parts k.taker y.log (λ n. acts.HandOver n k.input) (acts.Acted (Ok Did)) log) J (told (D ∙ t)))
-      (subst (λ (k : Joint). IsHandleAt y.graph k.taker h) J H) (subst (λ (k : Joint). Steps (kept_of y.graph) (kept_of g) (λ w v. HandOver w h k.input r v)) J steps) e i))
+      (subst (λ (k : Joint). IsHandleAt y.graph k.taker h) J H) streams (subst (λ (k : Joint). Steps (kept_of y.graph) (kept_of g) (λ w v. HandOver w h k.input r v)) J steps) e i))
       b J H
 
   pub back_turns : (y x : PlayingValue S K) → y ≡ x → (g : Shown S K Progress) (log : LogValue) (l : ℕ) (j : Joint) (h : Handle) (r : Result Acted OmxError) (d : Bool) → l < length x.plan.joints → j ≡ joint_of x.plan l → IsHandleAt x.graph j.giver h
-      → KeepsAllClients y.graph.core g.core → Steps (kept_of y.graph) (kept_of g) (λ w v. HandBack w h j.output r v) → OnErr r (g ≡ y.graph) → OnIdle r (g ≡ y.graph) → d ≡ is_did r
-      → (d ≡ false → log ≡ y.log) → (d ≡ true → IsToldOf y.plan.parts j.giver y.log (λ k. acts.HandBack k j.output) (acts.Acted (Ok Did)) log) → TurnsTo x (with_both y g log) d (IsBack l)
-  back_turns y x is g log l j h r d b J H keeps steps e i D silent told =
-      subst (λ (z : PlayingValue S K). l < length z.plan.joints → j ≡ joint_of z.plan l → IsHandleAt z.graph j.giver h → TurnsTo z (with_both y g log) d (IsBack l)) is
-      (λ b J H. subst (λ (o : Bool). TurnsTo y (with_both y g log) o (IsBack l)) (sym D)
+      → KeepsAllClients y.graph.core g.core → BacksOn (late_cast_of y.plan) l h r → Steps (kept_of y.graph) (kept_of g) (λ w v. HandBack w h j.output r v) → OnErr r (g ≡ y.graph) → OnIdle r (g ≡ y.graph) → d ≡ is_did r
+      → (d ≡ false → log ≡ y.log) → (d ≡ true → IsToldOf y.plan.parts j.giver y.log (λ k. acts.HandBack k j.output) (acts.Acted (Ok Did)) log) → TurnsTo x (with_both y g log) d (IsBackOf l)
+  back_turns y x is g log l j h r d b J H keeps streams steps e i D silent told =
+      subst (λ (z : PlayingValue S K). l < length z.plan.joints → j ≡ joint_of z.plan l → IsHandleAt z.graph j.giver h → TurnsTo z (with_both y g log) d (IsBackOf l)) is
+      (λ b J H. subst (λ (o : Bool). TurnsTo y (with_both y g log) o (IsBackOf l)) (sym D)
       (handed_back y g l h b keeps r log (λ f. silent (D ∙ f)) (λ t. subst (λ (k : Joint). IsToldOf y.plan.parts k.giver y.log (λ n. acts.HandBack n k.output) (acts.Acted (Ok Did)) log) J (told (D ∙ t)))
-      (subst (λ (k : Joint). IsHandleAt y.graph k.giver h) J H) (subst (λ (k : Joint). Steps (kept_of y.graph) (kept_of g) (λ w v. HandBack w h k.output r v)) J steps) e i))
+      (subst (λ (k : Joint). IsHandleAt y.graph k.giver h) J H) streams (subst (λ (k : Joint). Steps (kept_of y.graph) (kept_of g) (λ w v. HandBack w h k.output r v)) J steps) e i))
       b J H

@@ -20,20 +20,20 @@ use Rattle.act_text.specs.declared.text.ActText.{ActText}
 use Rattle.script_lang.specs.declared.play_line.PartLine.{PartLine}
 use Rattle.assembling.proofs.Places.{mapped_at}
 use Rattle.play_forms.specs.Plans.{PlanValue}
-use Rattle.play_openings.specs.Assemblies.{PlayFiles}
+use Rattle.play_openings.specs.Assemblies.{PlayFiles, late_cast_of}
 use Rattle.play_log.specs.Entries.{Entry, is_unprinted, step_of, steps_of}
 use Rattle.play_log.specs.Kept.{LogValue}
 use Rattle.play_log.specs.Naming.{IsUnbroken}
 use Rattle.play_log.specs.Saying.{Says}
 use Rattle.play_log.specs.Scenes.{IsPlayer, scene_of}
 use Rattle.log_texts.specs.Said.{entry_by, line_by}
-use Rattle.play_worlds.specs.Cast.{Cast, components_of}
-use Rattle.play_worlds.specs.Worlds.{IsPlayWorld}
+use Rattle.play_worlds.specs.Cast.{components_of}
+use Rattle.late_worlds.specs.Late.{IsLateWorld, LateCast}
 use Rattle.play_worlds.proofs.Lists.{get_there}
 use Rattle.play_graphs.specs.Graphs.{IsHandleAt}
 use Rattle.play_graphs.proofs.Naming.{at_handle}
-use Rattle.play_run.specs.Playing.{IsStanding, PlayingValue, cast}
-use Rattle.play_run.specs.Recording.{FreesNone, IsBeginning, IsByPlayer, IsNameAt, IsRecorded, IsTold, IsToldOf, IsWhole}
+use Rattle.play_run.specs.Playing.{IsStanding, PlayingValue}
+use Rattle.play_run.specs.Recording.{FreesNone, IsBeginning, IsByPlayer, IsNameAt, IsRecorded, IsTold, IsToldOf, IsToldOfBoth, IsWhole}
 
 -- ---- one entry more
 
@@ -59,12 +59,12 @@ still_named o w (entry ∷ history) h c S r F n =
     still_named r.0 w history h d.0 (sound_step o r.0 entry.act entry.reply r.1 r.2 S) r.3 (All-tail FreesNone entry history F) d.1
 
 -- a component's number is its place
-pub number_at : (x : Cast) (p : _) (w : World) (W : IsPlayWorld x p w) (i : ℕ) (a : Component) → slice_get w.components i ≡ Some a → number_of a ≡ i
-number_at x p w W i a e =
+pub number_at : (x : LateCast) (recent : ℕ) (p : _) (w : World) (W : IsLateWorld x recent p w) (i : ℕ) (a : Component) → slice_get w.components i ≡ Some a → number_of a ≡ i
+number_at x recent p w W i a e =
     let m = W.many in
     let b = slice_get_within w.components i a e in
-    let below : i < components_of x = omega arith in
-    let k = W.cast.each i below in
+    let below : i < components_of x.cast = omega arith in
+    let k = (W.cast_is).each i below in
     (W.actors k.0 a k.1 (subst (λ (n : ℕ). slice_get w.components n ≡ Some a) (sym k.2) e)).number ∙ k.2
 
 same_there : (cs : List Component) (i j : ℕ) (c d : Component) → slice_get cs i ≡ Some c → slice_get cs j ≡ Some d → j ≡ i → d ≡ c
@@ -93,7 +93,7 @@ module _ {S K : Type 0} (x : PlayingValue S K) (p : _) (Z : IsStanding x p) (pla
   is_player name N = record {
     line = N.line;
     named = N.named;
-    handle = handle_from x.plan Z.files Z.opening Z.world x.log Z.begins Z.recorded (number_at (cast x.plan) p Z.world Z.play) place h (slice_get_within x.plan.parts place N.part N.line) (H Z.world Z.stands);
+    handle = handle_from x.plan Z.files Z.opening Z.world x.log Z.begins Z.recorded (number_at (late_cast_of x.plan) Z.recent p Z.world (Z.late).play) place h (slice_get_within x.plan.parts place N.part N.line) (H Z.world Z.stands);
   }
 
   -- an act of that component
@@ -101,6 +101,14 @@ module _ {S K : Type 0} (x : PlayingValue S K) (p : _) (Z : IsStanding x p) (pla
       → ((n : ℕ) → is_freed_by n (act h) reply ≡ false) → IsRecorded x.plan.parts Z.opening v log
   goes_on v act reply log T printed met step whole stay =
       one_more x.plan.parts Z.opening Z.world v x.log log Z.recorded T.said (act h) reply T.told (T.says (scene_of x.plan.parts Z.opening) place (T.named).part h (is_player T.name T.named)) printed met step whole stay
+
+-- an act of two components
+module _ {S K : Type 0} (x : PlayingValue S K) (p : _) (Z : IsStanding x p) (place other : ℕ) (h k : Handle) (H : IsHandleAt x.graph place h) (G : IsHandleAt x.graph other k) where
+  pub both_on : (v : World) (act : Handle → Handle → Act) (reply : Reply) (log : LogValue) → IsToldOfBoth x.plan.parts place other x.log act reply log → is_unprinted reply ≡ false → Meets Z.world (act h k) → Step Z.world (act h k) reply v → IsUnbroken (act h k)
+      → ((n : ℕ) → is_freed_by n (act h k) reply ≡ false) → IsRecorded x.plan.parts Z.opening v log
+  both_on v act reply log T printed met step whole stay =
+      one_more x.plan.parts Z.opening Z.world v x.log log Z.recorded T.said (act h k) reply T.told
+      (T.says (scene_of x.plan.parts Z.opening) place other (T.named).part (T.beside).part h k (is_player x p Z place h H T.first T.named) (is_player x p Z other k G T.second T.beside)) printed met step whole stay
 
 module _ {S K : Type 0} where
   pub still_there : (y x : PlayingValue S K) → y ≡ x → (place : ℕ) → place < length x.plan.parts → place < length y.plan.parts

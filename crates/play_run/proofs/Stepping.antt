@@ -1,5 +1,5 @@
 -- A work is claimed, done and brought back: a step of its component.
-use Rattle.std.proofs.Common.{◌≡◌, inl, inr, ◌<◌, ℕ, true, false, nat_eq, List, [], length, slice_get, Option, Some, None, Result, Ok, refl, sym, ◌∙◌, ap, subst, eqb-true, eq-eqb, ne_eqb, Bool, ◌≢◌}
+use Rattle.std.proofs.Common.{◌≡◌, inl, inr, ◌<◌, ◌≤◌, ℕ, zero, suc, arith, true, false, nat_eq, List, [], length, Option, Some, None, Result, Ok, refl, sym, ◌∙◌, ap, subst, eqb-true, eq-eqb, ne_eqb, Bool, ◌≢◌}
 use Rattle.std.specs.Prelude.{MatchOption, is_some}
 use Rattle.std.proofs.lemmas.Bool.{cases_eq}
 use Rattle.omx_types.specs.declared.handle.Handle.{Handle}
@@ -7,7 +7,7 @@ use Rattle.omx_types.specs.declared.error.OmxError.{OmxError}
 use Rattle.omx_types.specs.declared.fault.PartFault.{PartFault}
 use Rattle.part_api.specs.Terms.{Terms}
 use Rattle.il_machine.specs.declared.answer.Progress.{Progress}
-use Rattle.il_machine.specs.World.{Component, Work, World, component_numbered, number_of}
+use Rattle.il_machine.specs.World.{Component, World, component_numbered, number_of}
 use Rattle.il_machine.specs.Acts as acts
 use Rattle.il_machine.specs.Run.{Meets}
 use Rattle.il_machine.specs.Claims.{Claim, Claimed, ClaimedWork, WorkSeen}
@@ -34,25 +34,32 @@ use Rattle.il_graph.proofs.Returning.{may_return}
 use Rattle.il_graph.specs.declared.claimed.Claimed.{Claimed as Given}
 use Rattle.il_graph.specs.declared.claimed.Claimed.TheVariants as given
 use Rattle.il_graph.proofs.Back.{number_named}
+use Rattle.conductor.specs.declared.phase.LateLink.{LateLink}
 use Rattle.play_model.specs.Play.{Play}
-use Rattle.play_model.specs.Acts.{Act, CanAct}
-use Rattle.play_loop.specs.Turns.{CanNone, SomePlay}
+use Rattle.play_loop.specs.Turns.{SomePlay}
 use Rattle.act_text.specs.declared.text.ActText.{ActText}
 use Rattle.script_lang.specs.declared.play_line.PartLine.{PartLine}
 use Rattle.play_log.specs.Kept.{LogValue}
 use Rattle.play_log.specs.Scenes.{scene_of}
 use Rattle.log_texts.specs.Said.{SaysFinish, SaysOf}
-use Rattle.play_worlds.specs.Cast.{Cast, components_of, script_place}
-use Rattle.play_worlds.specs.Worlds.{IsPlayWorld, Names}
-use Rattle.play_worlds.proofs.Claims.{claim_accepted, claim_leads}
-use Rattle.play_worlds.proofs.Closings.{idle_closes}
-use Rattle.play_worlds.proofs.Finishes.{finish_leads}
-use Rattle.play_worlds.proofs.Sends.{actor_there}
+use Rattle.play_worlds.specs.Cast.{components_of, script_place}
+use Rattle.play_worlds.specs.Worlds.{Names}
+use Rattle.late_worlds.specs.Changing.{is_joined_at}
+use Rattle.late_worlds.specs.Late.{IsLateWorld, LateCast}
+use Rattle.late_acts.proofs.Ends.{actor_there}
+use Rattle.late_happenings.specs.Waiting.{IsWaiting}
+use Rattle.late_happenings.proofs.Closing.{idle_closes}
+use Rattle.late_steps.proofs.Claiming.{claim_taken}
+use Rattle.late_conductors.specs.Conducting.{AreCarriedOut, AreLates, IsCarriedOut}
+use Rattle.late_turns.specs.Turns.{IsStepOf, LateCame}
+use Rattle.late_turns.proofs.Coming.{finishes_come, none_claimed}
+use Rattle.play_openings.specs.Assemblies.{late_cast_of}
 use Rattle.play_plans.specs.Casting.{place_of}
 use Rattle.play_graphs.specs.Graphs.{IsHandleAt, kept_of}
-use Rattle.play_run.specs.Playing.{unfailed, ToldAlike, HaveNoWork, PlayingValue, TurnsTo, cast, IsPlaying}
+use Rattle.play_run.specs.Playing.{unfailed, ToldAlike, HaveNoWork, PlayingValue, TurnsTo, layout_of, IsPlaying}
 use Rattle.play_run.specs.Recording.{IsNameAt, IsTold}
-use Rattle.play_run.specs.Turning.{FailsOn, FileShows, FilesStayed, IsStepOf}
+use Rattle.play_stopping.specs.Stops.{AreJoined}
+use Rattle.play_run.specs.Turning.{FailsOn, FileShows, FilesStayed}
 use Rattle.play_run.proofs.Working.{all_in, none_out}
 use Rattle.play_run.proofs.Commanding.{component_named_in}
 use Rattle.play_run.proofs.Recording.{is_player, one_more}
@@ -60,12 +67,10 @@ use Rattle.audio_parts.specs.Objects.{Held}
 use Rattle.flow_model.specs.Content.{ArePlain}
 use Rattle.play_streams.specs.Contents.{PlayContents, network_of}
 use Rattle.play_streams.specs.Fronts.{AreFronts}
-use Rattle.play_streams.specs.Streams.{HasStreams}
-use Rattle.play_streams.proofs.Acts.{claim_streams}
-use Rattle.play_streams.proofs.Failing.{failed_fronts}
-use Rattle.play_streams.proofs.Still.{claim_stays, finish_told}
-use Rattle.play_streams.proofs.Stepping.{finish_streams}
-use Rattle.play_run.proofs.Answering.{StreamsGo, told_on, told_same, Came, keeps_in, stays, turn_goes, turn_stays, with_both}
+use Rattle.late_streams.specs.Streams.{HasLateStreams}
+use Rattle.play_run.proofs.Streaming.{ClaimsOn, FailsWith, FinishesOn, IsBackFrom, StreamsGo, StreamsOn, streams_go}
+use Rattle.play_run.proofs.Files.{claim_stays, finish_told, told_on, told_same}
+use Rattle.play_run.proofs.Answering.{keeps_in, turn_goes, turn_stays, with_both}
 
 -- the work of the component that the handle names went out, and came back from its step with that fault and these frames
 pub record IsWorked (h : Handle) (fault : Option PartFault) (frames : ℕ) (w v : World) : Type 0 where
@@ -79,39 +84,24 @@ pub record IsWorked (h : Handle) (fault : Option PartFault) (frames : ℕ) (w v 
   pub meets : Meets between (acts.Finish done)
   pub comes : Finish between done v
 
-module _ (x : Cast) (p : Play) (w : World) (c : ℕ) (h : Handle) (W : IsPlayWorld x p w) (l : c < components_of x) (N : Names x w c h) (none : HaveNoWork w) where
-  number_is : h.generation ≡ script_place x c
-  number_is = let a = actor_there x p w c W l in sym (number_named h w.components (script_place x c) a.0 N a.1) ∙ (a.2).number
+module _ (x : LateCast) (recent : ℕ) (p : Play) (w : World) (c : ℕ) (h : Handle) (W : IsLateWorld x recent p w) (l : c < components_of x.cast) (N : Names x.cast w c h) where
+  number_is : h.generation ≡ script_place x.cast c
+  number_is = let a = actor_there x recent p w c W l in sym (number_named h w.components (script_place x.cast c) a.0 N a.1) ∙ (a.2).number
 
-  -- where no work was given, none can be done
-  pub none_claimed : (r : Result Claimed OmxError) (v : World) → Claim w h r v → ((work : WorkSeen) → r ≡ Ok (ClaimedWork work) → ⊥) → CanNone x.layout p (IsStepOf c)
-  none_claimed r v s never = λ t T C.
-      let a = actor_there x p w c W l in
-      let D : CanAct x.layout p (Act.Step c T.0 T.1) = subst (λ (y : Act). CanAct x.layout p y) T.2 C in
-      let g = claim_accepted x p w c T.0 T.1 h r v a.0 W D N a.1 (at_place (λ (d : Component). d.work ≡ None) w.components (script_place x c) a.0 none a.1) s in
-      never g.0 g.1
-
-  module _ (Z : IsClosed w) (fault : Option PartFault) (frames : ℕ) (v : World) (U : IsWorked h fault frames w v) where
-    pub between_plays : IsPlayWorld x p U.between
-    between_plays = elim (claim_leads x p w c h (Ok (ClaimedWork U.work)) U.between W l N U.goes) [
-      | inl s ↦ subst (IsPlayWorld x p) (sym s) W
-      | inr L ↦ (idle_closes x p w U.between W Z L).0
+  module _ (waiting : IsWaiting (x.cast).layout p) (none : HaveNoWork w) (Z : IsClosed w) (fault : Option PartFault) (frames : ℕ) (v : World) (U : IsWorked h fault frames w v) where
+    pub between_plays : IsLateWorld x recent p U.between
+    between_plays = elim (claim_taken x recent p w c h (Ok (ClaimedWork U.work)) U.between W l N U.goes) [
+      | inl s ↦ subst (IsLateWorld x recent p) (sym s) W
+      | inr L ↦ (idle_closes x recent p w U.between W waiting Z L).0
     ]
 
-    pub record IsOutThere : Type 0 where
-      pub component : Component
-      pub there : slice_get (U.between).components (script_place x c) ≡ Some component
-      pub work : Work
-      pub out : component.work ≡ Some work
-      pub done : IsDoneOf U.between component work U.done
-
-    out_there : IsOutThere
-    out_there =
+    pub back_from : IsBackFrom x c U.between v fault
+    back_from =
         let u = U.between in
-        let a = actor_there x p u c between_plays l in
+        let a = actor_there x recent p u c between_plays l in
         let number : number_of a.0 ≡ (U.done).component = (a.2).number ∙ (sym number_is ∙ sym U.its) in
         let named : component_numbered (U.done).component u ≡ Some a.0 =
-        subst (λ (n : ℕ). component_numbered n u ≡ Some a.0) number (is_named (number_of a.0) u ∙ named_there 0 u.numbered (script_place x c) u.components a.0 (between_plays.sound).rising a.1) in
+        subst (λ (n : ℕ). component_numbered n u ≡ Some a.0) number (is_named (number_of a.0) u ∙ named_there 0 u.numbered (script_place x.cast c) u.components a.0 (between_plays.sound).rising a.1) in
         let d = there_is (component_numbered (U.done).component u) (λ y. MatchOption y.work ⊥ (λ work. IsDoneOf u y work U.done)) U.meets in
         let z : Some d.0 ≡ Some a.0 = sym d.1 ∙ named in
         let same : d.0 ≡ a.0 = cc in
@@ -121,7 +111,11 @@ module _ (x : Cast) (p : Play) (w : World) (c : ℕ) (h : Handle) (W : IsPlayWor
           there = a.1;
           work = k.0;
           out = ap (λ (y : Component). y.work) (sym same) ∙ k.1;
-          done = subst (λ (y : Component). IsDoneOf u y k.0 U.done) same k.2;
+          done = U.done;
+          its = U.its ∙ number_is;
+          does = subst (λ (y : Component). IsDoneOf u y k.0 U.done) same k.2;
+          faults = U.faults;
+          comes = U.comes;
         }
 
     between_sound : Sound U.between
@@ -139,31 +133,51 @@ module _ (x : Cast) (p : Play) (w : World) (c : ℕ) (h : Handle) (W : IsPlayWor
         none_comes u (acts.Finish U.done) acts.Finished v n between_sound U.meets U.comes refl
         (none_comes w (acts.Claim h) (acts.Claimed (Ok (ClaimedWork U.work))) u n W.sound tt U.goes other (none_out n w none))))
 
-  pub works_came : (Z : IsClosed w) (frames : ℕ) (v : World) → IsWorked h None frames w v → Came x p v true (IsStepOf c)
-  works_came Z frames v U =
-      let O = out_there Z None frames v U in
-      let P = between_plays Z None frames v U in
-      let F = finish_leads x p U.between c O.component O.work U.done v P l O.there O.out (U.its ∙ number_is) O.done U.faults U.comes in
-      (Act.Step c (U.done).frames F.0, ((U.done).frames, F.0, refl), F.1, stays x.layout p (Act.Step c (U.done).frames F.0) refl (λ k. refl), F.2)
+    -- what the files told when they came stays
+    pub worked_told : ToldAlike w v
+    worked_told =
+        let a = actor_there x recent p w c W l in
+        told_on w U.between v (told_same w w U.between (λ n t q. (t, q, refl)) (claim_stays w U.between (script_place x.cast c) a.0 h (Ok (ClaimedWork U.work)) N a.1 U.goes)) (finish_told U.between v U.done U.comes)
 
-  -- what the files told when they came stays
-  pub worked_told : (Z : IsClosed w) (fault : Option PartFault) (frames : ℕ) (v : World) → IsWorked h fault frames w v → ToldAlike w v
-  worked_told Z fault frames v U =
-      told_on w U.between v (told_same w w U.between (λ n t q. (t, q, refl)) (claim_stays x p w U.between c h (Ok (ClaimedWork U.work)) W l N U.goes)) (finish_told x p U.between v U.done (between_plays Z fault frames v U) U.comes)
+    -- the claim moves no bytes
+    claimed_streams : ClaimsOn x c h → (k : PlayContents) → HasLateStreams x k p w → HasLateStreams x k p U.between
+    claimed_streams claims k H = claims (Ok (ClaimedWork U.work)) recent p w U.between W l N U.goes k recent p H between_plays refl
 
-  -- the bytes that it took and gave have moved
-  pub worked_streams : (Z : IsClosed w) (frames : ℕ) (v : World) (U : IsWorked h None frames w v) (k : PlayContents) (q : Play) → HasStreams x k p w → IsPlayWorld x q v → q.phase ≡ p.phase → HasStreams x k q v
-  worked_streams Z frames v U k q H V e =
-      let O = out_there Z None frames v U in
-      let P = between_plays Z None frames v U in
-      finish_streams x k p q U.between v c O.component O.work U.done P (claim_streams x k p p w U.between W H P refl c h l N (Ok (ClaimedWork U.work)) U.goes) V e l O.there O.out (U.its ∙ number_is) O.done U.faults U.comes
+    -- after a step that failed, too, the sinks' files have taken fronts
+    pub failed_streams : ClaimsOn x c h → (failure : PartFault) → fault ≡ Some failure → FailsWith x c failure → (k : PlayContents) → HasLateStreams x k p w → (stream : ℕ → List ℕ) → ArePlain (network_of x.cast) k.model stream → AreFronts x.cast k v stream
+    failed_streams claims failure e fails k H = fails recent p U.between v between_plays l (subst (IsBackFrom x c U.between v) e back_from) k (claimed_streams claims k H)
 
-  -- after a step that failed, too, the sinks' files have taken fronts
-  pub failed_streams : (Z : IsClosed w) (fault : PartFault) (frames : ℕ) (v : World) (U : IsWorked h (Some fault) frames w v) (k : PlayContents) → HasStreams x k p w → (stream : ℕ → List ℕ) → ArePlain (network_of x) k.model stream → AreFronts x k v stream
-  failed_streams Z fault frames v U k H stream Q =
-      let O = out_there Z (Some fault) frames v U in
-      let P = between_plays Z (Some fault) frames v U in
-      failed_fronts x k p U.between v c O.component O.work U.done fault stream P (claim_streams x k p p w U.between W H P refl c h l N (Ok (ClaimedWork U.work)) U.goes) Q l O.there O.out (U.its ∙ number_is) O.done U.faults U.comes
+  module _ (waiting : IsWaiting (x.cast).layout p) (none : HaveNoWork w) (Z : IsClosed w) (frames : ℕ) (v : World) (U : IsWorked h None frames w v) where
+    pub works_came : LateCame x recent p v true (IsStepOf (x.cast).layout c)
+    works_came =
+        let O = back_from waiting none Z None frames v U in
+        finishes_come x recent p U.between c O.component O.work O.done v (between_plays waiting none Z None frames v U) l O.there O.out O.its O.does O.faults O.comes
+
+    -- the bytes that it took and gave have moved
+    pub worked_streams : ClaimsOn x c h → FinishesOn x c → StreamsOn x p w v
+    worked_streams claims finishes = λ k later q H V e.
+        finishes recent p U.between v (between_plays waiting none Z None frames v U) l (back_from waiting none Z None frames v U) k later q (claimed_streams waiting none Z None frames v U claims k H) V e
+
+-- ---- the tunnels
+
+joined_so : (steps acts : ℕ) → IsCarriedOut steps acts → is_joined_at acts ≡ true
+joined_so zero acts b = few acts b
+  where
+    few : (n : ℕ) → n ≤ 2 → is_joined_at n ≡ true
+    few zero b = refl
+    few (suc zero) b = refl
+    few (suc (suc zero)) b = refl
+    few (suc (suc (suc n))) b = absurd (omega arith)
+joined_so (suc zero) acts b = ap is_joined_at b
+joined_so (suc (suc zero)) acts b = ap is_joined_at b
+joined_so (suc (suc (suc zero))) acts b = ap is_joined_at b
+joined_so (suc (suc (suc (suc n)))) acts b = absurd b
+
+-- each step of the conductor ends with a tunnel
+pub joined_between : (x : LateCast) (recent : ℕ) (p : Play) (lates : List LateLink) → AreLates x.cast recent p lates → AreCarriedOut x.cast p lates → AreJoined x p
+joined_between x recent p lates L C = λ l b t.
+    let s = L.some l b t in
+    joined_so (s.1).steps (p.change l).step (C s.0 l s.1 s.2 (s.3).of_link)
 
 -- ---- a claim, a run and a finish
 
@@ -227,22 +241,29 @@ module _ {S K : Type 0} {s : _} {k : _} where
 module _ {S K : Type 0} where
   -- no work was given
   pub unclaimed_turns : (y x : PlayingValue S K) → y ≡ x → (g : Shown S K Progress) (c place : ℕ) (h : Handle) (r : Result Claimed OmxError) → c < length x.plan.parts → place ≡ place_of x.plan c → IsHandleAt x.graph place h
-      → ((w : World) → Stands (kept_of y.graph) w → (v : World) × Claim w h r v) → ((work : WorkSeen) → r ≡ Ok (ClaimedWork work) → ⊥) → g ≡ y.graph → TurnsTo x (with_both y g y.log) false (IsStepOf c)
+      → ((w : World) → Stands (kept_of y.graph) w → (v : World) × Claim w h r v) → ((work : WorkSeen) → r ≡ Ok (ClaimedWork work) → ⊥) → g ≡ y.graph → TurnsTo x (with_both y g y.log) false (IsStepOf (layout_of x.plan) c)
   unclaimed_turns y x is g c place h r b J H steps never same =
-      subst (λ (z : PlayingValue S K). c < length z.plan.parts → place ≡ place_of z.plan c → IsHandleAt z.graph place h → TurnsTo z (with_both y g y.log) false (IsStepOf c)) is
-      (λ b J H. turn_stays y g (IsStepOf c) same (λ p Y.
+      subst (λ (z : PlayingValue S K). c < length z.plan.parts → place ≡ place_of z.plan c → IsHandleAt z.graph place h → TurnsTo z (with_both y g y.log) false (IsStepOf (layout_of z.plan) c)) is
+      (λ b J H. turn_stays y g (IsStepOf (layout_of y.plan) c) same (λ p Y.
       let Z = Y.standing in
+      let W = (Z.late).play in
       let v = steps Z.world Z.stands in
-      none_claimed (cast y.plan) p Z.world c h Z.play b (component_named_in y c place h J H p Z) Z.works r v.0 v.1 never))
+      let a = actor_there (late_cast_of y.plan) Z.recent p Z.world c W b in
+      let idle = at_place (λ (d : Component). d.work ≡ None) (Z.world).components (script_place (late_cast_of y.plan).cast c) a.0 Z.works a.1 in
+      none_claimed (late_cast_of y.plan) Z.recent p Z.world c h r v.0 a.0 W b (component_named_in y c place h J H p Z) a.1 idle v.1 never))
       b J H
 
   module _ (y x : PlayingValue S K) (is : y ≡ x) (m g : Shown S K Progress) (c place : ℕ) (h : Handle) (b : c < length x.plan.parts) (J : place ≡ place_of x.plan c) (H : IsHandleAt x.graph place h)
-      (closed : Always (kept_of y.graph) IsClosed) (K1 : KeepsAllClients y.graph.core m.core) (K2 : KeepsAllClients m.core g.core) where
-    pub step_turns : (log : LogValue) (frames : ℕ) → HasLines y.plan.parts place frames y.log log → ((w : World) → Stands (kept_of y.graph) w → (v : World) × Stands (kept_of g) v × IsWorked h None frames w v) → TurnsTo x (with_both y g log) true (IsStepOf c)
-    step_turns log frames L worked =
-        subst (λ (z : PlayingValue S K). c < length z.plan.parts → place ≡ place_of z.plan c → IsHandleAt z.graph place h → TurnsTo z (with_both y g log) true (IsStepOf c)) is
+      (closed : Always (kept_of y.graph) IsClosed) (K1 : KeepsAllClients y.graph.core m.core) (K2 : KeepsAllClients m.core g.core) (claims : ClaimsOn (late_cast_of y.plan) c h) where
+    pub step_turns : (log : LogValue) (frames : ℕ) → FinishesOn (late_cast_of y.plan) c → HasLines y.plan.parts place frames y.log log → ((w : World) → Stands (kept_of y.graph) w → (v : World) × Stands (kept_of g) v × IsWorked h None frames w v)
+        → TurnsTo x (with_both y g log) true (IsStepOf (layout_of x.plan) c)
+    step_turns log frames finishes L worked =
+        subst (λ (z : PlayingValue S K). c < length z.plan.parts → place ≡ place_of z.plan c → IsHandleAt z.graph place h → TurnsTo z (with_both y g log) true (IsStepOf (layout_of z.plan) c)) is
         (λ b J H p Y.
+        let X = late_cast_of y.plan in
         let Z = Y.standing in
+        let W = (Z.late).play in
+        let V = (Z.late).waiting in
         let N = component_named_in y c place h J H p Z in
         let v = worked Z.world Z.stands in
         let U : IsWorked h None frames Z.world v.0 = v.2 in
@@ -251,20 +272,23 @@ module _ {S K : Type 0} where
         let P = is_player y p Z place h H L.name L.named in
         let R = one_more y.plan.parts Z.opening Z.world U.between y.log L.between Z.recorded L.first (acts.Claim h) (acts.Claimed (Ok (ClaimedWork U.work))) L.told_first (L.says_first U.work s place (L.named).part h P) refl tt U.goes tt (λ n. refl) in
         let Q = one_more y.plan.parts Z.opening U.between v.0 L.between log R L.second (acts.Finish U.done) acts.Finished L.told_second (L.says_second s place (L.named).part h U.done P U.its U.does) refl U.meets U.comes U.faults (λ n. refl) in
-        let F : true ≡ true → StreamsGo (cast y.plan) p Z.opening v.0 = λ t q V ph k C E. worked_streams (cast y.plan) p Z.world c h Z.play b N Z.works shut frames v.0 v.2 k q (Z.streams k C E) V ph in
-        turn_goes y g log p v.0 true (IsStepOf c) Y v.1 (works_in (cast y.plan) p Z.world c h Z.play b N Z.works shut None frames v.0 v.2) (keeps_in m.core g.core K2 (keeps_in y.graph.core m.core K1 Z.clients)) (λ f. absurd cc) (λ f. absurd cc) (λ e. Q) F (λ e. told_on Z.opening Z.world v.0 Z.told (worked_told (cast y.plan) p Z.world c h Z.play b N Z.works shut None frames v.0 v.2))
-        (works_came (cast y.plan) p Z.world c h Z.play b N Z.works shut frames v.0 v.2))
+        let F : StreamsGo X p Z.opening v.0 = streams_go X p Z.opening Z.world v.0 Z.streams (worked_streams X Z.recent p Z.world c h W b N V Z.works shut frames v.0 U claims finishes) in
+        turn_goes y g log p v.0 true (IsStepOf (layout_of y.plan) c) Y v.1 (works_in X Z.recent p Z.world c h W b N V Z.works shut None frames v.0 U) (keeps_in m.core g.core K2 (keeps_in y.graph.core m.core K1 Z.clients)) (λ f. absurd cc) (λ f. absurd cc) (λ e. Q) (λ e. F) (λ e. told_on Z.opening Z.world v.0 Z.told (worked_told X Z.recent p Z.world c h W b N V Z.works shut None frames v.0 U))
+        (works_came X Z.recent p Z.world c h W b N V Z.works shut frames v.0 U))
         b J H
 
-    pub step_fails : {Stays : Held S K → Held S K → Type 0} {Shows : PartFault → Held S K → Held S K → Type 0} (log : LogValue) (frames : ℕ) (fault : PartFault) → ((w : World) → Stands (kept_of y.graph) w → (v : World) × Stands (kept_of g) v × IsWorked h (Some fault) frames w v) → FilesStayed Stays x (with_both y g log) → FileShows Shows x (with_both y g log) (record { component = place; fault = fault }) → FailsOn Stays Shows x (with_both y g log) (record { component = place; fault = fault })
-    step_fails {Stays = Stays} {Shows = Shows} log frames fault worked objects shows =
+    pub step_fails : {Stays : Held S K → Held S K → Type 0} {Shows : PartFault → Held S K → Held S K → Type 0} (log : LogValue) (frames : ℕ) (fault : PartFault) → FailsWith (late_cast_of y.plan) c fault → ((w : World) → Stands (kept_of y.graph) w → (v : World) × Stands (kept_of g) v × IsWorked h (Some fault) frames w v) → FilesStayed Stays x (with_both y g log) → FileShows Shows x (with_both y g log) (record { component = place; fault = fault }) → FailsOn Stays Shows x (with_both y g log) (record { component = place; fault = fault })
+    step_fails {Stays = Stays} {Shows = Shows} log frames fault fails worked objects shows =
         subst (λ (z : PlayingValue S K). c < length z.plan.parts → place ≡ place_of z.plan c → IsHandleAt z.graph place h → FilesStayed Stays z (with_both y g log) → FileShows Shows z (with_both y g log) (record { component = place; fault = fault }) → FailsOn Stays Shows z (with_both y g log) (record { component = place; fault = fault })) is
         (λ b J H objects shows. record {
           plan = refl;
           objects = objects;
           shows = shows;
           fails = λ p Y.
+              let X = late_cast_of y.plan in
               let Z = Y.standing in
+              let W = (Z.late).play in
+              let V = (Z.late).waiting in
               let N = component_named_in y c place h J H p Z in
               let v = worked Z.world Z.stands in
               let shut = closed Z.world Z.stands in (
@@ -272,21 +296,23 @@ module _ {S K : Type 0} where
                   world = v.0;
                   stands = v.1;
                   valid = Z.valid;
-                  works = works_in (cast y.plan) p Z.world c h Z.play b N Z.works shut (Some fault) frames v.0 v.2;
+                  works = works_in X Z.recent p Z.world c h W b N V Z.works shut (Some fault) frames v.0 v.2;
                   clients = keeps_in m.core g.core K2 (keeps_in y.graph.core m.core K1 Z.clients);
                   play = p;
                   before = (v.2).between;
-                  played = between_plays (cast y.plan) p Z.world c h Z.play b N Z.works shut (Some fault) frames v.0 v.2;
+                  recent = Z.recent;
+                  played = between_plays X Z.recent p Z.world c h W b N V Z.works shut (Some fault) frames v.0 v.2;
+                  tunnels = joined_between X Z.recent p (y.conductor).lates ((Z.late).conducting).lates Y.carried;
                   done = (v.2).done;
-                  there = subst (λ (j : ℕ). j < length y.plan.parts) (sym J) ((Z.play).cast.placed c b);
-                  its = (v.2).its ∙ (number_is (cast y.plan) p Z.world c h Z.play b N Z.works ∙ sym J);
+                  there = subst (λ (j : ℕ). j < length y.plan.parts) (sym J) ((W.cast_is).placed c b);
+                  its = (v.2).its ∙ (number_is X Z.recent p Z.world c h W b N ∙ sym J);
                   failed = (v.2).faults;
                   finishes = (v.2).comes;
                   files = Z.files;
                   opening = Z.opening;
                   begins = Z.begins;
-                  told = told_on Z.opening Z.world v.0 Z.told (worked_told (cast y.plan) p Z.world c h Z.play b N Z.works shut (Some fault) frames v.0 v.2);
-                  fronts = λ k C E. failed_streams (cast y.plan) p Z.world c h Z.play b N Z.works shut fault frames v.0 v.2 k (Z.streams k C E);
+                  told = told_on Z.opening Z.world v.0 Z.told (worked_told X Z.recent p Z.world c h W b N V Z.works shut (Some fault) frames v.0 v.2);
+                  fronts = λ k C E. failed_streams X Z.recent p Z.world c h W b N V Z.works shut (Some fault) frames v.0 v.2 claims fault refl fails k (Z.streams k C E);
                 },
                 refl,
               );
@@ -298,7 +324,7 @@ module _ {S K : Type 0} where
 -- the number is of the component at the place
 pub own_number : {S K : Type 0} (x : PlayingValue S K) (c place : ℕ) (h : Handle) → c < length x.plan.parts → place ≡ place_of x.plan c → IsHandleAt x.graph place h → SomePlay (IsPlaying x) → h.generation ≡ place
 own_number x c place h b J H (p, Y) =
-    number_is (cast x.plan) p Y.standing.world c h Y.standing.play b (component_named_in x c place h J H p Y.standing) Y.standing.works ∙ sym J
+    number_is (late_cast_of x.plan) Y.standing.recent p Y.standing.world c h ((Y.standing).late).play b (component_named_in x c place h J H p Y.standing) ∙ sym J
 
 module _ {S K : Type 0} (Stays : Held S K → Held S K → Type 0) (itself : (a : Held S K) → Stays a a) (g m k : Shown S K Progress) (number : ℕ) (a b : Held S K) (whole : a.failed ≡ false) (its : a.file ≡ file_of number g)
     (back : file_of number k ≡ b.file) (goes : KeepsFiles number g m) (comes : KeepsFiles number m k) (stays : Stays a b) where

@@ -1,3 +1,4 @@
+pub mod Changing
 pub mod Closing
 pub mod Leading
 pub mod Logging

@@ -3,19 +3,16 @@ use Rattle.il_machine.specs.declared.answer.Progress.{Progress}
 use Rattle.il_machine.specs.World.{World}
 use Rattle.il_machine.specs.Whole.{Stands}
 use Rattle.il_graph.specs.Shown.{Shown}
-use Rattle.play_forms.specs.Plans.{IsValid, PlanValue}
-use Rattle.play_worlds.specs.Openings.{IsOpeningWorld}
-use Rattle.play_openings.specs.Assemblies.{HasNoLate, PlayFiles}
+use Rattle.play_openings.specs.Assemblies.{IsReady, PlayFiles}
 use Rattle.play_results.specs.Worlds.{IsOpening}
+use Rattle.play_forms.specs.Plans.{PlanValue}
 use Rattle.play_graphs.specs.Graphs.{kept_of}
-use Rattle.play_run.specs.Playing.{AreClientsIn, cast}
+use Rattle.play_run.specs.Playing.{AreClientsIn}
 
 module _ {S K : Type 0} where
   pub record IsOpeningGraph (plan : PlanValue) (files : PlayFiles) (graph : Shown S K Progress) : Type 0 where
     pub world : World
     pub stands : Stands (kept_of graph) world
-    pub opening : IsOpeningWorld (cast plan) world
     pub begins : IsOpening plan files world
-    pub valid : IsValid plan
-    pub early : HasNoLate plan
+    pub ready : IsReady plan files
     pub clients : AreClientsIn graph.core

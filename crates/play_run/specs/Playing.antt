@@ -1,8 +1,6 @@
 -- The plays that a graph with its conductor stands for.
-use Rattle.std.specs.Prelude.{◌≡◌, ◌≢◌, ◌<◌, ℕ, Bool, true, false, [], All, length, slice_get, Some, None, Result, Ok, Err, Option}
+use Rattle.std.specs.Prelude.{◌≡◌, ℕ, Bool, false, All, length, slice_get, Some, None, Option}
 use Rattle.omx_types.specs.declared.handle.Handle.{Handle}
-use Rattle.il_machine.specs.declared.answer.Acted.{Acted}
-use Rattle.il_machine.specs.declared.answer.Acted.TheVariants.{Did, Idle}
 use Rattle.il_machine.specs.declared.answer.Progress.{Progress}
 use Rattle.il_machine.specs.World.{Component, Stream, World, stream_of}
 use Rattle.il_machine.specs.Sound.{Sound}
@@ -17,20 +15,22 @@ use Rattle.play_forms.specs.Plans.{IsValid, PlanValue}
 use Rattle.play_model.specs.Play.{Layout, Play}
 use Rattle.play_model.specs.Acts.{Act}
 use Rattle.play_loop.specs.Turns.{Turned}
-use Rattle.play_worlds.specs.Cast.{Cast, components_of}
-use Rattle.play_worlds.specs.Worlds.{IsPlayWorld}
-use Rattle.play_plans.specs.Casting.{cast_of}
-use Rattle.play_plans.specs.Conducting.{HasSinks}
-use Rattle.play_openings.specs.Assemblies.{PlayFiles}
+use Rattle.play_worlds.specs.Cast.{Cast}
+use Rattle.late_worlds.specs.Late.{LateCast}
+use Rattle.late_conductors.specs.Conducting.{AreCarriedOut}
+use Rattle.late_turns.specs.Playing.{AreSent, IsLateStanding}
+use Rattle.play_openings.specs.Assemblies.{PlayFiles, late_cast_of}
 use Rattle.play_graphs.specs.Graphs.{kept_of}
 use Rattle.play_log.specs.Kept.{LogValue}
-use Rattle.play_streams.specs.Contents.{HasContents, PlayContents}
-use Rattle.play_streams.specs.Streams.{AreNew, HasStreams}
+use Rattle.play_streams.specs.Contents.{PlayContents}
+use Rattle.play_streams.specs.Streams.{AreNew}
+use Rattle.late_streams.specs.Contents.{HasLateContents}
+use Rattle.late_streams.specs.Streams.{HasLateStreams}
 use Rattle.play_run.specs.Recording.{IsBeginning, IsRecorded}
 
 -- No port prefers a supplier, so the input supplies each link.
 abbrev pub cast : PlanValue → Cast
-cast plan = cast_of (λ l. false) plan
+cast plan = (late_cast_of plan).cast
 
 abbrev pub layout_of : PlanValue → Layout
 layout_of plan = (cast plan).layout
@@ -38,13 +38,6 @@ layout_of plan = (cast plan).layout
 -- no component's work is out
 abbrev pub HaveNoWork : World → Type 0
 HaveNoWork w = All (λ (c : Component). c.work ≡ None) w.components
-
--- The conductor knows the sinks, has heard each component, and has begun as many states as the play.
-pub record IsConducting (x : Cast) (p : Play) (value : ConductorValue) : Type 0 where
-  pub sinks : HasSinks x value
-  pub many : length value.told ≡ components_of x
-  pub early : value.lates ≡ []
-  pub sends : value.sends ≡ p.phase
 
 pub record PlayingValue (S K : Type 0) : Type 0 where
   pub graph : Shown S K Progress
@@ -54,8 +47,8 @@ pub record PlayingValue (S K : Type 0) : Type 0 where
 
 -- The bytes that move are those of the files: from an opening where each sink's file is new, whatever the components give there
 -- has its streams in the world.
-abbrev pub HasStreamsFrom : Cast → World → Play → World → Type 0
-HasStreamsFrom x opening p w = (k : PlayContents) → HasContents x k opening → AreNew x opening → HasStreams x k p w
+abbrev pub HasStreamsFrom : LateCast → World → Play → World → Type 0
+HasStreamsFrom x opening p w = (k : PlayContents) → HasLateContents x k opening → AreNew x.cast opening → HasLateStreams x k p w
 
 -- what each component's file told when it came is the same
 abbrev pub ToldAlike : World → World → Type 0
@@ -64,10 +57,6 @@ ToldAlike opening w = (number : ℕ) (t : Stream) → stream_of number w ≡ Som
 -- each client object is in
 abbrev pub AreClientsIn : {C : Type 0} → Entries C → Type 0
 AreClientsIn g = (h : Handle) → client_named h g ≡ Some None → ⊥
-
--- no state that was begun is still to be sent to a component
-abbrev pub AreSent : Layout → Play → Type 0
-AreSent w p = (c : ℕ) → c < (w.network).components → p.stage c ≢ 0
 
 module _ {S K : Type 0} where
   -- The graph has a component for each of the plan's, and their client objects are in.
@@ -84,22 +73,24 @@ module _ {S K : Type 0} where
   pub record IsStanding (x : PlayingValue S K) (p : Play) : Type 0 where
     pub world : World
     pub stands : Stands (kept_of x.graph) world
-    pub play : IsPlayWorld (cast x.plan) p world
+    -- the link whose change was begun last
+    pub recent : ℕ
+    pub late : IsLateStanding (late_cast_of x.plan) recent p world x.conductor
     pub valid : IsValid x.plan
     pub works : HaveNoWork world
     pub clients : AreClientsIn x.graph.core
-    pub conducting : IsConducting (cast x.plan) p x.conductor
     pub files : PlayFiles
     pub opening : World
     pub begins : IsBeginning x.plan files opening
     pub recorded : IsRecorded x.plan.parts opening world x.log
-    pub streams : HasStreamsFrom (cast x.plan) opening p world
+    pub streams : HasStreamsFrom (late_cast_of x.plan) opening p world
     pub told : ToldAlike opening world
 
-  -- between two turns
+  -- between two turns: what the conductor answered is sent and carried out
   pub record IsPlaying (x : PlayingValue S K) (p : Play) : Type 0 where
     pub standing : IsStanding x p
     pub sent : AreSent (layout_of x.plan) p
+    pub carried : AreCarriedOut (cast x.plan) p (x.conductor).lates
 
   -- From each play that the one stands for the turn leads to one that the other stands for, and that began with the same files.
   abbrev pub TurnsTo : PlayingValue S K → PlayingValue S K → Bool → (Act → Type 0) → Type 0
@@ -124,13 +115,3 @@ module _ {S K : Type 0} where
   -- so much was told of the component at the place
   abbrev pub IsProgressAt : Shown S K Progress → ℕ → Progress → Type 0
   IsProgressAt graph place progress = Always (kept_of graph) (λ w. (c : Component) → slice_get w.components place ≡ Some c → progress ≡ progress_of c w)
-
--- ---- what a call answers
-
-abbrev pub is_did : {E : Type 0} → Result Acted E → Bool
-is_did (Ok Did) = true
-is_did (Ok (Idle why)) = false
-is_did (Err e) = false
-
-abbrev pub IsAct : Act → Act → Type 0
-IsAct a b = b ≡ a

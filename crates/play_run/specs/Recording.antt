@@ -1,5 +1,6 @@
 -- What the log of a play tells of its run so far.
 use Rattle.std.specs.Prelude.{◌≡◌, ℕ, false, List, [], ◌∷◌, ◌++◌, All, slice_get, Some}
+use Rattle.omx_types.specs.declared.format.Format.{Format}
 use Rattle.omx_types.specs.declared.handle.Handle.{Handle}
 use Rattle.il_machine.specs.World.{World}
 use Rattle.il_machine.specs.Acts.{Act, Reply}
@@ -16,7 +17,7 @@ use Rattle.play_log.specs.Logged.{Keeps}
 use Rattle.play_log.specs.Naming.{IsUnbroken}
 use Rattle.play_log.specs.Saying.{Says}
 use Rattle.play_log.specs.Scenes.{Scene, scene_of}
-use Rattle.log_texts.specs.Said.{SaysOf, line_by}
+use Rattle.log_texts.specs.Said.{SaysOf, SaysOfBoth, SaysPort, line_by}
 use Rattle.play_results.specs.Worlds.{IsOpening}
 
 -- a play of the plan with these files begins in the world, where nothing is due
@@ -64,4 +65,22 @@ pub record IsToldOf (parts : List PartLine) (place : ℕ) (old : LogValue) (act 
   pub said : ActText
   pub named : IsNameAt parts place name
   pub says : SaysOf name said act reply
+  pub told : IsTold old said new
+
+-- it was told this act of the components at two places
+pub record IsToldOfBoth (parts : List PartLine) (place other : ℕ) (old : LogValue) (act : Handle → Handle → Act) (reply : Reply) (new : LogValue) : Type 0 where
+  pub first : List ℕ
+  pub second : List ℕ
+  pub said : ActText
+  pub named : IsNameAt parts place first
+  pub beside : IsNameAt parts other second
+  pub says : SaysOfBoth first second said act reply
+  pub told : IsTold old said new
+
+-- it was told that the definition of the port of the component at the place was set
+pub record IsToldOfPort (parts : List PartLine) (place index : ℕ) (old : LogValue) (format : Format) (count size : ℕ) (new : LogValue) : Type 0 where
+  pub name : List ℕ
+  pub said : ActText
+  pub named : IsNameAt parts place name
+  pub says : SaysPort name index format count size said
   pub told : IsTold old said new

@@ -1,56 +1,40 @@
 -- How far a state that was begun is sent, and what the conductor sees.
-use Rattle.std.specs.Prelude.{◌≡◌, ◌<◌, ◌≤◌, ℕ, true, List, slice_get, Option, Some, None}
+use Rattle.std.specs.Prelude.{◌≡◌, ◌<◌, ◌≤◌, ℕ, true, List, slice_get, Option, Some}
 use Rattle.omx_types.specs.declared.state.State.{State}
 use Rattle.omx_types.specs.declared.state.State.TheVariants.{Loaded}
 use Rattle.il_machine.specs.declared.answer.Progress.{Progress}
-use Rattle.conductor.specs.declared.phase.Phase.{Phase}
-use Rattle.conductor.specs.declared.phase.Phase.TheVariants as phases
 use Rattle.conductor.specs.Phases.{is_at}
 use Rattle.il_graph.specs.Shown.{Shown}
 use Rattle.play_model.specs.Play.{Layout, Play}
-use Rattle.play_loop.specs.Turns.{HasRun}
+use Rattle.play_loop.specs.Turns.{HasRun, SomePlay}
 use Rattle.play_worlds.specs.Standing.{target}
-use Rattle.play_run.specs.Playing.{IsPlaying, IsProgressAt, IsStanding, PlayingValue, layout_of}
+use Rattle.late_conductors.specs.Conducting.{AreCarriedOut}
+use Rattle.play_run.specs.Playing.{IsPlaying, IsProgressAt, IsStanding, PlayingValue, cast, layout_of}
 
 -- from that place on it isn't sent yet, and to those before it is
 pub record IsSentTo (w : Layout) (p : Play) (place : ℕ) : Type 0 where
   pub later : (c : ℕ) → c < (w.network).components → place ≤ w.place c → p.stage c ≡ 0
   pub before : (c : ℕ) → c < (w.network).components → w.place c < place → p.stage c ≡ 0 → ⊥
 
--- the state was begun, and is still to be sent to all
-pub record IsUnsent (w : Layout) (p : Play) (state : State) : Type 0 where
-  pub state_is : state ≡ target p.phase
-  pub later : (c : ℕ) → c < (w.network).components → p.stage c ≡ 0
-
-pub record IsOnSend (w : Layout) (p q : Play) (place : ℕ) : Type 0 where
-  pub ran : HasRun w p q
-  pub phase : q.phase ≡ p.phase
-  pub sent : IsSentTo w q place
-
--- no component failed, and no link is to be changed
-abbrev pub IsCalm : Phase → Type 0
-IsCalm phases.Failed = ⊥
-IsCalm (phases.Change component step) = ⊥
-IsCalm other = Unit {0}
-
--- the state that is to be sent
-abbrev pub state_in : Phase → Option State
-state_in (phases.Send state) = Some state
-state_in other = None
-
 module _ {S K : Type 0} where
-  -- the graph stands for a play in which the state was begun and not sent
+  -- the graph stands for a play in which the state was begun, and is sent to those before the place
+  pub record IsSending (x : PlayingValue S K) (p : Play) (state : State) (place : ℕ) : Type 0 where
+    pub standing : IsStanding x p
+    pub state_is : state ≡ target p.phase
+    pub sent : IsSentTo (layout_of x.plan) p place
+    pub carried : AreCarriedOut (cast x.plan) p (x.conductor).lates
+
   abbrev pub CanSend : PlayingValue S K → State → Type 0
-  CanSend x state = (p : Play) × (IsStanding x p × IsUnsent (layout_of x.plan) p state)
+  CanSend x state = SomePlay (λ p. IsSending x p state 0)
 
   -- from each play in which the state was begun and not sent, to one that began with the same files
   abbrev pub SendsTo : PlayingValue S K → PlayingValue S K → State → ℕ → Type 0
-  SendsTo old new state place = (p : Play) (Y : IsStanding old p) → IsUnsent (layout_of old.plan) p state
-      → (q : Play) × (Z : IsStanding new q) × IsOnSend (layout_of old.plan) p q place × (Z.files ≡ Y.files)
+  SendsTo old new state place = (p : Play) (Y : IsSending old p state 0)
+      → (q : Play) × (Z : IsSending new q state place) × HasRun (layout_of old.plan) p q × (Z.standing.files ≡ Y.standing.files)
 
   abbrev pub SentOf : PlayingValue S K → PlayingValue S K → State → Type 0
-  SentOf old new state = (p : Play) (Y : IsStanding old p) → IsUnsent (layout_of old.plan) p state
-      → (q : Play) × (Z : IsPlaying new q) × HasRun (layout_of old.plan) p q × (Z.standing.files ≡ Y.files)
+  SentOf old new state = (p : Play) (Y : IsSending old p state 0)
+      → (q : Play) × (Z : IsPlaying new q) × HasRun (layout_of old.plan) p q × (Z.standing.files ≡ Y.standing.files)
 
   -- ---- what is seen
 

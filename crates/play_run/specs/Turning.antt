@@ -1,5 +1,5 @@
--- The acts that a call of a play tries, and what a note tells.
-use Rattle.std.specs.Prelude.{◌≡◌, ◌⊎◌, ℕ, Bool, List, Some, true, ◌<◌, length}
+-- What a note tells, and what a part that fails leaves.
+use Rattle.std.specs.Prelude.{◌≡◌, ℕ, Bool, List, Some, ◌<◌, length}
 use Rattle.note_queues.specs.declared.taken.Taken.{Taken}
 use Rattle.note_queues.specs.declared.taken.Taken.TheVariants.{Told}
 use Rattle.play_run.specs.declared.failure.Failure.{Failure}
@@ -8,32 +8,21 @@ use Rattle.il_machine.specs.Stepping.{WorkDone}
 use Rattle.il_machine.specs.Finishing.{Finish}
 use Rattle.il_machine.specs.Whole.{Stands}
 use Rattle.play_forms.specs.Plans.{IsValid}
-use Rattle.play_model.specs.Acts.{Act}
 use Rattle.play_model.specs.Play.{Play}
 use Rattle.flow_model.specs.Content.{ArePlain}
-use Rattle.play_worlds.specs.Cast.{Cast}
-use Rattle.play_worlds.specs.Worlds.{IsPlayWorld}
-use Rattle.play_openings.specs.Assemblies.{PlayFiles}
-use Rattle.play_streams.specs.Contents.{HasContents, PlayContents, network_of}
+use Rattle.late_worlds.specs.Late.{IsLateWorld, LateCast}
+use Rattle.play_openings.specs.Assemblies.{PlayFiles, late_cast_of}
+use Rattle.play_streams.specs.Contents.{PlayContents, network_of}
 use Rattle.play_streams.specs.Fronts.{AreFronts}
 use Rattle.play_streams.specs.Streams.{AreNew}
+use Rattle.late_streams.specs.Contents.{HasLateContents}
 use Rattle.play_graphs.specs.Graphs.{kept_of}
+use Rattle.play_stopping.specs.Stops.{AreJoined}
 use Rattle.omx_types.specs.declared.fault.PartFault.{PartFault}
 use Rattle.audio_parts.specs.Objects.{Held}
 use Rattle.il_graph.specs.Shown.{file_of}
 use Rattle.play_run.specs.Recording.{IsBeginning}
-use Rattle.play_run.specs.Playing.{AreClientsIn, HaveNoWork, IsPlaying, PlayingValue, ToldAlike, cast, unfailed}
-
--- the other end of the link hands back a header that it filled or emptied, or one that it didn't use
-abbrev pub IsBack : ℕ → Act → Type 0
-IsBack l a = (a ≡ Act.HandBack l) ⊎ (a ≡ Act.HandUnused l)
-
--- the component tells its state, or the end of its stream
-abbrev pub IsTelling : ℕ → Act → Type 0
-IsTelling c a = (a ≡ Act.Tell c) ⊎ (a ≡ Act.TellEnd c)
-
-abbrev pub IsStepOf : ℕ → Act → Type 0
-IsStepOf c a = (n : ℕ) × (last : Bool) × (a ≡ Act.Step c n last)
+use Rattle.play_run.specs.Playing.{AreClientsIn, HaveNoWork, IsPlaying, PlayingValue, ToldAlike, unfailed}
 
 -- the note is an event
 abbrev pub IsEvent : Taken → Type 0
@@ -43,9 +32,9 @@ IsEvent other = ⊥
 -- ---- a part fails
 
 -- From an opening where each sink's file is new, the files of the sinks have taken fronts of their whole texts.
-abbrev pub HasFrontsFrom : Cast → World → World → Type 0
-HasFrontsFrom x opening w = (k : PlayContents) → HasContents x k opening → AreNew x opening
-    → (stream : ℕ → List ℕ) → ArePlain (network_of x) k.model stream → AreFronts x k w stream
+abbrev pub HasFrontsFrom : LateCast → World → World → Type 0
+HasFrontsFrom x opening w = (k : PlayContents) → HasLateContents x k opening → AreNew x.cast opening
+    → (stream : ℕ → List ℕ) → ArePlain (network_of x.cast) k.model stream → AreFronts x.cast k w stream
 
 module _ {S K : Type 0} where
   -- The graph stands for what the step that failed left of a world of the play. No work and no client object is out.
@@ -57,7 +46,9 @@ module _ {S K : Type 0} where
     pub clients : AreClientsIn x.graph.core
     pub play : Play
     pub before : World
-    pub played : IsPlayWorld (cast x.plan) play before
+    pub recent : ℕ
+    pub played : IsLateWorld (late_cast_of x.plan) recent play before
+    pub tunnels : AreJoined (late_cast_of x.plan) play
     pub done : WorkDone
     pub there : failure.component < length x.plan.parts
     pub its : done.component ≡ failure.component
@@ -66,15 +57,15 @@ module _ {S K : Type 0} where
     pub files : PlayFiles
     pub opening : World
     pub begins : IsBeginning x.plan files opening
-    -- what the sinks' files have taken are fronts of what they were to take
     pub told : ToldAlike opening world
-    pub fronts : HasFrontsFrom (cast x.plan) opening world
+    -- what the sinks' files have taken are fronts of what they were to take
+    pub fronts : HasFrontsFrom (late_cast_of x.plan) opening world
 
   -- so it is, and the play began with the files
   abbrev pub HasFailedWith : PlayingValue S K → Failure → PlayFiles → Type 0
   HasFailedWith x failure given = (F : HasFailed x failure) × (F.files ≡ given)
 
-  -- each component's file object stays, of one that may have failed now
+  -- each component's file object stays, whichever failed
   abbrev pub FilesStayed : (Held S K → Held S K → Type 0) → PlayingValue S K → PlayingValue S K → Type 0
   FilesStayed Stays x y = (number : ℕ) → (failed : Bool) × Stays (unfailed (file_of number x.graph)) (record { failed = failed; file = file_of number y.graph })
 

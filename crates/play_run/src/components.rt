@@ -9,10 +9,11 @@ ghost use Rattle.audio_parts.specs.Objects.{ObjectShows, ObjectStays};
 ghost use Rattle.il_graph.specs.Shown.{KeepsAllFiles};
 ghost use Rattle.il_graph.specs.Claiming.{told_by as seen_by};
 ghost use Rattle.il_graph.specs.declared.claimed.Claimed.TheVariants as answers;
-ghost use Rattle.play_model.specs.Acts.{Act};
+ghost use Rattle.late_tellings.specs.Tellings.{IsTellingOf};
+ghost use Rattle.late_turns.specs.Turns.{IsRunOf, IsStepOf};
 ghost use Rattle.play_loop.specs.Turns.{SomePlay};
-ghost use Rattle.play_run.specs.Playing.{FilesStay, IsAct, IsPlaying, TurnsTo};
-ghost use Rattle.play_run.specs.Turning.{FailsOn, IsEvent, IsStepOf, IsTelling};
+ghost use Rattle.play_run.specs.Playing.{FilesStay, IsPlaying, TurnsTo, layout_of};
+ghost use Rattle.play_run.specs.Turning.{FailsOn, IsEvent};
 
 use crate::failure::Failure;
 use crate::lines::{name_at, tell};
@@ -20,6 +21,8 @@ use crate::links::did;
 use crate::playing::Playing;
 use conductor::PlayClient;
 use il_graph::{Call, Claimed, Client, Took, Work};
+use late_flows::{law_of_stepped_streams, law_of_written_streams};
+use late_streams::law_of_component_streams;
 use log_texts::{claimed, ended, finished, ran, took};
 use note_queues::Taken;
 use omx_types::Event;
@@ -69,8 +72,9 @@ impl<S: Source, K: Sink> Playing<S, K> {
         requires stands { SomePlay (IsPlaying self.old) }
         ensures plan { self.new.plan ≡ self.old.plan }
         ensures files { KeepsAllFiles self.old.graph self.new.graph }
-        ensures turned { TurnsTo self.old self.new result (IsTelling component) }
+        ensures turned { TurnsTo self.old self.new result (IsTellingOf (layout_of self.old.plan) component) }
     {
+        law_of_component_streams();
         let place = self.place(component);
         let h = self.handle(place);
         self.graph.law_of_worlds();
@@ -97,8 +101,9 @@ impl<S: Source, K: Sink> Playing<S, K> {
         requires stands { SomePlay (IsPlaying self.old) }
         ensures plan { self.new.plan ≡ self.old.plan }
         ensures files { KeepsAllFiles self.old.graph self.new.graph }
-        ensures turned { TurnsTo self.old self.new result (IsAct (Act.Run component)) }
+        ensures turned { TurnsTo self.old self.new result (IsRunOf (layout_of self.old.plan) component) }
     {
+        law_of_component_streams();
         let place = self.place(component);
         let h = self.handle(place);
         if !did(self.graph.run_command(h)) {
@@ -114,10 +119,13 @@ impl<S: Source, K: Sink> Playing<S, K> {
         requires stands { SomePlay (IsPlaying self.old) }
         ensures plan { self.new.plan ≡ self.old.plan }
         ensures objects { OnOk result (FilesStay (ObjectStays S.size S.told S.ends S.offset S.faults K.name K.faults) self.old self.new) }
-        ensures turned { IfOk result (λ acted. TurnsTo self.old self.new acted (IsStepOf component)) }
+        ensures turned { IfOk result (λ acted. TurnsTo self.old self.new acted (IsStepOf (layout_of self.old.plan) component)) }
         ensures failed { IfErr result (FailsOn (ObjectStays S.size S.told S.ends S.offset S.faults K.name K.faults)
             (ObjectShows S.size S.ends S.offset S.faults K.faults) self.old self.new) }
     {
+        law_of_component_streams();
+        law_of_stepped_streams();
+        law_of_written_streams();
         let place = self.place(component);
         let h = self.handle(place);
         self.graph.law_of_worlds();

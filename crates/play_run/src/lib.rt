@@ -2,6 +2,7 @@
 //! graph's calls make the acts of the play, and the loop of `play_loop` makes them until it is over.
 #![tactic(auto)]
 
+mod changing;
 mod components;
 mod failure;
 mod handles;

@@ -4,12 +4,13 @@ ghost use Rattle.std.specs.Prelude.{◌≡◌, ◌<◌, length};
 ghost use Rattle.il_graph.specs.Shown.{KeepsAllFiles};
 ghost use Rattle.play_model.specs.Acts.{Act};
 ghost use Rattle.play_loop.specs.Turns.{SomePlay};
-ghost use Rattle.play_run.specs.Playing.{IsAct, IsPlaying, TurnsTo, is_did};
-ghost use Rattle.play_run.specs.Turning.{IsBack};
+ghost use Rattle.late_turns.specs.Turns.{IsAct, IsBackOf, is_did};
+ghost use Rattle.play_run.specs.Playing.{IsPlaying, TurnsTo};
 
 use crate::lines::{port_at, tell};
 use crate::playing::Playing;
 use il_graph::Acted;
+use late_streams::law_of_link_streams;
 use log_texts::{handed_back, handed_over, released, supplied};
 use outside_io::{Sink, Source};
 
@@ -33,6 +34,7 @@ impl<S: Source, K: Sink> Playing<S, K> {
         ensures files { KeepsAllFiles self.old.graph self.new.graph }
         ensures turned { TurnsTo self.old self.new result (IsAct (Act.Supply link)) }
     {
+        law_of_link_streams();
         let joint = self.joint(link);
         let h = self.handle(joint.taker);
         if !did(self.graph.supply(h, joint.input)) {
@@ -51,6 +53,7 @@ impl<S: Source, K: Sink> Playing<S, K> {
         ensures files { KeepsAllFiles self.old.graph self.new.graph }
         ensures turned { TurnsTo self.old self.new result (IsAct (Act.Release link)) }
     {
+        law_of_link_streams();
         let joint = self.joint(link);
         let h = self.handle(joint.taker);
         if !did(self.graph.release(h, joint.input)) {
@@ -69,6 +72,7 @@ impl<S: Source, K: Sink> Playing<S, K> {
         ensures files { KeepsAllFiles self.old.graph self.new.graph }
         ensures turned { TurnsTo self.old self.new result (IsAct (Act.HandOver link)) }
     {
+        law_of_link_streams();
         let joint = self.joint(link);
         let h = self.handle(joint.taker);
         if !did(self.graph.hand_over(h, joint.input)) {
@@ -85,8 +89,9 @@ impl<S: Source, K: Sink> Playing<S, K> {
         requires stands { SomePlay (IsPlaying self.old) }
         ensures plan { self.new.plan ≡ self.old.plan }
         ensures files { KeepsAllFiles self.old.graph self.new.graph }
-        ensures turned { TurnsTo self.old self.new result (IsBack link) }
+        ensures turned { TurnsTo self.old self.new result (IsBackOf link) }
     {
+        law_of_link_streams();
         let joint = self.joint(link);
         let h = self.handle(joint.giver);
         if !did(self.graph.hand_back(h, joint.output)) {

@@ -5,6 +5,7 @@ use crate::words::law_of_words;
 use audio_parts::PartFile;
 use conductor::{Conductor, PlayClient};
 use il_graph::{Graph, OutOfMemory};
+use late_streams::law_of_begun_streams;
 use outside_io::{Sink, Source};
 use play_graphs::{end_graph, make_graph};
 use play_log::Log;
@@ -35,7 +36,7 @@ impl<S: Source, K: Sink> Playing<S, K> {
     ghost use Rattle.il_graph.specs.Shown.{offered, TellWritten};
     ghost use Rattle.play_loop.specs.Turns.{CanPlay, EndsOf};
     ghost use Rattle.audio_parts.specs.Objects.{ObjectShows, ObjectStays};
-    ghost use Rattle.play_openings.specs.Assemblies.{HasNoLate, IsReady, PlayFiles};
+    ghost use Rattle.play_openings.specs.Assemblies.{IsReady, PlayFiles};
     ghost use Rattle.play_graphs.specs.Ending.{AreFilesOf};
     ghost use Rattle.play_graphs.specs.Graphs.{kept_of};
     ghost use Rattle.play_graphs.specs.Making.{AreGone, AreOffered, CanMake};
@@ -50,7 +51,6 @@ impl<S: Source, K: Sink> Playing<S, K> {
         files: &mut [Option<PartFile<S, K>>],
     ) -> Result<Playing<S, K>, OutOfMemory>
         requires files { CanMake plan (offered S.offset S.size S.told K.told) files.old }
-        requires early { HasNoLate plan }
         ensures plan { IfOk result (λ playing. playing.plan ≡ plan) }
         ensures ready { IfOk result (λ playing. CanPlay (layout_of plan) (IsPlaying playing) 340282366920938463463374607431768211455) }
         ensures begun { IfOk result (λ playing. (given : PlayFiles) → IsReady plan given
@@ -60,6 +60,7 @@ impl<S: Source, K: Sink> Playing<S, K> {
         ensures gone { OnOk result (AreGone (length plan.parts) files.new) }
         ensures unmade { OnErr result (files.new ≡ files.old) }
     {
+        law_of_begun_streams();
         let conductor = Conductor::new(alloc, &plan)?;
         let graph = make_graph(alloc, &plan, files)?;
         graph.law_of_worlds();
@@ -75,15 +76,13 @@ impl<S: Source, K: Sink> Playing<S, K> {
     /// Plays to the end, or until a part fails.
     pub fn play(&mut self) -> Result<(), Failure>
         requires { CanPlay (layout_of self.old.plan) (IsPlaying self.old) 340282366920938463463374607431768211455 }
-        ensures layout { layout_of self.new.plan ≡ layout_of self.old.plan }
+        ensures plan { self.new.plan ≡ self.old.plan }
         ensures over { OnOk result (EndsOf (layout_of self.old.plan) (IsPlaying self.old) (IsPlaying self.new)) }
-        ensures plan { OnOk result (self.new.plan ≡ self.old.plan) }
         ensures objects { OnOk result (FilesStay (ObjectStays S.size S.told S.ends S.offset S.faults K.name K.faults) self.old self.new) }
         ensures played { OnOk result ((given : PlayFiles) → HasBegun self.old given → HasPlayedWith self.new given) }
         ensures failed { IfErr result (HasFailed self.new) }
         ensures objects_then { OnErr result (FilesStayed (ObjectStays S.size S.told S.ends S.offset S.faults K.name K.faults) self.old self.new) }
         ensures shows { IfErr result (FileShows (ObjectShows S.size S.ends S.offset S.faults K.faults) self.old self.new) }
-        ensures stopped { OnErr result (self.new.plan ≡ self.old.plan) }
         ensures failed_with { IfErr result (λ failure. (given : PlayFiles) → HasBegun self.old given → HasFailedWith self.new failure given) }
     {
         play_on(self)
@@ -109,19 +108,5 @@ impl<S: Source, K: Sink> Playing<S, K> {
         graph.law_of_worlds();
         end_graph(graph, &plan, files);
         log
-    }
-
-    /// Takes a play apart that didn't come to its end. Its graph stands as it was left, and is to be ended.
-    pub fn into_graph(self) -> (Graph<S, K, PlayClient>, Plan)
-        ensures graph { result.0 ≡ self.graph }
-        ensures plan { result.1 ≡ self.plan }
-    {
-        let Playing {
-            graph,
-            plan,
-            conductor: _conductor,
-            log: _log,
-        } = self;
-        (graph, plan)
     }
 }

@@ -1,4 +1,4 @@
-//! The conductor's turn: it hears what the components told, and a state that is due is sent to all.
+//! The conductor's turn: it hears what the components told, and a state that is due is sent to all, or a step of a link's change is made.
 
 ghost use Rattle.std.specs.Prelude.{◌≡◌, ◌≤◌, true, false, length, take};
 ghost use Rattle.omx_types.specs.declared.state.State.TheVariants.{Loaded};
@@ -9,12 +9,13 @@ ghost use Rattle.play_model.specs.Reached.{IsOver};
 ghost use Rattle.play_model.specs.Play.{Play};
 ghost use Rattle.play_loop.specs.Turns.{IsSend, SomePlay};
 ghost use Rattle.play_run.specs.Playing.{HasParts, IsPlaying, TurnsTo, layout_of};
-ghost use Rattle.play_run.specs.Sending.{AreViews, CanSend, IsCalm, SentOf, state_in};
+ghost use Rattle.play_run.specs.Sending.{AreViews, CanSend, SentOf};
 
 use crate::lines::{name_at, tell};
 use crate::playing::Playing;
 use conductor::{Conductor, Phase};
 use il_graph::{Command, Progress, State};
+use late_streams::{law_of_begun_streams, law_of_component_streams};
 use log_texts::sent;
 use outside_io::{Sink, Source};
 
@@ -32,23 +33,6 @@ fn hear(conductor: &mut Conductor, views: &[Option<Progress>; 32], count: usize)
     ensures { Conducts (heard conductor.old (take count views.now)) result conductor.new }
 {
     conductor.next(&views[..count])
-}
-
-/// The state that is to be sent.
-fn state_of(phase: Phase) -> Option<State>
-    requires { IsCalm phase }
-    ensures { result ≡ state_in phase }
-{
-    match phase {
-        Phase::Send(state) => Some(state),
-        Phase::Wait => None,
-        Phase::Over => None,
-        Phase::Failed => unreachable!(),
-        Phase::Change {
-            component: _,
-            step: _,
-        } => unreachable!(),
-    }
 }
 
 impl<S: Source, K: Sink> Playing<S, K> {
@@ -73,6 +57,7 @@ impl<S: Source, K: Sink> Playing<S, K> {
         ensures files { KeepsAllFiles self.old.graph self.new.graph }
         ensures sent { SentOf self.old self.new state }
     {
+        law_of_component_streams();
         for place in 0..self.count() {
             let h = self.handle(place);
             let _ = self.graph.send_command(h, Command::StateSet(state));
@@ -80,7 +65,7 @@ impl<S: Source, K: Sink> Playing<S, K> {
         }
     }
 
-    /// The state that is due, if one is, is sent to all.
+    /// The state that is due, if one is, is sent to all, and the step that is due is made.
     pub(crate) fn conduct(&mut self) -> bool
         requires { SomePlay (IsPlaying self.old) }
         ensures plan { self.new.plan ≡ self.old.plan }
@@ -89,14 +74,20 @@ impl<S: Source, K: Sink> Playing<S, K> {
     {
         let views = self.look();
         let count = self.count() as usize;
-        let phase = hear(&mut self.conductor, &views, count);
-        match state_of(phase) {
-            Some(state) => {
+        law_of_begun_streams();
+        match hear(&mut self.conductor, &views, count) {
+            Phase::Send(state) => {
                 self.send_all(state);
                 self.graph.law_of_worlds();
                 true
             }
-            None => false,
+            Phase::Change { component, step } => {
+                self.change(component, step);
+                true
+            }
+            Phase::Wait => false,
+            Phase::Over => false,
+            Phase::Failed => unreachable!(),
         }
     }
 

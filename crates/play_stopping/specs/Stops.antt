@@ -1,5 +1,5 @@
 -- How far the graph of a play is stopped: first its components are, then its links are cleared.
-use Rattle.std.specs.Prelude.{◌≡◌, ℕ, Bool, true, false, All, length, None, Result, Ok, Err}
+use Rattle.std.specs.Prelude.{◌≡◌, ℕ, ◌<◌, Bool, true, false, All, length, None, Result, Ok, Err}
 use Rattle.il_machine.specs.declared.answer.Acted.{Acted}
 use Rattle.il_machine.specs.declared.answer.Acted.TheVariants.{Did, Idle}
 use Rattle.il_machine.specs.declared.answer.Progress.{Progress}
@@ -9,6 +9,10 @@ use Rattle.note_queues.specs.declared.taken.Taken.{Taken}
 use Rattle.note_queues.specs.declared.taken.Taken.TheVariants.{Told}
 use Rattle.halting.specs.Halting.{AreStoppedTo, IsBrought, IsCleared, IsLinked}
 use Rattle.play_forms.specs.Plans.{PlanValue}
+use Rattle.play_model.specs.Play.{Play}
+use Rattle.play_worlds.specs.Cast.{links_of}
+use Rattle.late_worlds.specs.Changing.{is_joined_at}
+use Rattle.late_worlds.specs.Late.{LateCast}
 use Rattle.play_graphs.specs.Ending.{ends_of}
 
 -- The world has the plan's components, joined as its links say; no work and no client object is out. So many are stopped, and the others
@@ -27,6 +31,10 @@ pub record HasCleared (plan : PlanValue) (links : ℕ) (w : World) : Type 0 wher
 pub record HasBrought (plan : PlanValue) (link : ℕ) (w : World) : Type 0 where
   pub many : length w.components ≡ length plan.parts
   pub brought : IsBrought (ends_of plan) (length plan.joints) link w
+
+-- each late source's link has its tunnel
+abbrev pub AreJoined : LateCast → Play → Type 0
+AreJoined x p = (l : ℕ) → l < links_of x.cast → ((x.cast).layout).is_late l ≡ true → is_joined_at (p.change l).step ≡ true
 
 -- no work and no client object is out
 pub record HasNoneOut (w : World) : Type 0 where

@@ -9,10 +9,10 @@ ghost use Rattle.play_graphs.specs.Graphs.{kept_of};
 ghost use Rattle.play_graphs.specs.Ending.{StandsFor, ends_of};
 ghost use Rattle.play_stopping.specs.Stops.{HasBrought, HasCleared, IsActed, has_acted};
 
-use crate::handles::{handle, joint, link_count};
 use conductor::PlayClient;
 use il_graph::{Acted, Graph, OmxError};
 use outside_io::{Sink, Source};
+use play_graphs::{handle, joint, link_count};
 use stream_plan::Plan;
 
 /// Whether the act was done. It isn't refused.

@@ -8,11 +8,11 @@ ghost use Rattle.play_graphs.specs.Graphs.{kept_of};
 ghost use Rattle.play_graphs.specs.Ending.{StandsFor};
 ghost use Rattle.play_stopping.specs.Stops.{HasStopped};
 
-use crate::handles::{count, handle};
 use crate::noting::take_notes;
 use conductor::PlayClient;
 use il_graph::{Command, Graph, State};
 use outside_io::{Sink, Source};
+use play_graphs::{count, handle};
 use stream_plan::Plan;
 
 /// Makes the component at the place Invalid, which has no note.

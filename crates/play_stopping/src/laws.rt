@@ -1,6 +1,6 @@
 //! When the graph of a play can be stopped.
 
-ghost use Rattle.std.specs.Prelude.{◌≤◌, false, length};
+ghost use Rattle.std.specs.Prelude.{ℕ, ◌≤◌, length};
 ghost use Rattle.il_machine.specs.Finishing.{Finish};
 ghost use Rattle.il_machine.specs.Sound.{Sound};
 ghost use Rattle.il_machine.specs.Stepping.{WorkDone};
@@ -8,17 +8,19 @@ ghost use Rattle.il_machine.specs.World.{World};
 ghost use Rattle.dismantling.specs.Dismantling.{AreLinks};
 ghost use Rattle.play_forms.specs.Plans.{IsValid, PlanValue};
 ghost use Rattle.play_model.specs.Play.{Play};
-ghost use Rattle.play_worlds.specs.Worlds.{IsPlayWorld};
-ghost use Rattle.play_plans.specs.Casting.{cast_of};
+ghost use Rattle.late_worlds.specs.Late.{IsLateWorld};
+ghost use Rattle.play_openings.specs.Assemblies.{late_cast_of};
 ghost use Rattle.play_graphs.specs.Ending.{ends_of};
-ghost use Rattle.play_stopping.specs.Stops.{HasNoneOut, HasStopped};
+ghost use Rattle.play_stopping.specs.Stops.{AreJoined, HasNoneOut, HasStopped};
 
-/// Each world of a play can be stopped, in which no work and no client object is out; and so can what a work that came back left of
-/// one, whatever came of its step.
+/// Each world of a play can be stopped in which each late source's link has its tunnel, and no work and no client object is out; and so
+/// can what a work that came back left of one, whatever came of its step.
 pub fn law_of_stops()
-    ensures few { (plan : PlanValue) (p : Play) (w : World) → IsValid plan → IsPlayWorld (cast_of (λ l. false) plan) p w → length plan.joints ≤ 1024 }
-    ensures links { (plan : PlanValue) (p : Play) (w : World) → IsValid plan → IsPlayWorld (cast_of (λ l. false) plan) p w → AreLinks (ends_of plan) (length plan.joints) }
-    ensures played { (plan : PlanValue) (p : Play) (w : World) → IsValid plan → IsPlayWorld (cast_of (λ l. false) plan) p w → HasNoneOut w → HasStopped plan 0 w }
-    ensures finished { (plan : PlanValue) (p : Play) (w v : World) (done : WorkDone) → IsValid plan → IsPlayWorld (cast_of (λ l. false) plan) p w
-        → Finish w done v → Sound v → HasNoneOut v → HasStopped plan 0 v }
+    ensures few { (plan : PlanValue) (recent : ℕ) (p : Play) (w : World) → IsValid plan → IsLateWorld (late_cast_of plan) recent p w → length plan.joints ≤ 1024 }
+    ensures links { (plan : PlanValue) (recent : ℕ) (p : Play) (w : World) → IsValid plan → IsLateWorld (late_cast_of plan) recent p w
+        → AreLinks (ends_of plan) (length plan.joints) }
+    ensures played { (plan : PlanValue) (recent : ℕ) (p : Play) (w : World) → IsValid plan → IsLateWorld (late_cast_of plan) recent p w → AreJoined (late_cast_of plan) p
+        → HasNoneOut w → HasStopped plan 0 w }
+    ensures finished { (plan : PlanValue) (recent : ℕ) (p : Play) (w v : World) (done : WorkDone) → IsValid plan → IsLateWorld (late_cast_of plan) recent p w
+        → AreJoined (late_cast_of plan) p → Finish w done v → Sound v → HasNoneOut v → HasStopped plan 0 v }
 {}

@@ -6,7 +6,6 @@
 mod clearing;
 mod components;
 mod ending;
-mod handles;
 mod laws;
 mod noting;
 

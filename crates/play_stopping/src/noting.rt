@@ -8,11 +8,11 @@ ghost use Rattle.play_graphs.specs.Graphs.{kept_of};
 ghost use Rattle.play_graphs.specs.Ending.{StandsFor};
 ghost use Rattle.play_stopping.specs.Stops.{IsEvent, told_by};
 
-use crate::handles::handle;
 use conductor::PlayClient;
 use il_graph::{Call, Client, Graph, Took};
 use note_queues::Taken;
 use outside_io::{Sink, Source};
+use play_graphs::handle;
 
 /// The client object, told the event of its note.
 fn told_of(call: Call<PlayClient>) -> PlayClient

@@ -1,33 +1,22 @@
--- What the close-out keeps: what went through the files and what components are set to; and, where no transition but that to Executing
--- is pending and no port is on its way, the bytes in the links.
-use Rattle.std.proofs.Common.{◌≡◌, inl, inr, ℕ, zero, suc, Bool, true, false, ◌||◌, not, List, [], ◌∷◌, set, slice_get, Option, Some, None, option_and_then, option_map, refl, sym, ◌∙◌, ap, subst, if◌then◌else◌, arith}
-use Rattle.std.proofs.lemmas.Option.{slice_get_within}
+-- What the close-out keeps: what went through the files, and what components are set to.
+use Rattle.std.proofs.Common.{◌≡◌, ℕ, zero, suc, Bool, true, false, ◌||◌, not, List, [], ◌∷◌, set, slice_get, Option, Some, None, option_and_then, option_map, refl, sym, ◌∙◌, ap, subst, if◌then◌else◌}
 use Rattle.omx_types.specs.declared.command.Event.{Event}
 use Rattle.omx_types.specs.declared.state.State.{State}
 use Rattle.omx_types.specs.declared.state.State.TheVariants as states
 use Rattle.il_machine.specs.declared.answer.Pending.{Pending}
-use Rattle.il_machine.specs.declared.port.Mode.TheVariants as modes
 use Rattle.il_machine.specs.declared.port.Port.{Port}
 use Rattle.il_machine.specs.declared.port.PortKey.{PortKey}
-use Rattle.il_machine.specs.declared.port.PortState.{PortState}
-use Rattle.il_machine.specs.Due.{Thing, Transition, Flush, PortMode, WaitingMark, Happens, HappenTimes, ClosesTo, all_told, arrived, arrived_at, at_port, completed, completed_for, flush_happened, happened, is_transition_due, lost_by, mark_happened, mode_completion, mode_happened, reached, reset_on, restarted, transition_happened, waits_after, with_part}
-use Rattle.il_machine.specs.Headers.{Seen, seen}
+use Rattle.il_machine.specs.Due.{Thing, Transition, Flush, PortMode, WaitingMark, Happens, HappenTimes, ClosesTo, all_told, arrived, arrived_at, at_port, completed, completed_for, flush_happened, happened, lost_by, mark_happened, mode_completion, mode_happened, reached, restarted, transition_happened, with_part}
 use Rattle.il_machine.specs.Lists.{holds_at}
 use Rattle.il_machine.specs.Room.{is_by_client}
 use Rattle.il_machine.specs.States.{is_down}
-use Rattle.il_machine.specs.World.{Component, Work, World, port_of, number_of, with_component}
-use Rattle.machine_laws.proofs.Every.{at_set}
+use Rattle.il_machine.specs.World.{Component, Work, World, port_of}
 use Rattle.machine_laws.proofs.Finding.{either}
-use Rattle.machine_laws.proofs.Happening.{IsDueAt, due_where}
-use Rattle.machine_laws.proofs.Lookups.{port_parts}
-use Rattle.play_model.specs.Play.{Play}
 use Rattle.play_links.specs.View.{worked_at}
 use Rattle.play_worlds.specs.Cast.{Cast, input_at, output_at}
 use Rattle.play_worlds.specs.Standing.{pending_at, pending_to}
 use Rattle.play_worlds.specs.Wiring.{work_in}
-use Rattle.play_worlds.specs.Worlds.{IsPlayWorld}
 use Rattle.play_worlds.proofs.Lists.{got_set}
-use Rattle.play_worlds.proofs.Rooms.{linked, port_of_state}
 use Rattle.play_streams.specs.Flowing.{bytes_on}
 use Rattle.play_streams.proofs.Keeping.{Keeps, KeepsFlow, part_in, seat}
 
@@ -113,85 +102,15 @@ times_keep (suc n) w v h = keeps_twice w h.0 v (times_keep n w h.0 h.1) (happens
 pub closes_keep : (w v : World) → ClosesTo w v → Keeps w v
 closes_keep w v C = times_keep C.steps w v C.by_steps
 
--- ---- while components go to Executing
+-- ---- what is pending
 
-pub record IsQuietAt (a : Component) : Type 0 where
-  pub ports : (k : ℕ) (s : PortState) → slice_get a.ports k ≡ Some s → (s.flushing ≡ false) × (s.mode ≡ modes.Steady) × (s.waiting_mark ≡ None)
-  pub pending : (p : Pending) → a.pending ≡ Some p → p.target ≡ states.Executing
+-- in phase 2 it leads to Executing
+pub pending_executing : (stage : ℕ) (p : Pending) → pending_at 2 stage ≡ Some p → p.target ≡ states.Executing
+pending_executing zero p e = absurd cc
+pending_executing (suc zero) p e = absurd cc
+pending_executing (suc (suc zero)) p e = let s : pending_to states.Executing ≡ p = cc in ap (λ (q : Pending). q.target) (sym s)
+pending_executing (suc (suc (suc n))) p e = absurd cc
 
-abbrev pub IsQuiet : World → Type 0
-IsQuiet w = (i : ℕ) (a : Component) → slice_get w.components i ≡ Some a → IsQuietAt a
-
--- one component is as quiet as before
-pub one_quiet : (w v : World) (i : ℕ) (d : Component) → v.components ≡ set w.components i d → IsQuietAt d → IsQuiet w → IsQuiet v
-one_quiet w v i d c D Q j b f = elim (at_set w.components i j d b (subst (λ (cs : List Component). slice_get cs j ≡ Some b) c f)) [
-  | inl z ↦ subst IsQuietAt (sym z.1) D
-  | inr z ↦ Q j b z.1
-]
-
-pending_quiet : (stage : ℕ) (p : Pending) → pending_at 2 stage ≡ Some p → p.target ≡ states.Executing
-pending_quiet zero p e = absurd cc
-pending_quiet (suc zero) p e = absurd cc
-pending_quiet (suc (suc zero)) p e = let s : pending_to states.Executing ≡ p = cc in ap (λ (q : Pending). q.target) (sym s)
-pending_quiet (suc (suc (suc n))) p e = absurd cc
-
-pub quiet_world : (x : Cast) (p : Play) (w : World) → IsPlayWorld x p w → p.phase ≡ 2 → IsQuiet w
-quiet_world x p w W two i a e =
-    let m = W.many in
-    let s = slice_get_within w.components i a e in
-    let k = (W.cast).each i (omega arith) in
-    let A = W.actors k.0 a k.1 (subst (λ (j : ℕ). slice_get w.components j ≡ Some a) (sym k.2) e) in
-    let number : number_of a ≡ i = A.number ∙ k.2 in
-    record {
-      ports = λ j t f.
-          let q = port_of_state w i j a t W.sound e f in
-          let L = linked x p w i j a q.0 W e number q.1 in
-          let state = sym q.2 ∙ (L.end).state in
-          (ap (λ (z : PortState). z.flushing) state, ap (λ (z : PortState). z.mode) state, ap (λ (z : PortState). z.waiting_mark) state);
-      pending = λ o f.
-          let is : a.pending ≡ pending_at 2 (p.stage k.0) = ap (λ (z : Component). z.pending) A.stands ∙ ap (λ (j : ℕ). pending_at j (p.stage k.0)) two in
-          pending_quiet (p.stage k.0) o (sym is ∙ f);
-    }
-
-due_not : (headers : Seen) (a : Component) (q : Port) (t : Thing) → (q.state.flushing ≡ false) × (q.state.mode ≡ modes.Steady) × (q.state.waiting_mark ≡ None) → IsDueAt headers a q t → ⊥
-due_not headers a q Transition s h = h
-due_not headers a q (Flush n) s h = let f : false ≡ true = rw s.0 at h.1 in cc
-due_not headers a q (PortMode n) s h = let f : false ≡ true = rw s.1 at h.1 in cc
-due_not headers a q (WaitingMark n) s h = let f : false ≡ true = rw s.2 at h.1 in cc
-
-is_pending : (o : Option Pending) (test : Pending → Bool) → holds_at o test ≡ true → (p : Pending) × (o ≡ Some p)
+pub is_pending : (o : Option Pending) (test : Pending → Bool) → holds_at o test ≡ true → (p : Pending) × (o ≡ Some p)
 is_pending None test h = absurd cc
 is_pending (Some p) test h = (p, refl)
-
-happens_quiet : (x : Cast) (w v : World) → IsQuiet w → Happens w v → IsQuiet v × KeepsFlow x w v
-happens_quiet x w v Q H =
-    let i : ℕ = H.place in
-    let a : Component = H.component in
-    let A = Q i a H.there in
-    let t : (H.thing ≡ Transition) × (is_transition_due (seen w.headers) a ≡ true) = elim (due_where (seen w.headers) a H.thing H.due) [
-      | inl d ↦ d
-      | inr d ↦ absurd (due_not (seen w.headers) a d.port H.thing (A.ports d.place d.port.state (port_parts a d.place d.port d.there).state) d.due)
-    ] in
-    let o = is_pending a.pending _ t.1 in
-    let p : Pending = o.0 in
-    let to = A.pending p o.1 in
-    let d : Component = completed states.Executing (reached p a) in
-    let u : World = record (with_component i d w) { headers = w.headers; waits = w.waits } in
-    let is : v ≡ u =
-    H.after
-    ∙ (ap (λ (z : Thing). happened i a z w) t.0
-    ∙ (ap (λ (z : Option Pending). transition_happened i a z w) o.1
-    ∙ ap (λ (z : State). record (with_component i (arrived_at w.waits z p a) w) { headers = reset_on a z w.headers; waits = waits_after z w.waits }) to)) in (
-      subst IsQuiet (sym is) (one_quiet w u i d refl (record { ports = A.ports; pending = λ q e. absurd cc }) Q),
-      subst (λ (z : World). KeepsFlow x w z) (sym is) (one_flow w u i a d H.there refl x refl refl refl),
-    )
-
-times_quiet : (x : Cast) (n : ℕ) (w v : World) → IsQuiet w → HappenTimes n w v → IsQuiet v × KeepsFlow x w v
-times_quiet x zero w v Q h = subst (λ (u : World). IsQuiet u × KeepsFlow x w u) (sym h) (Q, flow_none x w)
-times_quiet x (suc n) w v Q h =
-    let a = times_quiet x n w h.0 Q h.1 in
-    let b = happens_quiet x h.0 v a.0 h.2 in
-    (b.0, flow_twice x w h.0 v a.1 b.1)
-
-pub closes_quiet : (x : Cast) (w v : World) → IsQuiet w → ClosesTo w v → KeepsFlow x w v
-closes_quiet x w v Q C = (times_quiet x C.steps w v Q C.by_steps).1

@@ -2,17 +2,10 @@ pub mod Listing
 pub mod Links
 pub mod Keeping
 pub mod Closing
-pub mod Handing
-pub mod Claiming
-pub mod Acts
 pub mod Bounded
-pub mod Beginning
 pub mod Putting
-pub mod Landing
 pub mod Coming
-pub mod Made
 pub mod Sinking
 pub mod Stepping
 pub mod Ends
-pub mod Failing
 pub mod Still

@@ -34,10 +34,6 @@ abbrev pub AreWholeFrames : ℕ → List HeaderRecord → List ℕ → Type 0
 AreWholeFrames unit hs [] = Unit {0}
 AreWholeFrames unit hs (x ∷ xs) = (length (content_of (load_at x hs)) / unit * unit ≡ length (content_of (load_at x hs))) × AreWholeFrames unit hs xs
 
-pub whole_append : (unit : ℕ) (hs : List HeaderRecord) (xs ys : List ℕ) → AreWholeFrames unit hs xs → AreWholeFrames unit hs ys → AreWholeFrames unit hs (xs ++ ys)
-whole_append unit hs [] ys a b = b
-whole_append unit hs (x ∷ xs) ys a b = (a.0, whole_append unit hs xs ys a.1 b)
-
 frames_of : (unit : ℕ) (o : Option Load) → length (content_of o) / unit * unit ≡ length (content_of o) → (filled_of unit o).frames * unit ≡ length (content_of o)
 frames_of unit None h = omega arith
 frames_of unit (Some load) h = h

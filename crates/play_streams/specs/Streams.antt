@@ -1,18 +1,15 @@
 -- The streams of a play's world: what each input has taken, what is on its way to it, and what the files of the sinks have taken.
-use Rattle.std.specs.Prelude.{◌≡◌, ℕ, ◌<◌, ◌≤◌, ◌⊎◌, Bool, true, false, List, [], slice_get, Option, Some}
+use Rattle.std.specs.Prelude.{◌≡◌, ℕ, ◌<◌, ◌⊎◌, Bool, true, false, List, [], slice_get, Option, Some}
 use Rattle.omx_types.specs.declared.format.Format.{Format}
 use Rattle.part_api.specs.Terms.{Terms}
 use Rattle.part_api.specs.declared.attached.Attached.{Attached}
 use Rattle.part_api.specs.declared.attached.Attached.TheVariants.{To}
-use Rattle.il_machine.specs.Parts.{terms_of}
 use Rattle.il_machine.specs.Stepping.{format_at}
 use Rattle.il_machine.specs.World.{Component, Stream, World, number_of, stream_of}
-use Rattle.flow_model.specs.Content.{AreStreams, ArePlain}
-use Rattle.play_model.specs.Play.{Play}
-use Rattle.play_worlds.specs.Cast.{Cast, components_of, links_of, script_place, taker_of}
+use Rattle.flow_model.specs.Content.{ArePlain}
+use Rattle.play_worlds.specs.Cast.{Cast, links_of, script_place, taker_of}
 use Rattle.part_streams.specs.Sunk.{sunk}
-use Rattle.play_streams.specs.Flowing.{flowing_in}
-use Rattle.play_streams.specs.Contents.{HasContents, PlayContents, network_of}
+use Rattle.play_streams.specs.Contents.{PlayContents, network_of}
 
 -- what a sink's file has taken of so many frames; another component's takes nothing
 abbrev pub sunk_by : Option Attached → Format → ℕ → List ℕ → List ℕ
@@ -38,15 +35,3 @@ AreNew x w = EachSink x w (λ l a s. (s.known ≡ Some []) × (s.written ≡ [])
 -- each input has taken the whole stream of its link, which the plain functions give
 abbrev pub HasAll : Cast → PlayContents → (ℕ → List ℕ) → Type 0
 HasAll x k taken = (stream : ℕ → List ℕ) → ArePlain (network_of x) k.model stream → (l : ℕ) → l < links_of x → taken l ≡ stream l
-
-pub record HasStreams (x : Cast) (k : PlayContents) (p : Play) (w : World) : Type 0 where
-  pub contents : HasContents x k w
-  -- what the input of each link has taken
-  pub taken : ℕ → List ℕ
-  -- until the second Idle is begun the streams are the model's; from then on nothing flows
-  pub flowing : p.phase ≤ 2 → AreStreams (network_of x) k.model p.flow (record { taken = taken; flowing = flowing_in x w })
-  pub whole : 3 ≤ p.phase → HasAll x k taken
-  pub done : 3 ≤ p.phase → (c : ℕ) → c < components_of x → (p.flow).done c ≡ ((x.layout).network).frames c
-  -- each sink's file was empty when it came
-  pub new : EachSink x w (λ l a s. s.known ≡ Some [])
-  pub sinks : EachSink x w (λ l a s. HasSunk (terms_of a) s ((p.flow).ended (taker_of x l)) (taken l))

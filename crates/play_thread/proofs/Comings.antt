@@ -8,7 +8,6 @@ use Rattle.omx_types.specs.declared.fault.PartFault.TheVariants as parts
 use Rattle.audio_parts.specs.Objects.{ObjectShows, ObjectStays}
 use Rattle.audio_parts.specs.declared.part_file.PartFile.{PartFile}
 use Rattle.audio_parts.specs.declared.part_file.PartFile.TheVariants as files
-use Rattle.audio_parts.proofs.Reasons.{rose_counts}
 use Rattle.il_machine.specs.World.{Component, Stream, World, component_numbered, stream_of}
 use Rattle.il_graph.specs.Shown.{TellWritten, file_of, offered}
 use Rattle.assembling.proofs.Places.{get_there}
@@ -92,7 +91,7 @@ module _ {S K : Type 0} (offset size : S → ℕ) (told : S → Option (List ℕ
     cause_of n fault None g failed e h s = absurd s.1
     cause_of n fault (Some f) None failed e h s = absurd s.1
     cause_of n parts.Read (Some (files.From src format frames)) (Some (files.From src' format' frames')) failed e h s =
-        (n, source_seen offset size told ends faults src', (format', frames', h), rose_counts (faults src) (faults src') s.1)
+        (n, source_seen offset size told ends faults src, source_seen offset size told ends faults src', (format, frames, e), (format', frames', h), s.1)
     cause_of n parts.Write (Some (files.From src format frames)) (Some (files.From src' format' frames')) failed e h s = absurd s.1
     cause_of n (parts.Short at whole) (Some (files.From src format frames)) (Some (files.From src' format' frames')) failed e h s =
         (source_seen offset size told ends faults src, (format, frames, e), s.1)
@@ -100,7 +99,7 @@ module _ {S K : Type 0} (offset size : S → ℕ) (told : S → Option (List ℕ
     cause_of n fault (Some (files.To snk count)) (Some (files.From src format frames)) failed e h s = absurd s.1
     cause_of n parts.Read (Some (files.To snk frames)) (Some (files.To snk' frames')) failed e h s = absurd s.1
     cause_of n parts.Write (Some (files.To snk frames)) (Some (files.To snk' frames')) failed e h s =
-        (n, sink_seen kept name sink_faults snk', (frames', h), rose_counts (sink_faults snk) (sink_faults snk') s.1)
+        (n, sink_seen kept name sink_faults snk, sink_seen kept name sink_faults snk', (frames, e), (frames', h), s.1)
     cause_of n (parts.Short at whole) (Some (files.To snk frames)) (Some (files.To snk' frames')) failed e h s = absurd s.1
 
     -- why it failed

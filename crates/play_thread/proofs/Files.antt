@@ -56,15 +56,15 @@ module _ {S K : Type 0} (offset size : S → ℕ) (told : S → Option (List ℕ
   same_file None None failed h = tt
   same_file None (Some b) failed h = absurd h.1
   same_file (Some a) None failed h = absurd h.1
-  same_file (Some (files.From src format frames)) (Some (files.From src' format' frames')) failed h = tt
+  same_file (Some (files.From src format frames)) (Some (files.From src' format' frames')) failed h = let s = h.1.2 in record { size = s.size; told = s.told; ends = s.ends; faults = s.faults }
   same_file (Some (files.From src format frames)) (Some (files.To snk frames')) failed h = absurd h.1
   same_file (Some (files.To snk frames)) (Some (files.From src format frames')) failed h = absurd h.1
-  same_file (Some (files.To snk frames)) (Some (files.To snk' frames')) failed h = (h.1.1).name
+  same_file (Some (files.To snk frames)) (Some (files.To snk' frames')) failed h = let s = h.1.1 in record { name = s.name; faults = s.faults }
 
   itself : (a : Option FileSeen) → IsSameFile a a
   itself None = tt
-  itself (Some (Reads source format frames)) = tt
-  itself (Some (Writes sink frames)) = refl
+  itself (Some (Reads source format frames)) = record { size = refl; told = refl; ends = refl; faults = omega arith }
+  itself (Some (Writes sink frames)) = record { name = refl; faults = omega arith }
 
   pub files_same : (entries : List (Option (PartFile S K))) → AreSameFiles (seen_all entries) (seen_all entries)
   files_same entries = record { many = refl; each = λ place a b e f. let s : Some a ≡ Some b = sym e ∙ f in let q : a ≡ b = cc in subst (IsSameFile a) q (itself a) }

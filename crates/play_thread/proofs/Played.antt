@@ -11,7 +11,7 @@ use Rattle.il_machine.specs.World.{World}
 use Rattle.il_graph.specs.Shown.{TellWritten, offered}
 use Rattle.assembling.proofs.Places.{get_there}
 use Rattle.play_forms.specs.Plans.{PlanValue}
-use Rattle.play_openings.specs.Assemblies.{HasNoLate, IsReady, PlayFiles}
+use Rattle.play_openings.specs.Assemblies.{IsReady, PlayFiles}
 use Rattle.play_log.specs.Entries.{Entry}
 use Rattle.play_log.specs.Kept.{LogValue}
 use Rattle.play_log.specs.Logged.{IsLogged, Keeps}
@@ -98,10 +98,7 @@ module _ {S K : Type 0} (offset size : S → ℕ) (told : S → Option (List ℕ
         → IsRunCause (seen offset size told ends faults kept name sink_faults entries) (seen offset size told ends faults kept name sink_faults now) (fault_of failure)
     fault_cause failure b shows = is_cause offset size told ends faults kept name sink_faults first x entries now many_first many_last were_there are failure b shows
 
-    module _ (early : HasNoLate plan) (written : Always (kept_of x.graph) (TellWritten kept x.graph)) (given : PlayFiles) (R : IsReady plan given) (O : AreFilesOf plan given (seen offset size told ends faults kept name sink_faults entries)) where
-      none_late : HasNoLate x.plan
-      none_late = subst HasNoLate (sym is_plan) early
-
+    module _ (written : Always (kept_of x.graph) (TellWritten kept x.graph)) (given : PlayFiles) (R : IsReady plan given) (O : AreFilesOf plan given (seen offset size told ends faults kept name sink_faults entries)) where
       offers : AreOffered plan given (offered offset size told kept) entries
       offers = are_offered offset size told ends faults kept name sink_faults plan given entries O
 
@@ -110,7 +107,7 @@ module _ {S K : Type 0} (offset size : S → ℕ) (told : S → Option (List ℕ
       run_whole (p, Y, over, with) names log keeps text logged =
           let f = Y.standing.files in
           moved (λ y z. IsWhole y z (seen offset size told ends faults kept name sink_faults entries) (seen offset size told ends faults kept name sink_faults now) text) x.plan plan f given is_plan with
-          (is_whole offset size told ends faults kept name sink_faults first x entries now many_first many_last were_there are stayed none_late written p Y over
+          (is_whole offset size told ends faults kept name sink_faults first x entries now many_first many_last were_there are stayed written p Y over
           (moved IsReady plan x.plan given f (sym is_plan) (sym with) R)
           (moved (λ y z. AreOffered y z (offered offset size told kept) entries) plan x.plan given f (sym is_plan) (sym with) offers)
           text (names x.plan f log text Y.standing.world (keeps p Y over) logged))
@@ -119,7 +116,7 @@ module _ {S K : Type 0} (offset size : S → ℕ) (told : S → Option (List ℕ
       run_front (p, Y, over, with) =
           let f = Y.standing.files in
           moved (λ y z. IsFailed y z (seen offset size told ends faults kept name sink_faults entries) (seen offset size told ends faults kept name sink_faults now)) x.plan plan f given is_plan with
-          (is_front offset size told ends faults kept name sink_faults first x entries now many_first many_last were_there are stayed none_late written p Y over
+          (is_front offset size told ends faults kept name sink_faults first x entries now many_first many_last were_there are stayed written p Y over
           (moved IsReady plan x.plan given f (sym is_plan) (sym with) R)
           (moved (λ y z. AreOffered y z (offered offset size told kept) entries) plan x.plan given f (sym is_plan) (sym with) offers))
 
@@ -128,6 +125,6 @@ module _ {S K : Type 0} (offset size : S → ℕ) (told : S → Option (List ℕ
       run_failed failure (F, with) sound =
           let f = F.files in
           moved (λ y z. IsFailed y z (seen offset size told ends faults kept name sink_faults entries) (seen offset size told ends faults kept name sink_faults now)) x.plan plan f given is_plan with
-          (is_failed offset size told ends faults kept name sink_faults first x entries now many_first many_last were_there are stayed none_late written failure F sound
+          (is_failed offset size told ends faults kept name sink_faults first x entries now many_first many_last were_there are stayed written failure F sound
           (moved IsReady plan x.plan given f (sym is_plan) (sym with) R)
           (moved (λ y z. AreOffered y z (offered offset size told kept) entries) plan x.plan given f (sym is_plan) (sym with) offers))

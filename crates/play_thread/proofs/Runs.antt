@@ -16,10 +16,11 @@ use Rattle.play_forms.specs.Plain.{sink_text}
 use Rattle.play_model.specs.Play.{Play}
 use Rattle.play_model.specs.Reached.{IsOver}
 use Rattle.play_worlds.specs.Cast.{Cast, script_place}
-use Rattle.play_openings.specs.Assemblies.{HasNoLate, IsReady, PlayFiles}
+use Rattle.play_openings.specs.Assemblies.{IsReady, PlayFiles, late_cast_of}
 use Rattle.play_results.specs.Files.{AreSamples, IsWriter}
 use Rattle.play_results.specs.Worlds.{HasWritten}
-use Rattle.play_streams.proofs.Still.{IsStillThere, finish_there, still_there}
+use Rattle.play_streams.proofs.Still.{IsStillThere}
+use Rattle.late_flows.proofs.Still.{finish_there, still_there}
 use Rattle.play_files.specs.Seen.{FileSeen}
 use Rattle.play_graphs.specs.Ending.{AreFilesOf as AreGraphFiles}
 use Rattle.play_graphs.specs.Graphs.{kept_of}
@@ -67,7 +68,7 @@ of_stream w place P s found h =
 module _ {S K : Type 0} (offset size : S → ℕ) (told : S → Option (List ℕ)) (ends : S → Option ℕ) (faults : S → ℕ) (kept : K → Option (List ℕ)) (name : K → List ℕ) (sink_faults : K → ℕ)
     (first x : PlayingValue S K) (entries now : List (Option (PartFile S K))) (many : length entries ≡ length x.plan.parts) (many_now : length now ≡ length x.plan.parts)
     (were : AreGraphFiles first.graph (length x.plan.parts) entries) (are : AreGraphFiles x.graph (length x.plan.parts) now)
-    (stayed : FilesStayed (ObjectStays size told ends offset faults name sink_faults) first x) (early : HasNoLate x.plan) (written : Always (kept_of x.graph) (TellWritten kept x.graph)) where
+    (stayed : FilesStayed (ObjectStays size told ends offset faults name sink_faults) first x) (written : Always (kept_of x.graph) (TellWritten kept x.graph)) where
   abbrev before : List (Option FileSeen)
   before = seen offset size told ends faults kept name sink_faults entries
 
@@ -83,10 +84,10 @@ module _ {S K : Type 0} (offset size : S → ℕ) (told : S → Option (List ℕ
 
     here : (place : ℕ) (sink : List ℕ) → IsWriter x.plan.parts place sink → IsHere w place
     here place sink I =
-        let W = Y.standing.play in
+        let W = Y.standing.late.play in
         let l = slice_get_within x.plan.parts place I.0 I.1 in
-        let t = (W.cast).each place l in
-        still_here (cast x.plan) w t.0 place W.sound Y.standing.works t.2 (still_there (cast x.plan) p w t.0 W t.1)
+        let t = (W.cast_is).each place l in
+        still_here (cast x.plan) w t.0 place W.sound Y.standing.works t.2 (still_there (late_cast_of x.plan) Y.standing.recent p w t.0 W t.1)
 
     took : (place : ℕ) (sink : List ℕ) → IsWriter x.plan.parts place sink
         → (bytes : List ℕ) × HasTaken (seen offset size told ends faults kept name sink_faults entries) (seen offset size told ends faults kept name sink_faults now) place bytes × HasWritten Y.standing.world place bytes × ((samples : List (List ℕ)) → AreSamples x.plan Y.standing.files samples → bytes ≡ sink_text x.plan samples place)
@@ -97,10 +98,10 @@ module _ {S K : Type 0} (offset size : S → ℕ) (told : S → Option (List ℕ
           has_taken offset size told ends faults kept name sink_faults first x entries now many many_now were are stayed given offers Z.opening w Z.begins.opens Z.told (written w Z.stands) place sink I H.component H.named H.work H.stream H.found,
           is_there (stream_of place w) (λ (s : Stream). s.written ≡ H.stream.written) H.stream H.found refl,
           λ samples A.
-              let streams = Z.streams (contents_of x.plan given samples) (opening_contents x.plan given samples Z.opening ready early A Z.begins.opens) (opening_new x.plan given samples Z.opening ready early A Z.begins.opens) in
+              let streams = Z.streams (contents_of x.plan given samples) (opening_contents x.plan given samples Z.opening ready A Z.begins.opens) (opening_new x.plan given samples Z.opening ready A Z.begins.opens) in
               let f = over.phase in
               of_stream w place (λ (s : Stream). s.written ≡ sink_text x.plan samples place) H.stream H.found
-              (texts_whole x.plan given samples (λ l. false) ready A p w Z.play streams (omega (arith, f)) place sink I),
+              (texts_whole x.plan given samples ready A Z.recent p w Z.late.play streams (omega (arith, f)) place sink I),
         )
 
     pub is_whole : (text : List ℕ) → IsNamedTo x.plan Y.standing.files text Y.standing.world
@@ -118,16 +119,16 @@ module _ {S K : Type 0} (offset size : S → ℕ) (told : S → Option (List ℕ
     there : (place : ℕ) (sink : List ℕ) → IsWriter x.plan.parts place sink → IsHere F.world place
     there place sink I =
         let l = slice_get_within x.plan.parts place I.0 I.1 in
-        let t = ((F.played).cast).each place l in
-        still_here (cast x.plan) F.world t.0 place (sound F.world F.stands) F.works t.2 (finish_there (cast x.plan) F.play F.before F.world F.done F.played F.finishes t.0 t.1)
+        let t = ((F.played).cast_is).each place l in
+        still_here (cast x.plan) F.world t.0 place (sound F.world F.stands) F.works t.2 (finish_there (late_cast_of x.plan) F.recent F.play F.before F.world F.done F.played F.finishes t.0 t.1)
 
     pub is_failed : IsFailed x.plan F.files (seen offset size told ends faults kept name sink_faults entries) (seen offset size told ends faults kept name sink_faults now)
     is_failed = λ samples A place sink I.
         let H = there place sink I in
-        let fronts = F.fronts (contents_of x.plan F.files samples) (opening_contents x.plan F.files samples F.opening ready early A F.begins.opens) (opening_new x.plan F.files samples F.opening ready early A F.begins.opens)
+        let fronts = F.fronts (contents_of x.plan F.files samples) (opening_contents x.plan F.files samples F.opening ready A F.begins.opens) (opening_new x.plan F.files samples F.opening ready A F.begins.opens)
         (streams_of x.plan samples) (plan_plain x.plan F.files samples ready A (λ l. false)) in (
           H.stream.written,
           has_taken offset size told ends faults kept name sink_faults first x entries now many many_now were are stayed F.files offers F.opening F.world F.begins.opens F.told (written F.world F.stands) place sink I H.component H.named H.work H.stream H.found,
           of_stream F.world place (λ (s : Stream). IsFrontOf (sink_text x.plan samples place) s.written) H.stream H.found
-              (texts_failed x.plan F.files samples (λ l. false) ready A F.play F.before F.world F.done F.played F.finishes fronts place sink I),
+              (texts_failed x.plan F.files samples ready A F.recent F.play F.before F.world F.done F.played F.finishes fronts place sink I),
         )

@@ -1,21 +1,13 @@
-use Rattle.std.proofs.Common.{ℕ, List, length, map, Ok, Err, inl, inr, refl, ◌∙◌, ap, subst, arith}
+use Rattle.std.proofs.Common.{ℕ, List, length, map, Ok, Err, refl, ◌∙◌, ap, subst, arith}
 use Rattle.std.proofs.lemmas.List.{length-map}
-use Rattle.omx_types.specs.declared.fault.Fault.TheVariants as Faults
 use Rattle.omx_types.specs.declared.fault.Status.TheVariants as Statuses
-use Rattle.omx_types.specs.declared.fault.Unbuilt.TheVariants as Unbuilts
 use Rattle.script_lang.specs.declared.play_line.PartLine.{PartLine}
 use Rattle.play_results.specs.Summaries.{summary_text}
 use Rattle.play_course.specs.Settling.{parts_of}
 use Rattle.play_course.specs.Sums.{line_value}
-use Rattle.omxrun.specs.Plays.{HasLateIn, HasNoLateIn}
 use Rattle.omxrun.specs.Told.{IsPrinted}
 use Rattle.omxrun.proofs.Outcomes.{sinks-few}
 use Rattle.omxrun.proofs.play.play_read.Goals as goal
-
-pub returns-then-has_late-clause-played : goal.returns-then-has_late-clause-played
-returns-then-has_late-clause-played g c =
-    let late = subst HasLateIn c.parts_of.ensures (c.has_late.ensures.late c.if-has_late.true) in
-    (Err (Faults.NotBuilt Unbuilts.Script), record { done = tt; early = tt; stand = tt; undone = inl (late, refl, refl) }, c.tell.ensures.told)
 
 pub text_of_play-text-requires : goal.text_of_play-text-requires
 text_of_play-text-requires g c =
@@ -28,15 +20,12 @@ pub returns-in-Ok-clause-played : goal.returns-in-Ok-clause-played
 returns-in-Ok-clause-played g c =
     let script = c.args.script.now in
     let summary = c.in-Ok.summary in
-    let none = subst HasNoLateIn c.parts_of.ensures (c.has_late.ensures.none c.if-has_late.false) in
     let S = c.in-Ok.ensures.stand in
-    let text_is = c.text_of_play-text.ensures ∙ ap (λ (ps : List PartLine). summary_text ps (map line_value c.sinks.result.now)) c.parts_of-in-Ok.ensures ∙ ap (summary_text (parts_of script)) c.sinks.ensures in (
+    let text_is = c.text_of_play-text.ensures ∙ ap (λ (ps : List PartLine). summary_text ps (map line_value c.sinks.result.now)) c.parts_of.ensures ∙ ap (summary_text (parts_of script)) c.sinks.ensures in (
       Ok (summary_text (parts_of script) summary),
-      record { done = (summary, c.in-Ok.ensures.done, refl); early = none; stand = record { reads = S.reads; writes = S.writes }; undone = tt },
+      record { done = (summary, c.in-Ok.ensures.done, refl); stand = record { reads = S.reads; writes = S.writes }; undone = tt },
       subst (λ (text : List ℕ). IsPrinted Statuses.Ok text (g.O.Sink.told c.args.out.now) (g.O.Sink.told c.print.new.out) (g.O.Sink.faults c.args.out.now) (g.O.Sink.faults c.print.new.out) c.print.result) text_is c.print.ensures.printed,
     )
 
 pub returns-in-Err-clause-played : goal.returns-in-Err-clause-played
-returns-in-Err-clause-played g c =
-    let none = subst HasNoLateIn c.parts_of.ensures (c.has_late.ensures.none c.if-has_late.false) in
-    (Err c.in-Err.undone, record { done = tt; early = tt; stand = tt; undone = inr (none, c.in-Err.ensures.undone) }, c.tell-in-Err.ensures.told)
+returns-in-Err-clause-played g c = (Err c.in-Err.undone, record { done = tt; stand = tt; undone = c.in-Err.ensures.undone }, c.tell.ensures.told)

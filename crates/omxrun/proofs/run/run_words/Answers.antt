@@ -3,7 +3,7 @@ use Rattle.omxrun.specs.Words.{to_trace, to_play, to_make, to_clock, to_pack, to
 use Rattle.omxrun.proofs.Clocks.{complete_clock, unclocked}
 use Rattle.omxrun.proofs.Commands.{run-asked, unbuilt-run}
 use Rattle.omxrun.proofs.Makes.{complete_make}
-use Rattle.omxrun.proofs.PlayEnds.{complete, faulty, unplanned, unplayed, unread}
+use Rattle.omxrun.proofs.PlayEnds.{complete, faulty, misfitted, unplanned, unread}
 use Rattle.omxrun.proofs.TurnEnds.{complete_pack, complete_unpack}
 use Rattle.omxrun.proofs.Traces.{complete_trace, untraced}
 use Rattle.omxrun.proofs.run.run_words.Goals as goal
@@ -28,9 +28,6 @@ returns-in-None-clause-untraced g c = λ script line why words none has. absurd 
 pub returns-in-None-clause-complete_trace : goal.returns-in-None-clause-complete_trace
 returns-in-None-clause-complete_trace g c = λ script words none can. absurd (c.in-None.ensures.none (to_trace script) words)
 
-pub returns-in-None-clause-unplayed : goal.returns-in-None-clause-unplayed
-returns-in-None-clause-unplayed g c = λ script log words none has. absurd (c.in-None.ensures.none (to_play script 0 log) words)
-
 pub returns-in-None-clause-faulty : goal.returns-in-None-clause-faulty
 returns-in-None-clause-faulty g c = λ script log line fault words none has. absurd (c.in-None.ensures.none (to_play script 0 log) words)
 
@@ -39,6 +36,9 @@ returns-in-None-clause-unread g c = λ script log line why words none has. absur
 
 pub returns-in-None-clause-unplanned : goal.returns-in-None-clause-unplanned
 returns-in-None-clause-unplanned g c = λ script log why words none has. absurd (c.in-None.ensures.none (to_play script 0 log) words)
+
+pub returns-in-None-clause-misfitted : goal.returns-in-None-clause-misfitted
+returns-in-None-clause-misfitted g c = λ script log why words none has. absurd (c.in-None.ensures.none (to_play script 0 log) words)
 
 pub returns-in-None-clause-complete : goal.returns-in-None-clause-complete
 returns-in-None-clause-complete g c = λ script log words none can. absurd (c.in-None.ensures.none (to_play script 0 log) words)
@@ -104,11 +104,6 @@ returns-in-Some-clause-unread g c = λ script log line why words none has.
     let played = (run-asked (map string_bytes c.args.words.now) (to_play script 0 log) (g.M.Media.outside c.args.media.now) (g.M.Media.outside c.run_command.new.media) (g.O.Sink.told c.args.out.now) (g.O.Sink.told c.run_command.new.out) (g.O.Sink.faults c.args.out.now) (g.O.Sink.faults c.run_command.new.out) c.run_command.result (asked_by c.in-Some.command) c.in-Some.ensures.some c.run_command.ensures.run words).0 refl in
     unread c.one_play.ensures.same script log (g.M.Media.outside c.args.media.now) (g.M.Media.outside c.run_command.new.media) (g.O.Sink.faults c.args.out.now) (g.O.Sink.faults c.run_command.new.out) (g.O.Sink.told c.args.out.now) (g.O.Sink.told c.run_command.new.out) line why played.0 c.run_command.result played.1 played.2 none has
 
-pub returns-in-Some-clause-unplayed : goal.returns-in-Some-clause-unplayed
-returns-in-Some-clause-unplayed g c = λ script log words none has.
-    let played = (run-asked (map string_bytes c.args.words.now) (to_play script 0 log) (g.M.Media.outside c.args.media.now) (g.M.Media.outside c.run_command.new.media) (g.O.Sink.told c.args.out.now) (g.O.Sink.told c.run_command.new.out) (g.O.Sink.faults c.args.out.now) (g.O.Sink.faults c.run_command.new.out) c.run_command.result (asked_by c.in-Some.command) c.in-Some.ensures.some c.run_command.ensures.run words).0 refl in
-    unplayed c.one_play.ensures.same script log (g.M.Media.outside c.args.media.now) (g.M.Media.outside c.run_command.new.media) (g.O.Sink.faults c.args.out.now) (g.O.Sink.faults c.run_command.new.out) (g.O.Sink.told c.args.out.now) (g.O.Sink.told c.run_command.new.out) played.0 c.run_command.result played.1 played.2 none has
-
 pub returns-in-Some-clause-unplanned : goal.returns-in-Some-clause-unplanned
 returns-in-Some-clause-unplanned g c = λ script log why words none has.
     let played = (run-asked (map string_bytes c.args.words.now) (to_play script 0 log) (g.M.Media.outside c.args.media.now) (g.M.Media.outside c.run_command.new.media) (g.O.Sink.told c.args.out.now) (g.O.Sink.told c.run_command.new.out) (g.O.Sink.faults c.args.out.now) (g.O.Sink.faults c.run_command.new.out) c.run_command.result (asked_by c.in-Some.command) c.in-Some.ensures.some c.run_command.ensures.run words).0 refl in
@@ -118,6 +113,11 @@ pub returns-in-Some-clause-faulty : goal.returns-in-Some-clause-faulty
 returns-in-Some-clause-faulty g c = λ script log line fault words none has.
     let played = (run-asked (map string_bytes c.args.words.now) (to_play script 0 log) (g.M.Media.outside c.args.media.now) (g.M.Media.outside c.run_command.new.media) (g.O.Sink.told c.args.out.now) (g.O.Sink.told c.run_command.new.out) (g.O.Sink.faults c.args.out.now) (g.O.Sink.faults c.run_command.new.out) c.run_command.result (asked_by c.in-Some.command) c.in-Some.ensures.some c.run_command.ensures.run words).0 refl in
     faulty c.one_play.ensures.same c.one_answer.ensures.same c.law_of_plans.ensures.planned script log (g.M.Media.outside c.args.media.now) (g.M.Media.outside c.run_command.new.media) (g.O.Sink.faults c.args.out.now) (g.O.Sink.faults c.run_command.new.out) (g.O.Sink.told c.args.out.now) (g.O.Sink.told c.run_command.new.out) line fault played.0 c.run_command.result played.1 played.2 none has
+
+pub returns-in-Some-clause-misfitted : goal.returns-in-Some-clause-misfitted
+returns-in-Some-clause-misfitted g c = λ script log why words none has.
+    let played = (run-asked (map string_bytes c.args.words.now) (to_play script 0 log) (g.M.Media.outside c.args.media.now) (g.M.Media.outside c.run_command.new.media) (g.O.Sink.told c.args.out.now) (g.O.Sink.told c.run_command.new.out) (g.O.Sink.faults c.args.out.now) (g.O.Sink.faults c.run_command.new.out) c.run_command.result (asked_by c.in-Some.command) c.in-Some.ensures.some c.run_command.ensures.run words).0 refl in
+    misfitted c.one_play.ensures.same c.one_answer.ensures.same c.law_of_plans.ensures.planned c.law_of_plans.ensures.fit c.law_of_plans.ensures.misfit script log (g.M.Media.outside c.args.media.now) (g.M.Media.outside c.run_command.new.media) (g.O.Sink.faults c.args.out.now) (g.O.Sink.faults c.run_command.new.out) (g.O.Sink.told c.args.out.now) (g.O.Sink.told c.run_command.new.out) why played.0 c.run_command.result played.1 played.2 none has
 
 pub returns-in-Some-clause-complete : goal.returns-in-Some-clause-complete
 returns-in-Some-clause-complete g c = λ script log words none has.

@@ -1,5 +1,5 @@
 use Rattle.std.proofs.Common.{inl, inr, refl, Err}
-use Rattle.omxrun.specs.Reasons.{CountsStand}
+use Rattle.play_course.specs.Outcomes.{CountsStand}
 use Rattle.omxrun.specs.Texts.{fault_line}
 use Rattle.omxrun.proofs.Causes.{on_ok}
 use Rattle.omxrun.proofs.trace.trace_file.Goals as goal

@@ -3,22 +3,23 @@ use Rattle.std.proofs.lemmas.Result.{IfErr-weaker}
 use Rattle.audio_parts.specs.ObjectLaws.{object_further, object_itself, shows_earlier}
 use Rattle.audio_parts.specs.Objects.{ObjectShows, ObjectStays}
 use Rattle.il_graph.specs.Shown.{file_of}
-use Rattle.play_model.specs.Acts.{Act}
 use Rattle.play_loop.specs.Turns.{IsOfComponent}
-use Rattle.play_run.specs.Playing.{FilesStay, IsAct, layout_of, unfailed}
-use Rattle.play_run.specs.Turning.{FailsOn, IsTelling}
+use Rattle.late_tellings.specs.Tellings.{IsTellingOf}
+use Rattle.late_turns.specs.Turns.{IsRunOf}
+use Rattle.play_run.specs.Playing.{FilesStay, layout_of, unfailed}
+use Rattle.play_run.specs.Turning.{FailsOn}
 use Rattle.play_run.specs.Leading.{fails_on, leads_on}
 use Rattle.play_run.proofs.Answering.{files_stay, leads_of, turned_of}
 use Rattle.play_run.proofs.Rounding.{actor_turn, some_next}
 use Rattle.play_run.proofs.player.PlayingPlayer.component_turn.Goals as goal
 
 pub run-ran-requires-clause-stands : goal.run-ran-requires-clause-stands
-run-ran-requires-clause-stands g c = some_next c.args.self.now c.tell-told.new.self c.tell-told.result (IsTelling c.args.component) c.tell-told.ensures.turned c.requires.stands
+run-ran-requires-clause-stands g c = some_next c.args.self.now c.tell-told.new.self c.tell-told.result (IsTellingOf (layout_of c.args.self.now.plan) c.args.component) c.tell-told.ensures.turned c.requires.stands
 
 pub step-requires-clause-stands : goal.step-requires-clause-stands
 step-requires-clause-stands g c =
-    let some = some_next c.args.self.now c.tell-told.new.self c.tell-told.result (IsTelling c.args.component) c.tell-told.ensures.turned c.requires.stands in
-    some_next c.tell-told.new.self c.run-ran.new.self c.run-ran.result (IsAct (Act.Run c.args.component)) c.run-ran.ensures.turned some
+    let some = some_next c.args.self.now c.tell-told.new.self c.tell-told.result (IsTellingOf (layout_of c.args.self.now.plan) c.args.component) c.tell-told.ensures.turned c.requires.stands in
+    some_next c.tell-told.new.self c.run-ran.new.self c.run-ran.result (IsRunOf (layout_of c.tell-told.new.self.plan) c.args.component) c.run-ran.ensures.turned some
 
 pub returns-clause-turned : goal.returns-clause-turned
 returns-clause-turned g c =
@@ -45,6 +46,6 @@ returns-in_err-stepped-clause-failed g c =
     let b = c.run-ran in
     let failed : IfErr c.from_residual.result (FailsOn (ObjectStays g.S.Source.size g.S.Source.told g.S.Source.ends g.S.Source.offset g.S.Source.faults g.K.Sink.name g.K.Sink.faults) (ObjectShows g.S.Source.size g.S.Source.ends g.S.Source.offset g.S.Source.faults g.K.Sink.faults) b.new.self c.step.new.self) = search rules in
     let leads = leads_on (ObjectStays g.S.Source.size g.S.Source.told g.S.Source.ends g.S.Source.offset g.S.Source.faults g.K.Sink.name g.K.Sink.faults) (ObjectShows g.S.Source.size g.S.Source.ends g.S.Source.offset g.S.Source.faults g.K.Sink.faults) (object_further g.S.Source.size g.S.Source.told g.S.Source.ends g.S.Source.offset g.S.Source.faults g.K.Sink.name g.K.Sink.faults) x a.new.self b.new.self
-    (leads_of (ObjectStays g.S.Source.size g.S.Source.told g.S.Source.ends g.S.Source.offset g.S.Source.faults g.K.Sink.name g.K.Sink.faults) x a.new.self a.result (IsTelling c.args.component) a.ensures.plan (files_stay (ObjectStays g.S.Source.size g.S.Source.told g.S.Source.ends g.S.Source.offset g.S.Source.faults g.K.Sink.name g.K.Sink.faults) (object_itself g.S.Source.size g.S.Source.told g.S.Source.ends g.S.Source.offset g.S.Source.faults g.K.Sink.name g.K.Sink.faults) x a.new.self a.ensures.files) a.ensures.turned)
-    (leads_of (ObjectStays g.S.Source.size g.S.Source.told g.S.Source.ends g.S.Source.offset g.S.Source.faults g.K.Sink.name g.K.Sink.faults) a.new.self b.new.self b.result (IsAct (Act.Run c.args.component)) b.ensures.plan (files_stay (ObjectStays g.S.Source.size g.S.Source.told g.S.Source.ends g.S.Source.offset g.S.Source.faults g.K.Sink.name g.K.Sink.faults) (object_itself g.S.Source.size g.S.Source.told g.S.Source.ends g.S.Source.offset g.S.Source.faults g.K.Sink.name g.K.Sink.faults) a.new.self b.new.self b.ensures.files) b.ensures.turned) in
+    (leads_of (ObjectStays g.S.Source.size g.S.Source.told g.S.Source.ends g.S.Source.offset g.S.Source.faults g.K.Sink.name g.K.Sink.faults) x a.new.self a.result (IsTellingOf (layout_of c.args.self.now.plan) c.args.component) a.ensures.plan (files_stay (ObjectStays g.S.Source.size g.S.Source.told g.S.Source.ends g.S.Source.offset g.S.Source.faults g.K.Sink.name g.K.Sink.faults) (object_itself g.S.Source.size g.S.Source.told g.S.Source.ends g.S.Source.offset g.S.Source.faults g.K.Sink.name g.K.Sink.faults) x a.new.self a.ensures.files) a.ensures.turned)
+    (leads_of (ObjectStays g.S.Source.size g.S.Source.told g.S.Source.ends g.S.Source.offset g.S.Source.faults g.K.Sink.name g.K.Sink.faults) a.new.self b.new.self b.result (IsRunOf (layout_of c.tell-told.new.self.plan) c.args.component) b.ensures.plan (files_stay (ObjectStays g.S.Source.size g.S.Source.told g.S.Source.ends g.S.Source.offset g.S.Source.faults g.K.Sink.name g.K.Sink.faults) (object_itself g.S.Source.size g.S.Source.told g.S.Source.ends g.S.Source.offset g.S.Source.faults g.K.Sink.name g.K.Sink.faults) a.new.self b.new.self b.ensures.files) b.ensures.turned) in
     IfErr-weaker c.from_residual.result _ _ (λ failure fails. fails_on (ObjectStays g.S.Source.size g.S.Source.told g.S.Source.ends g.S.Source.offset g.S.Source.faults g.K.Sink.name g.K.Sink.faults) (ObjectShows g.S.Source.size g.S.Source.ends g.S.Source.offset g.S.Source.faults g.K.Sink.faults) (object_further g.S.Source.size g.S.Source.told g.S.Source.ends g.S.Source.offset g.S.Source.faults g.K.Sink.name g.K.Sink.faults) (shows_earlier g.S.Source.size g.S.Source.told g.S.Source.ends g.S.Source.offset g.S.Source.faults g.K.Sink.name g.K.Sink.faults) x b.new.self c.step.new.self failure leads fails) failed

@@ -1,6 +1,9 @@
 use Rattle.audio_parts.specs.Objects.{ObjectShows, ObjectStays}
-use Rattle.play_run.proofs.Closing.{failure_shows, has_failed, has_failed_with, has_played, objects_failed, objects_played}
+use Rattle.play_run.proofs.Closing.{failure_shows, has_failed, has_failed_with, has_played, objects_failed, objects_played, plan_stays}
 use Rattle.play_run.proofs.playing.Playing.play.Goals as goal
+
+pub returns-clause-plan : goal.returns-clause-plan
+returns-clause-plan g c = plan_stays (ObjectStays g.S.Source.size g.S.Source.told g.S.Source.ends g.S.Source.offset g.S.Source.faults g.K.Sink.name g.K.Sink.faults) (ObjectShows g.S.Source.size g.S.Source.ends g.S.Source.offset g.S.Source.faults g.K.Sink.faults) c.args.self.now c.play_on.new.player c.play_on.result c.play_on.ensures.leads c.play_on.ensures.failed
 
 pub returns-clause-played : goal.returns-clause-played
 returns-clause-played g c = has_played (ObjectStays g.S.Source.size g.S.Source.told g.S.Source.ends g.S.Source.offset g.S.Source.faults g.K.Sink.name g.K.Sink.faults) c.args.self.now c.play_on.new.player c.play_on.result c.play_on.ensures.all c.play_on.ensures.leads

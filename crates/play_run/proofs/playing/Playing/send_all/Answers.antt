@@ -2,7 +2,7 @@ use Rattle.std.proofs.Common.{◌≡◌, ◌<◌, length, refl, ◌∙◌, ap, s
 use Rattle.il_graph.specs.Shown.{file_of}
 use Rattle.play_run.specs.Playing.{PlayingValue}
 use Rattle.play_run.specs.Sending.{SendsTo}
-use Rattle.play_run.proofs.Conducting.{send_begins, sends_all, sends_next, still_parts}
+use Rattle.play_run.proofs.Stages.{send_begins, sends_all, sends_next, still_parts}
 use Rattle.play_run.proofs.playing.Playing.send_all.Goals as goal
 
 pub loop-place-init : goal.loop-place-init
@@ -20,7 +20,7 @@ loop-place-preserved g c =
       files = λ number. c.send_command.ensures.files number ∙ (ap (λ (z : PlayingValue g.row.S.Denot g.row.K.Denot). file_of number z.graph) c.self.view_is ∙ c.loop-place.invariant.files number);
       sent = sends_next _ c.loop-place.self c.args.self.now c.self.view_is c.send_command.new.self c.tell.new.log c.args.state c.loop-place.place c.handle-h.result c.send_command.result c.loop-place.invariant.plan below c.handle-h.ensures
           (record { name = c.name_at.result; said = c.sent.result; named = c.name_at.ensures; says = c.sent.ensures; told = c.tell.ensures })
-          c.send_command.ensures.clients c.send_command.ensures.step c.loop-place.invariant.sent;
+          c.send_command.ensures.clients c.send_command.ensures.step c.law_of_component_streams.ensures.sent c.loop-place.invariant.sent;
     }
 
 pub returns-clause-sent : goal.returns-clause-sent

@@ -7,8 +7,8 @@ use Rattle.play_thread.proofs.Files.{are_offered, can_make}
 use Rattle.play_thread.proofs.Played.{all_gone, fault_cause, files_same, on_err, run_failed, run_front, run_whole, untouched, when_err, when_ok}
 use Rattle.play_thread.proofs.one_thread.OneThreadPlayer.run.Goals as goal
 
-pub new-requires-clause-files : goal.new-requires-clause-files
-new-requires-clause-files g c = can_make g.S.Source.offset g.S.Source.size g.S.Source.told g.S.Source.ends g.S.Source.faults g.K.Sink.told g.K.Sink.name g.K.Sink.faults c.args.plan c.args.files.now c.requires.ready
+pub new-requires : goal.new-requires
+new-requires g c = record { files = can_make g.S.Source.offset g.S.Source.size g.S.Source.told g.S.Source.ends g.S.Source.faults g.K.Sink.told g.K.Sink.name g.K.Sink.faults c.args.plan c.args.files.now c.requires.ready }
 
 pub returns-in-Err-clause-failed : goal.returns-in-Err-clause-failed
 returns-in-Err-clause-failed g c = λ given R O.
@@ -25,7 +25,7 @@ pub end-requires-clause-gone : goal.end-requires-clause-gone
 end-requires-clause-gone g c = all_gone c.args.plan c.play.new.self.plan c.new.new.files (c.in-Ok-play.ensures.plan ∙ c.in-Ok.ensures.plan) c.in-Ok.ensures.gone
 
 pub stop-requires-clause-gone : goal.stop-requires-clause-gone
-stop-requires-clause-gone g c = all_gone c.args.plan c.play.new.self.plan c.new.new.files (c.in-Err-play.ensures.stopped ∙ c.in-Ok.ensures.plan) c.in-Ok.ensures.gone
+stop-requires-clause-gone g c = all_gone c.args.plan c.play.new.self.plan c.new.new.files (c.in-Err-play.ensures.plan ∙ c.in-Ok.ensures.plan) c.in-Ok.ensures.gone
 
 pub returns-in-Ok-play-clause-same : goal.returns-in-Ok-play-clause-same
 returns-in-Ok-play-clause-same g c = files_same g.S.Source.offset g.S.Source.size g.S.Source.told g.S.Source.ends g.S.Source.faults g.K.Sink.told g.K.Sink.name g.K.Sink.faults c.args.plan c.args.files.now c.requires.ready c.in-Ok.playing c.play.new.self c.new.new.files c.end.new.files (c.in-Ok-play.ensures.plan ∙ c.in-Ok.ensures.plan) c.in-Ok.ensures.many c.end.ensures.many c.in-Ok.ensures.files c.end.ensures.files (λ n. (false, c.in-Ok-play.ensures.objects n))
@@ -36,24 +36,24 @@ returns-in-Ok-play-clause-whole g c =
     (λ text. (given : PlayFiles) → IsReady c.args.plan given → AreFilesOf c.args.plan given (seen g.S.Source.offset g.S.Source.size g.S.Source.told g.S.Source.ends g.S.Source.faults g.K.Sink.told g.K.Sink.name g.K.Sink.faults c.args.files.now) → IsWhole c.args.plan given (seen g.S.Source.offset g.S.Source.size g.S.Source.told g.S.Source.ends g.S.Source.faults g.K.Sink.told g.K.Sink.name g.K.Sink.faults c.args.files.now) (seen g.S.Source.offset g.S.Source.size g.S.Source.told g.S.Source.ends g.S.Source.faults g.K.Sink.told g.K.Sink.name g.K.Sink.faults c.end.new.files) text.items)
     c.text_of.ensures.logged
     (λ text logged given R O.
-    run_whole g.S.Source.offset g.S.Source.size g.S.Source.told g.S.Source.ends g.S.Source.faults g.K.Sink.told g.K.Sink.name g.K.Sink.faults c.args.plan c.args.files.now c.requires.ready c.in-Ok.playing c.play.new.self c.new.new.files c.end.new.files (c.in-Ok-play.ensures.plan ∙ c.in-Ok.ensures.plan) c.in-Ok.ensures.many c.end.ensures.many c.in-Ok.ensures.files c.end.ensures.files (λ n. (false, c.in-Ok-play.ensures.objects n)) c.requires.early c.end.ensures.written given R O (c.in-Ok-play.ensures.played given (c.in-Ok.ensures.begun given R (are_offered g.S.Source.offset g.S.Source.size g.S.Source.told g.S.Source.ends g.S.Source.faults g.K.Sink.told g.K.Sink.name g.K.Sink.faults c.args.plan given c.args.files.now O)))
+    run_whole g.S.Source.offset g.S.Source.size g.S.Source.told g.S.Source.ends g.S.Source.faults g.K.Sink.told g.K.Sink.name g.K.Sink.faults c.args.plan c.args.files.now c.requires.ready c.in-Ok.playing c.play.new.self c.new.new.files c.end.new.files (c.in-Ok-play.ensures.plan ∙ c.in-Ok.ensures.plan) c.in-Ok.ensures.many c.end.ensures.many c.in-Ok.ensures.files c.end.ensures.files (λ n. (false, c.in-Ok-play.ensures.objects n)) c.end.ensures.written given R O (c.in-Ok-play.ensures.played given (c.in-Ok.ensures.begun given R (are_offered g.S.Source.offset g.S.Source.size g.S.Source.told g.S.Source.ends g.S.Source.faults g.K.Sink.told g.K.Sink.name g.K.Sink.faults c.args.plan given c.args.files.now O)))
     c.law_of_play_logs.ensures.names c.end.result c.end.ensures.log text.items logged)
 
 pub returns-in-Ok-play-clause-failed : goal.returns-in-Ok-play-clause-failed
 returns-in-Ok-play-clause-failed g c = on_err c.text_of.result (λ given R O.
-    run_front g.S.Source.offset g.S.Source.size g.S.Source.told g.S.Source.ends g.S.Source.faults g.K.Sink.told g.K.Sink.name g.K.Sink.faults c.args.plan c.args.files.now c.requires.ready c.in-Ok.playing c.play.new.self c.new.new.files c.end.new.files (c.in-Ok-play.ensures.plan ∙ c.in-Ok.ensures.plan) c.in-Ok.ensures.many c.end.ensures.many c.in-Ok.ensures.files c.end.ensures.files (λ n. (false, c.in-Ok-play.ensures.objects n)) c.requires.early c.end.ensures.written given R O (c.in-Ok-play.ensures.played given (c.in-Ok.ensures.begun given R (are_offered g.S.Source.offset g.S.Source.size g.S.Source.told g.S.Source.ends g.S.Source.faults g.K.Sink.told g.K.Sink.name g.K.Sink.faults c.args.plan given c.args.files.now O))))
+    run_front g.S.Source.offset g.S.Source.size g.S.Source.told g.S.Source.ends g.S.Source.faults g.K.Sink.told g.K.Sink.name g.K.Sink.faults c.args.plan c.args.files.now c.requires.ready c.in-Ok.playing c.play.new.self c.new.new.files c.end.new.files (c.in-Ok-play.ensures.plan ∙ c.in-Ok.ensures.plan) c.in-Ok.ensures.many c.end.ensures.many c.in-Ok.ensures.files c.end.ensures.files (λ n. (false, c.in-Ok-play.ensures.objects n)) c.end.ensures.written given R O (c.in-Ok-play.ensures.played given (c.in-Ok.ensures.begun given R (are_offered g.S.Source.offset g.S.Source.size g.S.Source.told g.S.Source.ends g.S.Source.faults g.K.Sink.told g.K.Sink.name g.K.Sink.faults c.args.plan given c.args.files.now O))))
 
 pub returns-in-Ok-play-clause-cause : goal.returns-in-Ok-play-clause-cause
 returns-in-Ok-play-clause-cause g c = when_err (seen g.S.Source.offset g.S.Source.size g.S.Source.told g.S.Source.ends g.S.Source.faults g.K.Sink.told g.K.Sink.name g.K.Sink.faults c.args.files.now) (seen g.S.Source.offset g.S.Source.size g.S.Source.told g.S.Source.ends g.S.Source.faults g.K.Sink.told g.K.Sink.name g.K.Sink.faults c.end.new.files) c.text_of.result c.text_of.ensures.memory
 
 pub returns-in-Err-play-clause-same : goal.returns-in-Err-play-clause-same
-returns-in-Err-play-clause-same g c = files_same g.S.Source.offset g.S.Source.size g.S.Source.told g.S.Source.ends g.S.Source.faults g.K.Sink.told g.K.Sink.name g.K.Sink.faults c.args.plan c.args.files.now c.requires.ready c.in-Ok.playing c.play.new.self c.new.new.files c.stop.new.files (c.in-Err-play.ensures.stopped ∙ c.in-Ok.ensures.plan) c.in-Ok.ensures.many c.stop.ensures.many c.in-Ok.ensures.files c.stop.ensures.files c.in-Err-play.ensures.objects_then
+returns-in-Err-play-clause-same g c = files_same g.S.Source.offset g.S.Source.size g.S.Source.told g.S.Source.ends g.S.Source.faults g.K.Sink.told g.K.Sink.name g.K.Sink.faults c.args.plan c.args.files.now c.requires.ready c.in-Ok.playing c.play.new.self c.new.new.files c.stop.new.files (c.in-Err-play.ensures.plan ∙ c.in-Ok.ensures.plan) c.in-Ok.ensures.many c.stop.ensures.many c.in-Ok.ensures.files c.stop.ensures.files c.in-Err-play.ensures.objects_then
 
 pub returns-in-Err-play-clause-failed : goal.returns-in-Err-play-clause-failed
 returns-in-Err-play-clause-failed g c = λ given R O.
-    run_failed g.S.Source.offset g.S.Source.size g.S.Source.told g.S.Source.ends g.S.Source.faults g.K.Sink.told g.K.Sink.name g.K.Sink.faults c.args.plan c.args.files.now c.requires.ready c.in-Ok.playing c.play.new.self c.new.new.files c.stop.new.files (c.in-Err-play.ensures.stopped ∙ c.in-Ok.ensures.plan) c.in-Ok.ensures.many c.stop.ensures.many c.in-Ok.ensures.files c.stop.ensures.files c.in-Err-play.ensures.objects_then c.requires.early c.stop.ensures.written given R O c.in-Err-play.failure (c.in-Err-play.ensures.failed_with given (c.in-Ok.ensures.begun given R (are_offered g.S.Source.offset g.S.Source.size g.S.Source.told g.S.Source.ends g.S.Source.faults g.K.Sink.told g.K.Sink.name g.K.Sink.faults c.args.plan given c.args.files.now O))) c.stop.ensures.sound
+    run_failed g.S.Source.offset g.S.Source.size g.S.Source.told g.S.Source.ends g.S.Source.faults g.K.Sink.told g.K.Sink.name g.K.Sink.faults c.args.plan c.args.files.now c.requires.ready c.in-Ok.playing c.play.new.self c.new.new.files c.stop.new.files (c.in-Err-play.ensures.plan ∙ c.in-Ok.ensures.plan) c.in-Ok.ensures.many c.stop.ensures.many c.in-Ok.ensures.files c.stop.ensures.files c.in-Err-play.ensures.objects_then c.stop.ensures.written given R O c.in-Err-play.failure (c.in-Err-play.ensures.failed_with given (c.in-Ok.ensures.begun given R (are_offered g.S.Source.offset g.S.Source.size g.S.Source.told g.S.Source.ends g.S.Source.faults g.K.Sink.told g.K.Sink.name g.K.Sink.faults c.args.plan given c.args.files.now O))) c.stop.ensures.sound
 
 pub returns-in-Err-play-clause-cause : goal.returns-in-Err-play-clause-cause
 returns-in-Err-play-clause-cause g c =
     subst (IsRunCause (seen g.S.Source.offset g.S.Source.size g.S.Source.told g.S.Source.ends g.S.Source.faults g.K.Sink.told g.K.Sink.name g.K.Sink.faults c.args.files.now) (seen g.S.Source.offset g.S.Source.size g.S.Source.told g.S.Source.ends g.S.Source.faults g.K.Sink.told g.K.Sink.name g.K.Sink.faults c.stop.new.files)) (sym c.run_fault.ensures)
-    (fault_cause g.S.Source.offset g.S.Source.size g.S.Source.told g.S.Source.ends g.S.Source.faults g.K.Sink.told g.K.Sink.name g.K.Sink.faults c.args.plan c.args.files.now c.requires.ready c.in-Ok.playing c.play.new.self c.new.new.files c.stop.new.files (c.in-Err-play.ensures.stopped ∙ c.in-Ok.ensures.plan) c.in-Ok.ensures.many c.stop.ensures.many c.in-Ok.ensures.files c.stop.ensures.files c.in-Err-play.ensures.objects_then c.in-Err-play.failure c.in-Err-play.ensures.failed.there c.in-Err-play.ensures.shows)
+    (fault_cause g.S.Source.offset g.S.Source.size g.S.Source.told g.S.Source.ends g.S.Source.faults g.K.Sink.told g.K.Sink.name g.K.Sink.faults c.args.plan c.args.files.now c.requires.ready c.in-Ok.playing c.play.new.self c.new.new.files c.stop.new.files (c.in-Err-play.ensures.plan ∙ c.in-Ok.ensures.plan) c.in-Ok.ensures.many c.stop.ensures.many c.in-Ok.ensures.files c.stop.ensures.files c.in-Err-play.ensures.objects_then c.in-Err-play.failure c.in-Err-play.ensures.failed.there c.in-Err-play.ensures.shows)

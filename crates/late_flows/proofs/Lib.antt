@@ -1,0 +1,10 @@
+pub mod Planned
+pub mod Coming
+pub mod Landing
+pub mod Made
+pub mod Sinking
+pub mod Announcing
+pub mod Stepping
+pub mod Ends
+pub mod Failing
+pub mod Still

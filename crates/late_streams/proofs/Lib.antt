@@ -1,0 +1,12 @@
+pub mod Links
+pub mod Keeping
+pub mod Beginning
+pub mod Closing
+pub mod Handing
+pub mod Claiming
+pub mod Acts
+pub mod Running
+pub mod Components
+pub mod Headers
+pub mod Setting
+pub mod Changing

@@ -1,0 +1,250 @@
+//! A late source's link is changed: its ports are disabled, its tunnel is dropped and set up again with the file's format at both ends,
+//! and its ports are enabled (OpenMAX IL 1.1.2, `OMX_CommandPortDisable`, `OMX_CommandPortEnable`).
+
+ghost use Rattle.std.specs.Prelude.{◌≡◌, ◌+◌, ◌<◌, ◌≤◌, ℕ, Ok, length};
+ghost use Rattle.il_machine.specs.Acts as acts;
+ghost use Rattle.il_graph.specs.Shown.{KeepsAllFiles};
+ghost use Rattle.conductor.specs.declared.phase.ChangeStep.TheVariants.{Disable, Enable, Retune};
+ghost use Rattle.late_acts.specs.Conducting.{definition_key, planned, port_command};
+ghost use Rattle.log_texts.specs.Said.{SaysOf};
+ghost use Rattle.play_openings.specs.Assemblies.{late_cast_of};
+ghost use Rattle.play_forms.specs.Plans.{IsValid};
+ghost use Rattle.play_plans.specs.Casting.{joint_of};
+ghost use Rattle.play_graphs.specs.Graphs.{IsHandleAt};
+ghost use Rattle.play_run.specs.Playing.{HasParts};
+ghost use Rattle.play_run.specs.Recording.{IsNameAt};
+ghost use Rattle.play_run.specs.Changing.{CanChange, CanChangeFrom, ChangedFrom, ChangesTo, IsLinkFrom, index_by, place_by, sending, sent_as, set_as};
+
+use crate::lines::{port_at, tell};
+use crate::playing::Playing;
+use act_text::{ActText, PortName};
+use conductor::ChangeStep;
+use il_graph::{Command, Param, ParamKey, PortDefinition, PortId, PortSel, Supplier, Version};
+use late_streams::law_of_changed_streams;
+use log_texts::{disabled, dropped, enabled, joined, set_port};
+use outside_io::{Sink, Source};
+use play_forms::Joint;
+
+/// The component at the link's output, or at its input, by its place.
+fn place_at(joint: Joint, output: bool) -> u32
+    ensures { result ≡ place_by output joint }
+{
+    if output { joint.giver } else { joint.taker }
+}
+
+/// Its port there.
+fn index_at(joint: Joint, output: bool) -> u32
+    ensures { result ≡ index_by output joint }
+{
+    if output { joint.output } else { joint.input }
+}
+
+/// The disable of the port, or its enable.
+fn port_command(disables: bool, port: u32) -> Command
+    ensures { result ≡ port_command disables port }
+{
+    if disables {
+        Command::PortDisable(PortSel::One(port))
+    } else {
+        Command::PortEnable(PortSel::One(port))
+    }
+}
+
+/// That was sent.
+fn port_sent(disables: bool, port: PortName) -> ActText
+    ensures { SaysOf port.component result (λ h. acts.SendCommand h (port_command disables port.index)) (acts.Plain (Ok tt)) }
+{
+    if disables {
+        disabled(port)
+    } else {
+        enabled(port)
+    }
+}
+
+/// Names the definition of the port.
+fn definition_key(port: u32) -> ParamKey
+    ensures { result ≡ definition_key port }
+{
+    ParamKey {
+        version: Version::V112,
+        index: 1,
+        port,
+    }
+}
+
+impl<S: Source, K: Sink> Playing<S, K> {
+    /// The link that the component gives into.
+    fn link_from(&self, component: u32) -> u32
+        requires few { length self.now.plan.joints ≤ 1024 }
+        requires there { (l : ℕ) × IsLinkFrom self.now.plan component l }
+        ensures { IsLinkFrom self.now.plan component result }
+    {
+        for link in 0..self.link_count() {
+            if self.joint(link).giver == component {
+                return link;
+            }
+        }
+        unreachable!()
+    }
+
+    /// The link's output, or its input.
+    fn port(&self, link: u32, output: bool) -> PortId
+        requires there { link < length self.now.plan.joints }
+        requires parts { HasParts self.now }
+        ensures handle { IsHandleAt self.now.graph (place_by output (joint_of self.now.plan link)) result.handle }
+        ensures index { result.index ≡ index_by output (joint_of self.now.plan link) }
+    {
+        let joint = self.joint(link);
+        PortId {
+            handle: self.handle(place_at(joint, output)),
+            index: index_at(joint, output),
+        }
+    }
+
+    /// Its name.
+    fn port_name(&self, link: u32, output: bool) -> PortName
+        requires there { link < length self.now.plan.joints }
+        requires parts { HasParts self.now }
+        ensures component { IsNameAt self.now.plan.parts (place_by output (joint_of self.now.plan link)) result.component }
+        ensures index { result.index ≡ index_by output (joint_of self.now.plan link) }
+    {
+        let joint = self.joint(link);
+        port_at(&self.plan, place_at(joint, output), index_at(joint, output))
+    }
+
+    /// What is set there: the format is that of the file.
+    fn definition(&self, link: u32, output: bool) -> PortDefinition
+        requires there { link < length self.now.plan.joints }
+        requires valid { IsValid self.now.plan }
+        ensures { result ≡ planned (late_cast_of self.now.plan) output link }
+    {
+        let joint = self.joint(link);
+        let flow = self.plan.flows()[link as usize];
+        PortDefinition {
+            input: !output,
+            format: flow.format,
+            count: joint.count,
+            size: joint.size,
+        }
+    }
+
+    /// The disable of the link's output, or of its input, is sent; or its enable.
+    fn send_port(&mut self, link: u32, output: bool, disables: bool)
+        requires { CanChange self.old link (sending disables) (sent_as output) }
+        ensures plan { self.new.plan ≡ self.old.plan }
+        ensures files { KeepsAllFiles self.old.graph self.new.graph }
+        ensures changed { ChangesTo self.old self.new link (sending disables) (sent_as output) (sent_as output + 1) }
+    {
+        let port = self.port(link, output);
+        let name = self.port_name(link, output);
+        law_of_changed_streams();
+        let _ = self
+            .graph
+            .send_command(port.handle, port_command(disables, port.index));
+        tell(&mut self.log, &port_sent(disables, name));
+    }
+
+    /// The link's tunnel is dropped.
+    fn drop(&mut self, link: u32)
+        requires { CanChange self.old link Retune 0 }
+        ensures plan { self.new.plan ≡ self.old.plan }
+        ensures files { KeepsAllFiles self.old.graph self.new.graph }
+        ensures changed { ChangesTo self.old self.new link Retune 0 1 }
+    {
+        let output = self.port(link, true);
+        let input = self.port(link, false);
+        let first = self.port_name(link, true);
+        let second = self.port_name(link, false);
+        law_of_changed_streams();
+        let _ = self.graph.drop_tunnel(output, input);
+        tell(&mut self.log, &dropped(first, second));
+    }
+
+    /// The definition of the link's output, or of its input, is set.
+    fn set(&mut self, link: u32, output: bool)
+        requires { CanChange self.old link Retune (set_as output) }
+        ensures plan { self.new.plan ≡ self.old.plan }
+        ensures files { KeepsAllFiles self.old.graph self.new.graph }
+        ensures changed { ChangesTo self.old self.new link Retune (set_as output) (set_as output + 1) }
+    {
+        let port = self.port(link, output);
+        let name = self.port_name(link, output);
+        let definition = self.definition(link, output);
+        law_of_changed_streams();
+        let _ = self.graph.set_parameter(
+            port.handle,
+            definition_key(port.index),
+            Param::Port(definition),
+        );
+        tell(
+            &mut self.log,
+            &set_port(name, definition.format, definition.count, definition.size),
+        );
+    }
+
+    /// The link's tunnel is set up, whose headers its input makes.
+    fn join(&mut self, link: u32)
+        requires { CanChange self.old link Retune 3 }
+        ensures plan { self.new.plan ≡ self.old.plan }
+        ensures files { KeepsAllFiles self.old.graph self.new.graph }
+        ensures changed { ChangesTo self.old self.new link Retune 3 4 }
+    {
+        let output = self.port(link, true);
+        let input = self.port(link, false);
+        let first = self.port_name(link, true);
+        let second = self.port_name(link, false);
+        law_of_changed_streams();
+        let _ = self.graph.setup_tunnel(output, input);
+        tell(&mut self.log, &joined(first, second, Supplier::Input));
+    }
+
+    /// Both ports are to be disabled.
+    fn disable(&mut self, link: u32)
+        requires { CanChange self.old link Disable 0 }
+        ensures plan { self.new.plan ≡ self.old.plan }
+        ensures files { KeepsAllFiles self.old.graph self.new.graph }
+        ensures changed { ChangesTo self.old self.new link Disable 0 2 }
+    {
+        self.send_port(link, true, true);
+        self.send_port(link, false, true);
+    }
+
+    /// Both ports get the format of the file, while the tunnel is dropped.
+    fn retune(&mut self, link: u32)
+        requires { CanChange self.old link Retune 0 }
+        ensures plan { self.new.plan ≡ self.old.plan }
+        ensures files { KeepsAllFiles self.old.graph self.new.graph }
+        ensures changed { ChangesTo self.old self.new link Retune 0 4 }
+    {
+        self.drop(link);
+        self.set(link, true);
+        self.set(link, false);
+        self.join(link);
+    }
+
+    /// Both ports are to be enabled.
+    fn enable(&mut self, link: u32)
+        requires { CanChange self.old link Enable 0 }
+        ensures plan { self.new.plan ≡ self.old.plan }
+        ensures files { KeepsAllFiles self.old.graph self.new.graph }
+        ensures changed { ChangesTo self.old self.new link Enable 0 2 }
+    {
+        self.send_port(link, true, false);
+        self.send_port(link, false, false);
+    }
+
+    /// The step is made on the link of the late source.
+    pub(crate) fn change(&mut self, component: u32, step: ChangeStep)
+        requires { CanChangeFrom self.old component step }
+        ensures plan { self.new.plan ≡ self.old.plan }
+        ensures files { KeepsAllFiles self.old.graph self.new.graph }
+        ensures changed { ChangedFrom self.old self.new component step }
+    {
+        let link = self.link_from(component);
+        match step {
+            ChangeStep::Disable => self.disable(link),
+            ChangeStep::Retune => self.retune(link),
+            ChangeStep::Enable => self.enable(link),
+        }
+    }
+}
