@@ -15,7 +15,7 @@ pub record HasLateStreams (x : LateCast) (k : PlayContents) (p : Play) (w : Worl
   pub contents : HasLateContents x k w
   -- what the input of each link has taken
   pub taken : ℕ → List ℕ
-  -- until the second Idle is begun the streams are the model's; from then on nothing flows
+  -- until the second Idle is begun the streams are the model's; from then on each input has taken its whole stream
   pub flowing : p.phase ≤ 2 → AreStreams (network_of x.cast) k.model p.flow (record { taken = taken; flowing = flowing_in x.cast w })
   pub whole : 3 ≤ p.phase → HasAll x.cast k taken
   pub done : 3 ≤ p.phase → (c : ℕ) → c < components_of x.cast → (p.flow).done c ≡ (((x.cast).layout).network).frames c

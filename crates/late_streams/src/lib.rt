@@ -77,7 +77,7 @@ pub fn law_of_link_streams()
         → Names x.cast w (other_component (x.cast).layout l) h → HandBack w h (away_at x.cast l).port result v → HasLateStreams x k q v }
 {}
 
-/// Nor do the conductor's acts on a late source's link.
+/// The conductor's acts on a late source's link move no bytes.
 pub fn law_of_changed_streams()
     ensures sent { (x : LateCast) (k : PlayContents) (recent later : ℕ) (p q : Play) (w v : World) (l : ℕ) (output disables : Bool) (h : Handle) (result : Result (Unit {0}) OmxError)
         → IsLateWorld x recent p w → HasLateStreams x k p w → IsLateWorld x later q v → q.phase ≡ p.phase → l < links_of x.cast

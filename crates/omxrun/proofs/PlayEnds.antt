@@ -299,9 +299,6 @@ record IsLet (script : Script) (log : List ℕ) (mid : Outside) : Type 0 where
 reader-in : (script : Script) (planned plan : PlanValue) (place : ℕ) (file : List ℕ) → IsPlanOfScript script planned → plan.parts ≡ planned.parts → IsReader plan.parts place file → IsReader (parts_of script) place file
 reader-in script planned plan place file is e r = subst (λ (ps : List PartLine). IsReader ps place file) (e ∙ planned-parts script planned is) r
 
-reader-out : (script : Script) (planned plan : PlanValue) (place : ℕ) (file : List ℕ) → IsPlanOfScript script planned → plan.parts ≡ planned.parts → IsReader (parts_of script) place file → IsReader plan.parts place file
-reader-out script planned plan place file is e r = subst (λ (ps : List PartLine). IsReader ps place file) (sym (e ∙ planned-parts script planned is)) r
-
 writer-in : (script : Script) (planned plan : PlanValue) (place : ℕ) (file : List ℕ) → IsPlanOfScript script planned → plan.parts ≡ planned.parts → IsWriter plan.parts place file → IsWriter (parts_of script) place file
 writer-in script planned plan place file is e w = subst (λ (ps : List PartLine). IsWriter ps place file) (e ∙ planned-parts script planned is) w
 

@@ -1,16 +1,15 @@
-ghost use Rattle.std.specs.Prelude.{◌≡◌, ◌≤◌, ℕ, List, Result, IfOk, IfErr, OnOk};
+ghost use Rattle.std.specs.Prelude.{◌≡◌, ◌≤◌, ℕ, List, Result, IfOk, IfErr};
 ghost use Rattle.outside_io.specs.Files.{GoesOn};
 ghost use Rattle.script_lang.specs.PlayScripts.{IsPlayScript};
 ghost use Rattle.omxrun.specs.Plays.{HasPlayReason, IsPlayCourse, IsPlayOutcome, IsToldOf, WasRead};
-ghost use Rattle.play_course.specs.Outcomes.{CountsStand};
 
 use crate::print::{print, tell};
-use crate::script::{SCRIPT_BYTES, parts_of};
+use crate::script::SCRIPT_BYTES;
 use crate::summary::text_of_play;
 use crate::trace::{refused_fault, unread_fault};
 use omx_types::{Fault, Status};
 use outside_io::{Media, Sink, read_whole};
-use play_course::{Player, play_script};
+use play_course::{Player, parts_of, play_script};
 use play_files::law_of_names;
 use script_lang::{Script, read_script};
 use std::alloc::Global;

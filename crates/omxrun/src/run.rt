@@ -1,6 +1,5 @@
 ghost use Rattle.std.specs.Prelude.{◌≡◌, ◌≤◌, ℕ, List, map, string_bytes, Result, Ok, Err};
 ghost use Rattle.outside_io.specs.Files.{GoesOn};
-ghost use Rattle.omx_types.specs.declared.fault.Fault.TheVariants as Faults;
 ghost use Rattle.omx_types.specs.declared.fault.Which.TheVariants.{Line};
 ghost use Rattle.omx_types.specs.declared.fault.ScriptWhy.{ScriptWhy};
 ghost use Rattle.omx_types.specs.declared.fault.WavFault.{WavFault};

@@ -140,6 +140,23 @@ fn late_source_plays(rt: HostRuntime) -> Result<(), Failure> {
     Ok(())
 }
 
+#[test]
+fn late_source_ends_early(rt: HostRuntime) -> Result<(), Failure> {
+    let media = media_of(
+        rt.alloc(),
+        LATE,
+        THREE_SAMPLES,
+        &[("in.wav", FailKind::EndAt, 46)],
+    )?;
+    let ran = run(&rt, media, &PLAY, ROOM)?;
+    let told: &[u8] = b"short: line 2 at 46 of 50\n";
+    assert_eq!(rt; ran.printed.as_slice(), told);
+    assert_eq!(rt; ran.status.number(), 8);
+    assert_eq!(rt; ran.media.file("out.wav").map(|bytes| bytes.len()), Some(0));
+    assert!(rt; ran.media.file("log").is_none());
+    Ok(())
+}
+
 /// Plays where one call fails, and compares what is printed, the status, and how long the output's file is.
 fn check_fail<R: Threads + Wait + Sync + Alloc<A = Global> + Abort>(
     rt: &R,

@@ -9,4 +9,5 @@ mod summary;
 
 pub use course::play_script;
 pub use player::{Player, RunFault};
+pub use settling::parts_of;
 pub use summary::{SinkLine, Summary};

@@ -27,7 +27,7 @@ pub(crate) fn has_risen(before: u64, now: u64) -> bool
 }
 
 /// The components of a play's script.
-pub(crate) fn parts_of(script: &Script) -> &[PartLine]
+pub fn parts_of(script: &Script) -> &[PartLine]
     ensures { result.now ≡ parts_of script.now }
 {
     match script {

@@ -34,7 +34,7 @@ use Rattle.play_forms.specs.Plans.{PlanValue}
 use Rattle.play_forms.specs.Settling.{into}
 use Rattle.stream_plan.proofs.Flows.{flow_of_source}
 use Rattle.play_worlds.specs.Cast.{Cast, IsCast, components_of, input_at, output_at, script_place}
-use Rattle.play_worlds.specs.Openings.{IsOpeningWorld, opening}
+use Rattle.play_worlds.specs.Openings.{opening}
 use Rattle.play_worlds.specs.Wiring.{IsSomeEnd, link_to, port_in}
 use Rattle.play_worlds.proofs.Lists.{get_there}
 use Rattle.play_worlds.proofs.Resting.{all_true}
@@ -48,7 +48,7 @@ use Rattle.assembling.proofs.Places.{from_mapped, stream_found}
 use Rattle.assembling.proofs.Accepted.{format_itself}
 use Rattle.assembling.proofs.Filing.{stream_component}
 use Rattle.assembling.proofs.Standing.{port_at_end}
-use Rattle.play_openings.specs.Assemblies.{HasNoLate, IsReady, PlayFiles, assembly_of, end_of, file_at, file_of, is_late_link, kind_in, opening_format, late_cast_of}
+use Rattle.play_openings.specs.Assemblies.{IsReady, PlayFiles, assembly_of, end_of, file_at, file_of, is_late_link, kind_in, opening_format, late_cast_of}
 use Rattle.play_openings.proofs.Lawful.{IsLinkAt, alike_flows, kind_on, known_format, known_within, late_is, link_is, not_late, plan_lawful, flow_given, same_part, sink_roomy}
 use Rattle.machine_laws.proofs.Accepting.{is_not}
 use Rattle.flow_model.specs.Network.{IsInput, IsOutput}
@@ -56,7 +56,6 @@ use Rattle.play_forms.specs.declared.flow.Flow.{Flow}
 use Rattle.late_worlds.specs.Changing.{is_set, state_by as changing_state}
 use Rattle.late_worlds.specs.Late.{IsAlike, IsSetFor, IsWiredAt}
 use Rattle.late_worlds.specs.Openings.{IsLateOpening, IsSetUpAt}
-use Rattle.late_worlds.proofs.Opened.{early_opening}
 
 -- ---- formats that fit
 
@@ -455,7 +454,3 @@ module _ (plan : PlanValue) (files : PlayFiles) (handles : List Handle) (w : Wor
 
 pub assembled_opens : (plan : PlanValue) (files : PlayFiles) (handles : List Handle) (w : World) → IsReady plan files → IsStage (assembly_of plan files) (Joining (length plan.joints)) handles w → IsLateOpening (late_cast_of plan) w
 assembled_opens plan files handles w R W = opens plan files handles w (record { ready = R; stage = W })
-
-pub early_opens : (plan : PlanValue) (files : PlayFiles) (handles : List Handle) (w : World) → IsReady plan files → HasNoLate plan → IsStage (assembly_of plan files) (Joining (length plan.joints)) handles w
-    → IsOpeningWorld (cast_of (λ l. false) plan) w
-early_opens plan files handles w R N W = early_opening (late_cast_of plan) w (λ l b. let K = link_is plan files R l b in late_is plan files R l K ∙ N (joint_of plan l).giver (K.part false) (K.part_there false)) (assembled_opens plan files handles w R W)

@@ -85,9 +85,6 @@ pub record IsReady (plan : PlanValue) (files : PlayFiles) : Type 0 where
   pub bytes : (place : ℕ) (part : PartLine) (head : WavHead) → slice_get plan.parts place ≡ Some part → is_source (kind_of part.form) ≡ true
       → slice_get files.heads (source_number plan.parts place) ≡ Some head → head.frames * frame_bytes_of head.format ≤ files.there place
 
-abbrev pub HasNoLate : PlanValue → Type 0
-HasNoLate plan = (place : ℕ) (part : PartLine) → slice_get plan.parts place ≡ Some part → is_late (kind_of part.form) ≡ false
-
 -- its cast, in which the input supplies each link, with the formats of its links
 abbrev pub late_cast_of : PlanValue → LateCast
 late_cast_of plan = record { cast = cast_of (λ l. false) plan; format = λ l. (flow_of plan l).format }

@@ -1,6 +1,5 @@
 -- What a play on one thread leaves that was done whole.
-use Rattle.std.specs.Prelude.{◌≡◌, ◌≢◌, ℕ, List, All, Option, Some}
-use Rattle.std.specs.Io.KnownBytes.{append_known}
+use Rattle.std.specs.Prelude.{◌≡◌, ◌≢◌, ℕ, List, All, Some}
 use Rattle.outside_io.specs.Files.{Outside}
 use Rattle.il_machine.specs.World.{World}
 use Rattle.script_lang.specs.PlayScripts.{IsPlayScript}
@@ -13,7 +12,6 @@ use Rattle.play_log.specs.Entries.{Entry}
 use Rattle.play_log.specs.Naming.{IsNaming}
 use Rattle.play_log.specs.Scenes.{scene_of}
 use Rattle.play_results.specs.Files.{AreFiles, IsNoSink, IsWriter}
-use Rattle.play_results.specs.Summaries.{SinkLine, summary_of, summary_text}
 use Rattle.play_results.specs.Worlds.{IsEnding, IsOpening}
 
 -- the told file of the name is this script of a play, and this is its plan, fitted to its files
@@ -44,21 +42,3 @@ HoldSinks plan samples new = (place : ℕ) (name : List ℕ) → IsWriter plan.p
 
 abbrev pub OthersAreKept : List PartLine → List ℕ → Outside → Outside → Type 0
 OthersAreKept parts log old new = (name : List ℕ) → name ≢ log → IsNoSink parts name → new.file name ≡ old.file name
-
-pub record IsPlayed (script log : List ℕ) (old new : Outside) (summary : List SinkLine) (printed : List ℕ) : Type 0 where
-  pub plan : PlanValue
-  pub files : PlayFiles
-  pub samples : List (List ℕ)
-  pub is : IsPlanIn script log old plan files samples
-  pub sinks : HoldSinks plan samples new
-  pub text : List ℕ
-  pub logged : new.file log ≡ Some text
-  pub log_is : IsLogOf plan files new text
-  pub others : OthersAreKept plan.parts log old new
-  pub summary_is : summary ≡ summary_of plan samples
-  pub printed_is : printed ≡ summary_text plan.parts summary
-
--- it was played, and out got the summary
-abbrev pub GotPlayed : List ℕ → List ℕ → Outside → Outside → Option (List ℕ) → Option (List ℕ) → Type 0
-GotPlayed script log old new told told_new =
-    (summary : List SinkLine) × (printed : List ℕ) × IsPlayed script log old new summary printed × (told_new ≡ append_known told printed)

@@ -1,10 +1,10 @@
 -- The component that a handle names, and whether its client object is in.
-use Rattle.std.proofs.Common.{◌≡◌, ℕ, zero, suc, ◌<◌, Bool, false, if◌then◌else◌, List, [], ◌∷◌, length, slice_get, Option, Some, None, option_map, option_and_then, is_none, Result, Ok, Err, refl, sym, ◌∙◌, ap, subst, arith}
+use Rattle.std.proofs.Common.{◌≡◌, ℕ, zero, suc, ◌<◌, Bool, false, if◌then◌else◌, List, [], ◌∷◌, length, slice_get, Option, Some, None, option_and_then, is_none, Result, Ok, Err, refl, sym, ◌∙◌, ap, subst, arith}
 use Rattle.omx_types.specs.declared.handle.Handle.{Handle}
 use Rattle.il_machine.specs.World.{Component, World, place_of}
 use Rattle.il_machine.specs.Answers.{component_named, looked}
-use Rattle.il_machine.specs.Look.{Look, look}
-use Rattle.il_machine.specs.Components.{handle_at, progress_answer, progress_of}
+use Rattle.il_machine.specs.Look.{Look}
+use Rattle.il_machine.specs.Components.{progress_answer, progress_of}
 use Rattle.il_machine.specs.declared.answer.Progress.{Progress}
 use Rattle.il_machine.specs.Whole.{Always, Stands}
 use Rattle.omx_types.specs.declared.error.OmxError.{OmxError}
@@ -15,6 +15,7 @@ use Rattle.graph_core.specs.Entries.{Entries, client_named, components_of}
 use Rattle.graph_core.proofs.Replacing.{entry_place_is}
 use Rattle.graph_core.proofs.Clients.{client_there}
 use Rattle.play_graphs.specs.Graphs.{IsHandleAt, kept_of}
+use Rattle.play_graphs.specs.Making.{IsMade}
 use Rattle.play_graphs.proofs.Naming.{named_at}
 use Rattle.play_run.specs.Playing.{AreClientsIn, HasParts, IsProgressAt, PlayingValue}
 
@@ -48,16 +49,14 @@ module _ {S K : Type 0} where
   pub part_there : (x : PlayingValue S K) (place : ℕ) → place < length x.plan.parts → (Y : HasParts x) → (c : Component) × (slice_get Y.world.components place ≡ Some c)
   part_there x place b Y = let m = Y.many in get_there Y.world.components place (omega arith)
 
-  pub no_handle : (y x : PlayingValue S K) → y ≡ x → (place : ℕ) (o : Option Handle) → place < length x.plan.parts → HasParts x → Always (kept_of y.graph) (λ w. o ≡ handle_at place (look w)) → o ≡ None → ⊥
-  no_handle y x is place o b Y A e =
-      let c = part_there x place b Y in
-      let a : o ≡ handle_at place (look Y.world) = subst (λ (z : PlayingValue S K). Always (kept_of z.graph) (λ w. o ≡ handle_at place (look w))) is A Y.world Y.stands in
-      let there : handle_at place (look Y.world) ≡ Some (c.0).handle = ap (option_map (λ (d : Component). d.handle)) c.1 in
-      let z : None ≡ Some (c.0).handle = sym e ∙ (a ∙ there) in
-      absurd cc
+  pub made_at : (y x : PlayingValue S K) → y ≡ x → (place : ℕ) → place < length x.plan.parts → HasParts x → IsMade place y.graph
+  made_at y x is place b Y =
+      let m = Y.many in
+      let there : place < length (Y.world).components = omega (arith, b) in
+      subst (λ (z : PlayingValue S K). IsMade place z.graph) (sym is) (Y.world, Y.stands, there)
 
-  pub some_handle : (y x : PlayingValue S K) → y ≡ x → (place : ℕ) (o : Option Handle) (h : Handle) → Always (kept_of y.graph) (λ w. o ≡ handle_at place (look w)) → o ≡ Some h → IsHandleAt x.graph place h
-  some_handle y x is place o h A e = λ w s. sym (subst (λ (z : PlayingValue S K). Always (kept_of z.graph) (λ w. o ≡ handle_at place (look w))) is A w s) ∙ e
+  pub handle_there : (y x : PlayingValue S K) → y ≡ x → (place : ℕ) (h : Handle) → IsHandleAt y.graph place h → IsHandleAt x.graph place h
+  handle_there y x is place h H = subst (λ (z : PlayingValue S K). IsHandleAt z.graph place h) is H
 
   -- the client object of each component is in
   pub all_clients_in : (x : PlayingValue S K) → AreClientsIn x.graph.core → (w : World) → Stands (kept_of x.graph) w → (place : ℕ) (h : Handle) (c : Component) → place_of h w.components ≡ Some place → slice_get w.components place ≡ Some c → c.client_out ≡ false

@@ -58,7 +58,7 @@ use Rattle.play_plans.specs.Casting.{place_of}
 use Rattle.play_graphs.specs.Graphs.{IsHandleAt, kept_of}
 use Rattle.play_run.specs.Playing.{unfailed, ToldAlike, HaveNoWork, PlayingValue, TurnsTo, layout_of, IsPlaying}
 use Rattle.play_run.specs.Recording.{IsNameAt, IsTold}
-use Rattle.play_stopping.specs.Stops.{AreJoined}
+use Rattle.play_stopping.specs.Stops.{HaveTunnels}
 use Rattle.play_run.specs.Turning.{FailsOn, FileShows, FilesStayed}
 use Rattle.play_run.proofs.Working.{all_in, none_out}
 use Rattle.play_run.proofs.Commanding.{component_named_in}
@@ -174,7 +174,7 @@ joined_so (suc (suc (suc zero))) acts b = ap is_joined_at b
 joined_so (suc (suc (suc (suc n)))) acts b = absurd b
 
 -- each step of the conductor ends with a tunnel
-pub joined_between : (x : LateCast) (recent : ℕ) (p : Play) (lates : List LateLink) → AreLates x.cast recent p lates → AreCarriedOut x.cast p lates → AreJoined x p
+pub joined_between : (x : LateCast) (recent : ℕ) (p : Play) (lates : List LateLink) → AreLates x.cast recent p lates → AreCarriedOut x.cast p lates → HaveTunnels x p
 joined_between x recent p lates L C = λ l b t.
     let s = L.some l b t in
     joined_so (s.1).steps (p.change l).step (C s.0 l s.1 s.2 (s.3).of_link)

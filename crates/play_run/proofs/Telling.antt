@@ -55,7 +55,8 @@ use Rattle.play_plans.specs.Casting.{place_of as place_in}
 use Rattle.play_graphs.specs.Graphs.{IsHandleAt, client_progress, kept_of}
 use Rattle.play_run.specs.Playing.{AreClientsIn, IsPlaying, IsStanding, PlayingValue, TurnsTo, layout_of}
 use Rattle.play_run.specs.Recording.{IsNameAt, IsTold}
-use Rattle.play_run.specs.Turning.{IsEvent}
+use Rattle.play_stopping.specs.Stops.{IsEvent}
+use Rattle.play_stopping.proofs.Noted.{event_is}
 use Rattle.il_graph.proofs.PartsStay.{step_stays}
 use Rattle.play_run.proofs.Naming.{all_clients_in}
 use Rattle.play_run.proofs.Working.{still_none}
@@ -194,11 +195,6 @@ pub record HasLines (parts : List PartLine) (place : ℕ) (event : Event) (old n
   pub told_second : IsTold between second new
 
 -- ---- the calls
-
-event_is : (taken : Given_) (event : Event) → taken_of taken ≡ TakenEvent event → taken ≡ given.Told event
-event_is (given.Told one) event e = let s : one ≡ event = cc in ap given.Told s
-event_is (given.EmptyDone header) event e = absurd cc
-event_is (given.FillDone header) event e = absurd cc
 
 same_is : (h k : Handle) → same_handle h k ≡ true → h ≡ k
 same_is h k s = let f = same_fields h k s in λ j. record { slot = f.0 j; generation = f.1 j }

@@ -29,7 +29,7 @@ pub record IsLinkFrom (plan : PlanValue) (place l : ℕ) : Type 0 where
   pub below : l < length plan.joints
   pub gives : (joint_of plan l).giver ≡ place
 
--- so it does, as the conductor has it
+-- so it does, by the play's cast
 abbrev pub IsSourceOf : PlanValue → ℕ → ℕ → Type 0
 IsSourceOf plan place l = place ≡ script_place (cast plan) (giver_of (cast plan) l)
 
@@ -40,7 +40,7 @@ acts_of Disable = 2
 acts_of Retune = 4
 acts_of Enable = 2
 
--- which step the disables of the ports are, or their enables; and which act of it that of the output is, or that of the input
+-- the step that disables the ports, or that enables them; and which act of it is that of the output, or that of the input
 abbrev pub sending : Bool → ChangeStep
 sending true = Disable
 sending false = Enable

@@ -1,7 +1,5 @@
--- What a note tells, and what a part that fails leaves.
+-- What a part that fails leaves.
 use Rattle.std.specs.Prelude.{◌≡◌, ℕ, Bool, List, Some, ◌<◌, length}
-use Rattle.note_queues.specs.declared.taken.Taken.{Taken}
-use Rattle.note_queues.specs.declared.taken.Taken.TheVariants.{Told}
 use Rattle.play_run.specs.declared.failure.Failure.{Failure}
 use Rattle.il_machine.specs.World.{World}
 use Rattle.il_machine.specs.Stepping.{WorkDone}
@@ -17,19 +15,12 @@ use Rattle.play_streams.specs.Fronts.{AreFronts}
 use Rattle.play_streams.specs.Streams.{AreNew}
 use Rattle.late_streams.specs.Contents.{HasLateContents}
 use Rattle.play_graphs.specs.Graphs.{kept_of}
-use Rattle.play_stopping.specs.Stops.{AreJoined}
+use Rattle.play_stopping.specs.Stops.{HaveTunnels}
 use Rattle.omx_types.specs.declared.fault.PartFault.{PartFault}
 use Rattle.audio_parts.specs.Objects.{Held}
 use Rattle.il_graph.specs.Shown.{file_of}
 use Rattle.play_run.specs.Recording.{IsBeginning}
 use Rattle.play_run.specs.Playing.{AreClientsIn, HaveNoWork, IsPlaying, PlayingValue, ToldAlike, unfailed}
-
--- the note is an event
-abbrev pub IsEvent : Taken → Type 0
-IsEvent (Told event) = Unit {0}
-IsEvent other = ⊥
-
--- ---- a part fails
 
 -- From an opening where each sink's file is new, the files of the sinks have taken fronts of their whole texts.
 abbrev pub HasFrontsFrom : LateCast → World → World → Type 0
@@ -37,7 +28,8 @@ HasFrontsFrom x opening w = (k : PlayContents) → HasLateContents x k opening �
     → (stream : ℕ → List ℕ) → ArePlain (network_of x.cast) k.model stream → AreFronts x.cast k w stream
 
 module _ {S K : Type 0} where
-  -- The graph stands for what the step that failed left of a world of the play. No work and no client object is out.
+  -- The graph stands for what the step that failed left of a world of the play. Each late source's link has its tunnel. No work and no client
+  -- object is out.
   pub record HasFailed (x : PlayingValue S K) (failure : Failure) : Type 0 where
     pub world : World
     pub stands : Stands (kept_of x.graph) world
@@ -48,7 +40,7 @@ module _ {S K : Type 0} where
     pub before : World
     pub recent : ℕ
     pub played : IsLateWorld (late_cast_of x.plan) recent play before
-    pub tunnels : AreJoined (late_cast_of x.plan) play
+    pub tunnels : HaveTunnels (late_cast_of x.plan) play
     pub done : WorkDone
     pub there : failure.component < length x.plan.parts
     pub its : done.component ≡ failure.component

@@ -32,7 +32,7 @@ fn place_at(joint: Joint, output: bool) -> u32
     if output { joint.giver } else { joint.taker }
 }
 
-/// Its port there.
+/// The link's port there.
 fn index_at(joint: Joint, output: bool) -> u32
     ensures { result ≡ index_by output joint }
 {
@@ -50,7 +50,7 @@ fn port_command(disables: bool, port: u32) -> Command
     }
 }
 
-/// That was sent.
+/// The log's text of that send.
 fn port_sent(disables: bool, port: PortName) -> ActText
     ensures { SaysOf port.component result (λ h. acts.SendCommand h (port_command disables port.index)) (acts.Plain (Ok tt)) }
 {
@@ -101,7 +101,7 @@ impl<S: Source, K: Sink> Playing<S, K> {
         }
     }
 
-    /// Its name.
+    /// The name of the link's output, or of its input.
     fn port_name(&self, link: u32, output: bool) -> PortName
         requires there { link < length self.now.plan.joints }
         requires parts { HasParts self.now }
@@ -145,7 +145,7 @@ impl<S: Source, K: Sink> Playing<S, K> {
     }
 
     /// The link's tunnel is dropped.
-    fn drop(&mut self, link: u32)
+    fn part(&mut self, link: u32)
         requires { CanChange self.old link Retune 0 }
         ensures plan { self.new.plan ≡ self.old.plan }
         ensures files { KeepsAllFiles self.old.graph self.new.graph }
@@ -216,7 +216,7 @@ impl<S: Source, K: Sink> Playing<S, K> {
         ensures files { KeepsAllFiles self.old.graph self.new.graph }
         ensures changed { ChangesTo self.old self.new link Retune 0 4 }
     {
-        self.drop(link);
+        self.part(link);
         self.set(link, true);
         self.set(link, false);
         self.join(link);

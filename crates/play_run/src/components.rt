@@ -12,8 +12,9 @@ ghost use Rattle.il_graph.specs.declared.claimed.Claimed.TheVariants as answers;
 ghost use Rattle.late_tellings.specs.Tellings.{IsTellingOf};
 ghost use Rattle.late_turns.specs.Turns.{IsRunOf, IsStepOf};
 ghost use Rattle.play_loop.specs.Turns.{SomePlay};
+ghost use Rattle.play_stopping.specs.Stops.{IsEvent};
 ghost use Rattle.play_run.specs.Playing.{FilesStay, IsPlaying, TurnsTo, layout_of};
-ghost use Rattle.play_run.specs.Turning.{FailsOn, IsEvent};
+ghost use Rattle.play_run.specs.Turning.{FailsOn};
 
 use crate::failure::Failure;
 use crate::lines::{name_at, tell};

@@ -9,6 +9,7 @@ use crate::playing::Playing;
 use il_graph::{Handle, Progress};
 use outside_io::{Sink, Source};
 use play_forms::Joint;
+use play_graphs::{count, handle, joint, link_count};
 
 impl<S: Source, K: Sink> Playing<S, K> {
     /// The component at the place in the script.
@@ -17,10 +18,7 @@ impl<S: Source, K: Sink> Playing<S, K> {
         requires parts { HasParts self.now }
         ensures { IsHandleAt self.now.graph place result }
     {
-        match self.graph.handle_at(place) {
-            Some(h) => h,
-            None => unreachable!(),
-        }
+        handle(&self.graph, place)
     }
 
     /// What the component has told, of all that it told.
@@ -44,7 +42,7 @@ impl<S: Source, K: Sink> Playing<S, K> {
         ensures count { result ≡ length self.now.plan.parts }
         ensures few { result ≤ 32 }
     {
-        self.plan.parts().len() as u32
+        count(&self.plan)
     }
 
     /// How many links there are.
@@ -52,7 +50,7 @@ impl<S: Source, K: Sink> Playing<S, K> {
         requires { length self.now.plan.joints ≤ 1024 }
         ensures { result ≡ length self.now.plan.joints }
     {
-        self.plan.joints().len() as u32
+        link_count(&self.plan)
     }
 
     /// The place of the component that has that turn.
@@ -67,6 +65,6 @@ impl<S: Source, K: Sink> Playing<S, K> {
         requires { link < length self.now.plan.joints }
         ensures { result ≡ joint_of self.now.plan link }
     {
-        self.plan.joints()[link as usize]
+        joint(&self.plan, link)
     }
 }

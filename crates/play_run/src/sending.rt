@@ -65,7 +65,7 @@ impl<S: Source, K: Sink> Playing<S, K> {
         }
     }
 
-    /// The state that is due, if one is, is sent to all, and the step that is due is made.
+    /// The state that is due is sent to all, or the step of a change that is due is made.
     pub(crate) fn conduct(&mut self) -> bool
         requires { SomePlay (IsPlaying self.old) }
         ensures plan { self.new.plan ≡ self.old.plan }

@@ -35,7 +35,7 @@ use Rattle.play_stopping.specs.Stops.{IsEvent, told_by}
 use Rattle.play_stopping.proofs.Joining.{notes_same}
 
 -- a note that tells an event is that event
-event_is : (taken : Given_) (event : Event) → taken_of taken ≡ TakenEvent event → taken ≡ given.Told event
+pub event_is : (taken : Given_) (event : Event) → taken_of taken ≡ TakenEvent event → taken ≡ given.Told event
 event_is (given.Told x) event e = let s : x ≡ event = cc in ap (λ (y : Event). given.Told y) s
 event_is (given.EmptyDone header) event e = absurd cc
 event_is (given.FillDone header) event e = absurd cc

@@ -35,7 +35,7 @@ use Rattle.late_acts.proofs.Ends as ends
 use Rattle.late_acts.proofs.Standing.{pending_is, state_is}
 use Rattle.play_openings.specs.Assemblies.{late_cast_of}
 use Rattle.play_graphs.specs.Ending.{ends_of}
-use Rattle.play_stopping.specs.Stops.{AreJoined, HasNoneOut, HasStopped}
+use Rattle.play_stopping.specs.Stops.{HaveTunnels, HasNoneOut, HasStopped}
 
 pending_valid : (phase stage : ℕ) (q : Pending) → pending_at phase stage ≡ Some q → is_invalid q.target ≡ false
 pending_valid phase zero q e = absurd cc
@@ -128,7 +128,7 @@ module _ (plan : PlanValue) (V : plans.IsValid plan) (recent : ℕ) (p : Play) (
 
   -- ---- links
 
-  module _ (tunnels : AreJoined x p) where
+  module _ (tunnels : HaveTunnels x p) where
     -- that of another source is never changed
     joined : (l : ℕ) → l < joints → is_joined_at (p.change l).step ≡ true
     joined l b = either (((x.cast).layout).is_late l) (λ t. tunnels l b t) (λ f. ap is_joined_at (((W.reached).changes l b).fixed f))
@@ -157,13 +157,6 @@ module _ (plan : PlanValue) (V : plans.IsValid plan) (recent : ℕ) (p : Play) (
 
     has_links : HasLinks (ends_of plan) joints w
     has_links = record { numbered = number; inside = end_inside; joined = has_end; ends = λ i port a s e f. end_at i a e port s f }
-
-    pub play_stops : HasNoneOut w → HasStopped plan 0 w
-    play_stops N = record {
-      many = W.many;
-      linked = record { sound = W.sound; has = has_links; works = N.works; clients = N.clients };
-      stopped = record { stopped = λ i a b e. absurd (omega (arith, b)); valid = λ i a b e. (valid i a e).state };
-    }
 
     pub work_stops : (done : WorkDone) (v : World) → Finish w done v → Sound v → HasNoneOut v → HasStopped plan 0 v
     work_stops done v F S N =

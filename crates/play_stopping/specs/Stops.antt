@@ -33,8 +33,8 @@ pub record HasBrought (plan : PlanValue) (link : ℕ) (w : World) : Type 0 where
   pub brought : IsBrought (ends_of plan) (length plan.joints) link w
 
 -- each late source's link has its tunnel
-abbrev pub AreJoined : LateCast → Play → Type 0
-AreJoined x p = (l : ℕ) → l < links_of x.cast → ((x.cast).layout).is_late l ≡ true → is_joined_at (p.change l).step ≡ true
+abbrev pub HaveTunnels : LateCast → Play → Type 0
+HaveTunnels x p = (l : ℕ) → l < links_of x.cast → ((x.cast).layout).is_late l ≡ true → is_joined_at (p.change l).step ≡ true
 
 -- no work and no client object is out
 pub record HasNoneOut (w : World) : Type 0 where

@@ -1,6 +1,6 @@
-//! The graph of a play is brought to rest at any time, as after a part's fault, and taken apart: the notes of each component are
-//! taken, each component is made Invalid, the headers of each link go home and are released, and then the graph ends, which gives
-//! the files back. None of these acts is refused.
+//! The graph of a play is brought to rest from each moment in which every late source's link has its tunnel, also after a step that
+//! failed, and taken apart: the notes of each component are taken, each component is made Invalid, the headers of each link go home
+//! and are released, and then the graph ends, which gives the files back. None of these acts is refused.
 #![tactic(auto)]
 
 mod clearing;

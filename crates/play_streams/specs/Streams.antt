@@ -1,4 +1,4 @@
--- The streams of a play's world: what each input has taken, what is on its way to it, and what the files of the sinks have taken.
+-- What a sink's file takes, and that each input has taken its whole stream.
 use Rattle.std.specs.Prelude.{◌≡◌, ℕ, ◌<◌, ◌⊎◌, Bool, true, false, List, [], slice_get, Option, Some}
 use Rattle.omx_types.specs.declared.format.Format.{Format}
 use Rattle.part_api.specs.Terms.{Terms}

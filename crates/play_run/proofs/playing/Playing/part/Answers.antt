@@ -4,7 +4,7 @@ use Rattle.conductor.specs.declared.phase.ChangeStep.TheVariants.{Retune}
 use Rattle.play_run.specs.Playing.{PlayingValue}
 use Rattle.play_run.proofs.Acting.{tunnel_drops}
 use Rattle.play_run.proofs.Onward.{changing_parts, changing_there}
-use Rattle.play_run.proofs.playing.Playing.drop.Goals as goal
+use Rattle.play_run.proofs.playing.Playing.part.Goals as goal
 
 pub port-output-requires-clause-there : goal.port-output-requires-clause-there
 port-output-requires-clause-there g c = changing_there c.args.self.now c.args.link Retune 0 c.requires
