@@ -1,3 +1,4 @@
+pub mod Serving
 pub mod Bare
 pub mod Owning
 pub mod Busying

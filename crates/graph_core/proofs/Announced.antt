@@ -16,7 +16,7 @@ use Rattle.il_machine.specs.Stepping.{WorkDone, IsDoneBy, IsDoneOf}
 use Rattle.il_machine.specs.Whole.{HasProgress, Kept}
 use Rattle.il_machine.specs.World.{Component, Work, World, changed_at as world_changed, number_of, port_of, stream_of, with_component}
 use Rattle.machine_laws.proofs.Arriving.{change_let_go, state_there}
-use Rattle.machine_laws.proofs.Change.{IsChange}
+use Rattle.machine_laws.specs.Changes.{IsChange}
 use Rattle.machine_laws.proofs.Finding.{either}
 use Rattle.machine_laws.proofs.Finishing.{sound_finished}
 use Rattle.whole_laws.specs.Bare.{StepsBare}

@@ -3,8 +3,8 @@ use Rattle.std.proofs.Common.{◌≡◌, ◌≢◌, inl, inr, ℕ, suc, ◌+◌,
 use Rattle.std.proofs.lemmas.Bool.Decides.{nat_tests, eqb_tells}
 use Rattle.omx_types.specs.declared.handle.Handle.{Handle}
 use Rattle.il_machine.specs.World.{same_handle}
-use Rattle.il_machine.specs.Places.{first_place, AtMostOne}
-use Rattle.il_machine.proofs.Places.{shift, is_first_place, push_Some, push_None, place_set, place_removed, passes_at}
+use Rattle.il_machine.specs.Places.{first_place, AtMostOne, shift}
+use Rattle.il_machine.proofs.Places.{is_first_place, push_Some, push_None, place_set, place_removed, passes_at}
 use Rattle.whole_laws.proofs.Lists.{get_set_same, get_set_other, get_before_last, get_at_last, get_removed}
 use Rattle.il_component.specs.Entries.{Entry}
 use Rattle.graph_core.specs.Entries.{entry_place, is_entry_at}

@@ -9,7 +9,7 @@ use Rattle.il_machine.specs.Files.{Offered, attached, attach_refusal, with_file}
 use Rattle.il_machine.specs.Sound.{Sound}
 use Rattle.il_machine.specs.Whole.{Kept}
 use Rattle.machine_laws.proofs.Attaching.{sound_attached}
-use Rattle.machine_laws.proofs.Change.{IsChange}
+use Rattle.machine_laws.specs.Changes.{IsChange}
 use Rattle.registry.specs.Handles.{Handles}
 use Rattle.port_stock.specs.Kept.{StockKept, stocked}
 use Rattle.whole_laws.specs.Bare.{StepsBare}

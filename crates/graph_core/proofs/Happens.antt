@@ -24,7 +24,8 @@ use Rattle.machine_laws.proofs.Listed.{owned_is}
 use Rattle.machine_laws.proofs.Parts.{parts_of}
 use Rattle.machine_laws.proofs.Facts.{ports_number}
 use Rattle.machine_laws.proofs.Happening.{sound_happened}
-use Rattle.machine_laws.proofs.Ending.{pending_in, happens_fewer}
+use Rattle.machine_laws.specs.Pending.{pending_in}
+use Rattle.machine_laws.proofs.Ending.{happens_fewer}
 use Rattle.whole_laws.proofs.Lifting.{with_look, lift_component}
 use Rattle.whole_laws.proofs.Stocking.{IsStock, with_stock, with_headers, lift_stock, stands_for}
 use Rattle.whole_laws.proofs.Following.{as_change}

@@ -4,8 +4,8 @@ use Rattle.std.proofs.lemmas.Bool.Decides.{nat_tests}
 use Rattle.std.proofs.lemmas.Option.{slice_get_within}
 use Rattle.omx_types.specs.declared.handle.Handle.{Handle}
 use Rattle.il_machine.specs.World.{same_handle}
-use Rattle.il_machine.specs.Places.{first_place}
-use Rattle.il_machine.proofs.Places.{shift, place_removed, once_removed, place_at, passes_at}
+use Rattle.il_machine.specs.Places.{first_place, shift}
+use Rattle.il_machine.proofs.Places.{place_removed, once_removed, place_at, passes_at}
 use Rattle.registry.specs.Handles.{Handles, resolved, AllGiven, Removes, Sets}
 use Rattle.il_component.specs.Entries.{Entry}
 use Rattle.graph_core.specs.Entries.{entry_place, is_entry_at}

@@ -5,7 +5,8 @@ use Rattle.std.proofs.lemmas.List.{length-map}
 use Rattle.std.proofs.lemmas.Bool.Decides.{eqb_tells}
 use Rattle.omx_types.specs.declared.handle.Handle.{Handle}
 use Rattle.il_machine.specs.Stock.{Stocked}
-use Rattle.machine_laws.proofs.Change.{IsChange, link_of, sound_taking_units}
+use Rattle.machine_laws.specs.Changes.{IsChange, link_of}
+use Rattle.machine_laws.proofs.Change.{sound_taking_units}
 use Rattle.machine_laws.proofs.Units.{IsFair}
 use Rattle.port_stock.specs.Kept.{StockKept, stocked}
 use Rattle.port_stock.specs.Conditions.{IsPort}

@@ -1,8 +1,7 @@
 -- What is true of all that a graph keeps: the registry gives each live handle's place.
 use Rattle.std.specs.Prelude.{◌≡◌, ℕ, List, length, option_map}
 use Rattle.omx_types.specs.declared.handle.Handle.{Handle}
-use Rattle.il_machine.specs.Places.{first_place, AtMostOne}
-use Rattle.il_machine.proofs.Places.{shift}
+use Rattle.il_machine.specs.Places.{first_place, AtMostOne, shift}
 use Rattle.registry.specs.Handles.{Handles, resolved, live, AllGiven}
 use Rattle.il_component.specs.Entries.{Entry}
 use Rattle.graph_core.specs.Entries.{is_entry_at}

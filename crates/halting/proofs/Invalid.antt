@@ -19,7 +19,7 @@ use Rattle.il_machine.specs.Ports.{IsCalm, IsCalmPort}
 use Rattle.il_machine.specs.Room.{events_in, port_reserve, room, used, work_reserve}
 use Rattle.il_machine.specs.States.{is_invalid}
 use Rattle.il_machine.specs.World.{Component, World, place_of, told, with_component}
-use Rattle.machine_laws.proofs.Change.{link_of}
+use Rattle.machine_laws.specs.Changes.{link_of}
 use Rattle.machine_laws.proofs.Closing.{closed_closes}
 use Rattle.machine_laws.proofs.Every.{at_set, from_places}
 use Rattle.machine_laws.proofs.Steps.{sound_step}

@@ -15,7 +15,7 @@ use Rattle.il_machine.specs.Lists.{holds_at}
 use Rattle.il_machine.specs.Sound.{Sound, IsMadeFor, IsOwnedSo, is_for_component, is_in_work_of, is_key_of, port_at}
 use Rattle.il_machine.specs.World.{Component, HeaderRecord, Work, World, number_of, port_of}
 use Rattle.il_machine.proofs.Joined.{port_there}
-use Rattle.machine_laws.proofs.Change.{IsChange, link_of}
+use Rattle.machine_laws.specs.Changes.{IsChange, link_of}
 use Rattle.machine_laws.proofs.Every.{at_place, at_set_over}
 use Rattle.machine_laws.proofs.Keys.{for_which, there_is}
 use Rattle.machine_laws.proofs.Lookups.{has_port, port_at_is, port_parts}

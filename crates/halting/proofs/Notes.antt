@@ -20,7 +20,7 @@ use Rattle.il_machine.specs.Sound.{Sound, is_in_notes_of}
 use Rattle.il_machine.specs.States.{is_invalid}
 use Rattle.il_machine.specs.World.{Component, World, is_at, number_of, place_of, with_component}
 use Rattle.il_machine.proofs.Places.{is_first_place, place_set}
-use Rattle.machine_laws.proofs.Change.{link_of}
+use Rattle.machine_laws.specs.Changes.{link_of}
 use Rattle.machine_laws.proofs.Closing.{closed_closes, closed_rests}
 use Rattle.machine_laws.proofs.Every.{at_place, at_set_over, from_places, set_there}
 use Rattle.machine_laws.proofs.Keys.{at_there}

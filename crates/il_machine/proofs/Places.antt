@@ -1,11 +1,7 @@
 -- The first place that passes a test, as a list grows, shrinks and changes.
 use Rattle.std.proofs.Common.{◌≡◌, ℕ, zero, suc, ◌+◌, Bool, true, false, List, [], ◌∷◌, ◌++◌, length, set, remove, position, slice_get, Option, Some, None, option_map, cond, nat_lt, refl, ◌∙◌, ap, arith}
 use Rattle.std.proofs.lemmas.Bool.Decides.{nat_tests}
-use Rattle.il_machine.specs.Places.{first_place, AtMostOne}
-
--- a place before k stands, and one from k on stood one further
-abbrev pub shift : ℕ → ℕ → ℕ
-shift k place = cond (nat_lt place k) place (place + 1)
+use Rattle.il_machine.specs.Places.{first_place, AtMostOne, shift}
 
 mapped_none : (o : Option ℕ) → option_map suc o ≡ None → o ≡ None
 mapped_none None h = refl

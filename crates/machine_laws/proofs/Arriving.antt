@@ -24,7 +24,8 @@ use Rattle.il_machine.specs.Due.{reached, completed, completed_for, lost, lost_b
 use Rattle.il_machine.specs.Sound.{IsSound}
 use Rattle.machine_laws.proofs.Finding.{either}
 use Rattle.machine_laws.proofs.Lookups.{port_parts}
-use Rattle.machine_laws.proofs.Change.{IsChange, change_none, change_twice, link_of}
+use Rattle.machine_laws.specs.Changes.{IsChange, link_of}
+use Rattle.machine_laws.proofs.Change.{change_none, change_twice}
 use Rattle.machine_laws.proofs.Units.{IsAside, aside_twice, held_set}
 use Rattle.machine_laws.proofs.Rooms.{aside_told, costs, asked, places, loss, costs_same, used_told, IsLawful, lawful_of, sound_with, lawful_told, change_told}
 use Rattle.machine_laws.proofs.Fitting.{fit_with, fit_pending}

@@ -10,6 +10,7 @@ use Rattle.il_machine.specs.Look.{look}
 use Rattle.il_machine.specs.Units.{free_units}
 use Rattle.il_machine.specs.Census.{note_numbers}
 use Rattle.il_machine.specs.Sound.{Sound, IsSound, AreNoted, AreRising, may_work, port_at}
+use Rattle.machine_laws.specs.Changes.{link_of, IsChange}
 use Rattle.machine_laws.proofs.Every.{at_set}
 use Rattle.machine_laws.proofs.Lookups.{rising_set, port_at_is, port_at_set, port_at_set_else}
 use Rattle.machine_laws.proofs.Ties.{Tied}
@@ -17,15 +18,6 @@ use Rattle.machine_laws.proofs.PortChanges.{AreKept, tied_kept, kept_itself}
 use Rattle.machine_laws.proofs.Works.{IsLawfulWork, works_set, lawful_as}
 use Rattle.machine_laws.proofs.Units.{Resources, IsAside, IsFair, fair_aside, resources_of, resources_set}
 use Rattle.machine_laws.proofs.Parts.{Parts, ports_in_list, parts_of, sound_from}
-
-abbrev pub link_of : PortState → Option Link
-link_of p = p.link
-
-pub record IsChange (c d : Component) : Type 0 where
-  pub handle : d.handle ≡ c.handle
-  pub ports : d.settings.ports ≡ c.settings.ports
-  pub links : map link_of d.ports ≡ map link_of c.ports
-  pub notes : note_numbers d.notes ≡ note_numbers c.notes
 
 pub change_none : (c : Component) → IsChange c c
 change_none c = record { handle = refl; ports = refl; links = refl; notes = refl }

@@ -21,7 +21,8 @@ use Rattle.machine_laws.proofs.Finding.{either}
 use Rattle.machine_laws.proofs.Keys.{for_which, is_there}
 use Rattle.machine_laws.proofs.Lookups.{port_there_at}
 use Rattle.machine_laws.proofs.Parts.{parts_of, sound_from}
-use Rattle.machine_laws.proofs.Change.{IsChange, change_none, parts_changed, aside_there, resources_changed}
+use Rattle.machine_laws.specs.Changes.{IsChange}
+use Rattle.machine_laws.proofs.Change.{change_none, parts_changed, aside_there, resources_changed}
 use Rattle.machine_laws.proofs.Units.{IsAside, aside_none, resources_of}
 use Rattle.machine_laws.proofs.Headers.{is_set_aside, parts_put, parts_push, parts_without}
 use Rattle.machine_laws.proofs.Rooms.{aside_told, sound_told, change_told}

@@ -21,6 +21,7 @@ use Rattle.il_machine.specs.Ports.{is_steady}
 use Rattle.il_machine.specs.Room.{is_by_client, port_reserve}
 use Rattle.il_machine.specs.Due.{Thing, Transition, Flush, PortMode, WaitingMark, is_due_to, due_in, has_due, first_due, reached, completed_for, lost_by, restarted, with_part, all_given_back, arrived, arrived_at, transition_happened, mode_completion, all_told, happened, Happens, HappenTimes, ClosesTo}
 use Rattle.il_machine.proofs.Places.{is_first_place, passes_at}
+use Rattle.machine_laws.specs.Pending.{target_weight, pending_weight, left_in, pending_in}
 use Rattle.machine_laws.proofs.Finding.{either}
 use Rattle.machine_laws.proofs.Keys.{none_or_some}
 use Rattle.machine_laws.proofs.Lookups.{port_parts}
@@ -28,18 +29,6 @@ use Rattle.machine_laws.proofs.Arriving.{unheld_places, state_there, flushed_pla
 use Rattle.machine_laws.proofs.Happening.{IsDueAt, due_where, due_changes}
 
 -- ---- how much is pending
-
-abbrev target_weight : State → ℕ
-target_weight Idle = 2
-target_weight _ = 1
-
--- a pending Idle counts twice, since Loaded may be pending after it
-abbrev pending_weight : Option Pending → ℕ
-pending_weight None = 0
-pending_weight (Some p) = target_weight p.target
-
-abbrev left_in : Component → ℕ
-left_in c = pending_weight c.pending + sum_by port_reserve c.ports
 
 abbrev left : World → ℕ
 left w = sum_by left_in w.components
@@ -169,10 +158,6 @@ ends_within (suc n) w l = elim (closed_or_happens w) [
 -- The close-out of every world ends.
 pub closes_somewhere : (w : World) → (v : World) × ClosesTo w v
 closes_somewhere w = ends_within (left w) w (omega arith)
-
--- how much is pending at these components
-abbrev pub pending_in : List Component → ℕ
-pending_in cs = sum_by left_in cs
 
 -- each thing that happens leaves less pending
 pub happens_fewer : (w v : World) → Happens w v → pending_in v.components < pending_in w.components

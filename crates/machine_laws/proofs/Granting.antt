@@ -24,7 +24,8 @@ use Rattle.il_machine.proofs.Places.{is_first_place}
 use Rattle.machine_laws.proofs.Finding.{either}
 use Rattle.machine_laws.proofs.Lookups.{rises_at}
 use Rattle.machine_laws.proofs.Accepting.{passed, not_either, is_not, both_of}
-use Rattle.machine_laws.proofs.Change.{IsChange, change_twice, sound_component, sound_taking_units, out_there}
+use Rattle.machine_laws.specs.Changes.{IsChange}
+use Rattle.machine_laws.proofs.Change.{change_twice, sound_component, sound_taking_units, out_there}
 use Rattle.machine_laws.proofs.Parts.{parts_of}
 use Rattle.machine_laws.proofs.Units.{IsFair, held_fewer, fair_aside, resources_of}
 use Rattle.machine_laws.proofs.Rooms.{costs, asked, loss, costs_same, used_told, lawful_of, sound_with, lawful_told, change_told, aside_told}

@@ -25,7 +25,8 @@ use Rattle.machine_laws.proofs.PortChanges.{kept_itself}
 use Rattle.machine_laws.proofs.Parts.{Parts, Noted, ports_in_list, parts_of, sound_from}
 use Rattle.machine_laws.proofs.Works.{works_kept, works_set, keeps_works_but}
 use Rattle.machine_laws.proofs.Units.{IsAside, IsFair}
-use Rattle.machine_laws.proofs.Change.{IsChange, tied_set, each_set, lawful_set, aside_there, resources_changed, sound_component}
+use Rattle.machine_laws.specs.Changes.{IsChange}
+use Rattle.machine_laws.proofs.Change.{tied_set, each_set, lawful_set, aside_there, resources_changed, sound_component}
 use Rattle.machine_laws.proofs.Headers.{noticed_at, noticed_found, noticed_else, worked_found}
 use Rattle.machine_laws.proofs.Rooms.{costs, costs_same, used_noted, numbers_push, lawful_of, lawful_noted, sound_with, aside_noted}
 use Rattle.machine_laws.proofs.Listed.{IsIn, first_in, todo_in, times_append, times_self, times_else, weighs_one}

@@ -25,7 +25,7 @@ use Rattle.il_machine.specs.Room.{is_event, events_in, cost_of, sel_cost, is_by_
 use Rattle.il_machine.specs.Files.{file_port_format}
 use Rattle.il_machine.specs.Census.{note_numbers}
 use Rattle.il_machine.specs.Sound.{IsSound, IsLawfulSetting, is_fit, may_have, is_lawful_cause}
-use Rattle.machine_laws.proofs.Change.{IsChange}
+use Rattle.machine_laws.specs.Changes.{IsChange}
 use Rattle.machine_laws.proofs.Units.{IsAside}
 
 -- ---- the parts of what is used

@@ -26,7 +26,8 @@ use Rattle.il_machine.specs.Settings.{fits}
 use Rattle.il_machine.specs.Units.{need_of, free_units}
 use Rattle.il_machine.specs.Sound.{IsSound, IsUnitSound, is_fit, may_work}
 use Rattle.machine_laws.proofs.Finding.{either}
-use Rattle.machine_laws.proofs.Change.{IsChange, change_none, change_twice, link_of}
+use Rattle.machine_laws.specs.Changes.{IsChange, link_of}
+use Rattle.machine_laws.proofs.Change.{change_none, change_twice}
 use Rattle.machine_laws.proofs.Rooms.{costs, asked, loss, costs_same, used_told, IsLawful, lawful_of, sound_with, lawful_told, change_told, aside_told}
 use Rattle.machine_laws.proofs.Fitting.{is_loaded_or_invalid, fit_with, fit_above}
 use Rattle.machine_laws.proofs.Units.{IsAside, IsFair, AreHeldIf, units_aside, fair_aside, fair_more}

@@ -13,7 +13,8 @@ use Rattle.il_machine.specs.Room.{cost_of, port_reserve, used, room}
 use Rattle.il_machine.specs.Commands.{calmed, invalidated, is_at_once, lacks_port, lacks_target, lacks_command_room, send_refusal, sent}
 use Rattle.il_machine.specs.Sound.{IsSound, IsUnitSound, may_work}
 use Rattle.machine_laws.proofs.Finding.{either}
-use Rattle.machine_laws.proofs.Change.{IsChange, change_twice, link_of}
+use Rattle.machine_laws.specs.Changes.{IsChange, link_of}
+use Rattle.machine_laws.proofs.Change.{change_twice}
 use Rattle.machine_laws.proofs.Rooms.{costs, places, costs_same, sound_with, sound_told, change_told, aside_told}
 use Rattle.machine_laws.proofs.Units.{IsAside, IsFair, fair_aside}
 use Rattle.machine_laws.proofs.Fairness.{fair_then_aside, fair_invalidated}

@@ -24,7 +24,7 @@ use Rattle.il_machine.specs.Due.{Transition, Flush, PortMode, WaitingMark, due_i
 use Rattle.il_machine.specs.Room.{is_by_client}
 use Rattle.il_machine.specs.States.{is_down, same_state}
 use Rattle.whole_laws.specs.Parts.{KeepsPart}
-use Rattle.machine_laws.proofs.Change.{IsChange}
+use Rattle.machine_laws.specs.Changes.{IsChange}
 use Rattle.machine_laws.proofs.Lookups.{port_parts}
 use Rattle.machine_laws.proofs.Arriving.{sound_arrived, change_arrived, state_there, sound_let_go, change_let_go, flushed_places, steady_places, marked_places}
 use Rattle.machine_laws.proofs.Happening.{due_where, due_changes}

@@ -1,7 +1,7 @@
 use Rattle.std.proofs.Common.{◌≡◌, ◌<◌, length, slice_get, Some, IsSome, refl, ◌∙◌, subst, arith, rules}
 use Rattle.std.proofs.lemmas.Option.{slice_get_read}
 use Rattle.omx_types.specs.declared.handle.Handle.{Handle}
-use Rattle.il_machine.proofs.Places.{shift}
+use Rattle.il_machine.specs.Places.{shift}
 use Rattle.registry.specs.Handles.{resolved, Sets}
 use Rattle.graph_core.proofs.Renumbered.{shifted_there, shifted_step, shifted_end, sets_given}
 use Rattle.graph_core.proofs.making.renumber.Goals as goal

@@ -1,5 +1,5 @@
 use Rattle.whole_laws.specs.Bare.{StepsBare}
-use Rattle.machine_laws.proofs.Ending.{pending_in}
+use Rattle.machine_laws.specs.Pending.{pending_in}
 use Rattle.whole_laws.proofs.Closing.{Happening}
 use Rattle.graph_core.specs.Clients.{KeepsAllClients}
 use Rattle.graph_core.specs.Entries.{components_of, kept}
