@@ -7,10 +7,6 @@ use Rattle.outside_io.specs.Moves.{WhereTold}
 use Rattle.audio_parts.specs.Causes.{ReadCause}
 use Rattle.audio_parts.specs.ObjectLaws.{read_since}
 
--- a count that rose, or stands at its last value, is of one fault at least
-pub rose_counts : (before now : ℕ) → Rose before now → 1 ≤ now
-rose_counts before now r = omega (arith, r)
-
 pub read_causes : {F : Type 0} (size : F → ℕ) (ends : F → Option ℕ) (next faults : F → ℕ) (old new : F) (after : Option F) (fault : PartFault)
     → size new ≡ size old → ends new ≡ ends old → next old ≤ next new → WhereTold (ends old) (λ end. next new ≤ max end (next old)) → faults old ≤ faults new
     → ReadCause size ends next faults (Some new) after fault → ReadCause size ends next faults (Some old) after fault

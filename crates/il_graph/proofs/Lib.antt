@@ -1,4 +1,3 @@
-pub mod Fronts
 pub mod Looking
 pub mod Calling
 pub mod Clients

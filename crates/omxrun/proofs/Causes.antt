@@ -1,8 +1,7 @@
 -- Counts that rose.
 use Rattle.std.proofs.Common.{◌≡◌, ℕ, ◌≤◌, Result, Ok, Err, OnOk, ◌∙◌, arith}
 use Rattle.outside_io.specs.Causes.{Rose}
-use Rattle.outside_io.specs.Files.{Outside}
-use Rattle.play_course.specs.Outcomes.{CountsStand}
+use Rattle.outside_io.specs.Files.{CountsStand, Outside}
 
 -- a count that rose later rose
 pub later : (old mid new : ℕ) → old ≤ mid → Rose mid new → Rose old new

@@ -2,7 +2,7 @@
 use Rattle.std.proofs.Common.{◌≡◌, ◌≢◌, ◌⊎◌, inl, inr, ℕ, ◌<◌, List, length, Option, Some, Result, Ok, Err, OnOk, IfErr, IsTrue, IsSome, ap, sym, subst, refl, ◌∙◌, arith}
 use Rattle.std.specs.Io.KnownBytes.{append_known}
 use Rattle.outside_io.specs.Causes.{Rose}
-use Rattle.outside_io.specs.Files.{Outside}
+use Rattle.outside_io.specs.Files.{CountsStand, Outside}
 use Rattle.outside_io.specs.Whole.{HasReadReason, WasOpened}
 use Rattle.outside_io.specs.declared.whole.Unread.{Unread}
 use Rattle.outside_io.specs.declared.whole.Unread.TheVariants as Unreads
@@ -19,7 +19,6 @@ use Rattle.clock_core.proofs.OneFault.{one-fault, script-no_fault}
 use Rattle.omxrun.specs.Asked.{IsGiven, IsFaultless, IsOrMemory}
 use Rattle.omxrun.specs.Clocked.{RunsTo, IsClockOf, IsClockOutcome, HasClockReason, CanClock, IsUnclocked}
 use Rattle.omxrun.specs.Faults.{fault_of_script}
-use Rattle.play_course.specs.Outcomes.{CountsStand}
 use Rattle.omxrun.specs.Texts.{fault_line}
 use Rattle.omxrun.specs.Told.{IsPrinted, status_of}
 use Rattle.omxrun.proofs.Causes.{on_ok}

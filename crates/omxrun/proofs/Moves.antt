@@ -2,7 +2,7 @@
 use Rattle.std.proofs.Common.{◌≡◌, ◌⊎◌, inl, inr, ℕ, ◌≤◌, List, [], length, Option, Some, Result, Ok, Err, OnOk, OnErr, IfOk, IfErr, IsTrue, IsSome, ap, sym, subst, refl, ◌∙◌, arith}
 use Rattle.std.specs.Io.KnownBytes.{append_known}
 use Rattle.outside_io.specs.Causes.{Rose, sum_of_counts}
-use Rattle.outside_io.specs.Files.{Outside, GoesOn, SameBut, IsFrontOf}
+use Rattle.outside_io.specs.Files.{CountsStand, GoesOn, IsFrontOf, Outside, SameBut}
 use Rattle.outside_io.specs.Moves.{AppendsFront, WhereTold}
 use Rattle.outside_io.proofs.Closed.{told_value}
 use Rattle.omx_types.specs.declared.fault.Fault.{Fault}
@@ -19,7 +19,6 @@ use Rattle.rtp_parts.specs.declared.unpacking.Unpacked.{Unpacked}
 use Rattle.wav_form.specs.Reading.{Reads}
 use Rattle.wav_form.specs.declared.heads.WavHead.{WavHead}
 use Rattle.omxrun.specs.Packets.{IsShortFile, IsWholeOrShort, fault_of_rtp, packing_done, unpacking_done, with_text, PacksTo, UnpacksTo, StoppedUnpacking}
-use Rattle.play_course.specs.Outcomes.{CountsStand}
 use Rattle.omxrun.specs.Turned.{Giving, Stopping, IsAlone, text_in}
 use Rattle.omxrun.specs.declared.done.Done.{Done}
 use Rattle.omxrun.proofs.Causes.{later}

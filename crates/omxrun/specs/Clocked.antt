@@ -1,13 +1,12 @@
 -- What the run of a clock's script comes to, and the text that this asks for.
 use Rattle.std.specs.Prelude.{◌≡◌, ℕ, List, Some, IsTrue, Result, Ok, Err, OnOk}
-use Rattle.outside_io.specs.Files.{Outside}
+use Rattle.outside_io.specs.Files.{CountsStand, Outside}
 use Rattle.omx_types.specs.declared.fault.Fault.{Fault}
 use Rattle.omx_types.specs.declared.fault.Fault.TheVariants as Faults
 use Rattle.omx_types.specs.declared.fault.ScriptWhy.{ScriptWhy}
 use Rattle.clock_core.specs.Printed.{clock_text}
 use Rattle.clock_core.specs.Script.{IsFaulty, IsScript}
 use Rattle.omxrun.specs.Asked.{IsGiven}
-use Rattle.play_course.specs.Outcomes.{CountsStand}
 use Rattle.omxrun.specs.Texts.{fault_line}
 use Rattle.omxrun.specs.Traced.{HasScriptReason}
 

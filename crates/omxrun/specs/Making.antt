@@ -1,9 +1,8 @@
 -- What making files comes to.
 use Rattle.std.specs.Prelude.{◌≡◌, ℕ, List, Result, IsTrue, IfOk, IfErr, OnOk, OnErr}
-use Rattle.outside_io.specs.Files.{Outside}
+use Rattle.outside_io.specs.Files.{CountsStand, Outside}
 use Rattle.omx_types.specs.declared.fault.Fault.{Fault}
 use Rattle.load_gen.specs.Made.{AreMade, ArePartlyMade, OthersAreKept, HasReason}
-use Rattle.play_course.specs.Outcomes.{CountsStand}
 use Rattle.omxrun.specs.declared.done.Done.{Done}
 use Rattle.omxrun.specs.declared.done.Done.TheVariants.{Made}
 

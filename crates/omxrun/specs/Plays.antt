@@ -1,6 +1,6 @@
 -- What a play comes to.
 use Rattle.std.specs.Prelude.{◌≡◌, ◌≢◌, ◌⊎◌, ℕ, List, Option, Some, Result, Ok, Err, IsTrue, IfOk, IfErr, OnOk, OnErr}
-use Rattle.outside_io.specs.Files.{GoesOn, Outside}
+use Rattle.outside_io.specs.Files.{CountsStand, GoesOn, Outside}
 use Rattle.omx_types.specs.declared.fault.Fault.{Fault}
 use Rattle.omx_types.specs.declared.fault.Fault.TheVariants as Faults
 use Rattle.omx_types.specs.declared.fault.Which.TheVariants as Files
@@ -11,7 +11,7 @@ use Rattle.script_lang.specs.PlayScripts.{IsPlayScript, PlayReadsAs}
 use Rattle.script_lang.specs.declared.script.Script.{Script}
 use Rattle.play_results.specs.Leaving.{IsLeft}
 use Rattle.play_results.specs.Summaries.{SinkLine, summary_text}
-use Rattle.play_course.specs.Outcomes.{CountsStand, IsDone, IsUndone}
+use Rattle.play_course.specs.Outcomes.{IsDone, IsUndone}
 use Rattle.play_course.specs.Settling.{parts_of}
 use Rattle.omxrun.specs.Texts.{fault_line}
 use Rattle.omxrun.specs.Told.{IsPrinted, status_of}

@@ -1,7 +1,7 @@
 -- What the trace of a script comes to, and the text that it asks for.
 use Rattle.std.specs.Prelude.{◌≡◌, ◌⊎◌, ℕ, List, ◌++◌, Some, None, IsTrue, IsSome, Result, Ok, Err, OnOk}
 use Rattle.outside_io.specs.Causes.{Rose}
-use Rattle.outside_io.specs.Files.{Outside}
+use Rattle.outside_io.specs.Files.{CountsStand, Outside}
 use Rattle.outside_io.specs.Whole.{IsShort}
 use Rattle.omx_types.specs.declared.fault.Fault.{Fault}
 use Rattle.omx_types.specs.declared.fault.Fault.TheVariants as Faults
@@ -11,7 +11,6 @@ use Rattle.script_lang.specs.LineByLine.{fault_at}
 use Rattle.script_lang.specs.Scripts.{IsScript, ReadsAs}
 use Rattle.script_lang.specs.declared.script.Script.{Script}
 use Rattle.trace_run.specs.Traced.{IsTraced, IsTracedTo}
-use Rattle.play_course.specs.Outcomes.{CountsStand}
 use Rattle.omxrun.specs.Texts.{fault_line}
 
 -- the file of that name is this script

@@ -2,12 +2,11 @@
 -- other file's bytes and what is told of them, or a fault of these bytes. `Stops` says where a source may give nothing.
 use Rattle.std.specs.Prelude.{◌≡◌, ◌⊎◌, ℕ, List, [], length, Option, Some, None, Result, Ok, Err, IsTrue, IsFalse, IsSome, IfOk, IfErr, OnOk, OnErr}
 use Rattle.outside_io.specs.Causes.{Rose}
-use Rattle.outside_io.specs.Files.{Outside, SameBut, IsFrontOf}
+use Rattle.outside_io.specs.Files.{CountsStand, IsFrontOf, Outside, SameBut}
 use Rattle.omx_types.specs.declared.fault.Fault.{Fault}
 use Rattle.omx_types.specs.declared.fault.Fault.TheVariants as Faults
 use Rattle.omx_types.specs.declared.fault.Which.TheVariants as Files
 use Rattle.omxrun.specs.Asked.{IsGiven}
-use Rattle.play_course.specs.Outcomes.{CountsStand}
 use Rattle.omxrun.specs.declared.done.Done.{Done}
 
 pub record Written : Type 0 where

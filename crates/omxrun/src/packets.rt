@@ -1,11 +1,10 @@
 ghost use Rattle.std.specs.Prelude.{◌≡◌, ◌⊎◌, ◌≤◌, [], Some, None, Ok, Err, length, IsTrue, IsSome, IfOk, IfErr, OnOk, OnErr};
 ghost use Rattle.outside_io.specs.Causes.{Rose, sum_of_counts};
-ghost use Rattle.outside_io.specs.Files.{GoesOn, SameBut, IsFrontOf};
+ghost use Rattle.outside_io.specs.Files.{CountsStand, GoesOn, IsFrontOf, SameBut};
 ghost use Rattle.outside_io.specs.Moves.{WhereTold};
 ghost use Rattle.rtp_parts.specs.Answers.{StoppedPacking};
 ghost use Rattle.omxrun.specs.Opened.{HasOpenReason, fault_of_input, fault_of_output};
 ghost use Rattle.omxrun.specs.Packets.{IsShortFile, IsWholeOrShort, PacksTo, UnpacksTo, StoppedUnpacking, fault_of_rtp, packing_done, unpacking_done};
-ghost use Rattle.play_course.specs.Outcomes.{CountsStand};
 ghost use Rattle.omxrun.specs.Turned.{IsAlone, IsTurnOutcome};
 
 use crate::done::Done;

@@ -1,8 +1,7 @@
 ghost use Rattle.std.specs.Prelude.{◌≡◌, ◌≤◌, List, ℕ, Result, false, IfOk, IfErr, OnOk};
-ghost use Rattle.outside_io.specs.Files.{GoesOn};
+ghost use Rattle.outside_io.specs.Files.{CountsStand, GoesOn};
 ghost use Rattle.script_lang.specs.Scripts.{IsOfCommand};
 ghost use Rattle.omxrun.specs.Faults.{fault_of_script, fault_of_reading};
-ghost use Rattle.play_course.specs.Outcomes.{CountsStand};
 ghost use Rattle.omxrun.specs.Told.{IsPrinted, status_of};
 ghost use Rattle.omxrun.specs.Traced.{IsScriptIn, HasScriptReason, TracesTo, IsTraceOutcome};
 

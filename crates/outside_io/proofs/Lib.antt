@@ -5,3 +5,4 @@ pub mod Failures
 pub mod Filled
 pub mod Known
 pub mod Moved
+pub mod Fronts

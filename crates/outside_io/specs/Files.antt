@@ -23,6 +23,11 @@ pub record GoesOn (old new : Outside) : Type 0 where
   pub write_faults : old.write_faults ≤ new.write_faults
   pub absences : old.absences ≤ new.absences
 
+-- no count of failed reads or writes rose
+pub record CountsStand (old new : Outside) : Type 0 where
+  pub reads : new.read_faults ≡ old.read_faults
+  pub writes : new.write_faults ≡ old.write_faults
+
 -- each other name holds what it held
 abbrev pub SameBut : List ℕ → Outside → Outside → Type 0
 SameBut name old new = (other : List ℕ) → other ≢ name → new.file other ≡ old.file other

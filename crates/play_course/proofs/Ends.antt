@@ -6,7 +6,7 @@ use Rattle.omx_types.specs.declared.fault.Fault.{Fault}
 use Rattle.omx_types.specs.declared.fault.Fault.TheVariants as Faults
 use Rattle.omx_types.specs.declared.fault.Which.TheVariants.{Line}
 use Rattle.outside_io.specs.Causes.{Rose, sum_of_counts}
-use Rattle.outside_io.specs.Files.{GoesOn, Outside, SameBut}
+use Rattle.outside_io.specs.Files.{CountsStand, GoesOn, Outside, SameBut}
 use Rattle.outside_io.specs.Whole.{HasWriteReason, IsKeptOrFrontOf, IsShort}
 use Rattle.outside_io.specs.declared.media.Refused.{Refused}
 use Rattle.outside_io.specs.declared.media.Refused.TheVariants as Refusals
@@ -32,7 +32,7 @@ use Rattle.play_course.specs.declared.player.RunFault.{RunFault}
 use Rattle.play_course.specs.declared.player.RunFault.TheVariants as Runs
 use Rattle.play_course.specs.declared.settling.Ran.{Ran}
 use Rattle.play_course.specs.Courses.{HasEnded, HasRun}
-use Rattle.play_course.specs.Outcomes.{CountsStand, IsBroken, IsDone, IsLogFault, IsRunFault, IsUnlogged}
+use Rattle.play_course.specs.Outcomes.{IsBroken, IsDone, IsLogFault, IsRunFault, IsUnlogged}
 use Rattle.play_course.specs.Players.{AreFilesOf, IsWhole}
 use Rattle.play_course.specs.Running.{HasTaken, IsRunCause}
 use Rattle.play_course.specs.Settling.{fault_of_log, line_in, settled}

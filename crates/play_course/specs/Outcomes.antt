@@ -4,7 +4,7 @@ use Rattle.omx_types.specs.declared.fault.Fault.{Fault}
 use Rattle.omx_types.specs.declared.fault.Fault.TheVariants as Faults
 use Rattle.omx_types.specs.declared.fault.Which.TheVariants.{Line, Log}
 use Rattle.outside_io.specs.Causes.{Rose}
-use Rattle.outside_io.specs.Files.{IsFrontOf, Outside}
+use Rattle.outside_io.specs.Files.{CountsStand, IsFrontOf, Outside}
 use Rattle.outside_io.specs.Whole.{IsShort}
 use Rattle.script_lang.specs.declared.play_line.PartLine.{PartLine}
 use Rattle.script_lang.specs.declared.script.Script.{Script}
@@ -16,11 +16,6 @@ use Rattle.play_results.specs.Results.{HoldSinks, IsLogOf, OthersAreKept}
 use Rattle.play_results.specs.Summaries.{SinkLine, summary_of}
 use Rattle.play_files.specs.Left.{IsUnopened}
 use Rattle.play_course.specs.Sums.{planned_summary}
-
--- no count of failed reads or writes rose
-pub record CountsStand (old new : Outside) : Type 0 where
-  pub reads : new.read_faults ≡ old.read_faults
-  pub writes : new.write_faults ≡ old.write_faults
 
 -- the plan of the script, fitted to its files, which all were opened
 pub record WasOpened (script : Script) (old : Outside) (plan : PlanValue) (files : PlayFiles) : Type 0 where

@@ -1,11 +1,11 @@
 //! The whole course of a play.
 
 ghost use Rattle.std.specs.Prelude.{◌≡◌, ℕ, List, IfErr, IfOk, OnOk};
-ghost use Rattle.outside_io.specs.Files.{GoesOn};
+ghost use Rattle.outside_io.specs.Files.{CountsStand, GoesOn};
 ghost use Rattle.script_lang.specs.PlayScripts.{IsPlayScript};
 ghost use Rattle.play_files.specs.Seen.{file_seen, files_seen, sink_seen, source_seen};
 ghost use Rattle.play_course.specs.Courses.{HasEnded, HasRun};
-ghost use Rattle.play_course.specs.Outcomes.{CountsStand, IsDone, IsUndone};
+ghost use Rattle.play_course.specs.Outcomes.{IsDone, IsUndone};
 ghost use Rattle.play_course.specs.Players.{CanPlay};
 
 use crate::player::{Player, RunFault};

@@ -2,7 +2,6 @@
 
 ghost use Rattle.std.specs.Prelude.{◌≡◌, ◌<◌, ◌≤◌, length};
 ghost use Rattle.play_plans.specs.Casting.{joint_of};
-ghost use Rattle.assembling.specs.Stages.{Stage};
 ghost use Rattle.play_graphs.specs.Graphs.{IsHandleAt};
 ghost use Rattle.play_graphs.specs.Making.{IsMade};
 

@@ -8,7 +8,7 @@ use Rattle.omx_types.specs.declared.fault.Fault.TheVariants.{WriteFault, OutOfMe
 use Rattle.outside_io.specs.Causes.{Rose}
 use Rattle.outside_io.specs.Moves.{AppendsFront}
 use Rattle.outside_io.proofs.Known.{append_known-twice, append_known-nil}
-use Rattle.il_graph.proofs.Fronts.{front-after}
+use Rattle.outside_io.proofs.Fronts.{front-after}
 use Rattle.script_lang.specs.declared.form.TraceLine.{TraceLine}
 use Rattle.script_lang.specs.declared.script.Script.TheVariants.{Trace}
 use Rattle.trace_run.specs.Naming.{Moment}

@@ -1,5 +1,5 @@
 use Rattle.std.proofs.Common.{inl, inr, refl, Err}
-use Rattle.play_course.specs.Outcomes.{CountsStand}
+use Rattle.outside_io.specs.Files.{CountsStand}
 use Rattle.omxrun.specs.Texts.{fault_line}
 use Rattle.omxrun.proofs.Causes.{on_ok}
 use Rattle.omxrun.proofs.trace.trace_file.Goals as goal
