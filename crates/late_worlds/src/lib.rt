@@ -12,17 +12,9 @@ ghost use Rattle.play_model.specs.Play.{Play};
 ghost use Rattle.play_model.specs.Acts.{Act, CanAct, acted};
 ghost use Rattle.play_worlds.specs.Cast.{links_of};
 ghost use Rattle.play_worlds.specs.Openings.{IsOpeningWorld, opening};
-ghost use Rattle.play_worlds.specs.Worlds.{IsPlayWorld};
 ghost use Rattle.late_worlds.specs.Changing.{state_by};
 ghost use Rattle.late_worlds.specs.Late.{IsLateWorld, LateCast};
 ghost use Rattle.late_worlds.specs.Openings.{IsLateOpening};
-
-/// Where no source is late they are the worlds of a play.
-pub fn law_of_early_worlds()
-    ensures late { (x : LateCast) (recent : ℕ) (p : Play) (w : World) → IsPlayWorld x.cast p w → IsLateWorld x recent p w }
-    ensures early { (x : LateCast) (recent : ℕ) (p : Play) (w : World) → ((l : ℕ) → l < links_of x.cast → ((x.cast).layout).is_late l ≡ false)
-        → IsLateWorld x recent p w → IsPlayWorld x.cast p w }
-{}
 
 /// The world in which a play with late sources begins is one of them, where nothing was begun, made, done or announced. Where no
 /// source is late it is that in which any play begins.
