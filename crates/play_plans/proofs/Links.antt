@@ -153,9 +153,6 @@ div_some a b p l = elim (cases_eq (a / b) 0) [
 -- ---- the order of placing
 
 module _ (joints : List Joint) (count : ℕ) (order : List ℕ) (O : IsOrder joints count order) where
-  pub turn_there : (c place : ℕ) → slice_get order c ≡ Some place → has_place order place ≡ true
-  turn_there c place e = any_there (λ (other : ℕ). other == place) order c place e (eq-eqb place place refl)
-
   -- one place has one turn
   pub one_turn : (c d place : ℕ) → slice_get order c ≡ Some place → slice_get order d ≡ Some place → c ≡ d
   one_turn c d place e f = elim (two_ways c d) [

@@ -1,24 +1,15 @@
 -- What a conductor knows while the play is where the model has it.
-use Rattle.std.specs.Prelude.{◌≡◌, ℕ, ◌<◌, List, [], length, slice_get, Option, Some}
+use Rattle.std.specs.Prelude.{◌≡◌, ℕ, ◌<◌, List, length, slice_get, Option, Some}
 use Rattle.il_machine.specs.declared.answer.Progress.{Progress}
 use Rattle.il_machine.specs.World.{Component, World}
 use Rattle.conductor.specs.Hearing.{ConductorValue, heard_view}
-use Rattle.play_model.specs.Play.{Play}
 use Rattle.play_worlds.specs.Cast.{Cast, components_of, script_place}
-use Rattle.play_worlds.specs.Telling.{heard, progress_at}
+use Rattle.play_worlds.specs.Telling.{heard}
 
 -- it knows which components are sinks
 pub record HasSinks (x : Cast) (value : ConductorValue) : Type 0 where
   pub many : length value.sinks ≡ components_of x
   pub each : (c : ℕ) → c < components_of x → slice_get value.sinks (script_place x c) ≡ Some ((x.layout).is_sink c)
-
--- each component has told it what it has told so far; no source is late
-pub record IsConductorOf (x : Cast) (p : Play) (value : ConductorValue) : Type 0 where
-  pub sinks : HasSinks x value
-  pub many : length value.told ≡ components_of x
-  pub told : (c : ℕ) → c < components_of x → slice_get value.told (script_place x c) ≡ Some (progress_at p.phase (p.stage c) (p.told c))
-  pub lates : value.lates ≡ []
-  pub sends : value.sends ≡ p.phase
 
 -- what it hears of a component, with what it knew of it, is the progress of what that has told
 pub record HasView (w : World) (a : Component) (value : ConductorValue) (views : List (Option Progress)) (place : ℕ) : Type 0 where

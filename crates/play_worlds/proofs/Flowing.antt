@@ -1,14 +1,12 @@
 -- A play's world in which headers changed, and no component.
-use Rattle.std.proofs.Common.{◌≡◌, ◌≢◌, inl, inr, ℕ, zero, suc, ◌+◌, ◌*◌, ◌/◌, ◌<◌, ◌≤◌, false, nat_eq, List, [], ◌∷◌, find, length, map, sum_by, slice_get, option_and_then, Option, Some, None, option_map, refl, sym, ◌∙◌, ap, subst, eqb-true, eq-eqb, arith}
+use Rattle.std.proofs.Common.{◌≡◌, ◌≢◌, inl, inr, ℕ, zero, suc, ◌*◌, ◌/◌, ◌<◌, ◌≤◌, false, nat_eq, List, [], ◌∷◌, length, map, slice_get, option_and_then, Option, Some, None, option_map, refl, sym, ◌∙◌, ap, subst, eqb-true, eq-eqb, arith}
 use Rattle.std.proofs.lemmas.Bool.{cases_eq}
 use Rattle.il_machine.specs.declared.port.PortKey.{PortKey}
 use Rattle.il_machine.specs.declared.header.Owner.TheVariants as owners
 use Rattle.il_machine.specs.declared.header.Spot.{Spot}
 use Rattle.il_machine.specs.Lists.{holds_at}
-use Rattle.il_machine.specs.Queued.{notes_given}
 use Rattle.il_machine.specs.Sound.{Sound, is_in_work_of}
-use Rattle.il_machine.specs.Units.{need_of}
-use Rattle.il_machine.specs.World.{Component, Given, HeaderRecord, Picked, Work, World, is_stream_of, number_of}
+use Rattle.il_machine.specs.World.{Component, HeaderRecord, Picked, Work, World, number_of}
 use Rattle.il_machine.specs.Headers.{find_header, state_of, same_key, put, put_at, weight, Once}
 use Rattle.il_machine.specs.Census.{times, work_numbers}
 use Rattle.machine_laws.proofs.Finding.{either}
@@ -16,51 +14,12 @@ use Rattle.machine_laws.proofs.Keys.{key_is}
 use Rattle.machine_laws.proofs.Listed.{times_cons}
 use Rattle.machine_laws.proofs.Parts.{parts_of}
 use Rattle.machine_laws.proofs.Replacing.{replaced_put}
-use Rattle.flow_model.specs.Progress.{sum_to, all_headers}
-use Rattle.play_model.specs.Play.{Play, made}
-use Rattle.play_model.specs.Reached.{IsReached}
-use Rattle.play_links.specs.View.{AreApart, link_view, picked_at, worked_at, is_in}
-use Rattle.play_worlds.specs.Cast.{Cast, IsCast, links_of, script_place, output_at, input_at}
-use Rattle.play_worlds.specs.Wiring.{port_in, work_in, IsWired, ends_of}
-use Rattle.play_worlds.specs.Worlds.{IsPlayWorld, HasLink, to_make}
-use Rattle.play_worlds.proofs.Actors.{actor_same}
-
--- ---- what stays
-
-pub record IsFlowChange (x : Cast) (p q : Play) (w v : World) : Type 0 where
-  pub components : v.components ≡ w.components
-  pub given : v.given ≡ w.given
-  pub streams : v.streams ≡ w.streams
-  pub units : v.units ≡ w.units
-  pub phase : q.phase ≡ p.phase
-  pub stage : (c : ℕ) → q.stage c ≡ p.stage c
-  pub told : (c : ℕ) → q.told c ≡ p.told c
-  pub ended : (c : ℕ) → (q.flow).ended c ≡ (p.flow).ended c
-  pub done : (c : ℕ) → (q.flow).done c ≡ (p.flow).done c
-  pub closed : (l : ℕ) → ((q.flow).link l).closed ≡ ((p.flow).link l).closed
-  -- and what changes
-  pub viewed : (l : ℕ) → l < links_of x → (q.flow).link l ≡ link_view (ends_of x (work_in w.components) q l) v.headers
-  pub headers : (n : ℕ) (r : HeaderRecord) → find_header n v.headers ≡ Some r → HasLink x r
-  pub numbers : v.made + sum_to (links_of x) (to_make x q) ≤ all_headers (x.layout).network
-
-pub flow_changed : (x : Cast) (p q : Play) (w v : World) → IsPlayWorld x p w → IsFlowChange x p q w v → IsReached x.layout q → Sound v → IsPlayWorld x q v
-flow_changed x p q w v W C R S = record {
-  cast = W.cast;
-  reached = R;
-  sound = S;
-  early = W.early;
-  many = ap length C.components ∙ W.many;
-  actors = λ c a l e.
-      let A = W.actors c a l (subst (λ (cs : List Component). slice_get cs (script_place x c) ≡ Some a) C.components e) in
-      actor_same x p q c (record { phase = C.phase; stage = C.stage c; told = C.told c; ended = C.ended c; done = C.done c; closed = λ l I. C.closed l }) w v a
-      (ap (λ (g : List Given). notes_given (number_of a) (record w { given = g })) C.given) (ap (find (is_stream_of (number_of a))) C.streams) A;
-  wired = λ l h. subst (λ (cs : List Component). IsWired x (port_in cs) l) (sym C.components) (W.wired l h);
-  ends = λ i port a y e f. W.ends i port a y (subst (λ (cs : List Component). slice_get cs i ≡ Some a) C.components e) f;
-  viewed = λ l h. subst (λ (cs : List Component). (q.flow).link l ≡ link_view (ends_of x (work_in cs) q l) v.headers) (sym C.components) (C.viewed l h);
-  headers = C.headers;
-  units = let e = ap (sum_by need_of) C.components in let f = C.units in let u = W.units in omega arith;
-  numbers = C.numbers;
-}
+use Rattle.flow_model.specs.Progress.{sum_to}
+use Rattle.play_model.specs.Play.{Play}
+use Rattle.play_links.specs.View.{AreApart, picked_at, worked_at, is_in}
+use Rattle.play_worlds.specs.Cast.{Cast, IsCast, links_of, output_at, input_at}
+use Rattle.play_worlds.specs.Wiring.{work_in, ends_of}
+use Rattle.play_worlds.specs.Worlds.{HasLink}
 
 -- ---- links beside
 
@@ -141,9 +100,3 @@ put_links x key spot change n r hs keeps o f H all m y g =
 pub sum_fewer : (n : ℕ) (f g : ℕ → ℕ) → ((l : ℕ) → l < n → f l ≤ g l) → sum_to n f ≤ sum_to n g
 sum_fewer zero f g h = omega arith
 sum_fewer (suc n) f g h = let i = sum_fewer n f g (λ l b. h l (omega arith)) in let a = h n (omega arith) in omega arith
-
--- nothing more is to be made where as many headers are made
-pub makes_same : (x : Cast) (p q : Play) → q.phase ≡ p.phase → ((l : ℕ) → l < links_of x → made q l ≡ made p l) → sum_to (links_of x) (to_make x q) ≤ sum_to (links_of x) (to_make x p)
-makes_same x p q e h = sum_fewer (links_of x) (to_make x q) (to_make x p) (λ l b.
-    let s : to_make x q l ≡ to_make x p l = rw (e, h l b) refl in
-    omega arith)

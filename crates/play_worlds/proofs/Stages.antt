@@ -1,10 +1,9 @@
 -- The machine's changes of a component are steps from stage to stage.
-use Rattle.std.proofs.Common.{◌≡◌, ◌≢◌, ℕ, zero, suc, ◌+◌, ◌<◌, ◌≤◌, true, false, ◌||◌, [], ◌∷◌, ◌++◌, Some, None, refl, sym, ◌∙◌, ap, subst, le-ltb, arith}
+use Rattle.std.proofs.Common.{◌≡◌, ℕ, zero, suc, ◌+◌, ◌<◌, ◌≤◌, true, false, ◌||◌, [], ◌∷◌, ◌++◌, Some, None, refl, sym, ap, subst, le-ltb, arith}
 use Rattle.omx_types.specs.declared.state.State.{State}
 use Rattle.omx_types.specs.declared.state.State.TheVariants.{Idle}
 use Rattle.omx_types.specs.declared.command.Command.{Command}
 use Rattle.omx_types.specs.declared.command.Command.TheVariants.{StateSet}
-use Rattle.il_machine.specs.declared.answer.Why.TheVariants as why
 use Rattle.il_machine.specs.States.{same_state}
 use Rattle.il_machine.specs.Settings.{fits}
 use Rattle.il_machine.specs.World.{Component}
@@ -53,17 +52,8 @@ send_told (suc n) = refl
 
 -- ---- run
 
-commands_none : (phase stage : ℕ) → stage ≢ 1 → commands_at phase stage ≡ []
-commands_none phase zero n = refl
-commands_none phase (suc zero) n = absurd (n refl)
-commands_none phase (suc (suc k)) n = refl
-
 pub commands_are : (phase stage : ℕ) (a : Component) → a ≡ standing phase stage a → a.commands ≡ commands_at phase stage
 commands_are phase stage a e = ap (λ (z : Component). z.commands) e
-
--- a command is queued at stage 1 alone
-pub run_waits : (phase stage : ℕ) (a : Component) → a ≡ standing phase stage a → stage ≢ 1 → run_idle a a.commands ≡ Some why.NoCommand
-run_waits phase stage a e n = rw (commands_are phase stage a e ∙ commands_none phase stage n) refl
 
 pub run_goes : (phase : ℕ) (a : Component) → a ≡ standing phase 1 a → run_idle a a.commands ≡ None
 run_goes phase a e =

@@ -1,12 +1,7 @@
 -- The machine's tests of where a component stands are the model's terms.
-use Rattle.std.proofs.Common.{◌≡◌, ◌⊎◌, inl, inr, ℕ, zero, suc, ◌≤◌, true, is_none, sym, refl, ◌∙◌, ap, arith}
+use Rattle.std.proofs.Common.{◌≡◌, ◌⊎◌, inl, inr, ℕ, zero, suc, ◌≤◌, true, is_none, refl, ap, arith}
 use Rattle.il_machine.specs.States.{is_executing, is_running}
-use Rattle.il_machine.specs.World.{Component, World}
-use Rattle.il_machine.specs.Ports.{is_at_rest}
-use Rattle.play_model.specs.Play.{Play, IsRunning, IsExecuting}
-use Rattle.play_worlds.specs.Cast.{Cast}
 use Rattle.play_worlds.specs.Standing.{target, before, state_at, pending_at}
-use Rattle.play_worlds.specs.Worlds.{IsActor}
 
 target_executing : (phase : ℕ) → is_executing (target phase) ≡ true → phase ≡ 2
 target_executing zero e = absurd cc
@@ -42,9 +37,6 @@ state_running phase (suc (suc (suc n))) = target_running phase
 abbrev Executes : ℕ → ℕ → Type 0
 Executes phase stage = ((phase ≡ 2) × (3 ≤ stage)) ⊎ ((phase ≡ 3) × (stage ≤ 2))
 
-abbrev Runs : ℕ → ℕ → Type 0
-Runs phase stage = ((phase ≡ 2) × (3 ≤ stage)) ⊎ ((phase ≡ 3) × (stage ≤ 1))
-
 pub executes_back : (phase stage : ℕ) → is_executing (state_at phase stage) ≡ true → Executes phase stage
 executes_back phase zero e = inr (before_executing phase e, omega arith)
 executes_back phase (suc zero) e = inr (before_executing phase e, omega arith)
@@ -73,33 +65,3 @@ resting_back phase zero e l = omega arith
 resting_back phase (suc zero) e l = omega arith
 resting_back phase (suc (suc zero)) e l = absurd cc
 resting_back phase (suc (suc (suc n))) e l = absurd (omega arith)
-
-module _ (x : Cast) (p : Play) (w : World) (c : ℕ) (a : Component) (A : IsActor x p w c a) where
-  pub state_is : a.state ≡ state_at p.phase (p.stage c)
-  state_is = ap (λ (y : Component). y.state) A.stands
-
-  pub rest_is : is_at_rest a ≡ is_none (pending_at p.phase (p.stage c))
-  rest_is = ap (λ (y : Component). is_none y.pending) A.stands
-
-  pub executing_is : is_executing a.state ≡ is_executing (state_at p.phase (p.stage c))
-  executing_is = ap is_executing state_is
-
-  pub running_is : is_running a.state ≡ is_executing a.state
-  running_is = ap is_running state_is ∙ (state_running p.phase (p.stage c) ∙ sym executing_is)
-
-  pub executes : IsExecuting p c → is_executing a.state ≡ true
-  executes (inl h) = executing_is ∙ (late_stage p.phase (p.stage c) h.0 h.1).0
-  executes (inr h) = executing_is ∙ early_stage p.phase (p.stage c) h.0 h.1
-
-  pub is_executing_back : is_executing a.state ≡ true → IsExecuting p c
-  is_executing_back e = executes_back p.phase (p.stage c) (sym executing_is ∙ e)
-
-  pub runs : IsRunning p c → (is_executing a.state ≡ true) × (is_at_rest a ≡ true)
-  runs (inl h) = let y = late_stage p.phase (p.stage c) h.0 h.1 in (executing_is ∙ y.0, rest_is ∙ y.1)
-  runs (inr h) = (executing_is ∙ early_stage p.phase (p.stage c) h.0 (omega (arith, h.1)), rest_is ∙ at_rest_at p.phase (p.stage c) h.1)
-
-  pub runs_back : is_executing a.state ≡ true → is_at_rest a ≡ true → IsRunning p c
-  runs_back e r = elim (is_executing_back e) [
-    | inl h ↦ inl h
-    | inr h ↦ inr (h.0, resting_back p.phase (p.stage c) (sym rest_is ∙ r) h.1)
-  ]

@@ -10,7 +10,6 @@ use Rattle.il_machine.specs.declared.answer.Progress.{Progress}
 use Rattle.il_machine.specs.Queued.{notes_given}
 use Rattle.il_machine.specs.World.{Component, World, number_of}
 use Rattle.il_machine.specs.Components.{no_progress, noted_by}
-use Rattle.il_machine.specs.Finishing.{end_note}
 use Rattle.play_worlds.specs.Standing.{target}
 
 -- the last of the notes, and those before it
@@ -52,10 +51,6 @@ abbrev pub state_note : ℕ → ℕ → List Note
 state_note phase (suc (suc (suc zero))) = Told (CmdComplete (completions.State (target phase))) ∷ []
 state_note phase _ = []
 
--- behind it the end of the stream of a sink that has ended and wasn't told
-abbrev pub notes_at : ℕ → ℕ → Bool → List Note
-notes_at phase stage ends = state_note phase stage ++ end_note ends
-
 -- the last state that was told
 abbrev pub told_of : ℕ → Option State
 told_of zero = None
@@ -68,6 +63,3 @@ last_told (suc phase) (suc zero) = told_of phase
 last_told (suc phase) (suc (suc zero)) = told_of phase
 last_told (suc phase) (suc (suc (suc zero))) = told_of phase
 last_told (suc phase) _ = told_of (suc phase)
-
-abbrev pub progress_at : ℕ → ℕ → Bool → Progress
-progress_at phase stage told = record { state = last_told phase stage; eos = told; error = None; settings = None; port = None }
