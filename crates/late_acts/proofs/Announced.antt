@@ -41,9 +41,6 @@ use Rattle.late_acts.proofs.Turning.{rises_turned}
 
 -- ---- what the announcement is for the input's end, and for the headers that are to be made
 
-at_step : Change → ℕ → Change
-at_step k n = record k { step = n }
-
 input_state : (k : Change) (link : Link) → k.step ≡ 0 → state_by false (told_on k) link ≡ state_by false k link
 input_state k link e = ap (λ n. state_by false (told_on (record k { step = n })) link) e ∙ sym (ap (λ n. state_by false (record k { step = n }) link) e)
 

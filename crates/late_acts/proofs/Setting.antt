@@ -201,13 +201,6 @@ module _ (x : LateCast) (recent : ℕ) (p : Play) (w : World) (W : IsLateWorld x
   abbrev D : PortDefinition
   D = planned x o l
 
-  definition_is : D ≡ record y.setting.definition { format = F }
-  definition_is =
-      let d = (E.end).direction in
-      let n = (E.end).count in
-      let s = (E.end).size in
-      λ t. record { input = sym d t; format = F; count = sym n t; size = sym s t }
-
   good : is_definition_of (is_input a.settings.kind port) D ≡ true
   good =
       let I = (parts_of w W.sound).components i a e in

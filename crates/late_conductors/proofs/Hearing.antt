@@ -151,10 +151,6 @@ module _ (x : LateCast) (recent : ℕ) (p : Play) (w : World) (W : IsLateWorld x
   sent_last true m = either (nat_le 9 k.step) (λ t. leb-true 9 k.step t) (λ f. let n = leb-false 9 k.step f in let z = ordered.output_waits (omega arith) in absurd (omega arith))
   sent_last false m = either (nat_le 9 k.step) (λ t. leb-true 9 k.step t) (λ f. let n = leb-false 9 k.step f in let z = ordered.input_waits (omega arith) in absurd (omega arith))
 
-  at_most : (s : Bool) → port_at s k ≤ 8
-  at_most true = ordered.outputs
-  at_most false = ordered.inputs
-
   -- the link that was begun last, or one that is known to be changed
   latest_or_changed : (s : Bool) → 1 ≤ port_at s k → (l ≡ recent) ⊎ (is_changed late ≡ true)
   latest_or_changed s m = either (is_changed late) (λ t. inr t) (λ f. inl (K.latest (steps_begun late.steps k.step K.way (sent_first s m)) f))

@@ -74,10 +74,6 @@ port_of_both : (P : ℕ → Type 0) (p : Play) (l : ℕ) (s : Bool) → ArePorts
 port_of_both P p l true h = h.0
 port_of_both P p l false h = h.1
 
-twice : (s : Bool) → not (not s) ≡ s
-twice true = refl
-twice false = refl
-
 module _ (x : LateCast) (recent : ℕ) (p : Play) (w : World) (W : IsLateWorld x recent p w) (l : ℕ) (b : l < links_of x.cast) where
   abbrev by : Bool
   by = ((x.cast).layout).by_output l
