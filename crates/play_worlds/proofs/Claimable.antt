@@ -1,5 +1,5 @@
 -- Where a component of a play may claim: the machine's tests, and the model's.
-use Rattle.std.proofs.Common.{◌≡◌, ◌⊎◌, inl, inr, ℕ, zero, suc, ◌+◌, ◌≤◌, Bool, true, false, if◌then◌else◌, List, [], ◌∷◌, ◌++◌, map, slice_get, Option, Some, None, refl, sym, ◌∙◌, ap, arith}
+use Rattle.std.proofs.Common.{◌≡◌, ◌⊎◌, inl, inr, ℕ, zero, suc, ◌≤◌, Bool, true, false, if◌then◌else◌, List, [], ◌∷◌, ◌++◌, map, slice_get, Option, Some, None, refl, sym, ◌∙◌, ap, arith}
 use Rattle.il_machine.specs.Lists.{first_of_these}
 use Rattle.il_machine.specs.World.{Component}
 use Rattle.il_machine.specs.Ports.{is_at_rest}

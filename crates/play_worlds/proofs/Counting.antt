@@ -12,7 +12,6 @@ use Rattle.machine_laws.proofs.Finding.{either, found_tail, found_head}
 use Rattle.machine_laws.proofs.Keys.{none_or_some}
 use Rattle.machine_laws.proofs.Parts.{parts_of}
 use Rattle.flow_model.specs.Progress.{sum_to}
-use Rattle.play_model.specs.Play.{made}
 use Rattle.play_links.specs.View.{worked_at, is_in}
 use Rattle.play_worlds.specs.Wiring.{work_in}
 use Rattle.play_worlds.proofs.Flowing.{not_worked_by, sum_fewer}

@@ -2,7 +2,6 @@
 use Rattle.std.proofs.Common.{◌≡◌, ◌≢◌, ℕ, zero, suc, Bool, true, false, nat_eq, if◌then◌else◌, List, [], ◌∷◌, ◌++◌, map, filter, drop, slice_get, Some, MatchOption, refl, sym, ◌∙◌, ap, eq-eqb, ne_eqb, append-nil}
 use Rattle.omx_types.specs.declared.handle.Handle.{Handle}
 use Rattle.omx_types.specs.declared.command.Note.{Note}
-use Rattle.omx_types.specs.declared.command.Note.TheVariants as notes
 use Rattle.il_machine.specs.declared.answer.Progress.{Progress}
 use Rattle.il_machine.specs.World.{Component, Given, World, number_of, place_of, with_component}
 use Rattle.il_machine.specs.Components.{is_given_to, no_progress, noted_by}

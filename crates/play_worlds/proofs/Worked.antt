@@ -2,7 +2,7 @@
 use Rattle.std.proofs.Common.{◌≡◌, ℕ, zero, suc, true, List, [], ◌∷◌, slice_get, Some, refl, sym, ◌∙◌, ap}
 use Rattle.il_machine.specs.declared.header.Owner.TheVariants as owners
 use Rattle.il_machine.specs.declared.header.Queue.TheVariants.{Out}
-use Rattle.il_machine.specs.World.{HeaderRecord, Picked, Work, World}
+use Rattle.il_machine.specs.World.{HeaderRecord, Picked, World}
 use Rattle.il_machine.specs.Headers.{find_header, is_for}
 use Rattle.il_machine.specs.Buffers.{held}
 use Rattle.il_machine.specs.Claims.{CarriedHeader, carried}

@@ -3,7 +3,6 @@
 -- taken is told by no world.
 use Rattle.std.specs.Prelude.{◌≡◌, ℕ, ◌-◌, ◌*◌, ◌/◌, ◌<◌, ◌≤◌, Bool, true, false, not, ◌&&◌, nat_le, length, map, slice_index_or, Some, None, if◌then◌else◌}
 use Rattle.il_machine.specs.declared.port.Port.{Port}
-use Rattle.il_machine.specs.Kinds.{is_sink}
 use Rattle.omx_types.specs.declared.handle.Handle.{Handle}
 use Rattle.il_machine.specs.World.{place_of, Component, HeaderRecord, Work, World, PartState}
 use Rattle.il_machine.specs.Headers.{is_for}
