@@ -2,7 +2,6 @@
 use Rattle.std.proofs.Common.{◌≡◌, ℕ, ◌≤◌, max, arith}
 use Rattle.std.specs.Prelude.{Option, None, Some}
 use Rattle.omx_types.specs.declared.fault.PartFault.{PartFault}
-use Rattle.outside_io.specs.Causes.{Rose}
 use Rattle.outside_io.specs.Moves.{WhereTold}
 use Rattle.audio_parts.specs.Causes.{ReadCause}
 use Rattle.audio_parts.specs.ObjectLaws.{read_since}

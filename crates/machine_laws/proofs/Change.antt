@@ -1,7 +1,6 @@
 -- One component in place of another of the same handle, with the same settings and links of ports and the same headers in its notes.
-use Rattle.std.proofs.Common.{◌≡◌, inl, inr, ℕ, true, zero, suc, ◌+◌, List, [], ◌∷◌, map, set, slice_get, Option, Some, refl, sym, ◌∙◌, ap, arith}
+use Rattle.std.proofs.Common.{◌≡◌, inl, inr, ℕ, true, zero, suc, ◌+◌, List, [], ◌∷◌, map, set, slice_get, Some, refl, sym, ◌∙◌, ap, arith}
 use Rattle.std.proofs.lemmas.Bool.{cases_eq}
-use Rattle.il_machine.specs.declared.port.Link.{Link}
 use Rattle.il_machine.specs.declared.port.PortSetting.{PortSetting}
 use Rattle.il_machine.specs.declared.port.PortState.{PortState}
 use Rattle.il_machine.specs.World.{Component, HeaderRecord, Work, World, number_of, ports_from, port_of, with_component}
