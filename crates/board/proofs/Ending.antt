@@ -28,7 +28,7 @@ use Rattle.board.specs.declared.asked.Asked.{Asked}
 use Rattle.board.specs.declared.asked.Told.{Told}
 use Rattle.board.specs.Asking.{bare_log}
 use Rattle.board.specs.Histories.{HeadersAreHeld, ClientsAreHeld, WorksAreHeld, IsClear}
-use Rattle.board.proofs.Serving.{own_bare}
+use Rattle.board.specs.Serving.{own_bare}
 use Rattle.board.specs.Boards.{IsWhole}
 
 module _ {X K : Type 0} (key : X → K) (held : ℕ → List X) (Out : X → Type 0) (Is Was : K → Type 0) where

@@ -38,7 +38,7 @@ use Rattle.board.specs.Asking.{ArePlain, bare_log}
 use Rattle.board.specs.Busy.{IsBusyWhereOut}
 use Rattle.board.specs.Watching.{next, SeenIn}
 use Rattle.board.specs.Histories.{HeadersAreHeld, ClientsAreHeld, WorksAreHeld, Reaches}
-use Rattle.board.proofs.Serving.{can_ask}
+use Rattle.board.specs.Serving.{can_ask}
 use Rattle.board.proofs.Bare.{bare_snoc, told_last, plain_more}
 use Rattle.board.proofs.Busying.{busy_so}
 use Rattle.board.proofs.Owning.{tells_numbers, tells_handles, own_headers, own_clients, own_works}

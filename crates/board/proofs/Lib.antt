@@ -1,4 +1,3 @@
-pub mod Serving
 pub mod Bare
 pub mod Owning
 pub mod Busying

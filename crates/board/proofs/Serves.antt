@@ -24,7 +24,7 @@ use Rattle.board.specs.Asking.{bare_log}
 use Rattle.board.specs.Busy.{AreBusyWhereOut, next}
 use Rattle.board.specs.Watching.{SeenIn}
 use Rattle.board.specs.Histories.{HasVersions, IsTidy, HeadersAreHeld, ClientsAreHeld, Arrives, Legal, StandsAfter, MayAsk, graph_of, known_of, words_of}
-use Rattle.board.proofs.Serving.{own_bare}
+use Rattle.board.specs.Serving.{own_bare}
 use Rattle.board.specs.Showing.{ShowsChanges}
 use Rattle.board.proofs.Bare.{bare_snoc, told_last}
 use Rattle.board.proofs.Owning.{replies_more}

@@ -2,6 +2,7 @@ pub mod Asking
 pub mod Watching
 pub mod Busy
 pub mod Histories
+pub mod Serving
 pub mod Showing
 pub mod Boards
 pub mod Together

@@ -9,7 +9,7 @@ use turnstile::Serve;
 impl<S: Source, K: Sink, C: Client> Serve for Watched<S, K, C> {
     ghost use Rattle.graph_acts.specs.Plain.{sight_of};
     ghost use Rattle.board.specs.Histories.{Legal, StandsAfter, MayAsk, IsClear, CanServe};
-    ghost use Rattle.board.proofs.Serving.{can_serve as can};
+    ghost use Rattle.board.specs.Serving.{can_serve as can};
 
     type Act = Asked<S, K, C>;
 
