@@ -63,7 +63,7 @@ run-late parts old new Faults.ReadFault is early = early
 run-late parts old new Faults.WriteFault is early = early
 run-late parts old new (Faults.Absent which) is early = is
 run-late parts old new Faults.OutOfMemory is early = early
-run-late parts old new (Faults.Short which at size) is early = (let (place, part, name, there, reads, which_is, short) = is.1 in not-short which part.line at size which_is early)
+run-late parts old new (Faults.Short which at size) is early = (let (place, part, name, there, reads, which_is, short, behind) = is.1 in not-short which part.line at size which_is early)
 run-late parts old new (Faults.Units have need) is early = is
 run-late parts old new (Faults.NotBuilt what) is early = is
 run-late parts old new (Faults.Packets reason) is early = is

@@ -11,6 +11,8 @@ use Rattle.outside_io.specs.Whole.{HasWriteReason, IsKeptOrFrontOf, IsShort}
 use Rattle.outside_io.specs.declared.media.Refused.{Refused}
 use Rattle.outside_io.specs.declared.media.Refused.TheVariants as Refusals
 use Rattle.outside_io.specs.declared.source.Failed.{Failed}
+use Rattle.wav_form.specs.declared.heads.WavHead.{WavHead}
+use Rattle.wav_form.proofs.Read.{same_answer}
 use Rattle.il_machine.specs.Stepping.{IsFrontOf as IsFront}
 use Rattle.script_lang.specs.declared.play_line.PartLine.{PartLine}
 use Rattle.script_lang.specs.declared.script.Script.{Script}
@@ -22,8 +24,8 @@ use Rattle.play_results.specs.Results.{HoldSinks, IsLogOf, OthersAreKept}
 use Rattle.play_results.specs.Worlds.{HasWritten}
 use Rattle.play_files.specs.Closing.{AreClosed, failed_reads, failed_writes}
 use Rattle.play_files.specs.Names.{HaveOwnFiles}
-use Rattle.play_files.specs.Opening.{IsStill}
-use Rattle.play_files.specs.Seen.{FileSeen, files_seen}
+use Rattle.play_files.specs.Opening.{HasHead, IsSourceOf, IsStill}
+use Rattle.play_files.specs.Seen.{FileSeen, SourceSeen, files_seen}
 use Rattle.play_files.specs.Whole.{AreAllOpen, play_files}
 use Rattle.play_files.proofs.Closings.{then}
 use Rattle.play_files.proofs.Fronts.{later}
@@ -42,10 +44,19 @@ use Rattle.play_course.proofs.Ways.{are_files_of, counted, front, held, others, 
 
 -- ---- by its counts
 
--- the short source of a component is told by its line
+-- the short source of a component is told by its line, and is short behind its head
 abbrev pub IsTold : List PartLine → Outside → ℕ → ℕ → ℕ → Type 0
 IsTold parts old place at size =
-    (part : PartLine) × (name : List ℕ) × (slice_get parts place ≡ Some part) × (read_by part.form ≡ Some name) × IsShort name old at size
+    (part : PartLine) × (name : List ℕ) × (slice_get parts place ≡ Some part) × (read_by part.form ≡ Some name) × IsShort name old at size × ((head : WavHead) → HasHead old name head → head.start ≤ at)
+
+-- a source that stands behind its head gives nothing behind each head that its bytes read as
+behind_head : (old : Outside) (name : List ℕ) (head : WavHead) (source : SourceSeen) (at : ℕ) → IsSourceOf old name head source → source.offset ≤ at → (other : WavHead) → HasHead old name other → other.start ≤ at
+behind_head old name head source at I started other (bytes, held, reads) =
+    let same = same_answer bytes (Ok head) (Ok other) (I.reads_as bytes held) reads in
+    let is : head ≡ other = cc in
+    let start = ap (λ (h : WavHead). h.start) is in
+    let offset = I.offset in
+    omega arith
 
 read_rose : (after : List (Option FileSeen)) (old mid new : Outside) (closed : Result (Unit {0}) Failed) (more : ℕ) → IsStill old mid → mid.read_faults < 2 ^ 64 → AreClosed after mid new closed
     → more ≤ sum_by failed_reads after → 1 ≤ more → Rose old.read_faults new.read_faults
@@ -95,7 +106,7 @@ why parts before after old mid new few S short false false (Err Runs.Write) clos
 why parts before after old mid new few S short false false (Err (Runs.Short place at size)) (Ok done) read unread wrote unwritten C cause fault e =
     let s : Faults.Short (Line (line_in (slice_get parts place))) at size ≡ fault = cc in
     let t = short place at size cause in
-    subst (IsRunFault parts old new) s (record { reads = unread refl ∙ S.reads; writes = unwritten refl ∙ S.writes }, (place, t.0, t.1, t.2, t.3, ap (λ (o : Option PartLine). Line (line_in o)) t.2, t.4))
+    subst (IsRunFault parts old new) s (record { reads = unread refl ∙ S.reads; writes = unwritten refl ∙ S.writes }, (place, t.0, t.1, t.2, t.3, ap (λ (o : Option PartLine). Line (line_in o)) t.2, t.4, t.5))
 why parts before after old mid new few S short false false (Err (Runs.Short place at size)) (Err failed) read unread wrote unwritten C cause fault e =
     let s : Faults.WriteFault ≡ fault = cc in
     subst (IsRunFault parts old new) s (closing_rose old.write_faults mid.write_faults new.write_faults _ S.writes C.failed, unread refl ∙ S.reads)
@@ -143,6 +154,7 @@ module _ {F : Type 0} (seen : F → FileSeen) (script : Script) (name log : List
           stopped = λ end is. (let s = G.stopped end (I.ends ∙ is) in let b = I.starts end is in let f = I.offset in omega arith);
           whole = λ bytes is. whole ∙ I.whole bytes is;
         },
+        behind_head old p.2.0 head source at I G.started,
       )
 
   module _ (result : Result Ran Fault) (H : HasEnded plan plan.parts (files_seen seen entries) mid new result) where

@@ -1,11 +1,12 @@
 -- What a play comes to.
-use Rattle.std.specs.Prelude.{◌≡◌, ◌≢◌, ◌⊎◌, ℕ, List, slice_get, Some, IsTrue}
+use Rattle.std.specs.Prelude.{◌≡◌, ◌≢◌, ◌⊎◌, ℕ, ◌≤◌, List, slice_get, Some, IsTrue}
 use Rattle.omx_types.specs.declared.fault.Fault.{Fault}
 use Rattle.omx_types.specs.declared.fault.Fault.TheVariants as Faults
 use Rattle.omx_types.specs.declared.fault.Which.TheVariants.{Line, Log}
 use Rattle.outside_io.specs.Causes.{Rose}
 use Rattle.outside_io.specs.Files.{CountsStand, IsFrontOf, Outside}
 use Rattle.outside_io.specs.Whole.{IsShort}
+use Rattle.wav_form.specs.declared.heads.WavHead.{WavHead}
 use Rattle.script_lang.specs.declared.play_line.PartLine.{PartLine}
 use Rattle.script_lang.specs.declared.script.Script.{Script}
 use Rattle.play_forms.specs.Plain.{sink_text}
@@ -15,6 +16,7 @@ use Rattle.play_results.specs.Files.{AreFiles, IsNoSink, IsWriter, read_by}
 use Rattle.play_results.specs.Results.{HoldSinks, IsLogOf, OthersAreKept}
 use Rattle.play_results.specs.Summaries.{SinkLine, summary_of}
 use Rattle.play_files.specs.Left.{IsUnopened}
+use Rattle.play_files.specs.Opening.{HasHead}
 use Rattle.play_course.specs.Sums.{planned_summary}
 
 -- the plan of the script, fitted to its files, which all were opened
@@ -47,13 +49,15 @@ pub record IsDone (script : Script) (log : List ℕ) (old new : Outside) (summar
 
 -- ---- a fault in the run
 
--- a failed read is told before a failed write or closing, and both before a short source
+-- a failed read is told before a failed write or closing, and both before a short source, which is short only behind its head
 abbrev pub IsRunFault : List PartLine → Outside → Outside → Fault → Type 0
 IsRunFault parts old new Faults.OutOfMemory = Unit {0}
 IsRunFault parts old new Faults.ReadFault = Rose old.read_faults new.read_faults
 IsRunFault parts old new Faults.WriteFault = Rose old.write_faults new.write_faults × (new.read_faults ≡ old.read_faults)
 IsRunFault parts old new (Faults.Short which at size) =
-    CountsStand old new × ((place : ℕ) × (part : PartLine) × (name : List ℕ) × (slice_get parts place ≡ Some part) × (read_by part.form ≡ Some name) × (which ≡ Line part.line) × IsShort name old at size)
+    CountsStand old new
+    × ((place : ℕ) × (part : PartLine) × (name : List ℕ) × (slice_get parts place ≡ Some part) × (read_by part.form ≡ Some name) × (which ≡ Line part.line) × IsShort name old at size
+    × ((head : WavHead) → HasHead old name head → head.start ≤ at))
 IsRunFault parts old new other = ⊥
 
 -- each sink's name holds a front of its text, and every other name is as before

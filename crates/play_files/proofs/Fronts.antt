@@ -51,6 +51,7 @@ module _ (old mid : Outside) (S : IsStill old mid) where
     ends = I.ends ∙ end_same name;
     starts = λ end is. I.starts end (end_same name ∙ is);
     head_is = λ tells. (let h = I.head_is (tells_too tells) in (h.0, sym (file_same name) ∙ h.1, h.2));
+    reads_as = λ bytes is. I.reads_as bytes (file_same name ∙ is);
   }
 
   pub sink_sooner : (name : List ℕ) (sink : SinkSeen) → IsSinkOf mid name sink → IsSinkOf old name sink
@@ -66,6 +67,8 @@ module _ (old mid : Outside) (S : IsStill old mid) where
     record {
       stopped = subst (λ (t : Option (List ℕ)). StoppedShort size t (old.ends name) at size) (file_same name) (subst (λ (e : Option ℕ). StoppedShort size (mid.file name) e at size) (end_same name) (is.1).stopped);
       whole = λ tells. (let h = (is.1).whole (tells_too tells) in (h.0, sym (file_same name) ∙ h.1, h.2));
+      inside = λ bytes held. (is.1).inside bytes (file_same name ∙ held);
+      small = (is.1).small;
     },
   )
   source_fault_sooner line name new (Faults.Script at why) is = absurd is

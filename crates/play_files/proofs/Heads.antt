@@ -1,6 +1,7 @@
 -- A source whose head wasn't read.
-use Rattle.std.proofs.Common.{◌≡◌, ◌≢◌, ℕ, List, length, Option, Some, Err, IsTrue, refl, sym, ◌∙◌, ap, subst, arith}
+use Rattle.std.proofs.Common.{◌≡◌, ◌≢◌, ℕ, ◌<◌, ◌≤◌, List, length, Option, Some, Ok, Err, IsTrue, inl, inr, refl, sym, ◌∙◌, ap, subst, arith}
 use Rattle.std.specs.Prelude.{IsSome}
+use Rattle.std.proofs.lemmas.Bool.{cases_lt}
 use Rattle.omx_types.specs.declared.fault.Fault.TheVariants as Faults
 use Rattle.omx_types.specs.declared.fault.WavFault.{WavFault}
 use Rattle.omx_types.specs.declared.fault.WavFault.TheVariants as WavFaults
@@ -8,7 +9,7 @@ use Rattle.outside_io.specs.Causes.{Rose, sum_of_counts}
 use Rattle.outside_io.specs.Files.{GoesOn, Outside}
 use Rattle.outside_io.specs.Moves.{WhereTold}
 use Rattle.outside_io.proofs.Closed.{told_value}
-use Rattle.wav_form.specs.Reading.{Reads}
+use Rattle.wav_form.specs.Reading.{Reads, most_bytes}
 use Rattle.wav_form.specs.Stops.{IfShort, StoppedShort, UnlessStopped}
 use Rattle.wav_form.specs.declared.heads.WavHead.{WavHead}
 use Rattle.play_files.specs.Faults.{fault_of_head}
@@ -34,6 +35,8 @@ pub record IsTried (name : List ℕ) (old mid new : Outside) (fault : WavFault) 
   pub sized : WhereTold (old.file name) (λ bytes. size ≡ length bytes)
   pub reads : WhereTold told (λ bytes. UnlessStopped {A = WavHead} (Err fault) (Reads bytes))
   pub short : IfShort fault (StoppedShort size told ends)
+  pub inside : WhereTold told (λ bytes. (head : WavHead) → Reads bytes (Ok head) → IfShort fault (λ at _. at < head.start))
+  pub large : most_bytes < size → fault ≡ WavFaults.TooLarge size
 
 module _ (line : ℕ) (name : List ℕ) (old mid new : Outside) (fault : WavFault) (size : ℕ) (told : Option (List ℕ)) (ends : Option ℕ) (before now : ℕ) (T : IsTried name old mid new fault size told ends before now) where
   calm : fault ≢ WavFaults.Read → new.read_faults ≡ old.read_faults
@@ -60,6 +63,13 @@ module _ (line : ℕ) (name : List ℕ) (old mid new : Outside) (fault : WavFaul
 read_not : (line : ℕ) (fault : WavFault) → fault_of_head line fault ≢ Faults.ReadFault → fault ≢ WavFaults.Read
 read_not line fault n e = n (ap (fault_of_head line) e)
 
+-- a file that is told as short isn't too large
+small_short : (at whole size : ℕ) → whole ≡ size → (most_bytes < size → WavFaults.Short at whole ≡ WavFaults.TooLarge size) → whole ≤ most_bytes
+small_short at whole size same large = elim (cases_lt most_bytes size) [
+  | inl lt ↦ let e : WavFaults.Short at whole ≡ WavFaults.TooLarge size = large lt in absurd cc
+  | inr le ↦ omega arith
+]
+
 pub head_refused : (line : ℕ) (name : List ℕ) (old mid new : Outside) (fault : WavFault) (size : ℕ) (told : Option (List ℕ)) (ends : Option ℕ) (before now : ℕ) → IsTried name old mid new fault size told ends before now
     → IsSourceRefused line name old new (fault_of_head line fault)
 head_refused line name old mid new WavFaults.Read size told ends before now T =
@@ -74,8 +84,15 @@ head_refused line name old mid new (WavFaults.Short at whole) size told ends bef
     let s : StoppedShort whole (old.file name) (old.ends name) at whole =
     subst (λ (z : ℕ). StoppedShort z (old.file name) (old.ends name) at whole) (sym short.whole)
     (subst (λ (t : Option (List ℕ)). StoppedShort size t (old.ends name) at whole) T.told_is (subst (λ (e : Option ℕ). StoppedShort size told e at whole) T.ends_is short)) in
-    refused line name old mid new (WavFaults.Short at whole) size told ends before now T
-    (refl, record { stopped = s; whole = λ tells. (let held = told_value (old.file name) (T.there tells) in (held.0, held.1, short.whole ∙ T.sized held.0 held.1)) })
+    refused line name old mid new (WavFaults.Short at whole) size told ends before now T (
+      refl,
+      record {
+        stopped = s;
+        whole = λ tells. (let held = told_value (old.file name) (T.there tells) in (held.0, held.1, short.whole ∙ T.sized held.0 held.1));
+        inside = λ bytes is. T.inside bytes (T.told_is ∙ is);
+        small = small_short at whole size short.whole T.large;
+      },
+    )
     (read_not line (WavFaults.Short at whole))
 head_refused line name old mid new (WavFaults.TooLarge large) size told ends before now T = refused line name old mid new (WavFaults.TooLarge large) size told ends before now T (refl, tt, bad line name old mid new _ size told ends before now T) (read_not line (WavFaults.TooLarge large))
 head_refused line name old mid new WavFaults.NotRiff size told ends before now T = refused line name old mid new WavFaults.NotRiff size told ends before now T (refl, tt, bad line name old mid new _ size told ends before now T) (read_not line WavFaults.NotRiff)

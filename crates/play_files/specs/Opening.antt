@@ -8,7 +8,7 @@ use Rattle.omx_types.specs.declared.fault.Which.TheVariants.{Line}
 use Rattle.outside_io.specs.Causes.{Rose}
 use Rattle.outside_io.specs.Files.{GoesOn, Outside}
 use Rattle.outside_io.specs.Moves.{WhereTold}
-use Rattle.wav_form.specs.Reading.{FitsFile, Reads as ReadsAs}
+use Rattle.wav_form.specs.Reading.{FitsFile, Reads as ReadsAs, most_bytes}
 use Rattle.wav_form.specs.Stops.{StoppedShort}
 use Rattle.wav_form.specs.declared.heads.WavHead.{WavHead}
 use Rattle.script_lang.specs.declared.play_line.PartForm.{PartForm}
@@ -42,6 +42,8 @@ pub record IsSourceOf (old : Outside) (name : List ℕ) (head : WavHead) (source
   pub ends : source.ends ≡ old.ends name
   pub starts : WhereTold (old.ends name) (λ end. head.start ≤ end)
   pub head_is : IsTrue old.tells → HasHead old name head
+  -- what is told of it reads as this head
+  pub reads_as : WhereTold (old.file name) (λ bytes. ReadsAs bytes (Ok head))
 
 -- a new sink of that name
 pub record IsSinkOf (old : Outside) (name : List ℕ) (sink : SinkSeen) : Type 0 where
@@ -62,6 +64,10 @@ IsOfHead fault = Unit {0}
 pub record IsShortHead (name : List ℕ) (old : Outside) (at size : ℕ) : Type 0 where
   pub stopped : StoppedShort size (old.file name) (old.ends name) at size
   pub whole : IsTrue old.tells → (bytes : List ℕ) × (old.file name ≡ Some bytes) × (size ≡ length bytes)
+  -- a file with samples is short only before them
+  pub inside : WhereTold (old.file name) (λ bytes. (head : WavHead) → ReadsAs bytes (Ok head) → at < head.start)
+  -- a larger file is too large, and not short
+  pub small : size ≤ most_bytes
 
 -- why the source in that line isn't open behind its head
 abbrev pub IsSourceFault : ℕ → List ℕ → Outside → Outside → Fault → Type 0

@@ -30,4 +30,6 @@ returns-in-Err-read_head-clause-refused g c =
       sized = c.in-Ok.ensures.size;
       reads = e.reads;
       short = e.short;
+      inside = e.asks_no_further;
+      large = λ more. (let same = e.too_large more in cc);
     }))
