@@ -1,7 +1,8 @@
 -- What making files comes to.
-use Rattle.std.specs.Prelude.{◌≡◌, ℕ, List, Result, IsTrue, IfOk, IfErr, OnOk, OnErr}
+use Rattle.std.specs.Prelude.{◌≡◌, ◌≢◌, ℕ, List, Result, Err, IsTrue, IfOk, IfErr, OnOk, OnErr}
 use Rattle.outside_io.specs.Files.{CountsStand, Outside}
 use Rattle.omx_types.specs.declared.fault.Fault.{Fault}
+use Rattle.omx_types.specs.declared.fault.Fault.TheVariants.{WriteFault}
 use Rattle.load_gen.specs.Made.{AreMade, ArePartlyMade, OthersAreKept, HasReason}
 use Rattle.omxrun.specs.declared.done.Done.{Done}
 use Rattle.omxrun.specs.declared.done.Done.TheVariants.{Made}
@@ -14,3 +15,7 @@ pub record IsMakeOutcome (seed frames : ℕ) (folder : List ℕ) (old new : Outs
   pub others : IsTrue old.tells → OthersAreKept folder old new
   pub reason : IfErr outcome (HasReason folder old new)
   pub stand : OnOk outcome (CountsStand old new)
+  -- nothing is read
+  pub reads : new.read_faults ≡ old.read_faults
+  -- a write that failed is told, and nothing in its place
+  pub writes : outcome ≢ Err WriteFault → new.write_faults ≡ old.write_faults
