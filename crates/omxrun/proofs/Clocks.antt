@@ -36,12 +36,16 @@ HasRunTo bytes old new before now status =
 pub unread-clock : (name : List ℕ) (old new : Outside) (unread : Unread) → HasReadReason name 65536 old new unread → (IsTrue old.tells → WasOpened unread → IsSome (old.file name)) → (unread ≢ Unreads.Failed → new.read_faults ≡ old.read_faults) → new.write_faults ≡ old.write_faults → HasClockReason name old new (fault_of_script unread)
 unread-clock name old new Unreads.Absent reason there stands writes = unread-reason name old new Unreads.Absent reason there stands writes
 unread-clock name old new Unreads.Failed reason there stands writes = unread-reason name old new Unreads.Failed reason there stands writes
-unread-clock name old new (Unreads.TooLong size) reason there stands writes = λ tells.
-    let (bytes, held) = told_value (old.file name) (there tells tt) in
-    let whole = reason.1 bytes held in
-    let more = reason.0 in
-    let longer : 65536 < length bytes = omega (arith, whole, more) in
-    record { bytes = bytes; held = held; faulty = inl (longer, refl, refl) }
+unread-clock name old new (Unreads.TooLong size) reason there stands writes =
+    let other : Unreads.TooLong size ≢ Unreads.Failed = λ same. cc in (
+      record { reads = stands other; writes = writes },
+      λ tells.
+          (let (bytes, held) = told_value (old.file name) (there tells tt) in
+          let whole = reason.1 bytes held in
+          let more = reason.0 in
+          let longer : 65536 < length bytes = omega (arith, whole, more) in
+          record { bytes = bytes; held = held; faulty = inl (longer, refl, refl) }),
+    )
 unread-clock name old new (Unreads.Short at size) reason there stands writes = unread-reason name old new (Unreads.Short at size) reason there stands writes
 unread-clock name old new Unreads.OutOfMemory reason there stands writes = unread-reason name old new Unreads.OutOfMemory reason there stands writes
 
@@ -106,24 +110,24 @@ abbrev pub HasClocked : List ℕ → Outside → Outside → Option (List ℕ) �
 HasClocked name old new told told_new before now status =
     (outcome : Result (Unit {0}) Fault) × (text : List ℕ) × IsClockOutcome name old new outcome text × IsPrinted (status_of outcome) text told told_new before now status
 
-clock-of : (name bytes : List ℕ) (old new : Outside) (outcome : Result (Unit {0}) Fault) (text : List ℕ) → (IsTrue old.tells → old.file name ≡ Some bytes) → RunsTo bytes outcome text → IsClockOf name old new outcome text
-clock-of name bytes old new (Ok done) text held (is, spelled) = record { bytes = bytes; held = held; is = is; spelled = spelled }
-clock-of name bytes old new (Err (Faults.Script line why)) text held (faulty, spelled) = ((λ tells. record { bytes = bytes; held = held tells; faulty = faulty }), spelled)
-clock-of name bytes old new (Err Faults.Usage) text held runs = absurd runs
-clock-of name bytes old new (Err Faults.OutOfMemory) text held runs = absurd runs
-clock-of name bytes old new (Err Faults.WriteFault) text held runs = absurd runs
-clock-of name bytes old new (Err (Faults.BadMedia which fault)) text held runs = absurd runs
-clock-of name bytes old new (Err Faults.ReadFault) text held runs = absurd runs
-clock-of name bytes old new (Err (Faults.Absent which)) text held runs = absurd runs
-clock-of name bytes old new (Err (Faults.Short which at size)) text held runs = absurd runs
-clock-of name bytes old new (Err (Faults.Units have need)) text held runs = absurd runs
-clock-of name bytes old new (Err (Faults.Packets why)) text held runs = absurd runs
-clock-of name bytes old new (Err (Faults.NotRun line why)) text held runs = absurd runs
-clock-of name bytes old new (Err (Faults.NotBuilt what)) text held runs = absurd runs
+clock-of : (name bytes : List ℕ) (old new : Outside) (outcome : Result (Unit {0}) Fault) (text : List ℕ) → (IsTrue old.tells → old.file name ≡ Some bytes) → CountsStand old new → RunsTo bytes outcome text → IsClockOf name old new outcome text
+clock-of name bytes old new (Ok done) text held stand (is, spelled) = record { bytes = bytes; held = held; is = is; spelled = spelled }
+clock-of name bytes old new (Err (Faults.Script line why)) text held stand (faulty, spelled) = ((stand, λ tells. record { bytes = bytes; held = held tells; faulty = faulty }), spelled)
+clock-of name bytes old new (Err Faults.Usage) text held stand runs = absurd runs
+clock-of name bytes old new (Err Faults.OutOfMemory) text held stand runs = absurd runs
+clock-of name bytes old new (Err Faults.WriteFault) text held stand runs = absurd runs
+clock-of name bytes old new (Err (Faults.BadMedia which fault)) text held stand runs = absurd runs
+clock-of name bytes old new (Err Faults.ReadFault) text held stand runs = absurd runs
+clock-of name bytes old new (Err (Faults.Absent which)) text held stand runs = absurd runs
+clock-of name bytes old new (Err (Faults.Short which at size)) text held stand runs = absurd runs
+clock-of name bytes old new (Err (Faults.Units have need)) text held stand runs = absurd runs
+clock-of name bytes old new (Err (Faults.Packets why)) text held stand runs = absurd runs
+clock-of name bytes old new (Err (Faults.NotRun line why)) text held stand runs = absurd runs
+clock-of name bytes old new (Err (Faults.NotBuilt what)) text held stand runs = absurd runs
 
 pub clocked-of : (name bytes : List ℕ) (old new : Outside) (told told_new : Option (List ℕ)) (before now : ℕ) (status : Status) → (IsTrue old.tells → old.file name ≡ Some bytes) → new.file ≡ old.file → CountsStand old new → HasRunTo bytes told told_new before now status → HasClocked name old new told told_new before now status
 clocked-of name bytes old new told told_new before now status held kept stand (outcome, text, runs, printed) =
-    (outcome, text, record { kept = kept; is = clock-of name bytes old new outcome text held runs; stand = on_ok outcome (CountsStand old new) stand }, printed)
+    (outcome, text, record { kept = kept; is = clock-of name bytes old new outcome text held stand runs; stand = on_ok outcome (CountsStand old new) stand }, printed)
 
 -- ---- where all is told and no count rises
 
@@ -134,7 +138,7 @@ IsLeftOf bytes fault =
 
 left-fault : (name bytes : List ℕ) (old new : Outside) (fault : Fault) → IsTrue old.tells → IsGiven old name bytes → (Rose old.read_faults new.read_faults → ⊥) → HasClockReason name old new fault → IsLeftOf bytes fault
 left-fault name bytes old new (Faults.Script line why) tells given none reason =
-    let is = reason tells in
+    let is = reason.1 tells in
     inr (line, why, refl, subst (λ (b : List ℕ). IsFaulty b line why) (same-text is.bytes bytes (old.file name) is.held given.held) is.faulty)
 left-fault name bytes old new Faults.ReadFault tells given none reason = absurd (none reason)
 left-fault name bytes old new (Faults.Absent Files.Script) tells given none reason = absurd (none-some bytes (old.file name) reason.1 given.held)

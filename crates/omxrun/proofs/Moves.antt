@@ -1,5 +1,5 @@
 -- What packing and unpacking the files that were opened come to.
-use Rattle.std.proofs.Common.{◌≡◌, ◌⊎◌, inl, inr, ℕ, ◌≤◌, List, [], length, Option, Some, Result, Ok, Err, OnOk, OnErr, IfOk, IfErr, IsTrue, IsSome, ap, sym, subst, refl, ◌∙◌, arith}
+use Rattle.std.proofs.Common.{◌≡◌, ◌≢◌, ◌⊎◌, inl, inr, ℕ, ◌≤◌, List, [], length, Option, Some, Result, Ok, Err, OnOk, OnErr, IfOk, IfErr, IsTrue, IsSome, ap, sym, subst, refl, ◌∙◌, arith}
 use Rattle.std.specs.Io.KnownBytes.{append_known}
 use Rattle.outside_io.specs.Causes.{Rose, sum_of_counts}
 use Rattle.outside_io.specs.Files.{CountsStand, GoesOn, IsFrontOf, Outside, SameBut}
@@ -7,6 +7,7 @@ use Rattle.outside_io.specs.Moves.{AppendsFront, WhereTold}
 use Rattle.outside_io.proofs.Closed.{told_value}
 use Rattle.omx_types.specs.declared.fault.Fault.{Fault}
 use Rattle.omx_types.specs.declared.fault.Fault.TheVariants as Faults
+use Rattle.omx_types.specs.declared.fault.PacketsWhy.{PacketsWhy}
 use Rattle.omx_types.specs.declared.fault.WavFault.{WavFault}
 use Rattle.omx_types.specs.declared.fault.Which.{Which}
 use Rattle.rtp_parts.specs.Answers.{IfShort, UnlessStopped, Packing, packing_of, counts_of, packets_file, StoppedPacking, unpacked_counts}
@@ -181,29 +182,36 @@ closed-of Gives Stops name input output old mid new ran outcome told same on nam
 
 -- ---- which counts rose
 
--- what a run says of the source's count and the sink's, which were 0: where it was done whole, where its write failed and where it came short
+-- what a run says of the source's count and the sink's, which were 0: where it was done whole, where its write failed, where it came short and
+-- where its bytes are at fault
 abbrev pub RanAlone : Result Done Fault → ℕ → ℕ → Type 0
 RanAlone (Ok done) reads writes = (reads ≡ 0) × (writes ≡ 0)
 RanAlone (Err Faults.WriteFault) reads writes = reads ≡ 0
 RanAlone (Err (Faults.Short which at size)) reads writes = (reads ≡ 0) × (writes ≡ 0)
+RanAlone (Err (Faults.BadMedia which fault)) reads writes = reads ≡ 0
+RanAlone (Err (Faults.Packets why)) reads writes = reads ≡ 0
 RanAlone (Err other) reads writes = Unit {0}
 
-rtp-alone : (rb rn wb wn : ℕ) (fault : RtpFault) → rb ≡ 0 → wb ≡ 0 → (fault ≡ RtpFaults.Write → rn ≡ rb) → IfShort fault (λ at whole. (rn ≡ rb) × (wn ≡ wb)) → RanAlone (Err (fault_of_rtp fault)) rn wn
-rtp-alone rb rn wb wn RtpFaults.Write unread unwritten write short = write refl ∙ unread
-rtp-alone rb rn wb wn (RtpFaults.Short at whole) unread unwritten write short = (short.0 ∙ unread, short.1 ∙ unwritten)
-rtp-alone rb rn wb wn RtpFaults.Read unread unwritten write short = tt
-rtp-alone rb rn wb wn (RtpFaults.Head fault) unread unwritten write short = tt
-rtp-alone rb rn wb wn RtpFaults.WrongFormat unread unwritten write short = tt
-rtp-alone rb rn wb wn RtpFaults.NotPackets unread unwritten write short = tt
-rtp-alone rb rn wb wn RtpFaults.NoPackets unread unwritten write short = tt
-rtp-alone rb rn wb wn RtpFaults.TooLong unread unwritten write short = tt
-rtp-alone rb rn wb wn RtpFaults.OutOfMemory unread unwritten write short = tt
+rtp-alone : (rb rn wb wn : ℕ) (fault : RtpFault) → rb ≡ 0 → wb ≡ 0 → (fault ≡ RtpFaults.Write → rn ≡ rb) → (IsOfBytes (fault_of_rtp fault) → rn ≡ rb) → IfShort fault (λ at whole. (rn ≡ rb) × (wn ≡ wb)) → RanAlone (Err (fault_of_rtp fault)) rn wn
+rtp-alone rb rn wb wn RtpFaults.Write unread unwritten write bytes short = write refl ∙ unread
+rtp-alone rb rn wb wn (RtpFaults.Short at whole) unread unwritten write bytes short = (short.0 ∙ unread, short.1 ∙ unwritten)
+rtp-alone rb rn wb wn RtpFaults.Read unread unwritten write bytes short = tt
+rtp-alone rb rn wb wn (RtpFaults.Head fault) unread unwritten write bytes short = bytes tt ∙ unread
+rtp-alone rb rn wb wn RtpFaults.WrongFormat unread unwritten write bytes short = bytes tt ∙ unread
+rtp-alone rb rn wb wn RtpFaults.NotPackets unread unwritten write bytes short = bytes tt ∙ unread
+rtp-alone rb rn wb wn RtpFaults.NoPackets unread unwritten write bytes short = bytes tt ∙ unread
+rtp-alone rb rn wb wn RtpFaults.TooLong unread unwritten write bytes short = bytes tt ∙ unread
+rtp-alone rb rn wb wn RtpFaults.OutOfMemory unread unwritten write bytes short = tt
 
-pub pack-alone : (rb rn wb wn : ℕ) (result : Result Packed RtpFault) → rb ≡ 0 → wb ≡ 0 → OnOk result ((rn ≡ rb) × (wn ≡ wb)) → (result ≡ Err RtpFaults.Write → rn ≡ rb)
+not-read : (fault : RtpFault) → IsOfBytes (fault_of_rtp fault) → fault ≡ RtpFaults.Read → ⊥
+not-read fault of same = subst (λ (f : RtpFault). IsOfBytes (fault_of_rtp f)) same of
+
+pub pack-alone : (rb rn wb wn : ℕ) (result : Result Packed RtpFault) → rb ≡ 0 → wb ≡ 0 → OnOk result ((rn ≡ rb) × (wn ≡ wb)) → (result ≡ Err RtpFaults.Write → rn ≡ rb) → (result ≢ Err RtpFaults.Read → rn ≡ rb)
     → IfErr result (λ fault. IfShort fault (λ at whole. (rn ≡ rb) × (wn ≡ wb))) → RanAlone (packing_done result) rn wn
-pack-alone rb rn wb wn (Ok counts) unread unwritten stand write short = (stand.0 ∙ unread, stand.1 ∙ unwritten)
-pack-alone rb rn wb wn (Err fault) unread unwritten stand write short =
-    rtp-alone rb rn wb wn fault unread unwritten (λ same. write (ap (λ (f : RtpFault). let r : Result Packed RtpFault = Err f in r) same)) short
+pack-alone rb rn wb wn (Ok counts) unread unwritten stand write read short = (stand.0 ∙ unread, stand.1 ∙ unwritten)
+pack-alone rb rn wb wn (Err fault) unread unwritten stand write read short =
+    rtp-alone rb rn wb wn fault unread unwritten (λ same. write (ap (λ (f : RtpFault). let r : Result Packed RtpFault = Err f in r) same))
+    (λ of. read (λ same. not-read fault of (let e : fault ≡ RtpFaults.Read = cc in e))) short
 
 ends-alone : (size : ℕ) (ends : Option ℕ) (rb rn wb wn : ℕ) (fault : RtpFault) → EndsUnpacking size ends rb rn wb wn fault → IfShort fault (λ at whole. (rn ≡ rb) × (wn ≡ wb))
 ends-alone size ends rb rn wb wn (RtpFaults.Short at whole) is = (is.1, is.2)
@@ -216,11 +224,22 @@ ends-alone size ends rb rn wb wn RtpFaults.NoPackets is = tt
 ends-alone size ends rb rn wb wn RtpFaults.TooLong is = tt
 ends-alone size ends rb rn wb wn RtpFaults.OutOfMemory is = tt
 
+ends-bytes : (size : ℕ) (ends : Option ℕ) (rb rn wb wn : ℕ) (fault : RtpFault) → EndsUnpacking size ends rb rn wb wn fault → IsOfBytes (fault_of_rtp fault) → rn ≡ rb
+ends-bytes size ends rb rn wb wn (RtpFaults.Head fault) is of = is.2
+ends-bytes size ends rb rn wb wn RtpFaults.WrongFormat is of = absurd is
+ends-bytes size ends rb rn wb wn RtpFaults.NotPackets is of = is
+ends-bytes size ends rb rn wb wn RtpFaults.NoPackets is of = is
+ends-bytes size ends rb rn wb wn RtpFaults.TooLong is of = is
+ends-bytes size ends rb rn wb wn RtpFaults.Read is of = absurd of
+ends-bytes size ends rb rn wb wn RtpFaults.Write is of = absurd of
+ends-bytes size ends rb rn wb wn (RtpFaults.Short at whole) is of = absurd of
+ends-bytes size ends rb rn wb wn RtpFaults.OutOfMemory is of = absurd of
+
 pub unpack-alone : (size : ℕ) (ends : Option ℕ) (rb rn wb wn : ℕ) (result : Result Unpacked RtpFault) → rb ≡ 0 → wb ≡ 0 → OnOk result ((rn ≡ rb) × (wn ≡ wb))
     → IfErr result (EndsUnpacking size ends rb rn wb wn) → RanAlone (unpacking_done result) rn wn
 unpack-alone size ends rb rn wb wn (Ok counts) unread unwritten stand cause = (stand.0 ∙ unread, stand.1 ∙ unwritten)
 unpack-alone size ends rb rn wb wn (Err fault) unread unwritten stand cause =
-    rtp-alone rb rn wb wn fault unread unwritten (λ same. (subst (λ (f : RtpFault). EndsUnpacking size ends rb rn wb wn f) same cause).1) (ends-alone size ends rb rn wb wn fault cause)
+    rtp-alone rb rn wb wn fault unread unwritten (λ same. (subst (λ (f : RtpFault). EndsUnpacking size ends rb rn wb wn f) same cause).1) (ends-bytes size ends rb rn wb wn fault cause) (ends-alone size ends rb rn wb wn fault cause)
 
 -- a run that was done whole or came short left the source's count
 whole-alone : (ran : Result Done Fault) (reads writes : ℕ) → RanAlone ran reads writes → IsWholeOrShort ran → reads ≡ 0
@@ -254,6 +273,14 @@ short-alone : (ran : Result Done Fault) (which : Which) (at size reads writes : 
 short-alone ran which at size reads writes is (inl same) = subst (λ (r : Result Done Fault). RanAlone r reads writes) same is
 short-alone ran which at size reads writes is (inr (other, _)) = absurd cc
 
+media-alone : (ran : Result Done Fault) (which : Which) (fault : WavFault) (reads writes : ℕ) → RanAlone ran reads writes → (ran ≡ Err (Faults.BadMedia which fault)) ⊎ ((Faults.BadMedia which fault ≡ Faults.WriteFault) × IsWholeOrShort ran) → reads ≡ 0
+media-alone ran which fault reads writes is (inl same) = subst (λ (r : Result Done Fault). RanAlone r reads writes) same is
+media-alone ran which fault reads writes is (inr (other, _)) = absurd cc
+
+packets-alone : (ran : Result Done Fault) (why : PacketsWhy) (reads writes : ℕ) → RanAlone ran reads writes → (ran ≡ Err (Faults.Packets why)) ⊎ ((Faults.Packets why ≡ Faults.WriteFault) × IsWholeOrShort ran) → reads ≡ 0
+packets-alone ran why reads writes is (inl same) = subst (λ (r : Result Done Fault). RanAlone r reads writes) same is
+packets-alone ran why reads writes is (inr (other, _)) = absurd cc
+
 alone-of : (old mid new : Outside) (ran : Result Done Fault) (fault : Fault) (reads writes : ℕ) → CountsStand old mid → RanAlone ran reads writes → (ran ≡ Err fault) ⊎ ((fault ≡ Faults.WriteFault) × IsWholeOrShort ran)
     → (reads ≡ 0 → new.read_faults ≡ mid.read_faults) → (writes ≡ 0 → IsShortFile fault → new.write_faults ≡ mid.write_faults) → IsAlone old new fault
 alone-of old mid new ran Faults.WriteFault reads writes stand is closing unread unwritten = unread (write-alone ran reads writes is closing) ∙ stand.reads
@@ -262,8 +289,8 @@ alone-of old mid new ran (Faults.Short which at size) reads writes stand is clos
     record { reads = unread none.0 ∙ stand.reads; writes = unwritten none.1 tt ∙ stand.writes }
 alone-of old mid new ran Faults.ReadFault reads writes stand is closing unread unwritten = tt
 alone-of old mid new ran Faults.OutOfMemory reads writes stand is closing unread unwritten = tt
-alone-of old mid new ran (Faults.BadMedia which fault) reads writes stand is closing unread unwritten = tt
-alone-of old mid new ran (Faults.Packets why) reads writes stand is closing unread unwritten = tt
+alone-of old mid new ran (Faults.BadMedia which fault) reads writes stand is closing unread unwritten = unread (media-alone ran which fault reads writes is closing) ∙ stand.reads
+alone-of old mid new ran (Faults.Packets why) reads writes stand is closing unread unwritten = unread (packets-alone ran why reads writes is closing) ∙ stand.reads
 alone-of old mid new ran (Faults.Absent which) reads writes stand is closing unread unwritten = tt
 alone-of old mid new ran (Faults.Script line why) reads writes stand is closing unread unwritten = tt
 alone-of old mid new ran Faults.Usage reads writes stand is closing unread unwritten = tt

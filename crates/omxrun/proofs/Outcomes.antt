@@ -1,6 +1,6 @@
 -- What a play comes to, from before its script was read.
 use Rattle.std.proofs.Common.{◌≡◌, ◌≢◌, inl, inr, ℕ, ◌+◌, ◌<◌, ◌≤◌, List, [], ◌∷◌, length, Option, Some, None, Result, Ok, Err, IsTrue, IsSome, ap, refl, ◌∙◌, arith}
-use Rattle.outside_io.specs.Files.{GoesOn, Outside}
+use Rattle.outside_io.specs.Files.{CountsStand, GoesOn, Outside}
 use Rattle.outside_io.specs.Whole.{HasReadReason, WasOpened}
 use Rattle.outside_io.specs.declared.whole.Unread.{Unread}
 use Rattle.outside_io.specs.declared.whole.Unread.TheVariants as Unreads
@@ -29,19 +29,23 @@ use Rattle.omxrun.proofs.Traces.{unread-reason}
 pub unread-play : (name log : List ℕ) (old new : Outside) (unread : Unread) → HasReadReason name 65536 old new unread → (IsTrue old.tells → WasOpened unread → IsSome (old.file name)) → (unread ≢ Unreads.Failed → new.read_faults ≡ old.read_faults) → new.write_faults ≡ old.write_faults → HasPlayReason name log old new (fault_of_script unread)
 unread-play name log old new Unreads.Absent reason there stands writes = unread-reason name old new Unreads.Absent reason there stands writes
 unread-play name log old new Unreads.Failed reason there stands writes = unread-reason name old new Unreads.Failed reason there stands writes
-unread-play name log old new (Unreads.TooLong size) reason there stands writes = λ tells.
-    let (bytes, held) = told_value (old.file name) (there tells tt) in
-    let whole = reason.1 bytes held in
-    let more = reason.0 in
-    let longer : 65536 < length bytes = omega (arith, whole, more) in
-    record { bytes = bytes; held = held; refused = inl (longer, refl) }
+unread-play name log old new (Unreads.TooLong size) reason there stands writes =
+    let other : Unreads.TooLong size ≢ Unreads.Failed = λ same. cc in (
+      record { reads = stands other; writes = writes },
+      λ tells.
+          (let (bytes, held) = told_value (old.file name) (there tells tt) in
+          let whole = reason.1 bytes held in
+          let more = reason.0 in
+          let longer : 65536 < length bytes = omega (arith, whole, more) in
+          record { bytes = bytes; held = held; refused = inl (longer, refl) }),
+    )
 unread-play name log old new (Unreads.Short at size) reason there stands writes = unread-reason name old new (Unreads.Short at size) reason there stands writes
 unread-play name log old new Unreads.OutOfMemory reason there stands writes = unread-reason name old new Unreads.OutOfMemory reason there stands writes
 
 -- its bytes are no script
-pub refused-play : (name log text : List ℕ) (old new : Outside) (error : ScriptError) → (IsTrue old.tells → old.file name ≡ Some text) → IsPlayRefused name log text error → HasPlayReason name log old new (fault_of_reading error)
-refused-play name log text old new (Errors.Fault fault) held refused = λ tells. record { bytes = text; held = held tells; refused = refused }
-refused-play name log text old new Errors.OutOfMemory held refused = tt
+pub refused-play : (name log text : List ℕ) (old new : Outside) (error : ScriptError) → (IsTrue old.tells → old.file name ≡ Some text) → CountsStand old new → IsPlayRefused name log text error → HasPlayReason name log old new (fault_of_reading error)
+refused-play name log text old new (Errors.Fault fault) held stand refused = (stand, λ tells. record { bytes = text; held = held tells; refused = refused })
+refused-play name log text old new Errors.OutOfMemory held stand refused = tt
 
 -- ---- a script that was read
 

@@ -193,7 +193,7 @@ short-script old name bytes at size given short =
 -- the script is given whole, and is one
 script-last : PlayOnce → (name log : List ℕ) (old new : Outside) (script : Script) (fault : Fault) → IsCalm old new → IsAsked name log old script → HasPlayReason name log old new fault → fault ≡ Faults.OutOfMemory
 script-last once name log old new script (Faults.Script at_line why) calm asked is =
-    (let N = is asked.tells in
+    (let N = is.1 asked.tells in
     absurd (no-play once name log asked.text script (fault_at at_line why) asked.is (subst (λ (b : List ℕ). PlayReadsAs name log b (Err (fault_at at_line why))) (same-text N.bytes asked.text (old.file name) N.held (asked.given).held) N.refused)))
 script-last once name log old new script Faults.Usage calm asked is = absurd is
 script-last once name log old new script (Faults.BadMedia which wav) calm asked is = absurd is
@@ -223,7 +223,7 @@ one-fault a b one other p q same = let e : Err a ≡ Err b = sym p ∙ (same ∙
 -- it is none, by this fault
 unread-last : PlayOnce → (name log : List ℕ) (old new : Outside) (line : ℕ) (bad : ScriptWhy) (fault : Fault) → IsCalm old new → IsUnread name log old line bad → HasPlayReason name log old new fault → (fault ≡ Faults.Script line bad) ⊎ (fault ≡ Faults.OutOfMemory)
 unread-last once name log old new line bad (Faults.Script at_line why) calm has is =
-    (let N = is has.tells in
+    (let N = is.1 has.tells in
     let e = one-fault (fault_at at_line why) (fault_at line bad) (Err (fault_at at_line why)) (Err (fault_at line bad)) refl refl (once name log has.bytes (Err (fault_at at_line why)) (Err (fault_at line bad)) (subst (λ (b : List ℕ). PlayReadsAs name log b (Err (fault_at at_line why))) (same-text N.bytes has.bytes (old.file name) N.held (has.given).held) N.refused) has.refused) in
     inl (ap (λ (f : ScriptFault). Faults.Script f.line f.why) e))
 unread-last once name log old new line bad Faults.Usage calm has is = absurd is

@@ -52,12 +52,16 @@ front-behind old mid new text more behind (k, within, is) =
 pub unread-reason : (name : List ℕ) (old new : Outside) (unread : Unread) → HasReadReason name 65536 old new unread → (IsTrue old.tells → WasOpened unread → IsSome (old.file name)) → (unread ≢ Unreads.Failed → new.read_faults ≡ old.read_faults) → new.write_faults ≡ old.write_faults → HasScriptReason name old new (fault_of_script unread)
 unread-reason name old new Unreads.Absent reason there stands writes = reason
 unread-reason name old new Unreads.Failed reason there stands writes = reason
-unread-reason name old new (Unreads.TooLong size) reason there stands writes = λ tells.
-    let (bytes, held) = told_value (old.file name) (there tells tt) in
-    let whole = reason.1 bytes held in
-    let more = reason.0 in
-    let longer : 65536 < length bytes = omega (arith, whole, more) in
-    record { bytes = bytes; held = held; refused = inl (longer, refl) }
+unread-reason name old new (Unreads.TooLong size) reason there stands writes =
+    let other : Unreads.TooLong size ≢ Unreads.Failed = λ same. cc in (
+      record { reads = stands other; writes = writes },
+      λ tells.
+          (let (bytes, held) = told_value (old.file name) (there tells tt) in
+          let whole = reason.1 bytes held in
+          let more = reason.0 in
+          let longer : 65536 < length bytes = omega (arith, whole, more) in
+          record { bytes = bytes; held = held; refused = inl (longer, refl) }),
+    )
 unread-reason name old new (Unreads.Short at size) reason there stands writes =
     let other : Unreads.Short at size ≢ Unreads.Failed = λ same. cc in
     (record { reads = stands other; writes = writes }, reason, λ tells. there tells tt)
@@ -148,7 +152,7 @@ IsLeftOf bytes fault =
 
 left-fault : (name bytes : List ℕ) (old new : Outside) (fault : Fault) → IsTrue old.tells → IsGiven old name bytes → (Rose old.read_faults new.read_faults → ⊥) → HasScriptReason name old new fault → IsLeftOf bytes fault
 left-fault name bytes old new (Faults.Script line why) tells given none reason =
-    let is = reason tells in
+    let is = reason.1 tells in
     inr (line, why, refl, subst (λ (b : List ℕ). ReadsAs b (Err (fault_at line why))) (same-text is.bytes bytes (old.file name) is.held given.held) is.refused)
 left-fault name bytes old new Faults.ReadFault tells given none reason = absurd (none reason)
 left-fault name bytes old new (Faults.Absent Files.Script) tells given none reason = absurd (none-some bytes (old.file name) reason.1 given.held)

@@ -29,9 +29,10 @@ pub record IsNoClockIn (name : List ℕ) (old : Outside) (line : ℕ) (why : Scr
   pub held : old.file name ≡ Some bytes
   pub faulty : IsFaulty bytes line why
 
--- why there is no script for a clock: a file that isn't read whole has the faults that it has for a trace
+-- why there is no script for a clock: a fault of its bytes, only where no read and no write failed; a file that isn't read whole has the
+-- faults that it has for a trace
 abbrev pub HasClockReason : List ℕ → Outside → Outside → Fault → Type 0
-HasClockReason name old new (Faults.Script line why) = IsTrue old.tells → IsNoClockIn name old line why
+HasClockReason name old new (Faults.Script line why) = CountsStand old new × (IsTrue old.tells → IsNoClockIn name old line why)
 HasClockReason name old new other = HasScriptReason name old new other
 
 -- the file is a clock's script, and its text is printed; or the line of a fault is all the text

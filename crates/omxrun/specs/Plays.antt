@@ -34,9 +34,10 @@ pub record IsNoPlayIn (name log : List ℕ) (old : Outside) (line : ℕ) (why : 
   pub held : old.file name ≡ Some bytes
   pub refused : PlayReadsAs name log bytes (Err (fault_at line why))
 
--- why there is no script to play: a file that isn't read whole has the faults that it has for a trace
+-- why there is no script to play: a fault of its bytes, only where no read and no write failed; a file that isn't read whole has the
+-- faults that it has for a trace
 abbrev pub HasPlayReason : (name log : List ℕ) → Outside → Outside → Fault → Type 0
-HasPlayReason name log old new (Faults.Script line why) = IsTrue old.tells → IsNoPlayIn name log old line why
+HasPlayReason name log old new (Faults.Script line why) = CountsStand old new × (IsTrue old.tells → IsNoPlayIn name log old line why)
 HasPlayReason name log old new other = HasScriptReason name old new other
 
 -- ---- its play

@@ -25,9 +25,9 @@ pub record IsNoScriptIn (name : List ℕ) (old : Outside) (line : ℕ) (why : Sc
   pub held : old.file name ≡ Some bytes
   pub refused : ReadsAs bytes (Err (fault_at line why))
 
--- why there is no script to trace
+-- why there is no script to trace; a fault of its bytes is told only where no read and no write failed
 abbrev pub HasScriptReason : List ℕ → Outside → Outside → Fault → Type 0
-HasScriptReason name old new (Faults.Script line why) = IsTrue old.tells → IsNoScriptIn name old line why
+HasScriptReason name old new (Faults.Script line why) = CountsStand old new × (IsTrue old.tells → IsNoScriptIn name old line why)
 HasScriptReason name old new Faults.ReadFault = Rose old.read_faults new.read_faults
 HasScriptReason name old new (Faults.Absent Files.Script) = Rose old.absences new.absences × (old.file name ≡ None)
 HasScriptReason name old new Faults.OutOfMemory = Unit {0}

@@ -54,10 +54,12 @@ HasTurnReason Gives Stops input output old new (Faults.BadMedia Files.Input faul
 HasTurnReason Gives Stops input output old new (Faults.Packets why) = IsTrue old.tells → Comes Gives input old (Err (Faults.Packets why))
 HasTurnReason Gives Stops input output old new other = ⊥
 
--- a failed write is told only where no read failed, and a short file only where neither did
+-- a failed write and a fault of the bytes are told only where no read failed, and a short file only where neither did
 abbrev pub IsAlone : Outside → Outside → Fault → Type 0
 IsAlone old new Faults.WriteFault = new.read_faults ≡ old.read_faults
 IsAlone old new (Faults.Short which at size) = CountsStand old new
+IsAlone old new (Faults.BadMedia which fault) = new.read_faults ≡ old.read_faults
+IsAlone old new (Faults.Packets why) = new.read_faults ≡ old.read_faults
 IsAlone old new other = Unit {0}
 
 -- faults that come before the output is opened, or with its name

@@ -1,5 +1,5 @@
 -- What `pack` answers, by what the head reads as.
-use Rattle.std.proofs.Common.{◌≡◌, ℕ, ◌+◌, ◌*◌, ◌≤◌, max, List, ◌++◌, length, take, drop, Option, Some, None, Result, Ok, Err, inr, sym, ap, subst, ◌∙◌, arith, length-drop}
+use Rattle.std.proofs.Common.{◌≡◌, ℕ, ◌+◌, ◌*◌, ◌≤◌, max, List, ◌++◌, length, take, drop, Option, Some, None, Result, Ok, Err, inr, refl, sym, ap, subst, ◌∙◌, arith, length-drop}
 use Rattle.std.proofs.lemmas.List.{length-take}
 use Rattle.std.specs.Io.KnownBytes.{append_known}
 use Rattle.outside_io.specs.Moves.{AppendsFront, WhereTold}
@@ -104,6 +104,22 @@ short_samples size size1 told ends ends1 head place rb rn wb wn NotPackets same_
 short_samples size size1 told ends ends1 head place rb rn wb wn NoPackets same_size same_ends same_place reached reads nothing = tt
 short_samples size size1 told ends ends1 head place rb rn wb wn TooLong same_size same_ends same_place reached reads nothing = tt
 short_samples size size1 told ends ends1 head place rb rn wb wn OutOfMemory same_size same_ends same_place reached reads nothing = tt
+
+-- where a head's reading didn't fail, nor did the whole
+pub head_stands : (before now : ℕ) (fault : WavFault) (answer : RtpFault) → answer ≡ fault_of_head fault → ((fault ≡ HeadRead → ⊥) → now ≡ before) → (answer ≡ Read → ⊥) → now ≡ before
+head_stands before now fault answer is stands other = stands (λ same. other (is ∙ ap fault_of_head same))
+
+-- a move that a failed read didn't end left the source's count
+pub stop_stands : (size : ℕ) (ends : Option ℕ) (start read_before read_now write_before write_now : ℕ) (fault : RtpFault) → IsStop size ends start read_before read_now write_before write_now fault → (fault ≡ Read → ⊥) → read_now ≡ read_before
+stop_stands size ends start rb rn wb wn Read stop other = absurd (other refl)
+stop_stands size ends start rb rn wb wn Write stop other = stop.1
+stop_stands size ends start rb rn wb wn (Short at told_size) stop other = stop.1
+stop_stands size ends start rb rn wb wn (Head fault) stop other = absurd stop
+stop_stands size ends start rb rn wb wn WrongFormat stop other = absurd stop
+stop_stands size ends start rb rn wb wn NotPackets stop other = absurd stop
+stop_stands size ends start rb rn wb wn NoPackets stop other = absurd stop
+stop_stands size ends start rb rn wb wn TooLong stop other = absurd stop
+stop_stands size ends start rb rn wb wn OutOfMemory stop other = absurd stop
 
 -- what stopped a later part of the move stopped the whole, where no fault came before
 pub stop_later : (size size1 : ℕ) (ends ends1 : Option ℕ) (start later read_before read_mid read_now write_before write_mid write_now : ℕ) (fault : RtpFault) → size1 ≡ size → ends1 ≡ ends → start ≤ later → WhereTold ends (λ end. later ≤ max end start) → read_mid ≡ read_before → write_mid ≡ write_before → IsStop size1 ends1 later read_mid read_now write_mid write_now fault → IsStop size ends start read_before read_now write_before write_now fault

@@ -1,5 +1,5 @@
 -- What `unpack` answers, by what its parts found.
-use Rattle.std.proofs.Common.{◌≡◌, ℕ, ◌<◌, ◌≤◌, nat_lt, not, if◌then◌else◌, true, false, Bool, List, length, take, drop, bytes_eq, Decides, Option, Result, Ok, Err, IfErr, refl, sym, ap, subst, ◌∙◌, arith}
+use Rattle.std.proofs.Common.{◌≡◌, ℕ, ◌<◌, ◌≤◌, nat_lt, not, if◌then◌else◌, true, false, Bool, List, length, take, drop, bytes_eq, Decides, Option, Some, None, Result, Ok, Err, IfErr, refl, sym, ap, subst, ◌∙◌, arith}
 use Rattle.std.proofs.lemmas.List.{length-take}
 use Rattle.std.proofs.lemmas.Slice.Eq.{bytes_eq-Decides}
 use Rattle.std.specs.Io.KnownBytes.{append_known}
@@ -11,14 +11,15 @@ use Rattle.part_forms.specs.Writing.{written}
 use Rattle.rtp_parts.specs.declared.law.Law.{Law}
 use Rattle.rtp_parts.specs.declared.fault.RtpFault.{RtpFault}
 use Rattle.rtp_parts.specs.declared.fault.RtpFault.TheVariants.{Head, Read, Write, Short, WrongFormat, NotPackets, NoPackets, TooLong, OutOfMemory}
+use Rattle.rtp_parts.specs.declared.unpacker.Stream.{Stream}
 use Rattle.rtp_parts.specs.declared.unpacking.Unpacked.{Unpacked}
 use Rattle.rtp_parts.specs.Packets.{silence_of, format_of_law}
 use Rattle.rtp_parts.specs.Packing.{magic}
 use Rattle.rtp_parts.specs.Arrivals.{records_in}
-use Rattle.rtp_parts.specs.Unpacking.{unpacked, unpacked_records, wav_of}
+use Rattle.rtp_parts.specs.Unpacking.{most_codes, unpacked, unpacked_records, wav_of}
 use Rattle.rtp_parts.specs.Answers.{UnlessStopped, unpacked_counts}
 use Rattle.rtp_parts.specs.Ends.{EndsUnpacking}
-use Rattle.rtp_parts.specs.Steps.{whole_codes, survey_of, StopsMoving}
+use Rattle.rtp_parts.specs.Steps.{Counts, whole_codes, survey_by, survey_of, StopsMoving}
 use Rattle.rtp_parts.proofs.Survey.{Agrees, Found, survey_agrees}
 
 pub too_large_is : (bytes : List ℕ) → most_bytes < length bytes → unpacked bytes ≡ Err (Head (TooLarge (length bytes)))
@@ -103,14 +104,14 @@ unless_stopped (Err (Short at size)) P p = tt
 unless_stopped (Err OutOfMemory) P p = tt
 
 ends_by : (size : ℕ) (ends : Option ℕ) (read mid now write write_now : ℕ) (fault : RtpFault) → mid ≡ read → write_now ≡ write → EndsUnpacking size ends mid now 0 0 fault → EndsUnpacking size ends read now write write_now fault
-ends_by size ends read mid now write write_now (Head fault) same unwritten stop = stop
+ends_by size ends read mid now write write_now (Head fault) same unwritten stop = (stop.0, stop.1, stop.2 ∙ same)
 ends_by size ends read mid now write write_now Read same unwritten stop = omega (arith, same, stop)
 ends_by size ends read mid now write write_now Write same unwritten stop = absurd (omega (arith, stop.0))
 ends_by size ends read mid now write write_now (Short at told_size) same unwritten stop = (stop.0, stop.1 ∙ same, unwritten)
 ends_by size ends read mid now write write_now WrongFormat same unwritten stop = stop
-ends_by size ends read mid now write write_now NotPackets same unwritten stop = tt
-ends_by size ends read mid now write write_now NoPackets same unwritten stop = tt
-ends_by size ends read mid now write write_now TooLong same unwritten stop = tt
+ends_by size ends read mid now write write_now NotPackets same unwritten stop = stop ∙ same
+ends_by size ends read mid now write write_now NoPackets same unwritten stop = stop ∙ same
+ends_by size ends read mid now write write_now TooLong same unwritten stop = stop ∙ same
 ends_by size ends read mid now write write_now OutOfMemory same unwritten stop = tt
 
 -- what ended a reading ended the whole, before anything was written
@@ -119,15 +120,24 @@ ends_later size size1 ends ends1 read mid now write write_now fault same_size sa
     ends_by size ends read mid now write write_now fault same unwritten
     (subst (λ (e : Option ℕ). EndsUnpacking size e mid now 0 0 fault) same_ends (subst (λ (s : ℕ). EndsUnpacking s ends1 mid now 0 0 fault) same_size stop))
 
+found_ends : (size : ℕ) (ends : Option ℕ) (read now : ℕ) (r : Result (Law × Unpacked) RtpFault) (long : Bool) (found : Law × Unpacked) → r ≡ (if long then Err TooLong else Ok found) → now ≡ read → IfErr r (EndsUnpacking size ends read now 0 0)
+found_ends size ends read now r true found is same = subst (λ (s : Result (Law × Unpacked) RtpFault). IfErr s (EndsUnpacking size ends read now 0 0)) (sym is) same
+found_ends size ends read now r false found is same = subst (λ (s : Result (Law × Unpacked) RtpFault). IfErr s (EndsUnpacking size ends read now 0 0)) (sym is) tt
+
+-- what is found in a whole list is at fault only by its bytes
+pub survey_ends : (size : ℕ) (ends : Option ℕ) (read now : ℕ) (stream : Option Stream) (counts : Counts) (frames : ℕ) (r : Result (Law × Unpacked) RtpFault) → r ≡ survey_by stream counts frames → now ≡ read → IfErr r (EndsUnpacking size ends read now 0 0)
+survey_ends size ends read now None counts frames r is same = subst (λ (s : Result (Law × Unpacked) RtpFault). IfErr s (EndsUnpacking size ends read now 0 0)) (sym is) same
+survey_ends size ends read now (Some stream) counts frames r is same = found_ends size ends read now r (nat_lt most_codes frames) _ is same
+
 moving_by : (size : ℕ) (ends : Option ℕ) (read mid now write write_now : ℕ) (fault : RtpFault) → mid ≡ read → StopsMoving size ends mid now write write_now fault → EndsUnpacking size ends read now write write_now fault
 moving_by size ends read mid now write write_now (Head fault) same stop = absurd stop
 moving_by size ends read mid now write write_now Read same stop = omega (arith, same, stop)
 moving_by size ends read mid now write write_now Write same stop = (stop.0, stop.1 ∙ same)
 moving_by size ends read mid now write write_now (Short at told_size) same stop = (stop.0, stop.1 ∙ same, stop.2)
 moving_by size ends read mid now write write_now WrongFormat same stop = stop
-moving_by size ends read mid now write write_now NotPackets same stop = tt
-moving_by size ends read mid now write write_now NoPackets same stop = tt
-moving_by size ends read mid now write write_now TooLong same stop = tt
+moving_by size ends read mid now write write_now NotPackets same stop = absurd stop
+moving_by size ends read mid now write write_now NoPackets same stop = absurd stop
+moving_by size ends read mid now write write_now TooLong same stop = absurd stop
 moving_by size ends read mid now write write_now OutOfMemory same stop = tt
 
 -- and so did what ended the writing

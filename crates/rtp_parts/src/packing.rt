@@ -1,4 +1,4 @@
-ghost use Rattle.std.specs.Prelude.{◌≡◌, ℕ, ◌+◌, ◌*◌, ◌≤◌, ◌<◌, ◌^◌, List, length, take, drop, max, IfErr, OnOk, Err, Result};
+ghost use Rattle.std.specs.Prelude.{◌≡◌, ◌≢◌, ℕ, ◌+◌, ◌*◌, ◌≤◌, ◌<◌, ◌^◌, List, length, take, drop, max, IfErr, OnOk, Err, Result};
 ghost use Rattle.std.specs.Io.KnownBytes.{append_known};
 ghost use Rattle.outside_io.specs.Causes.{Rose};
 ghost use Rattle.outside_io.specs.Moves.{AppendsFront, WhereTold};
@@ -50,6 +50,7 @@ pub fn pack<S: Source, K: Sink>(src: &mut S, snk: &mut K) -> Result<Packed, RtpF
     ensures name { K.name snk.new ≡ K.name snk.old }
     ensures read_later { S.faults src.old ≤ S.faults src.new }
     ensures write_later { K.faults snk.old ≤ K.faults snk.new }
+    ensures read_stands { result ≢ Err RtpFault.Read → S.faults src.new ≡ S.faults src.old }
     ensures write_alone { result ≡ Err RtpFault.Write → S.faults src.new ≡ S.faults src.old }
     ensures short_alone { IfErr result (λ fault. IfShort fault (λ _ _. (S.faults src.new ≡ S.faults src.old) × (K.faults snk.new ≡ K.faults snk.old))) }
     ensures stand { OnOk result ((S.faults src.new ≡ S.faults src.old) × (K.faults snk.new ≡ K.faults snk.old)) }

@@ -1,6 +1,6 @@
 use Rattle.std.proofs.Common.{◌≡◌, ◌∙◌, sym, arith}
 use Rattle.rtp_parts.specs.Packing.{packet_count}
-use Rattle.rtp_parts.proofs.PackAnswers.{head_fault, wrong_format, counts_are, short_samples, packed-front_magic, packed-front, packed-whole}
+use Rattle.rtp_parts.proofs.PackAnswers.{head_fault, head_stands, wrong_format, counts_are, short_samples, stop_stands, packed-front_magic, packed-front, packed-whole}
 use Rattle.rtp_parts.proofs.packing.pack.Goals as goal
 
 pub returns-in-Err-clause-answer : goal.returns-in-Err-clause-answer
@@ -35,3 +35,11 @@ returns-in-Err-pack_samples-clause-front g c = λ bytes is head read.
 pub returns-in-Err-pack_samples-clause-short : goal.returns-in-Err-pack_samples-clause-short
 returns-in-Err-pack_samples-clause-short g c =
     short_samples _ _ _ _ _ c.in-Ok.head _ _ _ _ _ c.in-Err-pack_samples.fault c.in-Ok.ensures.size c.in-Ok.ensures.ends c.in-Ok.ensures.offset c.in-Ok.ensures.start c.in-Ok.ensures.reads c.in-Err-pack_samples.ensures.stop
+
+pub returns-in-Err-clause-read_stands : goal.returns-in-Err-clause-read_stands
+returns-in-Err-clause-read_stands g c = λ other.
+    head_stands _ _ c.in-Err.fault c.of_head.result c.of_head.ensures (λ failed. c.in-Err.ensures.stands (λ same. failed (cc))) (λ same. other (cc))
+
+pub returns-in-Err-pack_samples-clause-read_stands : goal.returns-in-Err-pack_samples-clause-read_stands
+returns-in-Err-pack_samples-clause-read_stands g c = λ other.
+    stop_stands _ _ _ _ _ _ _ c.in-Err-pack_samples.fault c.in-Err-pack_samples.ensures.stop (λ same. other (cc)) ∙ c.in-Ok.ensures.stands (λ same. cc)

@@ -1,9 +1,9 @@
 use Rattle.std.proofs.Common.{rules, ◌≡◌, ℕ, ◌+◌, ◌-◌, ◌≤◌, ◌^◌, length, drop, sym, ap, subst, ◌∙◌, arith}
-use Rattle.rtp_parts.specs.Steps.{counts_in, room_left, survey_of}
+use Rattle.rtp_parts.specs.Steps.{course_of, counts_in, room_left, survey_of}
 use Rattle.rtp_parts.proofs.CodesSent.{given_some, given_none}
 use Rattle.rtp_parts.proofs.CourseLeft.{start-course, start-codes}
 use Rattle.rtp_parts.proofs.Survey.{length-given, survey_long, survey_whole}
-use Rattle.rtp_parts.proofs.UnpackAnswers.{unless_stopped}
+use Rattle.rtp_parts.proofs.UnpackAnswers.{unless_stopped, survey_ends}
 use Rattle.rtp_parts.proofs.unpacking.survey.Goals as goal
 
 pub pieces-init : goal.pieces-init
@@ -47,6 +47,13 @@ returns-then-frames-gt-MOST_CODES-clause-answer g c = λ bytes is.
     let long = length-given piece.silence 0 _ piece.payload.items _ (given_some _ piece _ c.in-Ok-Some.field-0-is (c.in-Ok-Some.ensures.given bytes (c.pieces.invariant.told ∙ is)) 0) in
     survey_long (drop (g.S.Source.offset c.args.src.now) bytes)
     (omega (arith, c.pieces.invariant.codes bytes is 0, long, c.from.ensures, c.len.ensures, piece.payload.ok.0, c.if-frames-gt-MOST_CODES.true))
+
+pub returns-then-frames-gt-MOST_CODES-clause-cause : goal.returns-then-frames-gt-MOST_CODES-clause-cause
+returns-then-frames-gt-MOST_CODES-clause-cause g c = c.in-Ok-Some.ensures.stands ∙ c.pieces.invariant.stands
+
+pub returns-in-Ok-None-clause-cause : goal.returns-in-Ok-None-clause-cause
+returns-in-Ok-None-clause-cause g c =
+    survey_ends (g.S.Source.size c.args.src.now) (g.S.Source.ends c.args.src.now) (g.S.Source.faults c.args.src.now) (g.S.Source.faults c.next.new.src) c.next.new.self.stream (counts_in (course_of c.next.new.self)) c.pieces.frames c.found.result c.found.ensures (c.in-Ok-None.ensures.stands ∙ c.pieces.invariant.stands)
 
 pub returns-in-Ok-None-clause-answer : goal.returns-in-Ok-None-clause-answer
 returns-in-Ok-None-clause-answer g c = λ bytes is.
