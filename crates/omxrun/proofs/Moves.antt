@@ -1,5 +1,5 @@
 -- What packing and unpacking the files that were opened come to.
-use Rattle.std.proofs.Common.{◌≡◌, ◌≢◌, ◌⊎◌, inl, inr, ℕ, ◌≤◌, List, [], length, Option, Some, Result, Ok, Err, OnOk, OnErr, IfOk, IfErr, IsTrue, IsSome, ap, sym, subst, refl, ◌∙◌, arith}
+use Rattle.std.proofs.Common.{◌≡◌, ◌≢◌, ◌⊎◌, inl, inr, ℕ, ◌<◌, ◌≤◌, List, [], length, take, Option, Some, Result, Ok, Err, OnOk, OnErr, IfOk, IfErr, IsTrue, IsSome, ap, sym, subst, refl, ◌∙◌, arith}
 use Rattle.std.specs.Io.KnownBytes.{append_known}
 use Rattle.outside_io.specs.Causes.{Rose, sum_of_counts}
 use Rattle.outside_io.specs.Files.{CountsStand, GoesOn, IsFrontOf, Outside, SameBut}
@@ -12,6 +12,7 @@ use Rattle.omx_types.specs.declared.fault.WavFault.{WavFault}
 use Rattle.omx_types.specs.declared.fault.Which.{Which}
 use Rattle.rtp_parts.specs.Answers.{IfShort, UnlessStopped, Packing, packing_of, counts_of, packets_file, StoppedPacking, unpacked_counts}
 use Rattle.rtp_parts.specs.Ends.{EndsUnpacking}
+use Rattle.rtp_parts.specs.Packing.{magic}
 use Rattle.rtp_parts.specs.Unpacking.{Unpacking, unpacked, wav_of}
 use Rattle.rtp_parts.specs.declared.fault.RtpFault.{RtpFault}
 use Rattle.rtp_parts.specs.declared.fault.RtpFault.TheVariants as RtpFaults
@@ -133,22 +134,26 @@ pack-stopped input old new size told ends rb rn wb wn (Ok counts) is read write 
 pack-stopped input old new size told ends rb rn wb wn (Err fault) is read write short =
     rtp-stopped StoppedPacking input old new size told ends rb rn wb wn fault is (λ same. read (ap (λ (f : RtpFault). let r : Result Packed RtpFault = Err f in r) same)) (λ same. write (ap (λ (f : RtpFault). let r : Result Packed RtpFault = Err f in r) same)) short
 
-ends-short : (size : ℕ) (told : Option (List ℕ)) (ends : Option ℕ) (rb rn wb wn : ℕ) (fault : RtpFault) → EndsUnpacking size ends rb rn wb wn fault → IfShort fault (StoppedUnpacking size told ends)
-ends-short size told ends rb rn wb wn (RtpFaults.Short at whole) is = is.0
-ends-short size told ends rb rn wb wn RtpFaults.Read is = tt
-ends-short size told ends rb rn wb wn RtpFaults.Write is = tt
-ends-short size told ends rb rn wb wn (RtpFaults.Head fault) is = tt
-ends-short size told ends rb rn wb wn RtpFaults.WrongFormat is = tt
-ends-short size told ends rb rn wb wn RtpFaults.NotPackets is = tt
-ends-short size told ends rb rn wb wn RtpFaults.NoPackets is = tt
-ends-short size told ends rb rn wb wn RtpFaults.TooLong is = tt
-ends-short size told ends rb rn wb wn RtpFaults.OutOfMemory is = tt
+-- what is no file of packets came short only in its first 8 bytes
+abbrev AsksNoFurther : Option (List ℕ) → RtpFault → Type 0
+AsksNoFurther told fault = WhereTold told (λ bytes. take 8 bytes ≢ magic → IfShort fault (λ at whole. at < 8))
+
+ends-short : (size : ℕ) (told : Option (List ℕ)) (ends : Option ℕ) (rb rn wb wn : ℕ) (fault : RtpFault) → EndsUnpacking size ends rb rn wb wn fault → AsksNoFurther told fault → IfShort fault (StoppedUnpacking size told ends)
+ends-short size told ends rb rn wb wn (RtpFaults.Short at whole) is further = (is.0, further)
+ends-short size told ends rb rn wb wn RtpFaults.Read is further = tt
+ends-short size told ends rb rn wb wn RtpFaults.Write is further = tt
+ends-short size told ends rb rn wb wn (RtpFaults.Head fault) is further = tt
+ends-short size told ends rb rn wb wn RtpFaults.WrongFormat is further = tt
+ends-short size told ends rb rn wb wn RtpFaults.NotPackets is further = tt
+ends-short size told ends rb rn wb wn RtpFaults.NoPackets is further = tt
+ends-short size told ends rb rn wb wn RtpFaults.TooLong is further = tt
+ends-short size told ends rb rn wb wn RtpFaults.OutOfMemory is further = tt
 
 pub unpack-stopped : (input : List ℕ) (old new : Outside) (size : ℕ) (told : Option (List ℕ)) (ends : Option ℕ) (rb rn wb wn : ℕ) (result : Result Unpacked RtpFault) → IsCounted input old new size told ends rb rn wb wn
-    → IfErr result (EndsUnpacking size ends rb rn wb wn) → IfErr (unpacking_done result) (HasMoveReason StoppedUnpacking input old new)
-unpack-stopped input old new size told ends rb rn wb wn (Ok counts) is cause = tt
-unpack-stopped input old new size told ends rb rn wb wn (Err fault) is cause =
-    rtp-stopped StoppedUnpacking input old new size told ends rb rn wb wn fault is (λ same. subst (λ (f : RtpFault). EndsUnpacking size ends rb rn wb wn f) same cause) (λ same. (subst (λ (f : RtpFault). EndsUnpacking size ends rb rn wb wn f) same cause).0) (ends-short size told ends rb rn wb wn fault cause)
+    → IfErr result (EndsUnpacking size ends rb rn wb wn) → WhereTold told (λ bytes. take 8 bytes ≢ magic → IfErr result (λ fault. IfShort fault (λ at whole. at < 8))) → IfErr (unpacking_done result) (HasMoveReason StoppedUnpacking input old new)
+unpack-stopped input old new size told ends rb rn wb wn (Ok counts) is cause further = tt
+unpack-stopped input old new size told ends rb rn wb wn (Err fault) is cause further =
+    rtp-stopped StoppedUnpacking input old new size told ends rb rn wb wn fault is (λ same. subst (λ (f : RtpFault). EndsUnpacking size ends rb rn wb wn f) same cause) (λ same. (subst (λ (f : RtpFault). EndsUnpacking size ends rb rn wb wn f) same cause).0) (ends-short size told ends rb rn wb wn fault cause further)
 
 -- ---- both files are closed
 

@@ -32,11 +32,11 @@ unpack-once : GivesOnce UnpacksTo
 unpack-once bytes one other is are = is ∙ sym are
 
 pack-below : StopsBelow StoppedPacking
-pack-below size end told ends at whole told_end fits (inl short) = let below = short.below in let stopped = short.stopped end told_end in omega (arith, below, stopped, fits)
-pack-below size end told ends at whole told_end fits (inr (head, _, _, nothing)) = let below = nothing.below in let stopped = nothing.stopped end told_end in omega (arith, below, stopped, fits)
+pack-below size end told ends at whole told_end fits (inl (short, _)) = let below = short.below in let stopped = short.stopped end told_end in omega (arith, below, stopped, fits)
+pack-below size end told ends at whole told_end fits (inr (head, _, _, _, _, nothing)) = let below = nothing.below in let stopped = nothing.stopped end told_end in omega (arith, below, stopped, fits)
 
 unpack-below : StopsBelow StoppedUnpacking
-unpack-below size end told ends at whole told_end fits nothing = let below = nothing.below in let stopped = nothing.stopped end told_end in omega (arith, below, stopped, fits)
+unpack-below size end told ends at whole told_end fits (nothing, _) = let below = nothing.below in let stopped = nothing.stopped end told_end in omega (arith, below, stopped, fits)
 
 true-false : (b : Bool) → IsTrue b → IsFalse b → ⊥
 true-false b t f = cc

@@ -1,5 +1,6 @@
 -- What packing and unpacking a file's bytes give.
-use Rattle.std.specs.Prelude.{◌≡◌, ℕ, List, Option, Result, Ok, Err}
+use Rattle.std.specs.Prelude.{◌≡◌, ◌≢◌, ℕ, ◌<◌, List, take, Option, Result, Ok, Err}
+use Rattle.outside_io.specs.Moves.{WhereTold}
 use Rattle.outside_io.specs.Stops.{GaveNothing}
 use Rattle.omx_types.specs.declared.fault.Fault.{Fault}
 use Rattle.omx_types.specs.declared.fault.Fault.TheVariants as Faults
@@ -7,6 +8,7 @@ use Rattle.omx_types.specs.declared.fault.PacketsWhy.TheVariants as Whys
 use Rattle.omx_types.specs.declared.fault.Which.TheVariants.{Input}
 use Rattle.omx_types.specs.declared.fault.WavFault.{WavFault}
 use Rattle.rtp_parts.specs.Answers.{packing_of, counts_of, packets_file, unpacked_counts}
+use Rattle.rtp_parts.specs.Packing.{magic}
 use Rattle.rtp_parts.specs.Unpacking.{unpacked, wav_of}
 use Rattle.rtp_parts.specs.declared.fault.RtpFault.{RtpFault}
 use Rattle.rtp_parts.specs.declared.fault.RtpFault.TheVariants as RtpFaults
@@ -60,6 +62,7 @@ abbrev pub IsShortFile : Fault → Type 0
 IsShortFile (Faults.Short which at size) = Unit {0}
 IsShortFile other = ⊥
 
--- where a source gave nothing while its packets were read
+-- where a source gave nothing while its packets were read: in its first 8 bytes, where these are not the ones that each file of packets
+-- begins with
 abbrev pub StoppedUnpacking : (size : ℕ) (told : Option (List ℕ)) (ends : Option ℕ) (at told_size : ℕ) → Type 0
-StoppedUnpacking size told ends at told_size = GaveNothing size ends 0 at told_size
+StoppedUnpacking size told ends at told_size = GaveNothing size ends 0 at told_size × WhereTold told (λ bytes. take 8 bytes ≢ magic → at < 8)

@@ -1,5 +1,5 @@
 -- What `pack` answers, by what the head reads as.
-use Rattle.std.proofs.Common.{◌≡◌, ℕ, ◌+◌, ◌*◌, ◌≤◌, max, List, ◌++◌, length, take, drop, Option, Some, None, Result, Ok, Err, inr, refl, sym, ap, subst, ◌∙◌, arith, length-drop}
+use Rattle.std.proofs.Common.{◌≡◌, ℕ, ◌+◌, ◌*◌, ◌<◌, ◌≤◌, max, List, ◌++◌, length, take, drop, Option, Some, None, Result, Ok, Err, inl, inr, refl, sym, ap, subst, ◌∙◌, arith, length-drop}
 use Rattle.std.proofs.lemmas.List.{length-take}
 use Rattle.std.specs.Io.KnownBytes.{append_known}
 use Rattle.outside_io.specs.Moves.{AppendsFront, WhereTold}
@@ -9,7 +9,7 @@ use Rattle.omx_types.specs.declared.fault.WavFault.TheVariants.{TooLarge, NotRif
 use Rattle.omx_types.specs.Formats.{frame_bytes_of}
 use Rattle.wav_form.specs.declared.heads.WavHead.{WavHead}
 use Rattle.wav_form.specs.Reading.{Reads, FitsFile}
-use Rattle.wav_form.specs.Stops.{UnlessStopped as UnlessHeadStopped}
+use Rattle.wav_form.specs.Stops.{IfShort as IfHeadShort, StoppedShort, UnlessStopped as UnlessHeadStopped}
 use Rattle.wav_form.proofs.Read.{same_answer}
 use Rattle.rtp_parts.specs.declared.law.Law.{Law}
 use Rattle.rtp_parts.specs.declared.fault.RtpFault.{RtpFault}
@@ -82,12 +82,29 @@ packed-whole known mid new bytes h head law size place one other some within who
     ∙ ap (λ (m : Option (List ℕ)). append_known m texts) is ∙ append_known-twice known magic texts
     ∙ ap (append_known known) (sym (file_is bytes h head law size one other some within whole))
 
+short_by : (size : ℕ) (told : Option (List ℕ)) (ends : Option ℕ) (fault : WavFault) → IfHeadShort fault (StoppedShort size told ends) → WhereTold told (λ bytes. (head : WavHead) → Reads bytes (Ok head) → IfHeadShort fault (λ at whole. at < head.start)) → IfShort (fault_of_head fault) (StoppedPacking size told ends)
+short_by size told ends (HeadShort at told_size) short before = inl (short, before)
+short_by size told ends HeadRead short before = tt
+short_by size told ends (TooLarge told_size) short before = tt
+short_by size told ends NotRiff short before = tt
+short_by size told ends NoFormat short before = tt
+short_by size told ends BadFormat short before = tt
+short_by size told ends NoSamples short before = tt
+short_by size told ends (UnsupportedTag tag) short before = tt
+
+-- a source that ended in its head gave nothing before its samples
+pub short_head : (size : ℕ) (told : Option (List ℕ)) (ends : Option ℕ) (fault : WavFault) (answer : RtpFault) → answer ≡ fault_of_head fault → IfHeadShort fault (StoppedShort size told ends) → WhereTold told (λ bytes. (head : WavHead) → Reads bytes (Ok head) → IfHeadShort fault (λ at whole. at < head.start)) → IfShort answer (StoppedPacking size told ends)
+short_head size told ends fault answer is short before =
+    subst (λ (f : RtpFault). IfShort f (StoppedPacking size told ends)) (sym is) (short_by size told ends fault short before)
+
 -- a source that ended in its samples gave nothing at its end
-pub short_samples : (size size1 : ℕ) (told : Option (List ℕ)) (ends ends1 : Option ℕ) (head : WavHead) (place read_before read_now write_before write_now : ℕ) (fault : RtpFault) → size1 ≡ size → ends1 ≡ ends → place ≡ head.start → WhereTold ends (λ end. head.start ≤ end) → WhereTold told (λ bytes. Reads bytes (Ok head)) → IsStop size1 ends1 place read_before read_now write_before write_now fault → IfShort fault (StoppedPacking size told ends)
-short_samples size size1 told ends ends1 head place rb rn wb wn (Short at told_size) same_size same_ends same_place reached reads nothing =
+pub short_samples : (size size1 : ℕ) (told : Option (List ℕ)) (ends ends1 : Option ℕ) (head : WavHead) (law : Law) (place read_before read_now write_before write_now : ℕ) (fault : RtpFault) → law_of_format head.format ≡ Some law → size1 ≡ size → ends1 ≡ ends → place ≡ head.start → WhereTold ends (λ end. head.start ≤ end) → WhereTold told (λ bytes. Reads bytes (Ok head)) → IsStop size1 ends1 place read_before read_now write_before write_now fault → IfShort fault (StoppedPacking size told ends)
+short_samples size size1 told ends ends1 head law place rb rn wb wn (Short at told_size) some same_size same_ends same_place reached reads nothing =
     inr (
       head,
+      law,
       reads,
+      some,
       omega (arith, nothing.0.started, same_place),
       record {
         whole = nothing.0.whole ∙ same_size;
@@ -96,14 +113,14 @@ short_samples size size1 told ends ends1 head place rb rn wb wn (Short at told_s
         stopped = λ end is. omega (arith, nothing.0.stopped end (same_ends ∙ is), reached end is, same_place);
       },
     )
-short_samples size size1 told ends ends1 head place rb rn wb wn (Head fault) same_size same_ends same_place reached reads nothing = tt
-short_samples size size1 told ends ends1 head place rb rn wb wn Read same_size same_ends same_place reached reads nothing = tt
-short_samples size size1 told ends ends1 head place rb rn wb wn Write same_size same_ends same_place reached reads nothing = tt
-short_samples size size1 told ends ends1 head place rb rn wb wn WrongFormat same_size same_ends same_place reached reads nothing = tt
-short_samples size size1 told ends ends1 head place rb rn wb wn NotPackets same_size same_ends same_place reached reads nothing = tt
-short_samples size size1 told ends ends1 head place rb rn wb wn NoPackets same_size same_ends same_place reached reads nothing = tt
-short_samples size size1 told ends ends1 head place rb rn wb wn TooLong same_size same_ends same_place reached reads nothing = tt
-short_samples size size1 told ends ends1 head place rb rn wb wn OutOfMemory same_size same_ends same_place reached reads nothing = tt
+short_samples size size1 told ends ends1 head law place rb rn wb wn (Head fault) some same_size same_ends same_place reached reads nothing = tt
+short_samples size size1 told ends ends1 head law place rb rn wb wn Read some same_size same_ends same_place reached reads nothing = tt
+short_samples size size1 told ends ends1 head law place rb rn wb wn Write some same_size same_ends same_place reached reads nothing = tt
+short_samples size size1 told ends ends1 head law place rb rn wb wn WrongFormat some same_size same_ends same_place reached reads nothing = tt
+short_samples size size1 told ends ends1 head law place rb rn wb wn NotPackets some same_size same_ends same_place reached reads nothing = tt
+short_samples size size1 told ends ends1 head law place rb rn wb wn NoPackets some same_size same_ends same_place reached reads nothing = tt
+short_samples size size1 told ends ends1 head law place rb rn wb wn TooLong some same_size same_ends same_place reached reads nothing = tt
+short_samples size size1 told ends ends1 head law place rb rn wb wn OutOfMemory some same_size same_ends same_place reached reads nothing = tt
 
 -- where a head's reading didn't fail, nor did the whole
 pub head_stands : (before now : ℕ) (fault : WavFault) (answer : RtpFault) → answer ≡ fault_of_head fault → ((fault ≡ HeadRead → ⊥) → now ≡ before) → (answer ≡ Read → ⊥) → now ≡ before

@@ -4,6 +4,9 @@ use Rattle.std.proofs.lemmas.List.{length-take}
 use Rattle.std.proofs.lemmas.Slice.Eq.{bytes_eq-Decides}
 use Rattle.std.specs.Io.KnownBytes.{append_known}
 use Rattle.outside_io.specs.Moves.{AppendsFront}
+use Rattle.outside_io.specs.Stops.{StopsBefore}
+use Rattle.outside_io.specs.declared.moving.ReadStop.{ReadStop}
+use Rattle.outside_io.specs.declared.moving.ReadStop.TheVariants.{Failed, Short as Stopped}
 use Rattle.outside_io.proofs.Known.{append_known-nil}
 use Rattle.omx_types.specs.declared.fault.WavFault.TheVariants.{TooLarge}
 use Rattle.wav_form.specs.Reading.{most_bytes}
@@ -17,7 +20,7 @@ use Rattle.rtp_parts.specs.Packets.{silence_of, format_of_law}
 use Rattle.rtp_parts.specs.Packing.{magic}
 use Rattle.rtp_parts.specs.Arrivals.{records_in}
 use Rattle.rtp_parts.specs.Unpacking.{most_codes, unpacked, unpacked_records, wav_of}
-use Rattle.rtp_parts.specs.Answers.{UnlessStopped, unpacked_counts}
+use Rattle.rtp_parts.specs.Answers.{IfShort, UnlessStopped, fault_of_stop, unpacked_counts}
 use Rattle.rtp_parts.specs.Ends.{EndsUnpacking}
 use Rattle.rtp_parts.specs.Steps.{Counts, whole_codes, survey_by, survey_of, StopsMoving}
 use Rattle.rtp_parts.proofs.Survey.{Agrees, Found, survey_agrees}
@@ -156,6 +159,15 @@ moving_unless size ends read now write write_now Read P stop = tt
 moving_unless size ends read now write write_now Write P stop = tt
 moving_unless size ends read now write write_now (Short at told_size) P stop = tt
 moving_unless size ends read now write write_now OutOfMemory P stop = tt
+
+stopped_by : (end : ℕ) (stop : ReadStop) → StopsBefore end stop → IfShort (fault_of_stop stop) (λ at told_size. at < end)
+stopped_by end Failed before = tt
+stopped_by end (Stopped at told_size) before = before
+
+-- what was not read whole ended before its end
+pub stopped_before : (end to : ℕ) (stop : ReadStop) (answer : RtpFault) → end ≡ to → answer ≡ fault_of_stop stop → StopsBefore end stop → IfShort answer (λ at told_size. at < to)
+stopped_before end to stop answer same is before =
+    subst (λ (f : RtpFault). IfShort f (λ at told_size. at < to)) (sym is) (stopped_by to stop (subst (λ (n : ℕ). StopsBefore n stop) same before))
 
 -- what is no file of packets
 pub magic_failed : (bytes : List ℕ) (fault : RtpFault) → UnlessStopped {A = Unit {0}} (Err fault) (λ r. IfErr r (λ (f : RtpFault). unpacked bytes ≡ Err f)) → UnlessStopped {A = Unpacked} (Err fault) (λ r. r ≡ unpacked_counts (unpacked bytes))

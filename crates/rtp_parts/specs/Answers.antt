@@ -1,5 +1,5 @@
 -- What packing and unpacking answer, and why they fail.
-use Rattle.std.specs.Prelude.{◌≡◌, ◌⊎◌, ◌≤◌, ℕ, List, [], length, take, drop, Option, Some, None, Result, Ok, Err}
+use Rattle.std.specs.Prelude.{◌≡◌, ◌⊎◌, ◌<◌, ◌≤◌, ℕ, List, [], length, take, drop, Option, Some, None, Result, Ok, Err}
 use Rattle.outside_io.specs.Moves.{WhereTold}
 use Rattle.outside_io.specs.Stops.{GaveNothing}
 use Rattle.wav_form.specs.declared.heads.WavHead.{WavHead}
@@ -63,11 +63,12 @@ abbrev pub packets_file : Result Packing RtpFault → List ℕ
 packets_file (Err fault) = []
 packets_file (Ok packing) = packed packing.law packing.samples
 
--- Where a source of this size gave nothing while its samples were packed: in its head, or from its samples on where it ends.
+-- Where a source of this size gave nothing while its samples were packed: in its head, which ends where its samples begin; or, where their
+-- format is one of RTP, from its samples on where it ends.
 abbrev pub StoppedPacking : (size : ℕ) (told : Option (List ℕ)) (ends : Option ℕ) (at told_size : ℕ) → Type 0
 StoppedPacking size told ends at told_size =
-    StoppedShort size told ends at told_size
-    ⊎ ((head : WavHead) × WhereTold told (λ bytes. Reads bytes (Ok head)) × (head.start ≤ at) × GaveNothing size ends 0 at told_size)
+    (StoppedShort size told ends at told_size × WhereTold told (λ bytes. (head : WavHead) → Reads bytes (Ok head) → at < head.start))
+    ⊎ ((head : WavHead) × (law : Law) × WhereTold told (λ bytes. Reads bytes (Ok head)) × (law_of_format head.format ≡ Some law) × (head.start ≤ at) × GaveNothing size ends 0 at told_size)
 
 -- the fault of a head that was not read
 abbrev pub fault_of_head : WavFault → RtpFault

@@ -1,4 +1,4 @@
-ghost use Rattle.std.specs.Prelude.{◌≡◌, ℕ, ◌+◌, ◌≤◌, ◌<◌, ◌++◌, length, take, drop, IfErr, IfOk, OnOk};
+ghost use Rattle.std.specs.Prelude.{◌≡◌, ◌≢◌, ℕ, ◌+◌, ◌≤◌, ◌<◌, ◌++◌, length, take, drop, IfErr, IfOk, OnOk};
 ghost use Rattle.std.specs.Io.KnownBytes.{append_known};
 ghost use Rattle.outside_io.specs.Moves.{AppendsFront, WhereTold};
 ghost use Rattle.wav_form.specs.Reading.{most_bytes};
@@ -6,7 +6,7 @@ ghost use Rattle.part_forms.specs.Writing.{written};
 ghost use Rattle.rtp_parts.specs.Packets.{silence_of, format_of_law};
 ghost use Rattle.rtp_parts.specs.Packing.{magic};
 ghost use Rattle.rtp_parts.specs.Unpacking.{most_codes, unpacked, wav_of};
-ghost use Rattle.rtp_parts.specs.Answers.{UnlessStopped, unpacked_counts};
+ghost use Rattle.rtp_parts.specs.Answers.{IfShort, UnlessStopped, unpacked_counts};
 ghost use Rattle.rtp_parts.specs.Ends.{EndsUnpacking};
 ghost use Rattle.rtp_parts.specs.Steps.{course_of, counts_in, whole_course, whole_codes, survey_by, survey_of, StopsMoving};
 
@@ -56,6 +56,9 @@ pub fn unpack<S: Source, K: Sink>(
     ensures file { WhereTold (S.told src.old) (λ bytes. OnOk result (K.told snk.new ≡ append_known (K.told snk.old) (wav_of (unpacked bytes)))) }
     ensures front { WhereTold (S.told src.old) (λ bytes. AppendsFront (K.told snk.old) (K.told snk.new) (wav_of (unpacked bytes))) }
 
+    // What is no file of packets is short only in its first 8 bytes.
+    ensures asks_no_further { WhereTold (S.told src.old) (λ bytes. take 8 bytes ≢ magic → IfErr result (λ fault. IfShort fault (λ at _. at < 8))) }
+
     // Over every source and sink
     ensures too_large { most_bytes < S.size src.old → result ≡ Err (RtpFault.Head (WavFault.TooLarge (S.size src.old))) }
     ensures cause { IfErr result (EndsUnpacking (S.size src.old) (S.ends src.old) (S.faults src.old) (S.faults src.new) (K.faults snk.old) (K.faults snk.new)) }
@@ -95,6 +98,7 @@ fn check_magic<S: Source>(src: &mut S) -> Result<(), RtpFault>
     ensures few { OnOk result (S.size src.old ≤ most_bytes) }
     ensures offset { OnOk result (S.offset src.new ≡ 8) }
     ensures within { OnOk result (8 ≤ S.size src.old) }
+    ensures asks_no_further { IfErr result (λ fault. IfShort fault (λ at _. at < 8)) }
     ensures reached { WhereTold (S.ends src.old) (λ end. OnOk result (8 ≤ end)) }
     ensures too_large { most_bytes < S.size src.old → result ≡ Err (RtpFault.Head (WavFault.TooLarge (S.size src.old))) }
     ensures cause { IfErr result (EndsUnpacking (S.size src.old) (S.ends src.old) (S.faults src.old) (S.faults src.new) 0 0) }

@@ -1,11 +1,15 @@
 use Rattle.std.proofs.Common.{◌≡◌, ◌∙◌, sym, arith}
 use Rattle.rtp_parts.specs.Packing.{packet_count}
-use Rattle.rtp_parts.proofs.PackAnswers.{head_fault, head_stands, wrong_format, counts_are, short_samples, stop_stands, packed-front_magic, packed-front, packed-whole}
+use Rattle.rtp_parts.proofs.PackAnswers.{head_fault, head_stands, wrong_format, counts_are, short_head, short_samples, stop_stands, packed-front_magic, packed-front, packed-whole}
 use Rattle.rtp_parts.proofs.packing.pack.Goals as goal
 
 pub returns-in-Err-clause-answer : goal.returns-in-Err-clause-answer
 returns-in-Err-clause-answer g c = λ bytes is head read.
     head_fault bytes c.in-Err.fault c.of_head.result head (c.in-Err.ensures.reads bytes is) read c.of_head.ensures
+
+pub returns-in-Err-clause-short : goal.returns-in-Err-clause-short
+returns-in-Err-clause-short g c =
+    short_head _ _ _ c.in-Err.fault c.of_head.result c.of_head.ensures c.in-Err.ensures.short c.in-Err.ensures.asks_no_further
 
 pub returns-in_default-clause-answer : goal.returns-in_default-clause-answer
 returns-in_default-clause-answer g c = λ bytes is head read.
@@ -34,7 +38,7 @@ returns-in-Err-pack_samples-clause-front g c = λ bytes is head read.
 
 pub returns-in-Err-pack_samples-clause-short : goal.returns-in-Err-pack_samples-clause-short
 returns-in-Err-pack_samples-clause-short g c =
-    short_samples _ _ _ _ _ c.in-Ok.head _ _ _ _ _ c.in-Err-pack_samples.fault c.in-Ok.ensures.size c.in-Ok.ensures.ends c.in-Ok.ensures.offset c.in-Ok.ensures.start c.in-Ok.ensures.reads c.in-Err-pack_samples.ensures.stop
+    short_samples _ _ _ _ _ c.in-Ok.head c.in-Some.law _ _ _ _ _ c.in-Err-pack_samples.fault (sym c.of_format.ensures ∙ c.in-Some.is) c.in-Ok.ensures.size c.in-Ok.ensures.ends c.in-Ok.ensures.offset c.in-Ok.ensures.start c.in-Ok.ensures.reads c.in-Err-pack_samples.ensures.stop
 
 pub returns-in-Err-clause-read_stands : goal.returns-in-Err-clause-read_stands
 returns-in-Err-clause-read_stands g c = λ other.

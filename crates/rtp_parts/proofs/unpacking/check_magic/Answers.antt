@@ -2,7 +2,7 @@ use Rattle.std.proofs.Common.{◌≡◌, ℕ, List, Err, bytes_eq, take, drop, l
 use Rattle.omx_types.specs.declared.fault.WavFault.TheVariants.{TooLarge}
 use Rattle.rtp_parts.specs.declared.fault.RtpFault.TheVariants.{Head}
 use Rattle.rtp_parts.specs.Packing.{magic}
-use Rattle.rtp_parts.proofs.UnpackAnswers.{too_large_is, other_is, too_few}
+use Rattle.rtp_parts.proofs.UnpackAnswers.{too_large_is, other_is, stopped_before, too_few}
 use Rattle.rtp_parts.proofs.unpacking.check_magic.Goals as goal
 
 pub returns-then-size-gt-MOST_BYTES-clause-other : goal.returns-then-size-gt-MOST_BYTES-clause-other
@@ -26,3 +26,7 @@ returns-else-eq-clause-other g c = λ bytes is.
     c.in-Ok-read_exact.ensures.bytes bytes (c.in-Ok.ensures.told ∙ is) ∙ ap (λ (n : ℕ). take 8 (drop n bytes)) c.in-Ok.ensures.reached in
     other_is bytes (omega (arith, size, c.if-size-gt-MOST_BYTES.false))
     (ap (λ (b : List ℕ). bytes_eq b magic) (sym read) ∙ sym c.eq.ensures ∙ c.if-eq.false)
+
+pub returns-in-Err-read_exact-clause-asks_no_further : goal.returns-in-Err-read_exact-clause-asks_no_further
+returns-in-Err-read_exact-clause-asks_no_further g c =
+    stopped_before _ 8 c.in-Err-read_exact.stop c.of_read.result (omega (arith, c.in-Ok.ensures.reached)) c.of_read.ensures c.in-Err-read_exact.ensures.unfinished

@@ -10,6 +10,9 @@ returns-in-Err-clause-answer g c = λ bytes is. magic_failed bytes c.in-Err.faul
 pub returns-in-Err-clause-front : goal.returns-in-Err-clause-front
 returns-in-Err-clause-front g c = λ bytes is. front-none _ _
 
+pub returns-in-Err-clause-asks_no_further : goal.returns-in-Err-clause-asks_no_further
+returns-in-Err-clause-asks_no_further g c = λ bytes is other. c.in-Err.ensures.asks_no_further
+
 pub returns-in-Err-clause-cause : goal.returns-in-Err-clause-cause
 returns-in-Err-clause-cause g c = ends_later _ _ _ _ _ _ _ _ _ c.in-Err.fault refl refl refl refl c.in-Err.ensures.cause
 
@@ -22,6 +25,9 @@ returns-in-Err-survey-clause-answer g c = λ bytes is.
 
 pub returns-in-Err-survey-clause-front : goal.returns-in-Err-survey-clause-front
 returns-in-Err-survey-clause-front g c = λ bytes is. front-none _ _
+
+pub returns-in-Err-survey-clause-asks_no_further : goal.returns-in-Err-survey-clause-asks_no_further
+returns-in-Err-survey-clause-asks_no_further g c = λ bytes is other. absurd (other (c.in-Ok.ensures.begins bytes is).0)
 
 pub returns-in-Err-survey-clause-cause : goal.returns-in-Err-survey-clause-cause
 returns-in-Err-survey-clause-cause g c =
@@ -65,6 +71,9 @@ returns-clause-front g c = λ bytes is.
     let whole = found_at bytes found _ (c.in-Ok.ensures.begins bytes is) c.in-Ok.ensures.offset (c.in-Ok-survey.ensures.answer bytes (c.in-Ok.ensures.told ∙ is)) in
     let told = c.in-Ok-seek_to.ensures.told ∙ c.in-Ok-survey.ensures.told ∙ c.in-Ok.ensures.told ∙ is in
     wav_front bytes found.0 found.1 (g.S.Source.offset c.seek_to.new.self) (g.K.Sink.told c.args.snk.now) (g.K.Sink.told c.write_wav.new.snk) whole c.in-Ok-seek_to.ensures.reached (c.in-Err-write_wav.ensures.front bytes told)
+
+pub returns-clause-asks_no_further : goal.returns-clause-asks_no_further
+returns-clause-asks_no_further g c = λ bytes is other. absurd (other (c.in-Ok.ensures.begins bytes is).0)
 
 pub returns-clause-cause : goal.returns-clause-cause
 returns-clause-cause g c =
