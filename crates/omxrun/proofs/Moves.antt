@@ -1,5 +1,6 @@
 -- What packing and unpacking the files that were opened come to.
 use Rattle.std.proofs.Common.{◌≡◌, ◌≢◌, ◌⊎◌, inl, inr, ℕ, ◌<◌, ◌≤◌, List, [], length, take, Option, Some, Result, Ok, Err, OnOk, OnErr, IfOk, IfErr, IsTrue, IsSome, ap, sym, subst, refl, ◌∙◌, arith}
+use Rattle.std.proofs.lemmas.Bool.{cases_lt}
 use Rattle.std.specs.Io.KnownBytes.{append_known}
 use Rattle.outside_io.specs.Causes.{Rose, sum_of_counts}
 use Rattle.outside_io.specs.Files.{CountsStand, GoesOn, IsFrontOf, Outside, SameBut}
@@ -9,6 +10,7 @@ use Rattle.omx_types.specs.declared.fault.Fault.{Fault}
 use Rattle.omx_types.specs.declared.fault.Fault.TheVariants as Faults
 use Rattle.omx_types.specs.declared.fault.PacketsWhy.{PacketsWhy}
 use Rattle.omx_types.specs.declared.fault.WavFault.{WavFault}
+use Rattle.omx_types.specs.declared.fault.WavFault.TheVariants.{TooLarge}
 use Rattle.omx_types.specs.declared.fault.Which.{Which}
 use Rattle.rtp_parts.specs.Answers.{IfShort, UnlessStopped, Packing, packing_of, counts_of, packets_file, StoppedPacking, unpacked_counts}
 use Rattle.rtp_parts.specs.Ends.{EndsUnpacking}
@@ -18,7 +20,7 @@ use Rattle.rtp_parts.specs.declared.fault.RtpFault.{RtpFault}
 use Rattle.rtp_parts.specs.declared.fault.RtpFault.TheVariants as RtpFaults
 use Rattle.rtp_parts.specs.declared.packing.Packed.{Packed}
 use Rattle.rtp_parts.specs.declared.unpacking.Unpacked.{Unpacked}
-use Rattle.wav_form.specs.Reading.{Reads}
+use Rattle.wav_form.specs.Reading.{Reads, most_bytes}
 use Rattle.wav_form.specs.declared.heads.WavHead.{WavHead}
 use Rattle.omxrun.specs.Packets.{IsShortFile, IsWholeOrShort, fault_of_rtp, packing_done, unpacking_done, with_text, PacksTo, UnpacksTo, StoppedUnpacking}
 use Rattle.omxrun.specs.Turned.{Giving, Stopping, IsAlone, text_in}
@@ -116,23 +118,52 @@ short-at Stops input old new size told ends rb rn wb wn at whole is stops tells 
           (subst (λ (t : Option (List ℕ)). Stops size t (old.ends input) at whole) is.told_is (subst (λ (e : Option ℕ). Stops size told e at whole) is.ends_are stops)),
     )
 
+-- a short source isn't too large, where that is told first
+not-large : (size : ℕ) (fault : RtpFault) → (most_bytes < size → fault ≡ RtpFaults.Head (TooLarge size)) → IfShort fault (λ at whole. whole ≡ size) → IfShort fault (λ at whole. whole ≤ most_bytes)
+not-large size (RtpFaults.Short at whole) large same = elim (cases_lt most_bytes size) [
+  | inl more ↦ absurd (let e : RtpFaults.Short at whole ≡ RtpFaults.Head (TooLarge size) = large more in cc)
+  | inr few ↦ omega (arith, same, few)
+]
+not-large size RtpFaults.Read large same = tt
+not-large size RtpFaults.Write large same = tt
+not-large size (RtpFaults.Head fault) large same = tt
+not-large size RtpFaults.WrongFormat large same = tt
+not-large size RtpFaults.NotPackets large same = tt
+not-large size RtpFaults.NoPackets large same = tt
+not-large size RtpFaults.TooLong large same = tt
+not-large size RtpFaults.OutOfMemory large same = tt
+
 rtp-stopped : (Stops : Stopping) (input : List ℕ) (old new : Outside) (size : ℕ) (told : Option (List ℕ)) (ends : Option ℕ) (rb rn wb wn : ℕ) (fault : RtpFault) → IsCounted input old new size told ends rb rn wb wn
-    → (fault ≡ RtpFaults.Read → Rose rb rn) → (fault ≡ RtpFaults.Write → Rose wb wn) → IfShort fault (Stops size told ends) → HasMoveReason Stops input old new (fault_of_rtp fault)
-rtp-stopped Stops input old new size told ends rb rn wb wn RtpFaults.Read is read write short = is.read (read refl)
-rtp-stopped Stops input old new size told ends rb rn wb wn RtpFaults.Write is read write short = is.write (write refl)
-rtp-stopped Stops input old new size told ends rb rn wb wn (RtpFaults.Short at whole) is read write short = short-at Stops input old new size told ends rb rn wb wn at whole is short
-rtp-stopped Stops input old new size told ends rb rn wb wn (RtpFaults.Head fault) is read write short = tt
-rtp-stopped Stops input old new size told ends rb rn wb wn RtpFaults.WrongFormat is read write short = tt
-rtp-stopped Stops input old new size told ends rb rn wb wn RtpFaults.NotPackets is read write short = tt
-rtp-stopped Stops input old new size told ends rb rn wb wn RtpFaults.NoPackets is read write short = tt
-rtp-stopped Stops input old new size told ends rb rn wb wn RtpFaults.TooLong is read write short = tt
-rtp-stopped Stops input old new size told ends rb rn wb wn RtpFaults.OutOfMemory is read write short = tt
+    → (fault ≡ RtpFaults.Read → Rose rb rn) → (fault ≡ RtpFaults.Write → Rose wb wn) → IfShort fault (Stops size told ends) → IfShort fault (λ at whole. whole ≤ most_bytes) → HasMoveReason Stops input old new (fault_of_rtp fault)
+rtp-stopped Stops input old new size told ends rb rn wb wn RtpFaults.Read is read write short few = is.read (read refl)
+rtp-stopped Stops input old new size told ends rb rn wb wn RtpFaults.Write is read write short few = is.write (write refl)
+rtp-stopped Stops input old new size told ends rb rn wb wn (RtpFaults.Short at whole) is read write short few = (few, short-at Stops input old new size told ends rb rn wb wn at whole is short)
+rtp-stopped Stops input old new size told ends rb rn wb wn (RtpFaults.Head fault) is read write short few = tt
+rtp-stopped Stops input old new size told ends rb rn wb wn RtpFaults.WrongFormat is read write short few = tt
+rtp-stopped Stops input old new size told ends rb rn wb wn RtpFaults.NotPackets is read write short few = tt
+rtp-stopped Stops input old new size told ends rb rn wb wn RtpFaults.NoPackets is read write short few = tt
+rtp-stopped Stops input old new size told ends rb rn wb wn RtpFaults.TooLong is read write short few = tt
+rtp-stopped Stops input old new size told ends rb rn wb wn RtpFaults.OutOfMemory is read write short few = tt
+
+packing-whole : (size : ℕ) (told : Option (List ℕ)) (ends : Option ℕ) (fault : RtpFault) → IfShort fault (StoppedPacking size told ends) → IfShort fault (λ at whole. whole ≡ size)
+packing-whole size told ends (RtpFaults.Short at whole) (inl (short, _)) = short.whole
+packing-whole size told ends (RtpFaults.Short at whole) (inr (head, _, _, _, _, nothing)) = nothing.whole
+packing-whole size told ends RtpFaults.Read short = tt
+packing-whole size told ends RtpFaults.Write short = tt
+packing-whole size told ends (RtpFaults.Head fault) short = tt
+packing-whole size told ends RtpFaults.WrongFormat short = tt
+packing-whole size told ends RtpFaults.NotPackets short = tt
+packing-whole size told ends RtpFaults.NoPackets short = tt
+packing-whole size told ends RtpFaults.TooLong short = tt
+packing-whole size told ends RtpFaults.OutOfMemory short = tt
 
 pub pack-stopped : (input : List ℕ) (old new : Outside) (size : ℕ) (told : Option (List ℕ)) (ends : Option ℕ) (rb rn wb wn : ℕ) (result : Result Packed RtpFault) → IsCounted input old new size told ends rb rn wb wn
-    → (result ≡ Err RtpFaults.Read → Rose rb rn) → (result ≡ Err RtpFaults.Write → Rose wb wn) → IfErr result (λ fault. IfShort fault (StoppedPacking size told ends)) → IfErr (packing_done result) (HasMoveReason StoppedPacking input old new)
-pack-stopped input old new size told ends rb rn wb wn (Ok counts) is read write short = tt
-pack-stopped input old new size told ends rb rn wb wn (Err fault) is read write short =
+    → (result ≡ Err RtpFaults.Read → Rose rb rn) → (result ≡ Err RtpFaults.Write → Rose wb wn) → IfErr result (λ fault. IfShort fault (StoppedPacking size told ends))
+    → (most_bytes < size → result ≡ Err (RtpFaults.Head (TooLarge size))) → IfErr (packing_done result) (HasMoveReason StoppedPacking input old new)
+pack-stopped input old new size told ends rb rn wb wn (Ok counts) is read write short large = tt
+pack-stopped input old new size told ends rb rn wb wn (Err fault) is read write short large =
     rtp-stopped StoppedPacking input old new size told ends rb rn wb wn fault is (λ same. read (ap (λ (f : RtpFault). let r : Result Packed RtpFault = Err f in r) same)) (λ same. write (ap (λ (f : RtpFault). let r : Result Packed RtpFault = Err f in r) same)) short
+    (not-large size fault (λ more. (let e = large more in cc)) (packing-whole size told ends fault short))
 
 -- what is no file of packets came short only in its first 8 bytes
 abbrev AsksNoFurther : Option (List ℕ) → RtpFault → Type 0
@@ -149,11 +180,24 @@ ends-short size told ends rb rn wb wn RtpFaults.NoPackets is further = tt
 ends-short size told ends rb rn wb wn RtpFaults.TooLong is further = tt
 ends-short size told ends rb rn wb wn RtpFaults.OutOfMemory is further = tt
 
+ends-whole : (size : ℕ) (ends : Option ℕ) (rb rn wb wn : ℕ) (fault : RtpFault) → EndsUnpacking size ends rb rn wb wn fault → IfShort fault (λ at whole. whole ≡ size)
+ends-whole size ends rb rn wb wn (RtpFaults.Short at whole) is = is.0.whole
+ends-whole size ends rb rn wb wn RtpFaults.Read is = tt
+ends-whole size ends rb rn wb wn RtpFaults.Write is = tt
+ends-whole size ends rb rn wb wn (RtpFaults.Head fault) is = tt
+ends-whole size ends rb rn wb wn RtpFaults.WrongFormat is = tt
+ends-whole size ends rb rn wb wn RtpFaults.NotPackets is = tt
+ends-whole size ends rb rn wb wn RtpFaults.NoPackets is = tt
+ends-whole size ends rb rn wb wn RtpFaults.TooLong is = tt
+ends-whole size ends rb rn wb wn RtpFaults.OutOfMemory is = tt
+
 pub unpack-stopped : (input : List ℕ) (old new : Outside) (size : ℕ) (told : Option (List ℕ)) (ends : Option ℕ) (rb rn wb wn : ℕ) (result : Result Unpacked RtpFault) → IsCounted input old new size told ends rb rn wb wn
-    → IfErr result (EndsUnpacking size ends rb rn wb wn) → WhereTold told (λ bytes. take 8 bytes ≢ magic → IfErr result (λ fault. IfShort fault (λ at whole. at < 8))) → IfErr (unpacking_done result) (HasMoveReason StoppedUnpacking input old new)
-unpack-stopped input old new size told ends rb rn wb wn (Ok counts) is cause further = tt
-unpack-stopped input old new size told ends rb rn wb wn (Err fault) is cause further =
+    → IfErr result (EndsUnpacking size ends rb rn wb wn) → WhereTold told (λ bytes. take 8 bytes ≢ magic → IfErr result (λ fault. IfShort fault (λ at whole. at < 8)))
+    → (most_bytes < size → result ≡ Err (RtpFaults.Head (TooLarge size))) → IfErr (unpacking_done result) (HasMoveReason StoppedUnpacking input old new)
+unpack-stopped input old new size told ends rb rn wb wn (Ok counts) is cause further large = tt
+unpack-stopped input old new size told ends rb rn wb wn (Err fault) is cause further large =
     rtp-stopped StoppedUnpacking input old new size told ends rb rn wb wn fault is (λ same. subst (λ (f : RtpFault). EndsUnpacking size ends rb rn wb wn f) same cause) (λ same. (subst (λ (f : RtpFault). EndsUnpacking size ends rb rn wb wn f) same cause).0) (ends-short size told ends rb rn wb wn fault cause further)
+    (not-large size fault (λ more. (let e = large more in cc)) (ends-whole size ends rb rn wb wn fault cause))
 
 -- ---- both files are closed
 

@@ -60,7 +60,7 @@ turn-fault Gives Stops input output old new before now answer (Faults.Absent (Fi
 turn-fault Gives Stops input output old new before now answer (Faults.Absent (Files.Made number)) once below none can reason = absurd reason
 turn-fault Gives Stops input output old new before now answer Faults.OutOfMemory once below none can reason = inr refl
 turn-fault Gives Stops input output old new before now answer (Faults.Short Files.Input at size) once below none can reason =
-    let (bytes, held, stops) = reason can.tells in
+    let (bytes, held, stops) = reason.1 can.tells in
     let same = same-text bytes can.bytes (old.file input) held can.given.held in
     absurd (below (length bytes) can.given.end (old.file input) (old.ends input) at size can.given.told_end (let e = ap length same in let whole = can.given.whole in omega (arith, e, whole)) stops)
 turn-fault Gives Stops input output old new before now answer (Faults.Short Files.Script at size) once below none can reason = absurd reason

@@ -1,5 +1,5 @@
 -- What comes of the files where one is turned into another.
-use Rattle.std.proofs.Common.{◌≡◌, ◌⊎◌, inl, inr, ℕ, List, [], length, take, Option, Some, Result, Ok, Err, OnOk, OnErr, IfOk, IfErr, IsTrue, ap, sym, subst, ◌∙◌}
+use Rattle.std.proofs.Common.{◌≡◌, ◌⊎◌, ◌≤◌, inl, inr, ℕ, List, [], length, take, Option, Some, Result, Ok, Err, OnOk, OnErr, IfOk, IfErr, IsTrue, ap, sym, subst, ◌∙◌}
 use Rattle.outside_io.specs.Causes.{Rose}
 use Rattle.outside_io.specs.Files.{CountsStand, IsFrontOf, Outside, SameBut}
 use Rattle.outside_io.specs.Moves.{AppendsFront, WhereTold}
@@ -7,6 +7,7 @@ use Rattle.outside_io.proofs.Closed.{take-twice}
 use Rattle.omx_types.specs.declared.fault.Fault.{Fault}
 use Rattle.omx_types.specs.declared.fault.Fault.TheVariants as Faults
 use Rattle.omx_types.specs.declared.fault.Which.TheVariants as Files
+use Rattle.wav_form.specs.Reading.{most_bytes}
 use Rattle.omxrun.specs.Opened.{HasOpenReason}
 use Rattle.omxrun.specs.Turned.{Written, Giving, Stopping, text_in, Comes, HasTurnReason, IsAlone, IsUnopened, IsTurnOutcome}
 use Rattle.omxrun.specs.declared.done.Done.{Done}
@@ -68,7 +69,7 @@ HasMoveReason Stops input old new Faults.ReadFault = Rose old.read_faults new.re
 HasMoveReason Stops input old new Faults.WriteFault = Rose old.write_faults new.write_faults
 HasMoveReason Stops input old new Faults.OutOfMemory = Unit {0}
 HasMoveReason Stops input old new (Faults.Short Files.Input at size) =
-    IsTrue old.tells → (bytes : List ℕ) × (old.file input ≡ Some bytes) × Stops (length bytes) (old.file input) (old.ends input) at size
+    (size ≤ most_bytes) × (IsTrue old.tells → (bytes : List ℕ) × (old.file input ≡ Some bytes) × Stops (length bytes) (old.file input) (old.ends input) at size)
 HasMoveReason Stops input old new (Faults.BadMedia Files.Input fault) = Unit {0}
 HasMoveReason Stops input old new (Faults.Packets why) = Unit {0}
 HasMoveReason Stops input old new other = ⊥

@@ -1,11 +1,12 @@
 -- What comes of the files where a command turns one into another. `Gives` says of each file's bytes what they come to: the
 -- other file's bytes and what is told of them, or a fault of these bytes. `Stops` says where a source may give nothing.
-use Rattle.std.specs.Prelude.{◌≡◌, ◌⊎◌, ℕ, List, [], length, Option, Some, None, Result, Ok, Err, IsTrue, IsFalse, IsSome, IfOk, IfErr, OnOk, OnErr}
+use Rattle.std.specs.Prelude.{◌≡◌, ◌⊎◌, ◌≤◌, ℕ, List, [], length, Option, Some, None, Result, Ok, Err, IsTrue, IsFalse, IsSome, IfOk, IfErr, OnOk, OnErr}
 use Rattle.outside_io.specs.Causes.{Rose}
 use Rattle.outside_io.specs.Files.{CountsStand, IsFrontOf, Outside, SameBut}
 use Rattle.omx_types.specs.declared.fault.Fault.{Fault}
 use Rattle.omx_types.specs.declared.fault.Fault.TheVariants as Faults
 use Rattle.omx_types.specs.declared.fault.Which.TheVariants as Files
+use Rattle.wav_form.specs.Reading.{most_bytes}
 use Rattle.omxrun.specs.Asked.{IsGiven}
 use Rattle.omxrun.specs.declared.done.Done.{Done}
 
@@ -40,7 +41,7 @@ abbrev pub IsKeptOrBegun : Giving → List ℕ → List ℕ → Outside → Outs
 IsKeptOrBegun Gives input output old new =
     (new.file output ≡ old.file output) ⊎ ((answer : Result Written Fault) × Comes Gives input old answer × IsFrontOf (new.file output) (text_in answer))
 
--- why no output was written: the input is opened first, then the output, and then the bytes count
+-- why no output was written: the input is opened first, then the output, and then the bytes count. A short input isn't too large.
 abbrev pub HasTurnReason : Giving → Stopping → List ℕ → List ℕ → Outside → Outside → Fault → Type 0
 HasTurnReason Gives Stops input output old new Faults.ReadFault = Rose old.read_faults new.read_faults
 HasTurnReason Gives Stops input output old new Faults.WriteFault = Rose old.write_faults new.write_faults
@@ -49,7 +50,7 @@ HasTurnReason Gives Stops input output old new (Faults.Absent Files.Output) =
     Rose old.absences new.absences × IsTrue (old.may_refuse output) × (IsTrue old.tells → IsSome (old.file input))
 HasTurnReason Gives Stops input output old new Faults.OutOfMemory = Unit {0}
 HasTurnReason Gives Stops input output old new (Faults.Short Files.Input at size) =
-    IsTrue old.tells → (bytes : List ℕ) × (old.file input ≡ Some bytes) × Stops (length bytes) (old.file input) (old.ends input) at size
+    (size ≤ most_bytes) × (IsTrue old.tells → (bytes : List ℕ) × (old.file input ≡ Some bytes) × Stops (length bytes) (old.file input) (old.ends input) at size)
 HasTurnReason Gives Stops input output old new (Faults.BadMedia Files.Input fault) = IsTrue old.tells → Comes Gives input old (Err (Faults.BadMedia Files.Input fault))
 HasTurnReason Gives Stops input output old new (Faults.Packets why) = IsTrue old.tells → Comes Gives input old (Err (Faults.Packets why))
 HasTurnReason Gives Stops input output old new other = ⊥

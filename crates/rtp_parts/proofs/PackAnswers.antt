@@ -122,6 +122,10 @@ short_samples size size1 told ends ends1 head law place rb rn wb wn NoPackets so
 short_samples size size1 told ends ends1 head law place rb rn wb wn TooLong some same_size same_ends same_place reached reads nothing = tt
 short_samples size size1 told ends ends1 head law place rb rn wb wn OutOfMemory some same_size same_ends same_place reached reads nothing = tt
 
+-- a source that is too large is told as such
+pub head_large : (size : ℕ) (fault : WavFault) (answer : RtpFault) → answer ≡ fault_of_head fault → fault ≡ TooLarge size → answer ≡ Head (TooLarge size)
+head_large size fault answer is same = is ∙ ap fault_of_head same
+
 -- where a head's reading didn't fail, nor did the whole
 pub head_stands : (before now : ℕ) (fault : WavFault) (answer : RtpFault) → answer ≡ fault_of_head fault → ((fault ≡ HeadRead → ⊥) → now ≡ before) → (answer ≡ Read → ⊥) → now ≡ before
 head_stands before now fault answer is stands other = stands (λ same. other (is ∙ ap fault_of_head same))

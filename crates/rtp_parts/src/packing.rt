@@ -4,7 +4,8 @@ ghost use Rattle.outside_io.specs.Causes.{Rose};
 ghost use Rattle.outside_io.specs.Moves.{AppendsFront, WhereTold};
 ghost use Rattle.wav_form.specs.declared.heads.WavHead.{WavHead};
 ghost use Rattle.omx_types.specs.declared.fault.WavFault.{WavFault};
-ghost use Rattle.wav_form.specs.Reading.{Reads};
+ghost use Rattle.omx_types.specs.declared.fault.WavFault.TheVariants.{TooLarge};
+ghost use Rattle.wav_form.specs.Reading.{Reads, most_bytes};
 ghost use Rattle.rtp_parts.specs.Packing.{packet_count, texts_of};
 ghost use Rattle.rtp_parts.specs.Answers.{IfShort, UnlessStopped, packing_of, counts_of, packets_file, StoppedPacking, IsStop};
 
@@ -40,6 +41,7 @@ pub fn pack<S: Source, K: Sink>(src: &mut S, snk: &mut K) -> Result<Packed, RtpF
         AppendsFront (K.told snk.old) (K.told snk.new) (packets_file (packing_of bytes head))) }
 
     // Over every source and sink
+    ensures too_large { most_bytes < S.size src.old → result ≡ Err (RtpFault.Head (TooLarge (S.size src.old))) }
     ensures read { result ≡ Err RtpFault.Read → Rose (S.faults src.old) (S.faults src.new) }
     ensures write { result ≡ Err RtpFault.Write → Rose (K.faults snk.old) (K.faults snk.new) }
     ensures short { IfErr result (λ fault. IfShort fault (StoppedPacking (S.size src.old) (S.told src.old) (S.ends src.old))) }

@@ -36,7 +36,7 @@ returns-in-Ok-clause-outcome g c =
           (pack-moved held.0 _ told c.pack-packed.result head.0 head.1 (c.in-Ok.ensures.begun tells) (c.pack-packed.ensures.answer held.0 there head.0 head.1) (c.pack-packed.ensures.file held.0 there head.0 head.1) (c.pack-packed.ensures.front held.0 there head.0 head.1)),
     ) in
     let stopped = subst (λ (r : Result Done Fault). IfErr r (HasMoveReason StoppedPacking c.args.input.now old new)) (sym c.packed_outcome.ensures)
-    (pack-stopped c.args.input.now old new _ _ _ _ _ _ _ c.pack-packed.result counted c.pack-packed.ensures.read c.pack-packed.ensures.write c.pack-packed.ensures.short) in
+    (pack-stopped c.args.input.now old new _ _ _ _ _ _ _ c.pack-packed.result counted c.pack-packed.ensures.read c.pack-packed.ensures.write c.pack-packed.ensures.short c.pack-packed.ensures.too_large) in
     let shut : IsShut (g.M.Snk.Sink.name c.pack-packed.new.snk) mid new c.packed_outcome.result c.close_both.result told = record {
       others = c.close_both.ensures.others;
       done = c.close_both.ensures.done;

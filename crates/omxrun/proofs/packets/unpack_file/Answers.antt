@@ -34,7 +34,7 @@ returns-in-Ok-clause-outcome g c =
           (unpack-moved held.0 _ told c.unpack-unpacked.result (c.in-Ok.ensures.begun tells) (c.unpack-unpacked.ensures.answer held.0 there) (c.unpack-unpacked.ensures.file held.0 there) (c.unpack-unpacked.ensures.front held.0 there)),
     ) in
     let stopped = subst (λ (r : Result Done Fault). IfErr r (HasMoveReason StoppedUnpacking c.args.input.now old new)) (sym c.unpacked_outcome.ensures)
-    (unpack-stopped c.args.input.now old new _ _ _ _ _ _ _ c.unpack-unpacked.result counted c.unpack-unpacked.ensures.cause c.unpack-unpacked.ensures.asks_no_further) in
+    (unpack-stopped c.args.input.now old new _ _ _ _ _ _ _ c.unpack-unpacked.result counted c.unpack-unpacked.ensures.cause c.unpack-unpacked.ensures.asks_no_further c.unpack-unpacked.ensures.too_large) in
     let shut : IsShut (g.M.Snk.Sink.name c.unpack-unpacked.new.snk) mid new c.unpacked_outcome.result c.close_both.result told = record {
       others = c.close_both.ensures.others;
       done = c.close_both.ensures.done;

@@ -1,6 +1,6 @@
 use Rattle.std.proofs.Common.{◌≡◌, ◌∙◌, sym, arith}
 use Rattle.rtp_parts.specs.Packing.{packet_count}
-use Rattle.rtp_parts.proofs.PackAnswers.{head_fault, head_stands, wrong_format, counts_are, short_head, short_samples, stop_stands, packed-front_magic, packed-front, packed-whole}
+use Rattle.rtp_parts.proofs.PackAnswers.{head_fault, head_large, head_stands, wrong_format, counts_are, short_head, short_samples, stop_stands, packed-front_magic, packed-front, packed-whole}
 use Rattle.rtp_parts.proofs.packing.pack.Goals as goal
 
 pub returns-in-Err-clause-answer : goal.returns-in-Err-clause-answer
@@ -47,3 +47,9 @@ returns-in-Err-clause-read_stands g c = λ other.
 pub returns-in-Err-pack_samples-clause-read_stands : goal.returns-in-Err-pack_samples-clause-read_stands
 returns-in-Err-pack_samples-clause-read_stands g c = λ other.
     stop_stands _ _ _ _ _ _ _ c.in-Err-pack_samples.fault c.in-Err-pack_samples.ensures.stop (λ same. other (cc)) ∙ c.in-Ok.ensures.stands (λ same. cc)
+
+pub returns-in-Err-clause-too_large : goal.returns-in-Err-clause-too_large
+returns-in-Err-clause-too_large g c = λ large.
+    let read = c.in-Err.ensures.too_large large in
+    let told = head_large (g.S.Source.size c.args.src.now) c.in-Err.fault c.of_head.result c.of_head.ensures (cc) in
+    cc
