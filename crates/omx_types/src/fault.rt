@@ -126,13 +126,11 @@ impl fmt::Display for Which {
     }
 }
 
-/// A form of words or of a script that isn't built yet.
+/// A form of words that isn't built yet.
 #[derive(Clone, Copy, Debug, PartialEq, Eq, Error)]
 pub enum Unbuilt {
     #[error("words")]
     Words,
-    #[error("script")]
-    Script,
 }
 
 /// Why a command of the program wasn't done whole.

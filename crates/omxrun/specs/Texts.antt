@@ -70,7 +70,6 @@ audit_text Audits.NotEnded = codes "not ended"
 
 abbrev pub unbuilt_text : Unbuilt → List ℕ
 unbuilt_text Unbuilts.Words = codes "words"
-unbuilt_text Unbuilts.Script = codes "script"
 
 -- the line of a fault, without its line feed
 abbrev pub fault_text : Fault → List ℕ

@@ -175,7 +175,6 @@ fn put_unbuilt(text: &mut Text, what: Unbuilt)
     text.push(b"not built: ");
     match what {
         Unbuilt::Words => text.push(b"words"),
-        Unbuilt::Script => text.push(b"script"),
     }
 }
 
