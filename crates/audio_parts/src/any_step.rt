@@ -10,7 +10,6 @@ ghost use Rattle.part_forms.specs.Sinking.{writes_of};
 use crate::any_part::AnyPart;
 use crate::coder::{G711Decoder, G711Encoder};
 use crate::gain::Gain;
-use crate::keeping_part::KeepingPart;
 use crate::mixer::Mixer;
 use crate::splitter::Splitter;
 use crate::wav_sink::WavSink;
@@ -50,20 +49,56 @@ impl<S: Source, K: Sink> Part for AnyPart<S, K> {
 
     ghost has_cause = { λ old new fault. ReadCause (λ it. S.size it.source) (λ it. S.ends it.source) (λ it. it.next) (λ it. S.faults it.source) (read_of old) (read_of new) fault ⊎ WriteCause (λ it. K.faults it.sink) (written_of old) (written_of new) fault };
 
+    ghost keeps = { λ old new. ObjectStays S.size S.told S.ends S.offset S.faults K.name K.faults (held_of old) (held_of new) };
+
+    ghost shows = { λ old new fault. ObjectShows S.size S.ends S.offset S.faults K.faults fault (held_of old) (held_of new) };
+
     fn begin(&mut self, frames: u32) {
-        self.begin_kept(frames);
+        match self {
+            AnyPart::Source(part) => part.begin(frames),
+            AnyPart::Decoder(part) => part.begin(frames),
+            AnyPart::Encoder(part) => part.begin(frames),
+            AnyPart::Gain(part) => part.begin(frames),
+            AnyPart::Mixer(part) => part.begin(frames),
+            AnyPart::Splitter(part) => part.begin(frames),
+            AnyPart::Sink(part) => part.begin(frames),
+        }
     }
 
     fn take(&mut self, input: u32, piece: &[u8]) {
-        self.take_kept(input, piece);
+        match self {
+            AnyPart::Source(part) => part.take(input, piece),
+            AnyPart::Decoder(part) => part.take(input, piece),
+            AnyPart::Encoder(part) => part.take(input, piece),
+            AnyPart::Gain(part) => part.take(input, piece),
+            AnyPart::Mixer(part) => part.take(input, piece),
+            AnyPart::Splitter(part) => part.take(input, piece),
+            AnyPart::Sink(part) => part.take(input, piece),
+        }
     }
 
     fn step(&mut self) -> Option<PartFault> {
-        self.step_kept()
+        match self {
+            AnyPart::Source(part) => part.step(),
+            AnyPart::Decoder(part) => part.step(),
+            AnyPart::Encoder(part) => part.step(),
+            AnyPart::Gain(part) => part.step(),
+            AnyPart::Mixer(part) => part.step(),
+            AnyPart::Splitter(part) => part.step(),
+            AnyPart::Sink(part) => part.step(),
+        }
     }
 
     fn put(&mut self, output: u32, piece: &mut [u8]) {
-        self.put_kept(output, piece);
+        match self {
+            AnyPart::Source(part) => part.put(output, piece),
+            AnyPart::Decoder(part) => part.put(output, piece),
+            AnyPart::Encoder(part) => part.put(output, piece),
+            AnyPart::Gain(part) => part.put(output, piece),
+            AnyPart::Mixer(part) => part.put(output, piece),
+            AnyPart::Splitter(part) => part.put(output, piece),
+            AnyPart::Sink(part) => part.put(output, piece),
+        }
     }
 
     fn joins(&self) {
@@ -75,60 +110,6 @@ impl<S: Source, K: Sink> Part for AnyPart<S, K> {
             AnyPart::Mixer(part) => part.joins(),
             AnyPart::Splitter(part) => part.joins(),
             AnyPart::Sink(part) => part.joins(),
-        }
-    }
-}
-
-impl<S: Source, K: Sink> KeepingPart for AnyPart<S, K> {
-    ghost keeps = { λ old new. ObjectStays S.size S.told S.ends S.offset S.faults K.name K.faults (held_of old) (held_of new) };
-
-    ghost shows = { λ old new fault. ObjectShows S.size S.ends S.offset S.faults K.faults fault (held_of old) (held_of new) };
-
-    fn begin_kept(&mut self, frames: u32) {
-        match self {
-            AnyPart::Source(part) => part.begin_kept(frames),
-            AnyPart::Decoder(part) => part.begin(frames),
-            AnyPart::Encoder(part) => part.begin(frames),
-            AnyPart::Gain(part) => part.begin(frames),
-            AnyPart::Mixer(part) => part.begin(frames),
-            AnyPart::Splitter(part) => part.begin(frames),
-            AnyPart::Sink(part) => part.begin_kept(frames),
-        }
-    }
-
-    fn take_kept(&mut self, input: u32, piece: &[u8]) {
-        match self {
-            AnyPart::Source(part) => part.take_kept(input, piece),
-            AnyPart::Decoder(part) => part.take(input, piece),
-            AnyPart::Encoder(part) => part.take(input, piece),
-            AnyPart::Gain(part) => part.take(input, piece),
-            AnyPart::Mixer(part) => part.take(input, piece),
-            AnyPart::Splitter(part) => part.take(input, piece),
-            AnyPart::Sink(part) => part.take_kept(input, piece),
-        }
-    }
-
-    fn step_kept(&mut self) -> Option<PartFault> {
-        match self {
-            AnyPart::Source(part) => part.step_kept(),
-            AnyPart::Decoder(part) => part.step(),
-            AnyPart::Encoder(part) => part.step(),
-            AnyPart::Gain(part) => part.step(),
-            AnyPart::Mixer(part) => part.step(),
-            AnyPart::Splitter(part) => part.step(),
-            AnyPart::Sink(part) => part.step_kept(),
-        }
-    }
-
-    fn put_kept(&mut self, output: u32, piece: &mut [u8]) {
-        match self {
-            AnyPart::Source(part) => part.put_kept(output, piece),
-            AnyPart::Decoder(part) => part.put(output, piece),
-            AnyPart::Encoder(part) => part.put(output, piece),
-            AnyPart::Gain(part) => part.put(output, piece),
-            AnyPart::Mixer(part) => part.put(output, piece),
-            AnyPart::Splitter(part) => part.put(output, piece),
-            AnyPart::Sink(part) => part.put_kept(output, piece),
         }
     }
 }

@@ -10,12 +10,11 @@ ghost use Rattle.audio_parts.specs.ObjectLaws.{object_further, object_itself, sh
 ghost use Rattle.audio_parts.specs.Ready.{IsReady};
 
 use crate::any_part::AnyPart;
-use crate::keeping_part::KeepingPart;
 use outside_io::{Sink, Source};
 use part_api::Part;
 
 /// A part of a component of some kind: its terms say what it does, what it does with its file, and which faults it may have.
-pub trait KindPart: KeepingPart {
+pub trait KindPart: Part {
     /// How many inputs it has.
     fn inputs(&self) -> u32
         ensures { result ≡ (Self.shape self.now).inputs };

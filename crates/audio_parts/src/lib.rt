@@ -9,7 +9,6 @@ mod coder;
 mod effect;
 mod file_laws;
 mod gain;
-mod keeping_part;
 mod kind_part;
 mod laws;
 mod mixer;
@@ -30,7 +29,6 @@ pub use coder::{Decoding, Encoding, G711Decoder, G711Encoder};
 pub use effect::Effect;
 pub use file_laws::{law_of_keeping, law_of_reading};
 pub use gain::{Gain, Gaining};
-pub use keeping_part::KeepingPart;
 pub use kind_part::KindPart;
 pub use laws::{
     frames_by_format, law_of_padding, law_of_shown, law_of_writing, lawful_terms, shape_by_terms,

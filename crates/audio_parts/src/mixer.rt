@@ -191,6 +191,11 @@ impl Part for Mixer {
 
     ghost has_cause = { λ old new fault. ⊥ };
 
+    // It has no file.
+    ghost keeps = { λ old new. Unit {0} };
+
+    ghost shows = { λ old new fault. ⊥ };
+
     fn begin(&mut self, frames: u32) {
         self.frames = frames;
         self.count = (frames * self.output.channels()) as usize;

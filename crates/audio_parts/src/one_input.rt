@@ -88,6 +88,11 @@ impl<E: Effect> Part for OneInput<E> {
 
     ghost has_cause = { λ old new fault. ⊥ };
 
+    // It has no file.
+    ghost keeps = { λ old new. Unit {0} };
+
+    ghost shows = { λ old new fault. ⊥ };
+
     fn begin(&mut self, frames: u32) {
         self.frames = frames;
         self.count = (frames * self.effect.channels()) as usize;

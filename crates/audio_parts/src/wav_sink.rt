@@ -8,7 +8,6 @@ ghost use Rattle.audio_parts.specs.Ready.{IsReady};
 ghost use Rattle.part_forms.specs.Sinking.{sinking, sink_sizes, writes_of};
 
 use crate::OutOfMemory;
-use crate::keeping_part::KeepingPart;
 use crate::register::{clear_front, set_front};
 use crate::sink_file::SinkFile;
 use omx_types::{Format, PartFault};
@@ -168,42 +167,22 @@ impl<K: Sink> Part for WavSink<K> {
 
     ghost has_cause = { λ old new. WriteCause (λ it. K.faults it.sink) old.file new.file };
 
-    fn begin(&mut self, frames: u32) {
-        self.begin_kept(frames);
-    }
-
-    fn take(&mut self, input: u32, piece: &[u8]) {
-        self.take_kept(input, piece);
-    }
-
-    fn step(&mut self) -> Option<PartFault> {
-        self.step_kept()
-    }
-
-    fn put(&mut self, output: u32, piece: &mut [u8]) {
-        self.put_kept(output, piece);
-    }
-
-    fn joins(&self) {}
-}
-
-impl<K: Sink> KeepingPart for WavSink<K> {
     ghost keeps = { λ old new. StaysUnfailed old.failed new.failed × BothOrNone (WrittenStays (SinkStays K.name K.faults)) old.file new.file };
 
     ghost shows = { λ old new fault. (old.failed ≡ false) × OnBoth (λ before now. SinkShows K.faults fault before.sink now.sink) old.file new.file };
 
-    fn begin_kept(&mut self, frames: u32) {
+    fn begin(&mut self, frames: u32) {
         self.frames = frames;
         self.length = (frames * self.format.frame_bytes()) as usize;
         self.due = true;
         clear_front(&mut self.register, self.length);
     }
 
-    fn take_kept(&mut self, _input: u32, piece: &[u8]) {
+    fn take(&mut self, _input: u32, piece: &[u8]) {
         set_front(&mut self.register, piece, self.length);
     }
 
-    fn step_kept(&mut self) -> Option<PartFault> {
+    fn step(&mut self) -> Option<PartFault> {
         let Some(file) = &mut self.file else {
             self.due = false;
             return None;
@@ -221,7 +200,9 @@ impl<K: Sink> KeepingPart for WavSink<K> {
         }
     }
 
-    fn put_kept(&mut self, _output: u32, piece: &mut [u8]) {
+    fn put(&mut self, _output: u32, piece: &mut [u8]) {
         piece.copy_from_slice(&self.register[..self.length]);
     }
+
+    fn joins(&self) {}
 }

@@ -9,7 +9,6 @@ ghost use Rattle.part_forms.specs.Files.{sourcing, rest_of, none_left};
 ghost use Rattle.audio_parts.specs.Ready.{IsReady};
 
 use crate::OutOfMemory;
-use crate::keeping_part::KeepingPart;
 use crate::register::clear_front;
 use crate::source_file::SourceFile;
 use omx_types::{Format, PartFault};
@@ -199,40 +198,20 @@ impl<S: Source> Part for WavSource<S> {
 
     ghost has_cause = { λ old new. ReadCause (λ it. S.size it.source) (λ it. S.ends it.source) (λ it. it.next) (λ it. S.faults it.source) old.file new.file };
 
-    fn begin(&mut self, frames: u32) {
-        self.begin_kept(frames);
-    }
-
-    fn take(&mut self, input: u32, piece: &[u8]) {
-        self.take_kept(input, piece);
-    }
-
-    fn step(&mut self) -> Option<PartFault> {
-        self.step_kept()
-    }
-
-    fn put(&mut self, output: u32, piece: &mut [u8]) {
-        self.put_kept(output, piece);
-    }
-
-    fn joins(&self) {}
-}
-
-impl<S: Source> KeepingPart for WavSource<S> {
     ghost keeps = { λ old new. StaysUnfailed old.failed new.failed × BothOrNone (ReadStays (SourceStays S.size S.told S.ends S.offset S.faults new.failed)) old.file new.file };
 
     ghost shows = { λ old new fault. (old.failed ≡ false) × OnBoth (λ before now. SourceShows S.size S.ends S.offset S.faults fault before.source now.source) old.file new.file };
 
-    fn begin_kept(&mut self, frames: u32) {
+    fn begin(&mut self, frames: u32) {
         self.frames = frames;
         self.length = (frames * self.format.frame_bytes()) as usize;
         self.due = true;
         clear_front(&mut self.register, self.length);
     }
 
-    fn take_kept(&mut self, _input: u32, _piece: &[u8]) {}
+    fn take(&mut self, _input: u32, _piece: &[u8]) {}
 
-    fn step_kept(&mut self) -> Option<PartFault> {
+    fn step(&mut self) -> Option<PartFault> {
         let Some(file) = &mut self.file else {
             self.due = false;
             return None;
@@ -250,7 +229,9 @@ impl<S: Source> KeepingPart for WavSource<S> {
         }
     }
 
-    fn put_kept(&mut self, _output: u32, piece: &mut [u8]) {
+    fn put(&mut self, _output: u32, piece: &mut [u8]) {
         piece.copy_from_slice(&self.register[..self.length]);
     }
+
+    fn joins(&self) {}
 }

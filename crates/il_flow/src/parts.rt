@@ -72,7 +72,7 @@ fn put_front<P: KindPart>(part: &mut P, memory: &mut [u8], bytes: usize, output:
     ensures writing { P.writing part.new ≡ P.writing part.old }
     ensures object { P.keeps part.old part.new }
 {
-    part.put_kept(output, &mut memory[..bytes]);
+    part.put(output, &mut memory[..bytes]);
 }
 
 /// Puts an output's frames into its header.
@@ -136,7 +136,7 @@ fn take_header<P: KindPart>(part: &mut P, header: &Header, layout: Layout, frame
     ensures causes { (after : P) (fault : Fault) → P.has_cause part.new after fault → P.has_cause part.old after fault }
 {
     if port < layout.inputs && !is_last(layout, 0, port, header) {
-        part.take_kept(port, front(header, frames, layout.input_frame));
+        part.take(port, front(header, frames, layout.input_frame));
     }
 }
 
@@ -317,9 +317,9 @@ pub(crate) fn step_part<P: KindPart>(
     ensures object { P.keeps part.old part.new }
     ensures shows { IfSome result (P.shows part.old part.new) }
 {
-    part.begin_kept(frames);
+    part.begin(frames);
     take_headers(part, places, layout, frames, 0);
-    if let Some(fault) = part.step_kept() {
+    if let Some(fault) = part.step() {
         return Some(fault);
     }
     put_headers(part, places, layout, frames, 0, over);

@@ -55,6 +55,13 @@ pub trait Part {
     /// The fault may come in a step between these states.
     ghost has_cause: { Self → Self → Fault → Type 0 };
 
+    /// The object of its file stays: what it has for its life is the same, its count of faults didn't fall, and where no step
+    /// failed a source moved forward, and not behind its told end.
+    ghost keeps: { Self → Self → Type 0 };
+
+    /// The object of its file shows that a step of the part answered this fault, since a time when no step had failed.
+    ghost shows: { Self → Self → Fault → Type 0 };
+
     /// Sets the register to zeros for a step of that many frames.
     fn begin(&mut self, frames: u32)
         requires few { frames * (shape self.old).channels ≤ 4096 }
@@ -73,7 +80,8 @@ pub trait Part {
         ensures left { left self.new ≡ left self.old }
         ensures kept { kept self.new ≡ kept self.old }
         ensures writing { writing self.new ≡ begun frames (writing self.old) }
-        ensures causes { (after : Self) (fault : Fault) → has_cause self.new after fault → has_cause self.old after fault };
+        ensures causes { (after : Self) (fault : Fault) → has_cause self.new after fault → has_cause self.old after fault }
+        ensures object { keeps self.old self.new };
 
     /// Brings an input's frames into the register. An input that isn't taken gives zeros.
     fn take(&mut self, input: u32, piece: &[u8])
@@ -91,7 +99,8 @@ pub trait Part {
         ensures left { left self.new ≡ left self.old }
         ensures kept { kept self.new ≡ kept self.old }
         ensures writing { writing self.new ≡ writing self.old }
-        ensures causes { (after : Self) (fault : Fault) → has_cause self.new after fault → has_cause self.old after fault };
+        ensures causes { (after : Self) (fault : Fault) → has_cause self.new after fault → has_cause self.old after fault }
+        ensures object { keeps self.old self.new };
 
     /// Reads the file's frames into the register, or writes the register's frames to the file, where
     /// the part has a file. After a fault no step may begin, and this one is over.
@@ -114,7 +123,9 @@ pub trait Part {
         ensures causes { IfNone result ((after : Self) (fault : Fault) → has_cause self.new after fault → has_cause self.old after fault) }
         ensures unread { IfSome result (λ fault. left self.new ≡ left self.old) }
         ensures writing { IfNone result (writing self.new ≡ written (writing self.old)) }
-        ensures name { name_of (writing self.new) ≡ name_of (writing self.old) };
+        ensures name { name_of (writing self.new) ≡ name_of (writing self.old) }
+        ensures object { keeps self.old self.new }
+        ensures shows { IfSome result (shows self.old self.new) };
 
     /// Writes an output's frames from the register.
     fn put(&mut self, output: u32, piece: &mut [u8])
@@ -132,7 +143,8 @@ pub trait Part {
         ensures left { left self.new ≡ left self.old }
         ensures kept { kept self.new ≡ kept self.old }
         ensures writing { writing self.new ≡ writing self.old }
-        ensures causes { (after : Self) (fault : Fault) → has_cause self.new after fault → has_cause self.old after fault };
+        ensures causes { (after : Self) (fault : Fault) → has_cause self.new after fault → has_cause self.old after fault }
+        ensures object { keeps self.old self.new };
 
     /// The plain function of joined pieces is the joined output of the pieces. The call does nothing.
     fn joins(&self)

@@ -1,7 +1,7 @@
 use Rattle.std.proofs.Common.{◌≤◌, ◌*◌, length, arith, ap, subst, sym}
 use Rattle.audio_parts.proofs.Formats.{few_bytes}
-use Rattle.audio_parts.proofs.Readiness.{source_agrees}
-use Rattle.audio_parts.proofs.wav_source.WavSourceKeepingPart.begin_kept.Goals as goal
+use Rattle.audio_parts.proofs.Readiness.{sink_agrees}
+use Rattle.audio_parts.proofs.wav_sink.WavSinkPart.begin.Goals as goal
 
 pub overflow_mul-self : goal.overflow_mul-self
 overflow_mul-self g c =
@@ -18,4 +18,4 @@ clear_front-requires g c =
 pub invariant_of-self-clause-agrees : goal.invariant_of-self-clause-agrees
 invariant_of-self-clause-agrees g c = λ due.
     let part = c.args.self.now in
-    source_agrees part.late part.format part.file part.failed c.requires.fits
+    sink_agrees part.format part.file part.failed c.requires.fits

@@ -1,6 +1,6 @@
 use Rattle.std.proofs.Common.{◌≤◌, arith}
 use Rattle.audio_parts.proofs.Reasons.{read_causes}
-use Rattle.audio_parts.proofs.wav_source.WavSourceKeepingPart.step_kept.Goals as goal
+use Rattle.audio_parts.proofs.wav_source.WavSourcePart.step.Goals as goal
 
 pub returns-in-Ok-clause-causes : goal.returns-in-Ok-clause-causes
 returns-in-Ok-clause-causes g c = λ after fault.
