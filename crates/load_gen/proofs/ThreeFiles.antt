@@ -2,10 +2,13 @@
 use Rattle.std.proofs.Common.{◌≡◌, ◌≢◌, ℕ, ◌+◌, ◌-◌, ◌%◌, ◌^◌, ◌<◌, ◌≤◌, min, List, ◌∷◌, ◌++◌, length, take, get_or, Some, Option, Result, Ok, Err, OnOk, OnErr, IfErr, IsTrue, refl, sym, ap, ◌∙◌, subst, arith, inl, inr, Bool}
 use Rattle.std.proofs.lemmas.List.{append_cancel_left, take_all}
 use Rattle.outside_io.specs.Causes.{Rose}
-use Rattle.outside_io.specs.Files.{Outside, GoesOn, SameBut, IsFrontOf}
+use Rattle.outside_io.specs.Files.{Outside, GoesOn, SameBut, IsFrontOf, TellsAbsence}
 use Rattle.outside_io.specs.Whole.{IsKeptOrFrontOf, HasWriteReason}
 use Rattle.outside_io.specs.declared.media.Refused.{Refused}
 use Rattle.outside_io.specs.declared.media.Refused.TheVariants.{Absent as NotMade, Failed as NotWritten, OutOfMemory as NoRoom}
+use Rattle.omx_types.specs.declared.fault.Fault.{Fault}
+use Rattle.omx_types.specs.declared.fault.Fault.TheVariants.{Absent}
+use Rattle.omx_types.specs.declared.fault.Which.TheVariants.{Made}
 use Rattle.load_gen.specs.Made.{Makes, AreMade, ArePartlyMade, MayRefuse, HasReason, fault_at}
 use Rattle.load_gen.specs.Made.MayRefuse.{first as may_first, second as may_second, third as may_third}
 use Rattle.load_gen.specs.Samples.{wav, wav_from}
@@ -105,3 +108,31 @@ reason-second folder a b start one two made refused first_made makes = reason_at
 pub reason-third : (folder a b c : List ℕ) (start one two three : Outside) (made also : Unit {0}) (refused : Refused) → Makes (first_name folder) a start one (Ok made) → Makes (second_name folder) b one two (Ok also) → Makes (script_name folder) c two three (Err refused) → HasReason folder start three (fault_at 3 refused)
 reason-third folder a b c start one two three made also refused first_made second_made makes =
     reason_at folder (script_name folder) start two three 3 refused (GoesOn-then start one two first_made.goes_on second_made.goes_on) makes.reason may_third
+
+-- ---- the count of absences
+
+-- a file that was refused as absent is told so
+refused_told : (name text : List ℕ) (old new : Outside) (number : ℕ) (refused : Refused) (fault : Fault) → fault ≡ fault_at number refused → Makes name text old new (Err refused) → TellsAbsence Absent old new fault
+refused_told name text old new number refused fault is makes = λ none.
+    makes.unabsent (λ e. (let same : refused ≡ NotMade = cc in none (Made number) (is ∙ ap (fault_at number) same)))
+
+-- one that was made left the count
+made_stands : (name text : List ℕ) (old new : Outside) (made : Unit {0}) → Makes name text old new (Ok made) → new.absences ≡ old.absences
+made_stands name text old new made makes = makes.unabsent (λ e. cc)
+
+pub told-first : (folder text : List ℕ) (start one : Outside) (refused : Refused) (fault : Fault) → fault ≡ fault_at 1 refused → Makes (first_name folder) text start one (Err refused) → TellsAbsence Absent start one fault
+told-first folder text start one refused fault is makes = refused_told (first_name folder) text start one 1 refused fault is makes
+
+pub told-second : (folder a b : List ℕ) (start one two : Outside) (made : Unit {0}) (refused : Refused) (fault : Fault) → fault ≡ fault_at 2 refused → Makes (first_name folder) a start one (Ok made) → Makes (second_name folder) b one two (Err refused) → TellsAbsence Absent start two fault
+told-second folder a b start one two made refused fault is first_made makes = λ none.
+    refused_told (second_name folder) b one two 2 refused fault is makes none ∙ made_stands (first_name folder) a start one made first_made
+
+pub told-third : (folder a b c : List ℕ) (start one two three : Outside) (made also : Unit {0}) (refused : Refused) (fault : Fault) → fault ≡ fault_at 3 refused → Makes (first_name folder) a start one (Ok made) → Makes (second_name folder) b one two (Ok also) → Makes (script_name folder) c two three (Err refused) → TellsAbsence Absent start three fault
+told-third folder a b c start one two three made also refused fault is first_made second_made makes = λ none.
+    refused_told (script_name folder) c two three 3 refused fault is makes none
+    ∙ (made_stands (second_name folder) b one two also second_made ∙ made_stands (first_name folder) a start one made first_made)
+
+pub all-stand : (folder a b c : List ℕ) (start one two three : Outside) (made also last : Unit {0}) → Makes (first_name folder) a start one (Ok made) → Makes (second_name folder) b one two (Ok also) → Makes (script_name folder) c two three (Ok last) → three.absences ≡ start.absences
+all-stand folder a b c start one two three made also last first_made second_made third_made =
+    made_stands (script_name folder) c two three last third_made
+    ∙ (made_stands (second_name folder) b one two also second_made ∙ made_stands (first_name folder) a start one made first_made)

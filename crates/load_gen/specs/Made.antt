@@ -21,6 +21,7 @@ pub record Makes (name text : List ℕ) (old new : Outside) (result : Result (Un
   pub reason : IfErr result (HasWriteReason name old new)
   pub reads : new.read_faults ≡ old.read_faults
   pub writes : result ≢ Err NotWritten → new.write_faults ≡ old.write_faults
+  pub unabsent : result ≢ Err NotMade → new.absences ≡ old.absences
 
 -- the three names hold their texts
 pub record AreMade (seed frames : ℕ) (folder : List ℕ) (new : Outside) : Type 0 where

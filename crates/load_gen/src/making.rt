@@ -1,5 +1,5 @@
 ghost use Rattle.std.specs.Prelude.{◌≡◌, ◌≢◌, ◌≤◌, Err, IfErr, OnOk, OnErr, IsTrue, Some};
-ghost use Rattle.outside_io.specs.Files.{GoesOn};
+ghost use Rattle.outside_io.specs.Files.{GoesOn, TellsAbsences};
 ghost use Rattle.load_gen.specs.Made.{AreMade, ArePartlyMade, Makes, OthersAreKept, HasReason, fault_at};
 ghost use Rattle.load_gen.specs.Samples.{wav_from};
 ghost use Rattle.load_gen.specs.Script.{in_folder, script_name, script};
@@ -28,6 +28,7 @@ pub fn make<M: Media>(
     ensures reason { IfErr result (HasReason folder.now (M.outside media.old) (M.outside media.new)) }
     ensures read_faults { (M.outside media.new).read_faults ≡ (M.outside media.old).read_faults }
     ensures write_stands { result ≢ Err Fault.WriteFault → (M.outside media.new).write_faults ≡ (M.outside media.old).write_faults }
+    ensures unabsent { TellsAbsences Fault.Absent (M.outside media.old) (M.outside media.new) result }
 {
     match make_wav(alloc, media, folder, "a.wav", seed, frames) {
         Ok(()) => {}

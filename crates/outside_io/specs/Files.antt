@@ -1,5 +1,5 @@
 -- What a media tells, and what its calls do to it.
-use Rattle.std.specs.Prelude.{◌≡◌, ◌≢◌, ℕ, ◌≤◌, Bool, List, take, Option, Some}
+use Rattle.std.specs.Prelude.{◌≡◌, ◌≢◌, ℕ, ◌≤◌, Bool, List, take, Option, Some, Result, Ok, Err}
 
 pub record Outside : Type 0 where
   -- whether it tells its files
@@ -27,6 +27,19 @@ pub record GoesOn (old new : Outside) : Type 0 where
 pub record CountsStand (old new : Outside) : Type 0 where
   pub reads : new.read_faults ≡ old.read_faults
   pub writes : new.write_faults ≡ old.write_faults
+
+-- no absence was counted
+abbrev pub AbsencesStand : Outside → Outside → Type 0
+AbsencesStand old new = new.absences ≡ old.absences
+
+-- an absence that was counted is told by the error, as `absent` makes it
+abbrev pub TellsAbsence : {W E : Type 0} → (W → E) → Outside → Outside → E → Type 0
+TellsAbsence {W} absent old new error = ((which : W) → error ≢ absent which) → AbsencesStand old new
+
+-- the outcome tells it so, or none was counted
+abbrev pub TellsAbsences : {W E T : Type 0} → (W → E) → Outside → Outside → Result T E → Type 0
+TellsAbsences absent old new (Ok done) = AbsencesStand old new
+TellsAbsences absent old new (Err error) = TellsAbsence absent old new error
 
 -- each other name holds what it held
 abbrev pub SameBut : List ℕ → Outside → Outside → Type 0

@@ -34,6 +34,7 @@ pub fn read_whole<M: Media>(
     ensures there { IsTrue (M.outside media.old).tells → IfErr result (λ unread. WasOpened unread → IsSome ((M.outside media.old).file name.now)) }
     ensures absences { IsSome ((M.outside media.old).file name.now) → (M.outside media.new).absences ≡ (M.outside media.old).absences }
     ensures read_stands { result ≢ Err Unread.Failed → (M.outside media.new).read_faults ≡ (M.outside media.old).read_faults }
+    ensures absences_stand { result ≢ Err Unread.Absent → (M.outside media.new).absences ≡ (M.outside media.old).absences }
     ensures write_faults { (M.outside media.new).write_faults ≡ (M.outside media.old).write_faults }
 {
     let mut source = match media.source(alloc, name) {
@@ -88,6 +89,7 @@ pub fn write_whole<M: Media>(
     ensures reason { IfErr result (HasWriteReason name.now (M.outside media.old) (M.outside media.new)) }
     ensures absences { IsFalse ((M.outside media.old).may_refuse name.now) → (M.outside media.new).absences ≡ (M.outside media.old).absences }
     ensures write_stands { result ≢ Err Refused.Failed → (M.outside media.new).write_faults ≡ (M.outside media.old).write_faults }
+    ensures absences_stand { result ≢ Err Refused.Absent → (M.outside media.new).absences ≡ (M.outside media.old).absences }
     ensures read_faults { (M.outside media.new).read_faults ≡ (M.outside media.old).read_faults }
 {
     let mut sink = match media.sink(alloc, name) {
