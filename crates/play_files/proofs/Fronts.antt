@@ -100,9 +100,16 @@ module _ (old mid : Outside) (S : IsStill old mid) where
     files = R.files ∙ S.files;
     reads = λ n. R.reads n ∙ S.reads;
     writes = R.writes ∙ S.writes;
+    unabsent = λ none. R.unabsent none ∙ S.absences;
     why = source_fault_sooner line name new fault R.why;
   }
 
   pub sink_refused_sooner : (line : ℕ) (name : List ℕ) (new : Outside) (fault : Fault) → IsSinkRefused line name mid new fault → IsSinkRefused line name old new fault
   sink_refused_sooner line name new fault R =
-      record { goes_on = then old mid new S.goes_on R.goes_on; files = R.files ∙ S.files; reads = R.reads ∙ S.reads; why = sink_fault_sooner line name new fault R.why }
+      record {
+        goes_on = then old mid new S.goes_on R.goes_on;
+        files = R.files ∙ S.files;
+        reads = R.reads ∙ S.reads;
+        unabsent = λ none. R.unabsent none ∙ S.absences;
+        why = sink_fault_sooner line name new fault R.why;
+      }

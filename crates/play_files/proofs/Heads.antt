@@ -25,6 +25,8 @@ pub record IsTried (name : List ℕ) (old mid new : Outside) (fault : WavFault) 
   pub first_reads : mid.read_faults ≡ old.read_faults
   pub first_writes : mid.write_faults ≡ old.write_faults
   pub last_writes : new.write_faults ≡ mid.write_faults
+  pub first_absences : mid.absences ≡ old.absences
+  pub last_absences : new.absences ≡ mid.absences
   pub unfailed : before ≡ 0
   pub rose : fault ≡ WavFaults.Read → Rose before now
   pub stands : fault ≢ WavFaults.Read → now ≡ before
@@ -57,6 +59,7 @@ module _ (line : ℕ) (name : List ℕ) (old mid new : Outside) (fault : WavFaul
     files = T.last_files ∙ T.first_files;
     reads = λ n. calm (other n);
     writes = T.last_writes ∙ T.first_writes;
+    unabsent = λ _. T.last_absences ∙ T.first_absences;
     why = why;
   }
 

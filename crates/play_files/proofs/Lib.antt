@@ -8,4 +8,5 @@ pub mod Writing
 pub mod Openings
 pub mod OwnFiles
 pub mod Ready
+pub mod Refusals
 pub mod Stopped

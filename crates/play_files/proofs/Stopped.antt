@@ -261,6 +261,7 @@ source_refused_later line name old mid new fault S R = record {
   files = S.files ∙ R.files;
   reads = λ n. S.reads ∙ R.reads n;
   writes = S.writes ∙ R.writes;
+  unabsent = λ none. S.absences ∙ R.unabsent none;
   why = source_fault_later line name old mid new fault S R.why;
 }
 

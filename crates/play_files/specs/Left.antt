@@ -1,7 +1,8 @@
 -- What the opening of a play's files leaves where it wasn't done whole.
 use Rattle.std.specs.Prelude.{◌≡◌, ◌⊎◌, ℕ, ◌<◌, List, [], length, slice_get, Some, IsTrue}
 use Rattle.omx_types.specs.declared.fault.Fault.{Fault}
-use Rattle.outside_io.specs.Files.{GoesOn, Outside}
+use Rattle.omx_types.specs.declared.fault.Fault.TheVariants as Faults
+use Rattle.outside_io.specs.Files.{GoesOn, Outside, TellsAbsence}
 use Rattle.wav_form.specs.declared.heads.WavHead.{WavHead}
 use Rattle.script_lang.specs.declared.play_line.PartLine.{PartLine}
 use Rattle.script_lang.specs.declared.script.Script.{Script}
@@ -57,6 +58,7 @@ pub record IsUnwritten (planned : PlanValue) (old new : Outside) (fault : Fault)
   pub files_are : IsTrue old.tells → (samples : List (List ℕ)) × AreFiles old plan.parts files samples
   pub goes_on : GoesOn old new
   pub reads : new.read_faults ≡ old.read_faults
+  pub unabsent : TellsAbsence Faults.Absent old new fault
   pub part : PartLine
   pub place : ℕ
   pub there : slice_get plan.parts place ≡ Some part

@@ -6,7 +6,7 @@ use Rattle.omx_types.specs.declared.fault.WavFault.{WavFault}
 use Rattle.omx_types.specs.declared.fault.WavFault.TheVariants as WavFaults
 use Rattle.omx_types.specs.declared.fault.Which.TheVariants.{Line}
 use Rattle.outside_io.specs.Causes.{Rose}
-use Rattle.outside_io.specs.Files.{GoesOn, Outside}
+use Rattle.outside_io.specs.Files.{GoesOn, Outside, TellsAbsence}
 use Rattle.outside_io.specs.Moves.{WhereTold}
 use Rattle.wav_form.specs.Reading.{FitsFile, Reads as ReadsAs, most_bytes}
 use Rattle.wav_form.specs.Stops.{StoppedShort}
@@ -92,12 +92,14 @@ pub record IsSourceRefused (line : ℕ) (name : List ℕ) (old new : Outside) (f
   pub files : new.file ≡ old.file
   pub reads : fault ≢ Faults.ReadFault → new.read_faults ≡ old.read_faults
   pub writes : new.write_faults ≡ old.write_faults
+  pub unabsent : TellsAbsence Faults.Absent old new fault
   pub why : IsSourceFault line name old new fault
 
 pub record IsSinkRefused (line : ℕ) (name : List ℕ) (old new : Outside) (fault : Fault) : Type 0 where
   pub goes_on : GoesOn old new
   pub files : new.file ≡ old.file
   pub reads : new.read_faults ≡ old.read_faults
+  pub unabsent : TellsAbsence Faults.Absent old new fault
   pub why : IsSinkFault line name old new fault
 
 -- ---- the file at the place of a component

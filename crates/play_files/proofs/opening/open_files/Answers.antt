@@ -103,6 +103,7 @@ returns-in-Err-open_planned-clause-unopened g c =
               fit = A.fit;
               files_are = left_told seen old plan.parts plan.frames A.place heads files A.opened;
               goes_on = then old mid new refused.goes_on c.close_files.ensures.goes_on;
+              unabsent = λ none. c.close_files.ensures.absences ∙ refused.unabsent none;
               reads = calm_reads seen files old plan.parts plan.frames A.place heads A.opened mid new c.close_files.result c.close_files.ensures ∙ refused.reads;
               part = (A.met).part;
               place = A.place;

@@ -2,7 +2,18 @@ use Rattle.std.proofs.Common.{Err, ap, subst, sym}
 use Rattle.omx_types.specs.declared.fault.Fault.{Fault}
 use Rattle.play_files.specs.Opening.{IsSourceRefused}
 use Rattle.play_files.proofs.Heads.{head_refused}
+use Rattle.play_files.proofs.Refusals.{source_refused}
 use Rattle.play_files.proofs.sources.open_source.Goals as goal
+
+pub returns-in-Err-clause-refused : goal.returns-in-Err-clause-refused
+returns-in-Err-clause-refused g c =
+    let old = g.M.Media.outside c.args.media.now in
+    let new = g.M.Media.outside c.source.new.self in
+    let e = c.in-Err.ensures in
+    subst (λ (fault : Fault). IsSourceRefused c.args.line c.args.name.now old new fault) (sym c.source_fault.ensures)
+    (source_refused c.args.line c.args.name.now old new c.in-Err.refused c.source.ensures.goes_on c.source.ensures.files
+    (λ is. e.absent (ap Err is)) (λ is. e.absent_name (ap Err is)) (λ is. e.failed (ap Err is))
+    (λ other. e.reads_stand (λ same. other (cc))) c.source.ensures.write_faults (λ other. e.absences_stand (λ same. other (cc))))
 
 pub returns-in-Err-read_head-clause-refused : goal.returns-in-Err-read_head-clause-refused
 returns-in-Err-read_head-clause-refused g c =
@@ -20,6 +31,8 @@ returns-in-Err-read_head-clause-refused g c =
       first_reads = c.in-Ok.ensures.reads_stand (λ never. cc);
       first_writes = c.source.ensures.write_faults;
       last_writes = c.close_source.ensures.write_faults;
+      first_absences = c.in-Ok.ensures.absences_stand (λ never. cc);
+      last_absences = c.close_source.ensures.absences;
       unfailed = c.in-Ok.ensures.unfailed;
       rose = λ is. e.read (ap Err is);
       stands = λ other. e.stands (λ same. other (cc));

@@ -1,0 +1,15 @@
+use Rattle.std.proofs.Common.{Err, ap, subst, sym}
+use Rattle.omx_types.specs.declared.fault.Fault.{Fault}
+use Rattle.play_files.specs.Opening.{IsSinkRefused}
+use Rattle.play_files.proofs.Refusals.{sink_refused}
+use Rattle.play_files.proofs.sinks.open_sink.Goals as goal
+
+pub returns-in-Err-clause-refused : goal.returns-in-Err-clause-refused
+returns-in-Err-clause-refused g c =
+    let old = g.M.Media.outside c.args.media.now in
+    let new = g.M.Media.outside c.sink.new.self in
+    let e = c.in-Err.ensures in
+    subst (λ (fault : Fault). IsSinkRefused c.args.line c.args.name.now old new fault) (sym c.sink_fault.ensures)
+    (sink_refused c.args.line c.args.name.now old new c.in-Err.refused c.sink.ensures.goes_on c.sink.ensures.files
+    (λ is. e.absent (ap Err is)) (λ is. e.absent_name (ap Err is)) (λ is. e.failed (ap Err is)) c.sink.ensures.read_faults
+    (λ other. e.absences_stand (λ same. other (cc))))
