@@ -4,9 +4,9 @@ use Rattle.std.specs.List.{sum_by}
 use Rattle.std.proofs.lemmas.List.{take_all}
 use Rattle.omx_types.specs.declared.fault.Fault.{Fault}
 use Rattle.omx_types.specs.declared.fault.Fault.TheVariants as Faults
-use Rattle.omx_types.specs.declared.fault.Which.TheVariants.{Line}
+use Rattle.omx_types.specs.declared.fault.Which.TheVariants.{Line, Log}
 use Rattle.outside_io.specs.Causes.{Rose, sum_of_counts}
-use Rattle.outside_io.specs.Files.{CountsStand, GoesOn, Outside, SameBut}
+use Rattle.outside_io.specs.Files.{AbsencesStand, CountsStand, GoesOn, Outside, SameBut, TellsAbsence}
 use Rattle.outside_io.specs.Whole.{HasWriteReason, IsKeptOrFrontOf, IsShort}
 use Rattle.outside_io.specs.declared.media.Refused.{Refused}
 use Rattle.outside_io.specs.declared.media.Refused.TheVariants as Refusals
@@ -161,10 +161,14 @@ module _ {F : Type 0} (seen : F → FileSeen) (script : Script) (name log : List
     pub goes : GoesOn old new
     goes = then old mid new (O.still).goes_on (H.closes).goes_on
 
+    pub absent_none : AbsencesStand old new
+    absent_none = (H.closes).absences ∙ (O.still).absences
+
     pub broken : (fault : Fault) → result ≡ Err fault → IsBroken script old new fault
     broken fault e = record {
       plan = plan;
       files = play_files seen O.heads entries;
+      absences = absent_none;
       opened = was_opened seen script name log old mid plan entries O own;
       why = why plan.parts (files_seen seen entries) H.after old mid new H.few O.still (λ place at size c. short_told place at size H.after c) H.reads H.writes H.ran H.closed H.read H.unread H.wrote H.unwritten H.closes (H.has_run).cause fault (sym H.is ∙ e);
       left = λ tells.
@@ -257,10 +261,11 @@ module _ {F : Type 0} (seen : F → FileSeen) (script : Script) (name log : List
       }
 
       pub unlogged : (final : Outside) (fault : Fault) → (IsTrue old.tells → SameBut log new final) → (IsTrue old.tells → IsKeptOrFrontOf (new.file log) (final.file log) it.text.items) → IsLogFault log old final fault
-          → (fault ≢ Faults.WriteFault → final.file log ≡ new.file log) → IsUnlogged script log old final fault
-      unlogged final fault same front why kept = record {
+          → (fault ≢ Faults.WriteFault → final.file log ≡ new.file log) → TellsAbsence Faults.Absent old final fault → IsUnlogged script log old final fault
+      unlogged final fault same front why kept unabsent = record {
         plan = plan;
         files = play_files seen O.heads entries;
+        unabsent = unabsent;
         opened = was_opened seen script name log old mid plan entries O own;
         why = why;
         left = λ tells.
@@ -289,6 +294,10 @@ log_why log text old new final Refusals.Absent on S R read stands =
     )
 log_why log text old new final Refusals.Failed on S R read stands = (later old.write_faults new.write_faults final.write_faults on.write_faults R, read ∙ S.reads)
 log_why log text old new final Refusals.OutOfMemory on S R read stands = tt
+
+-- a log that is absent is told so
+pub log_told : (old new final : Outside) (refused : Refused) → AbsencesStand old new → (refused ≢ Refusals.Absent → final.absences ≡ new.absences) → TellsAbsence Faults.Absent old final (fault_of_log refused)
+log_told old new final refused before stands = λ none. stands (λ e. none Log (ap fault_of_log e)) ∙ before
 
 -- unless a write failed, its name is as before
 pub unmade_by : (log : List ℕ) (new final : Outside) (refused : Refused) → HasWriteReason log new final refused → fault_of_log refused ≢ Faults.WriteFault → final.file log ≡ new.file log

@@ -4,7 +4,7 @@ use Rattle.omx_types.specs.declared.fault.Fault.{Fault}
 use Rattle.omx_types.specs.declared.fault.Fault.TheVariants as Faults
 use Rattle.omx_types.specs.declared.fault.Which.TheVariants.{Line, Log}
 use Rattle.outside_io.specs.Causes.{Rose}
-use Rattle.outside_io.specs.Files.{CountsStand, IsFrontOf, Outside}
+use Rattle.outside_io.specs.Files.{AbsencesStand, CountsStand, IsFrontOf, Outside, TellsAbsence}
 use Rattle.outside_io.specs.Whole.{IsShort}
 use Rattle.wav_form.specs.declared.heads.WavHead.{WavHead}
 use Rattle.script_lang.specs.declared.play_line.PartLine.{PartLine}
@@ -70,6 +70,7 @@ pub record AreFronts (plan : PlanValue) (files : PlayFiles) (old new : Outside) 
 pub record IsBroken (script : Script) (old new : Outside) (fault : Fault) : Type 0 where
   pub plan : PlanValue
   pub files : PlayFiles
+  pub absences : AbsencesStand old new
   pub opened : WasOpened script old plan files
   pub why : IsRunFault plan.parts old new fault
   pub left : IsTrue old.tells → AreFronts plan files old new
@@ -95,6 +96,7 @@ pub record IsLogLeft (log : List ℕ) (plan : PlanValue) (files : PlayFiles) (ol
 pub record IsUnlogged (script : Script) (log : List ℕ) (old new : Outside) (fault : Fault) : Type 0 where
   pub plan : PlanValue
   pub files : PlayFiles
+  pub unabsent : TellsAbsence Faults.Absent old new fault
   pub opened : WasOpened script old plan files
   pub why : IsLogFault log old new fault
   pub left : IsTrue old.tells → IsLogLeft log plan files old new

@@ -1,7 +1,7 @@
 //! The whole course of a play.
 
 ghost use Rattle.std.specs.Prelude.{◌≡◌, ℕ, List, IfErr, IfOk, OnOk};
-ghost use Rattle.outside_io.specs.Files.{CountsStand, GoesOn};
+ghost use Rattle.outside_io.specs.Files.{AbsencesStand, CountsStand, GoesOn};
 ghost use Rattle.script_lang.specs.PlayScripts.{IsPlayScript};
 ghost use Rattle.play_files.specs.Seen.{file_seen, files_seen, sink_seen, source_seen};
 ghost use Rattle.play_course.specs.Courses.{HasEnded, HasRun};
@@ -74,6 +74,7 @@ pub fn play_script<M: Media, P: Player<M::Src, M::Snk>>(
     ensures goes_on { GoesOn (M.outside media.old) (M.outside media.new) }
     ensures done { IfOk result (IsDone script.now log.now (M.outside media.old) (M.outside media.new)) }
     ensures stand { OnOk result (CountsStand (M.outside media.old) (M.outside media.new)) }
+    ensures absences { OnOk result (AbsencesStand (M.outside media.old) (M.outside media.new)) }
     ensures undone { IfErr result (IsUndone script.now log.now (M.outside media.old) (M.outside media.new)) }
 {
     let opened = match open_files(alloc, media, script) {

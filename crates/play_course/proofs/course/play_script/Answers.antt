@@ -12,7 +12,7 @@ use Rattle.play_files.proofs.OwnFiles.{own_files}
 use Rattle.play_course.specs.Courses.{HasEnded}
 use Rattle.play_course.specs.Outcomes.{IsUndone}
 use Rattle.play_course.specs.Settling.{parts_of}
-use Rattle.play_course.proofs.Ends.{broken, done, goes, log_why, stand, unlogged, unmade_by}
+use Rattle.play_course.proofs.Ends.{absent_none, broken, done, goes, log_told, log_why, stand, unlogged, unmade_by}
 use Rattle.play_course.proofs.course.play_script.Goals as goal
 
 its_parts : (script : Script) (planned : PlanValue) (parts : List PartLine) → IsPlanOfScript script planned → parts ≡ planned.parts → parts_of script ≡ parts
@@ -73,6 +73,22 @@ returns-in-Ok-write_whole-clause-stand g c =
     let S = stand seen script R.0 log old mid new plan files O own c.run_and_close.result H c.in-Ok-run_and_close.ran c.in-Ok-run_and_close.is in
     record { reads = c.write_whole.ensures.read_faults ∙ S.reads; writes = c.in-Ok-write_whole.ensures.write_stands (λ e. cc) ∙ S.writes }
 
+pub returns-in-Ok-write_whole-clause-absences : goal.returns-in-Ok-write_whole-clause-absences
+returns-in-Ok-write_whole-clause-absences g c =
+    let seen = file_seen (source_seen g.M.Src.Source.offset g.M.Src.Source.size g.M.Src.Source.told g.M.Src.Source.ends g.M.Src.Source.faults) (sink_seen g.M.Snk.Sink.told g.M.Snk.Sink.name g.M.Snk.Sink.faults) in
+    let script = c.args.script.now in
+    let log = c.args.log.now in
+    let old = g.M.Media.outside c.args.media.now in
+    let mid = g.M.Media.outside c.open_files.new.media in
+    let new = g.M.Media.outside c.run_and_close.new.media in
+    let plan = c.in-Ok.opened.plan in
+    let files = c.in-Ok.opened.files.items in
+    let R = c.requires.script in
+    let O = c.in-Ok.ensures.opened in
+    let own : HaveOwnFiles R.0 log plan.parts = its_names R.0 log R.1 script O.planned plan.parts R.2 O.is_plan (O.fitted).parts in
+    let H = subst (λ (ps : List PartLine). HasEnded plan ps (files_seen seen files) mid new c.run_and_close.result) (c.parts_of.ensures ∙ its_parts script O.planned plan.parts O.is_plan (O.fitted).parts) c.run_and_close.ensures in
+    c.in-Ok-write_whole.ensures.absences_stand (λ e. cc) ∙ absent_none seen script R.0 log old mid new plan files O own c.run_and_close.result H
+
 pub returns-clause-undone : goal.returns-clause-undone
 returns-clause-undone g c =
     let seen = file_seen (source_seen g.M.Src.Source.offset g.M.Src.Source.size g.M.Src.Source.told g.M.Src.Source.ends g.M.Src.Source.faults) (sink_seen g.M.Snk.Sink.told g.M.Snk.Sink.name g.M.Snk.Sink.faults) in
@@ -97,4 +113,5 @@ returns-clause-undone g c =
     (λ tells. c.write_whole.ensures.others (on.tells ∙ tells))
     (λ tells. subst (λ (text : List ℕ). IsKeptOrFrontOf (new.file log) (final.file log) text) c.as_slice.ensures.value (e.front (on.tells ∙ tells)))
     (log_why log c.as_slice.result.now old new final refused on S e.reason e.read_faults (λ n. e.write_stands (λ same. n (cc))))
-    (unmade_by log new final refused e.reason))))
+    (unmade_by log new final refused e.reason)
+    (log_told old new final refused (absent_none seen script R.0 log old mid new plan files O own c.run_and_close.result H) (λ n. e.absences_stand (λ same. n (cc)))))))
