@@ -115,6 +115,7 @@ file_set s L p q handles c b O w v h file result W e f r =
           now ∙ ap (λ (st : Stream). Some st) (stream_changed s p q c O file f (number_of a) B.number d);
       headers = W.headers;
       unmade = W.unmade;
+      unwaited = W.unwaited;
       given = W.given;
     } in
     (R.1, subst (IsBuilt s q handles) (sym (built_closes s q effect v A R.2)) Q)

@@ -178,6 +178,7 @@ component_made s L p q handles b O w v result S W r =
             ];
             headers = W.headers;
             unmade = W.unmade;
+            unwaited = W.unwaited;
             given = W.given;
           } in
           inl (h, x.1, subst (IsBuilt s q (handles ++ h ∷ [])) (sym (built_closes s q effect v A closes)) Q)

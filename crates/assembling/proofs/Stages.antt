@@ -43,6 +43,7 @@ begins s key = record {
     streams = λ c l. absurd (omega arith);
     headers = refl;
     unmade = refl;
+    unwaited = refl;
     given = refl;
   };
 }
@@ -182,6 +183,7 @@ retold s p q handles w R W = record {
       W.streams c b ∙ ap (λ (o : Option Offered). Some (stream_by o c)) (sym (R.filed c b));
   headers = W.headers;
   unmade = W.unmade;
+  unwaited = W.unwaited;
   given = W.given;
 }
 

@@ -61,6 +61,7 @@ built_with s p q handles w i a b W e h m f A = record {
   streams = λ c l. W.streams c (subst (λ (n : ℕ). c < n) m l) ∙ ap (λ (t : Bool). Some (stream_by (file_by s t c) c)) (sym (f c));
   headers = W.headers;
   unmade = W.unmade;
+  unwaited = W.unwaited;
   given = W.given;
 }
 

@@ -109,6 +109,7 @@ pub record IsBuilt (s : Assembly) (p : Progress) (handles : List Handle) (w : Wo
   pub streams : (c : ℕ) → c < p.made → slice_get w.streams c ≡ Some (stream_by (file_by s (p.filed c) c) c)
   pub headers : w.headers ≡ []
   pub unmade : w.made ≡ 0
+  pub unwaited : w.waits ≡ 0
   pub given : w.given ≡ []
 
 pub record IsStage (s : Assembly) (stage : Stage) (handles : List Handle) (w : World) : Type 0 where
