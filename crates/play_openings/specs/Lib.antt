@@ -1,1 +1,2 @@
 pub mod Assemblies
+pub mod Endings
