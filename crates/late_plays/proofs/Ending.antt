@@ -1,5 +1,5 @@
--- A play with late sources that is over: its components rest, its links are joined, and there is no header.
-use Rattle.std.proofs.Common.{◌≡◌, ◌≢◌, inl, inr, ℕ, ◌<◌, Bool, true, false, not, ◌&&◌, ◌||◌, List, [], ◌∷◌, ◌++◌, length, slice_get, Some, None, refl, sym, ◌∙◌, ap, subst, arith}
+-- A play with late sources that is over: its components are at their end, its links are joined, and there is no header.
+use Rattle.std.proofs.Common.{◌≡◌, ◌≢◌, inl, inr, ℕ, ◌<◌, Bool, true, false, not, ◌&&◌, ◌||◌, List, [], ◌∷◌, ◌++◌, All, length, slice_get, Some, None, refl, sym, ◌∙◌, ap, subst, arith}
 use Rattle.std.proofs.lemmas.Option.{slice_get_within}
 use Rattle.omx_types.specs.declared.command.Note.{Note}
 use Rattle.omx_types.specs.declared.state.State.TheVariants.{Loaded}
@@ -26,10 +26,11 @@ use Rattle.play_worlds.specs.Telling.{last_note, out_of, state_note, unheard}
 use Rattle.play_worlds.specs.Wiring.{joined_state, link_to}
 use Rattle.play_worlds.specs.Worlds.{ends_untold}
 use Rattle.play_worlds.proofs.Rooms.{port_of_state}
-use Rattle.late_worlds.specs.Late.{IsActorAt, IsLateWorld, LateCast, announced_note, end_of_link, notes_of_end, port_notes, port_number, settings_notes, settings_of_end}
+use Rattle.play_openings.specs.Endings.{IsAtEnd}
+use Rattle.late_worlds.specs.Late.{IsActorAt, IsLateWorld, LateCast, announced_note, commands_of_end, end_of_link, notes_of_end, port_commands, port_notes, port_number, settings_notes, settings_of_end}
 use Rattle.late_acts.proofs.Ends.{end_inside}
 use Rattle.late_acts.proofs.Lists.{links_none}
-use Rattle.late_acts.proofs.Standing.{pending_is, state_is}
+use Rattle.late_acts.proofs.Standing.{late_commands_are, pending_is, state_is}
 use Rattle.late_acts.proofs.Counting.{made_output}
 use Rattle.late_happenings.proofs.Calm.{IsResting as IsResting_change, free, its_end, its_port, joined, resting}
 use Rattle.late_plays.specs.Sides.{sides_of}
@@ -130,12 +131,21 @@ module _ (x : LateCast) (recent : ℕ) (p : Play) (w : World) (W : IsLateWorld x
         each true l (inr h) = let n = h.1 in rw n refl
         each false l (inr h) = let n = h.2 in rw n refl
 
+    no_commands : port_commands x.cast p c ≡ []
+    no_commands = links_none (x.cast).layout (commands_of_end x.cast p) c (links_of x.cast) (λ o l b t g. each o l (resting x recent p w W not_two l b))
+      where
+        each : (o : Bool) (l : ℕ) → IsResting_change (p.change l) → commands_of_end x.cast p o l ≡ []
+        each true l (inl h) = let n = h.1 in rw n refl
+        each false l (inl h) = let n = h.2 in rw n refl
+        each true l (inr h) = let n = h.1 in rw n refl
+        each false l (inr h) = let n = h.2 in rw n refl
+
     nothing_untold : ends_untold x.cast p c ≡ false
     nothing_untold = either (((x.cast).layout).is_sink c)
         (λ s. untold_told (((x.cast).layout).is_sink c) ((p.flow).ended c) (p.told c) (A.over (let f = over.phase in omega arith) s))
         (λ f. rw f refl)
 
-    pub all_heard : unheard w a ≡ []
+    all_heard : unheard w a ≡ []
     all_heard =
         let s0 = (at_four p.phase (p.stage c) over.phase (over.all c c_below)).2 in
         let s1 = no_settings in
@@ -160,6 +170,17 @@ module _ (x : LateCast) (recent : ℕ) (p : Play) (w : World) (W : IsLateWorld x
           work = free x recent p w W not_two c a A;
           client = client_in;
         }
+
+    at_end : IsAtEnd a
+    at_end = record {
+      state = state_is x recent p w c a A ∙ (at_four p.phase (p.stage c) over.phase (over.all c c_below)).0;
+      enabled = from_places (λ (s : PortState). s.enabled ≡ true) a.ports (λ port s f. ap (λ (t : PortState). t.enabled) (is_port port s f).state);
+      commands = late_commands_are x recent p w c a A (let s = over.all c c_below in omega arith) ∙ no_commands;
+      told = sym (ap (λ (b : Bool). out_of b (notes_given (number_of a) w) ++ a.notes) client_in) ∙ all_heard;
+    }
+
+  pub all_at_end : All IsAtEnd w.components
+  all_at_end = from_places IsAtEnd w.components at_end
 
   -- ---- headers
 

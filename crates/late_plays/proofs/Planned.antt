@@ -12,9 +12,10 @@ use Rattle.play_worlds.specs.Cast.{Cast, links_of}
 use Rattle.play_plans.specs.Casting.{IsLinkCast, flow_of, joint_of, no_joint}
 use Rattle.play_plans.proofs.Casts.{plan_has_cast}
 use Rattle.play_openings.specs.Assemblies.{late_cast_of}
+use Rattle.play_openings.specs.Endings.{IsPlayedOut, ends_of}
 use Rattle.late_worlds.specs.Late.{IsLateWorld}
-use Rattle.late_plays.specs.Sides.{plan_sides, sides_of}
-use Rattle.late_plays.proofs.Ending.{joined_all, links_are}
+use Rattle.late_plays.specs.Sides.{sides_of}
+use Rattle.late_plays.proofs.Ending.{all_at_end, joined_all, links_are}
 
 -- ---- links by the same ends
 
@@ -60,13 +61,15 @@ module _ (plan : PlanValue) (V : IsValid plan) where
       let n = V.flows in
       (plan_has_cast plan (λ k. false) V).joints l (joint_of plan l) (flow_of plan l) (slice_get-get_or plan.joints l no_joint b) (slice_get-get_or plan.flows l no_flow (omega arith))
 
-  side_is : (side : Bool) (l : ℕ) → l < links_of x → sides_of x side l ≡ plan_sides plan side l
+  side_is : (side : Bool) (l : ℕ) → l < links_of x → sides_of x side l ≡ ends_of plan side l
   side_is false l b = let J = link_is l b in let e = J.giver in let f = J.output in λ i. record { component = e i; port = f i }
   side_is true l b = let J = link_is l b in let e = J.taker in let f = J.input in λ i. record { component = e i; port = f i }
 
-pub plan_links : (plan : PlanValue) (recent : ℕ) (p : Play) (w : World) → IsValid plan → IsLateWorld (late_cast_of plan) recent p w → AreLinks (plan_sides plan) (length plan.joints)
-plan_links plan recent p w V W = links_by (sides_of (late_cast_of plan).cast) (plan_sides plan) (length plan.joints) (side_is plan V) (links_are (late_cast_of plan) recent p w W)
+pub plan_links : (plan : PlanValue) (recent : ℕ) (p : Play) (w : World) → IsValid plan → IsLateWorld (late_cast_of plan) recent p w → AreLinks (ends_of plan) (length plan.joints)
+plan_links plan recent p w V W = links_by (sides_of (late_cast_of plan).cast) (ends_of plan) (length plan.joints) (side_is plan V) (links_are (late_cast_of plan) recent p w W)
 
-pub plan_over : (plan : PlanValue) (recent : ℕ) (p : Play) (w : World) → IsValid plan → IsLateWorld (late_cast_of plan) recent p w → IsOver ((late_cast_of plan).cast).layout p
-    → (length w.components ≡ length plan.parts) × IsParted (plan_sides plan) (length plan.joints) 0 w
-plan_over plan recent p w V W O = (W.many, parted_by (sides_of (late_cast_of plan).cast) (plan_sides plan) (length plan.joints) (side_is plan V) w (joined_all (late_cast_of plan) recent p w W O))
+pub plan_over : (plan : PlanValue) (recent : ℕ) (p : Play) (w : World) → IsValid plan → IsLateWorld (late_cast_of plan) recent p w → IsOver ((late_cast_of plan).cast).layout p → IsPlayedOut plan w
+plan_over plan recent p w V W O = record {
+  ended = record { many = W.many; joined = parted_by (sides_of (late_cast_of plan).cast) (ends_of plan) (length plan.joints) (side_is plan V) w (joined_all (late_cast_of plan) recent p w W O) };
+  components = all_at_end (late_cast_of plan) recent p w W O;
+}

@@ -1,15 +1,8 @@
 -- The links of a play by their outputs (false) and inputs (true).
 use Rattle.std.specs.Prelude.{ℕ, Bool, not}
 use Rattle.il_machine.specs.declared.port.PortKey.{PortKey}
-use Rattle.play_forms.specs.Plans.{PlanValue}
 use Rattle.play_worlds.specs.Cast.{Cast}
-use Rattle.play_plans.specs.Casting.{joint_of}
-use Rattle.play_openings.specs.Assemblies.{end_of}
 use Rattle.late_worlds.specs.Late.{end_of_link}
 
 abbrev pub sides_of : Cast → Bool → ℕ → PortKey
 sides_of x input l = end_of_link x (not input) l
-
--- the same of a plan
-abbrev pub plan_sides : PlanValue → Bool → ℕ → PortKey
-plan_sides plan input l = end_of input (joint_of plan l)

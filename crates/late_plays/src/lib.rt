@@ -15,10 +15,11 @@ ghost use Rattle.play_model.specs.Reached.{IsOver};
 ghost use Rattle.play_worlds.specs.Cast.{links_of};
 ghost use Rattle.play_worlds.specs.Openings.{opening};
 ghost use Rattle.play_openings.specs.Assemblies.{IsReady, PlayFiles, assembly_of, late_cast_of};
+ghost use Rattle.play_openings.specs.Endings.{IsPlayedOut, ends_of};
 ghost use Rattle.late_worlds.specs.Late.{IsLateWorld, LateCast};
 ghost use Rattle.late_happenings.specs.Waiting.{IsWaiting};
 ghost use Rattle.late_turns.specs.Playing.{IsLatePlaying};
-ghost use Rattle.late_plays.specs.Sides.{plan_sides, sides_of};
+ghost use Rattle.late_plays.specs.Sides.{sides_of};
 
 /// The graph of a plan that is ready, once it is assembled, is a world of the plan's play in which nothing was begun, also with late
 /// sources; and with its conductor the play begins.
@@ -34,14 +35,14 @@ pub fn law_of_late_beginnings()
         → IsLatePlaying (late_cast_of plan) recent opening w (conductors.cast_of plan) }
 {}
 
-/// Where a play is over all its components rest with all its links and no header, so that its graph can be taken apart.
+/// Where a play is over all its components are at their end with all its links and no header, so that its graph can be taken apart.
 pub fn law_of_late_ends()
     ensures links { (x : LateCast) (recent : ℕ) (p : Play) (w : World) → IsLateWorld x recent p w → AreLinks (sides_of x.cast) (links_of x.cast) }
     ensures joined { (x : LateCast) (recent : ℕ) (p : Play) (w : World) → IsLateWorld x recent p w → IsOver (x.cast).layout p
         → IsParted (sides_of x.cast) (links_of x.cast) 0 w }
     ensures plan_links { (plan : PlanValue) (recent : ℕ) (p : Play) (w : World) → IsValid plan → IsLateWorld (late_cast_of plan) recent p w
-        → AreLinks (plan_sides plan) (length plan.joints) }
+        → AreLinks (ends_of plan) (length plan.joints) }
     ensures plan { (plan : PlanValue) (recent : ℕ) (p : Play) (w : World) → IsValid plan → IsLateWorld (late_cast_of plan) recent p w
         → IsOver ((late_cast_of plan).cast).layout p
-        → (length w.components ≡ length plan.parts) × IsParted (plan_sides plan) (length plan.joints) 0 w }
+        → IsPlayedOut plan w }
 {}
