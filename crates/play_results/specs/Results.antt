@@ -34,7 +34,7 @@ pub record IsLogOf (plan : PlanValue) (files : PlayFiles) (new : Outside) (text 
   pub opens : IsOpening plan files opening
   pub names : IsNaming (scene_of plan.parts opening) opening text entries ending
   pub alone : All (λ entry. entry.pass ≡ 0) entries
-  pub ends : IsEnding plan.parts new ending
+  pub ends : IsEnding plan new ending
 
 -- each sink's name holds its text of the plain function
 abbrev pub HoldSinks : PlanValue → List (List ℕ) → Outside → Type 0
