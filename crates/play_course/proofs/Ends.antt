@@ -219,8 +219,7 @@ module _ {F : Type 0} (seen : F → FileSeen) (script : Script) (name log : List
           names = whole.names;
           alone = whole.alone;
           ends = record {
-            components = whole.components;
-            headers = whole.headers;
+            played = whole.ends;
             sinks = λ place its text w holding.
                 (let t = whole.took place its w in
                 let s : Some t.0 ≡ Some text = sym (holds tells place its t.0 w t.1) ∙ (sym (keeps place its w) ∙ holding) in

@@ -1,15 +1,16 @@
 -- What a player is given, and what it makes of it.
-use Rattle.std.specs.Prelude.{◌≡◌, ℕ, List, [], All, length, slice_get, Option, Some, option_map}
+use Rattle.std.specs.Prelude.{◌≡◌, ℕ, List, All, length, slice_get, Option, Some, option_map}
 use Rattle.il_machine.specs.Stepping.{IsFrontOf}
 use Rattle.il_machine.specs.World.{World}
 use Rattle.play_forms.specs.Plain.{sink_text}
 use Rattle.play_forms.specs.Plans.{PlanValue}
 use Rattle.play_openings.specs.Assemblies.{IsReady, PlayFiles, file_at}
+use Rattle.play_openings.specs.Endings.{IsPlayedOut}
 use Rattle.play_log.specs.Entries.{Entry}
 use Rattle.play_log.specs.Naming.{IsNaming}
 use Rattle.play_log.specs.Scenes.{scene_of}
 use Rattle.play_results.specs.Files.{AreSamples, IsWriter}
-use Rattle.play_results.specs.Worlds.{HasWritten, IsAtEnd, IsOpening}
+use Rattle.play_results.specs.Worlds.{HasWritten, IsOpening}
 use Rattle.play_files.specs.Seen.{FileSeen, offer}
 use Rattle.play_course.specs.Running.{HasTaken}
 
@@ -33,8 +34,7 @@ pub record IsWhole (plan : PlanValue) (files : PlayFiles) (before after : List (
   pub opens : IsOpening plan files opening
   pub names : IsNaming (scene_of plan.parts opening) opening text entries ending
   pub alone : All (λ entry. entry.pass ≡ 0) entries
-  pub components : All IsAtEnd ending.components
-  pub headers : ending.headers ≡ []
+  pub ends : IsPlayedOut plan ending
   pub took : (place : ℕ) (name : List ℕ) → IsWriter plan.parts place name
       → (bytes : List ℕ) × HasTaken before after place bytes × HasWritten ending place bytes × ((samples : List (List ℕ)) → AreSamples plan files samples → bytes ≡ sink_text plan samples place)
 
