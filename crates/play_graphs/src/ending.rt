@@ -5,7 +5,8 @@ ghost use Rattle.il_machine.specs.World.{World};
 ghost use Rattle.il_machine.specs.Whole.{Always};
 ghost use Rattle.dismantling.specs.Dismantling.{AreLinks};
 ghost use Rattle.play_graphs.specs.Graphs.{kept_of};
-ghost use Rattle.play_graphs.specs.Ending.{AreBack, AreFilesOf, HasEnded, StandsFor, ends_of};
+ghost use Rattle.play_openings.specs.Endings.{HasEnded, ends_of};
+ghost use Rattle.play_graphs.specs.Ending.{AreBack, AreFilesOf, StandsFor};
 ghost use Rattle.play_graphs.specs.Making.{AreGone};
 
 use crate::freeing::free_all;

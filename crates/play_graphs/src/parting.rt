@@ -5,7 +5,8 @@ ghost use Rattle.il_machine.specs.Whole.{StepsWhere};
 ghost use Rattle.il_graph.specs.Shown.{KeepsAllFiles};
 ghost use Rattle.dismantling.specs.Dismantling.{AreLinks, IsSameButPorts};
 ghost use Rattle.play_graphs.specs.Graphs.{kept_of};
-ghost use Rattle.play_graphs.specs.Ending.{HasParted, StandsFor, ends_of};
+ghost use Rattle.play_openings.specs.Endings.{HasParted, ends_of};
+ghost use Rattle.play_graphs.specs.Ending.{StandsFor};
 
 use crate::handles::{handle, joint, link_count};
 use conductor::PlayClient;

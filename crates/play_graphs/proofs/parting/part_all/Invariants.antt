@@ -2,7 +2,7 @@ use Rattle.il_machine.specs.Whole.{StepsWhere}
 use Rattle.il_graph.specs.Shown.{KeepsAllFiles}
 use Rattle.dismantling.specs.Dismantling.{IsSameButPorts}
 use Rattle.play_graphs.specs.Graphs.{kept_of}
-use Rattle.play_graphs.specs.Ending.{HasParted}
+use Rattle.play_openings.specs.Endings.{HasParted}
 use Rattle.play_graphs.proofs.parting.part_all.Given as goal
 
 abbrev pub invariant-loop-link : goal.invariant-loop-link
