@@ -19,7 +19,8 @@ use Rattle.halting.proofs.Clearing.{all_cleared, all_stopped, next_cleared}
 use Rattle.play_forms.specs.declared.joint.Joint.{Joint}
 use Rattle.play_forms.specs.Plans.{PlanValue}
 use Rattle.play_plans.specs.Casting.{joint_of}
-use Rattle.play_graphs.specs.Ending.{AreBack, HasEnded, IsBackAt, StandsFor, ends_of}
+use Rattle.play_openings.specs.Endings.{HasEnded, ends_of}
+use Rattle.play_graphs.specs.Ending.{AreBack, IsBackAt, StandsFor}
 use Rattle.play_graphs.specs.Graphs.{IsHandleAt, kept_of}
 use Rattle.play_graphs.specs.Making.{IsMade}
 use Rattle.play_graphs.proofs.Naming.{named_at}

@@ -34,7 +34,7 @@ use Rattle.late_worlds.specs.Late.{IsLateWorld, LateCast, end_of_link, port_numb
 use Rattle.late_acts.proofs.Ends as ends
 use Rattle.late_acts.proofs.Standing.{pending_is, state_is}
 use Rattle.play_openings.specs.Assemblies.{late_cast_of}
-use Rattle.play_graphs.specs.Ending.{ends_of}
+use Rattle.play_openings.specs.Endings.{ends_of}
 use Rattle.play_stopping.specs.Stops.{HaveTunnels, HasNoneOut, HasStopped}
 
 pending_valid : (phase stage : ℕ) (q : Pending) → pending_at phase stage ≡ Some q → is_invalid q.target ≡ false

@@ -17,7 +17,8 @@ use Rattle.halting.proofs.Invalid.{one_stopped, stops}
 use Rattle.halting.proofs.Linked.{work_none}
 use Rattle.halting.proofs.Notes.{has_events, notes_apart}
 use Rattle.play_forms.specs.Plans.{PlanValue}
-use Rattle.play_graphs.specs.Ending.{StandsFor, ends_of}
+use Rattle.play_openings.specs.Endings.{ends_of}
+use Rattle.play_graphs.specs.Ending.{StandsFor}
 use Rattle.play_graphs.specs.Graphs.{IsHandleAt, kept_of}
 use Rattle.play_graphs.specs.Making.{IsMade}
 use Rattle.play_graphs.proofs.Naming.{named_at}

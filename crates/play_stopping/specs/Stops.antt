@@ -13,7 +13,7 @@ use Rattle.play_model.specs.Play.{Play}
 use Rattle.play_worlds.specs.Cast.{links_of}
 use Rattle.late_worlds.specs.Changing.{is_joined_at}
 use Rattle.late_worlds.specs.Late.{LateCast}
-use Rattle.play_graphs.specs.Ending.{ends_of}
+use Rattle.play_openings.specs.Endings.{ends_of}
 
 -- The world has the plan's components, joined as its links say; no work and no client object is out. So many are stopped, and the others
 -- aren't Invalid.

@@ -6,7 +6,8 @@ ghost use Rattle.il_graph.specs.Shown.{KeepsAllFiles, look_of};
 ghost use Rattle.dismantling.specs.Dismantling.{AreLinks};
 ghost use Rattle.halting.specs.Halting.{KeepsFiles, headers_at};
 ghost use Rattle.play_graphs.specs.Graphs.{kept_of};
-ghost use Rattle.play_graphs.specs.Ending.{StandsFor, ends_of};
+ghost use Rattle.play_openings.specs.Endings.{ends_of};
+ghost use Rattle.play_graphs.specs.Ending.{StandsFor};
 ghost use Rattle.play_stopping.specs.Stops.{HasBrought, HasCleared, IsActed, has_acted};
 
 use conductor::PlayClient;

@@ -4,7 +4,8 @@ ghost use Rattle.std.specs.Prelude.{◌≡◌, ◌≤◌, length};
 ghost use Rattle.il_machine.specs.Whole.{Always};
 ghost use Rattle.dismantling.specs.Dismantling.{AreLinks};
 ghost use Rattle.play_graphs.specs.Graphs.{kept_of};
-ghost use Rattle.play_graphs.specs.Ending.{AreBack, AreFilesOf, StandsFor, ends_of};
+ghost use Rattle.play_openings.specs.Endings.{ends_of};
+ghost use Rattle.play_graphs.specs.Ending.{AreBack, AreFilesOf, StandsFor};
 ghost use Rattle.play_graphs.specs.Making.{AreGone};
 ghost use Rattle.play_stopping.specs.Stops.{HasStopped};
 

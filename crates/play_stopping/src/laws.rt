@@ -10,7 +10,7 @@ ghost use Rattle.play_forms.specs.Plans.{IsValid, PlanValue};
 ghost use Rattle.play_model.specs.Play.{Play};
 ghost use Rattle.late_worlds.specs.Late.{IsLateWorld};
 ghost use Rattle.play_openings.specs.Assemblies.{late_cast_of};
-ghost use Rattle.play_graphs.specs.Ending.{ends_of};
+ghost use Rattle.play_openings.specs.Endings.{ends_of};
 ghost use Rattle.play_stopping.specs.Stops.{HaveTunnels, HasNoneOut, HasStopped};
 
 /// A plan that has a world of its play has at most 1024 links. No two ends of them are one port, and no component gives to itself. What

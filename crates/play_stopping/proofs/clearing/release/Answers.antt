@@ -1,5 +1,5 @@
 use Rattle.std.proofs.Common.{◌∙◌, sym, true}
-use Rattle.play_graphs.specs.Ending.{ends_of}
+use Rattle.play_openings.specs.Endings.{ends_of}
 use Rattle.play_stopping.specs.Stops.{HasBrought}
 use Rattle.play_stopping.proofs.Cleared.{release_tries, taker_made, tried_acts, tried_fewer, tried_none, tried_steps}
 use Rattle.play_stopping.proofs.clearing.release.Goals as goal

@@ -3,7 +3,7 @@ use Rattle.il_machine.specs.Whole.{StepsWhere}
 use Rattle.il_graph.specs.Shown.{KeepsAllFiles, look_of}
 use Rattle.halting.specs.Halting.{KeepsFiles, headers_at}
 use Rattle.play_graphs.specs.Graphs.{kept_of}
-use Rattle.play_graphs.specs.Ending.{ends_of}
+use Rattle.play_openings.specs.Endings.{ends_of}
 use Rattle.play_stopping.specs.Stops.{HasBrought}
 use Rattle.play_stopping.proofs.clearing.unmake.Given as goal
 
