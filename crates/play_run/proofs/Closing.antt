@@ -1,69 +1,25 @@
--- Where a play is over, its graph can be taken apart: each component is Loaded with nothing pending, and no header is made.
-use Rattle.std.proofs.Common.{◌≡◌, ℕ, Bool, All, [], ◌++◌, length, slice_get, Some, Result, Ok, Err, OnOk, sym, ◌∙◌, ap, subst, arith}
-use Rattle.std.proofs.lemmas.Option.{slice_get_within}
-use Rattle.omx_types.specs.declared.state.State.TheVariants.{Loaded}
-use Rattle.il_machine.specs.World.{Component, World, number_of}
-use Rattle.machine_laws.proofs.Every.{at_place, from_places}
-use Rattle.dismantling.specs.Dismantling.{AreLinks, IsResting}
-use Rattle.play_model.specs.Play.{Play}
-use Rattle.play_model.specs.Reached.{IsOver}
-use Rattle.play_worlds.specs.Standing.{state_at}
-use Rattle.play_worlds.specs.Telling.{out_of}
-use Rattle.il_machine.specs.Queued.{notes_given}
-use Rattle.late_worlds.specs.Late.{LateCast}
-use Rattle.late_acts.proofs.Standing.{state_is}
-use Rattle.late_plays.proofs.Ending.{all_heard}
-use Rattle.late_plays.proofs.Planned.{plan_links, plan_over}
-use Rattle.play_log.specs.Kept.{LogValue}
-use Rattle.play_results.specs.Worlds.{IsAtEnd}
-use Rattle.play_graphs.specs.Ending.{HasEnded, StandsFor, ends_of}
-use Rattle.play_run.specs.Logging.{IsKeptTo}
-use Rattle.play_run.specs.Playing.{FilesStay, IsPlaying, IsStanding, LeadsOn, PlayingValue, layout_of}
-use Rattle.play_loop.specs.Turns.{AreOver}
-use Rattle.play_openings.specs.Assemblies.{PlayFiles, late_cast_of}
+-- Where a play is over, its graph can be taken apart, and its log is that of the whole play.
+use Rattle.std.proofs.Common.{◌≡◌, length, Result, Ok, Err, OnOk, sym, ◌∙◌, subst}
 use Rattle.std.specs.Prelude.{IfErr, OnErr}
 use Rattle.omx_types.specs.declared.fault.PartFault.{PartFault}
 use Rattle.audio_parts.specs.Objects.{Held}
-use Rattle.play_loop.specs.Turns.{SomePlay}
+use Rattle.dismantling.specs.Dismantling.{AreLinks}
+use Rattle.play_model.specs.Play.{Play}
+use Rattle.play_model.specs.Reached.{IsOver}
+use Rattle.play_loop.specs.Turns.{AreOver, SomePlay}
+use Rattle.play_log.specs.Kept.{LogValue}
+use Rattle.play_openings.specs.Assemblies.{PlayFiles}
+use Rattle.play_openings.specs.Endings.{HasEnded, IsPlayedOut, ends_of}
+use Rattle.play_graphs.specs.Ending.{StandsFor}
+use Rattle.late_plays.proofs.Planned.{plan_links, plan_over}
 use Rattle.play_run.specs.declared.failure.Failure.{Failure}
-use Rattle.play_run.specs.Turning.{FailsOn, FileShows, FilesStayed, HasFailed, HasFailedWith}
 use Rattle.play_run.specs.Closing.{HasBegun, HasPlayed, HasPlayedWith, KeepsLog}
+use Rattle.play_run.specs.Logging.{IsKeptTo}
+use Rattle.play_run.specs.Playing.{FilesStay, IsPlaying, IsStanding, LeadsOn, PlayingValue, layout_of}
+use Rattle.play_run.specs.Turning.{FailsOn, FileShows, FilesStayed, HasFailed, HasFailedWith}
 
-at_four : (phase stage : ℕ) → phase ≡ 4 → stage ≡ 4 → state_at phase stage ≡ Loaded
-at_four phase stage e f = λ i. state_at (e i) (f i)
-
-module _ {S K : Type 0} (x : PlayingValue S K) (p : Play) (Z : IsStanding x p) (over : IsOver (layout_of x.plan) p) where
-  abbrev y : LateCast
-  y = late_cast_of x.plan
-
-  abbrev w : World
-  w = Z.world
-
-  pub has_ended : HasEnded x.plan w
-  has_ended = let E = plan_over x.plan Z.recent p w Z.valid (Z.late).play over in record { many = E.0; joined = E.1 }
-
-  -- each component rests, and nothing waits to be told
-  at_end : (i : ℕ) (a : Component) → slice_get w.components i ≡ Some a → IsAtEnd a
-  at_end i a e =
-      let W = (Z.late).play in
-      let m = W.many in
-      let inside = slice_get_within w.components i a e in
-      let t = (W.cast_is).each i (omega arith) in
-      let A = W.actors t.0 a t.1 (subst (λ (n : ℕ). slice_get w.components n ≡ Some a) (sym t.2) e) in
-      let R = at_place IsResting w.components i a ((has_ended.joined).quiet).components e in
-      record {
-        state = state_is y Z.recent p w t.0 a A ∙ at_four p.phase (p.stage t.0) over.phase (over.all t.0 t.1);
-        rests = (R.calm).resting;
-        told = sym (ap (λ (b : Bool). out_of b (notes_given (number_of a) w) ++ a.notes) R.client) ∙ all_heard y Z.recent p w W over i a e;
-        work = R.work;
-        client = R.client;
-      }
-
-  pub all_at_end : All IsAtEnd w.components
-  all_at_end = from_places IsAtEnd w.components at_end
-
-  pub no_headers : w.headers ≡ []
-  no_headers = ((has_ended.joined).quiet).headers
+pub played_out : {S K : Type 0} (x : PlayingValue S K) (p : Play) (Z : IsStanding x p) → IsOver (layout_of x.plan) p → IsPlayedOut x.plan Z.world
+played_out x p Z over = plan_over x.plan Z.recent p Z.world Z.valid (Z.late).play over
 
 module _ {S K : Type 0} (x : PlayingValue S K) where
   pub keeps_log : (log : LogValue) → log ≡ x.log → KeepsLog x log
@@ -78,12 +34,11 @@ module _ {S K : Type 0} (x : PlayingValue S K) where
         alone = R.alone;
         whole = R.whole;
         keeps = R.keeps;
-        components = all_at_end x p Z over;
-        headers = no_headers x p Z over;
+        ends = played_out x p Z over;
       })
 
   pub stands_ended : HasPlayed x → StandsFor (HasEnded x.plan) x.graph
-  stands_ended (p, Y, over) = (Y.standing.world, Y.standing.stands, has_ended x p Y.standing over)
+  stands_ended (p, Y, over) = (Y.standing.world, Y.standing.stands, (played_out x p Y.standing over).ended)
 
   pub play_links : HasPlayed x → AreLinks (ends_of x.plan) (length x.plan.joints)
   play_links (p, Y, over) = let Z = Y.standing in plan_links x.plan Z.recent p Z.world Z.valid (Z.late).play

@@ -7,7 +7,8 @@ use Rattle.audio_parts.specs.declared.part_file.PartFile.{PartFile}
 use Rattle.machine_laws.proofs.Every.{from_places}
 use Rattle.dismantling.specs.Dismantling.{AreLinks}
 use Rattle.late_plays.proofs.Planned.{plan_links}
-use Rattle.play_graphs.specs.Ending.{AreBack, StandsFor, ends_of}
+use Rattle.play_openings.specs.Endings.{ends_of}
+use Rattle.play_graphs.specs.Ending.{AreBack, StandsFor}
 use Rattle.play_graphs.specs.Graphs.{kept_of}
 use Rattle.play_graphs.proofs.Naming.{named_at}
 use Rattle.play_stopping.specs.Stops.{HasNoneOut, HasStopped}

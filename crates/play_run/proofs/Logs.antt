@@ -24,8 +24,7 @@ kept_names plan files log text ending K logged =
       entries = printed K.history;
       names = logged_names s K.opening ending K.history text ((B.opens).1).sound B.closed K.runs K.whole (logged s K.history K.keeps);
       alone = All-filter (λ (entry : Entry). not (is_unprinted entry.reply)) IsByPlayer K.history K.alone;
-      components = K.components;
-      headers = K.headers;
+      ends = K.ends;
     }
 
 pub named_joins : (plan : PlanValue) (files : PlayFiles) (new : Outside) (text : List ℕ) (ending : World) → IsNamedTo plan files text ending → HaveWritten plan.parts new ending → IsLogOf plan files new text
@@ -36,5 +35,5 @@ named_joins plan files new text ending N written = record {
   opens = N.opens;
   names = N.names;
   alone = N.alone;
-  ends = record { components = N.components; headers = N.headers; sinks = written };
+  ends = record { played = N.ends; sinks = written };
 }

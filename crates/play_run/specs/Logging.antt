@@ -1,22 +1,22 @@
 -- The log of a play that is over.
-use Rattle.std.specs.Prelude.{◌≡◌, ℕ, List, [], All, Some}
+use Rattle.std.specs.Prelude.{◌≡◌, ℕ, List, All, Some}
 use Rattle.outside_io.specs.Files.{Outside}
 use Rattle.il_machine.specs.World.{World}
 use Rattle.il_machine.specs.Run.{Run}
 use Rattle.script_lang.specs.declared.play_line.PartLine.{PartLine}
 use Rattle.play_forms.specs.Plans.{PlanValue}
 use Rattle.play_openings.specs.Assemblies.{PlayFiles}
+use Rattle.play_openings.specs.Endings.{IsPlayedOut}
 use Rattle.play_log.specs.Entries.{Entry, steps_of}
 use Rattle.play_log.specs.Kept.{LogValue}
 use Rattle.play_log.specs.Logged.{Keeps}
 use Rattle.play_log.specs.Naming.{IsNaming}
 use Rattle.play_log.specs.Scenes.{scene_of}
 use Rattle.play_results.specs.Files.{IsWriter}
-use Rattle.play_results.specs.Worlds.{HasWritten, IsAtEnd, IsOpening}
+use Rattle.play_results.specs.Worlds.{HasWritten, IsOpening}
 use Rattle.play_run.specs.Recording.{IsBeginning, IsByPlayer, IsWhole}
 
--- Entries of the thread that plays lead from where the play begins to the ending, where each component is at its end and no header is made.
--- The log keeps them.
+-- Entries of the thread that plays lead from where the play begins to the ending, where it was done whole. The log keeps them.
 pub record IsKeptTo (plan : PlanValue) (files : PlayFiles) (log : LogValue) (ending : World) : Type 0 where
   pub opening : World
   pub begins : IsBeginning plan files opening
@@ -25,8 +25,7 @@ pub record IsKeptTo (plan : PlanValue) (files : PlayFiles) (log : LogValue) (end
   pub alone : All IsByPlayer history
   pub whole : All IsWhole history
   pub keeps : Keeps (scene_of plan.parts opening) history log
-  pub components : All IsAtEnd ending.components
-  pub headers : ending.headers ≡ []
+  pub ends : IsPlayedOut plan ending
 
 -- The text names entries of the thread that plays, which lead to that ending.
 pub record IsNamedTo (plan : PlanValue) (files : PlayFiles) (text : List ℕ) (ending : World) : Type 0 where
@@ -35,8 +34,7 @@ pub record IsNamedTo (plan : PlanValue) (files : PlayFiles) (text : List ℕ) (e
   pub entries : List Entry
   pub names : IsNaming (scene_of plan.parts opening) opening text entries ending
   pub alone : All IsByPlayer entries
-  pub components : All IsAtEnd ending.components
-  pub headers : ending.headers ≡ []
+  pub ends : IsPlayedOut plan ending
 
 -- each sink wrote its file
 abbrev pub HaveWritten : List PartLine → Outside → World → Type 0

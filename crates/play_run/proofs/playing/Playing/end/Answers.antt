@@ -2,11 +2,12 @@ use Rattle.std.proofs.Common.{◌≤◌, length, sym, ap, subst}
 use Rattle.il_machine.specs.Whole.{Always}
 use Rattle.il_graph.specs.Shown.{TellWritten}
 use Rattle.dismantling.specs.Dismantling.{AreLinks}
-use Rattle.play_graphs.specs.Ending.{AreBack, AreFilesOf, HasEnded, StandsFor, ends_of}
+use Rattle.play_openings.specs.Endings.{HasEnded, ends_of}
+use Rattle.play_graphs.specs.Ending.{AreBack, AreFilesOf, StandsFor}
 use Rattle.play_graphs.specs.Graphs.{kept_of}
 use Rattle.play_graphs.specs.Making.{AreGone}
 use Rattle.play_run.specs.Playing.{PlayingValue}
-use Rattle.play_run.proofs.Closing.{has_ended, keeps_log, play_links, stands_ended}
+use Rattle.play_run.proofs.Closing.{keeps_log, play_links, played_out, stands_ended}
 use Rattle.play_run.proofs.Rounding.{few_links}
 use Rattle.play_run.proofs.playing.Playing.end.Goals as goal
 
@@ -29,7 +30,7 @@ end_graph-requires-clause-ended g c =
 pub returns-clause-back : goal.returns-clause-back
 returns-clause-back g c = λ p Y over.
     subst (λ (x : PlayingValue g.row.S.Denot g.row.K.Denot). Always (kept_of x.graph) (λ w. HasEnded x.plan w → AreBack w c.end_graph.new.files)) c.self.view_is c.end_graph.ensures.back Y.standing.world Y.standing.stands
-    (has_ended c.args.self p Y.standing over)
+    (played_out c.args.self p Y.standing over).ended
 
 pub returns-clause-log : goal.returns-clause-log
 returns-clause-log g c = keeps_log c.args.self c.self.inside.log (ap (λ (x : PlayingValue g.row.S.Denot g.row.K.Denot). x.log) c.self.view_is)

@@ -3,7 +3,8 @@ use Rattle.il_machine.specs.Sound.{Sound}
 use Rattle.il_machine.specs.Whole.{Always}
 use Rattle.il_graph.specs.Shown.{TellWritten}
 use Rattle.dismantling.specs.Dismantling.{AreLinks}
-use Rattle.play_graphs.specs.Ending.{AreBack, AreFilesOf, StandsFor, ends_of}
+use Rattle.play_openings.specs.Endings.{ends_of}
+use Rattle.play_graphs.specs.Ending.{AreBack, AreFilesOf, StandsFor}
 use Rattle.play_graphs.specs.Graphs.{kept_of}
 use Rattle.play_graphs.specs.Making.{AreGone}
 use Rattle.play_stopping.specs.Stops.{HasStopped}
