@@ -8,9 +8,10 @@ use Rattle.script_lang.specs.declared.script.Script.{Script}
 use Rattle.play_forms.specs.Plain.{sink_text}
 use Rattle.play_forms.specs.Plans.{IsFit, IsFitted, IsPlanOfScript, PlanValue}
 use Rattle.play_openings.specs.Assemblies.{PlayFiles}
-use Rattle.play_log.specs.Entries.{Entry}
+use Rattle.play_log.specs.Entries.{Entry, steps_of}
 use Rattle.play_log.specs.Naming.{IsNaming}
 use Rattle.play_log.specs.Scenes.{scene_of}
+use Rattle.play_results.specs.Asked.{IsConducted, tuned}
 use Rattle.play_results.specs.Files.{AreFiles, IsNoSink, IsWriter}
 use Rattle.play_results.specs.Worlds.{IsEnding, IsOpening}
 
@@ -26,7 +27,8 @@ pub record IsPlanIn (script log : List ℕ) (old : Outside) (plan : PlanValue) (
   pub fit : IsFit plan
   pub files_are : AreFiles old plan.parts files samples
 
--- From the world where the plan's play begins on, the log names entries of the thread that plays, which lead to a world at its end.
+-- From the world where the plan's play begins on, the log names entries of the thread that plays, which lead to a world at its end. What is
+-- asked by them is what a play asks for, in order and in time.
 pub record IsLogOf (plan : PlanValue) (files : PlayFiles) (new : Outside) (text : List ℕ) : Type 0 where
   pub opening : World
   pub ending : World
@@ -34,6 +36,7 @@ pub record IsLogOf (plan : PlanValue) (files : PlayFiles) (new : Outside) (text 
   pub opens : IsOpening plan files opening
   pub names : IsNaming (scene_of plan.parts opening) opening text entries ending
   pub alone : All (λ entry. entry.pass ≡ 0) entries
+  pub conducted : IsConducted (tuned plan files) (scene_of plan.parts opening).handles (steps_of entries)
   pub ends : IsEnding plan new ending
 
 -- each sink's name holds its text of the plain function
