@@ -1,5 +1,7 @@
 -- The acts of the conductor on a link that is being changed.
-use Rattle.std.proofs.Common.{◌≡◌, ◌+◌, ◌<◌, ℕ, Bool, true, false, not, Ok, Result, refl, sym, ◌∙◌, ap, subst, arith}
+use Rattle.std.proofs.Common.{◌≡◌, ◌+◌, ◌<◌, ℕ, Bool, true, false, not, List, [], ◌∷◌, ◌++◌, drop, Ok, Result, refl, sym, ◌∙◌, ap, subst, arith}
+use Rattle.std.specs.Prelude.{slice_index_or}
+use Rattle.std.proofs.lemmas.Option.{get_or_from_slice_get}
 use Rattle.omx_types.specs.declared.command.Command.{Command}
 use Rattle.omx_types.specs.declared.error.OmxError.{OmxError}
 use Rattle.omx_types.specs.declared.handle.Handle.{Handle}
@@ -10,6 +12,8 @@ use Rattle.omx_types.specs.declared.param.PortDefinition.{PortDefinition}
 use Rattle.omx_types.specs.declared.param.Supplier.{Supplier}
 use Rattle.omx_types.specs.declared.param.Supplier.TheVariants as suppliers
 use Rattle.il_machine.specs.declared.answer.Progress.{Progress}
+use Rattle.il_machine.specs.declared.port.PortKey.{PortKey}
+use Rattle.il_machine.specs.Acts.{Act, Reply}
 use Rattle.il_machine.specs.Acts as acts
 use Rattle.il_machine.specs.Commands.{SendCommand}
 use Rattle.il_machine.specs.Parameters.{SetParameter}
@@ -19,6 +23,7 @@ use Rattle.il_machine.specs.World.{World}
 use Rattle.graph_core.specs.Clients.{KeepsAllClients}
 use Rattle.il_graph.specs.Shown.{Shown}
 use Rattle.il_graph.proofs.PartsStay.{step_stays}
+use Rattle.conductor.specs.declared.phase.ChangeStep.{ChangeStep}
 use Rattle.conductor.specs.declared.phase.ChangeStep.TheVariants.{Retune}
 use Rattle.play_model.specs.Play.{Play, component_at}
 use Rattle.act_text.specs.declared.text.ActText.{ActText}
@@ -41,15 +46,21 @@ use Rattle.late_acts.proofs.Sending.{send_leads}
 use Rattle.late_acts.proofs.Setting.{set_leads}
 use Rattle.late_conductors.specs.Conducting.{step_from}
 use Rattle.late_streams.specs.Streams.{HasLateStreams}
-use Rattle.play_openings.specs.Assemblies.{late_cast_of}
+use Rattle.assembling.specs.Assembly.{Assembly, definition_of}
+use Rattle.assembling.specs.Building.{handle_at, no_handle}
+use Rattle.play_forms.specs.declared.joint.Joint.{Joint}
+use Rattle.play_openings.specs.Assemblies.{end_of, late_cast_of}
+use Rattle.play_results.specs.Asked.{acts_of as asked_acts, is_asked, tuned}
 use Rattle.play_graphs.specs.Graphs.{IsHandleAt, kept_of}
-use Rattle.play_run.specs.Changing.{ChangesTo, acts_of, index_by, place_by, sending, sent_as, set_as}
-use Rattle.play_run.specs.Playing.{PlayingValue}
+use Rattle.play_run.specs.Asking.{Asks, asking_of, handles_of}
+use Rattle.play_run.specs.Changing.{ChangesTo, IsChanging, acts_of, index_by, place_by, sending, sent_as, set_as}
+use Rattle.play_run.specs.Playing.{AsksIn, IsStanding, PlayingValue}
 use Rattle.play_run.specs.Recording.{IsNameAt, IsTold, IsToldOf, IsToldOfBoth, IsToldOfPort}
 use Rattle.play_run.proofs.Answering.{keeps_in, with_both}
 use Rattle.play_run.proofs.Ends.{end_index, end_input, end_named}
 use Rattle.play_run.proofs.Files.{told_same}
-use Rattle.play_run.proofs.Onward.{act_made}
+use Rattle.play_run.proofs.Asking.{asked_on}
+use Rattle.play_run.proofs.Onward.{act_made, left_of}
 use Rattle.play_run.proofs.Recording.{both_on, goes_on, is_player, one_more}
 use Rattle.play_run.proofs.Working.{still_none}
 
@@ -105,7 +116,45 @@ set_at false n e = e
 port_is : (port : PortId) (n : ℕ) → port.index ≡ n → port ≡ record { handle = port.handle; index = n }
 port_is port n e = λ i. record { handle = port.handle; index = e i }
 
+-- ---- what is asked by it
+
+end_at : (output : Bool) (j : Joint) → end_of (not output) j ≡ record { component = place_by output j; port = index_by output j }
+end_at true j = refl
+end_at false j = refl
+
+-- the acts of a step, from the next one on
+port_next : (s : Assembly) (handles : List Handle) (output disables : Bool) (l : ℕ) → drop (sent_as output) (asked_acts s handles (asking_of (sending disables) l))
+    ≡ (acts.SendCommand (handle_at s handles (not output) l) (port_command disables (s.end (not output) l).port), acts.Plain (Ok tt)) ∷ drop (sent_as output + 1) (asked_acts s handles (asking_of (sending disables) l))
+port_next s handles true true l = refl
+port_next s handles false true l = refl
+port_next s handles true false l = refl
+port_next s handles false false l = refl
+
+set_next : (s : Assembly) (handles : List Handle) (output : Bool) (l : ℕ) → drop (set_as output) (asked_acts s handles (asking_of Retune l))
+    ≡ (acts.SetParameter (handle_at s handles (not output) l) (definition_key (s.end (not output) l).port) (params.Port (definition_of s (not output) l)), acts.Plain (Ok tt)) ∷ drop (set_as output + 1) (asked_acts s handles (asking_of Retune l))
+set_next s handles true l = refl
+set_next s handles false l = refl
+
 module _ {S K : Type 0} (x : PlayingValue S K) (g : Shown S K Progress) (log : LogValue) (l : ℕ) (keeps : KeepsAllClients x.graph.core g.core) where
+  abbrev the : (p : Play) → IsStanding x p → Assembly
+  the p Z = tuned x.plan Z.files
+
+  -- the handle of the component at the end
+  handle_is : (p : Play) (Z : IsStanding x p) (output : Bool) (h : Handle) → IsHandleAt x.graph (place_by output (joint_of x.plan l)) h → (name : List ℕ) → IsNameAt x.plan.parts (place_by output (joint_of x.plan l)) name
+      → handle_at (the p Z) (handles_of Z.opening) (not output) l ≡ h
+  handle_is p Z output h H name N =
+      ap (λ (k : PortKey). slice_index_or (handles_of Z.opening) k.component no_handle) (end_at output (joint_of x.plan l))
+      ∙ get_or_from_slice_get (handles_of Z.opening) (place_by output (joint_of x.plan l)) h no_handle (is_player x p Z (place_by output (joint_of x.plan l)) h H name N).handle
+
+  -- the next act of a step is asked: it is what is left first
+  goes_next : (step : ChangeStep) (made : ℕ) (p : Play) (Y : IsChanging x p l step made) (a : Act × Reply) → is_asked a ≡ true
+      → drop made (asked_acts (the p Y.standing) (handles_of Y.standing.opening) (asking_of step l)) ≡ a ∷ left_of x p l step (made + 1) Y.standing
+      → (xs : List (Act × Reply)) → AsksIn x p Y.standing xs → Asks x.plan Y.standing.files Y.standing.opening l x.conductor (left_of x p l step (made + 1) Y.standing) (xs ++ a ∷ [])
+  goes_next step made p Y a t next xs A =
+      let Z = Y.standing in
+      let now = subst (λ (r : ℕ). Asks x.plan Z.files Z.opening r x.conductor Z.left xs) Y.recent A in
+      asked_on x.plan Z.files Z.opening l x.conductor a (left_of x p l step (made + 1) Z) xs t (subst (λ (left : List (Act × Reply)). Asks x.plan Z.files Z.opening l x.conductor left xs) (Y.left ∙ next) now)
+
   -- ---- a disable or an enable is sent to an end
 
   module _ (output : Bool) (h : Handle) (index : ℕ) (r : Result (Unit {0}) OmxError) (H : IsHandleAt x.graph (place_by output (joint_of x.plan l)) h) (I : index ≡ index_by output (joint_of x.plan l)) where
@@ -126,7 +175,12 @@ module _ {S K : Type 0} (x : PlayingValue S K) (g : Shown S K Progress) (log : L
         act_made x g log l (sending disables) (sent_as output) p Y v.0 (few_sent output disables) v.1
         (still_none w (acts.SendCommand h command) (acts.Plain r) v.0 W.sound tt v.2 (λ n. refl) Z.works)
         (keeps_in x.graph.core g.core keeps Z.clients) L.1
-        (goes_on x p Z (place_by output (joint_of x.plan l)) h H v.0 (λ k. acts.SendCommand k command) (acts.Plain (Ok tt)) log told refl tt (subst (λ (a : Result (Unit {0}) OmxError). SendCommand w h command a v.0) L.0 v.2) tt (λ n. refl))
+        (goes_on x p Z (place_by output (joint_of x.plan l)) h H (Asks x.plan Z.files Z.opening l x.conductor (left_of x p l (sending disables) (sent_as output + 1) Z)) v.0 (λ k. acts.SendCommand k command) (acts.Plain (Ok tt)) log told refl tt
+        (subst (λ (a : Result (Unit {0}) OmxError). SendCommand w h command a v.0) L.0 v.2) tt (λ n. refl)
+        (goes_next (sending disables) (sent_as output) p Y (acts.SendCommand h command, acts.Plain (Ok tt)) refl
+        (let f = handle_is p Z output h H told.name told.named in
+        let k : ((the p Z).end (not output) l).port ≡ index = ap (λ (key : PortKey). key.port) (end_at output (joint_of x.plan l)) ∙ sym I in
+        port_next (the p Z) (handles_of Z.opening) output disables l ∙ (λ i. (acts.SendCommand (f i) (port_command disables (k i)), acts.Plain (Ok tt)) ∷ left_of x p l (sending disables) (sent_as output + 1) Z))))
         (λ k later q F V e. streams y k Z.recent later p q w v.0 l output disables h r W F V e b N s)
         (told_same Z.opening w v.0 Z.told (step_stays w W.sound (acts.SendCommand h command) (acts.Plain r) v.0 tt tt v.2).streams)
 
@@ -152,9 +206,13 @@ module _ {S K : Type 0} (x : PlayingValue S K) (g : Shown S K Progress) (log : L
         act_made x g log l Retune (set_as output) p Y v.0 (few_set output) v.1
         (still_none w act (acts.Plain r) v.0 W.sound tt v.2 (λ n. refl) Z.works)
         (keeps_in x.graph.core g.core keeps Z.clients) L.1
-        (one_more x.plan.parts Z.opening w v.0 x.log log Z.recorded told.said act (acts.Plain (Ok tt)) told.told
+        (one_more x.plan.parts Z.opening w v.0 x.log log (AsksIn x p Z) (Asks x.plan Z.files Z.opening l x.conductor (left_of x p l Retune (set_as output + 1) Z)) Z.recorded told.said act (acts.Plain (Ok tt)) told.told
         (told.says (scene_of x.plan.parts Z.opening) (place_by output (joint_of x.plan l)) (told.named).part h (not output) P input) refl tt
-        (subst (λ (a : Result (Unit {0}) OmxError). SetParameter w h (definition_key index) (params.Port (planned y output l)) a v.0) L.0 v.2) tt (λ n. refl))
+        (subst (λ (a : Result (Unit {0}) OmxError). SetParameter w h (definition_key index) (params.Port (planned y output l)) a v.0) L.0 v.2) tt (λ n. refl)
+        (goes_next Retune (set_as output) p Y (act, acts.Plain (Ok tt)) refl
+        (let f = handle_is p Z output h H told.name told.named in
+        let k : ((the p Z).end (not output) l).port ≡ index = ap (λ (key : PortKey). key.port) (end_at output (joint_of x.plan l)) ∙ sym I in
+        set_next (the p Z) (handles_of Z.opening) output l ∙ (λ i. (acts.SetParameter (f i) (definition_key (k i)) (params.Port (planned y output l)), acts.Plain (Ok tt)) ∷ left_of x p l Retune (set_as output + 1) Z))))
         (λ k later q F V e. streams y k Z.recent later p q w v.0 l output h r W F V e b (O.of_link).late N s)
         (told_same Z.opening w v.0 Z.told (step_stays w W.sound act (acts.Plain r) v.0 tt tt v.2).streams)
 
@@ -185,8 +243,12 @@ module _ {S K : Type 0} (x : PlayingValue S K) (g : Shown S K Progress) (log : L
         act_made x g log l Retune 0 p Y v.0 (omega arith) v.1
         (still_none w act (acts.Plain r) v.0 W.sound tt s (λ n. refl) Z.works)
         (keeps_in x.graph.core g.core keeps Z.clients) L.1
-        (both_on x p Z (joint_of x.plan l).giver (joint_of x.plan l).taker output.handle input.handle G H v.0 (λ h k. acts.DropTunnel (port_at h (joint_of x.plan l).output) (port_at k (joint_of x.plan l).input)) (acts.Plain (Ok tt)) log told refl tt
-        (subst (λ (a : Result (Unit {0}) OmxError). DropTunnel w first second a v.0) L.0 s) tt (λ n. refl))
+        (both_on x p Z (joint_of x.plan l).giver (joint_of x.plan l).taker output.handle input.handle G H (Asks x.plan Z.files Z.opening l x.conductor (left_of x p l Retune (0 + 1) Z)) v.0 (λ h k. acts.DropTunnel (port_at h (joint_of x.plan l).output) (port_at k (joint_of x.plan l).input)) (acts.Plain (Ok tt)) log told refl tt
+        (subst (λ (a : Result (Unit {0}) OmxError). DropTunnel w first second a v.0) L.0 s) tt (λ n. refl)
+        (goes_next Retune 0 p Y (act, acts.Plain (Ok tt)) refl
+        (let f = handle_is p Z true output.handle G told.first told.named in
+        let m = handle_is p Z false input.handle H told.second told.beside in
+        λ i. (acts.DropTunnel (record { handle = f i; index = (joint_of x.plan l).output }) (record { handle = m i; index = (joint_of x.plan l).input }), acts.Plain (Ok tt)) ∷ left_of x p l Retune (0 + 1) Z)))
         (λ k later q F V e. streams y k Z.recent later p q w v.0 l output.handle input.handle r W F V e b M N s)
         (told_same Z.opening w v.0 Z.told (step_stays w W.sound act (acts.Plain r) v.0 tt tt s).streams)
 
@@ -208,8 +270,12 @@ module _ {S K : Type 0} (x : PlayingValue S K) (g : Shown S K Progress) (log : L
         act_made x g log l Retune 3 p Y v.0 (omega arith) v.1
         (still_none w act (acts.Joined r) v.0 W.sound tt s (λ n. refl) Z.works)
         (keeps_in x.graph.core g.core keeps Z.clients) L.1
-        (both_on x p Z (joint_of x.plan l).giver (joint_of x.plan l).taker output.handle input.handle G H v.0 (λ h k. acts.SetupTunnel (port_at h (joint_of x.plan l).output) (port_at k (joint_of x.plan l).input)) (acts.Joined (Ok suppliers.Input)) log told refl tt
-        (subst (λ (a : Result Supplier OmxError). SetupTunnel w first second a v.0) L.0 s) tt (λ n. refl))
+        (both_on x p Z (joint_of x.plan l).giver (joint_of x.plan l).taker output.handle input.handle G H (Asks x.plan Z.files Z.opening l x.conductor (left_of x p l Retune (3 + 1) Z)) v.0 (λ h k. acts.SetupTunnel (port_at h (joint_of x.plan l).output) (port_at k (joint_of x.plan l).input)) (acts.Joined (Ok suppliers.Input)) log told refl tt
+        (subst (λ (a : Result Supplier OmxError). SetupTunnel w first second a v.0) L.0 s) tt (λ n. refl)
+        (goes_next Retune 3 p Y (act, acts.Joined (Ok suppliers.Input)) refl
+        (let f = handle_is p Z true output.handle G told.first told.named in
+        let m = handle_is p Z false input.handle H told.second told.beside in
+        λ i. (acts.SetupTunnel (record { handle = f i; index = (joint_of x.plan l).output }) (record { handle = m i; index = (joint_of x.plan l).input }), acts.Joined (Ok suppliers.Input)) ∷ left_of x p l Retune (3 + 1) Z)))
         (λ k later q F V e. streams y k Z.recent later p q w v.0 l output.handle input.handle r W F V e b M N s)
         (told_same Z.opening w v.0 Z.told (step_stays w W.sound act (acts.Joined r) v.0 tt tt s).streams)
 

@@ -1,5 +1,5 @@
 -- What a call came to in the world of a play, and so what its turn leads to.
-use Rattle.std.proofs.Common.{Option, ◌≡◌, ℕ, Bool, true, false, Ok, Err, Result, refl, sym, ◌∙◌, subst}
+use Rattle.std.proofs.Common.{Option, ◌≡◌, ℕ, Bool, true, false, List, Ok, Err, Result, refl, sym, ◌∙◌, subst}
 use Rattle.il_machine.specs.declared.answer.Acted.{Acted}
 use Rattle.il_machine.specs.declared.answer.Acted.TheVariants.{Did, Idle}
 use Rattle.il_machine.specs.declared.answer.Progress.{Progress}
@@ -14,6 +14,7 @@ use Rattle.il_graph.specs.Shown.{KeepsAllFiles, Shown, file_of}
 use Rattle.il_graph.specs.Stood.{OnIdle}
 use Rattle.play_model.specs.Play.{Play}
 use Rattle.play_model.specs.Acts.{Act}
+use Rattle.il_machine.specs.Acts as machine
 use Rattle.play_loop.specs.Turns.{CanNone, SomePlay, Turned, TurnsOf}
 use Rattle.play_log.specs.Kept.{LogValue}
 use Rattle.late_turns.specs.Playing.{IsLateStanding}
@@ -22,7 +23,8 @@ use Rattle.late_turns.proofs.Playing.{turn_plays}
 use Rattle.late_turns.proofs.Turning.{turn_goes as late_turn_goes}
 use Rattle.play_openings.specs.Assemblies.{late_cast_of}
 use Rattle.play_graphs.specs.Graphs.{kept_of}
-use Rattle.play_run.specs.Playing.{AreClientsIn, HasParts, HaveNoWork, HasStreamsFrom, IsPlaying, IsStanding, LeadsOn, PlayingValue, ToldAlike, TurnsTo, FilesStay, unfailed, layout_of}
+use Rattle.play_run.specs.Asking.{Asks}
+use Rattle.play_run.specs.Playing.{AreClientsIn, AsksIn, HasParts, HaveNoWork, HasStreamsFrom, IsPlaying, IsStanding, LeadsOn, PlayingValue, ToldAlike, TurnsTo, FilesStay, unfailed, layout_of}
 use Rattle.play_run.specs.Recording.{IsRecorded}
 use Rattle.play_run.proofs.Streaming.{StreamsGo}
 
@@ -41,9 +43,10 @@ module _ {S K : Type 0} where
   has_parts x (p, Y) = parts_of x p Y.standing
 
   -- what is known of a standing play in which a turn led to that world
-  pub stands_then : (x : PlayingValue S K) (g : Shown S K Progress) (log : LogValue) (p q : Play) (recent : ℕ) (v : World) (Z : IsStanding x p) → Stands (kept_of g) v → HaveNoWork v → AreClientsIn g.core → IsLateStanding (late_cast_of x.plan) recent q v x.conductor
-      → IsRecorded x.plan.parts Z.opening v log → HasStreamsFrom (late_cast_of x.plan) Z.opening q v → ToldAlike Z.opening v → (Y : IsStanding (with_both x g log) q) × (Y.files ≡ Z.files)
-  stands_then x g log p q recent v Z st works clients L R F T = (
+  pub stands_then : (x : PlayingValue S K) (g : Shown S K Progress) (log : LogValue) (p q : Play) (recent : ℕ) (v : World) (Z : IsStanding x p) (left : List (machine.Act × machine.Reply)) → Stands (kept_of g) v → HaveNoWork v → AreClientsIn g.core → IsLateStanding (late_cast_of x.plan) recent q v x.conductor
+      → IsRecorded x.plan.parts Z.opening v log (Asks x.plan Z.files Z.opening recent x.conductor left) → HasStreamsFrom (late_cast_of x.plan) Z.opening q v → ToldAlike Z.opening v
+      → (Y : IsStanding (with_both x g log) q) × (Y.files ≡ Z.files) × (Y.left ≡ left) × (Y.opening ≡ Z.opening)
+  stands_then x g log p q recent v Z left st works clients L R F T = (
     record {
       world = v;
       stands = st;
@@ -55,10 +58,13 @@ module _ {S K : Type 0} where
       files = Z.files;
       opening = Z.opening;
       begins = Z.begins;
+      left = left;
       recorded = R;
       streams = F;
       told = T;
     },
+    refl,
+    refl,
     refl,
   )
 
@@ -70,7 +76,7 @@ module _ {S K : Type 0} where
       subst (λ (z : PlayingValue S K). (q : Play) × (Z : IsPlaying z q) × Turned (layout_of x.plan) p q false P × (Z.standing.files ≡ Y.standing.files)) is (p, Y, (refl, none), refl)
 
   pub turn_goes : (x : PlayingValue S K) (g : Shown S K Progress) (log : LogValue) (p : Play) (v : World) (did : Bool) (P : Act → Type 0) (Y : IsPlaying x p)
-      → Stands (kept_of g) v → HaveNoWork v → AreClientsIn g.core → (did ≡ false → g ≡ x.graph) → (did ≡ false → log ≡ x.log) → (did ≡ true → IsRecorded x.plan.parts Y.standing.opening v log)
+      → Stands (kept_of g) v → HaveNoWork v → AreClientsIn g.core → (did ≡ false → g ≡ x.graph) → (did ≡ false → log ≡ x.log) → (did ≡ true → IsRecorded x.plan.parts Y.standing.opening v log (AsksIn x p Y.standing))
       → (did ≡ true → StreamsGo (late_cast_of x.plan) p Y.standing.opening v) → (did ≡ true → ToldAlike Y.standing.opening v) → LateCame (late_cast_of x.plan) Y.standing.recent p v did P
       → (q : Play) × (Z : IsPlaying (with_both x g log) q) × Turned (layout_of x.plan) p q did P × (Z.standing.files ≡ Y.standing.files)
   turn_goes x g log p v true P Y st works clients same silent R F T C =
@@ -79,8 +85,8 @@ module _ {S K : Type 0} where
       let t = late_turn_goes y Z.recent p C.0 Z.world v (Z.late).play (Z.late).waiting C.2 C.3 C.4 in
       let U = t.1 in
       let L = turn_plays y Z.recent p t.0 Z.world v x.conductor (record { standing = Z.late; sent = Y.sent; carried = Y.carried }) U in
-      let S = stands_then x g log p t.0 Z.recent v Z st works clients L.standing (R refl) (F refl Z.recent t.0 U.play U.phase) (T refl) in
-      (t.0, record { standing = S.0; sent = L.sent; carried = L.carried }, (U.acted, U.rest), S.1)
+      let S = stands_then x g log p t.0 Z.recent v Z Z.left st works clients L.standing (R refl) (F refl Z.recent t.0 U.play U.phase) (T refl) in
+      (t.0, record { standing = S.0; whole = S.2 ∙ Y.whole; sent = L.sent; carried = L.carried }, (U.acted, U.rest), S.1)
   turn_goes x g log p v false P Y st works clients same silent R F T C = still x g log P p Y (same refl) (silent refl) C
 
   -- nothing was accepted

@@ -20,6 +20,7 @@ use Rattle.play_worlds.specs.Cast.{components_of}
 use Rattle.play_worlds.specs.Openings.{opening}
 use Rattle.play_forms.specs.Plans.{PlanValue}
 use Rattle.play_plans.specs.Casting.{place_of as place_of_turn}
+use Rattle.late_conductors.proofs.Standing.{none_answered}
 use Rattle.late_happenings.proofs.Happening.{none_due}
 use Rattle.late_turns.specs.Playing.{IsLatePlaying}
 use Rattle.late_plays.proofs.Beginning.{begins_playing as late_begins}
@@ -27,12 +28,15 @@ use Rattle.play_openings.specs.Assemblies.{IsReady, PlayFiles, late_cast_of}
 use Rattle.play_graphs.specs.Making.{AreOffered, IsMadeOf}
 use Rattle.play_log.specs.Logged.{Keeps}
 use Rattle.play_log.specs.Scenes.{Scene, scene_of}
+use Rattle.play_results.specs.Asked.{tuned}
+use Rattle.play_run.specs.Asking.{Asks, IsAsking, answered, handles_of}
 use Rattle.play_run.specs.Closing.{HasBegun}
-use Rattle.play_run.specs.Recording.{FreesNone, IsByPlayer, IsRecorded, IsWhole}
+use Rattle.play_run.specs.Recording.{FreesNone, IsByPlayer, IsPrinted, IsRecorded, IsWhole}
 use Rattle.play_graphs.specs.Graphs.{kept_of}
 use Rattle.play_run.specs.Playing.{HaveNoWork, IsPlaying, PlayingValue, cast, layout_of}
 use Rattle.play_run.specs.Opening.{IsOpeningGraph}
 use Rattle.play_run.proofs.Counting.{few_acts}
+use Rattle.play_run.proofs.Timely.{none_there}
 use Rattle.play_run.proofs.Streaming.{OpensOn}
 
 -- ---- the graph that was made
@@ -76,8 +80,25 @@ module _ {S K : Type 0} (x : PlayingValue S K) (files : PlayFiles) (O : IsOpenin
   no_works : HaveNoWork O.world
   no_works = from_places (λ (a : Component). a.work ≡ None) O.world.components (λ place a e. ap (λ (d : Component). d.work) ((O.begins).1.built.components.each place a e).fresh_else)
 
-  nothing_recorded : IsRecorded x.plan.parts O.world O.world x.log
-  nothing_recorded = record { history = []; runs = refl; alone = All-nil IsByPlayer; whole = All-nil IsWhole; stay = All-nil FreesNone; keeps = empty (scene_of x.plan.parts O.world) }
+  -- nothing is asked yet
+  nothing_asked : Asks x.plan files O.world 0 x.conductor [] []
+  nothing_asked = record {
+    changes = [];
+    are = record {
+      links = [];
+      rest = [];
+      begun = λ i l entry e L. (let z = none_answered entry.steps 0 (late.carried i l entry e L) (omega arith) in rw z refl);
+      only = λ l b. absurd (omega (arith, b));
+      parts = refl;
+      last = λ front l i entry e f L. absurd (none_there front [] l e);
+    };
+    early = λ b. refl;
+    asking = subst (λ (n : ℕ). IsAsking (tuned x.plan files) (handles_of O.world) (answered n []) [] []) (sym ((late.standing).conducting).sends)
+        (record { made = refl; timely = λ k one next before after step a b e t h. absurd (none_there before after step e); now = λ b. absurd (omega (arith, b)); last = λ b. absurd (omega (arith, b)) });
+  }
+
+  nothing_recorded : IsRecorded x.plan.parts O.world O.world x.log (Asks x.plan files O.world 0 x.conductor [])
+  nothing_recorded = record { history = []; runs = refl; alone = All-nil IsByPlayer; whole = All-nil IsWhole; stay = All-nil FreesNone; printed = All-nil IsPrinted; asks = nothing_asked; keeps = empty (scene_of x.plan.parts O.world) }
 
   begins_playing : (Y : IsPlaying x opening) × (Y.standing.files ≡ files) × (Y.standing.world ≡ O.world)
   begins_playing = (
@@ -93,10 +114,12 @@ module _ {S K : Type 0} (x : PlayingValue S K) (files : PlayFiles) (O : IsOpenin
         files = files;
         opening = O.world;
         begins = record { opens = O.begins; closed = closed O.world O.stands };
+        left = [];
         recorded = nothing_recorded;
         streams = opens 0 opening O.world (late.standing).play (omega arith);
         told = λ n t q. (t, q, refl);
       };
+      whole = refl;
       sent = late.sent;
       carried = late.carried;
     },

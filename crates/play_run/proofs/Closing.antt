@@ -17,6 +17,7 @@ use Rattle.play_run.specs.Closing.{HasBegun, HasPlayed, HasPlayedWith, KeepsLog}
 use Rattle.play_run.specs.Logging.{IsKeptTo}
 use Rattle.play_run.specs.Playing.{FilesStay, IsPlaying, IsStanding, LeadsOn, PlayingValue, layout_of}
 use Rattle.play_run.specs.Turning.{FailsOn, FileShows, FilesStayed, HasFailed, HasFailedWith}
+use Rattle.play_run.proofs.Asked.{all_asked}
 
 pub played_out : {S K : Type 0} (x : PlayingValue S K) (p : Play) (Z : IsStanding x p) → IsOver (layout_of x.plan) p → IsPlayedOut x.plan Z.world
 played_out x p Z over = plan_over x.plan Z.recent p Z.world Z.valid (Z.late).play over
@@ -33,6 +34,8 @@ module _ {S K : Type 0} (x : PlayingValue S K) where
         runs = R.runs;
         alone = R.alone;
         whole = R.whole;
+        conducted = all_asked x p Y over;
+        printed = R.printed;
         keeps = R.keeps;
         ends = played_out x p Z over;
       })

@@ -22,11 +22,11 @@ use Rattle.play_graphs.specs.Graphs.{IsHandleAt, kept_of}
 use Rattle.play_openings.specs.Assemblies.{late_cast_of}
 use Rattle.late_turns.specs.Turns.{IsRunOf, is_did}
 use Rattle.late_turns.proofs.Coming.{runs_come}
-use Rattle.play_run.specs.Playing.{IsPlaying, IsStanding, PlayingValue, TurnsTo, cast, layout_of}
+use Rattle.play_run.specs.Playing.{AsksIn, IsPlaying, IsStanding, PlayingValue, TurnsTo, cast, layout_of}
 use Rattle.play_run.specs.Recording.{IsRecorded, IsToldOf}
 use Rattle.play_graphs.proofs.Naming.{named_at}
 use Rattle.play_run.proofs.Working.{still_none}
-use Rattle.play_run.proofs.Recording.{goes_on}
+use Rattle.play_run.proofs.Recording.{own_on}
 use Rattle.il_graph.proofs.PartsStay.{step_stays}
 use Rattle.play_run.proofs.Streaming.{RunsOn, StreamsGo, streams_go}
 use Rattle.play_run.proofs.Files.{told_same}
@@ -56,8 +56,8 @@ module _ {S K : Type 0} where
       let W = (Z.late).play in
       let v = steps w Z.stands in
       let N = component_named_in x c place h e H p Z in
-      let R : is_did r ≡ true → IsRecorded x.plan.parts Z.opening v.0 log = λ t. goes_on x p Z place h H v.0 (λ k. acts.RunCommand k) (acts.Acted (Ok Did)) log (told t) refl tt
-      (subst (λ (a : Result Acted OmxError). RunCommand w h a v.0) (is_ok r t) v.2) tt (λ n. refl) in
+      let R : is_did r ≡ true → IsRecorded x.plan.parts Z.opening v.0 log (AsksIn x p Z) = λ t. own_on x p Y place h H v.0 (λ k. acts.RunCommand k) (acts.Acted (Ok Did)) log (told t) refl tt
+      (subst (λ (a : Result Acted OmxError). RunCommand w h a v.0) (is_ok r t) v.2) tt (λ n. refl) refl in
       let F : StreamsGo y p Z.opening v.0 = streams_go y p Z.opening w v.0 Z.streams (streams Z.recent p w v.0 W b N v.2) in
       turn_goes x g log p v.0 (is_did r) (IsRunOf (layout_of x.plan) c) Y v.1
       (still_none w (acts.RunCommand h) (acts.Acted r) v.0 W.sound tt v.2 (λ n. refl) Z.works)

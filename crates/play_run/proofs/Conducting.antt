@@ -1,9 +1,10 @@
 -- The conductor hears what the components told, and what it answers is done.
-use Rattle.std.proofs.Common.{◌≡◌, ◌≢◌, ◌+◌, ◌<◌, ◌≤◌, ℕ, true, false, nat_eq, ◌==◌, ◌&&◌, List, ◌∷◌, length, set, take, Option, Some, refl, sym, ◌∙◌, ap, subst, eqb-true, eq-eqb, arith}
+use Rattle.std.proofs.Common.{◌≡◌, ◌≢◌, ◌+◌, ◌<◌, ◌≤◌, ℕ, suc, true, false, nat_eq, ◌==◌, ◌&&◌, List, [], ◌∷◌, length, map, set, take, Option, Some, refl, sym, ◌∙◌, ap, subst, eqb-true, eq-eqb, arith}
 use Rattle.std.proofs.lemmas.List.{length-take-le}
 use Rattle.omx_types.specs.declared.state.State.{State}
 use Rattle.omx_types.specs.declared.state.State.TheVariants.{Executing, Loaded}
 use Rattle.il_machine.specs.declared.answer.Progress.{Progress}
+use Rattle.il_machine.specs.Acts as machine
 use Rattle.il_machine.specs.World.{World}
 use Rattle.il_machine.specs.Due.{IsClosed}
 use Rattle.il_machine.specs.Whole.{Always}
@@ -19,6 +20,7 @@ use Rattle.play_model.specs.Play.{Play}
 use Rattle.play_model.specs.Acts.{Act, CanAct, acted}
 use Rattle.play_loop.specs.Turns.{CanNone, IsAtRest, IsSend, SomePlay, Turned}
 use Rattle.play_worlds.specs.Cast.{script_place}
+use Rattle.play_worlds.specs.Standing.{target}
 use Rattle.play_worlds.proofs.Lists.{get_there}
 use Rattle.stream_plan.proofs.Lists.{set_at, set_other, slice_get_front}
 use Rattle.play_plans.specs.Conducting.{HasViews}
@@ -33,11 +35,18 @@ use Rattle.late_turns.specs.Playing.{AreSent, IsLatePlaying, IsLateStanding}
 use Rattle.late_turns.proofs.Playing.{playing_begins, playing_hears, playing_waits}
 use Rattle.play_openings.specs.Assemblies.{late_cast_of}
 use Rattle.play_graphs.specs.Graphs.{kept_of}
+use Rattle.play_log.specs.Entries.{steps_of}
+use Rattle.play_results.specs.Asked.{acts_of as asked_acts, sending, tuned}
+use Rattle.play_run.specs.Asking.{Asks, asking_of, handles_of}
 use Rattle.play_run.specs.Changing.{CanChangeFrom, ChangedFrom, IsChanging, IsSourceOf}
-use Rattle.play_run.specs.Playing.{HasStreamsFrom, IsPlaying, IsProgressAt, IsStanding, PlayingValue, TurnsTo, cast, layout_of}
+use Rattle.play_run.specs.Playing.{AsksIn, HasStreamsFrom, IsPlaying, IsProgressAt, IsStanding, PlayingValue, TurnsTo, cast, layout_of}
 use Rattle.play_run.specs.Sending.{AreViews, CanSend, IsSending, SentOf}
 use Rattle.play_run.proofs.Hearing.{client_there, heard_is}
+use Rattle.play_run.proofs.Asking.{heard_asks, state_begins}
+use Rattle.play_run.proofs.Changes.{change_begins}
 use Rattle.play_run.proofs.Onward.{recent_now}
+use Rattle.play_run.proofs.Recording.{with_asks}
+use Rattle.play_run.proofs.Timing.{begin_in_time}
 
 -- what the begin of a state leaves of the streams, as the law of begun streams has it
 abbrev pub BegunStreams : Type 0
@@ -77,10 +86,11 @@ module _ {S K : Type 0} where
   abbrev pub with_conductor : PlayingValue S K → ConductorValue → PlayingValue S K
   with_conductor x value = record x { conductor = value }
 
-  -- the graph stands for the play with what the conductor knows then
-  conducted : (x : PlayingValue S K) (p q : Play) (recent : ℕ) (value : ConductorValue) (Z : IsStanding x p) → IsLateStanding (late_cast_of x.plan) recent q Z.world value → HasStreamsFrom (late_cast_of x.plan) Z.opening q Z.world
-      → (Y : IsStanding (with_conductor x value) q) × (Y.files ≡ Z.files) × (Y.recent ≡ recent)
-  conducted x p q recent value Z L F = (
+  -- the graph stands for the play with what the conductor knows then, of which this is left to be asked
+  conducted : (x : PlayingValue S K) (p q : Play) (recent : ℕ) (value : ConductorValue) (left : List (machine.Act × machine.Reply)) (Z : IsStanding x p) → IsLateStanding (late_cast_of x.plan) recent q Z.world value
+      → HasStreamsFrom (late_cast_of x.plan) Z.opening q Z.world → Asks x.plan Z.files Z.opening recent value left (steps_of (Z.recorded).history)
+      → (Y : IsStanding (with_conductor x value) q) × (Y.files ≡ Z.files) × (Y.recent ≡ recent) × (Y.left ≡ left) × (Y.opening ≡ Z.opening)
+  conducted x p q recent value left Z L F A = (
     record {
       world = Z.world;
       stands = Z.stands;
@@ -92,10 +102,13 @@ module _ {S K : Type 0} where
       files = Z.files;
       opening = Z.opening;
       begins = Z.begins;
-      recorded = Z.recorded;
+      left = left;
+      recorded = with_asks x.plan.parts Z.opening Z.world x.log (AsksIn x p Z) (Asks x.plan Z.files Z.opening recent value left) Z.recorded A;
       streams = F;
       told = Z.told;
     },
+    refl,
+    refl,
     refl,
     refl,
   )
@@ -116,8 +129,9 @@ module _ {S K : Type 0} where
     still p Y e none =
         let Z = Y.standing in
         let L = subst (λ (v : ConductorValue). IsLatePlaying (late_cast_of x.plan) Z.recent p Z.world v) (sym e) (heard_now p Y).1 in
-        let A = conducted x p p Z.recent next Z L.standing Z.streams in
-        (p, record { standing = A.0; sent = L.sent; carried = L.carried }, (refl, none), A.1)
+        let asks = subst (λ (v : ConductorValue). Asks x.plan Z.files Z.opening Z.recent v Z.left (steps_of (Z.recorded).history)) (sym e) (heard_asks x.plan Z.files Z.opening Z.recent x.conductor views Z.left (steps_of (Z.recorded).history) (Z.recorded).asks) in
+        let A = conducted x p p Z.recent next Z.left Z L.standing Z.streams asks in
+        (p, record { standing = A.0; whole = A.3 ∙ Y.whole; sent = L.sent; carried = L.carried }, (refl, none), A.1)
 
     pub wait_turns : Conducts value phases.Wait next → TurnsTo x (with_conductor x next) false IsSend
     wait_turns H = λ p Y.
@@ -165,6 +179,13 @@ module _ {S K : Type 0} where
         let Z = Y.standing in
         conductor_whole (late_cast_of x.plan) Z.recent p Z.world (Z.late).play value (heard_now p Y).0 next H
 
+    -- what was asked, of what it has heard; nothing of it is left
+    asked_now : (p : Play) (Y : IsPlaying x p) → Asks x.plan Y.standing.files Y.standing.opening Y.standing.recent value [] (steps_of (Y.standing.recorded).history)
+    asked_now p Y =
+        let Z = Y.standing in
+        subst (λ (left : List (machine.Act × machine.Reply)). Asks x.plan Z.files Z.opening Z.recent value left (steps_of (Z.recorded).history)) Y.whole
+        (heard_asks x.plan Z.files Z.opening Z.recent x.conductor views Z.left (steps_of (Z.recorded).history) (Z.recorded).asks)
+
     -- ---- a state is begun
 
     module _ (state : State) (H : Conducts value (phases.Send state) next) (streams : BegunStreams) where
@@ -179,12 +200,19 @@ module _ {S K : Type 0} where
           let Z = Y.standing in
           let V = heard_now p Y in
           let c = playing_begins y Z.recent p Z.world value next state V.1 V.0 H in
-          let A = conducted x p (acted (layout_of x.plan) Act.Begin p) Z.recent next Z c.2 (λ k C E. streams y k Z.recent p Z.world (Z.late).play c.0 (Z.streams k C E)) in
+          let sends : value.sends ≡ p.phase = (V.0).conducting.sends in
+          let begun = state_begins x.plan Z.files Z.opening Z.recent value (steps_of (Z.recorded).history) (asked_now p Y) (let m = (c.0).more in omega (arith, m, sends)) (begin_in_time x p Y value (asked_now p Y) V.0 c.0) in
+          let step : suc p.phase ≡ p.phase + 1 = omega arith in
+          let is : target (suc value.sends) ≡ state = ap (λ (n : ℕ). target (suc n)) sends ∙ (ap target step ∙ sym c.1) in
+          let asks = subst (λ (v : ConductorValue). Asks x.plan Z.files Z.opening Z.recent v (map (sending state) (handles_of Z.opening)) (steps_of (Z.recorded).history)) (sym H.2)
+          (subst (λ (a : State). Asks x.plan Z.files Z.opening Z.recent (record value { sends = value.sends + 1 }) (map (sending a) (handles_of Z.opening)) (steps_of (Z.recorded).history)) is begun) in
+          let A = conducted x p (acted (layout_of x.plan) Act.Begin p) Z.recent next (map (sending state) (handles_of Z.opening)) Z c.2 (λ k C E. streams y k Z.recent p Z.world (Z.late).play c.0 (Z.streams k C E)) asks in
           record {
             can = c.0;
             sending = record {
               standing = A.0;
               state_is = c.1;
+              left = A.3 ∙ ap (λ (o : World). map (sending state) (handles_of o)) (sym A.4);
               sent = record { later = λ j d l. refl; before = λ j d l. absurd (omega arith) };
               carried = c.3;
             };
@@ -226,7 +254,9 @@ module _ {S K : Type 0} where
           let c = conductor_changes y Z.recent p Z.world W value (heard_now p Y).0 next component step H in
           let l : ℕ = c.0 in
           let D : IsChangeOf y.cast p component step next l = c.1 in
-          let A = conducted x p p l next Z (record { play = recent_now y Z.recent p Z.world l W D.can; waiting = (Z.late).waiting; conducting = D.conducting }) Z.streams in
+          let left = asked_acts (tuned x.plan Z.files) (handles_of Z.opening) (asking_of step l) in
+          let asks = change_begins x p Y value next component l step (asked_now p Y) (heard_now p Y).0 H D in
+          let A = conducted x p p l next left Z (record { play = recent_now y Z.recent p Z.world l W D.can; waiting = (Z.late).waiting; conducting = D.conducting }) Z.streams asks in
           let e = D.from in
           record {
             link = l;
@@ -234,6 +264,7 @@ module _ {S K : Type 0} where
             changing = record {
               standing = A.0;
               recent = A.2;
+              left = A.3 ∙ (λ i. asked_acts (tuned x.plan (sym A.1 i)) (handles_of (sym A.4 i)) (asking_of step l));
               sent = Y.sent;
               on = record {
                 gone = omega (arith, e);

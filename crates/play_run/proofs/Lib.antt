@@ -1,6 +1,9 @@
 mod Acting
 mod Answering
+mod Asked
+mod Asking
 mod Beginning
+mod Changes
 mod Closing
 mod Commanding
 mod Conducting
@@ -8,6 +11,7 @@ mod Counting
 mod Ending
 mod Ends
 mod Files
+mod Heard
 mod Hearing
 mod Linking
 mod Logs
@@ -19,5 +23,7 @@ mod Stages
 mod Stepping
 mod Streaming
 mod Telling
+mod Timely
+mod Timing
 mod Working
 pub mod Halting

@@ -28,11 +28,11 @@ use Rattle.play_plans.specs.Casting.{IsLinkCast, flow_of, joint_of, no_joint}
 use Rattle.play_plans.proofs.Casts.{plan_has_cast}
 use Rattle.play_openings.specs.Assemblies.{late_cast_of}
 use Rattle.play_graphs.specs.Graphs.{IsHandleAt, kept_of}
-use Rattle.play_run.specs.Playing.{IsStanding, PlayingValue, TurnsTo, cast}
+use Rattle.play_run.specs.Playing.{AsksIn, IsStanding, PlayingValue, TurnsTo, cast}
 use Rattle.play_run.specs.Recording.{IsRecorded, IsToldOf}
 use Rattle.play_graphs.proofs.Naming.{named_at}
 use Rattle.play_run.proofs.Working.{still_none}
-use Rattle.play_run.proofs.Recording.{goes_on}
+use Rattle.play_run.proofs.Recording.{own_on}
 use Rattle.il_graph.proofs.PartsStay.{step_stays}
 use Rattle.play_run.proofs.Streaming.{BacksOn, OversOn, ReleasesOn, StreamsGo, SuppliesOn, streams_go}
 use Rattle.play_run.proofs.Files.{told_same}
@@ -66,8 +66,8 @@ module _ {S K : Type 0} (x : PlayingValue S K) (g : Shown S K Progress) (l : ℕ
         let W = (Z.late).play in
         let v = steps w Z.stands in
         let N = taker_named H p Z in
-        let R : is_did r ≡ true → IsRecorded x.plan.parts Z.opening v.0 log = λ t. goes_on x p Z (joint_of x.plan l).taker h H v.0 (λ k. acts.Supply k (joint_of x.plan l).input) (acts.Supplied (Ok Did)) log (told t) refl tt
-        (subst (λ (a : Result Acted CallError). Supply w h (joint_of x.plan l).input a v.0) (is_ok r t) v.2) tt (λ n. refl) in
+        let R : is_did r ≡ true → IsRecorded x.plan.parts Z.opening v.0 log (AsksIn x p Z) = λ t. own_on x p Y (joint_of x.plan l).taker h H v.0 (λ k. acts.Supply k (joint_of x.plan l).input) (acts.Supplied (Ok Did)) log (told t) refl tt
+        (subst (λ (a : Result Acted CallError). Supply w h (joint_of x.plan l).input a v.0) (is_ok r t) v.2) tt (λ n. refl) refl in
         let F : StreamsGo y p Z.opening v.0 = streams_go y p Z.opening w v.0 Z.streams (streams Z.recent p w v.0 W b N v.2) in
         turn_goes x g log p v.0 (is_did r) (IsAct (Act.Supply l)) Y v.1
         (still_none w (acts.Supply h (joint_of x.plan l).input) (acts.Supplied r) v.0 W.sound tt v.2 (λ n. refl) Z.works)
@@ -83,8 +83,8 @@ module _ {S K : Type 0} (x : PlayingValue S K) (g : Shown S K Progress) (l : ℕ
         let W = (Z.late).play in
         let v = steps w Z.stands in
         let N = taker_named H p Z in
-        let R : is_did r ≡ true → IsRecorded x.plan.parts Z.opening v.0 log = λ t. goes_on x p Z (joint_of x.plan l).taker h H v.0 (λ k. acts.Release k (joint_of x.plan l).input) (acts.Acted (Ok Did)) log (told t) refl tt
-        (subst (λ (a : Result Acted OmxError). Release w h (joint_of x.plan l).input a v.0) (is_ok r t) v.2) tt (λ n. refl) in
+        let R : is_did r ≡ true → IsRecorded x.plan.parts Z.opening v.0 log (AsksIn x p Z) = λ t. own_on x p Y (joint_of x.plan l).taker h H v.0 (λ k. acts.Release k (joint_of x.plan l).input) (acts.Acted (Ok Did)) log (told t) refl tt
+        (subst (λ (a : Result Acted OmxError). Release w h (joint_of x.plan l).input a v.0) (is_ok r t) v.2) tt (λ n. refl) refl in
         let F : StreamsGo y p Z.opening v.0 = streams_go y p Z.opening w v.0 Z.streams (streams Z.recent p w v.0 W b N v.2) in
         turn_goes x g log p v.0 (is_did r) (IsAct (Act.Release l)) Y v.1
         (still_none w (acts.Release h (joint_of x.plan l).input) (acts.Acted r) v.0 W.sound tt v.2 (λ n. refl) Z.works)
@@ -100,8 +100,8 @@ module _ {S K : Type 0} (x : PlayingValue S K) (g : Shown S K Progress) (l : ℕ
         let W = (Z.late).play in
         let v = steps w Z.stands in
         let N = taker_named H p Z in
-        let R : is_did r ≡ true → IsRecorded x.plan.parts Z.opening v.0 log = λ t. goes_on x p Z (joint_of x.plan l).taker h H v.0 (λ k. acts.HandOver k (joint_of x.plan l).input) (acts.Acted (Ok Did)) log (told t) refl tt
-        (subst (λ (a : Result Acted OmxError). HandOver w h (joint_of x.plan l).input a v.0) (is_ok r t) v.2) tt (λ n. refl) in
+        let R : is_did r ≡ true → IsRecorded x.plan.parts Z.opening v.0 log (AsksIn x p Z) = λ t. own_on x p Y (joint_of x.plan l).taker h H v.0 (λ k. acts.HandOver k (joint_of x.plan l).input) (acts.Acted (Ok Did)) log (told t) refl tt
+        (subst (λ (a : Result Acted OmxError). HandOver w h (joint_of x.plan l).input a v.0) (is_ok r t) v.2) tt (λ n. refl) refl in
         let F : StreamsGo y p Z.opening v.0 = streams_go y p Z.opening w v.0 Z.streams (streams Z.recent p w v.0 W b N v.2) in
         turn_goes x g log p v.0 (is_did r) (IsAct (Act.HandOver l)) Y v.1
         (still_none w (acts.HandOver h (joint_of x.plan l).input) (acts.Acted r) v.0 W.sound tt v.2 (λ n. refl) Z.works)
@@ -117,8 +117,8 @@ module _ {S K : Type 0} (x : PlayingValue S K) (g : Shown S K Progress) (l : ℕ
         let W = (Z.late).play in
         let v = steps w Z.stands in
         let N = giver_named H p Z in
-        let R : is_did r ≡ true → IsRecorded x.plan.parts Z.opening v.0 log = λ t. goes_on x p Z (joint_of x.plan l).giver h H v.0 (λ k. acts.HandBack k (joint_of x.plan l).output) (acts.Acted (Ok Did)) log (told t) refl tt
-        (subst (λ (a : Result Acted OmxError). HandBack w h (joint_of x.plan l).output a v.0) (is_ok r t) v.2) tt (λ n. refl) in
+        let R : is_did r ≡ true → IsRecorded x.plan.parts Z.opening v.0 log (AsksIn x p Z) = λ t. own_on x p Y (joint_of x.plan l).giver h H v.0 (λ k. acts.HandBack k (joint_of x.plan l).output) (acts.Acted (Ok Did)) log (told t) refl tt
+        (subst (λ (a : Result Acted OmxError). HandBack w h (joint_of x.plan l).output a v.0) (is_ok r t) v.2) tt (λ n. refl) refl in
         let F : StreamsGo y p Z.opening v.0 = streams_go y p Z.opening w v.0 Z.streams (streams Z.recent p w v.0 W b N v.2) in
         turn_goes x g log p v.0 (is_did r) (IsBackOf l) Y v.1
         (still_none w (acts.HandBack h (joint_of x.plan l).output) (acts.Acted r) v.0 W.sound tt v.2 (λ n. refl) Z.works)

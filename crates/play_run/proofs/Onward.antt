@@ -1,6 +1,8 @@
 -- A step of a link's change goes on by one act of the conductor, and steps on a link are made one behind another.
-use Rattle.std.proofs.Common.{◌≡◌, inl, inr, ◌+◌, ◌<◌, ◌≤◌, ℕ, true, List, length, slice_get, refl, sym, ◌∙◌, ap, subst, arith}
+use Rattle.std.proofs.Common.{◌≡◌, inl, inr, ◌+◌, ◌<◌, ◌≤◌, ℕ, true, List, [], drop, length, slice_get, refl, sym, ◌∙◌, ap, subst, arith}
+use Rattle.omx_types.specs.declared.handle.Handle.{Handle}
 use Rattle.il_machine.specs.declared.answer.Progress.{Progress}
+use Rattle.il_machine.specs.Acts as machine
 use Rattle.il_machine.specs.World.{Component, World}
 use Rattle.il_machine.specs.Whole.{Stands}
 use Rattle.il_graph.specs.Shown.{Shown}
@@ -27,7 +29,10 @@ use Rattle.late_turns.proofs.Playing.{change_stands}
 use Rattle.late_turns.proofs.Turning.{change_goes}
 use Rattle.play_openings.specs.Assemblies.{late_cast_of}
 use Rattle.play_graphs.specs.Graphs.{kept_of}
-use Rattle.play_run.specs.Playing.{AreClientsIn, HasParts, HaveNoWork, IsPlaying, PlayingValue, ToldAlike, cast, layout_of}
+use Rattle.assembling.specs.Assembly.{Assembly}
+use Rattle.play_results.specs.Asked.{acts_of as asked_acts, tuned}
+use Rattle.play_run.specs.Asking.{Asks, asking_of, handles_of}
+use Rattle.play_run.specs.Playing.{AreClientsIn, HasParts, HaveNoWork, IsPlaying, IsStanding, PlayingValue, ToldAlike, cast, layout_of}
 use Rattle.play_run.specs.Recording.{IsRecorded}
 use Rattle.play_run.specs.Changing.{CanChange, CanChangeFrom, ChangedFrom, ChangesTo, IsChanging, IsLinkFrom, IsOnStep, IsSourceOf, acts_of}
 use Rattle.play_run.proofs.Answering.{parts_of, with_both}
@@ -41,6 +46,11 @@ pub all_acts : (step : ChangeStep) → step_from step + acts_of step ≡ step_to
 all_acts Disable = refl
 all_acts Retune = refl
 all_acts Enable = refl
+
+all_made : (s : Assembly) (handles : List Handle) (step : ChangeStep) (l : ℕ) → drop (acts_of step) (asked_acts s handles (asking_of step l)) ≡ []
+all_made s handles Disable l = refl
+all_made s handles Retune l = refl
+all_made s handles Enable l = refl
 
 -- behind the first act of a step nothing else is asked
 can_later : (w : Layout) (q : Play) (l : ℕ) (step : ChangeStep) (n : ℕ) → l < (w.network).links → w.is_late l ≡ true → (q.change l).step ≡ step_from step + (n + 1) → n + 1 < acts_of step → CanAct w q (Act.Conduct l)
@@ -124,10 +134,14 @@ recent_now x recent p w l W C =
 -- ---- a play in which a step is made
 
 module _ {S K : Type 0} where
+  -- what is left to be asked of the step once so many of its acts are made
+  abbrev pub left_of : (x : PlayingValue S K) (p : Play) (l : ℕ) (step : ChangeStep) (made : ℕ) → IsStanding x p → List (machine.Act × machine.Reply)
+  left_of x p l step made Z = drop made (asked_acts (tuned x.plan Z.files) (handles_of Z.opening) (asking_of step l))
+
   -- one act more is made, with its close-out
   pub act_made : (x : PlayingValue S K) (g : Shown S K Progress) (log : LogValue) (l : ℕ) (step : ChangeStep) (n : ℕ) (p : Play) (Y : IsChanging x p l step n) (v : World) → n < acts_of step
       → Stands (kept_of g) v → HaveNoWork v → AreClientsIn g.core → LateLeadsTo (late_cast_of x.plan) l (acted (layout_of x.plan) (Act.Conduct l) p) v
-      → IsRecorded x.plan.parts Y.standing.opening v log → StreamsOn (late_cast_of x.plan) p Y.standing.world v → ToldAlike Y.standing.opening v
+      → IsRecorded x.plan.parts Y.standing.opening v log (Asks x.plan Y.standing.files Y.standing.opening l x.conductor (left_of x p l step (n + 1) Y.standing)) → StreamsOn (late_cast_of x.plan) p Y.standing.world v → ToldAlike Y.standing.opening v
       → (q : Play) × (Z : IsChanging (with_both x g log) q l step (n + 1)) × HasActed (layout_of x.plan) p q × IsAtRest (layout_of x.plan) q × (Z.standing.files ≡ Y.standing.files)
   act_made x g log l step n p Y v m st works clients L R F T =
       let y = late_cast_of x.plan in
@@ -155,11 +169,13 @@ module _ {S K : Type 0} where
             files = Z.files;
             opening = Z.opening;
             begins = Z.begins;
+            left = left_of x p l step (n + 1) Z;
             recorded = R;
             streams = streams_go y p Z.opening Z.world v Z.streams F l q U.play U.phase;
             told = T;
           };
           recent = refl;
+          left = refl;
           sent = λ c d. U.sent c (Y.sent c d);
           on = on_goes y.cast p q (x.conductor).lates l step n O U.on;
         },
@@ -185,7 +201,7 @@ module _ {S K : Type 0} where
   step_plays : (x : PlayingValue S K) (q : Play) (l : ℕ) (step : ChangeStep) (Y : IsChanging x q l step (acts_of step)) → (Z : IsPlaying x q) × (Z.standing.files ≡ Y.standing.files)
   step_plays x q l step Y =
       let O = Y.on in
-      (record { standing = Y.standing; sent = Y.sent; carried = O.carried q (O.gone ∙ all_acts step) (λ k n. refl) }, refl)
+      (record { standing = Y.standing; whole = Y.left ∙ all_made (tuned x.plan Y.standing.files) (handles_of Y.standing.opening) step l; sent = Y.sent; carried = O.carried q (O.gone ∙ all_acts step) (λ k n. refl) }, refl)
 
   -- ---- the link of a late source
 

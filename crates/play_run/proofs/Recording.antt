@@ -1,5 +1,5 @@
 -- The log is told of an act, and the run goes on by it.
-use Rattle.std.proofs.Common.{◌≡◌, ℕ, false, ◌<◌, List, [], ◌∷◌, ◌++◌, length, map, slice_get, All, Some, option_map, refl, sym, ◌∙◌, ap, subst, arith}
+use Rattle.std.proofs.Common.{◌≡◌, ℕ, Bool, true, false, not, ◌<◌, List, [], ◌∷◌, ◌++◌, length, map, slice_get, All, Some, option_map, refl, sym, ◌∙◌, ap, subst, arith}
 use Rattle.std.proofs.lemmas.List.{map-append}
 use Rattle.std.proofs.lemmas.List.Elements.{All-push, All-head, All-tail}
 use Rattle.std.proofs.lemmas.Option.{slice_get_within}
@@ -32,14 +32,18 @@ use Rattle.late_worlds.specs.Late.{IsLateWorld, LateCast}
 use Rattle.play_worlds.proofs.Lists.{get_there}
 use Rattle.play_graphs.specs.Graphs.{IsHandleAt}
 use Rattle.play_graphs.proofs.Naming.{at_handle}
-use Rattle.play_run.specs.Playing.{IsStanding, PlayingValue}
-use Rattle.play_run.specs.Recording.{FreesNone, IsBeginning, IsByPlayer, IsNameAt, IsRecorded, IsTold, IsToldOf, IsToldOfBoth, IsWhole}
+use Rattle.play_results.specs.Asked.{is_unasked, tuned}
+use Rattle.play_run.specs.Asking.{IsAsking, answered, handles_of}
+use Rattle.play_run.specs.Playing.{AsksIn, IsPlaying, IsStanding, PlayingValue}
+use Rattle.play_run.specs.Recording.{FreesNone, IsBeginning, IsByPlayer, IsNameAt, IsPrinted, IsRecorded, IsTold, IsToldOf, IsToldOfBoth, IsWhole}
+use Rattle.play_run.proofs.Timely.{asking_rests}
 
 -- ---- one entry more
 
-module _ (parts : List PartLine) (opening w v : World) (old new : LogValue) (R : IsRecorded parts opening w old) (said : ActText) (a : Act) (r : Reply) where
-  pub one_more : IsTold old said new → Says (scene_of parts opening) (line_by said) (entry_by a r) → is_unprinted r ≡ false → Meets w a → Step w a r v → IsUnbroken a → ((n : ℕ) → is_freed_by n a r ≡ false) → IsRecorded parts opening v new
-  one_more told says printed met step whole stay =
+module _ (parts : List PartLine) (opening w v : World) (old new : LogValue) (Asks Next : List (Act × Reply) → Type 0) (R : IsRecorded parts opening w old Asks) (said : ActText) (a : Act) (r : Reply) where
+  pub one_more : IsTold old said new → Says (scene_of parts opening) (line_by said) (entry_by a r) → is_unprinted r ≡ false → Meets w a → Step w a r v → IsUnbroken a → ((n : ℕ) → is_freed_by n a r ≡ false)
+      → ((xs : List (Act × Reply)) → Asks xs → Next (xs ++ (a, r) ∷ [])) → IsRecorded parts opening v new Next
+  one_more told says printed met step whole stay next =
       let entry : Entry = entry_by a r in
       record {
         history = R.history ++ entry ∷ [];
@@ -47,8 +51,15 @@ module _ (parts : List PartLine) (opening w v : World) (old new : LogValue) (R :
         alone = All-push IsByPlayer R.history entry R.alone refl;
         whole = All-push IsWhole R.history entry R.whole whole;
         stay = All-push FreesNone R.history entry R.stay stay;
+        printed = All-push IsPrinted R.history entry R.printed printed;
+        asks = subst Next (sym (map-append step_of R.history (entry ∷ []))) (next (steps_of R.history) R.asks);
         keeps = told (scene_of parts opening) R.history entry R.keeps says printed;
       }
+
+-- of the same entries something else holds
+pub with_asks : (parts : List PartLine) (opening w : World) (log : LogValue) (Asks Next : List (Act × Reply) → Type 0) (R : IsRecorded parts opening w log Asks) → Next (steps_of R.history) → IsRecorded parts opening w log Next
+with_asks parts opening w log Asks Next R next =
+    record { history = R.history; runs = R.runs; alone = R.alone; whole = R.whole; stay = R.stay; printed = R.printed; asks = next; keeps = R.keeps }
 
 -- ---- the components keep their handles
 
@@ -70,7 +81,7 @@ number_at x recent p w W i a e =
 same_there : (cs : List Component) (i j : ℕ) (c d : Component) → slice_get cs i ≡ Some c → slice_get cs j ≡ Some d → j ≡ i → d ≡ c
 same_there cs i j c d e f s = let g : Some d ≡ Some c = sym f ∙ (ap (slice_get cs) s ∙ e) in cc
 
-module _ (plan : PlanValue) (files : PlayFiles) (opening w : World) (log : LogValue) (B : IsBeginning plan files opening) (R : IsRecorded plan.parts opening w log) (number : (i : ℕ) (a : Component) → slice_get w.components i ≡ Some a → number_of a ≡ i) where
+module _ (plan : PlanValue) (files : PlayFiles) (opening w : World) (log : LogValue) (Asks : List (Act × Reply) → Type 0) (B : IsBeginning plan files opening) (R : IsRecorded plan.parts opening w log Asks) (number : (i : ℕ) (a : Component) → slice_get w.components i ≡ Some a → number_of a ≡ i) where
   -- the handle at a place is that of the opening
   handle_from : (place : ℕ) (h : Handle) → place < length plan.parts → handle_at place (look w) ≡ Some h → slice_get (map (λ (c : Component). c.handle) opening.components) place ≡ Some h
   handle_from place h b e =
@@ -93,22 +104,43 @@ module _ {S K : Type 0} (x : PlayingValue S K) (p : _) (Z : IsStanding x p) (pla
   is_player name N = record {
     line = N.line;
     named = N.named;
-    handle = handle_from x.plan Z.files Z.opening Z.world x.log Z.begins Z.recorded (number_at (late_cast_of x.plan) Z.recent p Z.world (Z.late).play) place h (slice_get_within x.plan.parts place N.part N.line) (H Z.world Z.stands);
+    handle = handle_from x.plan Z.files Z.opening Z.world x.log (AsksIn x p Z) Z.begins Z.recorded (number_at (late_cast_of x.plan) Z.recent p Z.world (Z.late).play) place h (slice_get_within x.plan.parts place N.part N.line) (H Z.world Z.stands);
   }
 
   -- an act of that component
-  pub goes_on : (v : World) (act : Handle → Act) (reply : Reply) (log : LogValue) → IsToldOf x.plan.parts place x.log act reply log → is_unprinted reply ≡ false → Meets Z.world (act h) → Step Z.world (act h) reply v → IsUnbroken (act h)
-      → ((n : ℕ) → is_freed_by n (act h) reply ≡ false) → IsRecorded x.plan.parts Z.opening v log
-  goes_on v act reply log T printed met step whole stay =
-      one_more x.plan.parts Z.opening Z.world v x.log log Z.recorded T.said (act h) reply T.told (T.says (scene_of x.plan.parts Z.opening) place (T.named).part h (is_player T.name T.named)) printed met step whole stay
+  pub goes_on : (Next : List (Act × Reply) → Type 0) (v : World) (act : Handle → Act) (reply : Reply) (log : LogValue) → IsToldOf x.plan.parts place x.log act reply log → is_unprinted reply ≡ false → Meets Z.world (act h) → Step Z.world (act h) reply v → IsUnbroken (act h)
+      → ((n : ℕ) → is_freed_by n (act h) reply ≡ false) → ((xs : List (Act × Reply)) → AsksIn x p Z xs → Next (xs ++ (act h, reply) ∷ [])) → IsRecorded x.plan.parts Z.opening v log Next
+  goes_on Next v act reply log T printed met step whole stay next =
+      one_more x.plan.parts Z.opening Z.world v x.log log (AsksIn x p Z) Next Z.recorded T.said (act h) reply T.told (T.says (scene_of x.plan.parts Z.opening) place (T.named).part h (is_player T.name T.named)) printed met step whole stay next
 
 -- an act of two components
 module _ {S K : Type 0} (x : PlayingValue S K) (p : _) (Z : IsStanding x p) (place other : ℕ) (h k : Handle) (H : IsHandleAt x.graph place h) (G : IsHandleAt x.graph other k) where
-  pub both_on : (v : World) (act : Handle → Handle → Act) (reply : Reply) (log : LogValue) → IsToldOfBoth x.plan.parts place other x.log act reply log → is_unprinted reply ≡ false → Meets Z.world (act h k) → Step Z.world (act h k) reply v → IsUnbroken (act h k)
-      → ((n : ℕ) → is_freed_by n (act h k) reply ≡ false) → IsRecorded x.plan.parts Z.opening v log
-  both_on v act reply log T printed met step whole stay =
-      one_more x.plan.parts Z.opening Z.world v x.log log Z.recorded T.said (act h k) reply T.told
-      (T.says (scene_of x.plan.parts Z.opening) place other (T.named).part (T.beside).part h k (is_player x p Z place h H T.first T.named) (is_player x p Z other k G T.second T.beside)) printed met step whole stay
+  pub both_on : (Next : List (Act × Reply) → Type 0) (v : World) (act : Handle → Handle → Act) (reply : Reply) (log : LogValue) → IsToldOfBoth x.plan.parts place other x.log act reply log → is_unprinted reply ≡ false → Meets Z.world (act h k) → Step Z.world (act h k) reply v → IsUnbroken (act h k)
+      → ((n : ℕ) → is_freed_by n (act h k) reply ≡ false) → ((xs : List (Act × Reply)) → AsksIn x p Z xs → Next (xs ++ (act h k, reply) ∷ [])) → IsRecorded x.plan.parts Z.opening v log Next
+  both_on Next v act reply log T printed met step whole stay next =
+      one_more x.plan.parts Z.opening Z.world v x.log log (AsksIn x p Z) Next Z.recorded T.said (act h k) reply T.told
+      (T.says (scene_of x.plan.parts Z.opening) place other (T.named).part (T.beside).part h k (is_player x p Z place h H T.first T.named) (is_player x p Z other k G T.second T.beside)) printed met step whole stay next
+
+-- between two turns an act that needs no asking
+module _ {S K : Type 0} (x : PlayingValue S K) (p : _) (Y : IsPlaying x p) where
+  pub own_rests : (a : Act) (r : Reply) → is_unasked a r ≡ true → (xs : List (Act × Reply)) → AsksIn x p Y.standing xs → AsksIn x p Y.standing (xs ++ (a, r) ∷ [])
+  own_rests a r u xs A =
+      let Z = Y.standing in
+      let s = tuned x.plan Z.files in
+      let hs = handles_of Z.opening in
+      let list = answered (x.conductor).sends A.changes in
+      let before = subst (λ (left : List (Act × Reply)). IsAsking s hs list left xs) Y.whole A.asking in
+      record {
+        changes = A.changes;
+        are = A.are;
+        early = A.early;
+        asking = subst (λ (left : List (Act × Reply)). IsAsking s hs list left (xs ++ (a, r) ∷ [])) (sym Y.whole) (asking_rests s hs list xs (a, r) (ap (λ (b : Bool). not b) u) before);
+      }
+
+  pub own_on : (place : ℕ) (h : Handle) → IsHandleAt x.graph place h → (v : World) (act : Handle → Act) (reply : Reply) (log : LogValue) → IsToldOf x.plan.parts place x.log act reply log → is_unprinted reply ≡ false → Meets Y.standing.world (act h)
+      → Step Y.standing.world (act h) reply v → IsUnbroken (act h) → ((n : ℕ) → is_freed_by n (act h) reply ≡ false) → is_unasked (act h) reply ≡ true → IsRecorded x.plan.parts Y.standing.opening v log (AsksIn x p Y.standing)
+  own_on place h H v act reply log T printed met step whole stay u =
+      goes_on x p Y.standing place h H (AsksIn x p Y.standing) v act reply log T printed met step whole stay (own_rests (act h) reply u)
 
 module _ {S K : Type 0} where
   pub still_there : (y x : PlayingValue S K) → y ≡ x → (place : ℕ) → place < length x.plan.parts → place < length y.plan.parts

@@ -1,11 +1,12 @@
 -- A state that was begun is sent to each component.
-use Rattle.std.proofs.Common.{◌≡◌, ◌≢◌, ◌+◌, ◌<◌, ◌≤◌, ℕ, nat_eq, if◌then◌else◌, List, [], ◌∷◌, length, Some, Ok, Result, refl, sym, ◌∙◌, ap, subst, eqb-true, eq-eqb, ne_eqb, arith}
+use Rattle.std.proofs.lemmas.List.{length-map}
+use Rattle.std.proofs.Common.{◌≡◌, ◌≢◌, ◌+◌, ◌<◌, ◌≤◌, ℕ, nat_eq, if◌then◌else◌, List, [], ◌∷◌, drop, map, length, slice_get, Some, option_map, Ok, Result, suc, refl, sym, ◌∙◌, ap, subst, eqb-true, eq-eqb, ne_eqb, arith}
 use Rattle.omx_types.specs.declared.handle.Handle.{Handle}
 use Rattle.omx_types.specs.declared.error.OmxError.{OmxError}
 use Rattle.omx_types.specs.declared.state.State.{State}
 use Rattle.omx_types.specs.declared.command.Command.TheVariants.{StateSet}
 use Rattle.il_machine.specs.declared.answer.Progress.{Progress}
-use Rattle.il_machine.specs.World.{World}
+use Rattle.il_machine.specs.World.{Component, World}
 use Rattle.il_machine.specs.Acts as acts
 use Rattle.il_machine.specs.Commands.{SendCommand}
 use Rattle.il_machine.specs.Whole.{Steps}
@@ -38,12 +39,17 @@ use Rattle.late_turns.proofs.Playing.{still_conducting}
 use Rattle.play_openings.specs.Assemblies.{late_cast_of}
 use Rattle.play_graphs.specs.Graphs.{IsHandleAt, kept_of}
 use Rattle.play_graphs.proofs.Naming.{named_at}
-use Rattle.play_run.specs.Playing.{HasParts, PlayingValue, layout_of}
+use Rattle.assembling.proofs.Places.{mapped_at}
+use Rattle.play_results.specs.Asked.{sending}
+use Rattle.play_run.specs.Asking.{Asks, handles_of}
+use Rattle.play_run.specs.Playing.{HasParts, IsStanding, PlayingValue, layout_of}
 use Rattle.play_run.specs.Recording.{IsToldOf}
 use Rattle.play_run.specs.Sending.{CanSend, IsSending, IsSentTo, SendsTo, SentOf}
 use Rattle.play_run.proofs.Answering.{keeps_in, parts_of, stands_then, with_both}
 use Rattle.play_run.proofs.Files.{told_same}
-use Rattle.play_run.proofs.Recording.{goes_on}
+use Rattle.play_run.proofs.Asking.{asked_on}
+use Rattle.play_run.proofs.Recording.{goes_on, is_player}
+use Rattle.play_run.proofs.Timely.{drop_here, none_left}
 use Rattle.play_run.proofs.Streaming.{StreamsOn, streams_go}
 use Rattle.play_run.proofs.Working.{still_none}
 
@@ -166,14 +172,22 @@ module _ {S K : Type 0} where
         let lates = O.lates (y.conductor).lates (lates_kept x.cast Z.recent p (Act.Send c) (y.conductor).lates C tt ((Z.late).conducting).lates) in
         let late : IsLateStanding x Z.recent q v.0 y.conductor = record { play = G.play; waiting = G.waiting; conducting = still_conducting x Z.recent p q y.conductor (Z.late).conducting O.phase lates } in
         let works = still_none w (acts.SendCommand h (StateSet state)) (acts.Plain r) v.0 W.sound tt v.2 (λ n. refl) Z.works in
-        let R = goes_on y p Z place h H v.0 (λ k. acts.SendCommand k (StateSet state)) (acts.Plain (Ok tt)) log told refl tt (subst (λ (a : Result (Unit {0}) OmxError). SendCommand w h (StateSet state) a v.0) L.0 v.2) tt (λ n. refl) in
+        let hs = handles_of Z.opening in
+        let left = drop (place + 1) (map (sending state) hs) in
+        let own : slice_get hs place ≡ Some h = (is_player y p Z place h H told.name told.named).handle in
+        let here : slice_get (map (sending state) hs) place ≡ Some (sending state h) = mapped_at (sending state) hs place ∙ ap (option_map (sending state)) own in
+        let e : suc place ≡ place + 1 = omega arith in
+        let head : Z.left ≡ sending state h ∷ left = Y.left ∙ (drop_here place (map (sending state) hs) (sending state h) here ∙ ap (λ (n : ℕ). sending state h ∷ drop n (map (sending state) hs)) e) in
+        let R = goes_on y p Z place h H (Asks y.plan Z.files Z.opening Z.recent y.conductor left) v.0 (λ k. acts.SendCommand k (StateSet state)) (acts.Plain (Ok tt)) log told refl tt (subst (λ (a : Result (Unit {0}) OmxError). SendCommand w h (StateSet state) a v.0) L.0 v.2) tt (λ n. refl)
+        (λ xs A. asked_on y.plan Z.files Z.opening Z.recent y.conductor (sending state h) left xs refl (subst (λ (ys : List (acts.Act × acts.Reply)). Asks y.plan Z.files Z.opening Z.recent y.conductor ys xs) head A)) in
         let F : StreamsOn x p w v.0 = λ n later u F V e. streams x n Z.recent later p u w v.0 c h r W F V e k.1 N s in
-        let A = stands_then y g log p q Z.recent v.0 Z v.1 works (keeps_in y.graph.core g.core keeps Z.clients) late R (streams_go x p Z.opening w v.0 Z.streams F Z.recent q G.play O.phase)
+        let A = stands_then y g log p q Z.recent v.0 Z left v.1 works (keeps_in y.graph.core g.core keeps Z.clients) late R (streams_go x p Z.opening w v.0 Z.streams F Z.recent q G.play O.phase)
         (told_same Z.opening w v.0 Z.told (step_stays w W.sound (acts.SendCommand h (StateSet state)) (acts.Plain r) v.0 tt tt v.2).streams) in (
           q,
           record {
             standing = A.0;
             state_is = still_due p q state O.phase Y.state_is;
+            left = A.2 ∙ ap (λ (o : World). drop (place + 1) (map (sending state) (handles_of o))) (sym A.3);
             sent = one_sent x.cast p q place c Z.recent (W.cast_is).apart k.1 k.2 Y.sent O;
             carried = O.carried (y.conductor).lates (carried_kept x.cast p (Act.Send c) (y.conductor).lates C tt Y.carried);
           },
@@ -200,6 +214,14 @@ module _ {S K : Type 0} where
   pub still_parts : (x y : PlayingValue S K) (state : State) (place : ℕ) → CanSend x state → SendsTo x y state place → HasParts y
   still_parts x y state place (p, Y) sent = let t = sent p Y in parts_of y t.0 (t.1).standing
 
+  few_left : (y : PlayingValue S K) (p : Play) (Z : IsStanding y p) (x : PlayingValue S K) → y.plan ≡ x.plan → (state : State) → length (map (sending state) (handles_of Z.opening)) ≤ length x.plan.parts
+  few_left y p Z x same state =
+      let a = length-map (handles_of Z.opening) (sending state) in
+      let b = length-map Z.opening.components (λ (c : Component). c.handle) in
+      let c = (Z.begins).opens.1.built.many in
+      let d = ap (λ (plan : PlanValue). length plan.parts) same in
+      omega (arith, a, b, c, d)
+
   -- all have it
   pub sends_all : (x y : PlayingValue S K) → y.plan ≡ x.plan → (state : State) → SendsTo x y state (length x.plan.parts) → SentOf x y state
   sends_all x y same state before = λ p Y.
@@ -209,6 +231,7 @@ module _ {S K : Type 0} where
         t.0,
         record {
           standing = Z.standing;
+          whole = Z.left ∙ none_left (length x.plan.parts) (map (sending state) (handles_of (Z.standing).opening)) (few_left y t.0 Z.standing x same state);
           sent = λ c b. sent.before c b ((((Z.standing).late).play).cast_is.placed c b);
           carried = Z.carried;
         },

@@ -56,13 +56,13 @@ use Rattle.late_turns.proofs.Coming.{finishes_come, none_claimed}
 use Rattle.play_openings.specs.Assemblies.{late_cast_of}
 use Rattle.play_plans.specs.Casting.{place_of}
 use Rattle.play_graphs.specs.Graphs.{IsHandleAt, kept_of}
-use Rattle.play_run.specs.Playing.{unfailed, ToldAlike, HaveNoWork, PlayingValue, TurnsTo, layout_of, IsPlaying}
+use Rattle.play_run.specs.Playing.{AsksIn, unfailed, ToldAlike, HaveNoWork, PlayingValue, TurnsTo, layout_of, IsPlaying}
 use Rattle.play_run.specs.Recording.{IsNameAt, IsTold}
 use Rattle.play_stopping.specs.Stops.{HaveTunnels}
 use Rattle.play_run.specs.Turning.{FailsOn, FileShows, FilesStayed}
 use Rattle.play_run.proofs.Working.{all_in, none_out}
 use Rattle.play_run.proofs.Commanding.{component_named_in}
-use Rattle.play_run.proofs.Recording.{is_player, one_more}
+use Rattle.play_run.proofs.Recording.{is_player, one_more, own_rests}
 use Rattle.audio_parts.specs.Objects.{Held}
 use Rattle.flow_model.specs.Content.{ArePlain}
 use Rattle.play_streams.specs.Contents.{PlayContents, network_of}
@@ -270,8 +270,8 @@ module _ {S K : Type 0} where
         let shut = closed Z.world Z.stands in
         let s = scene_of y.plan.parts Z.opening in
         let P = is_player y p Z place h H L.name L.named in
-        let R = one_more y.plan.parts Z.opening Z.world U.between y.log L.between Z.recorded L.first (acts.Claim h) (acts.Claimed (Ok (ClaimedWork U.work))) L.told_first (L.says_first U.work s place (L.named).part h P) refl tt U.goes tt (λ n. refl) in
-        let Q = one_more y.plan.parts Z.opening U.between v.0 L.between log R L.second (acts.Finish U.done) acts.Finished L.told_second (L.says_second s place (L.named).part h U.done P U.its U.does) refl U.meets U.comes U.faults (λ n. refl) in
+        let R = one_more y.plan.parts Z.opening Z.world U.between y.log L.between (AsksIn y p Z) (AsksIn y p Z) Z.recorded L.first (acts.Claim h) (acts.Claimed (Ok (ClaimedWork U.work))) L.told_first (L.says_first U.work s place (L.named).part h P) refl tt U.goes tt (λ n. refl) (own_rests y p Y (acts.Claim h) (acts.Claimed (Ok (ClaimedWork U.work))) refl) in
+        let Q = one_more y.plan.parts Z.opening U.between v.0 L.between log (AsksIn y p Z) (AsksIn y p Z) R L.second (acts.Finish U.done) acts.Finished L.told_second (L.says_second s place (L.named).part h U.done P U.its U.does) refl U.meets U.comes U.faults (λ n. refl) (own_rests y p Y (acts.Finish U.done) acts.Finished refl) in
         let F : StreamsGo X p Z.opening v.0 = streams_go X p Z.opening Z.world v.0 Z.streams (worked_streams X Z.recent p Z.world c h W b N V Z.works shut frames v.0 U claims finishes) in
         turn_goes y g log p v.0 true (IsStepOf (layout_of y.plan) c) Y v.1 (works_in X Z.recent p Z.world c h W b N V Z.works shut None frames v.0 U) (keeps_in m.core g.core K2 (keeps_in y.graph.core m.core K1 Z.clients)) (λ f. absurd cc) (λ f. absurd cc) (λ e. Q) (λ e. F) (λ e. told_on Z.opening Z.world v.0 Z.told (worked_told X Z.recent p Z.world c h W b N V Z.works shut None frames v.0 U))
         (works_came X Z.recent p Z.world c h W b N V Z.works shut frames v.0 U))

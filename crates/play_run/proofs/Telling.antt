@@ -53,7 +53,7 @@ use Rattle.late_turns.proofs.Coming.{none_told, tells_come}
 use Rattle.play_openings.specs.Assemblies.{late_cast_of}
 use Rattle.play_plans.specs.Casting.{place_of as place_in}
 use Rattle.play_graphs.specs.Graphs.{IsHandleAt, client_progress, kept_of}
-use Rattle.play_run.specs.Playing.{AreClientsIn, IsPlaying, IsStanding, PlayingValue, TurnsTo, layout_of}
+use Rattle.play_run.specs.Playing.{AsksIn, AreClientsIn, IsPlaying, IsStanding, PlayingValue, TurnsTo, layout_of}
 use Rattle.play_run.specs.Recording.{IsNameAt, IsTold}
 use Rattle.play_stopping.specs.Stops.{IsEvent}
 use Rattle.play_stopping.proofs.Noted.{event_is}
@@ -61,7 +61,7 @@ use Rattle.il_graph.proofs.PartsStay.{step_stays}
 use Rattle.play_run.proofs.Naming.{all_clients_in}
 use Rattle.play_run.proofs.Working.{still_none}
 use Rattle.play_run.proofs.Commanding.{component_named_in}
-use Rattle.play_run.proofs.Recording.{is_player, one_more}
+use Rattle.play_run.proofs.Recording.{is_player, one_more, own_rests}
 use Rattle.play_run.proofs.Streaming.{EndsOn, StreamsGo, StreamsOn, TakesOn, streams_go}
 use Rattle.play_run.proofs.Files.{told_same}
 use Rattle.play_run.proofs.Answering.{turn_goes, turn_stays, with_both}
@@ -270,8 +270,8 @@ module _ {S K : Type 0} where
         let s = scene_of y.plan.parts Z.opening in
         let P = is_player y p Z place h H L.name L.named in
         let took_event = subst (λ (n : Taken). TakeNote w h (Ok (TookNote n)) middle) taken_is took in
-        let R = one_more y.plan.parts Z.opening w middle y.log L.between Z.recorded L.first (acts.TakeNote h) (acts.Took (Ok (TookNote (TakenEvent event)))) L.told_first (L.says_first s place (L.named).part h P) refl tt took_event tt (λ n. refl) in
-        let Q = one_more y.plan.parts Z.opening middle u.0 L.between log R L.second (acts.EndNote h told) acts.Ended L.told_second (L.says_second told s place (L.named).part h P) refl met u.2 tt (λ n. refl) in
+        let R = one_more y.plan.parts Z.opening w middle y.log L.between (AsksIn y p Z) (AsksIn y p Z) Z.recorded L.first (acts.TakeNote h) (acts.Took (Ok (TookNote (TakenEvent event)))) L.told_first (L.says_first s place (L.named).part h P) refl tt took_event tt (λ n. refl) (own_rests y p Y (acts.TakeNote h) (acts.Took (Ok (TookNote (TakenEvent event)))) refl) in
+        let Q = one_more y.plan.parts Z.opening middle u.0 L.between log (AsksIn y p Z) (AsksIn y p Z) R L.second (acts.EndNote h told) acts.Ended L.told_second (L.says_second told s place (L.named).part h P) refl met u.2 tt (λ n. refl) (own_rests y p Y (acts.EndNote h told) acts.Ended refl) in
         let on : StreamsOn X p w u.0 = λ k later q A V ph.
         ends_on Z.recent p middle u.0 T.play b (mid_named X Z.recent p w c h W b N at.0 at.1 o T.event) u.2 k later q (takes_on Z.recent p w middle W b N took k Z.recent p A T.play refl) V ph in
         let F : StreamsGo X p Z.opening u.0 = streams_go X p Z.opening w u.0 Z.streams on in

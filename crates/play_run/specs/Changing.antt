@@ -1,5 +1,5 @@
 -- How far a step of the change of a late source's link is made.
-use Rattle.std.specs.Prelude.{◌≡◌, ◌≢◌, ℕ, ◌+◌, ◌<◌, ◌≤◌, Bool, true, false, List, length, slice_get, Some}
+use Rattle.std.specs.Prelude.{◌≡◌, ◌≢◌, ℕ, ◌+◌, ◌<◌, ◌≤◌, Bool, true, false, List, drop, length, slice_get, Some}
 use Rattle.conductor.specs.declared.phase.ChangeStep.{ChangeStep}
 use Rattle.conductor.specs.declared.phase.ChangeStep.TheVariants.{Disable, Retune, Enable}
 use Rattle.conductor.specs.declared.phase.LateLink.{LateLink}
@@ -12,6 +12,8 @@ use Rattle.play_worlds.specs.Cast.{Cast, giver_of, script_place}
 use Rattle.play_plans.specs.Casting.{joint_of}
 use Rattle.late_conductors.specs.Conducting.{AreCarriedOut, IsLateOf, IsUnderWay, step_from, step_to}
 use Rattle.late_turns.specs.Playing.{AreSent}
+use Rattle.play_results.specs.Asked.{acts_of as asked_acts, tuned}
+use Rattle.play_run.specs.Asking.{asking_of, handles_of}
 use Rattle.play_run.specs.Playing.{IsPlaying, IsStanding, PlayingValue, cast, layout_of}
 
 -- ---- the ends of a link: its output, else its input
@@ -71,6 +73,7 @@ module _ {S K : Type 0} where
   pub record IsChanging (x : PlayingValue S K) (p : Play) (l : ℕ) (step : ChangeStep) (made : ℕ) : Type 0 where
     pub standing : IsStanding x p
     pub recent : standing.recent ≡ l
+    pub left : standing.left ≡ drop made (asked_acts (tuned x.plan standing.files) (handles_of standing.opening) (asking_of step l))
     pub sent : AreSent (layout_of x.plan) p
     pub on : IsOnStep (cast x.plan) p (x.conductor).lates l step made
 

@@ -12,9 +12,11 @@ use Rattle.play_log.specs.Kept.{LogValue}
 use Rattle.play_log.specs.Logged.{Keeps}
 use Rattle.play_log.specs.Naming.{IsNaming}
 use Rattle.play_log.specs.Scenes.{scene_of}
+use Rattle.play_results.specs.Asked.{IsConducted, tuned}
 use Rattle.play_results.specs.Files.{IsWriter}
 use Rattle.play_results.specs.Worlds.{HasWritten, IsOpening}
-use Rattle.play_run.specs.Recording.{IsBeginning, IsByPlayer, IsWhole}
+use Rattle.play_run.specs.Asking.{handles_of}
+use Rattle.play_run.specs.Recording.{IsBeginning, IsByPlayer, IsPrinted, IsWhole}
 
 -- Entries of the thread that plays lead from where the play begins to the ending, where it was done whole. The log keeps them.
 pub record IsKeptTo (plan : PlanValue) (files : PlayFiles) (log : LogValue) (ending : World) : Type 0 where
@@ -24,6 +26,8 @@ pub record IsKeptTo (plan : PlanValue) (files : PlayFiles) (log : LogValue) (end
   pub runs : Run opening (steps_of history) ending
   pub alone : All IsByPlayer history
   pub whole : All IsWhole history
+  pub conducted : IsConducted (tuned plan files) (handles_of opening) (steps_of history)
+  pub printed : All IsPrinted history
   pub keeps : Keeps (scene_of plan.parts opening) history log
   pub ends : IsPlayedOut plan ending
 
@@ -34,6 +38,7 @@ pub record IsNamedTo (plan : PlanValue) (files : PlayFiles) (text : List ℕ) (e
   pub entries : List Entry
   pub names : IsNaming (scene_of plan.parts opening) opening text entries ending
   pub alone : All IsByPlayer entries
+  pub conducted : IsConducted (tuned plan files) (handles_of opening) (steps_of entries)
   pub ends : IsPlayedOut plan ending
 
 -- each sink wrote its file

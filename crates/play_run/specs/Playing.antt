@@ -1,9 +1,10 @@
 -- The plays that a graph with its conductor stands for.
-use Rattle.std.specs.Prelude.{◌≡◌, ℕ, Bool, false, All, length, slice_get, Some, None, Option}
+use Rattle.std.specs.Prelude.{◌≡◌, ℕ, Bool, false, List, [], All, length, slice_get, Some, None, Option}
 use Rattle.omx_types.specs.declared.handle.Handle.{Handle}
 use Rattle.il_machine.specs.declared.answer.Progress.{Progress}
 use Rattle.il_machine.specs.World.{Component, Stream, World, stream_of}
 use Rattle.il_machine.specs.Sound.{Sound}
+use Rattle.il_machine.specs.Acts as machine
 use Rattle.il_machine.specs.Components.{progress_of}
 use Rattle.il_machine.specs.Whole.{Always, Stands}
 use Rattle.graph_core.specs.Entries.{Entries, client_named}
@@ -26,6 +27,7 @@ use Rattle.play_streams.specs.Contents.{PlayContents}
 use Rattle.play_streams.specs.Streams.{AreNew}
 use Rattle.late_streams.specs.Contents.{HasLateContents}
 use Rattle.late_streams.specs.Streams.{HasLateStreams}
+use Rattle.play_run.specs.Asking.{Asks}
 use Rattle.play_run.specs.Recording.{IsBeginning, IsRecorded}
 
 -- No port prefers a supplier, so the input supplies each link.
@@ -82,13 +84,20 @@ module _ {S K : Type 0} where
     pub files : PlayFiles
     pub opening : World
     pub begins : IsBeginning x.plan files opening
-    pub recorded : IsRecorded x.plan.parts opening world x.log
+    -- what is still to be asked of what the conductor has answered
+    pub left : List (machine.Act × machine.Reply)
+    pub recorded : IsRecorded x.plan.parts opening world x.log (Asks x.plan files opening recent x.conductor left)
     pub streams : HasStreamsFrom (late_cast_of x.plan) opening p world
     pub told : ToldAlike opening world
+
+  -- what holds of what was asked so far
+  abbrev pub AsksIn : (x : PlayingValue S K) (p : Play) → IsStanding x p → List (machine.Act × machine.Reply) → Type 0
+  AsksIn x p Z steps = Asks x.plan Z.files Z.opening Z.recent x.conductor Z.left steps
 
   -- between two turns: what the conductor answered is sent and carried out
   pub record IsPlaying (x : PlayingValue S K) (p : Play) : Type 0 where
     pub standing : IsStanding x p
+    pub whole : standing.left ≡ []
     pub sent : AreSent (layout_of x.plan) p
     pub carried : AreCarriedOut (cast x.plan) p (x.conductor).lates
 

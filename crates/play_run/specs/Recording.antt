@@ -37,13 +37,19 @@ IsWhole entry = IsUnbroken entry.act
 abbrev pub FreesNone : Entry → Type 0
 FreesNone entry = (number : ℕ) → is_freed_by number entry.act entry.reply ≡ false
 
--- Entries of the thread that plays lead from the opening to the world, and the log has their lines.
-pub record IsRecorded (parts : List PartLine) (opening w : World) (log : LogValue) : Type 0 where
+-- it has a line
+abbrev pub IsPrinted : Entry → Type 0
+IsPrinted entry = is_unprinted entry.reply ≡ false
+
+-- Entries of the thread that plays lead from the opening to the world, and the log has their lines. Asks holds of what was asked by them.
+pub record IsRecorded (parts : List PartLine) (opening w : World) (log : LogValue) (Asks : List (Act × Reply) → Type 0) : Type 0 where
   pub history : List Entry
   pub runs : Run opening (steps_of history) w
   pub alone : All IsByPlayer history
   pub whole : All IsWhole history
   pub stay : All FreesNone history
+  pub printed : All IsPrinted history
+  pub asks : Asks (steps_of history)
   pub keeps : Keeps (scene_of parts opening) history log
 
 -- ---- one line more

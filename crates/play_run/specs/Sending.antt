@@ -1,5 +1,5 @@
 -- How far a state that was begun is sent, and what the conductor sees.
-use Rattle.std.specs.Prelude.{◌≡◌, ◌<◌, ◌≤◌, ℕ, true, List, slice_get, Option, Some}
+use Rattle.std.specs.Prelude.{◌≡◌, ◌<◌, ◌≤◌, ℕ, true, List, drop, map, slice_get, Option, Some}
 use Rattle.omx_types.specs.declared.state.State.{State}
 use Rattle.omx_types.specs.declared.state.State.TheVariants.{Loaded}
 use Rattle.il_machine.specs.declared.answer.Progress.{Progress}
@@ -9,6 +9,8 @@ use Rattle.play_model.specs.Play.{Layout, Play}
 use Rattle.play_loop.specs.Turns.{HasRun, SomePlay}
 use Rattle.play_worlds.specs.Standing.{target}
 use Rattle.late_conductors.specs.Conducting.{AreCarriedOut}
+use Rattle.play_results.specs.Asked.{sending}
+use Rattle.play_run.specs.Asking.{handles_of}
 use Rattle.play_run.specs.Playing.{IsPlaying, IsProgressAt, IsStanding, PlayingValue, cast, layout_of}
 
 -- from that place on it isn't sent yet, and to those before it is
@@ -21,6 +23,7 @@ module _ {S K : Type 0} where
   pub record IsSending (x : PlayingValue S K) (p : Play) (state : State) (place : ℕ) : Type 0 where
     pub standing : IsStanding x p
     pub state_is : state ≡ target p.phase
+    pub left : standing.left ≡ drop place (map (sending state) (handles_of standing.opening))
     pub sent : IsSentTo (layout_of x.plan) p place
     pub carried : AreCarriedOut (cast x.plan) p (x.conductor).lates
 
