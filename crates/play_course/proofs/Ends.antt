@@ -218,6 +218,7 @@ module _ {F : Type 0} (seen : F → FileSeen) (script : Script) (name log : List
           opens = whole.opens;
           names = whole.names;
           alone = whole.alone;
+          conducted = whole.conducted;
           ends = record {
             played = whole.ends;
             sinks = λ place its text w holding.

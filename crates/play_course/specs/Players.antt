@@ -6,9 +6,10 @@ use Rattle.play_forms.specs.Plain.{sink_text}
 use Rattle.play_forms.specs.Plans.{PlanValue}
 use Rattle.play_openings.specs.Assemblies.{IsReady, PlayFiles, file_at}
 use Rattle.play_openings.specs.Endings.{IsPlayedOut}
-use Rattle.play_log.specs.Entries.{Entry}
+use Rattle.play_log.specs.Entries.{Entry, steps_of}
 use Rattle.play_log.specs.Naming.{IsNaming}
 use Rattle.play_log.specs.Scenes.{scene_of}
+use Rattle.play_results.specs.Asked.{IsConducted, tuned}
 use Rattle.play_results.specs.Files.{AreSamples, IsWriter}
 use Rattle.play_results.specs.Worlds.{HasWritten, IsOpening}
 use Rattle.play_files.specs.Seen.{FileSeen, offer}
@@ -34,6 +35,7 @@ pub record IsWhole (plan : PlanValue) (files : PlayFiles) (before after : List (
   pub opens : IsOpening plan files opening
   pub names : IsNaming (scene_of plan.parts opening) opening text entries ending
   pub alone : All (λ entry. entry.pass ≡ 0) entries
+  pub conducted : IsConducted (tuned plan files) (scene_of plan.parts opening).handles (steps_of entries)
   pub ends : IsPlayedOut plan ending
   pub took : (place : ℕ) (name : List ℕ) → IsWriter plan.parts place name
       → (bytes : List ℕ) × HasTaken before after place bytes × HasWritten ending place bytes × ((samples : List (List ℕ)) → AreSamples plan files samples → bytes ≡ sink_text plan samples place)
