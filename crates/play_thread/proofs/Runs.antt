@@ -107,7 +107,7 @@ module _ {S K : Type 0} (offset size : S → ℕ) (told : S → Option (List ℕ
     pub is_whole : (text : List ℕ) → IsNamedTo x.plan Y.standing.files text Y.standing.world
         → IsWhole x.plan Y.standing.files (seen offset size told ends faults kept name sink_faults entries) (seen offset size told ends faults kept name sink_faults now) text
     is_whole text N =
-        record { opening = N.opening; ending = w; entries = N.entries; opens = N.opens; names = N.names; alone = N.alone; ends = N.ends; took = took }
+        record { opening = N.opening; ending = w; entries = N.entries; opens = N.opens; names = N.names; alone = N.alone; conducted = N.conducted; ends = N.ends; took = took }
 
     -- a whole text is a front of itself
     pub is_front : IsFailed x.plan Y.standing.files (seen offset size told ends faults kept name sink_faults entries) (seen offset size told ends faults kept name sink_faults now)
