@@ -1,5 +1,5 @@
 -- A step of a link's change that the conductor answers is asked in time.
-use Rattle.std.proofs.Common.{◌≡◌, ◌≢◌, ◌⊎◌, inl, inr, ℕ, zero, suc, ◌+◌, ◌<◌, ◌≤◌, Bool, true, false, ◌==◌, nat_lt, List, [], ◌∷◌, ◌++◌, drop, take, length, set, slice_get, Some, refl, sym, ◌∙◌, ap, subst, append-nil, append_assoc, length-append, eq-eqb, eqb-true, lt-ltb, ne_eqb, arith}
+use Rattle.std.proofs.Common.{◌≡◌, ◌≢◌, ◌⊎◌, inl, inr, ℕ, ◌+◌, ◌<◌, ◌≤◌, Bool, true, false, ◌==◌, nat_lt, List, [], ◌∷◌, ◌++◌, drop, take, length, set, slice_get, Some, refl, sym, ◌∙◌, ap, subst, append-nil, append_assoc, length-append, eq-eqb, eqb-true, lt-ltb, ne_eqb, arith}
 use Rattle.std.specs.Prelude.{cond, count_by, flat_map, is_some, if◌then◌else◌}
 use Rattle.std.proofs.lemmas.Bool.{cases_eq}
 use Rattle.std.proofs.lemmas.List.{length-map, take_at}
@@ -277,9 +277,9 @@ module _ {S K : Type 0} (x : PlayingValue S K) (p : Play) (Y : IsPlaying x p) (v
       with_changes x p Y value next component Disable l A V H D
       (first_changes x p Y value next component Disable l A V H D refl (rest_none x p Y value A V done))
       (λ one front f. (
-          changes_done x p Y value A V done N.phase N.all one front f,
-          subst (λ (place : ℕ). is_some (told_by place its_steps).settings ≡ true) (end_place x.plan l true Y.standing.valid O.below) (settings_at x p Y.standing l O.below O.late (D.can).told),
-        ))
+        changes_done x p Y value A V done N.phase N.all one front f,
+        subst (λ (place : ℕ). is_some (told_by place its_steps).settings ≡ true) (end_place x.plan l true Y.standing.valid O.below) (settings_at x p Y.standing l O.below O.late (D.can).told),
+      ))
   change_begins Retune A V H D =
       let L = is_last x p Y value next component Retune l A V H D (omega arith) (λ e. absurd (omega (arith, e))) in
       let O = (its x p Y value next component Retune l A V H D).of_link in
@@ -287,11 +287,11 @@ module _ {S K : Type 0} (x : PlayingValue S K) (p : Play) (Y : IsPlaying x p) (v
       with_changes x p Y value next component Retune l A V H D
       (further x p Y value next component Retune l A V H D L (Retuning l) (Enabling l ∷ []) (omega arith) L.rest refl)
       (λ one front f.
-          let parts : A.changes ++ Retuning l ∷ Enabling l ∷ [] ≡ (flat_map change_of L.front ++ Disabling l ∷ []) ++ Retuning l ∷ Enabling l ∷ [] =
-          ap (λ (t : List Asking). A.changes ++ t) (sym L.rest) ∙ ((A.are).parts ∙ (ap (λ (ls : List ℕ). flat_map change_of ls) L.links ∙ (flat_map-append change_of L.front (l ∷ []) ∙ sym (append_assoc (flat_map change_of L.front) (Disabling l ∷ []) (Retuning l ∷ Enabling l ∷ []))))) in
-          let whole = cancelled A.changes (flat_map change_of L.front ++ Disabling l ∷ []) (Retuning l ∷ Enabling l ∷ []) parts in
-          let is = last_is (ToIdle ∷ ToExecuting ∷ flat_map change_of L.front) front (Disabling l) one (sym (ap (λ (cs : List Asking). ToIdle ∷ ToExecuting ∷ cs) whole) ∙ f) in
-          (subst (λ (z : Asking). IsDone (tuned x.plan Y.standing.files) z its_steps) (sym is) (both_done x p Y l 4 (λ port. completions.Disable port) L.recent O.below O.late (at_four M) (λ port. refl)), tt))
+      let parts : A.changes ++ Retuning l ∷ Enabling l ∷ [] ≡ (flat_map change_of L.front ++ Disabling l ∷ []) ++ Retuning l ∷ Enabling l ∷ [] =
+      ap (λ (t : List Asking). A.changes ++ t) (sym L.rest) ∙ ((A.are).parts ∙ (ap (λ (ls : List ℕ). flat_map change_of ls) L.links ∙ (flat_map-append change_of L.front (l ∷ []) ∙ sym (append_assoc (flat_map change_of L.front) (Disabling l ∷ []) (Retuning l ∷ Enabling l ∷ []))))) in
+      let whole = cancelled A.changes (flat_map change_of L.front ++ Disabling l ∷ []) (Retuning l ∷ Enabling l ∷ []) parts in
+      let is = last_is (ToIdle ∷ ToExecuting ∷ flat_map change_of L.front) front (Disabling l) one (sym (ap (λ (cs : List Asking). ToIdle ∷ ToExecuting ∷ cs) whole) ∙ f) in
+      (subst (λ (z : Asking). IsDone (tuned x.plan Y.standing.files) z its_steps) (sym is) (both_done x p Y l 4 (λ port. completions.Disable port) L.recent O.below O.late (at_four M) (λ port. refl)), tt))
     where
       at_four : ((p.change l).output ≡ 4) × ((p.change l).input ≡ 4) → (output : Bool) → port_at output (p.change l) ≡ 4
       at_four M true = M.0
@@ -301,9 +301,9 @@ module _ {S K : Type 0} (x : PlayingValue S K) (p : Play) (Y : IsPlaying x p) (v
       with_changes x p Y value next component Enable l A V H D
       (further x p Y value next component Enable l A V H D L (Enabling l) [] (omega arith) L.rest refl)
       (λ one front f.
-          let parts : A.changes ++ Enabling l ∷ [] ≡ (flat_map change_of L.front ++ Disabling l ∷ Retuning l ∷ []) ++ Enabling l ∷ [] =
-          ap (λ (t : List Asking). A.changes ++ t) (sym L.rest) ∙ ((A.are).parts ∙ (ap (λ (ls : List ℕ). flat_map change_of ls) L.links ∙ (flat_map-append change_of L.front (l ∷ []) ∙ sym (append_assoc (flat_map change_of L.front) (Disabling l ∷ Retuning l ∷ []) (Enabling l ∷ []))))) in
-          let whole = cancelled A.changes (flat_map change_of L.front ++ Disabling l ∷ Retuning l ∷ []) (Enabling l ∷ []) parts in
-          let is = last_is (ToIdle ∷ ToExecuting ∷ (flat_map change_of L.front ++ Disabling l ∷ [])) front (Retuning l) one
-              (ap (λ (cs : List Asking). ToIdle ∷ ToExecuting ∷ cs) (append_assoc (flat_map change_of L.front) (Disabling l ∷ []) (Retuning l ∷ [])) ∙ (sym (ap (λ (cs : List Asking). ToIdle ∷ ToExecuting ∷ cs) whole) ∙ f)) in
-          (subst (λ (z : Asking). IsDone (tuned x.plan Y.standing.files) z its_steps) (sym is) tt, tt))
+      let parts : A.changes ++ Enabling l ∷ [] ≡ (flat_map change_of L.front ++ Disabling l ∷ Retuning l ∷ []) ++ Enabling l ∷ [] =
+      ap (λ (t : List Asking). A.changes ++ t) (sym L.rest) ∙ ((A.are).parts ∙ (ap (λ (ls : List ℕ). flat_map change_of ls) L.links ∙ (flat_map-append change_of L.front (l ∷ []) ∙ sym (append_assoc (flat_map change_of L.front) (Disabling l ∷ Retuning l ∷ []) (Enabling l ∷ []))))) in
+      let whole = cancelled A.changes (flat_map change_of L.front ++ Disabling l ∷ Retuning l ∷ []) (Enabling l ∷ []) parts in
+      let is = last_is (ToIdle ∷ ToExecuting ∷ (flat_map change_of L.front ++ Disabling l ∷ [])) front (Retuning l) one
+      (ap (λ (cs : List Asking). ToIdle ∷ ToExecuting ∷ cs) (append_assoc (flat_map change_of L.front) (Disabling l ∷ []) (Retuning l ∷ [])) ∙ (sym (ap (λ (cs : List Asking). ToIdle ∷ ToExecuting ∷ cs) whole) ∙ f)) in
+      (subst (λ (z : Asking). IsDone (tuned x.plan Y.standing.files) z its_steps) (sym is) tt, tt))
