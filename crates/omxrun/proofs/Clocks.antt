@@ -2,7 +2,7 @@
 use Rattle.std.proofs.Common.{◌≡◌, ◌≢◌, ◌⊎◌, inl, inr, ℕ, ◌<◌, List, length, Option, Some, Result, Ok, Err, OnOk, IfErr, IsTrue, IsSome, ap, sym, subst, refl, ◌∙◌, arith}
 use Rattle.std.specs.Io.KnownBytes.{append_known}
 use Rattle.outside_io.specs.Causes.{Rose}
-use Rattle.outside_io.specs.Files.{CountsStand, Outside}
+use Rattle.outside_io.specs.Files.{AbsencesStand, CountsStand, Outside}
 use Rattle.outside_io.specs.Whole.{HasReadReason, WasOpened}
 use Rattle.outside_io.specs.declared.whole.Unread.{Unread}
 use Rattle.outside_io.specs.declared.whole.Unread.TheVariants as Unreads
@@ -21,6 +21,7 @@ use Rattle.omxrun.specs.Clocked.{RunsTo, IsClockOf, IsClockOutcome, HasClockReas
 use Rattle.omxrun.specs.Faults.{fault_of_script}
 use Rattle.omxrun.specs.Texts.{fault_line}
 use Rattle.omxrun.specs.Told.{IsPrinted, status_of}
+use Rattle.omxrun.proofs.Absences.{none-counted}
 use Rattle.omxrun.proofs.Causes.{on_ok}
 use Rattle.omxrun.proofs.Complete.{none-some, printed-status, same-text}
 use Rattle.omxrun.proofs.Runs.{front-none}
@@ -125,9 +126,9 @@ clock-of name bytes old new (Err (Faults.Packets why)) text held stand runs = ab
 clock-of name bytes old new (Err (Faults.NotRun line why)) text held stand runs = absurd runs
 clock-of name bytes old new (Err (Faults.NotBuilt what)) text held stand runs = absurd runs
 
-pub clocked-of : (name bytes : List ℕ) (old new : Outside) (told told_new : Option (List ℕ)) (before now : ℕ) (status : Status) → (IsTrue old.tells → old.file name ≡ Some bytes) → new.file ≡ old.file → CountsStand old new → HasRunTo bytes told told_new before now status → HasClocked name old new told told_new before now status
-clocked-of name bytes old new told told_new before now status held kept stand (outcome, text, runs, printed) =
-    (outcome, text, record { kept = kept; is = clock-of name bytes old new outcome text held stand runs; stand = on_ok outcome (CountsStand old new) stand }, printed)
+pub clocked-of : (name bytes : List ℕ) (old new : Outside) (told told_new : Option (List ℕ)) (before now : ℕ) (status : Status) → (IsTrue old.tells → old.file name ≡ Some bytes) → new.file ≡ old.file → CountsStand old new → AbsencesStand old new → HasRunTo bytes told told_new before now status → HasClocked name old new told told_new before now status
+clocked-of name bytes old new told told_new before now status held kept stand absences (outcome, text, runs, printed) =
+    (outcome, text, record { kept = kept; unabsent = none-counted old new outcome absences; is = clock-of name bytes old new outcome text held stand runs; stand = on_ok outcome (CountsStand old new) stand }, printed)
 
 -- ---- where all is told and no count rises
 

@@ -1,3 +1,4 @@
+pub mod Absences
 pub mod Causes
 pub mod Clocks
 pub mod Commands

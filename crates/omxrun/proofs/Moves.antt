@@ -3,7 +3,7 @@ use Rattle.std.proofs.Common.{◌≡◌, ◌≢◌, ◌⊎◌, inl, inr, ℕ, �
 use Rattle.std.proofs.lemmas.Bool.{cases_lt}
 use Rattle.std.specs.Io.KnownBytes.{append_known}
 use Rattle.outside_io.specs.Causes.{Rose, sum_of_counts}
-use Rattle.outside_io.specs.Files.{CountsStand, GoesOn, IsFrontOf, Outside, SameBut}
+use Rattle.outside_io.specs.Files.{AbsencesStand, CountsStand, GoesOn, IsFrontOf, Outside, SameBut}
 use Rattle.outside_io.specs.Moves.{AppendsFront, WhereTold}
 use Rattle.outside_io.proofs.Closed.{told_value}
 use Rattle.omx_types.specs.declared.fault.Fault.{Fault}
@@ -217,10 +217,11 @@ shut-fault old mid new ran (Ok done) le is = tt
 shut-fault old mid new ran (Err fault) le (inl same) = inl same
 shut-fault old mid new ran (Err fault) le (inr (same, rose)) = inr (same, later old.write_faults mid.write_faults new.write_faults le rose)
 
-pub closed-of : (Gives : Giving) (Stops : Stopping) (name input output : List ℕ) (old mid new : Outside) (ran outcome : Result Done Fault) (told : Option (List ℕ)) → mid.file ≡ old.file → GoesOn old mid → (IsTrue old.tells → name ≡ output) → IsShut name mid new ran outcome told → (IsTrue old.tells → (bytes : List ℕ) × (old.file input ≡ Some bytes) × IsMoved Gives bytes ran told) → IfErr ran (HasMoveReason Stops input old new) → IfErr outcome (IsAlone old new) → OnOk outcome (CountsStand old new) → IsClosed Gives Stops input output old new ran outcome told
-closed-of Gives Stops name input output old mid new ran outcome told same on named shut moved stopped alone stand = record {
+pub closed-of : (Gives : Giving) (Stops : Stopping) (name input output : List ℕ) (old mid new : Outside) (ran outcome : Result Done Fault) (told : Option (List ℕ)) → mid.file ≡ old.file → GoesOn old mid → AbsencesStand old mid → AbsencesStand mid new → (IsTrue old.tells → name ≡ output) → IsShut name mid new ran outcome told → (IsTrue old.tells → (bytes : List ℕ) × (old.file input ≡ Some bytes) × IsMoved Gives bytes ran told) → IfErr ran (HasMoveReason Stops input old new) → IfErr outcome (IsAlone old new) → OnOk outcome (CountsStand old new) → IsClosed Gives Stops input output old new ran outcome told
+closed-of Gives Stops name input output old mid new ran outcome told same on before after named shut moved stopped alone stand = record {
   others = λ tells other apart. shut.others other (λ (is : other ≡ name). apart (is ∙ named tells)) ∙ at-name other old mid same;
   moved = moved;
+  absences = after ∙ before;
   done = shut-done name output old new ran outcome told named shut.done;
   front = λ tells. subst (λ (n : List ℕ). OnErr outcome ((new.file n ≡ told) ⊎ WhereTold told (IsFrontOf (new.file n)))) (named tells) shut.front;
   fault = shut-fault old mid new ran outcome on.write_faults shut.fault;

@@ -19,6 +19,7 @@ use Rattle.play_course.specs.Outcomes.{IsDone}
 use Rattle.play_course.specs.Sums.{planned_from, planned_line}
 use Rattle.omxrun.specs.Faults.{fault_of_reading, fault_of_script}
 use Rattle.omxrun.specs.Plays.{HasPlayReason, IsPlayCourse, IsPlayOutcome, WasRead}
+use Rattle.omxrun.proofs.Absences.{IsAbsenceTold, none-before}
 use Rattle.omxrun.proofs.Causes.{CountsStand-then}
 use Rattle.omxrun.proofs.Files.{files-before}
 use Rattle.omxrun.proofs.Lefts.{OwnNames, undone-early, undone-left, undone-log}
@@ -79,6 +80,7 @@ read-outcome names name log old mid new script (Ok printed) W C = record {
     is = W.is;
     done = let d = C.done in (d.0, done-before script log old mid new d.0 W.goes_on W.files d.1, d.2);
   };
+  unabsent = none-before {T = List ℕ} old mid new (Ok printed) W.absences C.unabsent;
   stand = CountsStand-then old mid new W.stand C.stand;
   unplayed = tt;
   left = λ _. tt;
@@ -87,6 +89,7 @@ read-outcome names name log old mid new script (Ok printed) W C = record {
 }
 read-outcome names name log old mid new script (Err fault) W C = record {
   played = tt;
+  unabsent = none-before {T = List ℕ} old mid new (Err fault) W.absences C.unabsent;
   stand = tt;
   unplayed = inr (script, mid, W, C.undone);
   left = λ tells. undone-left names name log old mid new script W fault tells C.undone;
@@ -94,9 +97,10 @@ read-outcome names name log old mid new script (Err fault) W C = record {
   unlogged = λ tells. undone-log names name log old mid new script W fault tells C.undone;
 }
 
-pub unread-outcome : (name log : List ℕ) (old new : Outside) (fault : Fault) → new.file ≡ old.file → HasPlayReason name log old new fault → IsPlayOutcome name log old new (Err fault)
-unread-outcome name log old new fault same reason = record {
+pub unread-outcome : (name log : List ℕ) (old new : Outside) (fault : Fault) → new.file ≡ old.file → HasPlayReason name log old new fault → IsAbsenceTold old new fault → IsPlayOutcome name log old new (Err fault)
+unread-outcome name log old new fault same reason told = record {
   played = tt;
+  unabsent = told;
   stand = tt;
   unplayed = inl (same, reason);
   left = λ _. inl same;

@@ -1,7 +1,7 @@
 -- What comes of the files where one is turned into another.
 use Rattle.std.proofs.Common.{◌≡◌, ◌⊎◌, ◌≤◌, inl, inr, ℕ, List, [], length, take, Option, Some, Result, Ok, Err, OnOk, OnErr, IfOk, IfErr, IsTrue, ap, sym, subst, ◌∙◌}
 use Rattle.outside_io.specs.Causes.{Rose}
-use Rattle.outside_io.specs.Files.{CountsStand, IsFrontOf, Outside, SameBut}
+use Rattle.outside_io.specs.Files.{AbsencesStand, CountsStand, IsFrontOf, Outside, SameBut}
 use Rattle.outside_io.specs.Moves.{AppendsFront, WhereTold}
 use Rattle.outside_io.proofs.Closed.{take-twice}
 use Rattle.omx_types.specs.declared.fault.Fault.{Fault}
@@ -11,6 +11,7 @@ use Rattle.wav_form.specs.Reading.{most_bytes}
 use Rattle.omxrun.specs.Opened.{HasOpenReason}
 use Rattle.omxrun.specs.Turned.{Written, Giving, Stopping, text_in, Comes, HasTurnReason, IsAlone, IsUnopened, IsTurnOutcome}
 use Rattle.omxrun.specs.declared.done.Done.{Done}
+use Rattle.omxrun.proofs.Absences.{IsAbsenceTold}
 
 -- ---- files that weren't opened
 
@@ -36,11 +37,12 @@ open-reason Gives Stops input output old new (Faults.NotBuilt what) reason = abs
 pub at-name : (name : List ℕ) (old new : Outside) → new.file ≡ old.file → new.file name ≡ old.file name
 at-name name old new same = ap (λ (f : List ℕ → Option (List ℕ)). f name) same
 
-pub unopened-outcome : (Gives : Giving) (Stops : Stopping) (input output : List ℕ) (old new : Outside) (fault : Fault) → new.file ≡ old.file → HasOpenReason input output old new fault → IsAlone old new fault → IsTurnOutcome Gives Stops input output old new (Err fault)
-unopened-outcome Gives Stops input output old new fault same reason alone = record {
+pub unopened-outcome : (Gives : Giving) (Stops : Stopping) (input output : List ℕ) (old new : Outside) (fault : Fault) → new.file ≡ old.file → HasOpenReason input output old new fault → IsAlone old new fault → IsAbsenceTold old new fault → IsTurnOutcome Gives Stops input output old new (Err fault)
+unopened-outcome Gives Stops input output old new fault same reason alone told = record {
   others = λ tells other apart. at-name other old new same;
   turned = λ tells. tt;
   left = λ tells. inl (at-name output old new same);
+  unabsent = told;
   unopened = λ early. same;
   reason = open-reason Gives Stops input output old new fault reason;
   alone = alone;
@@ -78,6 +80,7 @@ HasMoveReason Stops input old new other = ⊥
 pub record IsClosed (Gives : Giving) (Stops : Stopping) (input output : List ℕ) (old new : Outside) (ran outcome : Result Done Fault) (told : Option (List ℕ)) : Type 0 where
   pub others : IsTrue old.tells → SameBut output old new
   pub moved : IsTrue old.tells → (bytes : List ℕ) × (old.file input ≡ Some bytes) × IsMoved Gives bytes ran told
+  pub absences : AbsencesStand old new
   pub done : IfOk outcome (λ done. (ran ≡ Ok done) × (IsTrue old.tells → new.file output ≡ told))
   pub front : IsTrue old.tells → OnErr outcome ((new.file output ≡ told) ⊎ WhereTold told (IsFrontOf (new.file output)))
   pub fault : IfErr outcome (λ fault. (ran ≡ Err fault) ⊎ ((fault ≡ Faults.WriteFault) × Rose old.write_faults new.write_faults))
@@ -152,6 +155,7 @@ turned-outcome Gives Stops input output old new ran (Ok done) told is = record {
       let (text, answers, spelled) = if-ok ran done (λ d. (text : List ℕ) × (moved.answer ≡ Ok (record { text = text; done = d })) × (told ≡ Some text)) is.done.0 moved.whole in
       (text, record { bytes = bytes; held = held; gives = subst (λ (a : Result Written Fault). Gives bytes a) answers moved.gives }, is.done.1 tells ∙ spelled);
   left = λ tells. tt;
+  unabsent = is.absences;
   unopened = tt;
   reason = tt;
   alone = tt;
@@ -163,6 +167,7 @@ turned-outcome Gives Stops input output old new ran (Err fault) told is = record
   left = λ tells.
       let (bytes, held, moved) = is.moved tells in
       inr (moved.answer, record { bytes = bytes; held = held; gives = moved.gives }, closed-begun (new.file output) told (text_in moved.answer) moved.front (is.front tells));
+  unabsent = λ _. is.absences;
   unopened = elim is.fault [
     | inl same ↦ unopened-none Stops input old new fault (if-err ran fault (HasMoveReason Stops input old new) same is.stopped)
     | inr closing ↦ unopened-none Stops input old new fault (subst (λ (f : Fault). HasMoveReason Stops input old new f) (sym closing.0) closing.1)

@@ -6,6 +6,7 @@ use Rattle.omx_types.specs.declared.fault.Fault.TheVariants as Faults
 use Rattle.omx_types.specs.declared.fault.ScriptWhy.{ScriptWhy}
 use Rattle.clock_core.specs.Printed.{clock_text}
 use Rattle.clock_core.specs.Script.{IsFaulty, IsScript}
+use Rattle.omxrun.specs.Absences.{AreAbsencesTold}
 use Rattle.omxrun.specs.Asked.{IsGiven}
 use Rattle.omxrun.specs.Texts.{fault_line}
 use Rattle.omxrun.specs.Traced.{HasScriptReason}
@@ -43,6 +44,7 @@ IsClockOf name old new (Err fault) text = HasClockReason name old new fault × (
 -- what the run of a clock's script comes to: no told file changes; done whole only where no read and no write failed
 pub record IsClockOutcome (name : List ℕ) (old new : Outside) (outcome : Result (Unit {0}) Fault) (text : List ℕ) : Type 0 where
   pub kept : new.file ≡ old.file
+  pub unabsent : AreAbsencesTold old new outcome
   pub is : IsClockOf name old new outcome text
   pub stand : OnOk outcome (CountsStand old new)
 

@@ -1,3 +1,4 @@
+pub mod Absences
 pub mod Asked
 pub mod Clocked
 pub mod Commands

@@ -4,6 +4,7 @@ use Rattle.outside_io.specs.Files.{CountsStand, Outside}
 use Rattle.omx_types.specs.declared.fault.Fault.{Fault}
 use Rattle.omx_types.specs.declared.fault.Fault.TheVariants.{WriteFault}
 use Rattle.load_gen.specs.Made.{AreMade, ArePartlyMade, OthersAreKept, HasReason}
+use Rattle.omxrun.specs.Absences.{AreAbsencesTold}
 use Rattle.omxrun.specs.declared.done.Done.{Done}
 use Rattle.omxrun.specs.declared.done.Done.TheVariants.{Made}
 
@@ -13,6 +14,7 @@ pub record IsMakeOutcome (seed frames : ℕ) (folder : List ℕ) (old new : Outs
   pub made : IsTrue old.tells → IfOk outcome (λ _. AreMade seed frames folder new)
   pub partly : IsTrue old.tells → OnErr outcome (ArePartlyMade seed frames folder old new)
   pub others : IsTrue old.tells → OthersAreKept folder old new
+  pub unabsent : AreAbsencesTold old new outcome
   pub reason : IfErr outcome (HasReason folder old new)
   pub stand : OnOk outcome (CountsStand old new)
   -- nothing is read

@@ -1,6 +1,6 @@
 -- What a play comes to.
 use Rattle.std.specs.Prelude.{◌≡◌, ◌≢◌, ◌⊎◌, ℕ, List, Option, Some, Result, Ok, Err, IsTrue, IfOk, IfErr, OnOk, OnErr}
-use Rattle.outside_io.specs.Files.{CountsStand, GoesOn, Outside}
+use Rattle.outside_io.specs.Files.{AbsencesStand, CountsStand, GoesOn, Outside}
 use Rattle.omx_types.specs.declared.fault.Fault.{Fault}
 use Rattle.omx_types.specs.declared.fault.Fault.TheVariants as Faults
 use Rattle.omx_types.specs.declared.fault.Which.TheVariants as Files
@@ -13,6 +13,7 @@ use Rattle.play_results.specs.Leaving.{IsLeft}
 use Rattle.play_results.specs.Summaries.{SinkLine, summary_text}
 use Rattle.play_course.specs.Outcomes.{IsDone, IsUndone}
 use Rattle.play_course.specs.Settling.{parts_of}
+use Rattle.omxrun.specs.Absences.{AreAbsencesTold}
 use Rattle.omxrun.specs.Texts.{fault_line}
 use Rattle.omxrun.specs.Told.{IsPrinted, status_of}
 use Rattle.omxrun.specs.Traced.{HasScriptReason}
@@ -23,6 +24,7 @@ use Rattle.omxrun.specs.Traced.{HasScriptReason}
 pub record WasRead (name log : List ℕ) (old mid : Outside) (script : Script) : Type 0 where
   pub goes_on : GoesOn old mid
   pub files : mid.file ≡ old.file
+  pub absences : AbsencesStand old mid
   pub stand : CountsStand old mid
   pub text : List ℕ
   pub held : IsTrue old.tells → old.file name ≡ Some text
@@ -49,6 +51,7 @@ IsDoneWith script log old new printed = (summary : List SinkLine) × IsDone scri
 -- what came of a script that was read; the outcome is what is to be printed, or a fault
 pub record IsPlayCourse (script : Script) (log : List ℕ) (old new : Outside) (outcome : Result (List ℕ) Fault) : Type 0 where
   pub done : IfOk outcome (IsDoneWith script log old new)
+  pub unabsent : AreAbsencesTold old new outcome
   pub stand : OnOk outcome (CountsStand old new)
   pub undone : IfErr outcome (IsUndone script log old new)
 
@@ -81,6 +84,7 @@ IsEarly other = ⊥
 -- write failed
 pub record IsPlayOutcome (name log : List ℕ) (old new : Outside) (outcome : Result (List ℕ) Fault) : Type 0 where
   pub played : IfOk outcome (IsPlayed name log old new)
+  pub unabsent : AreAbsencesTold old new outcome
   pub stand : OnOk outcome (CountsStand old new)
   pub unplayed : IfErr outcome (IsUnplayed name log old new)
   pub left : IsTrue old.tells → OnErr outcome (IsLeft name log old new)

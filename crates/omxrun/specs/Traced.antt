@@ -11,6 +11,7 @@ use Rattle.script_lang.specs.LineByLine.{fault_at}
 use Rattle.script_lang.specs.Scripts.{IsScript, ReadsAs}
 use Rattle.script_lang.specs.declared.script.Script.{Script}
 use Rattle.trace_run.specs.Traced.{IsTraced, IsTracedTo}
+use Rattle.omxrun.specs.Absences.{AreAbsencesTold}
 use Rattle.omxrun.specs.Texts.{fault_line}
 
 -- the file of that name is this script
@@ -51,5 +52,6 @@ IsTraceOf name old new outcome text =
 -- what a trace comes to: no told file changes; done whole only where no read and no write failed
 pub record IsTraceOutcome (name : List ℕ) (old new : Outside) (outcome : Result (Unit {0}) Fault) (text : List ℕ) : Type 0 where
   pub kept : new.file ≡ old.file
+  pub unabsent : AreAbsencesTold old new outcome
   pub is : IsTraceOf name old new outcome text
   pub stand : OnOk outcome (CountsStand old new)

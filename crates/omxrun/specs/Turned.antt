@@ -7,6 +7,7 @@ use Rattle.omx_types.specs.declared.fault.Fault.{Fault}
 use Rattle.omx_types.specs.declared.fault.Fault.TheVariants as Faults
 use Rattle.omx_types.specs.declared.fault.Which.TheVariants as Files
 use Rattle.wav_form.specs.Reading.{most_bytes}
+use Rattle.omxrun.specs.Absences.{AreAbsencesTold}
 use Rattle.omxrun.specs.Asked.{IsGiven}
 use Rattle.omxrun.specs.declared.done.Done.{Done}
 
@@ -73,6 +74,7 @@ pub record IsTurnOutcome (Gives : Giving) (Stops : Stopping) (input output : Lis
   pub others : IsTrue old.tells → SameBut output old new
   pub turned : IsTrue old.tells → IfOk outcome (IsTurned Gives input output old new)
   pub left : IsTrue old.tells → OnErr outcome (IsKeptOrBegun Gives input output old new)
+  pub unabsent : AreAbsencesTold old new outcome
   pub unopened : IfErr outcome (λ fault. IsUnopened fault → new.file ≡ old.file)
   pub reason : IfErr outcome (HasTurnReason Gives Stops input output old new)
   pub alone : IfErr outcome (IsAlone old new)

@@ -3,6 +3,7 @@ ghost use Rattle.outside_io.specs.Causes.{Rose, sum_of_counts};
 ghost use Rattle.outside_io.specs.Files.{CountsStand, GoesOn, IsFrontOf, SameBut};
 ghost use Rattle.outside_io.specs.Moves.{WhereTold};
 ghost use Rattle.rtp_parts.specs.Answers.{StoppedPacking};
+ghost use Rattle.omxrun.specs.Absences.{AreAbsencesTold};
 ghost use Rattle.omxrun.specs.Opened.{HasOpenReason, fault_of_input, fault_of_output};
 ghost use Rattle.omxrun.specs.Packets.{IsShortFile, IsWholeOrShort, PacksTo, UnpacksTo, StoppedUnpacking, fault_of_rtp, packing_done, unpacking_done};
 ghost use Rattle.omxrun.specs.Turned.{IsAlone, IsTurnOutcome};
@@ -79,6 +80,7 @@ fn open_both<M: Media>(
     ensures reason { IfErr result (HasOpenReason input.now output.now (M.outside media.old) (M.outside media.new)) }
     ensures alone { IfErr result (IsAlone (M.outside media.old) (M.outside media.new)) }
     ensures stand { OnOk result (CountsStand (M.outside media.old) (M.outside media.new)) }
+    ensures unabsent { AreAbsencesTold (M.outside media.old) (M.outside media.new) result }
 {
     let _read_faults = media.read_faults();
     let source = match media.source(alloc, input) {
@@ -105,6 +107,7 @@ fn close_both<M: Media>(
 ) -> Result<Done, Fault>
     ensures goes_on { GoesOn (M.outside media.old) (M.outside media.new) }
     ensures others { SameBut (M.Snk.name opened.output) (M.outside media.old) (M.outside media.new) }
+    ensures absences { (M.outside media.new).absences ≡ (M.outside media.old).absences }
     ensures done { IfOk result (λ done. (outcome ≡ Ok done) × ((M.outside media.new).file (M.Snk.name opened.output) ≡ M.Snk.told opened.output)) }
     ensures front { OnErr result (((M.outside media.new).file (M.Snk.name opened.output) ≡ M.Snk.told opened.output)
         ⊎ WhereTold (M.Snk.told opened.output) (IsFrontOf ((M.outside media.new).file (M.Snk.name opened.output)))) }

@@ -1,6 +1,7 @@
 ghost use Rattle.std.specs.Prelude.{◌≡◌, ◌≤◌, ℕ, List, Result, IfOk, IfErr};
 ghost use Rattle.outside_io.specs.Files.{GoesOn};
 ghost use Rattle.script_lang.specs.PlayScripts.{IsPlayScript};
+ghost use Rattle.omxrun.specs.Absences.{AreAbsencesTold};
 ghost use Rattle.omxrun.specs.Plays.{HasPlayReason, IsPlayCourse, IsPlayOutcome, IsToldOf, WasRead};
 
 use crate::print::{print, tell};
@@ -41,6 +42,7 @@ fn script_of<M: Media>(alloc: Global, media: &mut M, name: &str, log: &str) -> R
     ensures kept { (M.outside media.new).file ≡ (M.outside media.old).file }
     ensures read { IfOk result (WasRead name.now log.now (M.outside media.old) (M.outside media.new)) }
     ensures reason { IfErr result (HasPlayReason name.now log.now (M.outside media.old) (M.outside media.new)) }
+    ensures unabsent { AreAbsencesTold (M.outside media.old) (M.outside media.new) result }
 {
     let text = match read_whole(alloc, media, name, SCRIPT_BYTES) {
         Ok(text) => text,

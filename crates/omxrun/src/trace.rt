@@ -1,6 +1,7 @@
 ghost use Rattle.std.specs.Prelude.{◌≡◌, ◌≤◌, List, ℕ, Result, false, IfOk, IfErr, OnOk};
 ghost use Rattle.outside_io.specs.Files.{CountsStand, GoesOn};
 ghost use Rattle.script_lang.specs.Scripts.{IsOfCommand};
+ghost use Rattle.omxrun.specs.Absences.{AreAbsencesTold};
 ghost use Rattle.omxrun.specs.Faults.{fault_of_script, fault_of_reading};
 ghost use Rattle.omxrun.specs.Told.{IsPrinted, status_of};
 ghost use Rattle.omxrun.specs.Traced.{IsScriptIn, HasScriptReason, TracesTo, IsTraceOutcome};
@@ -37,6 +38,7 @@ fn script_in<M: Media>(alloc: Global, media: &mut M, name: &str) -> Result<Scrip
     ensures script { IfOk result (IsScriptIn name.now (M.outside media.old)) }
     ensures command { IfOk result (IsOfCommand false) }
     ensures stand { OnOk result (CountsStand (M.outside media.old) (M.outside media.new)) }
+    ensures unabsent { AreAbsencesTold (M.outside media.old) (M.outside media.new) result }
     ensures reason { IfErr result (HasScriptReason name.now (M.outside media.old) (M.outside media.new)) }
 {
     let text = match read_whole(alloc, media, name, SCRIPT_BYTES) {

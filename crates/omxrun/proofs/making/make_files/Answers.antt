@@ -7,6 +7,7 @@ returns-in-Ok-clause-outcome g c = record {
   made = c.in-Ok.ensures.made;
   partly = λ tells. tt;
   others = c.in-Ok.ensures.others;
+  unabsent = c.in-Ok.ensures.unabsent;
   reason = tt;
   stand = record { reads = c.in-Ok.ensures.read_faults; writes = c.in-Ok.ensures.write_stands (λ same. cc) };
   reads = c.in-Ok.ensures.read_faults;
@@ -19,6 +20,7 @@ returns-in-Err-clause-outcome g c = record {
   made = λ tells. tt;
   partly = c.in-Err.ensures.partly;
   others = c.in-Err.ensures.others;
+  unabsent = c.in-Err.ensures.unabsent;
   reason = c.in-Err.ensures.reason;
   stand = tt;
   reads = c.in-Err.ensures.read_faults;

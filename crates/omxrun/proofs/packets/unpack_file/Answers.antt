@@ -9,7 +9,7 @@ use Rattle.omxrun.proofs.packets.unpack_file.Goals as goal
 
 pub returns-in-Err-clause-outcome : goal.returns-in-Err-clause-outcome
 returns-in-Err-clause-outcome g c =
-    unopened-outcome UnpacksTo StoppedUnpacking c.args.input.now c.args.output.now (g.M.Media.outside c.args.media.now) (g.M.Media.outside c.open_both.new.media) c.in-Err.fault c.open_both.ensures.files c.in-Err.ensures.reason c.in-Err.ensures.alone
+    unopened-outcome UnpacksTo StoppedUnpacking c.args.input.now c.args.output.now (g.M.Media.outside c.args.media.now) (g.M.Media.outside c.open_both.new.media) c.in-Err.fault c.open_both.ensures.files c.in-Err.ensures.reason c.in-Err.ensures.alone c.in-Err.ensures.unabsent
 
 pub returns-in-Ok-clause-outcome : goal.returns-in-Ok-clause-outcome
 returns-in-Ok-clause-outcome g c =
@@ -50,6 +50,6 @@ returns-in-Ok-clause-outcome g c =
       closed = c.close_both.ensures.closed;
     } in
     turned-outcome UnpacksTo StoppedUnpacking c.args.input.now c.args.output.now old new c.unpacked_outcome.result c.close_both.result told
-    (closed-of UnpacksTo StoppedUnpacking (g.M.Snk.Sink.name c.unpack-unpacked.new.snk) c.args.input.now c.args.output.now old mid new c.unpacked_outcome.result c.close_both.result told c.open_both.ensures.files c.open_both.ensures.goes_on
+    (closed-of UnpacksTo StoppedUnpacking (g.M.Snk.Sink.name c.unpack-unpacked.new.snk) c.args.input.now c.args.output.now old mid new c.unpacked_outcome.result c.close_both.result told c.open_both.ensures.files c.open_both.ensures.goes_on c.in-Ok.ensures.unabsent c.close_both.ensures.absences
     (λ tells. c.unpack-unpacked.ensures.name ∙ c.in-Ok.ensures.name tells) shut moved stopped (shut-alone old mid new c.unpacked_outcome.result c.close_both.result (g.M.Src.Source.faults c.unpack-unpacked.new.src) (g.M.Snk.Sink.faults c.unpack-unpacked.new.snk) c.in-Ok.ensures.stand alone shut_alone)
     (shut-stand (g.M.Snk.Sink.name c.unpack-unpacked.new.snk) old mid new c.unpacked_outcome.result c.close_both.result told (g.M.Src.Source.faults c.unpack-unpacked.new.src) (g.M.Snk.Sink.faults c.unpack-unpacked.new.snk) c.in-Ok.ensures.stand alone shut shut_alone))

@@ -6,6 +6,7 @@ use Rattle.play_results.specs.Summaries.{summary_text}
 use Rattle.play_course.specs.Settling.{parts_of}
 use Rattle.play_course.specs.Sums.{line_value}
 use Rattle.omxrun.specs.Told.{IsPrinted}
+use Rattle.omxrun.proofs.Absences.{undone-told}
 use Rattle.omxrun.proofs.Outcomes.{sinks-few}
 use Rattle.omxrun.proofs.play.play_read.Goals as goal
 
@@ -23,9 +24,11 @@ returns-in-Ok-clause-played g c =
     let S = c.in-Ok.ensures.stand in
     let text_is = c.text_of_play-text.ensures ∙ ap (λ (ps : List PartLine). summary_text ps (map line_value c.sinks.result.now)) c.parts_of.ensures ∙ ap (summary_text (parts_of script)) c.sinks.ensures in (
       Ok (summary_text (parts_of script) summary),
-      record { done = (summary, c.in-Ok.ensures.done, refl); stand = record { reads = S.reads; writes = S.writes }; undone = tt },
+      record { done = (summary, c.in-Ok.ensures.done, refl); unabsent = c.in-Ok.ensures.absences; stand = record { reads = S.reads; writes = S.writes }; undone = tt },
       subst (λ (text : List ℕ). IsPrinted Statuses.Ok text (g.O.Sink.told c.args.out.now) (g.O.Sink.told c.print.new.out) (g.O.Sink.faults c.args.out.now) (g.O.Sink.faults c.print.new.out) c.print.result) text_is c.print.ensures.printed,
     )
 
 pub returns-in-Err-clause-played : goal.returns-in-Err-clause-played
-returns-in-Err-clause-played g c = (Err c.in-Err.undone, record { done = tt; stand = tt; undone = c.in-Err.ensures.undone }, c.tell.ensures.told)
+returns-in-Err-clause-played g c =
+    let told = undone-told c.args.script.now c.args.log.now (g.M.Media.outside c.args.media.now) (g.M.Media.outside c.play_script.new.media) c.in-Err.undone c.in-Err.ensures.undone in
+    (Err c.in-Err.undone, record { done = tt; unabsent = told; stand = tt; undone = c.in-Err.ensures.undone }, c.tell.ensures.told)
