@@ -1,8 +1,8 @@
 -- Three files that are made one after the other.
-use Rattle.std.proofs.Common.{◌≡◌, ◌≢◌, ℕ, ◌+◌, ◌-◌, ◌%◌, ◌^◌, ◌<◌, ◌≤◌, min, List, ◌∷◌, ◌++◌, length, take, get_or, Some, Option, Result, Ok, Err, OnOk, OnErr, IfErr, IsTrue, refl, sym, ap, ◌∙◌, subst, arith, inl, inr, Bool}
+use Rattle.std.proofs.Common.{◌≡◌, ◌≢◌, ℕ, ◌+◌, ◌%◌, ◌^◌, ◌<◌, ◌≤◌, List, ◌∷◌, length, get_or, Some, Option, Ok, Err, IsTrue, refl, sym, ap, ◌∙◌, subst, arith, inl, inr, Bool}
 use Rattle.std.proofs.lemmas.List.{append_cancel_left, take_all}
 use Rattle.outside_io.specs.Causes.{Rose}
-use Rattle.outside_io.specs.Files.{Outside, GoesOn, SameBut, IsFrontOf, TellsAbsence}
+use Rattle.outside_io.specs.Files.{Outside, GoesOn, IsFrontOf, TellsAbsence}
 use Rattle.outside_io.specs.Whole.{IsKeptOrFrontOf, HasWriteReason}
 use Rattle.outside_io.specs.declared.media.Refused.{Refused}
 use Rattle.outside_io.specs.declared.media.Refused.TheVariants.{Absent as NotMade, Failed as NotWritten, OutOfMemory as NoRoom}

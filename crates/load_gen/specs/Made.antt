@@ -7,7 +7,6 @@ use Rattle.outside_io.specs.declared.media.Refused.{Refused}
 use Rattle.outside_io.specs.declared.media.Refused.TheVariants.{Absent as NotMade, Failed as NotWritten, OutOfMemory as NoRoom}
 use Rattle.omx_types.specs.declared.fault.Fault.{Fault}
 use Rattle.omx_types.specs.declared.fault.Fault.TheVariants.{WriteFault, Absent, OutOfMemory}
-use Rattle.omx_types.specs.declared.fault.Which.{Which}
 use Rattle.omx_types.specs.declared.fault.Which.TheVariants.{Made}
 use Rattle.load_gen.specs.Samples.{wav}
 use Rattle.load_gen.specs.Script.{first_name, second_name, script_name, script}

@@ -1,9 +1,5 @@
-use Rattle.std.proofs.Common.{◌≡◌, ◌∙◌, ◌<◌, ◌^◌, sym, subst, Result, Ok, Err, List, arith}
-use Rattle.outside_io.specs.Files.{Outside}
-use Rattle.omx_types.specs.declared.fault.Fault.{Fault}
-use Rattle.load_gen.specs.Made.{Makes, HasReason}
-use Rattle.load_gen.specs.Samples.{wav_from}
-use Rattle.load_gen.specs.Script.{first_name, second_name, script_name, script}
+use Rattle.std.proofs.Common.{sym, subst, arith}
+use Rattle.load_gen.specs.Made.{HasReason}
 use Rattle.load_gen.proofs.ThreeFiles.{partly-first, partly-second, partly-third, all-stand, all_made, reason-first, reason-second, reason-third, told-first, told-second, told-third}
 use Rattle.load_gen.proofs.making.make.Goals as goal
 

@@ -1,4 +1,4 @@
-use Rattle.std.proofs.Common.{◌≡◌, ◌∙◌, ap, sym, arith, ◌*◌, ◌+◌, ◌<◌, ℕ, List, [], ◌∷◌, get_or, length}
+use Rattle.std.proofs.Common.{◌∙◌, ap, sym, arith, ◌*◌, ◌+◌, ◌<◌, ℕ, List, [], ◌∷◌, get_or, length}
 use Rattle.load_gen.specs.Samples.{next}
 use Rattle.load_gen.proofs.Generated.{filled-more, after_more}
 use Rattle.load_gen.proofs.samples.fill.Goals as goal

@@ -1,4 +1,4 @@
-use Rattle.std.proofs.Common.{◌≡◌, ◌*◌, take, length}
+use Rattle.std.proofs.Common.{◌≡◌, ◌*◌, take}
 use Rattle.load_gen.specs.Samples.{after, samples}
 use Rattle.load_gen.proofs.samples.fill.Given as goal
 

@@ -1,4 +1,4 @@
-use Rattle.std.proofs.Common.{rules, ◌≡◌, ◌∙◌, ◌+◌, ◌-◌, ◌≤◌, ℕ, List, Option, length, ap, sym, subst, arith}
+use Rattle.std.proofs.Common.{rules, ◌≡◌, ◌∙◌, ◌+◌, ◌-◌, ◌≤◌, ℕ, ap, sym, subst, arith}
 use Rattle.std.specs.Io.KnownBytes.{append_known}
 use Rattle.outside_io.specs.Moves.{AppendsFront}
 use Rattle.load_gen.specs.Samples.{after, samples}
