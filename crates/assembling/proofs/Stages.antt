@@ -8,7 +8,6 @@ use Rattle.omx_types.specs.declared.error.CallError.{CallError}
 use Rattle.omx_types.specs.declared.error.CallError.TheVariants.{OutOfMemory}
 use Rattle.omx_types.specs.declared.param.Supplier.{Supplier}
 use Rattle.omx_types.specs.declared.param.Supplier.TheVariants.{Input}
-use Rattle.il_machine.specs.Acts.{Act, Reply}
 use Rattle.il_machine.specs.Acts as acts
 use Rattle.il_machine.specs.Components.{GetHandle}
 use Rattle.il_machine.specs.Due.{IsClosed}

@@ -6,18 +6,15 @@ use Rattle.outside_io.specs.declared.whole.Unread.{Unread}
 use Rattle.outside_io.specs.declared.whole.Unread.TheVariants as Unreads
 use Rattle.outside_io.proofs.Closed.{told_value}
 use Rattle.omx_types.specs.declared.fault.Fault.{Fault}
-use Rattle.script_lang.specs.PlayScripts.{IsPlayRefused}
 use Rattle.script_lang.specs.declared.play_line.PartLine.{PartLine}
 use Rattle.script_lang.specs.declared.script.Script.{Script}
 use Rattle.script_lang.specs.declared.script.Script.TheVariants.{Play, Trace}
-use Rattle.script_lang.specs.declared.script.ScriptError.{ScriptError}
-use Rattle.script_lang.specs.declared.script.ScriptError.TheVariants as Errors
 use Rattle.play_forms.specs.Plans.{IsPlanOfScript, PlanValue}
 use Rattle.play_results.specs.Files.{written_by}
 use Rattle.play_results.specs.Summaries.{SinkLine, with_line}
 use Rattle.play_course.specs.Outcomes.{IsDone}
 use Rattle.play_course.specs.Sums.{planned_from, planned_line}
-use Rattle.omxrun.specs.Faults.{fault_of_reading, fault_of_script}
+use Rattle.omxrun.specs.Faults.{fault_of_script}
 use Rattle.omxrun.specs.Plays.{HasPlayReason, IsPlayCourse, IsPlayOutcome, WasRead}
 use Rattle.omxrun.proofs.Absences.{IsAbsenceTold, none-before}
 use Rattle.omxrun.proofs.Causes.{CountsStand-then}
@@ -42,11 +39,6 @@ unread-play name log old new (Unreads.TooLong size) reason there stands writes =
     )
 unread-play name log old new (Unreads.Short at size) reason there stands writes = unread-reason name old new (Unreads.Short at size) reason there stands writes
 unread-play name log old new Unreads.OutOfMemory reason there stands writes = unread-reason name old new Unreads.OutOfMemory reason there stands writes
-
--- its bytes are no script
-pub refused-play : (name log text : List ℕ) (old new : Outside) (error : ScriptError) → (IsTrue old.tells → old.file name ≡ Some text) → CountsStand old new → IsPlayRefused name log text error → HasPlayReason name log old new (fault_of_reading error)
-refused-play name log text old new (Errors.Fault fault) held stand refused = (stand, λ tells. record { bytes = text; held = held tells; refused = refused })
-refused-play name log text old new Errors.OutOfMemory held stand refused = tt
 
 -- ---- a script that was read
 

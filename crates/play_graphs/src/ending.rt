@@ -1,7 +1,6 @@
 //! The whole graph ends.
 
 ghost use Rattle.std.specs.Prelude.{◌≡◌, ◌≤◌, length};
-ghost use Rattle.il_machine.specs.World.{World};
 ghost use Rattle.il_machine.specs.Whole.{Always};
 ghost use Rattle.dismantling.specs.Dismantling.{AreLinks};
 ghost use Rattle.play_graphs.specs.Graphs.{kept_of};
