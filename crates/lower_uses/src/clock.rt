@@ -87,61 +87,6 @@ fn clock_waits_for_two_ports(rt: HostRuntime) {
 }
 
 #[test]
-fn jumps_over_all_moments(rt: HostRuntime) {
-    let mut clock = Clock::new();
-    let mut out = [Fulfilled::default(); 64];
-    assert_eq!(rt;
-        called(&mut clock, 0, ClockAct::Scale(1), &mut out),
-        Some(Ok(0))
-    );
-    assert_eq!(rt;
-        called(&mut clock, 0, ClockAct::Start(0), &mut out),
-        Some(Ok(0))
-    );
-    assert_eq!(rt;
-        called(&mut clock, 0, ask(1, 1 << 37), &mut out),
-        Some(Ok(0))
-    );
-    assert_eq!(rt;
-        called(&mut clock, 0, ask(2, (1 << 37) + 1), &mut out),
-        Some(Ok(0))
-    );
-    assert_eq!(rt; clock.next_wall(), Some(1 << 53));
-    assert_eq!(rt;
-        called(&mut clock, 1 << 53, ClockAct::Pass, &mut out),
-        Some(Ok(1))
-    );
-    assert_eq!(rt; out[0], due(1, 1 << 53));
-    assert_eq!(rt; clock.next_wall(), None);
-}
-
-#[test]
-fn sixty_four_requests(rt: HostRuntime) {
-    let mut clock = Clock::new();
-    let mut out = [Fulfilled::default(); 64];
-    for id in 0..64 {
-        assert_eq!(rt; called(&mut clock, 1, ask(id, 7), &mut out), Some(Ok(0)));
-    }
-    assert_eq!(rt;
-        called(&mut clock, 0, ask(64, 7), &mut out),
-        Some(Err(ClockRefusal::Backwards { last: 1 }))
-    );
-    assert_eq!(rt;
-        called(&mut clock, 1, ask(64, 7), &mut out),
-        Some(Err(ClockRefusal::Full))
-    );
-    assert_eq!(rt;
-        called(&mut clock, 1, ask(3, 7), &mut out),
-        Some(Err(ClockRefusal::Taken))
-    );
-    assert_eq!(rt;
-        called(&mut clock, 3, ClockAct::Start(7), &mut out),
-        Some(Ok(64))
-    );
-    assert_eq!(rt; out[63], due(63, 3));
-}
-
-#[test]
 fn each_refusal_and_backwards_before_it(rt: HostRuntime) {
     let mut clock = Clock::new();
     let mut out = [Fulfilled::default(); 64];
@@ -163,25 +108,4 @@ fn each_refusal_and_backwards_before_it(rt: HostRuntime) {
             Some(Err(ClockRefusal::Backwards { last: 10 }))
         );
     }
-}
-
-/// The moment at which a media time is reached at a scale, from a start at zero.
-fn moment_at(scale: u32, media: u64) -> Option<u64> {
-    let mut clock = Clock::new();
-    let mut out = [Fulfilled::default(); 64];
-    let _ = called(&mut clock, 0, ClockAct::Scale(scale), &mut out);
-    let _ = called(&mut clock, 0, ClockAct::Start(0), &mut out);
-    let _ = called(&mut clock, 0, ask(1, media), &mut out);
-    clock.next_wall()
-}
-
-#[test]
-fn scales(rt: HostRuntime) {
-    assert_eq!(rt; moment_at(0, 1), None);
-    assert_eq!(rt; moment_at(65_535, 1), Some(2));
-    assert_eq!(rt; moment_at(65_535, 65_535), Some(65_536));
-    assert_eq!(rt; moment_at(65_537, 65_536), Some(65_536));
-    assert_eq!(rt; moment_at(65_537, 65_537), Some(65_536));
-    assert_eq!(rt; moment_at(1_048_576, 16), Some(1));
-    assert_eq!(rt; moment_at(1_048_576, 17), Some(2));
 }

@@ -40,16 +40,6 @@ fn one_frame(rt: HostRuntime) -> Result<(), Failure> {
 }
 
 #[test]
-fn many_pieces(rt: HostRuntime) -> Result<(), Failure> {
-    let alloc = rt.alloc();
-    let mut media = media(alloc, Vec::new(alloc))?;
-    assert_eq!(rt; make(alloc, u64::MAX, 10_000, "w", &mut media), Ok(()));
-    assert_eq!(rt; media.file("w/a.wav").ok_or("no file")?.len(), 20_044);
-    assert_eq!(rt; media.file("w/b.wav").ok_or("no file")?.len(), 20_044);
-    Ok(())
-}
-
-#[test]
 fn failures(rt: HostRuntime) -> Result<(), Failure> {
     let alloc = rt.alloc();
     let absent = |number| Err(Fault::Absent(Which::Made(number)));

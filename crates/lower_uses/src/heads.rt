@@ -1,43 +1,14 @@
-//! Heads of WAV files as usual tools write them, those that are refused, and those that are written.
+//! Heads of WAV files as usual tools write them, those that can't be read to their end, and those that are written.
 
 use omx_types::{Format, WavFault};
-use outside_io::{Fail, FailKind, Media, MemoryMedia, MemorySource};
-use std::alloc::{AllocError, Global};
+use outside_io::{Fail, FailKind, Media, MemoryMedia, MemorySource, Source};
+use std::alloc::Global;
 use std::test::Fail as Failure;
 use wav_form::{WavHead, head_bytes, read_head};
-
-const RIFF: &[u8] = b"RIFF\xff\xff\xff\xffWAVE";
-
-const PCM_CHUNK: &[u8] = b"fmt \x10\0\0\0\x01\0\x01\0\x40\x1f\0\0\x80\x3e\0\0\x02\0\x10\0";
 
 /// A file as usual tools write it: mu-law with a list, a long format chunk and a length that isn't known.
 const USUAL: &[u8] =
     b"RIFF\xff\xff\xff\xffWAVELIST\x03\0\0\0abc\0fmt \x12\0\0\0\x07\0\x01\0\x40\x1f\0\0\x40\x1f\0\0\x01\0\x08\0\0\0data\xff\xff\xff\xff\xff\x7f\x80";
-
-fn joined(alloc: Global, pieces: &[&[u8]]) -> Result<Vec<u8>, AllocError> {
-    let mut bytes = Vec::new(alloc);
-    for piece in pieces {
-        bytes.extend_from_slice(piece)?;
-    }
-    Ok(bytes)
-}
-
-fn answer(alloc: Global, pieces: &[&[u8]]) -> Result<Result<WavHead, WavFault>, AllocError> {
-    let mut src = MemorySource::new(joined(alloc, pieces)?);
-    Ok(read_head(&mut src))
-}
-
-fn pcm(start: u64, frames: u64) -> Result<WavHead, WavFault> {
-    let format = Format::Pcm {
-        rate: 8000,
-        channels: 1,
-    };
-    Ok(WavHead {
-        format,
-        start,
-        frames,
-    })
-}
 
 #[test]
 fn usual_file(rt: HostRuntime) -> Result<(), Failure> {
@@ -45,145 +16,16 @@ fn usual_file(rt: HostRuntime) -> Result<(), Failure> {
         rate: 8000,
         channels: 1,
     };
-    assert_eq!(rt; USUAL.len(), 61);
+    let mut src = MemorySource::new(USUAL.to_vec(rt.alloc())?);
+    assert_eq!(rt; src.size(), 61);
     assert_eq!(rt;
-        answer(rt.alloc(), &[USUAL])?,
+        read_head(&mut src),
         Ok(WavHead {
             format,
             start: 58,
             frames: 3
         })
     );
-    Ok(())
-}
-
-#[test]
-fn rules(rt: HostRuntime) -> Result<(), Failure> {
-    let alloc = rt.alloc();
-    // Fewer than 12 bytes, another form, and another type.
-    assert_eq!(rt;
-        answer(alloc, &[b"RIFF\0\0\0\0WAV"])?,
-        Err(WavFault::NotRiff)
-    );
-    assert_eq!(rt;
-        answer(alloc, &[b"RIFX\0\0\0\0WAVE", PCM_CHUNK, b"data\0\0\0\0"])?,
-        Err(WavFault::NotRiff)
-    );
-    assert_eq!(rt;
-        answer(alloc, &[b"RIFF\0\0\0\0AVI ", PCM_CHUNK, b"data\0\0\0\0"])?,
-        Err(WavFault::NotRiff)
-    );
-    // No chunk, no whole chunk head, samples first.
-    assert_eq!(rt; answer(alloc, &[RIFF])?, Err(WavFault::NoFormat));
-    assert_eq!(rt;
-        answer(alloc, &[RIFF, b"fmt \x10\0\0"])?,
-        Err(WavFault::NoFormat)
-    );
-    assert_eq!(rt;
-        answer(alloc, &[RIFF, b"data\0\0\0\0", PCM_CHUNK])?,
-        Err(WavFault::NoFormat)
-    );
-    // Samples wanted.
-    assert_eq!(rt;
-        answer(alloc, &[RIFF, PCM_CHUNK])?,
-        Err(WavFault::NoSamples)
-    );
-    assert_eq!(rt;
-        answer(alloc, &[RIFF, PCM_CHUNK, b"LIST\xff\xff\xff\xff"])?,
-        Err(WavFault::NoSamples)
-    );
-    // Samples: none; past the end; cut to whole frames.
-    assert_eq!(rt;
-        answer(alloc, &[RIFF, PCM_CHUNK, b"data\0\0\0\0"])?,
-        pcm(44, 0)
-    );
-    assert_eq!(rt;
-        answer(alloc, &[RIFF, PCM_CHUNK, b"data\x09\0\0\0abcde"])?,
-        pcm(44, 2)
-    );
-    assert_eq!(rt;
-        answer(alloc, &[RIFF, PCM_CHUNK, b"data\x03\0\0\0abcde"])?,
-        pcm(44, 1)
-    );
-    // Skipped: other chunks with their pad bytes, and a later format chunk.
-    assert_eq!(rt;
-        answer(
-            alloc,
-            &[
-                RIFF,
-                b"LIST\x02\0\0\0ab",
-                PCM_CHUNK,
-                b"fact\x01\0\0\0a\0data\x02\0\0\0ab"
-            ]
-        )?,
-        pcm(64, 1)
-    );
-    assert_eq!(rt;
-        answer(
-            alloc,
-            &[RIFF, PCM_CHUNK, b"fmt \x01\0\0\0a\0data\x02\0\0\0ab"]
-        )?,
-        pcm(54, 1)
-    );
-    Ok(())
-}
-
-#[test]
-fn formats(rt: HostRuntime) -> Result<(), Failure> {
-    let alloc = rt.alloc();
-    let rows: [(&[u8], Result<Format, WavFault>); 11] = [
-        (
-            b"fmt \x0f\0\0\0\x01\0\x01\0\x40\x1f\0\0\x80\x3e\0\0\x02\0\x10\0",
-            Err(WavFault::BadFormat),
-        ),
-        (
-            b"fmt \xff\0\0\0\x01\0\x01\0\x40\x1f\0\0\x80\x3e\0\0\x02\0\x10\0",
-            Err(WavFault::BadFormat),
-        ),
-        (
-            b"fmt \x10\0\0\0\x03\0\0\0\0\0\0\0\0\0\0\0\0\0\0\0",
-            Err(WavFault::UnsupportedTag(3)),
-        ),
-        (
-            b"fmt \x10\0\0\0\xfe\xff\x01\0\x40\x1f\0\0\x80\x3e\0\0\x02\0\x10\0",
-            Err(WavFault::UnsupportedTag(65534)),
-        ),
-        (
-            b"fmt \x10\0\0\0\x01\0\0\0\x40\x1f\0\0\x80\x3e\0\0\x02\0\x10\0",
-            Err(WavFault::BadFormat),
-        ),
-        (
-            b"fmt \x10\0\0\0\x01\0\x09\0\x40\x1f\0\0\x80\x3e\0\0\x02\0\x10\0",
-            Err(WavFault::BadFormat),
-        ),
-        (
-            b"fmt \x10\0\0\0\x01\0\x01\0\0\0\0\0\x80\x3e\0\0\x02\0\x10\0",
-            Err(WavFault::BadFormat),
-        ),
-        (
-            b"fmt \x10\0\0\0\x01\0\x01\0\x01\xb8\x0b\0\x80\x3e\0\0\x02\0\x10\0",
-            Err(WavFault::BadFormat),
-        ),
-        (
-            b"fmt \x10\0\0\0\x01\0\x01\0\x40\x1f\0\0\x80\x3e\0\0\x02\0\x08\0",
-            Err(WavFault::BadFormat),
-        ),
-        (
-            b"fmt \x10\0\0\0\x06\0\x01\0\x40\x1f\0\0\x80\x3e\0\0\x02\0\x10\0",
-            Err(WavFault::BadFormat),
-        ),
-        (
-            b"fmt \x10\0\0\0\x06\0\x08\0\0\xb8\x0b\0\0\0\0\0\0\0\x08\0",
-            Ok(Format::Alaw {
-                rate: 768000,
-                channels: 8,
-            }),
-        ),
-    ];
-    for (chunk, want) in &rows {
-        let got = answer(alloc, &[RIFF, *chunk, b"data\0\0\0\0"])?.map(|head| head.format);
-        assert_eq!(rt; got, *want);
-    }
     Ok(())
 }
 

@@ -3,8 +3,6 @@
 #![tactic(auto)]
 
 #[cfg(test)]
-mod acts;
-#[cfg(test)]
 mod clock;
 #[cfg(test)]
 mod codes;

@@ -1,4 +1,3 @@
-use omx_types::WavFault;
 use outside_io::{Fail, FailKind, Media, MemoryMedia, MemorySink, MemorySource};
 use rtp_parts::{Packed, RtpFault, Unpacked, pack, unpack};
 use std::alloc::{AllocError, Global};
@@ -29,47 +28,6 @@ fn three_codes(rt: HostRuntime) -> Result<(), Failure> {
         })
     );
     assert_eq!(rt; bytes.as_slice(), THREE_PACKED);
-    Ok(())
-}
-
-#[test]
-fn other_files(rt: HostRuntime) -> Result<(), Failure> {
-    let mut wide = THREE.to_vec(rt.alloc())?;
-    for byte in wide.iter_mut().skip(22).take(1) {
-        *byte = 2;
-    }
-    let (answer, bytes) = packed(rt.alloc(), &wide)?;
-    assert_eq!(rt; answer, Err(RtpFault::WrongFormat));
-    assert_eq!(rt; bytes.len(), 0);
-    let (answer, bytes) = packed(rt.alloc(), b"RIFX")?;
-    assert_eq!(rt; answer, Err(RtpFault::Head(WavFault::NotRiff)));
-    assert_eq!(rt; bytes.len(), 0);
-    Ok(())
-}
-
-#[test]
-fn failures(rt: HostRuntime) -> Result<(), Failure> {
-    let alloc = rt.alloc();
-    let rows = [
-        ("in", FailKind::Read, 1, RtpFault::Read),
-        (
-            "in",
-            FailKind::EndAt,
-            59,
-            RtpFault::Short { at: 59, size: 62 },
-        ),
-        ("out", FailKind::Write, 2, RtpFault::Write),
-    ];
-    for (name, kind, nth, wanted) in rows {
-        let files = vec![in alloc; (String::from_str(alloc, "in")?, THREE.to_vec(alloc)?)]?;
-        let fails = vec![in alloc; Fail::new(String::from_str(alloc, name)?, kind, nth)]?;
-        let mut media = MemoryMedia::new(alloc, files, fails, 65_536)?;
-        let mut src = media.source(alloc, "in").ok().ok_or("no source")?;
-        let mut snk = media.sink(alloc, "out").ok().ok_or("no sink")?;
-        assert_eq!(rt; pack(&mut src, &mut snk), Err(wanted));
-        media.close_source(src);
-        let _ = media.close_sink(snk);
-    }
     Ok(())
 }
 
@@ -120,47 +78,6 @@ fn no_packets(rt: HostRuntime) -> Result<(), Failure> {
     let (answer, bytes) = unpacked(rt.alloc(), b"omxrtp2\n")?;
     assert_eq!(rt; answer, Err(RtpFault::NotPackets));
     assert_eq!(rt; bytes.len(), 0);
-    Ok(())
-}
-
-/// A record that the file cuts, in its packet or in its length, is skipped.
-#[test]
-fn cut_records(rt: HostRuntime) -> Result<(), Failure> {
-    let alloc = rt.alloc();
-    for cut in [1, 2, 10] {
-        let mut list = THREE_PACKED.to_vec(alloc)?;
-        list.extend_from_slice(&b"\0\x0d\x80\0\0\x01\0\0\0\x03\0\0\0\x01"[..cut])?;
-        let (answer, bytes) = unpacked(alloc, &list)?;
-        assert_eq!(rt;
-            answer,
-            Ok(Unpacked {
-                frames: 3,
-                bytes: 62,
-                packets: 2,
-                accepted: 1,
-                late: 0,
-                repeated: 0,
-                skipped: 1
-            })
-        );
-        assert_eq!(rt; bytes.as_slice(), THREE);
-    }
-    Ok(())
-}
-
-/// A gap of 80,000 frames is silence, and one of 80,001 is none.
-#[test]
-fn gaps(rt: HostRuntime) -> Result<(), Failure> {
-    let alloc = rt.alloc();
-    for (end, frames) in [(0x81u8, 80_002u64), (0x82, 2)] {
-        let mut list = b"omxrtp1\n\0\x0d\x80\0\0\0\0\0\0\0\0\0\0\x01\x11".to_vec(alloc)?;
-        list.extend_from_slice(b"\0\x0d\x80\0\0\x01\0\x01\x38")?;
-        list.push(end)?;
-        list.extend_from_slice(b"\0\0\0\x01\x22")?;
-        let (answer, bytes) = unpacked(alloc, &list)?;
-        assert_eq!(rt; answer.map(|counts| counts.frames), Ok(frames));
-        assert_eq!(rt; bytes.len() as u64, 58 + frames);
-    }
     Ok(())
 }
 

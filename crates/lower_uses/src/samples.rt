@@ -2,7 +2,7 @@
 
 ghost use Rattle.std.specs.Prelude.{◌≤◌};
 
-use pcm_ops::{bytes_of, clamp_into, copy_into, gain_into, mix_into, samples_of};
+use pcm_ops::{bytes_of, copy_into, gain_into, samples_of};
 
 #[test]
 fn bytes_and_samples(rt: HostRuntime) {
@@ -40,50 +40,5 @@ fn gains_at_extremes(rt: HostRuntime) {
             gained(x, 65535),
         ];
         assert_eq!(rt; got, want, "at {x}");
-    }
-}
-
-fn some_samples() -> [i16; 70] {
-    let mut samples = [0; 70];
-    let mut x: i16 = -32768;
-    for i in 0..70 {
-        samples[i] = x;
-        x = x.wrapping_add(937);
-    }
-    samples
-}
-
-/// What is added to a sum for one sample.
-fn mixed(x: i16, weight: u32) -> i32
-    requires { weight ≤ 65535 }
-{
-    let mut sum = [0];
-    mix_into(&mut sum, &[x], weight);
-    sum[0]
-}
-
-fn clamped(x: i32) -> i16 {
-    let mut to = [0];
-    clamp_into(&[x], &mut to);
-    to[0]
-}
-
-/// Slices go through vectors, and a sample by itself doesn't.
-#[test]
-fn slices_as_scalars(rt: HostRuntime) {
-    let samples = some_samples();
-    let mut to = [0_i16; 70];
-    for n in 0..71 {
-        let mut sum = [0_i32; 70];
-        gain_into(&samples[..n], 5000, &mut to[..n]);
-        for i in 0..n {
-            assert_eq!(rt; to[i], gained(samples[i], 5000), "{i} of {n}");
-        }
-        mix_into(&mut sum[..n], &samples[..n], 60_000);
-        clamp_into(&sum[..n], &mut to[..n]);
-        for i in 0..n {
-            assert_eq!(rt; sum[i], mixed(samples[i], 60_000), "{i} of {n}");
-            assert_eq!(rt; to[i], clamped(sum[i]), "{i} of {n}");
-        }
     }
 }

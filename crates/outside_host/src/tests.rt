@@ -1,7 +1,11 @@
 use crate::{HostMedia, HostSink};
 use outside_io::{Failed, Media, PumpFault, Refused, Sink, Source, pump, read_whole, write_whole};
+use std::alloc::Global;
+use std::fs::File;
 use std::io::{self, ErrorKind, Write};
 use std::os::unix::fs::symlink;
+use std::process::Abort;
+use std::rt::Files;
 use std::test::Fail;
 use std::{env, fs, process};
 
@@ -85,54 +89,95 @@ fn files_come_back(rt: HostRuntime) -> Result<(), Fail> {
     Ok(())
 }
 
+/// The file of that name in the folder has these bytes.
+fn check_holds<R: Files + Alloc<A = Global> + Abort>(
+    rt: &R,
+    folder: &str,
+    name: &str,
+    bytes: &[u8],
+) -> Result<(), Fail> {
+    let path = format!(in rt.alloc(); "{folder}/{name}")?;
+    let held = fs::read(rt, path.as_str())?;
+    assert!(rt; held.as_slice() == bytes, "in {name}");
+    Ok(())
+}
+
+/// The bytes become the file of that name in the folder.
+fn check_written<R: Files<File = File> + Alloc<A = Global> + Abort>(
+    rt: &R,
+    media: &mut HostMedia<R>,
+    folder: &str,
+    name: &str,
+    bytes: &[u8],
+) -> Result<(), Fail> {
+    let path = format!(in rt.alloc(); "{folder}/{name}")?;
+    let written = write_whole(rt.alloc(), media, path.as_str(), bytes);
+    assert_eq!(rt; written, Ok(()), "at {name}");
+    check_holds(rt, folder, name, bytes)
+}
+
+/// A sink of that name in the folder isn't opened, which is counted.
+fn check_refused<R: Files<File = File> + Alloc<A = Global> + Abort>(
+    rt: &R,
+    media: &mut HostMedia<R>,
+    folder: &str,
+    name: &str,
+    faults: u64,
+) -> Result<(), Fail> {
+    let path = format!(in rt.alloc(); "{folder}/{name}")?;
+    let refused = write_whole(rt.alloc(), media, path.as_str(), b"lost");
+    assert_eq!(rt; refused, Err(Refused::Failed), "at {name}");
+    assert_eq!(rt; media.write_faults(), faults, "at {name}");
+    Ok(())
+}
+
+/// A folder with a file under three names, which the media has opened as a source.
+fn furnish<R: Files<File = File> + Alloc<A = Global> + Abort>(
+    rt: &R,
+    media: &mut HostMedia<R>,
+    folder: &str,
+) -> Result<(), Fail> {
+    let source = format!(in rt.alloc(); "{folder}/b.wav")?;
+    let hard = format!(in rt.alloc(); "{folder}/hard")?;
+    let soft = format!(in rt.alloc(); "{folder}/soft")?;
+    fs::create_dir(rt, folder)?;
+    fs::write(rt, source.as_str(), b"kept".as_slice())?;
+    fs::hard_link(rt, source.as_str(), hard.as_str())?;
+    symlink(rt, "b.wav", soft.as_str())?;
+    let kept = read_whole(rt.alloc(), media, source.as_str(), 4).map_err(|_| "source")?;
+    assert!(rt; kept.as_slice() == b"kept".as_slice());
+    Ok(())
+}
+
+/// Files that the media has opened aren't opened by another of their names, and others are emptied first.
+fn check_names<R: Files<File = File> + Alloc<A = Global> + Abort>(
+    rt: &R,
+    media: &mut HostMedia<R>,
+    folder: &str,
+) -> Result<(), Fail> {
+    for (name, faults) in [("b.wav", 1), ("./b.wav", 2), ("hard", 3), ("soft", 4)] {
+        check_refused(rt, media, folder, name, faults)?;
+    }
+    check_holds(rt, folder, "b.wav", b"kept")?;
+    check_written(rt, media, folder, "fresh", b"new")?;
+    check_refused(rt, media, folder, "/fresh", 5)?;
+    check_holds(rt, folder, "fresh", b"new")?;
+    let full = format!(in rt.alloc(); "{folder}/full")?;
+    fs::write(rt, full.as_str(), b"longer".as_slice())?;
+    check_written(rt, media, folder, "full", b"less")
+}
+
 #[test]
 fn nothing_is_lost(rt: HostRuntime) -> Result<(), Fail> {
     let alloc = rt.alloc();
-    let folder = env::temp_dir(&rt)?;
     let own = format!(in alloc; "wuqarint-lost-{}", process::id(rt.process()))?;
-    let path = folder.join(alloc, own.as_str())?;
+    let path = env::temp_dir(&rt)?.join(alloc, own.as_str())?;
     let folder = path.to_string_lossy();
-    fs::create_dir(&rt, folder)?;
-    let source = format!(in alloc; "{folder}/b.wav")?;
-    let hard = format!(in alloc; "{folder}/hard")?;
-    let soft = format!(in alloc; "{folder}/soft")?;
-    let dotted = format!(in alloc; "{folder}/./b.wav")?;
-    let fresh = format!(in alloc; "{folder}/fresh")?;
-    let again = format!(in alloc; "{folder}//fresh")?;
-    let full = format!(in alloc; "{folder}/full")?;
-    fs::write(&rt, source.as_str(), b"kept".as_slice())?;
-    fs::write(&rt, full.as_str(), b"longer".as_slice())?;
-    fs::hard_link(&rt, source.as_str(), hard.as_str())?;
-    symlink(&rt, "b.wav", soft.as_str())?;
-
     let mut media = HostMedia::new(alloc, rt.clone()?);
-    let kept = read_whole(alloc, &mut media, source.as_str(), 4).map_err(|_| "source")?;
-    assert!(rt; kept.as_slice() == b"kept".as_slice());
-    for (name, faults) in [(&source, 1), (&dotted, 2), (&hard, 3), (&soft, 4)] {
-        let refused = media.sink(alloc, name.as_str()).err();
-        assert_eq!(rt; refused, Some(Refused::Failed), "at {name}");
-        assert_eq!(rt; media.write_faults(), faults);
-    }
-    assert_eq!(rt; fs::read_to_string(&rt, source.as_str())?.as_str(), "kept");
-
-    assert_eq!(rt;
-        write_whole(alloc, &mut media, fresh.as_str(), b"new"),
-        Ok(())
-    );
-    assert_eq!(rt;
-        write_whole(alloc, &mut media, again.as_str(), b"lost"),
-        Err(Refused::Failed)
-    );
-    assert_eq!(rt; fs::read_to_string(&rt, fresh.as_str())?.as_str(), "new");
-    assert_eq!(rt;
-        write_whole(alloc, &mut media, full.as_str(), b"less"),
-        Ok(())
-    );
-    assert_eq!(rt; fs::read_to_string(&rt, full.as_str())?.as_str(), "less");
-    assert_eq!(rt;
-        write_whole(alloc, &mut media, "/dev/null", b"gone"),
-        Ok(())
-    );
+    furnish(&rt, &mut media, folder)?;
+    check_names(&rt, &mut media, folder)?;
+    let gone = write_whole(alloc, &mut media, "/dev/null", b"gone");
+    assert_eq!(rt; gone, Ok(()));
     assert_eq!(rt; media.write_faults(), 5);
     fs::remove_dir_all(&rt, folder)?;
     Ok(())
