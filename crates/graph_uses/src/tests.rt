@@ -2,9 +2,6 @@ mod buffers;
 mod client;
 mod files;
 mod handles;
-mod tunnels;
-mod units;
-mod working;
 mod works;
 
 ghost use Rattle.std.specs.Prelude.{◌≡◌};
@@ -15,11 +12,11 @@ ghost use Rattle.il_graph.specs.HandedIn.{StayHandedIn, KeepsOthersHandedIn, IsH
 
 use header_core::Header;
 use il_graph::{Freed, Graph, NoFile};
-use il_machine::{Acted, Progress};
+use il_machine::Acted;
 use note_queues::{Call, Client, ProgressClient, Taken, Took};
 use omx_types::{
-    CallError, Command, Completion, Event, Format, Handle, Note, OmxError, Param, ParamKey,
-    PortDefinition, PortSel, State, Version,
+    CallError, Command, Completion, Event, Handle, Note, OmxError, ParamKey, PortSel, State,
+    Version,
 };
 use outside_io::{Sink, Source};
 use std::alloc::Global;
@@ -156,17 +153,6 @@ fn let_go(rt: &impl Abort, graph: &mut Plain, h: Handle, port: u32, header: Head
 }
 
 #[test]
-fn names_refused(rt: HostRuntime) -> Result<(), Fail> {
-    let mut graph = Plain::new(rt.alloc(), 8)?;
-    let empty = refused(&rt, rt.alloc(), &mut graph, "");
-    assert_eq!(rt; empty, CallError::Omx(OmxError::InvalidComponentName));
-    let nine = refused(&rt, rt.alloc(), &mut graph, "OMX.lab.mixer.9");
-    assert_eq!(rt; nine, CallError::Omx(OmxError::ComponentNotFound));
-    ended(&rt, graph);
-    Ok(())
-}
-
-#[test]
 fn thirty_two_components(rt: HostRuntime) -> Result<(), Fail> {
     let mut graph = Plain::new(rt.alloc(), 8)?;
     for _ in 0..32 {
@@ -183,90 +169,6 @@ fn thirty_two_components(rt: HostRuntime) -> Result<(), Fail> {
     assert_eq!(rt; again.generation, 32);
     assert_eq!(rt; graph.handle_at(31), Some(again));
     assert_eq!(rt; graph.get_state(third), Err(OmxError::InvalidComponent));
-    ended(&rt, graph);
-    Ok(())
-}
-
-#[test]
-fn parameters_refused(rt: HostRuntime) -> Result<(), Fail> {
-    let mut graph = Plain::new(rt.alloc(), 8)?;
-    let gain = made(&rt, rt.alloc(), &mut graph, "OMX.lab.gain");
-    assert_eq!(rt;
-        graph.get_parameter(gain, key(9, 0)),
-        Err(OmxError::UnsupportedIndex)
-    );
-    assert_eq!(rt;
-        graph.get_parameter(gain, key(1, 4)),
-        Err(OmxError::BadPortIndex)
-    );
-    let pcm = Format::Pcm {
-        rate: 8000,
-        channels: 1,
-    };
-    let definition = PortDefinition {
-        input: true,
-        format: pcm,
-        count: 2,
-        size: 4096,
-    };
-    assert_eq!(rt;
-        graph.get_parameter(gain, key(1, 0)),
-        Ok(Param::Port(definition))
-    );
-    assert_eq!(rt;
-        graph.set_config(gain, key(4, 0), Param::Gain(2048)),
-        Ok(())
-    );
-    assert_eq!(rt; graph.get_config(gain, key(4, 0)), Ok(Param::Gain(2048)));
-    ended(&rt, graph);
-    Ok(())
-}
-
-/// A component whose ports are disabled needs no buffers to become idle.
-#[test]
-fn idle_without_ports(rt: HostRuntime) -> Result<(), Fail> {
-    let mut graph = Plain::new(rt.alloc(), 8)?;
-    let gain = made(&rt, rt.alloc(), &mut graph, "OMX.lab.gain");
-    assert_eq!(rt;
-        graph.send_command(gain, Command::PortDisable(PortSel::All)),
-        Ok(())
-    );
-    assert_eq!(rt;
-        graph.send_command(gain, Command::StateSet(State::Idle)),
-        Ok(())
-    );
-    assert_eq!(rt; graph.run_command(gain), Ok(Acted::Did));
-    assert_eq!(rt; graph.get_state(gain), Ok(State::Loaded));
-    assert_eq!(rt; graph.run_command(gain), Ok(Acted::Did));
-    assert_eq!(rt; graph.get_state(gain), Ok(State::Idle));
-    ended(&rt, graph);
-    Ok(())
-}
-
-/// The client object goes out with each note, and comes back.
-#[test]
-fn notes_told(rt: HostRuntime) -> Result<(), Fail> {
-    let mut graph = Plain::new(rt.alloc(), 8)?;
-    let gain = made(&rt, rt.alloc(), &mut graph, "OMX.lab.gain");
-    let disable = Command::PortDisable(PortSel::All);
-    assert_eq!(rt; graph.send_command(gain, disable), Ok(()));
-    assert_eq!(rt; noted(&rt, &mut graph, gain), None);
-    assert_eq!(rt; graph.run_command(gain), Ok(Acted::Did));
-    for port in 0..2 {
-        assert_eq!(rt;
-            noted(&rt, &mut graph, gain),
-            told(Completion::Disable(port))
-        );
-    }
-    reach(&rt, &mut graph, gain, State::Idle);
-    let progress = Progress {
-        state: Some(State::Idle),
-        eos: false,
-        error: None,
-        settings: None,
-        port: Some(Completion::Disable(1)),
-    };
-    assert_eq!(rt; graph.progress(gain), Ok(Some(progress)));
     ended(&rt, graph);
     Ok(())
 }
