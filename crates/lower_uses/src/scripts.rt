@@ -3,7 +3,6 @@
 use omx_types::ScriptWhy;
 use script_lang::{Script, ScriptError, read_script};
 use std::alloc::Global;
-use std::test::Fail;
 
 /// The fault of a text: its line, and why.
 fn fault_of(alloc: Global, text: &[u8]) -> Option<(u32, ScriptWhy)> {

@@ -1,2 +1,1 @@
 pub mod TwoPorts
-pub mod Tunnel

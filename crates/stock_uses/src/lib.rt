@@ -5,11 +5,7 @@
 #[cfg(test)]
 mod blocks;
 #[cfg(test)]
-mod book;
-#[cfg(test)]
 mod component;
-#[cfg(test)]
-mod flushes;
 #[cfg(test)]
 mod headers;
 #[cfg(test)]

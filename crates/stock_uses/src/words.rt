@@ -6,7 +6,6 @@ ghost use Rattle.state_words.specs.Tokens.{IsShowerOf, IsReaderOf, known_by, cou
 
 use omx_types::State;
 use state_words::{Reader, Shower, StateWords};
-use std::process::Abort;
 use std::test::Fail;
 use std::thread;
 
