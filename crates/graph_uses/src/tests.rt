@@ -2,7 +2,6 @@ mod buffers;
 mod client;
 mod files;
 mod handles;
-mod works;
 
 ghost use Rattle.std.specs.Prelude.{◌≡◌};
 ghost use Rattle.graph_core.specs.Changes.{IsHandedIn};

@@ -87,6 +87,32 @@ fn clock_waits_for_two_ports(rt: HostRuntime) {
 }
 
 #[test]
+fn sixty_four_requests(rt: HostRuntime) {
+    let mut clock = Clock::new();
+    let mut out = [Fulfilled::default(); 64];
+    for id in 0..64 {
+        assert_eq!(rt; called(&mut clock, 1, ask(id, 7), &mut out), Some(Ok(0)));
+    }
+    assert_eq!(rt;
+        called(&mut clock, 0, ask(64, 7), &mut out),
+        Some(Err(ClockRefusal::Backwards { last: 1 }))
+    );
+    assert_eq!(rt;
+        called(&mut clock, 1, ask(64, 7), &mut out),
+        Some(Err(ClockRefusal::Full))
+    );
+    assert_eq!(rt;
+        called(&mut clock, 1, ask(3, 7), &mut out),
+        Some(Err(ClockRefusal::Taken))
+    );
+    assert_eq!(rt;
+        called(&mut clock, 3, ClockAct::Start(7), &mut out),
+        Some(Ok(64))
+    );
+    assert_eq!(rt; out[63], due(63, 3));
+}
+
+#[test]
 fn each_refusal_and_backwards_before_it(rt: HostRuntime) {
     let mut clock = Clock::new();
     let mut out = [Fulfilled::default(); 64];

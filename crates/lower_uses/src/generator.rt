@@ -39,50 +39,24 @@ fn one_frame(rt: HostRuntime) -> Result<(), Failure> {
     Ok(())
 }
 
+fn absent(number: u32) -> Result<(), Fault> {
+    Err(Fault::Absent(Which::Made(number)))
+}
+
+/// What a failing call comes to, and how many of the three files are whole then.
 #[test]
 fn failures(rt: HostRuntime) -> Result<(), Failure> {
     let alloc = rt.alloc();
-    let absent = |number| Err(Fault::Absent(Which::Made(number)));
-    let rows = [
-        (
-            "w/a.wav",
-            FailKind::AbsentSink,
-            absent(1),
-            [false, false, false],
-        ),
-        (
-            "w/b.wav",
-            FailKind::AbsentSink,
-            absent(2),
-            [true, false, false],
-        ),
-        (
-            "w/mix.omx",
-            FailKind::AbsentSink,
-            absent(3),
-            [true, true, false],
-        ),
-        (
-            "w/a.wav",
-            FailKind::Write,
-            Err(Fault::WriteFault),
-            [false, false, false],
-        ),
-        (
-            "w/b.wav",
-            FailKind::OpenSink,
-            Err(Fault::WriteFault),
-            [true, false, false],
-        ),
-        (
-            "w/mix.omx",
-            FailKind::Close,
-            Err(Fault::WriteFault),
-            [true, true, false],
-        ),
-        ("w/out.wav", FailKind::Write, Ok(()), [true, true, true]),
-    ];
-    for (name, kind, want, whole) in rows {
+    let unwritten = Err(Fault::WriteFault);
+    for (name, kind, want, whole) in [
+        ("w/a.wav", FailKind::AbsentSink, absent(1), 0),
+        ("w/b.wav", FailKind::AbsentSink, absent(2), 1),
+        ("w/mix.omx", FailKind::AbsentSink, absent(3), 2),
+        ("w/a.wav", FailKind::Write, unwritten, 0),
+        ("w/b.wav", FailKind::OpenSink, unwritten, 1),
+        ("w/mix.omx", FailKind::Close, unwritten, 2),
+        ("w/out.wav", FailKind::Write, Ok(()), 3),
+    ] {
         let fails = vec![in alloc; Fail::new(String::from_str(alloc, name)?, kind, 1)]?;
         let mut media = media(alloc, fails)?;
         assert_eq!(rt; make(alloc, 7, 5000, "w", &mut media), want, "{name}");
@@ -91,7 +65,7 @@ fn failures(rt: HostRuntime) -> Result<(), Failure> {
             holds(&media, "w/b.wav", 10_044),
             holds(&media, "w/mix.omx", SCRIPT.len()),
         ];
-        assert_eq!(rt; found, whole, "{name}");
+        assert_eq!(rt; found, [whole > 0, whole > 1, whole > 2], "{name}");
     }
     Ok(())
 }

@@ -2,7 +2,7 @@
 
 use outside_io::{
     Fail, FailKind, Media, MemoryMedia, MemorySink, MemorySource, OutOfMemory, PumpFault, Refused,
-    Sink, Source, pump, read_whole, write_whole,
+    Sink, Source, Unread, pump, read_whole, write_whole,
 };
 use std::alloc::Global;
 use std::test::Fail as Failure;
@@ -81,6 +81,18 @@ fn moves_whole_files(rt: HostRuntime) -> Result<(), Failure> {
 }
 
 #[test]
+fn files_that_are_not_read(rt: HostRuntime) -> Result<(), Failure> {
+    let alloc = rt.alloc();
+    let mut m = media(alloc, FailKind::Read, "none", 1)?;
+    let long = read_whole(alloc, &mut m, "a", SIZE - 1);
+    assert_eq!(rt; long.err(), Some(Unread::TooLong { size: SIZE }));
+    let none = read_whole(alloc, &mut m, "x", SIZE);
+    assert_eq!(rt; none.err(), Some(Unread::Absent));
+    assert_eq!(rt; m.absences(), 1);
+    Ok(())
+}
+
+#[test]
 fn objects_of_memory(rt: HostRuntime) -> Result<(), Failure> {
     let alloc = rt.alloc();
     let mut source = MemorySource::new(vec![in alloc; 3u8; 5]?);
@@ -91,131 +103,60 @@ fn objects_of_memory(rt: HostRuntime) -> Result<(), Failure> {
     Ok(())
 }
 
+const UNOPENED: Copied = Copied::NoSource(Refused::Failed);
+
+const NO_SINK: Copied = Copied::NoSink(Refused::Failed);
+
+const NO_FOLDER: Copied = Copied::NoSink(Refused::Absent);
+
+const UNREAD: Copied = Copied::Stopped(PumpFault::Read);
+
+const UNWRITTEN: Copied = Copied::Stopped(PumpFault::Write);
+
+const SHORT: Copied = Copied::Stopped(PumpFault::Short {
+    at: 5000,
+    size: SIZE,
+});
+
+/// A call that fails, the copy that it fails in, what this copy comes to, and how long its file is then.
+type Listed = (FailKind, &'static str, u64, u32, Copied, Option<usize>);
+
+const LISTED: [Listed; 16] = [
+    (FailKind::OpenSource, "a", 1, 1, UNOPENED, None),
+    (FailKind::OpenSource, "a", 2, 2, UNOPENED, Some(10_000)),
+    (FailKind::Read, "a", 1, 1, UNREAD, Some(0)),
+    (FailKind::Read, "a", 2, 1, UNREAD, Some(4096)),
+    (FailKind::Read, "a", 5, 2, UNREAD, Some(4096)),
+    (FailKind::Seek, "a", 1, 1, Copied::NotSought, Some(10_000)),
+    (FailKind::Seek, "a", 2, 2, Copied::NotSought, Some(10_000)),
+    (FailKind::EndAt, "a", 5000, 1, SHORT, Some(5000)),
+    (FailKind::OpenSink, "b", 1, 1, NO_SINK, None),
+    (FailKind::OpenSink, "b", 2, 2, NO_SINK, Some(10_000)),
+    (FailKind::AbsentSink, "b", 1, 1, NO_FOLDER, None),
+    (FailKind::AbsentSink, "b", 2, 2, NO_FOLDER, Some(10_000)),
+    (FailKind::Write, "b", 2, 1, UNWRITTEN, Some(4096)),
+    (FailKind::Write, "b", 4, 2, UNWRITTEN, Some(0)),
+    (FailKind::Close, "b", 1, 1, Copied::NotClosed, Some(5000)),
+    (FailKind::Close, "b", 2, 2, Copied::NotClosed, Some(5000)),
+];
+
 #[test]
 fn listed_calls_fail(rt: HostRuntime) -> Result<(), Failure> {
     let alloc = rt.alloc();
-    let short = Copied::Stopped(PumpFault::Short {
-        at: 5000,
-        size: SIZE,
-    });
-    for (kind, name, nth, run, want, left) in [
-        (
-            FailKind::OpenSource,
-            "a",
-            1,
-            1,
-            Copied::NoSource(Refused::Failed),
-            None,
-        ),
-        (
-            FailKind::OpenSource,
-            "a",
-            2,
-            2,
-            Copied::NoSource(Refused::Failed),
-            None,
-        ),
-        (
-            FailKind::Read,
-            "a",
-            1,
-            1,
-            Copied::Stopped(PumpFault::Read),
-            Some(0),
-        ),
-        (
-            FailKind::Read,
-            "a",
-            2,
-            1,
-            Copied::Stopped(PumpFault::Read),
-            Some(4096),
-        ),
-        (
-            FailKind::Read,
-            "a",
-            5,
-            2,
-            Copied::Stopped(PumpFault::Read),
-            Some(4096),
-        ),
-        (FailKind::Seek, "a", 1, 1, Copied::NotSought, Some(10_000)),
-        (FailKind::Seek, "a", 2, 2, Copied::NotSought, Some(10_000)),
-        (FailKind::EndAt, "a", 5000, 1, short, Some(5000)),
-        (
-            FailKind::OpenSink,
-            "b",
-            1,
-            1,
-            Copied::NoSink(Refused::Failed),
-            None,
-        ),
-        (
-            FailKind::OpenSink,
-            "b",
-            2,
-            2,
-            Copied::NoSink(Refused::Failed),
-            Some(10_000),
-        ),
-        (
-            FailKind::AbsentSink,
-            "b",
-            1,
-            1,
-            Copied::NoSink(Refused::Absent),
-            None,
-        ),
-        (
-            FailKind::AbsentSink,
-            "b",
-            2,
-            2,
-            Copied::NoSink(Refused::Absent),
-            Some(10_000),
-        ),
-        (
-            FailKind::Write,
-            "b",
-            2,
-            1,
-            Copied::Stopped(PumpFault::Write),
-            Some(4096),
-        ),
-        (
-            FailKind::Write,
-            "b",
-            4,
-            2,
-            Copied::Stopped(PumpFault::Write),
-            Some(0),
-        ),
-        (FailKind::Close, "b", 1, 1, Copied::NotClosed, Some(5000)),
-        (FailKind::Close, "b", 2, 2, Copied::NotClosed, Some(5000)),
-    ] {
+    for (kind, name, nth, run, want, left) in LISTED {
         let mut m = media(alloc, kind, name, nth)?;
         for turn in 1..run {
-            assert_eq!(rt;
-                copy(alloc, &mut m, "a", "b"),
-                Copied::Whole,
-                "at {kind:?} {turn}"
-            );
+            let whole = copy(alloc, &mut m, "a", "b");
+            assert_eq!(rt; whole, Copied::Whole, "at {kind:?} {turn}");
         }
         assert_eq!(rt; copy(alloc, &mut m, "a", "b"), want, "at {kind:?} {nth}");
-        if left.is_some() || run == 1 {
-            assert_eq!(rt; length_of(&m, "b"), left, "at {kind:?} {nth}");
-        }
+        assert_eq!(rt; length_of(&m, "b"), left, "at {kind:?} {nth}");
         if kind != FailKind::EndAt {
-            let counted = m
-                .read_faults()
-                .saturating_add(m.write_faults())
-                .saturating_add(m.absences());
+            let faults = m.read_faults().saturating_add(m.write_faults());
+            let counted = faults.saturating_add(m.absences());
             assert_eq!(rt; counted, 1, "at {kind:?} {nth}");
-            assert_eq!(rt;
-                copy(alloc, &mut m, "a", "b"),
-                Copied::Whole,
-                "after {kind:?} {nth}"
-            );
+            let again = copy(alloc, &mut m, "a", "b");
+            assert_eq!(rt; again, Copied::Whole, "after {kind:?} {nth}");
         }
     }
     Ok(())

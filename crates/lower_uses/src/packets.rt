@@ -81,6 +81,22 @@ fn no_packets(rt: HostRuntime) -> Result<(), Failure> {
     Ok(())
 }
 
+/// A gap of 80,000 frames is silence, and one of 80,001 is none.
+#[test]
+fn gaps(rt: HostRuntime) -> Result<(), Failure> {
+    let alloc = rt.alloc();
+    for (end, frames) in [(0x81u8, 80_002u64), (0x82, 2)] {
+        let mut list = b"omxrtp1\n\0\x0d\x80\0\0\0\0\0\0\0\0\0\0\x01\x11".to_vec(alloc)?;
+        list.extend_from_slice(b"\0\x0d\x80\0\0\x01\0\x01\x38")?;
+        list.push(end)?;
+        list.extend_from_slice(b"\0\0\0\x01\x22")?;
+        let (answer, bytes) = unpacked(alloc, &list)?;
+        assert_eq!(rt; answer.map(|counts| counts.frames), Ok(frames));
+        assert_eq!(rt; bytes.len() as u64, 58 + frames);
+    }
+    Ok(())
+}
+
 /// Each fault of reading and of writing, in either going over the list.
 #[test]
 fn unpacking_failures(rt: HostRuntime) -> Result<(), Failure> {
