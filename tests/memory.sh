@@ -1,7 +1,7 @@
 #!/usr/bin/env bash
 # Plays the mix of examples/play, and the same with a late source, as often as it takes memory, and refuses another allocation each
 # time: the play is told `out of memory`, status 7, leaves the log of an earlier play as it is, and of its sink's file nothing or a
-# front. Needs a C compiler for the small library that refuses. Its last line is 'memory: N passed, M failed'.
+# front; and where a line of the log is refused, it stops with less than the whole. Needs a C compiler for the small library that refuses. Its last line is 'memory: N passed, M failed'.
 . "$(dirname "${BASH_SOURCE[0]}")/program.sh"
 if ! command -v cc >/dev/null; then
   echo 'memory: not run, there is no cc'
@@ -40,12 +40,17 @@ for script in ('mix.omx', 'late.omx'):
     if status != 0 or not log.endswith(b'\nend\n'):
         print(f'{script}: {printed!r}, status {status}')
         bad += 1
+    stopped = 0
     for number in range(1, asked + 1):
         printed, status, _, sink, log = play(script, number)
         is_good = (printed, status, log) == (b'out of memory\n', 7, earlier) and whole.startswith(sink or b'')
         good, bad = good + is_good, bad + (not is_good)
+        stopped += 0 < len(sink or b'') < len(whole)
         if not is_good:
             print(f'{script}, allocation {number}: {printed!r}, status {status}, log {log[:20]!r}')
+    if not stopped:
+        print(f'{script}: no refused allocation stopped the run')
+        bad += 1
 print(f'memory: {good} passed, {bad} failed')
 sys.exit(bad > 0)
 PY

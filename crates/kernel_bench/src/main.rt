@@ -2,11 +2,12 @@
 //! the word `figures`.
 #![tactic(auto)]
 
-ghost use Rattle.std.specs.Prelude.{◌≡◌, ◌*◌, ◌≤◌, length, All};
+ghost use Rattle.std.specs.Prelude.{◌≡◌, ◌*◌, ◌≤◌, length, All, IfOk};
 ghost use Rattle.pcm_ops.specs.Samples.{IsSum};
 
 use g711_law::{alaw_decode_all, alaw_encode_all, mulaw_decode_all, mulaw_encode_all};
 use pcm_ops::{bytes_of, clamp_into, copy_into, gain_into, mix_into, samples_of};
+use std::alloc::Global;
 use std::time::{Duration, Instant};
 use std::{env, io};
 
@@ -118,59 +119,79 @@ fn report(rt: &HostRuntime, name: &str, copy: Duration, time: Duration) -> io::R
     println!(rt; "{name}: {speed} million a second, {ratio} hundredths of the copy")
 }
 
-fn figures(rt: &HostRuntime) -> io::Result<()> {
-    let alloc = rt.alloc();
+fn made_samples(alloc: Global) -> io::Result<Vec<i16>>
+    ensures { IfOk result (λ samples. length samples.items ≡ 4096) }
+{
     let mut samples = vec![in alloc; 0_i16; PIECE]?;
     for i in 0..samples.len() {
         samples[i] = (i as u16).wrapping_mul(40_503).cast_signed();
     }
-    let mut to = vec![in alloc; 0_i16; PIECE]?;
-    let mut codes = vec![in alloc; 0_u8; PIECE]?;
-    let mut sum = vec![in alloc; 0_i32; PIECE]?;
-    let mut bytes = vec![in alloc; 0_u8; 2 * PIECE]?;
-    let mut copied = vec![in alloc; 0_u8; 2 * PIECE]?;
+    Ok(samples)
+}
 
+/// The copy, to which each form is compared, and the forms between bytes and samples.
+fn byte_figures(rt: &HostRuntime, samples: &[i16]) -> io::Result<Duration>
+    requires { length samples.now ≡ 4096 }
+{
+    let mut to = vec![in rt.alloc(); 0_i16; PIECE]?;
+    let mut bytes = vec![in rt.alloc(); 0_u8; 2 * PIECE]?;
+    let mut copied = vec![in rt.alloc(); 0_u8; 2 * PIECE]?;
     let start = Instant::now(rt)?;
     copies(&bytes, &mut copied);
     let copy = start.elapsed(rt)?;
     report(rt, "copy", copy, copy)?;
-
     let start = Instant::now(rt)?;
-    alaw_encodes(&samples, &mut codes);
+    writings(samples, &mut bytes);
+    report(rt, "bytes of samples", copy, start.elapsed(rt)?)?;
+    let start = Instant::now(rt)?;
+    readings(&bytes, &mut to);
+    report(rt, "samples of bytes", copy, start.elapsed(rt)?)?;
+    println!(rt; "last items: {} {}", to[PIECE - 1], copied[PIECE - 1])?;
+    Ok(copy)
+}
+
+fn law_figures(rt: &HostRuntime, copy: Duration, samples: &[i16]) -> io::Result<()>
+    requires { length samples.now ≡ 4096 }
+{
+    let mut to = vec![in rt.alloc(); 0_i16; PIECE]?;
+    let mut codes = vec![in rt.alloc(); 0_u8; PIECE]?;
+    let start = Instant::now(rt)?;
+    alaw_encodes(samples, &mut codes);
     report(rt, "A-law encode", copy, start.elapsed(rt)?)?;
     let start = Instant::now(rt)?;
     alaw_decodes(&codes, &mut to);
     report(rt, "A-law decode", copy, start.elapsed(rt)?)?;
     let start = Instant::now(rt)?;
-    mulaw_encodes(&samples, &mut codes);
+    mulaw_encodes(samples, &mut codes);
     report(rt, "mu-law encode", copy, start.elapsed(rt)?)?;
     let start = Instant::now(rt)?;
     mulaw_decodes(&codes, &mut to);
     report(rt, "mu-law decode", copy, start.elapsed(rt)?)?;
+    println!(rt; "last items: {} {}", codes[PIECE - 1], to[PIECE - 1])
+}
 
+fn sample_figures(rt: &HostRuntime, copy: Duration, samples: &[i16]) -> io::Result<()>
+    requires { length samples.now ≡ 4096 }
+{
+    let mut to = vec![in rt.alloc(); 0_i16; PIECE]?;
+    let mut sum = vec![in rt.alloc(); 0_i32; PIECE]?;
     let start = Instant::now(rt)?;
-    gains(&samples, &mut to);
+    gains(samples, &mut to);
     report(rt, "gain", copy, start.elapsed(rt)?)?;
     let start = Instant::now(rt)?;
-    mixes(&mut sum, &samples);
+    mixes(&mut sum, samples);
     report(rt, "clear and mix", copy, start.elapsed(rt)?)?;
     let start = Instant::now(rt)?;
     clamps(&sum, &mut to);
     report(rt, "clamp", copy, start.elapsed(rt)?)?;
+    println!(rt; "last items: {} {}", sum[PIECE - 1], to[PIECE - 1])
+}
 
-    let start = Instant::now(rt)?;
-    writings(&samples, &mut bytes);
-    report(rt, "bytes of samples", copy, start.elapsed(rt)?)?;
-    let start = Instant::now(rt)?;
-    readings(&bytes, &mut to);
-    report(rt, "samples of bytes", copy, start.elapsed(rt)?)?;
-    let last = (
-        codes[PIECE - 1],
-        sum[PIECE - 1],
-        to[PIECE - 1],
-        copied[PIECE - 1],
-    );
-    println!(rt; "last items: {} {} {} {}", last.0, last.1, last.2, last.3)
+fn figures(rt: &HostRuntime) -> io::Result<()> {
+    let samples = made_samples(rt.alloc())?;
+    let copy = byte_figures(rt, &samples)?;
+    law_figures(rt, copy, &samples)?;
+    sample_figures(rt, copy, &samples)
 }
 
 fn main(rt: HostRuntime) -> io::Result<()> {

@@ -216,6 +216,7 @@ module _ {F : Type 0} (seen : F → FileSeen) (script : Script) (name log : List
           ending = whole.ending;
           entries = whole.entries;
           opens = whole.opens;
+          logged = whole.logged;
           names = whole.names;
           alone = whole.alone;
           conducted = whole.conducted;

@@ -7,6 +7,7 @@ use Rattle.play_forms.specs.Plans.{PlanValue}
 use Rattle.play_openings.specs.Assemblies.{IsReady, PlayFiles, file_at}
 use Rattle.play_openings.specs.Endings.{IsPlayedOut}
 use Rattle.play_log.specs.Entries.{Entry, steps_of}
+use Rattle.play_log.specs.Logged.{IsLogged}
 use Rattle.play_log.specs.Naming.{IsNaming}
 use Rattle.play_log.specs.Scenes.{scene_of}
 use Rattle.play_results.specs.Asked.{IsConducted, tuned}
@@ -26,13 +27,14 @@ pub record CanPlay (plan : PlanValue) (entries : List (Option FileSeen)) : Type 
   pub many : length entries ≡ length plan.parts
   pub are : AreFilesOf plan files entries
 
--- What a whole play leaves: the text of its log names acts of the thread that plays, from where the play of the plan begins to its end; and each
--- sink took what was written to it, which is its text of the plain function.
+-- What a whole play leaves: its log is the text of acts of the thread that plays, and names them, from where the play of the plan begins to its
+-- end; and each sink took what was written to it, which is its text of the plain function.
 pub record IsWhole (plan : PlanValue) (files : PlayFiles) (before after : List (Option FileSeen)) (text : List ℕ) : Type 0 where
   pub opening : World
   pub ending : World
   pub entries : List Entry
   pub opens : IsOpening plan files opening
+  pub logged : IsLogged (scene_of plan.parts opening) entries text
   pub names : IsNaming (scene_of plan.parts opening) opening text entries ending
   pub alone : All (λ entry. entry.pass ≡ 0) entries
   pub conducted : IsConducted (tuned plan files) (scene_of plan.parts opening).handles (steps_of entries)

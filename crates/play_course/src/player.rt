@@ -16,7 +16,7 @@ pub enum RunFault {
     Short { place: u32, at: u64, size: u64 },
 }
 
-/// Runs a play from its open files to its end, or until a part fails. In both cases each file comes back to its place.
+/// Runs a play from its open files to its end, or until a part fails or memory is wanting. In each case each file comes back to its place.
 pub trait Player<S: Source, K: Sink> {
     ghost use Rattle.std.specs.Prelude.{IfErr, IfOk, OnErr};
     ghost use Rattle.play_openings.specs.Assemblies.{IsReady, PlayFiles};

@@ -9,6 +9,7 @@ use Rattle.play_forms.specs.Plain.{sink_text}
 use Rattle.play_forms.specs.Plans.{IsFit, IsFitted, IsPlanOfScript, PlanValue}
 use Rattle.play_openings.specs.Assemblies.{PlayFiles}
 use Rattle.play_log.specs.Entries.{Entry, steps_of}
+use Rattle.play_log.specs.Logged.{IsLogged}
 use Rattle.play_log.specs.Naming.{IsNaming}
 use Rattle.play_log.specs.Scenes.{scene_of}
 use Rattle.play_results.specs.Asked.{IsConducted, tuned}
@@ -27,13 +28,14 @@ pub record IsPlanIn (script log : List ℕ) (old : Outside) (plan : PlanValue) (
   pub fit : IsFit plan
   pub files_are : AreFiles old plan.parts files samples
 
--- From the world where the plan's play begins on, the log names entries of the thread that plays, which lead to a world at its end. What is
--- asked by them is what a play asks for, in order and in time.
+-- The log is the text of entries of the thread that plays, and from the world where the plan's play begins on it names them: they lead to a
+-- world at its end. What is asked by them is what a play asks for, in order and in time.
 pub record IsLogOf (plan : PlanValue) (files : PlayFiles) (new : Outside) (text : List ℕ) : Type 0 where
   pub opening : World
   pub ending : World
   pub entries : List Entry
   pub opens : IsOpening plan files opening
+  pub logged : IsLogged (scene_of plan.parts opening) entries text
   pub names : IsNaming (scene_of plan.parts opening) opening text entries ending
   pub alone : All (λ entry. entry.pass ≡ 0) entries
   pub conducted : IsConducted (tuned plan files) (scene_of plan.parts opening).handles (steps_of entries)

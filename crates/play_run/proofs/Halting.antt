@@ -1,4 +1,4 @@
--- A play in which a part failed can be stopped.
+-- A play that breaks off can be stopped.
 use Rattle.std.proofs.Common.{◌≡◌, ◌≤◌, false, length, List, Option, option_map, ap}
 use Rattle.il_machine.specs.Sound.{Sound}
 use Rattle.il_machine.specs.Whole.{Always, Stands}
@@ -7,17 +7,20 @@ use Rattle.audio_parts.specs.declared.part_file.PartFile.{PartFile}
 use Rattle.machine_laws.proofs.Every.{from_places}
 use Rattle.dismantling.specs.Dismantling.{AreLinks}
 use Rattle.late_plays.proofs.Planned.{plan_links}
+use Rattle.play_openings.specs.Assemblies.{late_cast_of}
 use Rattle.play_openings.specs.Endings.{ends_of}
 use Rattle.play_graphs.specs.Ending.{AreBack, StandsFor}
 use Rattle.play_graphs.specs.Graphs.{kept_of}
 use Rattle.play_graphs.proofs.Naming.{named_at}
 use Rattle.play_stopping.specs.Stops.{HasNoneOut, HasStopped}
-use Rattle.play_stopping.proofs.Plays.{few_joints, work_stops}
-use Rattle.play_run.specs.declared.failure.Failure.{Failure}
+use Rattle.play_stopping.proofs.Plays.{few_joints, play_stops, work_stops}
+use Rattle.play_run.specs.declared.failure.Stop.{Stop}
+use Rattle.play_run.specs.declared.failure.Stop.TheVariants as stops
 use Rattle.play_run.specs.Playing.{AreClientsIn, HaveNoWork, PlayingValue}
 use Rattle.play_run.specs.Stopping.{GivesBackStopped}
-use Rattle.play_run.specs.Turning.{HasFailed}
+use Rattle.play_run.specs.Turning.{HasBrokenOff, world_then}
 use Rattle.play_run.proofs.Naming.{all_clients_in}
+use Rattle.play_run.proofs.Stepping.{joined_between}
 
 module _ {S K : Type 0} (x : PlayingValue S K) where
   none_out : (w : World) → Stands (kept_of x.graph) w → Sound w → HaveNoWork w → AreClientsIn x.graph.core → HasNoneOut w
@@ -27,24 +30,37 @@ module _ {S K : Type 0} (x : PlayingValue S K) where
         all_clients_in x clients w s i a.handle a (named_at w i a.handle Z (ap (option_map (λ (c : Component). c.handle)) e)) e);
   }
 
-  pub most_stopped : (failure : Failure) × HasFailed x failure → length x.plan.parts ≤ 32
-  most_stopped (failure, F) = F.valid.most
+  pub most_stopped : (stop : Stop) × HasBrokenOff x stop → length x.plan.parts ≤ 32
+  most_stopped (stops.Failed failure, F) = F.valid.most
+  most_stopped (stops.OutOfMemory, B) = B.0.1.standing.valid.most
 
-  pub few_stopped : (failure : Failure) × HasFailed x failure → length x.plan.joints ≤ 1024
-  few_stopped (failure, F) = few_joints x.plan F.valid F.recent F.play F.before F.played
+  pub few_stopped : (stop : Stop) × HasBrokenOff x stop → length x.plan.joints ≤ 1024
+  few_stopped (stops.Failed failure, F) = few_joints x.plan F.valid F.recent F.play F.before F.played
+  few_stopped (stops.OutOfMemory, B) = let Z = B.0.1.standing in few_joints x.plan Z.valid Z.recent B.0.0 Z.world (Z.late).play
 
-  pub links_stopped : (failure : Failure) × HasFailed x failure → AreLinks (ends_of x.plan) (length x.plan.joints)
-  links_stopped (failure, F) = plan_links x.plan F.recent F.play F.before F.valid F.played
+  pub links_stopped : (stop : Stop) × HasBrokenOff x stop → AreLinks (ends_of x.plan) (length x.plan.joints)
+  links_stopped (stops.Failed failure, F) = plan_links x.plan F.recent F.play F.before F.valid F.played
+  links_stopped (stops.OutOfMemory, B) = let Z = B.0.1.standing in plan_links x.plan Z.recent B.0.0 Z.world Z.valid (Z.late).play
 
   module _ (sound : Always (kept_of x.graph) Sound) where
-    -- what the work that failed left is joined as before, and no component is Invalid
-    failed_stops : (failure : Failure) (F : HasFailed x failure) → HasStopped x.plan 0 F.world
-    failed_stops failure F =
+    -- what a work that failed left is joined as before, and no component is Invalid; nor is one between two turns
+    can_stop : (stop : Stop) (B : HasBrokenOff x stop) → HasStopped x.plan 0 (world_then x stop B)
+    can_stop (stops.Failed failure) F =
         let S = sound F.world F.stands in
         work_stops x.plan F.valid F.recent F.play F.before F.played F.tunnels F.done F.world F.finishes S (none_out F.world F.stands S F.works F.clients)
+    can_stop stops.OutOfMemory B =
+        let Y = B.0.1 in
+        let Z = Y.standing in
+        let S = sound Z.world Z.stands in
+        play_stops x.plan Z.valid Z.recent B.0.0 Z.world (Z.late).play (joined_between (late_cast_of x.plan) Z.recent B.0.0 (x.conductor).lates ((Z.late).conducting).lates Y.carried)
+        (none_out Z.world Z.stands S Z.works Z.clients)
 
-    pub stands_stopped : (failure : Failure) × HasFailed x failure → StandsFor (HasStopped x.plan 0) x.graph
-    stands_stopped (failure, F) = (F.world, F.stands, failed_stops failure F)
+    its_world : (stop : Stop) (B : HasBrokenOff x stop) → Stands (kept_of x.graph) (world_then x stop B)
+    its_world (stops.Failed failure) F = F.stands
+    its_world stops.OutOfMemory B = B.0.1.standing.stands
+
+    pub stands_stopped : (stop : Stop) × HasBrokenOff x stop → StandsFor (HasStopped x.plan 0) x.graph
+    stands_stopped (stop, B) = (world_then x stop B, its_world stop B, can_stop stop B)
 
     pub gives_stopped : (entries : List (Option (PartFile S K))) → Always (kept_of x.graph) (λ w. HasStopped x.plan 0 w → AreBack w entries) → GivesBackStopped x entries
-    gives_stopped entries back = λ failure F. back F.world F.stands (failed_stops failure F)
+    gives_stopped entries back = λ stop B. back (world_then x stop B) (its_world stop B) (can_stop stop B)

@@ -1,5 +1,5 @@
 -- The turns of a link and of a component, made of their calls.
-use Rattle.std.proofs.Common.{◌≡◌, inl, inr, ◌≤◌, ℕ, Bool, ◌||◌, length, ◌∙◌, ap, subst, arith}
+use Rattle.std.proofs.Common.{◌≡◌, inl, inr, ◌≤◌, ℕ, Bool, true, false, ◌||◌, length, refl, sym, ◌∙◌, ap, subst, arith}
 use Rattle.play_forms.specs.Plans.{PlanValue}
 use Rattle.play_model.specs.Play.{Layout, Play}
 use Rattle.play_model.specs.Acts.{Act}
@@ -94,6 +94,12 @@ actor_turn x a b k c told ran stepped e f A B K =
     let two = then_turns x a b e told ran (IsTellingOf w c) (IsRunOf w c) A B2 in
     let three = then_turns x b k (f ∙ e) (told || ran) stepped (OfBoth (IsTellingOf w c) (IsRunOf w c)) (IsStepOf w c) two K2 in
     as_turn x k (told || ran || stepped) (OfComponent w c) (IsOfComponent w c) (component_acts w c) three
+
+-- ---- the log
+
+pub wants_memory : (broken whole : Bool) → (broken ≡ false → whole ≡ true) → whole ≡ false → broken ≡ true
+wants_memory true whole h e = refl
+wants_memory false whole h e = let z : true ≡ false = sym (h refl) ∙ e in absurd cc
 
 -- ---- how many links there are
 

@@ -6,8 +6,10 @@ use Rattle.omx_types.specs.declared.fault.PartFault.{PartFault}
 use Rattle.audio_parts.specs.Objects.{Held}
 use Rattle.il_graph.specs.Shown.{file_of}
 use Rattle.play_run.specs.declared.failure.Failure.{Failure}
+use Rattle.play_run.specs.declared.failure.Stop.{Stop}
+use Rattle.play_run.specs.declared.failure.Stop.TheVariants as stops
 use Rattle.play_run.specs.Playing.{LeadsOn, PlayingValue, unfailed}
-use Rattle.play_run.specs.Turning.{FailsOn}
+use Rattle.play_run.specs.Turning.{BreaksOff, FailsOn}
 
 module _ {S K : Type 0} (Stays : Held S K → Held S K → Type 0) (Shows : PartFault → Held S K → Held S K → Type 0) where
   pub leads_to_itself : ((a : Held S K) → Stays a a) → (x : PlayingValue S K) → LeadsOn Stays x x
@@ -38,3 +40,8 @@ module _ {S K : Type 0} (Stays : Held S K → Held S K → Type 0) (Shows : Part
         let b = B.fails a.0 a.1 in
         (b.0, b.1 ∙ a.2);
   }
+
+  pub breaks_off : ((a b c : Held S K) → Stays a b → Stays b c → Stays a c) → ((fault : PartFault) (a b c : Held S K) → Stays a b → Shows fault b c → Shows fault a c)
+      → (x y z : PlayingValue S K) (stop : Stop) → LeadsOn Stays x y → BreaksOff Stays Shows y z stop → BreaksOff Stays Shows x z stop
+  breaks_off further earlier x y z (stops.Failed failure) A B = fails_on further earlier x y z failure A B
+  breaks_off further earlier x y z stops.OutOfMemory A B = (leads_on further x y z A B.0, B.1)

@@ -9,7 +9,7 @@ use Rattle.play_openings.specs.Assemblies.{PlayFiles}
 use Rattle.play_openings.specs.Endings.{IsPlayedOut}
 use Rattle.play_log.specs.Entries.{Entry, steps_of}
 use Rattle.play_log.specs.Kept.{LogValue}
-use Rattle.play_log.specs.Logged.{Keeps}
+use Rattle.play_log.specs.Logged.{IsLogged, Keeps}
 use Rattle.play_log.specs.Naming.{IsNaming}
 use Rattle.play_log.specs.Scenes.{scene_of}
 use Rattle.play_results.specs.Asked.{IsConducted, tuned}
@@ -31,11 +31,12 @@ pub record IsKeptTo (plan : PlanValue) (files : PlayFiles) (log : LogValue) (end
   pub keeps : Keeps (scene_of plan.parts opening) history log
   pub ends : IsPlayedOut plan ending
 
--- The text names entries of the thread that plays, which lead to that ending.
+-- The text is that of entries of the thread that plays, and names them; they lead to that ending.
 pub record IsNamedTo (plan : PlanValue) (files : PlayFiles) (text : List ℕ) (ending : World) : Type 0 where
   pub opening : World
   pub opens : IsOpening plan files opening
   pub entries : List Entry
+  pub logged : IsLogged (scene_of plan.parts opening) entries text
   pub names : IsNaming (scene_of plan.parts opening) opening text entries ending
   pub alone : All IsByPlayer entries
   pub conducted : IsConducted (tuned plan files) (handles_of opening) (steps_of entries)

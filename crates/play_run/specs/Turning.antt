@@ -1,11 +1,14 @@
--- What a part that fails leaves.
-use Rattle.std.specs.Prelude.{◌≡◌, ℕ, Bool, List, Some, ◌<◌, length}
+-- What a part that fails leaves, and a log that wants memory.
+use Rattle.std.specs.Prelude.{◌≡◌, ℕ, Bool, true, List, Some, ◌<◌, length}
 use Rattle.play_run.specs.declared.failure.Failure.{Failure}
+use Rattle.play_run.specs.declared.failure.Stop.{Stop}
+use Rattle.play_run.specs.declared.failure.Stop.TheVariants as stops
 use Rattle.il_machine.specs.World.{World}
 use Rattle.il_machine.specs.Stepping.{WorkDone}
 use Rattle.il_machine.specs.Finishing.{Finish}
 use Rattle.il_machine.specs.Whole.{Stands}
 use Rattle.play_forms.specs.Plans.{IsValid}
+use Rattle.play_loop.specs.Turns.{SomePlay}
 use Rattle.play_model.specs.Play.{Play}
 use Rattle.flow_model.specs.Content.{ArePlain}
 use Rattle.late_worlds.specs.Late.{IsLateWorld, LateCast}
@@ -20,7 +23,8 @@ use Rattle.omx_types.specs.declared.fault.PartFault.{PartFault}
 use Rattle.audio_parts.specs.Objects.{Held}
 use Rattle.il_graph.specs.Shown.{file_of}
 use Rattle.play_run.specs.Recording.{IsBeginning}
-use Rattle.play_run.specs.Playing.{AreClientsIn, HaveNoWork, IsPlaying, PlayingValue, ToldAlike, unfailed}
+use Rattle.play_run.specs.Closing.{HasBegun}
+use Rattle.play_run.specs.Playing.{AreClientsIn, HaveNoWork, IsPlaying, LeadsOn, PlayingValue, ToldAlike, unfailed}
 
 -- From an opening where each sink's file is new, the files of the sinks have taken fronts of their whole texts.
 abbrev pub HasFrontsFrom : LateCast → World → World → Type 0
@@ -72,3 +76,29 @@ module _ {S K : Type 0} where
     pub objects : FilesStayed Stays x y
     pub shows : FileShows Shows x y failure
     pub fails : (p : Play) (Y : IsPlaying x p) → HasFailedWith y failure Y.standing.files
+
+  -- ---- a play that breaks off
+
+  -- Either a step failed, or the log wants memory: then the graph stands for a play still.
+  abbrev pub HasBrokenOff : PlayingValue S K → Stop → Type 0
+  HasBrokenOff x (stops.Failed failure) = HasFailed x failure
+  HasBrokenOff x stops.OutOfMemory = SomePlay (IsPlaying x) × ((x.log).broken ≡ true)
+
+  abbrev pub HasBrokenOffWith : PlayingValue S K → Stop → PlayFiles → Type 0
+  HasBrokenOffWith x (stops.Failed failure) given = HasFailedWith x failure given
+  HasBrokenOffWith x stops.OutOfMemory given = HasBegun x given
+
+  -- the world that the graph stands for then
+  abbrev pub world_then : (x : PlayingValue S K) (stop : Stop) → HasBrokenOff x stop → World
+  world_then x (stops.Failed failure) F = F.world
+  world_then x stops.OutOfMemory B = B.0.1.standing.world
+
+  -- a fault shows in the file object of its component
+  abbrev pub StopShows : (PartFault → Held S K → Held S K → Type 0) → PlayingValue S K → PlayingValue S K → Stop → Type 0
+  StopShows Shows x y (stops.Failed failure) = FileShows Shows x y failure
+  StopShows Shows x y stops.OutOfMemory = Unit {0}
+
+  -- a turn that ends the play: its step fails, or it leads on and the log wants memory
+  abbrev pub BreaksOff : (Held S K → Held S K → Type 0) → (PartFault → Held S K → Held S K → Type 0) → PlayingValue S K → PlayingValue S K → Stop → Type 0
+  BreaksOff Stays Shows x y (stops.Failed failure) = FailsOn Stays Shows x y failure
+  BreaksOff Stays Shows x y stops.OutOfMemory = LeadsOn Stays x y × ((y.log).broken ≡ true)

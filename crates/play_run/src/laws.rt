@@ -12,7 +12,7 @@ ghost use Rattle.play_log.specs.Scenes.{Scene};
 ghost use Rattle.play_results.specs.Results.{IsLogOf};
 ghost use Rattle.play_run.specs.Logging.{HaveWritten, IsKeptTo, IsNamedTo};
 
-/// The text that a log of a whole play ends with names the acts of that play, from where it begins to its ending. It is the play's log where
+/// The text that a log of a whole play ends with is that of its acts, and names them, from where it begins to its ending. It is the play's log where
 /// each sink's file has what went into it in that ending.
 pub fn law_of_play_logs()
     ensures names { (plan : PlanValue) (files : PlayFiles) (log : LogValue) (text : List ℕ) (ending : World) → IsKeptTo plan files log ending

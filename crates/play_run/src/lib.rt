@@ -15,6 +15,6 @@ mod sending;
 mod stopping;
 mod words;
 
-pub use failure::Failure;
+pub use failure::{Failure, Stop};
 pub use laws::law_of_play_logs;
 pub use playing::Playing;

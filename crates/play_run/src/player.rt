@@ -1,6 +1,6 @@
 //! A play is played by the loop of `play_loop`.
 
-use crate::failure::Failure;
+use crate::failure::Stop;
 use crate::playing::Playing;
 use outside_io::{Sink, Source};
 use play_loop::Player;
@@ -9,10 +9,10 @@ impl<S: Source, K: Sink> Player for Playing<S, K> {
     ghost use Rattle.audio_parts.specs.ObjectLaws.{object_further, object_itself, shows_earlier};
     ghost use Rattle.audio_parts.specs.Objects.{ObjectShows, ObjectStays};
     ghost use Rattle.play_run.specs.Playing.{IsPlaying, LeadsOn, layout_of};
-    ghost use Rattle.play_run.specs.Turning.{FailsOn};
-    ghost use Rattle.play_run.specs.Leading.{fails_on, leads_on, leads_to_itself};
+    ghost use Rattle.play_run.specs.Turning.{BreaksOff};
+    ghost use Rattle.play_run.specs.Leading.{breaks_off, leads_on, leads_to_itself};
 
-    type Fault = Failure;
+    type Fault = Stop;
 
     ghost layout = { λ x. layout_of x.plan };
 
@@ -20,7 +20,7 @@ impl<S: Source, K: Sink> Player for Playing<S, K> {
 
     ghost Leads = { λ x y. LeadsOn (ObjectStays S.size S.told S.ends S.offset S.faults K.name K.faults) x y };
 
-    ghost Fails = { λ x y. FailsOn (ObjectStays S.size S.told S.ends S.offset S.faults K.name K.faults) (ObjectShows S.size S.ends S.offset S.faults K.faults) x y };
+    ghost Fails = { λ x y. BreaksOff (ObjectStays S.size S.told S.ends S.offset S.faults K.name K.faults) (ObjectShows S.size S.ends S.offset S.faults K.faults) x y };
 
     fn components(&self) -> u32 {
         self.count()
@@ -38,11 +38,16 @@ impl<S: Source, K: Sink> Player for Playing<S, K> {
         self.conduct()
     }
 
-    fn component_turn(&mut self, component: u32) -> Result<bool, Failure> {
+    fn component_turn(&mut self, component: u32) -> Result<bool, Stop> {
         let told = self.tell(component);
         let ran = self.run(component);
-        let stepped = self.step(component)?;
-        Ok(told | ran | stepped)
+        if !self.is_logged() {
+            return Err(Stop::OutOfMemory);
+        }
+        match self.step(component) {
+            Ok(stepped) => Ok(told | ran | stepped),
+            Err(failure) => Err(Stop::Failed(failure)),
+        }
     }
 
     fn link_turn(&mut self, link: u32) -> bool {
@@ -57,5 +62,5 @@ impl<S: Source, K: Sink> Player for Playing<S, K> {
 
     ghost leads_on = { λ x y z. leads_on (ObjectStays S.size S.told S.ends S.offset S.faults K.name K.faults) (ObjectShows S.size S.ends S.offset S.faults K.faults) (object_further S.size S.told S.ends S.offset S.faults K.name K.faults) x y z };
 
-    ghost fails_on = { λ x y z failure. fails_on (ObjectStays S.size S.told S.ends S.offset S.faults K.name K.faults) (ObjectShows S.size S.ends S.offset S.faults K.faults) (object_further S.size S.told S.ends S.offset S.faults K.name K.faults) (shows_earlier S.size S.told S.ends S.offset S.faults K.name K.faults) x y z failure };
+    ghost fails_on = { λ x y z stop. breaks_off (ObjectStays S.size S.told S.ends S.offset S.faults K.name K.faults) (ObjectShows S.size S.ends S.offset S.faults K.faults) (object_further S.size S.told S.ends S.offset S.faults K.name K.faults) (shows_earlier S.size S.told S.ends S.offset S.faults K.name K.faults) x y z stop };
 }

@@ -1,6 +1,6 @@
 //! What a play keeps.
 
-use crate::failure::Failure;
+use crate::failure::Stop;
 use crate::words::law_of_words;
 use audio_parts::PartFile;
 use conductor::{Conductor, PlayClient};
@@ -42,7 +42,7 @@ impl<S: Source, K: Sink> Playing<S, K> {
     ghost use Rattle.play_graphs.specs.Making.{AreGone, AreOffered, CanMake};
     ghost use Rattle.play_run.specs.Closing.{GivesBack, HasBegun, HasPlayed, HasPlayedWith, KeepsLog};
     ghost use Rattle.play_run.specs.Playing.{FilesStay, IsPlaying, layout_of};
-    ghost use Rattle.play_run.specs.Turning.{FileShows, FilesStayed, HasFailed, HasFailedWith};
+    ghost use Rattle.play_run.specs.Turning.{FilesStayed, HasBrokenOff, HasBrokenOffWith, StopShows};
 
     /// A play of the plan that is ready to begin. Its files stand by the places of their components; where memory is wanted they stay.
     pub fn new(
@@ -73,17 +73,17 @@ impl<S: Source, K: Sink> Playing<S, K> {
         })
     }
 
-    /// Plays to the end, or until a part fails.
-    pub fn play(&mut self) -> Result<(), Failure>
+    /// Plays to the end, or until a part fails or the log wants memory.
+    pub fn play(&mut self) -> Result<(), Stop>
         requires { CanPlay (layout_of self.old.plan) (IsPlaying self.old) 340282366920938463463374607431768211455 }
         ensures plan { self.new.plan ≡ self.old.plan }
         ensures over { OnOk result (EndsOf (layout_of self.old.plan) (IsPlaying self.old) (IsPlaying self.new)) }
         ensures objects { OnOk result (FilesStay (ObjectStays S.size S.told S.ends S.offset S.faults K.name K.faults) self.old self.new) }
         ensures played { OnOk result ((given : PlayFiles) → HasBegun self.old given → HasPlayedWith self.new given) }
-        ensures failed { IfErr result (HasFailed self.new) }
+        ensures broken_off { IfErr result (HasBrokenOff self.new) }
         ensures objects_then { OnErr result (FilesStayed (ObjectStays S.size S.told S.ends S.offset S.faults K.name K.faults) self.old self.new) }
-        ensures shows { IfErr result (FileShows (ObjectShows S.size S.ends S.offset S.faults K.faults) self.old self.new) }
-        ensures failed_with { IfErr result (λ failure. (given : PlayFiles) → HasBegun self.old given → HasFailedWith self.new failure given) }
+        ensures shows { IfErr result (StopShows (ObjectShows S.size S.ends S.offset S.faults K.faults) self.old self.new) }
+        ensures broken_off_with { IfErr result (λ stop. (given : PlayFiles) → HasBegun self.old given → HasBrokenOffWith self.new stop given) }
     {
         play_on(self)
     }

@@ -14,12 +14,12 @@ impl<S: Source, K: Sink> Playing<S, K> {
     ghost use Rattle.play_graphs.specs.Graphs.{kept_of};
     ghost use Rattle.play_graphs.specs.Making.{AreGone};
     ghost use Rattle.play_run.specs.Stopping.{GivesBackStopped};
-    ghost use Rattle.play_run.specs.Turning.{HasFailed};
-    ghost use Rattle.play_run.specs.declared.failure.Failure.{Failure};
+    ghost use Rattle.play_run.specs.Turning.{HasBrokenOff};
+    ghost use Rattle.play_run.specs.declared.failure.Stop.{Stop};
 
-    /// Ends a play in which a part failed. Each file comes to the place of its component.
+    /// Ends a play in which a part failed or the log wants memory. Each file comes to the place of its component.
     pub fn stop(self, files: &mut [Option<PartFile<S, K>>])
-        requires failed { (failure : Failure) × HasFailed self failure }
+        requires broken_off { (stop : Stop) × HasBrokenOff self stop }
         requires many { length files.old ≡ length self.plan.parts }
         requires gone { AreGone (length self.plan.parts) files.old }
         ensures many { length files.new ≡ length files.old }

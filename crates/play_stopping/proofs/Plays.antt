@@ -158,6 +158,13 @@ module _ (plan : PlanValue) (V : plans.IsValid plan) (recent : ℕ) (p : Play) (
     has_links : HasLinks (ends_of plan) joints w
     has_links = record { numbered = number; inside = end_inside; joined = has_end; ends = λ i port a s e f. end_at i a e port s f }
 
+    pub play_stops : HasNoneOut w → HasStopped plan 0 w
+    play_stops N = record {
+      many = W.many;
+      linked = record { sound = W.sound; has = has_links; works = N.works; clients = N.clients };
+      stopped = record { stopped = λ i a b e. absurd (omega (arith, b)); valid = λ i a b e. (valid i a e).state };
+    }
+
     pub work_stops : (done : WorkDone) (v : World) → Finish w done v → Sound v → HasNoneOut v → HasStopped plan 0 v
     work_stops done v F S N =
         let T = still_there (ends_of plan) joints w v done has_links (from_places IsValid w.components valid) F in

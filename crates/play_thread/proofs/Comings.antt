@@ -22,7 +22,7 @@ use Rattle.plan_streams.proofs.Opened.{opening_known}
 use Rattle.play_run.specs.declared.failure.Failure.{Failure}
 use Rattle.play_run.specs.Playing.{PlayingValue, ToldAlike, unfailed}
 use Rattle.play_run.specs.Turning.{FileShows, FilesStayed}
-use Rattle.play_thread.specs.Faults.{fault_at, fault_of}
+use Rattle.play_thread.specs.Faults.{fault_at}
 use Rattle.play_thread.proofs.Files.{StaysBy, same_file, seen_all, seen_at, seen_by, unseen}
 use Rattle.play_thread.proofs.Sinks.{sink_entry, sink_offer, sink_stays}
 
@@ -103,7 +103,7 @@ module _ {S K : Type 0} (offset size : S → ℕ) (told : S → Option (List ℕ
     cause_of n (parts.Short at whole) (Some (files.To snk frames)) (Some (files.To snk' frames')) failed e h s = absurd s.1
 
     -- why it failed
-    pub is_cause : (failure : Failure) → failure.component < length x.plan.parts → FileShows (ObjectShows size ends offset faults sink_faults) first x failure → IsRunCause (seen entries) (seen now) (fault_of failure)
+    pub is_cause : (failure : Failure) → failure.component < length x.plan.parts → FileShows (ObjectShows size ends offset faults sink_faults) first x failure → IsRunCause (seen entries) (seen now) (fault_at failure.component failure.fault)
     is_cause failure b (failed, shown) =
         let n = failure.component in
         cause_of n failure.fault (file_of n first.graph) (file_of n x.graph) failed

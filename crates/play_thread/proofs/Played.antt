@@ -24,15 +24,16 @@ use Rattle.play_course.specs.declared.player.RunFault.{RunFault}
 use Rattle.play_course.specs.declared.player.RunFault.TheVariants as runs
 use Rattle.play_course.specs.Players.{AreFilesOf, CanPlay, IsFailed, IsWhole}
 use Rattle.play_course.specs.Running.{AreSameFiles, IsRunCause}
-use Rattle.play_run.specs.declared.failure.Failure.{Failure}
+use Rattle.play_run.specs.declared.failure.Stop.{Stop}
+use Rattle.play_run.specs.declared.failure.Stop.TheVariants as stops
 use Rattle.play_run.specs.Closing.{HasPlayedWith, KeepsLog}
 use Rattle.play_run.specs.Logging.{IsKeptTo, IsNamedTo}
 use Rattle.play_run.specs.Playing.{PlayingValue}
-use Rattle.play_run.specs.Turning.{FileShows, FilesStayed, HasFailedWith}
+use Rattle.play_run.specs.Turning.{FilesStayed, HasBrokenOff, HasBrokenOffWith, StopShows}
 use Rattle.play_thread.specs.Faults.{fault_of}
 use Rattle.play_thread.proofs.Comings.{are_same, is_cause, seen, seen_file}
 use Rattle.play_thread.proofs.Files.{are_offered, seen_at}
-use Rattle.play_thread.proofs.Runs.{is_failed, is_front, is_whole}
+use Rattle.play_thread.proofs.Runs.{is_broken_off, is_failed, is_front, is_whole}
 use Rattle.play_thread.proofs.Sinks.{sink_entry, sink_offer}
 
 moved : (P : PlanValue → PlayFiles → Type 0) (a b : PlanValue) (f g : PlayFiles) → a ≡ b → f ≡ g → P a f → P b g
@@ -94,9 +95,10 @@ module _ {S K : Type 0} (offset size : S → ℕ) (told : S → Option (List ℕ
     pub files_same : AreSameFiles (seen offset size told ends faults kept name sink_faults entries) (seen offset size told ends faults kept name sink_faults now)
     files_same = are_same offset size told ends faults kept name sink_faults first x entries now many_first many_last were_there are stayed
 
-    pub fault_cause : (failure : Failure) → failure.component < length x.plan.parts → FileShows (ObjectShows size ends offset faults sink_faults) first x failure
-        → IsRunCause (seen offset size told ends faults kept name sink_faults entries) (seen offset size told ends faults kept name sink_faults now) (fault_of failure)
-    fault_cause failure b shows = is_cause offset size told ends faults kept name sink_faults first x entries now many_first many_last were_there are failure b shows
+    pub fault_cause : (stop : Stop) → HasBrokenOff x stop → StopShows (ObjectShows size ends offset faults sink_faults) first x stop
+        → IsRunCause (seen offset size told ends faults kept name sink_faults entries) (seen offset size told ends faults kept name sink_faults now) (fault_of stop)
+    fault_cause (stops.Failed failure) F shows = is_cause offset size told ends faults kept name sink_faults first x entries now many_first many_last were_there are failure F.there shows
+    fault_cause stops.OutOfMemory B shows = tt
 
     module _ (written : Always (kept_of x.graph) (TellWritten kept x.graph)) (given : PlayFiles) (R : IsReady plan given) (O : AreFilesOf plan given (seen offset size told ends faults kept name sink_faults entries)) where
       offers : AreOffered plan given (offered offset size told kept) entries
@@ -120,11 +122,17 @@ module _ {S K : Type 0} (offset size : S → ℕ) (told : S → Option (List ℕ
           (moved IsReady plan x.plan given f (sym is_plan) (sym with) R)
           (moved (λ y z. AreOffered y z (offered offset size told kept) entries) plan x.plan given f (sym is_plan) (sym with) offers))
 
-      pub run_failed : (failure : Failure) → HasFailedWith x failure given → Always (kept_of x.graph) Sound
+      pub run_failed : (stop : Stop) → HasBrokenOffWith x stop given → Always (kept_of x.graph) Sound
           → IsFailed plan given (seen offset size told ends faults kept name sink_faults entries) (seen offset size told ends faults kept name sink_faults now)
-      run_failed failure (F, with) sound =
+      run_failed (stops.Failed failure) (F, with) sound =
           let f = F.files in
           moved (λ y z. IsFailed y z (seen offset size told ends faults kept name sink_faults entries) (seen offset size told ends faults kept name sink_faults now)) x.plan plan f given is_plan with
           (is_failed offset size told ends faults kept name sink_faults first x entries now many_first many_last were_there are stayed written failure F sound
+          (moved IsReady plan x.plan given f (sym is_plan) (sym with) R)
+          (moved (λ y z. AreOffered y z (offered offset size told kept) entries) plan x.plan given f (sym is_plan) (sym with) offers))
+      run_failed stops.OutOfMemory (p, Y, with) sound =
+          let f = Y.standing.files in
+          moved (λ y z. IsFailed y z (seen offset size told ends faults kept name sink_faults entries) (seen offset size told ends faults kept name sink_faults now)) x.plan plan f given is_plan with
+          (is_broken_off offset size told ends faults kept name sink_faults first x entries now many_first many_last were_there are stayed written p Y
           (moved IsReady plan x.plan given f (sym is_plan) (sym with) R)
           (moved (λ y z. AreOffered y z (offered offset size told kept) entries) plan x.plan given f (sym is_plan) (sym with) offers))

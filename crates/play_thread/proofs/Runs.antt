@@ -1,4 +1,4 @@
--- What a play that is over leaves, and one in which a part failed.
+-- What a play that is over leaves, and one that breaks off.
 use Rattle.std.proofs.Common.{◌≡◌, ℕ, false, List, length, Option, Some, None, MatchOption, refl, sym, ◌∙◌, subst, arith}
 use Rattle.std.proofs.lemmas.Option.{slice_get_within}
 use Rattle.std.proofs.Math.Seq.{take-length}
@@ -30,7 +30,7 @@ use Rattle.play_course.specs.Running.{HasTaken}
 use Rattle.plan_streams.specs.Contents.{contents_of, streams_of}
 use Rattle.plan_streams.proofs.Opened.{opening_contents, opening_new}
 use Rattle.plan_streams.proofs.Plainly.{plan_plain}
-use Rattle.plan_streams.proofs.Texts.{texts_failed, texts_whole}
+use Rattle.plan_streams.proofs.Texts.{texts_failed, texts_fronts, texts_whole}
 use Rattle.play_run.specs.declared.failure.Failure.{Failure}
 use Rattle.play_run.specs.Logging.{IsNamedTo}
 use Rattle.play_run.specs.Playing.{HaveNoWork, IsPlaying, PlayingValue, cast, layout_of}
@@ -75,6 +75,27 @@ module _ {S K : Type 0} (offset size : S → ℕ) (told : S → Option (List ℕ
   abbrev after : List (Option FileSeen)
   after = seen offset size told ends faults kept name sink_faults now
 
+  here : (p : Play) (Y : IsPlaying x p) (place : ℕ) (sink : List ℕ) → IsWriter x.plan.parts place sink → IsHere Y.standing.world place
+  here p Y place sink I =
+      let Z = Y.standing in
+      let W = (Z.late).play in
+      let l = slice_get_within x.plan.parts place I.0 I.1 in
+      let t = (W.cast_is).each place l in
+      still_here (cast x.plan) Z.world t.0 place W.sound Z.works t.2 (still_there (late_cast_of x.plan) Z.recent p Z.world t.0 W t.1)
+
+  -- between two turns each sink took a front of its text
+  pub is_broken_off : (p : Play) (Y : IsPlaying x p) → IsReady x.plan Y.standing.files → AreOffered x.plan Y.standing.files (offered offset size told kept) entries
+      → IsFailed x.plan Y.standing.files (seen offset size told ends faults kept name sink_faults entries) (seen offset size told ends faults kept name sink_faults now)
+  is_broken_off p Y ready offers = λ samples A place sink I.
+      let Z = Y.standing in
+      let H = here p Y place sink I in
+      let streams = Z.streams (contents_of x.plan Z.files samples) (opening_contents x.plan Z.files samples Z.opening ready A Z.begins.opens) (opening_new x.plan Z.files samples Z.opening ready A Z.begins.opens) in (
+        H.stream.written,
+        has_taken offset size told ends faults kept name sink_faults first x entries now many many_now were are stayed Z.files offers Z.opening Z.world Z.begins.opens Z.told (written Z.world Z.stands) place sink I H.component H.named H.work H.stream H.found,
+        of_stream Z.world place (λ (s : Stream). IsFrontOf (sink_text x.plan samples place) s.written) H.stream H.found
+            (texts_fronts x.plan Z.files samples ready A Z.recent p Z.world (Z.late).play streams place sink I),
+      )
+
   module _ (p : Play) (Y : IsPlaying x p) (over : IsOver (layout_of x.plan) p) (ready : IsReady x.plan Y.standing.files) (offers : AreOffered x.plan Y.standing.files (offered offset size told kept) entries) where
     abbrev w : World
     w = Y.standing.world
@@ -82,18 +103,11 @@ module _ {S K : Type 0} (offset size : S → ℕ) (told : S → Option (List ℕ
     abbrev given : PlayFiles
     given = Y.standing.files
 
-    here : (place : ℕ) (sink : List ℕ) → IsWriter x.plan.parts place sink → IsHere w place
-    here place sink I =
-        let W = Y.standing.late.play in
-        let l = slice_get_within x.plan.parts place I.0 I.1 in
-        let t = (W.cast_is).each place l in
-        still_here (cast x.plan) w t.0 place W.sound Y.standing.works t.2 (still_there (late_cast_of x.plan) Y.standing.recent p w t.0 W t.1)
-
     took : (place : ℕ) (sink : List ℕ) → IsWriter x.plan.parts place sink
         → (bytes : List ℕ) × HasTaken (seen offset size told ends faults kept name sink_faults entries) (seen offset size told ends faults kept name sink_faults now) place bytes × HasWritten Y.standing.world place bytes × ((samples : List (List ℕ)) → AreSamples x.plan Y.standing.files samples → bytes ≡ sink_text x.plan samples place)
     took place sink I =
         let Z = Y.standing in
-        let H = here place sink I in (
+        let H = here p Y place sink I in (
           H.stream.written,
           has_taken offset size told ends faults kept name sink_faults first x entries now many many_now were are stayed given offers Z.opening w Z.begins.opens Z.told (written w Z.stands) place sink I H.component H.named H.work H.stream H.found,
           is_there (stream_of place w) (λ (s : Stream). s.written ≡ H.stream.written) H.stream H.found refl,
@@ -107,7 +121,7 @@ module _ {S K : Type 0} (offset size : S → ℕ) (told : S → Option (List ℕ
     pub is_whole : (text : List ℕ) → IsNamedTo x.plan Y.standing.files text Y.standing.world
         → IsWhole x.plan Y.standing.files (seen offset size told ends faults kept name sink_faults entries) (seen offset size told ends faults kept name sink_faults now) text
     is_whole text N =
-        record { opening = N.opening; ending = w; entries = N.entries; opens = N.opens; names = N.names; alone = N.alone; conducted = N.conducted; ends = N.ends; took = took }
+        record { opening = N.opening; ending = w; entries = N.entries; opens = N.opens; logged = N.logged; names = N.names; alone = N.alone; conducted = N.conducted; ends = N.ends; took = took }
 
     -- a whole text is a front of itself
     pub is_front : IsFailed x.plan Y.standing.files (seen offset size told ends faults kept name sink_faults entries) (seen offset size told ends faults kept name sink_faults now)

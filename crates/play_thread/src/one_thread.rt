@@ -11,7 +11,7 @@ use omx_types::PartFault;
 use outside_io::{Sink, Source};
 use play_course::{Player, RunFault};
 use play_log::Log;
-use play_run::{Failure, Playing, law_of_play_logs};
+use play_run::{Playing, Stop, law_of_play_logs};
 use std::alloc::Global;
 use stream_plan::Plan;
 
@@ -19,10 +19,14 @@ use stream_plan::Plan;
 #[derive(Clone, Copy, Debug, PartialEq, Eq)]
 pub struct OneThread;
 
-/// What a step that failed is for the play.
-fn run_fault(failure: Failure) -> RunFault
-    ensures { result ≡ fault_of failure }
+/// What ended the run is for the play.
+fn run_fault(stop: Stop) -> RunFault
+    ensures { result ≡ fault_of stop }
 {
+    let failure = match stop {
+        Stop::Failed(failure) => failure,
+        Stop::OutOfMemory => return RunFault::OutOfMemory,
+    };
     match failure.fault {
         PartFault::Read => RunFault::Read,
         PartFault::Write => RunFault::Write,
@@ -59,9 +63,9 @@ impl<S: Source, K: Sink> Player<S, K> for OneThread {
         law_of_play_logs();
         match playing.play() {
             Ok(()) => text_of(playing.end(files)),
-            Err(failure) => {
+            Err(stop) => {
                 playing.stop(files);
-                Err(run_fault(failure))
+                Err(run_fault(stop))
             }
         }
     }

@@ -26,57 +26,79 @@ fn pcm(rate: u32, channels: u32, frames: u64) -> WavHead {
     }
 }
 
+const MONO: WavHead = WavHead {
+    format: Format::Pcm {
+        rate: 8_000,
+        channels: 1,
+    },
+    start: 44,
+    frames: 3,
+};
+
+const STEREO: WavHead = WavHead {
+    format: Format::Pcm {
+        rate: 8_000,
+        channels: 2,
+    },
+    start: 44,
+    frames: 3,
+};
+
+/// Scripts with the heads of their sources, and the fault of each.
+const FAULTY: [(&str, [WavHead; 2], PlanFault); 8] = [
+    (
+        "omx 1 play\nsource a f\nsink b g\nlink b.0 a.0 1 1\n",
+        [MONO, MONO],
+        PlanFault::PortTwice(4),
+    ),
+    (
+        "omx 1 play\ngain c 1\nsource a f\nsink b g\nlink a.0 b.0 1 1\nlink a.0 b.0 1 1\n",
+        [MONO, MONO],
+        PlanFault::PortTwice(6),
+    ),
+    (
+        "omx 1 play\nunits 0\nmixer m 2 0 0\ngain a 1\ngain b 1\nlink a.1 b.0 1 1\nlink b.1 a.0 1 1\n",
+        [MONO, MONO],
+        PlanFault::OpenPort(3, 0),
+    ),
+    (
+        "omx 1 play\nunits 0\nsource c f\ngain a 1\ngain b 1\nsink d g\nlink a.1 b.0 1 1\nlink b.1 a.0 1 1\nlink c.0 d.0 1 1\n",
+        [MONO, MONO],
+        PlanFault::Cycle(4),
+    ),
+    (
+        "omx 1 play\nunits 3\nsource a f\ndecoder d\nsink b g\nlink d.1 b.0 1 1\nlink a.0 d.0 1 1\n",
+        [MONO, MONO],
+        PlanFault::Units { have: 3, need: 4 },
+    ),
+    (
+        "omx 1 play\nsource a f\ndecoder d\nsink b g\nlink d.1 b.0 1 1\nlink a.0 d.0 1 1\n",
+        [MONO, MONO],
+        PlanFault::Wrong(6),
+    ),
+    (
+        "omx 1 play\nsource a f\nsource c h\nmixer m 2 0 0\nsink b g\nlink c.0 m.1 1 3\nlink a.0 m.0 1 2\nlink m.2 b.0 1 2\n",
+        [MONO, STEREO],
+        PlanFault::Small(6),
+    ),
+    (
+        "omx 1 play\nsource a f\nsource c h\nmixer m 2 0 0\nsink b g\nlink c.0 m.1 1 4\nlink a.0 m.0 1 2\nlink m.2 b.0 1 1\n",
+        [MONO, STEREO],
+        PlanFault::Differ(6),
+    ),
+];
+
 #[test]
 fn faults_in_their_order(rt: HostRuntime) {
-    let alloc = rt.alloc();
-    let mono = pcm(8_000, 1, 3);
-    let stereo = pcm(8_000, 2, 3);
-    for (text, heads, fault) in [
-        (
-            "omx 1 play\nsource a f\nsink b g\nlink b.0 a.0 1 1\n",
-            [mono, mono],
-            PlanFault::PortTwice(4),
-        ),
-        (
-            "omx 1 play\ngain c 1\nsource a f\nsink b g\nlink a.0 b.0 1 1\nlink a.0 b.0 1 1\n",
-            [mono, mono],
-            PlanFault::PortTwice(6),
-        ),
-        (
-            "omx 1 play\nunits 0\nmixer m 2 0 0\ngain a 1\ngain b 1\nlink a.1 b.0 1 1\nlink b.1 a.0 1 1\n",
-            [mono, mono],
-            PlanFault::OpenPort(3, 0),
-        ),
-        (
-            "omx 1 play\nunits 0\nsource c f\ngain a 1\ngain b 1\nsink d g\nlink a.1 b.0 1 1\nlink b.1 a.0 1 1\nlink c.0 d.0 1 1\n",
-            [mono, mono],
-            PlanFault::Cycle(4),
-        ),
-        (
-            "omx 1 play\nunits 3\nsource a f\ndecoder d\nsink b g\nlink d.1 b.0 1 1\nlink a.0 d.0 1 1\n",
-            [mono, mono],
-            PlanFault::Units { have: 3, need: 4 },
-        ),
-        (
-            "omx 1 play\nsource a f\ndecoder d\nsink b g\nlink d.1 b.0 1 1\nlink a.0 d.0 1 1\n",
-            [mono, mono],
-            PlanFault::Wrong(6),
-        ),
-        (
-            "omx 1 play\nsource a f\nsource c h\nmixer m 2 0 0\nsink b g\nlink c.0 m.1 1 3\nlink a.0 m.0 1 2\nlink m.2 b.0 1 2\n",
-            [mono, stereo],
-            PlanFault::Small(6),
-        ),
-        (
-            "omx 1 play\nsource a f\nsource c h\nmixer m 2 0 0\nsink b g\nlink c.0 m.1 1 4\nlink a.0 m.0 1 2\nlink m.2 b.0 1 1\n",
-            [mono, stereo],
-            PlanFault::Differ(6),
-        ),
-    ] {
-        assert_eq!(rt; planned(alloc, text, &heads), Some(Err(fault)), "{text}");
+    for (text, heads, fault) in FAULTY {
+        assert_eq!(rt;
+            planned(rt.alloc(), text, &heads),
+            Some(Err(fault)),
+            "{text}"
+        );
     }
     let fits = "omx 1 play\nsource a f\nsink b g\nlink a.0 b.0 1 4\n";
-    assert_eq!(rt; planned(alloc, fits, &[stereo]), Some(Ok(())));
+    assert_eq!(rt; planned(rt.alloc(), fits, &[STEREO]), Some(Ok(())));
 }
 
 /// Four splitters of 8 before mixers of 8. The links have 1,016 headers, and the first one's.

@@ -1,5 +1,4 @@
-use Rattle.std.proofs.Common.{rules, IfErr, ◌∙◌}
-use Rattle.std.proofs.lemmas.Result.{IfErr-weaker}
+use Rattle.std.proofs.Common.{◌∙◌}
 use Rattle.audio_parts.specs.ObjectLaws.{object_further, object_itself, shows_earlier}
 use Rattle.audio_parts.specs.Objects.{ObjectShows, ObjectStays}
 use Rattle.il_graph.specs.Shown.{file_of}
@@ -7,10 +6,9 @@ use Rattle.play_loop.specs.Turns.{IsOfComponent}
 use Rattle.late_tellings.specs.Tellings.{IsTellingOf}
 use Rattle.late_turns.specs.Turns.{IsRunOf}
 use Rattle.play_run.specs.Playing.{FilesStay, layout_of, unfailed}
-use Rattle.play_run.specs.Turning.{FailsOn}
 use Rattle.play_run.specs.Leading.{fails_on, leads_on}
 use Rattle.play_run.proofs.Answering.{files_stay, leads_of, turned_of}
-use Rattle.play_run.proofs.Rounding.{actor_turn, some_next}
+use Rattle.play_run.proofs.Rounding.{actor_turn, some_next, wants_memory}
 use Rattle.play_run.proofs.player.PlayingPlayer.component_turn.Goals as goal
 
 pub run-ran-requires-clause-stands : goal.run-ran-requires-clause-stands
@@ -21,31 +19,40 @@ step-requires-clause-stands g c =
     let some = some_next c.args.self.now c.tell-told.new.self c.tell-told.result (IsTellingOf (layout_of c.args.self.now.plan) c.args.component) c.tell-told.ensures.turned c.requires.stands in
     some_next c.tell-told.new.self c.run-ran.new.self c.run-ran.result (IsRunOf (layout_of c.tell-told.new.self.plan) c.args.component) c.run-ran.ensures.turned some
 
-pub returns-clause-turned : goal.returns-clause-turned
-returns-clause-turned g c =
+pub returns-then-not-is_logged-clause-failed : goal.returns-then-not-is_logged-clause-failed
+returns-then-not-is_logged-clause-failed g c =
+    let x = c.args.self.now in
+    let a = c.tell-told in
+    let b = c.run-ran in
+    let leads = leads_on (ObjectStays g.S.Source.size g.S.Source.told g.S.Source.ends g.S.Source.offset g.S.Source.faults g.K.Sink.name g.K.Sink.faults) (ObjectShows g.S.Source.size g.S.Source.ends g.S.Source.offset g.S.Source.faults g.K.Sink.faults) (object_further g.S.Source.size g.S.Source.told g.S.Source.ends g.S.Source.offset g.S.Source.faults g.K.Sink.name g.K.Sink.faults) x a.new.self b.new.self
+    (leads_of (ObjectStays g.S.Source.size g.S.Source.told g.S.Source.ends g.S.Source.offset g.S.Source.faults g.K.Sink.name g.K.Sink.faults) x a.new.self a.result (IsTellingOf (layout_of c.args.self.now.plan) c.args.component) a.ensures.plan (files_stay (ObjectStays g.S.Source.size g.S.Source.told g.S.Source.ends g.S.Source.offset g.S.Source.faults g.K.Sink.name g.K.Sink.faults) (object_itself g.S.Source.size g.S.Source.told g.S.Source.ends g.S.Source.offset g.S.Source.faults g.K.Sink.name g.K.Sink.faults) x a.new.self a.ensures.files) a.ensures.turned)
+    (leads_of (ObjectStays g.S.Source.size g.S.Source.told g.S.Source.ends g.S.Source.offset g.S.Source.faults g.K.Sink.name g.K.Sink.faults) a.new.self b.new.self b.result (IsRunOf (layout_of c.tell-told.new.self.plan) c.args.component) b.ensures.plan (files_stay (ObjectStays g.S.Source.size g.S.Source.told g.S.Source.ends g.S.Source.offset g.S.Source.faults g.K.Sink.name g.K.Sink.faults) (object_itself g.S.Source.size g.S.Source.told g.S.Source.ends g.S.Source.offset g.S.Source.faults g.K.Sink.name g.K.Sink.faults) a.new.self b.new.self b.ensures.files) b.ensures.turned) in
+    (leads, wants_memory b.new.self.log.broken c.is_logged.result c.is_logged.ensures.1 c.if-not-is_logged.true)
+
+pub returns-in-Ok-clause-turned : goal.returns-in-Ok-clause-turned
+returns-in-Ok-clause-turned g c =
     let x = c.args.self.now in
     let a = c.tell-told in
     let b = c.run-ran in
     turned_of x c.step.new.self _ (IsOfComponent (layout_of x.plan) c.args.component)
-    (actor_turn x a.new.self b.new.self c.step.new.self c.args.component a.result b.result c.in_ok-stepped.stepped a.ensures.plan b.ensures.plan a.ensures.turned b.ensures.turned c.in_ok-stepped.ensures.turned)
+    (actor_turn x a.new.self b.new.self c.step.new.self c.args.component a.result b.result c.in-Ok.stepped a.ensures.plan b.ensures.plan a.ensures.turned b.ensures.turned c.in-Ok.ensures.turned)
 
-pub returns-clause-leads : goal.returns-clause-leads
-returns-clause-leads g c =
+pub returns-in-Ok-clause-leads : goal.returns-in-Ok-clause-leads
+returns-in-Ok-clause-leads g c =
     let x = c.args.self.now in
     let a = c.tell-told in
     let b = c.run-ran in
     let two : FilesStay (ObjectStays g.S.Source.size g.S.Source.told g.S.Source.ends g.S.Source.offset g.S.Source.faults g.K.Sink.name g.K.Sink.faults) x b.new.self = files_stay (ObjectStays g.S.Source.size g.S.Source.told g.S.Source.ends g.S.Source.offset g.S.Source.faults g.K.Sink.name g.K.Sink.faults) (object_itself g.S.Source.size g.S.Source.told g.S.Source.ends g.S.Source.offset g.S.Source.faults g.K.Sink.name g.K.Sink.faults) x b.new.self (λ n. b.ensures.files n ∙ a.ensures.files n) in
     leads_of (ObjectStays g.S.Source.size g.S.Source.told g.S.Source.ends g.S.Source.offset g.S.Source.faults g.K.Sink.name g.K.Sink.faults) x c.step.new.self _ (IsOfComponent (layout_of x.plan) c.args.component) (c.step.ensures.plan ∙ (b.ensures.plan ∙ a.ensures.plan))
-    (λ n. object_further _ _ _ _ _ _ _ (unfailed (file_of n x.graph)) (unfailed (file_of n b.new.self.graph)) (unfailed (file_of n c.step.new.self.graph)) (two n) (c.in_ok-stepped.ensures.objects n))
-    (actor_turn x a.new.self b.new.self c.step.new.self c.args.component a.result b.result c.in_ok-stepped.stepped a.ensures.plan b.ensures.plan a.ensures.turned b.ensures.turned c.in_ok-stepped.ensures.turned)
+    (λ n. object_further _ _ _ _ _ _ _ (unfailed (file_of n x.graph)) (unfailed (file_of n b.new.self.graph)) (unfailed (file_of n c.step.new.self.graph)) (two n) (c.in-Ok.ensures.objects n))
+    (actor_turn x a.new.self b.new.self c.step.new.self c.args.component a.result b.result c.in-Ok.stepped a.ensures.plan b.ensures.plan a.ensures.turned b.ensures.turned c.in-Ok.ensures.turned)
 
-pub returns-in_err-stepped-clause-failed : goal.returns-in_err-stepped-clause-failed
-returns-in_err-stepped-clause-failed g c =
+pub returns-in-Err-clause-failed : goal.returns-in-Err-clause-failed
+returns-in-Err-clause-failed g c =
     let x = c.args.self.now in
     let a = c.tell-told in
     let b = c.run-ran in
-    let failed : IfErr c.from_residual.result (FailsOn (ObjectStays g.S.Source.size g.S.Source.told g.S.Source.ends g.S.Source.offset g.S.Source.faults g.K.Sink.name g.K.Sink.faults) (ObjectShows g.S.Source.size g.S.Source.ends g.S.Source.offset g.S.Source.faults g.K.Sink.faults) b.new.self c.step.new.self) = search rules in
     let leads = leads_on (ObjectStays g.S.Source.size g.S.Source.told g.S.Source.ends g.S.Source.offset g.S.Source.faults g.K.Sink.name g.K.Sink.faults) (ObjectShows g.S.Source.size g.S.Source.ends g.S.Source.offset g.S.Source.faults g.K.Sink.faults) (object_further g.S.Source.size g.S.Source.told g.S.Source.ends g.S.Source.offset g.S.Source.faults g.K.Sink.name g.K.Sink.faults) x a.new.self b.new.self
     (leads_of (ObjectStays g.S.Source.size g.S.Source.told g.S.Source.ends g.S.Source.offset g.S.Source.faults g.K.Sink.name g.K.Sink.faults) x a.new.self a.result (IsTellingOf (layout_of c.args.self.now.plan) c.args.component) a.ensures.plan (files_stay (ObjectStays g.S.Source.size g.S.Source.told g.S.Source.ends g.S.Source.offset g.S.Source.faults g.K.Sink.name g.K.Sink.faults) (object_itself g.S.Source.size g.S.Source.told g.S.Source.ends g.S.Source.offset g.S.Source.faults g.K.Sink.name g.K.Sink.faults) x a.new.self a.ensures.files) a.ensures.turned)
     (leads_of (ObjectStays g.S.Source.size g.S.Source.told g.S.Source.ends g.S.Source.offset g.S.Source.faults g.K.Sink.name g.K.Sink.faults) a.new.self b.new.self b.result (IsRunOf (layout_of c.tell-told.new.self.plan) c.args.component) b.ensures.plan (files_stay (ObjectStays g.S.Source.size g.S.Source.told g.S.Source.ends g.S.Source.offset g.S.Source.faults g.K.Sink.name g.K.Sink.faults) (object_itself g.S.Source.size g.S.Source.told g.S.Source.ends g.S.Source.offset g.S.Source.faults g.K.Sink.name g.K.Sink.faults) a.new.self b.new.self b.ensures.files) b.ensures.turned) in
-    IfErr-weaker c.from_residual.result _ _ (λ failure fails. fails_on (ObjectStays g.S.Source.size g.S.Source.told g.S.Source.ends g.S.Source.offset g.S.Source.faults g.K.Sink.name g.K.Sink.faults) (ObjectShows g.S.Source.size g.S.Source.ends g.S.Source.offset g.S.Source.faults g.K.Sink.faults) (object_further g.S.Source.size g.S.Source.told g.S.Source.ends g.S.Source.offset g.S.Source.faults g.K.Sink.name g.K.Sink.faults) (shows_earlier g.S.Source.size g.S.Source.told g.S.Source.ends g.S.Source.offset g.S.Source.faults g.K.Sink.name g.K.Sink.faults) x b.new.self c.step.new.self failure leads fails) failed
+    fails_on (ObjectStays g.S.Source.size g.S.Source.told g.S.Source.ends g.S.Source.offset g.S.Source.faults g.K.Sink.name g.K.Sink.faults) (ObjectShows g.S.Source.size g.S.Source.ends g.S.Source.offset g.S.Source.faults g.K.Sink.faults) (object_further g.S.Source.size g.S.Source.told g.S.Source.ends g.S.Source.offset g.S.Source.faults g.K.Sink.name g.K.Sink.faults) (shows_earlier g.S.Source.size g.S.Source.told g.S.Source.ends g.S.Source.offset g.S.Source.faults g.K.Sink.name g.K.Sink.faults) x b.new.self c.step.new.self c.in-Err.failure leads c.in-Err.ensures.failed

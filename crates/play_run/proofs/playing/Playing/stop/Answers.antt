@@ -13,21 +13,21 @@ use Rattle.play_run.proofs.Halting.{few_stopped, gives_stopped, links_stopped, m
 use Rattle.play_run.proofs.playing.Playing.stop.Goals as goal
 
 pub stop_graph-requires-clause-parts : goal.stop_graph-requires-clause-parts
-stop_graph-requires-clause-parts g c = subst (λ (x : PlayingValue g.row.S.Denot g.row.K.Denot). length x.plan.parts ≤ 32) (sym c.self.view_is) (most_stopped c.args.self c.requires.failed)
+stop_graph-requires-clause-parts g c = subst (λ (x : PlayingValue g.row.S.Denot g.row.K.Denot). length x.plan.parts ≤ 32) (sym c.self.view_is) (most_stopped c.args.self c.requires.broken_off)
 
 pub stop_graph-requires-clause-joints : goal.stop_graph-requires-clause-joints
-stop_graph-requires-clause-joints g c = subst (λ (x : PlayingValue g.row.S.Denot g.row.K.Denot). length x.plan.joints ≤ 1024) (sym c.self.view_is) (few_stopped c.args.self c.requires.failed)
+stop_graph-requires-clause-joints g c = subst (λ (x : PlayingValue g.row.S.Denot g.row.K.Denot). length x.plan.joints ≤ 1024) (sym c.self.view_is) (few_stopped c.args.self c.requires.broken_off)
 
 pub stop_graph-requires-clause-gone : goal.stop_graph-requires-clause-gone
 stop_graph-requires-clause-gone g c = subst (λ (x : PlayingValue g.row.S.Denot g.row.K.Denot). AreGone (length x.plan.parts) c.args.files.now) (sym c.self.view_is) c.requires.gone
 
 pub stop_graph-requires-clause-links : goal.stop_graph-requires-clause-links
-stop_graph-requires-clause-links g c = subst (λ (x : PlayingValue g.row.S.Denot g.row.K.Denot). AreLinks (ends_of x.plan) (length x.plan.joints)) (sym c.self.view_is) (links_stopped c.args.self c.requires.failed)
+stop_graph-requires-clause-links g c = subst (λ (x : PlayingValue g.row.S.Denot g.row.K.Denot). AreLinks (ends_of x.plan) (length x.plan.joints)) (sym c.self.view_is) (links_stopped c.args.self c.requires.broken_off)
 
 pub stop_graph-requires-clause-stands : goal.stop_graph-requires-clause-stands
 stop_graph-requires-clause-stands g c =
     let sound = subst (λ (x : PlayingValue g.row.S.Denot g.row.K.Denot). Always (kept_of x.graph) Sound) c.self.view_is c.law_of_worlds.ensures.sound in
-    subst (λ (x : PlayingValue g.row.S.Denot g.row.K.Denot). StandsFor (HasStopped x.plan 0) x.graph) (sym c.self.view_is) (stands_stopped c.args.self sound c.requires.failed)
+    subst (λ (x : PlayingValue g.row.S.Denot g.row.K.Denot). StandsFor (HasStopped x.plan 0) x.graph) (sym c.self.view_is) (stands_stopped c.args.self sound c.requires.broken_off)
 
 pub returns-clause-back : goal.returns-clause-back
 returns-clause-back g c =

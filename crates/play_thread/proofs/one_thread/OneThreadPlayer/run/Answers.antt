@@ -51,9 +51,9 @@ returns-in-Err-play-clause-same g c = files_same g.S.Source.offset g.S.Source.si
 
 pub returns-in-Err-play-clause-failed : goal.returns-in-Err-play-clause-failed
 returns-in-Err-play-clause-failed g c = λ given R O.
-    run_failed g.S.Source.offset g.S.Source.size g.S.Source.told g.S.Source.ends g.S.Source.faults g.K.Sink.told g.K.Sink.name g.K.Sink.faults c.args.plan c.args.files.now c.requires.ready c.in-Ok.playing c.play.new.self c.new.new.files c.stop.new.files (c.in-Err-play.ensures.plan ∙ c.in-Ok.ensures.plan) c.in-Ok.ensures.many c.stop.ensures.many c.in-Ok.ensures.files c.stop.ensures.files c.in-Err-play.ensures.objects_then c.stop.ensures.written given R O c.in-Err-play.failure (c.in-Err-play.ensures.failed_with given (c.in-Ok.ensures.begun given R (are_offered g.S.Source.offset g.S.Source.size g.S.Source.told g.S.Source.ends g.S.Source.faults g.K.Sink.told g.K.Sink.name g.K.Sink.faults c.args.plan given c.args.files.now O))) c.stop.ensures.sound
+    run_failed g.S.Source.offset g.S.Source.size g.S.Source.told g.S.Source.ends g.S.Source.faults g.K.Sink.told g.K.Sink.name g.K.Sink.faults c.args.plan c.args.files.now c.requires.ready c.in-Ok.playing c.play.new.self c.new.new.files c.stop.new.files (c.in-Err-play.ensures.plan ∙ c.in-Ok.ensures.plan) c.in-Ok.ensures.many c.stop.ensures.many c.in-Ok.ensures.files c.stop.ensures.files c.in-Err-play.ensures.objects_then c.stop.ensures.written given R O c.in-Err-play.stop (c.in-Err-play.ensures.broken_off_with given (c.in-Ok.ensures.begun given R (are_offered g.S.Source.offset g.S.Source.size g.S.Source.told g.S.Source.ends g.S.Source.faults g.K.Sink.told g.K.Sink.name g.K.Sink.faults c.args.plan given c.args.files.now O))) c.stop.ensures.sound
 
 pub returns-in-Err-play-clause-cause : goal.returns-in-Err-play-clause-cause
 returns-in-Err-play-clause-cause g c =
     subst (IsRunCause (seen g.S.Source.offset g.S.Source.size g.S.Source.told g.S.Source.ends g.S.Source.faults g.K.Sink.told g.K.Sink.name g.K.Sink.faults c.args.files.now) (seen g.S.Source.offset g.S.Source.size g.S.Source.told g.S.Source.ends g.S.Source.faults g.K.Sink.told g.K.Sink.name g.K.Sink.faults c.stop.new.files)) (sym c.run_fault.ensures)
-    (fault_cause g.S.Source.offset g.S.Source.size g.S.Source.told g.S.Source.ends g.S.Source.faults g.K.Sink.told g.K.Sink.name g.K.Sink.faults c.args.plan c.args.files.now c.requires.ready c.in-Ok.playing c.play.new.self c.new.new.files c.stop.new.files (c.in-Err-play.ensures.plan ∙ c.in-Ok.ensures.plan) c.in-Ok.ensures.many c.stop.ensures.many c.in-Ok.ensures.files c.stop.ensures.files c.in-Err-play.ensures.objects_then c.in-Err-play.failure c.in-Err-play.ensures.failed.there c.in-Err-play.ensures.shows)
+    (fault_cause g.S.Source.offset g.S.Source.size g.S.Source.told g.S.Source.ends g.S.Source.faults g.K.Sink.told g.K.Sink.name g.K.Sink.faults c.args.plan c.args.files.now c.requires.ready c.in-Ok.playing c.play.new.self c.new.new.files c.stop.new.files (c.in-Err-play.ensures.plan ∙ c.in-Ok.ensures.plan) c.in-Ok.ensures.many c.stop.ensures.many c.in-Ok.ensures.files c.stop.ensures.files c.in-Err-play.ensures.objects_then c.in-Err-play.stop c.in-Err-play.ensures.broken_off c.in-Err-play.ensures.shows)
