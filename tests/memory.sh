@@ -1,7 +1,8 @@
 #!/usr/bin/env bash
 # Plays the mix of examples/play, and the same with a late source, as often as it takes memory, and refuses another allocation each
 # time: the play is told `out of memory`, status 7, leaves the log of an earlier play as it is, and of its sink's file nothing or a
-# front; and where a line of the log is refused, it stops with less than the whole. Needs a C compiler for the small library that refuses. Its last line is 'memory: N passed, M failed'.
+# front; and one that is refused a line of its log in the midst of its samples stops with less than the whole. Needs a C compiler for
+# the small library that refuses. Its last line is 'memory: N passed, M failed'.
 . "$(dirname "${BASH_SOURCE[0]}")/program.sh"
 if ! command -v cc >/dev/null; then
   echo 'memory: not run, there is no cc'
