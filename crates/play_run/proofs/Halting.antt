@@ -43,7 +43,7 @@ module _ {S K : Type 0} (x : PlayingValue S K) where
   links_stopped (stops.OutOfMemory, B) = let Z = B.0.1.standing in plan_links x.plan Z.recent B.0.0 Z.world Z.valid (Z.late).play
 
   module _ (sound : Always (kept_of x.graph) Sound) where
-    -- what a work that failed left is joined as before, and no component is Invalid; nor is one between two turns
+    -- what a work that failed left is joined as before, and no component is Invalid; so it is where the log wants memory
     can_stop : (stop : Stop) (B : HasBrokenOff x stop) → HasStopped x.plan 0 (world_then x stop B)
     can_stop (stops.Failed failure) F =
         let S = sound F.world F.stands in
