@@ -1,50 +1,31 @@
 ghost use Rattle.std.specs.Prelude.{◌≡◌};
 
 use std::alloc::AllocError;
+use std::{error, fmt};
 use thiserror::Error;
 
 /// The errors of the integration layer (OpenMAX IL 1.1.2, `OMX_ERRORTYPE`), those that this core answers or tells.
-#[derive(Clone, Copy, Debug, PartialEq, Eq, Error)]
+#[derive(Clone, Copy, Debug, PartialEq, Eq)]
 pub enum OmxError {
-    #[error("InsufficientResources")]
     InsufficientResources,
-    #[error("InvalidComponentName")]
     InvalidComponentName,
-    #[error("ComponentNotFound")]
     ComponentNotFound,
-    #[error("InvalidComponent")]
     InvalidComponent,
-    #[error("BadParameter")]
     BadParameter,
-    #[error("Hardware")]
     Hardware,
-    #[error("InvalidState")]
     InvalidState,
-    #[error("StreamCorrupt")]
     StreamCorrupt,
-    #[error("PortsNotCompatible")]
     PortsNotCompatible,
-    #[error("ResourcesLost")]
     ResourcesLost,
-    #[error("VersionMismatch")]
     VersionMismatch,
-    #[error("NotReady")]
     NotReady,
-    #[error("SameState")]
     SameState,
-    #[error("ResourcesPreempted")]
     ResourcesPreempted,
-    #[error("IncorrectStateTransition")]
     IncorrectStateTransition,
-    #[error("IncorrectStateOperation")]
     IncorrectStateOperation,
-    #[error("UnsupportedSetting")]
     UnsupportedSetting,
-    #[error("UnsupportedIndex")]
     UnsupportedIndex,
-    #[error("BadPortIndex")]
     BadPortIndex,
-    #[error("PortUnpopulated")]
     PortUnpopulated,
 }
 
@@ -106,6 +87,14 @@ impl OmxError {
         }
     }
 }
+
+impl fmt::Display for OmxError {
+    fn fmt<W: fmt::Write>(&self, f: &mut fmt::Formatter<W>) -> fmt::Result {
+        f.write_str(self.name())
+    }
+}
+
+impl error::Error for OmxError {}
 
 /// Why a call that may want memory was refused.
 #[derive(Clone, Copy, Debug, PartialEq, Eq, Error)]

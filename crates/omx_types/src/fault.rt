@@ -1,6 +1,6 @@
 ghost use Rattle.std.specs.Prelude.{◌≡◌};
 
-use std::fmt;
+use std::{error, fmt};
 use thiserror::Error;
 
 /// Why a file is no WAV file that is read here, or why reading it ended.
@@ -39,67 +39,94 @@ pub enum PartFault {
 }
 
 /// Why a script is refused: by its grammar, or by the plan of its play.
-#[derive(Clone, Copy, Debug, PartialEq, Eq, Error)]
+#[derive(Clone, Copy, Debug, PartialEq, Eq)]
 pub enum ScriptWhy {
-    #[error("too long")]
     TooLong,
-    #[error("not text")]
     NotText,
-    #[error("first line")]
     FirstLine,
-    #[error("bad word")]
     BadWord,
-    #[error("unknown name")]
     UnknownName,
-    #[error("name twice")]
     NameTwice,
-    #[error("too many")]
     TooMany,
-    #[error("port twice")]
     PortTwice,
-    #[error("open port")]
     OpenPort,
-    #[error("too many blocks")]
     TooManyBlocks,
-    #[error("cycle")]
     Cycle,
-    #[error("wrong format")]
     Wrong,
-    #[error("block too small")]
     Small,
-    #[error("formats differ")]
     Differ,
 }
 
+impl fmt::Display for ScriptWhy {
+    fn fmt<W: fmt::Write>(&self, f: &mut fmt::Formatter<W>) -> fmt::Result {
+        f.write_str(match self {
+            ScriptWhy::TooLong => "too long",
+            ScriptWhy::NotText => "not text",
+            ScriptWhy::FirstLine => "first line",
+            ScriptWhy::BadWord => "bad word",
+            ScriptWhy::UnknownName => "unknown name",
+            ScriptWhy::NameTwice => "name twice",
+            ScriptWhy::TooMany => "too many",
+            ScriptWhy::PortTwice => "port twice",
+            ScriptWhy::OpenPort => "open port",
+            ScriptWhy::TooManyBlocks => "too many blocks",
+            ScriptWhy::Cycle => "cycle",
+            ScriptWhy::Wrong => "wrong format",
+            ScriptWhy::Small => "block too small",
+            ScriptWhy::Differ => "formats differ",
+        })
+    }
+}
+
+impl error::Error for ScriptWhy {}
+
 /// Why a file of packets isn't made or read: by its samples' format, or by its own form.
-#[derive(Clone, Copy, Debug, PartialEq, Eq, Error)]
+#[derive(Clone, Copy, Debug, PartialEq, Eq)]
 pub enum PacketsWhy {
-    #[error("not G.711 mono 8000")]
     WrongFormat,
-    #[error("not a packet file")]
     NotPackets,
-    #[error("no packets")]
     NoPackets,
-    #[error("too long")]
     TooLong,
 }
 
+impl fmt::Display for PacketsWhy {
+    fn fmt<W: fmt::Write>(&self, f: &mut fmt::Formatter<W>) -> fmt::Result {
+        f.write_str(match self {
+            PacketsWhy::WrongFormat => "not G.711 mono 8000",
+            PacketsWhy::NotPackets => "not a packet file",
+            PacketsWhy::NoPackets => "no packets",
+            PacketsWhy::TooLong => "too long",
+        })
+    }
+}
+
+impl error::Error for PacketsWhy {}
+
 /// Why a line of a log isn't that of a run of its script.
-#[derive(Clone, Copy, Debug, PartialEq, Eq, Error)]
+#[derive(Clone, Copy, Debug, PartialEq, Eq)]
 pub enum AuditWhy {
-    #[error("not canonical")]
     BadLine,
-    #[error("not of a play")]
     OtherAct,
-    #[error("not out")]
     NotOut,
-    #[error("other reply")]
     OtherReply,
-    #[error("other file")]
     OtherFile,
-    #[error("not ended")]
     NotEnded,
 }
+
+impl fmt::Display for AuditWhy {
+    fn fmt<W: fmt::Write>(&self, f: &mut fmt::Formatter<W>) -> fmt::Result {
+        f.write_str(match self {
+            AuditWhy::BadLine => "not canonical",
+            AuditWhy::OtherAct => "not of a play",
+            AuditWhy::NotOut => "not out",
+            AuditWhy::OtherReply => "other reply",
+            AuditWhy::OtherFile => "other file",
+            AuditWhy::NotEnded => "not ended",
+        })
+    }
+}
+
+impl error::Error for AuditWhy {}
 
 /// A file of a command: its script, its log, that of a script line, the made one of that number from 1,
 /// or the one that it reads or writes where it has two.

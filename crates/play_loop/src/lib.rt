@@ -1,6 +1,6 @@
-//! The loop of a play over whatever makes its acts: it returns, and then the play is over, or a part failed. A round gives each
-//! component and each link its turn, in any order; since some act can always be made, a round in which every turn found
-//! nothing to do can't be.
+//! The loop of a play over whatever makes its acts: it returns, and then the play is over, or a component's turn broke it
+//! off. A round gives each component and each link its turn, in any order; since some act can always be made, a round in
+//! which every turn found nothing to do can't be.
 #![tactic(auto)]
 
 ghost use Rattle.std.specs.Prelude.{◌≡◌, ◌<◌, ◌≤◌, ℕ, Bool, true, false, IfOk, OnOk, IfErr};
@@ -10,7 +10,7 @@ ghost use Rattle.play_loop.specs.Turns.{AreOver, CanPlay, EndsOf, IsOfComponent,
 
 /// What makes the acts of a play: a graph with its conductor. Each call that moves it answers whether an act was accepted.
 pub trait Player {
-    /// What a part failed of.
+    /// What a turn breaks a play off for: a step that failed, or a line of the log that wants memory.
     type Fault;
 
     ghost layout: { Self → Layout };
@@ -18,10 +18,10 @@ pub trait Player {
     /// The plays that it stands for: what has gone through a part need not be kept.
     ghost Plays: { Self → Play → Type 0 };
 
-    /// What its turns lead to beside the plays, as long as no part fails.
+    /// What its turns lead to beside the plays, as long as no turn breaks the play off.
     ghost Leads: { Self → Self → Type 0 };
 
-    /// What a turn in which a part fails leads to.
+    /// What a turn that breaks the play off leads to.
     ghost Fails: { Self → Self → Self.Fault → Type 0 };
 
     fn components(&self) -> u32
@@ -93,7 +93,7 @@ fn round<P: Player>(player: &mut P) -> Result<bool, P::Fault>
     Ok(did)
 }
 
-/// Rounds until the play is over, or a part has failed.
+/// Rounds until the play is over, or a turn has broken it off.
 pub fn play_on<P: Player>(player: &mut P) -> Result<(), P::Fault>
     requires { CanPlay (P.layout player.old) (P.Plays player.old) 340282366920938463463374607431768211455 }
     ensures layout { P.layout player.new ≡ P.layout player.old }

@@ -83,7 +83,7 @@ module _ {S K : Type 0} (offset size : S → ℕ) (told : S → Option (List ℕ
       let t = (W.cast_is).each place l in
       still_here (cast x.plan) Z.world t.0 place W.sound Z.works t.2 (still_there (late_cast_of x.plan) Z.recent p Z.world t.0 W t.1)
 
-  -- between two turns each sink took a front of its text
+  -- in a component's turn each sink took a front of its text
   pub is_broken_off : (p : Play) (Y : IsPlaying x p) → IsReady x.plan Y.standing.files → AreOffered x.plan Y.standing.files (offered offset size told kept) entries
       → IsFailed x.plan Y.standing.files (seen offset size told ends faults kept name sink_faults entries) (seen offset size told ends faults kept name sink_faults now)
   is_broken_off p Y ready offers = λ samples A place sink I.
