@@ -2,7 +2,7 @@
 # Runs the plays of tests/plays with the built program. A play is a folder: `words`, one a line; the files of `before`, which
 # stand in an empty folder when the program starts; `out`, what is printed, with a line 'status N' at its end; and the files
 # of `after`, which are there at the end beside those of `before`. Of a log only its last line is looked at. An independent
-# model worked them out from the rules. Its last line is 'plays: N passed, M failed'.
+# model worked them out from the rules; `codes` has what G.711's formulas give. Its last line is 'plays: N passed, M failed'.
 . "$(dirname "${BASH_SOURCE[0]}")/program.sh"
 exec python3 - "$top" "$program" <<'PY'
 import os, subprocess, sys, tempfile

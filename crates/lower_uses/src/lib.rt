@@ -3,22 +3,8 @@
 #![tactic(auto)]
 
 #[cfg(test)]
-mod clock;
-#[cfg(test)]
-mod codes;
-#[cfg(test)]
 mod generator;
-#[cfg(test)]
-mod heads;
-#[cfg(test)]
-mod lines;
 #[cfg(test)]
 mod media;
 #[cfg(test)]
-mod packets;
-#[cfg(test)]
-mod parts;
-#[cfg(test)]
-mod samples;
-#[cfg(test)]
-mod scripts;
+mod prints;

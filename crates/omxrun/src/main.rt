@@ -14,8 +14,6 @@ mod print;
 mod run;
 mod script;
 mod summary;
-#[cfg(test)]
-mod tests;
 mod text;
 mod texts;
 mod trace;

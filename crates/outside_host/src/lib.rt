@@ -7,8 +7,6 @@ mod host_sink;
 mod host_source;
 mod opened_files;
 mod retry;
-#[cfg(test)]
-mod tests;
 
 pub use host_file::HostFile;
 pub use host_media::HostMedia;

@@ -11,6 +11,3 @@ pub use log::Log;
 
 /// Want of memory.
 pub type OutOfMemory = std::alloc::AllocError;
-
-#[cfg(test)]
-mod tests;

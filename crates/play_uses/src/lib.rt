@@ -1,5 +1,5 @@
-//! The public calls of the crates that open a play's files, each as a client of it calls it: what no clause says of them, shown by tests.
+//! Plays whose source breaks off while it is played: what no clause says of them, and no file of the host can be made to do.
 #![tactic(auto)]
 
 #[cfg(test)]
-mod opening;
+mod breaking;

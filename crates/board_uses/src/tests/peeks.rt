@@ -7,15 +7,15 @@ use super::asking::{run, send};
 use super::client::{Plain, PlainBoard, PlainPass, ended, made};
 use board::Board;
 use il_machine::Acted;
-use omx_types::{Command, Handle, OmxError, PortSel, State};
+use omx_types::{Command, Handle, PortSel, State};
 use std::alloc::{AllocError, Global};
 use std::process::Abort;
 use std::test::Fail;
 
-const IDLE: Command = Command::StateSet(State::Idle);
+pub const IDLE: Command = Command::StateSet(State::Idle);
 
 /// A board over one gain with all ports disabled.
-fn gain_on_board(
+pub fn gain_on_board(
     rt: &impl Abort,
     alloc: Global,
 ) -> Result<(PlainBoard, PlainPass, Handle), AllocError>
@@ -30,30 +30,6 @@ fn gain_on_board(
         Ok((board, root)) => Ok((board, root, gain)),
         Err(_) => panic!(rt; "no memory"),
     }
-}
-
-/// The root, which meets a pass that made a component idle, peeks at a state that is no older.
-#[test]
-fn peek_on_a_board(rt: HostRuntime) -> Result<(), Fail> {
-    let (board, mut root, gain) = gain_on_board(&rt, rt.alloc())?;
-    let mut first = board.split(&mut root);
-    let mut second = board.split(&mut root);
-    assert_eq!(rt; board.peek_state(&mut first, gain), Ok((0, State::Loaded)));
-    assert_eq!(rt;
-        board.peek_state(&mut first, Handle::none()),
-        Err(OmxError::InvalidComponent)
-    );
-    assert_eq!(rt; send(&rt, &board, &mut first, gain, IDLE), 0);
-    assert_eq!(rt; run(&rt, &board, &mut first, gain), 1);
-    assert_eq!(rt; board.peek_state(&mut first, gain), Ok((1, State::Idle)));
-    board.meet(&mut root, first);
-    assert_eq!(rt; board.peek_state(&mut root, gain), Ok((1, State::Idle)));
-    board.meet(&mut root, second);
-    assert_eq!(rt; board.peek_state(&mut root, gain), Ok((1, State::Idle)));
-    let graph = board.close(root);
-    assert_eq!(rt; graph.get_state(gain), Ok(State::Idle));
-    ended(&rt, graph);
-    Ok(())
 }
 
 /// A pass that was split off before the command, and was told nothing since, peeks at what was shown.

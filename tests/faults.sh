@@ -1,0 +1,156 @@
+#!/usr/bin/env bash
+# Gives the built program files that can't be read or written and words that are no form, on real files, and compares what
+# it prints, its status and all files afterwards with what the rules say; then a long play, and made inputs. Nothing here
+# stands on permissions, since root has them all. Its last line is 'faults: N passed, M failed'.
+. "$(dirname "${BASH_SOURCE[0]}")/program.sh"
+exec python3 - "$program" <<'PY'
+import os, struct, subprocess, sys, tempfile
+
+program = sys.argv[1]
+
+
+def pcm(samples):
+    """A WAV file of one channel and 8,000 frames a second."""
+    form = struct.pack('<HHIIHH', 1, 1, 8000, 16000, 2, 16)
+    body = b'WAVE' + b'fmt ' + struct.pack('<I', 16) + form + b'data' + struct.pack('<I', len(samples)) + samples
+    return b'RIFF' + struct.pack('<I', len(body)) + body
+
+
+def copy(source, sink, size=4096):
+    return f'omx 1 play\nsource a {source}\nsink b {sink}\nlink a.0 b.0 2 {size}\n'.encode()
+
+
+def made(x, frames):
+    """What `make` writes from this number on."""
+    samples = b''
+    for _ in range(frames):
+        x = (x * 6364136223846793005 + 1442695040888963407) % 2**64
+        samples += struct.pack('<H', x >> 48)
+    return pcm(samples)
+
+
+short = pcm(struct.pack('<3h', 0, 1000, -1000))
+long = pcm(bytes(i % 251 for i in range(200000)))
+before = {
+    'short.wav': short,
+    'long.wav': long,
+    'short.omx': copy('short.wav', 'out.wav'),
+    'long.omx': copy('long.wav', 'out.wav'),
+    'steps.omx': copy('long.wav', 'out.wav', 64),
+    'from-folder.omx': copy('folder', 'out.wav'),
+    'from-none.omx': copy('none', 'out.wav'),
+    'to-folder.omx': copy('short.wav', 'folder'),
+    'to-none.omx': copy('short.wav', 'none/out.wav'),
+    'short-to-full.omx': copy('short.wav', '/dev/full'),
+    'long-to-full.omx': copy('long.wav', '/dev/full'),
+    'trace.omx': b'omx 1 trace\nget a OMX.lab.gain\nstate a\n',
+    'log': b'an earlier log\n',
+}
+mix = b'''omx 1 play
+source a folder/a.wav
+source b folder/b.wav
+gain g 2048
+mixer m 2 4096 4096
+alaw e
+sink s folder/out.wav
+link a.0 g.0 4 4096
+link g.1 m.0 4 4096
+link b.0 m.1 4 4096
+link m.2 e.0 4 4096
+link e.1 s.0 4 4096
+'''
+# half of 27,735 and -15,191 are together in the step from -1,344 to -1,280 of A-law
+mixed = struct.pack('<4sI4s4sIHHIIHHH4sII4sI2s', b'RIFF', 52, b'WAVE', b'fmt ', 18, 6, 1, 8000, 8000, 1, 8, 0,
+                    b'fact', 4, 1, b'data', 1, b'\x61\0')
+
+
+def ends(log):
+    return log.endswith(b'\nend\n')
+
+
+def does_not_end(log):
+    return not ends(log)
+
+
+def is_front(sink):
+    return 0 < len(sink) < len(long) and long.startswith(sink)
+
+
+usage = ('usage: trace SCRIPT | play SCRIPT WORKERS LOG | make SEED FRAMES DIR | pack WAV PACKETS '
+         '| unpack PACKETS WAV | clock SCRIPT\n', 2)
+unread, unwritten, silent = ('read fault\n', 4), ('write fault\n', 5), ('', 5)
+# a file may have so many KiB, and a write above it fails
+limit = 'trap "" XFSZ; ulimit -f'
+# a pipe whose reader has ended
+unheard = 'exec 3> >(true); wait $!;'
+
+# what is run, what is printed and the status, and the files that are other than before
+cases = [
+    ('a script that is a folder', 'omxrun play folder 0 log', unread, {}),
+    ('a trace that is a folder', 'omxrun trace folder', unread, {}),
+    ('a source that is a folder', 'omxrun play from-folder.omx 0 log', unread, {}),
+    ('no script', 'omxrun play none 0 log', ('absent: script\n', 6), {}),
+    ('no trace', 'omxrun trace none', ('absent: script\n', 6), {}),
+    ('no source', 'omxrun play from-none.omx 0 log', ('absent: line 2\n', 6), {}),
+    ('a sink in no folder', 'omxrun play to-none.omx 0 log', ('absent: line 3\n', 6), {}),
+    ('a log in no folder', 'omxrun play short.omx 0 none/log', ('absent: log\n', 6), {'out.wav': short}),
+    ('a sink that is a folder', 'omxrun play to-folder.omx 0 log', unwritten, {}),
+    ('a sink on a full disk', 'omxrun play short-to-full.omx 0 log', unwritten, {}),
+    ('a long sink on a full disk', 'omxrun play long-to-full.omx 0 log', unwritten, {}),
+    ('a log on a full disk', 'omxrun play short.omx 0 /dev/full', unwritten, {'out.wav': short}),
+    ('a sink that grows too long', f'{limit} 64; omxrun play long.omx 0 log', unwritten, {'out.wav': is_front}),
+    ('a log that grows too long', f'{limit} 200; omxrun play steps.omx 0 log', unwritten,
+     {'out.wav': long, 'log': does_not_end}),
+    ('a play printed on a full disk', 'omxrun play short.omx 0 log >/dev/full', silent, {'out.wav': short, 'log': ends}),
+    ('a trace printed on a full disk', 'omxrun trace trace.omx >/dev/full', silent, {}),
+    ('a play that nobody reads', f'{unheard} omxrun play short.omx 0 log >&3', silent, {'out.wav': short, 'log': ends}),
+    ('a trace that nobody reads', f'{unheard} omxrun trace trace.omx >&3', silent, {}),
+    ('no words', 'omxrun', usage, {}),
+    ('nine workers', 'omxrun play short.omx 9 log', usage, {}),
+    ('a leading zero', 'omxrun play short.omx 00 log', usage, {}),
+    ('a log that is the script', 'omxrun play short.omx 0 short.omx', usage, {}),
+    ('too many frames', 'omxrun make 1 33000001 folder', usage, {}),
+    ('a worker', 'omxrun play short.omx 1 log', ('not built: words\n', 10), {}),
+    ('a long play', 'omxrun play long.omx 0 log', ('sink b 100000 frames 200044 bytes\nok\n', 0),
+     {'out.wav': long, 'log': ends}),
+    ('made inputs', 'omxrun make 1 1 folder', ('made 1 frames\n', 0),
+     {'folder/a.wav': made(1, 1), 'folder/b.wav': made(2, 1), 'folder/mix.omx': mix}),
+    ('the greatest seed', 'omxrun make 18446744073709551615 1000 folder', ('made 1000 frames\n', 0),
+     {'folder/a.wav': made(2**64 - 1, 1000), 'folder/b.wav': made(0, 1000), 'folder/mix.omx': mix}),
+    ('a made play', 'omxrun make 1 1 folder && omxrun play folder/mix.omx 0 log',
+     ('made 1 frames\nsink s 1 frames 60 bytes\nok\n', 0),
+     {'folder/a.wav': made(1, 1), 'folder/b.wav': made(2, 1), 'folder/mix.omx': mix, 'folder/out.wav': mixed, 'log': ends}),
+    ('inputs in no folder', 'omxrun make 1 1 none', ('absent: made 1\n', 6), {}),
+]
+
+
+def run(work, command):
+    """What is told of the command, in a folder with all the files, and the files that are there afterwards."""
+    os.mkdir(os.path.join(work, 'folder'))
+    for name, content in before.items():
+        with open(os.path.join(work, name), 'wb') as file:
+            file.write(content)
+    ran = subprocess.run(['bash', '-c', 'omxrun() { timeout 60 "$0" "$@"; }; ' + command, program], cwd=work,
+                         stdin=subprocess.DEVNULL, stdout=subprocess.PIPE)
+    paths = [os.path.join(folder, name) for folder, _, names in os.walk(work) for name in names]
+    return (ran.stdout.decode(), ran.returncode), {os.path.relpath(it, work): open(it, 'rb').read() for it in paths}
+
+
+def is_as(want, content):
+    return content is not None and want(content) if callable(want) else content == want
+
+
+good = bad = 0
+for name, command, told, changed in cases:
+    with tempfile.TemporaryDirectory() as work:
+        got, there = run(work, command)
+    after = before | changed
+    other = [it for it in sorted(after.keys() | there.keys()) if not is_as(after.get(it), there.get(it))]
+    if got == told and not other:
+        good += 1
+    else:
+        bad += 1
+        print(f'{name}: wanted {told}, got {got}; other files: {" ".join(other) or "none"}')
+print(f'faults: {good} passed, {bad} failed')
+sys.exit(bad > 0)
+PY
