@@ -22,7 +22,7 @@ use Rattle.il_machine.proofs.Joined.{ports_any, ports_unmade}
 use Rattle.machine_laws.proofs.Every.{from_places}
 use Rattle.machine_laws.proofs.Parts.{parts_of}
 use Rattle.machine_laws.proofs.Steps.{sound_step}
-use Rattle.whole_laws.proofs.Lists.{get_removed}
+use Rattle.stock_laws.proofs.Lists.{get_removed}
 use Rattle.assembling.proofs.Calm.{skips}
 use Rattle.assembling.proofs.Places.{resolved}
 use Rattle.assembling.proofs.Standing.{answered}

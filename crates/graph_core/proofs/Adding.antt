@@ -17,7 +17,7 @@ use Rattle.il_machine.specs.Headers.{Seen, seen, is_for, count_headers, same_key
 use Rattle.il_machine.specs.Stock.{Stocked, added, removed, keys_from}
 use Rattle.il_machine.specs.Components.{no_progress, is_vacant, with_new_component}
 use Rattle.il_machine.specs.Whole.{Kept}
-use Rattle.whole_laws.specs.Bare.{StepsBare}
+use Rattle.stock_laws.specs.Bare.{StepsBare}
 use Rattle.il_machine.specs.Sound.{Sound, port_at}
 use Rattle.machine_laws.proofs.Coming.{sound_new}
 use Rattle.machine_laws.proofs.Every.{from_places}
@@ -25,9 +25,9 @@ use Rattle.machine_laws.proofs.Keys.{key_is}
 use Rattle.machine_laws.proofs.Lookups.{rises_at, has_port}
 use Rattle.machine_laws.proofs.Parts.{parts_of, ports_in_list}
 use Rattle.machine_laws.proofs.PortChanges.{none_for}
-use Rattle.whole_laws.proofs.Lists.{get_last}
-use Rattle.whole_laws.proofs.Entries.{held_added}
-use Rattle.whole_laws.proofs.Making.{with_component_made, lift_made}
+use Rattle.stock_laws.proofs.Lists.{get_last}
+use Rattle.stock_laws.proofs.Entries.{held_added}
+use Rattle.stock_laws.proofs.Making.{with_component_made, lift_made}
 use Rattle.note_queues.specs.declared.taken.Taken.{Taken}
 use Rattle.note_queues.specs.Queues.{note_of}
 use Rattle.registry.specs.Handles.{Handles, entry_at, resolved}

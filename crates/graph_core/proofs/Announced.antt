@@ -19,10 +19,10 @@ use Rattle.machine_laws.proofs.Arriving.{change_let_go, state_there}
 use Rattle.machine_laws.specs.Changes.{IsChange}
 use Rattle.machine_laws.proofs.Finding.{either}
 use Rattle.machine_laws.proofs.Finishing.{sound_finished}
-use Rattle.whole_laws.specs.Bare.{StepsBare}
-use Rattle.whole_laws.proofs.Entries.{set_same}
-use Rattle.whole_laws.proofs.Lifting.{progress_number, with_look}
-use Rattle.whole_laws.proofs.Lists.{get_set_same, get_set_other, map_set}
+use Rattle.stock_laws.specs.Bare.{StepsBare}
+use Rattle.stock_laws.proofs.Entries.{set_same}
+use Rattle.stock_laws.proofs.Lifting.{progress_number, with_look}
+use Rattle.stock_laws.proofs.Lists.{get_set_same, get_set_other, map_set}
 use Rattle.registry.specs.Handles.{Handles}
 use Rattle.port_stock.specs.Kept.{StockKept, stocked}
 use Rattle.il_component.specs.Entries.{Entry, component_of, KeepsNotices}

@@ -4,7 +4,7 @@ use Rattle.il_machine.specs.declared.answer.Progress.{Progress}
 use Rattle.il_machine.specs.World.{no_world}
 use Rattle.il_machine.specs.Look.{look}
 use Rattle.il_machine.specs.Stock.{Stocked, no_stock}
-use Rattle.whole_laws.specs.Bare.{StandsBare}
+use Rattle.stock_laws.specs.Bare.{StandsBare}
 use Rattle.il_machine.specs.Sound.{Sound}
 use Rattle.port_stock.specs.Kept.{StockKept, stocked}
 use Rattle.registry.specs.Handles.{no_handles}

@@ -17,14 +17,14 @@ use Rattle.il_machine.specs.Sound.{Sound}
 use Rattle.il_machine.specs.Buffers.{held}
 use Rattle.il_machine.specs.Claims.{all_given_out, carried, claim_idle, must_announce, picked, wanted, with_work, work_of}
 use Rattle.il_machine.specs.Whole.{HasProgress, IsNoticed, Kept, Noticed}
-use Rattle.whole_laws.specs.Bare.{AlwaysBare, StepsBare}
+use Rattle.stock_laws.specs.Bare.{AlwaysBare, StepsBare}
 use Rattle.machine_laws.proofs.Claiming.{AreInPorts, claim_passes, headers_in, picked_length, sound_claimed}
 use Rattle.machine_laws.proofs.Finding.{changed_else}
 use Rattle.machine_laws.proofs.Listed.{todo_in}
-use Rattle.whole_laws.proofs.Lists.{get_set_same, get_set_other, map_set}
-use Rattle.whole_laws.proofs.Entries.{set_same}
-use Rattle.whole_laws.proofs.Lifting.{progress_number, with_look}
-use Rattle.whole_laws.proofs.Stocking.{lift_stock, stands_for, with_headers}
+use Rattle.stock_laws.proofs.Lists.{get_set_same, get_set_other, map_set}
+use Rattle.stock_laws.proofs.Entries.{set_same}
+use Rattle.stock_laws.proofs.Lifting.{progress_number, with_look}
+use Rattle.stock_laws.proofs.Stocking.{lift_stock, stands_for, with_headers}
 use Rattle.il_component.specs.Entries.{Entry, component_of, KeepsNotices}
 use Rattle.il_component.proofs.Fit.{same_costs}
 use Rattle.port_stock.specs.Kept.{StockKept, stocked}

@@ -5,7 +5,7 @@ use Rattle.omx_types.specs.declared.handle.Handle.{Handle}
 use Rattle.il_machine.specs.World.{same_handle}
 use Rattle.il_machine.specs.Places.{first_place, AtMostOne, shift}
 use Rattle.il_machine.proofs.Places.{is_first_place, push_Some, push_None, place_set, place_removed, passes_at}
-use Rattle.whole_laws.proofs.Lists.{get_set_same, get_set_other, get_before_last, get_at_last, get_removed}
+use Rattle.stock_laws.proofs.Lists.{get_set_same, get_set_other, get_before_last, get_at_last, get_removed}
 use Rattle.il_component.specs.Entries.{Entry}
 use Rattle.graph_core.specs.Entries.{entry_place, is_entry_at}
 use Rattle.graph_core.proofs.Registering.{same_symmetric}

@@ -12,9 +12,9 @@ use Rattle.machine_laws.proofs.Attaching.{sound_attached}
 use Rattle.machine_laws.specs.Changes.{IsChange}
 use Rattle.registry.specs.Handles.{Handles}
 use Rattle.port_stock.specs.Kept.{StockKept, stocked}
-use Rattle.whole_laws.specs.Bare.{StepsBare}
-use Rattle.whole_laws.proofs.Lifting.{with_look}
-use Rattle.whole_laws.proofs.Filing.{lift_filed}
+use Rattle.stock_laws.specs.Bare.{StepsBare}
+use Rattle.stock_laws.proofs.Lifting.{with_look}
+use Rattle.stock_laws.proofs.Filing.{lift_filed}
 use Rattle.il_component.specs.Entries.{Entry, component_of, KeepsNotices}
 use Rattle.il_component.specs.Files.{offered}
 use Rattle.graph_core.specs.Standing.{IsGraph}

@@ -28,13 +28,13 @@ use Rattle.machine_laws.proofs.Listed.{weight_below}
 use Rattle.machine_laws.proofs.Parts.{parts_of}
 use Rattle.machine_laws.proofs.Units.{resources_of}
 use Rattle.machine_laws.proofs.Works.{picked_worked, worked_at}
-use Rattle.whole_laws.specs.Bare.{StandsBare, StepsBareWhere}
-use Rattle.whole_laws.proofs.Entries.{held_set, set_same}
-use Rattle.whole_laws.proofs.Lifting.{progress_number}
-use Rattle.whole_laws.proofs.Lists.{get_set_same, get_set_other, map_set}
-use Rattle.whole_laws.proofs.Seeing.{sound_world}
-use Rattle.whole_laws.proofs.Stocking.{stands_for}
-use Rattle.whole_laws.proofs.Works.{streams_kept}
+use Rattle.stock_laws.specs.Bare.{StandsBare, StepsBareWhere}
+use Rattle.stock_laws.proofs.Entries.{held_set, set_same}
+use Rattle.stock_laws.proofs.Lifting.{progress_number}
+use Rattle.stock_laws.proofs.Lists.{get_set_same, get_set_other, map_set}
+use Rattle.stock_laws.proofs.Views.{sound_world}
+use Rattle.stock_laws.proofs.Stocking.{stands_for}
+use Rattle.stock_laws.proofs.Works.{streams_kept}
 use Rattle.header_core.specs.BufferHeader.{BufferHeader}
 use Rattle.il_component.specs.Entries.{Entry, component_of, held_in}
 use Rattle.port_stock.specs.Conditions.{IsHeaderOf, IsOutside, IsPort}

@@ -11,14 +11,14 @@ use Rattle.il_machine.specs.Lists.{first_of_these}
 use Rattle.il_machine.specs.World.{Component, with_component}
 use Rattle.il_machine.specs.Look.{Look, look}
 use Rattle.il_machine.specs.Units.{need_of, free_units, coming_units, is_waiter, is_before, is_weaker, gives_first, first_waiter, weakest, victim, lacks_event_room, grant_idle, preempt_idle, granted_units, preempted_units, with_changed}
-use Rattle.whole_laws.specs.Bare.{StepsBare}
+use Rattle.stock_laws.specs.Bare.{StepsBare}
 use Rattle.il_machine.specs.Sound.{AreRising, IsUnitSound}
 use Rattle.machine_laws.proofs.Units.{resources_of}
 use Rattle.std.proofs.lemmas.Bool.Decides.{nat_tests}
 use Rattle.machine_laws.proofs.Accepting.{passed}
 use Rattle.machine_laws.proofs.Granting.{IsVictim, best_among, changed_there, preempted_by, victim_from, victim_is}
-use Rattle.whole_laws.specs.Parts.{KeepsPart}
-use Rattle.whole_laws.proofs.Following.{as_change}
+use Rattle.stock_laws.specs.Parts.{KeepsPart}
+use Rattle.stock_laws.proofs.Following.{as_change}
 use Rattle.il_component.specs.Entries.{Entry, component_of, KeepsNotices}
 use Rattle.graph_core.specs.Entries.{Entries, kept, changed_at}
 use Rattle.graph_core.specs.Standing.{SoundWorld}

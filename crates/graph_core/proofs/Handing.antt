@@ -18,7 +18,7 @@ use Rattle.il_machine.specs.Room.{room}
 use Rattle.il_machine.specs.Ports.{accepting}
 use Rattle.il_machine.specs.Buffers.{has_no_block, client_header, with_header, with_todo, without_header, unpopulated, is_unpopulating, free_buffer_refusal, load_in}
 use Rattle.il_machine.specs.Stock.{Stocked, StandsFor, header_made, pushed, header_unmade}
-use Rattle.whole_laws.specs.Bare.{StandsBare, StepsBare}
+use Rattle.stock_laws.specs.Bare.{StandsBare, StepsBare}
 use Rattle.il_machine.specs.Sound.{Sound, IsOwnedSo}
 use Rattle.machine_laws.proofs.Accepting.{passed}
 use Rattle.machine_laws.proofs.ClientHeaders.{accepts_fewer, sound_made, sound_put, sound_freed}
@@ -29,7 +29,7 @@ use Rattle.machine_laws.proofs.Lookups.{port_there_at}
 use Rattle.machine_laws.proofs.Parts.{parts_of}
 use Rattle.machine_laws.proofs.Replacing.{replaced_put}
 use Rattle.stock_laws.proofs.Standing.{Found, found, push_stands, make_stands, unmake_stands}
-use Rattle.whole_laws.proofs.Stocking.{lift_one, with_headers, stands_for, IsFree}
+use Rattle.stock_laws.proofs.Stocking.{lift_one, with_headers, stands_for, IsFree}
 use Rattle.header_core.specs.BufferHeader.{BufferHeader}
 use Rattle.il_component.specs.Entries.{Entry, component_of, KeepsNotices}
 use Rattle.port_stock.specs.Kept.{StockKept, stocked}

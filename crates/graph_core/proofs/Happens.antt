@@ -16,7 +16,7 @@ use Rattle.il_machine.specs.Look.{Look}
 use Rattle.il_machine.specs.Headers.{Seen, find_header, is_for, is_owned_by, state_of, weight}
 use Rattle.il_machine.specs.Stock.{Stocked}
 use Rattle.il_machine.specs.Whole.{Kept}
-use Rattle.whole_laws.specs.Bare.{StepsBare}
+use Rattle.stock_laws.specs.Bare.{StepsBare}
 use Rattle.il_machine.specs.Sound.{Sound, IsOwnedSo}
 use Rattle.il_machine.specs.Due.{Thing, due_in, has_due, first_due, happened, Happens}
 use Rattle.machine_laws.proofs.Keys.{there_is}
@@ -26,9 +26,9 @@ use Rattle.machine_laws.proofs.Facts.{ports_number}
 use Rattle.machine_laws.proofs.Happening.{sound_happened}
 use Rattle.machine_laws.specs.Pending.{pending_in}
 use Rattle.machine_laws.proofs.Ending.{happens_fewer}
-use Rattle.whole_laws.proofs.Lifting.{with_look, lift_component}
-use Rattle.whole_laws.proofs.Stocking.{IsStock, with_stock, with_headers, lift_stock, stands_for}
-use Rattle.whole_laws.proofs.Following.{as_change}
+use Rattle.stock_laws.proofs.Lifting.{with_look, lift_component}
+use Rattle.stock_laws.proofs.Stocking.{IsStock, with_stock, with_headers, lift_stock, stands_for}
+use Rattle.stock_laws.proofs.Following.{as_change}
 use Rattle.il_component.specs.Entries.{Entry, component_of}
 use Rattle.il_component.specs.Entries as component
 use Rattle.registry.specs.Handles.{Handles}

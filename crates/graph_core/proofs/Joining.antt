@@ -10,7 +10,7 @@ use Rattle.il_machine.specs.declared.port.PortState.{PortState}
 use Rattle.il_machine.specs.World.{Component, World, number_of, same_handle, ports_of, port_of, with_component}
 use Rattle.il_machine.specs.Look.{look}
 use Rattle.il_machine.specs.Tunnels.{joined_to, parted, widened, setup_refusal, drop_refusal, holds_of_both, are_output_and_input, is_joined_with}
-use Rattle.whole_laws.specs.Bare.{StepsBare}
+use Rattle.stock_laws.specs.Bare.{StepsBare}
 use Rattle.il_machine.specs.Sound.{Sound}
 use Rattle.std.proofs.lemmas.Bool.Decides.{nat_tests}
 use Rattle.il_machine.specs.Kinds.{ports_in}
@@ -24,8 +24,8 @@ use Rattle.machine_laws.proofs.Keys.{key_is}
 use Rattle.machine_laws.proofs.Lookups.{port_parts}
 use Rattle.registry.specs.Handles.{Handles}
 use Rattle.port_stock.specs.Kept.{StockKept, stocked}
-use Rattle.whole_laws.proofs.Lists.{get_set_other}
-use Rattle.whole_laws.proofs.Following.{as_change}
+use Rattle.stock_laws.proofs.Lists.{get_set_other}
+use Rattle.stock_laws.proofs.Following.{as_change}
 use Rattle.il_component.specs.Entries.{Entry, component_of, KeepsNotices}
 use Rattle.il_component.specs.PortChanges.{linked, unlinked, at_port, with_link}
 use Rattle.il_component.proofs.Named.{at_port_set}

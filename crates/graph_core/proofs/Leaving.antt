@@ -15,7 +15,7 @@ use Rattle.il_machine.specs.Due.{each_port}
 use Rattle.il_machine.specs.Stock.{Stocked, removed}
 use Rattle.il_machine.specs.Components.{free_refusal, without_component}
 use Rattle.il_machine.specs.Whole.{Kept}
-use Rattle.whole_laws.specs.Bare.{StepsBare}
+use Rattle.stock_laws.specs.Bare.{StepsBare}
 use Rattle.il_machine.specs.Sound.{Sound}
 use Rattle.machine_laws.proofs.Accepting.{passed, not_either}
 use Rattle.machine_laws.proofs.Coming.{free_handle_passes, sound_removed}
@@ -24,10 +24,10 @@ use Rattle.machine_laws.proofs.Facts.{notes_empty}
 use Rattle.machine_laws.proofs.Keys.{key_is}
 use Rattle.machine_laws.proofs.Lookups.{port_at_is, port_parts}
 use Rattle.machine_laws.proofs.Pairs.{apart_numbers}
-use Rattle.whole_laws.proofs.Lists.{map_remove}
-use Rattle.whole_laws.proofs.Entries.{held_removed}
-use Rattle.whole_laws.proofs.Noting.{IsOnly}
-use Rattle.whole_laws.proofs.Making.{with_removed, lift_removed}
+use Rattle.stock_laws.proofs.Lists.{map_remove}
+use Rattle.stock_laws.proofs.Entries.{held_removed}
+use Rattle.stock_laws.proofs.Noting.{IsOnly}
+use Rattle.stock_laws.proofs.Making.{with_removed, lift_removed}
 use Rattle.note_queues.specs.Queues.{header_notes}
 use Rattle.port_stock.specs.Kept.{StockKept, stocked}
 use Rattle.port_stock.specs.Conditions.{IsUnmade, has_key}

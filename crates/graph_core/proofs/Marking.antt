@@ -8,7 +8,7 @@ use Rattle.il_machine.specs.Ports.{IsCalm}
 use Rattle.il_machine.specs.Due.{due_in, has_due}
 use Rattle.il_machine.specs.Headers.{Seen}
 use Rattle.il_machine.proofs.Calm.{calm_due}
-use Rattle.whole_laws.proofs.Lists.{get_set_same, get_set_other, get_last, get_removed}
+use Rattle.stock_laws.proofs.Lists.{get_set_same, get_set_other, get_last, get_removed}
 use Rattle.il_component.specs.Entries.{Entry, component_of}
 use Rattle.graph_core.specs.Marking.{AreMarked}
 use Rattle.graph_core.proofs.Happens.{NoneBefore}

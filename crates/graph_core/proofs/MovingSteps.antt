@@ -10,7 +10,7 @@ use Rattle.il_machine.specs.Headers.{seen, find_header, is_for, unchanged, Once}
 use Rattle.il_machine.specs.Ports.{is_input_port}
 use Rattle.il_machine.specs.Flow.{front_put, handed_back, handed_over, returned}
 use Rattle.il_machine.specs.Sound.{Sound, port_at}
-use Rattle.whole_laws.specs.Bare.{StandsBare, StepsBare}
+use Rattle.stock_laws.specs.Bare.{StandsBare, StepsBare}
 use Rattle.machine_laws.proofs.Keys.{there_is}
 use Rattle.machine_laws.proofs.Flowing.{sound_handed_over, sound_returned}
 use Rattle.machine_laws.proofs.Listed.{todo_in, done_in}
@@ -18,8 +18,8 @@ use Rattle.machine_laws.proofs.Lookups.{port_there_at}
 use Rattle.machine_laws.proofs.Parts.{ports_in_list, parts_of}
 use Rattle.machine_laws.proofs.Ties.{for_both}
 use Rattle.stock_laws.proofs.Standing.{found}
-use Rattle.whole_laws.proofs.Following.{stay}
-use Rattle.whole_laws.proofs.Stocking.{lift_stock, with_headers, stands_for}
+use Rattle.stock_laws.proofs.Following.{stay}
+use Rattle.stock_laws.proofs.Stocking.{lift_stock, with_headers, stands_for}
 use Rattle.il_component.specs.Entries.{Entry, component_of}
 use Rattle.port_stock.specs.Kept.{StockKept, stocked}
 use Rattle.graph_core.specs.Standing.{SoundWorld}

@@ -20,7 +20,7 @@ use Rattle.il_machine.specs.Buffers.{held, load_in}
 use Rattle.il_machine.specs.Flow.{done_note, front_noticed, handed_back}
 use Rattle.il_machine.specs.Stock.{Stocked, header_given, todo_pulled, todo_front_pulled, state_out}
 use Rattle.il_machine.specs.Whole.{Kept, Noticed, IsNoticed}
-use Rattle.whole_laws.specs.Bare.{StandsBare, StepsBare}
+use Rattle.stock_laws.specs.Bare.{StandsBare, StepsBare}
 use Rattle.il_machine.specs.Sound.{Sound}
 use Rattle.machine_laws.proofs.Facts.{notes_fewer}
 use Rattle.machine_laws.proofs.Finding.{changed_else, changed_same, found_number}
@@ -29,11 +29,11 @@ use Rattle.machine_laws.proofs.Lookups.{port_parts}
 use Rattle.machine_laws.proofs.Notices.{sound_noticed}
 use Rattle.stock_laws.proofs.Leaving.{front_of_todo}
 use Rattle.stock_laws.proofs.Composed.{pull_taken, pull_give}
-use Rattle.whole_laws.proofs.Entries.{held_set, set_same}
-use Rattle.whole_laws.proofs.Lifting.{with_look, lift_component}
-use Rattle.whole_laws.proofs.Lists.{map_set}
-use Rattle.whole_laws.proofs.Noting.{with_noticed, renoticed}
-use Rattle.whole_laws.proofs.Stocking.{with_stock, lift_one, with_headers, stands_for, IsFree}
+use Rattle.stock_laws.proofs.Entries.{held_set, set_same}
+use Rattle.stock_laws.proofs.Lifting.{with_look, lift_component}
+use Rattle.stock_laws.proofs.Lists.{map_set}
+use Rattle.stock_laws.proofs.Noting.{with_noticed, renoticed}
+use Rattle.stock_laws.proofs.Stocking.{with_stock, lift_one, with_headers, stands_for, IsFree}
 use Rattle.header_core.specs.BufferHeader.{BufferHeader, is_clients, cleared as emptied_header, empty_held}
 use Rattle.note_queues.specs.declared.taken.Taken.{Taken as Queued}
 use Rattle.note_queues.specs.declared.taken.Taken.TheVariants.{Told, EmptyDone, FillDone}

@@ -10,14 +10,14 @@ use Rattle.il_machine.specs.Look.{Look}
 use Rattle.il_machine.specs.Ports.{is_supplier, leaving}
 use Rattle.il_machine.specs.Flow.{front_unmade, in_port, release_idle}
 use Rattle.il_machine.specs.Stock.{Stocked, StandsFor, header_unmade}
-use Rattle.whole_laws.specs.Bare.{StandsBare, StepsBare}
+use Rattle.stock_laws.specs.Bare.{StandsBare, StepsBare}
 use Rattle.il_machine.specs.Sound.{Sound}
 use Rattle.machine_laws.proofs.Accepting.{passed}
 use Rattle.machine_laws.proofs.Finding.{without_else}
 use Rattle.machine_laws.proofs.Flowing.{sound_released}
 use Rattle.machine_laws.proofs.Listed.{AreIn, IsIn, both_in, done_in, first_in, todo_in}
 use Rattle.stock_laws.proofs.Composed.{pull_unmade, send_unmade}
-use Rattle.whole_laws.proofs.Stocking.{lift_one, with_headers, IsFree}
+use Rattle.stock_laws.proofs.Stocking.{lift_one, with_headers, IsFree}
 use Rattle.il_component.specs.Entries.{Entry, component_of}
 use Rattle.port_stock.specs.Kept.{StockKept, stocked}
 use Rattle.graph_core.specs.Standing.{SoundWorld}

@@ -11,7 +11,7 @@ use Rattle.machine_laws.proofs.Units.{IsFair}
 use Rattle.port_stock.specs.Kept.{StockKept, stocked}
 use Rattle.port_stock.specs.Conditions.{IsPort}
 use Rattle.registry.specs.Handles.{Handles}
-use Rattle.whole_laws.proofs.Following.{as_change}
+use Rattle.stock_laws.proofs.Following.{as_change}
 use Rattle.il_machine.specs.declared.answer.Progress.{Progress}
 use Rattle.il_machine.specs.World.{Component, World, number_of, with_component, place_of, is_at}
 use Rattle.il_machine.specs.Places.{first_place}
@@ -19,12 +19,12 @@ use Rattle.il_machine.proofs.Places.{is_first_place}
 use Rattle.il_machine.specs.Look.{Look, look}
 use Rattle.il_machine.specs.Units.{free_units}
 use Rattle.il_machine.specs.Whole.{Kept}
-use Rattle.whole_laws.specs.Bare.{StandsBare, StepsBare}
+use Rattle.stock_laws.specs.Bare.{StandsBare, StepsBare}
 use Rattle.il_machine.specs.Sound.{Sound, IsSound}
-use Rattle.whole_laws.proofs.Lists.{map_set, get_set_same, get_set_other}
-use Rattle.whole_laws.proofs.Entries.{set_same, held_same}
-use Rattle.whole_laws.specs.Parts.{KeepsPart}
-use Rattle.whole_laws.proofs.Lifting.{with_look, lift_component}
+use Rattle.stock_laws.proofs.Lists.{map_set, get_set_same, get_set_other}
+use Rattle.stock_laws.proofs.Entries.{set_same, held_same}
+use Rattle.stock_laws.specs.Parts.{KeepsPart}
+use Rattle.stock_laws.proofs.Lifting.{with_look, lift_component}
 use Rattle.il_component.specs.Entries.{Entry, component_of, KeepsNotices}
 use Rattle.graph_core.specs.Standing.{SoundWorld, HasPorts, IsGraph}
 use Rattle.graph_core.proofs.Registering.{set_sound, some_within}

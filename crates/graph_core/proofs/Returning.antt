@@ -17,14 +17,14 @@ use Rattle.il_machine.specs.Look.{Look}
 use Rattle.il_machine.specs.Components.{noted_by, progress_of, progress_after, is_given_to, no_progress}
 use Rattle.il_machine.specs.Notes.{back_in}
 use Rattle.il_machine.specs.Whole.{Kept}
-use Rattle.whole_laws.specs.Bare.{StandsBare, StepsBareWhere}
+use Rattle.stock_laws.specs.Bare.{StandsBare, StepsBareWhere}
 use Rattle.il_machine.specs.Sound.{Sound}
 use Rattle.machine_laws.proofs.Notices.{sound_ended}
-use Rattle.whole_laws.proofs.Entries.{held_same}
-use Rattle.whole_laws.proofs.Lifting.{with_look}
-use Rattle.whole_laws.proofs.Lists.{map_set}
-use Rattle.whole_laws.proofs.Noting.{IsOnly, lift_ended, with_client_in}
-use Rattle.whole_laws.proofs.Seeing.{sound_world}
+use Rattle.stock_laws.proofs.Entries.{held_same}
+use Rattle.stock_laws.proofs.Lifting.{with_look}
+use Rattle.stock_laws.proofs.Lists.{map_set}
+use Rattle.stock_laws.proofs.Noting.{IsOnly, lift_ended, with_client_in}
+use Rattle.stock_laws.proofs.Views.{sound_world}
 use Rattle.note_queues.specs.Queues.{with_client}
 use Rattle.il_component.specs.Entries.{Entry, component_of}
 use Rattle.graph_core.specs.Clients.{IsPortDone}

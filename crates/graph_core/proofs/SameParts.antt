@@ -16,7 +16,7 @@ use Rattle.il_machine.specs.Parameters.{with_value, unheld_at}
 use Rattle.il_machine.specs.Buffers.{unpopulated, is_unpopulating}
 use Rattle.il_machine.specs.Commands.{sent, invalidated, is_at_once, begun, state_fault, carried_out, run_front}
 use Rattle.param_store.proofs.GetAfterSet.{same_kind}
-use Rattle.whole_laws.specs.Parts.{KeepsPart}
+use Rattle.stock_laws.specs.Parts.{KeepsPart}
 
 pub part_none : (c : Component) → KeepsPart c c
 part_none c = record { number = refl; kind = refl; file = refl; failed = refl; work = refl }

@@ -13,14 +13,14 @@ use Rattle.il_machine.specs.Headers.{seen}
 use Rattle.il_machine.specs.Look.{Look}
 use Rattle.il_machine.specs.Stock.{Stocked}
 use Rattle.il_machine.specs.Whole.{Noticed}
-use Rattle.whole_laws.specs.Bare.{StandsBare, StepsBare}
+use Rattle.stock_laws.specs.Bare.{StandsBare, StepsBare}
 use Rattle.machine_laws.proofs.Lookups.{rises_at, port_parts}
 use Rattle.machine_laws.proofs.Pairs.{apart_numbers}
 use Rattle.machine_laws.proofs.Parts.{parts_of}
-use Rattle.whole_laws.specs.Entries.{all_held}
-use Rattle.whole_laws.proofs.Lists.{get_set_same, get_set_other}
-use Rattle.whole_laws.proofs.Noting.{IsOnly}
-use Rattle.whole_laws.proofs.Stocking.{with_stock, IsStock, with_headers}
+use Rattle.stock_laws.specs.Entries.{all_held}
+use Rattle.stock_laws.proofs.Lists.{get_set_same, get_set_other}
+use Rattle.stock_laws.proofs.Noting.{IsOnly}
+use Rattle.stock_laws.proofs.Stocking.{with_stock, IsStock, with_headers}
 use Rattle.il_component.specs.Entries.{Entry, component_of}
 use Rattle.port_stock.specs.Kept.{StockKept, stocked}
 use Rattle.port_stock.specs.Conditions.{IsPort}

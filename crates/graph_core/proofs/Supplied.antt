@@ -13,7 +13,7 @@ use Rattle.il_machine.specs.Ports.{accepting, is_supplier, is_input_port}
 use Rattle.il_machine.specs.Buffers.{has_no_block, has_no_number}
 use Rattle.il_machine.specs.Flow.{End, other_end, supply_idle, supplied_by, tunnel_header, with_supplied, supplied_spot}
 use Rattle.il_machine.specs.Stock.{Stocked, StandsFor}
-use Rattle.whole_laws.specs.Bare.{StepsBare}
+use Rattle.stock_laws.specs.Bare.{StepsBare}
 use Rattle.il_machine.specs.Sound.{Sound}
 use Rattle.machine_laws.proofs.Accepting.{passed, not_not}
 use Rattle.machine_laws.proofs.ClientHeaders.{accepts_fewer}
@@ -23,7 +23,7 @@ use Rattle.machine_laws.proofs.Flowing.{sound_supplied}
 use Rattle.machine_laws.proofs.Lookups.{HasPort, port_there_at}
 use Rattle.machine_laws.proofs.Parts.{parts_of}
 use Rattle.stock_laws.proofs.Composed.{make_put}
-use Rattle.whole_laws.proofs.Stocking.{lift_one, with_headers, IsFree}
+use Rattle.stock_laws.proofs.Stocking.{lift_one, with_headers, IsFree}
 use Rattle.il_component.specs.Entries.{Entry, component_of}
 use Rattle.port_stock.specs.Kept.{StockKept, stocked}
 use Rattle.port_stock.specs.Conditions.{made_in}

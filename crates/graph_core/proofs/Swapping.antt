@@ -10,8 +10,8 @@ use Rattle.il_machine.specs.Sound.{Sound}
 use Rattle.registry.specs.Handles.{Handles}
 use Rattle.port_stock.specs.Kept.{StockKept, stocked}
 use Rattle.port_stock.specs.Conditions.{IsPort}
-use Rattle.whole_laws.specs.Parts.{KeepsPart}
-use Rattle.whole_laws.proofs.Lists.{get_set_same, get_set_other}
+use Rattle.stock_laws.specs.Parts.{KeepsPart}
+use Rattle.stock_laws.proofs.Lists.{get_set_same, get_set_other}
 use Rattle.il_component.specs.Entries.{Entry, component_of, KeepsNotices}
 use Rattle.graph_core.specs.Standing.{HasPorts, IsGraph}
 use Rattle.graph_core.specs.Entries.{Entries, look_of, kept, changed_at}

@@ -16,7 +16,7 @@ use Rattle.il_machine.specs.Lists.{holds_at}
 use Rattle.il_machine.specs.Notes.{first_taken, with_given, with_client}
 use Rattle.il_machine.specs.Stock.{header_given}
 use Rattle.il_machine.specs.Whole.{Kept, Noticed, IsNoticed}
-use Rattle.whole_laws.specs.Bare.{StandsBare, StepsBare}
+use Rattle.stock_laws.specs.Bare.{StandsBare, StepsBare}
 use Rattle.il_machine.specs.Sound.{Sound}
 use Rattle.machine_laws.proofs.Facts as facts
 use Rattle.machine_laws.proofs.Facts.{noticed_there}
@@ -25,12 +25,12 @@ use Rattle.machine_laws.proofs.Listed.{times_cons, times_self, weight_below}
 use Rattle.machine_laws.proofs.Notices.{sound_given, sound_taken, note_emptied, note_filled, IsNoteOf}
 use Rattle.machine_laws.proofs.Parts.{parts_of}
 use Rattle.stock_laws.proofs.Standing.{give_stands}
-use Rattle.whole_laws.proofs.Entries.{held_set, set_same}
-use Rattle.whole_laws.proofs.Following.{as_change}
-use Rattle.whole_laws.proofs.Lifting.{with_look}
-use Rattle.whole_laws.proofs.Lists.{map_set, get_set_same, get_set_other}
-use Rattle.whole_laws.proofs.Noting.{lift_given, with_client_out, with_noticed, renoticed}
-use Rattle.whole_laws.proofs.Stocking.{lift_taken, with_headers}
+use Rattle.stock_laws.proofs.Entries.{held_set, set_same}
+use Rattle.stock_laws.proofs.Following.{as_change}
+use Rattle.stock_laws.proofs.Lifting.{with_look}
+use Rattle.stock_laws.proofs.Lists.{map_set, get_set_same, get_set_other}
+use Rattle.stock_laws.proofs.Noting.{lift_given, with_client_out, with_noticed, renoticed}
+use Rattle.stock_laws.proofs.Stocking.{lift_taken, with_headers}
 use Rattle.header_core.specs.BufferHeader.{BufferHeader, is_clients}
 use Rattle.note_queues.specs.declared.taken.Taken.{Taken}
 use Rattle.note_queues.specs.declared.taken.Taken.TheVariants.{Told, EmptyDone, FillDone}

@@ -6,9 +6,9 @@ use Rattle.il_machine.specs.declared.answer.Progress.{Progress}
 use Rattle.il_machine.specs.Look.{Look}
 use Rattle.il_machine.specs.Answers.{component_named}
 use Rattle.il_machine.specs.Components.{progress_of}
-use Rattle.whole_laws.specs.Bare.{AlwaysBare}
+use Rattle.stock_laws.specs.Bare.{AlwaysBare}
 use Rattle.il_machine.specs.Sound.{Sound}
-use Rattle.whole_laws.proofs.Seeing.{sound_world}
+use Rattle.stock_laws.proofs.Views.{sound_world}
 use Rattle.il_component.specs.Entries.{Entry, component_of}
 use Rattle.graph_core.specs.Clients.{AreTold, IsOut}
 use Rattle.graph_core.specs.Entries.{Entries, client_named, components_of, entry_named, entry_place, kept, look_of, progress_at}

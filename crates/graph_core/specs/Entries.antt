@@ -8,7 +8,7 @@ use Rattle.il_machine.specs.Look.{Look}
 use Rattle.il_machine.specs.Headers.{weight}
 use Rattle.il_machine.specs.Ports.{is_going_to}
 use Rattle.il_machine.specs.Whole.{Kept, Noticed}
-use Rattle.whole_laws.specs.Entries.{all_held}
+use Rattle.stock_laws.specs.Entries.{all_held}
 use Rattle.il_component.specs.Entries.{Entry, component_of, held_in}
 use Rattle.port_stock.specs.Kept.{StockKept, stocked}
 

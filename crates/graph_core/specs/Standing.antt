@@ -3,7 +3,7 @@
 use Rattle.std.specs.Prelude.{◌≡◌, ◌+◌, ◌<◌, ◌≤◌, ℕ, List, length, All, slice_get, Some}
 use Rattle.il_machine.specs.declared.answer.Progress.{Progress}
 use Rattle.il_machine.specs.World.{World}
-use Rattle.whole_laws.specs.Bare.{StandsBare}
+use Rattle.stock_laws.specs.Bare.{StandsBare}
 use Rattle.il_machine.specs.Whole as machine
 use Rattle.il_machine.specs.Sound.{Sound}
 use Rattle.il_machine.specs.Stock.{Stocked}

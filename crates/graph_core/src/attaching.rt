@@ -2,7 +2,7 @@
 
 ghost use Rattle.std.specs.Prelude.{◌≡◌, ◌<◌, ℕ, List, Option, None, length, MatchOption, IsSomeAnd};
 ghost use Rattle.il_machine.specs.Files.{attach_refusal, with_file};
-ghost use Rattle.whole_laws.specs.Bare.{StepsBare};
+ghost use Rattle.stock_laws.specs.Bare.{StepsBare};
 ghost use Rattle.il_component.specs.Files.{offered};
 ghost use Rattle.graph_core.specs.Entries.{kept, component_at};
 ghost use Rattle.graph_core.specs.Clients.{KeepsAllClients};

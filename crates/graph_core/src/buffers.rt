@@ -4,7 +4,7 @@ ghost use Rattle.std.specs.Prelude.{◌≡◌, ◌<◌, None, is_some, length, t
 ghost use Rattle.il_machine.specs.World.{port_of, with_component};
 ghost use Rattle.il_machine.specs.Headers.{is_for, loaded};
 ghost use Rattle.il_machine.specs.Buffers.{allocate_refusal, use_refusal, free_buffer_refusal, empty_refusal, fill_refusal, client_header, with_header, with_todo, without_header, unpopulated, load_in, AtState, IsWithClient};
-ghost use Rattle.whole_laws.specs.Bare.{StepsBare};
+ghost use Rattle.stock_laws.specs.Bare.{StepsBare};
 ghost use Rattle.header_core.specs.BufferHeader.{is_clients, own_memory, fresh as fresh_header};
 ghost use Rattle.graph_core.specs.Entries.{kept, look_of, component_at};
 ghost use Rattle.graph_core.specs.Changes.{IsHandedIn, IsMakable};

@@ -4,7 +4,7 @@ ghost use Rattle.std.specs.Prelude.{◌≡◌, ◌<◌, None, length, option_map
 ghost use Rattle.il_machine.specs.Headers.{seen};
 ghost use Rattle.il_machine.specs.Claims.{carried, claim_idle, must_announce, with_work, work_of};
 ghost use Rattle.il_machine.specs.World.{number_of};
-ghost use Rattle.whole_laws.specs.Bare.{AlwaysBare, StepsBare};
+ghost use Rattle.stock_laws.specs.Bare.{AlwaysBare, StepsBare};
 ghost use Rattle.port_rules.specs.Claiming.{claimed_by};
 ghost use Rattle.port_stock.specs.Kept.{stocked};
 ghost use Rattle.graph_core.specs.Claiming.{AreLent, HasFronts, carried_from};

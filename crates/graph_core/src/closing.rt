@@ -2,7 +2,7 @@
 
 ghost use Rattle.std.specs.Prelude.{◌≡◌, ◌<◌, ℕ, length, slice_get, position, option_map, None, Some, IfSome};
 ghost use Rattle.il_machine.specs.Due.{has_due, first_due, Happens, ClosesTo};
-ghost use Rattle.whole_laws.specs.Bare.{StepsBare};
+ghost use Rattle.stock_laws.specs.Bare.{StepsBare};
 ghost use Rattle.machine_laws.specs.Pending.{pending_in};
 ghost use Rattle.il_component.specs.Entries.{Entry, component_of};
 ghost use Rattle.port_stock.specs.Kept.{stocked};

@@ -7,7 +7,7 @@ ghost use Rattle.il_machine.specs.World.{with_component};
 ghost use Rattle.il_machine.specs.Look.{look};
 ghost use Rattle.il_machine.specs.Commands.{send_refusal, lacks_target, sent, run_idle, run_front};
 ghost use Rattle.il_machine.specs.Due.{first_due};
-ghost use Rattle.whole_laws.specs.Bare.{StepsBare};
+ghost use Rattle.stock_laws.specs.Bare.{StepsBare};
 ghost use Rattle.graph_core.specs.Entries.{kept, look_of, component_at};
 ghost use Rattle.graph_core.specs.Clients.{KeepsAllClients};
 

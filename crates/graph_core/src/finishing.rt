@@ -8,7 +8,7 @@ ghost use Rattle.il_machine.specs.Ports.{returning};
 ghost use Rattle.il_machine.specs.Sound.{IsSound};
 ghost use Rattle.il_machine.specs.Stepping.{WorkDone};
 ghost use Rattle.il_machine.specs.World.{World, number_of, ports_of};
-ghost use Rattle.whole_laws.specs.Bare.{StandsBare, StepsBare, StepsBareWhere};
+ghost use Rattle.stock_laws.specs.Bare.{StandsBare, StepsBare, StepsBareWhere};
 ghost use Rattle.il_component.specs.Entries.{component_of};
 ghost use Rattle.work_landing.specs.Landed.{AreWays, done_by};
 ghost use Rattle.graph_core.specs.Entries.{kept, look_of, component_at};

@@ -2,7 +2,7 @@
 
 ghost use Rattle.std.specs.Prelude.{◌≡◌, Some, None};
 ghost use Rattle.omx_types.specs.declared.handle.Handle.{Handle};
-ghost use Rattle.whole_laws.specs.Bare.{AlwaysBare};
+ghost use Rattle.stock_laws.specs.Bare.{AlwaysBare};
 ghost use Rattle.il_machine.specs.Sound.{Sound};
 ghost use Rattle.il_machine.specs.Census.{Census, HasRoom};
 ghost use Rattle.graph_core.specs.Entries.{client_named, kept, look_of};

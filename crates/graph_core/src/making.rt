@@ -9,7 +9,7 @@ ghost use Rattle.il_machine.specs.Components.{is_full, is_vacant, no_progress, w
 ghost use Rattle.il_machine.specs.Parameters.{set_parameter_refusal, set_config_refusal, with_value};
 ghost use Rattle.il_machine.specs.Places.{first_place};
 ghost use Rattle.il_machine.specs.Stock.{added};
-ghost use Rattle.whole_laws.specs.Bare.{StepsBare};
+ghost use Rattle.stock_laws.specs.Bare.{StepsBare};
 ghost use Rattle.registry.specs.Handles.{resolved, live, AllGiven};
 ghost use Rattle.il_component.specs.Entries.{component_of};
 ghost use Rattle.port_stock.specs.Kept.{stocked};

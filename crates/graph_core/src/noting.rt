@@ -5,7 +5,7 @@ ghost use Rattle.il_machine.specs.World.{port_of, with_component};
 ghost use Rattle.il_machine.specs.Components.{progress_of};
 ghost use Rattle.il_machine.specs.Notes.{back_in};
 ghost use Rattle.il_machine.specs.Flow.{handed_back};
-ghost use Rattle.whole_laws.specs.Bare.{StepsBare, StepsBareWhere};
+ghost use Rattle.stock_laws.specs.Bare.{StepsBare, StepsBareWhere};
 ghost use Rattle.graph_core.specs.Entries.{kept, client_of, component_at};
 ghost use Rattle.graph_core.specs.Changes.{OnNoNote, Takes};
 ghost use Rattle.graph_core.specs.Clients.{IsPortDone, KeepsClients, KeepsAllClients, TakesClient};

@@ -8,7 +8,7 @@ ghost use Rattle.il_machine.specs.Ports.{id_of, is_input_port};
 ghost use Rattle.il_machine.specs.World.{port_of};
 ghost use Rattle.il_machine.specs.Buffers.{is_taking};
 ghost use Rattle.il_machine.specs.Flow.{at_end, back_idle, front_put, handed_back, handed_over, is_giving, other_end, over_idle, returned};
-ghost use Rattle.whole_laws.specs.Bare.{StepsBare};
+ghost use Rattle.stock_laws.specs.Bare.{StepsBare};
 ghost use Rattle.il_machine.specs.declared.answer.Why.TheVariants as why;
 ghost use Rattle.il_machine.specs.declared.header.Spot.TheVariants.{TodoBack};
 ghost use Rattle.il_component.specs.Entries.{component_of};

@@ -8,7 +8,7 @@ ghost use Rattle.il_machine.specs.Headers.{seen};
 ghost use Rattle.il_machine.specs.Ports.{accepting, id_of};
 ghost use Rattle.il_machine.specs.Buffers.{has_no_block};
 ghost use Rattle.il_machine.specs.Flow.{at_end, front_unmade, in_port, other_end, release_idle, supply_idle, with_supplied, supplied_spot};
-ghost use Rattle.whole_laws.specs.Bare.{StepsBare};
+ghost use Rattle.stock_laws.specs.Bare.{StepsBare};
 ghost use Rattle.il_component.specs.Entries.{Entry, component_of};
 ghost use Rattle.port_stock.specs.Kept.{stocked};
 ghost use Rattle.port_stock.specs.Conditions.{IsOutside, IsPort, number_of};

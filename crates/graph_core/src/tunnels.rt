@@ -3,7 +3,7 @@
 ghost use Rattle.std.specs.Prelude.{◌≡◌, ◌<◌, None, length, IsSomeAnd, MatchOption};
 ghost use Rattle.il_machine.specs.World.{port_of};
 ghost use Rattle.il_machine.specs.Tunnels.{widened, setup_refusal, drop_refusal, both_joined, both_parted, agreed_of, BothPorts};
-ghost use Rattle.whole_laws.specs.Bare.{StepsBare};
+ghost use Rattle.stock_laws.specs.Bare.{StepsBare};
 ghost use Rattle.graph_core.specs.Entries.{kept, look_of, component_at};
 ghost use Rattle.graph_core.specs.Clients.{KeepsAllClients};
 

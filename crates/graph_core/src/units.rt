@@ -4,7 +4,7 @@ ghost use Rattle.std.specs.Prelude.{◌≡◌, ◌<◌, ◌≤◌, length, slice
 ghost use Rattle.il_machine.specs.Units.{units_held, free_units, coming_units, is_before, gives_first, first_waiter, weakest, victim, grant_idle, preempt_idle, granted_units, preempted_units, with_changed, lacks_event_room};
 ghost use Rattle.il_machine.specs.Lists.{first_of_these};
 ghost use Rattle.il_component.specs.Entries.{component_of};
-ghost use Rattle.whole_laws.specs.Bare.{StepsBare};
+ghost use Rattle.stock_laws.specs.Bare.{StepsBare};
 ghost use Rattle.graph_core.specs.Entries.{kept, components_of, look_of, component_at};
 ghost use Rattle.graph_core.specs.Units.{units_returning, stays_before};
 ghost use Rattle.graph_core.specs.Clients.{KeepsAllClients};

@@ -14,8 +14,8 @@ use Rattle.il_machine.specs.Look.{Look, look}
 use Rattle.il_machine.specs.Due.{ClosesTo}
 use Rattle.il_machine.specs.Flow.{OnPort}
 use Rattle.il_machine.specs.Answers.{plain, Acts}
-use Rattle.whole_laws.specs.Bare.{StepsBare}
-use Rattle.whole_laws.proofs.Answering.{unresolved, no_port, on_port, idle, did, idle_as, did_as, then_closes}
+use Rattle.stock_laws.specs.Bare.{StepsBare}
+use Rattle.stock_laws.proofs.Answering.{unresolved, no_port, on_port, idle, did, idle_as, did_as, then_closes}
 use Rattle.graph_core.specs.Entries.{Entries, look_of, kept, component_at, entry_place}
 use Rattle.graph_core.proofs.Replacing.{entry_place_is}
 use Rattle.il_graph.proofs.Calling.{Found, at_some, and_some}

@@ -27,9 +27,9 @@ use Rattle.machine_laws.proofs.Granting.{placed_there}
 use Rattle.machine_laws.proofs.Keys.{there_is}
 use Rattle.machine_laws.proofs.Pairs.{apart_numbers}
 use Rattle.machine_laws.proofs.Steps.{sound_after}
-use Rattle.whole_laws.specs.Bare.{StandsBare, StepsBare, StepsBareWhere}
-use Rattle.whole_laws.proofs.Lists.{get_set_same, map_set}
-use Rattle.whole_laws.proofs.Works.{done_less, parts_landed, parts_told, through_nothing}
+use Rattle.stock_laws.specs.Bare.{StandsBare, StepsBare, StepsBareWhere}
+use Rattle.stock_laws.proofs.Lists.{get_set_same, map_set}
+use Rattle.stock_laws.proofs.Works.{done_less, parts_landed, parts_told, through_nothing}
 use Rattle.header_core.specs.BufferHeader.{BufferHeader}
 use Rattle.work_landing.specs.declared.step.Step.{Step as Stepped}
 use Rattle.work_landing.specs.Landed.{IsLeft, done_by}

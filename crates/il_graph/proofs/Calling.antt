@@ -14,8 +14,8 @@ use Rattle.il_machine.specs.Components.{view_of, viewed, view_answer}
 use Rattle.il_machine.specs.Look.{Look, look}
 use Rattle.il_machine.specs.Due.{ClosesTo}
 use Rattle.il_machine.specs.Answers.{plain, Resolving, Answers, Acts, component_named}
-use Rattle.whole_laws.specs.Bare.{StepsBare}
-use Rattle.whole_laws.proofs.Answering.{unresolved, resolved, refused, accepted, idle, did, then_closes}
+use Rattle.stock_laws.specs.Bare.{StepsBare}
+use Rattle.stock_laws.proofs.Answering.{unresolved, resolved, refused, accepted, idle, did, then_closes}
 use Rattle.il_component.specs.Entries.{Entry, component_of}
 use Rattle.graph_core.specs.Entries.{Entries, look_of, kept, component_at, entry_place}
 use Rattle.graph_core.proofs.Replacing.{entry_place_is, there}

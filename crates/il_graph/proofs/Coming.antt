@@ -17,9 +17,9 @@ use Rattle.il_machine.specs.Run.{Step}
 use Rattle.il_machine.specs.Whole.{PartSeen, HasDone, HasParts, Stands, Steps}
 use Rattle.machine_laws.proofs.Every.{from_places}
 use Rattle.machine_laws.proofs.Lookups.{rises_at}
-use Rattle.whole_laws.specs.Bare.{StandsBare, StepsBare}
-use Rattle.whole_laws.proofs.Lists.{get_last, get_before_last, get_at_last}
-use Rattle.whole_laws.proofs.Streams.{parts_made}
+use Rattle.stock_laws.specs.Bare.{StandsBare, StepsBare}
+use Rattle.stock_laws.proofs.Lists.{get_last, get_before_last, get_at_last}
+use Rattle.stock_laws.proofs.Streams.{parts_made}
 use Rattle.audio_parts.specs.declared.part_file.PartFile.{PartFile}
 use Rattle.graph_core.specs.Entries.{Entries, components_of, look_of}
 use Rattle.graph_core.specs.Entries as core

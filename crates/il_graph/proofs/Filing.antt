@@ -24,10 +24,10 @@ use Rattle.il_machine.specs.Run.{Step}
 use Rattle.il_machine.specs.Whole.{PartSeen, HasDone, HasParts, Stands, Steps}
 use Rattle.machine_laws.proofs.Pairs.{apart_numbers}
 use Rattle.machine_laws.proofs.Granting.{placed_there}
-use Rattle.whole_laws.specs.Bare.{StandsBare, StepsBare}
-use Rattle.whole_laws.proofs.Lists.{map_set, get_set_same, get_set_other}
-use Rattle.whole_laws.proofs.Entries.{set_same}
-use Rattle.whole_laws.proofs.Works.{parts_attached}
+use Rattle.stock_laws.specs.Bare.{StandsBare, StepsBare}
+use Rattle.stock_laws.proofs.Lists.{map_set, get_set_same, get_set_other}
+use Rattle.stock_laws.proofs.Entries.{set_same}
+use Rattle.stock_laws.proofs.Works.{parts_attached}
 use Rattle.audio_parts.specs.declared.part_file.PartFile.{PartFile}
 use Rattle.graph_core.specs.Entries.{Entries, components_of, look_of}
 use Rattle.graph_core.specs.Entries as core

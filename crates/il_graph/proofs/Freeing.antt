@@ -7,8 +7,8 @@ use Rattle.il_machine.specs.World.{Component}
 use Rattle.il_machine.specs.Look.{Look}
 use Rattle.il_machine.specs.Due.{ClosesTo}
 use Rattle.il_machine.specs.Components.{FreeHandle, free_refusal, without_component}
-use Rattle.whole_laws.specs.Bare.{StepsBare}
-use Rattle.whole_laws.proofs.Answering.{then_closes}
+use Rattle.stock_laws.specs.Bare.{StepsBare}
+use Rattle.stock_laws.proofs.Answering.{then_closes}
 use Rattle.graph_core.specs.Entries.{Entries, look_of, kept, component_at}
 use Rattle.il_graph.proofs.Calling.{Found, at_some}
 use Rattle.il_graph.proofs.Handing.{done_at}

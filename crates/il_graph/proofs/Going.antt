@@ -17,10 +17,10 @@ use Rattle.il_machine.specs.Claims.{CarriedHeader, Claim, Claimed, ClaimedWork, 
 use Rattle.il_machine.specs.Acts as acts
 use Rattle.il_machine.specs.Run.{Step}
 use Rattle.il_machine.specs.Whole.{PartSeen, HasDone, HasParts, IsWriting, Stands, Steps}
-use Rattle.whole_laws.specs.Bare.{AlwaysBare, StandsBare, StepsBare}
-use Rattle.whole_laws.proofs.Answering.{resolved, then_closes}
-use Rattle.whole_laws.proofs.Lists.{map_set, get_set_same, get_set_other}
-use Rattle.whole_laws.proofs.Works.{parts_claimed}
+use Rattle.stock_laws.specs.Bare.{AlwaysBare, StandsBare, StepsBare}
+use Rattle.stock_laws.proofs.Answering.{resolved, then_closes}
+use Rattle.stock_laws.proofs.Lists.{map_set, get_set_same, get_set_other}
+use Rattle.stock_laws.proofs.Works.{parts_claimed}
 use Rattle.machine_laws.proofs.Granting.{placed_there}
 use Rattle.machine_laws.proofs.Pairs.{apart_numbers}
 use Rattle.header_core.specs.BufferHeader.{BufferHeader}

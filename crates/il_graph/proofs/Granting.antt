@@ -9,10 +9,10 @@ use Rattle.il_machine.specs.World.{Component, World}
 use Rattle.il_machine.specs.Look.{Look, look}
 use Rattle.il_machine.specs.Due.{ClosesTo}
 use Rattle.il_machine.specs.Units.{first_waiter, victim, granted_units, preempted_units, with_changed, grant_idle, preempt_idle, Grant, Preempt}
-use Rattle.whole_laws.specs.Bare.{StepsBare}
+use Rattle.stock_laws.specs.Bare.{StepsBare}
 use Rattle.machine_laws.proofs.Keys.{there_is}
-use Rattle.whole_laws.proofs.Answering.{then_closes}
-use Rattle.whole_laws.proofs.Following.{as_change, stay}
+use Rattle.stock_laws.proofs.Answering.{then_closes}
+use Rattle.stock_laws.proofs.Following.{as_change, stay}
 use Rattle.graph_core.specs.Entries.{Entries, components_of, look_of, kept}
 
 grant_is : (w v : World) (c : Component) (h : Handle) → grant_idle (look w) ≡ None → first_waiter w.components ≡ Some c → h ≡ c.handle → ClosesTo (with_changed granted_units c w) v → Grant w (grants.Granted h) v

@@ -15,7 +15,7 @@ use Rattle.il_machine.specs.Acts as acts
 use Rattle.il_machine.specs.Run.{Step}
 use Rattle.il_machine.specs.Sound.{Sound}
 use Rattle.il_machine.specs.Whole.{Kept}
-use Rattle.whole_laws.specs.Bare.{StandsBare, StepsBare}
+use Rattle.stock_laws.specs.Bare.{StandsBare, StepsBare}
 use Rattle.machine_laws.proofs.Keys.{there_is, is_there}
 use Rattle.machine_laws.proofs.Steps.{HandsIn}
 use Rattle.history_laws.specs.ClientHeaders.{IsClients, taken_in, given_out, number_out, IsMadeBy}

@@ -14,8 +14,8 @@ use Rattle.il_machine.specs.Look.{Look, look}
 use Rattle.il_machine.specs.Due.{ClosesTo}
 use Rattle.il_machine.specs.Answers.{plain, Resolving, Answers, AnswersAs}
 use Rattle.il_machine.specs.Buffers.{AtState, AtPort, client_header, held_of}
-use Rattle.whole_laws.specs.Bare.{StepsBare, StandsBare}
-use Rattle.whole_laws.proofs.Answering.{unresolved, resolved, refused, accepted, refused_as, accepted_as, then_closes, at_state}
+use Rattle.stock_laws.specs.Bare.{StepsBare, StandsBare}
+use Rattle.stock_laws.proofs.Answering.{unresolved, resolved, refused, accepted, refused_as, accepted_as, then_closes, at_state}
 use Rattle.header_core.specs.declared.memory.Store.{Store}
 use Rattle.header_core.specs.declared.memory.Store.TheVariants.{Own, Region}
 use Rattle.header_core.specs.BufferHeader.{BufferHeader, is_clients, own_memory, empty_held, fresh}

@@ -8,7 +8,7 @@ use Rattle.il_machine.specs.Look.{Look}
 use Rattle.il_machine.specs.Due.{ClosesTo}
 use Rattle.history_laws.proofs.HeldOut.{times_outs}
 use Rattle.history_laws.proofs.KeyLaw.{closing_key}
-use Rattle.whole_laws.specs.Bare.{StandsBare, StepsBare}
+use Rattle.stock_laws.specs.Bare.{StandsBare, StepsBare}
 use Rattle.header_core.specs.BufferHeader.{BufferHeader}
 use Rattle.port_stock.specs.Conditions.{IsHeaderOf}
 use Rattle.graph_core.specs.Claiming.{AreLent, IsLent}

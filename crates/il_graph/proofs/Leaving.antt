@@ -14,9 +14,9 @@ use Rattle.il_machine.specs.Run.{Step}
 use Rattle.il_machine.specs.Whole.{PartSeen, HasParts, Stands, Steps}
 use Rattle.machine_laws.proofs.Pairs.{apart_numbers}
 use Rattle.machine_laws.proofs.Granting.{placed_there}
-use Rattle.whole_laws.specs.Bare.{StandsBare, StepsBare}
-use Rattle.whole_laws.proofs.Lists.{map_remove, get_removed}
-use Rattle.whole_laws.proofs.Streams.{parts_removed}
+use Rattle.stock_laws.specs.Bare.{StandsBare, StepsBare}
+use Rattle.stock_laws.proofs.Lists.{map_remove, get_removed}
+use Rattle.stock_laws.proofs.Streams.{parts_removed}
 use Rattle.graph_core.specs.Entries.{Entries, components_of, look_of}
 use Rattle.graph_core.specs.Entries as core
 use Rattle.audio_parts.specs.Shown.{ShownPart}

@@ -8,7 +8,7 @@ use Rattle.il_machine.specs.World.{World}
 use Rattle.il_machine.specs.Look.{Look, look}
 use Rattle.il_machine.specs.Components.{progress_of, progress_answer}
 use Rattle.il_machine.specs.Answers.{component_named}
-use Rattle.whole_laws.specs.Bare.{StandsBare, AlwaysBare}
+use Rattle.stock_laws.specs.Bare.{StandsBare, AlwaysBare}
 use Rattle.il_component.specs.Entries.{Entry, component_of}
 use Rattle.graph_core.specs.Entries.{Entries, components_of, look_of, kept, progress_at, entry_place, entry_named}
 use Rattle.graph_core.proofs.Replacing.{entry_place_is}

@@ -12,9 +12,9 @@ use Rattle.il_machine.specs.Look.{Look}
 use Rattle.il_machine.specs.Due.{ClosesTo}
 use Rattle.il_machine.specs.Components.{GetHandle, name_refusals, is_full, is_vacant, get_handle_refusal, with_new_component}
 use Rattle.il_machine.specs.Whole.{Kept}
-use Rattle.whole_laws.specs.Bare.{StepsBare}
+use Rattle.stock_laws.specs.Bare.{StepsBare}
 use Rattle.il_machine.proofs.Refusals.{first_of_first, first_of_second}
-use Rattle.whole_laws.proofs.Answering.{refused_or_memory, wants_memory, accepted_or_memory, then_closes}
+use Rattle.stock_laws.proofs.Answering.{refused_or_memory, wants_memory, accepted_or_memory, then_closes}
 
 -- ---- a name is found, or refused
 

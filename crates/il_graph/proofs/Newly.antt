@@ -9,7 +9,7 @@ use Rattle.il_machine.specs.Look.{Look}
 use Rattle.il_machine.specs.Parts.{terms_of}
 use Rattle.il_machine.specs.World.{fresh, fresh_stream}
 use Rattle.il_machine.specs.Whole.{HasDone}
-use Rattle.whole_laws.proofs.Streams.{fresh_done}
+use Rattle.stock_laws.proofs.Streams.{fresh_done}
 use Rattle.audio_parts.specs.AnyParts.{attached_of}
 use Rattle.audio_parts.specs.Shown.{ShownPart}
 use Rattle.il_graph.specs.Filed.{IsNew}

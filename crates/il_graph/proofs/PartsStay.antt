@@ -34,10 +34,10 @@ use Rattle.machine_laws.proofs.Granting.{best_among, victim_there, changed_there
 use Rattle.machine_laws.proofs.Steps.{HandsIn}
 use Rattle.history_laws.proofs.Outcome.{turn, Turn, Outcome, Nothing, Done}
 use Rattle.history_laws.proofs.Steps.{comes_after}
-use Rattle.whole_laws.specs.Parts.{KeepsPart}
-use Rattle.whole_laws.proofs.Lists.{map_set}
-use Rattle.whole_laws.proofs.Entries.{set_same}
-use Rattle.whole_laws.proofs.Parts.{done_alike}
+use Rattle.stock_laws.specs.Parts.{KeepsPart}
+use Rattle.stock_laws.proofs.Lists.{map_set}
+use Rattle.stock_laws.proofs.Entries.{set_same}
+use Rattle.stock_laws.proofs.Parts.{done_alike}
 use Rattle.port_rules.proofs.Happenings.{arrived_part, mode_part}
 use Rattle.graph_core.proofs.SameParts.{part_sent, part_run, part_value, part_unpopulated}
 use Rattle.graph_core.proofs.Granting.{part_granted, part_preempted}

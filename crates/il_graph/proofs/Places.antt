@@ -4,7 +4,7 @@ use Rattle.std.proofs.lemmas.Bool.Decides.{eqb_tells}
 use Rattle.std.proofs.Common.{inl, inr}
 use Rattle.il_machine.specs.World.{Component, number_of, is_numbered}
 use Rattle.il_machine.specs.Places.{first_place}
-use Rattle.whole_laws.proofs.Lists.{get_set_other}
+use Rattle.stock_laws.proofs.Lists.{get_set_other}
 
 module _ {A B : Type 0} (f : A → Option B) where
   -- what is told of the one at a place

@@ -11,7 +11,7 @@ use Rattle.il_machine.specs.declared.answer.Progress.{Progress}
 use Rattle.il_machine.specs.World.{Component, Given, World, number_of}
 use Rattle.il_machine.specs.Answers.{component_named}
 use Rattle.il_machine.specs.Components.{is_given_to, moved_by, noted_by, no_progress, progress_after, progress_of}
-use Rattle.whole_laws.specs.Bare.{AlwaysBare}
+use Rattle.stock_laws.specs.Bare.{AlwaysBare}
 use Rattle.note_queues.specs.declared.taken.Took.{Took}
 use Rattle.note_queues.specs.declared.taken.Took.TheVariants as tooks
 use Rattle.graph_core.specs.Clients.{AreTold, IsPortDone, TakesClient, WasTold}

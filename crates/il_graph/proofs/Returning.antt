@@ -23,8 +23,8 @@ use Rattle.machine_laws.proofs.Granting.{placed_there}
 use Rattle.machine_laws.proofs.Keys.{is_there}
 use Rattle.history_laws.specs.Works.{HeaderStays, IsHeldOut}
 use Rattle.history_laws.proofs.HeldOut.{claims_held, held_meets, held_tells}
-use Rattle.whole_laws.proofs.Parts.{done_alike}
-use Rattle.whole_laws.proofs.Works.{through_nothing}
+use Rattle.stock_laws.proofs.Parts.{done_alike}
+use Rattle.stock_laws.proofs.Works.{through_nothing}
 use Rattle.header_core.specs.BufferHeader.{BufferHeader}
 use Rattle.port_stock.specs.Conditions.{IsHeaderOf}
 use Rattle.graph_core.specs.Claiming.{AreLent}

@@ -13,8 +13,8 @@ use Rattle.il_machine.specs.Answers.{plain, Resolving, component_named}
 use Rattle.il_machine.specs.Buffers.{Held, held, AtHeader}
 use Rattle.il_machine.specs.Components.{progress_of}
 use Rattle.il_machine.specs.Notes.{Taken, Took as Answer, TakenEmpty, TakenFilled, TookNote, TakeFrom, TakesHeader, EndNote, with_given, with_client, back_in}
-use Rattle.whole_laws.specs.Bare.{StepsBare, StepsBareWhere}
-use Rattle.whole_laws.proofs.Answering.{resolved}
+use Rattle.stock_laws.specs.Bare.{StepsBare, StepsBareWhere}
+use Rattle.stock_laws.proofs.Answering.{resolved}
 use Rattle.header_core.specs.BufferHeader.{BufferHeader, is_clients}
 use Rattle.note_queues.specs.declared.taken.Taken.{Taken as Given}
 use Rattle.note_queues.specs.declared.taken.Taken.TheVariants.{Told, EmptyDone, FillDone}

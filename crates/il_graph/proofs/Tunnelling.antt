@@ -11,8 +11,8 @@ use Rattle.il_machine.specs.Due.{ClosesTo}
 use Rattle.il_machine.specs.Answers.{plain, Resolving, Answers}
 use Rattle.il_machine.specs.Tunnels.{BothPorts}
 use Rattle.il_machine.specs.Whole.{Kept}
-use Rattle.whole_laws.specs.Bare.{StepsBare}
-use Rattle.whole_laws.proofs.Answering.{resolved, refused, accepted, then_closes}
+use Rattle.stock_laws.specs.Bare.{StepsBare}
+use Rattle.stock_laws.proofs.Answering.{resolved, refused, accepted, then_closes}
 use Rattle.graph_core.specs.Entries.{Entries, look_of, kept, component_at, entry_place}
 use Rattle.il_graph.proofs.Calling.{Found, not_found, at_some}
 

@@ -12,8 +12,8 @@ use Rattle.il_machine.specs.Run.{Step}
 use Rattle.il_machine.specs.Sound.{Sound}
 use Rattle.il_machine.specs.Whole.{Kept, HasParts, Stands, Steps, StepsWhere, Always}
 use Rattle.machine_laws.proofs.Steps.{HandsIn, sound_after}
-use Rattle.whole_laws.specs.Bare.{StandsBare, StepsBare, StepsBareWhere, AlwaysBare}
-use Rattle.whole_laws.proofs.Seeing.{sound_world}
+use Rattle.stock_laws.specs.Bare.{StandsBare, StepsBare, StepsBareWhere, AlwaysBare}
+use Rattle.stock_laws.proofs.Views.{sound_world}
 use Rattle.graph_core.specs.Entries.{Entries, components_of, look_of}
 use Rattle.graph_core.specs.Entries as core
 use Rattle.graph_core.specs.Standing.{SoundWorld}

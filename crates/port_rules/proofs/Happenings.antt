@@ -23,7 +23,7 @@ use Rattle.il_machine.specs.Sound.{IsSound}
 use Rattle.il_machine.specs.Due.{Transition, Flush, PortMode, WaitingMark, due_in, is_due_to, arrived, arrived_at, reached, completed, completed_for, with_part, restarted, all_given_back, lost, lost_by, waits_after, transition_happened, flush_happened, mode_happened, mark_happened, mode_completion, all_told, first_marked, reset_port, reset_on, at_port}
 use Rattle.il_machine.specs.Room.{is_by_client}
 use Rattle.il_machine.specs.States.{is_down, same_state}
-use Rattle.whole_laws.specs.Parts.{KeepsPart}
+use Rattle.stock_laws.specs.Parts.{KeepsPart}
 use Rattle.machine_laws.specs.Changes.{IsChange}
 use Rattle.machine_laws.proofs.Lookups.{port_parts}
 use Rattle.machine_laws.proofs.Arriving.{sound_arrived, change_arrived, state_there, sound_let_go, change_let_go, flushed_places, steady_places, marked_places}

@@ -7,7 +7,7 @@ use Rattle.il_machine.specs.Ports.{is_going_to}
 use Rattle.il_machine.specs.Due.{Thing, happened}
 use Rattle.il_machine.specs.Sound.{IsSound}
 use Rattle.il_machine.specs.Stock.{Stocked}
-use Rattle.whole_laws.specs.Parts.{KeepsPart}
+use Rattle.stock_laws.specs.Parts.{KeepsPart}
 use Rattle.machine_laws.specs.Changes.{IsChange}
 use Rattle.flush_mark.specs.Leading.{Leads}
 use Rattle.port_rules.specs.Tests.{HasAllPorts}

@@ -1,2 +1,5 @@
 pub mod Changes
 pub mod Seeing
+pub mod Bare
+pub mod Entries
+pub mod Parts

@@ -17,6 +17,10 @@ ghost use Rattle.il_machine.specs.Stock.{StandsFor, Stocked, added, header_given
 ghost use Rattle.stock_laws.specs.Changes.{done_cleared, front_out, marked_first, todo_cleared};
 ghost use Rattle.stock_laws.specs.Seeing.{Implies, Shows};
 
+mod worlds;
+
+pub use worlds::{law_of_parts, law_of_sound_worlds};
+
 /// No ports and no headers stand for the empty list.
 pub fn law_of_start()
     ensures { (key : ℕ) → StandsFor (no_stock key) [] }

@@ -1,7 +1,7 @@
 use Rattle.std.proofs.Common.{◌≡◌, None, ℕ, Option, option_map, sym, ◌∙◌, ap, subst}
 use Rattle.port_rules.specs.declared.due.Due.{Due}
-use Rattle.whole_laws.specs.Bare.{StepsBare}
-use Rattle.whole_laws.proofs.Closing.{one_more, all_closed}
+use Rattle.stock_laws.specs.Bare.{StepsBare}
+use Rattle.stock_laws.proofs.Closing.{one_more, all_closed}
 use Rattle.il_machine.specs.Due.{ClosesTo, Happens, first_due}
 use Rattle.graph_core.specs.Clients.{KeepsAllClients}
 use Rattle.graph_core.specs.Entries.{Entries, kept, look_of}

@@ -1,6 +1,6 @@
-use Rattle.whole_laws.specs.Bare.{StepsBare}
+use Rattle.stock_laws.specs.Bare.{StepsBare}
 use Rattle.machine_laws.specs.Pending.{pending_in}
-use Rattle.whole_laws.proofs.Closing.{Happening}
+use Rattle.stock_laws.proofs.Closing.{Happening}
 use Rattle.graph_core.specs.Clients.{KeepsAllClients}
 use Rattle.graph_core.specs.Entries.{components_of, kept}
 use Rattle.graph_core.proofs.core_graph.Core.close_out.Given as goal

@@ -4,7 +4,7 @@ use Rattle.il_machine.specs.World.{Component, port_of}
 use Rattle.il_machine.specs.Look.{Look, look}
 use Rattle.il_machine.specs.Tunnels.{drop_refusal, parted}
 use Rattle.machine_laws.proofs.Tunnels.{sound_parted}
-use Rattle.whole_laws.proofs.Lists.{get_set_other}
+use Rattle.stock_laws.proofs.Lists.{get_set_other}
 use Rattle.port_stock.specs.Kept.{stocked}
 use Rattle.il_component.specs.Entries.{Entry, component_of}
 use Rattle.graph_core.specs.Entries.{Entries, look_of}

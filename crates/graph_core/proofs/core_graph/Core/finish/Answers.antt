@@ -4,7 +4,7 @@ use Rattle.std.proofs.lemmas.Option.{slice_get-get_or}
 use Rattle.il_machine.specs.Kinds.{ports_in}
 use Rattle.il_machine.specs.World.{Component, World}
 use Rattle.machine_laws.proofs.Facts.{ports_number}
-use Rattle.whole_laws.specs.Bare.{StandsBare}
+use Rattle.stock_laws.specs.Bare.{StandsBare}
 use Rattle.il_component.specs.Entries.{component_of}
 use Rattle.work_landing.specs.Landed.{AreWithin}
 use Rattle.graph_core.specs.Entries.{Entries, kept}

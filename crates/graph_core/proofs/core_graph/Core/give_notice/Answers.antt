@@ -4,7 +4,7 @@ use Rattle.il_machine.specs.declared.header.Owner.TheVariants as owners
 use Rattle.il_machine.specs.Headers.{in_todo}
 use Rattle.il_machine.specs.World.{port_of}
 use Rattle.il_machine.specs.Stock.{Stocked, header_given, todo_pulled}
-use Rattle.whole_laws.proofs.Entries.{set_same}
+use Rattle.stock_laws.proofs.Entries.{set_same}
 use Rattle.header_core.specs.BufferHeader.{BufferHeader, cleared}
 use Rattle.note_queues.specs.Queues.{noted, header_note}
 use Rattle.port_stock.specs.Kept.{stocked}

@@ -5,7 +5,7 @@ use Rattle.il_machine.specs.World.{Component, port_of}
 use Rattle.il_machine.specs.Look.{Look, look}
 use Rattle.il_machine.specs.Tunnels.{setup_refusal, joined_to, agreed_of}
 use Rattle.machine_laws.proofs.Tunnels.{sound_joined}
-use Rattle.whole_laws.proofs.Lists.{get_set_other}
+use Rattle.stock_laws.proofs.Lists.{get_set_other}
 use Rattle.port_stock.specs.Kept.{stocked}
 use Rattle.il_component.specs.Entries.{Entry, component_of}
 use Rattle.il_component.specs.PortChanges.{linked}

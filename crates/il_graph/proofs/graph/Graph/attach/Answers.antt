@@ -11,8 +11,8 @@ use Rattle.il_machine.specs.Answers.{Answers}
 use Rattle.il_machine.specs.Files.{Offered, attached, attach_refusal, file_port_format, with_file}
 use Rattle.il_machine.specs.Parts.{terms_of}
 use Rattle.il_machine.specs.Acts as acts
-use Rattle.whole_laws.specs.Bare.{StepsBare}
-use Rattle.whole_laws.proofs.Lists.{map_set}
+use Rattle.stock_laws.specs.Bare.{StepsBare}
+use Rattle.stock_laws.proofs.Lists.{map_set}
 use Rattle.il_component.specs.Files.{offered as file_offered}
 use Rattle.graph_core.specs.Entries.{component_at, kept}
 use Rattle.audio_parts.specs.AnyParts.{MayAttach, attached_of}

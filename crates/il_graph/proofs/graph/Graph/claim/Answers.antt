@@ -12,11 +12,11 @@ use Rattle.il_machine.specs.Claims.{Claim, Claimed, ClaimedWork, Claims, WorkSee
 use Rattle.il_machine.specs.Whole.{Stands}
 use Rattle.il_machine.specs.Acts as acts
 use Rattle.machine_laws.proofs.Claiming.{claim_passes}
-use Rattle.whole_laws.proofs.Lists.{map_set}
+use Rattle.stock_laws.proofs.Lists.{map_set}
 use Rattle.port_rules.specs.Claiming.{claimed_by}
 use Rattle.port_stock.specs.Kept.{stocked}
 use Rattle.il_component.specs.Entries.{component_of}
-use Rattle.whole_laws.specs.Bare.{StepsBare}
+use Rattle.stock_laws.specs.Bare.{StepsBare}
 use Rattle.graph_core.specs.Claiming.{AreLent, HasFronts}
 use Rattle.graph_core.specs.Entries.{component_at, components_of, look_of, kept as core_kept}
 use Rattle.audio_parts.specs.declared.any_part.AnyPart.{AnyPart}

@@ -6,7 +6,7 @@ use Rattle.il_machine.specs.Look.{Look, look}
 use Rattle.il_machine.specs.Due.{ClosesTo}
 use Rattle.il_machine.specs.Answers.{plain, Resolving, Answers}
 use Rattle.il_machine.specs.Tunnels.{drop_refusal, both_parted, BothPorts}
-use Rattle.whole_laws.specs.Bare.{StepsBare}
+use Rattle.stock_laws.specs.Bare.{StepsBare}
 use Rattle.graph_core.specs.Entries.{kept}
 use Rattle.il_graph.proofs.Calling.{Found, found, not_found}
 use Rattle.il_graph.proofs.Tunnelling.{both_end, at_both, other_not_found, refused_at_both, accepted_at_both}

@@ -6,7 +6,7 @@ use Rattle.il_machine.specs.Finishing.{Finish}
 use Rattle.il_machine.specs.Stepping.{WorkDone}
 use Rattle.il_machine.specs.Whole.{PartSeen}
 use Rattle.il_machine.specs.World.{Component, World, number_of}
-use Rattle.whole_laws.specs.Bare.{StandsBare, StepsBareWhere}
+use Rattle.stock_laws.specs.Bare.{StandsBare, StepsBareWhere}
 use Rattle.audio_parts.specs.Shown.{shown_by}
 use Rattle.work_landing.specs.declared.step.Step.{Step as Stepped}
 use Rattle.work_landing.specs.Landed.{done_by}

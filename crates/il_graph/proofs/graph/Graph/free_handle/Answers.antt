@@ -9,7 +9,7 @@ use Rattle.il_machine.specs.Due.{ClosesTo}
 use Rattle.il_machine.specs.Answers.{Answers}
 use Rattle.il_machine.specs.Components.{free_refusal, without_component}
 use Rattle.il_machine.specs.Acts as acts
-use Rattle.whole_laws.proofs.Lists.{map_remove}
+use Rattle.stock_laws.proofs.Lists.{map_remove}
 use Rattle.graph_core.specs.Entries.{component_at, look_of}
 use Rattle.audio_parts.specs.AnyParts.{attached_of}
 use Rattle.audio_parts.specs.Shown.{shown_by}

@@ -3,7 +3,7 @@ use Rattle.std.proofs.lemmas.List.{length-map, map-append}
 use Rattle.il_machine.specs.Lists.{first_of_these}
 use Rattle.il_machine.specs.Components.{GetHandle, name_refusals}
 use Rattle.graph_core.specs.Entries.{kept, look_of}
-use Rattle.whole_laws.specs.Bare.{StepsBare}
+use Rattle.stock_laws.specs.Bare.{StepsBare}
 use Rattle.omx_types.specs.declared.error.CallError.TheVariants.{OutOfMemory}
 use Rattle.machine_laws.proofs.Coming.{kind_sized}
 use Rattle.audio_parts.specs.Shown.{shown_by}

@@ -7,7 +7,7 @@ use Rattle.il_machine.specs.Look.{Look, look}
 use Rattle.il_machine.specs.Due.{ClosesTo}
 use Rattle.il_machine.specs.Answers.{plain, Resolving, Answers}
 use Rattle.il_machine.specs.Tunnels.{setup_refusal, both_joined, agreed_of, BothPorts}
-use Rattle.whole_laws.specs.Bare.{StepsBare}
+use Rattle.stock_laws.specs.Bare.{StepsBare}
 use Rattle.graph_core.specs.Entries.{kept}
 use Rattle.il_graph.proofs.Calling.{Found, found, not_found}
 use Rattle.il_graph.proofs.Tunnelling.{both_close, at_both, other_not_found, refused_at_both, accepted_at_both}

@@ -8,11 +8,11 @@ use Rattle.il_machine.specs.Look.{Look}
 use Rattle.il_machine.specs.Components.{progress_of}
 use Rattle.il_machine.specs.Files.{Offered, attached, stream_with, with_file}
 use Rattle.il_machine.specs.Whole.{Kept, HasProgress}
-use Rattle.whole_laws.specs.Bare.{StepsBare}
-use Rattle.whole_laws.proofs.Lists.{get_set_same, get_set_other, map_set}
-use Rattle.whole_laws.proofs.Entries.{set_same}
-use Rattle.whole_laws.proofs.Lifting.{with_look}
-use Rattle.whole_laws.proofs.Works.{streams_kept}
+use Rattle.stock_laws.specs.Bare.{StepsBare}
+use Rattle.stock_laws.proofs.Lists.{get_set_same, get_set_other, map_set}
+use Rattle.stock_laws.proofs.Entries.{set_same}
+use Rattle.stock_laws.proofs.Lifting.{with_look}
+use Rattle.stock_laws.proofs.Works.{streams_kept}
 
 progress_filed : (clients : List (Option Progress)) (w : World) (i : ℕ) (c : Component) (file : Offered) → slice_get w.components i ≡ Some c → HasProgress clients w → HasProgress clients (with_file i c file w)
 progress_filed clients w i c file at P = λ j d h out.

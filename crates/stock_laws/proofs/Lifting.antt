@@ -6,10 +6,10 @@ use Rattle.il_machine.specs.World.{Component, World, number_of, with_component}
 use Rattle.il_machine.specs.Look.{Look}
 use Rattle.il_machine.specs.Components.{progress_of, progress_after, is_given_to, no_progress}
 use Rattle.il_machine.specs.Whole.{Kept, HasProgress}
-use Rattle.whole_laws.specs.Bare.{StepsBare}
-use Rattle.whole_laws.proofs.Lists.{get_set_same, get_set_other}
-use Rattle.whole_laws.specs.Parts.{KeepsPart}
-use Rattle.whole_laws.proofs.Parts.{streams_set}
+use Rattle.stock_laws.specs.Bare.{StepsBare}
+use Rattle.stock_laws.proofs.Lists.{get_set_same, get_set_other}
+use Rattle.stock_laws.specs.Parts.{KeepsPart}
+use Rattle.stock_laws.proofs.Parts.{streams_set}
 
 -- what is kept with another component at the place
 abbrev pub with_look : ℕ → Component → Kept → Kept

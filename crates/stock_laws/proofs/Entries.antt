@@ -2,7 +2,7 @@
 use Rattle.std.proofs.Common.{◌≡◌, ℕ, zero, suc, ◌<◌, List, [], ◌∷◌, ◌++◌, length, set, remove, Some, slice_get, All, get_or, refl, sym, ◌∙◌, ap, subst, arith}
 use Rattle.std.proofs.lemmas.List.Elements.{All-append}
 use Rattle.il_machine.specs.Whole.{Noticed}
-use Rattle.whole_laws.specs.Entries.{all_held}
+use Rattle.stock_laws.specs.Entries.{all_held}
 
 module _ {X : Type 0} where
   pub set_same : (xs : List X) (i : ℕ) (x : X) → slice_get xs i ≡ Some x → set xs i x ≡ xs

@@ -1,7 +1,7 @@
 -- Steps follow one another.
 use Rattle.il_machine.specs.World.{World}
 use Rattle.il_machine.specs.Whole.{Kept, Stands}
-use Rattle.whole_laws.specs.Bare.{StandsBare, StepsBare}
+use Rattle.stock_laws.specs.Bare.{StandsBare, StepsBare}
 
 -- one relation after another
 abbrev pub Then : (World → World → Type 0) → (World → World → Type 0) → World → World → Type 0

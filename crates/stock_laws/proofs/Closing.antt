@@ -3,7 +3,7 @@ use Rattle.std.proofs.Common.{◌≡◌, ℕ, suc, None, refl, ◌∙◌, ap}
 use Rattle.il_machine.specs.World.{World}
 use Rattle.il_machine.specs.Due.{first_due, Happens, HappenTimes, ClosesTo}
 use Rattle.il_machine.specs.Whole.{Kept}
-use Rattle.whole_laws.specs.Bare.{StepsBare}
+use Rattle.stock_laws.specs.Bare.{StepsBare}
 
 -- some things happened, each the first due one
 abbrev pub Happening : World → World → Type 0

@@ -13,9 +13,9 @@ use Rattle.il_machine.specs.Stepping.{WorkDone}
 use Rattle.il_machine.specs.Finishing.{part_by, part_after, gone_through, announced, announced_at, stepped_back, with_landed}
 use Rattle.il_machine.specs.Whole.{PartSeen, HasDone, HasParts, IsOut}
 use Rattle.il_machine.proofs.Carrying.{held_out, carried_same}
-use Rattle.whole_laws.proofs.Lists.{get_set_same, get_set_other}
-use Rattle.whole_laws.proofs.Noting.{IsOnly}
-use Rattle.whole_laws.proofs.Parts.{done_alike}
+use Rattle.stock_laws.proofs.Lists.{get_set_same, get_set_other}
+use Rattle.stock_laws.proofs.Noting.{IsOnly}
+use Rattle.stock_laws.proofs.Parts.{done_alike}
 
 -- ---- one stream changes
 

@@ -11,9 +11,9 @@ use Rattle.il_machine.specs.Kinds.{is_source}
 use Rattle.il_machine.specs.World.{Component, Stream, World, number_of, stream_of, with_component}
 use Rattle.il_machine.specs.Parts.{terms_of, frames_of, file_format}
 use Rattle.il_machine.specs.Whole.{PartSeen, HasDone, HasParts}
-use Rattle.whole_laws.specs.Parts.{KeepsPart}
-use Rattle.whole_laws.proofs.Lists.{get_set_same, get_set_other, map_set}
-use Rattle.whole_laws.proofs.Entries.{set_same}
+use Rattle.stock_laws.specs.Parts.{KeepsPart}
+use Rattle.stock_laws.proofs.Lists.{get_set_same, get_set_other, map_set}
+use Rattle.stock_laws.proofs.Entries.{set_same}
 
 -- what a part has done is told by its kind and its file
 pub done_alike : (t u : Terms) (f g : Bool) (s : Stream) (p : PartSeen) → u.kind ≡ t.kind → u.file ≡ t.file → g ≡ f → HasDone t f s p → HasDone u g s p

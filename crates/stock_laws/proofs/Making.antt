@@ -7,10 +7,10 @@ use Rattle.il_machine.specs.World.{Component, Given, World, number_of}
 use Rattle.il_machine.specs.Look.{Look}
 use Rattle.il_machine.specs.Components.{progress_of, progress_after, is_given_to, no_progress, without_component}
 use Rattle.il_machine.specs.Whole.{Kept, Noticed, HasProgress, IsNoticed}
-use Rattle.whole_laws.specs.Bare.{StepsBare}
-use Rattle.whole_laws.proofs.Lists.{get_last, get_before_last, get_at_last, get_removed}
-use Rattle.whole_laws.proofs.Noting.{IsOnly}
-use Rattle.whole_laws.proofs.Streams.{with_made, moved_other, streams_made, streams_removed}
+use Rattle.stock_laws.specs.Bare.{StepsBare}
+use Rattle.stock_laws.proofs.Lists.{get_last, get_before_last, get_at_last, get_removed}
+use Rattle.stock_laws.proofs.Noting.{IsOnly}
+use Rattle.stock_laws.proofs.Streams.{with_made, moved_other, streams_made, streams_removed}
 
 none_given : (n : ℕ) (gs : List Given) → All (λ g. g.component < n) gs → filter (is_given_to n) gs ≡ []
 none_given n [] h = refl

@@ -6,7 +6,7 @@ use Rattle.il_machine.specs.declared.header.HeaderState.{HeaderState}
 use Rattle.il_machine.specs.World.{Component, HeaderRecord, World, ports_of}
 use Rattle.il_machine.specs.Look.{Look, look}
 use Rattle.il_machine.specs.Whole.{Kept}
-use Rattle.whole_laws.specs.Bare.{StandsBare}
+use Rattle.stock_laws.specs.Bare.{StandsBare}
 use Rattle.il_machine.specs.Sound.{Sound, IsPlaced, IsConnected, HasFew, AreNoted, AreClaimed, IsSoundWork}
 use Rattle.il_machine.specs.Headers.{Seen, seen, find_header, has_number, Once, state_of}
 

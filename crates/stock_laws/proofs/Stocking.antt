@@ -6,7 +6,7 @@ use Rattle.il_machine.specs.Look.{Look}
 use Rattle.il_machine.specs.Stock.{Stocked, StandsFor}
 use Rattle.il_machine.specs.Buffers.{held}
 use Rattle.il_machine.specs.Whole.{Kept, Noticed, IsNoticed}
-use Rattle.whole_laws.specs.Bare.{StandsBare, StepsBare}
+use Rattle.stock_laws.specs.Bare.{StandsBare, StepsBare}
 
 -- what is kept, with another stock
 abbrev pub with_stock : Stocked → Kept → Kept

@@ -10,11 +10,11 @@ use Rattle.il_machine.specs.Look.{Look}
 use Rattle.il_machine.specs.Components.{progress_of, progress_after, is_given_to, no_progress}
 use Rattle.il_machine.specs.Notes.{first_taken, with_given, back_in}
 use Rattle.il_machine.specs.Whole.{Kept, Noticed, IsNoticed, HasProgress}
-use Rattle.whole_laws.specs.Bare.{StandsBare, StepsBare, StepsBareWhere}
-use Rattle.whole_laws.specs.Parts.{IsAlone}
-use Rattle.whole_laws.proofs.Lists.{get_set_same, get_set_other}
-use Rattle.whole_laws.proofs.Parts.{streams_set}
-use Rattle.whole_laws.proofs.Lifting.{with_look, progress_number}
+use Rattle.stock_laws.specs.Bare.{StandsBare, StepsBare, StepsBareWhere}
+use Rattle.stock_laws.specs.Parts.{IsAlone}
+use Rattle.stock_laws.proofs.Lists.{get_set_same, get_set_other}
+use Rattle.stock_laws.proofs.Parts.{streams_set}
+use Rattle.stock_laws.proofs.Lifting.{with_look, progress_number}
 
 -- ---- the queued notes have another header
 

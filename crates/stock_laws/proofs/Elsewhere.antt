@@ -7,7 +7,7 @@ use Rattle.il_machine.specs.World.{HeaderRecord}
 use Rattle.il_machine.specs.Headers.{find_header, has_number, without, changed, put, put_found, put_at, at_spot, Once}
 use Rattle.stock_laws.proofs.Flat.{find-append, find_number, find-without_other, find-without_same}
 use Rattle.stock_laws.proofs.Seeing.{find-at_spot}
-use Rattle.whole_laws.proofs.Stocking.{Elsewhere}
+use Rattle.stock_laws.proofs.Stocking.{Elsewhere}
 
 pub KeepsNumber : (HeaderRecord → HeaderRecord) → Type 0
 KeepsNumber change = (r : HeaderRecord) → (change r).state.number ≡ r.state.number

@@ -7,8 +7,8 @@ use Rattle.il_machine.specs.World.{Component, Stream, World, number_of, is_strea
 use Rattle.il_machine.specs.Parts.{terms_of}
 use Rattle.il_machine.specs.Components.{without_component}
 use Rattle.il_machine.specs.Whole.{PartSeen, HasDone, HasParts}
-use Rattle.whole_laws.proofs.Lists.{get_last, get_before_last, get_at_last, get_removed}
-use Rattle.whole_laws.proofs.Noting.{IsOnly}
+use Rattle.stock_laws.proofs.Lists.{get_last, get_before_last, get_at_last, get_removed}
+use Rattle.stock_laws.proofs.Noting.{IsOnly}
 
 below_at : {X : Type 0} (P : X → Type 0) (xs : List X) (i : ℕ) (x : X) → slice_get xs i ≡ Some x → All P xs → P x
 below_at P [] i x e h = absurd cc

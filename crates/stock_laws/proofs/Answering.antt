@@ -15,7 +15,7 @@ use Rattle.il_machine.specs.Due.{ClosesTo}
 use Rattle.il_machine.specs.Answers.{Resolving, Answers, AnswersAs, AnswersOrMemory, Acts}
 use Rattle.il_machine.specs.Buffers.{AtState}
 use Rattle.il_machine.specs.Whole.{Kept}
-use Rattle.whole_laws.specs.Bare.{StepsBare}
+use Rattle.stock_laws.specs.Bare.{StepsBare}
 
 -- ---- the component that a handle names
 

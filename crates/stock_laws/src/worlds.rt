@@ -1,6 +1,4 @@
 //! What a graph keeps stands for whole worlds: steps follow one another, and each change of what is kept is one of every world.
-#![tactic(auto)]
-
 ghost use Rattle.std.specs.Prelude.{◌≡◌, ℕ, List, Option, Some, None, is_some, slice_get, slice_set};
 ghost use Rattle.il_machine.specs.World.{Component, Stream, Work, World, component_numbered, number_of, stream_of, with_component};
 ghost use Rattle.il_machine.specs.Files.{Offered, attached, stream_with, with_file};
@@ -10,7 +8,7 @@ ghost use Rattle.il_machine.specs.Finishing.{announced, gone_through, with_lande
 ghost use Rattle.il_machine.specs.Parts.{terms_of};
 ghost use Rattle.il_machine.specs.Whole.{Kept, Stands, PartSeen, HasDone, HasParts, IsOut};
 ghost use Rattle.il_machine.specs.Sound.{Sound};
-ghost use Rattle.whole_laws.specs.Parts.{IsAlone};
+ghost use Rattle.stock_laws.specs.Parts.{IsAlone};
 
 /// Where what is kept stands for one sound world, each world that it stands for is sound.
 pub fn law_of_sound_worlds()

@@ -1,5 +1,0 @@
-use Rattle.whole_laws.proofs.Works.{parts_attached, parts_claimed, out_claimed, parts_landed, parts_told}
-use Rattle.whole_laws.proofs.law_of_parts.Goals as goal
-
-pub returns : goal.returns
-returns c = record { attached = parts_attached; claimed = parts_claimed; out = out_claimed; landed = parts_landed; told = parts_told }

@@ -1,3 +1,0 @@
-pub mod Bare
-pub mod Entries
-pub mod Parts
