@@ -1,3 +1,5 @@
+//! Acts by name: what is asked of components, ports, tunnels, headers and units.
+
 use crate::{Name, PortName};
 use omx_types::{Format, PortSel, State, Supplier};
 

@@ -1,3 +1,5 @@
+//! Each act, reply, why and event is one that texts say, stated on functions that change nothing.
+
 ghost use Rattle.std.specs.Prelude.{◌≡◌, ◌<◌, ◌^◌};
 ghost use Rattle.act_text.specs.Acts.{IsAct, IsFormat, ArePorts, FitsWord};
 ghost use Rattle.act_text.specs.Names.{IsName};

@@ -1,3 +1,5 @@
+//! Names of components, held in place and of at most 16 bytes, and of their ports, by index.
+
 ghost use Rattle.std.specs.Prelude.{◌≡◌, ◌↔◌, ℕ, ◌<◌, ◌≤◌, List, length, take, drop, IfSome, IfNone, IsTrue, IsFalse};
 ghost use Rattle.std.specs.List.{list_all};
 ghost use Rattle.act_text.specs.Names.{is_name, is_name_byte};

@@ -1,3 +1,5 @@
+//! The names of components and of ports are read from words.
+
 ghost use Rattle.std.specs.Prelude.{◌≡◌, ◌^◌, ◌<◌, ◌+◌, ◌≤◌, ◌↔◌, ℕ, List, take, drop, IfSome, IfNone, slice_index, length};
 ghost use Rattle.std.specs.Fmt.{decimal};
 ghost use Rattle.act_text.specs.Names.{IsName};

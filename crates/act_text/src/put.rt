@@ -1,3 +1,5 @@
+//! The words of a text, which are bytes, port names or numbers, are appended with one space between.
+
 ghost use Rattle.std.specs.Prelude.{◌≡◌, ◌∷◌, ◌++◌, [], ℕ, List, take, length, OnOk, OnErr};
 ghost use Rattle.std.specs.Fmt.{decimal};
 ghost use Rattle.act_text.specs.Ports.{port_word};

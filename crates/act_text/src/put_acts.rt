@@ -1,3 +1,5 @@
+//! Acts are appended as words: the verb, and then the names, settings and numbers of each.
+
 ghost use Rattle.std.specs.Prelude.{◌≡◌, ◌∷◌, ◌++◌, [], ℕ, List, OnOk, OnErr, codes};
 ghost use Rattle.std.specs.Fmt.{decimal};
 ghost use Rattle.act_text.specs.Acts.{act_words, definition_words, supplier_word, ports_word};

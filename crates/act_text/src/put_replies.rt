@@ -1,3 +1,5 @@
+//! Replies are appended as words, with port views, events, and why an act changed nothing.
+
 ghost use Rattle.std.specs.Prelude.{◌≡◌, ◌∷◌, ◌++◌, [], ℕ, List, OnOk, OnErr, codes};
 ghost use Rattle.std.specs.Fmt.{decimal};
 ghost use Rattle.act_text.specs.Replies.{reply_words, event_words, why_words, view_words, side_word, enabled_word, mode_word};

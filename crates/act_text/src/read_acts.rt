@@ -1,3 +1,5 @@
+//! Acts are read from words, with the states, suppliers, formats and selected ports in them.
+
 ghost use Rattle.std.specs.Prelude.{◌≡◌, ◌^◌, ◌<◌, ◌∷◌, [], ℕ, List, IfSome, Some, length, map, codes};
 ghost use Rattle.omx_types.specs.Names.{state_name};
 ghost use Rattle.act_text.specs.Acts.{act_words, supplier_word, ports_word, format_words, definition_words, IsAct, IsFormat, ArePorts};

@@ -1,3 +1,5 @@
+//! Events and errors are read from words.
+
 ghost use Rattle.std.specs.Prelude.{◌≡◌, ◌^◌, ◌∷◌, [], ℕ, List, IfSome, length, codes};
 ghost use Rattle.std.specs.Fmt.{decimal};
 ghost use Rattle.omx_types.specs.Names.{error_name};

@@ -1,3 +1,5 @@
+//! Replies are read from words, with the port views in them.
+
 ghost use Rattle.std.specs.Prelude.{◌≡◌, ◌∷◌, ◌<◌, [], ℕ, List, IfSome, Some, true, false, option_map, length, codes};
 ghost use Rattle.line_text.specs.ReadNumbers.{small_number};
 ghost use Rattle.act_text.specs.ReadActs.{state_of};

@@ -1,3 +1,5 @@
+//! Why an act changed nothing is read from the words after `idle`.
+
 ghost use Rattle.std.specs.Prelude.{◌≡◌, ◌∷◌, [], ℕ, List, IfSome, length, codes};
 ghost use Rattle.std.specs.Fmt.{decimal};
 ghost use Rattle.line_text.specs.ReadNumbers.{small_number};

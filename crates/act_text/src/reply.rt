@@ -1,3 +1,5 @@
+//! The replies to acts, without headers, and why an act changed nothing.
+
 use crate::{Name, PortName};
 use il_machine::PortView;
 use omx_types::{Event, OmxError, State};

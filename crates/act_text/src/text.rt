@@ -1,3 +1,5 @@
+//! The text of an act with its reply is appended and read back, and that of a reply alone is appended.
+
 ghost use Rattle.std.specs.Prelude.{◌≡◌, ◌∷◌, ◌++◌, ◌+◌, ◌≤◌, ◌<◌, [], ℕ, List, Ok, Some, OnOk, OnErr, IfSome, IfOk, IfErr, length, take, drop, codes};
 ghost use Rattle.std.specs.Str.{bytes_eq};
 ghost use Rattle.act_text.specs.Acts.{act_words};

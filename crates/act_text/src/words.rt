@@ -1,3 +1,5 @@
+//! Whether a line is just the given words with one space between.
+
 ghost use Rattle.std.specs.Prelude.{◌≡◌, ◌∷◌, ◌++◌, ◌<◌, ◌≤◌, ◌↔◌, [], ℕ, List, take, drop, length, IfSome, IfNone, IsTrue};
 ghost use Rattle.line_text.specs.Words.{words_of};
 ghost use Rattle.line_text.specs.Lists.{texts, held_words, after_spaces, spaced};

@@ -1,3 +1,5 @@
+//! The part of a component of any kind: a source, decoder, encoder, gain, mixer, splitter or sink.
+
 use crate::coder::{G711Decoder, G711Encoder};
 use crate::gain::Gain;
 use crate::mixer::Mixer;

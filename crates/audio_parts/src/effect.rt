@@ -1,3 +1,5 @@
+//! The effect of a part with one input: its sample widths, its formats, and what it makes of a piece.
+
 ghost use Rattle.std.specs.Prelude.{◌≡◌, ℕ, ◌*◌, ◌≤◌, List, ◌++◌, length, ◌+◌, ◌<◌};
 ghost use Rattle.part_api.specs.Terms.{Terms};
 ghost use Rattle.audio_parts.specs.Kinds.{with_format};

@@ -1,3 +1,5 @@
+//! The part of a gain: each sample times a factor, rounded down and clamped, piece by piece.
+
 ghost use Rattle.std.specs.Prelude.{◌≡◌, ◌*◌, ◌≤◌, [], ◌∷◌, length, None};
 ghost use Rattle.omx_types.specs.declared.kind.Kind.TheVariants as kinds;
 ghost use Rattle.part_forms.specs.Effects.{gained_bytes};

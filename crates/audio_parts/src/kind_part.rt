@@ -1,3 +1,5 @@
+//! Parts of a kind: what their terms tell, and how their files stay over calls. A part of any kind is one.
+
 ghost use Rattle.std.specs.Prelude.{◌≡◌, true, length, is_some};
 ghost use Rattle.omx_types.specs.declared.fault.PartFault.{PartFault as Fault};
 ghost use Rattle.part_api.specs.Streams.{Incoming};

@@ -1,3 +1,5 @@
+//! What holds of parts, their terms, a sink's file and a mixer's sum, stated on functions that do nothing.
+
 ghost use Rattle.std.specs.Prelude.{◌≡◌, ℕ, ◌*◌, ◌≤◌, List, ◌++◌, length, take, Option, Some};
 ghost use Rattle.std.specs.List.{AllByRecursion};
 ghost use Rattle.omx_types.specs.declared.format.Format.{Format};

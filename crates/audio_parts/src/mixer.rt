@@ -1,3 +1,5 @@
+//! The part of a mixer: the samples of its inputs are weighted, summed, and clamped for its output.
+
 ghost use Rattle.std.specs.Prelude.{◌≡◌, ℕ, ◌+◌, ◌*◌, ◌<◌, ◌≤◌, Bool, true, false, List, [], ◌∷◌, All, length, take, map, replicate, slice_set, nat_lt, if◌then◌else◌, vec_len, unsigned_abs, count_by, slice_index_or, IfOk, None, pos};
 ghost use Rattle.std.specs.Simd.Lanes.{zip2};
 ghost use Rattle.omx_types.specs.Formats.{channels_of};

@@ -1,3 +1,5 @@
+//! A part with one input: it keeps a step's samples in a register, and each output is an effect of them.
+
 ghost use Rattle.std.specs.Prelude.{◌≡◌, ◌+◌, ◌*◌, ◌<◌, ◌≤◌, false, length, take, vec_len, IfOk, None, []};
 ghost use Rattle.audio_parts.specs.Kinds.{with_format};
 ghost use Rattle.audio_parts.specs.Ready.{IsReady};

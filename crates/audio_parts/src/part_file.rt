@@ -1,3 +1,5 @@
+//! A file for a part: a source with its format, or a sink, and how many frames are read or written.
+
 use omx_types::Format;
 
 /// A file for a part, and how many frames of it the part reads or writes.

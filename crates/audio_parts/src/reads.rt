@@ -1,3 +1,5 @@
+//! Whole frames are read from a given offset of a source, which seeks there first if it stands elsewhere.
+
 ghost use Rattle.std.specs.Prelude.{◌≡◌, ◌+◌, ◌≤◌, length, take, drop, max, OnOk, IfOk, IfErr};
 ghost use Rattle.outside_io.specs.Causes.{HasCause};
 ghost use Rattle.outside_io.specs.Moves.{WhereTold};

@@ -1,3 +1,5 @@
+//! The file of a sink: the frames planned for it, how many are left, and the writing of a step's piece.
+
 ghost use Rattle.std.specs.Prelude.{◌≡◌, ◌-◌, ◌*◌, ◌≤◌, true, false, length, IfErr, OnOk, OnErr};
 ghost use Rattle.std.specs.Io.KnownBytes.{append_known};
 ghost use Rattle.omx_types.specs.Formats.{IsWithinLimits, frame_bytes_of};

@@ -1,3 +1,5 @@
+//! The file of a source: where its next frame is, how many are left, and the reading of a step's frames.
+
 ghost use Rattle.std.specs.Prelude.{◌≡◌, ◌+◌, ◌-◌, ◌*◌, ◌≤◌, length, take, max, IfErr, OnOk, OnErr};
 ghost use Rattle.omx_types.specs.Formats.{frame_bytes_of};
 ghost use Rattle.outside_io.specs.Moves.{WhereTold};

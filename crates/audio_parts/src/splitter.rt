@@ -1,3 +1,5 @@
+//! The part of a splitter: each output is a copy of the input.
+
 ghost use Rattle.std.specs.Prelude.{◌≡◌, [], ◌∷◌, vec_len, None};
 ghost use Rattle.omx_types.specs.declared.kind.Kind.TheVariants as kinds;
 ghost use Rattle.part_forms.specs.Effects.{width_of};

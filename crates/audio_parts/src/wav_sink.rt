@@ -1,3 +1,5 @@
+//! The part of a WAV sink: its file comes and goes, and a step's frames are written to it.
+
 ghost use Rattle.std.specs.Prelude.{◌≡◌, ◌*◌, ◌≤◌, true, false, take, vec_len, IfOk, None, Some};
 ghost use Rattle.std.specs.Option.{ForSome};
 ghost use Rattle.omx_types.specs.Formats.{IsWithinLimits, frame_bytes_of};

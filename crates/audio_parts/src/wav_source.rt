@@ -1,3 +1,5 @@
+//! The part of a WAV source: its file comes and goes, and a step reads the next frames of it.
+
 ghost use Rattle.std.specs.Prelude.{◌≡◌, ◌+◌, ◌*◌, ◌<◌, ◌≤◌, true, false, [], length, take, vec_len, option_map, IfOk, None, Some};
 ghost use Rattle.std.specs.Option.{ForSome};
 ghost use Rattle.omx_types.specs.Formats.{IsWithinLimits, frame_bytes_of};

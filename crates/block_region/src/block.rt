@@ -1,3 +1,5 @@
+//! A block that is out of its region, and its bytes, to be read or written.
+
 ghost use Rattle.std.specs.Prelude.{◌≡◌, length};
 ghost use Rattle.std.specs.Borrow.{sem};
 ghost use Rattle.block_region.specs.Lending.{lends_bytes};

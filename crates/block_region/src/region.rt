@@ -1,3 +1,5 @@
+//! A region of blocks is made, its free blocks are taken and given back, and it is closed.
+
 ghost use Rattle.std.specs.Prelude.{◌≡◌, ◌+◌, ◌*◌, ◌≤◌, ◌↔◌, false, None, IsNone, IfOk, IfSome, length};
 ghost use Rattle.block_region.specs.Regions.{IsFresh, outs, homes, is_home, IsTaken, given_back, AllHome};
 

@@ -1,3 +1,5 @@
+//! A region's key as ghost state, which is taken from the region and which any thread may hold.
+
 ghost use Rattle.std.specs.Prelude.{◌≡◌};
 ghost use base.Fml.{ftrue};
 ghost use Rattle.block_region.specs.Regions.{RegionKey};

@@ -1,3 +1,5 @@
+//! The tests of a board: states read without a turn, and two threads at one board.
+
 mod asking;
 mod client;
 mod peeks;

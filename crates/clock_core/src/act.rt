@@ -1,3 +1,5 @@
+//! The calls of a clock with their moments, its requests, its notes, and its refusals.
+
 use thiserror::Error;
 
 /// What a clock is asked to do.

@@ -1,3 +1,5 @@
+//! The clock: a call at a wall moment, and the next moment at which a request is fulfilled.
+
 ghost use Rattle.std.specs.Prelude.{◌≡◌, ◌^◌, ◌≤◌, ◌++◌, ◌↔◌, List, length, drop, None, IfSome, IsNone};
 ghost use Rattle.clock_core.specs.Calls.{GoesOn, reached};
 ghost use Rattle.clock_core.specs.Clock.{opening, answer_of_call, after_call, notes_of_call, state_after, notes_of, refusal_of, HasMediaWithin};

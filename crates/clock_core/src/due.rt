@@ -1,3 +1,5 @@
+//! Which outstanding requests are due at a moment, and the notes that they become.
+
 ghost use Rattle.std.specs.Prelude.{◌≡◌, ◌+◌, ◌^◌, ◌<◌, ◌≤◌, ◌++◌, ◌∷◌, length, take, drop, Some, IfSome};
 ghost use Rattle.clock_core.specs.Pace.{IsSlow};
 ghost use Rattle.clock_core.specs.Kept.{CanGoOn};

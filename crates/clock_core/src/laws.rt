@@ -1,3 +1,5 @@
+//! What holds of every list of calls of a clock, stated on a function that does nothing.
+
 ghost use Rattle.std.specs.Prelude.{List};
 ghost use Rattle.clock_core.specs.Calls.{IsLawful};
 ghost use Rattle.clock_core.specs.declared.act.TimedAct.{TimedAct};

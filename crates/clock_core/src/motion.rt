@@ -1,3 +1,5 @@
+//! How the media time goes: stopped, running, or waiting for ports, and what an act makes of it and its scale.
+
 ghost use Rattle.std.specs.Prelude.{◌≡◌, ◌==◌, ◌-◌, ◌≤◌, ◌^◌, IsTrue};
 ghost use Rattle.std.specs.Int.{bit_at};
 ghost use Rattle.clock_core.specs.Clock.{least_of, motion_after, pace_of, rescaled, scale_after, told, waits_for};

@@ -1,3 +1,5 @@
+//! The media time at a wall moment, and the first wall moment at which a media time is reached.
+
 ghost use Rattle.std.specs.Prelude.{◌≡◌, ◌^◌, ◌≤◌};
 ghost use Rattle.clock_core.specs.Pace.{IsSlow, IsFirst, media_at, first_at, first_within};
 

@@ -1,3 +1,5 @@
+//! The queue of outstanding requests by media time: how an act adds one or takes one out.
+
 ghost use Rattle.std.specs.Prelude.{◌≡◌, ◌<◌, ◌≤◌, length, insert, filter, not};
 ghost use Rattle.std.specs.List.{list_any};
 ghost use Rattle.clock_core.specs.Clock.{has_id, queued, requests_after};

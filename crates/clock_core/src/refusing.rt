@@ -1,3 +1,5 @@
+//! Why a clock refuses an act: a bad scale or mask, a port not awaited, an id taken or unknown, or no room.
+
 ghost use Rattle.std.specs.Prelude.{◌≡◌};
 ghost use Rattle.clock_core.specs.Clock.{refusal_of_request, refusal_of_act};
 

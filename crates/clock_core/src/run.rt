@@ -1,3 +1,5 @@
+//! A run of a clock's script: it is read as a whole, then each call is made and its answer and notes written.
+
 ghost use Rattle.std.specs.Prelude.{◌≡◌, ◌≢◌, ◌∷◌, ◌<◌, ◌≤◌, ◌+◌, ℕ, List, length, IsUtf8, OnOk, IfOk, IfErr, IfSome, Err};
 ghost use Rattle.std.specs.Io.KnownBytes.{append_known};
 ghost use Rattle.line_text.specs.Lines.{lines_of};

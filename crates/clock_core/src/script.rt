@@ -1,3 +1,5 @@
+//! How a line of a clock's script is read: as nothing, a call, or a fault.
+
 ghost use Rattle.std.specs.Prelude.{◌≡◌, ◌∷◌, ◌≤◌, ◌^◌, [], IfSome};
 ghost use Rattle.std.specs.Fmt.{decimal};
 ghost use Rattle.line_text.specs.Words.{words_of};

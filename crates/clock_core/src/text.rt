@@ -1,3 +1,5 @@
+//! The printed text of a clock's call: its line with the answer, and a line for each note.
+
 ghost use Rattle.std.specs.Prelude.{◌≡◌, ◌∷◌, ◌++◌, ◌+◌, ◌*◌, ◌≤◌, length};
 ghost use Rattle.std.specs.Fmt.{decimal};
 ghost use Rattle.line_text.specs.Lists.{after_spaces};

@@ -1,3 +1,5 @@
+//! The client object of a play's component: it keeps the progress that it is told.
+
 ghost use Rattle.std.specs.Prelude.{◌≡◌, false};
 ghost use Rattle.il_machine.specs.declared.answer.Progress.{Progress as Reached};
 ghost use Rattle.il_machine.specs.Components.{no_progress};

@@ -1,3 +1,5 @@
+//! The conductor: what was sent and told so far, and what the play does next.
+
 ghost use Rattle.std.specs.Prelude.{◌≡◌, ◌≤◌, length, IfOk, IfSome, IfNone};
 ghost use Rattle.conductor.specs.Casting.{cast_of};
 ghost use Rattle.conductor.specs.Hearing.{heard};

@@ -1,3 +1,5 @@
+//! When a conductor gives each of its answers, stated on a function that does nothing.
+
 ghost use Rattle.std.specs.Prelude.{◌≡◌};
 ghost use Rattle.conductor.specs.declared.phase.Phase.{Phase};
 ghost use Rattle.conductor.specs.Hearing.{ConductorValue};

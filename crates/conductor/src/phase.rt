@@ -1,3 +1,5 @@
+//! The answers of a conductor, and the link of a late source with the steps of its change.
+
 use omx_types::State;
 
 /// A step of the change of a late source's link.

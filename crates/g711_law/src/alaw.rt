@@ -1,4 +1,5 @@
-// A-law.
+//! A-law of ITU-T G.711: a sample, sixteen lanes, or a slice is encoded and decoded.
+
 ghost use Rattle.std.specs.Prelude.{◌≡◌, ◌/◌, ◌<◌, ℤ, pos, ◌≤ℤ◌, length, map, FitsSigned};
 ghost use Rattle.std.specs.Simd.Lanes.{Each1};
 ghost use mir.Syntax.{w8, w16};

@@ -1,4 +1,5 @@
-// The curve of straight lines that both laws' steps lie on.
+//! The curve of straight lines that both laws' steps lie on.
+
 ghost use Rattle.std.specs.Prelude.{◌≡◌, ◌<◌, length, map};
 ghost use Rattle.std.specs.Simd.Lanes.{Each1};
 ghost use Rattle.g711_law.specs.Lines.{compressed, expanded};

@@ -1,4 +1,5 @@
-// Mu-law.
+//! Mu-law of ITU-T G.711: a sample, sixteen lanes, or a slice is encoded and decoded.
+
 ghost use Rattle.std.specs.Prelude.{◌≡◌, ◌/◌, ◌<◌, ◌≤◌, ℤ, pos, ◌≤ℤ◌, unsigned_abs, length, map, FitsSigned};
 ghost use Rattle.std.specs.Simd.Lanes.{Each1};
 ghost use mir.Syntax.{w16};

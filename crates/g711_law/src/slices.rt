@@ -1,4 +1,5 @@
-// Slices by sixteen lanes at a time, and the rest of a slice by the scalars.
+//! Slices are coded by a law: sixteen lanes at a time, and the rest a sample at a time.
+
 ghost use Rattle.std.specs.Prelude.{◌≡◌, ◌<◌, ℕ, ℤ, pos, length, map, FitsSigned, slice_index_or};
 ghost use Rattle.std.specs.Simd.Lanes.{Each1};
 ghost use mir.Syntax.{w8, w16};

@@ -1,3 +1,5 @@
+//! A graph's record: how it is made, how its components are found, and whether it is full.
+
 ghost use Rattle.std.specs.Prelude.{◌≡◌, ◌<◌, Some, None, [], length, slice_get, option_copied, IsSomeAnd, IfSome, IfOk, MatchOption, true, false};
 ghost use Rattle.il_machine.specs.Components.{is_full};
 ghost use Rattle.il_machine.specs.Stock.{no_stock};

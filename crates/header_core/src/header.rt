@@ -1,3 +1,5 @@
+//! A buffer header: its content, flags and mark, and how it is made, changed and spent.
+
 ghost use Rattle.std.specs.Prelude.{◌≡◌, ◌+◌, ◌<◌, ◌≤◌, is_some, length, not, Ok, Err, OnOk, OnErr};
 ghost use Rattle.std.specs.Borrow.{sem};
 ghost use Rattle.il_machine.specs.Headers.{weight};

@@ -1,3 +1,5 @@
+//! The key that all headers of one graph share.
+
 ghost use Rattle.std.specs.Prelude.{◌≡◌};
 ghost use Rattle.header_core.specs.Keys.{key_number};
 

@@ -1,3 +1,5 @@
+//! The memory of a header: a client's own bytes, or a block of the graph's region.
+
 ghost use Rattle.std.specs.Prelude.{◌≡◌, ◌≤◌, length};
 ghost use Rattle.std.specs.Borrow.{sem};
 ghost use Rattle.il_machine.specs.Lists.{overwritten};

@@ -1,3 +1,5 @@
+//! A component's record: its making, what is read of it, and how it gets its handle and its events.
+
 ghost use Rattle.std.specs.Prelude.{◌≡◌, ◌<◌, ◌≤◌, ◌||◌, ◌↔◌, IsTrue, Some, None, IfOk, IfErr, replicate, take, All, is_none, is_some, true, false, IsSome, IfSome};
 ghost use Rattle.il_machine.specs.Kinds.{ports_in};
 ghost use Rattle.il_machine.specs.Settings.{IsSized, set_refusal, value_of, refused_or, weights_in};

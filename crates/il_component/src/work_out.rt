@@ -1,3 +1,5 @@
+//! The record of a work that is out, and the places for events that it reserves.
+
 ghost use Rattle.std.specs.Prelude.{◌≡◌, ◌+◌, ◌≤◌, length, take};
 ghost use Rattle.il_machine.specs.Room.{work_reserve};
 ghost use Rattle.il_machine.specs.Settings.{weights_in};

@@ -1,3 +1,5 @@
+//! A work whose step was done, and what it brings back.
+
 ghost use Rattle.std.specs.Prelude.{◌≡◌, true, false, Some, None};
 ghost use Rattle.audio_parts.specs.Shapes.{IsLawful};
 ghost use Rattle.work_landing.specs.Places.{AreFree};

@@ -1,3 +1,5 @@
+//! The layout of a part's data: its inputs, and the bytes of a frame at its ports.
+
 ghost use Rattle.std.specs.Prelude.{◌≤◌};
 
 /// How many inputs a part has, and the bytes of a frame at its ports.

@@ -1,3 +1,5 @@
+//! A work: a part with the headers for one step, which is run away from the graph.
+
 use crate::done::Done;
 use crate::running::{Stepped, do_step};
 use audio_parts::KindPart;

@@ -1,3 +1,5 @@
+//! What a claim of a component's work is answered: the work, or why there is none.
+
 ghost use Rattle.std.specs.Prelude.{◌≡◌};
 ghost use Rattle.il_graph.specs.Claiming.{answer_of};
 

@@ -1,3 +1,5 @@
+//! A graph of components and their parts: how it begins and ends, and the looks at a component and its ports.
+
 mod attaching;
 mod buffers;
 mod claiming;

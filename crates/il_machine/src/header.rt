@@ -1,3 +1,5 @@
+//! The state of a buffer header: its ports, its home, its owner, and the list in which it waits.
+
 use crate::PortKey;
 
 /// Where a header is made and comes back to: the client, or the port that supplies its tunnel.

@@ -1,3 +1,5 @@
+//! Bytes are written as lower-case hexadecimal digits.
+
 ghost use Rattle.std.specs.Prelude.{◌≡◌, ◌*◌, ◌<◌, ◌≤◌, length, take, drop};
 ghost use Rattle.line_text.specs.Numbers.{hex_digit, hex_of};
 

@@ -1,3 +1,5 @@
+//! A line is split into its words, 16 at most, each a slice of the line.
+
 ghost use Rattle.std.specs.Prelude.{◌≡◌, ◌<◌, ◌≤◌, length, IfSome, IfNone};
 ghost use Rattle.line_text.specs.Words.{words_of};
 

@@ -1,3 +1,5 @@
+//! A text is split into lines: at line feeds, without the carriage return before one.
+
 ghost use Rattle.std.specs.Prelude.{◌≡◌, ◌∷◌, ◌<◌, ◌≤◌, ◌+◌, [], ℕ, length, slice_index, IfSome, IfNone};
 ghost use Rattle.line_text.specs.Lines.{lines_of, without_return as line_of};
 

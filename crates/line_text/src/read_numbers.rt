@@ -1,3 +1,5 @@
+//! Words are read as numbers of 64 or 32 bits, or are none.
+
 ghost use Rattle.std.specs.Prelude.{◌≡◌, ◌^◌, IfSome};
 ghost use Rattle.std.specs.Fmt.{decimal};
 ghost use Rattle.line_text.specs.ReadNumbers.{number_below, small_number};

@@ -1,3 +1,5 @@
+//! Lines that a script skips (no words, or a comment), and the first line, which names its command.
+
 ghost use Rattle.std.specs.Prelude.{◌≡◌, ◌∷◌, ◌↔◌, [], IsTrue, codes};
 ghost use Rattle.line_text.specs.Words.{words_of};
 ghost use Rattle.line_text.specs.Lists.{texts};

@@ -1,3 +1,5 @@
+//! Words of a line, parted by spaces and tabs, and the fault of a word by its place.
+
 ghost use Rattle.std.specs.Prelude.{◌≡◌, ℕ, ◌-◌, ◌<◌, ◌≤◌, ◌↔◌, [], ◌∷◌, length, take, drop, slice_index, IsTrue, IfOk, IfErr, OnErr, MatchResult};
 ghost use Rattle.line_text.specs.Words.{IsBlank, IsFirstWord, OnlyBlanksFrom, words_of};
 

@@ -1,3 +1,5 @@
+//! The two WAV files and the script are written to a folder, or a fault tells why one isn't.
+
 ghost use Rattle.std.specs.Prelude.{◌≡◌, ◌≢◌, ◌≤◌, Err, IfErr, OnOk, OnErr, IsTrue, Some};
 ghost use Rattle.outside_io.specs.Files.{GoesOn, TellsAbsences};
 ghost use Rattle.load_gen.specs.Made.{AreMade, ArePartlyMade, Makes, OthersAreKept, HasReason, fault_at};

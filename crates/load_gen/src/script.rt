@@ -1,3 +1,5 @@
+//! The text of the script that plays the made files, and the names of files in a folder.
+
 ghost use Rattle.std.specs.Prelude.{◌≡◌, ◌++◌, string_bytes, IfOk, codes};
 ghost use Rattle.load_gen.specs.Script.{in_folder, script};
 

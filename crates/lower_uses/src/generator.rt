@@ -1,3 +1,5 @@
+//! Made inputs of one frame: the bytes of both WAV files, and the text of the script.
+
 use load_gen::make;
 use outside_io::MemoryMedia;
 use std::alloc::Global;

@@ -1,3 +1,5 @@
+//! Client objects: what one must do with a component's events, and one that keeps its progress alone.
+
 ghost use Rattle.std.specs.Prelude.{◌≡◌, Bool, false};
 ghost use Rattle.il_machine.specs.declared.answer.Progress.{Progress as Reached};
 ghost use Rattle.il_machine.specs.Components.{moved_by, no_progress, first_error};

@@ -1,3 +1,5 @@
+//! A component's bounded queues of commands and notes, the places for its events, and its client object.
+
 ghost use Rattle.std.specs.Prelude.{◌≡◌, ◌+◌, ◌*◌, ◌<◌, ◌≤◌, ◌∷◌, ◌++◌, [], true, false, length, map, is_none, OnOk, OnErr, IsSome, IfOk, IfErr, option_map, option_copied};
 ghost use Rattle.circular_buffer.specs.Buffer.{buffer};
 ghost use Rattle.il_machine.specs.Room.{events_in};

@@ -1,3 +1,5 @@
+//! The items of a component's queues, and what queuing a command or taking a note answers.
+
 use header_core::Header;
 use omx_types::{Command, Event};
 

@@ -1,3 +1,5 @@
+//! Commands to a component, their completions, a component's events, and the notes queued for a client.
+
 use crate::{Handle, OmxError, State};
 
 /// One port of a component, or all of its ports.

@@ -1,3 +1,5 @@
+//! Errors of the integration layer, their numbers and names, and why a call that may want memory is refused.
+
 ghost use Rattle.std.specs.Prelude.{◌≡◌};
 
 use std::alloc::AllocError;

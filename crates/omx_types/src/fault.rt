@@ -1,3 +1,5 @@
+//! Why a file, a script or a log is refused or a part fails; a command's faults and its exit status.
+
 ghost use Rattle.std.specs.Prelude.{◌≡◌};
 
 use std::{error, fmt};

@@ -1,3 +1,5 @@
+//! The names of a graph's components and of their ports.
+
 ghost use Rattle.std.specs.Prelude.{◌≡◌};
 
 /// Names a component of a graph. The generation is the component's number: how many handles the graph

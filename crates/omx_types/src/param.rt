@@ -1,3 +1,5 @@
+//! Parameters and configs: their keys and values, port definitions, buffer suppliers, and the version.
+
 ghost use Rattle.std.specs.Prelude.{◌≡◌};
 
 use crate::Format;

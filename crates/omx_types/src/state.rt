@@ -1,3 +1,5 @@
+//! The states of a component, with their numbers and names.
+
 ghost use Rattle.std.specs.Prelude.{◌≡◌};
 
 /// A component's state (OpenMAX IL 1.1.2, `OMX_STATETYPE`).

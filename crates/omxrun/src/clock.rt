@@ -1,3 +1,5 @@
+//! The command `clock`: a clock's script is read and run, and its calls or a fault are printed.
+
 ghost use Rattle.std.specs.Prelude.{◌≡◌, ◌≤◌, List, ℕ, Result};
 ghost use Rattle.outside_io.specs.Files.{GoesOn};
 ghost use Rattle.omxrun.specs.Clocked.{RunsTo, IsClockOutcome};

@@ -1,3 +1,5 @@
+//! What the commands `make`, `pack` and `unpack` come to where they were done whole.
+
 use rtp_parts::{Packed, Unpacked};
 
 /// What a command that makes files, or turns one into another, prints once it was done whole.

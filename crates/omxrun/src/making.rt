@@ -1,3 +1,5 @@
+//! The command `make`: inputs for a play are made from a seed.
+
 ghost use Rattle.std.specs.Prelude.{◌≤◌};
 ghost use Rattle.outside_io.specs.Files.{GoesOn};
 ghost use Rattle.omxrun.specs.Making.{IsMakeOutcome};

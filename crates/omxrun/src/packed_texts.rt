@@ -1,3 +1,5 @@
+//! The lines that `pack` and `unpack` print of their counts of packets and frames.
+
 ghost use Rattle.std.specs.Prelude.{◌≡◌, ◌+◌, ◌≤◌, ◌++◌, length};
 ghost use Rattle.omxrun.specs.Texts.{packed_text, unpacked_text, frames_line, taken_text, passed_text};
 

@@ -1,3 +1,5 @@
+//! The commands `pack` and `unpack`: a file is turned into another, and what fails is told as a fault.
+
 ghost use Rattle.std.specs.Prelude.{◌≡◌, ◌⊎◌, ◌≤◌, [], Some, None, Ok, Err, length, IsTrue, IsSome, IfOk, IfErr, OnOk, OnErr};
 ghost use Rattle.outside_io.specs.Causes.{Rose, sum_of_counts};
 ghost use Rattle.outside_io.specs.Files.{CountsStand, GoesOn, IsFrontOf, SameBut};

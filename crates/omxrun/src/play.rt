@@ -1,3 +1,5 @@
+//! The command `play`: a script is read and played, and the summary of its sinks or a fault is printed.
+
 ghost use Rattle.std.specs.Prelude.{◌≡◌, ◌≤◌, ℕ, List, Result, IfOk, IfErr};
 ghost use Rattle.outside_io.specs.Files.{GoesOn};
 ghost use Rattle.script_lang.specs.PlayScripts.{IsPlayScript};

@@ -1,3 +1,5 @@
+//! Texts and the outcomes of commands are printed, with the status that follows from the outcome and the writes.
+
 ghost use Rattle.std.specs.Prelude.{◌≡◌, ◌≤◌, Result};
 ghost use Rattle.omxrun.specs.Told.{IsPrinted, IsTold, outcome_text, status_of as status_of_outcome};
 

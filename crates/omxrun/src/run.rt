@@ -1,3 +1,5 @@
+//! The program's words are parsed, and the command they ask for is run: what is printed, and the status.
+
 ghost use Rattle.std.specs.Prelude.{◌≡◌, ◌≤◌, ℕ, List, map, string_bytes, Result, Ok, Err};
 ghost use Rattle.outside_io.specs.Files.{GoesOn};
 ghost use Rattle.omx_types.specs.declared.fault.Which.TheVariants.{Line};

@@ -1,2 +1,4 @@
+//! The limit on the length of a script.
+
 /// The longest script, in bytes.
 pub const SCRIPT_BYTES: u64 = 65_536;

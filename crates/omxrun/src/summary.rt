@@ -1,3 +1,5 @@
+//! The summary of a whole play: for each sink its component's name, its frames and its bytes.
+
 ghost use Rattle.std.specs.Prelude.{◌≡◌, ◌+◌, ◌≤◌, ◌++◌, length, map, slice_get, codes};
 ghost use Rattle.std.specs.Fmt.{decimal};
 ghost use Rattle.play_results.specs.Summaries.{line_text, name_in, summary_text};

@@ -1,3 +1,5 @@
+//! A text buffer of fixed size, to which bytes and decimal numbers are appended.
+
 ghost use Rattle.std.specs.Prelude.{◌≡◌, ◌+◌, ◌≤◌, ℕ, List, [], ◌++◌, length};
 ghost use Rattle.std.specs.Fmt.{decimal};
 

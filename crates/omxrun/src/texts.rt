@@ -1,3 +1,5 @@
+//! The messages of faults, a line each, and the line of files that were made.
+
 ghost use Rattle.std.specs.Prelude.{◌≡◌, ◌+◌, ◌≤◌, ◌++◌, length, codes};
 ghost use Rattle.std.specs.Fmt.{decimal};
 ghost use Rattle.omxrun.specs.Texts.{fault_text, made_text, which_text, wav_text, why_text, packets_text, audit_text, unbuilt_text};

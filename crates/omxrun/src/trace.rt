@@ -1,3 +1,5 @@
+//! The command `trace`: a script is read and traced; and the faults of scripts that can't be read or parsed.
+
 ghost use Rattle.std.specs.Prelude.{◌≡◌, ◌≤◌, List, ℕ, Result, false, IfOk, IfErr, OnOk};
 ghost use Rattle.outside_io.specs.Files.{CountsStand, GoesOn};
 ghost use Rattle.script_lang.specs.Scripts.{IsOfCommand};

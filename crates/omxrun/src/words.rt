@@ -1,3 +1,5 @@
+//! The commands, the parsing of words into one of them, and which words are names of files.
+
 ghost use Rattle.std.specs.Prelude.{◌≡◌, ◌<◌, ◌↔◌, ◌^◌, ℕ, [], ◌∷◌, map, string_bytes, IsTrue, IfSome, IfNone, codes};
 ghost use Rattle.std.specs.Fmt.{decimal};
 ghost use Rattle.omxrun.specs.Names.{IsName};

@@ -1,3 +1,5 @@
+//! A file of the host as a sink with a buffer, and the flush that ends its writing.
+
 ghost use Rattle.std.specs.Io.Buffered.{writer_contents, writer_buffer};
 ghost use Rattle.std.specs.Io.KnownBytes.{Keeps, WriteAppends, append_known};
 ghost use Rattle.std.specs.Io.{WritesAtMost};

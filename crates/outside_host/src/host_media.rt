@@ -1,3 +1,5 @@
+//! The host's file system as a media: files are opened and closed, and faults and absences are counted.
+
 ghost use Rattle.std.specs.Prelude.{◌≡◌, ◌≤◌, None, true, false, [], length, IfOk, OnOk, OnErr, IsErrOf, IsTrue, IsFalse, IsSome, Some};
 ghost use Rattle.outside_io.specs.Causes.{Rose, sum_of_counts};
 ghost use Rattle.outside_io.specs.Files.{GoesOn, SameBut, IsFrontOf};

@@ -1,3 +1,5 @@
+//! A file of the host as a source: reads and seeks within the size that it had at its opening.
+
 ghost use Rattle.std.specs.Io.Buffered.{reader_position, reader_remaining};
 ghost use Rattle.std.specs.Io.KnownBytes.{Consumes, IsAtEnd, Keeps};
 ghost use Rattle.std.specs.Io.Seek.{MovesTo};

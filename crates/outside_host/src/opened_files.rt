@@ -1,3 +1,5 @@
+//! The identity of the host's files, and the set of those that were opened.
+
 ghost use Rattle.std.specs.Prelude.{◌≡◌, [], false, OnOk, OnErr, IsTrue, IsErrOf};
 
 use outside_io::{OutOfMemory, Refused};

@@ -1,3 +1,5 @@
+//! Reads, writes, flushes and seeks that are made again after each interruption.
+
 ghost use Rattle.std.specs.Io.KnownBytes.{Keeps, ReadConsumes, WriteAppends};
 ghost use Rattle.std.specs.Io.Seek.{MovesTo};
 ghost use Rattle.std.specs.Io.{ReadsAtMost};

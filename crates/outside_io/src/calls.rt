@@ -1,3 +1,5 @@
+//! A counter of the calls of one kind on an open object, which says when one is to fail.
+
 ghost use Rattle.std.specs.Prelude.{◌≡◌, []};
 
 use std::alloc::Global;

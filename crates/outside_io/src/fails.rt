@@ -1,3 +1,5 @@
+//! The failures to be injected: the file's name, the kind of call and its number, or where a source ends early.
+
 ghost use Rattle.std.specs.Prelude.{◌≡◌, string_bytes};
 
 use std::marker::Model;

@@ -1,3 +1,5 @@
+//! The trait of media, which open and close sources and sinks by name, and why an opening is refused.
+
 ghost use Rattle.std.specs.Prelude.{◌≡◌, ℕ, ◌<◌, ◌≤◌, List, [], length, Option, Some, None, IfOk, OnOk, OnErr, IsErrOf, IsTrue, IsFalse, IsSome};
 ghost use Rattle.outside_io.specs.Causes.{HasCause, Rose, sum_of_counts};
 ghost use Rattle.outside_io.specs.Files.{Outside, GoesOn, SameBut, IsFrontOf};

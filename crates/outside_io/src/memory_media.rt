@@ -1,3 +1,5 @@
+//! A media of files in memory, with injected failures and sinks of limited room.
+
 ghost use Rattle.std.specs.Prelude.{◌≡◌, ◌≤◌, ℕ, List, [], length, IfOk, OnOk, OnErr, IsErrOf, IsTrue, IsFalse, IsSome, MatchOption, None, Some};
 ghost use Rattle.outside_io.specs.Causes.{Rose, sum_of_counts};
 ghost use Rattle.outside_io.specs.Files.{GoesOn, SameBut, IsFrontOf};

@@ -1,3 +1,5 @@
+//! A sink into memory of limited room, whose writes may be set to fail.
+
 ghost use Rattle.std.specs.Io.{WritesAtMost};
 ghost use Rattle.std.specs.Io.KnownBytes.{append_known};
 ghost use Rattle.std.specs.Prelude.{◌≡◌, ◌≤◌, ◌<◌, length, take, OnErr, [], vec_len, vec_capacity, Some, IfOk};

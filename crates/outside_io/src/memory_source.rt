@@ -1,3 +1,5 @@
+//! A source over bytes in memory, whose reads and seeks may be set to fail, and which may end early.
+
 ghost use Rattle.std.specs.Io.{ReadsAtMost};
 ghost use Rattle.std.specs.Prelude.{◌≡◌, ◌+◌, ◌<◌, ◌≤◌, max, min, length, take, drop, vec_len, [], Some, IfOk, OnOk};
 ghost use Rattle.outside_io.specs.Asking.{asked_up_to};

@@ -1,3 +1,5 @@
+//! Whole pieces are written and read, the rest of a source is moved into a sink, and why these stop early.
+
 ghost use Rattle.std.specs.Prelude.{◌≡◌, ◌≢◌, ◌+◌, ◌<◌, ◌≤◌, max, length, take, drop, IfErr, OnOk, Err};
 ghost use Rattle.std.specs.Io.KnownBytes.{append_known};
 ghost use Rattle.outside_io.specs.Asking.{AsksWithin};

@@ -1,3 +1,5 @@
+//! Injected failures with counts of the calls so far: which calls fail, where a source ends, what may be refused.
+
 ghost use Rattle.std.specs.Prelude.{◌≡◌, IfOk};
 
 use crate::OutOfMemory;

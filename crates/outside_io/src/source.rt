@@ -1,3 +1,5 @@
+//! The trait of sources, with size, offset, reads and seeks, and the error of a failed call.
+
 ghost use Rattle.std.specs.Prelude.{◌≡◌, ℕ, ◌+◌, ◌<◌, ◌≤◌, max, min, List, length, take, drop, Option, IfOk, OnOk};
 ghost use Rattle.std.specs.Io.{ReadsAtMost};
 ghost use Rattle.outside_io.specs.Asking.{asked_up_to};

@@ -1,3 +1,5 @@
+//! Whole files are read and written by name, and why a file was not read whole.
+
 ghost use Rattle.std.specs.Prelude.{◌≡◌, ◌≢◌, ◌≤◌, length, Err, IfOk, IfErr, OnOk, OnErr, IsSome, IsFalse, IsTrue, Some};
 ghost use Rattle.outside_io.specs.Files.{GoesOn, SameBut};
 ghost use Rattle.outside_io.specs.Moves.{WhereTold};

@@ -1,3 +1,5 @@
+//! The settings of one component: their defaults, how they are got and set, and why that is refused.
+
 ghost use Rattle.std.specs.Prelude.{◌≡◌, ◌<◌, ◌≤◌, All, Bool, Ok, Err, MatchOption, length, take, replicate, ◌++◌, false, true, None, slice_set};
 ghost use Rattle.il_machine.specs.Kinds.{ports_in, inputs_of, outputs_of};
 ghost use Rattle.il_machine.specs.Lists.{first_of_these};

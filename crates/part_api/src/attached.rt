@@ -1,3 +1,5 @@
+//! What is known of an attached file: whether it is read or written, its frames, and its format if it is read.
+
 use omx_types::Format;
 
 /// The frames for which a file came, and the format of one that is read.

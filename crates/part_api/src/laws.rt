@@ -1,3 +1,5 @@
+//! The law that a part's outputs don't depend on how its streams are cut into pieces.
+
 ghost use Rattle.std.specs.Prelude.{◌≡◌, ℕ, List};
 ghost use Rattle.std.specs.List.{AllByRecursion};
 ghost use Rattle.part_api.specs.Streams.{Incoming};

@@ -1,3 +1,5 @@
+//! The trait of parts: what a part is and has of its file, the calls of one step, and the law that pieces join.
+
 ghost use Rattle.std.specs.Prelude.{◌≡◌, ◌↔◌, ◌≢◌, ℕ, ◌-◌, ◌*◌, ◌<◌, ◌≤◌, Bool, true, false, List, length, Option, option_map, IfNone, IfSome, ◌++◌};
 ghost use Rattle.std.specs.Io.KnownBytes.{append_known};
 ghost use Rattle.omx_types.specs.declared.fault.PartFault.{PartFault as Fault};

@@ -1,4 +1,5 @@
-// Samples as bytes, of which the lower comes first.
+//! Samples of 16 bits from bytes of which the lower comes first, and back.
+
 ghost use Rattle.std.specs.Prelude.{◌≡◌, ◌*◌, length};
 ghost use Rattle.pcm_ops.specs.Samples.{samples, bytes};
 

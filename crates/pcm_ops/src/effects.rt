@@ -1,4 +1,5 @@
-// Gain, mixing, clamping and copying of a piece: sixteen lanes at a time, and the rest by items.
+//! Operations on whole pieces: gain, the weighted sums of a mix, clamping of sums to samples, and copying.
+
 ghost use Rattle.std.specs.Prelude.{◌≡◌, ◌+◌, ◌≤◌, ℕ, length, map, unsigned_abs, All};
 ghost use Rattle.std.specs.Simd.Lanes.{zip2};
 ghost use Rattle.pcm_ops.specs.Samples.{gained, mixed, clamped, IsSum};

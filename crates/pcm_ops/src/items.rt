@@ -1,4 +1,5 @@
-// What is done with one sample, and with sixteen lanes of them.
+//! Scaling and clamping, of one number and of sixteen lanes, and proofs that a slice's numbers fit their bits.
+
 ghost use Rattle.std.specs.Prelude.{◌≡◌, ◌<◌, ◌≤◌, ℕ, pos, length, map, FitsSigned, unsigned_abs, slice_index_or};
 ghost use Rattle.std.specs.Simd.Lanes.{Each1};
 ghost use mir.Syntax.{w16, w32};

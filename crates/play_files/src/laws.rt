@@ -1,3 +1,5 @@
+//! What must hold of a sink's file name in a play's plan, stated on a function that does nothing.
+
 ghost use Rattle.std.specs.Prelude.{◌≡◌, ℕ, List};
 ghost use Rattle.script_lang.specs.PlayScripts.{IsPlayScript};
 ghost use Rattle.script_lang.specs.declared.script.Script.{Script};

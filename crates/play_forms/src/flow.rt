@@ -1,3 +1,5 @@
+//! The format and the number of frames of what goes through a link.
+
 use omx_types::Format;
 
 /// What goes through a link: frames of one format.

@@ -1,3 +1,5 @@
+//! A link of a play: its line, its two components and their ports, and the number and size of its headers.
+
 /// A link of a play, with its two components by their places in script order.
 #[derive(Clone, Copy, Debug, PartialEq, Eq)]
 pub struct Joint {

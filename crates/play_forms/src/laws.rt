@@ -1,3 +1,5 @@
+//! What must hold of plans, their faults and their streams, stated on functions that do nothing.
+
 ghost use Rattle.std.specs.Prelude.{◌≡◌, ℕ, List, [], ◌∷◌};
 ghost use Rattle.play_forms.specs.Plain.{ArePlain, plain, sink_text};
 ghost use Rattle.play_forms.specs.Joints.{joints_of};

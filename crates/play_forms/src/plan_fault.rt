@@ -1,3 +1,5 @@
+//! The faults of planning: of components and links, units, formats and header sizes, and want of memory.
+
 ghost use Rattle.std.specs.Prelude.{◌≡◌};
 
 use std::alloc::{AllocError, AllocFailed};

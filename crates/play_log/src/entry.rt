@@ -1,3 +1,5 @@
+//! An act with its reply, the pass that made it, and its place among the acts of all passes.
+
 use act_text::ActText;
 
 /// An act of a play, with its reply.

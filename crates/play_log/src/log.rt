@@ -1,3 +1,5 @@
+//! The text of a log: a numbered line for each act that is told, which acts have none, and the last line.
+
 ghost use Rattle.std.specs.Prelude.{◌≡◌, ◌≤◌, ◌∷◌, ◌++◌, ◌+◌, [], ℕ, List, length, ◌↔◌, true, false, IsTrue, IfOk, OnOk, OnErr};
 ghost use Rattle.std.specs.Fmt.{decimal};
 ghost use Rattle.act_text.specs.Words.{IsGrown};

@@ -1,3 +1,5 @@
+//! The range of the numbers in a slice of 64-bit words, shown by a function that changes nothing.
+
 ghost use Rattle.std.specs.Prelude.{◌<◌, All};
 
 /// Each is a number of 64 bits.

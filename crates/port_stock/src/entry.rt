@@ -1,3 +1,5 @@
+//! A header as the stock keeps it, and what its state says of its port, its home, its owner and its list.
+
 ghost use Rattle.std.specs.Prelude.{◌≡◌, ◌&&◌, not, is_none};
 ghost use Rattle.il_machine.specs.Headers.{in_todo, in_done, is_away, is_at_home, is_for, is_home_of, is_home_owner, is_key, is_notice, is_owned_by, same_key, spot_queue, state_at};
 ghost use Rattle.il_machine.specs.Stock.{home_owner};

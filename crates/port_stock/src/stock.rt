@@ -1,3 +1,5 @@
+//! The stock of a graph: headers are made, moved between lists and owners, counted and unmade, and it is closed.
+
 ghost use Rattle.std.specs.Prelude.{◌≡◌, ◌↔◌, ◌+◌, ◌<◌, ◌≤◌, ◌&&◌, nat_eq, not, true, false, is_some, slice_get, option_map, None, IfOk, IfSome, OnOk, OnErr};
 ghost use Rattle.il_machine.specs.Lists.{is_empty};
 ghost use Rattle.il_machine.specs.Headers.{in_todo, in_done, is_away, is_for, is_home_of, is_owned_by, weight};

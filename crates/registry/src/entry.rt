@@ -1,3 +1,5 @@
+//! A value as the registry keeps it, with its handle's generation, and the value lent for writing.
+
 /// A value with the generation of its handle.
 #[derive(Clone, Copy)]
 pub struct Entry<T> {

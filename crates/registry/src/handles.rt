@@ -1,3 +1,5 @@
+//! The registry: handles are given to values, resolved, set and removed, and why none is given.
+
 ghost use Rattle.std.specs.Prelude.{◌≡◌, ◌+◌, Some, None, Ok, Err, IsOkAnd, IfOk, IfErr, OnErr, OnOk, MatchOption, true, false};
 ghost use Rattle.registry.specs.declared.handles.Refuse.TheVariants.{Full};
 ghost use Rattle.registry.specs.Handles.{resolved, live, is_full, AllGiven, Gives, Removes, Sets, no_handles};

@@ -1,3 +1,5 @@
+//! The names of components, the kind that each makes, and the errors of names that make none.
+
 ghost use Rattle.std.specs.Prelude.{◌≡◌, Some, Err, IsOkAnd, MatchOption};
 ghost use Rattle.il_machine.specs.Kinds.{kind_of};
 ghost use Rattle.il_machine.specs.Components.{name_refusals};

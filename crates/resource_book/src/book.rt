@@ -1,3 +1,5 @@
+//! The book of a resource: units are asked for and given back, who waits, and who gives its own up.
+
 ghost use Rattle.std.specs.Prelude.{◌≡◌, ◌<◌, ◌≤◌, ◌^◌, true, false, not, length, filter, option_map, if◌then◌else◌};
 ghost use Rattle.resource_book.specs.Rows.{units_held, is_returning, is_kept, is_waiter, is_of, is_below, is_before, is_weaker, gives_first, better, first_waiter, weakest, victim, IsFirstToGet, IsFirstToGive, row_at, has_place, with_row, AreRising, component_of, given_back, marked_back, left};
 ghost use Rattle.resource_book.specs.declared.row.Row.{Row as RowOf};

@@ -1,3 +1,5 @@
+//! The faults of packing and unpacking, and those that an unread head or a stopped read comes to.
+
 ghost use Rattle.std.specs.Prelude.{◌≡◌};
 ghost use Rattle.rtp_parts.specs.Answers.{fault_of_head, fault_of_stop};
 

@@ -1,3 +1,5 @@
+//! The two laws of G.711: the payload type, the format and the code of silence of each.
+
 ghost use Rattle.std.specs.Prelude.{◌≡◌};
 ghost use Rattle.rtp_parts.specs.Packets.{type_of_law, law_of_type, format_of_law, law_of_format, same_law, silence_of};
 

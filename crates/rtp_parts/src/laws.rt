@@ -1,3 +1,5 @@
+//! What must hold of unpacking and of the numbers of packets, stated on functions that do nothing.
+
 ghost use Rattle.std.specs.Prelude.{◌≡◌, ℕ, ◌<◌, ◌≤◌, List, length};
 ghost use Rattle.rtp_parts.specs.declared.law.Law.{Law};
 ghost use Rattle.rtp_parts.specs.Packing.{packet_count};

@@ -1,3 +1,5 @@
+//! Reading an RTP packet: which bytes are well formed, their fields, and where the payload is.
+
 ghost use Rattle.std.specs.Prelude.{◌≡◌, ◌+◌, ◌*◌, ◌≤◌, ◌<◌, length, IfSome};
 ghost use Rattle.rtp_parts.specs.Packets.{packet_in, is_well_formed, head_end, has_padding, padding};
 ghost use Rattle.rtp_parts.specs.Steps.{packet_read};

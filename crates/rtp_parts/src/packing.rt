@@ -1,3 +1,5 @@
+//! Packing: a WAV file of G.711 is written as a list of RTP packets, and how many packets and frames it has.
+
 ghost use Rattle.std.specs.Prelude.{◌≡◌, ◌≢◌, ℕ, ◌+◌, ◌*◌, ◌≤◌, ◌<◌, ◌^◌, List, length, take, drop, max, IfErr, OnOk, Err, Result};
 ghost use Rattle.std.specs.Io.KnownBytes.{append_known};
 ghost use Rattle.outside_io.specs.Causes.{Rose};

@@ -1,3 +1,5 @@
+//! Writing a piece of the unpacked frames: codes of silence, and then the payload of a packet.
+
 ghost use Rattle.std.specs.Prelude.{◌≡◌, ◌≤◌, ◌++◌, length, replicate, OnOk};
 ghost use Rattle.std.specs.Io.KnownBytes.{append_known};
 ghost use Rattle.outside_io.specs.Causes.{HasCause};

@@ -1,3 +1,5 @@
+//! Reading a list of packets by records: a whole packet behind its length, one that is cut, or the end.
+
 ghost use Rattle.std.specs.Prelude.{◌≡◌, ◌-◌, ◌≤◌, length, drop, IfErr, IfOk, OnOk};
 ghost use Rattle.outside_io.specs.Moves.{WhereTold};
 ghost use Rattle.rtp_parts.specs.Steps.{RecordAt, RecordTakes, StopsReading};

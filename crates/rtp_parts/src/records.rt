@@ -1,3 +1,5 @@
+//! Samples as RTP packets, each with its header and behind its length, in network byte order.
+
 ghost use Rattle.std.specs.Prelude.{◌≡◌, ℕ, ◌+◌, ◌*◌, ◌%◌, ◌≤◌, ◌<◌, ◌^◌, ◌++◌, List, length, take, drop};
 ghost use Rattle.byteorder.specs.Endian.{big_bytes};
 ghost use Rattle.wav_form.specs.Writing.{Puts};

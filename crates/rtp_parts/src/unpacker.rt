@@ -1,3 +1,5 @@
+//! One pass over a list of packets: the stream that it has, and its frames in order, with silence in gaps.
+
 ghost use Rattle.std.specs.Prelude.{◌≡◌, ℕ, ◌+◌, ◌-◌, ◌≤◌, ◌<◌, ◌^◌, ◌++◌, [], length, drop, replicate, vec_len, None, true, false, IfErr, IfOk, IfSome, IfNone, OnOk};
 ghost use Rattle.std.specs.VecDeque.{deque_len};
 ghost use Rattle.outside_io.specs.Moves.{WhereTold};

@@ -1,3 +1,5 @@
+//! Unpacking: a list of RTP packets is written as a WAV file, and how many of them were late, repeated or skipped.
+
 ghost use Rattle.std.specs.Prelude.{◌≡◌, ◌≢◌, ℕ, ◌+◌, ◌≤◌, ◌<◌, ◌++◌, length, take, drop, IfErr, IfOk, OnOk};
 ghost use Rattle.std.specs.Io.KnownBytes.{append_known};
 ghost use Rattle.outside_io.specs.Moves.{AppendsFront, WhereTold};

@@ -1,3 +1,5 @@
+//! The window of 64 packets: arrivals are numbered, found late, repeated or accepted, and given out in order.
+
 ghost use Rattle.std.specs.Prelude.{◌≡◌, ◌⊎◌, ℕ, ◌+◌, ◌*◌, ◌==◌, ◌++◌, take, drop, ◌≤◌, ◌<◌, ◌^◌, [], ◌∷◌, true, length, map, vec_len, IfSome, IfNone, OnOk};
 ghost use Rattle.std.specs.Option.{option_to_list};
 ghost use Rattle.std.specs.List.{All, list_any};

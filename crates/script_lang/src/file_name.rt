@@ -1,3 +1,5 @@
+//! The names of files in a play, and which words may name a file.
+
 ghost use Rattle.std.specs.Prelude.{◌≡◌, ◌<◌, ◌≤◌, IfOk, IfSome, IfNone, IsUtf8, string_bytes, length};
 ghost use Rattle.std.specs.List.{list_all};
 ghost use Rattle.script_lang.specs.FileNames.{IsFileName, is_visible};

@@ -1,3 +1,5 @@
+//! The forms of a trace script's lines, a line with its number and words, and the list of the lines.
+
 ghost use Rattle.std.specs.Prelude.{◌≡◌};
 
 use crate::Text;

@@ -1,3 +1,5 @@
+//! Words of hexadecimal digits, two for each byte, and the word for no bytes.
+
 ghost use Rattle.std.specs.Prelude.{◌≡◌, ◌<◌, ◌+◌, ◌*◌, IfOk, IfSome, IsTrue, Some};
 ghost use Rattle.script_lang.specs.Hex.{AreBytes, bytes_of, bytes_word, pairs_of, byte_with, is_hex, hex_value};
 

@@ -1,3 +1,5 @@
+//! The names in a line of a trace script: those it uses were introduced before it, and the one it introduces wasn't.
+
 ghost use Rattle.std.specs.Prelude.{◌≡◌};
 ghost use Rattle.script_lang.specs.Known.{has_component, has_header, has_components, act_components, is_known, is_new};
 

@@ -1,3 +1,5 @@
+//! What must hold of reading trace and play scripts, stated on functions that do nothing.
+
 ghost use Rattle.std.specs.Prelude.{◌≡◌, ℕ, List, Result};
 ghost use Rattle.script_lang.specs.Scripts.{Before, ReadsAs};
 ghost use Rattle.script_lang.specs.PlayScripts.{PlayBefore, PlayReadsAs};

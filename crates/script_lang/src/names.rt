@@ -1,3 +1,5 @@
+//! The component and header names that a trace's lines introduced: looked up, and added.
+
 ghost use Rattle.std.specs.Prelude.{◌≡◌, [], OnOk};
 ghost use Rattle.script_lang.specs.Known.{has_name, with_names};
 

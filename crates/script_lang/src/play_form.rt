@@ -1,3 +1,5 @@
+//! The forms of a play's lines: a part with its name, and a link of two ports by a tunnel.
+
 use crate::PartForm;
 use act_text::{Name, PortName};
 

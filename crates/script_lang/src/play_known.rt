@@ -1,3 +1,5 @@
+//! What a play's earlier lines allow: links of declared names, free names and files, and 32 components.
+
 ghost use Rattle.std.specs.Prelude.{◌≡◌, ◌||◌};
 ghost use Rattle.std.specs.List.{list_any};
 ghost use Rattle.script_lang.specs.PlayKnown.{has_part, is_declared, reads_file, writes_file, is_taken, file_clashes, is_free, has_place};

@@ -1,3 +1,5 @@
+//! The lines of a play: its components by their kinds, and its links, each with its line number.
+
 ghost use Rattle.std.specs.Prelude.{◌≡◌, ◌≤◌, length};
 
 use crate::FileName;

@@ -1,3 +1,5 @@
+//! What is read of a play so far: its units, its components, and its links.
+
 ghost use Rattle.std.specs.Prelude.{◌≤◌, length};
 
 use crate::{LinkLine, PartLine};

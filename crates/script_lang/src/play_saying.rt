@@ -1,3 +1,5 @@
+//! One line of a play after the earlier ones: units, a form, nothing, or its fault; and the line is kept.
+
 ghost use Rattle.std.specs.Prelude.{◌≡◌, ◌∷◌, ◌≤◌, [], ℕ, codes, IsFalse, IfOk, IfErr, IfSome, IfNone, OnOk, IsTrue, Ok, Err};
 ghost use Rattle.line_text.specs.Words.{words_of};
 ghost use Rattle.line_text.specs.Lists.{texts};

@@ -1,3 +1,5 @@
+//! The words of a trace's line are read as its form: an act, a header, or a component's kind.
+
 ghost use Rattle.std.specs.Prelude.{◌≡◌, ◌∷◌, [], IfOk, IfSome, Some, length};
 ghost use Rattle.act_text.specs.Reading.{name_of, port_of};
 ghost use Rattle.act_text.specs.ReadActs.{act_of};

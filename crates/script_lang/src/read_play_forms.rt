@@ -1,3 +1,5 @@
+//! The words of a play's line are read as its form: a part with what it sets, or a link.
+
 ghost use Rattle.std.specs.Prelude.{◌≡◌, ◌∷◌, ◌≤◌, [], IfOk, IfSome, IfNone, List, ℕ, Option, Some, None, map, length, codes, option_map};
 ghost use Rattle.std.specs.Fmt.{decimal};
 ghost use Rattle.std.specs.List.{AllByRecursion};

@@ -1,3 +1,5 @@
+//! One line of a trace after the earlier ones: units, a form, nothing, or its fault; and its words as a text.
+
 ghost use Rattle.std.specs.Prelude.{◌≡◌, ◌∷◌, ◌≤◌, [], ℕ, codes, IsFalse, IfOk, IfSome, IfNone};
 ghost use Rattle.std.specs.Fmt.{decimal};
 ghost use Rattle.line_text.specs.Words.{words_of};

@@ -1,3 +1,5 @@
+//! A script of a play or a trace is read line by line, up to its end or its first fault.
+
 ghost use Rattle.std.specs.Prelude.{◌≡◌, ◌<◌, ◌∷◌, ◌++◌, [], length, true, false, Ok, Err, OnOk, IfOk, IfErr};
 ghost use Rattle.line_text.specs.Lines.{lines_of};
 ghost use Rattle.script_lang.specs.Known.{introduced};

@@ -1,3 +1,5 @@
+//! A text of kept bytes: made from a slice or a vector, and given back.
+
 ghost use Rattle.std.specs.Prelude.{◌≡◌, ℕ, List, IfOk};
 
 use crate::OutOfMemory;

@@ -1,6 +1,7 @@
 //! What ties the value that contracts see of ports and headers (`Stocked` of `il_machine`) to flat lists of headers:
 //! each change of the value, and the machine's own change of a list that it stands for, lead to values of which one
-//! stands for the other. The laws are stated on functions that do nothing; crates above import their lemmas.
+//! stands for the other; and what ties what a graph keeps to the worlds that it stands for. The laws are stated on functions
+//! that do nothing; crates above import their lemmas.
 #![tactic(auto)]
 
 ghost use Rattle.std.specs.Prelude.{◌≡◌, ◌++◌, ◌∷◌, [], List, ℕ, ◌<◌, ◌≤◌, Bool, true, false, length, Some, None};

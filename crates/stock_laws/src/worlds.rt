@@ -1,4 +1,5 @@
 //! What a graph keeps stands for whole worlds: steps follow one another, and each change of what is kept is one of every world.
+
 ghost use Rattle.std.specs.Prelude.{◌≡◌, ℕ, List, Option, Some, None, is_some, slice_get, slice_set};
 ghost use Rattle.il_machine.specs.World.{Component, Stream, Work, World, component_numbered, number_of, stream_of, with_component};
 ghost use Rattle.il_machine.specs.Files.{Offered, attached, stream_with, with_file};

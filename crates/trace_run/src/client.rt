@@ -1,3 +1,5 @@
+//! The client of a trace, which records its progress alone, and the graph that has it.
+
 use il_graph::{Graph, NoFile};
 use il_machine::Progress;
 use note_queues::{Client, ProgressClient};

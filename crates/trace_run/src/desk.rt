@@ -1,3 +1,5 @@
+//! What a trace works on: its graph, its named components, the slots of its headers, and its works.
+
 ghost use Rattle.std.specs.Prelude.{◌≡◌, IfOk};
 ghost use Rattle.il_graph.specs.Shown.{look_of};
 ghost use Rattle.trace_run.specs.Traced.{beginning};

@@ -1,3 +1,5 @@
+//! Components by the names of their lines: from a name to a handle or a port, and back.
+
 ghost use Rattle.std.specs.Prelude.{◌≡◌};
 ghost use Rattle.trace_run.specs.Naming.{found_handle, handle_in, port_in, component_name, port_name};
 

@@ -1,3 +1,5 @@
+//! Slots of headers: found by name or number, and their headers taken out of the client's hand or put back.
+
 ghost use Rattle.std.specs.Prelude.{◌≡◌, ◌<◌, length, position, slice_get, Some, None, IfSome, IfNone, MatchOption, vec_len};
 ghost use Rattle.trace_run.specs.Standing.{slot_named, slot_numbered, HasEmptyHand, Rehanded};
 ghost use Rattle.trace_run.specs.InHand.{IsTakenOut, HasNone};

@@ -1,3 +1,5 @@
+//! A trace from its first line to `end`: each line is written with its answer, and the graph is closed.
+
 ghost use Rattle.std.specs.Prelude.{◌≡◌, ◌≢◌, ◌≤◌, ◌<◌, ◌^◌, length, false, Err, OnOk, IfErr};
 ghost use Rattle.std.specs.Io.KnownBytes.{append_known};
 ghost use Rattle.omx_types.specs.declared.fault.Fault.TheVariants.{WriteFault};

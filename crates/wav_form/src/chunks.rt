@@ -1,3 +1,5 @@
+//! Heads of chunks in a WAV file: read at an offset, told apart by name, with the offset behind the chunk.
+
 ghost use Rattle.std.specs.Prelude.{◌≡◌, ◌≢◌, ◌+◌, ◌<◌, ◌≤◌, ◌^◌, length, take, IfOk, IfErr, OnOk, Err, bytes_eq, codes};
 ghost use Rattle.byteorder.specs.Endian.{little_from};
 ghost use Rattle.outside_io.specs.Asking.{AsksWithin};

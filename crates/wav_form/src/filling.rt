@@ -1,3 +1,5 @@
+//! Bytes of a source are read from an offset on, with a seek only where it is needed.
+
 ghost use Rattle.std.specs.Prelude.{◌≡◌, ◌≢◌, ◌+◌, ◌<◌, ◌≤◌, length, take, drop, IfErr, OnOk, OnErr, Err};
 ghost use Rattle.outside_io.specs.Asking.{AsksWithin};
 ghost use Rattle.outside_io.specs.Causes.{Rose};

@@ -1,3 +1,5 @@
+//! The format that a format chunk says, where it is within the limits, or the one already known.
+
 ghost use Rattle.std.specs.Prelude.{◌≡◌, ◌≢◌, ◌+◌, ◌<◌, ◌≤◌, ◌^◌, length, take, drop, Some, None, true, is_some, ◌||◌, IfOk, IfErr, IfSome, OnOk, Err};
 ghost use Rattle.omx_types.specs.Formats.{IsWithinLimits, rate_of, channels_of};
 ghost use Rattle.byteorder.specs.Endian.{little_from};

@@ -1,3 +1,5 @@
+//! The head of a WAV file is read: its RIFF head, then chunk by chunk up to the samples.
+
 ghost use Rattle.std.specs.Prelude.{◌≡◌, ◌≢◌, ℕ, ◌+◌, ◌<◌, ◌≤◌, ◌^◌, List, length, Some, None, Ok, IfOk, IfErr, IfSome, OnOk, Err, IsTrue, ◌↔◌};
 ghost use Rattle.omx_types.specs.Formats.{IsWithinLimits};
 ghost use Rattle.outside_io.specs.Asking.{AsksWithin};

@@ -1,3 +1,5 @@
+//! What must hold of reading and writing WAV heads, stated on functions that do nothing.
+
 ghost use Rattle.std.specs.Prelude.{◌≡◌, ℕ, ◌+◌, ◌*◌, ◌≤◌, ◌++◌, List, length, Result, Ok};
 ghost use Rattle.omx_types.specs.declared.format.Format.{Format};
 ghost use Rattle.omx_types.specs.declared.fault.WavFault.{WavFault};

@@ -1,3 +1,5 @@
+//! The head of a WAV file is written, with a fact chunk where its format is A-law or mu-law.
+
 ghost use Rattle.std.specs.Prelude.{◌≡◌, ◌+◌, ◌*◌, ◌≤◌, ◌^◌, ◌<◌, ◌++◌, length, take, drop, codes};
 ghost use Rattle.omx_types.specs.Formats.{IsWithinLimits, frame_bytes_of};
 ghost use Rattle.byteorder.specs.Endian.{little_bytes};

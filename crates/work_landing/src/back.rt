@@ -1,3 +1,5 @@
+//! How a header of a work comes back: by its port, and by what is known of the step.
+
 ghost use Rattle.std.specs.Prelude.{◌≤◌};
 
 use il_machine::Mark;

@@ -1,3 +1,5 @@
+//! A command is sent to a component, and a sent one is run, each with its reply.
+
 ghost use Rattle.std.specs.Prelude.{◌≡◌, List};
 ghost use Rattle.il_machine.specs.Acts as acts;
 ghost use Rattle.il_machine.specs.Whole.{Steps};

@@ -1,3 +1,5 @@
+//! A component's handle is freed, and its state and its ports are looked at, each with its reply.
+
 ghost use Rattle.std.specs.Prelude.{◌≡◌, List};
 ghost use Rattle.il_machine.specs.Acts as acts;
 ghost use Rattle.il_machine.specs.Whole.{Steps};

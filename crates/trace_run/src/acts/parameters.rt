@@ -1,3 +1,5 @@
+//! Parameters, configs and port definitions are set on a component, each with its reply.
+
 ghost use Rattle.std.specs.Prelude.{◌≡◌, List, Ok};
 ghost use Rattle.il_machine.specs.Acts as acts;
 ghost use Rattle.il_machine.specs.Whole.{Always, Steps};

@@ -1,3 +1,5 @@
+//! The replies of calls, acts, grants and losses, with components and ports by their names.
+
 ghost use Rattle.std.specs.Prelude.{◌≡◌, List, Some, IfOk, IsSome};
 ghost use Rattle.il_machine.specs.Acts as acts;
 ghost use Rattle.trace_run.specs.Naming.{Names, NamedHeader};

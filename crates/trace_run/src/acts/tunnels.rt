@@ -1,3 +1,5 @@
+//! A tunnel between an output and an input is set up or dropped, with its reply.
+
 ghost use Rattle.std.specs.Prelude.{◌≡◌, List};
 ghost use Rattle.il_machine.specs.Acts as acts;
 ghost use Rattle.il_machine.specs.Whole.{Steps};
