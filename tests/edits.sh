@@ -7,8 +7,10 @@ cd "$(dirname "$0")/.."
 copy=$(mktemp -d)
 trap 'rm -rf "$copy"' EXIT
 tar -c --exclude='crates/*/out' --exclude='crates/*/must-fail' crates crates.txt HANDLES | tar -x -C "$copy"
+names=()
 for name; do
+    [ -d "tests/edits/$name" ] || { echo "$name has no others"; continue; }
     cp -r "tests/edits/$name" "$copy/crates/$name/must-fail"
+    names+=("$name")
 done
-cd "$copy"
-rt ci "$@"
+[ ${#names[@]} -eq 0 ] || (cd "$copy" && rt ci "${names[@]}")

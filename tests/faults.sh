@@ -1,6 +1,6 @@
 #!/usr/bin/env bash
-# Gives the built program files that can't be read or written and words that are no form, on real files, and compares what
-# it prints, its status and all files afterwards with what the rules say; then a long play, and made inputs. Nothing here
+# Gives the built program files that can't be read or written, scripts and words that are refused, on real files, and compares
+# what it prints, its status and all files afterwards with what the rules say; then large plays, and made inputs. Nothing here
 # stands on permissions, since root has them all. Its last line is 'faults: N passed, M failed'.
 . "$(dirname "${BASH_SOURCE[0]}")/program.sh"
 exec python3 - "$program" <<'PY'
@@ -20,6 +20,16 @@ def copy(source, sink, size=4096):
     return f'omx 1 play\nsource a {source}\nsink b {sink}\nlink a.0 b.0 2 {size}\n'.encode()
 
 
+def fans(first):
+    """A play of links with `first` and 1,016 buffers, by four splitters and mixers."""
+    lines = ['omx 1 play', 'source a zeros.wav', 'sink b out.wav']
+    lines += [line for it in range(4) for line in (f'splitter s{it} 8', f'mixer m{it} 8' + ' 1' * 8)]
+    lines += [f'link a.0 s0.0 {first} 2']
+    lines += [f'link s{it}.{at + 1} m{it}.{at} 31 2' for it in range(4) for at in range(8)]
+    lines += [f'link m{it}.8 s{it + 1}.0 6 2' for it in range(3)] + ['link m3.8 b.0 6 2']
+    return '\n'.join(lines).encode() + b'\n'
+
+
 def made(x, frames):
     """What `make` writes from this number on."""
     samples = b''
@@ -31,6 +41,10 @@ def made(x, frames):
 
 short = pcm(struct.pack('<3h', 0, 1000, -1000))
 long = pcm(bytes(i % 251 for i in range(200000)))
+zeros = pcm(bytes(6))
+# a code of A-law, which is half of 27,735 and -15,191 together: the step from -1,344 to -1,280
+code = struct.pack('<4sI4s4sIHHIIHHH4sII4sI2s', b'RIFF', 52, b'WAVE', b'fmt ', 18, 6, 1, 8000, 8000, 1, 8, 0,
+                   b'fact', 4, 1, b'data', 1, b'\x61\0')
 before = {
     'short.wav': short,
     'long.wav': long,
@@ -44,6 +58,13 @@ before = {
     'short-to-full.omx': copy('short.wav', '/dev/full'),
     'long-to-full.omx': copy('long.wav', '/dev/full'),
     'trace.omx': b'omx 1 trace\nget a OMX.lab.gain\nstate a\n',
+    'no-text.omx': b'omx 1 trace\n\xff\n',
+    'large.omx': copy('large.wav', 'out.wav'),
+    'zeros.wav': zeros,
+    'all-blocks.omx': fans(8),
+    'more-blocks.omx': fans(9),
+    'code.wav': code,
+    'packets': b'omxrtp1\n' + struct.pack('>HBBHII', 13, 0x80, 8, 1, 0, 0) + b'\x61',
     'log': b'an earlier log\n',
 }
 mix = b'''omx 1 play
@@ -59,9 +80,6 @@ link b.0 m.1 4 4096
 link m.2 e.0 4 4096
 link e.1 s.0 4 4096
 '''
-# half of 27,735 and -15,191 are together in the step from -1,344 to -1,280 of A-law
-mixed = struct.pack('<4sI4s4sIHHIIHHH4sII4sI2s', b'RIFF', 52, b'WAVE', b'fmt ', 18, 6, 1, 8000, 8000, 1, 8, 0,
-                    b'fact', 4, 1, b'data', 1, b'\x61\0')
 
 
 def ends(log):
@@ -105,6 +123,23 @@ cases = [
     ('a trace printed on a full disk', 'omxrun trace trace.omx >/dev/full', silent, {}),
     ('a play that nobody reads', f'{unheard} omxrun play short.omx 0 log >&3', silent, {'out.wav': short, 'log': ends}),
     ('a trace that nobody reads', f'{unheard} omxrun trace trace.omx >&3', silent, {}),
+    ('no input', 'omxrun pack none out', ('absent: input\n', 6), {}),
+    ('an input that is a folder', 'omxrun pack folder out', unread, {'out': b''}),
+    ('packets in no folder', 'omxrun pack code.wav none/out', ('absent: output\n', 6), {}),
+    ('packets on a full disk', 'omxrun pack code.wav /dev/full', unwritten, {}),
+    ('no packets', 'omxrun unpack none out.wav', ('absent: input\n', 6), {}),
+    ('packets that are a folder', 'omxrun unpack folder out.wav', unread, {'out.wav': b''}),
+    ('codes in no folder', 'omxrun unpack packets none/out.wav', ('absent: output\n', 6), {}),
+    ('codes on a full disk', 'omxrun unpack packets /dev/full', unwritten, {}),
+    ('no clock', 'omxrun clock none', ('absent: script\n', 6), {}),
+    ('a clock that is a folder', 'omxrun clock folder', unread, {}),
+    ('made inputs where a folder is', 'mkdir folder/a.wav; omxrun make 1 1 folder', unwritten, {}),
+    ('a script that is no text', 'omxrun trace no-text.omx', ('script line 2: not text\n', 1), {}),
+    ('a script that is too long', 'truncate -s 65537 zeros.omx; omxrun trace zeros.omx', ('script line 0: too long\n', 1),
+     {'zeros.omx': bytes(65537)}),
+    ('a source that is too large', 'truncate -s 67108865 large.wav; omxrun play large.omx 0 log; s=$?; rm large.wav; exit $s',
+     ('line 2: larger than 67108864 bytes\n', 3), {}),
+    ('too many blocks', 'omxrun play more-blocks.omx 0 log', ('script line 48: too many blocks\n', 1), {}),
     ('no words', 'omxrun', usage, {}),
     ('nine workers', 'omxrun play short.omx 9 log', usage, {}),
     ('a leading zero', 'omxrun play short.omx 00 log', usage, {}),
@@ -113,13 +148,14 @@ cases = [
     ('a worker', 'omxrun play short.omx 1 log', ('not built: words\n', 10), {}),
     ('a long play', 'omxrun play long.omx 0 log', ('sink b 100000 frames 200044 bytes\nok\n', 0),
      {'out.wav': long, 'log': ends}),
+    ('all blocks', 'omxrun play all-blocks.omx 0 log', ('sink b 3 frames 50 bytes\nok\n', 0), {'out.wav': zeros, 'log': ends}),
     ('made inputs', 'omxrun make 1 1 folder', ('made 1 frames\n', 0),
      {'folder/a.wav': made(1, 1), 'folder/b.wav': made(2, 1), 'folder/mix.omx': mix}),
     ('the greatest seed', 'omxrun make 18446744073709551615 1000 folder', ('made 1000 frames\n', 0),
      {'folder/a.wav': made(2**64 - 1, 1000), 'folder/b.wav': made(0, 1000), 'folder/mix.omx': mix}),
     ('a made play', 'omxrun make 1 1 folder && omxrun play folder/mix.omx 0 log',
      ('made 1 frames\nsink s 1 frames 60 bytes\nok\n', 0),
-     {'folder/a.wav': made(1, 1), 'folder/b.wav': made(2, 1), 'folder/mix.omx': mix, 'folder/out.wav': mixed, 'log': ends}),
+     {'folder/a.wav': made(1, 1), 'folder/b.wav': made(2, 1), 'folder/mix.omx': mix, 'folder/out.wav': code, 'log': ends}),
     ('inputs in no folder', 'omxrun make 1 1 none', ('absent: made 1\n', 6), {}),
 ]
 
