@@ -21,12 +21,14 @@ pub fn law_of_texts(text: &ActText)
 fn is_name(name: &Name)
     ensures { IsName name.now }
 {
+    // The proof learns from it that the bytes are a name.
     let _ = name.as_bytes();
 }
 
 fn fits(number: u32)
     ensures { FitsWord number }
 {
+    // The proof learns from it the number's range.
     let _any = number;
 }
 
@@ -40,6 +42,7 @@ fn is_port(port: &PortName)
 fn is_format(format: &Format)
     ensures { IsFormat format.now }
 {
+    // The proof learns from both calls the ranges of their numbers.
     let _ = format.rate();
     let _ = format.channels();
 }
@@ -106,6 +109,7 @@ fn is_mark(component: &Name, port: u32, target: &Name, value: u64)
     is_name(component);
     fits(port);
     is_name(target);
+    // The proof learns from it the value's range.
     let _any = value;
 }
 

@@ -52,6 +52,7 @@ impl Name {
         })
     }
 
+    /// The name as it is written.
     pub fn as_bytes(&self) -> &[u8]
         ensures bytes { result.now ≡ self.now }
         ensures named { IsTrue (is_name self.now) }

@@ -17,6 +17,7 @@ pub enum Word<'a> {
     Number(u64),
 }
 
+/// The word of a number, in decimal.
 pub fn number(number: u32) -> Word<'static>
     ensures { word_bytes result ≡ decimal number }
 {

@@ -3,7 +3,7 @@ use Rattle.std.proofs.Common.{◌≡◌, ℕ, zero, suc, ◌+◌, ◌*◌, ◌/�
 use Rattle.std.proofs.lemmas.List.{map-append}
 use Rattle.pcm_ops.specs.Samples.{samples, bytes, gained}
 use Rattle.part_forms.specs.Effects.{gained_bytes, decoded, encoded, value_of, code_of}
-use Rattle.part_forms.specs.declared.law.Law.{Law}
+use Rattle.g711_law.specs.declared.companding.Companding.{Companding}
 
 pub bytes-append : (xs ys : List ℤ) → bytes (xs ++ ys) ≡ bytes xs ++ bytes ys
 unfolding bytes
@@ -29,12 +29,12 @@ gained_joined gain frames channels xs ys e =
     ∙ ap bytes (map-append (gained gain) (samples xs) (samples ys))
     ∙ bytes-append (map (gained gain) (samples xs)) (map (gained gain) (samples ys))
 
-pub decoded_joined : (law : Law) (xs ys : List ℕ) → decoded law (xs ++ ys) ≡ decoded law xs ++ decoded law ys
+pub decoded_joined : (companding : Companding) (xs ys : List ℕ) → decoded companding (xs ++ ys) ≡ decoded companding xs ++ decoded companding ys
 unfolding decoded
-decoded_joined law xs ys = ap bytes (map-append (value_of law) xs ys) ∙ bytes-append (map (value_of law) xs) (map (value_of law) ys)
+decoded_joined companding xs ys = ap bytes (map-append (value_of companding) xs ys) ∙ bytes-append (map (value_of companding) xs) (map (value_of companding) ys)
 
-pub encoded_joined : (law : Law) (frames channels : ℕ) (xs ys : List ℕ) → length xs ≡ frames * (channels * 2)
-    → encoded law (xs ++ ys) ≡ encoded law xs ++ encoded law ys
+pub encoded_joined : (companding : Companding) (frames channels : ℕ) (xs ys : List ℕ) → length xs ≡ frames * (channels * 2)
+    → encoded companding (xs ++ ys) ≡ encoded companding xs ++ encoded companding ys
 unfolding encoded
-encoded_joined law frames channels xs ys e =
-    ap (map (code_of law)) (frames_joined frames channels xs ys e) ∙ map-append (code_of law) (samples xs) (samples ys)
+encoded_joined companding frames channels xs ys e =
+    ap (map (code_of companding)) (frames_joined frames channels xs ys e) ∙ map-append (code_of companding) (samples xs) (samples ys)

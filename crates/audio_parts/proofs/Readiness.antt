@@ -1,9 +1,8 @@
 -- When steps may begin.
-use Rattle.std.proofs.Common.{◌≡◌, ◌*◌, ◌≤◌, Bool, sym, subst}
+use Rattle.std.proofs.Common.{◌≡◌, ◌*◌, ◌≤◌, Bool, subst}
 use Rattle.std.specs.Prelude.{Option, Some}
 use Rattle.omx_types.specs.declared.format.Format.{Format}
 use Rattle.omx_types.specs.Formats.{frame_bytes_of}
-use Rattle.part_api.specs.Terms.{Terms}
 use Rattle.audio_parts.specs.declared.source_file.SourceFile.{SourceFile}
 use Rattle.audio_parts.specs.declared.sink_file.SinkFile.{SinkFile}
 use Rattle.audio_parts.specs.FileParts.{source_terms, sink_terms}
@@ -20,7 +19,3 @@ pub sink_agrees : {K : Type 0} (port : Format) (file : Option (SinkFile K)) (fai
     → (it : SinkFile K) → file ≡ Some it → it.planned * frame_bytes_of port ≤ 134217728
 sink_agrees {K} port file failed ready it e =
     (subst (λ (o : Option (SinkFile K)). FitsFile (sink_terms port file) (sink_terms port o).file) e ready.file).0
-
--- the same terms are ready again
-pub ready_again : (old new : Terms) (failed now : Bool) → new ≡ old → now ≡ failed → IsReady old failed → IsReady new now
-ready_again old new failed now e f ready = subst (λ (t : Terms). IsReady t now) (sym e) (subst (λ (b : Bool). IsReady old b) (sym f) ready)

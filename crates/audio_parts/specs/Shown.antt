@@ -34,7 +34,7 @@ held_in part = record { failed = part.failed; file = part.file }
 abbrev pub terms_by : {S K : Type 0} {s : _} {k : _} → AnyPart S K s k → Terms
 terms_by (Source it) = source_terms it.late it.format it.file
 terms_by (Decoder it) = record { kind = kinds.Decoder; inputs = it.effect.input ∷ []; outputs = it.effect.output ∷ []; factors = []; file = None }
-terms_by (Encoder it) = record { kind = coder_kind it.effect.law; inputs = it.effect.input ∷ []; outputs = it.effect.output ∷ []; factors = []; file = None }
+terms_by (Encoder it) = record { kind = coder_kind it.effect.companding; inputs = it.effect.input ∷ []; outputs = it.effect.output ∷ []; factors = []; file = None }
 terms_by (Gain it) = record { kind = kinds.Gain; inputs = it.effect.input ∷ []; outputs = it.effect.output ∷ []; factors = it.effect.gain ∷ []; file = None }
 terms_by (Mixer it) = record { kind = kinds.Mixer (vec_len it.weights); inputs = it.inputs.items; outputs = it.output ∷ []; factors = it.weights.items; file = None }
 terms_by (Splitter it) = record { kind = kinds.Splitter (vec_len it.effect.outputs); inputs = it.effect.input ∷ []; outputs = it.effect.outputs.items; factors = []; file = None }

@@ -14,10 +14,10 @@ use crate::mixer::Mixer;
 use crate::splitter::{Splitter, Splitting};
 use crate::wav_sink::WavSink;
 use crate::wav_source::WavSource;
-use omx_types::{Format, Kind};
+use g711_law::Companding;
+use omx_types::{Format, Kind, ONE};
 use outside_io::{Sink, Source};
 use part_api::Part;
-use part_forms::Law;
 use std::alloc::Global;
 
 const PCM: Format = Format::Pcm {
@@ -34,9 +34,6 @@ const MULAW: Format = Format::Mulaw {
     rate: 8000,
     channels: 1,
 };
-
-/// A gain or weight of one.
-const ONE: u32 = 4096;
 
 fn new_mixer(alloc: Global, inputs: u32) -> Result<Mixer, OutOfMemory>
     requires some { 2 ≤ inputs }
@@ -55,12 +52,12 @@ fn new_splitter(alloc: Global, outputs: u32) -> Result<Splitter, OutOfMemory>
     Splitter::new(alloc, Splitting::new(PCM, formats))
 }
 
-fn new_encoder(alloc: Global, law: Law) -> Result<G711Encoder, OutOfMemory>
-    ensures { IfOk result (λ encoder. ⟦<G711Encoder as Part>⟧.terms encoder ≡ default_terms (coder_kind law)) }
+fn new_encoder(alloc: Global, companding: Companding) -> Result<G711Encoder, OutOfMemory>
+    ensures { IfOk result (λ encoder. ⟦<G711Encoder as Part>⟧.terms encoder ≡ default_terms (coder_kind companding)) }
 {
-    let effect = match law {
-        Law::ALaw => Encoding::new(alloc, law, PCM, ALAW)?,
-        Law::MuLaw => Encoding::new(alloc, law, PCM, MULAW)?,
+    let effect = match companding {
+        Companding::ALaw => Encoding::new(alloc, companding, PCM, ALAW)?,
+        Companding::MuLaw => Encoding::new(alloc, companding, PCM, MULAW)?,
     };
     G711Encoder::new(alloc, effect)
 }
@@ -87,8 +84,8 @@ impl<S: Source, K: Sink> AnyPart<S, K> {
                 let effect = Decoding::new(alloc, ALAW, PCM)?;
                 AnyPart::Decoder(G711Decoder::new(alloc, effect)?)
             }
-            Kind::Alaw => AnyPart::Encoder(new_encoder(alloc, Law::ALaw)?),
-            Kind::Mulaw => AnyPart::Encoder(new_encoder(alloc, Law::MuLaw)?),
+            Kind::Alaw => AnyPart::Encoder(new_encoder(alloc, Companding::ALaw)?),
+            Kind::Mulaw => AnyPart::Encoder(new_encoder(alloc, Companding::MuLaw)?),
             Kind::Gain => {
                 let effect = Gaining::new(PCM, PCM, ONE);
                 AnyPart::Gain(Gain::new(alloc, effect)?)

@@ -1,48 +1,47 @@
-//! The two laws of G.711, code by code.
+//! The two compandings of G.711, code by code.
 ghost use Rattle.std.specs.Prelude.{◌≡◌, ◌*◌, ◌≤◌, [], ◌∷◌, length, map, vec_len, IfOk, None};
 ghost use Rattle.omx_types.specs.declared.kind.Kind.TheVariants as kinds;
-ghost use Rattle.part_forms.specs.Effects.{decoded, encoded, value_of, code_of, law_of, coder_kind};
+ghost use Rattle.part_forms.specs.Effects.{decoded, encoded, value_of, code_of, companding_of, coder_kind};
 ghost use Rattle.part_forms.specs.Manners.{decoding, encoding};
 
 use crate::OutOfMemory;
-use crate::effect::Effect;
+use crate::effect::{Effect, STEP_SAMPLES};
 use crate::one_input::OneInput;
-use g711_law::{alaw_decode_all, alaw_encode_all, mulaw_decode_all, mulaw_encode_all};
+use g711_law::{Companding, alaw_decode_all, alaw_encode_all, mulaw_decode_all, mulaw_encode_all};
 use omx_types::Format;
-use part_forms::Law;
 use pcm_ops::{bytes_of, samples_of};
 use std::alloc::Global;
 
-/// The law of coded samples.
-fn law_of(format: Format) -> Law
-    ensures { result ≡ law_of format }
+/// The companding of coded samples.
+fn companding_of(format: Format) -> Companding
+    ensures { result ≡ companding_of format }
 {
     match format {
         Format::Mulaw {
             rate: _,
             channels: _,
-        } => Law::MuLaw,
-        _ => Law::ALaw,
+        } => Companding::MuLaw,
+        _ => Companding::ALaw,
     }
 }
 
-fn decode(law: Law, from: &[u8], to: &mut [i16])
+fn decode(companding: Companding, from: &[u8], to: &mut [i16])
     requires { length from.now ≡ length to.old }
-    ensures { to.new ≡ map (value_of law) from.now }
+    ensures { to.new ≡ map (value_of companding) from.now }
 {
-    match law {
-        Law::ALaw => alaw_decode_all(from, to),
-        Law::MuLaw => mulaw_decode_all(from, to),
+    match companding {
+        Companding::ALaw => alaw_decode_all(from, to),
+        Companding::MuLaw => mulaw_decode_all(from, to),
     }
 }
 
-fn encode(law: Law, from: &[i16], to: &mut [u8])
+fn encode(companding: Companding, from: &[i16], to: &mut [u8])
     requires { length from.now ≡ length to.old }
-    ensures { to.new ≡ map (code_of law) from.now }
+    ensures { to.new ≡ map (code_of companding) from.now }
 {
-    match law {
-        Law::ALaw => alaw_encode_all(from, to),
-        Law::MuLaw => mulaw_encode_all(from, to),
+    match companding {
+        Companding::ALaw => alaw_encode_all(from, to),
+        Companding::MuLaw => mulaw_encode_all(from, to),
     }
 }
 
@@ -64,7 +63,7 @@ pub struct Decoding {
 /// The code of each sample.
 #[derive(Drop)]
 pub struct Encoding {
-    law: Law,
+    companding: Companding,
     pub(crate) input: Format,
     pub(crate) output: Format,
     samples: Vec<i16>,
@@ -79,7 +78,7 @@ impl Decoding {
         Ok(Decoding {
             input,
             output,
-            samples: vec![in alloc; 0; 4096]?,
+            samples: vec![in alloc; 0; STEP_SAMPLES]?,
         })
     }
 }
@@ -87,59 +86,71 @@ impl Decoding {
 impl Encoding {
     pub(crate) fn new(
         alloc: Global,
-        law: Law,
+        companding: Companding,
         input: Format,
         output: Format,
     ) -> Result<Encoding, OutOfMemory>
-        ensures law { IfOk result (λ it. it.law ≡ law) }
+        ensures companding { IfOk result (λ it. it.companding ≡ companding) }
         ensures input { IfOk result (λ it. it.input ≡ input) }
         ensures output { IfOk result (λ it. it.output ≡ output) }
     {
         Ok(Encoding {
-            law,
+            companding,
             input,
             output,
-            samples: vec![in alloc; 0; 4096]?,
+            samples: vec![in alloc; 0; STEP_SAMPLES]?,
         })
     }
 }
 
-fn decode_bytes(law: Law, from: &[u8], samples: &mut [i16], to: &mut [u8])
+fn decode_bytes(companding: Companding, from: &[u8], samples: &mut [i16], to: &mut [u8])
     requires from { length from.now ≡ length samples.old }
     requires to { length to.old ≡ 2 * length samples.old }
-    ensures { to.new ≡ decoded law from.now }
+    ensures { to.new ≡ decoded companding from.now }
 {
-    decode(law, from, samples);
+    decode(companding, from, samples);
     bytes_of(samples, to);
 }
 
-fn encode_bytes(law: Law, from: &[u8], samples: &mut [i16], to: &mut [u8])
+fn encode_bytes(companding: Companding, from: &[u8], samples: &mut [i16], to: &mut [u8])
     requires from { length from.now ≡ 2 * length samples.old }
     requires to { length to.old ≡ length samples.old }
-    ensures { to.new ≡ encoded law from.now }
+    ensures { to.new ≡ encoded companding from.now }
 {
     samples_of(from, samples);
-    encode(law, samples, to);
+    encode(companding, samples, to);
 }
 
 /// `decode_bytes` with the front of the register.
-fn decode_front(law: Law, from: &[u8], samples: &mut [i16], count: usize, to: &mut [u8])
+fn decode_front(
+    companding: Companding,
+    from: &[u8],
+    samples: &mut [i16],
+    count: usize,
+    to: &mut [u8],
+)
     requires from { length from.now ≡ count }
     requires samples { count ≤ length samples.old }
     requires to { length to.old ≡ count * 2 }
-    ensures { to.new ≡ decoded law from.now }
+    ensures { to.new ≡ decoded companding from.now }
 {
-    decode_bytes(law, from, &mut samples[..count], to);
+    decode_bytes(companding, from, &mut samples[..count], to);
 }
 
 /// `encode_bytes` with the front of the register.
-fn encode_front(law: Law, from: &[u8], samples: &mut [i16], count: usize, to: &mut [u8])
+fn encode_front(
+    companding: Companding,
+    from: &[u8],
+    samples: &mut [i16],
+    count: usize,
+    to: &mut [u8],
+)
     requires from { length from.now ≡ count * 2 }
     requires samples { count ≤ length samples.old }
     requires to { length to.old ≡ count }
-    ensures { to.new ≡ encoded law from.now }
+    ensures { to.new ≡ encoded companding from.now }
 {
-    encode_bytes(law, from, &mut samples[..count], to);
+    encode_bytes(companding, from, &mut samples[..count], to);
 }
 
 impl Effect for Decoding {
@@ -160,7 +171,13 @@ impl Effect for Decoding {
     }
 
     fn apply(&mut self, count: usize, from: &[u8], to: &mut [u8]) {
-        decode_front(law_of(self.input), from, &mut self.samples, count, to);
+        decode_front(
+            companding_of(self.input),
+            from,
+            &mut self.samples,
+            count,
+            to,
+        );
     }
 
     fn set_format(&mut self, port: u32, format: Format) {
@@ -174,9 +191,9 @@ impl Effect for Decoding {
 }
 
 impl Effect for Encoding {
-    ghost manner = { λ it. encoding it.law it.input };
+    ghost manner = { λ it. encoding it.companding it.input };
 
-    ghost terms = { λ it. record { kind = coder_kind it.law; inputs = it.input ∷ []; outputs = it.output ∷ []; factors = []; file = None } };
+    ghost terms = { λ it. record { kind = coder_kind it.companding; inputs = it.input ∷ []; outputs = it.output ∷ []; factors = []; file = None } };
 
     fn channels(&self) -> u32 {
         self.input.channels()
@@ -191,7 +208,7 @@ impl Effect for Encoding {
     }
 
     fn apply(&mut self, count: usize, from: &[u8], to: &mut [u8]) {
-        encode_front(self.law, from, &mut self.samples, count, to);
+        encode_front(self.companding, from, &mut self.samples, count, to);
     }
 
     fn set_format(&mut self, port: u32, format: Format) {

@@ -28,6 +28,7 @@ pub use any_part::AnyPart;
 pub use coder::{Decoding, Encoding, G711Decoder, G711Encoder};
 pub use effect::Effect;
 pub use file_laws::{law_of_keeping, law_of_reading};
+pub use g711_law::Companding;
 pub use gain::{Gain, Gaining};
 pub use kind_part::KindPart;
 pub use laws::{
@@ -37,7 +38,6 @@ pub use laws::{
 pub use mixer::Mixer;
 pub use one_input::OneInput;
 pub use part_file::PartFile;
-pub use part_forms::Law;
 pub use reads::read_frames;
 pub use sink_file::SinkFile;
 pub use source_file::SourceFile;

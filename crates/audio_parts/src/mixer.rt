@@ -9,6 +9,7 @@ ghost use Rattle.part_forms.specs.Mixing.{mixing, Carries};
 ghost use Rattle.audio_parts.specs.Ready.{IsReady};
 
 use crate::OutOfMemory;
+use crate::effect::STEP_SAMPLES;
 use omx_types::{Format, PartFault};
 use part_api::Part;
 use pcm_ops::{bytes_of, clamp_into, mix_into, samples_of};
@@ -115,8 +116,8 @@ impl Mixer {
             output,
             weights,
             taken,
-            sums: vec![in alloc; 0; 4096]?,
-            samples: vec![in alloc; 0; 4096]?,
+            sums: vec![in alloc; 0; STEP_SAMPLES]?,
+            samples: vec![in alloc; 0; STEP_SAMPLES]?,
             frames: 0,
             count: 0,
         })

@@ -2,6 +2,7 @@
 
 ghost use Rattle.std.specs.Prelude.{◌≡◌, ◌+◌, ◌≤◌, length, take, drop, max, OnOk, IfOk, IfErr};
 ghost use Rattle.outside_io.specs.Causes.{HasCause};
+ghost use Rattle.outside_io.specs.Keeping.{KeepsSource};
 ghost use Rattle.outside_io.specs.Moves.{WhereTold};
 ghost use Rattle.audio_parts.specs.Causes.{HasReadCause};
 
@@ -12,9 +13,7 @@ use outside_io::{Failed, ReadStop, Source, read_exact};
 fn stand_at<S: Source>(source: &mut S, offset: u64) -> Result<(), Failed>
     requires { offset ≤ S.size source.old }
     ensures reached { OnOk result (S.offset source.new ≡ offset) }
-    ensures told { S.told source.new ≡ S.told source.old }
-    ensures ends { S.ends source.new ≡ S.ends source.old }
-    ensures size { S.size source.new ≡ S.size source.old }
+    ensures keeps_source { KeepsSource S.Source source.old source.new }
     ensures cause { HasCause (S.faults source.old) (S.faults source.new) result }
 {
     if source.offset() == offset {
@@ -37,10 +36,7 @@ pub fn read_frames<S: Source>(
     ensures bytes { WhereTold (S.told source.old) (λ bytes. OnOk result (
         take count buffer.new ≡ take count (drop from bytes))) }
     ensures stops { WhereTold (S.ends source.old) (λ end. IfOk result (λ next. next ≤ max end from)) }
-    ensures told { S.told source.new ≡ S.told source.old }
-    ensures ends { S.ends source.new ≡ S.ends source.old }
-    ensures size { S.size source.new ≡ S.size source.old }
-    ensures later { S.faults source.old ≤ S.faults source.new }
+    ensures keeps_source { KeepsSource S.Source source.old source.new }
     ensures cause { IfErr result (HasReadCause (S.size source.old) (S.ends source.old) from
         (S.faults source.old) (S.faults source.new)) }
 {

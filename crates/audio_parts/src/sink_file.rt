@@ -3,6 +3,7 @@
 ghost use Rattle.std.specs.Prelude.{◌≡◌, ◌-◌, ◌*◌, ◌≤◌, true, false, length, IfErr, OnOk, OnErr};
 ghost use Rattle.std.specs.Io.KnownBytes.{append_known};
 ghost use Rattle.omx_types.specs.Formats.{IsWithinLimits, frame_bytes_of};
+ghost use Rattle.outside_io.specs.Keeping.{KeepsSink};
 ghost use Rattle.outside_io.specs.Moves.{AppendsFront};
 ghost use Rattle.audio_parts.specs.Causes.{HasWriteCause};
 ghost use Rattle.audio_parts.specs.declared.part_file.PartFile.TheVariants.{To};
@@ -62,8 +63,7 @@ impl<K: Sink> SinkFile<K> {
         ensures headed { OnOk result (self.new.headed ≡ true) }
         ensures left { OnOk result (self.new.left ≡ self.old.left - frames) }
         ensures kept { OnErr result ((self.new.headed ≡ self.old.headed) × (self.new.left ≡ self.old.left)) }
-        ensures name { K.name self.new.sink ≡ K.name self.old.sink }
-        ensures later { K.faults self.old.sink ≤ K.faults self.new.sink }
+        ensures keeps_sink { KeepsSink K.Sink self.old.sink self.new.sink }
         ensures cause { IfErr result (HasWriteCause (K.faults self.old.sink) (K.faults self.new.sink)) }
     {
         let count = u64::from(frames).min(self.left);

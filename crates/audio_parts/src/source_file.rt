@@ -2,6 +2,7 @@
 
 ghost use Rattle.std.specs.Prelude.{◌≡◌, ◌+◌, ◌-◌, ◌*◌, ◌≤◌, length, take, max, IfErr, OnOk, OnErr};
 ghost use Rattle.omx_types.specs.Formats.{frame_bytes_of};
+ghost use Rattle.outside_io.specs.Keeping.{KeepsSource};
 ghost use Rattle.outside_io.specs.Moves.{WhereTold};
 ghost use Rattle.part_api.specs.Steps.{ComesFirst};
 ghost use Rattle.audio_parts.specs.Causes.{HasReadCause};
@@ -59,9 +60,7 @@ impl<S: Source> SourceFile<S> {
         ensures format { self.new.format ≡ self.old.format }
         ensures attached { self.new.attached ≡ self.old.attached }
         ensures there { self.new.next + self.new.left * frame_bytes_of self.new.format ≤ S.size self.new.source }
-        ensures told { S.told self.new.source ≡ S.told self.old.source }
-        ensures ends { S.ends self.new.source ≡ S.ends self.old.source }
-        ensures size { S.size self.new.source ≡ S.size self.old.source }
+        ensures keeps_source { KeepsSource S.Source self.old.source self.new.source }
         ensures first { OnOk result (ComesFirst (take count register.new)
             (rest_of (S.told self.old.source) self.old.next (self.old.left * frame_bytes_of self.old.format))
             (rest_of (S.told self.new.source) self.new.next (self.new.left * frame_bytes_of self.old.format))) }
@@ -70,7 +69,6 @@ impl<S: Source> SourceFile<S> {
         ensures stands { OnOk result (self.new.next ≡ S.offset self.new.source) }
         ensures stops { WhereTold (S.ends self.old.source) (λ end. OnOk result (self.new.next ≤ max end self.old.next)) }
         ensures kept { OnErr result ((self.new.left ≡ self.old.left) × (self.new.next ≡ self.old.next)) }
-        ensures later { S.faults self.old.source ≤ S.faults self.new.source }
         ensures cause { IfErr result (HasReadCause (S.size self.old.source) (S.ends self.old.source) self.old.next
             (S.faults self.old.source) (S.faults self.new.source)) }
     {

@@ -137,6 +137,7 @@ impl<S: Source> WavSource<S> {
     pub(crate) fn reads_whole(&self)
         ensures { (incoming : Incoming) → ⟦<WavSource<S> as Part>⟧.carries self.now incoming → length incoming.file ≡ self.now.length }
     {
+        // The proof learns from it what always holds of the register.
         let _ = &self.register;
     }
 

@@ -1,5 +1,6 @@
 //! What a sink's file takes in one step.
 ghost use Rattle.std.specs.Prelude.{◌≡◌, ◌*◌, ◌≤◌, Bool, OnOk, IfErr};
+ghost use Rattle.outside_io.specs.Keeping.{KeepsSink};
 ghost use Rattle.std.specs.Io.KnownBytes.{append_known};
 ghost use Rattle.omx_types.specs.Formats.{IsWithinLimits, frame_bytes_of};
 ghost use Rattle.outside_io.specs.Moves.{AppendsFront};
@@ -14,8 +15,7 @@ use wav_form::head_bytes;
 fn write_piece<K: Sink>(sink: &mut K, piece: &[u8]) -> Result<(), PartFault>
     ensures whole { OnOk result (K.told sink.new ≡ append_known (K.told sink.old) piece.now) }
     ensures front { AppendsFront (K.told sink.old) (K.told sink.new) piece.now }
-    ensures name { K.name sink.new ≡ K.name sink.old }
-    ensures later { K.faults sink.old ≤ K.faults sink.new }
+    ensures keeps_sink { KeepsSink K.Sink sink.old sink.new }
     ensures cause { IfErr result (HasWriteCause (K.faults sink.old) (K.faults sink.new)) }
 {
     match write_all(sink, piece) {
@@ -34,8 +34,7 @@ fn write_head<K: Sink>(
     requires small { planned * frame_bytes_of format ≤ 134217728 }
     ensures whole { OnOk result (K.told sink.new ≡ append_known (K.told sink.old) (head_due is_headed format planned)) }
     ensures front { AppendsFront (K.told sink.old) (K.told sink.new) (head_due is_headed format planned) }
-    ensures name { K.name sink.new ≡ K.name sink.old }
-    ensures later { K.faults sink.old ≤ K.faults sink.new }
+    ensures keeps_sink { KeepsSink K.Sink sink.old sink.new }
     ensures cause { IfErr result (HasWriteCause (K.faults sink.old) (K.faults sink.new)) }
 {
     if is_headed {
@@ -56,8 +55,7 @@ fn write_pad<K: Sink>(
     requires small { planned * frame_bytes_of format ≤ 134217728 }
     ensures whole { OnOk result (K.told sink.new ≡ append_known (K.told sink.old) (pad_due is_last format planned)) }
     ensures front { AppendsFront (K.told sink.old) (K.told sink.new) (pad_due is_last format planned) }
-    ensures name { K.name sink.new ≡ K.name sink.old }
-    ensures later { K.faults sink.old ≤ K.faults sink.new }
+    ensures keeps_sink { KeepsSink K.Sink sink.old sink.new }
     ensures cause { IfErr result (HasWriteCause (K.faults sink.old) (K.faults sink.new)) }
 {
     if !is_last {
@@ -83,8 +81,7 @@ pub(crate) fn write_step<K: Sink>(
     requires small { planned * frame_bytes_of format ≤ 134217728 }
     ensures whole { OnOk result (K.told sink.new ≡ append_known (K.told sink.old) (step_text is_headed format planned piece.now is_last)) }
     ensures front { AppendsFront (K.told sink.old) (K.told sink.new) (step_text is_headed format planned piece.now is_last) }
-    ensures name { K.name sink.new ≡ K.name sink.old }
-    ensures later { K.faults sink.old ≤ K.faults sink.new }
+    ensures keeps_sink { KeepsSink K.Sink sink.old sink.new }
     ensures cause { IfErr result (HasWriteCause (K.faults sink.old) (K.faults sink.new)) }
 {
     write_head(sink, is_headed, format, planned)?;

@@ -28,12 +28,14 @@ impl BitSet {
         BitSet { word: 0 }
     }
 
+    /// Whether it has no number.
     pub fn is_empty(&self) -> bool
         ensures { IsTrue result ↔ ((i : ℕ) → has self.now i ≡ false) }
     {
         self.word == 0
     }
 
+    /// Takes a number in, whether it was there or not.
     pub fn insert(&mut self, number: usize)
         requires { number < 32 }
         ensures { (i : ℕ) → has self.new i ≡ (nat_eq i number || has self.old i) }
@@ -41,6 +43,7 @@ impl BitSet {
         self.word |= 1 << number;
     }
 
+    /// Takes a number out, whether it was there or not.
     pub fn remove(&mut self, number: usize)
         requires { number < 32 }
         ensures { (i : ℕ) → has self.new i ≡ (not (nat_eq i number) && has self.old i) }

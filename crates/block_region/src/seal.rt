@@ -22,9 +22,11 @@ impl Model for Seal {
 unsafe impl Send for Seal {}
 
 impl Seal {
+    /// The seal of a region: it keeps the key alone, and borrows nothing.
     pub fn of(region: &Region) -> Seal
         ensures { result.key ≡ region.now.key }
     {
+        // Only the proof uses the region, for its key.
         let _ = region;
         Seal {}
     }

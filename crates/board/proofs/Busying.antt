@@ -6,8 +6,8 @@ use Rattle.il_machine.specs.Run.{Step}
 use Rattle.note_queues.specs.declared.taken.Took.{Took}
 use Rattle.note_queues.specs.declared.taken.Took.TheVariants as tooks
 use Rattle.il_graph.specs.Stood.{tookly}
-use Rattle.run_laws.specs.Objects.{IsObjectOut}
-use Rattle.run_laws.proofs.Objects.{out_busy}
+use Rattle.history_laws.specs.Objects.{IsObjectOut}
+use Rattle.history_laws.proofs.Objects.{out_busy}
 use Rattle.turnstile.specs.declared.entry.Entry.{Entry}
 use Rattle.turnstile.specs.Entries.{own}
 use Rattle.held_things.specs.Held.{Has}

@@ -14,7 +14,7 @@ use Rattle.machine_laws.proofs.Every.{at_place, from_places}
 use Rattle.history_laws.specs.Works.{has_work_out}
 use Rattle.history_laws.proofs.HeldOut.{placed_in}
 use Rattle.history_laws.proofs.Named.{is_named, named, named_there}
-use Rattle.run_laws.proofs.Naming.{named_place, own_named}
+use Rattle.history_laws.proofs.Naming.{named_place, own_named}
 use Rattle.il_component.specs.Entries.{Entry as Kept, component_of}
 use Rattle.graph_core.specs.Entries.{Entries, client_named, components_of, entry_named, entry_place, look_of}
 use Rattle.graph_core.proofs.Replacing.{entry_place_is}

@@ -21,7 +21,7 @@ use Rattle.held_things.specs.Held.{Has}
 use Rattle.held_things.proofs.Keeping.{at_some, split_held, others_keep, stay_held}
 use Rattle.history_laws.specs.Works.{has_work_out}
 use Rattle.il_graph.proofs.Returning.{are_terms_at, terms_at}
-use Rattle.run_laws.specs.Objects.{IsObjectOut}
+use Rattle.history_laws.specs.Objects.{IsObjectOut}
 use Rattle.graph_acts.specs.declared.act.Act.{Act}
 use Rattle.graph_acts.specs.declared.act.Act.TheVariants as asks
 use Rattle.graph_acts.specs.declared.act.Reply.{Reply}

@@ -9,8 +9,8 @@ use Rattle.machine_laws.proofs.Standing.{sound_census}
 use Rattle.history_laws.proofs.TrailLaw.{trails_of_runs}
 use Rattle.history_laws.proofs.ClosedLaw.{runs_closed}
 use Rattle.history_laws.proofs.RunLaw.{all_were_due}
-use Rattle.run_laws.proofs.Joining.{run_joined, run_snoc, run_moves}
-use Rattle.run_laws.proofs.Delivering.{run_front}
+use Rattle.history_laws.proofs.Joining.{run_joined, run_snoc, run_moves}
+use Rattle.history_laws.proofs.Delivering.{run_front}
 use Rattle.state_words.specs.Shown.{States}
 use Rattle.board.specs.Watching.{Shown, start, next}
 use Rattle.board.specs.Together.{AreOneRun}

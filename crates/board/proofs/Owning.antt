@@ -5,7 +5,7 @@ use Rattle.omx_types.specs.declared.handle.Handle.{Handle}
 use Rattle.header_core.specs.BufferHeader.{BufferHeader}
 use Rattle.turnstile.specs.declared.entry.Entry.{Entry}
 use Rattle.held_things.specs.Held.{Has, Tells, IsOwn}
-use Rattle.run_laws.proofs.Naming.{handle_is, handle_itself}
+use Rattle.history_laws.proofs.Naming.{handle_is, handle_itself}
 use Rattle.graph_acts.specs.declared.act.Act.{Act}
 use Rattle.graph_acts.specs.declared.act.Act.TheVariants as asks
 use Rattle.graph_acts.specs.declared.act.Reply.{Reply}

@@ -1,5 +1,6 @@
 -- The handles and the states of the components of a graph, one after another.
 use Rattle.std.proofs.Common.{◌≡◌, ℕ, zero, suc, ◌+◌, ◌∙◌, sym, ap, subst, refl, ◌≤◌, List, [], ◌∷◌, ◌++◌, length, length-append, map, take, slice_get, Option, Some, None, option_map, Ok, Err, arith}
+use Rattle.std.proofs.lemmas.List.{take_all}
 use Rattle.omx_types.specs.declared.handle.Handle.{Handle}
 use Rattle.omx_types.specs.declared.state.State.{State}
 use Rattle.omx_types.specs.declared.error.OmxError.{OmxError}
@@ -8,7 +9,7 @@ use Rattle.il_machine.specs.Look.{look}
 use Rattle.il_machine.specs.Answers.{looked}
 use Rattle.il_machine.specs.Components.{handle_at, state_answer}
 use Rattle.il_machine.specs.Sound.{Sound}
-use Rattle.run_laws.proofs.Naming.{own_named}
+use Rattle.history_laws.proofs.Naming.{own_named}
 use Rattle.state_words.specs.Shown.{States}
 use Rattle.board.specs.Watching.{seat_of, AreFirstSeats, AreSeats, HasMore}
 
@@ -108,19 +109,9 @@ counts_next i (Some s) handles states handles' states' le same M =
 
 -- ---- no more
 
-take_all : {X : Type 0} (xs : List X) (i : ℕ) → slice_get xs i ≡ None → take i xs ≡ xs
-take_all [] zero e = refl
-take_all [] (suc i) e = refl
-take_all (y ∷ ys) zero e = absurd cc
-take_all (y ∷ ys) (suc i) e = ap (λ l. y ∷ l) (take_all ys i e)
-
-no_handle : (o : Option Component) → None ≡ option_map (λ c. c.handle) o → o ≡ None
-no_handle None e = refl
-no_handle (Some c) e = absurd cc
-
-pub seats_all : (w : World) (i : ℕ) (handles : List Handle) (states : States) → AreFirstSeats i handles states w → None ≡ handle_at i (look w) → AreSeats handles states w
-seats_all w i handles states A e =
-    let t = take_all w.components i (no_handle (slice_get w.components i) e) in record {
+pub seats_all : (w : World) (i : ℕ) (handles : List Handle) (states : States) → AreFirstSeats i handles states w → length w.components ≤ i → AreSeats handles states w
+seats_all w i handles states A few =
+    let t = take_all i w.components few in record {
       handles = A.handles ∙ ap (map (λ (c : Component). c.handle)) t;
       states = A.states ∙ ap (map (λ (c : Component). c.state)) t;
     }

@@ -17,7 +17,7 @@ use Rattle.state_words.specs.Tokens.{IsShowerOf, IsReaderOf, known, known_by}
 use Rattle.state_words.specs.declared.words.StateWords.{StateWords}
 use Rattle.held_things.specs.Held.{Has, AreHeld}
 use Rattle.history_laws.specs.Works.{has_work_out}
-use Rattle.run_laws.specs.Objects.{IsObjectOut}
+use Rattle.history_laws.specs.Objects.{IsObjectOut}
 use Rattle.graph_acts.specs.declared.act.Act.{Act}
 use Rattle.graph_acts.specs.declared.act.Reply.{Reply}
 use Rattle.graph_acts.specs.Plain.{Sight}

@@ -11,7 +11,7 @@ use Rattle.il_machine.specs.Trails.{Move, RunMoves, HaveTrails}
 use Rattle.il_machine.specs.Queued.{completions_in, notes_of, queued_for}
 use Rattle.history_laws.specs.Given.{is_freed_by}
 use Rattle.history_laws.specs.Runs.{WasDueIn}
-use Rattle.run_laws.specs.GivenIn.{given_in}
+use Rattle.history_laws.specs.GivenIn.{given_in}
 
 -- The two are one run, with its census, its trails and its deliveries, and nothing is due at its end.
 pub record AreOneRun (key units : ℕ) (xs ys : List (Act × Reply)) : Type 0 where

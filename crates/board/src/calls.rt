@@ -40,14 +40,14 @@ impl<S: Source, K: Sink, C: Client> Board<S, K, C> {
         act: Act<S, K, C>,
     ) -> Result<(u64, Reply<S, K, C>), Act<S, K, C>>
         requires pass { IsOf self.now pass.old }
-        requires may { May (sight_of C.progress S.offset S.size S.told K.told) C.HEADERS (own_calls pass.old) act }
+        requires may { May (sight_of C.Client S.Source K.Sink) C.HEADERS (own_calls pass.old) act }
         ensures pass { IsOf self.now pass.new × IsSamePass (pass_view pass.old) (pass_view pass.new) }
-        ensures ok { IfOk result (λ r. IsCalled (sight_of C.progress S.offset S.size S.told K.told) C.HEADERS (first_of self.now) (pass_view pass.old) act r.0 r.1 (pass_view pass.new)) }
+        ensures ok { IfOk result (λ r. IsCalled (sight_of C.Client S.Source K.Sink) C.HEADERS (first_of self.now) (pass_view pass.old) act r.0 r.1 (pass_view pass.new)) }
         ensures reply { IfOk result (λ r. IsReplyTo act r.1) }
         ensures headers { IfOk result (λ r. headers pass.new ≡ headers_after act r.1 (headers pass.old)) }
         ensures clients { IfOk result (λ r. clients C.progress pass.new ≡ clients_after C.progress act r.1 (clients C.progress pass.old)) }
         ensures works { IfOk result (λ r. works pass.new ≡ works_after act r.1 (works pass.old)) }
-        ensures shown { OnOk result (HasSeen (sight_of C.progress S.offset S.size S.told K.told) self.now pass.new) }
+        ensures shown { OnOk result (HasSeen (sight_of C.Client S.Source K.Sink) self.now pass.new) }
         ensures known { Within (seen_states pass.old) (seen_states pass.new) }
         ensures err { IfErr result (λ back. (back ≡ act) × ((pass_view pass.new).seen ≡ (pass_view pass.old).seen) × (own_calls pass.new ≡ own_calls pass.old) × IsPastPlaces (pass_view pass.new).ticket) }
     {

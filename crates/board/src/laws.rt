@@ -21,6 +21,6 @@ use outside_io::{Sink, Source};
 /// one run of the machine with them.
 pub fn law_of_histories<S: Source, K: Sink, C: Client>()
     ensures { (key units : ℕ) (xs : List (MachineAct × MachineReply)) (w : World) (first : Watched S K C) (log : List (Entry (Asked S K C) (Told S K C)))
-        → Run (no_world key units) xs w → Stands (kept C.progress (graph_of first)) w → Legal (sight_of C.progress S.offset S.size S.told K.told) first log
-        → (ys : List (MachineAct × MachineReply)) × ArePlain (sight_of C.progress S.offset S.size S.told K.told) (bare_log log) ys × AreOneRun key units xs ys }
+        → Run (no_world key units) xs w → Stands (kept C.progress (graph_of first)) w → Legal (sight_of C.Client S.Source K.Sink) first log
+        → (ys : List (MachineAct × MachineReply)) × ArePlain (sight_of C.Client S.Source K.Sink) (bare_log log) ys × AreOneRun key units xs ys }
 {}

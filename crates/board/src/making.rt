@@ -64,6 +64,7 @@ fn seats<S: Source, K: Sink, C: Client>(
     ensures counts { IfOk result (λ r. (length r.0.items ≤ 32) × (length r.1.items ≡ length r.0.items)) }
     ensures seats { IfOk result (λ r. Always (kept C.progress graph.now) (AreSeats r.0.items r.1.items)) }
 {
+    graph.law_of_worlds();
     let mut handles = Vec::new(alloc);
     let mut states = Vec::new(alloc);
     for place in 0..32u32 {
@@ -72,11 +73,7 @@ fn seats<S: Source, K: Sink, C: Client>(
             Err(e) => return Err(e),
         }
     }
-    // A graph has no more than 32, which no clause of it says.
-    match graph.handle_at(32) {
-        None => Ok((handles, states)),
-        Some(_) => Err(AllocError),
-    }
+    Ok((handles, states))
 }
 
 // The seats of the graph, with the words that show them.

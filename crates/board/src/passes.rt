@@ -50,10 +50,10 @@ impl<S: Source, K: Sink, C: Client> Board<S, K, C> {
     /// The root has then seen one history with all that both had seen, and every state that either had seen.
     pub fn meet(&self, root: &mut BoardPass<S, K, C>, pass: BoardPass<S, K, C>)
         requires root { IsOf self.now root.old × ((pass_view root.old).number ≡ 0) }
-        requires pass { IsOf self.now pass × Clear (sight_of C.progress S.offset S.size S.told K.told) (own_calls pass) }
+        requires pass { IsOf self.now pass × Clear (sight_of C.Client S.Source K.Sink) (own_calls pass) }
         ensures root { IsOf self.now root.new × ((pass_view root.new).number ≡ 0) × ((pass_view root.new).splits ≡ (pass_view root.old).splits) × ((pass_view root.new).mine ≡ (pass_view root.old).mine) }
         ensures listed { (pass_view root.new).joined ≡ (pass_view root.old).joined ++ ((pass_view pass).number, (pass_view pass).mine) ∷ [] }
-        ensures history { Joined (Legal (sight_of C.progress S.offset S.size S.told K.told)) (MayAsk (sight_of C.progress S.offset S.size S.told K.told) C.HEADERS) (first_of self.now) (pass_view root.old) (pass_view pass) (pass_view root.new) }
+        ensures history { Joined (Legal (sight_of C.Client S.Source K.Sink)) (MayAsk (sight_of C.Client S.Source K.Sink) C.HEADERS) (first_of self.now) (pass_view root.old) (pass_view pass) (pass_view root.new) }
         ensures known { Within (seen_states root.old) (seen_states root.new) × Within (seen_states pass) (seen_states root.new) }
     {
         let BoardPass { turn, reader } = pass;
@@ -64,9 +64,9 @@ impl<S: Source, K: Sink, C: Client> Board<S, K, C> {
     /// The graph, once each other pass was met. Where nothing was out of it at first, nothing is now; and where then no component has a
     /// file, the graph can be closed.
     pub fn close(self, root: BoardPass<S, K, C>) -> Graph<S, K, C>
-        requires root { IsOf self root × ((pass_view root).number ≡ 0) × Clear (sight_of C.progress S.offset S.size S.told K.told) (own_calls root) }
+        requires root { IsOf self root × ((pass_view root).number ≡ 0) × Clear (sight_of C.Client S.Source K.Sink) (own_calls root) }
         requires joined { length (pass_view root).joined ≡ (pass_view root).splits }
-        ensures closed { Closed (sight_of C.progress S.offset S.size S.told K.told) C.HEADERS (first_of self) (pass_view root) result }
+        ensures closed { Closed (sight_of C.Client S.Source K.Sink) C.HEADERS (first_of self) (pass_view root) result }
         ensures whole { IsWhole (first_graph self) → IsWhole result }
         ensures all_in { IsWhole (first_graph self) → HasNoFiles result → IsAllIn (look_of result) }
     {

@@ -15,15 +15,15 @@ impl<S: Source, K: Sink, C: Client> Serve for Watched<S, K, C> {
 
     type Reply = Told<S, K, C>;
 
-    ghost legal = { Legal (sight_of C.progress S.offset S.size S.told K.told) };
+    ghost legal = { Legal (sight_of C.Client S.Source K.Sink) };
 
-    ghost stands = { StandsAfter (sight_of C.progress S.offset S.size S.told K.told) };
+    ghost stands = { StandsAfter (sight_of C.Client S.Source K.Sink) };
 
-    ghost may = { MayAsk (sight_of C.progress S.offset S.size S.told K.told) C.HEADERS };
+    ghost may = { MayAsk (sight_of C.Client S.Source K.Sink) C.HEADERS };
 
-    ghost clear = { IsClear (sight_of C.progress S.offset S.size S.told K.told) };
+    ghost clear = { IsClear (sight_of C.Client S.Source K.Sink) };
 
-    ghost can_serve = { CanServe (sight_of C.progress S.offset S.size S.told K.told) };
+    ghost can_serve = { CanServe (sight_of C.Client S.Source K.Sink) };
 
     fn serve(&mut self, asked: Asked<S, K, C>, place: u64) -> Told<S, K, C> {
         let Asked { act, mut reader } = asked;
@@ -35,5 +35,5 @@ impl<S: Source, K: Sink, C: Client> Serve for Watched<S, K, C> {
         Told { reply, reader }
     }
 
-    ghost serves = { λ first value log pass act place due. can (sight_of C.progress S.offset S.size S.told K.told) C.HEADERS first value log pass act place due };
+    ghost serves = { λ first value log pass act place due. can (sight_of C.Client S.Source K.Sink) C.HEADERS first value log pass act place due };
 }

@@ -50,7 +50,7 @@ fn end<S: Source, K: Sink, C: Client, R: Wait>(
     requires pass { IsOf board.now pass.old }
     requires holds { clients C.progress pass.old ≡ out_client h (C.progress client) ∷ [] }
     ensures pass { IsOf board.now pass.new × IsSamePass (pass_view pass.old) (pass_view pass.new) }
-    ensures call { IsCalled (sight_of C.progress S.offset S.size S.told K.told) C.HEADERS (first_of board.now) (pass_view pass.old) (asks.EndNote h client) result replies.EndNote (pass_view pass.new) }
+    ensures call { IsCalled (sight_of C.Client S.Source K.Sink) C.HEADERS (first_of board.now) (pass_view pass.old) (asks.EndNote h client) result replies.EndNote (pass_view pass.new) }
     ensures clients { clients C.progress pass.new ≡ [] }
     ensures headers { headers pass.new ≡ headers pass.old }
     ensures works { works pass.new ≡ works pass.old }

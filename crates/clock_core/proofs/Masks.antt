@@ -1,5 +1,5 @@
 -- A mask of eight ports.
-use Rattle.std.proofs.Common.{◌≡◌, ℕ, ◌<◌, ◌≤◌, ◌^◌, inl, inr, ap, arith}
+use Rattle.std.proofs.Common.{◌≡◌, ℕ, ◌<◌, ◌≤◌, inl, inr, ap}
 use Rattle.std.specs.Prelude.{IsTrue, ◌==◌, false}
 use Rattle.std.specs.Int.{bit_at}
 use Rattle.std.proofs.lemmas.Bool.{cases_lt}
@@ -17,11 +17,4 @@ pub port-below : (ports port : ℕ) → ports < 256 → IsTrue (bit_at ports por
 port-below ports port small waits = elim (cases_lt port 8) [
   | inl below ↦ below
   | inr above ↦ absurd (different (rw (no_port-above ports port small above) at waits))
-]
-
--- its bit is not above the mask
-pub bit-le : (ports port : ℕ) → IsTrue (bit_at ports port == 1) → 2 ^ port ≤ ports
-bit-le ports port waits = elim (cases_lt ports (2 ^ port)) [
-  | inl less ↦ absurd (different (rw (ap (λ (bit : ℕ). bit == 1) (bit_at_above ports port port less (omega arith))) at waits))
-  | inr not_above ↦ not_above
 ]

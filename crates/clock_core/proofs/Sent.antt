@@ -23,9 +23,6 @@ pub record Sent (old now : Option (List ℕ)) (rest text : List ℕ) : Type 0 wh
   pub is : now ≡ append_known old done
   pub parted : done ++ rest ≡ text
 
-pub Sent-none : (old : Option (List ℕ)) (text : List ℕ) → Sent old old text text
-Sent-none old text = record { done = []; is = sym (append_known-nil old); parted = refl }
-
 -- one more piece
 pub Sent-more : (old now next : Option (List ℕ)) (piece rest text : List ℕ) → Sent old now (piece ++ rest) text → next ≡ append_known now piece → Sent old next rest text
 Sent-more old now next piece rest text sent more = record {
@@ -33,11 +30,6 @@ Sent-more old now next piece rest text sent more = record {
   is = more ∙ (ap (λ (known : Option (List ℕ)). append_known known piece) sent.is ∙ append_known-twice old sent.done piece);
   parted = append_assoc sent.done piece rest ∙ sent.parted;
 }
-
--- the last piece
-pub Sent-all : (old now next : Option (List ℕ)) (piece text : List ℕ) → Sent old now piece text → next ≡ append_known now piece → next ≡ append_known old text
-Sent-all old now next piece text sent more =
-    more ∙ (ap (λ (known : Option (List ℕ)). append_known known piece) sent.is ∙ (append_known-twice old sent.done piece ∙ ap (append_known old) sent.parted))
 
 -- a front of what is due
 pub Sent-front : (old now next : Option (List ℕ)) (rest text : List ℕ) → Sent old now rest text → AppendsFront now next rest → AppendsFront old next text

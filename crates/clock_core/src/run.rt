@@ -1,6 +1,7 @@
 //! A run of a clock's script: it is read as a whole, then each call is made and its answer and notes written.
 
 ghost use Rattle.std.specs.Prelude.{◌≡◌, ◌≢◌, ◌∷◌, ◌<◌, ◌≤◌, ◌+◌, ℕ, List, length, IsUtf8, OnOk, IfOk, IfErr, IfSome, Err};
+ghost use Rattle.outside_io.specs.Keeping.{KeepsSink};
 ghost use Rattle.std.specs.Io.KnownBytes.{append_known};
 ghost use Rattle.line_text.specs.Lines.{lines_of};
 ghost use Rattle.line_text.specs.Words.{words_of};
@@ -30,9 +31,8 @@ pub fn run_clock<O: Sink>(bytes: &[u8], out: &mut O) -> Result<(), Fault>
     ensures script { OnOk result (IsScript bytes.now) }
     ensures stopped { IfErr result (IsStopped bytes.now (O.told out.old) (O.told out.new) (O.faults out.old) (O.faults out.new)) }
     ensures faulty { (line : ℕ) (why : Why) → IsFaulty bytes.now line why → result ≡ Err (faults.Script line why) }
-    ensures later { O.faults out.old ≤ O.faults out.new }
     ensures stands { result ≢ Err faults.WriteFault → O.faults out.new ≡ O.faults out.old }
-    ensures name { O.name out.new ≡ O.name out.old }
+    ensures keeps_sink { KeepsSink O.Sink out.old out.new }
 {
     match lines_in(bytes) {
         Ok(lines) => run_lines(lines, out),
@@ -115,9 +115,8 @@ fn run_lines<O: Sink>(text: &[u8], out: &mut O) -> Result<(), Fault>
     requires { length text.now < 65536 }
     ensures whole { OnOk result (O.told out.new ≡ append_known (O.told out.old) (printed 1 opening (calls_in (lines_of text.now)))) }
     ensures failed { IfErr result (IsWriteFault (O.faults out.old) (O.faults out.new) (O.told out.old) (O.told out.new) (printed 1 opening (calls_in (lines_of text.now)))) }
-    ensures later { O.faults out.old ≤ O.faults out.new }
     ensures stands { OnOk result (O.faults out.new ≡ O.faults out.old) }
-    ensures name { O.name out.new ≡ O.name out.old }
+    ensures keeps_sink { KeepsSink O.Sink out.old out.new }
 {
     let mut clock = Clock::new();
     let mut number: u64 = 1;
@@ -138,9 +137,8 @@ fn run_line<O: Sink>(clock: &mut Clock, number: u64, line: &[u8], out: &mut O) -
     ensures ran { IfOk result (λ next. IsRun number clock.old line.now next clock.new (O.told out.old) (O.told out.new)) }
     ensures close { IfOk result (λ next. next ≤ number + 1) }
     ensures failed { IfErr result (λ fault. (lines : List (List ℕ)) → IsWriteFault (O.faults out.old) (O.faults out.new) (O.told out.old) (O.told out.new) (printed number clock.old (calls_in (line.now ∷ lines))) fault) }
-    ensures later { O.faults out.old ≤ O.faults out.new }
     ensures stands { OnOk result (O.faults out.new ≡ O.faults out.old) }
-    ensures name { O.name out.new ≡ O.name out.old }
+    ensures keeps_sink { KeepsSink O.Sink out.old out.new }
 {
     match asked_by(line) {
         Some(call) => {
@@ -177,9 +175,8 @@ fn run_call<O: Sink>(
     ensures clock { clock.new ≡ after_call clock.old call.wall call.act }
     ensures whole { OnOk result (O.told out.new ≡ append_known (O.told out.old) (call_text number clock.old (call_words call) call)) }
     ensures failed { IfErr result (IsWriteFault (O.faults out.old) (O.faults out.new) (O.told out.old) (O.told out.new) (call_text number clock.old (call_words call) call)) }
-    ensures later { O.faults out.old ≤ O.faults out.new }
     ensures stands { OnOk result (O.faults out.new ≡ O.faults out.old) }
-    ensures name { O.name out.new ≡ O.name out.old }
+    ensures keeps_sink { KeepsSink O.Sink out.old out.new }
 {
     let text = text_of(clock, number, call);
     write(out, text.as_slice())
@@ -216,9 +213,8 @@ fn noted(notes: &[Fulfilled; 64], answer: Result<u32, ClockRefusal>) -> &[Fulfil
 fn write<O: Sink>(out: &mut O, text: &[u8]) -> Result<(), Fault>
     ensures whole { OnOk result (O.told out.new ≡ append_known (O.told out.old) text.now) }
     ensures failed { IfErr result (IsWriteFault (O.faults out.old) (O.faults out.new) (O.told out.old) (O.told out.new) text.now) }
-    ensures later { O.faults out.old ≤ O.faults out.new }
     ensures stands { OnOk result (O.faults out.new ≡ O.faults out.old) }
-    ensures name { O.name out.new ≡ O.name out.old }
+    ensures keeps_sink { KeepsSink O.Sink out.old out.new }
 {
     match write_all(out, text) {
         Ok(()) => Ok(()),

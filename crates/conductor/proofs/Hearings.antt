@@ -71,10 +71,3 @@ pub over_more : (sinks : List Bool) (told : List Progress) (k : ℕ) (ds : Bool)
     → (not (get_or sinks k ds) || (get_or told k dp).eos) ≡ true → sinks_over (drop (k + 1) sinks) (drop (k + 1) told) ≡ sinks_over (drop k sinks) (drop k told)
 over_more sinks told k ds dp inside many over =
     rw add-one (over_suc sinks told k (get_or sinks k ds) (get_or told k dp) (there_at sinks k ds inside) (there_at told k dp (omega arith)) over)
-
--- for who calls again: views leave as many components
-pub length-heard_views : (told : List Progress) (views : List (Option Progress)) → length views ≡ length told → length (heard_views told views) ≡ length told
-length-heard_views [] [] many = refl
-length-heard_views [] (view ∷ views) many = refl
-length-heard_views (old ∷ told) [] many = many
-length-heard_views (old ∷ told) (view ∷ views) many = ap suc (length-heard_views told views (omega arith))

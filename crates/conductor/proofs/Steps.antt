@@ -63,16 +63,7 @@ untouched (suc steps) false e f = both (nat_lt 0 (suc steps)) (below_suc steps) 
 pub ready_untouched : (late : LateLink) → is_half late ≡ false → is_changed late ≡ false → late.steps ≡ 0
 ready_untouched late half changed = untouched late.steps (is_changed late) changed half
 
-pub half_positive : (late : LateLink) → is_half late ≡ true → 0 < late.steps
-half_positive late half = let h = and_both (nat_lt 0 late.steps) (not (is_changed late)) half in positive late.steps h.0
-
 -- ---- the step that is due
-
-pub step_at : (told : List Progress) (lates : List LateLink) (number : ℕ) (late : LateLink) (step : ChangeStep) → slice_get lates number ≡ Some late
-    → is_half late ≡ true → NoneBefore is_half lates number → IsNextStep late step → IsStep told lates number late step
-step_at told lates number late Disable there half none next = absurd next
-step_at told lates number late Retune there half none next = (half, none, next.0, next.1)
-step_at told lates number late Enable there half none next = (half, none, next)
 
 -- where one is half done, a step that is due is its next one
 pub next_step_of : (told : List Progress) (lates : List LateLink) (number other : ℕ) (late link : LateLink) (step : ChangeStep) → slice_get lates number ≡ Some late

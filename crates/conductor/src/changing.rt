@@ -123,6 +123,7 @@ pub fn step_due(told: &[Progress], lates: &[LateLink]) -> Option<Due>
     }
 }
 
+/// The late link, one step further in its change.
 pub fn one_step_more(late: LateLink) -> LateLink
     requires { late.steps < 3 }
     ensures { result ≡ one_step_more late }

@@ -5,16 +5,16 @@ use std::alloc::AllocError;
 
 mod casting;
 mod changing;
-mod client;
 mod conductor;
 mod hearing;
 mod laws;
 mod phase;
 mod sending;
 
-pub use client::PlayClient;
 pub use conductor::Conductor;
 pub use laws::law_of_phases;
+/// The client object of a component of a play: it may be given no headers.
+pub use note_queues::ProgressClient as PlayClient;
 pub use phase::{ChangeStep, LateLink, Phase};
 
 pub type OutOfMemory = AllocError;

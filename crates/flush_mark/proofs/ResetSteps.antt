@@ -1,9 +1,8 @@
 -- The reset of a port's headers, one header after the other.
-use Rattle.std.proofs.Common.{◌≡◌, ℕ, Bool, true, false, nat_eq, List, [], ◌∷◌, drop, slice_get, Option, Some, None, option_map, MatchOption, refl, sym, ◌∙◌, ap, subst, arith}
+use Rattle.std.proofs.Common.{◌≡◌, ℕ, Bool, true, nat_eq, List, [], ◌∷◌, drop, slice_get, Option, Some, None, option_map, refl, sym, ◌∙◌, ap, subst, arith}
 use Rattle.std.proofs.lemmas.Bool.Decides.{nat_tests}
 use Rattle.il_machine.specs.declared.port.PortKey.{PortKey}
 use Rattle.il_machine.specs.declared.header.HeaderState.{HeaderState}
-use Rattle.il_machine.specs.declared.header.Queue.TheVariants.{Out}
 use Rattle.il_machine.specs.declared.header.Spot.TheVariants.{TodoBack, DoneBack}
 use Rattle.il_machine.specs.World.{HeaderRecord, Load}
 use Rattle.il_machine.specs.Lists.{holds_at}
@@ -13,9 +12,7 @@ use Rattle.stock_laws.specs.Changes.{todo_cleared, done_cleared}
 use Rattle.stock_laws.proofs.Composed.{pull_put_cleared, send_put_cleared}
 use Rattle.stock_laws.proofs.Clearing.{clear_todo_stands, clear_done_stands}
 use Rattle.machine_laws.proofs.Keys.{key_same}
-use Rattle.header_core.specs.BufferHeader.{BufferHeader}
 use Rattle.header_core.specs.BufferHeader as headers
-use Rattle.port_stock.specs.Conditions.{IsOutside, IsHeaderOf}
 use Rattle.flush_mark.specs.Leading.{Leads}
 
 -- ---- a change of the flat list that is made in part: of each list that was stood for, the rest of the change leads to its end
@@ -137,10 +134,3 @@ made_out n key o test f k t = let q : nat_eq n n ≡ true = grind (arith, nat_te
   | None ↦ λ k t. absurd cc
   | Some h ↦ λ k t. k h refl t
 ] k t)
-
-outside_match : (o : Option HeaderState) (header : BufferHeader) → MatchOption o ⊥ (λ h. (h.queue ≡ Out) × IsHeaderOf h header) → MatchOption o ⊥ (λ h. (h.queue ≡ Out) × IsHeaderOf h (headers.cleared header))
-outside_match None header x = x
-outside_match (Some h) header x = (x.0, record { size = (x.1).size; memory = (x.1).memory })
-
-pub outside_cleared : (s : Stocked) (header : BufferHeader) → IsOutside header s → IsOutside (headers.cleared header) s
-outside_cleared s header x = (x.0, outside_match (s.headers.header header.held.number) header x.1)

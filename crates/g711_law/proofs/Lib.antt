@@ -6,5 +6,3 @@ pub mod AlawLaws
 pub mod MulawLaws
 pub mod CurveLanes
 pub mod SignedLanes
-pub mod Maps
-pub mod Pieces

@@ -1,4 +1,4 @@
--- What the two laws share: a law is the rising list of its 127 thresholds. A sample is a signed number, a code a number below 256.
+-- What the two compandings share: one is the rising list of its 127 thresholds. A sample is a signed number, a code a number below 256.
 use Rattle.std.specs.Prelude.{ℕ, List, ℤ, pos, neg_ℤ, ◌-ℤ◌, ◌≤◌, nat_le, Bool, if◌then◌else◌, unsigned_abs}
 use Rattle.std.specs.List.{count_by}
 

@@ -9,7 +9,7 @@ ghost use Rattle.g711_law.specs.Alaw.{alaw_magnitude, alaw_step, alaw_code, alaw
 
 use crate::curve::{compressed, compressed_lanes, expanded_lanes};
 use crate::lanes::by_sign;
-use crate::slices::{Law, decode_all, encode_all};
+use crate::slices::{Compander, decode_all, encode_all};
 use std::simd::prelude::*;
 
 /// The magnitude by which A-law finds a sample's step: one less than the sample's own where it is
@@ -79,7 +79,7 @@ fn alaw_middles(inverted: u16x16) -> i16x16
 
 pub(crate) struct ALaw;
 
-impl Law for ALaw {
+impl Compander for ALaw {
     ghost code = { alaw_code };
 
     ghost value = { alaw_value };

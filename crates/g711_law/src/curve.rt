@@ -1,4 +1,4 @@
-//! The curve of straight lines that both laws' steps lie on.
+//! The curve of straight lines that both compandings' steps lie on.
 
 ghost use Rattle.std.specs.Prelude.{◌≡◌, ◌<◌, length, map};
 ghost use Rattle.std.specs.Simd.Lanes.{Each1};

@@ -1,4 +1,4 @@
-//! What both laws do with vectors of sixteen lanes.
+//! What both compandings do with vectors of sixteen lanes.
 
 ghost use Rattle.std.specs.Prelude.{◌≡◌, ◌-◌, ◌<◌, min, max, length, map, FitsSigned, if◌then◌else◌};
 ghost use Rattle.std.specs.Int.{is_negative};

@@ -9,7 +9,7 @@ ghost use Rattle.g711_law.specs.Mulaw.{mulaw_magnitude, mulaw_step, mulaw_code, 
 use crate::alaw::alaw_magnitudes;
 use crate::curve::{compressed, compressed_lanes, expanded_lanes};
 use crate::lanes::{by_sign, lesser};
-use crate::slices::{Law, decode_all, encode_all};
+use crate::slices::{Compander, decode_all, encode_all};
 use std::simd::prelude::*;
 
 /// The mu-law code of a sample of 16 bits (ITU-T G.711).
@@ -70,7 +70,7 @@ fn mulaw_middles(inverted: u16x16) -> i16x16
 
 pub(crate) struct MuLaw;
 
-impl Law for MuLaw {
+impl Compander for MuLaw {
     ghost code = { mulaw_code };
 
     ghost value = { mulaw_value };

@@ -1,4 +1,4 @@
-//! Slices are coded by a law: sixteen lanes at a time, and the rest a sample at a time.
+//! Slices are coded by a companding: sixteen lanes at a time, and the rest a sample at a time.
 
 ghost use Rattle.std.specs.Prelude.{◌≡◌, ◌<◌, ℕ, ℤ, pos, length, map, FitsSigned, slice_index_or};
 ghost use Rattle.std.specs.Simd.Lanes.{Each1};
@@ -10,8 +10,8 @@ use std::simd::prelude::*;
 /// The lanes of a vector.
 const LANES: usize = 16;
 
-/// A law by which a sample is coded, one at a time or sixteen.
-pub(crate) trait Law {
+/// A companding, by which a sample is coded, one at a time or sixteen.
+pub(crate) trait Compander {
     ghost code: { ℤ → ℕ };
 
     ghost value: { ℕ → ℤ };
@@ -45,7 +45,7 @@ fn each_fits(samples: &[i16])
     }
 }
 
-pub(crate) fn encode_all<L: Law>(from: &[i16], to: &mut [u8])
+pub(crate) fn encode_all<L: Compander>(from: &[i16], to: &mut [u8])
     requires { length from.now ≡ length to.old }
     ensures { to.new ≡ map L.code from.now }
 {
@@ -61,7 +61,7 @@ pub(crate) fn encode_all<L: Law>(from: &[i16], to: &mut [u8])
     }
 }
 
-pub(crate) fn decode_all<L: Law>(from: &[u8], to: &mut [i16])
+pub(crate) fn decode_all<L: Compander>(from: &[u8], to: &mut [i16])
     requires { length from.now ≡ length to.old }
     ensures { to.new ≡ map L.value from.now }
 {

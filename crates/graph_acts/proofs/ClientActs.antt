@@ -36,7 +36,7 @@ use Rattle.machine_laws.proofs.Finding.{either}
 use Rattle.machine_laws.proofs.Keys.{there_is, is_there}
 use Rattle.graph_acts.specs.Holding.{header_in, took_header, took_client, IsGone}
 use Rattle.graph_acts.specs.Moving.{MovesHeaders, MovesClients}
-use Rattle.run_laws.proofs.Naming.{handle_is, handle_itself, named_below, named_one}
+use Rattle.history_laws.proofs.Naming.{handle_is, handle_itself, named_below, named_one}
 use Rattle.graph_acts.proofs.Worlds.{out_there}
 use Rattle.graph_acts.proofs.Acts.{headers_stay, clients_stay}
 use Rattle.graph_acts.proofs.HeaderActs.{same_headers, headers_given}

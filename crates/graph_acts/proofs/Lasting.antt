@@ -14,7 +14,7 @@ use Rattle.history_laws.proofs.Freed.{none_comes, none_left}
 use Rattle.history_laws.proofs.HeldOut.{steps_held, steps_unchanged}
 use Rattle.history_laws.proofs.KeyLaw.{steps_key}
 use Rattle.history_laws.proofs.Named.{is_named, named_number}
-use Rattle.run_laws.proofs.Seats.{handle_stays}
+use Rattle.history_laws.proofs.Seats.{handle_stays}
 use Rattle.il_graph.proofs.Calling.{and_some}
 use Rattle.il_graph.proofs.Returning.{still_known}
 use Rattle.graph_acts.specs.Working.{IsWorkIn, MovesWorks, OutWork, work_by, work_number}

@@ -19,7 +19,7 @@ use Rattle.graph_core.specs.Clients.{IsOut, WasTold}
 use Rattle.machine_laws.proofs.Keys.{there_is, is_there}
 use Rattle.history_laws.specs.Given.{LeavesNotes}
 use Rattle.history_laws.proofs.GivenNotes.{progress_stays}
-use Rattle.run_laws.specs.Objects.{IsObjectOut}
+use Rattle.history_laws.specs.Objects.{IsObjectOut}
 
 pub match_map : {X : Type 0} (o : Option X) (P Q : X → Type 0) → ((x : X) → P x → Q x) → MatchOption o ⊥ P → MatchOption o ⊥ Q
 match_map None P Q f h = h

@@ -1,11 +1,14 @@
 -- An act and its reply as the machine has them: without what moves but the progress of a client object and what is shown of a part.
-use Rattle.std.specs.Prelude.{ℕ, List, Option}
+use Rattle.std.specs.Prelude.{ℕ, List}
 use Rattle.std.specs.String.{string_bytes}
+use Rattle.outside_io.specs.declared.sink.Sink.{Ghosts as SinkGhosts}
+use Rattle.outside_io.specs.declared.source.Source.{Ghosts as SourceGhosts}
 use Rattle.il_machine.specs.declared.answer.Progress.{Progress as Reached}
 use Rattle.il_machine.specs.Files.{Offered}
 use Rattle.il_machine.specs.Acts as acts
 use Rattle.part_api.specs.Terms.{Terms}
 use Rattle.audio_parts.specs.declared.part_file.PartFile.{PartFile}
+use Rattle.note_queues.specs.declared.client.Client.{Ghosts as ClientGhosts}
 use Rattle.il_flow.specs.Works.{seen_done}
 use Rattle.il_graph.specs.Shown.{offered}
 use Rattle.il_graph.specs.Stood.{plainly, with_record, heldly, memory_back, tookly}
@@ -25,8 +28,8 @@ pub record Unsaid : Type 0 where
   pub took : List ℕ
   pub terms : Terms
 
-abbrev pub sight_of : {S K C : Type 0} → (C → Reached) → (S → ℕ) → (S → ℕ) → (S → Option (List ℕ)) → (K → Option (List ℕ)) → Sight S K C
-sight_of progress place size told kept = record { progress = progress; offer = offered place size told kept }
+abbrev pub sight_of : {S K C : Type 0} → ClientGhosts C → SourceGhosts S → SinkGhosts K → Sight S K C
+sight_of client reads writes = record { progress = client.progress; offer = offered reads.offset reads.size reads.told writes.told }
 
 module _ {S K C : Type 0} where
   abbrev pub plain_act : Sight S K C → Unsaid → Act S K C → acts.Act

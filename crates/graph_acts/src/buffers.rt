@@ -15,20 +15,20 @@ use outside_io::{Sink, Source};
 
 impl<S: Source, K: Sink, C: Client> Served<S, K, C> {
     pub(crate) fn allocate_buffer(&mut self, h: Handle, port: u32) -> Reply<S, K, C>
-        ensures { Moved (sight_of C.progress S.offset S.size S.told K.told) (asks.AllocateBuffer h port) result self.old.graph self.new.graph }
+        ensures { Moved (sight_of C.Client S.Source K.Sink) (asks.AllocateBuffer h port) result self.old.graph self.new.graph }
     {
         Reply::AllocateBuffer(self.graph.allocate_buffer(h, port))
     }
 
     pub(crate) fn use_buffer(&mut self, h: Handle, port: u32, bytes: Vec<u8>) -> Reply<S, K, C>
-        ensures { Moved (sight_of C.progress S.offset S.size S.told K.told) (asks.UseBuffer h port bytes) result self.old.graph self.new.graph }
+        ensures { Moved (sight_of C.Client S.Source K.Sink) (asks.UseBuffer h port bytes) result self.old.graph self.new.graph }
     {
         Reply::UseBuffer(self.graph.use_buffer(h, port, bytes))
     }
 
     pub(crate) fn free_buffer(&mut self, h: Handle, port: u32, header: Header) -> Reply<S, K, C>
         requires { IsHandedIn header (look_of self.old.graph.core) }
-        ensures { Moved (sight_of C.progress S.offset S.size S.told K.told) (asks.FreeBuffer h port header) result self.old.graph self.new.graph }
+        ensures { Moved (sight_of C.Client S.Source K.Sink) (asks.FreeBuffer h port header) result self.old.graph self.new.graph }
     {
         Reply::FreeBuffer(self.graph.free_buffer(h, port, header))
     }
@@ -40,8 +40,9 @@ impl<S: Source, K: Sink, C: Client> Served<S, K, C> {
         header: Header,
     ) -> Reply<S, K, C>
         requires { IsHandedIn header (look_of self.old.graph.core) }
-        ensures { Moved (sight_of C.progress S.offset S.size S.told K.told) (asks.EmptyThisBuffer h port header) result self.old.graph self.new.graph }
+        ensures { Moved (sight_of C.Client S.Source K.Sink) (asks.EmptyThisBuffer h port header) result self.old.graph self.new.graph }
     {
+        // The proof learns from it that the header has the room of its size.
         let _sized = header.size();
         Reply::EmptyThisBuffer(self.graph.empty_this_buffer(h, port, header))
     }
@@ -53,8 +54,9 @@ impl<S: Source, K: Sink, C: Client> Served<S, K, C> {
         header: Header,
     ) -> Reply<S, K, C>
         requires { IsHandedIn header (look_of self.old.graph.core) }
-        ensures { Moved (sight_of C.progress S.offset S.size S.told K.told) (asks.FillThisBuffer h port header) result self.old.graph self.new.graph }
+        ensures { Moved (sight_of C.Client S.Source K.Sink) (asks.FillThisBuffer h port header) result self.old.graph self.new.graph }
     {
+        // The proof learns from it that the header has the room of its size.
         let _sized = header.size();
         Reply::FillThisBuffer(self.graph.fill_this_buffer(h, port, header))
     }

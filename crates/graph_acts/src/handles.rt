@@ -14,7 +14,7 @@ use outside_io::{Sink, Source};
 impl<S: Source, K: Sink, C: Client> Served<S, K, C> {
     pub(crate) fn get_handle(&mut self, name: String, client: C) -> Reply<S, K, C>
         requires { C.progress client ≡ no_progress }
-        ensures { Moved (sight_of C.progress S.offset S.size S.told K.told) (asks.GetHandle name client) result self.old.graph self.new.graph }
+        ensures { Moved (sight_of C.Client S.Source K.Sink) (asks.GetHandle name client) result self.old.graph self.new.graph }
     {
         self.graph.law_of_worlds();
         let reply = self.graph.get_handle(self.alloc, name.as_str(), client);
@@ -22,7 +22,7 @@ impl<S: Source, K: Sink, C: Client> Served<S, K, C> {
     }
 
     pub(crate) fn free_handle(&mut self, h: Handle) -> Reply<S, K, C>
-        ensures { Moved (sight_of C.progress S.offset S.size S.told K.told) (asks.FreeHandle h) result self.old.graph self.new.graph }
+        ensures { Moved (sight_of C.Client S.Source K.Sink) (asks.FreeHandle h) result self.old.graph self.new.graph }
     {
         self.graph.law_of_worlds();
         Reply::FreeHandle(self.graph.free_handle(h))

@@ -14,7 +14,7 @@ use outside_io::{Sink, Source};
 
 impl<S: Source, K: Sink, C: Client> Served<S, K, C> {
     pub(crate) fn take_note(&mut self, h: Handle) -> Reply<S, K, C>
-        ensures { Moved (sight_of C.progress S.offset S.size S.told K.told) (asks.TakeNote h) result self.old.graph self.new.graph }
+        ensures { Moved (sight_of C.Client S.Source K.Sink) (asks.TakeNote h) result self.old.graph self.new.graph }
     {
         self.graph.law_of_worlds();
         let took = self.graph.take_note(h);
@@ -24,7 +24,7 @@ impl<S: Source, K: Sink, C: Client> Served<S, K, C> {
 
     pub(crate) fn end_note(&mut self, h: Handle, client: C) -> Reply<S, K, C>
         requires { IsGone self.old.graph h × IsPortDone (C.progress client).port }
-        ensures { Moved (sight_of C.progress S.offset S.size S.told K.told) (asks.EndNote h client) result self.old.graph self.new.graph }
+        ensures { Moved (sight_of C.Client S.Source K.Sink) (asks.EndNote h client) result self.old.graph self.new.graph }
     {
         self.graph.law_of_worlds();
         self.graph.end_note(h, client);

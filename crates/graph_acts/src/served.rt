@@ -18,8 +18,8 @@ pub struct Served<S: Source, K: Sink, C: Client> {
 impl<S: Source, K: Sink, C: Client> Served<S, K, C> {
     /// Makes the graph's call for the act.
     pub fn answer(&mut self, act: Act<S, K, C>) -> Reply<S, K, C>
-        requires lawful { Can (sight_of C.progress S.offset S.size S.told K.told) self.old.graph act }
-        ensures { Moved (sight_of C.progress S.offset S.size S.told K.told) act result self.old.graph self.new.graph }
+        requires lawful { Can (sight_of C.Client S.Source K.Sink) self.old.graph act }
+        ensures { Moved (sight_of C.Client S.Source K.Sink) act result self.old.graph self.new.graph }
     {
         match act {
             Act::GetHandle(name, client) => self.get_handle(name, client),

@@ -67,15 +67,15 @@ fn lend<S: Source, K: Sink>(
 
 impl<S: Source, K: Sink, C: Client> Served<S, K, C> {
     pub(crate) fn claim(&mut self, h: Handle) -> Reply<S, K, C>
-        ensures { Moved (sight_of C.progress S.offset S.size S.told K.told) (asks.Claim h) result self.old.graph self.new.graph }
+        ensures { Moved (sight_of C.Client S.Source K.Sink) (asks.Claim h) result self.old.graph self.new.graph }
     {
         law_of_parts::<S, K>();
         Reply::Claim(lend(self.graph.claim(h)))
     }
 
     pub(crate) fn finish(&mut self, done: DoneWork<S, K>) -> Reply<S, K, C>
-        requires { CanFinish (sight_of C.progress S.offset S.size S.told K.told) self.old.graph done }
-        ensures { Moved (sight_of C.progress S.offset S.size S.told K.told) (asks.Finish done) result self.old.graph self.new.graph }
+        requires { CanFinish (sight_of C.Client S.Source K.Sink) self.old.graph done }
+        ensures { Moved (sight_of C.Client S.Source K.Sink) (asks.Finish done) result self.old.graph self.new.graph }
     {
         law_of_parts::<S, K>();
         self.graph.finish(done.into_done());

@@ -1,6 +1,6 @@
 //! What the machine's laws say of the worlds that a graph stands for.
 
-ghost use Rattle.std.specs.Prelude.{◌≡◌, Some, None};
+ghost use Rattle.std.specs.Prelude.{◌≡◌, ◌≤◌, length, Some, None};
 ghost use Rattle.omx_types.specs.declared.handle.Handle.{Handle};
 ghost use Rattle.stock_laws.specs.Bare.{AlwaysBare};
 ghost use Rattle.il_machine.specs.Sound.{Sound};
@@ -14,14 +14,15 @@ use note_queues::Client;
 
 impl<C: Client> Core<C> {
     /// There is a world that the graph stands for. Each is sound, has its census and its room, and each client object that is in has the progress
-    /// of all events that were given for its component.
+    /// of all events that were given for its component. There are at most 32 components.
     pub fn law_of_worlds(&self)
         ensures one { SoundWorld (kept C.progress self.now) }
         ensures sound { AlwaysBare (kept C.progress self.now) Sound }
         ensures census { AlwaysBare (kept C.progress self.now) Census }
         ensures room { AlwaysBare (kept C.progress self.now) HasRoom }
         ensures told { AlwaysBare (kept C.progress self.now) (AreTold C.progress self.now) }
-        ensures out { (h : Handle) → client_named h self.now ≡ Some None → IsOut h (look_of self.now) }
+        ensures few { length self.now.entries ≤ 32 }
+        ensures out { (handle : Handle) → client_named handle self.now ≡ Some None → IsOut handle (look_of self.now) }
     {
         let _ = &self.components;
     }

@@ -83,23 +83,18 @@ impl Header {
         self.size
     }
 
+    /// The flags that its holder gave it: bit 0 tells the end of the stream.
     pub fn flags(&self) -> u32
         ensures { result ≡ self.now.held.flags }
     {
         self.flags
     }
 
+    /// The mark that it carries on.
     pub fn mark(&self) -> Option<Mark>
         ensures { result ≡ self.now.held.mark }
     {
         self.mark
-    }
-
-    /// Whether the memory is the client's own.
-    pub fn is_clients_memory(&self) -> bool
-        ensures { result ≡ is_clients self.now.store }
-    {
-        self.store.is_clients()
     }
 
     /// The bytes that count.

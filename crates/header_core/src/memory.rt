@@ -24,18 +24,21 @@ impl Model for Memory {
 }
 
 impl Memory {
+    /// Memory of the client's, of all these bytes.
     pub fn new(bytes: Vec<u8>) -> Memory
         ensures { result ≡ bytes.items }
     {
         Memory { bytes }
     }
 
+    /// Gives the client its bytes back.
     pub fn into_bytes(self) -> Vec<u8>
         ensures { result.items ≡ self }
     {
         self.bytes
     }
 
+    /// All its bytes, to be read.
     pub fn as_slice(&self) -> &[u8]
         ensures { result.now ≡ self.now }
     {
@@ -119,6 +122,7 @@ impl Store {
         }
     }
 
+    /// Whether the client gave the memory. Else it is a block of the region.
     pub fn is_clients(&self) -> bool
         ensures { result ≡ is_clients self.now }
     {

@@ -55,10 +55,6 @@ grows_on T c d e A B = record {
 pub grows_by : (T : Completion → Type 0) (note : Note) (c : Component) → ((x : Completion) → Contains (completions_in (note ∷ [])) x → T x) → Grows T c (noted note c)
 grows_by T note c h = record { number = refl; added = note ∷ []; notes = refl; tells = h }
 
--- a completion is told
-pub completes : (T : Completion → Type 0) (y : Completion) (c : Component) → T y → Grows T c (told (events.CmdComplete y) c)
-completes T y c h = grows_by T (Told (events.CmdComplete y)) c (λ x a. subst T (only_in y x a) h)
-
 -- an error is told, which is no completion
 pub fails : (T : Completion → Type 0) (error : OmxError) (c : Component) → Grows T c (told (events.Error error) c)
 fails T error c = grows_by T (Told (events.Error error)) c (λ x a. absurd (none_in x a))

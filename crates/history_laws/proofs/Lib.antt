@@ -45,3 +45,9 @@ pub mod GivenHeaders
 pub mod KeyLaw
 pub mod Memories
 pub mod GivenNotes
+pub mod Joining
+pub mod Naming
+pub mod Remaining
+pub mod Seats
+pub mod Delivering
+pub mod Objects

@@ -5,3 +5,5 @@ pub mod ClientHeaders
 pub mod Memory
 pub mod Works
 pub mod Given
+pub mod Objects
+pub mod GivenIn

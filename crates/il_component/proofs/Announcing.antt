@@ -22,9 +22,6 @@ work_some (Some work) h = omega arith
 pub announced_none : (c : Component) → port_of c 0 ≡ None → announced c ≡ record c { work = None }
 announced_none c e = rw e refl
 
-pub announced_same : (c : Component) (p : Port) → port_of c 0 ≡ Some p → same_format p.setting.definition.format (file_format c.file) ≡ true → announced c ≡ record c { work = None }
-announced_same c p e f = rw (e, f) refl
-
 pub announced_held : (c : Component) (p : Port) → port_of c 0 ≡ Some p → same_format p.setting.definition.format (file_format c.file) ≡ false
     → announced c ≡ told (PortSettingsChanged 0) (with_port 0 (record p.state { held = true }) (record c { work = None }))
 announced_held c p e f =

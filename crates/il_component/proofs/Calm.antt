@@ -1,12 +1,11 @@
 -- Where no transition is pending at a component, nothing is exactly where no port is busy.
-use Rattle.std.proofs.Common.{◌≡◌, ◌≢◌, ◌<◌, ◌≤◌, ℕ, zero, suc, nat_eq, Bool, true, false, not, ◌||◌, ◌&&◌, if◌then◌else◌, get_or, List, [], ◌∷◌, All, length, set, map, replicate, Option, Some, None, option_map, slice_get, is_some, refl, sym, ◌∙◌, ap, subst, inl, inr}
+use Rattle.std.proofs.Common.{◌≡◌, ◌≢◌, ◌<◌, ℕ, zero, suc, nat_eq, Bool, true, false, not, ◌||◌, if◌then◌else◌, get_or, List, [], ◌∷◌, All, length, set, map, replicate, Option, Some, None, option_map, slice_get, is_some, refl, sym, ◌∙◌, ap, subst, inl, inr}
 use Rattle.std.specs.Bool.{IsTrue}
 use Rattle.std.proofs.Math.Logic.{◌↔◌}
 use Rattle.std.proofs.lemmas.Bool.Decides.{eqb_tells}
-use Rattle.std.proofs.lemmas.Option.{slice_get_within, slice_get_past, slice_get-map, slice_get-get_or, get_or_from_slice_get}
+use Rattle.std.proofs.lemmas.Option.{slice_get_within, slice_get-map, slice_get-get_or, get_or_from_slice_get}
 use Rattle.std.proofs.lemmas.List.Elements.{All-nil, All-cons, All-get_or, All-replicate}
-use Rattle.std.proofs.lemmas.Bool.{false≢true, cases_lt}
-use Rattle.bit_set.specs.Members.{has, IsNext}
+use Rattle.bit_set.specs.Members.{has}
 use Rattle.il_machine.specs.declared.answer.Pending.{Pending}
 use Rattle.il_machine.specs.declared.port.Mark.{Mark}
 use Rattle.il_machine.specs.declared.port.PortState.{PortState}
@@ -15,7 +14,7 @@ use Rattle.il_machine.specs.World.{fresh_port}
 use Rattle.il_machine.specs.Commands.{calmed}
 use Rattle.il_machine.specs.Due.{unheld}
 use Rattle.il_machine.specs.Ports.{IsCalm, IsCalmPort, is_steady}
-use Rattle.il_component.specs.Busy.{AreBusy, IsNextBusy, is_busy}
+use Rattle.il_component.specs.Busy.{AreBusy, is_busy}
 use Rattle.il_component.specs.Entries.{Entry, component_of}
 
 -- ---- one port
@@ -113,48 +112,7 @@ rest_idle ps busy f = record { each = λ j. f j ∙ sym (ap (λ (x : Option Port
 pub fresh_idle : (n busy : ℕ) → ((i : ℕ) → has busy i ≡ false) → AreBusy (replicate n fresh_port) busy
 fresh_idle n busy f = record { each = λ j. f j ∙ sym (idle_at (replicate n fresh_port) j (slice_get (replicate n fresh_port) j) refl (All-replicate IsCalmPort n fresh_port (record { steady = refl; quiet = refl; unmarked = refl }))) }
 
--- ---- the busy ports, gathered one by one
-
-pub busy_all : (ps : List PortState) (busy : ℕ) → ((i : ℕ) → i < length ps → has busy i ≡ holds_at (slice_get ps i) is_busy) → ((i : ℕ) → length ps ≤ i → has busy i ≡ false) → AreBusy ps busy
-busy_all ps busy below above = record {
-  each = λ i. elim (cases_lt i (length ps)) [
-    | inl b ↦ below i b
-    | inr b ↦ above i b ∙ sym (ap (λ (x : Option PortState). holds_at x is_busy) (slice_get_past ps i b))
-  ];
-}
-
--- ---- the next of them
-
-busy_is : (ps : List PortState) (busy i : ℕ) (p : PortState) (b : Bool) → AreBusy ps busy → slice_get ps i ≡ Some p → has busy i ≡ b → is_busy p ≡ b
-busy_is ps busy i p b A at h = sym (A.each i ∙ ap (λ (x : Option PortState). holds_at x is_busy) at) ∙ h
-
-busy_within : (ps : List PortState) (i : ℕ) (o : Option PortState) → slice_get ps i ≡ o → holds_at o is_busy ≡ true → i < length ps
-busy_within ps i None at h = absurd (false≢true h)
-busy_within ps i (Some p) at h = slice_get_within ps i p at
-
-pub next_busy_is : (ps : List PortState) (busy from : ℕ) (o : Option ℕ) → AreBusy ps busy → IsNext busy from o → IsNextBusy ps from o
-next_busy_is ps busy from None A N = λ i p l at. busy_is ps busy i p false A at (N i l)
-next_busy_is ps busy from (Some next) A N = (
-  N.0,
-  busy_within ps next (slice_get ps next) refl (sym (A.each next) ∙ N.2),
-  λ i p l b at. busy_is ps busy i p false A at (N.3 i l b),
-)
-
 -- ---- one port has another state
-
-bit_in : (b was now : Bool) → now ≡ true → (b || was) ≡ (if b then now else was)
-bit_in true was now e = sym e
-bit_in false was now e = refl
-
-bit_out : (b was now : Bool) → now ≡ false → (not b && was) ≡ (if b then now else was)
-bit_out true was now e = sym e
-bit_out false was now e = refl
-
-pub busy_in : (busy next i : ℕ) (now : Bool) → now ≡ true → ((j : ℕ) → has next j ≡ (nat_eq j i || has busy j)) → (j : ℕ) → has next j ≡ (if nat_eq j i then now else has busy j)
-busy_in busy next i now e f j = f j ∙ bit_in (nat_eq j i) (has busy j) now e
-
-pub busy_out : (busy next i : ℕ) (now : Bool) → now ≡ false → ((j : ℕ) → has next j ≡ (not (nat_eq j i) && has busy j)) → (j : ℕ) → has next j ≡ (if nat_eq j i then now else has busy j)
-busy_out busy next i now e f j = f j ∙ bit_out (nat_eq j i) (has busy j) now e
 
 bit_here : (b was now : Bool) → b ≡ true → (if b then now else was) ≡ now
 bit_here true was now e = refl

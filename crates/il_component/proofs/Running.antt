@@ -1,5 +1,5 @@
 -- A command is carried out: what it takes of places, whatever else is looked at.
-use Rattle.std.proofs.Common.{◌≡◌, ℕ, ◌≤◌, ◌<◌, Option, Some, None, List, [], ◌∷◌, drop, slice_get, refl, ap, subst, arith}
+use Rattle.std.proofs.Common.{◌≡◌, ℕ, ◌≤◌, ◌<◌, Option, Some, List, [], ◌∷◌, drop, slice_get, refl, ap, subst, arith}
 use Rattle.omx_types.specs.declared.state.State.{State}
 use Rattle.omx_types.specs.declared.error.OmxError.{OmxError}
 use Rattle.omx_types.specs.declared.command.Command.{Command}
@@ -7,7 +7,6 @@ use Rattle.omx_types.specs.declared.command.Command.TheVariants as variants
 use Rattle.omx_types.specs.declared.command.Event.TheVariants.{Error}
 use Rattle.il_machine.specs.World.{Component, no_world}
 use Rattle.il_machine.specs.Look.{Look, look}
-use Rattle.il_machine.specs.Units.{free_units}
 use Rattle.il_machine.specs.Room.{used, room}
 use Rattle.il_machine.specs.Commands.{begun, carried_out, run_front}
 use Rattle.il_component.specs.Units.{Gives}
@@ -32,19 +31,3 @@ begun_with fault x target c e = ap (λ (f : Option OmxError). begun f target c) 
 pub run_first : (l : Look) (commands : List Command) (command : Command) (c : Component) → Some command ≡ slice_get commands 0 → run_front l commands c ≡ carried_out l command (record c { commands = drop 1 commands })
 run_first l [] command c e = absurd cc
 run_first l (x ∷ commands) command c e = let q : x ≡ command = cc in ap (λ (y : Command). carried_out l y (record c { commands = commands })) q
-
-pub run_none : (l : Look) (commands : List Command) (c : Component) → None ≡ slice_get commands 0 → run_front l commands c ≡ c
-run_none l [] c e = refl
-run_none l (x ∷ commands) c e = absurd cc
-
--- what is carried out is the same in each look with as many free units and as many waits
-pub carried_alike : (l m : Look) (command : Command) (c : Component) → free_units l ≡ free_units m → l.waits ≡ m.waits → carried_out l command c ≡ carried_out m command c
-carried_alike l m (variants.StateSet target) c u e = rw (e, u) refl
-carried_alike l m (variants.Flush sel) c u e = refl
-carried_alike l m (variants.PortDisable sel) c u e = refl
-carried_alike l m (variants.PortEnable sel) c u e = refl
-carried_alike l m (variants.MarkBuffer port target value) c u e = refl
-
-pub front_alike : (l m : Look) (commands : List Command) (c : Component) → free_units l ≡ free_units m → l.waits ≡ m.waits → run_front l commands c ≡ run_front m commands c
-front_alike l m [] c u e = refl
-front_alike l m (command ∷ commands) c u e = carried_alike l m command (record c { commands = commands }) u e

@@ -161,6 +161,7 @@ impl<C> Component<C> {
         })
     }
 
+    /// The handle by which the graph names it.
     pub fn handle(&self) -> Handle
         ensures { result ≡ self.now.handle }
     {
@@ -175,18 +176,21 @@ impl<C> Component<C> {
         self.handle = handle;
     }
 
+    /// The state that it has reached.
     pub fn state(&self) -> State
         ensures { result ≡ self.now.state }
     {
         self.state
     }
 
+    /// The transition that isn't done yet.
     pub fn pending(&self) -> Option<Pending>
         ensures { result ≡ self.now.pending }
     {
         self.pending
     }
 
+    /// The kind of its part, which never changes.
     pub fn kind(&self) -> Kind
         ensures kind { result ≡ self.now.settings.kind }
         ensures sized { IsSized result }
@@ -225,6 +229,7 @@ impl<C> Component<C> {
         self.params.ports()
     }
 
+    /// The port of this index with its setting and its state, or None past the last one.
     pub fn port(&self, index: u32) -> Option<Port>
         ensures { result ≡ port_of (component_of self.now) index }
     {
@@ -241,6 +246,7 @@ impl<C> Component<C> {
         })
     }
 
+    /// Whether it is Invalid, which it stays.
     pub fn is_invalid(&self) -> bool
         ensures { result ≡ is_invalid self.now.state }
     {
@@ -268,12 +274,14 @@ impl<C> Component<C> {
         matches!(self.state, State::Loaded) && self.pending.is_none()
     }
 
+    /// Whether a port of it is joined.
     pub fn is_joined(&self) -> bool
         ensures { result ≡ list_any is_joined (ports_of (component_of self.now)) }
     {
         has_link(&self.ports)
     }
 
+    /// Whether its client object is out with a note.
     pub fn is_client_out(&self) -> bool
         ensures { result ≡ is_none self.now.queues.client }
     {

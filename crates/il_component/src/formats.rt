@@ -76,6 +76,7 @@ impl<C> Component<C> {
     fn is_format_free(&self, index: u32, value: Param) -> bool
         ensures { result ≡ is_format_free (component_of self.now) index value }
     {
+        // The proof learns from it what always holds of the file.
         let _file = &self.file;
         let Param::Port(definition) = value else {
             return true;

@@ -5,6 +5,7 @@ ghost use Rattle.il_machine.specs.Kinds.{is_source};
 
 use omx_types::Kind;
 
+/// Whether the kind reads a file.
 pub fn is_source(kind: Kind) -> bool
     ensures { result ≡ is_source kind }
 {

@@ -20,9 +20,6 @@ use Rattle.il_flow.specs.Places.{EachFrom, Offer, carried, carried_from}
 use Rattle.il_flow.specs.Sound.{HaveOutputs}
 use Rattle.il_flow.specs.Steps.{frames_by}
 
-AllLeast : ℕ → List ℕ → Type 0
-AllLeast n ns = AllByRecursion (λ m. n ≤ m) ns
-
 lower_all : (n m : ℕ) (ns : List ℕ) → n ≤ m → AllByRecursion (λ k. m ≤ k) ns → AllByRecursion (λ k. n ≤ k) ns
 lower_all n m [] l h = tt
 lower_all n m (k ∷ ks) l h = let a = h.0 in (omega (arith, l, a), lower_all n m ks l h.1)

@@ -19,9 +19,6 @@ use Rattle.header_core.specs.BufferHeader.{BufferHeader}
 use Rattle.il_flow.specs.Places.{carried, carried_from, changed_from}
 use Rattle.il_flow.specs.Steps.{stepped_header}
 
-SameInputs : ℕ → (ℕ → List ℕ) → (ℕ → List ℕ) → Type 0
-SameInputs count a b = (input : ℕ) → input < count → a input ≡ b input
-
 longest_same : (weights : List ℕ) (a b : ℕ → List ℕ) → ((input : ℕ) → input < length weights → a input ≡ b input) → longest weights a ≡ longest weights b
 unfolding longest
 longest_same [] a b same = refl

@@ -2,13 +2,11 @@
 
 ghost use Rattle.std.specs.Prelude.{◌≡◌, true, false, Some, None};
 ghost use Rattle.audio_parts.specs.Shapes.{IsLawful};
-ghost use Rattle.work_landing.specs.Places.{AreFree};
 
-use crate::work::Places;
-use header_core::Header;
 use omx_types::Handle;
 use part_api::{Part, PartFault};
 use std::marker::Model;
+use work_landing::{Places, leave_all};
 
 /// A work whose step was done. It is spent by `into_parts`.
 pub struct Done<P: Part> {
@@ -36,32 +34,6 @@ pub struct Brought {
     pub headers: Places,
     pub frames: u32,
     pub fault: Option<PartFault>,
-}
-
-/// Ends a place that has no header.
-fn leave(place: Option<Header>)
-    requires { place ≡ None }
-{
-    match place {
-        None => {}
-        Some(_header) => unreachable!(),
-    }
-}
-
-/// Ends places that have no header.
-fn leave_all(places: Places)
-    requires { AreFree places }
-{
-    let [a, b, c, d, e, f, g, h, i] = places;
-    leave(a);
-    leave(b);
-    leave(c);
-    leave(d);
-    leave(e);
-    leave(f);
-    leave(g);
-    leave(h);
-    leave(i);
 }
 
 impl<P: Part> Done<P> {

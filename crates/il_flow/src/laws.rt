@@ -6,6 +6,6 @@ ghost use Rattle.il_flow.specs.Places.{AreHeadersOf, AreSame, carried_from};
 
 /// Of the headers of a work as much is known after its step as was before.
 pub fn law_of_sameness()
-    ensures known { (key : ℕ) (headers : ℕ → Option HeaderState) (port : ℕ) (a b : List (Option BufferHeader)) → AreSame a b → AreHeadersOf key headers port a → AreHeadersOf key headers port b }
-    ensures many { (port : ℕ) (a b : List (Option BufferHeader)) → AreSame a b → length (carried_from port b) ≡ length (carried_from port a) }
+    ensures known { (key : ℕ) (headers : ℕ → Option HeaderState) (port : ℕ) (options other_options : List (Option BufferHeader)) → AreSame options other_options → AreHeadersOf key headers port options → AreHeadersOf key headers port other_options }
+    ensures many { (port : ℕ) (options other_options : List (Option BufferHeader)) → AreSame options other_options → length (carried_from port other_options) ≡ length (carried_from port options) }
 {}

@@ -6,10 +6,11 @@ ghost use Rattle.il_flow.specs.Layouts.{ports_of};
 ghost use Rattle.il_flow.specs.Places.{AreWithin, EachFrom, carried_from};
 ghost use Rattle.il_flow.specs.Sound.{HaveOutputs};
 
-use crate::work::{Places, Work};
+use crate::work::Work;
 use audio_parts::KindPart;
 use header_core::Header;
 use omx_types::Handle;
+use work_landing::Places;
 
 /// Each header has the room of its size. The call does nothing.
 fn are_sized(places: &[Option<Header>])
@@ -19,6 +20,7 @@ fn are_sized(places: &[Option<Header>])
         return;
     };
     if let Some(header) = first {
+        // The proof learns from it that the header has the room of its size.
         let _ = header.size();
     }
     are_sized(rest);

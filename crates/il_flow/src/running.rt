@@ -49,6 +49,7 @@ pub(crate) fn frames_for<P: KindPart>(
     ensures there { IfSome left (λ there. result ≤ there) }
     ensures enough { Offer (P.terms part.now) result 0 places.now }
 {
+    // The proof learns from it that a source has frames left to tell of, and no other part.
     let _ = part.frames_left();
     step_frames(left, layout, places) as u32
 }

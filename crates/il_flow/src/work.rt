@@ -3,13 +3,10 @@
 use crate::done::Done;
 use crate::running::{Stepped, do_step};
 use audio_parts::KindPart;
-use header_core::Header;
 use omx_types::Handle;
 use part_api::Part;
 use std::marker::Model;
-
-/// A header for each port of a component that gives one.
-pub(crate) type Places = [Option<Header>; 9];
+use work_landing::Places;
 
 /// What one step of a component's part is given. It is spent by `run`.
 pub struct Work<P: Part> {

@@ -1,6 +1,7 @@
 -- Calls that look: the component that a handle names, in each world that the graph stands for.
-use Rattle.std.proofs.Common.{◌≡◌, ℕ, false, List, Option, Some, None, is_none, Ok, Err, slice_get, option_map, option_and_then, map, if◌then◌else◌, refl, sym, ◌∙◌, ap}
+use Rattle.std.proofs.Common.{◌≡◌, ◌≤◌, ℕ, length, subst, false, List, Option, Some, None, is_none, Ok, Err, slice_get, option_map, option_and_then, map, if◌then◌else◌, refl, sym, ◌∙◌, ap}
 use Rattle.std.proofs.lemmas.Option.{slice_get-map}
+use Rattle.std.proofs.lemmas.List.{length-map}
 use Rattle.omx_types.specs.declared.handle.Handle.{Handle}
 use Rattle.omx_types.specs.declared.error.OmxError.TheVariants as errors
 use Rattle.il_machine.specs.declared.answer.Progress.{Progress}
@@ -27,6 +28,10 @@ module _ {C : Type 0} (progress : C → Progress) where
 
   pub named : (g : Entries C) (h : Handle) (o : Option (Entry C)) → o ≡ entry_named h g → component_named h (look_of g).components ≡ option_map component_of o
   named g h o e = named_is g h ∙ ap (option_map component_of) (sym e)
+
+  -- a graph's components are those of each world that it stands for
+  pub few_of : (g : Entries C) (w : World) → StandsBare (kept progress g) w → length g.entries ≤ 32 → length w.components ≤ 32
+  few_of g w S few = subst (λ (n : ℕ). n ≤ 32) (sym (ap (λ (l : Look). length l.components) S.looks ∙ length-map g.entries component_of)) few
 
   -- ---- what the client object of a component was told
 

@@ -15,7 +15,7 @@ mod supplying;
 mod tunnels;
 mod units;
 
-ghost use Rattle.std.specs.Prelude.{◌≡◌, ◌↔◌, true, All, None, IfOk, option_and_then};
+ghost use Rattle.std.specs.Prelude.{◌≡◌, ◌↔◌, ◌≤◌, true, All, None, IfOk, option_and_then};
 ghost use Rattle.il_machine.specs.Components.{state_answer, view_answer, progress_answer, handle_at};
 ghost use Rattle.il_machine.specs.Look.{look};
 ghost use Rattle.il_machine.specs.Whole.{Always, no_kept};
@@ -122,8 +122,10 @@ impl<S: Source, K: Sink, C: Client> Graph<S, K, C> {
 
     /// The handle of the component at the place, from 0, in the order of their numbers.
     pub fn handle_at(&self, place: u32) -> Option<Handle>
-        ensures { Always (kept C.progress self.now) (λ w. result ≡ handle_at place (look w)) }
+        ensures few { 32 ≤ place → result ≡ None }
+        ensures handle { Always (kept C.progress self.now) (λ w. result ≡ handle_at place (look w)) }
     {
+        self.core.law_of_worlds();
         let component = self.core.at(place as usize)?;
         Some(component.handle())
     }

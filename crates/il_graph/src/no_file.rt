@@ -18,6 +18,7 @@ pub struct EmptyFile<T> {
 pub type NoFile = EmptyFile<Nothing>;
 
 impl<T> EmptyFile<T> {
+    /// The files of a graph that has none, of a type that has no values.
     pub fn new(of: T) -> EmptyFile<T>
         ensures { result.of ≡ of }
     {

@@ -12,9 +12,6 @@ use Rattle.std.proofs.lemmas.Slice.Eq.{bytes_eq-Decides}
 use Rattle.line_text.specs.Numbers.{IsDigit, IsNumber, IsFaultAt}
 use Rattle.line_text.specs.ReadNumbers.{number_below, writes_as}
 
-bytes_eq-same : (xs : List ℕ) → bytes_eq xs xs ≡ true
-bytes_eq-same xs = (bytes_eq-Decides xs xs).1 refl
-
 writes_as-same : (value limit : ℕ) (word : List ℕ) → value < limit → word ≡ decimal value → writes_as value limit word ≡ Some value
 writes_as-same value limit word below is =
     let test = lt-ltb value limit below in

@@ -38,6 +38,7 @@ impl<'a> LineWords<'a> {
         Some(LineWords { room, count })
     }
 
+    /// The words in their order, without their spaces.
     pub fn as_slice(&self) -> &[&'a [u8]]
         ensures { texts result.now ≡ held_words self.now }
     {

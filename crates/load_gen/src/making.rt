@@ -88,10 +88,7 @@ fn write_wav_file<M: Media>(
     requires { frames ≤ 33000000 }
     ensures { Makes name.now (wav_from x frames) (M.outside media.old) (M.outside media.new) result }
 {
-    let mut sink = match media.sink(alloc, name) {
-        Ok(sink) => sink,
-        Err(refused) => return Err(refused),
-    };
+    let mut sink = media.sink(alloc, name)?;
     let written = write_wav(&mut sink, x, frames);
     let closed = media.close_sink(sink);
     match written {

@@ -3,6 +3,7 @@
 ghost use Rattle.std.specs.Prelude.{◌≡◌, ◌+◌, ◌*◌, ◌/◌, ◌%◌, ◌≤◌, ◌<◌, ◌^◌, length, OnOk};
 ghost use Rattle.std.specs.Io.KnownBytes.{append_known};
 ghost use Rattle.outside_io.specs.Causes.{HasCause};
+ghost use Rattle.outside_io.specs.Keeping.{KeepsSink};
 ghost use Rattle.outside_io.specs.Moves.{AppendsFront};
 ghost use Rattle.load_gen.specs.Samples.{next, after, samples, wav_from};
 
@@ -27,7 +28,7 @@ pub(crate) fn write_wav<K: Sink>(sink: &mut K, x: u64, frames: u64) -> Result<()
     requires { frames ≤ 33000000 }
     ensures whole { OnOk result (K.told sink.new ≡ append_known (K.told sink.old) (wav_from x frames)) }
     ensures front { AppendsFront (K.told sink.old) (K.told sink.new) (wav_from x frames) }
-    ensures name { K.name sink.new ≡ K.name sink.old }
+    ensures keeps_sink { KeepsSink K.Sink sink.old sink.new }
     ensures cause { HasCause (K.faults sink.old) (K.faults sink.new) result }
 {
     let mut head = [0u8; 58];
@@ -43,7 +44,7 @@ fn write_samples<K: Sink>(sink: &mut K, x: u64, frames: u64) -> Result<(), Faile
     requires { frames ≤ 33000000 }
     ensures whole { OnOk result (K.told sink.new ≡ append_known (K.told sink.old) (samples frames x)) }
     ensures front { AppendsFront (K.told sink.old) (K.told sink.new) (samples frames x) }
-    ensures name { K.name sink.new ≡ K.name sink.old }
+    ensures keeps_sink { KeepsSink K.Sink sink.old sink.new }
     ensures cause { HasCause (K.faults sink.old) (K.faults sink.new) result }
 {
     let mut piece = [0u8; PIECE];

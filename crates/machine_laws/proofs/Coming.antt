@@ -189,9 +189,6 @@ fresh_alone h kind index p e =
     let s = at_replicas (ports_in kind) index fresh_port p.state is.state in
     rw s.0 refl
 
-no_weight : (b : Bool) → b ≡ false → weight b ≡ 0
-no_weight b e = rw e refl
-
 -- no header is in a note of a component that isn't there yet
 none_noticed : (cs : List Component) (hs : List HeaderRecord) (numbered made : ℕ) → Parts cs hs numbered made → (m : ℕ) → weight (noticed_at numbered m hs) ≡ 0
 none_noticed cs hs numbered made P m = elim (cases_eq (weight (noticed_at numbered m hs)) 0) [

@@ -41,14 +41,6 @@ fewer_left cs i c d t lt =
 
 -- ---- a transition
 
-some_weight : (s : State) → 1 ≤ target_weight s
-some_weight Invalid = omega arith
-some_weight Loaded = omega arith
-some_weight Idle = omega arith
-some_weight Executing = omega arith
-some_weight Pause = omega arith
-some_weight WaitForResources = omega arith
-
 none_after : (p : Pending) (c : Component) → left_in (completed_for p (reached p c)) ≡ sum_by port_reserve c.ports
 none_after p c = either (is_by_client p.cause) (λ b. rw b (omega arith)) (λ b. rw b (omega arith))
 

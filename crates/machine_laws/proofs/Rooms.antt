@@ -124,7 +124,3 @@ aside_noted note c = record { keeps = record { kind = refl; weights = refl; coun
 
 pub aside_told : (event : Event) (c : Component) → IsAside c (told event c)
 aside_told event c = aside_noted (Told event) c
-
--- no more events are queued than there are places
-pub events_fit : (c : Component) → IsSound c → events_in c.notes ≤ 256
-events_fit c S = omega (arith, S.room)

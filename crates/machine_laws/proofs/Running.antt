@@ -125,10 +125,6 @@ change_selected sel test change c T = record { handle = refl; ports = refl; link
 takes_flush : IsTaking is_flushing flushing
 takes_flush = record { link = λ s. refl; held = λ s. refl; place = λ s f. let w : weight s.flushing ≡ 0 = rw f refl in omega arith }
 
-weight_small : (b : Bool) → weight b ≤ 1
-weight_small true = omega arith
-weight_small false = omega arith
-
 takes_disable : IsTaking is_changing disabling
 takes_disable = record { link = λ s. refl; held = λ s. refl; place = λ s f. omega arith }
 

@@ -102,9 +102,6 @@ in_queue Out b h = absurd (h refl)
 in_queue Todo b h = omega arith
 in_queue Done b h = omega arith
 
-out_queue : (p : Queue) (b : Bool) → p ≡ Out → weight (is_todo p && b) + weight (is_done p && b) ≡ 0
-out_queue p b h = rw h refl
-
 notice_weighs : (k m : ℕ) (owner : Owner) → owner ≡ owners.Notice k → m ≡ k → weight (is_notice_of m owner) ≡ 1
 notice_weighs k m owner o e = rw (o, e, eq-eqb k k refl) refl
 

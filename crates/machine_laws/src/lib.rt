@@ -17,29 +17,29 @@ pub fn law_of_suppliers()
 
 /// A closed world has nothing due, and its close-out changes nothing.
 pub fn law_of_closed_worlds()
-    ensures rests { (w : World) → IsClosed w → NothingDue w }
-    ensures stays { (w v : World) → IsClosed w → ClosesTo w v → v ≡ w }
+    ensures rests { (world : World) → IsClosed world → NothingDue world }
+    ensures stays { (world after : World) → IsClosed world → ClosesTo world after → after ≡ world }
 {}
 
 /// The close-out ends from every world, in one world alone.
 pub fn law_of_closing()
-    ensures ends { (w : World) → (v : World) × ClosesTo w v }
-    ensures once { (w u v : World) → ClosesTo w u → ClosesTo w v → u ≡ v }
+    ensures ends { (world : World) → (after : World) × ClosesTo world after }
+    ensures once { (world after middle : World) → ClosesTo world after → ClosesTo world middle → after ≡ middle }
 {}
 
 /// Each step leads from a sound world to a sound one, and so does the close-out.
 pub fn law_of_steps()
-    ensures step { (w v : World) (a : Act) (r : Reply) → Meets w a → Step w a r v → Sound w → Sound v }
-    ensures closing { (w v : World) → ClosesTo w v → Sound w → Sound v }
+    ensures step { (world after : World) (act : Act) (reply : Reply) → Meets world act → Step world act reply after → Sound world → Sound after }
+    ensures closing { (world after : World) → ClosesTo world after → Sound world → Sound after }
 {}
 
 /// In a sound world each header stands exactly once, and no component has taken or reserved more places than there are.
 pub fn law_of_census()
-    ensures { (w : World) → Sound w → Census w × HasRoom w }
+    ensures { (world : World) → Sound world → Census world × HasRoom world }
 {}
 
 /// Each run from the world in which nothing was made leads to a sound world, with its census and its room.
 pub fn law_of_runs()
-    ensures sound { (key units : ℕ) (xs : List (Act × Reply)) (v : World) → Run (no_world key units) xs v → Sound v }
-    ensures census { (key units : ℕ) (xs : List (Act × Reply)) (v : World) → Run (no_world key units) xs v → Census v × HasRoom v }
+    ensures sound { (key units : ℕ) (steps : List (Act × Reply)) (world : World) → Run (no_world key units) steps world → Sound world }
+    ensures census { (key units : ℕ) (steps : List (Act × Reply)) (world : World) → Run (no_world key units) steps world → Census world × HasRoom world }
 {}

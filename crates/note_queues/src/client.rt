@@ -1,6 +1,6 @@
-//! Client objects: what one must do with a component's events, and one that keeps its progress alone.
+//! Client objects: what one must do with a component's events, and two that keep their progress alone, one of which may be given headers.
 
-ghost use Rattle.std.specs.Prelude.{◌≡◌, Bool, false};
+ghost use Rattle.std.specs.Prelude.{◌≡◌, Bool, false, true};
 ghost use Rattle.il_machine.specs.declared.answer.Progress.{Progress as Reached};
 ghost use Rattle.il_machine.specs.Components.{moved_by, no_progress, first_error};
 
@@ -104,5 +104,48 @@ impl Client for ProgressClient {
 
     fn progress(&self) -> Progress {
         self.progress
+    }
+}
+
+/// A client that keeps its progress alone, and may be given headers.
+#[derive(Clone, Copy, Debug, PartialEq, Eq)]
+pub struct HolderClient {
+    told: ProgressClient,
+}
+
+impl Model for HolderClient {
+    ghost use Rattle.il_machine.specs.declared.answer.Progress.{Progress as Reached};
+
+    ghost Value = { Reached };
+
+    ghost view = { λ client. client.told };
+
+    ghost inverse = { λ progress. record { told = progress } };
+}
+
+impl HolderClient {
+    /// A client that was told nothing yet.
+    pub fn new() -> HolderClient
+        ensures { result ≡ no_progress }
+    {
+        HolderClient {
+            told: ProgressClient::new(),
+        }
+    }
+}
+
+impl Client for HolderClient {
+    const HEADERS: bool = true;
+
+    ghost HEADERS = { true };
+
+    ghost progress = { λ client. client };
+
+    fn told(&mut self, event: Event) {
+        self.told.told(event);
+    }
+
+    fn progress(&self) -> Progress {
+        self.told.progress()
     }
 }

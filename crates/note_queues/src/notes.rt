@@ -194,13 +194,6 @@ impl<C> Notes<C> {
         self.cost_sum = 0;
     }
 
-    /// How many places are reserved beside those of the queued commands.
-    pub fn held_reserve(&self) -> u32
-        ensures { result ≡ self.now.reserve }
-    {
-        self.reserve
-    }
-
     /// Reserves so many places beside those of the queued commands, in place of what was held before.
     pub fn hold_reserve(&mut self, places: u32)
         requires { events_in (notes_of self.old) + costs self.old + places ≤ 256 }
@@ -268,6 +261,7 @@ impl<C> Notes<C> {
         }
     }
 
+    /// Whether the client object is out with a note.
     pub fn is_client_out(&self) -> bool
         ensures { result ≡ is_none self.now.client }
     {

@@ -35,6 +35,7 @@ impl OmxError {
     ghost use Rattle.omx_types.specs.Numbers.{error_number};
     ghost use Rattle.omx_types.specs.Names.{error_name};
 
+    /// The number that the standard gives the error.
     pub fn number(self) -> u32
         ensures { result ≡ error_number self }
     {
@@ -62,6 +63,7 @@ impl OmxError {
         }
     }
 
+    /// The standard's name of the error, without its prefix.
     pub fn name(self) -> &'static str
         ensures { result.now ≡ error_name self }
     {

@@ -8,6 +8,7 @@ mod fault;
 mod format;
 mod handle;
 mod kind;
+mod limits;
 mod param;
 mod state;
 
@@ -19,5 +20,6 @@ pub use fault::{
 pub use format::Format;
 pub use handle::{Handle, PortId};
 pub use kind::Kind;
+pub use limits::{BLOCK_BYTES, BLOCKS, ONE};
 pub use param::{Param, ParamKey, PortDefinition, Supplier, Version};
 pub use state::State;

@@ -17,6 +17,7 @@ impl State {
     ghost use Rattle.omx_types.specs.Numbers.{state_number};
     ghost use Rattle.omx_types.specs.Names.{state_name};
 
+    /// The number that the standard gives the state.
     pub fn number(self) -> u32
         ensures { result ≡ state_number self }
     {
@@ -30,6 +31,7 @@ impl State {
         }
     }
 
+    /// The standard's name of the state, without its prefix.
     pub fn name(self) -> &'static str
         ensures { result.now ≡ state_name self }
     {

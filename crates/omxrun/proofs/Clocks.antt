@@ -20,7 +20,7 @@ use Rattle.omxrun.specs.Asked.{IsGiven, IsFaultless, IsOrMemory}
 use Rattle.omxrun.specs.Clocked.{RunsTo, IsClockOf, IsClockOutcome, HasClockReason, CanClock, IsUnclocked}
 use Rattle.omxrun.specs.Faults.{fault_of_script}
 use Rattle.omxrun.specs.Texts.{fault_line}
-use Rattle.omxrun.specs.Told.{IsPrinted, status_of}
+use Rattle.omxrun.specs.Reports.{IsPrinted, status_of}
 use Rattle.omxrun.proofs.Absences.{none-counted}
 use Rattle.omxrun.proofs.Causes.{on_ok}
 use Rattle.omxrun.proofs.Complete.{none-some, printed-status, same-text}

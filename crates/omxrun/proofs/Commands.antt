@@ -6,7 +6,7 @@ use Rattle.omx_types.specs.declared.fault.Unbuilt.TheVariants as Unbuilts
 use Rattle.omx_types.specs.declared.fault.Status.{Status}
 use Rattle.omxrun.specs.Asked.{IsUnbuilt}
 use Rattle.omxrun.specs.Commands.{HasRun}
-use Rattle.omxrun.specs.Told.{IsTold}
+use Rattle.omxrun.specs.Reports.{IsReported}
 use Rattle.omxrun.specs.Words.{Asked, to_trace, to_play, to_make, to_clock, to_pack, to_unpack, AreWordsOf}
 use Rattle.omxrun.proofs.Forms.{one-asked}
 
@@ -14,7 +14,7 @@ pub run-asked : (words : List (List ℕ)) (asked : Asked) (old new : Outside) (t
 run-asked words asked old new told told_new before now status found is run also =
     subst (λ (a : Asked). HasRun a old new told told_new before now status) (one-asked words found asked is also) run
 
-pub unbuilt-run : (asked : Asked) (old new : Outside) (told told_new : Option (List ℕ)) (before now : ℕ) (status : Status) → IsUnbuilt asked → HasRun asked old new told told_new before now status → (new ≡ old) × IsTold (Err (Faults.NotBuilt Unbuilts.Words)) told told_new before now status
+pub unbuilt-run : (asked : Asked) (old new : Outside) (told told_new : Option (List ℕ)) (before now : ℕ) (status : Status) → IsUnbuilt asked → HasRun asked old new told told_new before now status → (new ≡ old) × IsReported (Err (Faults.NotBuilt Unbuilts.Words)) told told_new before now status
 unbuilt-run (to_trace script) old new told told_new before now status unbuilt run = absurd unbuilt
 unbuilt-run (to_play script workers log) old new told told_new before now status unbuilt run = run.1 unbuilt
 unbuilt-run (to_make seed frames folder) old new told told_new before now status unbuilt run = absurd unbuilt

@@ -6,7 +6,7 @@ use Rattle.omx_types.specs.declared.fault.Status.{Status}
 use Rattle.omx_types.specs.declared.fault.WavFault.{WavFault}
 use Rattle.wav_form.specs.declared.heads.WavHead.{WavHead}
 use Rattle.wav_form.specs.Reading.{Reads}
-use Rattle.omxrun.specs.Told.{IsPrinted, IsTold, status_of, outcome_text}
+use Rattle.omxrun.specs.Reports.{IsPrinted, IsReported, status_of, outcome_text}
 use Rattle.omxrun.specs.declared.done.Done.{Done}
 
 -- a file reads as one answer
@@ -17,7 +17,7 @@ pub printed-status : (wanted : Status) (text : List ℕ) (old new : Option (List
 printed-status wanted text old new before now status print (inl (is, _, _)) = is
 printed-status wanted text old new before now status print (inr (_, rose, _)) = absurd (print rose)
 
-pub told-status : (outcome : Result Done Fault) (old new : Option (List ℕ)) (before now : ℕ) (status : Status) → (Rose before now → ⊥) → IsTold outcome old new before now status → status ≡ status_of outcome
+pub told-status : (outcome : Result Done Fault) (old new : Option (List ℕ)) (before now : ℕ) (status : Status) → (Rose before now → ⊥) → IsReported outcome old new before now status → status ≡ status_of outcome
 told-status outcome old new before now status print told = printed-status (status_of outcome) (outcome_text outcome) old new before now status print told
 
 pub none-some : {A : Type 0} (a : A) (held : Option A) → held ≡ None → held ≡ Some a → ⊥

@@ -2,8 +2,8 @@
 use Rattle.std.proofs.Common.{◌≡◌, ℕ, List, Option, sym, ◌∙◌, ap}
 use Rattle.outside_io.specs.Files.{Outside}
 use Rattle.script_lang.specs.declared.play_line.PartLine.{PartLine}
-use Rattle.play_openings.specs.Assemblies.{PlayFiles}
-use Rattle.play_results.specs.Files.{AreFiles, IsReadAs}
+use Rattle.play_plan_laws.specs.Assemblies.{PlayFiles}
+use Rattle.play_result_laws.specs.Files.{AreFiles, IsReadAs}
 
 read-before : (old mid : Outside) (place number : ℕ) (name : List ℕ) (files : PlayFiles) (samples : List (List ℕ)) → mid.file ≡ old.file → IsReadAs mid place number name files samples → IsReadAs old place number name files samples
 read-before old mid place number name files samples same R = record {

@@ -12,10 +12,10 @@ use Rattle.script_lang.specs.declared.play_line.PartLine.{PartLine}
 use Rattle.script_lang.specs.declared.script.Script.{Script}
 use Rattle.play_forms.specs.Plain.{sink_text}
 use Rattle.play_forms.specs.Plans.{IsFit, IsFitted, IsPlanOfScript, PlanValue}
-use Rattle.play_openings.specs.Assemblies.{PlayFiles}
-use Rattle.play_results.specs.Files.{AreFiles}
-use Rattle.play_results.specs.Leaving.{IsBegun, IsLeft}
-use Rattle.play_results.specs.Results.{IsPlanIn}
+use Rattle.play_plan_laws.specs.Assemblies.{PlayFiles}
+use Rattle.play_result_laws.specs.Files.{AreFiles}
+use Rattle.play_result_laws.specs.Leaving.{IsBegun, IsLeft}
+use Rattle.play_result_laws.specs.Results.{IsPlanIn}
 use Rattle.play_files.specs.Left.{IsUnwritten}
 use Rattle.play_files.specs.Names.{HaveOwnFiles}
 use Rattle.play_files.specs.Opening.{IsSinkFault}

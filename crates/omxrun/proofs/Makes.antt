@@ -9,7 +9,7 @@ use Rattle.omx_types.specs.declared.fault.Status.TheVariants as Statuses
 use Rattle.load_gen.specs.Made.{MayRefuse, first, second, third, HasReason}
 use Rattle.omxrun.specs.Asked.{CanMake, IsFaultless, IsOrMemory}
 use Rattle.omxrun.specs.Making.{IsMakeOutcome}
-use Rattle.omxrun.specs.Told.{IsTold}
+use Rattle.omxrun.specs.Reports.{IsReported}
 use Rattle.omxrun.specs.declared.done.Done.{Done}
 use Rattle.omxrun.proofs.Complete.{told-status, true-false}
 
@@ -37,7 +37,7 @@ make-fault folder old new before now (Faults.Packets why) none can is = absurd i
 make-fault folder old new before now (Faults.NotRun line why) none can is = absurd is
 make-fault folder old new before now (Faults.NotBuilt what) none can is = absurd is
 
-pub complete_make : (seed frames : ℕ) (folder : List ℕ) (old new : Outside) (before now : ℕ) (told told_new : Option (List ℕ)) (outcome : Result Done Fault) (status : Status) → IsMakeOutcome seed frames folder old new outcome → IsTold outcome told told_new before now status → IsFaultless old new before now → CanMake folder old → IsOrMemory status Statuses.Ok
+pub complete_make : (seed frames : ℕ) (folder : List ℕ) (old new : Outside) (before now : ℕ) (told told_new : Option (List ℕ)) (outcome : Result Done Fault) (status : Status) → IsMakeOutcome seed frames folder old new outcome → IsReported outcome told told_new before now status → IsFaultless old new before now → CanMake folder old → IsOrMemory status Statuses.Ok
 complete_make seed frames folder old new before now told told_new (Ok done) status is printed none can = inl (told-status (Ok done) told told_new before now status none.print printed)
 complete_make seed frames folder old new before now told told_new (Err fault) status is printed none can =
     inr (told-status (Err fault) told told_new before now status none.print printed ∙ ap Statuses.Fault (make-fault folder old new before now fault none can is.reason))

@@ -10,8 +10,8 @@ use Rattle.script_lang.specs.declared.play_line.PartLine.{PartLine}
 use Rattle.script_lang.specs.declared.script.Script.{Script}
 use Rattle.script_lang.specs.declared.script.Script.TheVariants.{Play, Trace}
 use Rattle.play_forms.specs.Plans.{IsPlanOfScript, PlanValue}
-use Rattle.play_results.specs.Files.{written_by}
-use Rattle.play_results.specs.Summaries.{SinkLine, with_line}
+use Rattle.play_result_laws.specs.Files.{written_by}
+use Rattle.play_result_laws.specs.Summaries.{SinkLine, with_line}
 use Rattle.play_course.specs.Outcomes.{IsDone}
 use Rattle.play_course.specs.Sums.{planned_from, planned_line}
 use Rattle.omxrun.specs.Faults.{fault_of_script}

@@ -29,16 +29,16 @@ use Rattle.play_forms.specs.Joints.{AllJoin, AllLinked, headers_of, joints_of}
 use Rattle.play_forms.specs.Parts.{units_needed}
 use Rattle.play_forms.specs.Placing.{IsOrder}
 use Rattle.play_forms.specs.Plans.{IsFaultOfScript, IsFit, IsFitFault, IsFitted, IsPlanOf, IsPlanOfScript, IsSameFault, IsShapeFault, IsValid, PlanValue}
-use Rattle.play_openings.specs.Assemblies.{PlayFiles}
-use Rattle.play_results.specs.Files.{AreFiles, IsReader, IsWriter, read_by}
+use Rattle.play_plan_laws.specs.Assemblies.{PlayFiles}
+use Rattle.play_result_laws.specs.Files.{AreFiles, IsReader, IsWriter, read_by}
 use Rattle.play_files.specs.Faults.{fault_of_plan}
 use Rattle.play_files.specs.Left.{HaveHeads, IsUnplanned, IsUnread as IsUnopenedSource, IsUnfit, IsUnwritten}
 use Rattle.play_files.specs.Opening.{IsShortHead, IsSinkFault, IsSourceFault}
 use Rattle.play_course.specs.Outcomes.{IsLogFault, IsRunFault, IsUndone, WasOpened}
 use Rattle.play_course.specs.Settling.{parts_of}
 use Rattle.omxrun.specs.Asked.{CanPlay, HasNoPlan, IsAsked, IsFaulty, IsFaultless, IsGiven, IsMisfitted, IsOrMemory, IsSound, IsUnread}
-use Rattle.omxrun.specs.Plays.{HasPlayReason, IsPlayOutcome, IsToldOf, IsUnplayed, WasRead, play_text}
-use Rattle.omxrun.specs.Told.{status_of}
+use Rattle.omxrun.specs.Plays.{HasPlayReason, IsPlayOutcome, IsPlayReported, IsUnplayed, WasRead, play_text}
+use Rattle.omxrun.specs.Reports.{status_of}
 use Rattle.omxrun.proofs.Complete.{ReadsOnce, err-same, none-some, printed-status, same-text, true-false}
 
 -- a text comes to one outcome as a play
@@ -343,7 +343,7 @@ read-same once name log old mid script asked W A =
 calm-of : (old new : Outside) (before now : ℕ) → IsFaultless old new before now → IsCalm old new
 calm-of old new before now N = record { read = N.read; write = N.write }
 
-play-status : (outcome : Result (List ℕ) Fault) (told told_new : Option (List ℕ)) (before now : ℕ) (status : Status) → (Rose before now → ⊥) → IsToldOf outcome told told_new before now status → status ≡ status_of outcome
+play-status : (outcome : Result (List ℕ) Fault) (told told_new : Option (List ℕ)) (before now : ℕ) (status : Status) → (Rose before now → ⊥) → IsPlayReported outcome told told_new before now status → status ≡ status_of outcome
 play-status outcome told told_new before now status print printed = printed-status (status_of outcome) (play_text outcome) told told_new before now status print printed
 
 can-last : PlayOnce → ReadsOnce → PlansOnce → (name log : List ℕ) (old new : Outside) (before now : ℕ) (fault : Fault) → IsFaultless old new before now → CanPlay name log old → IsUnplayed name log old new fault → fault ≡ Faults.OutOfMemory
@@ -353,7 +353,7 @@ can-last play_once reads_once plans_once name log old new before now fault none 
     let e = read-same play_once name log old mid script can.script W can.asked in
     undone-last reads_once plans_once script log mid new fault (calm-later name log old mid new script W before now none) (can-let name log old mid new script W can e) U
 
-pub complete : PlayOnce → ReadsOnce → PlansOnce → (name log : List ℕ) (old new : Outside) (before now : ℕ) (told told_new : Option (List ℕ)) (outcome : Result (List ℕ) Fault) (status : Status) → IsPlayOutcome name log old new outcome → IsToldOf outcome told told_new before now status → IsFaultless old new before now → CanPlay name log old → IsOrMemory status Statuses.Ok
+pub complete : PlayOnce → ReadsOnce → PlansOnce → (name log : List ℕ) (old new : Outside) (before now : ℕ) (told told_new : Option (List ℕ)) (outcome : Result (List ℕ) Fault) (status : Status) → IsPlayOutcome name log old new outcome → IsPlayReported outcome told told_new before now status → IsFaultless old new before now → CanPlay name log old → IsOrMemory status Statuses.Ok
 complete play_once reads_once plans_once name log old new before now told told_new (Ok printed) status is told_is none can = inl (play-status (Ok printed) told told_new before now status none.print told_is)
 complete play_once reads_once plans_once name log old new before now told told_new (Err fault) status is told_is none can =
     inr (play-status (Err fault) told told_new before now status none.print told_is ∙ ap Statuses.Fault (can-last play_once reads_once plans_once name log old new before now fault none can is.unplayed))
@@ -361,7 +361,7 @@ complete play_once reads_once plans_once name log old new before now told told_n
 -- ---- a script with a fault
 
 -- a status is that of this fault, or of want of memory
-fault-status : (outcome : Fault) (wanted : Fault) (told told_new : Option (List ℕ)) (before now : ℕ) (status : Status) → (Rose before now → ⊥) → IsToldOf (Err outcome) told told_new before now status → (outcome ≡ wanted) ⊎ (outcome ≡ Faults.OutOfMemory) → IsOrMemory status (Statuses.Fault wanted)
+fault-status : (outcome : Fault) (wanted : Fault) (told told_new : Option (List ℕ)) (before now : ℕ) (status : Status) → (Rose before now → ⊥) → IsPlayReported (Err outcome) told told_new before now status → (outcome ≡ wanted) ⊎ (outcome ≡ Faults.OutOfMemory) → IsOrMemory status (Statuses.Fault wanted)
 fault-status outcome wanted told told_new before now status print told_is (inl is) = inl (play-status (Err outcome) told told_new before now status print told_is ∙ ap Statuses.Fault is)
 fault-status outcome wanted told told_new before now status print told_is (inr is) = inr (play-status (Err outcome) told told_new before now status print told_is ∙ ap Statuses.Fault is)
 
@@ -369,7 +369,7 @@ none-read : PlayOnce → (name log text : List ℕ) (old : Outside) (line : ℕ)
 none-read once name log text old line why script tells held is has =
     no-play once name log has.bytes script (fault_at line why) (subst (λ (t : List ℕ). IsPlayScript name log t script) (same-text text has.bytes (old.file name) (held tells) (has.given).held) is) has.refused
 
-pub unread : PlayOnce → (name log : List ℕ) (old new : Outside) (before now : ℕ) (told told_new : Option (List ℕ)) (line : ℕ) (why : ScriptWhy) (outcome : Result (List ℕ) Fault) (status : Status) → IsPlayOutcome name log old new outcome → IsToldOf outcome told told_new before now status → IsFaultless old new before now → IsUnread name log old line why → IsOrMemory status (Statuses.Fault (Faults.Script line why))
+pub unread : PlayOnce → (name log : List ℕ) (old new : Outside) (before now : ℕ) (told told_new : Option (List ℕ)) (line : ℕ) (why : ScriptWhy) (outcome : Result (List ℕ) Fault) (status : Status) → IsPlayOutcome name log old new outcome → IsPlayReported outcome told told_new before now status → IsFaultless old new before now → IsUnread name log old line why → IsOrMemory status (Statuses.Fault (Faults.Script line why))
 unread once name log old new before now told told_new line why (Ok printed) status is told_is none has =
     let P = is.played in
     absurd (none-read once name log P.text old line why P.script has.tells P.held P.is has)
@@ -415,7 +415,7 @@ module _ (plans_once : PlansOnce) (faults_once : FaultsOnce) (script : Script) (
   shape-told (inr (inl B)) = let O = B.opened in absurd (no-plan plans_once script O.planned why n is O.is_plan)
   shape-told (inr (inr U)) = let O = U.opened in absurd (no-plan plans_once script O.planned why n is O.is_plan)
 
-pub unplanned : PlayOnce → PlansOnce → FaultsOnce → (name log : List ℕ) (old new : Outside) (before now : ℕ) (told told_new : Option (List ℕ)) (why : PlanFault) (outcome : Result (List ℕ) Fault) (status : Status) → IsPlayOutcome name log old new outcome → IsToldOf outcome told told_new before now status → IsFaultless old new before now → HasNoPlan name log old why → IsOrMemory status (Statuses.Fault (fault_of_plan why))
+pub unplanned : PlayOnce → PlansOnce → FaultsOnce → (name log : List ℕ) (old new : Outside) (before now : ℕ) (told told_new : Option (List ℕ)) (why : PlanFault) (outcome : Result (List ℕ) Fault) (status : Status) → IsPlayOutcome name log old new outcome → IsPlayReported outcome told told_new before now status → IsFaultless old new before now → HasNoPlan name log old why → IsOrMemory status (Statuses.Fault (fault_of_plan why))
 unplanned once plans_once faults_once name log old new before now told told_new why (Ok printed) status is told_is none has =
     let P = is.played in
     let O = (P.done.1).opened in
@@ -486,7 +486,7 @@ module _ (reads_once : ReadsOnce) (plans_once : PlansOnce) (never : FitsNot) (mi
   misfit-told (inr (inl B)) = let left = B.left tells in absurd (opened-none B.plan B.files left.samples B.opened left.files_are)
   misfit-told (inr (inr U)) = let left = U.left tells in absurd (opened-none U.plan U.files left.samples U.opened left.files_are)
 
-pub misfitted : PlayOnce → ReadsOnce → PlansOnce → FitsNot → MisfitsOnce → (name log : List ℕ) (old new : Outside) (before now : ℕ) (told told_new : Option (List ℕ)) (why : PlanFault) (outcome : Result (List ℕ) Fault) (status : Status) → IsPlayOutcome name log old new outcome → IsToldOf outcome told told_new before now status → IsFaultless old new before now → IsMisfitted name log old why → IsOrMemory status (Statuses.Fault (fault_of_plan why))
+pub misfitted : PlayOnce → ReadsOnce → PlansOnce → FitsNot → MisfitsOnce → (name log : List ℕ) (old new : Outside) (before now : ℕ) (told told_new : Option (List ℕ)) (why : PlanFault) (outcome : Result (List ℕ) Fault) (status : Status) → IsPlayOutcome name log old new outcome → IsPlayReported outcome told told_new before now status → IsFaultless old new before now → IsMisfitted name log old why → IsOrMemory status (Statuses.Fault (fault_of_plan why))
 misfitted once reads_once plans_once never misfits_once name log old new before now told told_new why (Ok printed) status is told_is none has =
     let P = is.played in
     let D = P.done.1 in
@@ -557,7 +557,7 @@ module _ (reads_once : ReadsOnce) (plans_once : PlansOnce) (script : Script) (lo
   bad-told (inr (inl B)) = let O = B.opened in let left = B.left tells in absurd (files-none (B.plan).parts B.files left.samples ((O.fitted).parts ∙ planned-parts script O.planned O.is_plan) left.files_are)
   bad-told (inr (inr U)) = let O = U.opened in let left = U.left tells in absurd (files-none (U.plan).parts U.files left.samples ((O.fitted).parts ∙ planned-parts script O.planned O.is_plan) left.files_are)
 
-pub faulty : PlayOnce → ReadsOnce → PlansOnce → (name log : List ℕ) (old new : Outside) (before now : ℕ) (told told_new : Option (List ℕ)) (line : ℕ) (bad : WavFault) (outcome : Result (List ℕ) Fault) (status : Status) → IsPlayOutcome name log old new outcome → IsToldOf outcome told told_new before now status → IsFaultless old new before now → IsFaulty name log old line bad → IsOrMemory status (Statuses.Fault (Faults.BadMedia (Files.Line line) bad))
+pub faulty : PlayOnce → ReadsOnce → PlansOnce → (name log : List ℕ) (old new : Outside) (before now : ℕ) (told told_new : Option (List ℕ)) (line : ℕ) (bad : WavFault) (outcome : Result (List ℕ) Fault) (status : Status) → IsPlayOutcome name log old new outcome → IsPlayReported outcome told told_new before now status → IsFaultless old new before now → IsFaulty name log old line bad → IsOrMemory status (Statuses.Fault (Faults.BadMedia (Files.Line line) bad))
 faulty once reads_once plans_once name log old new before now told told_new line bad (Ok printed) status is told_is none has =
     let P = is.played in
     let D = P.done.1 in

@@ -25,7 +25,7 @@ use Rattle.trace_run.specs.Traced.{GotTrace, GotFront, GotLines, IsStopped}
 use Rattle.omxrun.specs.Asked.{IsGiven, CanTrace, IsUntraced, IsFaultless, IsOrMemory}
 use Rattle.omxrun.specs.Faults.{fault_of_script}
 use Rattle.omxrun.specs.Texts.{fault_line}
-use Rattle.omxrun.specs.Told.{IsPrinted, status_of}
+use Rattle.omxrun.specs.Reports.{IsPrinted, status_of}
 use Rattle.omxrun.specs.Traced.{HasScriptReason, TracesTo, IsTraceOf, IsTraceOutcome}
 use Rattle.omxrun.proofs.Complete.{none-some, printed-status, same-text}
 

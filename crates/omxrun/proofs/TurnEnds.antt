@@ -11,7 +11,7 @@ use Rattle.rtp_parts.specs.Answers.{StoppedPacking, packing_of, counts_of, packe
 use Rattle.wav_form.specs.declared.heads.WavHead.{WavHead}
 use Rattle.omxrun.specs.Asked.{IsFaultless, IsOrMemory}
 use Rattle.omxrun.specs.Packets.{PacksTo, UnpacksTo, StoppedUnpacking, packing_done, with_text}
-use Rattle.omxrun.specs.Told.{IsTold, status_of}
+use Rattle.omxrun.specs.Reports.{IsReported, status_of}
 use Rattle.omxrun.specs.Turned.{Written, Giving, Stopping, Comes, HasTurnReason, IsTurnOutcome, CanTurn}
 use Rattle.omxrun.specs.declared.done.Done.{Done}
 use Rattle.omxrun.proofs.Complete.{ReadsOnce, none-some, same-text, told-status}
@@ -91,7 +91,7 @@ turn-ends Gives Stops input output old new before now answer (Err fault) once be
 
 abbrev pub HasTurned : Giving → Stopping → List ℕ → List ℕ → Outside → Outside → Option (List ℕ) → Option (List ℕ) → ℕ → ℕ → Status → Type 0
 HasTurned Gives Stops input output old new told told_new before now status =
-    (outcome : Result Done Fault) × IsTurnOutcome Gives Stops input output old new outcome × IsTold outcome told told_new before now status
+    (outcome : Result Done Fault) × IsTurnOutcome Gives Stops input output old new outcome × IsReported outcome told told_new before now status
 
 complete-turn : (Gives : Giving) (Stops : Stopping) (input output : List ℕ) (old new : Outside) (told told_new : Option (List ℕ)) (before now : ℕ) (answer : Result Written Fault) (status : Status) → GivesOnce Gives → StopsBelow Stops → HasTurned Gives Stops input output old new told told_new before now status → IsFaultless old new before now → CanTurn Gives input output old answer → IsOrMemory status (status_of answer)
 complete-turn Gives Stops input output old new told told_new before now answer status once below (outcome, is, printed) none can =

@@ -18,7 +18,7 @@ use Rattle.wav_form.specs.Reading.{Reads}
 use Rattle.play_forms.specs.declared.plan_fault.PlanFault.{PlanFault}
 use Rattle.play_forms.specs.declared.plan_fault.PlanFault.TheVariants as Plans
 use Rattle.play_forms.specs.Plans.{IsFaultOfScript, IsFitFault, IsFitted, IsPlanOfScript, PlanValue}
-use Rattle.play_results.specs.Files.{IsReader, IsWriter, read_by}
+use Rattle.play_result_laws.specs.Files.{IsReader, IsWriter, read_by}
 use Rattle.play_files.specs.Left.{HaveHeads}
 use Rattle.play_course.specs.Settling.{parts_of}
 use Rattle.omxrun.specs.Words.{Asked, to_trace, to_play, to_make, to_clock, to_pack, to_unpack}

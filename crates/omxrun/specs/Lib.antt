@@ -8,8 +8,8 @@ pub mod Names
 pub mod Opened
 pub mod Packets
 pub mod Plays
+pub mod Reports
 pub mod Texts
-pub mod Told
 pub mod Traced
 pub mod Turned
 pub mod Words

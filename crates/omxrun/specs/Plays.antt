@@ -9,13 +9,13 @@ use Rattle.omx_types.specs.declared.fault.Status.{Status}
 use Rattle.script_lang.specs.LineByLine.{fault_at}
 use Rattle.script_lang.specs.PlayScripts.{IsPlayScript, PlayReadsAs}
 use Rattle.script_lang.specs.declared.script.Script.{Script}
-use Rattle.play_results.specs.Leaving.{IsLeft}
-use Rattle.play_results.specs.Summaries.{SinkLine, summary_text}
+use Rattle.play_result_laws.specs.Leaving.{IsLeft}
+use Rattle.play_result_laws.specs.Summaries.{SinkLine, summary_text}
 use Rattle.play_course.specs.Outcomes.{IsDone, IsUndone}
 use Rattle.play_course.specs.Settling.{parts_of}
 use Rattle.omxrun.specs.Absences.{AreAbsencesTold}
 use Rattle.omxrun.specs.Texts.{fault_line}
-use Rattle.omxrun.specs.Told.{IsPrinted, status_of}
+use Rattle.omxrun.specs.Reports.{IsPrinted, status_of}
 use Rattle.omxrun.specs.Traced.{HasScriptReason}
 
 -- ---- the script
@@ -98,5 +98,5 @@ abbrev pub play_text : Result (List ℕ) Fault → List ℕ
 play_text (Ok printed) = printed
 play_text (Err fault) = fault_line fault
 
-abbrev pub IsToldOf : Result (List ℕ) Fault → Option (List ℕ) → Option (List ℕ) → ℕ → ℕ → Status → Type 0
-IsToldOf outcome old new before now status = IsPrinted (status_of outcome) (play_text outcome) old new before now status
+abbrev pub IsPlayReported : Result (List ℕ) Fault → Option (List ℕ) → Option (List ℕ) → ℕ → ℕ → Status → Type 0
+IsPlayReported outcome old new before now status = IsPrinted (status_of outcome) (play_text outcome) old new before now status

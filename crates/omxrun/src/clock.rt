@@ -3,9 +3,9 @@
 ghost use Rattle.std.specs.Prelude.{◌≡◌, ◌≤◌, List, ℕ, Result};
 ghost use Rattle.outside_io.specs.Files.{GoesOn};
 ghost use Rattle.omxrun.specs.Clocked.{RunsTo, IsClockOutcome};
-ghost use Rattle.omxrun.specs.Told.{IsPrinted, status_of};
+ghost use Rattle.omxrun.specs.Reports.{IsPrinted, status_of};
 
-use crate::print::tell;
+use crate::print::report;
 use crate::script::SCRIPT_BYTES;
 use crate::trace::unread_fault;
 use clock_core::run_clock;
@@ -27,7 +27,7 @@ pub fn clock_file<M: Media, O: Sink>(
 {
     match read_whole(alloc, media, name, SCRIPT_BYTES) {
         Ok(bytes) => clock_script(&bytes, out),
-        Err(unread) => tell(Err(unread_fault(unread)), out),
+        Err(unread) => report(Err(unread_fault(unread)), out),
     }
 }
 
@@ -46,7 +46,7 @@ fn clock_script<O: Sink>(bytes: &[u8], out: &mut O) -> Status
         Ok(()) => Status::Ok,
         Err(fault) => match fault {
             Fault::WriteFault => Status::Fault(Fault::WriteFault),
-            _ => tell(Err(fault), out),
+            _ => report(Err(fault), out),
         },
     }
 }

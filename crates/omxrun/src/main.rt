@@ -21,7 +21,7 @@ mod words;
 
 use omx_types::{Fault, Status};
 use outside_host::{HostMedia, HostSink};
-use print::tell;
+use print::report;
 use run::run_words;
 use std::alloc::Global;
 use std::env::{Args, Env};
@@ -36,7 +36,7 @@ fn main(rt: HostRuntime) -> io::Result<ExitCode> {
             let mut media = HostMedia::new(rt.alloc(), rt.clone()?);
             run_words(&rt, rt.alloc(), &words, &mut media, &mut out)
         }
-        Err(fault) => tell(Err(fault), &mut out),
+        Err(fault) => report(Err(fault), &mut out),
     };
     Ok(ExitCode::from(status.number()))
 }

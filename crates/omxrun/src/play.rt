@@ -4,9 +4,9 @@ ghost use Rattle.std.specs.Prelude.{◌≡◌, ◌≤◌, ℕ, List, Result, IfO
 ghost use Rattle.outside_io.specs.Files.{GoesOn};
 ghost use Rattle.script_lang.specs.PlayScripts.{IsPlayScript};
 ghost use Rattle.omxrun.specs.Absences.{AreAbsencesTold};
-ghost use Rattle.omxrun.specs.Plays.{HasPlayReason, IsPlayCourse, IsPlayOutcome, IsToldOf, WasRead};
+ghost use Rattle.omxrun.specs.Plays.{HasPlayReason, IsPlayCourse, IsPlayOutcome, IsPlayReported, WasRead};
 
-use crate::print::{print, tell};
+use crate::print::{print, report};
 use crate::script::SCRIPT_BYTES;
 use crate::summary::text_of_play;
 use crate::trace::{refused_fault, unread_fault};
@@ -29,12 +29,12 @@ pub fn play_file<M: Media, P: Player<M::Src, M::Snk>, O: Sink>(
     ensures goes_on { GoesOn (M.outside media.old) (M.outside media.new) }
     ensures later { O.faults out.old ≤ O.faults out.new }
     ensures played { (outcome : Result (List ℕ) Fault) × IsPlayOutcome name.now log.now (M.outside media.old) (M.outside media.new) outcome
-        × IsToldOf outcome (O.told out.old) (O.told out.new) (O.faults out.old) (O.faults out.new) result }
+        × IsPlayReported outcome (O.told out.old) (O.told out.new) (O.faults out.old) (O.faults out.new) result }
 {
     law_of_names();
     match script_of(alloc, media, name, log) {
         Ok(script) => play_read(alloc, media, &script, log, player, out),
-        Err(fault) => tell(Err(fault), out),
+        Err(fault) => report(Err(fault), out),
     }
 }
 
@@ -69,13 +69,13 @@ fn play_read<M: Media, P: Player<M::Src, M::Snk>, O: Sink>(
     ensures goes_on { GoesOn (M.outside media.old) (M.outside media.new) }
     ensures later { O.faults out.old ≤ O.faults out.new }
     ensures played { (outcome : Result (List ℕ) Fault) × IsPlayCourse script.now log.now (M.outside media.old) (M.outside media.new) outcome
-        × IsToldOf outcome (O.told out.old) (O.told out.new) (O.faults out.old) (O.faults out.new) result }
+        × IsPlayReported outcome (O.told out.old) (O.told out.new) (O.faults out.old) (O.faults out.new) result }
 {
     match play_script(alloc, script, media, log, player) {
         Ok(summary) => {
             let text = text_of_play(parts_of(script), summary.sinks());
             print(&text, Status::Ok, out)
         }
-        Err(undone) => tell(Err(undone), out),
+        Err(undone) => report(Err(undone), out),
     }
 }

@@ -1,7 +1,7 @@
 //! Texts and the outcomes of commands are printed, with the status that follows from the outcome and the writes.
 
 ghost use Rattle.std.specs.Prelude.{◌≡◌, ◌≤◌, Result};
-ghost use Rattle.omxrun.specs.Told.{IsPrinted, IsTold, outcome_text, status_of as status_of_outcome};
+ghost use Rattle.omxrun.specs.Reports.{IsPrinted, IsReported, outcome_text, status_of as status_of_outcome};
 
 use crate::done::Done;
 use crate::packed_texts::{text_of_packed, text_of_unpacked};
@@ -11,9 +11,9 @@ use omx_types::{Fault, Status};
 use outside_io::{Sink, write_all};
 
 /// Prints what a command came to. Where a write to `out` is counted as failed, that is what it came to.
-pub fn tell<O: Sink>(outcome: Result<Done, Fault>, out: &mut O) -> Status
+pub fn report<O: Sink>(outcome: Result<Done, Fault>, out: &mut O) -> Status
     ensures later { O.faults out.old ≤ O.faults out.new }
-    ensures told { IsTold outcome (O.told out.old) (O.told out.new) (O.faults out.old) (O.faults out.new) result }
+    ensures reported { IsReported outcome (O.told out.old) (O.told out.new) (O.faults out.old) (O.faults out.new) result }
 {
     print(&text_of(outcome), status_of(outcome), out)
 }

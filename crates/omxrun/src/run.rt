@@ -14,8 +14,8 @@ ghost use Rattle.omxrun.specs.Commands.{HasRun};
 ghost use Rattle.omxrun.specs.Making.{IsMakeOutcome};
 ghost use Rattle.rtp_parts.specs.Answers.{StoppedPacking};
 ghost use Rattle.omxrun.specs.Packets.{PacksTo, UnpacksTo, StoppedUnpacking};
-ghost use Rattle.omxrun.specs.Plays.{IsPlayOutcome, IsToldOf};
-ghost use Rattle.omxrun.specs.Told.{IsPrinted, IsTold, status_of};
+ghost use Rattle.omxrun.specs.Plays.{IsPlayOutcome, IsPlayReported};
+ghost use Rattle.omxrun.specs.Reports.{IsPrinted, IsReported, status_of};
 ghost use Rattle.omxrun.specs.Traced.{IsTraceOutcome};
 ghost use Rattle.omxrun.specs.Turned.{Written, IsTurnOutcome, CanTurn};
 ghost use Rattle.omxrun.specs.Words.{Asked, to_trace, to_play, to_make, to_clock, to_pack, to_unpack, AreWordsOf, AreNoForm, IsAllowed, asked_by};
@@ -25,14 +25,14 @@ use crate::done::Done;
 use crate::making::make_files;
 use crate::packets::{pack_file, unpack_file};
 use crate::play::play_file;
-use crate::print::tell;
+use crate::print::report;
 use crate::trace::trace_file;
 use crate::words::{Command, command_of};
 use omx_types::{Fault, Status, Unbuilt};
 use outside_io::{Media, Sink};
 use play_course::Player;
 use play_forms::law_of_plans;
-use play_thread::OneThread;
+use play_run::OneThread;
 use script_lang::{one_outcome, one_play};
 use std::alloc::Global;
 use std::sync::Wait;
@@ -52,9 +52,9 @@ pub fn run_words<R: Threads + Wait + Sync, M: Media, O: Sink>(
 
     // Words of no form, and of a form that isn't built yet.
     ensures usage { AreNoForm (map string_bytes words.now) → (M.outside media.new ≡ M.outside media.old)
-        × IsTold (Err Fault.Usage) (O.told out.old) (O.told out.new) (O.faults out.old) (O.faults out.new) result }
+        × IsReported (Err Fault.Usage) (O.told out.old) (O.told out.new) (O.faults out.old) (O.faults out.new) result }
     ensures unbuilt { (asked : Asked) → AreWordsOf (map string_bytes words.now) asked → IsUnbuilt asked → (M.outside media.new ≡ M.outside media.old)
-        × IsTold (Err (Fault.NotBuilt Unbuilt.Words)) (O.told out.old) (O.told out.new) (O.faults out.old) (O.faults out.new) result }
+        × IsReported (Err (Fault.NotBuilt Unbuilt.Words)) (O.told out.old) (O.told out.new) (O.faults out.old) (O.faults out.new) result }
 
     // A trace: what it came to and the text that this asks for, and that the text is printed.
     ensures trace { (script : List ℕ) → AreWordsOf (map string_bytes words.now) (to_trace script) → (outcome : Result (Unit {0}) Fault) × (text : List ℕ)
@@ -64,12 +64,12 @@ pub fn run_words<R: Threads + Wait + Sync, M: Media, O: Sink>(
     // A play: what it came to, and what is printed of that.
     ensures play { (script log : List ℕ) → AreWordsOf (map string_bytes words.now) (to_play script 0 log) → (outcome : Result (List ℕ) Fault)
         × IsPlayOutcome script log (M.outside media.old) (M.outside media.new) outcome
-        × IsToldOf outcome (O.told out.old) (O.told out.new) (O.faults out.old) (O.faults out.new) result }
+        × IsPlayReported outcome (O.told out.old) (O.told out.new) (O.faults out.old) (O.faults out.new) result }
 
     // Files that are made: what it came to, and what is printed of that.
     ensures make { (seed frames : ℕ) (folder : List ℕ) → AreWordsOf (map string_bytes words.now) (to_make seed frames folder) → (outcome : Result Done Fault)
         × IsMakeOutcome seed frames folder (M.outside media.old) (M.outside media.new) outcome
-        × IsTold outcome (O.told out.old) (O.told out.new) (O.faults out.old) (O.faults out.new) result }
+        × IsReported outcome (O.told out.old) (O.told out.new) (O.faults out.old) (O.faults out.new) result }
 
     // A clock's script: what its run came to and the text that this asks for, and that the text is printed.
     ensures clock { (script : List ℕ) → AreWordsOf (map string_bytes words.now) (to_clock script) → (outcome : Result (Unit {0}) Fault) × (text : List ℕ)
@@ -79,10 +79,10 @@ pub fn run_words<R: Threads + Wait + Sync, M: Media, O: Sink>(
     // A file that is packed, or unpacked, into another one: what it came to, and what is printed of that.
     ensures pack { (input output : List ℕ) → AreWordsOf (map string_bytes words.now) (to_pack input output) → (outcome : Result Done Fault)
         × IsTurnOutcome PacksTo StoppedPacking input output (M.outside media.old) (M.outside media.new) outcome
-        × IsTold outcome (O.told out.old) (O.told out.new) (O.faults out.old) (O.faults out.new) result }
+        × IsReported outcome (O.told out.old) (O.told out.new) (O.faults out.old) (O.faults out.new) result }
     ensures unpack { (input output : List ℕ) → AreWordsOf (map string_bytes words.now) (to_unpack input output) → (outcome : Result Done Fault)
         × IsTurnOutcome UnpacksTo StoppedUnpacking input output (M.outside media.old) (M.outside media.new) outcome
-        × IsTold outcome (O.told out.old) (O.told out.new) (O.faults out.old) (O.faults out.new) result }
+        × IsReported outcome (O.told out.old) (O.told out.new) (O.faults out.old) (O.faults out.new) result }
 
     // Where all is told and no count of faults rises, the status is the one that the files ask for, or memory was wanting.
     ensures untraced { (script : List ℕ) (line : ℕ) (why : ScriptWhy) → AreWordsOf (map string_bytes words.now) (to_trace script) →
@@ -128,7 +128,7 @@ pub fn run_words<R: Threads + Wait + Sync, M: Media, O: Sink>(
     law_of_plans();
     match command_of(words) {
         Some(command) => run_command(alloc, command, media, &mut OneThread, out),
-        None => tell(Err(Fault::Usage), out),
+        None => report(Err(Fault::Usage), out),
     }
 }
 
@@ -158,11 +158,11 @@ fn run_command<M: Media, P: Player<M::Src, M::Snk>, O: Sink>(
             folder,
         } => {
             let outcome = make_files(alloc, media, seed, frames, folder);
-            tell(outcome, out)
+            report(outcome, out)
         }
         Command::Clock { script } => clock_file(alloc, media, script, out),
-        Command::Pack { input, output } => tell(pack_file(alloc, media, input, output), out),
-        Command::Unpack { input, output } => tell(unpack_file(alloc, media, input, output), out),
+        Command::Pack { input, output } => report(pack_file(alloc, media, input, output), out),
+        Command::Unpack { input, output } => report(unpack_file(alloc, media, input, output), out),
     }
 }
 
@@ -179,9 +179,9 @@ fn play_with<M: Media, P: Player<M::Src, M::Snk>, O: Sink>(
     ensures goes_on { GoesOn (M.outside media.old) (M.outside media.new) }
     ensures later { O.faults out.old ≤ O.faults out.new }
     ensures played { workers ≡ 0 → (outcome : Result (List ℕ) Fault) × IsPlayOutcome script.now log.now (M.outside media.old) (M.outside media.new) outcome
-        × IsToldOf outcome (O.told out.old) (O.told out.new) (O.faults out.old) (O.faults out.new) result }
+        × IsPlayReported outcome (O.told out.old) (O.told out.new) (O.faults out.old) (O.faults out.new) result }
     ensures unbuilt { 1 ≤ workers → (M.outside media.new ≡ M.outside media.old)
-        × IsTold (Err (Fault.NotBuilt Unbuilt.Words)) (O.told out.old) (O.told out.new) (O.faults out.old) (O.faults out.new) result }
+        × IsReported (Err (Fault.NotBuilt Unbuilt.Words)) (O.told out.old) (O.told out.new) (O.faults out.old) (O.faults out.new) result }
 {
     if workers == 0 {
         play_file(alloc, media, script, log, player, out)
@@ -189,6 +189,6 @@ fn play_with<M: Media, P: Player<M::Src, M::Snk>, O: Sink>(
         let words = Fault::NotBuilt {
             what: Unbuilt::Words,
         };
-        tell(Err(words), out)
+        report(Err(words), out)
     }
 }

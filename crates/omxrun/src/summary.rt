@@ -2,7 +2,7 @@
 
 ghost use Rattle.std.specs.Prelude.{◌≡◌, ◌+◌, ◌≤◌, ◌++◌, length, map, slice_get, codes};
 ghost use Rattle.std.specs.Fmt.{decimal};
-ghost use Rattle.play_results.specs.Summaries.{line_text, name_in, summary_text};
+ghost use Rattle.play_result_laws.specs.Summaries.{line_text, name_in, summary_text};
 ghost use Rattle.play_course.specs.Sums.{line_value};
 
 use crate::text::Text;

@@ -23,6 +23,7 @@ impl Model for Text {
 }
 
 impl Text {
+    /// No text yet.
     pub fn new() -> Text
         ensures { result ≡ [] }
     {
@@ -31,6 +32,7 @@ impl Text {
         }
     }
 
+    /// Puts the bytes behind the text.
     pub fn push(&mut self, piece: &[u8])
         requires { length self.old + length piece.now ≤ 2560 }
         ensures bytes { self.new ≡ self.old ++ piece.now }
@@ -50,6 +52,7 @@ impl Text {
         self.push(&digits[..count]);
     }
 
+    /// The bytes of the text.
     pub fn as_slice(&self) -> &[u8]
         ensures { result.now ≡ self.now }
     {

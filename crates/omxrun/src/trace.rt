@@ -5,10 +5,10 @@ ghost use Rattle.outside_io.specs.Files.{CountsStand, GoesOn};
 ghost use Rattle.script_lang.specs.Scripts.{IsOfCommand};
 ghost use Rattle.omxrun.specs.Absences.{AreAbsencesTold};
 ghost use Rattle.omxrun.specs.Faults.{fault_of_script, fault_of_reading};
-ghost use Rattle.omxrun.specs.Told.{IsPrinted, status_of};
+ghost use Rattle.omxrun.specs.Reports.{IsPrinted, status_of};
 ghost use Rattle.omxrun.specs.Traced.{IsScriptIn, HasScriptReason, TracesTo, IsTraceOutcome};
 
-use crate::print::tell;
+use crate::print::report;
 use crate::script::SCRIPT_BYTES;
 use omx_types::{Fault, ScriptWhy, Status, Which};
 use outside_io::{Media, Sink, Unread, read_whole};
@@ -30,7 +30,7 @@ pub fn trace_file<M: Media, O: Sink>(
 {
     match script_in(alloc, media, name) {
         Ok(script) => trace_script(alloc, &script, out),
-        Err(fault) => tell(Err(fault), out),
+        Err(fault) => report(Err(fault), out),
     }
 }
 
@@ -101,7 +101,7 @@ fn trace_script<O: Sink>(alloc: Global, script: &Script, out: &mut O) -> Status
     match outcome {
         Ok(()) => Status::Ok,
         Err(fault) => match fault {
-            Fault::OutOfMemory => tell(Err(Fault::OutOfMemory), out),
+            Fault::OutOfMemory => report(Err(Fault::OutOfMemory), out),
             _ => Status::Fault(Fault::WriteFault),
         },
     }

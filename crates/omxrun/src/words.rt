@@ -6,6 +6,7 @@ ghost use Rattle.omxrun.specs.Names.{IsName};
 ghost use Rattle.omxrun.specs.Words.{AreWordsOf, AreNoForm, IsPlay, IsMake, ArePair, asked_by};
 
 use line_text::{one_numeral, read_u64};
+use script_lang::FILE_NAME_BYTES;
 
 /// What the words ask for.
 #[derive(Clone, Copy)]
@@ -136,7 +137,9 @@ fn make_of<'a>(seed: &str, frames: &str, folder: &'a str) -> Option<Command<'a>>
 pub fn is_name(word: &str) -> bool
     ensures { IsTrue result ↔ IsName word.now }
 {
-    !word.is_empty() && word.len() <= 1024 && word.as_bytes().iter().all(|byte| *byte > 32)
+    !word.is_empty()
+        && word.len() <= FILE_NAME_BYTES
+        && word.as_bytes().iter().all(|byte| *byte > 32)
 }
 
 fn is_play(script: &str, workers: u64, log: &str) -> bool

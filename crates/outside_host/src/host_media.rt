@@ -31,6 +31,7 @@ pub struct HostMedia<R> {
 impl<R> HostMedia<R> {
     ghost use Rattle.outside_host.specs.Adapters.{HasNoCount, opened_of};
 
+    /// Files of the host, none of which was opened yet.
     pub fn new(alloc: Global, files: R) -> HostMedia<R>
         ensures counts { HasNoCount result }
         ensures opened { opened_of result ≡ [] }

@@ -19,6 +19,7 @@ pub struct HostSink<W> {
 impl<W> HostSink<W> {
     ghost use Rattle.outside_host.specs.Adapters.{sink_writer, HasNoFault};
 
+    /// A sink over a writer, to which nothing was written yet.
     pub fn new(writer: W) -> HostSink<W>
         ensures writer { sink_writer result ≡ writer }
         ensures faults { HasNoFault result }

@@ -4,6 +4,7 @@ pub mod Causes
 pub mod Entries
 pub mod Fails
 pub mod Files
+pub mod Keeping
 pub mod Memory
 pub mod MemoryFiles
 pub mod Moves

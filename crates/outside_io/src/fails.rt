@@ -34,18 +34,21 @@ impl Model for FileName {
 }
 
 impl FileName {
+    /// The name of a file, from its text.
     pub fn new(text: String) -> FileName
         ensures { result ≡ string_bytes text }
     {
         FileName { text }
     }
 
+    /// The name as it was given.
     pub fn as_str(&self) -> &str
         ensures { result.now ≡ self.now }
     {
         self.text.as_str()
     }
 
+    /// Gives the name back, and takes no memory.
     pub fn into_string(self) -> String
         ensures { string_bytes result ≡ self }
     {
@@ -64,6 +67,7 @@ pub struct Fail {
 impl Fail {
     ghost use Rattle.outside_io.specs.Fails.{is_of};
 
+    /// That the nth call of that kind on that name fails.
     pub fn new(name: String, kind: FailKind, nth: u64) -> Fail
         ensures name { result.name ≡ string_bytes name }
         ensures kind { result.kind ≡ kind }

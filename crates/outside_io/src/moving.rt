@@ -4,6 +4,7 @@ ghost use Rattle.std.specs.Prelude.{◌≡◌, ◌≢◌, ◌+◌, ◌<◌, ◌�
 ghost use Rattle.std.specs.Io.KnownBytes.{append_known};
 ghost use Rattle.outside_io.specs.Asking.{AsksWithin};
 ghost use Rattle.outside_io.specs.Causes.{HasCause, Rose};
+ghost use Rattle.outside_io.specs.Keeping.{KeepsSink, KeepsSource};
 ghost use Rattle.outside_io.specs.Moves.{AppendsFront, WhereTold};
 ghost use Rattle.outside_io.specs.Stops.{IsShortAt, IsShortOf, IsStopAt, IsStopOf, StopsBefore};
 
@@ -33,7 +34,7 @@ pub enum PumpFault {
 pub fn write_all<K: Sink>(sink: &mut K, piece: &[u8]) -> Result<(), Failed>
     ensures whole { OnOk result (K.told sink.new ≡ append_known (K.told sink.old) piece.now) }
     ensures front { AppendsFront (K.told sink.old) (K.told sink.new) piece.now }
-    ensures name { K.name sink.new ≡ K.name sink.old }
+    ensures keeps_sink { KeepsSink K.Sink sink.old sink.new }
     ensures cause { HasCause (K.faults sink.old) (K.faults sink.new) result }
 {
     let mut done = 0;
@@ -50,10 +51,7 @@ pub fn read_exact<S: Source>(source: &mut S, buf: &mut [u8]) -> Result<(), ReadS
     ensures bytes { WhereTold (S.told source.old) (λ bytes. OnOk result (
         buf.new ≡ take (length buf.old) (drop (S.offset source.old) bytes))) }
     ensures offset { OnOk result (S.offset source.new ≡ S.offset source.old + length buf.old) }
-    ensures told { S.told source.new ≡ S.told source.old }
-    ensures ends { S.ends source.new ≡ S.ends source.old }
-    ensures size { S.size source.new ≡ S.size source.old }
-    ensures later { S.faults source.old ≤ S.faults source.new }
+    ensures keeps_source { KeepsSource S.Source source.old source.new }
     ensures failed { result ≡ Err ReadStop.Failed → Rose (S.faults source.old) (S.faults source.new) }
     ensures stands { result ≢ Err ReadStop.Failed → S.faults source.new ≡ S.faults source.old }
     ensures asks { AsksWithin (S.asked source.old) (S.asked source.new) (S.offset source.old + length buf.old) }
@@ -88,12 +86,8 @@ pub fn pump<S: Source, K: Sink>(source: &mut S, sink: &mut K) -> Result<(), Pump
     ensures front { WhereTold (S.told source.old) (λ bytes.
         AppendsFront (K.told sink.old) (K.told sink.new) (drop (S.offset source.old) bytes)) }
     ensures end { OnOk result (S.offset source.new ≡ S.size source.old) }
-    ensures told { S.told source.new ≡ S.told source.old }
-    ensures ends { S.ends source.new ≡ S.ends source.old }
-    ensures size { S.size source.new ≡ S.size source.old }
-    ensures name { K.name sink.new ≡ K.name sink.old }
-    ensures read_later { S.faults source.old ≤ S.faults source.new }
-    ensures write_later { K.faults sink.old ≤ K.faults sink.new }
+    ensures keeps_source { KeepsSource S.Source source.old source.new }
+    ensures keeps_sink { KeepsSink K.Sink sink.old sink.new }
     ensures read { result ≡ Err PumpFault.Read → Rose (S.faults source.old) (S.faults source.new) }
     ensures write { result ≡ Err PumpFault.Write → Rose (K.faults sink.old) (K.faults sink.new) }
     ensures read_stands { result ≢ Err PumpFault.Read → S.faults source.new ≡ S.faults source.old }

@@ -2,6 +2,7 @@
 
 ghost use Rattle.std.specs.Prelude.{◌≡◌, ◌≢◌, ◌≤◌, length, Err, IfOk, IfErr, OnOk, OnErr, IsSome, IsFalse, IsTrue, Some};
 ghost use Rattle.outside_io.specs.Files.{GoesOn, SameBut};
+ghost use Rattle.outside_io.specs.Keeping.{KeepsSource};
 ghost use Rattle.outside_io.specs.Moves.{WhereTold};
 ghost use Rattle.outside_io.specs.Whole.{HasRestReason, HasReadReason, HasWriteReason, IsKeptOrFrontOf, WasOpened};
 
@@ -55,8 +56,7 @@ fn read_rest<S: Source>(alloc: Global, source: &mut S, most: u64) -> Result<Vec<
     requires { S.offset source.old ≡ 0 }
     ensures bytes { IfOk result (λ bytes. WhereTold (S.told source.old) (λ told. bytes.items ≡ told)) }
     ensures fits { IfOk result (λ bytes. length bytes.items ≤ most) }
-    ensures told { S.told source.new ≡ S.told source.old }
-    ensures later { S.faults source.old ≤ S.faults source.new }
+    ensures keeps_source { KeepsSource S.Source source.old source.new }
     ensures stands { result ≢ Err Unread.Failed → S.faults source.new ≡ S.faults source.old }
     ensures reason { IfErr result (HasRestReason (S.told source.old) (S.ends source.old) most (S.faults source.old) (S.faults source.new)) }
 {
@@ -94,10 +94,7 @@ pub fn write_whole<M: Media>(
     ensures absences_stand { result ≢ Err Refused.Absent → (M.outside media.new).absences ≡ (M.outside media.old).absences }
     ensures read_faults { (M.outside media.new).read_faults ≡ (M.outside media.old).read_faults }
 {
-    let mut sink = match media.sink(alloc, name) {
-        Ok(sink) => sink,
-        Err(refused) => return Err(refused),
-    };
+    let mut sink = media.sink(alloc, name)?;
     let written = write_all(&mut sink, bytes);
     let closed = media.close_sink(sink);
     match written {

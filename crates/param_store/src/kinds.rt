@@ -5,8 +5,9 @@ ghost use Rattle.il_machine.specs.Kinds.{inputs_of, outputs_of, ports_in, is_inp
 ghost use Rattle.il_machine.specs.Settings.{default_format, default_setting, IsSized, is_gain, is_mixer, is_splitter};
 
 use il_machine::PortSetting;
-use omx_types::{Format, Kind, PortDefinition, Supplier};
+use omx_types::{BLOCK_BYTES, Format, Kind, PortDefinition, Supplier};
 
+/// How many inputs a component of the kind has.
 pub fn inputs(kind: Kind) -> u32
     ensures { result ≡ inputs_of kind }
 {
@@ -17,6 +18,7 @@ pub fn inputs(kind: Kind) -> u32
     }
 }
 
+/// How many outputs a component of the kind has.
 pub fn outputs(kind: Kind) -> u32
     ensures { result ≡ outputs_of kind }
 {
@@ -33,6 +35,7 @@ pub fn outputs(kind: Kind) -> u32
     }
 }
 
+/// How many ports a component of the kind has: the inputs come first.
 pub fn ports(kind: Kind) -> u32
     requires { IsSized kind }
     ensures count { result ≡ ports_in kind }
@@ -41,24 +44,28 @@ pub fn ports(kind: Kind) -> u32
     inputs(kind) + outputs(kind)
 }
 
+/// Whether the port of this index is an input.
 pub fn is_input(kind: Kind, port: u32) -> bool
     ensures { result ≡ is_input kind port }
 {
     port < inputs(kind)
 }
 
+/// Whether the kind has a gain to be set.
 pub fn is_gain(kind: Kind) -> bool
     ensures { result ≡ is_gain kind }
 {
     matches!(kind, Kind::Gain)
 }
 
+/// Whether the kind has weights to be set.
 pub fn is_mixer(kind: Kind) -> bool
     ensures { result ≡ is_mixer kind }
 {
     matches!(kind, Kind::Mixer(_))
 }
 
+/// Whether the kind gives each output the same frames.
 pub fn is_splitter(kind: Kind) -> bool
     ensures { result ≡ is_splitter kind }
 {
@@ -153,6 +160,7 @@ fn default_format(kind: Kind, input: bool) -> Format
     }
 }
 
+/// What is set of a port before its owner sets anything.
 pub fn default_setting(kind: Kind, input: bool) -> PortSetting
     ensures { result ≡ default_setting kind input }
 {
@@ -161,7 +169,7 @@ pub fn default_setting(kind: Kind, input: bool) -> PortSetting
             input,
             format: default_format(kind, input),
             count: 2,
-            size: 4096,
+            size: BLOCK_BYTES,
         },
         supplier: Supplier::Unspecified,
     }

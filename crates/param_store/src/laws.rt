@@ -7,10 +7,10 @@ ghost use Rattle.il_machine.specs.Settings.{Settings, IsWhole, set_refusal, chan
 
 /// A get after a set that isn't refused gives the value that was set.
 pub fn law_of_get_after_set()
-    ensures { (s : Settings) (key : Key) (config : Bool) (value : Value) (free : Bool) → IsWhole s → set_refusal s key config value free ≡ None → got (changed_by key.port value s) key config ≡ Ok value }
+    ensures { (settings : Settings) (key : Key) (config : Bool) (value : Value) (free : Bool) → IsWhole settings → set_refusal settings key config value free ≡ None → got (changed_by key.port value settings) key config ≡ Ok value }
 {}
 
 /// A set that isn't refused leaves every other value as it was.
 pub fn law_of_all_else()
-    ensures { (s : Settings) (key other : Key) (config others : Bool) (value : Value) (free : Bool) → IsWhole s → set_refusal s key config value free ≡ None → is_apart key other ≡ true → got (changed_by key.port value s) other others ≡ got s other others }
+    ensures { (settings : Settings) (key other : Key) (config others : Bool) (value : Value) (free : Bool) → IsWhole settings → set_refusal settings key config value free ≡ None → is_apart key other ≡ true → got (changed_by key.port value settings) other others ≡ got settings other others }
 {}

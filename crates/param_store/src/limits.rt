@@ -9,8 +9,9 @@ ghost use Rattle.omx_types.specs.Formats.{frame_bytes_of};
 
 use crate::kinds;
 use il_machine::PortSetting;
-use omx_types::{Format, Kind, Param, PortDefinition, Version};
+use omx_types::{BLOCK_BYTES, Format, Kind, Param, PortDefinition, Version};
 
+/// Whether the version is that of OpenMAX IL 1.1.2.
 pub fn is_v112(version: Version) -> bool
     ensures { result ≡ is_v112 version }
 {
@@ -29,6 +30,7 @@ fn is_known(format: Format) -> bool
     !is_auto(format)
 }
 
+/// Whether the rate and the channels are in their limits; a port that has no format yet is.
 pub fn is_within_limits(format: Format) -> bool
     ensures { result ≡ is_within_limits format }
 {
@@ -37,6 +39,7 @@ pub fn is_within_limits(format: Format) -> bool
     is_auto(format) || 1 <= rate && rate <= 768_000 && 1 <= channels && channels <= 8
 }
 
+/// Whether the formats agree in coding, rate and channels.
 pub fn is_same_format(a: Format, b: Format) -> bool
     ensures { result ≡ same_format a b }
 {
@@ -77,6 +80,7 @@ pub fn is_same_format(a: Format, b: Format) -> bool
     }
 }
 
+/// Whether the formats agree but for the coding.
 pub fn has_same_rate_and_channels(a: Format, b: Format) -> bool
     ensures { result ≡ same_rate_and_channels a b }
 {
@@ -121,7 +125,7 @@ fn is_definition_of(input: bool, definition: PortDefinition) -> bool
         && 1 <= count
         && count <= 32
         && 1 <= size
-        && size <= 4096
+        && size <= BLOCK_BYTES
         && format.frame_bytes() <= size
         && is_input == input
 }

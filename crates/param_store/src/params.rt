@@ -7,7 +7,7 @@ ghost use Rattle.il_machine.specs.Settings.{IsSized, default_settings, default_s
 
 use crate::{kinds, limits};
 use il_machine::PortSetting;
-use omx_types::{Kind, OmxError, Param, ParamKey, PortDefinition};
+use omx_types::{Kind, ONE, OmxError, Param, ParamKey, PortDefinition};
 use std::marker::Model;
 
 /// What a client sets of one component.
@@ -61,25 +61,29 @@ impl Params {
             kind,
             ports: default_ports(kind),
             priority: 128,
-            gain: 4096,
-            weights: [4096; 8],
+            gain: ONE,
+            weights: [ONE; 8],
         }
     }
 
+    /// The kind for which they are, which never changes.
     pub fn kind(&self) -> Kind
         ensures kind { result ≡ self.now.kind }
         ensures sized { IsSized result }
     {
+        // The proof learns from it what always holds of the settings, so that the kind is sized.
         let _priority = &self.priority;
         self.kind
     }
 
+    /// The priority, by which units are given: a smaller number is a greater priority.
     pub fn priority(&self) -> u32
         ensures { result ≡ self.now.priority }
     {
         self.priority
     }
 
+    /// The gain in 4096ths; a kind without a gain keeps the default.
     pub fn gain(&self) -> u32
         ensures gain { result ≡ self.now.gain }
         ensures small { result ≤ 65535 }
@@ -111,6 +115,7 @@ impl Params {
         kinds::ports(self.kind)
     }
 
+    /// What is set of the port of this index.
     pub fn setting(&self, port: u32) -> PortSetting
         requires { port < ports_in self.now.kind }
         ensures { result ≡ setting_at self.now port }

@@ -1,7 +1,3 @@
 //! What the parts of components do with whole streams, and the text of a WAV file: definitions that stand in
 //! `specs/`, below the machine and below the parts themselves.
 #![tactic(auto)]
-
-mod law;
-
-pub use law::Law;

@@ -56,9 +56,6 @@ greater a b = cond (top 31 (below_mask a b)) b a
 abbrev pub lesser : ℕ → ℕ → ℕ
 lesser a b = cond (top 31 (below_mask a b)) a b
 
-pub least_bits : to_z w32 4294934528 ≡ negsuc 32767
-least_bits = refl
-
 greater_by : (t : Bool) (x : ℤ) → FitsSigned w32 x → lt_z x (negsuc 32767) ≡ t → to_z w32 (cond (top 31 (cond t 4294967295 0)) 4294934528 (of_z w32 x)) ≡ int_max x (negsuc 32767)
 greater_by true x f e = grind (arith, ints, clamps)
 greater_by false x f e = to_z-of_z w32 x f ∙ at_least x e

@@ -18,10 +18,10 @@ use Rattle.script_lang.specs.declared.play_line.PartLine.{PartLine}
 use Rattle.script_lang.specs.declared.script.Script.{Script}
 use Rattle.play_forms.specs.Plain.{sink_text}
 use Rattle.play_forms.specs.Plans.{PlanValue}
-use Rattle.play_openings.specs.Assemblies.{IsReady, PlayFiles}
-use Rattle.play_results.specs.Files.{AreFiles, AreSamples, IsNoSink, IsWriter, read_by}
-use Rattle.play_results.specs.Results.{HoldSinks, IsLogOf, OthersAreKept}
-use Rattle.play_results.specs.Worlds.{HasWritten}
+use Rattle.play_plan_laws.specs.Assemblies.{IsReady, PlayFiles}
+use Rattle.play_result_laws.specs.Files.{AreFiles, AreSamples, IsNoSink, IsWriter, read_by}
+use Rattle.play_result_laws.specs.Results.{HoldSinks, IsLogOf, OthersAreKept}
+use Rattle.play_result_laws.specs.Worlds.{HasWritten}
 use Rattle.play_files.specs.Closing.{AreClosed, failed_reads, failed_writes}
 use Rattle.play_files.specs.Names.{HaveOwnFiles}
 use Rattle.play_files.specs.Opening.{HasHead, IsSourceOf, IsStill}
@@ -35,7 +35,7 @@ use Rattle.play_course.specs.declared.player.RunFault.TheVariants as Runs
 use Rattle.play_course.specs.declared.settling.Ran.{Ran}
 use Rattle.play_course.specs.Courses.{HasEnded, HasRun}
 use Rattle.play_course.specs.Outcomes.{IsBroken, IsDone, IsLogFault, IsRunFault, IsUnlogged}
-use Rattle.play_course.specs.Players.{AreFilesOf, IsWhole}
+use Rattle.play_course.specs.Players.{AreFilesOf, IsPlayedWhole}
 use Rattle.play_course.specs.Running.{HasTaken, IsRunCause}
 use Rattle.play_course.specs.Settling.{fault_of_log, line_in, settled}
 use Rattle.play_course.specs.Sums.{planned_summary}
@@ -193,9 +193,9 @@ module _ {F : Type 0} (seen : F → FileSeen) (script : Script) (name log : List
       pub told : it.summary ≡ planned_summary plan
       told = subst (λ (r : Result Ran RunFault). IfOk r (λ x. x.summary ≡ planned_summary plan)) calm_is.ran_is (H.has_run).told
 
-      whole : IsWhole plan (play_files seen O.heads entries) (files_seen seen entries) H.after it.text.items
+      whole : IsPlayedWhole plan (play_files seen O.heads entries) (files_seen seen entries) H.after it.text.items
       whole =
-          let all = subst (λ (r : Result Ran RunFault). IfOk r (λ x. (given : PlayFiles) → IsReady plan given → AreFilesOf plan given (files_seen seen entries) → IsWhole plan given (files_seen seen entries) H.after x.text.items)) calm_is.ran_is (H.has_run).whole in
+          let all = subst (λ (r : Result Ran RunFault). IfOk r (λ x. (given : PlayFiles) → IsReady plan given → AreFilesOf plan given (files_seen seen entries) → IsPlayedWhole plan given (files_seen seen entries) H.after x.text.items)) calm_is.ran_is (H.has_run).whole in
           all (play_files seen O.heads entries) O.ready (are_files_of seen script name log old mid plan entries O own)
 
       -- the sinks' names hold what was written
@@ -212,14 +212,8 @@ module _ {F : Type 0} (seen : F → FileSeen) (script : Script) (name log : List
 
         pub log_of : IsLogOf plan (play_files seen O.heads entries) final it.text.items
         log_of = record {
-          opening = whole.opening;
           ending = whole.ending;
-          entries = whole.entries;
-          opens = whole.opens;
-          logged = whole.logged;
-          names = whole.names;
-          alone = whole.alone;
-          conducted = whole.conducted;
+          log = whole.log;
           ends = record {
             played = whole.ends;
             sinks = λ place its text w holding.

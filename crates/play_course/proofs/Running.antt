@@ -9,11 +9,11 @@ use Rattle.script_lang.specs.declared.play_line.PartForm.{PartForm}
 use Rattle.script_lang.specs.declared.play_line.PartForm.TheVariants as forms
 use Rattle.script_lang.specs.declared.play_line.PartLine.{PartLine}
 use Rattle.wav_form.specs.declared.heads.WavHead.{WavHead}
-use Rattle.assembling.proofs.Places.{get_there}
+use Rattle.play_build_laws.proofs.Places.{get_there}
 use Rattle.play_forms.specs.Parts.{kind_of, source_number}
 use Rattle.play_forms.specs.Plans.{PlanValue}
-use Rattle.play_openings.specs.Assemblies.{PlayFiles, file_at, file_of, kind_in}
-use Rattle.play_results.specs.Files.{IsWriter, written_by}
+use Rattle.play_plan_laws.specs.Assemblies.{PlayFiles, file_at, file_of, kind_in}
+use Rattle.play_result_laws.specs.Files.{IsWriter, written_by}
 use Rattle.play_files.specs.Seen.{FileSeen, Reads, SinkSeen, Writes, offer}
 use Rattle.play_course.specs.declared.player.RunFault.TheVariants as Faults
 use Rattle.play_course.specs.Courses.{HasRun}

@@ -9,17 +9,17 @@ use Rattle.part_forms.specs.Kinds.{inputs_of}
 use Rattle.wav_form.specs.Reading.{most_bytes}
 use Rattle.script_lang.specs.declared.play_line.PartForm.{PartForm}
 use Rattle.script_lang.specs.declared.play_line.PartForm.TheVariants as forms
-use Rattle.assembling.proofs.Places.{get_there}
+use Rattle.play_build_laws.proofs.Places.{get_there}
 use Rattle.play_forms.specs.declared.flow.Flow.{Flow}
 use Rattle.play_forms.specs.Flows.{flow_by, no_flow}
 use Rattle.play_forms.specs.Parts.{kind_of, source_number}
 use Rattle.play_forms.specs.Plans.{PlanValue}
 use Rattle.play_forms.specs.Settling.{into}
-use Rattle.play_plans.specs.Limits.{IsLawfulFlow}
-use Rattle.play_plans.proofs.Limits.{flows_lawful}
-use Rattle.play_plans.proofs.Links.{incoming_is, input_linked}
-use Rattle.play_openings.specs.Assemblies.{IsReady, PlayFiles}
-use Rattle.play_results.specs.Files.{IsWriter, written_by}
+use Rattle.play_plan_laws.specs.Limits.{IsLawfulFlow}
+use Rattle.play_plan_laws.proofs.Limits.{flows_lawful}
+use Rattle.play_plan_laws.proofs.Links.{incoming_is, input_linked}
+use Rattle.play_plan_laws.specs.Assemblies.{IsReady, PlayFiles}
+use Rattle.play_result_laws.specs.Files.{IsWriter, written_by}
 
 sink_inputs : (form : PartForm) (name : List ℕ) → written_by form ≡ Some name → 0 < inputs_of (kind_of form)
 sink_inputs (forms.Sink f) name e = omega arith

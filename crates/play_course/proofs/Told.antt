@@ -2,10 +2,10 @@
 use Rattle.std.proofs.Common.{◌≡◌, ℕ, suc, ◌+◌, false, List, [], ◌∷◌, slice_get, slice_index_or, Option, Some, None, refl, sym, subst, arith}
 use Rattle.script_lang.specs.declared.play_line.PartLine.{PartLine}
 use Rattle.play_forms.specs.Plans.{PlanValue}
-use Rattle.play_openings.specs.Assemblies.{IsReady, PlayFiles}
-use Rattle.play_results.specs.Files.{AreSamples, IsWriter, written_by}
-use Rattle.play_results.specs.Summaries.{SinkLine, line_of, lines_from, summary_of, with_line}
-use Rattle.plan_streams.proofs.Ends.{text_long}
+use Rattle.play_plan_laws.specs.Assemblies.{IsReady, PlayFiles}
+use Rattle.play_result_laws.specs.Files.{AreSamples, IsWriter, written_by}
+use Rattle.play_result_laws.specs.Summaries.{SinkLine, line_of, lines_from, summary_of, with_line}
+use Rattle.play_result_laws.proofs.Ends.{text_long}
 use Rattle.play_course.specs.Sums.{planned_from, planned_line, planned_summary}
 
 module _ (plan : PlanValue) (files : PlayFiles) (samples : List (List ℕ)) (R : IsReady plan files) (A : AreSamples plan files samples) where

@@ -11,11 +11,11 @@ use Rattle.outside_io.proofs.Closed.{take-twice}
 use Rattle.il_machine.specs.Stepping.{IsFrontOf as IsFront}
 use Rattle.script_lang.specs.declared.play_line.PartLine.{PartLine}
 use Rattle.script_lang.specs.declared.script.Script.{Script}
-use Rattle.assembling.proofs.Places.{get_there}
+use Rattle.play_build_laws.proofs.Places.{get_there}
 use Rattle.play_forms.specs.Plans.{PlanValue}
-use Rattle.play_openings.specs.Assemblies.{PlayFiles}
-use Rattle.play_results.specs.Files.{AreFiles, AreSamples, IsNoSink, IsWriter, written_by}
-use Rattle.play_files.specs.Closing.{AreApart, AreClosed, IsNoneOf, IsSinkAt}
+use Rattle.play_plan_laws.specs.Assemblies.{PlayFiles}
+use Rattle.play_result_laws.specs.Files.{AreFiles, AreSamples, IsNoSink, IsWriter, written_by}
+use Rattle.play_files.specs.Closing.{AreNamedApart, AreClosed, IsNoneOf, IsSinkAt}
 use Rattle.play_files.specs.Names.{HaveOwnFiles}
 use Rattle.play_files.specs.Opening.{IsSinkOf}
 use Rattle.play_files.specs.Seen.{FileSeen, Reads, SinkSeen, Writes, files_seen, offer}
@@ -98,7 +98,7 @@ module _ {F : Type 0} (seen : F → FileSeen) (script : Script) (name log : List
         (t.0, t.1, λ tells. s.3 ∙ (t.2).name_is tells)
 
     module _ (tells : IsTrue old.tells) where
-      pub still_apart : AreApart after
+      pub still_apart : AreNamedApart after
       still_apart place other a b at bt e =
           let x = sink_back place a at in
           let y = sink_back other b bt in

@@ -6,12 +6,12 @@ use Rattle.outside_io.specs.Files.{Outside}
 use Rattle.outside_io.specs.declared.source.Failed.{Failed}
 use Rattle.script_lang.specs.declared.play_line.PartLine.{PartLine}
 use Rattle.play_forms.specs.Plans.{PlanValue}
-use Rattle.play_openings.specs.Assemblies.{IsReady, PlayFiles}
+use Rattle.play_plan_laws.specs.Assemblies.{IsReady, PlayFiles}
 use Rattle.play_files.specs.Closing.{AreClosed}
 use Rattle.play_files.specs.Seen.{FileSeen}
 use Rattle.play_course.specs.declared.player.RunFault.{RunFault}
 use Rattle.play_course.specs.declared.settling.Ran.{Ran}
-use Rattle.play_course.specs.Players.{AreFilesOf, IsFailed, IsWhole}
+use Rattle.play_course.specs.Players.{AreFilesOf, IsFailed, IsPlayedWhole}
 use Rattle.play_course.specs.Running.{AreSameFiles, IsRunCause}
 use Rattle.play_course.specs.Settling.{settled}
 use Rattle.play_course.specs.Sums.{planned_summary}
@@ -20,7 +20,7 @@ use Rattle.play_course.specs.Sums.{planned_summary}
 pub record HasRun (plan : PlanValue) (before after : List (Option FileSeen)) (ran : Result Ran RunFault) : Type 0 where
   pub same : AreSameFiles before after
   pub told : IfOk ran (λ it. it.summary ≡ planned_summary plan)
-  pub whole : IfOk ran (λ it. (given : PlayFiles) → IsReady plan given → AreFilesOf plan given before → IsWhole plan given before after it.text.items)
+  pub whole : IfOk ran (λ it. (given : PlayFiles) → IsReady plan given → AreFilesOf plan given before → IsPlayedWhole plan given before after it.text.items)
   pub failed : OnErr ran ((given : PlayFiles) → IsReady plan given → AreFilesOf plan given before → IsFailed plan given before after)
   pub cause : IfErr ran (IsRunCause before after)
 

@@ -11,10 +11,10 @@ use Rattle.script_lang.specs.declared.play_line.PartLine.{PartLine}
 use Rattle.script_lang.specs.declared.script.Script.{Script}
 use Rattle.play_forms.specs.Plain.{sink_text}
 use Rattle.play_forms.specs.Plans.{IsFit, IsFitted, IsPlanOfScript, PlanValue}
-use Rattle.play_openings.specs.Assemblies.{IsReady, PlayFiles}
-use Rattle.play_results.specs.Files.{AreFiles, IsNoSink, IsWriter, read_by}
-use Rattle.play_results.specs.Results.{HoldSinks, IsLogOf, OthersAreKept}
-use Rattle.play_results.specs.Summaries.{SinkLine, summary_of}
+use Rattle.play_plan_laws.specs.Assemblies.{IsReady, PlayFiles}
+use Rattle.play_result_laws.specs.Files.{AreFiles, IsNoSink, IsWriter, read_by}
+use Rattle.play_result_laws.specs.Results.{HoldSinks, IsLogOf, OthersAreKept}
+use Rattle.play_result_laws.specs.Summaries.{SinkLine, summary_of}
 use Rattle.play_files.specs.Left.{IsUnopened}
 use Rattle.play_files.specs.Opening.{HasHead}
 use Rattle.play_course.specs.Sums.{planned_summary}

@@ -1,18 +1,14 @@
 -- What a player is given, and what it makes of it.
-use Rattle.std.specs.Prelude.{◌≡◌, ℕ, List, All, length, slice_get, Option, Some, option_map}
+use Rattle.std.specs.Prelude.{◌≡◌, ℕ, List, length, slice_get, Option, Some, option_map}
 use Rattle.il_machine.specs.Stepping.{IsFrontOf}
 use Rattle.il_machine.specs.World.{World}
 use Rattle.play_forms.specs.Plain.{sink_text}
 use Rattle.play_forms.specs.Plans.{PlanValue}
-use Rattle.play_openings.specs.Assemblies.{IsReady, PlayFiles, file_at}
-use Rattle.play_openings.specs.Endings.{IsPlayedOut}
-use Rattle.play_log.specs.Entries.{Entry, steps_of}
-use Rattle.play_log.specs.Logged.{IsLogged}
-use Rattle.play_log.specs.Naming.{IsNaming}
-use Rattle.play_log.specs.Scenes.{scene_of}
-use Rattle.play_results.specs.Asked.{IsConducted, tuned}
-use Rattle.play_results.specs.Files.{AreSamples, IsWriter}
-use Rattle.play_results.specs.Worlds.{HasWritten, IsOpening}
+use Rattle.play_plan_laws.specs.Assemblies.{IsReady, PlayFiles, file_at}
+use Rattle.play_plan_laws.specs.Endings.{IsPlayedOut}
+use Rattle.play_result_laws.specs.Files.{AreSamples, IsWriter}
+use Rattle.play_result_laws.specs.Results.{IsPlayLog}
+use Rattle.play_result_laws.specs.Worlds.{HasWritten}
 use Rattle.play_files.specs.Seen.{FileSeen, offer}
 use Rattle.play_course.specs.Running.{HasTaken}
 
@@ -27,17 +23,11 @@ pub record CanPlay (plan : PlanValue) (entries : List (Option FileSeen)) : Type 
   pub many : length entries ≡ length plan.parts
   pub are : AreFilesOf plan files entries
 
--- What a whole play leaves: its log is the text of acts of the thread that plays, and names them, from where the play of the plan begins to its
--- end; and each sink took what was written to it, which is its text of the plain function.
-pub record IsWhole (plan : PlanValue) (files : PlayFiles) (before after : List (Option FileSeen)) (text : List ℕ) : Type 0 where
-  pub opening : World
+-- What a play leaves that was done whole: its text is the log of a play of the plan, which leads to the play's end; and each sink took what
+-- was written to it, which is its text of the plain function.
+pub record IsPlayedWhole (plan : PlanValue) (files : PlayFiles) (before after : List (Option FileSeen)) (text : List ℕ) : Type 0 where
   pub ending : World
-  pub entries : List Entry
-  pub opens : IsOpening plan files opening
-  pub logged : IsLogged (scene_of plan.parts opening) entries text
-  pub names : IsNaming (scene_of plan.parts opening) opening text entries ending
-  pub alone : All (λ entry. entry.pass ≡ 0) entries
-  pub conducted : IsConducted (tuned plan files) (scene_of plan.parts opening).handles (steps_of entries)
+  pub log : IsPlayLog plan files text ending
   pub ends : IsPlayedOut plan ending
   pub took : (place : ℕ) (name : List ℕ) → IsWriter plan.parts place name
       → (bytes : List ℕ) × HasTaken before after place bytes × HasWritten ending place bytes × ((samples : List (List ℕ)) → AreSamples plan files samples → bytes ≡ sink_text plan samples place)

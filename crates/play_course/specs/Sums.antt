@@ -3,9 +3,9 @@ use Rattle.std.specs.Prelude.{ℕ, ◌+◌, List, [], ◌∷◌, slice_index_or}
 use Rattle.script_lang.specs.declared.play_line.PartLine.{PartLine}
 use Rattle.play_forms.specs.Fitting.{format_into}
 use Rattle.play_forms.specs.Plans.{PlanValue}
-use Rattle.play_results.specs.Files.{written_by}
-use Rattle.play_results.specs.Summaries.{SinkLine, with_line}
-use Rattle.plan_streams.specs.Texts.{size_of}
+use Rattle.play_result_laws.specs.Files.{written_by}
+use Rattle.play_result_laws.specs.Summaries.{SinkLine, with_line}
+use Rattle.play_result_laws.specs.Texts.{size_of}
 use Rattle.play_course.specs.declared.summary.SinkLine.{SinkLine as Line}
 
 abbrev pub planned_line : PlanValue → ℕ → SinkLine

@@ -3,7 +3,7 @@
 ghost use Rattle.std.specs.Prelude.{◌≡◌, ℕ, List, IfErr, IfOk, OnOk};
 ghost use Rattle.outside_io.specs.Files.{AbsencesStand, CountsStand, GoesOn};
 ghost use Rattle.script_lang.specs.PlayScripts.{IsPlayScript};
-ghost use Rattle.play_files.specs.Seen.{file_seen, files_seen, sink_seen, source_seen};
+ghost use Rattle.play_files.specs.Seen.{file_seen, files_seen};
 ghost use Rattle.play_course.specs.Courses.{HasEnded, HasRun};
 ghost use Rattle.play_course.specs.Outcomes.{IsDone, IsUndone};
 ghost use Rattle.play_course.specs.Players.{CanPlay};
@@ -26,9 +26,9 @@ fn run<S: Source, K: Sink, P: Player<S, K>>(
     files: &mut [Option<PartFile<S, K>>],
     player: &mut P,
 ) -> Result<Ran, RunFault>
-    requires ready { CanPlay plan (files_seen (file_seen (source_seen S.offset S.size S.told S.ends S.faults) (sink_seen K.told K.name K.faults)) files.old) }
-    ensures { HasRun plan (files_seen (file_seen (source_seen S.offset S.size S.told S.ends S.faults) (sink_seen K.told K.name K.faults)) files.old)
-        (files_seen (file_seen (source_seen S.offset S.size S.told S.ends S.faults) (sink_seen K.told K.name K.faults)) files.new) result }
+    requires ready { CanPlay plan (files_seen (file_seen S.Source K.Sink) files.old) }
+    ensures { HasRun plan (files_seen (file_seen S.Source K.Sink) files.old)
+        (files_seen (file_seen S.Source K.Sink) files.new) result }
 {
     let summary = match summary_of(alloc, &plan) {
         Ok(summary) => summary,
@@ -48,8 +48,8 @@ fn run_and_close<M: Media, P: Player<M::Src, M::Snk>>(
     opened: Opened<M::Src, M::Snk>,
     player: &mut P,
 ) -> Result<Ran, Fault>
-    requires ready { CanPlay opened.plan (files_seen (file_seen (source_seen M.Src.offset M.Src.size M.Src.told M.Src.ends M.Src.faults) (sink_seen M.Snk.told M.Snk.name M.Snk.faults)) opened.files.items) }
-    ensures { HasEnded opened.plan parts.now (files_seen (file_seen (source_seen M.Src.offset M.Src.size M.Src.told M.Src.ends M.Src.faults) (sink_seen M.Snk.told M.Snk.name M.Snk.faults)) opened.files.items) (M.outside media.old) (M.outside media.new) result }
+    requires ready { CanPlay opened.plan (files_seen (file_seen M.Src.Source M.Snk.Sink) opened.files.items) }
+    ensures { HasEnded opened.plan parts.now (files_seen (file_seen M.Src.Source M.Snk.Sink) opened.files.items) (M.outside media.old) (M.outside media.new) result }
 {
     let Opened { plan, mut files } = opened;
     let read_before = media.read_faults();

@@ -19,10 +19,10 @@ pub enum RunFault {
 /// Runs a play from its open files to its end, or until a part fails or memory is wanting. In each case each file comes back to its place.
 pub trait Player<S: Source, K: Sink> {
     ghost use Rattle.std.specs.Prelude.{IfErr, IfOk, OnErr};
-    ghost use Rattle.play_openings.specs.Assemblies.{IsReady, PlayFiles};
-    ghost use Rattle.play_files.specs.Seen.{file_seen, files_seen, sink_seen, source_seen};
+    ghost use Rattle.play_plan_laws.specs.Assemblies.{IsReady, PlayFiles};
+    ghost use Rattle.play_files.specs.Seen.{file_seen, files_seen};
     ghost use Rattle.play_course.specs.Running.{AreSameFiles, IsRunCause};
-    ghost use Rattle.play_course.specs.Players.{AreFilesOf, CanPlay, IsFailed, IsWhole};
+    ghost use Rattle.play_course.specs.Players.{AreFilesOf, CanPlay, IsFailed, IsPlayedWhole};
 
     /// Plays the plan with its files, and answers the text of its log.
     fn run(
@@ -31,17 +31,17 @@ pub trait Player<S: Source, K: Sink> {
         plan: Plan,
         files: &mut [Option<PartFile<S, K>>],
     ) -> Result<Vec<u8>, RunFault>
-        requires ready { CanPlay plan (files_seen (file_seen (source_seen S.offset S.size S.told S.ends S.faults) (sink_seen K.told K.name K.faults)) files.old) }
-        ensures same { AreSameFiles (files_seen (file_seen (source_seen S.offset S.size S.told S.ends S.faults) (sink_seen K.told K.name K.faults)) files.old)
-            (files_seen (file_seen (source_seen S.offset S.size S.told S.ends S.faults) (sink_seen K.told K.name K.faults)) files.new) }
+        requires ready { CanPlay plan (files_seen (file_seen S.Source K.Sink) files.old) }
+        ensures same { AreSameFiles (files_seen (file_seen S.Source K.Sink) files.old)
+            (files_seen (file_seen S.Source K.Sink) files.new) }
         ensures whole { IfOk result (λ text. (given : PlayFiles) → IsReady plan given
-            → AreFilesOf plan given (files_seen (file_seen (source_seen S.offset S.size S.told S.ends S.faults) (sink_seen K.told K.name K.faults)) files.old)
-            → IsWhole plan given (files_seen (file_seen (source_seen S.offset S.size S.told S.ends S.faults) (sink_seen K.told K.name K.faults)) files.old)
-            (files_seen (file_seen (source_seen S.offset S.size S.told S.ends S.faults) (sink_seen K.told K.name K.faults)) files.new) text.items) }
+            → AreFilesOf plan given (files_seen (file_seen S.Source K.Sink) files.old)
+            → IsPlayedWhole plan given (files_seen (file_seen S.Source K.Sink) files.old)
+            (files_seen (file_seen S.Source K.Sink) files.new) text.items) }
         ensures failed { OnErr result ((given : PlayFiles) → IsReady plan given
-            → AreFilesOf plan given (files_seen (file_seen (source_seen S.offset S.size S.told S.ends S.faults) (sink_seen K.told K.name K.faults)) files.old)
-            → IsFailed plan given (files_seen (file_seen (source_seen S.offset S.size S.told S.ends S.faults) (sink_seen K.told K.name K.faults)) files.old)
-            (files_seen (file_seen (source_seen S.offset S.size S.told S.ends S.faults) (sink_seen K.told K.name K.faults)) files.new)) }
-        ensures cause { IfErr result (IsRunCause (files_seen (file_seen (source_seen S.offset S.size S.told S.ends S.faults) (sink_seen K.told K.name K.faults)) files.old)
-            (files_seen (file_seen (source_seen S.offset S.size S.told S.ends S.faults) (sink_seen K.told K.name K.faults)) files.new)) };
+            → AreFilesOf plan given (files_seen (file_seen S.Source K.Sink) files.old)
+            → IsFailed plan given (files_seen (file_seen S.Source K.Sink) files.old)
+            (files_seen (file_seen S.Source K.Sink) files.new)) }
+        ensures cause { IfErr result (IsRunCause (files_seen (file_seen S.Source K.Sink) files.old)
+            (files_seen (file_seen S.Source K.Sink) files.new)) };
 }

@@ -4,9 +4,9 @@ ghost use Rattle.std.specs.Prelude.{◌≡◌, ◌<◌, ◌≤◌, ◌*◌, ℕ,
 ghost use Rattle.omx_types.specs.Formats.{IsWithinLimits, frame_bytes_of};
 ghost use Rattle.play_forms.specs.Flows.{no_flow};
 ghost use Rattle.play_forms.specs.Settling.{into};
-ghost use Rattle.play_openings.specs.Assemblies.{IsReady, PlayFiles};
-ghost use Rattle.play_results.specs.Files.{IsWriter, written_by};
-ghost use Rattle.plan_streams.specs.Texts.{size_of};
+ghost use Rattle.play_plan_laws.specs.Assemblies.{IsReady, PlayFiles};
+ghost use Rattle.play_result_laws.specs.Files.{IsWriter, written_by};
+ghost use Rattle.play_result_laws.specs.Texts.{size_of};
 ghost use Rattle.play_course.specs.Sums.{line_value, planned_line, planned_summary};
 
 use omx_types::Format;
@@ -33,7 +33,7 @@ pub struct Summary {
 
 impl Model for Summary {
     ghost use Rattle.std.specs.Prelude.{List, map};
-    ghost use Rattle.play_results.specs.Summaries.{SinkLine as Line};
+    ghost use Rattle.play_result_laws.specs.Summaries.{SinkLine as Line};
     ghost use Rattle.play_course.specs.Sums.{line_value};
 
     ghost Value = { List Line };
@@ -45,6 +45,7 @@ impl Summary {
     ghost use Rattle.std.specs.Prelude.{◌≡◌, map};
     ghost use Rattle.play_course.specs.Sums.{line_value};
 
+    /// A line for each sink, in the order of the script.
     pub fn sinks(&self) -> &[SinkLine]
         ensures { map line_value result.now ≡ self.now }
     {

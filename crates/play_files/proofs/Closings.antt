@@ -7,7 +7,7 @@ use Rattle.outside_io.specs.Causes.{Rose, sum_of_counts}
 use Rattle.outside_io.specs.Files.{GoesOn, IsFrontOf, Outside, SameBut}
 use Rattle.outside_io.specs.Moves.{WhereTold}
 use Rattle.outside_io.specs.declared.source.Failed.{Failed}
-use Rattle.play_files.specs.Closing.{AreApart, AreClosed, IsClosed, IsSinkAt, failed_reads, failed_writes, joined}
+use Rattle.play_files.specs.Closing.{AreNamedApart, AreClosed, IsClosed, IsSinkAt, failed_reads, failed_writes, joined}
 use Rattle.play_files.specs.Seen.{FileSeen, Reads, SinkSeen, SourceSeen, Writes}
 
 pub same : (old : Outside) → GoesOn old old
@@ -107,7 +107,7 @@ first_sink file files sink frames is = (frames, ap Some is)
 first_is : (file : Option FileSeen) (files : List (Option FileSeen)) (sink : SinkSeen) → IsSinkAt (file ∷ files) zero sink → (frames : ℕ) × (file ≡ Some (Writes sink frames))
 first_is file files sink (frames, at) = (frames, cc)
 
-later_apart : (file : Option FileSeen) (files : List (Option FileSeen)) → AreApart (file ∷ files) → AreApart files
+later_apart : (file : Option FileSeen) (files : List (Option FileSeen)) → AreNamedApart (file ∷ files) → AreNamedApart files
 later_apart file files apart place other a b at bt e = let s : suc place ≡ suc other = apart (suc place) (suc other) a b at bt e in cc
 
 -- both closings were good
@@ -133,18 +133,18 @@ whole_later P Q (Err a) f = tt
 
 -- a sink that was closed before keeps what it has
 module _ (file : Option FileSeen) (files : List (Option FileSeen)) (old mid new : Outside) (r q : Result (Unit {0}) Failed) (C : AreClosed files old mid r) (O : IsClosed file mid new q) where
-  kept_sink : AreApart (file ∷ files) → (place : ℕ) (sink : SinkSeen) → IsSinkAt files place sink → new.file sink.name ≡ mid.file sink.name
+  kept_sink : AreNamedApart (file ∷ files) → (place : ℕ) (sink : SinkSeen) → IsSinkAt files place sink → new.file sink.name ≡ mid.file sink.name
   kept_sink apart place sink at =
       O.others sink.name (λ other frames is e. absurd (let s : zero ≡ suc place = apart zero (suc place) other sink (first_sink file files other frames is) at e in cc))
 
-  more_held : AreApart (file ∷ files) → (place : ℕ) (sink : SinkSeen) → IsSinkAt (file ∷ files) place sink → OnOk (joined r q) (new.file sink.name ≡ sink.told)
+  more_held : AreNamedApart (file ∷ files) → (place : ℕ) (sink : SinkSeen) → IsSinkAt (file ∷ files) place sink → OnOk (joined r q) (new.file sink.name ≡ sink.told)
   more_held apart zero sink at =
       let is = first_is file files sink at in
       both_ok r q (Unit {0}) (new.file sink.name ≡ sink.told) _ (any r) (O.held sink is.0 is.1) (λ _ h. h)
   more_held apart (suc place) sink at =
       both_ok r q (mid.file sink.name ≡ sink.told) (Unit {0}) _ (C.held (later_apart file files apart) place sink at) (any q) (λ h _. kept_sink apart place sink at ∙ h)
 
-  more_front : AreApart (file ∷ files) → (place : ℕ) (sink : SinkSeen) → IsSinkAt (file ∷ files) place sink → WhereTold sink.told (IsFrontOf (new.file sink.name))
+  more_front : AreNamedApart (file ∷ files) → (place : ℕ) (sink : SinkSeen) → IsSinkAt (file ∷ files) place sink → WhereTold sink.told (IsFrontOf (new.file sink.name))
   more_front apart zero sink at = let is = first_is file files sink at in O.front sink is.0 is.1
   more_front apart (suc place) sink at =
       subst (λ (held : Option (List ℕ)). WhereTold sink.told (IsFrontOf held)) (sym (kept_sink apart place sink at)) (C.front (later_apart file files apart) place sink at)

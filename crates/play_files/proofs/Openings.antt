@@ -8,7 +8,7 @@ use Rattle.script_lang.specs.declared.play_line.PartForm.{PartForm}
 use Rattle.script_lang.specs.declared.play_line.PartForm.TheVariants as forms
 use Rattle.script_lang.specs.declared.play_line.PartLine.{PartLine}
 use Rattle.play_forms.specs.Parts.{source_number}
-use Rattle.play_results.specs.Files.{written_by}
+use Rattle.play_result_laws.specs.Files.{written_by}
 use Rattle.play_files.specs.Opening.{AreOpen, AreRead, HasAt, HaveSinks, IsOpenFor, IsReadFor, IsStill, IsWrittenBy}
 use Rattle.play_files.specs.Seen.{FileSeen, Reads, Writes}
 use Rattle.play_files.proofs.Fronts.{sink_sooner}

@@ -19,9 +19,9 @@ use Rattle.script_lang.specs.declared.play_saying.PlaySaid.{PlaySaid}
 use Rattle.script_lang.specs.declared.play_saying.PlaySaid.TheVariants.{Nothing, Units, Form, Fault}
 use Rattle.script_lang.specs.declared.script.Script.{Script}
 use Rattle.machine_laws.proofs.Every.{none_passes}
-use Rattle.assembling.proofs.Places.{pushed_at}
+use Rattle.play_build_laws.proofs.Places.{pushed_at}
 use Rattle.play_forms.specs.Plans.{IsPlanOfScript, PlanValue}
-use Rattle.play_results.specs.Files.{IsReader, IsWriter, read_by, written_by}
+use Rattle.play_result_laws.specs.Files.{IsReader, IsWriter, read_by, written_by}
 use Rattle.play_files.specs.Names.{HaveOwnFiles}
 
 -- ---- tests

@@ -11,9 +11,9 @@ use Rattle.wav_form.specs.declared.heads.WavHead.{WavHead}
 use Rattle.script_lang.specs.declared.play_line.PartForm.{PartForm}
 use Rattle.script_lang.specs.declared.play_line.PartForm.TheVariants as forms
 use Rattle.script_lang.specs.declared.play_line.PartLine.{PartLine}
-use Rattle.assembling.proofs.Places.{pushed_at}
+use Rattle.play_build_laws.proofs.Places.{pushed_at}
 use Rattle.play_forms.specs.Parts.{is_source_part, kind_of, source_number}
-use Rattle.play_results.specs.Files.{read_by}
+use Rattle.play_result_laws.specs.Files.{read_by}
 use Rattle.play_files.specs.Opening.{AreRead, IsReadBy, IsReadFor, IsSourceOf}
 use Rattle.play_files.specs.Seen.{FileSeen, Reads, SourceSeen}
 use Rattle.machine_laws.proofs.Every.{push_there}

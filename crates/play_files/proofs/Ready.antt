@@ -19,14 +19,14 @@ use Rattle.play_forms.specs.declared.joint.Joint.{Joint}
 use Rattle.play_forms.specs.Flows.{AreFlows, AreFrames}
 use Rattle.play_forms.specs.Parts.{is_source_part, kind_of, source_number}
 use Rattle.play_forms.specs.Plans.{PlanValue}
-use Rattle.play_plans.specs.Limits.{IsScripted}
-use Rattle.play_plans.proofs.Scripts.{fitted_scripted}
-use Rattle.assembling.proofs.Places.{get_there}
-use Rattle.play_openings.specs.Assemblies.{IsReady, PlayFiles, file_at, file_of, kind_in}
-use Rattle.play_results.specs.Files.{AreFiles, IsReadAs, IsReader, read_by, written_by}
+use Rattle.play_plan_laws.specs.Limits.{IsScripted}
+use Rattle.play_plan_laws.proofs.Scripts.{fitted_scripted}
+use Rattle.play_build_laws.proofs.Places.{get_there}
+use Rattle.play_plan_laws.specs.Assemblies.{IsReady, PlayFiles, file_at, file_of, kind_in}
+use Rattle.play_result_laws.specs.Files.{AreFiles, IsReadAs, IsReader, read_by, written_by}
 use Rattle.play_files.specs.Opening.{AreOpen, HasAt, IsOpenFor, IsReadBy, IsReadFor, IsSinkOf, IsSourceOf, IsWrittenBy}
 use Rattle.play_files.specs.Seen.{FileSeen, Reads, SinkSeen, SourceSeen, Writes, offer}
-use Rattle.play_files.specs.Stopping.{IsWhole}
+use Rattle.play_files.specs.Stopping.{HasOpenedAll}
 use Rattle.machine_laws.proofs.Every.{push_there}
 use Rattle.play_files.proofs.Lists.{put_behind}
 use Rattle.play_files.proofs.Reading.{form_reads, form_reads_not}
@@ -281,7 +281,7 @@ module _ {F : Type 0} (seen : F → FileSeen) (old : Outside) (parts : List Part
 
 -- ---- all of them
 
-module _ {F : Type 0} (seen : F → FileSeen) (old new : Outside) (planned plan : PlanValue) (heads : List WavHead) (entries : List (Option F)) (W : IsWhole seen old new planned plan heads entries) (S : IsScripted planned) where
+module _ {F : Type 0} (seen : F → FileSeen) (old new : Outside) (planned plan : PlanValue) (heads : List WavHead) (entries : List (Option F)) (W : HasOpenedAll seen old new planned plan heads entries) (S : IsScripted planned) where
   here : (place : ℕ) (part : PartLine) → slice_get plan.parts place ≡ Some part → HasAt seen entries place (IsOpenFor old (slice_get heads (source_number plan.parts place)) (slice_index_or plan.frames place 0) part.form)
   here place part e = (W.opened).first place part (slice_get_within plan.parts place part e) e
 

@@ -15,10 +15,10 @@ use Rattle.script_lang.specs.declared.play_line.PartForm.{PartForm}
 use Rattle.script_lang.specs.declared.play_line.PartForm.TheVariants as forms
 use Rattle.script_lang.specs.declared.play_line.PartLine.{PartLine}
 use Rattle.stream_plan.proofs.Lists.{slice_get_mapped}
-use Rattle.assembling.proofs.Places.{get_there}
+use Rattle.play_build_laws.proofs.Places.{get_there}
 use Rattle.play_forms.specs.Parts.{source_number}
-use Rattle.play_results.specs.Files.{IsWriter, read_by, written_by}
-use Rattle.play_files.specs.Closing.{AreApart, AreClosed, IsSinkAt, failed_reads}
+use Rattle.play_result_laws.specs.Files.{IsWriter, read_by, written_by}
+use Rattle.play_files.specs.Closing.{AreNamedApart, AreClosed, IsSinkAt, failed_reads}
 use Rattle.play_files.specs.Left.{AreEmptied, HaveHeads}
 use Rattle.play_files.specs.Names.{HaveOwnFiles}
 use Rattle.play_files.specs.Opening.{AreOpen, AreRead, HasAt, HasHead, IsOpenFor, IsReadBy, IsReadFor, IsSinkFault, IsSourceFault, IsSourceOf, IsSourceRefused, IsSinkOf, IsStill, IsWrittenBy}
@@ -219,7 +219,7 @@ module _ {F : Type 0} (seen : F → FileSeen) (entries : List (Option F)) where
     calm_reads mid new result C = C.unread (none_summed (files_seen seen entries) calm_here)
 
     module _ (script log : List ℕ) (own : HaveOwnFiles script log parts) (tells : IsTrue old.tells) where
-      pub are_apart : AreApart (files_seen seen entries)
+      pub are_apart : AreNamedApart (files_seen seen entries)
       are_apart place other a b at bt e =
           let x = sink_here place a at in
           let y = sink_here other b bt in

@@ -5,7 +5,7 @@ use Rattle.std.proofs.lemmas.Bool.{cases_lt}
 use Rattle.outside_io.specs.Files.{Outside}
 use Rattle.script_lang.specs.declared.play_line.PartLine.{PartLine}
 use Rattle.stream_plan.proofs.Lists.{set_at, set_other}
-use Rattle.play_results.specs.Files.{written_by}
+use Rattle.play_result_laws.specs.Files.{written_by}
 use Rattle.play_files.specs.Opening.{HaveSinks, IsSinkOf, IsWrittenBy}
 use Rattle.play_files.specs.Seen.{FileSeen, SinkSeen, Writes}
 

@@ -20,8 +20,8 @@ abbrev pub IsSinkAt : List (Option FileSeen) → ℕ → SinkSeen → Type 0
 IsSinkAt files place sink = (frames : ℕ) × (slice_get files place ≡ Some (Some (Writes sink frames)))
 
 -- no two sinks have one name
-abbrev pub AreApart : List (Option FileSeen) → Type 0
-AreApart files = (place other : ℕ) (a b : SinkSeen) → IsSinkAt files place a → IsSinkAt files other b → a.name ≡ b.name → place ≡ other
+abbrev pub AreNamedApart : List (Option FileSeen) → Type 0
+AreNamedApart files = (place other : ℕ) (a b : SinkSeen) → IsSinkAt files place a → IsSinkAt files other b → a.name ≡ b.name → place ≡ other
 
 -- no sink has this name
 abbrev pub IsNoneOf : List (Option FileSeen) → List ℕ → Type 0
@@ -40,8 +40,8 @@ pub record AreClosed (files : List (Option FileSeen)) (old new : Outside) (resul
   pub failed : OnErr result (Rose (sum_of_counts old.write_faults (sum_by failed_writes files)) new.write_faults)
   pub others : (name : List ℕ) → IsNoneOf files name → new.file name ≡ old.file name
   pub unwritten : ((place : ℕ) (sink : SinkSeen) → IsSinkAt files place sink → ⊥) → (new.file ≡ old.file) × (new.write_faults ≡ old.write_faults)
-  pub held : AreApart files → (place : ℕ) (sink : SinkSeen) → IsSinkAt files place sink → OnOk result (new.file sink.name ≡ sink.told)
-  pub front : AreApart files → (place : ℕ) (sink : SinkSeen) → IsSinkAt files place sink → WhereTold sink.told (IsFrontOf (new.file sink.name))
+  pub held : AreNamedApart files → (place : ℕ) (sink : SinkSeen) → IsSinkAt files place sink → OnOk result (new.file sink.name ≡ sink.told)
+  pub front : AreNamedApart files → (place : ℕ) (sink : SinkSeen) → IsSinkAt files place sink → WhereTold sink.told (IsFrontOf (new.file sink.name))
 
 -- the same of one file
 pub record IsClosed (file : Option FileSeen) (old new : Outside) (result : Result (Unit {0}) Failed) : Type 0 where

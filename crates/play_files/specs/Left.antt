@@ -9,8 +9,8 @@ use Rattle.script_lang.specs.declared.script.Script.{Script}
 use Rattle.play_forms.specs.declared.plan_fault.PlanFault.{PlanFault}
 use Rattle.play_forms.specs.Parts.{source_number}
 use Rattle.play_forms.specs.Plans.{IsFaultOfScript, IsFit, IsFitFault, IsFitted, IsPlanOfScript, PlanValue}
-use Rattle.play_openings.specs.Assemblies.{PlayFiles}
-use Rattle.play_results.specs.Files.{AreFiles, IsReader, IsWriter, written_by}
+use Rattle.play_plan_laws.specs.Assemblies.{PlayFiles}
+use Rattle.play_result_laws.specs.Files.{AreFiles, IsReader, IsWriter, written_by}
 use Rattle.play_files.specs.Faults.{fault_of_plan}
 use Rattle.play_files.specs.Opening.{HasHead, IsSinkFault, IsSourceMet, IsStill}
 

@@ -15,7 +15,7 @@ use Rattle.script_lang.specs.declared.play_line.PartForm.{PartForm}
 use Rattle.script_lang.specs.declared.play_line.PartForm.TheVariants.{Late, Sink, Source}
 use Rattle.script_lang.specs.declared.play_line.PartLine.{PartLine}
 use Rattle.play_forms.specs.Parts.{source_number}
-use Rattle.play_results.specs.Files.{read_by, written_by}
+use Rattle.play_result_laws.specs.Files.{read_by, written_by}
 use Rattle.play_files.specs.Seen.{FileSeen, Reads, SinkSeen, SourceSeen, Writes}
 
 -- nothing that is told changed, and no count rose

@@ -1,6 +1,8 @@
 -- What a contract sees of the open files of a play.
 use Rattle.std.specs.Prelude.{ℕ, ◌-◌, List, drop, map, Option, option_map}
 use Rattle.omx_types.specs.declared.format.Format.{Format}
+use Rattle.outside_io.specs.declared.sink.Sink.{Ghosts as SinkGhosts}
+use Rattle.outside_io.specs.declared.source.Source.{Ghosts as SourceGhosts}
 use Rattle.il_machine.specs.Files.{Offered, OfferedFrom, OfferedTo}
 use Rattle.audio_parts.specs.declared.part_file.PartFile.{PartFile}
 use Rattle.audio_parts.specs.declared.part_file.PartFile.TheVariants as files
@@ -22,16 +24,15 @@ pub data FileSeen : Type 0 where
   Reads : (source : SourceSeen) (format : Format) (frames : ℕ) → FileSeen
   Writes : (sink : SinkSeen) (frames : ℕ) → FileSeen
 
-abbrev pub source_seen : {S : Type 0} → (S → ℕ) → (S → ℕ) → (S → Option (List ℕ)) → (S → Option ℕ) → (S → ℕ) → S → SourceSeen
-source_seen offset size told ends faults source =
-    record { offset = offset source; size = size source; told = told source; ends = ends source; faults = faults source }
+abbrev pub source_seen : {S : Type 0} → SourceGhosts S → S → SourceSeen
+source_seen g src = record { offset = g.offset src; size = g.size src; told = g.told src; ends = g.ends src; faults = g.faults src }
 
-abbrev pub sink_seen : {K : Type 0} → (K → Option (List ℕ)) → (K → List ℕ) → (K → ℕ) → K → SinkSeen
-sink_seen told name faults sink = record { told = told sink; name = name sink; faults = faults sink }
+abbrev pub sink_seen : {K : Type 0} → SinkGhosts K → K → SinkSeen
+sink_seen g snk = record { told = g.told snk; name = g.name snk; faults = g.faults snk }
 
-abbrev pub file_seen : {S K : Type 0} → (S → SourceSeen) → (K → SinkSeen) → PartFile S K → FileSeen
-file_seen source sink (files.From src format frames) = Reads (source src) format frames
-file_seen source sink (files.To snk frames) = Writes (sink snk) frames
+abbrev pub file_seen : {S K : Type 0} → SourceGhosts S → SinkGhosts K → PartFile S K → FileSeen
+file_seen reads writes (files.From src format frames) = Reads (source_seen reads src) format frames
+file_seen reads writes (files.To snk frames) = Writes (sink_seen writes snk) frames
 
 abbrev pub files_seen : {F : Type 0} → (F → FileSeen) → List (Option F) → List (Option FileSeen)
 files_seen seen entries = map (option_map seen) entries

@@ -11,7 +11,7 @@ use Rattle.play_files.specs.Seen.{FileSeen}
 
 module _ {F : Type 0} where
   -- at no file: all are open
-  pub record IsWhole (seen : F → FileSeen) (old new : Outside) (planned plan : PlanValue) (heads : List WavHead) (entries : List (Option F)) : Type 0 where
+  pub record HasOpenedAll (seen : F → FileSeen) (old new : Outside) (planned plan : PlanValue) (heads : List WavHead) (entries : List (Option F)) : Type 0 where
     pub fitted : IsFitted planned heads plan
     pub valid : IsValid plan
     pub fit : IsFit plan

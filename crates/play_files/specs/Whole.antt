@@ -5,8 +5,8 @@ use Rattle.il_machine.specs.Files.{Offered, OfferedFrom, OfferedTo}
 use Rattle.wav_form.specs.declared.heads.WavHead.{WavHead}
 use Rattle.script_lang.specs.declared.script.Script.{Script}
 use Rattle.play_forms.specs.Plans.{IsFit, IsFitted, IsPlanOfScript, PlanValue}
-use Rattle.play_openings.specs.Assemblies.{IsReady, PlayFiles, file_at}
-use Rattle.play_results.specs.Files.{AreFiles}
+use Rattle.play_plan_laws.specs.Assemblies.{IsReady, PlayFiles, file_at}
+use Rattle.play_result_laws.specs.Files.{AreFiles}
 use Rattle.play_files.specs.Opening.{AreOpen, IsStill}
 use Rattle.play_files.specs.Seen.{FileSeen, offer}
 

@@ -2,7 +2,7 @@
 
 ghost use Rattle.std.specs.Prelude.{◌≡◌, option_map};
 ghost use Rattle.play_files.specs.Closing.{AreClosed, IsClosed, joined};
-ghost use Rattle.play_files.specs.Seen.{file_seen, files_seen, sink_seen, source_seen};
+ghost use Rattle.play_files.specs.Seen.{file_seen, files_seen};
 
 use audio_parts::PartFile;
 use outside_io::{Failed, Media};
@@ -11,14 +11,12 @@ use outside_io::{Failed, Media};
 fn joined(first: Result<(), Failed>, then: Result<(), Failed>) -> Result<(), Failed>
     ensures { result ≡ joined first then }
 {
-    match first {
-        Ok(()) => then,
-        Err(failed) => Err(failed),
-    }
+    first?;
+    then
 }
 
 fn close_file<M: Media>(media: &mut M, file: Option<PartFile<M::Src, M::Snk>>) -> Result<(), Failed>
-    ensures { IsClosed (option_map (file_seen (source_seen M.Src.offset M.Src.size M.Src.told M.Src.ends M.Src.faults) (sink_seen M.Snk.told M.Snk.name M.Snk.faults)) file) (M.outside media.old) (M.outside media.new) result }
+    ensures { IsClosed (option_map (file_seen M.Src.Source M.Snk.Sink) file) (M.outside media.old) (M.outside media.new) result }
 {
     match file {
         None => Ok(()),
@@ -41,7 +39,7 @@ pub fn close_files<M: Media>(
     media: &mut M,
     mut files: Vec<Option<PartFile<M::Src, M::Snk>>>,
 ) -> Result<(), Failed>
-    ensures { AreClosed (files_seen (file_seen (source_seen M.Src.offset M.Src.size M.Src.told M.Src.ends M.Src.faults) (sink_seen M.Snk.told M.Snk.name M.Snk.faults)) files.items) (M.outside media.old) (M.outside media.new) result }
+    ensures { AreClosed (files_seen (file_seen M.Src.Source M.Snk.Sink) files.items) (M.outside media.old) (M.outside media.new) result }
 {
     let mut closed = Ok(());
     while let Some(file) = files.pop() {

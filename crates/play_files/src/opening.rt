@@ -2,11 +2,11 @@
 
 ghost use Rattle.std.specs.Prelude.{◌≡◌, ◌≤◌, ℕ, List, [], length, vec_capacity, vec_len, IfErr, IfOk, OnOk};
 ghost use Rattle.play_forms.specs.Plans.{IsValid};
-ghost use Rattle.play_files.specs.Stopping.{HasStopped, IsWhole};
+ghost use Rattle.play_files.specs.Stopping.{HasStopped, HasOpenedAll};
 ghost use Rattle.script_lang.specs.PlayScripts.{IsPlayScript};
 ghost use Rattle.play_files.specs.Left.{IsUnopened};
 ghost use Rattle.play_files.specs.Whole.{AreAllOpen};
-ghost use Rattle.play_files.specs.Seen.{file_seen, sink_seen, source_seen};
+ghost use Rattle.play_files.specs.Seen.{file_seen};
 
 use crate::closing::close_files;
 use crate::faults::plan_fault;
@@ -41,8 +41,8 @@ fn open_planned<M: Media>(
     requires files_len { vec_len files.old ≡ 0 }
     requires heads_room { length plan.old.parts ≤ vec_capacity heads.old }
     requires files_room { length plan.old.parts ≤ vec_capacity files.old }
-    ensures whole { OnOk result (IsWhole (file_seen (source_seen M.Src.offset M.Src.size M.Src.told M.Src.ends M.Src.faults) (sink_seen M.Snk.told M.Snk.name M.Snk.faults)) (M.outside media.old) (M.outside media.new) plan.old plan.new heads.new.items files.new.items) }
-    ensures stopped { IfErr result (HasStopped (file_seen (source_seen M.Src.offset M.Src.size M.Src.told M.Src.ends M.Src.faults) (sink_seen M.Snk.told M.Snk.name M.Snk.faults)) (M.outside media.old) (M.outside media.new) plan.old plan.new heads.new.items files.new.items) }
+    ensures whole { OnOk result (HasOpenedAll (file_seen M.Src.Source M.Snk.Sink) (M.outside media.old) (M.outside media.new) plan.old plan.new heads.new.items files.new.items) }
+    ensures stopped { IfErr result (HasStopped (file_seen M.Src.Source M.Snk.Sink) (M.outside media.old) (M.outside media.new) plan.old plan.new heads.new.items files.new.items) }
 {
     match open_sources(alloc, media, plan.parts(), heads, files) {
         Ok(()) => {}
@@ -69,7 +69,7 @@ pub fn open_files<M: Media>(
     script: &Script,
 ) -> Result<Opened<M::Src, M::Snk>, Fault>
     requires { (name : List ℕ) × (log : List ℕ) × (text : List ℕ) × IsPlayScript name log text script.now }
-    ensures opened { IfOk result (λ opened. AreAllOpen (file_seen (source_seen M.Src.offset M.Src.size M.Src.told M.Src.ends M.Src.faults) (sink_seen M.Snk.told M.Snk.name M.Snk.faults)) script.now (M.outside media.old) (M.outside media.new) opened.plan opened.files.items) }
+    ensures opened { IfOk result (λ opened. AreAllOpen (file_seen M.Src.Source M.Snk.Sink) script.now (M.outside media.old) (M.outside media.new) opened.plan opened.files.items) }
     ensures unopened { IfErr result (IsUnopened script.now (M.outside media.old) (M.outside media.new)) }
 {
     let mut plan = match Plan::build(alloc, script) {

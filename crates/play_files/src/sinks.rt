@@ -1,9 +1,9 @@
 //! Sinks are opened, in the order of the script.
 
 ghost use Rattle.std.specs.Prelude.{◌≡◌, ℕ, ◌<◌, ◌≤◌, length, slice_get, slice_set, IfErr, IfNone, IfOk, IfSome, OnOk, Some, None};
-ghost use Rattle.play_results.specs.Files.{written_by};
+ghost use Rattle.play_result_laws.specs.Files.{written_by};
 ghost use Rattle.play_files.specs.Opening.{AreSinksFree, HaveSinks, IsSinkMet, IsSinkOf, IsSinkRefused, IsStill};
-ghost use Rattle.play_files.specs.Seen.{file_seen, sink_seen, source_seen};
+ghost use Rattle.play_files.specs.Seen.{file_seen, sink_seen};
 
 use crate::faults::sink_fault;
 use audio_parts::PartFile;
@@ -27,7 +27,7 @@ fn written_name(form: &PartForm) -> Option<&str>
 /// Opens the sink of that line.
 fn open_sink<M: Media>(alloc: Global, media: &mut M, name: &str, line: u32) -> Result<M::Snk, Fault>
     ensures still { OnOk result (IsStill (M.outside media.old) (M.outside media.new)) }
-    ensures opened { IfOk result (λ snk. IsSinkOf (M.outside media.old) name.now (sink_seen M.Snk.told M.Snk.name M.Snk.faults snk)) }
+    ensures opened { IfOk result (λ snk. IsSinkOf (M.outside media.old) name.now (sink_seen M.Snk.Sink snk)) }
     ensures refused { IfErr result (IsSinkRefused line name.now (M.outside media.old) (M.outside media.new)) }
 {
     match media.sink(alloc, name) {
@@ -60,9 +60,9 @@ pub(crate) fn open_sinks<M: Media>(
     requires many { length files.old ≡ length parts.now }
     requires free { AreSinksFree parts.now files.old }
     ensures still { OnOk result (IsStill (M.outside media.old) (M.outside media.new)) }
-    ensures opened { OnOk result (HaveSinks (file_seen (source_seen M.Src.offset M.Src.size M.Src.told M.Src.ends M.Src.faults) (sink_seen M.Snk.told M.Snk.name M.Snk.faults)) (M.outside media.old) parts.now planned.now (length parts.now) files.old files.new) }
+    ensures opened { OnOk result (HaveSinks (file_seen M.Src.Source M.Snk.Sink) (M.outside media.old) parts.now planned.now (length parts.now) files.old files.new) }
     ensures met { IfErr result (λ fault. (place : ℕ) × IsSinkMet (M.outside media.old) (M.outside media.new) parts.now place fault
-        × HaveSinks (file_seen (source_seen M.Src.offset M.Src.size M.Src.told M.Src.ends M.Src.faults) (sink_seen M.Snk.told M.Snk.name M.Snk.faults)) (M.outside media.old) parts.now planned.now place files.old files.new) }
+        × HaveSinks (file_seen M.Src.Source M.Snk.Sink) (M.outside media.old) parts.now planned.now place files.old files.new) }
 {
     for place in 0..parts.len() {
         let part = &parts[place];

@@ -1,9 +1,9 @@
 //! Sources are opened, in the order of the script.
 
 ghost use Rattle.std.specs.Prelude.{◌≡◌, ℕ, ◌<◌, ◌≤◌, length, [], ◌∷◌, ◌++◌, ◌+◌, vec_len, vec_capacity, IfErr, IfNone, IfOk, IfSome, OnOk, Some, None};
-ghost use Rattle.play_results.specs.Files.{read_by};
+ghost use Rattle.play_result_laws.specs.Files.{read_by};
 ghost use Rattle.play_files.specs.Opening.{AreRead, IsSourceMet, IsSourceOf, IsSourceRefused, IsStill};
-ghost use Rattle.play_files.specs.Seen.{file_seen, sink_seen, source_seen};
+ghost use Rattle.play_files.specs.Seen.{file_seen, source_seen};
 
 use crate::faults::{head_fault, source_fault};
 use audio_parts::PartFile;
@@ -32,7 +32,7 @@ fn open_source<M: Media>(
     line: u32,
 ) -> Result<(M::Src, WavHead), Fault>
     ensures still { OnOk result (IsStill (M.outside media.old) (M.outside media.new)) }
-    ensures opened { IfOk result (λ opened. IsSourceOf (M.outside media.old) name.now opened.1 (source_seen M.Src.offset M.Src.size M.Src.told M.Src.ends M.Src.faults opened.0)) }
+    ensures opened { IfOk result (λ opened. IsSourceOf (M.outside media.old) name.now opened.1 (source_seen M.Src.Source opened.0)) }
     ensures refused { IfErr result (IsSourceRefused line name.now (M.outside media.old) (M.outside media.new)) }
 {
     let mut src = match media.source(alloc, name) {
@@ -76,9 +76,9 @@ pub(crate) fn open_sources<M: Media>(
     requires heads_room { length parts.now ≤ vec_capacity heads.old }
     requires files_room { length parts.now ≤ vec_capacity files.old }
     ensures still { OnOk result (IsStill (M.outside media.old) (M.outside media.new)) }
-    ensures read { OnOk result (AreRead (file_seen (source_seen M.Src.offset M.Src.size M.Src.told M.Src.ends M.Src.faults) (sink_seen M.Snk.told M.Snk.name M.Snk.faults)) (M.outside media.old) parts.now (length parts.now) heads.new.items files.new.items) }
+    ensures read { OnOk result (AreRead (file_seen M.Src.Source M.Snk.Sink) (M.outside media.old) parts.now (length parts.now) heads.new.items files.new.items) }
     ensures met { IfErr result (λ fault. (place : ℕ) × IsSourceMet (M.outside media.old) (M.outside media.new) parts.now place fault
-        × AreRead (file_seen (source_seen M.Src.offset M.Src.size M.Src.told M.Src.ends M.Src.faults) (sink_seen M.Snk.told M.Snk.name M.Snk.faults)) (M.outside media.old) parts.now place heads.new.items files.new.items) }
+        × AreRead (file_seen M.Src.Source M.Snk.Sink) (M.outside media.old) parts.now place heads.new.items files.new.items) }
 {
     for part in parts {
         match read_name(&part.form) {

@@ -140,7 +140,7 @@ brings s name a f k x = subst BringsNone (sym x.4) (k x.1 x.2)
 brings_two : (s : Scene) (name other : List ℕ) (a : Act) (f : Handle → Handle → Act) → ((h k : Handle) → BringsNone (f h k)) → Of s name (λ part h. Of s other (λ part k. a ≡ f h k)) → BringsNone a
 brings_two s name other a f k x = brings s other a (λ part j. f x.2 j) (λ part j. k x.2 j) x.4
 
-said_brings : (s : Scene) (t : TextAct) (a : Act) → SaysAct s t a → BringsNone a
+pub said_brings : (s : Scene) (t : TextAct) (a : Act) → SaysAct s t a → BringsNone a
 said_brings s (lines.Free c) a x = brings s c a (λ part h. acts.FreeHandle h) (λ part h. tt) x
 said_brings s (lines.State c) a x = brings s c a (λ part h. acts.GetState h) (λ part h. tt) x
 said_brings s (lines.Port p) a x = brings s p.component a (λ part h. acts.PortView h p.index) (λ part h. tt) x

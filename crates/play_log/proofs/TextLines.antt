@@ -25,7 +25,7 @@ use Rattle.play_log.proofs.Parting.{Lacks, lacks_both, parted}
 word_lacks : (word : List ℕ) → plain word ≡ true → Lacks 10 word
 word_lacks word p k below e = let high = (plain-solid word p).high k below in omega arith
 
-space_lacks : Lacks 10 (32 ∷ [])
+pub space_lacks : Lacks 10 (32 ∷ [])
 space_lacks zero below e = absurd (omega arith)
 space_lacks (suc k) below e = absurd (omega arith)
 
@@ -49,19 +49,19 @@ spaced_lacks : (words : List (List ℕ)) → AllByRecursion (Lacks 10) words →
 spaced_lacks [] a = λ k below e. absurd (omega arith)
 spaced_lacks (word ∷ words) a = lacks_both 10 word (after_spaces words) a.0 (spaces_lack words a.1)
 
-text_lacks : (text : ActText) → IsActText text → Lacks 10 (act_text text)
+pub text_lacks : (text : ActText) → IsActText text → Lacks 10 (act_text text)
 unfolding act_text
 text_lacks text is =
     spaced_lacks (text_words text)
     (two_lack (act_words text.act) (codes "=" ∷ reply_words text.reply) (all_lack (act_words text.act) (act-plain text.act is.act))
     (equals_lacks, all_lack (reply_words text.reply) (reply-plain text.reply is.reply)))
 
-texts_same : (a b : ActText) → IsActText a → IsActText b → act_text a ≡ act_text b → a ≡ b
+pub texts_same : (a b : ActText) → IsActText a → IsActText b → act_text a ≡ act_text b → a ≡ b
 texts_same a b p q e =
     let words : text_words a ≡ text_words b = sym (words_of-text a p) ∙ ap words_of e ∙ words_of-text b q in
     some_same a b (sym (text-again a p) ∙ ap text_of words ∙ text-again b q)
 
-digits_lack : (byte n : ℕ) → n < 2 ^ 64 → byte < 48 → Lacks byte (decimal n)
+pub digits_lack : (byte n : ℕ) → n < 2 ^ 64 → byte < 48 → Lacks byte (decimal n)
 digits_lack byte n fits low k below e = let digit = decimal-digits n fits k below in omega (arith, digit.0)
 
 -- ---- one line, and what follows it

@@ -5,3 +5,4 @@ pub mod Scenes
 pub mod Saying
 pub mod Logged
 pub mod Naming
+pub mod Said

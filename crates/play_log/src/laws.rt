@@ -16,23 +16,23 @@ ghost use Rattle.play_log.specs.Scenes.{Scene, HaveOwnNames};
 /// since an entry that is left out changes no world. So a log says what was done: where each file tells its bytes, no other entries have
 /// that text.
 pub fn law_of_logs()
-    ensures names { (s : Scene) (w v : World) (history : List Entry) (text : List ℕ)
-        → Sound w → IsClosed w → Run w (steps_of history) v → All (λ entry. IsUnbroken entry.act) history
-        → IsLogged s history text → IsNaming s w text (printed history) v }
-    ensures runs { (s : Scene) (w v : World) (text : List ℕ) (entries : List Entry) → IsNaming s w text entries v → Run w (steps_of entries) v }
-    ensures stays { (w v : World) (entry : Entry)
-        → Sound w → IsClosed w → Meets w entry.act → Step w entry.act entry.reply v → is_unprinted entry.reply ≡ true → v ≡ w }
-    ensures only { (s : Scene) (w v u : World) (text : List ℕ) (entries others : List Entry)
-        → HaveOwnNames s.parts → Sound w → AreTelling w → length text < 2 ^ 64
-        → IsNaming s w text entries v → IsNaming s w text others u → (others ≡ entries) × (u ≡ v) }
+    ensures names { (scene : Scene) (world after : World) (history : List Entry) (text : List ℕ)
+        → Sound world → IsClosed world → Run world (steps_of history) after → All (λ entry. IsUnbroken entry.act) history
+        → IsLogged scene history text → IsNaming scene world text (printed history) after }
+    ensures runs { (scene : Scene) (world after : World) (text : List ℕ) (entries : List Entry) → IsNaming scene world text entries after → Run world (steps_of entries) after }
+    ensures stays { (world after : World) (entry : Entry)
+        → Sound world → IsClosed world → Meets world entry.act → Step world entry.act entry.reply after → is_unprinted entry.reply ≡ true → after ≡ world }
+    ensures only { (scene : Scene) (world after middle : World) (text : List ℕ) (entries others : List Entry)
+        → HaveOwnNames scene.parts → Sound world → AreTelling world → length text < 2 ^ 64
+        → IsNaming scene world text entries after → IsNaming scene world text others middle → (others ≡ entries) × (middle ≡ after) }
 {}
 
 /// The lines of a history grow by the line of each entry that has one, as a log does that is told the text of it.
 pub fn law_of_lines()
-    ensures none { (s : Scene) → AreLinesOf s [] [] }
-    ensures more { (s : Scene) (history : List Entry) (lines : List LogLine) (line : LogLine) (entry : Entry)
-        → AreLinesOf s history lines → IsLogLine line → Says s line entry → is_unprinted entry.reply ≡ false
-        → AreLinesOf s (history ++ entry ∷ []) (lines ++ lines_of line.pass line.said) }
-    ensures left_out { (s : Scene) (history : List Entry) (lines : List LogLine) (entry : Entry)
-        → AreLinesOf s history lines → is_unprinted entry.reply ≡ true → AreLinesOf s (history ++ entry ∷ []) lines }
+    ensures none { (scene : Scene) → AreLinesOf scene [] [] }
+    ensures more { (scene : Scene) (history : List Entry) (lines : List LogLine) (line : LogLine) (entry : Entry)
+        → AreLinesOf scene history lines → IsLogLine line → Says scene line entry → is_unprinted entry.reply ≡ false
+        → AreLinesOf scene (history ++ entry ∷ []) (lines ++ lines_of line.pass line.said) }
+    ensures left_out { (scene : Scene) (history : List Entry) (lines : List LogLine) (entry : Entry)
+        → AreLinesOf scene history lines → is_unprinted entry.reply ≡ true → AreLinesOf scene (history ++ entry ∷ []) lines }
 {}

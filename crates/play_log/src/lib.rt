@@ -4,6 +4,7 @@
 mod entry;
 mod laws;
 mod log;
+pub mod texts;
 
 pub use entry::Entry;
 pub use laws::{law_of_lines, law_of_logs};

@@ -36,6 +36,7 @@ impl Model for Log {
 }
 
 impl Log {
+    /// A log without a line, which is whole.
     pub fn new(alloc: Global) -> Log
         ensures kept { IsKept [] result }
         ensures whole { result.broken ≡ false }

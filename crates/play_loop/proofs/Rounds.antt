@@ -1,6 +1,6 @@
 -- How a round stands after each turn, and that one in which nothing was accepted can't be.
 use Rattle.std.proofs.Common.{◌≡◌, ◌⊎◌, inl, inr, ℕ, ◌+◌, ◌<◌, Bool, true, false, ◌||◌, refl, sym, ◌∙◌, ap, subst, arith}
-use Rattle.flow_model.proofs.Queues.{either, both}
+use Rattle.play_model.proofs.Queues.{either, both}
 use Rattle.play_model.specs.Play.{Layout, IsLayout, Play, component_at}
 use Rattle.play_model.specs.Acts.{Act, CanAct, all_acted}
 use Rattle.play_model.specs.Reached.{IsReached, IsOver, acts_left}

@@ -1,6 +1,6 @@
 -- Acts behind acts, and turns behind turns.
 use Rattle.std.proofs.Common.{◌≡◌, ◌⊎◌, inl, inr, ℕ, ◌+◌, ◌<◌, Bool, true, false, ◌||◌, List, [], ◌∷◌, ◌++◌, length, length-append, refl, sym, ◌∙◌, ap, subst, arith}
-use Rattle.flow_model.proofs.Queues.{either}
+use Rattle.play_model.proofs.Queues.{either}
 use Rattle.play_model.specs.Play.{Layout, Play}
 use Rattle.play_model.specs.Acts.{Act, CanAct, CanActs, acted, all_acted}
 use Rattle.play_loop.specs.Turns.{CanNone, HasActed, HasRun, IsAtRest, SomePlay, Turned, TurnsOf}

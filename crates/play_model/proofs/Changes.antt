@@ -1,7 +1,7 @@
 -- A change of a late source's link keeps its order.
 use Rattle.std.proofs.Common.{◌≡◌, ◌≢◌, ◌⊎◌, inl, inr, ℕ, ◌+◌, ◌<◌, ◌≤◌, Bool, true, false, ◌||◌, if◌then◌else◌, nat_eq, refl, sym, subst, eqb-true, arith}
 use Rattle.std.proofs.lemmas.Bool.{eqb-false}
-use Rattle.flow_model.proofs.Queues.{either}
+use Rattle.play_model.proofs.Queues.{either}
 use Rattle.play_model.specs.Changes.{Change, port_at, IsHalfChanged, HasCommand, IsPortDue, HasCompletion, told_on, conducted, port_on, IsInOrder, IsWhole, IsEmptied}
 use Rattle.play_model.specs.Play.{Play}
 use Rattle.play_model.specs.Acts.{with_change}

@@ -1,7 +1,7 @@
 -- What is always so of a link's change, over acts that don't change how far it is.
 use Rattle.std.proofs.Common.{◌≡◌, ◌≢◌, ◌⊎◌, inl, inr, ℕ, ◌<◌, ◌≤◌, true, false, [], arith}
-use Rattle.flow_model.specs.Network.{Flow, headers_of, queue}
-use Rattle.flow_model.proofs.Queues.{either}
+use Rattle.play_model.specs.Network.{Flow, headers_of, queue}
+use Rattle.play_model.proofs.Queues.{either}
 use Rattle.play_model.specs.Changes.{Change, IsHalfChanged, IsWhole, IsEmptied, IsSteadyPort}
 use Rattle.play_model.specs.Play.{Layout, Play}
 use Rattle.play_model.specs.Acts.{with_stage}

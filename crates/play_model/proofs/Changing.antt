@@ -1,7 +1,7 @@
 -- Acts on the change of a late source's link lead from a reached play to a reached one.
 use Rattle.std.proofs.Common.{◌≡◌, ◌≢◌, inl, inr, ℕ, ◌<◌, ◌≤◌, Bool, true, false, nat_eq, nat_le, sym, ◌∙◌, eqb-true, arith}
 use Rattle.std.proofs.lemmas.Bool.{eqb-false, leb-true, leb-false}
-use Rattle.flow_model.proofs.Queues.{either}
+use Rattle.play_model.proofs.Queues.{either}
 use Rattle.play_model.specs.Changes.{Change, port_at, IsHalfChanged, HasCommand, HasCompletion, told_on, conducted, port_on, IsInOrder, IsWhole, IsEmptied}
 use Rattle.play_model.specs.Play.{Layout, Play, made}
 use Rattle.play_model.specs.Acts.{Act, CanAct, CanConduct, with_change, acted}

@@ -1,13 +1,13 @@
 -- In each play that is reached some act can be made, or it is over.
 use Rattle.std.proofs.Common.{◌≡◌, ◌≢◌, ◌⊎◌, inl, inr, ℕ, suc, ◌<◌, ◌≤◌, Bool, true, false, not, ◌&&◌, nat_eq, nat_le, refl, sym, ◌∙◌, ap, eqb-true, arith}
 use Rattle.std.proofs.lemmas.Bool.{eqb-false, leb-true}
-use Rattle.flow_model.specs.Network.{LinkState}
-use Rattle.flow_model.specs.Moves.{CanForward, CanBack}
-use Rattle.flow_model.specs.Account.{IsSound, HasFullOutputs}
-use Rattle.flow_model.specs.Progress.{IsFirst, IsLinkOf, AllEnded}
-use Rattle.flow_model.proofs.Queues.{either, both}
-use Rattle.flow_model.proofs.Stuck.{Found, sought, and_true, not_true, never_stuck, first_or_ended}
-use Rattle.flow_model.proofs.Claims.{claim_steps}
+use Rattle.play_model.specs.Network.{LinkState}
+use Rattle.play_model.specs.Moves.{CanForward, CanBack}
+use Rattle.play_model.specs.Account.{IsSound, HasFullOutputs}
+use Rattle.play_model.specs.Progress.{IsFirst, IsLinkOf, AllEnded}
+use Rattle.play_model.proofs.Queues.{either, both}
+use Rattle.play_model.proofs.Stuck.{Found, sought, and_true, not_true, never_stuck, first_or_ended}
+use Rattle.play_model.proofs.Claims.{claim_steps}
 use Rattle.play_model.specs.Changes.{IsChanged, IsEnabledPort, IsSteadyPort}
 use Rattle.play_model.specs.Play.{Layout, IsLayout, Play, made, supplier, other_component, IsExecuting, IsRunning, HasPorts, HasNoPortNote, IsUnbroken}
 use Rattle.play_model.specs.Acts.{Act, CanAct, ArePorts}

@@ -1,10 +1,10 @@
 -- A change that was begun goes on; one that wasn't waits for its late source, a note or the conductor.
-use Rattle.std.proofs.Common.{◌≡◌, ◌≢◌, ◌⊎◌, inl, inr, ℕ, zero, suc, ◌<◌, ◌≤◌, Bool, true, false, not, ◌&&◌, nat_eq, nat_le, refl, sym, ◌∙◌, ap, eqb-true, eq-eqb, arith}
+use Rattle.std.proofs.Common.{◌≡◌, ◌≢◌, ◌⊎◌, inl, inr, ℕ, ◌<◌, ◌≤◌, Bool, true, false, not, ◌&&◌, nat_eq, nat_le, refl, ap, eqb-true, arith}
 use Rattle.std.proofs.lemmas.Bool.{eqb-false, leb-true, leb-false}
-use Rattle.flow_model.specs.Network.{LinkState}
-use Rattle.flow_model.specs.Progress.{IsLinkOf}
-use Rattle.flow_model.proofs.Queues.{either, both}
-use Rattle.flow_model.proofs.Stuck.{sought, and_true, not_true}
+use Rattle.play_model.specs.Network.{LinkState}
+use Rattle.play_model.specs.Progress.{IsLinkOf}
+use Rattle.play_model.proofs.Queues.{either, both}
+use Rattle.play_model.proofs.Stuck.{sought, and_true, not_true}
 use Rattle.play_model.specs.Changes.{Change, port_at, IsChanged, IsHalfChanged, IsSteadyPort, HasCommand, HasCompletion, IsInOrder, IsWhole}
 use Rattle.play_model.specs.Play.{Layout, Play, made, supplier, other_component, IsRunning, IsUnbroken}
 use Rattle.play_model.specs.Acts.{Act, CanAct, ArePorts}
@@ -190,79 +190,21 @@ half_or_unbroken w p R = elim (sought (is_half w p) (w.network).links) [
 
 -- ---- a link that isn't changed
 
--- of those below a number that pass, one with the least value
-record Least (P : ℕ → Bool) (f : ℕ → ℕ) (m : ℕ) : Type 0 where
-  at : ℕ
-  below : at < m
-  is : P at ≡ true
-  least : (j : ℕ) → j < m → P j ≡ true → f at ≤ f j
-
-least_of : (P : ℕ → Bool) (f : ℕ → ℕ) (m : ℕ) → Least P f m ⊎ ((j : ℕ) → j < m → P j ≡ false)
-least_of P f zero = inr (λ j b. absurd (omega (arith, b)))
-least_of P f (suc m) = elim (least_of P f m) [
-  | inl L ↦ either (P m && not (nat_le (f L.at) (f m)))
-      (λ t.
-      let a = and_true (P m) (not (nat_le (f L.at) (f m))) t in
-      let less = leb-false _ _ (not_true _ a.1) in
-      inl (record {
-        at = m;
-        below = omega arith;
-        is = a.0;
-        least = λ j b y. either (nat_eq j m)
-            (λ e. let q : f j ≡ f m = ap f (eqb-true _ _ e) in omega arith)
-            (λ n. let d = eqb-false _ _ n in let l = L.least j (omega arith) y in omega arith);
-      }))
-      (λ g. inl (record {
-        at = L.at;
-        below = let b = L.below in omega arith;
-        is = L.is;
-        least = λ j b y. either (nat_eq j m)
-            (λ e.
-            let q : j ≡ m = eqb-true _ _ e in
-            let v : f j ≡ f m = ap f q in
-            let here : P m ≡ true = ap P (sym q) ∙ y in
-            let n : not (nat_le (f L.at) (f m)) ≡ false = rw here at g in
-            let le = leb-true _ _ (either (nat_le (f L.at) (f m)) (λ z. z) (λ z. both (not (nat_le (f L.at) (f m))) (ap not z) n)) in
-            omega arith)
-            (λ n. let d = eqb-false _ _ n in L.least j (omega arith) y);
-      }))
-  | inr none ↦ either (P m)
-      (λ t. inl (record {
-        at = m;
-        below = omega arith;
-        is = t;
-        least = λ j b y. either (nat_eq j m)
-            (λ e. let q : f j ≡ f m = ap f (eqb-true _ _ e) in omega arith)
-            (λ n. let d = eqb-false _ _ n in both (P j) y (none j (omega arith)));
-      }))
-      (λ g. inr (λ j b. either (nat_eq j m)
-      (λ e. ap P (eqb-true _ _ e) ∙ g)
-      (λ n. let d = eqb-false _ _ n in none j (omega arith))))
-]
-
-abbrev has_told : Layout → Play → ℕ → Bool
-has_told w p l = w.is_late l && nat_eq (p.change l).step 2
-
+-- the conductor can begin its change
 next_goes : (w : Layout) (p : Play) (l : ℕ) → p.phase ≡ 2 → ((c : ℕ) → c < (w.network).components → p.stage c ≡ 4) → IsUnbroken w p → l < (w.network).links → w.is_late l ≡ true → (p.change l).step ≡ 2 →
     (a : Act) × IsAwaitedAt l a × CanAct w p a
-next_goes w p l two all unbroken b t e = elim (least_of (has_told w p) (λ k. w.place ((w.network).giver k)) (w.network).links) [
-  | inl L ↦
-      let k : ℕ = L.at in
-      let a = and_true (w.is_late k) (nat_eq (p.change k).step 2) L.is in
-      let here : (p.change k).step ≡ 2 = eqb-true _ _ a.1 in (
-        Act.Conduct k,
-        tt,
-        record {
-          below = L.below;
-          late = a.0;
-          told = omega arith;
-          more = omega arith;
-          next = λ _. record { phase = two; all = all; unbroken = unbroken; first = λ j c y z. L.least j c (rw (y, eq-eqb (p.change j).step 2 z) refl) };
-          disabled = λ q. absurd (omega arith);
-        },
-      )
-  | inr none ↦ both (has_told w p l) (rw (t, eq-eqb (p.change l).step 2 e) refl) (none l b)
-]
+next_goes w p l two all unbroken b t e = (
+  Act.Conduct l,
+  tt,
+  record {
+    below = b;
+    late = t;
+    told = omega arith;
+    more = omega arith;
+    next = λ _. record { phase = two; all = all; unbroken = unbroken };
+    disabled = λ q. absurd (omega arith);
+  },
+)
 
 running_two : (w : Layout) (p : Play) (l : ℕ) → IsReached w p → ((k : ℕ) → k < (w.network).components → IsRunning p k) → l < (w.network).links → w.is_late l ≡ true → (p.change l).step ≤ 2 → p.phase ≡ 2
 running_two w p l R A b t low = elim (A ((w.network).giver l) (end_inside w R.layout ((w.network).giver l) l (inr (record { below = b; given_by = refl })))) [

@@ -1,7 +1,7 @@
 -- Every reached play has acts that lead it to its end; and there is one, of a source and a sink.
 use Rattle.std.proofs.Common.{◌≡◌, inl, inr, ℕ, zero, suc, ◌<◌, ◌≤◌, Bool, false, not, nat_eq, List, [], ◌∷◌, refl, sym, ap, eqb-true, arith}
 use Rattle.std.proofs.lemmas.Bool.{eqb-false}
-use Rattle.flow_model.proofs.Queues.{either, both}
+use Rattle.play_model.proofs.Queues.{either, both}
 use Rattle.play_model.specs.Play.{Layout, IsLayout, Play}
 use Rattle.play_model.specs.Acts.{Act, CanActs, acted, all_acted}
 use Rattle.play_model.specs.Reached.{IsReached, IsOver, acts_left, IsBegun, a_link, a_play}

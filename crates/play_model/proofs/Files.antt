@@ -1,16 +1,16 @@
 -- A play that is over left the plain function's streams, and no header.
 use Rattle.std.proofs.Common.{◌∙◌, sym, ◌≡◌, inl, inr, ℕ, ◌<◌, ◌≤◌, Bool, true, false, not, nat_eq, nat_le, List, [], ◌∷◌, ◌++◌, append_assoc, append-nil, refl, eqb-true, arith}
 use Rattle.std.proofs.lemmas.Bool.{eqb-false, leb-true, leb-false}
-use Rattle.flow_model.specs.Network.{Flow}
-use Rattle.flow_model.specs.Moves.{Move, moved, with_link}
-use Rattle.flow_model.specs.Account.{IsSound}
-use Rattle.flow_model.specs.Progress.{AllEnded, IsLinkOf}
-use Rattle.flow_model.specs.Content.{Contents, AreContents, Streams, AreStreams, ArePlain}
-use Rattle.flow_model.proofs.Queues.{either}
-use Rattle.flow_model.proofs.Keeps.{same_at}
-use Rattle.flow_model.proofs.Streams.{move_streams, same_streams}
-use Rattle.flow_model.proofs.Plain.{opening_streams, ended_plain}
-use Rattle.flow_model.proofs.Fronts.{fronts}
+use Rattle.play_model.specs.Network.{Flow}
+use Rattle.play_model.specs.Moves.{Move, moved, with_link}
+use Rattle.play_model.specs.Account.{IsSound}
+use Rattle.play_model.specs.Progress.{AllEnded, IsLinkOf}
+use Rattle.play_model.specs.Content.{Contents, AreContents, Streams, AreStreams, ArePlain}
+use Rattle.play_model.proofs.Queues.{either}
+use Rattle.play_model.proofs.Keeps.{same_at}
+use Rattle.play_model.proofs.Streams.{move_streams, same_streams}
+use Rattle.play_model.proofs.Plain.{opening_streams, ended_plain}
+use Rattle.play_model.proofs.Fronts.{fronts}
 use Rattle.play_model.specs.Play.{Layout, IsLayout, Play, made, HasDone}
 use Rattle.play_model.specs.Acts.{Act, CanAct, CanActs, supplied, released, given_unused, hand, acted, all_acted}
 use Rattle.play_model.specs.Reached.{IsReached, IsOver}

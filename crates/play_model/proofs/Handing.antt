@@ -1,12 +1,12 @@
 -- Acts that move headers, and steps, lead from a reached play to a reached one.
 use Rattle.std.proofs.Common.{◌≡◌, ◌≢◌, ◌⊎◌, inl, inr, ℕ, suc, ◌+◌, ◌<◌, ◌≤◌, Bool, true, false, not, nat_eq, List, [], ◌∷◌, ◌++◌, length, refl, sym, ◌∙◌, ap, subst, length-append, eqb-true, ne_eqb, arith}
 use Rattle.std.proofs.lemmas.Bool.{eqb-false}
-use Rattle.flow_model.specs.Network.{Network, Filled, LinkState, Flow, headers_of, queue}
-use Rattle.flow_model.specs.Moves.{IsFront, Move, Can, moved, with_link, sent_on, sent_back, took, took_front}
-use Rattle.flow_model.specs.Progress.{IsLinkOf}
-use Rattle.flow_model.proofs.Queues.{either, both}
-use Rattle.flow_model.proofs.Keeps.{Same, same_at, same_keeps, on_same, move_keeps, ended_other, took_closed, took_going}
-use Rattle.flow_model.proofs.Full.{move_headers, opening_sound}
+use Rattle.play_model.specs.Network.{Network, Filled, LinkState, Flow, headers_of, queue}
+use Rattle.play_model.specs.Moves.{IsFront, Move, Can, moved, with_link, sent_on, sent_back, took, took_front}
+use Rattle.play_model.specs.Progress.{IsLinkOf}
+use Rattle.play_model.proofs.Queues.{either, both}
+use Rattle.play_model.proofs.Keeps.{Same, same_at, same_keeps, on_same, move_keeps, ended_other, took_closed, took_going}
+use Rattle.play_model.proofs.Full.{move_headers, opening_sound}
 use Rattle.play_model.specs.Changes.{IsDisabling, IsWhole, IsEmptied}
 use Rattle.play_model.specs.Play.{Layout, Play, supplier, other_component, IsExecuting, IsRunning, IsSettled, HasDone, HasUnused}
 use Rattle.play_model.specs.Acts.{Act, CanAct, CanActs, back_held, given_unused, hand, other_port, acted, all_acted}

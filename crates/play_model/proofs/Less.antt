@@ -1,13 +1,13 @@
 -- Each act leaves less: less of the script, or as much and less work, or as much of both and fewer headers on their way.
 use Rattle.std.proofs.Common.{◌≡◌, ◌≢◌, ◌⊎◌, inl, inr, ℕ, zero, suc, ◌+◌, ◌-◌, ◌*◌, ◌<◌, ◌≤◌, Bool, true, false, not, ◌&&◌, ◌||◌, nat_eq, nat_le, if◌then◌else◌, List, [], ◌∷◌, length, refl, sym, ◌∙◌, ap, subst, length-append, eqb-true, eq-eqb, ne_eqb, arith}
 use Rattle.std.proofs.lemmas.Bool.{leb-true, leb-false}
-use Rattle.flow_model.specs.Network.{Network, Filled, LinkState, Flow, headers_of}
-use Rattle.flow_model.specs.Moves.{IsFront, Move, moved, with_link, sent_on, sent_back}
-use Rattle.flow_model.specs.Progress.{sum_to, work_left, all_headers}
-use Rattle.flow_model.proofs.Queues.{either}
-use Rattle.flow_model.proofs.Sums.{sum_le, sum_less, first_decides}
-use Rattle.flow_model.proofs.Full.{move_headers}
-use Rattle.flow_model.proofs.Measure.{step_less}
+use Rattle.play_model.specs.Network.{Network, Filled, LinkState, Flow, headers_of}
+use Rattle.play_model.specs.Moves.{IsFront, Move, moved, with_link, sent_on, sent_back}
+use Rattle.play_model.specs.Progress.{sum_to, work_left, all_headers}
+use Rattle.play_model.proofs.Queues.{either}
+use Rattle.play_model.proofs.Sums.{sum_le, sum_less, first_decides}
+use Rattle.play_model.proofs.Full.{move_headers}
+use Rattle.play_model.proofs.Measure.{step_less}
 use Rattle.play_model.specs.Changes.{Change, port_at, IsSteadyPort, IsDisabling, told_on, conducted, port_on}
 use Rattle.play_model.specs.Play.{Layout, Play, made, other_component, IsReturning, HasDone, HasUnused}
 use Rattle.play_model.specs.Acts.{Act, CanBegin, CanAct, CanConduct, CanActs, ArePorts, other_port, with_stage, with_change, reset_all, supplied, released, back_held, given_unused, hand, acted, all_acted}

@@ -1,7 +1,7 @@
 -- The two ends of a link: the supplier and the other one are its giver and its taker, in one order or the other.
 use Rattle.std.proofs.Common.{◌≡◌, ◌⊎◌, inl, inr, ℕ, ◌<◌, Bool, true, not, ◌&&◌, nat_eq, refl, sym, subst, eqb-true, eq-eqb, arith}
-use Rattle.flow_model.specs.Progress.{IsLinkOf}
-use Rattle.flow_model.proofs.Queues.{either, both}
+use Rattle.play_model.specs.Progress.{IsLinkOf}
+use Rattle.play_model.proofs.Queues.{either, both}
 use Rattle.play_model.specs.Play.{Layout, IsLayout, supplier, other_component}
 
 pub supplier_links : (w : Layout) (l : ℕ) → l < (w.network).links → IsLinkOf w.network (supplier w l) l

@@ -1,12 +1,12 @@
 -- Each act of a reached play leads to a reached play.
 use Rattle.std.proofs.Common.{◌≡◌, ◌≢◌, ◌⊎◌, inl, inr, ℕ, zero, suc, ◌+◌, ◌<◌, ◌≤◌, Bool, true, false, nat_eq, List, [], ◌∷◌, ◌++◌, length, refl, sym, ◌∙◌, ap, subst, length-append, eqb-true, arith}
 use Rattle.std.proofs.lemmas.Bool.{eqb-false}
-use Rattle.flow_model.specs.Network.{Network, IsNetwork, IsOutput, Filled, LinkState, Flow, headers_of, queue}
-use Rattle.flow_model.specs.Moves.{with_link}
-use Rattle.flow_model.specs.Account.{IsSound, IsOpening}
-use Rattle.flow_model.specs.Progress.{IsLinkOf, AllEnded}
-use Rattle.flow_model.proofs.Queues.{either, both}
-use Rattle.flow_model.proofs.Keeps.{Same, same_at, same_keeps}
+use Rattle.play_model.specs.Network.{Network, IsNetwork, IsOutput, Filled, LinkState, Flow, headers_of, queue}
+use Rattle.play_model.specs.Moves.{with_link}
+use Rattle.play_model.specs.Account.{IsSound, IsOpening}
+use Rattle.play_model.specs.Progress.{IsLinkOf, AllEnded}
+use Rattle.play_model.proofs.Queues.{either, both}
+use Rattle.play_model.proofs.Keeps.{Same, same_at, same_keeps}
 use Rattle.play_model.specs.Changes.{Change, port_at, IsChanged, IsHalfChanged, IsEnabledPort, IsDisabling, IsWhole, IsEmptied}
 use Rattle.play_model.specs.Play.{Layout, Play, made, supplier, IsSettled, IsLeaving, HasHome, IsDue}
 use Rattle.play_model.specs.Acts.{Act, CanBegin, CanAct, with_stage, reset_link, reset_all, supplied, less_sent, less_held, released, supplier_port, acted}

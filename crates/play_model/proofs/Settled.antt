@@ -1,10 +1,10 @@
 -- A link whose headers are all at home, or one of which is away.
 use Rattle.std.proofs.Common.{◌≡◌, ◌⊎◌, inl, inr, ◌+◌, ◌<◌, Bool, true, false, not, ◌&&◌, nat_eq, List, [], ◌∷◌, length, refl, sym, ap, length-append, eqb-true, eq-eqb, arith}
 use Rattle.std.proofs.lemmas.Bool.{eqb-false}
-use Rattle.flow_model.specs.Network.{Filled, LinkState, headers_of, queue}
-use Rattle.flow_model.specs.Moves.{IsFront}
-use Rattle.flow_model.proofs.Queues.{either, both}
-use Rattle.flow_model.proofs.Stuck.{and_true}
+use Rattle.play_model.specs.Network.{Filled, LinkState, headers_of, queue}
+use Rattle.play_model.specs.Moves.{IsFront}
+use Rattle.play_model.proofs.Queues.{either, both}
+use Rattle.play_model.proofs.Stuck.{and_true}
 use Rattle.play_model.specs.Play.{IsSettled, HasDone, HasUnused, HasHome}
 
 abbrev is_none_in : List Filled → Bool

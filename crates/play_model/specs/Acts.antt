@@ -1,9 +1,10 @@
 -- What changes a play. An act of the machine is one act here and then as many happenings as are due: its close-out.
 use Rattle.std.specs.Prelude.{◌≡◌, ◌≢◌, ℕ, zero, suc, ◌+◌, ◌-◌, ◌<◌, ◌≤◌, ◌⊎◌, Bool, true, false, not, nat_eq, if◌then◌else◌, List, [], ◌∷◌, length}
-use Rattle.flow_model.specs.Network.{Filled, LinkState, Flow}
-use Rattle.flow_model.specs.Moves.{Move, Can, moved, with_link}
+use Rattle.play_model.specs.Network.{Filled, LinkState, Flow}
+use Rattle.play_model.specs.Moves.{Move, Can, moved, with_link}
+use Rattle.play_model.specs.Numbers.{to_executing, back_to_idle, to_loaded, not_sent, command_queued, transition_pending, state_reached, state_told, not_announced, settings_announced, settings_told, both_disables_sent, both_enables_sent, disable_told}
 use Rattle.play_model.specs.Changes.{Change, port_at, IsChanged, IsEnabledPort, IsSteadyPort, IsDisabling, HasCommand, IsPortDue, HasCompletion, told_on, conducted, port_on}
-use Rattle.play_model.specs.Play.{Layout, Play, made, supplier, other_component, IsExecuting, IsRunning, IsReturning, IsAccepting, IsLeaving, HasDone, HasUnused, HasHome, IsDue, HasPorts, HasNoPortNote, IsNext}
+use Rattle.play_model.specs.Play.{Layout, Play, made, supplier, other_component, IsExecuting, IsRunning, IsReturning, IsAccepting, IsLeaving, HasDone, HasUnused, HasHome, IsDue, HasPorts, HasNoPortNote, CanBeginChange}
 
 pub data Act : Type 0 where
   -- the conductor begins to send the next StateSet; a component gets it
@@ -37,21 +38,21 @@ pub data Act : Type 0 where
 -- The next StateSet is begun where every component has told the last one; the second Idle where besides every sink has
 -- told the end, no link is half changed, and no late source whose link isn't changed has told its settings.
 pub record CanBegin (w : Layout) (p : Play) : Type 0 where
-  pub more : p.phase < 4
-  pub all : (c : ℕ) → c < (w.network).components → p.stage c ≡ 4
-  pub ends : p.phase ≡ 2 → (c : ℕ) → c < (w.network).components → w.is_sink c ≡ true → p.told c ≡ true
-  pub changes : p.phase ≡ 2 → (l : ℕ) → l < (w.network).links → w.is_late l ≡ true →
-      ((p.change l).step ≤ 1) ⊎ IsChanged (p.change l)
+  pub more : p.phase < to_loaded
+  pub all : (c : ℕ) → c < (w.network).components → p.stage c ≡ state_told
+  pub ends : p.phase ≡ to_executing → (c : ℕ) → c < (w.network).components → w.is_sink c ≡ true → p.told c ≡ true
+  pub changes : p.phase ≡ to_executing → (l : ℕ) → l < (w.network).links → w.is_late l ≡ true →
+      ((p.change l).step ≤ settings_announced) ⊎ IsChanged (p.change l)
 
--- an act on a link that is being changed: the first one where it is next, the tunnel is dropped where both ends have told
--- their disable
+-- an act on a link that is being changed: the first one where a change can be begun, the tunnel is dropped where both ends
+-- have told their disable
 pub record CanConduct (w : Layout) (p : Play) (l : ℕ) : Type 0 where
   pub below : l < (w.network).links
   pub late : w.is_late l ≡ true
-  pub told : 2 ≤ (p.change l).step
-  pub more : (p.change l).step < 10
-  pub next : (p.change l).step ≡ 2 → IsNext w p l
-  pub disabled : (p.change l).step ≡ 4 → ((p.change l).output ≡ 4) × ((p.change l).input ≡ 4)
+  pub told : settings_told ≤ (p.change l).step
+  pub more : (p.change l).step < both_enables_sent
+  pub next : (p.change l).step ≡ settings_told → CanBeginChange w p
+  pub disabled : (p.change l).step ≡ both_disables_sent → ((p.change l).output ≡ disable_told) × ((p.change l).input ≡ disable_told)
 
 -- both ports of a link
 abbrev pub ArePorts : (ℕ → Type 0) → Change → Type 0
@@ -66,12 +67,12 @@ other_port w p l = port_at (not (w.by_output l)) (p.change l)
 
 abbrev pub CanAct : Layout → Play → Act → Type 0
 CanAct w p Begin = CanBegin w p
-CanAct w p (Send c) = (c < (w.network).components) × (p.stage c ≡ 0)
-CanAct w p (Run c) = (c < (w.network).components) × (p.stage c ≡ 1)
-CanAct w p (Happen c) = (c < (w.network).components) × (p.stage c ≡ 2) × IsDue w p c
-CanAct w p (Tell c) = (c < (w.network).components) × (p.stage c ≡ 3)
+CanAct w p (Send c) = (c < (w.network).components) × (p.stage c ≡ not_sent)
+CanAct w p (Run c) = (c < (w.network).components) × (p.stage c ≡ command_queued)
+CanAct w p (Happen c) = (c < (w.network).components) × (p.stage c ≡ transition_pending) × IsDue w p c
+CanAct w p (Tell c) = (c < (w.network).components) × (p.stage c ≡ state_reached)
 CanAct w p (TellEnd c) =
-    (c < (w.network).components) × (p.stage c ≢ 3) × (w.is_sink c ≡ true) × (p.told c ≡ false) × ((p.flow).ended c ≡ true)
+    (c < (w.network).components) × (p.stage c ≢ state_reached) × (w.is_sink c ≡ true) × (p.told c ≡ false) × ((p.flow).ended c ≡ true)
     × HasNoPortNote w p c
 CanAct w p (Supply l) =
     (l < (w.network).links) × IsAccepting p (supplier w l) × IsAccepting p (other_component w l)
@@ -86,9 +87,9 @@ CanAct w p (HandBack l) = (l < (w.network).links) × IsExecuting p (other_compon
 CanAct w p (HandUnused l) =
     (l < (w.network).links) × (IsReturning p (other_component w l) ⊎ IsDisabling (other_port w p l))
     × HasUnused (w.by_output l) ((p.flow).link l)
-CanAct w p (Announce l) = (l < (w.network).links) × (w.is_late l ≡ true) × IsRunning p ((w.network).giver l) × ((p.change l).step ≡ 0)
+CanAct w p (Announce l) = (l < (w.network).links) × (w.is_late l ≡ true) × IsRunning p ((w.network).giver l) × ((p.change l).step ≡ not_announced)
 CanAct w p (TellSettings l) =
-    (l < (w.network).links) × (w.is_late l ≡ true) × (p.stage ((w.network).giver l) ≢ 3) × ((p.change l).step ≡ 1)
+    (l < (w.network).links) × (w.is_late l ≡ true) × (p.stage ((w.network).giver l) ≢ state_reached) × ((p.change l).step ≡ settings_announced)
 CanAct w p (Conduct l) = CanConduct w p l
 CanAct w p (RunPort l output) = (l < (w.network).links) × (w.is_late l ≡ true) × HasCommand (port_at output (p.change l))
 CanAct w p (HappenPort l output) =
@@ -145,11 +146,11 @@ hand true l = Move.Forward l
 hand false l = Move.Back l
 
 abbrev pub acted : Layout → Act → Play → Play
-acted w Begin p = record p { phase = p.phase + 1; stage = λ c. 0 }
-acted w (Send c) p = with_stage c 1 p
-acted w (Run c) p = with_stage c 2 p
-acted w (Happen c) p = record (with_stage c 3 p) { flow = if nat_eq p.phase 3 then reset_all w c p.flow else p.flow }
-acted w (Tell c) p = with_stage c 4 p
+acted w Begin p = record p { phase = p.phase + 1; stage = λ c. not_sent }
+acted w (Send c) p = with_stage c command_queued p
+acted w (Run c) p = with_stage c transition_pending p
+acted w (Happen c) p = record (with_stage c state_reached p) { flow = if nat_eq p.phase back_to_idle then reset_all w c p.flow else p.flow }
+acted w (Tell c) p = with_stage c state_told p
 acted w (TellEnd c) p = record p { told = λ j. if nat_eq j c then true else p.told j }
 acted w (Supply l) p = record p { flow = with_link l (supplied (w.by_output l)) p.flow }
 acted w (Release l) p = record p { flow = with_link l (released (w.by_output l)) p.flow }

@@ -1,7 +1,7 @@
 -- The bytes of a play: only a step changes what an input has taken and what is on its way to it.
 use Rattle.std.specs.Prelude.{ℕ, List, [], ◌∷◌}
-use Rattle.flow_model.specs.Moves.{Move}
-use Rattle.flow_model.specs.Content.{Contents, AreContents, Streams, streamed, AreEmpty, ArePlain}
+use Rattle.play_model.specs.Moves.{Move}
+use Rattle.play_model.specs.Content.{Contents, AreContents, Streams, streamed, AreEmpty, ArePlain}
 use Rattle.play_model.specs.Play.{Layout, Play}
 use Rattle.play_model.specs.Acts.{Act, CanActs, acted}
 use Rattle.play_model.specs.Reached.{IsBegun}

@@ -2,9 +2,10 @@
 -- told the last one, and each component carries them out. A note that is out stands as if it were still queued, so only
 -- its end is an act.
 use Rattle.std.specs.Prelude.{◌≡◌, ◌≢◌, ℕ, ◌+◌, ◌<◌, ◌≤◌, ◌⊎◌, Bool, true, false, if◌then◌else◌, [], length}
-use Rattle.flow_model.specs.Network.{Network, IsNetwork, IsInput, IsOutput, LinkState, Flow, headers_of}
-use Rattle.flow_model.specs.Moves.{IsFront}
-use Rattle.flow_model.specs.Progress.{IsLinkOf}
+use Rattle.play_model.specs.Network.{Network, IsNetwork, IsInput, IsOutput, LinkState, Flow, headers_of}
+use Rattle.play_model.specs.Moves.{IsFront}
+use Rattle.play_model.specs.Progress.{IsLinkOf}
+use Rattle.play_model.specs.Numbers.{to_idle, to_executing, back_to_idle, to_loaded, command_queued, transition_pending, state_reached, state_told, settings_told, enable_done}
 use Rattle.play_model.specs.Changes.{Change, IsChanged, HasCompletion}
 
 -- what a play is of: the network, who supplies each link's headers, and which components write a file
@@ -26,10 +27,9 @@ pub record IsLayout (w : Layout) : Type 0 where
 -- Since the conductor begins to send the next command only when each component has told the last one, one number for all
 -- and a small one for each say where they are.
 pub record Play : Type 0 where
-  -- how many of the four StateSets the conductor has begun to send
+  -- how many of the four StateSets the conductor has begun to send, from unbegun to to_loaded
   pub phase : ℕ
-  -- of the last of them, at each component: 0 it isn't sent yet; 1 it is queued; 2 its transition is pending; 3 the state
-  -- was reached, and the completion is queued; 4 it was told
+  -- of the last of them, at each component, from not_sent to state_told
   pub stage : ℕ → ℕ
   -- the end of the stream was told
   pub told : ℕ → Bool
@@ -58,25 +58,25 @@ component_at w false l = (w.network).taker l
 
 -- Executing, whatever is pending
 abbrev pub IsExecuting : Play → ℕ → Type 0
-IsExecuting p c = ((p.phase ≡ 2) × (3 ≤ p.stage c)) ⊎ ((p.phase ≡ 3) × (p.stage c ≤ 2))
+IsExecuting p c = ((p.phase ≡ to_executing) × (state_reached ≤ p.stage c)) ⊎ ((p.phase ≡ back_to_idle) × (p.stage c ≤ transition_pending))
 
 -- Executing with nothing pending
 abbrev pub IsRunning : Play → ℕ → Type 0
-IsRunning p c = ((p.phase ≡ 2) × (3 ≤ p.stage c)) ⊎ ((p.phase ≡ 3) × (p.stage c ≤ 1))
+IsRunning p c = ((p.phase ≡ to_executing) × (state_reached ≤ p.stage c)) ⊎ ((p.phase ≡ back_to_idle) × (p.stage c ≤ command_queued))
 
 -- Executing with Idle pending
 abbrev pub IsReturning : Play → ℕ → Type 0
-IsReturning p c = (p.phase ≡ 3) × (p.stage c ≡ 2)
+IsReturning p c = (p.phase ≡ back_to_idle) × (p.stage c ≡ transition_pending)
 
 -- Loaded with Idle pending; or Idle or Executing with nothing pending
 abbrev pub IsAccepting : Play → ℕ → Type 0
 IsAccepting p c =
-    ((p.phase ≡ 1) × (2 ≤ p.stage c)) ⊎ ((p.phase ≡ 2) × (p.stage c ≢ 2)) ⊎ ((p.phase ≡ 3) × (p.stage c ≢ 2))
-    ⊎ ((p.phase ≡ 4) × (p.stage c ≤ 1))
+    ((p.phase ≡ to_idle) × (transition_pending ≤ p.stage c)) ⊎ ((p.phase ≡ to_executing) × (p.stage c ≢ transition_pending)) ⊎ ((p.phase ≡ back_to_idle) × (p.stage c ≢ transition_pending))
+    ⊎ ((p.phase ≡ to_loaded) × (p.stage c ≤ command_queued))
 
 -- Loaded is pending
 abbrev pub IsLeaving : Play → ℕ → Type 0
-IsLeaving p c = (p.phase ≡ 4) × (p.stage c ≡ 2)
+IsLeaving p c = (p.phase ≡ to_loaded) × (p.stage c ≡ transition_pending)
 
 -- ---- a link by the end that supplies it: first where that is the output
 
@@ -103,16 +103,16 @@ HasHome false x = 0 < x.spent + length x.held
 -- What is pending is due: Idle from Loaded once all headers of its links are made, Executing at once, Idle from Executing
 -- once all of them are at home, Loaded once none is made.
 pub record IsDue (w : Layout) (p : Play) (c : ℕ) : Type 0 where
-  pub up : p.phase ≡ 1 → (l : ℕ) → IsLinkOf w.network c l → made p l ≡ (w.network).count l
-  pub down : p.phase ≡ 3 → (l : ℕ) → IsLinkOf w.network c l → IsSettled (w.by_output l) ((p.flow).link l)
-  pub unmade : p.phase ≡ 4 → (l : ℕ) → IsLinkOf w.network c l → made p l ≡ 0
+  pub up : p.phase ≡ to_idle → (l : ℕ) → IsLinkOf w.network c l → made p l ≡ (w.network).count l
+  pub down : p.phase ≡ back_to_idle → (l : ℕ) → IsLinkOf w.network c l → IsSettled (w.by_output l) ((p.flow).link l)
+  pub unmade : p.phase ≡ to_loaded → (l : ℕ) → IsLinkOf w.network c l → made p l ≡ 0
 
 -- ---- ports, and the links of late sources
 
 -- Each port of the component is Steady, and none is held or has its format open: a claim asks for that.
 pub record HasPorts (w : Layout) (p : Play) (c : ℕ) : Type 0 where
-  pub outputs : (l : ℕ) → IsOutput w.network c l → w.is_late l ≡ true → 7 ≤ (p.change l).output
-  pub inputs : (l : ℕ) → IsInput w.network c l → w.is_late l ≡ true → 7 ≤ (p.change l).input
+  pub outputs : (l : ℕ) → IsOutput w.network c l → w.is_late l ≡ true → enable_done ≤ (p.change l).output
+  pub inputs : (l : ℕ) → IsInput w.network c l → w.is_late l ≡ true → enable_done ≤ (p.change l).input
 
 -- no completion of a disable or enable is queued at the component, before the end of the stream
 pub record HasNoPortNote (w : Layout) (p : Play) (c : ℕ) : Type 0 where
@@ -121,13 +121,10 @@ pub record HasNoPortNote (w : Layout) (p : Play) (c : ℕ) : Type 0 where
 
 -- no link is half changed
 abbrev pub IsUnbroken : Layout → Play → Type 0
-IsUnbroken w p = (l : ℕ) → l < (w.network).links → w.is_late l ≡ true → ((p.change l).step ≤ 2) ⊎ IsChanged (p.change l)
+IsUnbroken w p = (l : ℕ) → l < (w.network).links → w.is_late l ≡ true → ((p.change l).step ≤ settings_told) ⊎ IsChanged (p.change l)
 
--- Every component has told Executing, no link is half changed, and the late source of this link is, of those that have
--- told their settings and whose links aren't changed, the first in the order of the script.
-pub record IsNext (w : Layout) (p : Play) (l : ℕ) : Type 0 where
-  pub phase : p.phase ≡ 2
-  pub all : (c : ℕ) → c < (w.network).components → p.stage c ≡ 4
+-- A change can be begun: every component has told Executing, and no link is half changed.
+pub record CanBeginChange (w : Layout) (p : Play) : Type 0 where
+  pub phase : p.phase ≡ to_executing
+  pub all : (c : ℕ) → c < (w.network).components → p.stage c ≡ state_told
   pub unbroken : IsUnbroken w p
-  pub first : (k : ℕ) → k < (w.network).links → w.is_late k ≡ true → (p.change k).step ≡ 2 →
-      w.place ((w.network).giver l) ≤ w.place ((w.network).giver k)

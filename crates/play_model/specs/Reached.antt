@@ -1,8 +1,9 @@
 -- The plays that are reached, how far each one is from its end, and one that shows that there are such plays.
 use Rattle.std.specs.Prelude.{[], ◌≡◌, ℕ, ◌+◌, ◌-◌, ◌*◌, ◌<◌, ◌≤◌, ◌⊎◌, Bool, true, false, not, ◌&&◌, ◌||◌, nat_eq, nat_le, if◌then◌else◌, length}
-use Rattle.flow_model.specs.Network.{Network, LinkState, queue}
-use Rattle.flow_model.specs.Account.{IsSound, IsOpening}
-use Rattle.flow_model.specs.Progress.{IsLinkOf, AllEnded, sum_to, work_left, all_headers}
+use Rattle.play_model.specs.Network.{Network, LinkState, queue}
+use Rattle.play_model.specs.Account.{IsSound, IsOpening}
+use Rattle.play_model.specs.Progress.{IsLinkOf, AllEnded, sum_to, work_left, all_headers}
+use Rattle.play_model.specs.Numbers.{unbegun, to_idle, to_executing, back_to_idle, to_loaded, transition_pending, state_reached, state_told, not_announced, settings_told, both_disables_sent, both_enables_sent, untouched, disable_pending, enable_done, enable_told}
 use Rattle.play_model.specs.Changes.{Change, IsChanged, IsHalfChanged, IsInOrder, IsWhole, IsEmptied}
 use Rattle.play_model.specs.Acts.{Act, other_port}
 use Rattle.play_model.specs.Play.{Layout, IsLayout, Play, made, supplier, other_component, IsSettled}
@@ -11,55 +12,55 @@ use Rattle.play_model.specs.Play.{Layout, IsLayout, Play, made, supplier, other_
 -- second Idle is begun.
 pub record IsChanging (w : Layout) (p : Play) (l : ℕ) (k : Change) : Type 0 where
   pub order : IsInOrder k
-  pub fixed : w.is_late l ≡ false → k.step ≡ 0
-  pub early : p.phase ≤ 1 → k.step ≡ 0
-  pub over : 3 ≤ p.phase → w.is_late l ≡ true → IsChanged k
-  pub half : IsHalfChanged k → (p.phase ≡ 2) × ((c : ℕ) → c < (w.network).components → p.stage c ≡ 4)
+  pub fixed : w.is_late l ≡ false → k.step ≡ not_announced
+  pub early : p.phase ≤ to_idle → k.step ≡ not_announced
+  pub over : back_to_idle ≤ p.phase → w.is_late l ≡ true → IsChanged k
+  pub half : IsHalfChanged k → (p.phase ≡ to_executing) × ((c : ℕ) → c < (w.network).components → p.stage c ≡ state_told)
   pub emptied : IsEmptied k → made p l ≡ 0
   -- before its port is enabled again a late source gives nothing, and nothing is on its way in its link
-  pub quiet : w.is_late l ≡ true → k.output < 7 → (queue ((p.flow).link l) ≡ []) × ((p.flow).ended ((w.network).giver l) ≡ false)
+  pub quiet : w.is_late l ≡ true → k.output < enable_done → (queue ((p.flow).link l) ≡ []) × ((p.flow).ended ((w.network).giver l) ≡ false)
 
 -- What holds at every moment of a play. Phases 1 to 4 bring all to Idle, Executing, Idle and Loaded.
 pub record IsReached (w : Layout) (p : Play) : Type 0 where
   pub layout : IsLayout w
-  pub phase : p.phase ≤ 4
-  pub stage : (c : ℕ) → c < (w.network).components → p.stage c ≤ 4
+  pub phase : p.phase ≤ to_loaded
+  pub stage : (c : ℕ) → c < (w.network).components → p.stage c ≤ state_told
   pub told : (c : ℕ) → c < (w.network).components → p.told c ≡ true → (p.flow).ended c ≡ true
   pub few : (l : ℕ) → l < (w.network).links → made p l ≤ (w.network).count l
   -- before the first command is begun
-  pub first : p.phase ≡ 0 → (c : ℕ) → c < (w.network).components → p.stage c ≡ 4
+  pub first : p.phase ≡ unbegun → (c : ℕ) → c < (w.network).components → p.stage c ≡ state_told
   -- a component that has reached the first Idle has its headers, and while all are up each link has
-  pub up : p.phase ≡ 1 → (c : ℕ) → c < (w.network).components → 3 ≤ p.stage c → (l : ℕ) → IsLinkOf w.network c l →
+  pub up : p.phase ≡ to_idle → (c : ℕ) → c < (w.network).components → state_reached ≤ p.stage c → (l : ℕ) → IsLinkOf w.network c l →
       made p l ≡ (w.network).count l
   -- while they run each link has its headers, but for the time in which it is changed
-  pub full : 2 ≤ p.phase → p.phase ≤ 3 → (l : ℕ) → l < (w.network).links → IsWhole (p.change l) → made p l ≡ (w.network).count l
+  pub full : to_executing ≤ p.phase → p.phase ≤ back_to_idle → (l : ℕ) → l < (w.network).links → IsWhole (p.change l) → made p l ≡ (w.network).count l
   -- nothing flows before Executing is begun; the account holds until the second Idle is begun, and then all have ended
-  pub opening : p.phase ≤ 1 → IsOpening w.network p.flow
-  pub sound : p.phase ≤ 2 → IsSound w.network p.flow
-  pub ended : 3 ≤ p.phase → AllEnded w.network p.flow
+  pub opening : p.phase ≤ to_idle → IsOpening w.network p.flow
+  pub sound : p.phase ≤ to_executing → IsSound w.network p.flow
+  pub ended : back_to_idle ≤ p.phase → AllEnded w.network p.flow
   -- a component that has reached the second Idle has all headers of its links at home, and later each link has
-  pub settled : p.phase ≡ 3 → (c : ℕ) → c < (w.network).components → 3 ≤ p.stage c → (l : ℕ) → IsLinkOf w.network c l →
+  pub settled : p.phase ≡ back_to_idle → (c : ℕ) → c < (w.network).components → state_reached ≤ p.stage c → (l : ℕ) → IsLinkOf w.network c l →
       IsSettled (w.by_output l) ((p.flow).link l)
-  pub home : p.phase ≡ 4 → (l : ℕ) → l < (w.network).links → IsSettled (w.by_output l) ((p.flow).link l)
+  pub home : p.phase ≡ to_loaded → (l : ℕ) → l < (w.network).links → IsSettled (w.by_output l) ((p.flow).link l)
   -- a component that is Loaded again has no header, and a header is unmade only by a supplier on its way
-  pub unmade : p.phase ≡ 4 → (c : ℕ) → c < (w.network).components → 3 ≤ p.stage c → (l : ℕ) → IsLinkOf w.network c l → made p l ≡ 0
-  pub leaving : p.phase ≡ 4 → (l : ℕ) → l < (w.network).links → made p l < (w.network).count l → 2 ≤ p.stage (supplier w l)
+  pub unmade : p.phase ≡ to_loaded → (c : ℕ) → c < (w.network).components → state_reached ≤ p.stage c → (l : ℕ) → IsLinkOf w.network c l → made p l ≡ 0
+  pub leaving : p.phase ≡ to_loaded → (l : ℕ) → l < (w.network).links → made p l < (w.network).count l → transition_pending ≤ p.stage (supplier w l)
   pub changes : (l : ℕ) → l < (w.network).links → IsChanging w p l (p.change l)
 
 -- the opening: nothing was sent, made or done
 pub record IsBegun (w : Layout) (p : Play) : Type 0 where
   pub layout : IsLayout w
-  pub phase : p.phase ≡ 0
-  pub stage : (c : ℕ) → p.stage c ≡ 4
+  pub phase : p.phase ≡ unbegun
+  pub stage : (c : ℕ) → p.stage c ≡ state_told
   pub told : (c : ℕ) → p.told c ≡ false
   pub opening : IsOpening w.network p.flow
   pub none : (l : ℕ) → made p l ≡ 0
-  pub unchanged : (l : ℕ) → p.change l ≡ record { step = 0; output = 0; input = 0 }
+  pub unchanged : (l : ℕ) → p.change l ≡ record { step = not_announced; output = untouched; input = untouched }
 
 -- each component has told that it is Loaded again
 pub record IsOver (w : Layout) (p : Play) : Type 0 where
-  pub phase : p.phase ≡ 4
-  pub all : (c : ℕ) → c < (w.network).components → p.stage c ≡ 4
+  pub phase : p.phase ≡ to_loaded
+  pub all : (c : ℕ) → c < (w.network).components → p.stage c ≡ state_told
 
 -- ---- the measure: three numbers, of which no act raises the first two
 
@@ -70,36 +71,36 @@ pub record IsOver (w : Layout) (p : Play) : Type 0 where
 -- link its headers, made and unmade, and of a late source's link what is to be told and sent of its change, and its
 -- headers a second time.
 abbrev pub ways_left : Layout → Play → ℕ → ℕ
-ways_left w p c = 5 * (4 - p.phase) + (4 - p.stage c) + (if w.is_sink c && not (p.told c) then 1 else 0)
+ways_left w p c = 5 * (to_loaded - p.phase) + (state_told - p.stage c) + (if w.is_sink c && not (p.told c) then 1 else 0)
 
 -- the tunnel of a late source isn't dropped yet
 abbrev pub is_unchanged : Layout → Play → ℕ → Bool
-is_unchanged w p l = w.is_late l && nat_le (p.change l).step 4
+is_unchanged w p l = w.is_late l && nat_le (p.change l).step both_disables_sent
 
 abbrev pub makings_at : ℕ → ℕ → Bool → ℕ → ℕ
 makings_at phase count unchanged made_ =
-    if nat_le phase 1 then (count - made_) + count + (if unchanged then 2 * count else 0)
-    else (if nat_le phase 3 then (if unchanged then made_ + 2 * count else (count - made_) + count) else made_)
+    if nat_le phase to_idle then (count - made_) + count + (if unchanged then 2 * count else 0)
+    else (if nat_le phase back_to_idle then (if unchanged then made_ + 2 * count else (count - made_) + count) else made_)
 
 abbrev pub makings_left : Layout → Play → ℕ → ℕ
 makings_left w p l = makings_at p.phase ((w.network).count l) (is_unchanged w p l) (made p l)
 
 abbrev pub changes_left : Layout → Play → ℕ → ℕ
-changes_left w p l = if w.is_late l then (10 - (p.change l).step) + (8 - (p.change l).output) + (8 - (p.change l).input) else 0
+changes_left w p l = if w.is_late l then (both_enables_sent - (p.change l).step) + (enable_told - (p.change l).output) + (enable_told - (p.change l).input) else 0
 
 abbrev pub script_left : Layout → Play → ℕ
 script_left w p =
-    (4 - p.phase) + sum_to (w.network).components (ways_left w p)
+    (to_loaded - p.phase) + sum_to (w.network).components (ways_left w p)
     + sum_to (w.network).links (makings_left w p) + sum_to (w.network).links (changes_left w p)
 
 -- 2. The frames that are to be done: work_left of the flow.
 -- 3. The headers in the lists done, and twice those in todo of an end that is to give them back.
 abbrev pub is_returning : Play → ℕ → Bool
-is_returning p c = nat_eq p.phase 3 && nat_eq (p.stage c) 2
+is_returning p c = nat_eq p.phase back_to_idle && nat_eq (p.stage c) transition_pending
 
 -- the end that doesn't supply the link is to give its headers back
 abbrev pub is_returning_at : Layout → Play → ℕ → Bool
-is_returning_at w p l = is_returning p (other_component w l) || nat_eq (other_port w p l) 2
+is_returning_at w p l = is_returning p (other_component w l) || nat_eq (other_port w p l) disable_pending
 
 abbrev pub unused_of : Bool → LinkState → ℕ
 unused_of true x = length x.held
@@ -139,7 +140,7 @@ IsFlowActOf w c _ = ⊥
 pub record IsUnset (w : Layout) (p : Play) (c l : ℕ) : Type 0 where
   pub link : IsLinkOf w.network c l
   pub late : w.is_late l ≡ true
-  pub unset : (p.change l).step ≤ 2
+  pub unset : (p.change l).step ≤ settings_told
 
 -- What the ends of a late source's link wait for while a port of it is held or has its format open: the late source
 -- announces, a note is told, the conductor begins a change.
@@ -172,13 +173,13 @@ a_link late = record {
 
 abbrev pub a_play : Play
 a_play = record {
-  phase = 0;
-  stage = λ c. 4;
+  phase = unbegun;
+  stage = λ c. state_told;
   told = λ c. false;
   flow = record {
     done = λ c. 0;
     ended = λ c. false;
     link = λ l. record { ready = 0; sent = []; held = []; spent = 0; taken = 0; closed = false };
   };
-  change = λ l. record { step = 0; output = 0; input = 0 };
+  change = λ l. record { step = not_announced; output = untouched; input = untouched };
 }

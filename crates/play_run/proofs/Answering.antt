@@ -17,12 +17,12 @@ use Rattle.play_model.specs.Acts.{Act}
 use Rattle.il_machine.specs.Acts as machine
 use Rattle.play_loop.specs.Turns.{CanNone, SomePlay, Turned, TurnsOf}
 use Rattle.play_log.specs.Kept.{LogValue}
-use Rattle.late_turns.specs.Playing.{IsLateStanding}
-use Rattle.late_turns.specs.Turns.{LateCame, is_did}
-use Rattle.late_turns.proofs.Playing.{turn_plays}
-use Rattle.late_turns.proofs.Turning.{turn_goes as late_turn_goes}
-use Rattle.play_openings.specs.Assemblies.{late_cast_of}
-use Rattle.play_graphs.specs.Graphs.{kept_of}
+use Rattle.play_turn_laws.specs.Playing.{IsPlayConducted}
+use Rattle.play_turn_laws.specs.Turns.{PlayCame, is_did}
+use Rattle.play_turn_laws.proofs.Playing.{turn_plays}
+use Rattle.play_turn_laws.proofs.Turning.{turn_goes as play_turn_goes}
+use Rattle.play_plan_laws.specs.Assemblies.{play_cast_of}
+use Rattle.play_graph.specs.Graphs.{kept_of}
 use Rattle.play_run.specs.Asking.{Asks}
 use Rattle.play_run.specs.Playing.{AreClientsIn, AsksIn, HasParts, HaveNoWork, HasStreamsFrom, IsPlaying, IsStanding, LeadsOn, PlayingValue, ToldAlike, TurnsTo, FilesStay, unfailed, layout_of}
 use Rattle.play_run.specs.Recording.{IsRecorded}
@@ -37,21 +37,21 @@ module _ {S K : Type 0} where
   with_both x g log = record x { graph = g; log = log }
 
   pub parts_of : (x : PlayingValue S K) (p : Play) → IsStanding x p → HasParts x
-  parts_of x p Z = record { world = Z.world; stands = Z.stands; sound = ((Z.late).play).sound; valid = Z.valid; many = ((Z.late).play).many; clients = Z.clients }
+  parts_of x p Z = record { world = Z.world; stands = Z.stands; sound = ((Z.conducted).play).sound; valid = Z.valid; many = ((Z.conducted).play).many; clients = Z.clients }
 
   pub has_parts : (x : PlayingValue S K) → SomePlay (IsPlaying x) → HasParts x
   has_parts x (p, Y) = parts_of x p Y.standing
 
   -- what is known of a standing play in which a turn led to that world
-  pub stands_then : (x : PlayingValue S K) (g : Shown S K Progress) (log : LogValue) (p q : Play) (recent : ℕ) (v : World) (Z : IsStanding x p) (left : List (machine.Act × machine.Reply)) → Stands (kept_of g) v → HaveNoWork v → AreClientsIn g.core → IsLateStanding (late_cast_of x.plan) recent q v x.conductor
-      → IsRecorded x.plan.parts Z.opening v log (Asks x.plan Z.files Z.opening recent x.conductor left) → HasStreamsFrom (late_cast_of x.plan) Z.opening q v → ToldAlike Z.opening v
+  pub stands_then : (x : PlayingValue S K) (g : Shown S K Progress) (log : LogValue) (p q : Play) (recent : ℕ) (v : World) (Z : IsStanding x p) (left : List (machine.Act × machine.Reply)) → Stands (kept_of g) v → HaveNoWork v → AreClientsIn g.core → IsPlayConducted (play_cast_of x.plan) recent q v x.conductor
+      → IsRecorded x.plan.parts Z.opening v log (Asks x.plan Z.files Z.opening recent x.conductor left) → HasStreamsFrom (play_cast_of x.plan) Z.opening q v → ToldAlike Z.opening v
       → (Y : IsStanding (with_both x g log) q) × (Y.files ≡ Z.files) × (Y.left ≡ left) × (Y.opening ≡ Z.opening)
   stands_then x g log p q recent v Z left st works clients L R F T = (
     record {
       world = v;
       stands = st;
       recent = recent;
-      late = L;
+      conducted = L;
       valid = Z.valid;
       works = works;
       clients = clients;
@@ -77,14 +77,14 @@ module _ {S K : Type 0} where
 
   pub turn_goes : (x : PlayingValue S K) (g : Shown S K Progress) (log : LogValue) (p : Play) (v : World) (did : Bool) (P : Act → Type 0) (Y : IsPlaying x p)
       → Stands (kept_of g) v → HaveNoWork v → AreClientsIn g.core → (did ≡ false → g ≡ x.graph) → (did ≡ false → log ≡ x.log) → (did ≡ true → IsRecorded x.plan.parts Y.standing.opening v log (AsksIn x p Y.standing))
-      → (did ≡ true → StreamsGo (late_cast_of x.plan) p Y.standing.opening v) → (did ≡ true → ToldAlike Y.standing.opening v) → LateCame (late_cast_of x.plan) Y.standing.recent p v did P
+      → (did ≡ true → StreamsGo (play_cast_of x.plan) p Y.standing.opening v) → (did ≡ true → ToldAlike Y.standing.opening v) → PlayCame (play_cast_of x.plan) Y.standing.recent p v did P
       → (q : Play) × (Z : IsPlaying (with_both x g log) q) × Turned (layout_of x.plan) p q did P × (Z.standing.files ≡ Y.standing.files)
   turn_goes x g log p v true P Y st works clients same silent R F T C =
-      let y = late_cast_of x.plan in
+      let y = play_cast_of x.plan in
       let Z = Y.standing in
-      let t = late_turn_goes y Z.recent p C.0 Z.world v (Z.late).play (Z.late).waiting C.2 C.3 C.4 in
+      let t = play_turn_goes y Z.recent p C.0 Z.world v (Z.conducted).play (Z.conducted).waiting C.2 C.3 C.4 in
       let U = t.1 in
-      let L = turn_plays y Z.recent p t.0 Z.world v x.conductor (record { standing = Z.late; sent = Y.sent; carried = Y.carried }) U in
+      let L = turn_plays y Z.recent p t.0 Z.world v x.conductor (record { standing = Z.conducted; sent = Y.sent; carried = Y.carried }) U in
       let S = stands_then x g log p t.0 Z.recent v Z Z.left st works clients L.standing (R refl) (F refl Z.recent t.0 U.play U.phase) (T refl) in
       (t.0, record { standing = S.0; whole = S.2 ∙ Y.whole; sent = L.sent; carried = L.carried }, (U.acted, U.rest), S.1)
   turn_goes x g log p v false P Y st works clients same silent R F T C = still x g log P p Y (same refl) (silent refl) C

@@ -8,16 +8,16 @@ use Rattle.machine_laws.proofs.Accepting.{both_of}
 use Rattle.machine_laws.proofs.Finding.{either}
 use Rattle.conductor.specs.declared.phase.LateLink.{LateLink}
 use Rattle.script_lang.specs.declared.play_line.PartLine.{PartLine}
-use Rattle.assembling.specs.Assembly.{Assembly, kind_at}
+use Rattle.play_build_laws.specs.Assembly.{Assembly, kind_at}
 use Rattle.play_forms.specs.Parts.{passes_at}
-use Rattle.play_plans.specs.Casting.{joint_of}
+use Rattle.play_plan_laws.specs.Casting.{joint_of}
 use Rattle.play_model.specs.Play.{Play}
 use Rattle.play_model.specs.Reached.{IsOver}
-use Rattle.play_worlds.specs.Cast.{links_of}
-use Rattle.late_conductors.specs.Conducting.{IsCarriedOut, IsLateOf}
-use Rattle.play_openings.specs.Assemblies.{kind_in}
+use Rattle.play_world_laws.specs.Cast.{links_of}
+use Rattle.play_turn_laws.specs.Conducting.{IsCarriedOut, IsLateOf}
+use Rattle.play_plan_laws.specs.Assemblies.{kind_in}
 use Rattle.play_log.specs.Entries.{steps_of}
-use Rattle.play_results.specs.Asked.{AreLateLinks, AreTimely, Asking, BackToIdle, IsConducted, ToExecuting, ToIdle, ToLoaded, acts_of, asked, askings, change_of, tuned}
+use Rattle.play_result_laws.specs.Asked.{AreLateLinks, AreTimely, Asking, BackToIdle, IsConducted, ToExecuting, ToIdle, ToLoaded, acts_of, asked, askings, change_of, tuned}
 use Rattle.play_run.specs.Asking.{answered, handles_of}
 use Rattle.play_run.specs.Playing.{AsksIn, IsPlaying, PlayingValue, cast, layout_of}
 
@@ -80,7 +80,7 @@ module _ {S K : Type 0} (x : PlayingValue S K) (p : Play) (Y : IsPlaying x p) (o
   A = (Y.standing.recorded).asks
 
   sends : (x.conductor).sends ≡ 4
-  sends = ((Y.standing.late).conducting).sends ∙ over.phase
+  sends = ((Y.standing.conducted).conducting).sends ∙ over.phase
 
   -- each late source's link was changed
   record IsThere (l : ℕ) : Type 0 where
@@ -92,10 +92,10 @@ module _ {S K : Type 0} (x : PlayingValue S K) (p : Play) (Y : IsPlaying x p) (o
 
   is_there : (l : ℕ) → l < links_of (cast x.plan) → (layout_of x.plan).is_late l ≡ true → IsThere l
   is_there l b t =
-      let r = ((Y.standing.late).conducting).lates.some l b t in
+      let r = ((Y.standing.conducted).conducting).lates.some l b t in
       let O = (r.3).of_link in
       let f = over.phase in
-      let C = ((((Y.standing.late).play).reached).changes l b).over (omega arith) t in
+      let C = ((((Y.standing.conducted).play).reached).changes l b).over (omega arith) t in
       record { place = r.0; entry = r.1; there = r.2; of_link = O; three = carried_once (r.1).steps 3 (p.change l).step (Y.carried r.0 l r.1 r.2 O) C.0 }
 
   -- nothing of the last change is left

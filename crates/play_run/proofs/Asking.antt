@@ -7,14 +7,14 @@ use Rattle.il_machine.specs.Acts.{Act, Reply}
 use Rattle.il_machine.specs.World.{World}
 use Rattle.conductor.specs.declared.phase.LateLink.{LateLink}
 use Rattle.conductor.specs.Hearing.{ConductorValue, heard as heard_by, heard_late, heard_lates, heard_views}
-use Rattle.assembling.specs.Assembly.{Assembly}
-use Rattle.assembling.proofs.Places.{from_mapped}
+use Rattle.play_build_laws.specs.Assembly.{Assembly}
+use Rattle.play_build_laws.proofs.Places.{from_mapped}
 use Rattle.play_forms.specs.Plans.{PlanValue}
-use Rattle.play_worlds.specs.Cast.{Cast}
-use Rattle.play_worlds.specs.Standing.{target}
-use Rattle.late_conductors.specs.Conducting.{IsLateOf}
-use Rattle.play_openings.specs.Assemblies.{PlayFiles, late_cast_of}
-use Rattle.play_results.specs.Asked.{Asking, BackToIdle, HasCause, IsDone, ToExecuting, ToIdle, ToLoaded, acts_of, change_of, is_asked, sending, tuned}
+use Rattle.play_world_laws.specs.Cast.{Cast}
+use Rattle.play_world_laws.specs.Standing.{target}
+use Rattle.play_turn_laws.specs.Conducting.{IsLateOf}
+use Rattle.play_plan_laws.specs.Assemblies.{PlayFiles, play_cast_of}
+use Rattle.play_result_laws.specs.Asked.{Asking, BackToIdle, HasCause, IsDone, ToExecuting, ToIdle, ToLoaded, acts_of, change_of, is_asked, sending, tuned}
 use Rattle.play_run.specs.Asking.{AreChanges, Asks, IsAsking, answered, handles_of}
 use Rattle.play_run.proofs.Timely.{asking_begins, asking_goes}
 
@@ -52,7 +52,7 @@ pub heard_asks : (plan : PlanValue) (files : PlayFiles) (opening : World) (recen
     → Asks plan files opening recent value left xs → Asks plan files opening recent (heard_by value views) left xs
 heard_asks plan files opening recent value views left xs A = record {
   changes = A.changes;
-  are = heard_changes (late_cast_of plan).cast recent (heard_views value.told views) value.lates A.changes A.are;
+  are = heard_changes (play_cast_of plan).cast recent (heard_views value.told views) value.lates A.changes A.are;
   early = A.early;
   asking = A.asking;
 }

@@ -16,23 +16,23 @@ use Rattle.il_machine.specs.Whole.{Always}
 use Rattle.machine_laws.proofs.Every.{from_places}
 use Rattle.conductor.specs.Casting as conductors
 use Rattle.play_loop.specs.Turns.{CanPlay}
-use Rattle.play_worlds.specs.Cast.{components_of}
-use Rattle.play_worlds.specs.Openings.{opening}
+use Rattle.play_world_laws.specs.Cast.{components_of}
+use Rattle.play_world_laws.specs.Openings.{opening}
 use Rattle.play_forms.specs.Plans.{PlanValue}
-use Rattle.play_plans.specs.Casting.{place_of as place_of_turn}
-use Rattle.late_conductors.proofs.Standing.{none_answered}
-use Rattle.late_happenings.proofs.Happening.{none_due}
-use Rattle.late_turns.specs.Playing.{IsLatePlaying}
-use Rattle.late_plays.proofs.Beginning.{begins_playing as late_begins}
-use Rattle.play_openings.specs.Assemblies.{IsReady, PlayFiles, late_cast_of}
-use Rattle.play_graphs.specs.Making.{AreOffered, IsMadeOf}
+use Rattle.play_plan_laws.specs.Casting.{place_of as place_of_turn}
+use Rattle.play_turn_laws.proofs.Standing.{none_answered}
+use Rattle.play_stage_laws.proofs.Happening.{none_due}
+use Rattle.play_turn_laws.specs.Playing.{IsBetweenTurns}
+use Rattle.play_turn_laws.proofs.Beginning.{begins_playing as between_turns}
+use Rattle.play_plan_laws.specs.Assemblies.{IsReady, PlayFiles, play_cast_of}
+use Rattle.play_graph.specs.Making.{AreOffered, IsMadeOf}
 use Rattle.play_log.specs.Logged.{Keeps}
 use Rattle.play_log.specs.Scenes.{Scene, scene_of}
-use Rattle.play_results.specs.Asked.{tuned}
+use Rattle.play_result_laws.specs.Asked.{tuned}
 use Rattle.play_run.specs.Asking.{Asks, IsAsking, answered, handles_of}
 use Rattle.play_run.specs.Closing.{HasBegun}
 use Rattle.play_run.specs.Recording.{FreesNone, IsByPlayer, IsPrinted, IsRecorded, IsWhole}
-use Rattle.play_graphs.specs.Graphs.{kept_of}
+use Rattle.play_graph.specs.Graphs.{kept_of}
 use Rattle.play_run.specs.Playing.{HaveNoWork, IsPlaying, PlayingValue, cast, layout_of}
 use Rattle.play_run.specs.Opening.{IsOpeningGraph}
 use Rattle.play_run.proofs.Counting.{few_acts}
@@ -72,10 +72,10 @@ words_small (x ∷ xs) A (suc i) = words_small xs (All-tail (λ (n : ℕ). n < 1
 pub frames_small : (plan : PlanValue) → All (λ (n : ℕ). n < 18446744073709551616) plan.frames → (c : ℕ) → c < components_of (cast plan) → ((layout_of plan).network).frames c < 18446744073709551616
 frames_small plan A c b = words_small plan.frames A (place_of_turn plan c)
 
-module _ {S K : Type 0} (x : PlayingValue S K) (files : PlayFiles) (O : IsOpeningGraph x.plan files x.graph) (new : x.conductor ≡ conductors.cast_of x.plan) (closed : Always (kept_of x.graph) IsClosed) (empty : (s : Scene) → Keeps s [] x.log) (opens : OpensOn (late_cast_of x.plan)) where
+module _ {S K : Type 0} (x : PlayingValue S K) (files : PlayFiles) (O : IsOpeningGraph x.plan files x.graph) (new : x.conductor ≡ conductors.cast_of x.plan) (closed : Always (kept_of x.graph) IsClosed) (empty : (s : Scene) → Keeps s [] x.log) (opens : OpensOn (play_cast_of x.plan)) where
   -- no change was begun: whichever link is called the one that was begun last
-  late : IsLatePlaying (late_cast_of x.plan) 0 opening O.world x.conductor
-  late = subst (IsLatePlaying (late_cast_of x.plan) 0 opening O.world) (sym new) (late_begins x.plan files (O.begins).0 0 O.world O.ready (O.begins).1)
+  late : IsBetweenTurns (play_cast_of x.plan) 0 opening O.world x.conductor
+  late = subst (IsBetweenTurns (play_cast_of x.plan) 0 opening O.world) (sym new) (between_turns x.plan files (O.begins).0 0 O.world O.ready (O.begins).1)
 
   no_works : HaveNoWork O.world
   no_works = from_places (λ (a : Component). a.work ≡ None) O.world.components (λ place a e. ap (λ (d : Component). d.work) ((O.begins).1.built.components.each place a e).fresh_else)
@@ -107,7 +107,7 @@ module _ {S K : Type 0} (x : PlayingValue S K) (files : PlayFiles) (O : IsOpenin
         world = O.world;
         stands = O.stands;
         recent = 0;
-        late = late.standing;
+        conducted = late.standing;
         valid = (O.ready).valid;
         works = no_works;
         clients = O.clients;
@@ -134,11 +134,11 @@ module _ {S K : Type 0} (x : PlayingValue S K) (files : PlayFiles) (O : IsOpenin
   can_play frames =
       let Y : IsPlaying x opening = begins_playing.0 in
       let Z = Y.standing in
-      let W = (Z.late).play in
+      let W = (Z.conducted).play in
       let C = W.cast_is in
       record {
         play = opening;
         stands = Y;
-        going = record { reached = W.reached; rest = none_due (late_cast_of x.plan) Z.recent opening Z.world W (closed Z.world Z.stands) };
+        going = record { reached = W.reached; rest = none_due (play_cast_of x.plan) Z.recent opening Z.world W (closed Z.world Z.stands) };
         few = few_acts x.plan (O.ready).valid.most C.few (λ l b. C.layout.network.count l b) frames;
       }

@@ -17,16 +17,17 @@ use Rattle.conductor.specs.declared.phase.LateLink.{LateLink}
 use Rattle.conductor.specs.declared.phase.Phase.TheVariants as phases
 use Rattle.conductor.specs.Hearing.{ConductorValue}
 use Rattle.conductor.specs.Phases.{Conducts, IsChange, all_told, is_changed, one_step_more}
-use Rattle.assembling.specs.Assembly.{Assembly}
-use Rattle.play_plans.specs.Casting.{joint_of}
-use Rattle.play_plans.proofs.Links.{two_ways}
+use Rattle.play_build_laws.specs.Assembly.{Assembly}
+use Rattle.play_plan_laws.specs.Casting.{joint_of}
+use Rattle.play_plan_laws.proofs.Links.{two_ways}
 use Rattle.play_model.specs.Changes.{port_at}
 use Rattle.play_model.specs.Play.{Play}
-use Rattle.play_worlds.specs.Cast.{Cast, giver_of, links_of, script_place}
-use Rattle.late_conductors.specs.Conducting.{IsCarriedOut, IsChangeOf, IsLateAt, IsLateConductor, IsLateOf, step_from}
-use Rattle.late_conductors.proofs.Hearing.{one_link}
+use Rattle.play_world_laws.specs.Cast.{Cast, giver_of, links_of, script_place}
+use Rattle.play_turn_laws.specs.Conducting.{IsCarriedOut, IsChangeOf, IsLateAt, IsPlayConductor, IsLateOf, step_from}
+use Rattle.play_turn_laws.proofs.Hearing.{one_link}
 use Rattle.play_log.specs.Entries.{steps_of}
-use Rattle.play_results.specs.Asked.{Asking, Disabling, Enabling, HasCause, IsDone, Retuning, ToExecuting, ToIdle, acts_of as asked_acts, change_of, told_by, tuned}
+use Rattle.play_result_laws.specs.Asked.{Asking, Disabling, Enabling, HasCause, IsDone, Retuning, ToExecuting, ToIdle, acts_of as asked_acts, change_of, told_by, tuned}
+use Rattle.play_graph.specs.declared.link_end.End.TheVariants.{Output}
 use Rattle.play_run.specs.Asking.{AreChanges, Asks, IsAsking, answered, asking_of, handles_of}
 use Rattle.play_run.specs.Playing.{IsPlaying, PlayingValue, cast, layout_of}
 use Rattle.play_run.proofs.Asked.{carried_once, counted, last_or}
@@ -81,7 +82,7 @@ module _ {S K : Type 0} (x : PlayingValue S K) (p : Play) (Y : IsPlaying x p) (v
   abbrev y : Cast
   y = cast x.plan
 
-  module _ (A : Asks x.plan Y.standing.files Y.standing.opening Y.standing.recent value [] steps) (V : IsLateConductor (cast x.plan) Y.standing.recent p value)
+  module _ (A : Asks x.plan Y.standing.files Y.standing.opening Y.standing.recent value [] steps) (V : IsPlayConductor (cast x.plan) Y.standing.recent p value)
       (H : Conducts value (phases.Change component step) next) (D : IsChangeOf (cast x.plan) p component step next l) where
     I : IsChange value component step next
     I = H.1
@@ -97,7 +98,7 @@ module _ {S K : Type 0} (x : PlayingValue S K) (p : Play) (Y : IsPlaying x p) (v
         let e = ((V.conducting).lates).each I.number I.late (I.due).there in
         let M = (e.1).of_link in
         let same : (I.late).source ≡ (D.known).source = sym I.its_source ∙ (D.its_source ∙ sym (D.of_link).source) in
-        let is : e.0 ≡ l = one_link y e.0 l I.late D.known ((Y.standing.late).play).cast_is M D.of_link same in
+        let is : e.0 ≡ l = one_link y e.0 l I.late D.known ((Y.standing.conducted).play).cast_is M D.of_link same in
         let O = subst (λ (k : ℕ). IsLateOf y k I.late) is M in
         record {
           of_link = O;
@@ -128,7 +129,7 @@ module _ {S K : Type 0} (x : PlayingValue S K) (p : Play) (Y : IsPlaying x p) (v
     known i k entry e O = elim (at_set value.lates I.number i (one_step_more I.late) entry e) [
       | inl c ↦
           let source : entry.source ≡ (I.late).source = ap (λ (z : LateLink). z.source) c.1 in
-          let is = one_link y k l entry I.late ((Y.standing.late).play).cast_is O its.of_link source in
+          let is = one_link y k l entry I.late ((Y.standing.conducted).play).cast_is O its.of_link source in
           let m = ap (λ (z : LateLink). z.steps) c.1 in
           let b = its.count in
           record { which = inl (is, omega (arith, m, b)) }
@@ -245,7 +246,7 @@ module _ {S K : Type 0} (x : PlayingValue S K) (p : Play) (Y : IsPlaying x p) (v
 
     some_component : 1 ≤ length (handles_of Y.standing.opening)
     some_component =
-        let b = end_there x.plan l (joint_of x.plan l).giver true (joint_of x.plan l) Y.standing.valid (its.of_link).below refl refl in
+        let b = end_there x.plan l (joint_of x.plan l).giver Output (joint_of x.plan l) Y.standing.valid (its.of_link).below refl refl in
         let m = length-map Y.standing.opening.components (λ (c : Component). c.handle) in
         let n = (Y.standing.begins).opens.1.built.many in
         omega (arith, b, m, n)
@@ -268,7 +269,7 @@ module _ {S K : Type 0} (x : PlayingValue S K) (p : Play) (Y : IsPlaying x p) (v
   abbrev its_steps : List (MachineAct × Reply)
   its_steps = steps_of (Y.standing.recorded).history
 
-  pub change_begins : (step : ChangeStep) (A : Asks x.plan Y.standing.files Y.standing.opening Y.standing.recent value [] its_steps) → IsLateConductor (cast x.plan) Y.standing.recent p value → Conducts value (phases.Change component step) next
+  pub change_begins : (step : ChangeStep) (A : Asks x.plan Y.standing.files Y.standing.opening Y.standing.recent value [] its_steps) → IsPlayConductor (cast x.plan) Y.standing.recent p value → Conducts value (phases.Change component step) next
       → IsChangeOf (cast x.plan) p component step next l → Asks x.plan Y.standing.files Y.standing.opening l next (asked_acts (tuned x.plan Y.standing.files) (handles_of Y.standing.opening) (asking_of step l)) its_steps
   change_begins Disable A V H D =
       let N = (D.can).next D.from in
@@ -278,7 +279,7 @@ module _ {S K : Type 0} (x : PlayingValue S K) (p : Play) (Y : IsPlaying x p) (v
       (first_changes x p Y value next component Disable l A V H D refl (rest_none x p Y value A V done))
       (λ one front f. (
         changes_done x p Y value A V done N.phase N.all one front f,
-        subst (λ (place : ℕ). is_some (told_by place its_steps).settings ≡ true) (end_place x.plan l true Y.standing.valid O.below) (settings_at x p Y.standing l O.below O.late (D.can).told),
+        subst (λ (place : ℕ). is_some (told_by place its_steps).settings ≡ true) (end_place x.plan l Output Y.standing.valid O.below) (settings_at x p Y.standing l O.below O.late (D.can).told),
       ))
   change_begins Retune A V H D =
       let L = is_last x p Y value next component Retune l A V H D (omega arith) (λ e. absurd (omega (arith, e))) in

@@ -3,15 +3,15 @@ use Rattle.std.proofs.Common.{◌≡◌, false, length, Result, Ok, Err, OnOk, s
 use Rattle.std.specs.Prelude.{IfErr, OnErr}
 use Rattle.omx_types.specs.declared.fault.PartFault.{PartFault}
 use Rattle.audio_parts.specs.Objects.{Held}
-use Rattle.dismantling.specs.Dismantling.{AreLinks}
+use Rattle.play_build_laws.specs.Dismantling.{AreLinks}
 use Rattle.play_model.specs.Play.{Play}
 use Rattle.play_model.specs.Reached.{IsOver}
 use Rattle.play_loop.specs.Turns.{AreOver, SomePlay}
 use Rattle.play_log.specs.Kept.{LogValue}
-use Rattle.play_openings.specs.Assemblies.{PlayFiles}
-use Rattle.play_openings.specs.Endings.{HasEnded, IsPlayedOut, ends_of}
-use Rattle.play_graphs.specs.Ending.{StandsFor}
-use Rattle.late_plays.proofs.Planned.{plan_links, plan_over}
+use Rattle.play_plan_laws.specs.Assemblies.{PlayFiles}
+use Rattle.play_plan_laws.specs.Endings.{HasEnded, IsPlayedOut, ends_of}
+use Rattle.play_graph.specs.Ending.{StandsFor}
+use Rattle.play_turn_laws.proofs.Planned.{plan_links, plan_over}
 use Rattle.play_run.specs.declared.failure.Stop.{Stop}
 use Rattle.play_run.specs.declared.failure.Stop.TheVariants as stops
 use Rattle.play_run.specs.Closing.{HasBegun, HasPlayed, HasPlayedWith, KeepsLog}
@@ -21,7 +21,7 @@ use Rattle.play_run.specs.Turning.{BreaksOff, FilesStayed, HasBrokenOff, HasBrok
 use Rattle.play_run.proofs.Asked.{all_asked}
 
 pub played_out : {S K : Type 0} (x : PlayingValue S K) (p : Play) (Z : IsStanding x p) → IsOver (layout_of x.plan) p → IsPlayedOut x.plan Z.world
-played_out x p Z over = plan_over x.plan Z.recent p Z.world Z.valid (Z.late).play over
+played_out x p Z over = plan_over x.plan Z.recent p Z.world Z.valid (Z.conducted).play over
 
 module _ {S K : Type 0} (x : PlayingValue S K) where
   pub keeps_log : (log : LogValue) → log ≡ x.log → KeepsLog x log
@@ -45,7 +45,7 @@ module _ {S K : Type 0} (x : PlayingValue S K) where
   stands_ended (p, Y, over) = (Y.standing.world, Y.standing.stands, (played_out x p Y.standing over).ended)
 
   pub play_links : HasPlayed x → AreLinks (ends_of x.plan) (length x.plan.joints)
-  play_links (p, Y, over) = let Z = Y.standing in plan_links x.plan Z.recent p Z.world Z.valid (Z.late).play
+  play_links (p, Y, over) = let Z = Y.standing in plan_links x.plan Z.recent p Z.world Z.valid (Z.conducted).play
 
 -- where each of its plays is over, that which began with the files is
 pub has_played : {S K E : Type 0} (Stays : Held S K → Held S K → Type 0) (old new : PlayingValue S K) (r : Result (Unit {0}) E) → OnOk r (AreOver (layout_of new.plan) (IsPlaying new)) → OnOk r (LeadsOn Stays old new) → OnOk r ((given : PlayFiles) → HasBegun old given → HasPlayedWith new given)

@@ -19,24 +19,24 @@ use Rattle.play_forms.specs.Plans.{PlanValue}
 use Rattle.play_model.specs.Play.{Play}
 use Rattle.play_model.specs.Acts.{Act, CanAct, acted}
 use Rattle.play_loop.specs.Turns.{CanNone, IsAtRest, IsSend, SomePlay, Turned}
-use Rattle.play_worlds.specs.Cast.{script_place}
-use Rattle.play_worlds.specs.Standing.{target}
-use Rattle.play_worlds.proofs.Lists.{get_there}
+use Rattle.play_world_laws.specs.Cast.{script_place}
+use Rattle.play_world_laws.specs.Standing.{target}
+use Rattle.play_world_laws.proofs.Lists.{get_there}
 use Rattle.stream_plan.proofs.Lists.{set_at, set_other, slice_get_front}
-use Rattle.play_plans.specs.Conducting.{HasViews}
-use Rattle.play_streams.specs.Contents.{PlayContents}
-use Rattle.late_worlds.specs.Late.{IsLateWorld, LateCast}
-use Rattle.late_happenings.proofs.Happening.{none_due}
-use Rattle.late_conductors.specs.Conducting.{IsChangeOf, IsLateConductor}
-use Rattle.late_conductors.proofs.Changing.{conductor_changes, conductor_goes_on}
-use Rattle.late_conductors.proofs.Sending.{conductor_over, conductor_whole}
-use Rattle.late_streams.specs.Streams.{HasLateStreams}
-use Rattle.late_turns.specs.Playing.{AreSent, IsLatePlaying, IsLateStanding}
-use Rattle.late_turns.proofs.Playing.{playing_begins, playing_hears, playing_waits}
-use Rattle.play_openings.specs.Assemblies.{late_cast_of}
-use Rattle.play_graphs.specs.Graphs.{kept_of}
+use Rattle.play_plan_laws.specs.Conducting.{HasViews}
+use Rattle.play_stream_laws.specs.Contents.{PlayContents}
+use Rattle.play_world_laws.specs.PlayWorlds.{IsPlayWorld, PlayCast}
+use Rattle.play_stage_laws.proofs.Happening.{none_due}
+use Rattle.play_turn_laws.specs.Conducting.{IsChangeOf, IsPlayConductor}
+use Rattle.play_turn_laws.proofs.Changing.{conductor_changes, conductor_goes_on}
+use Rattle.play_turn_laws.proofs.Sending.{conductor_over, conductor_whole}
+use Rattle.play_stream_laws.specs.PlayStreams.{HasPlayStreams}
+use Rattle.play_turn_laws.specs.Playing.{AreSent, IsBetweenTurns, IsPlayConducted}
+use Rattle.play_turn_laws.proofs.Playing.{playing_begins, playing_hears, playing_waits}
+use Rattle.play_plan_laws.specs.Assemblies.{play_cast_of}
+use Rattle.play_graph.specs.Graphs.{kept_of}
 use Rattle.play_log.specs.Entries.{steps_of}
-use Rattle.play_results.specs.Asked.{acts_of as asked_acts, sending, tuned}
+use Rattle.play_result_laws.specs.Asked.{acts_of as asked_acts, sending, tuned}
 use Rattle.play_run.specs.Asking.{Asks, asking_of, handles_of}
 use Rattle.play_run.specs.Changing.{CanChangeFrom, ChangedFrom, IsChanging, IsSourceOf}
 use Rattle.play_run.specs.Playing.{AsksIn, HasStreamsFrom, IsPlaying, IsProgressAt, IsStanding, PlayingValue, TurnsTo, cast, layout_of}
@@ -50,8 +50,8 @@ use Rattle.play_run.proofs.Timing.{begin_in_time}
 
 -- what the begin of a state leaves of the streams, as the law of begun streams has it
 abbrev pub BegunStreams : Type 0
-BegunStreams = (x : LateCast) (k : PlayContents) (recent : ℕ) (p : Play) (w : World) → IsLateWorld x recent p w → CanAct (x.cast).layout p Act.Begin
-    → HasLateStreams x k p w → HasLateStreams x k (acted (x.cast).layout Act.Begin p) w
+BegunStreams = (x : PlayCast) (k : PlayContents) (recent : ℕ) (p : Play) (w : World) → IsPlayWorld x recent p w → CanAct (x.cast).layout p Act.Begin
+    → HasPlayStreams x k p w → HasPlayStreams x k (acted (x.cast).layout Act.Begin p) w
 
 -- once four states were sent no link is changed
 no_step : (sends : ℕ) (told : List Progress) → (sends == 4 && all_told Loaded told) ≡ true → (sends == 2 && all_told Executing told) ≡ true → ⊥
@@ -64,13 +64,13 @@ module _ {S K : Type 0} where
   -- what is seen is what was heard of each component
   has_views : (x : PlayingValue S K) (p : Play) (Z : IsStanding x p) (views : List (Option Progress)) → length views ≡ length x.plan.parts → AreViews x.graph views (length x.plan.parts) → HasViews (cast x.plan) Z.world x.conductor views
   has_views x p Z views many seen = record {
-    known_many = ((Z.late).conducting).many;
+    known_many = ((Z.conducted).conducting).many;
     many = many;
     each = λ c a b e.
         let y = cast x.plan in
         let w = Z.world in
-        let inside : script_place y c < length x.plan.parts = (((Z.late).play).cast_is).placed c b in
-        let m = ((Z.late).conducting).many in
+        let inside : script_place y c < length x.plan.parts = (((Z.conducted).play).cast_is).placed c b in
+        let m = ((Z.conducted).conducting).many in
         let old = get_there (x.conductor).told (script_place y c) (omega arith) in
         let view = seen (script_place y c) inside in
         let o = client_there x p Z c b a e in
@@ -87,15 +87,15 @@ module _ {S K : Type 0} where
   with_conductor x value = record x { conductor = value }
 
   -- the graph stands for the play with what the conductor knows then, of which this is left to be asked
-  conducted : (x : PlayingValue S K) (p q : Play) (recent : ℕ) (value : ConductorValue) (left : List (machine.Act × machine.Reply)) (Z : IsStanding x p) → IsLateStanding (late_cast_of x.plan) recent q Z.world value
-      → HasStreamsFrom (late_cast_of x.plan) Z.opening q Z.world → Asks x.plan Z.files Z.opening recent value left (steps_of (Z.recorded).history)
+  conducted : (x : PlayingValue S K) (p q : Play) (recent : ℕ) (value : ConductorValue) (left : List (machine.Act × machine.Reply)) (Z : IsStanding x p) → IsPlayConducted (play_cast_of x.plan) recent q Z.world value
+      → HasStreamsFrom (play_cast_of x.plan) Z.opening q Z.world → Asks x.plan Z.files Z.opening recent value left (steps_of (Z.recorded).history)
       → (Y : IsStanding (with_conductor x value) q) × (Y.files ≡ Z.files) × (Y.recent ≡ recent) × (Y.left ≡ left) × (Y.opening ≡ Z.opening)
   conducted x p q recent value left Z L F A = (
     record {
       world = Z.world;
       stands = Z.stands;
       recent = recent;
-      late = L;
+      conducted = L;
       valid = Z.valid;
       works = Z.works;
       clients = Z.clients;
@@ -118,17 +118,17 @@ module _ {S K : Type 0} where
     value = heard_by x.conductor views
 
     -- it has heard what each component told
-    heard_now : (p : Play) (Y : IsPlaying x p) → IsLateConductor (cast x.plan) Y.standing.recent p value × IsLatePlaying (late_cast_of x.plan) Y.standing.recent p Y.standing.world value
+    heard_now : (p : Play) (Y : IsPlaying x p) → IsPlayConductor (cast x.plan) Y.standing.recent p value × IsBetweenTurns (play_cast_of x.plan) Y.standing.recent p Y.standing.world value
     heard_now p Y =
         let Z = Y.standing in
-        playing_hears (late_cast_of x.plan) Z.recent p Z.world x.conductor views (record { standing = Z.late; sent = Y.sent; carried = Y.carried }) (has_views x p Z views many seen)
+        playing_hears (play_cast_of x.plan) Z.recent p Z.world x.conductor views (record { standing = Z.conducted; sent = Y.sent; carried = Y.carried }) (has_views x p Z views many seen)
 
     -- ---- nothing is to be done
 
     still : (p : Play) (Y : IsPlaying x p) → next ≡ value → CanNone (layout_of x.plan) p IsSend → (q : Play) × (Z : IsPlaying (with_conductor x next) q) × Turned (layout_of x.plan) p q false IsSend × (Z.standing.files ≡ Y.standing.files)
     still p Y e none =
         let Z = Y.standing in
-        let L = subst (λ (v : ConductorValue). IsLatePlaying (late_cast_of x.plan) Z.recent p Z.world v) (sym e) (heard_now p Y).1 in
+        let L = subst (λ (v : ConductorValue). IsBetweenTurns (play_cast_of x.plan) Z.recent p Z.world v) (sym e) (heard_now p Y).1 in
         let asks = subst (λ (v : ConductorValue). Asks x.plan Z.files Z.opening Z.recent v Z.left (steps_of (Z.recorded).history)) (sym e) (heard_asks x.plan Z.files Z.opening Z.recent x.conductor views Z.left (steps_of (Z.recorded).history) (Z.recorded).asks) in
         let A = conducted x p p Z.recent next Z.left Z L.standing Z.streams asks in
         (p, record { standing = A.0; whole = A.3 ∙ Y.whole; sent = L.sent; carried = L.carried }, (refl, none), A.1)
@@ -137,20 +137,20 @@ module _ {S K : Type 0} where
     wait_turns H = λ p Y.
         let Z = Y.standing in
         let V = heard_now p Y in
-        let c = playing_waits (late_cast_of x.plan) Z.recent p Z.world value next V.1 V.0 H in
+        let c = playing_waits (play_cast_of x.plan) Z.recent p Z.world value next V.1 V.0 H in
         still p Y c.1 c.0
 
     pub over_turns : Conducts value phases.Over next → TurnsTo x (with_conductor x next) false IsSend
     over_turns H = λ p Y.
         let Z = Y.standing in
-        let y = late_cast_of x.plan in
-        let W = (Z.late).play in
+        let y = play_cast_of x.plan in
+        let W = (Z.conducted).play in
         let V = (heard_now p Y).0 in
         let c = conductor_over y Z.recent p Z.world W value V next H in
         let no_begin : CanAct (layout_of x.plan) p Act.Begin → ⊥ = λ B. let l = B.more in let e = (c.0).phase in absurd (omega arith) in
         let no_conduct : (l : ℕ) → CanAct (layout_of x.plan) p (Act.Conduct l) → ⊥ = λ l C.
         let t = conductor_goes_on y Z.recent p Z.world W value V l C in
-        no_step value.sends value.told H.1 (t.3).1.due.now
+        no_step value.sends value.told H.1 (t.5).1.due.now
         in
         still p Y c.1 (nothing_sent p Y.sent no_begin no_conduct)
       where
@@ -177,7 +177,7 @@ module _ {S K : Type 0} where
     pub never_fails : SomePlay (IsPlaying x) → Conducts value phases.Failed next → ⊥
     never_fails (p, Y) H =
         let Z = Y.standing in
-        conductor_whole (late_cast_of x.plan) Z.recent p Z.world (Z.late).play value (heard_now p Y).0 next H
+        conductor_whole (play_cast_of x.plan) Z.recent p Z.world (Z.conducted).play value (heard_now p Y).0 next H
 
     -- what was asked, of what it has heard; nothing of it is left
     asked_now : (p : Play) (Y : IsPlaying x p) → Asks x.plan Y.standing.files Y.standing.opening Y.standing.recent value [] (steps_of (Y.standing.recorded).history)
@@ -196,7 +196,7 @@ module _ {S K : Type 0} where
 
       has_begun : (p : Play) (Y : IsPlaying x p) → HasBegun p Y
       has_begun p Y =
-          let y = late_cast_of x.plan in
+          let y = play_cast_of x.plan in
           let Z = Y.standing in
           let V = heard_now p Y in
           let c = playing_begins y Z.recent p Z.world value next state V.1 V.0 H in
@@ -206,7 +206,7 @@ module _ {S K : Type 0} where
           let is : target (suc value.sends) ≡ state = ap (λ (n : ℕ). target (suc n)) sends ∙ (ap target step ∙ sym c.1) in
           let asks = subst (λ (v : ConductorValue). Asks x.plan Z.files Z.opening Z.recent v (map (sending state) (handles_of Z.opening)) (steps_of (Z.recorded).history)) (sym H.2)
           (subst (λ (a : State). Asks x.plan Z.files Z.opening Z.recent (record value { sends = value.sends + 1 }) (map (sending a) (handles_of Z.opening)) (steps_of (Z.recorded).history)) is begun) in
-          let A = conducted x p (acted (layout_of x.plan) Act.Begin p) Z.recent next (map (sending state) (handles_of Z.opening)) Z c.2 (λ k C E. streams y k Z.recent p Z.world (Z.late).play c.0 (Z.streams k C E)) asks in
+          let A = conducted x p (acted (layout_of x.plan) Act.Begin p) Z.recent next (map (sending state) (handles_of Z.opening)) Z c.2 (λ k C E. streams y k Z.recent p Z.world (Z.conducted).play c.0 (Z.streams k C E)) asks in
           record {
             can = c.0;
             sending = record {
@@ -232,7 +232,7 @@ module _ {S K : Type 0} where
             Q,
             (
               record { acts = Act.Begin ∷ (T.2).acts; some = omega arith; enabled = (B.can, (T.2).enabled); after = (T.2).after },
-              subst (λ (plan : PlanValue). IsAtRest (layout_of plan) T.0) same (none_due (late_cast_of y.plan) Z.recent T.0 Z.world (Z.late).play (closed Z.world Z.stands)),
+              subst (λ (plan : PlanValue). IsAtRest (layout_of plan) T.0) same (none_due (play_cast_of y.plan) Z.recent T.0 Z.world (Z.conducted).play (closed Z.world Z.stands)),
             ),
             T.3 ∙ B.same,
           )
@@ -248,15 +248,15 @@ module _ {S K : Type 0} where
 
       has_answered : (p : Play) (Y : IsPlaying x p) → HasAnswered p Y
       has_answered p Y =
-          let y = late_cast_of x.plan in
+          let y = play_cast_of x.plan in
           let Z = Y.standing in
-          let W = (Z.late).play in
+          let W = (Z.conducted).play in
           let c = conductor_changes y Z.recent p Z.world W value (heard_now p Y).0 next component step H in
           let l : ℕ = c.0 in
           let D : IsChangeOf y.cast p component step next l = c.1 in
           let left = asked_acts (tuned x.plan Z.files) (handles_of Z.opening) (asking_of step l) in
           let asks = change_begins x p Y value next component l step (asked_now p Y) (heard_now p Y).0 H D in
-          let A = conducted x p p l next left Z (record { play = recent_now y Z.recent p Z.world l W D.can; waiting = (Z.late).waiting; conducting = D.conducting }) Z.streams asks in
+          let A = conducted x p p l next left Z (record { play = recent_now y Z.recent p Z.world l W D.can; waiting = (Z.conducted).waiting; conducting = D.conducting }) Z.streams asks in
           let e = D.from in
           record {
             link = l;
@@ -307,7 +307,7 @@ module _ {S K : Type 0} where
   -- ---- of what is known where the conductor was asked
 
   pub told_many : (y x : PlayingValue S K) → y ≡ x → (n : ℕ) → n ≡ length x.plan.parts → SomePlay (IsPlaying x) → n ≡ length (y.conductor).told
-  told_many y x is n e (p, Y) = e ∙ (sym ((Y.standing.late).conducting).many ∙ ap (λ (z : PlayingValue S K). length (z.conductor).told) (sym is))
+  told_many y x is n e (p, Y) = e ∙ (sym ((Y.standing.conducted).conducting).many ∙ ap (λ (z : PlayingValue S K). length (z.conductor).told) (sym is))
 
   module _ (y x : PlayingValue S K) (is : y ≡ x) (all : List (Option Progress)) (n : ℕ) (count : n ≡ length x.plan.parts) (enough : n ≤ length all) (seen : AreViews x.graph all (length x.plan.parts)) (next : ConductorValue) where
     many_here : length (take n all) ≡ length y.plan.parts

@@ -2,12 +2,12 @@
 use Rattle.std.proofs.Common.{◌+◌, ◌*◌, ◌<◌, ◌≤◌, ℕ, zero, suc, arith}
 use Rattle.std.proofs.Math.Nat.{mul-le-mul}
 use Rattle.machine_laws.proofs.Finding.{either}
-use Rattle.flow_model.specs.Network.{Network}
-use Rattle.flow_model.specs.Progress.{all_headers, sum_to, work_left}
+use Rattle.play_model.specs.Network.{Network}
+use Rattle.play_model.specs.Progress.{all_headers, sum_to, work_left}
 use Rattle.play_model.specs.Play.{Layout}
 use Rattle.play_model.specs.Reached.{acts_left, all_frames, changes_left, hands_left, hands_of, makings_left, script_left, ways_left}
 use Rattle.play_forms.specs.Plans.{PlanValue}
-use Rattle.play_worlds.specs.Openings.{opening}
+use Rattle.play_world_laws.specs.Openings.{opening}
 use Rattle.play_run.specs.Playing.{layout_of}
 
 pub sum_least : (n : ℕ) (f : ℕ → ℕ) → ((k : ℕ) → k < n → 0 < f k) → n ≤ sum_to n f

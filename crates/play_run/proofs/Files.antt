@@ -13,10 +13,10 @@ use Rattle.il_machine.specs.Stepping.{WorkDone}
 use Rattle.il_machine.specs.World.{Component, Stream, Work, World, changed_at, is_stream_of, number_of, place_numbered, place_of, stream_of, with_component}
 use Rattle.machine_laws.proofs.Finding.{either}
 use Rattle.machine_laws.proofs.Keys.{none_or_some, there_is}
-use Rattle.play_worlds.proofs.Claims.{claims_none, claims_some}
-use Rattle.play_worlds.proofs.Lists.{resolved}
-use Rattle.play_worlds.proofs.Told.{stream_else, stream_gone}
-use Rattle.play_streams.proofs.Closing.{closes_keep}
+use Rattle.play_world_laws.proofs.Claims.{claims_none, claims_some}
+use Rattle.play_world_laws.proofs.Lists.{resolved}
+use Rattle.play_world_laws.proofs.Told.{stream_else, stream_gone}
+use Rattle.play_stream_laws.proofs.Closing.{closes_keep}
 use Rattle.play_run.specs.Playing.{ToldAlike}
 
 -- no file goes through anything

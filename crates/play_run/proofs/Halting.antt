@@ -5,15 +5,15 @@ use Rattle.il_machine.specs.Whole.{Always, Stands}
 use Rattle.il_machine.specs.World.{Component, World}
 use Rattle.audio_parts.specs.declared.part_file.PartFile.{PartFile}
 use Rattle.machine_laws.proofs.Every.{from_places}
-use Rattle.dismantling.specs.Dismantling.{AreLinks}
-use Rattle.late_plays.proofs.Planned.{plan_links}
-use Rattle.play_openings.specs.Assemblies.{late_cast_of}
-use Rattle.play_openings.specs.Endings.{ends_of}
-use Rattle.play_graphs.specs.Ending.{AreBack, StandsFor}
-use Rattle.play_graphs.specs.Graphs.{kept_of}
-use Rattle.play_graphs.proofs.Naming.{named_at}
-use Rattle.play_stopping.specs.Stops.{HasNoneOut, HasStopped}
-use Rattle.play_stopping.proofs.Plays.{few_joints, play_stops, work_stops}
+use Rattle.play_build_laws.specs.Dismantling.{AreLinks}
+use Rattle.play_turn_laws.proofs.Planned.{plan_links}
+use Rattle.play_plan_laws.specs.Assemblies.{play_cast_of}
+use Rattle.play_plan_laws.specs.Endings.{ends_of}
+use Rattle.play_graph.specs.Ending.{AreBack, StandsFor}
+use Rattle.play_graph.specs.Graphs.{kept_of}
+use Rattle.play_graph.proofs.Naming.{named_at}
+use Rattle.play_graph.specs.Stops.{HasNoneOut, HasStopped}
+use Rattle.play_graph.proofs.Plays.{few_joints, play_stops, work_stops}
 use Rattle.play_run.specs.declared.failure.Stop.{Stop}
 use Rattle.play_run.specs.declared.failure.Stop.TheVariants as stops
 use Rattle.play_run.specs.Playing.{AreClientsIn, HaveNoWork, PlayingValue}
@@ -36,11 +36,11 @@ module _ {S K : Type 0} (x : PlayingValue S K) where
 
   pub few_stopped : (stop : Stop) × HasBrokenOff x stop → length x.plan.joints ≤ 1024
   few_stopped (stops.Failed failure, F) = few_joints x.plan F.valid F.recent F.play F.before F.played
-  few_stopped (stops.OutOfMemory, B) = let Z = B.0.1.standing in few_joints x.plan Z.valid Z.recent B.0.0 Z.world (Z.late).play
+  few_stopped (stops.OutOfMemory, B) = let Z = B.0.1.standing in few_joints x.plan Z.valid Z.recent B.0.0 Z.world (Z.conducted).play
 
   pub links_stopped : (stop : Stop) × HasBrokenOff x stop → AreLinks (ends_of x.plan) (length x.plan.joints)
   links_stopped (stops.Failed failure, F) = plan_links x.plan F.recent F.play F.before F.valid F.played
-  links_stopped (stops.OutOfMemory, B) = let Z = B.0.1.standing in plan_links x.plan Z.recent B.0.0 Z.world Z.valid (Z.late).play
+  links_stopped (stops.OutOfMemory, B) = let Z = B.0.1.standing in plan_links x.plan Z.recent B.0.0 Z.world Z.valid (Z.conducted).play
 
   module _ (sound : Always (kept_of x.graph) Sound) where
     -- what a work that failed left is joined as before, and no component is Invalid; so it is where the log wants memory
@@ -52,7 +52,7 @@ module _ {S K : Type 0} (x : PlayingValue S K) where
         let Y = B.0.1 in
         let Z = Y.standing in
         let S = sound Z.world Z.stands in
-        play_stops x.plan Z.valid Z.recent B.0.0 Z.world (Z.late).play (joined_between (late_cast_of x.plan) Z.recent B.0.0 (x.conductor).lates ((Z.late).conducting).lates Y.carried)
+        play_stops x.plan Z.valid Z.recent B.0.0 Z.world (Z.conducted).play (joined_between (play_cast_of x.plan) Z.recent B.0.0 (x.conductor).lates ((Z.conducted).conducting).lates Y.carried)
         (none_out Z.world Z.stands S Z.works Z.clients)
 
     its_world : (stop : Stop) (B : HasBrokenOff x stop) → Stands (kept_of x.graph) (world_then x stop B)

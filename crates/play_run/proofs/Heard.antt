@@ -10,19 +10,19 @@ use Rattle.il_machine.specs.Components.{is_given_to, no_progress}
 use Rattle.il_machine.specs.Queued.{notes_given}
 use Rattle.il_machine.specs.World.{Component, Given, number_of}
 use Rattle.history_laws.specs.Given.{is_freed_by}
-use Rattle.run_laws.specs.GivenIn.{given_in}
-use Rattle.run_laws.proofs.Delivering.{run_given}
+use Rattle.history_laws.specs.GivenIn.{given_in}
+use Rattle.history_laws.proofs.Delivering.{run_given}
 use Rattle.play_model.specs.Changes.{port_at}
 use Rattle.play_model.specs.Play.{Play, component_at}
-use Rattle.play_worlds.specs.Cast.{components_of, giver_of, links_of, script_place}
-use Rattle.play_worlds.specs.Standing.{target}
-use Rattle.play_worlds.specs.Telling.{heard, heard_of, last_told, progress_by}
-use Rattle.late_worlds.specs.Changing.{told_of_port}
-use Rattle.late_worlds.specs.Late.{HasHeard, port_number}
-use Rattle.late_acts.proofs.Ends.{actor_there, end_inside}
-use Rattle.play_openings.specs.Assemblies.{late_cast_of}
+use Rattle.play_world_laws.specs.Cast.{components_of, giver_of, links_of, script_place}
+use Rattle.play_world_laws.specs.Standing.{target}
+use Rattle.play_world_laws.specs.Telling.{heard, heard_of, last_told, progress_by}
+use Rattle.play_world_laws.specs.Changing.{told_of_port}
+use Rattle.play_world_laws.specs.PlayWorlds.{HasHeard, port_number}
+use Rattle.play_change_laws.proofs.Ends.{actor_there, end_inside}
+use Rattle.play_plan_laws.specs.Assemblies.{play_cast_of}
 use Rattle.play_log.specs.Entries.{Entry, step_of, steps_of}
-use Rattle.play_results.specs.Asked.{told_by}
+use Rattle.play_result_laws.specs.Asked.{told_by}
 use Rattle.play_run.specs.Playing.{IsStanding, PlayingValue, cast, layout_of}
 use Rattle.play_run.specs.Recording.{FreesNone}
 use Rattle.play_run.proofs.Hearing.{client_there}
@@ -53,7 +53,7 @@ module _ {S K : Type 0} (x : PlayingValue S K) (p : Play) (Z : IsStanding x p) w
 
   heard_at : (c : ℕ) → c < components_of (cast x.plan) → IsHeardAt c
   heard_at c b =
-      let t = actor_there (late_cast_of x.plan) Z.recent p Z.world c (Z.late).play b in
+      let t = actor_there (play_cast_of x.plan) Z.recent p Z.world c (Z.conducted).play b in
       let a : Component = t.0 in
       let A = t.2 in
       let o = client_there x p Z c b a t.1 in
@@ -67,7 +67,7 @@ module _ {S K : Type 0} (x : PlayingValue S K) (p : Play) (Z : IsStanding x p) w
   -- where each has told the state that was sent last
   pub all_at : (k : ℕ) → p.phase ≡ suc k → ((c : ℕ) → c < components_of (cast x.plan) → p.stage c ≡ 4) → (place : ℕ) → place < length x.plan.parts → (told_by place steps).state ≡ Some (target p.phase)
   all_at k e all place b =
-      let t = (((Z.late).play).cast_is).each place b in
+      let t = (((Z.conducted).play).cast_is).each place b in
       let H = heard_at t.0 t.1 in
       let here : (told_by (script_place (cast x.plan) t.0) steps).state ≡ Some (target p.phase) =
       ap (λ (q : Progress). q.state) H.told ∙ ((H.so).state ∙ last_at_four p.phase (p.stage t.0) k e (all t.0 t.1))
@@ -81,7 +81,7 @@ module _ {S K : Type 0} (x : PlayingValue S K) (p : Play) (Z : IsStanding x p) w
   -- of a late source whose announcement was told
   pub settings_at : (l : ℕ) → l < links_of (cast x.plan) → (layout_of x.plan).is_late l ≡ true → 2 ≤ (p.change l).step → is_some (told_by (script_place (cast x.plan) (giver_of (cast x.plan) l)) steps).settings ≡ true
   settings_at l b t m =
-      let H = heard_at (giver_of (cast x.plan) l) (end_inside (late_cast_of x.plan) Z.recent p Z.world (Z.late).play true l b) in
+      let H = heard_at (giver_of (cast x.plan) l) (end_inside (play_cast_of x.plan) Z.recent p Z.world (Z.conducted).play true l b) in
       ap (λ (q : Progress). is_some q.settings) H.told ∙ ((H.so).settings l (record { below = b; given_by = refl }) t ∙ le-leb 2 (p.change l).step m)
 
   -- an end of the link that was changed last: what was told of its port last
@@ -89,5 +89,5 @@ module _ {S K : Type 0} (x : PlayingValue S K) (p : Play) (Z : IsStanding x p) w
       → told_of_port (port_at output (p.change Z.recent)) (port_number (cast x.plan) output Z.recent) ≡ Some completion
       → (told_by (script_place (cast x.plan) (component_at (layout_of x.plan) output Z.recent)) steps).port ≡ Some completion
   port_told b t output completion e =
-      let H = heard_at (component_at (layout_of x.plan) output Z.recent) (end_inside (late_cast_of x.plan) Z.recent p Z.world (Z.late).play output Z.recent b) in
+      let H = heard_at (component_at (layout_of x.plan) output Z.recent) (end_inside (play_cast_of x.plan) Z.recent p Z.world (Z.conducted).play output Z.recent b) in
       ap (λ (q : Progress). q.port) H.told ∙ ((H.so).port output b refl t (ap (λ (o : Option Completion). is_some o) e) ∙ e)

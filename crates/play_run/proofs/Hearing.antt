@@ -6,9 +6,9 @@ use Rattle.il_machine.specs.World.{Component, Given, World, number_of, place_of}
 use Rattle.il_machine.specs.Components.{is_given_to, no_progress, noted_by, progress_after, progress_of}
 use Rattle.il_machine.specs.Queued.{notes_given}
 use Rattle.play_model.specs.Play.{Play}
-use Rattle.play_worlds.specs.Cast.{components_of, script_place}
-use Rattle.play_worlds.specs.Telling.{heard, heard_of, progress_by}
-use Rattle.play_graphs.proofs.Naming.{named_at}
+use Rattle.play_world_laws.specs.Cast.{components_of, script_place}
+use Rattle.play_world_laws.specs.Telling.{heard, heard_of, progress_by}
+use Rattle.play_graph.proofs.Naming.{named_at}
 use Rattle.play_run.specs.Playing.{IsStanding, PlayingValue, cast}
 use Rattle.play_run.proofs.Naming.{all_clients_in}
 
@@ -23,5 +23,5 @@ module _ {S K : Type 0} where
   -- its client object is in
   pub client_there : (x : PlayingValue S K) (p : Play) (Z : IsStanding x p) (c : ℕ) → c < components_of (cast x.plan) → (a : Component) → slice_get Z.world.components (script_place (cast x.plan) c) ≡ Some a → a.client_out ≡ false
   client_there x p Z c b a e =
-      let named : place_of a.handle Z.world.components ≡ Some (script_place (cast x.plan) c) = named_at Z.world (script_place (cast x.plan) c) a.handle ((Z.late).play).sound (ap (option_map (λ (d : Component). d.handle)) e) in
+      let named : place_of a.handle Z.world.components ≡ Some (script_place (cast x.plan) c) = named_at Z.world (script_place (cast x.plan) c) a.handle ((Z.conducted).play).sound (ap (option_map (λ (d : Component). d.handle)) e) in
       all_clients_in x Z.clients Z.world Z.stands (script_place (cast x.plan) c) a.handle a named e

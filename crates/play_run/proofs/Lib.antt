@@ -27,3 +27,8 @@ mod Timely
 mod Timing
 mod Working
 pub mod Halting
+pub mod ThreadFiles
+pub mod Sinks
+pub mod Comings
+pub mod Runs
+pub mod Played

@@ -5,14 +5,14 @@ use Rattle.std.proofs.lemmas.List.Elements.{All-filter, All-head, All-tail}
 use Rattle.outside_io.specs.Files.{Outside}
 use Rattle.il_machine.specs.World.{World}
 use Rattle.play_forms.specs.Plans.{PlanValue}
-use Rattle.play_openings.specs.Assemblies.{PlayFiles}
+use Rattle.play_plan_laws.specs.Assemblies.{PlayFiles}
 use Rattle.play_log.specs.Entries.{Entry, is_unprinted, printed, steps_of}
 use Rattle.play_log.specs.Kept.{LogValue}
 use Rattle.play_log.specs.Logged.{IsLogged, Keeps}
 use Rattle.play_log.specs.Scenes.{Scene, scene_of}
 use Rattle.play_log.proofs.Names.{logged_names}
-use Rattle.play_results.specs.Asked.{IsConducted, tuned}
-use Rattle.play_results.specs.Results.{IsLogOf}
+use Rattle.play_result_laws.specs.Asked.{IsConducted, tuned}
+use Rattle.play_result_laws.specs.Results.{IsLogOf}
 use Rattle.play_run.specs.Logging.{HaveWritten, IsKeptTo, IsNamedTo}
 use Rattle.play_run.specs.Asking.{handles_of}
 use Rattle.play_run.specs.Recording.{IsByPlayer, IsPrinted}
@@ -42,13 +42,7 @@ kept_names plan files log text ending K logged =
 
 pub named_joins : (plan : PlanValue) (files : PlayFiles) (new : Outside) (text : List ℕ) (ending : World) → IsNamedTo plan files text ending → HaveWritten plan.parts new ending → IsLogOf plan files new text
 named_joins plan files new text ending N written = record {
-  opening = N.opening;
   ending = ending;
-  entries = N.entries;
-  logged = N.logged;
-  opens = N.opens;
-  names = N.names;
-  alone = N.alone;
-  conducted = N.conducted;
+  log = record { opening = N.opening; entries = N.entries; opens = N.opens; logged = N.logged; names = N.names; alone = N.alone; conducted = N.conducted };
   ends = record { played = N.ends; sinks = written };
 }

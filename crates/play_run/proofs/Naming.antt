@@ -8,15 +8,15 @@ use Rattle.il_machine.specs.Components.{progress_answer, progress_of}
 use Rattle.il_machine.specs.declared.answer.Progress.{Progress}
 use Rattle.il_machine.specs.Whole.{Always, Stands}
 use Rattle.omx_types.specs.declared.error.OmxError.{OmxError}
-use Rattle.play_worlds.proofs.Lists.{get_there}
+use Rattle.play_world_laws.proofs.Lists.{get_there}
 use Rattle.il_machine.specs.Sound.{Sound}
 use Rattle.il_component.specs.Entries.{Entry, component_of}
 use Rattle.graph_core.specs.Entries.{Entries, client_named, components_of}
 use Rattle.graph_core.proofs.Replacing.{entry_place_is}
 use Rattle.graph_core.proofs.Clients.{client_there}
-use Rattle.play_graphs.specs.Graphs.{IsHandleAt, kept_of}
-use Rattle.play_graphs.specs.Making.{IsMade}
-use Rattle.play_graphs.proofs.Naming.{named_at}
+use Rattle.play_graph.specs.Graphs.{IsHandleAt, kept_of}
+use Rattle.play_graph.specs.Making.{IsMade}
+use Rattle.play_graph.proofs.Naming.{named_at}
 use Rattle.play_run.specs.Playing.{AreClientsIn, HasParts, IsProgressAt, PlayingValue}
 
 -- ---- its client object

@@ -17,20 +17,21 @@ use Rattle.play_model.specs.Acts.{Act, CanAct, acted}
 use Rattle.play_loop.specs.Turns.{HasActed, IsAtRest, IsSend}
 use Rattle.play_loop.proofs.Running.{turn_more}
 use Rattle.play_log.specs.Kept.{LogValue}
-use Rattle.play_worlds.specs.Cast.{Cast, script_place, giver_of}
-use Rattle.play_plans.specs.Casting.{joint_of}
-use Rattle.late_worlds.specs.Late.{IsActorAt, IsLateWorld, LateCast, port_number}
-use Rattle.late_acts.specs.Leading.{LateLeadsTo}
-use Rattle.late_acts.proofs.Around.{none_told}
-use Rattle.late_acts.proofs.Sending.{turn_of}
-use Rattle.late_conductors.specs.Conducting.{HasGoneOn, IsLateConducting, step_from, step_to}
-use Rattle.late_conductors.proofs.Hearing.{one_link}
-use Rattle.late_turns.proofs.Playing.{change_stands}
-use Rattle.late_turns.proofs.Turning.{change_goes}
-use Rattle.play_openings.specs.Assemblies.{late_cast_of}
-use Rattle.play_graphs.specs.Graphs.{kept_of}
-use Rattle.assembling.specs.Assembly.{Assembly}
-use Rattle.play_results.specs.Asked.{acts_of as asked_acts, tuned}
+use Rattle.play_world_laws.specs.Cast.{Cast, script_place, giver_of}
+use Rattle.play_plan_laws.specs.Casting.{joint_of}
+use Rattle.play_world_laws.specs.PlayWorlds.{IsActorAt, IsPlayWorld, PlayCast, port_number}
+use Rattle.play_change_laws.specs.Leading.{PlayLeadsTo}
+use Rattle.play_change_laws.proofs.Around.{none_told}
+use Rattle.play_change_laws.proofs.Sending.{turn_of}
+use Rattle.play_turn_laws.specs.Conducting.{HasGoneOn, IsPlayConducting, step_from, step_to}
+use Rattle.play_turn_laws.proofs.Hearing.{one_link}
+use Rattle.play_turn_laws.proofs.Playing.{change_stands}
+use Rattle.play_turn_laws.proofs.Turning.{change_goes}
+use Rattle.play_plan_laws.specs.Assemblies.{play_cast_of}
+use Rattle.play_graph.specs.declared.link_end.End.TheVariants.{Output}
+use Rattle.play_graph.specs.Graphs.{kept_of}
+use Rattle.play_build_laws.specs.Assembly.{Assembly}
+use Rattle.play_result_laws.specs.Asked.{acts_of as asked_acts, tuned}
 use Rattle.play_run.specs.Asking.{Asks, asking_of, handles_of}
 use Rattle.play_run.specs.Playing.{AreClientsIn, HasParts, HaveNoWork, IsPlaying, IsStanding, PlayingValue, ToldAlike, cast, layout_of}
 use Rattle.play_run.specs.Recording.{IsRecorded}
@@ -76,11 +77,11 @@ on_goes x p q lates l step n O G =
 
 -- ---- the link is the one whose change was begun last
 
-pub recent_now : (x : LateCast) (recent : ℕ) (p : Play) (w : World) (l : ℕ) → IsLateWorld x recent p w → CanAct (x.cast).layout p (Act.Conduct l) → IsLateWorld x l p w
+pub recent_now : (x : PlayCast) (recent : ℕ) (p : Play) (w : World) (l : ℕ) → IsPlayWorld x recent p w → CanAct (x.cast).layout p (Act.Conduct l) → IsPlayWorld x l p w
 recent_now x recent p w l W C =
     let T = turn_of x recent p w l W C in
     elim T.latest [
-      | inl e ↦ subst (λ (r : ℕ). IsLateWorld x r p w) (sym e) W
+      | inl e ↦ subst (λ (r : ℕ). IsPlayWorld x r p w) (sym e) W
       | inr z ↦ record {
         cast_is = W.cast_is;
         formats = W.formats;
@@ -140,18 +141,18 @@ module _ {S K : Type 0} where
 
   -- one act more is made, with its close-out
   pub act_made : (x : PlayingValue S K) (g : Shown S K Progress) (log : LogValue) (l : ℕ) (step : ChangeStep) (n : ℕ) (p : Play) (Y : IsChanging x p l step n) (v : World) → n < acts_of step
-      → Stands (kept_of g) v → HaveNoWork v → AreClientsIn g.core → LateLeadsTo (late_cast_of x.plan) l (acted (layout_of x.plan) (Act.Conduct l) p) v
-      → IsRecorded x.plan.parts Y.standing.opening v log (Asks x.plan Y.standing.files Y.standing.opening l x.conductor (left_of x p l step (n + 1) Y.standing)) → StreamsOn (late_cast_of x.plan) p Y.standing.world v → ToldAlike Y.standing.opening v
+      → Stands (kept_of g) v → HaveNoWork v → AreClientsIn g.core → PlayLeadsTo (play_cast_of x.plan) l (acted (layout_of x.plan) (Act.Conduct l) p) v
+      → IsRecorded x.plan.parts Y.standing.opening v log (Asks x.plan Y.standing.files Y.standing.opening l x.conductor (left_of x p l step (n + 1) Y.standing)) → StreamsOn (play_cast_of x.plan) p Y.standing.world v → ToldAlike Y.standing.opening v
       → (q : Play) × (Z : IsChanging (with_both x g log) q l step (n + 1)) × HasActed (layout_of x.plan) p q × IsAtRest (layout_of x.plan) q × (Z.standing.files ≡ Y.standing.files)
   act_made x g log l step n p Y v m st works clients L R F T =
-      let y = late_cast_of x.plan in
+      let y = play_cast_of x.plan in
       let Z = Y.standing in
       let O = Y.on in
       let C = O.can m in
-      let t = change_goes y Z.recent p l Z.world v (Z.late).play (Z.late).waiting C L in
+      let t = change_goes y Z.recent p l Z.world v (Z.conducted).play (Z.conducted).waiting C L in
       let q : Play = t.0 in
       let U = t.1 in
-      let D : IsLateConducting y.cast l p x.conductor = subst (λ (r : ℕ). IsLateConducting y.cast r p x.conductor) Y.recent (Z.late).conducting in
+      let D : IsPlayConducting y.cast l p x.conductor = subst (λ (r : ℕ). IsPlayConducting y.cast r p x.conductor) Y.recent (Z.conducted).conducting in
       let a = all_acts step in
       let b = O.gone in
       let way = O.way ((p.change l).step + 1) (omega (arith, b)) (omega (arith, a, b, m)) in
@@ -162,7 +163,7 @@ module _ {S K : Type 0} where
             world = v;
             stands = st;
             recent = l;
-            late = late;
+            conducted = late;
             valid = Z.valid;
             works = works;
             clients = clients;
@@ -218,7 +219,7 @@ module _ {S K : Type 0} where
   source_link x place step (l, s, C) =
       let below = changing_there x l step 0 C in
       let Y = C.1 in
-      (l, record { below = below; gives = sym (end_place x.plan l true (Y.standing).valid below) ∙ sym s })
+      (l, record { below = below; gives = sym (end_place x.plan l Output (Y.standing).valid below) ∙ sym s })
 
   -- it is the one link that the source gives into
   only_link : (x : PlayingValue S K) (place : ℕ) (step : ChangeStep) (l k : ℕ) (p : Play) → IsSourceOf x.plan place l → IsChanging x p l step 0 → IsLinkFrom x.plan place k → k ≡ l
@@ -226,12 +227,12 @@ module _ {S K : Type 0} where
       let y = cast x.plan in
       let Z = Y.standing in
       let O = Y.on in
-      let same : (joint_of x.plan k).giver ≡ (joint_of x.plan l).giver = F.gives ∙ (s ∙ end_place x.plan l true Z.valid (O.of_link).below) in
+      let same : (joint_of x.plan k).giver ≡ (joint_of x.plan l).giver = F.gives ∙ (s ∙ end_place x.plan l Output Z.valid (O.of_link).below) in
       let late : (layout_of x.plan).is_late k ≡ true = ap (λ (i : ℕ). passes_at is_late (slice_get x.plan.parts i)) same ∙ (O.of_link).late in
-      let E = ((Z.late).conducting).lates.some k F.below late in
+      let E = ((Z.conducted).conducting).lates.some k F.below late in
       let A = (E.3).of_link in
-      let place_is : script_place y (giver_of y k) ≡ place = end_place x.plan k true Z.valid F.below ∙ F.gives in
-      one_link y k l E.1 O.known ((Z.late).play).cast_is A O.of_link (A.source ∙ (place_is ∙ (s ∙ sym (O.of_link).source)))
+      let place_is : script_place y (giver_of y k) ≡ place = end_place x.plan k Output Z.valid F.below ∙ F.gives in
+      one_link y k l E.1 O.known ((Z.conducted).play).cast_is A O.of_link (A.source ∙ (place_is ∙ (s ∙ sym (O.of_link).source)))
 
   pub change_done : (a b : PlayingValue S K) (place k : ℕ) (step : ChangeStep) → IsLinkFrom a.plan place k → ChangesTo a b k step 0 (acts_of step) → ChangedFrom a b place step
   change_done a b place k step F T = λ l s p Y.

@@ -13,26 +13,26 @@ use Rattle.il_machine.specs.Run.{Meets, Run, Step}
 use Rattle.il_machine.specs.Sound.{Sound}
 use Rattle.machine_laws.proofs.Steps.{sound_step}
 use Rattle.history_laws.specs.Given.{is_freed_by}
-use Rattle.run_laws.proofs.Joining.{run_snoc}
-use Rattle.run_laws.proofs.Naming.{named_place, own_named}
-use Rattle.run_laws.proofs.Seats.{handle_lives}
+use Rattle.history_laws.proofs.Joining.{run_snoc}
+use Rattle.history_laws.proofs.Naming.{named_place, own_named}
+use Rattle.history_laws.proofs.Seats.{handle_lives}
 use Rattle.act_text.specs.declared.text.ActText.{ActText}
 use Rattle.script_lang.specs.declared.play_line.PartLine.{PartLine}
-use Rattle.assembling.proofs.Places.{mapped_at}
+use Rattle.play_build_laws.proofs.Places.{mapped_at}
 use Rattle.play_forms.specs.Plans.{PlanValue}
-use Rattle.play_openings.specs.Assemblies.{PlayFiles, late_cast_of}
+use Rattle.play_plan_laws.specs.Assemblies.{PlayFiles, play_cast_of}
 use Rattle.play_log.specs.Entries.{Entry, is_unprinted, step_of, steps_of}
 use Rattle.play_log.specs.Kept.{LogValue}
 use Rattle.play_log.specs.Naming.{IsUnbroken}
 use Rattle.play_log.specs.Saying.{Says}
 use Rattle.play_log.specs.Scenes.{IsPlayer, scene_of}
-use Rattle.log_texts.specs.Said.{entry_by, line_by}
-use Rattle.play_worlds.specs.Cast.{components_of}
-use Rattle.late_worlds.specs.Late.{IsLateWorld, LateCast}
-use Rattle.play_worlds.proofs.Lists.{get_there}
-use Rattle.play_graphs.specs.Graphs.{IsHandleAt}
-use Rattle.play_graphs.proofs.Naming.{at_handle}
-use Rattle.play_results.specs.Asked.{is_unasked, tuned}
+use Rattle.play_log.specs.Said.{entry_by, line_by}
+use Rattle.play_world_laws.specs.Cast.{components_of}
+use Rattle.play_world_laws.specs.PlayWorlds.{IsPlayWorld, PlayCast}
+use Rattle.play_world_laws.proofs.Lists.{get_there}
+use Rattle.play_graph.specs.Graphs.{IsHandleAt}
+use Rattle.play_graph.proofs.Naming.{at_handle}
+use Rattle.play_result_laws.specs.Asked.{is_unasked, tuned}
 use Rattle.play_run.specs.Asking.{IsAsking, answered, handles_of}
 use Rattle.play_run.specs.Playing.{AsksIn, IsPlaying, IsStanding, PlayingValue}
 use Rattle.play_run.specs.Recording.{FreesNone, IsBeginning, IsByPlayer, IsNameAt, IsPrinted, IsRecorded, IsTold, IsToldOf, IsToldOfBoth, IsWhole}
@@ -70,7 +70,7 @@ still_named o w (entry ∷ history) h c S r F n =
     still_named r.0 w history h d.0 (sound_step o r.0 entry.act entry.reply r.1 r.2 S) r.3 (All-tail FreesNone entry history F) d.1
 
 -- a component's number is its place
-pub number_at : (x : LateCast) (recent : ℕ) (p : _) (w : World) (W : IsLateWorld x recent p w) (i : ℕ) (a : Component) → slice_get w.components i ≡ Some a → number_of a ≡ i
+pub number_at : (x : PlayCast) (recent : ℕ) (p : _) (w : World) (W : IsPlayWorld x recent p w) (i : ℕ) (a : Component) → slice_get w.components i ≡ Some a → number_of a ≡ i
 number_at x recent p w W i a e =
     let m = W.many in
     let b = slice_get_within w.components i a e in
@@ -104,7 +104,7 @@ module _ {S K : Type 0} (x : PlayingValue S K) (p : _) (Z : IsStanding x p) (pla
   is_player name N = record {
     line = N.line;
     named = N.named;
-    handle = handle_from x.plan Z.files Z.opening Z.world x.log (AsksIn x p Z) Z.begins Z.recorded (number_at (late_cast_of x.plan) Z.recent p Z.world (Z.late).play) place h (slice_get_within x.plan.parts place N.part N.line) (H Z.world Z.stands);
+    handle = handle_from x.plan Z.files Z.opening Z.world x.log (AsksIn x p Z) Z.begins Z.recorded (number_at (play_cast_of x.plan) Z.recent p Z.world (Z.conducted).play) place h (slice_get_within x.plan.parts place N.part N.line) (H Z.world Z.stands);
   }
 
   -- an act of that component

@@ -5,8 +5,8 @@ use Rattle.play_model.specs.Play.{Layout, Play}
 use Rattle.play_model.specs.Acts.{Act}
 use Rattle.play_loop.specs.Turns.{IsOfComponent, IsOfLink, SomePlay, Turned}
 use Rattle.play_loop.proofs.Running.{OfBoth, turn_more, turn_of}
-use Rattle.late_tellings.specs.Tellings.{IsTellingOf}
-use Rattle.late_turns.specs.Turns.{IsAct, IsBackOf, IsRunOf, IsStepOf}
+use Rattle.play_stage_laws.specs.Tellings.{IsTellingOf}
+use Rattle.play_turn_laws.specs.Turns.{IsAct, IsBackOf, IsRunOf, IsStepOf}
 use Rattle.play_run.specs.Playing.{IsPlaying, IsStanding, PlayingValue, TurnsTo, layout_of}
 use Rattle.play_run.proofs.Counting.{sum_least}
 
@@ -105,7 +105,7 @@ wants_memory false whole h e = let z : true ≡ false = sym (h refl) ∙ e in ab
 
 pub standing_few : {S K : Type 0} (x : PlayingValue S K) (p : Play) → IsStanding x p → length x.plan.joints ≤ 1024
 standing_few x p Z =
-    let C = (Z.late).play.cast_is in
+    let C = (Z.conducted).play.cast_is in
     let n = sum_least (length x.plan.joints) ((layout_of x.plan).network).count (λ k b. C.layout.network.count k b) in
     let m = C.few in
     omega arith

@@ -22,25 +22,25 @@ use Rattle.play_model.specs.Acts.Act.{Begin, Send, Run, Happen, Tell, TellEnd, S
 use Rattle.play_loop.specs.Turns.{HasRun}
 use Rattle.play_loop.proofs.Running.{no_run, run_more}
 use Rattle.play_log.specs.Kept.{LogValue}
-use Rattle.play_worlds.specs.Cast.{Cast, components_of, script_place}
-use Rattle.play_worlds.specs.Standing.{target}
-use Rattle.play_worlds.specs.Worlds.{Names}
-use Rattle.play_streams.specs.Contents.{PlayContents}
-use Rattle.late_worlds.specs.Late.{IsLateWorld, LateCast}
-use Rattle.late_stages.proofs.Sends.{send_leads}
-use Rattle.late_happenings.specs.Happenings.{AreHappenings, IsHappening}
-use Rattle.late_happenings.proofs.Closing.{closes_lead}
-use Rattle.late_happenings.proofs.Waiting.{waits_on}
-use Rattle.late_conductors.specs.Conducting.{AreCarriedOut, AreLates}
-use Rattle.late_conductors.proofs.Keeping.{carried_kept, lates_kept}
-use Rattle.late_streams.specs.Streams.{HasLateStreams}
-use Rattle.late_turns.specs.Playing.{IsLateStanding}
-use Rattle.late_turns.proofs.Playing.{still_conducting}
-use Rattle.play_openings.specs.Assemblies.{late_cast_of}
-use Rattle.play_graphs.specs.Graphs.{IsHandleAt, kept_of}
-use Rattle.play_graphs.proofs.Naming.{named_at}
-use Rattle.assembling.proofs.Places.{mapped_at}
-use Rattle.play_results.specs.Asked.{sending}
+use Rattle.play_world_laws.specs.Cast.{Cast, components_of, script_place}
+use Rattle.play_world_laws.specs.Standing.{target}
+use Rattle.play_world_laws.specs.Worlds.{Names}
+use Rattle.play_stream_laws.specs.Contents.{PlayContents}
+use Rattle.play_world_laws.specs.PlayWorlds.{IsPlayWorld, PlayCast}
+use Rattle.play_stage_laws.proofs.Sends.{send_leads}
+use Rattle.play_stage_laws.specs.Happenings.{AreHappenings, IsHappening}
+use Rattle.play_stage_laws.proofs.Closing.{closes_lead}
+use Rattle.play_stage_laws.proofs.Waiting.{waits_on}
+use Rattle.play_turn_laws.specs.Conducting.{AreCarriedOut, AreLates}
+use Rattle.play_turn_laws.proofs.Keeping.{carried_kept, lates_kept}
+use Rattle.play_stream_laws.specs.PlayStreams.{HasPlayStreams}
+use Rattle.play_turn_laws.specs.Playing.{IsPlayConducted}
+use Rattle.play_turn_laws.proofs.Playing.{still_conducting}
+use Rattle.play_plan_laws.specs.Assemblies.{play_cast_of}
+use Rattle.play_graph.specs.Graphs.{IsHandleAt, kept_of}
+use Rattle.play_graph.proofs.Naming.{named_at}
+use Rattle.play_build_laws.proofs.Places.{mapped_at}
+use Rattle.play_result_laws.specs.Asked.{sending}
 use Rattle.play_run.specs.Asking.{Asks, handles_of}
 use Rattle.play_run.specs.Playing.{HasParts, IsStanding, PlayingValue, layout_of}
 use Rattle.play_run.specs.Recording.{IsToldOf}
@@ -55,9 +55,9 @@ use Rattle.play_run.proofs.Working.{still_none}
 
 -- what a StateSet leaves of the streams, as the law of component streams has it
 abbrev pub StageStreams : Type 0
-StageStreams = (x : LateCast) (k : PlayContents) (recent later : ℕ) (p q : Play) (w v : World) (c : ℕ) (h : Handle) (result : Result (Unit {0}) OmxError)
-    → IsLateWorld x recent p w → HasLateStreams x k p w → IsLateWorld x later q v → q.phase ≡ p.phase → c < components_of x.cast → Names x.cast w c h
-    → SendCommand w h (StateSet (target p.phase)) result v → HasLateStreams x k q v
+StageStreams = (x : PlayCast) (k : PlayContents) (recent later : ℕ) (p q : Play) (w v : World) (c : ℕ) (h : Handle) (result : Result (Unit {0}) OmxError)
+    → IsPlayWorld x recent p w → HasPlayStreams x k p w → IsPlayWorld x later q v → q.phase ≡ p.phase → c < components_of x.cast → Names x.cast w c h
+    → SendCommand w h (StateSet (target p.phase)) result v → HasPlayStreams x k q v
 
 -- ---- what happens in a close-out
 
@@ -151,11 +151,11 @@ module _ {S K : Type 0} where
     one_more_sent : (p : Play) (Y : IsSending y p state place)
         → (q : Play) × (Z : IsSending (with_both y g log) q state (place + 1)) × HasRun (layout_of y.plan) p q × (Z.standing.files ≡ Y.standing.files)
     one_more_sent p Y =
-        let x = late_cast_of y.plan in
+        let x = play_cast_of y.plan in
         let net = layout_of y.plan in
         let Z = Y.standing in
         let w = Z.world in
-        let W = (Z.late).play in
+        let W = (Z.conducted).play in
         let k = (W.cast_is).each place b in
         let c : ℕ = k.0 in
         let N : Names x.cast w c h = named_at w place h W.sound (H w Z.stands) ∙ ap Some (sym k.2) in
@@ -166,11 +166,11 @@ module _ {S K : Type 0} where
         let L = send_leads x Z.recent p w c h r v.0 W C N s in
         let to = L.1 in
         let m : Play = acted net (Act.Send c) p in
-        let G = closes_lead x Z.recent m to.effect v.0 to.play (waits_on net p (Act.Send c) W.reached C (Z.late).waiting) to.closes in
+        let G = closes_lead x Z.recent m to.effect v.0 to.play (waits_on net p (Act.Send c) W.reached C (Z.conducted).waiting) to.closes in
         let q : Play = all_acted net G.acts m in
         let O : IsCloseOut x.cast Z.recent m q = all_out x.cast Z.recent m G.acts G.can G.happen in
-        let lates = O.lates (y.conductor).lates (lates_kept x.cast Z.recent p (Act.Send c) (y.conductor).lates C tt ((Z.late).conducting).lates) in
-        let late : IsLateStanding x Z.recent q v.0 y.conductor = record { play = G.play; waiting = G.waiting; conducting = still_conducting x Z.recent p q y.conductor (Z.late).conducting O.phase lates } in
+        let lates = O.lates (y.conductor).lates (lates_kept x.cast Z.recent p (Act.Send c) (y.conductor).lates C tt ((Z.conducted).conducting).lates) in
+        let late : IsPlayConducted x Z.recent q v.0 y.conductor = record { play = G.play; waiting = G.waiting; conducting = still_conducting x Z.recent p q y.conductor (Z.conducted).conducting O.phase lates } in
         let works = still_none w (acts.SendCommand h (StateSet state)) (acts.Plain r) v.0 W.sound tt v.2 (λ n. refl) Z.works in
         let hs = handles_of Z.opening in
         let left = drop (place + 1) (map (sending state) hs) in
@@ -232,7 +232,7 @@ module _ {S K : Type 0} where
         record {
           standing = Z.standing;
           whole = Z.left ∙ none_left (length x.plan.parts) (map (sending state) (handles_of (Z.standing).opening)) (few_left y t.0 Z.standing x same state);
-          sent = λ c b. sent.before c b ((((Z.standing).late).play).cast_is.placed c b);
+          sent = λ c b. sent.before c b ((((Z.standing).conducted).play).cast_is.placed c b);
           carried = Z.carried;
         },
         t.2,

@@ -41,33 +41,33 @@ use Rattle.act_text.specs.declared.text.ActText.{ActText}
 use Rattle.script_lang.specs.declared.play_line.PartLine.{PartLine}
 use Rattle.play_log.specs.Kept.{LogValue}
 use Rattle.play_log.specs.Scenes.{scene_of}
-use Rattle.log_texts.specs.Said.{SaysFinish, SaysOf}
-use Rattle.play_worlds.specs.Cast.{components_of, script_place}
-use Rattle.play_worlds.specs.Worlds.{Names}
-use Rattle.late_worlds.specs.Changing.{is_joined_at}
-use Rattle.late_worlds.specs.Late.{IsLateWorld, LateCast}
-use Rattle.late_acts.proofs.Ends.{actor_there}
-use Rattle.late_happenings.specs.Waiting.{IsWaiting}
-use Rattle.late_happenings.proofs.Closing.{idle_closes}
-use Rattle.late_steps.proofs.Claiming.{claim_taken}
-use Rattle.late_conductors.specs.Conducting.{AreCarriedOut, AreLates, IsCarriedOut}
-use Rattle.late_turns.specs.Turns.{IsStepOf, LateCame}
-use Rattle.late_turns.proofs.Coming.{finishes_come, none_claimed}
-use Rattle.play_openings.specs.Assemblies.{late_cast_of}
-use Rattle.play_plans.specs.Casting.{place_of}
-use Rattle.play_graphs.specs.Graphs.{IsHandleAt, kept_of}
+use Rattle.play_log.specs.Said.{SaysFinish, SaysOf}
+use Rattle.play_world_laws.specs.Cast.{components_of, script_place}
+use Rattle.play_world_laws.specs.Worlds.{Names}
+use Rattle.play_world_laws.specs.Changing.{is_joined_at}
+use Rattle.play_world_laws.specs.PlayWorlds.{IsPlayWorld, PlayCast}
+use Rattle.play_change_laws.proofs.Ends.{actor_there}
+use Rattle.play_stage_laws.specs.Waiting.{IsWaiting}
+use Rattle.play_stage_laws.proofs.Closing.{idle_closes}
+use Rattle.play_step_laws.proofs.Claiming.{claim_taken}
+use Rattle.play_turn_laws.specs.Conducting.{AreCarriedOut, AreLates, IsCarriedOut}
+use Rattle.play_turn_laws.specs.Turns.{IsStepOf, PlayCame}
+use Rattle.play_turn_laws.proofs.Coming.{finishes_come, none_claimed}
+use Rattle.play_plan_laws.specs.Assemblies.{play_cast_of}
+use Rattle.play_plan_laws.specs.Casting.{place_of}
+use Rattle.play_graph.specs.Graphs.{IsHandleAt, kept_of}
 use Rattle.play_run.specs.Playing.{AsksIn, unfailed, ToldAlike, HaveNoWork, PlayingValue, TurnsTo, layout_of, IsPlaying}
 use Rattle.play_run.specs.Recording.{IsNameAt, IsTold}
-use Rattle.play_stopping.specs.Stops.{HaveTunnels}
+use Rattle.play_graph.specs.Stops.{HaveTunnels}
 use Rattle.play_run.specs.Turning.{FailsOn, FileShows, FilesStayed}
 use Rattle.play_run.proofs.Working.{all_in, none_out}
 use Rattle.play_run.proofs.Commanding.{component_named_in}
 use Rattle.play_run.proofs.Recording.{is_player, one_more, own_rests}
 use Rattle.audio_parts.specs.Objects.{Held}
-use Rattle.flow_model.specs.Content.{ArePlain}
-use Rattle.play_streams.specs.Contents.{PlayContents, network_of}
-use Rattle.play_streams.specs.Fronts.{AreFronts}
-use Rattle.late_streams.specs.Streams.{HasLateStreams}
+use Rattle.play_model.specs.Content.{ArePlain}
+use Rattle.play_stream_laws.specs.Contents.{PlayContents, network_of}
+use Rattle.play_stream_laws.specs.Fronts.{AreFronts}
+use Rattle.play_stream_laws.specs.PlayStreams.{HasPlayStreams}
 use Rattle.play_run.proofs.Streaming.{ClaimsOn, FailsWith, FinishesOn, IsBackFrom, StreamsGo, StreamsOn, streams_go}
 use Rattle.play_run.proofs.Files.{claim_stays, finish_told, told_on, told_same}
 use Rattle.play_run.proofs.Answering.{keeps_in, turn_goes, turn_stays, with_both}
@@ -84,14 +84,14 @@ pub record IsWorked (h : Handle) (fault : Option PartFault) (frames : ℕ) (w v 
   pub meets : Meets between (acts.Finish done)
   pub comes : Finish between done v
 
-module _ (x : LateCast) (recent : ℕ) (p : Play) (w : World) (c : ℕ) (h : Handle) (W : IsLateWorld x recent p w) (l : c < components_of x.cast) (N : Names x.cast w c h) where
+module _ (x : PlayCast) (recent : ℕ) (p : Play) (w : World) (c : ℕ) (h : Handle) (W : IsPlayWorld x recent p w) (l : c < components_of x.cast) (N : Names x.cast w c h) where
   number_is : h.generation ≡ script_place x.cast c
   number_is = let a = actor_there x recent p w c W l in sym (number_named h w.components (script_place x.cast c) a.0 N a.1) ∙ (a.2).number
 
   module _ (waiting : IsWaiting (x.cast).layout p) (none : HaveNoWork w) (Z : IsClosed w) (fault : Option PartFault) (frames : ℕ) (v : World) (U : IsWorked h fault frames w v) where
-    pub between_plays : IsLateWorld x recent p U.between
+    pub between_plays : IsPlayWorld x recent p U.between
     between_plays = elim (claim_taken x recent p w c h (Ok (ClaimedWork U.work)) U.between W l N U.goes) [
-      | inl s ↦ subst (IsLateWorld x recent p) (sym s) W
+      | inl s ↦ subst (IsPlayWorld x recent p) (sym s) W
       | inr L ↦ (idle_closes x recent p w U.between W waiting Z L).0
     ]
 
@@ -140,15 +140,15 @@ module _ (x : LateCast) (recent : ℕ) (p : Play) (w : World) (c : ℕ) (h : Han
         told_on w U.between v (told_same w w U.between (λ n t q. (t, q, refl)) (claim_stays w U.between (script_place x.cast c) a.0 h (Ok (ClaimedWork U.work)) N a.1 U.goes)) (finish_told U.between v U.done U.comes)
 
     -- the claim moves no bytes
-    claimed_streams : ClaimsOn x c h → (k : PlayContents) → HasLateStreams x k p w → HasLateStreams x k p U.between
+    claimed_streams : ClaimsOn x c h → (k : PlayContents) → HasPlayStreams x k p w → HasPlayStreams x k p U.between
     claimed_streams claims k H = claims (Ok (ClaimedWork U.work)) recent p w U.between W l N U.goes k recent p H between_plays refl
 
     -- after a step that failed, too, the sinks' files have taken fronts
-    pub failed_streams : ClaimsOn x c h → (failure : PartFault) → fault ≡ Some failure → FailsWith x c failure → (k : PlayContents) → HasLateStreams x k p w → (stream : ℕ → List ℕ) → ArePlain (network_of x.cast) k.model stream → AreFronts x.cast k v stream
+    pub failed_streams : ClaimsOn x c h → (failure : PartFault) → fault ≡ Some failure → FailsWith x c failure → (k : PlayContents) → HasPlayStreams x k p w → (stream : ℕ → List ℕ) → ArePlain (network_of x.cast) k.model stream → AreFronts x.cast k v stream
     failed_streams claims failure e fails k H = fails recent p U.between v between_plays l (subst (IsBackFrom x c U.between v) e back_from) k (claimed_streams claims k H)
 
   module _ (waiting : IsWaiting (x.cast).layout p) (none : HaveNoWork w) (Z : IsClosed w) (frames : ℕ) (v : World) (U : IsWorked h None frames w v) where
-    pub works_came : LateCame x recent p v true (IsStepOf (x.cast).layout c)
+    pub works_came : PlayCame x recent p v true (IsStepOf (x.cast).layout c)
     works_came =
         let O = back_from waiting none Z None frames v U in
         finishes_come x recent p U.between c O.component O.work O.done v (between_plays waiting none Z None frames v U) l O.there O.out O.its O.does O.faults O.comes
@@ -174,7 +174,7 @@ joined_so (suc (suc (suc zero))) acts b = ap is_joined_at b
 joined_so (suc (suc (suc (suc n)))) acts b = absurd b
 
 -- each step of the conductor ends with a tunnel
-pub joined_between : (x : LateCast) (recent : ℕ) (p : Play) (lates : List LateLink) → AreLates x.cast recent p lates → AreCarriedOut x.cast p lates → HaveTunnels x p
+pub joined_between : (x : PlayCast) (recent : ℕ) (p : Play) (lates : List LateLink) → AreLates x.cast recent p lates → AreCarriedOut x.cast p lates → HaveTunnels x p
 joined_between x recent p lates L C = λ l b t.
     let s = L.some l b t in
     joined_so (s.1).steps (p.change l).step (C s.0 l s.1 s.2 (s.3).of_link)
@@ -246,24 +246,24 @@ module _ {S K : Type 0} where
       subst (λ (z : PlayingValue S K). c < length z.plan.parts → place ≡ place_of z.plan c → IsHandleAt z.graph place h → TurnsTo z (with_both y g y.log) false (IsStepOf (layout_of z.plan) c)) is
       (λ b J H. turn_stays y g (IsStepOf (layout_of y.plan) c) same (λ p Y.
       let Z = Y.standing in
-      let W = (Z.late).play in
+      let W = (Z.conducted).play in
       let v = steps Z.world Z.stands in
-      let a = actor_there (late_cast_of y.plan) Z.recent p Z.world c W b in
-      let idle = at_place (λ (d : Component). d.work ≡ None) (Z.world).components (script_place (late_cast_of y.plan).cast c) a.0 Z.works a.1 in
-      none_claimed (late_cast_of y.plan) Z.recent p Z.world c h r v.0 a.0 W b (component_named_in y c place h J H p Z) a.1 idle v.1 never))
+      let a = actor_there (play_cast_of y.plan) Z.recent p Z.world c W b in
+      let idle = at_place (λ (d : Component). d.work ≡ None) (Z.world).components (script_place (play_cast_of y.plan).cast c) a.0 Z.works a.1 in
+      none_claimed (play_cast_of y.plan) Z.recent p Z.world c h r v.0 a.0 W b (component_named_in y c place h J H p Z) a.1 idle v.1 never))
       b J H
 
   module _ (y x : PlayingValue S K) (is : y ≡ x) (m g : Shown S K Progress) (c place : ℕ) (h : Handle) (b : c < length x.plan.parts) (J : place ≡ place_of x.plan c) (H : IsHandleAt x.graph place h)
-      (closed : Always (kept_of y.graph) IsClosed) (K1 : KeepsAllClients y.graph.core m.core) (K2 : KeepsAllClients m.core g.core) (claims : ClaimsOn (late_cast_of y.plan) c h) where
-    pub step_turns : (log : LogValue) (frames : ℕ) → FinishesOn (late_cast_of y.plan) c → HasLines y.plan.parts place frames y.log log → ((w : World) → Stands (kept_of y.graph) w → (v : World) × Stands (kept_of g) v × IsWorked h None frames w v)
+      (closed : Always (kept_of y.graph) IsClosed) (K1 : KeepsAllClients y.graph.core m.core) (K2 : KeepsAllClients m.core g.core) (claims : ClaimsOn (play_cast_of y.plan) c h) where
+    pub step_turns : (log : LogValue) (frames : ℕ) → FinishesOn (play_cast_of y.plan) c → HasLines y.plan.parts place frames y.log log → ((w : World) → Stands (kept_of y.graph) w → (v : World) × Stands (kept_of g) v × IsWorked h None frames w v)
         → TurnsTo x (with_both y g log) true (IsStepOf (layout_of x.plan) c)
     step_turns log frames finishes L worked =
         subst (λ (z : PlayingValue S K). c < length z.plan.parts → place ≡ place_of z.plan c → IsHandleAt z.graph place h → TurnsTo z (with_both y g log) true (IsStepOf (layout_of z.plan) c)) is
         (λ b J H p Y.
-        let X = late_cast_of y.plan in
+        let X = play_cast_of y.plan in
         let Z = Y.standing in
-        let W = (Z.late).play in
-        let V = (Z.late).waiting in
+        let W = (Z.conducted).play in
+        let V = (Z.conducted).waiting in
         let N = component_named_in y c place h J H p Z in
         let v = worked Z.world Z.stands in
         let U : IsWorked h None frames Z.world v.0 = v.2 in
@@ -277,7 +277,7 @@ module _ {S K : Type 0} where
         (works_came X Z.recent p Z.world c h W b N V Z.works shut frames v.0 U))
         b J H
 
-    pub step_fails : {Stays : Held S K → Held S K → Type 0} {Shows : PartFault → Held S K → Held S K → Type 0} (log : LogValue) (frames : ℕ) (fault : PartFault) → FailsWith (late_cast_of y.plan) c fault → ((w : World) → Stands (kept_of y.graph) w → (v : World) × Stands (kept_of g) v × IsWorked h (Some fault) frames w v) → FilesStayed Stays x (with_both y g log) → FileShows Shows x (with_both y g log) (record { component = place; fault = fault }) → FailsOn Stays Shows x (with_both y g log) (record { component = place; fault = fault })
+    pub step_fails : {Stays : Held S K → Held S K → Type 0} {Shows : PartFault → Held S K → Held S K → Type 0} (log : LogValue) (frames : ℕ) (fault : PartFault) → FailsWith (play_cast_of y.plan) c fault → ((w : World) → Stands (kept_of y.graph) w → (v : World) × Stands (kept_of g) v × IsWorked h (Some fault) frames w v) → FilesStayed Stays x (with_both y g log) → FileShows Shows x (with_both y g log) (record { component = place; fault = fault }) → FailsOn Stays Shows x (with_both y g log) (record { component = place; fault = fault })
     step_fails {Stays = Stays} {Shows = Shows} log frames fault fails worked objects shows =
         subst (λ (z : PlayingValue S K). c < length z.plan.parts → place ≡ place_of z.plan c → IsHandleAt z.graph place h → FilesStayed Stays z (with_both y g log) → FileShows Shows z (with_both y g log) (record { component = place; fault = fault }) → FailsOn Stays Shows z (with_both y g log) (record { component = place; fault = fault })) is
         (λ b J H objects shows. record {
@@ -285,10 +285,10 @@ module _ {S K : Type 0} where
           objects = objects;
           shows = shows;
           fails = λ p Y.
-              let X = late_cast_of y.plan in
+              let X = play_cast_of y.plan in
               let Z = Y.standing in
-              let W = (Z.late).play in
-              let V = (Z.late).waiting in
+              let W = (Z.conducted).play in
+              let V = (Z.conducted).waiting in
               let N = component_named_in y c place h J H p Z in
               let v = worked Z.world Z.stands in
               let shut = closed Z.world Z.stands in (
@@ -302,7 +302,7 @@ module _ {S K : Type 0} where
                   before = (v.2).between;
                   recent = Z.recent;
                   played = between_plays X Z.recent p Z.world c h W b N V Z.works shut (Some fault) frames v.0 v.2;
-                  tunnels = joined_between X Z.recent p (y.conductor).lates ((Z.late).conducting).lates Y.carried;
+                  tunnels = joined_between X Z.recent p (y.conductor).lates ((Z.conducted).conducting).lates Y.carried;
                   done = (v.2).done;
                   there = subst (λ (j : ℕ). j < length y.plan.parts) (sym J) ((W.cast_is).placed c b);
                   its = (v.2).its ∙ (number_is X Z.recent p Z.world c h W b N ∙ sym J);
@@ -324,7 +324,7 @@ module _ {S K : Type 0} where
 -- the number is of the component at the place
 pub own_number : {S K : Type 0} (x : PlayingValue S K) (c place : ℕ) (h : Handle) → c < length x.plan.parts → place ≡ place_of x.plan c → IsHandleAt x.graph place h → SomePlay (IsPlaying x) → h.generation ≡ place
 own_number x c place h b J H (p, Y) =
-    number_is (late_cast_of x.plan) Y.standing.recent p Y.standing.world c h ((Y.standing).late).play b (component_named_in x c place h J H p Y.standing) ∙ sym J
+    number_is (play_cast_of x.plan) Y.standing.recent p Y.standing.world c h ((Y.standing).conducted).play b (component_named_in x c place h J H p Y.standing) ∙ sym J
 
 module _ {S K : Type 0} (Stays : Held S K → Held S K → Type 0) (itself : (a : Held S K) → Stays a a) (g m k : Shown S K Progress) (number : ℕ) (a b : Held S K) (whole : a.failed ≡ false) (its : a.file ≡ file_of number g)
     (back : file_of number k ≡ b.file) (goes : KeepsFiles number g m) (comes : KeepsFiles number m k) (stays : Stays a b) where

@@ -12,33 +12,33 @@ use Rattle.il_machine.specs.Flow.{HandBack, HandOver, Release, Supply}
 use Rattle.il_machine.specs.Notes.{EndNote, TakeNote, Took}
 use Rattle.il_machine.specs.Stepping.{IsDoneOf, WorkDone}
 use Rattle.il_machine.specs.World.{Component, Work, World}
-use Rattle.flow_model.specs.Content.{ArePlain}
+use Rattle.play_model.specs.Content.{ArePlain}
 use Rattle.play_model.specs.Play.{Play, other_component, supplier}
-use Rattle.play_worlds.specs.Cast.{away_at, components_of, home_at, links_of, script_place}
-use Rattle.play_worlds.specs.Worlds.{Names}
-use Rattle.play_streams.specs.Contents.{PlayContents, network_of}
-use Rattle.play_streams.specs.Fronts.{AreFronts}
-use Rattle.late_worlds.specs.Late.{IsLateWorld, LateCast}
-use Rattle.late_streams.specs.Streams.{HasLateStreams}
+use Rattle.play_world_laws.specs.Cast.{away_at, components_of, home_at, links_of, script_place}
+use Rattle.play_world_laws.specs.Worlds.{Names}
+use Rattle.play_stream_laws.specs.Contents.{PlayContents, network_of}
+use Rattle.play_stream_laws.specs.Fronts.{AreFronts}
+use Rattle.play_world_laws.specs.PlayWorlds.{IsPlayWorld, PlayCast}
+use Rattle.play_stream_laws.specs.PlayStreams.{HasPlayStreams}
 use Rattle.play_run.specs.Playing.{HasStreamsFrom}
 
 -- The call leaves the streams of the world, however that which it leads to is read as a play in the same phase.
-abbrev pub StreamsOn : LateCast → Play → World → World → Type 0
-StreamsOn x p w v = (k : PlayContents) (later : ℕ) (q : Play) → HasLateStreams x k p w → IsLateWorld x later q v → q.phase ≡ p.phase → HasLateStreams x k q v
+abbrev pub StreamsOn : PlayCast → Play → World → World → Type 0
+StreamsOn x p w v = (k : PlayContents) (later : ℕ) (q : Play) → HasPlayStreams x k p w → IsPlayWorld x later q v → q.phase ≡ p.phase → HasPlayStreams x k q v
 
 -- however the world is read as a play in the same phase, it has the streams from the opening
-abbrev pub StreamsGo : LateCast → Play → World → World → Type 0
-StreamsGo x p opening v = (later : ℕ) (q : Play) → IsLateWorld x later q v → q.phase ≡ p.phase → HasStreamsFrom x opening q v
+abbrev pub StreamsGo : PlayCast → Play → World → World → Type 0
+StreamsGo x p opening v = (later : ℕ) (q : Play) → IsPlayWorld x later q v → q.phase ≡ p.phase → HasStreamsFrom x opening q v
 
-pub streams_go : (x : LateCast) (p : Play) (opening w v : World) → HasStreamsFrom x opening p w → StreamsOn x p w v → StreamsGo x p opening v
+pub streams_go : (x : PlayCast) (p : Play) (opening w v : World) → HasStreamsFrom x opening p w → StreamsOn x p w v → StreamsGo x p opening v
 streams_go x p opening w v F S = λ later q W e k C E. S k later q (F k C E) W e
 
 -- ---- a component's calls
 
-module _ (x : LateCast) (c : ℕ) (h : Handle) where
+module _ (x : PlayCast) (c : ℕ) (h : Handle) where
   -- of the component that the handle names in a world of the play
   abbrev pub OfNamed : (World → World → Type 0) → Type 0
-  OfNamed Call = (recent : ℕ) (p : Play) (w v : World) → IsLateWorld x recent p w → c < components_of x.cast → Names x.cast w c h → Call w v → StreamsOn x p w v
+  OfNamed Call = (recent : ℕ) (p : Play) (w v : World) → IsPlayWorld x recent p w → c < components_of x.cast → Names x.cast w c h → Call w v → StreamsOn x p w v
 
   abbrev pub RunsOn : Result Acted OmxError → Type 0
   RunsOn r = OfNamed (λ w v. RunCommand w h r v)
@@ -52,7 +52,7 @@ module _ (x : LateCast) (c : ℕ) (h : Handle) where
   abbrev pub ClaimsOn : Type 0
   ClaimsOn = (r : Result Claimed OmxError) → OfNamed (λ w v. Claim w h r v)
 
-module _ (x : LateCast) (c : ℕ) where
+module _ (x : PlayCast) (c : ℕ) where
   -- the work of the component is out, and comes back from its step with that fault
   pub record IsBackFrom (w v : World) (fault : Option PartFault) : Type 0 where
     pub component : Component
@@ -66,19 +66,19 @@ module _ (x : LateCast) (c : ℕ) where
     pub comes : Finish w done v
 
   abbrev pub FinishesOn : Type 0
-  FinishesOn = (recent : ℕ) (p : Play) (w v : World) → IsLateWorld x recent p w → c < components_of x.cast → IsBackFrom w v None → StreamsOn x p w v
+  FinishesOn = (recent : ℕ) (p : Play) (w v : World) → IsPlayWorld x recent p w → c < components_of x.cast → IsBackFrom w v None → StreamsOn x p w v
 
   -- after a step that failed the sinks' files have taken fronts
   abbrev pub FailsWith : PartFault → Type 0
-  FailsWith fault = (recent : ℕ) (p : Play) (w v : World) → IsLateWorld x recent p w → c < components_of x.cast → IsBackFrom w v (Some fault)
-      → (k : PlayContents) → HasLateStreams x k p w → (stream : ℕ → List ℕ) → ArePlain (network_of x.cast) k.model stream → AreFronts x.cast k v stream
+  FailsWith fault = (recent : ℕ) (p : Play) (w v : World) → IsPlayWorld x recent p w → c < components_of x.cast → IsBackFrom w v (Some fault)
+      → (k : PlayContents) → HasPlayStreams x k p w → (stream : ℕ → List ℕ) → ArePlain (network_of x.cast) k.model stream → AreFronts x.cast k v stream
 
 -- ---- a link's calls
 
-module _ (x : LateCast) (l : ℕ) (h : Handle) where
+module _ (x : PlayCast) (l : ℕ) (h : Handle) where
   -- of the end that supplies the link, or of the other one
   abbrev pub OfEnd : ℕ → (World → World → Type 0) → Type 0
-  OfEnd c Call = (recent : ℕ) (p : Play) (w v : World) → IsLateWorld x recent p w → l < links_of x.cast → Names x.cast w c h → Call w v → StreamsOn x p w v
+  OfEnd c Call = (recent : ℕ) (p : Play) (w v : World) → IsPlayWorld x recent p w → l < links_of x.cast → Names x.cast w c h → Call w v → StreamsOn x p w v
 
   abbrev pub SuppliesOn : Result Acted CallError → Type 0
   SuppliesOn r = OfEnd (supplier (x.cast).layout l) (λ w v. Supply w h (home_at x.cast l).port r v)
@@ -95,5 +95,5 @@ module _ (x : LateCast) (l : ℕ) (h : Handle) where
 -- ---- the opening
 
 -- where nothing has flowed and each sink's file is new there are streams
-abbrev pub OpensOn : LateCast → Type 0
-OpensOn x = (recent : ℕ) (p : Play) (w : World) → IsLateWorld x recent p w → p.phase ≤ 1 → HasStreamsFrom x w p w
+abbrev pub OpensOn : PlayCast → Type 0
+OpensOn x = (recent : ℕ) (p : Play) (w : World) → IsPlayWorld x recent p w → p.phase ≤ 1 → HasStreamsFrom x w p w

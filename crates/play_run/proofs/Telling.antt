@@ -37,26 +37,26 @@ use Rattle.act_text.specs.declared.text.ActText.{ActText}
 use Rattle.script_lang.specs.declared.play_line.PartLine.{PartLine}
 use Rattle.play_log.specs.Kept.{LogValue}
 use Rattle.play_log.specs.Scenes.{scene_of}
-use Rattle.log_texts.specs.Said.{SaysOf}
-use Rattle.play_worlds.specs.Cast.{components_of, script_place}
-use Rattle.play_worlds.specs.Worlds.{Names}
-use Rattle.play_worlds.proofs.Lists.{resolved}
-use Rattle.late_worlds.specs.Late.{IsLateWorld, LateCast}
-use Rattle.late_acts.proofs.Ends.{actor_there}
-use Rattle.late_stages.proofs.Notes.{an_event, takes}
-use Rattle.late_happenings.specs.Happenings.{IsHappening}
-use Rattle.late_happenings.specs.Waiting.{IsWaiting}
-use Rattle.late_happenings.proofs.Happening.{none_due, one_happens}
-use Rattle.late_tellings.specs.Tellings.{IsTellingOf}
-use Rattle.late_turns.specs.Turns.{LateCame}
-use Rattle.late_turns.proofs.Coming.{none_told, tells_come}
-use Rattle.play_openings.specs.Assemblies.{late_cast_of}
-use Rattle.play_plans.specs.Casting.{place_of as place_in}
-use Rattle.play_graphs.specs.Graphs.{IsHandleAt, client_progress, kept_of}
+use Rattle.play_log.specs.Said.{SaysOf}
+use Rattle.play_world_laws.specs.Cast.{components_of, script_place}
+use Rattle.play_world_laws.specs.Worlds.{Names}
+use Rattle.play_world_laws.proofs.Lists.{resolved}
+use Rattle.play_world_laws.specs.PlayWorlds.{IsPlayWorld, PlayCast}
+use Rattle.play_change_laws.proofs.Ends.{actor_there}
+use Rattle.play_stage_laws.proofs.Notes.{an_event, takes}
+use Rattle.play_stage_laws.specs.Happenings.{IsHappening}
+use Rattle.play_stage_laws.specs.Waiting.{IsWaiting}
+use Rattle.play_stage_laws.proofs.Happening.{none_due, one_happens}
+use Rattle.play_stage_laws.specs.Tellings.{IsTellingOf}
+use Rattle.play_turn_laws.specs.Turns.{PlayCame}
+use Rattle.play_turn_laws.proofs.Coming.{none_told, tells_come}
+use Rattle.play_plan_laws.specs.Assemblies.{play_cast_of}
+use Rattle.play_plan_laws.specs.Casting.{place_of as place_in}
+use Rattle.play_graph.specs.Graphs.{IsHandleAt, client_progress, kept_of}
 use Rattle.play_run.specs.Playing.{AsksIn, AreClientsIn, IsPlaying, IsStanding, PlayingValue, TurnsTo, layout_of}
 use Rattle.play_run.specs.Recording.{IsNameAt, IsTold}
-use Rattle.play_stopping.specs.Stops.{IsEvent}
-use Rattle.play_stopping.proofs.Noted.{event_is}
+use Rattle.play_graph.specs.Stops.{IsEvent}
+use Rattle.play_graph.proofs.Noted.{event_is}
 use Rattle.il_graph.proofs.PartsStay.{step_stays}
 use Rattle.play_run.proofs.Naming.{all_clients_in}
 use Rattle.play_run.proofs.Working.{still_none}
@@ -89,7 +89,7 @@ at_rest w p (Act.RunPort l o) R h C = h
 at_rest w p (Act.TellPort l o) R h C = h
 at_rest w p (Act.Step c n last) R h C = h
 
-module _ (x : LateCast) (recent : ℕ) (p : Play) (e v : World) (W : IsLateWorld x recent p e) (V : IsWaiting (x.cast).layout p) (R : IsAtRest (x.cast).layout p) where
+module _ (x : PlayCast) (recent : ℕ) (p : Play) (e v : World) (W : IsPlayWorld x recent p e) (V : IsWaiting (x.cast).layout p) (R : IsAtRest (x.cast).layout p) where
   times_same : (n : ℕ) (u : World) → HappenTimes n e u → u ≡ e
   times_same zero u h = h
   times_same (suc n) u h =
@@ -111,7 +111,7 @@ empty_first : (xs : List Note) → slice_get xs 0 ≡ None → is_empty xs ≡ t
 empty_first [] e = refl
 empty_first (n ∷ xs) e = absurd cc
 
-module _ (x : LateCast) (recent : ℕ) (p : Play) (w : World) (c : ℕ) (h : Handle) (W : IsLateWorld x recent p w) (l : c < components_of x.cast) (N : Names x.cast w c h) (a : Component) (e : slice_get w.components (script_place x.cast c) ≡ Some a) (o : a.client_out ≡ false) where
+module _ (x : PlayCast) (recent : ℕ) (p : Play) (w : World) (c : ℕ) (h : Handle) (W : IsPlayWorld x recent p w) (l : c < components_of x.cast) (N : Names x.cast w c h) (a : Component) (e : slice_get w.components (script_place x.cast c) ≡ Some a) (o : a.client_out ≡ false) where
   from_note : (r : Result Took OmxError) (v : World) → TakeNote w h r v → TakeFrom w (script_place x.cast c) a false (slice_get a.notes 0) r v
   from_note r v s = subst (λ (b : Bool). TakeFrom w (script_place x.cast c) a b (slice_get a.notes 0) r v) o (resolved plain w h r v (λ i d. TakeFrom w i d d.client_out (slice_get d.notes 0) r v) (script_place x.cast c) a N e s)
 
@@ -134,7 +134,7 @@ module _ (x : LateCast) (recent : ℕ) (p : Play) (w : World) (c : ℕ) (h : Han
     pub event : Event
     pub is : taken ≡ TakenEvent event
     pub same : v ≡ with_given (script_place x.cast c) a (notes.Told event) w
-    pub play : IsLateWorld x recent p (with_given (script_place x.cast c) a (notes.Told event) w)
+    pub play : IsPlayWorld x recent p (with_given (script_place x.cast c) a (notes.Told event) w)
 
   by_oldest : (V : IsWaiting (x.cast).layout p) (Z : IsClosed w) (taken : Taken) (v : World) (oldest : Option Note) → slice_get a.notes 0 ≡ oldest → TakeFrom w (script_place x.cast c) a false oldest (Ok (TookNote taken)) v → IsTaken taken v
   by_oldest V Z taken v None f s = let b = s.0 in absurd cc
@@ -179,7 +179,7 @@ module _ (x : LateCast) (recent : ℕ) (p : Play) (w : World) (c : ℕ) (h : Han
     pub meets : (client : Progress) → WasTold h client w → Meets mid (acts.EndNote h (moved_by event client))
     meets client k = is_there (component_named h mid.components) (λ d. (d.client_out ≡ true) × (moved_by event client ≡ progress_of d mid)) (first_taken a) then_named (refl, told_then client k)
 
-    pub tells : IsLateWorld x recent p mid → (u : World) → EndNote mid h u → LateCame x recent p u true (IsTellingOf (x.cast).layout c)
+    pub tells : IsPlayWorld x recent p mid → (u : World) → EndNote mid h u → PlayCame x recent p u true (IsTellingOf (x.cast).layout c)
     tells P u s = tells_come x recent p mid c h u (first_taken a) P l mid_named mid_there refl s
 
 -- the log was told that the event was taken, and that the client object came back
@@ -214,30 +214,30 @@ module _ {S K : Type 0} where
   untold_turns y x is g c place h r b J H steps never same =
       subst (λ (z : PlayingValue S K). c < length z.plan.parts → place ≡ place_in z.plan c → IsHandleAt z.graph place h → TurnsTo z (with_both y g y.log) false (IsTellingOf (layout_of z.plan) c)) is
       (λ b J H. turn_stays y g (IsTellingOf (layout_of y.plan) c) same (λ p Y.
-      let X = late_cast_of y.plan in
+      let X = play_cast_of y.plan in
       let Z = Y.standing in
       let w = Z.world in
       let v = steps w Z.stands in
       let N = component_named_in y c place h J H p Z in
-      let a = actor_there X Z.recent p w c (Z.late).play b in
-      none_taken X Z.recent p w c h (Z.late).play b N a.0 a.1 (all_clients_in y Z.clients w Z.stands (script_place X.cast c) h a.0 N a.1) r v.0 v.2 never))
+      let a = actor_there X Z.recent p w c (Z.conducted).play b in
+      none_taken X Z.recent p w c h (Z.conducted).play b N a.0 a.1 (all_clients_in y Z.clients w Z.stands (script_place X.cast c) h a.0 N a.1) r v.0 v.2 never))
       b J H
 
   module _ (y : PlayingValue S K) (m : Shown S K Progress) (c place : ℕ) (h : Handle) (taken : Given_) (b : c < length y.plan.parts) (J : place ≡ place_in y.plan c) (H : IsHandleAt y.graph place h)
       (takes_note : Steps (kept_of y.graph) (kept_of m) (λ w v. TakeNote w h (Ok (TookNote (taken_of taken))) v)) (closed : Always (kept_of y.graph) IsClosed) where
-    abbrev pub X : LateCast
-    X = late_cast_of y.plan
+    abbrev pub X : PlayCast
+    X = play_cast_of y.plan
 
     abbrev pub actor_in : (p : Play) (Z : IsStanding y p) → Component
-    actor_in p Z = (actor_there X Z.recent p Z.world c (Z.late).play b).0
+    actor_in p Z = (actor_there X Z.recent p Z.world c (Z.conducted).play b).0
 
     pub client_in : (p : Play) (Z : IsStanding y p) → (actor_in p Z).client_out ≡ false
-    client_in p Z = all_clients_in y Z.clients Z.world Z.stands (script_place X.cast c) h (actor_in p Z) (component_named_in y c place h J H p Z) (actor_there X Z.recent p Z.world c (Z.late).play b).1
+    client_in p Z = all_clients_in y Z.clients Z.world Z.stands (script_place X.cast c) h (actor_in p Z) (component_named_in y c place h J H p Z) (actor_there X Z.recent p Z.world c (Z.conducted).play b).1
 
-    pub is_taken : (p : Play) (Z : IsStanding y p) → IsTaken X Z.recent p Z.world c h (Z.late).play b (component_named_in y c place h J H p Z) (actor_in p Z) (actor_there X Z.recent p Z.world c (Z.late).play b).1 (client_in p Z) (taken_of taken) (takes_note Z.world Z.stands).0
+    pub is_taken : (p : Play) (Z : IsStanding y p) → IsTaken X Z.recent p Z.world c h (Z.conducted).play b (component_named_in y c place h J H p Z) (actor_in p Z) (actor_there X Z.recent p Z.world c (Z.conducted).play b).1 (client_in p Z) (taken_of taken) (takes_note Z.world Z.stands).0
     is_taken p Z = let v = takes_note Z.world Z.stands in
-        taken_so X Z.recent p Z.world c h (Z.late).play b (component_named_in y c place h J H p Z) (actor_in p Z) (actor_there X Z.recent p Z.world c (Z.late).play b).1 (client_in p Z)
-        (Z.late).waiting (closed Z.world Z.stands) (taken_of taken) v.0 v.2
+        taken_so X Z.recent p Z.world c h (Z.conducted).play b (component_named_in y c place h J H p Z) (actor_in p Z) (actor_there X Z.recent p Z.world c (Z.conducted).play b).1 (client_in p Z)
+        (Z.conducted).waiting (closed Z.world Z.stands) (taken_of taken) v.0 v.2
 
     pub is_event_in : SomePlay (IsPlaying y) → IsEvent taken
     is_event_in (p, Y) = let T = is_taken p Y.standing in subst IsEvent (sym (event_is taken T.event T.is)) tt
@@ -248,7 +248,7 @@ module _ {S K : Type 0} where
     tell_turns_in g log event client told et t L knew has K1 K2 C takes_on ends_on ends = λ p Y.
         let Z = Y.standing in
         let w = Z.world in
-        let W = (Z.late).play in
+        let W = (Z.conducted).play in
         let N = component_named_in y c place h J H p Z in
         let at = actor_there X Z.recent p w c W b in
         let o = client_in p Z in
@@ -289,7 +289,7 @@ module _ {S K : Type 0} where
   pub tell_turns : (y x : PlayingValue S K) → y ≡ x → (m g : Shown S K Progress) (log : LogValue) (c place : ℕ) (h : Handle) (taken : Given_) (event : Event) (client told : Progress) → c < length x.plan.parts → place ≡ place_in x.plan c → IsHandleAt x.graph place h
       → Steps (kept_of y.graph) (kept_of m) (λ w v. TakeNote w h (Ok (TookNote (taken_of taken))) v) → Always (kept_of y.graph) IsClosed → taken ≡ given.Told event → told ≡ moved_by event client → HasLines y.plan.parts place event y.log log
       → Always (kept_of y.graph) (AreTold client_progress y.graph.core)
-      → client_of h y.graph.core ≡ Some client → KeepsClients h y.graph.core m.core → KeepsClients h m.core g.core → client_of h g.core ≡ Some told → TakesOn (late_cast_of y.plan) c h (Ok (TookNote (taken_of taken))) → EndsOn (late_cast_of y.plan) c h → StepsWhere (kept_of m) (kept_of g) (WasTold h told) (λ w v. EndNote w h v)
+      → client_of h y.graph.core ≡ Some client → KeepsClients h y.graph.core m.core → KeepsClients h m.core g.core → client_of h g.core ≡ Some told → TakesOn (play_cast_of y.plan) c h (Ok (TookNote (taken_of taken))) → EndsOn (play_cast_of y.plan) c h → StepsWhere (kept_of m) (kept_of g) (WasTold h told) (λ w v. EndNote w h v)
       → TurnsTo x (with_both y g log) true (IsTellingOf (layout_of x.plan) c)
   tell_turns y x is m g log c place h taken event client told b e H takes_note closed et t L knew has K1 K2 C takes_on ends_on ends =
       subst (λ (z : PlayingValue S K). c < length z.plan.parts → place ≡ place_in z.plan c → IsHandleAt z.graph place h → TurnsTo z (with_both y g log) true (IsTellingOf (layout_of z.plan) c)) is

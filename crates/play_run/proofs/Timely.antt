@@ -9,9 +9,9 @@ use Rattle.std.proofs.lemmas.Option.{slice_get_within}
 use Rattle.omx_types.specs.declared.handle.Handle.{Handle}
 use Rattle.omx_types.specs.declared.state.State.TheVariants.{Loaded, Idle, Executing}
 use Rattle.il_machine.specs.Acts.{Act, Reply}
-use Rattle.assembling.specs.Assembly.{Assembly}
-use Rattle.assembling.proofs.Places.{pushed_at}
-use Rattle.play_results.specs.Asked.{AreTimely, Asking, BackToIdle, Disabling, Enabling, HasCause, IsDone, Retuning, ToExecuting, ToIdle, ToLoaded, acts_of, asked, is_asked, sending}
+use Rattle.play_build_laws.specs.Assembly.{Assembly}
+use Rattle.play_build_laws.proofs.Places.{pushed_at}
+use Rattle.play_result_laws.specs.Asked.{AreTimely, Asking, BackToIdle, Disabling, Enabling, HasCause, IsDone, Retuning, ToExecuting, ToIdle, ToLoaded, acts_of, asked, is_asked, sending}
 use Rattle.play_run.specs.Asking.{IsAsking, IsInTime}
 
 -- ---- lists

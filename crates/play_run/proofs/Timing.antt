@@ -10,22 +10,23 @@ use Rattle.il_machine.specs.Acts.{Act as MachineAct, Reply}
 use Rattle.il_machine.specs.Kinds.{is_sink}
 use Rattle.conductor.specs.Hearing.{ConductorValue}
 use Rattle.script_lang.specs.declared.play_line.PartLine.{PartLine}
-use Rattle.assembling.specs.Assembly.{Assembly, component_at as place_at}
+use Rattle.play_build_laws.specs.Assembly.{Assembly, component_at as place_at}
 use Rattle.play_forms.specs.Parts.{passes_at}
-use Rattle.play_plans.specs.Casting.{joint_of}
+use Rattle.play_plan_laws.specs.Casting.{joint_of}
 use Rattle.play_model.specs.Acts.{Act, CanAct}
 use Rattle.play_model.specs.Changes.{Change, IsChanged, port_at}
 use Rattle.play_model.specs.Play.{Play, component_at}
-use Rattle.play_worlds.specs.Cast.{components_of, links_of, script_place}
-use Rattle.play_worlds.specs.Standing.{target}
-use Rattle.play_worlds.proofs.Lists.{get_there}
-use Rattle.late_worlds.specs.Changing.{told_of_port}
-use Rattle.late_worlds.specs.Late.{port_number}
-use Rattle.late_conductors.specs.Conducting.{IsLateConductor}
-use Rattle.late_conductors.proofs.Standing.{none_answered}
-use Rattle.play_openings.specs.Assemblies.{kind_in}
+use Rattle.play_world_laws.specs.Cast.{components_of, links_of, script_place}
+use Rattle.play_world_laws.specs.Standing.{target}
+use Rattle.play_world_laws.proofs.Lists.{get_there}
+use Rattle.play_world_laws.specs.Changing.{told_of_port}
+use Rattle.play_world_laws.specs.PlayWorlds.{port_number}
+use Rattle.play_turn_laws.specs.Conducting.{IsPlayConductor}
+use Rattle.play_turn_laws.proofs.Standing.{none_answered}
+use Rattle.play_plan_laws.specs.Assemblies.{kind_in}
 use Rattle.play_log.specs.Entries.{steps_of}
-use Rattle.play_results.specs.Asked.{AreAllAt, AreBothDone, Asking, BackToIdle, Disabling, Enabling, HasCause, IsDone, Retuning, ToExecuting, ToIdle, change_of, told_by, tuned}
+use Rattle.play_result_laws.specs.Asked.{AreAllAt, AreBothDone, Asking, BackToIdle, Disabling, Enabling, HasCause, IsDone, Retuning, ToExecuting, ToIdle, change_of, told_by, tuned}
+use Rattle.play_graph.specs.declared.link_end.End.TheVariants.{Input, Output}
 use Rattle.play_run.specs.Asking.{Asks, answered}
 use Rattle.play_run.specs.Playing.{IsPlaying, PlayingValue, cast, layout_of}
 use Rattle.play_run.proofs.Asked.{carried_once, counted, last_or, none_behind}
@@ -85,8 +86,8 @@ module _ {S K : Type 0} (x : PlayingValue S K) (p : Play) (Y : IsPlaying x p) wh
           (ap (λ (m : ℕ). told_of_port m (port_number (cast x.plan) output Y.standing.recent)) (ap (λ (k : ℕ). port_at output (p.change k)) r ∙ at output) ∙ told (port_number (cast x.plan) output Y.standing.recent)))
 
       by_side : (side : Bool) → (told_by (place_at s side l) steps).port ≡ Some (completion (s.end side l).port)
-      by_side false = subst (λ (place : ℕ). (told_by place steps).port ≡ Some (completion (joint_of x.plan l).output)) (end_place x.plan l true Y.standing.valid b) (of_output true)
-      by_side true = subst (λ (place : ℕ). (told_by place steps).port ≡ Some (completion (joint_of x.plan l).input)) (end_place x.plan l false Y.standing.valid b) (of_output false)
+      by_side false = subst (λ (place : ℕ). (told_by place steps).port ≡ Some (completion (joint_of x.plan l).output)) (end_place x.plan l Output Y.standing.valid b) (of_output true)
+      by_side true = subst (λ (place : ℕ). (told_by place steps).port ≡ Some (completion (joint_of x.plan l).input)) (end_place x.plan l Input Y.standing.valid b) (of_output false)
 
   -- where each has told the state that was sent last
   all_done : (k : ℕ) (state : State) → p.phase ≡ suc k → target (suc k) ≡ state → ((c : ℕ) → c < components_of (cast x.plan) → p.stage c ≡ 4) → AreAllAt s state steps
@@ -94,7 +95,7 @@ module _ {S K : Type 0} (x : PlayingValue S K) (p : Play) (Y : IsPlaying x p) wh
 
   -- ---- where all run and no link is half changed
 
-  module _ (value : ConductorValue) (A : Asks x.plan Y.standing.files Y.standing.opening Y.standing.recent value [] steps) (V : IsLateConductor (cast x.plan) Y.standing.recent p value)
+  module _ (value : ConductorValue) (A : Asks x.plan Y.standing.files Y.standing.opening Y.standing.recent value [] steps) (V : IsPlayConductor (cast x.plan) Y.standing.recent p value)
       (done : (k : ℕ) → k < links_of (cast x.plan) → (layout_of x.plan).is_late k ≡ true → ((p.change k).step ≤ 2) ⊎ IsChanged (p.change k)) where
     -- the last of the links whose changes were begun is changed
     pub record IsLastChanged (front : List ℕ) (l : ℕ) : Type 0 where
@@ -145,13 +146,13 @@ module _ {S K : Type 0} (x : PlayingValue S K) (p : Play) (Y : IsPlaying x p) wh
 
   -- ---- a state is begun
 
-  module _ (value : ConductorValue) (A : Asks x.plan Y.standing.files Y.standing.opening Y.standing.recent value [] steps) (V : IsLateConductor (cast x.plan) Y.standing.recent p value) (B : CanAct (layout_of x.plan) p Act.Begin) where
+  module _ (value : ConductorValue) (A : Asks x.plan Y.standing.files Y.standing.opening Y.standing.recent value [] steps) (V : IsPlayConductor (cast x.plan) Y.standing.recent p value) (B : CanAct (layout_of x.plan) p Act.Begin) where
     done_so : p.phase ≡ 2 → (k : ℕ) → k < links_of (cast x.plan) → (layout_of x.plan).is_late k ≡ true → ((p.change k).step ≤ 2) ⊎ IsChanged (p.change k)
     done_so e k b t = elim (B.changes e k b t) [ inl m ↦ inl (omega (arith, m)) | inr C ↦ inr C ]
 
     sinks_done : p.phase ≡ 2 → HasCause s BackToIdle steps
     sinks_done e place b t =
-        let c = (((Y.standing.late).play).cast_is).each place b in
+        let c = (((Y.standing.conducted).play).cast_is).each place b in
         let part = get_there (x.plan).parts place b in
         let sink : (layout_of x.plan).is_sink c.0 ≡ true = ap (λ (n : ℕ). passes_at is_sink (slice_get (x.plan).parts n)) c.2 ∙ sink_kind (slice_get (x.plan).parts place) part.0 part.1 t in
         subst (λ (n : ℕ). (told_by n steps).eos ≡ true) c.2 (end_at x p Y.standing c.0 c.1 (B.ends e c.0 c.1 sink))

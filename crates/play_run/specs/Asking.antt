@@ -7,12 +7,12 @@ use Rattle.conductor.specs.declared.phase.ChangeStep.{ChangeStep}
 use Rattle.conductor.specs.declared.phase.ChangeStep.TheVariants.{Disable, Retune, Enable}
 use Rattle.conductor.specs.declared.phase.LateLink.{LateLink}
 use Rattle.conductor.specs.Hearing.{ConductorValue}
-use Rattle.assembling.specs.Assembly.{Assembly}
+use Rattle.play_build_laws.specs.Assembly.{Assembly}
 use Rattle.play_forms.specs.Plans.{PlanValue}
-use Rattle.play_worlds.specs.Cast.{Cast, links_of}
-use Rattle.late_conductors.specs.Conducting.{IsLateOf}
-use Rattle.play_openings.specs.Assemblies.{PlayFiles, late_cast_of}
-use Rattle.play_results.specs.Asked.{AreTimely, Asking, BackToIdle, Disabling, Enabling, HasCause, IsDone, Retuning, ToExecuting, ToIdle, ToLoaded, acts_of, asked, change_of, tuned}
+use Rattle.play_world_laws.specs.Cast.{Cast, links_of}
+use Rattle.play_turn_laws.specs.Conducting.{IsLateOf}
+use Rattle.play_plan_laws.specs.Assemblies.{PlayFiles, play_cast_of}
+use Rattle.play_result_laws.specs.Asked.{AreTimely, Asking, BackToIdle, Disabling, Enabling, HasCause, IsDone, Retuning, ToExecuting, ToIdle, ToLoaded, acts_of, asked, change_of, tuned}
 
 -- an act that is asked after these steps begins an asking in time, if it begins one
 abbrev pub IsInTime : Assembly → List Handle → List Asking → List (Act × Reply) → Type 0
@@ -59,7 +59,7 @@ abbrev pub handles_of : World → List Handle
 handles_of opening = map (λ (c : Component). c.handle) opening.components
 
 abbrev pub Asks : PlanValue → PlayFiles → World → ℕ → ConductorValue → List (Act × Reply) → List (Act × Reply) → Type 0
-Asks plan files opening recent value left steps = IsAskedBy (late_cast_of plan).cast recent (tuned plan files) (handles_of opening) value left steps
+Asks plan files opening recent value left steps = IsAskedBy (play_cast_of plan).cast recent (tuned plan files) (handles_of opening) value left steps
 
 -- what is asked by a step of a link's change
 abbrev pub asking_of : ChangeStep → ℕ → Asking

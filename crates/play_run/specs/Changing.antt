@@ -3,28 +3,19 @@ use Rattle.std.specs.Prelude.{◌≡◌, ◌≢◌, ℕ, ◌+◌, ◌<◌, ◌�
 use Rattle.conductor.specs.declared.phase.ChangeStep.{ChangeStep}
 use Rattle.conductor.specs.declared.phase.ChangeStep.TheVariants.{Disable, Retune, Enable}
 use Rattle.conductor.specs.declared.phase.LateLink.{LateLink}
-use Rattle.play_forms.specs.declared.joint.Joint.{Joint}
 use Rattle.play_forms.specs.Plans.{PlanValue}
 use Rattle.play_model.specs.Acts.{Act, CanAct}
 use Rattle.play_model.specs.Play.{Play}
 use Rattle.play_loop.specs.Turns.{HasActed, IsAtRest, SomePlay}
-use Rattle.play_worlds.specs.Cast.{Cast, giver_of, script_place}
-use Rattle.play_plans.specs.Casting.{joint_of}
-use Rattle.late_conductors.specs.Conducting.{AreCarriedOut, IsLateOf, IsUnderWay, step_from, step_to}
-use Rattle.late_turns.specs.Playing.{AreSent}
-use Rattle.play_results.specs.Asked.{acts_of as asked_acts, tuned}
+use Rattle.play_world_laws.specs.Cast.{Cast, giver_of, script_place}
+use Rattle.play_plan_laws.specs.Casting.{joint_of}
+use Rattle.play_turn_laws.specs.Conducting.{AreCarriedOut, IsLateOf, IsUnderWay, step_from, step_to}
+use Rattle.play_turn_laws.specs.Playing.{AreSent}
+use Rattle.play_graph.specs.declared.link_end.End.{End}
+use Rattle.play_graph.specs.declared.link_end.End.TheVariants.{Input, Output}
+use Rattle.play_result_laws.specs.Asked.{acts_of as asked_acts, tuned}
 use Rattle.play_run.specs.Asking.{asking_of, handles_of}
 use Rattle.play_run.specs.Playing.{IsPlaying, IsStanding, PlayingValue, cast, layout_of}
-
--- ---- the ends of a link: its output, else its input
-
-abbrev pub place_by : Bool → Joint → ℕ
-place_by true joint = joint.giver
-place_by false joint = joint.taker
-
-abbrev pub index_by : Bool → Joint → ℕ
-index_by true joint = joint.output
-index_by false joint = joint.input
 
 -- the component at the place gives into the link
 pub record IsLinkFrom (plan : PlanValue) (place l : ℕ) : Type 0 where
@@ -42,19 +33,19 @@ acts_of Disable = 2
 acts_of Retune = 4
 acts_of Enable = 2
 
--- the step that disables the ports, or that enables them; and which act of it is that of the output, or that of the input
+-- the step that disables the ports, or that enables them; and which act of it is that of the end
 abbrev pub sending : Bool → ChangeStep
 sending true = Disable
 sending false = Enable
 
-abbrev pub sent_as : Bool → ℕ
-sent_as true = 0
-sent_as false = 1
+abbrev pub sent_as : End → ℕ
+sent_as Output = 0
+sent_as Input = 1
 
--- which act of a retuning sets the format at the output, or at the input
-abbrev pub set_as : Bool → ℕ
-set_as true = 1
-set_as false = 2
+-- which act of a retuning sets the format at the end
+abbrev pub set_as : End → ℕ
+set_as Output = 1
+set_as Input = 2
 
 -- So many acts of the step on the link are made. What the conductor knows of the link is under way until all are, and then each step that it
 -- answered is carried out.

@@ -3,8 +3,8 @@ use Rattle.audio_parts.specs.declared.part_file.PartFile.{PartFile}
 use Rattle.std.specs.Prelude.{◌≡◌, List, Option}
 use Rattle.play_model.specs.Play.{Play}
 use Rattle.play_model.specs.Reached.{IsOver}
-use Rattle.play_openings.specs.Assemblies.{PlayFiles}
-use Rattle.play_graphs.specs.Ending.{AreBack}
+use Rattle.play_plan_laws.specs.Assemblies.{PlayFiles}
+use Rattle.play_graph.specs.Ending.{AreBack}
 use Rattle.play_log.specs.Kept.{LogValue}
 use Rattle.play_run.specs.Logging.{IsKeptTo}
 use Rattle.play_run.specs.Playing.{IsPlaying, PlayingValue, layout_of}

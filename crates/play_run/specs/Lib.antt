@@ -9,3 +9,4 @@ pub mod Recording
 pub mod Sending
 pub mod Stopping
 pub mod Turning
+pub mod Faults

@@ -5,16 +5,16 @@ use Rattle.il_machine.specs.World.{World}
 use Rattle.il_machine.specs.Run.{Run}
 use Rattle.script_lang.specs.declared.play_line.PartLine.{PartLine}
 use Rattle.play_forms.specs.Plans.{PlanValue}
-use Rattle.play_openings.specs.Assemblies.{PlayFiles}
-use Rattle.play_openings.specs.Endings.{IsPlayedOut}
+use Rattle.play_plan_laws.specs.Assemblies.{PlayFiles}
+use Rattle.play_plan_laws.specs.Endings.{IsPlayedOut}
 use Rattle.play_log.specs.Entries.{Entry, steps_of}
 use Rattle.play_log.specs.Kept.{LogValue}
 use Rattle.play_log.specs.Logged.{IsLogged, Keeps}
 use Rattle.play_log.specs.Naming.{IsNaming}
 use Rattle.play_log.specs.Scenes.{scene_of}
-use Rattle.play_results.specs.Asked.{IsConducted, tuned}
-use Rattle.play_results.specs.Files.{IsWriter}
-use Rattle.play_results.specs.Worlds.{HasWritten, IsOpening}
+use Rattle.play_result_laws.specs.Asked.{IsConducted, tuned}
+use Rattle.play_result_laws.specs.Files.{IsWriter}
+use Rattle.play_result_laws.specs.Worlds.{HasWritten, IsOpening}
 use Rattle.play_run.specs.Asking.{handles_of}
 use Rattle.play_run.specs.Recording.{IsBeginning, IsByPlayer, IsPrinted, IsWhole}
 

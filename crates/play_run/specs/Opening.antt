@@ -3,10 +3,10 @@ use Rattle.il_machine.specs.declared.answer.Progress.{Progress}
 use Rattle.il_machine.specs.World.{World}
 use Rattle.il_machine.specs.Whole.{Stands}
 use Rattle.il_graph.specs.Shown.{Shown}
-use Rattle.play_openings.specs.Assemblies.{IsReady, PlayFiles}
-use Rattle.play_results.specs.Worlds.{IsOpening}
+use Rattle.play_plan_laws.specs.Assemblies.{IsReady, PlayFiles}
+use Rattle.play_result_laws.specs.Worlds.{IsOpening}
 use Rattle.play_forms.specs.Plans.{PlanValue}
-use Rattle.play_graphs.specs.Graphs.{kept_of}
+use Rattle.play_graph.specs.Graphs.{kept_of}
 use Rattle.play_run.specs.Playing.{AreClientsIn}
 
 module _ {S K : Type 0} where

@@ -16,23 +16,23 @@ use Rattle.play_forms.specs.Plans.{IsValid, PlanValue}
 use Rattle.play_model.specs.Play.{Layout, Play}
 use Rattle.play_model.specs.Acts.{Act}
 use Rattle.play_loop.specs.Turns.{Turned}
-use Rattle.play_worlds.specs.Cast.{Cast}
-use Rattle.late_worlds.specs.Late.{LateCast}
-use Rattle.late_conductors.specs.Conducting.{AreCarriedOut}
-use Rattle.late_turns.specs.Playing.{AreSent, IsLateStanding}
-use Rattle.play_openings.specs.Assemblies.{PlayFiles, late_cast_of}
-use Rattle.play_graphs.specs.Graphs.{kept_of}
+use Rattle.play_world_laws.specs.Cast.{Cast}
+use Rattle.play_world_laws.specs.PlayWorlds.{PlayCast}
+use Rattle.play_turn_laws.specs.Conducting.{AreCarriedOut}
+use Rattle.play_turn_laws.specs.Playing.{AreSent, IsPlayConducted}
+use Rattle.play_plan_laws.specs.Assemblies.{PlayFiles, play_cast_of}
+use Rattle.play_graph.specs.Graphs.{kept_of}
 use Rattle.play_log.specs.Kept.{LogValue}
-use Rattle.play_streams.specs.Contents.{PlayContents}
-use Rattle.play_streams.specs.Streams.{AreNew}
-use Rattle.late_streams.specs.Contents.{HasLateContents}
-use Rattle.late_streams.specs.Streams.{HasLateStreams}
+use Rattle.play_stream_laws.specs.Contents.{PlayContents}
+use Rattle.play_stream_laws.specs.Streams.{AreNew}
+use Rattle.play_stream_laws.specs.PlayContents.{HasPlayContents}
+use Rattle.play_stream_laws.specs.PlayStreams.{HasPlayStreams}
 use Rattle.play_run.specs.Asking.{Asks}
 use Rattle.play_run.specs.Recording.{IsBeginning, IsRecorded}
 
 -- No port prefers a supplier, so the input supplies each link.
 abbrev pub cast : PlanValue → Cast
-cast plan = (late_cast_of plan).cast
+cast plan = (play_cast_of plan).cast
 
 abbrev pub layout_of : PlanValue → Layout
 layout_of plan = (cast plan).layout
@@ -49,8 +49,8 @@ pub record PlayingValue (S K : Type 0) : Type 0 where
 
 -- The bytes that move are those of the files: from an opening where each sink's file is new, whatever the components give there
 -- has its streams in the world.
-abbrev pub HasStreamsFrom : LateCast → World → Play → World → Type 0
-HasStreamsFrom x opening p w = (k : PlayContents) → HasLateContents x k opening → AreNew x.cast opening → HasLateStreams x k p w
+abbrev pub HasStreamsFrom : PlayCast → World → Play → World → Type 0
+HasStreamsFrom x opening p w = (k : PlayContents) → HasPlayContents x k opening → AreNew x.cast opening → HasPlayStreams x k p w
 
 -- what each component's file told when it came is the same
 abbrev pub ToldAlike : World → World → Type 0
@@ -77,7 +77,7 @@ module _ {S K : Type 0} where
     pub stands : Stands (kept_of x.graph) world
     -- the link whose change was begun last
     pub recent : ℕ
-    pub late : IsLateStanding (late_cast_of x.plan) recent p world x.conductor
+    pub conducted : IsPlayConducted (play_cast_of x.plan) recent p world x.conductor
     pub valid : IsValid x.plan
     pub works : HaveNoWork world
     pub clients : AreClientsIn x.graph.core
@@ -87,7 +87,7 @@ module _ {S K : Type 0} where
     -- what is still to be asked of what the conductor has answered
     pub left : List (machine.Act × machine.Reply)
     pub recorded : IsRecorded x.plan.parts opening world x.log (Asks x.plan files opening recent x.conductor left)
-    pub streams : HasStreamsFrom (late_cast_of x.plan) opening p world
+    pub streams : HasStreamsFrom (play_cast_of x.plan) opening p world
     pub told : ToldAlike opening world
 
   -- what holds of what was asked so far

@@ -10,15 +10,15 @@ use Rattle.history_laws.specs.Given.{is_freed_by}
 use Rattle.act_text.specs.declared.text.ActText.{ActText}
 use Rattle.script_lang.specs.declared.play_line.PartLine.{PartLine}
 use Rattle.play_forms.specs.Plans.{PlanValue}
-use Rattle.play_openings.specs.Assemblies.{PlayFiles}
+use Rattle.play_plan_laws.specs.Assemblies.{PlayFiles}
 use Rattle.play_log.specs.Entries.{Entry, is_unprinted, steps_of}
 use Rattle.play_log.specs.Kept.{LogValue}
 use Rattle.play_log.specs.Logged.{Keeps}
 use Rattle.play_log.specs.Naming.{IsUnbroken}
 use Rattle.play_log.specs.Saying.{Says}
 use Rattle.play_log.specs.Scenes.{Scene, scene_of}
-use Rattle.log_texts.specs.Said.{SaysOf, SaysOfBoth, SaysPort, line_by}
-use Rattle.play_results.specs.Worlds.{IsOpening}
+use Rattle.play_log.specs.Said.{SaysOf, SaysOfBoth, SaysPort, line_by}
+use Rattle.play_result_laws.specs.Worlds.{IsOpening}
 
 -- a play of the plan with these files begins in the world, where nothing is due
 pub record IsBeginning (plan : PlanValue) (files : PlayFiles) (opening : World) : Type 0 where

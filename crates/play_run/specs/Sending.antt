@@ -5,18 +5,19 @@ use Rattle.omx_types.specs.declared.state.State.TheVariants.{Loaded}
 use Rattle.il_machine.specs.declared.answer.Progress.{Progress}
 use Rattle.conductor.specs.Phases.{is_at}
 use Rattle.il_graph.specs.Shown.{Shown}
+use Rattle.play_model.specs.Numbers.{not_sent}
 use Rattle.play_model.specs.Play.{Layout, Play}
 use Rattle.play_loop.specs.Turns.{HasRun, SomePlay}
-use Rattle.play_worlds.specs.Standing.{target}
-use Rattle.late_conductors.specs.Conducting.{AreCarriedOut}
-use Rattle.play_results.specs.Asked.{sending}
+use Rattle.play_world_laws.specs.Standing.{target}
+use Rattle.play_turn_laws.specs.Conducting.{AreCarriedOut}
+use Rattle.play_result_laws.specs.Asked.{sending}
 use Rattle.play_run.specs.Asking.{handles_of}
 use Rattle.play_run.specs.Playing.{IsPlaying, IsProgressAt, IsStanding, PlayingValue, cast, layout_of}
 
 -- from that place on it isn't sent yet, and to those before it is
 pub record IsSentTo (w : Layout) (p : Play) (place : ℕ) : Type 0 where
-  pub later : (c : ℕ) → c < (w.network).components → place ≤ w.place c → p.stage c ≡ 0
-  pub before : (c : ℕ) → c < (w.network).components → w.place c < place → p.stage c ≡ 0 → ⊥
+  pub later : (c : ℕ) → c < (w.network).components → place ≤ w.place c → p.stage c ≡ not_sent
+  pub before : (c : ℕ) → c < (w.network).components → w.place c < place → p.stage c ≡ not_sent → ⊥
 
 module _ {S K : Type 0} where
   -- the graph stands for a play in which the state was begun, and is sent to those before the place

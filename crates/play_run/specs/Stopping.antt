@@ -1,7 +1,7 @@
 -- A play that ends before its time.
 use Rattle.std.specs.Prelude.{List, Option}
 use Rattle.audio_parts.specs.declared.part_file.PartFile.{PartFile}
-use Rattle.play_graphs.specs.Ending.{AreBack}
+use Rattle.play_graph.specs.Ending.{AreBack}
 use Rattle.play_run.specs.declared.failure.Stop.{Stop}
 use Rattle.play_run.specs.Playing.{PlayingValue}
 use Rattle.play_run.specs.Turning.{HasBrokenOff, world_then}

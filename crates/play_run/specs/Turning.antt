@@ -10,15 +10,15 @@ use Rattle.il_machine.specs.Whole.{Stands}
 use Rattle.play_forms.specs.Plans.{IsValid}
 use Rattle.play_loop.specs.Turns.{SomePlay}
 use Rattle.play_model.specs.Play.{Play}
-use Rattle.flow_model.specs.Content.{ArePlain}
-use Rattle.late_worlds.specs.Late.{IsLateWorld, LateCast}
-use Rattle.play_openings.specs.Assemblies.{PlayFiles, late_cast_of}
-use Rattle.play_streams.specs.Contents.{PlayContents, network_of}
-use Rattle.play_streams.specs.Fronts.{AreFronts}
-use Rattle.play_streams.specs.Streams.{AreNew}
-use Rattle.late_streams.specs.Contents.{HasLateContents}
-use Rattle.play_graphs.specs.Graphs.{kept_of}
-use Rattle.play_stopping.specs.Stops.{HaveTunnels}
+use Rattle.play_model.specs.Content.{ArePlain}
+use Rattle.play_world_laws.specs.PlayWorlds.{IsPlayWorld, PlayCast}
+use Rattle.play_plan_laws.specs.Assemblies.{PlayFiles, play_cast_of}
+use Rattle.play_stream_laws.specs.Contents.{PlayContents, network_of}
+use Rattle.play_stream_laws.specs.Fronts.{AreFronts}
+use Rattle.play_stream_laws.specs.Streams.{AreNew}
+use Rattle.play_stream_laws.specs.PlayContents.{HasPlayContents}
+use Rattle.play_graph.specs.Graphs.{kept_of}
+use Rattle.play_graph.specs.Stops.{HaveTunnels}
 use Rattle.omx_types.specs.declared.fault.PartFault.{PartFault}
 use Rattle.audio_parts.specs.Objects.{Held}
 use Rattle.il_graph.specs.Shown.{file_of}
@@ -27,8 +27,8 @@ use Rattle.play_run.specs.Closing.{HasBegun}
 use Rattle.play_run.specs.Playing.{AreClientsIn, HaveNoWork, IsPlaying, LeadsOn, PlayingValue, ToldAlike, unfailed}
 
 -- From an opening where each sink's file is new, the files of the sinks have taken fronts of their whole texts.
-abbrev pub HasFrontsFrom : LateCast → World → World → Type 0
-HasFrontsFrom x opening w = (k : PlayContents) → HasLateContents x k opening → AreNew x.cast opening
+abbrev pub HasFrontsFrom : PlayCast → World → World → Type 0
+HasFrontsFrom x opening w = (k : PlayContents) → HasPlayContents x k opening → AreNew x.cast opening
     → (stream : ℕ → List ℕ) → ArePlain (network_of x.cast) k.model stream → AreFronts x.cast k w stream
 
 module _ {S K : Type 0} where
@@ -43,8 +43,8 @@ module _ {S K : Type 0} where
     pub play : Play
     pub before : World
     pub recent : ℕ
-    pub played : IsLateWorld (late_cast_of x.plan) recent play before
-    pub tunnels : HaveTunnels (late_cast_of x.plan) play
+    pub played : IsPlayWorld (play_cast_of x.plan) recent play before
+    pub tunnels : HaveTunnels (play_cast_of x.plan) play
     pub done : WorkDone
     pub there : failure.component < length x.plan.parts
     pub its : done.component ≡ failure.component
@@ -55,7 +55,7 @@ module _ {S K : Type 0} where
     pub begins : IsBeginning x.plan files opening
     pub told : ToldAlike opening world
     -- what the sinks' files have taken are fronts of what they were to take
-    pub fronts : HasFrontsFrom (late_cast_of x.plan) opening world
+    pub fronts : HasFrontsFrom (play_cast_of x.plan) opening world
 
   -- so it is, and the play began with the files
   abbrev pub HasFailedWith : PlayingValue S K → Failure → PlayFiles → Type 0

@@ -5,39 +5,26 @@ ghost use Rattle.std.specs.Prelude.{◌≡◌, ◌+◌, ◌<◌, ◌≤◌, ℕ,
 ghost use Rattle.il_machine.specs.Acts as acts;
 ghost use Rattle.il_graph.specs.Shown.{KeepsAllFiles};
 ghost use Rattle.conductor.specs.declared.phase.ChangeStep.TheVariants.{Disable, Enable, Retune};
-ghost use Rattle.late_acts.specs.Conducting.{definition_key, planned, port_command};
-ghost use Rattle.log_texts.specs.Said.{SaysOf};
-ghost use Rattle.play_openings.specs.Assemblies.{late_cast_of};
+ghost use Rattle.play_change_laws.specs.Conducting.{definition_key, planned, port_command};
+ghost use Rattle.play_log.specs.Said.{SaysOf};
+ghost use Rattle.play_plan_laws.specs.Assemblies.{play_cast_of};
 ghost use Rattle.play_forms.specs.Plans.{IsValid};
-ghost use Rattle.play_plans.specs.Casting.{joint_of};
-ghost use Rattle.play_graphs.specs.Graphs.{IsHandleAt};
+ghost use Rattle.play_plan_laws.specs.Casting.{joint_of};
+ghost use Rattle.play_graph.specs.Graphs.{IsHandleAt};
+ghost use Rattle.play_graph.specs.LinkEnds.{at_output, index_by, place_by};
 ghost use Rattle.play_run.specs.Playing.{HasParts};
 ghost use Rattle.play_run.specs.Recording.{IsNameAt};
-ghost use Rattle.play_run.specs.Changing.{CanChange, CanChangeFrom, ChangedFrom, ChangesTo, IsLinkFrom, index_by, place_by, sending, sent_as, set_as};
+ghost use Rattle.play_run.specs.Changing.{CanChange, CanChangeFrom, ChangedFrom, ChangesTo, IsLinkFrom, sending, sent_as, set_as};
 
 use crate::lines::{port_at, tell};
 use crate::playing::Playing;
 use act_text::{ActText, PortName};
 use conductor::ChangeStep;
 use il_graph::{Command, Param, ParamKey, PortDefinition, PortId, PortSel, Supplier, Version};
-use late_streams::law_of_changed_streams;
-use log_texts::{disabled, dropped, enabled, joined, set_port};
 use outside_io::{Sink, Source};
-use play_forms::Joint;
-
-/// The component at the link's output, or at its input, by its place.
-fn place_at(joint: Joint, output: bool) -> u32
-    ensures { result ≡ place_by output joint }
-{
-    if output { joint.giver } else { joint.taker }
-}
-
-/// The link's port there.
-fn index_at(joint: Joint, output: bool) -> u32
-    ensures { result ≡ index_by output joint }
-{
-    if output { joint.output } else { joint.input }
-}
+use play_graph::{End, index_at, is_input, place_at};
+use play_log::texts::{disabled, dropped, enabled, joined, set_port};
+use play_stream_laws::law_of_changed_streams;
 
 /// The disable of the port, or its enable.
 fn port_command(disables: bool, port: u32) -> Command
@@ -87,56 +74,56 @@ impl<S: Source, K: Sink> Playing<S, K> {
         unreachable!()
     }
 
-    /// The link's output, or its input.
-    fn port(&self, link: u32, output: bool) -> PortId
+    /// The port at the link's end.
+    fn port(&self, link: u32, end: End) -> PortId
         requires there { link < length self.now.plan.joints }
         requires parts { HasParts self.now }
-        ensures handle { IsHandleAt self.now.graph (place_by output (joint_of self.now.plan link)) result.handle }
-        ensures index { result.index ≡ index_by output (joint_of self.now.plan link) }
+        ensures handle { IsHandleAt self.now.graph (place_by end (joint_of self.now.plan link)) result.handle }
+        ensures index { result.index ≡ index_by end (joint_of self.now.plan link) }
     {
         let joint = self.joint(link);
         PortId {
-            handle: self.handle(place_at(joint, output)),
-            index: index_at(joint, output),
+            handle: self.handle(place_at(joint, end)),
+            index: index_at(joint, end),
         }
     }
 
-    /// The name of the link's output, or of its input.
-    fn port_name(&self, link: u32, output: bool) -> PortName
+    /// The name of the port at the link's end.
+    fn port_name(&self, link: u32, end: End) -> PortName
         requires there { link < length self.now.plan.joints }
         requires parts { HasParts self.now }
-        ensures component { IsNameAt self.now.plan.parts (place_by output (joint_of self.now.plan link)) result.component }
-        ensures index { result.index ≡ index_by output (joint_of self.now.plan link) }
+        ensures component { IsNameAt self.now.plan.parts (place_by end (joint_of self.now.plan link)) result.component }
+        ensures index { result.index ≡ index_by end (joint_of self.now.plan link) }
     {
         let joint = self.joint(link);
-        port_at(&self.plan, place_at(joint, output), index_at(joint, output))
+        port_at(&self.plan, place_at(joint, end), index_at(joint, end))
     }
 
     /// What is set there: the format is that of the file.
-    fn definition(&self, link: u32, output: bool) -> PortDefinition
+    fn definition(&self, link: u32, end: End) -> PortDefinition
         requires there { link < length self.now.plan.joints }
         requires valid { IsValid self.now.plan }
-        ensures { result ≡ planned (late_cast_of self.now.plan) output link }
+        ensures { result ≡ planned (play_cast_of self.now.plan) (at_output end) link }
     {
         let joint = self.joint(link);
         let flow = self.plan.flows()[link as usize];
         PortDefinition {
-            input: !output,
+            input: is_input(end),
             format: flow.format,
             count: joint.count,
             size: joint.size,
         }
     }
 
-    /// The disable of the link's output, or of its input, is sent; or its enable.
-    fn send_port(&mut self, link: u32, output: bool, disables: bool)
-        requires { CanChange self.old link (sending disables) (sent_as output) }
+    /// The disable of the port at the link's end is sent; or its enable.
+    fn send_port(&mut self, link: u32, end: End, disables: bool)
+        requires { CanChange self.old link (sending disables) (sent_as end) }
         ensures plan { self.new.plan ≡ self.old.plan }
         ensures files { KeepsAllFiles self.old.graph self.new.graph }
-        ensures changed { ChangesTo self.old self.new link (sending disables) (sent_as output) (sent_as output + 1) }
+        ensures changed { ChangesTo self.old self.new link (sending disables) (sent_as end) (sent_as end + 1) }
     {
-        let port = self.port(link, output);
-        let name = self.port_name(link, output);
+        let port = self.port(link, end);
+        let name = self.port_name(link, end);
         law_of_changed_streams();
         let _ = self
             .graph
@@ -151,25 +138,25 @@ impl<S: Source, K: Sink> Playing<S, K> {
         ensures files { KeepsAllFiles self.old.graph self.new.graph }
         ensures changed { ChangesTo self.old self.new link Retune 0 1 }
     {
-        let output = self.port(link, true);
-        let input = self.port(link, false);
-        let first = self.port_name(link, true);
-        let second = self.port_name(link, false);
+        let output = self.port(link, End::Output);
+        let input = self.port(link, End::Input);
+        let first = self.port_name(link, End::Output);
+        let second = self.port_name(link, End::Input);
         law_of_changed_streams();
         let _ = self.graph.drop_tunnel(output, input);
         tell(&mut self.log, &dropped(first, second));
     }
 
-    /// The definition of the link's output, or of its input, is set.
-    fn set(&mut self, link: u32, output: bool)
-        requires { CanChange self.old link Retune (set_as output) }
+    /// The definition of the port at the link's end is set.
+    fn set(&mut self, link: u32, end: End)
+        requires { CanChange self.old link Retune (set_as end) }
         ensures plan { self.new.plan ≡ self.old.plan }
         ensures files { KeepsAllFiles self.old.graph self.new.graph }
-        ensures changed { ChangesTo self.old self.new link Retune (set_as output) (set_as output + 1) }
+        ensures changed { ChangesTo self.old self.new link Retune (set_as end) (set_as end + 1) }
     {
-        let port = self.port(link, output);
-        let name = self.port_name(link, output);
-        let definition = self.definition(link, output);
+        let port = self.port(link, end);
+        let name = self.port_name(link, end);
+        let definition = self.definition(link, end);
         law_of_changed_streams();
         let _ = self.graph.set_parameter(
             port.handle,
@@ -189,10 +176,10 @@ impl<S: Source, K: Sink> Playing<S, K> {
         ensures files { KeepsAllFiles self.old.graph self.new.graph }
         ensures changed { ChangesTo self.old self.new link Retune 3 4 }
     {
-        let output = self.port(link, true);
-        let input = self.port(link, false);
-        let first = self.port_name(link, true);
-        let second = self.port_name(link, false);
+        let output = self.port(link, End::Output);
+        let input = self.port(link, End::Input);
+        let first = self.port_name(link, End::Output);
+        let second = self.port_name(link, End::Input);
         law_of_changed_streams();
         let _ = self.graph.setup_tunnel(output, input);
         tell(&mut self.log, &joined(first, second, Supplier::Input));
@@ -205,8 +192,8 @@ impl<S: Source, K: Sink> Playing<S, K> {
         ensures files { KeepsAllFiles self.old.graph self.new.graph }
         ensures changed { ChangesTo self.old self.new link Disable 0 2 }
     {
-        self.send_port(link, true, true);
-        self.send_port(link, false, true);
+        self.send_port(link, End::Output, true);
+        self.send_port(link, End::Input, true);
     }
 
     /// Both ports get the format of the file, while the tunnel is dropped.
@@ -217,8 +204,8 @@ impl<S: Source, K: Sink> Playing<S, K> {
         ensures changed { ChangesTo self.old self.new link Retune 0 4 }
     {
         self.part(link);
-        self.set(link, true);
-        self.set(link, false);
+        self.set(link, End::Output);
+        self.set(link, End::Input);
         self.join(link);
     }
 
@@ -229,8 +216,8 @@ impl<S: Source, K: Sink> Playing<S, K> {
         ensures files { KeepsAllFiles self.old.graph self.new.graph }
         ensures changed { ChangesTo self.old self.new link Enable 0 2 }
     {
-        self.send_port(link, true, false);
-        self.send_port(link, false, false);
+        self.send_port(link, End::Output, false);
+        self.send_port(link, End::Input, false);
     }
 
     /// The step is made on the link of the late source.

@@ -9,10 +9,10 @@ ghost use Rattle.audio_parts.specs.Objects.{ObjectShows, ObjectStays};
 ghost use Rattle.il_graph.specs.Shown.{KeepsAllFiles};
 ghost use Rattle.il_graph.specs.Claiming.{told_by as seen_by};
 ghost use Rattle.il_graph.specs.declared.claimed.Claimed.TheVariants as answers;
-ghost use Rattle.late_tellings.specs.Tellings.{IsTellingOf};
-ghost use Rattle.late_turns.specs.Turns.{IsRunOf, IsStepOf};
+ghost use Rattle.play_stage_laws.specs.Tellings.{IsTellingOf};
+ghost use Rattle.play_turn_laws.specs.Turns.{IsRunOf, IsStepOf};
 ghost use Rattle.play_loop.specs.Turns.{SomePlay};
-ghost use Rattle.play_stopping.specs.Stops.{IsEvent};
+ghost use Rattle.play_graph.specs.Stops.{IsEvent};
 ghost use Rattle.play_run.specs.Playing.{FilesStay, IsPlaying, TurnsTo, layout_of};
 ghost use Rattle.play_run.specs.Turning.{FailsOn};
 
@@ -22,12 +22,11 @@ use crate::links::did;
 use crate::playing::Playing;
 use conductor::PlayClient;
 use il_graph::{Call, Claimed, Client, Took, Work};
-use late_flows::{law_of_stepped_streams, law_of_written_streams};
-use late_streams::law_of_component_streams;
-use log_texts::{claimed, ended, finished, ran, took};
 use note_queues::Taken;
 use omx_types::Event;
 use outside_io::{Sink, Source};
+use play_log::texts::{claimed, ended, finished, ran, took};
+use play_stream_laws::{law_of_component_streams, law_of_stepped_streams, law_of_written_streams};
 
 /// The event that the note tells.
 fn event_of(taken: Taken) -> Event

@@ -1,15 +1,15 @@
 //! The components of a play by their places, and what each has told.
 
 ghost use Rattle.std.specs.Prelude.{◌≡◌, ◌<◌, ◌≤◌, length};
-ghost use Rattle.play_plans.specs.Casting.{joint_of, place_of};
-ghost use Rattle.play_graphs.specs.Graphs.{IsHandleAt};
+ghost use Rattle.play_plan_laws.specs.Casting.{joint_of, place_of};
+ghost use Rattle.play_graph.specs.Graphs.{IsHandleAt};
 ghost use Rattle.play_run.specs.Playing.{HasParts, IsProgressAt};
 
 use crate::playing::Playing;
 use il_graph::{Handle, Progress};
 use outside_io::{Sink, Source};
 use play_forms::Joint;
-use play_graphs::{count, handle, joint, link_count};
+use play_graph::{count, handle, joint, link_count};
 
 impl<S: Source, K: Sink> Playing<S, K> {
     /// The component at the place in the script.

@@ -9,6 +9,7 @@ mod handles;
 mod laws;
 mod lines;
 mod links;
+mod one_thread;
 mod player;
 mod playing;
 mod sending;
@@ -17,4 +18,5 @@ mod words;
 
 pub use failure::{Failure, Stop};
 pub use laws::law_of_play_logs;
+pub use one_thread::OneThread;
 pub use playing::Playing;

@@ -4,15 +4,15 @@ ghost use Rattle.std.specs.Prelude.{◌≡◌, ◌<◌, length};
 ghost use Rattle.il_graph.specs.Shown.{KeepsAllFiles};
 ghost use Rattle.play_model.specs.Acts.{Act};
 ghost use Rattle.play_loop.specs.Turns.{SomePlay};
-ghost use Rattle.late_turns.specs.Turns.{IsAct, IsBackOf, is_did};
+ghost use Rattle.play_turn_laws.specs.Turns.{IsAct, IsBackOf, is_did};
 ghost use Rattle.play_run.specs.Playing.{IsPlaying, TurnsTo};
 
 use crate::lines::{port_at, tell};
 use crate::playing::Playing;
 use il_graph::Acted;
-use late_streams::law_of_link_streams;
-use log_texts::{handed_back, handed_over, released, supplied};
 use outside_io::{Sink, Source};
+use play_log::texts::{handed_back, handed_over, released, supplied};
+use play_stream_laws::law_of_link_streams;
 
 /// Whether a call was accepted.
 pub(crate) fn did<E: Drop>(answer: Result<Acted, E>) -> bool

@@ -15,9 +15,9 @@ use crate::lines::{name_at, tell};
 use crate::playing::Playing;
 use conductor::{Conductor, Phase};
 use il_graph::{Command, Progress, State};
-use late_streams::{law_of_begun_streams, law_of_component_streams};
-use log_texts::sent;
 use outside_io::{Sink, Source};
+use play_log::texts::sent;
+use play_stream_laws::{law_of_begun_streams, law_of_component_streams};
 
 /// Whether the last state that was told is Loaded.
 fn is_loaded(progress: Progress) -> bool

@@ -3,16 +3,16 @@
 use crate::playing::Playing;
 use audio_parts::PartFile;
 use outside_io::{Sink, Source};
-use play_stopping::stop_graph;
+use play_graph::stop_graph;
 
 impl<S: Source, K: Sink> Playing<S, K> {
     ghost use Rattle.std.specs.Prelude.{◌≡◌, length};
     ghost use Rattle.il_machine.specs.Sound.{Sound};
     ghost use Rattle.il_machine.specs.Whole.{Always};
     ghost use Rattle.il_graph.specs.Shown.{TellWritten};
-    ghost use Rattle.play_graphs.specs.Ending.{AreFilesOf};
-    ghost use Rattle.play_graphs.specs.Graphs.{kept_of};
-    ghost use Rattle.play_graphs.specs.Making.{AreGone};
+    ghost use Rattle.play_graph.specs.Ending.{AreFilesOf};
+    ghost use Rattle.play_graph.specs.Graphs.{kept_of};
+    ghost use Rattle.play_graph.specs.Making.{AreGone};
     ghost use Rattle.play_run.specs.Stopping.{GivesBackStopped};
     ghost use Rattle.play_run.specs.Turning.{HasBrokenOff};
     ghost use Rattle.play_run.specs.declared.failure.Stop.{Stop};

@@ -3,7 +3,7 @@
 use omx_types::{Fault, Which};
 use outside_io::{Fail, FailKind, MemoryMedia};
 use play_course::play_script;
-use play_thread::OneThread;
+use play_run::OneThread;
 use script_lang::read_script;
 use std::alloc::{AllocError, Global};
 use std::test::Fail as Failure;

@@ -17,14 +17,12 @@ use crate::terms::{is_accepting, is_going_to, is_joined, is_open};
 use header_core::Header;
 use il_component::Component;
 use il_machine::{HeaderState, Port};
-use omx_types::{Event, OmxError, State};
+use omx_types::{BLOCK_BYTES, BLOCKS, Event, OmxError, State};
 use port_stock::{Stock, is_made_for};
 
-/// How many blocks a graph has.
-const BLOCKS: u64 = 1024;
+const MOST_BLOCKS: u64 = BLOCKS as u64;
 
-/// The most bytes of a header.
-const MOST_BYTES: usize = 4096;
+const MOST_BYTES: usize = BLOCK_BYTES as usize;
 
 /// Whether the port loses a header that it needs.
 fn is_unpopulating<C>(component: &Component<C>, port: Port) -> bool
@@ -72,7 +70,7 @@ fn lacks_room<C>(component: &Component<C>, port: Port) -> bool
 pub fn has_no_block(stock: &Stock) -> bool
     ensures { result ≡ has_no_block (stocked stock.now).headers }
 {
-    stock.blocks() >= BLOCKS
+    stock.blocks() >= MOST_BLOCKS
 }
 
 /// Whether no block or no number is left for a header.

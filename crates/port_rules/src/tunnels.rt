@@ -19,7 +19,7 @@ use port_stock::Stock;
 fn same_handle(a: Handle, b: Handle) -> bool
     ensures { result ≡ same_handle a b }
 {
-    a.slot == b.slot && a.generation == b.generation
+    a == b
 }
 
 fn are_output_and_input(output: Port, input: Port) -> bool

@@ -1,6 +1,5 @@
 -- The port of a key, as ports change, and counts of it.
-use Rattle.std.proofs.Common.{◌≡◌, ℕ, zero, suc, ◌+◌, ◌-◌, ◌<◌, Bool, true, false, ◌||◌, ◌&&◌, List, [], ◌∷◌, ◌++◌, append_assoc, position, length, set, get_or, slice_get, Option, Some, None, MatchOption, option_map, cond, refl, sym, ◌∙◌, ap, arith, inl, inr, subst}
-use Rattle.std.proofs.lemmas.Option.{slice_get_within}
+use Rattle.std.proofs.Common.{◌≡◌, ℕ, zero, suc, ◌+◌, ◌-◌, Bool, true, false, ◌||◌, ◌&&◌, List, [], ◌∷◌, ◌++◌, append_assoc, position, set, get_or, slice_get, Option, Some, None, MatchOption, option_map, cond, refl, sym, ◌∙◌, ap, arith, inl, inr, subst}
 use Rattle.il_machine.specs.declared.port.PortKey.{PortKey}
 use Rattle.il_machine.specs.declared.header.Spot.{Spot}
 use Rattle.il_machine.specs.declared.header.Spot.TheVariants.{TodoBack, TodoFront, DoneBack}
@@ -55,9 +54,6 @@ placed key i ps D h =
       | inr x ↦ absurd (let z : false ≡ true = sym x.0 ∙ T.holds in cc)
     ] in
     record { it = T.it; is = T.is; keyed = named; first = at_first key ps i T.it (D key) T.is T.holds }
-
-pub placed_within : (key : PortKey) (i : ℕ) (ps : List Port) → MatchOption (slice_get ps i) ⊥ (λ p. is_at key p ≡ true) → i < length ps
-placed_within key i ps h = let T = there (λ (p : Port). is_at key p ≡ true) (slice_get ps i) h in slice_get_within ps i T.it T.is
 
 pub read_port : (key : PortKey) (i : ℕ) (ps : List Port) (e : Port) (P : Placed key i ps) → e ≡ get_or ps i e → e ≡ port_at key ps
 read_port key i ps e P g = g ∙ (at_is ps i P.it e P.is ∙ sym P.first)

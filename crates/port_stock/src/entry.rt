@@ -40,12 +40,14 @@ fn is_of_port(key: PortKey, owner: Owner) -> bool
     }
 }
 
+/// Whether the header is in the list of headers that the port has to work on.
 pub fn waits_in_todo(key: PortKey, state: &HeaderState) -> bool
     ensures { result ≡ in_todo key state.now }
 {
     matches!(state.queue, Queue::Todo) && is_of_port(key, state.owner)
 }
 
+/// Whether the header is in the list of headers that the port has finished.
 pub fn waits_in_done(key: PortKey, state: &HeaderState) -> bool
     ensures { result ≡ in_done key state.now }
 {
@@ -111,6 +113,7 @@ pub fn put_state(key: PortKey, spot: Spot, state: HeaderState) -> HeaderState
     }
 }
 
+/// Who owns a header that is at home.
 pub fn owner_at(home: Home) -> Owner
     ensures { result ≡ home_owner home }
 {
@@ -120,6 +123,7 @@ pub fn owner_at(home: Home) -> Owner
     }
 }
 
+/// Whether the header is in a list of a port.
 pub fn is_in_list(queue: Queue) -> bool
     ensures { result ≡ is_waiting queue }
 {

@@ -32,6 +32,7 @@ fn told_at(component: u64) -> usize
 }
 
 impl Firsts {
+    /// Places that tell nothing: a search begins at the first port.
     pub fn new() -> Firsts {
         Firsts { places: [0; TOLD] }
     }

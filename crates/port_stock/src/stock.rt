@@ -20,13 +20,9 @@ use crate::{OutOfMemory, entries, ports};
 use block_region::Region;
 use header_core::{Header, Key, Memory, Store};
 use il_machine::{HeaderState, Home, Mark, Owner, PortKey, Queue, Spot};
+use omx_types::{BLOCK_BYTES, BLOCKS};
 use std::alloc::Global;
 use std::marker::Model;
-
-/// How many blocks a graph has, and how many bytes each.
-const BLOCKS: u32 = 1024;
-
-const BLOCK_BYTES: u32 = 4096;
 
 /// The ports and headers of one graph, with the region of its blocks.
 pub struct Stock {
@@ -333,6 +329,7 @@ impl Stock {
         u64::from(BLOCKS - self.region.free())
     }
 
+    /// Whether the port has a header to work on.
     pub fn has_todo(&self, port: PortKey) -> bool
         requires { IsPort port (stocked self.now) }
         ensures { result ≡ not (is_empty ((stocked self.now).headers.todo port)) }
@@ -340,6 +337,7 @@ impl Stock {
         !ports::at(&self.firsts, &self.ports, port).todo.is_empty()
     }
 
+    /// Whether the port has a header that is finished.
     pub fn has_done(&self, port: PortKey) -> bool
         requires { IsPort port (stocked self.now) }
         ensures { result ≡ not (is_empty ((stocked self.now).headers.done port)) }
@@ -382,6 +380,7 @@ impl Stock {
     pub fn law_of_owners(&self)
         ensures { AreMadeForOwners (stocked self.now) }
     {
+        // The proof learns from it what always holds of the stock.
         let _ = &self.entries;
     }
 
@@ -389,6 +388,7 @@ impl Stock {
     pub fn law_of_lists(&self)
         ensures { IsOfOneList (stocked self.now) }
     {
+        // The proof learns from it what always holds of the stock.
         let _ = &self.entries;
     }
 

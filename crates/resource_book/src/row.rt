@@ -40,12 +40,14 @@ impl Row {
         }
     }
 
+    /// Whether the component holds units, which may be none.
     pub fn is_holder(self) -> bool
         ensures { result ≡ is_holder self }
     {
         self.held.is_some()
     }
 
+    /// Whether the component waits for units.
     pub fn is_waiter(self) -> bool
         ensures { result ≡ is_waiter self }
     {
@@ -111,6 +113,7 @@ impl Row {
         self.is_holder() && !self.is_returning() && waiter.priority < self.priority
     }
 
+    /// The row with so many units held.
     pub fn holding(mut self, units: u32, priority: u32) -> Row
         ensures { result ≡ holding units priority self }
     {
@@ -122,6 +125,7 @@ impl Row {
         self
     }
 
+    /// The row without its units.
     pub fn given_back(mut self) -> Row
         ensures { result ≡ given_back self }
     {
@@ -129,6 +133,7 @@ impl Row {
         self
     }
 
+    /// The row whose units are on their way back.
     pub fn marked_back(mut self) -> Row
         ensures { result ≡ marked_back self }
     {
@@ -141,6 +146,7 @@ impl Row {
         self
     }
 
+    /// The row that waits, with its number among all waits.
     pub fn waiting(mut self, need: u32, priority: u32, number: u64) -> Row
         ensures { result ≡ waiting need priority number self }
     {
@@ -149,6 +155,7 @@ impl Row {
         self
     }
 
+    /// The row that waits no more.
     pub fn left(mut self) -> Row
         ensures { result ≡ left self }
     {

@@ -1,5 +1,5 @@
 -- Codes that are written piece by piece: those that are done, and those that are left.
-use Rattle.std.proofs.Common.{◌≡◌, ℕ, ◌+◌, List, [], ◌++◌, Option, Some, None, IfSome, IfNone, sym, ap, subst, ◌∙◌, append_assoc, arith}
+use Rattle.std.proofs.Common.{◌≡◌, ℕ, ◌+◌, List, [], ◌++◌, Option, Some, None, IfSome, IfNone, sym, ap, subst, ◌∙◌, append_assoc}
 use Rattle.std.proofs.lemmas.List.{append-nil}
 use Rattle.std.specs.Io.KnownBytes.{append_known}
 use Rattle.outside_io.specs.Moves.{AppendsFront}
@@ -24,10 +24,6 @@ sent_part known mid whole done left (is, sent) =
 pub sent_all : (known mid : Option (List ℕ)) (whole done left : List ℕ) → (whole ≡ done ++ left) × (mid ≡ append_known known done) → left ≡ [] → mid ≡ append_known known whole
 sent_all known mid whole done left (is, sent) none =
     sent ∙ ap (append_known known) (sym (append-nil done) ∙ ap (λ (r : List ℕ). done ++ r) (sym none) ∙ sym is)
-
--- how many codes are counted
-pub counted_on : (whole counted left piece payload more : ℕ) → whole ≡ counted + left → left ≡ piece + payload + more → whole ≡ counted + (piece + payload) + more
-counted_on whole counted left piece payload more is next = omega arith
 
 -- what is said of what was given
 pub given_some : {A : Type 0} (given : Option A) (a : A) (P : A → Type 0) → given ≡ Some a → IfSome given P → P a

@@ -57,20 +57,20 @@ steps-taken taken (packet ∷ packets) =
 
 -- the packets of the stream that are left
 abbrev of_stream : Stream → List (Option (List ℕ)) → List Packet
-of_stream stream records = filter (is_of_stream stream.law stream.source) (well_formed records)
+of_stream stream records = filter (is_of_stream stream.companding stream.source) (well_formed records)
 
 course_is : (stream : Option Stream) (line : Line) (m n : ℕ) → m ≡ n → ◌≡◌ {A = Course} (record { stream = stream; line = line; packets = m }) (record { stream = stream; line = line; packets = n })
 course_is stream line m n e = ap (λ (k : ℕ). record { stream = stream; line = line; packets = k }) e
 
 -- a run whose stream is known, by its first record
-run-some_record : (stream : Stream) (line : Line) (packets : ℕ) (records : List (Option (List ℕ))) (packet : Option Packet) → ((l : Line) (p : ℕ) → with_records (record { stream = Some stream; line = l; packets = p }) records ≡ record { stream = Some stream; line = line_steps l (of_stream stream records); packets = p + length records }) → with_records (with_packet packet (record { stream = Some stream; line = line; packets = packets + 1 })) records ≡ record { stream = Some stream; line = line_steps line (filter (is_of_stream stream.law stream.source) (option_to_list packet ++ well_formed records)); packets = packets + suc (length records) }
+run-some_record : (stream : Stream) (line : Line) (packets : ℕ) (records : List (Option (List ℕ))) (packet : Option Packet) → ((l : Line) (p : ℕ) → with_records (record { stream = Some stream; line = l; packets = p }) records ≡ record { stream = Some stream; line = line_steps l (of_stream stream records); packets = p + length records }) → with_records (with_packet packet (record { stream = Some stream; line = line; packets = packets + 1 })) records ≡ record { stream = Some stream; line = line_steps line (filter (is_of_stream stream.companding stream.source) (option_to_list packet ++ well_formed records)); packets = packets + suc (length records) }
 run-some_record stream line packets records None ih =
     ih line (packets + 1) ∙ course_is (Some stream) (line_steps line (of_stream stream records)) (packets + 1 + length records) (packets + suc (length records)) (omega arith)
 run-some_record stream line packets records (Some packet) ih =
     let stepped = line_step line packet.sequence packet.timestamp packet.payload in
     let taken = ih stepped (packets + 1) ∙ course_is (Some stream) (line_steps stepped (of_stream stream records)) (packets + 1 + length records) (packets + suc (length records)) (omega arith) in
     let left = ih line (packets + 1) ∙ course_is (Some stream) (line_steps line (of_stream stream records)) (packets + 1 + length records) (packets + suc (length records)) (omega arith) in
-    elim (is_of_stream stream.law stream.source packet) as (λ (t : Bool). with_records (if t then record { stream = Some stream; line = stepped; packets = packets + 1 } else record { stream = Some stream; line = line; packets = packets + 1 }) records ≡ record { stream = Some stream; line = line_steps line (if t then packet ∷ of_stream stream records else of_stream stream records); packets = packets + suc (length records) }) [
+    elim (is_of_stream stream.companding stream.source packet) as (λ (t : Bool). with_records (if t then record { stream = Some stream; line = stepped; packets = packets + 1 } else record { stream = Some stream; line = line; packets = packets + 1 }) records ≡ record { stream = Some stream; line = line_steps line (if t then packet ∷ of_stream stream records else of_stream stream records); packets = packets + suc (length records) }) [
       | true ↦ taken
       | false ↦ left
     ]

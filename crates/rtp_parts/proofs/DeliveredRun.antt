@@ -2,7 +2,7 @@
 use Rattle.std.proofs.Common.{◌≡◌, ℕ, zero, suc, ◌+◌, ◌*◌, ◌%◌, ◌<◌, ◌≤◌, max, nat_le, ◌==◌, ◌||◌, if◌then◌else◌, true, false, Bool, List, [], ◌∷◌, length, map, slice_index, refl, sym, ap, subst, ◌∙◌, arith, ◌⊎◌, inl, inr}
 use Rattle.std.proofs.lemmas.Bool.{cases_lt}
 use Rattle.std.specs.List.{range_with_len}
-use Rattle.rtp_parts.specs.declared.law.Law.{Law}
+use Rattle.g711_law.specs.declared.companding.Companding.{Companding}
 use Rattle.rtp_parts.specs.Sorting.{Numbered, Taken, nearest, judged, with_arrival, with_arrivals, has_number, sorted}
 use Rattle.rtp_parts.specs.Deliveries.{AreDeliveries}
 use Rattle.rtp_parts.proofs.SortedNumbers.{IsIn, NoneIs-found, Distinct, AllAre, AllAre-sorted, Rising-sorted, IsIn-sorted, rising_entries}
@@ -98,11 +98,11 @@ found_entry samples count k (a ∷ rest) ((j, low, high, is), all) h =
 
 -- one delivery
 
-taken_again : (samples : List ℕ) (law : Law) (taken : Taken) (m k : ℕ) → taken.greatest ≡ 65536 + m → m < k + 64 → k ≤ m + 64 → has_number (65536 + k) taken.accepted ≡ true → with_arrival taken (packet_of law samples k) ≡ record taken { greatest = max taken.greatest (65536 + k); repeated = taken.repeated + 1 }
-taken_again samples law taken m k is low high found =
+taken_again : (samples : List ℕ) (companding : Companding) (taken : Taken) (m k : ℕ) → taken.greatest ≡ 65536 + m → m < k + 64 → k ≤ m + 64 → has_number (65536 + k) taken.accepted ≡ true → with_arrival taken (packet_of companding samples k) ≡ record taken { greatest = max taken.greatest (65536 + k); repeated = taken.repeated + 1 }
+taken_again samples companding taken m k is low high found =
     let number : nearest taken.greatest (k % 65536) ≡ 65536 + k = ap (λ (n : ℕ). nearest n (k % 65536)) is ∙ nearest_is m k low high in
     let early : nat_le (65536 + k + 64) taken.greatest ≡ false = grind (arith, is, low) in
-    let packet = packet_of law samples k in
+    let packet = packet_of companding samples k in
     let taken_late : Taken = record taken { greatest = max taken.greatest (65536 + k); late = taken.late + 1 } in
     let taken_repeated : Taken = record taken { greatest = max taken.greatest (65536 + k); repeated = taken.repeated + 1 } in
     let taken_new : Taken = record taken { greatest = max taken.greatest (65536 + k); accepted = entry samples k ∷ taken.accepted } in
@@ -110,11 +110,11 @@ taken_again samples law taken m k is low high found =
     ∙ ap (λ (b : Bool). if b then taken_late else (if has_number (65536 + k) taken.accepted then taken_repeated else taken_new)) early
     ∙ ap (λ (b : Bool). if b then taken_repeated else taken_new) found
 
-taken_new : (samples : List ℕ) (law : Law) (taken : Taken) (m k : ℕ) → taken.greatest ≡ 65536 + m → m < k + 64 → k ≤ m + 64 → has_number (65536 + k) taken.accepted ≡ false → with_arrival taken (packet_of law samples k) ≡ record taken { greatest = max taken.greatest (65536 + k); accepted = entry samples k ∷ taken.accepted }
-taken_new samples law taken m k is low high found =
+taken_new : (samples : List ℕ) (companding : Companding) (taken : Taken) (m k : ℕ) → taken.greatest ≡ 65536 + m → m < k + 64 → k ≤ m + 64 → has_number (65536 + k) taken.accepted ≡ false → with_arrival taken (packet_of companding samples k) ≡ record taken { greatest = max taken.greatest (65536 + k); accepted = entry samples k ∷ taken.accepted }
+taken_new samples companding taken m k is low high found =
     let number : nearest taken.greatest (k % 65536) ≡ 65536 + k = ap (λ (n : ℕ). nearest n (k % 65536)) is ∙ nearest_is m k low high in
     let early : nat_le (65536 + k + 64) taken.greatest ≡ false = grind (arith, is, low) in
-    let packet = packet_of law samples k in
+    let packet = packet_of companding samples k in
     let was_late : Taken = record taken { greatest = max taken.greatest (65536 + k); late = taken.late + 1 } in
     let was_repeated : Taken = record taken { greatest = max taken.greatest (65536 + k); repeated = taken.repeated + 1 } in
     let is_new : Taken = record taken { greatest = max taken.greatest (65536 + k); accepted = entry samples k ∷ taken.accepted } in
@@ -159,25 +159,25 @@ goes_on-new samples count m k accepted places run found = record {
 higher : (greatest m k : ℕ) → greatest ≡ 65536 + m → max greatest (65536 + k) ≡ 65536 + max m k
 higher greatest m k is = omega (arith, is)
 
-pub run_finishes : (samples : List ℕ) (law : Law) (count m : ℕ) (taken : Taken) (places : List ℕ) → taken.greatest ≡ 65536 + m → Running samples count m taken.accepted places → Finished samples count (with_arrivals taken (map (packet_of law samples) places)).accepted
-run_finishes samples law count m taken [] is run = record {
+pub run_finishes : (samples : List ℕ) (companding : Companding) (count m : ℕ) (taken : Taken) (places : List ℕ) → taken.greatest ≡ 65536 + m → Running samples count m taken.accepted places → Finished samples count (with_arrivals taken (map (packet_of companding samples) places)).accepted
+run_finishes samples companding count m taken [] is run = record {
   entries = run.entries;
   distinct = run.distinct;
   each = λ k lt. elim (run.each k lt) as (λ _. IsIn (entry samples k) taken.accepted) [ inl there ↦ there | inr later ↦ absurd later ];
 }
-run_finishes samples law count m taken (k ∷ places) is run =
+run_finishes samples companding count m taken (k ∷ places) is run =
     let low : m < k + 64 = run.near.0 in
     let high = not_far samples count m k taken.accepted places run in
-    let rest = map (packet_of law samples) places in
-    elim (has_number (65536 + k) taken.accepted) as (λ (b : Bool). has_number (65536 + k) taken.accepted ≡ b → Finished samples count (with_arrivals (with_arrival taken (packet_of law samples k)) rest).accepted) [
+    let rest = map (packet_of companding samples) places in
+    elim (has_number (65536 + k) taken.accepted) as (λ (b : Bool). has_number (65536 + k) taken.accepted ≡ b → Finished samples count (with_arrivals (with_arrival taken (packet_of companding samples k)) rest).accepted) [
       | true ↦ λ found.
           let next : Taken = record taken { greatest = max taken.greatest (65536 + k); repeated = taken.repeated + 1 } in
-          subst (λ (t : Taken). Finished samples count (with_arrivals t rest).accepted) (sym (taken_again samples law taken m k is low high found))
-          (run_finishes samples law count (max m k) next places (higher taken.greatest m k is) (goes_on-again samples count m k taken.accepted places run found))
+          subst (λ (t : Taken). Finished samples count (with_arrivals t rest).accepted) (sym (taken_again samples companding taken m k is low high found))
+          (run_finishes samples companding count (max m k) next places (higher taken.greatest m k is) (goes_on-again samples count m k taken.accepted places run found))
       | false ↦ λ found.
           let next : Taken = record taken { greatest = max taken.greatest (65536 + k); accepted = entry samples k ∷ taken.accepted } in
-          subst (λ (t : Taken). Finished samples count (with_arrivals t rest).accepted) (sym (taken_new samples law taken m k is low high found))
-          (run_finishes samples law count (max m k) next places (higher taken.greatest m k is) (goes_on-new samples count m k taken.accepted places run found))
+          subst (λ (t : Taken). Finished samples count (with_arrivals t rest).accepted) (sym (taken_new samples companding taken m k is low high found))
+          (run_finishes samples companding count (max m k) next places (higher taken.greatest m k is) (goes_on-new samples count m k taken.accepted places run found))
     ] refl
 
 pub finished-sorted : (samples : List ℕ) (count : ℕ) (accepted : List Numbered) → Finished samples count accepted → sorted accepted ≡ map (entry samples) (range_with_len 0 count)

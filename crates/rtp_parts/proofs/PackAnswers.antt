@@ -11,11 +11,11 @@ use Rattle.wav_form.specs.declared.heads.WavHead.{WavHead}
 use Rattle.wav_form.specs.Reading.{Reads, FitsFile}
 use Rattle.wav_form.specs.Stops.{IfShort as IfHeadShort, StoppedShort, UnlessStopped as UnlessHeadStopped}
 use Rattle.wav_form.proofs.Read.{same_answer}
-use Rattle.rtp_parts.specs.declared.law.Law.{Law}
+use Rattle.g711_law.specs.declared.companding.Companding.{Companding}
 use Rattle.rtp_parts.specs.declared.fault.RtpFault.{RtpFault}
 use Rattle.rtp_parts.specs.declared.fault.RtpFault.TheVariants.{Head, Read, Write, Short, WrongFormat, NotPackets, NoPackets, TooLong, OutOfMemory}
 use Rattle.rtp_parts.specs.declared.packing.Packed.{Packed}
-use Rattle.rtp_parts.specs.Packets.{law_of_format}
+use Rattle.rtp_parts.specs.Packets.{companding_of_format}
 use Rattle.rtp_parts.specs.Packing.{magic, texts_of, packet_count}
 use Rattle.rtp_parts.specs.Answers.{IfShort, UnlessStopped, StoppedPacking, IsStop, packing_of, packing_under, counts_of, packets_file, samples_of, fault_of_head}
 use Rattle.rtp_parts.proofs.PackedTexts.{frame_byte, packed_is, front-first, front-then}
@@ -37,50 +37,50 @@ pub head_fault : (bytes : List ℕ) (fault : WavFault) (answer : RtpFault) (head
 head_fault bytes fault answer head one other is =
     subst (λ (f : RtpFault). UnlessStopped {A = Packed} (Err f) (λ r. r ≡ counts_of (packing_of bytes head))) (sym is) (by_fault bytes fault head one other)
 
-pub wrong_format : (bytes : List ℕ) (h : WavHead) (head : Result WavHead WavFault) → Reads bytes (Ok h) → Reads bytes head → law_of_format h.format ≡ None → Err WrongFormat ≡ counts_of (packing_of bytes head)
+pub wrong_format : (bytes : List ℕ) (h : WavHead) (head : Result WavHead WavFault) → Reads bytes (Ok h) → Reads bytes head → companding_of_format h.format ≡ None → Err WrongFormat ≡ counts_of (packing_of bytes head)
 wrong_format bytes h head one other none =
-    ap (λ (law : Option Law). counts_of (packing_under bytes h law)) (sym none) ∙ ap (λ r. counts_of (packing_of bytes r)) (same_answer bytes (Ok h) head one other)
+    ap (λ (companding : Option Companding). counts_of (packing_under bytes h companding)) (sym none) ∙ ap (λ r. counts_of (packing_of bytes r)) (same_answer bytes (Ok h) head one other)
 
-pub packing_is : (bytes : List ℕ) (h : WavHead) (head : Result WavHead WavFault) (law : Law) → Reads bytes (Ok h) → Reads bytes head → law_of_format h.format ≡ Some law → packing_of bytes head ≡ Ok (record { law = law; samples = samples_of bytes h })
-packing_is bytes h head law one other some = ap (packing_of bytes) (same_answer bytes head (Ok h) other one) ∙ ap (packing_under bytes h) some
+pub packing_is : (bytes : List ℕ) (h : WavHead) (head : Result WavHead WavFault) (companding : Companding) → Reads bytes (Ok h) → Reads bytes head → companding_of_format h.format ≡ Some companding → packing_of bytes head ≡ Ok (record { companding = companding; samples = samples_of bytes h })
+packing_is bytes h head companding one other some = ap (packing_of bytes) (same_answer bytes head (Ok h) other one) ∙ ap (packing_under bytes h) some
 
-pub head_fits : (h : WavHead) (law : Law) (size : ℕ) → law_of_format h.format ≡ Some law → FitsFile h size → (h.start + h.frames ≤ size) × (h.frames ≤ 67108864)
-head_fits h law size some fits =
-    let one : h.frames * frame_bytes_of h.format ≡ h.frames = ap (λ (n : ℕ). h.frames * n) (frame_byte h.format law some) ∙ (let e : h.frames * 1 ≡ h.frames = omega arith in e) in
+pub head_fits : (h : WavHead) (companding : Companding) (size : ℕ) → companding_of_format h.format ≡ Some companding → FitsFile h size → (h.start + h.frames ≤ size) × (h.frames ≤ 67108864)
+head_fits h companding size some fits =
+    let one : h.frames * frame_bytes_of h.format ≡ h.frames = ap (λ (n : ℕ). h.frames * n) (frame_byte h.format companding some) ∙ (let e : h.frames * 1 ≡ h.frames = omega arith in e) in
     (omega (arith, one, fits.within), omega (arith, one, fits.bytes))
 
 samples_count : (bytes : List ℕ) (h : WavHead) (size : ℕ) → h.start + h.frames ≤ size → size ≡ length bytes → length (samples_of bytes h) ≡ h.frames
 samples_count bytes h size within whole = omega (arith, within, whole, length-take h.frames (drop h.start bytes), length-drop h.start bytes)
 
-pub counts_are : (bytes : List ℕ) (h : WavHead) (head : Result WavHead WavFault) (law : Law) (size packets : ℕ) → Reads bytes (Ok h) → Reads bytes head → law_of_format h.format ≡ Some law → h.start + h.frames ≤ size → size ≡ length bytes → packets ≡ packet_count h.frames → Ok (record { packets = packets; frames = h.frames }) ≡ counts_of (packing_of bytes head)
-counts_are bytes h head law size packets one other some within whole count =
+pub counts_are : (bytes : List ℕ) (h : WavHead) (head : Result WavHead WavFault) (companding : Companding) (size packets : ℕ) → Reads bytes (Ok h) → Reads bytes head → companding_of_format h.format ≡ Some companding → h.start + h.frames ≤ size → size ≡ length bytes → packets ≡ packet_count h.frames → Ok (record { packets = packets; frames = h.frames }) ≡ counts_of (packing_of bytes head)
+counts_are bytes h head companding size packets one other some within whole count =
     let make : ℕ → ℕ → Result Packed RtpFault = λ p f. Ok (record { packets = p; frames = f }) in
     ap (λ (p : ℕ). make p h.frames) count
     ∙ ap (λ (n : ℕ). make (packet_count n) n) (sym (samples_count bytes h size within whole))
-    ∙ ap counts_of (sym (packing_is bytes h head law one other some))
+    ∙ ap counts_of (sym (packing_is bytes h head companding one other some))
 
-pub file_is : (bytes : List ℕ) (h : WavHead) (head : Result WavHead WavFault) (law : Law) (size : ℕ) → Reads bytes (Ok h) → Reads bytes head → law_of_format h.format ≡ Some law → h.start + h.frames ≤ size → size ≡ length bytes → packets_file (packing_of bytes head) ≡ magic ++ texts_of law (samples_of bytes h) 0 (packet_count h.frames)
-file_is bytes h head law size one other some within whole =
-    ap packets_file (packing_is bytes h head law one other some) ∙ packed_is law (samples_of bytes h)
-    ∙ ap (λ (n : ℕ). magic ++ texts_of law (samples_of bytes h) 0 (packet_count n)) (samples_count bytes h size within whole)
+pub file_is : (bytes : List ℕ) (h : WavHead) (head : Result WavHead WavFault) (companding : Companding) (size : ℕ) → Reads bytes (Ok h) → Reads bytes head → companding_of_format h.format ≡ Some companding → h.start + h.frames ≤ size → size ≡ length bytes → packets_file (packing_of bytes head) ≡ magic ++ texts_of companding (samples_of bytes h) 0 (packet_count h.frames)
+file_is bytes h head companding size one other some within whole =
+    ap packets_file (packing_is bytes h head companding one other some) ∙ packed_is companding (samples_of bytes h)
+    ∙ ap (λ (n : ℕ). magic ++ texts_of companding (samples_of bytes h) 0 (packet_count n)) (samples_count bytes h size within whole)
 
-pub packed-front_magic : (known new : Option (List ℕ)) (bytes : List ℕ) (h : WavHead) (head : Result WavHead WavFault) (law : Law) (size : ℕ) → Reads bytes (Ok h) → Reads bytes head → law_of_format h.format ≡ Some law → h.start + h.frames ≤ size → size ≡ length bytes → AppendsFront known new magic → AppendsFront known new (packets_file (packing_of bytes head))
-packed-front_magic known new bytes h head law size one other some within whole front =
-    subst (AppendsFront known new) (sym (file_is bytes h head law size one other some within whole))
-    (front-first known new magic (texts_of law (samples_of bytes h) 0 (packet_count h.frames)) front)
+pub packed-front_magic : (known new : Option (List ℕ)) (bytes : List ℕ) (h : WavHead) (head : Result WavHead WavFault) (companding : Companding) (size : ℕ) → Reads bytes (Ok h) → Reads bytes head → companding_of_format h.format ≡ Some companding → h.start + h.frames ≤ size → size ≡ length bytes → AppendsFront known new magic → AppendsFront known new (packets_file (packing_of bytes head))
+packed-front_magic known new bytes h head companding size one other some within whole front =
+    subst (AppendsFront known new) (sym (file_is bytes h head companding size one other some within whole))
+    (front-first known new magic (texts_of companding (samples_of bytes h) 0 (packet_count h.frames)) front)
 
-pub packed-front : (known mid new : Option (List ℕ)) (bytes : List ℕ) (h : WavHead) (head : Result WavHead WavFault) (law : Law) (size place : ℕ) → Reads bytes (Ok h) → Reads bytes head → law_of_format h.format ≡ Some law → h.start + h.frames ≤ size → size ≡ length bytes → place ≡ h.start → mid ≡ append_known known magic → AppendsFront mid new (texts_of law (take h.frames (drop place bytes)) 0 (packet_count h.frames)) → AppendsFront known new (packets_file (packing_of bytes head))
-packed-front known mid new bytes h head law size place one other some within whole at is front =
-    subst (AppendsFront known new) (sym (file_is bytes h head law size one other some within whole))
-    (front-then known mid new magic (texts_of law (samples_of bytes h) 0 (packet_count h.frames)) is
-    (subst (λ (n : ℕ). AppendsFront mid new (texts_of law (take h.frames (drop n bytes)) 0 (packet_count h.frames))) at front))
+pub packed-front : (known mid new : Option (List ℕ)) (bytes : List ℕ) (h : WavHead) (head : Result WavHead WavFault) (companding : Companding) (size place : ℕ) → Reads bytes (Ok h) → Reads bytes head → companding_of_format h.format ≡ Some companding → h.start + h.frames ≤ size → size ≡ length bytes → place ≡ h.start → mid ≡ append_known known magic → AppendsFront mid new (texts_of companding (take h.frames (drop place bytes)) 0 (packet_count h.frames)) → AppendsFront known new (packets_file (packing_of bytes head))
+packed-front known mid new bytes h head companding size place one other some within whole at is front =
+    subst (AppendsFront known new) (sym (file_is bytes h head companding size one other some within whole))
+    (front-then known mid new magic (texts_of companding (samples_of bytes h) 0 (packet_count h.frames)) is
+    (subst (λ (n : ℕ). AppendsFront mid new (texts_of companding (take h.frames (drop n bytes)) 0 (packet_count h.frames))) at front))
 
-pub packed-whole : (known mid new : Option (List ℕ)) (bytes : List ℕ) (h : WavHead) (head : Result WavHead WavFault) (law : Law) (size place : ℕ) → Reads bytes (Ok h) → Reads bytes head → law_of_format h.format ≡ Some law → h.start + h.frames ≤ size → size ≡ length bytes → place ≡ h.start → mid ≡ append_known known magic → new ≡ append_known mid (texts_of law (take h.frames (drop place bytes)) 0 (packet_count h.frames)) → new ≡ append_known known (packets_file (packing_of bytes head))
-packed-whole known mid new bytes h head law size place one other some within whole at is taken =
-    let texts = texts_of law (samples_of bytes h) 0 (packet_count h.frames) in
-    taken ∙ ap (λ (n : ℕ). append_known mid (texts_of law (take h.frames (drop n bytes)) 0 (packet_count h.frames))) at
+pub packed-whole : (known mid new : Option (List ℕ)) (bytes : List ℕ) (h : WavHead) (head : Result WavHead WavFault) (companding : Companding) (size place : ℕ) → Reads bytes (Ok h) → Reads bytes head → companding_of_format h.format ≡ Some companding → h.start + h.frames ≤ size → size ≡ length bytes → place ≡ h.start → mid ≡ append_known known magic → new ≡ append_known mid (texts_of companding (take h.frames (drop place bytes)) 0 (packet_count h.frames)) → new ≡ append_known known (packets_file (packing_of bytes head))
+packed-whole known mid new bytes h head companding size place one other some within whole at is taken =
+    let texts = texts_of companding (samples_of bytes h) 0 (packet_count h.frames) in
+    taken ∙ ap (λ (n : ℕ). append_known mid (texts_of companding (take h.frames (drop n bytes)) 0 (packet_count h.frames))) at
     ∙ ap (λ (m : Option (List ℕ)). append_known m texts) is ∙ append_known-twice known magic texts
-    ∙ ap (append_known known) (sym (file_is bytes h head law size one other some within whole))
+    ∙ ap (append_known known) (sym (file_is bytes h head companding size one other some within whole))
 
 short_by : (size : ℕ) (told : Option (List ℕ)) (ends : Option ℕ) (fault : WavFault) → IfHeadShort fault (StoppedShort size told ends) → WhereTold told (λ bytes. (head : WavHead) → Reads bytes (Ok head) → IfHeadShort fault (λ at whole. at < head.start)) → IfShort (fault_of_head fault) (StoppedPacking size told ends)
 short_by size told ends (HeadShort at told_size) short before = inl (short, before)
@@ -98,11 +98,11 @@ short_head size told ends fault answer is short before =
     subst (λ (f : RtpFault). IfShort f (StoppedPacking size told ends)) (sym is) (short_by size told ends fault short before)
 
 -- a source that ended in its samples gave nothing at its end
-pub short_samples : (size size1 : ℕ) (told : Option (List ℕ)) (ends ends1 : Option ℕ) (head : WavHead) (law : Law) (place read_before read_now write_before write_now : ℕ) (fault : RtpFault) → law_of_format head.format ≡ Some law → size1 ≡ size → ends1 ≡ ends → place ≡ head.start → WhereTold ends (λ end. head.start ≤ end) → WhereTold told (λ bytes. Reads bytes (Ok head)) → IsStop size1 ends1 place read_before read_now write_before write_now fault → IfShort fault (StoppedPacking size told ends)
-short_samples size size1 told ends ends1 head law place rb rn wb wn (Short at told_size) some same_size same_ends same_place reached reads nothing =
+pub short_samples : (size size1 : ℕ) (told : Option (List ℕ)) (ends ends1 : Option ℕ) (head : WavHead) (companding : Companding) (place read_before read_now write_before write_now : ℕ) (fault : RtpFault) → companding_of_format head.format ≡ Some companding → size1 ≡ size → ends1 ≡ ends → place ≡ head.start → WhereTold ends (λ end. head.start ≤ end) → WhereTold told (λ bytes. Reads bytes (Ok head)) → IsStop size1 ends1 place read_before read_now write_before write_now fault → IfShort fault (StoppedPacking size told ends)
+short_samples size size1 told ends ends1 head companding place rb rn wb wn (Short at told_size) some same_size same_ends same_place reached reads nothing =
     inr (
       head,
-      law,
+      companding,
       reads,
       some,
       omega (arith, nothing.0.started, same_place),
@@ -113,14 +113,14 @@ short_samples size size1 told ends ends1 head law place rb rn wb wn (Short at to
         stopped = λ end is. omega (arith, nothing.0.stopped end (same_ends ∙ is), reached end is, same_place);
       },
     )
-short_samples size size1 told ends ends1 head law place rb rn wb wn (Head fault) some same_size same_ends same_place reached reads nothing = tt
-short_samples size size1 told ends ends1 head law place rb rn wb wn Read some same_size same_ends same_place reached reads nothing = tt
-short_samples size size1 told ends ends1 head law place rb rn wb wn Write some same_size same_ends same_place reached reads nothing = tt
-short_samples size size1 told ends ends1 head law place rb rn wb wn WrongFormat some same_size same_ends same_place reached reads nothing = tt
-short_samples size size1 told ends ends1 head law place rb rn wb wn NotPackets some same_size same_ends same_place reached reads nothing = tt
-short_samples size size1 told ends ends1 head law place rb rn wb wn NoPackets some same_size same_ends same_place reached reads nothing = tt
-short_samples size size1 told ends ends1 head law place rb rn wb wn TooLong some same_size same_ends same_place reached reads nothing = tt
-short_samples size size1 told ends ends1 head law place rb rn wb wn OutOfMemory some same_size same_ends same_place reached reads nothing = tt
+short_samples size size1 told ends ends1 head companding place rb rn wb wn (Head fault) some same_size same_ends same_place reached reads nothing = tt
+short_samples size size1 told ends ends1 head companding place rb rn wb wn Read some same_size same_ends same_place reached reads nothing = tt
+short_samples size size1 told ends ends1 head companding place rb rn wb wn Write some same_size same_ends same_place reached reads nothing = tt
+short_samples size size1 told ends ends1 head companding place rb rn wb wn WrongFormat some same_size same_ends same_place reached reads nothing = tt
+short_samples size size1 told ends ends1 head companding place rb rn wb wn NotPackets some same_size same_ends same_place reached reads nothing = tt
+short_samples size size1 told ends ends1 head companding place rb rn wb wn NoPackets some same_size same_ends same_place reached reads nothing = tt
+short_samples size size1 told ends ends1 head companding place rb rn wb wn TooLong some same_size same_ends same_place reached reads nothing = tt
+short_samples size size1 told ends ends1 head companding place rb rn wb wn OutOfMemory some same_size same_ends same_place reached reads nothing = tt
 
 -- a source that is too large is told as such
 pub head_large : (size : ℕ) (fault : WavFault) (answer : RtpFault) → answer ≡ fault_of_head fault → fault ≡ TooLarge size → answer ≡ Head (TooLarge size)

@@ -11,12 +11,12 @@ use Rattle.outside_io.proofs.Known.{append_known-nil}
 use Rattle.omx_types.specs.declared.fault.WavFault.TheVariants.{TooLarge}
 use Rattle.wav_form.specs.Reading.{most_bytes}
 use Rattle.part_forms.specs.Writing.{written}
-use Rattle.rtp_parts.specs.declared.law.Law.{Law}
+use Rattle.g711_law.specs.declared.companding.Companding.{Companding}
 use Rattle.rtp_parts.specs.declared.fault.RtpFault.{RtpFault}
 use Rattle.rtp_parts.specs.declared.fault.RtpFault.TheVariants.{Head, Read, Write, Short, WrongFormat, NotPackets, NoPackets, TooLong, OutOfMemory}
 use Rattle.rtp_parts.specs.declared.unpacker.Stream.{Stream}
 use Rattle.rtp_parts.specs.declared.unpacking.Unpacked.{Unpacked}
-use Rattle.rtp_parts.specs.Packets.{silence_of, format_of_law}
+use Rattle.rtp_parts.specs.Packets.{silence_of, format_of_companding}
 use Rattle.rtp_parts.specs.Packing.{magic}
 use Rattle.rtp_parts.specs.Arrivals.{records_in}
 use Rattle.rtp_parts.specs.Unpacking.{most_codes, unpacked, unpacked_records, wav_of}
@@ -44,10 +44,10 @@ unpacked_is bytes small begins =
 fault_of_survey : (bytes : List ℕ) (fault : RtpFault) → unpacked bytes ≡ unpacked_records (records_in (drop 8 bytes)) → Err fault ≡ survey_of (drop 8 bytes) → Err fault ≡ unpacked_counts (unpacked bytes)
 fault_of_survey bytes fault begins is =
     let answer : unpacked_records (records_in (drop 8 bytes)) ≡ Err fault =
-    subst (λ (s : Result (Law × Unpacked) RtpFault). Agrees (λ s. whole_codes s (drop 8 bytes)) s (unpacked_records (records_in (drop 8 bytes)))) (sym is) (survey_agrees (drop 8 bytes)) in
+    subst (λ (s : Result (Companding × Unpacked) RtpFault). Agrees (λ s. whole_codes s (drop 8 bytes)) s (unpacked_records (records_in (drop 8 bytes)))) (sym is) (survey_agrees (drop 8 bytes)) in
     sym (ap unpacked_counts (begins ∙ answer))
 
-pub survey_failed : (bytes : List ℕ) (fault : RtpFault) → unpacked bytes ≡ unpacked_records (records_in (drop 8 bytes)) → UnlessStopped {A = Law × Unpacked} (Err fault) (λ r. r ≡ survey_of (drop 8 bytes)) → UnlessStopped {A = Unpacked} (Err fault) (λ r. r ≡ unpacked_counts (unpacked bytes))
+pub survey_failed : (bytes : List ℕ) (fault : RtpFault) → unpacked bytes ≡ unpacked_records (records_in (drop 8 bytes)) → UnlessStopped {A = Companding × Unpacked} (Err fault) (λ r. r ≡ survey_of (drop 8 bytes)) → UnlessStopped {A = Unpacked} (Err fault) (λ r. r ≡ unpacked_counts (unpacked bytes))
 survey_failed bytes (Head f) begins is = fault_of_survey bytes (Head f) begins is
 survey_failed bytes WrongFormat begins is = fault_of_survey bytes WrongFormat begins is
 survey_failed bytes NotPackets begins is = fault_of_survey bytes NotPackets begins is
@@ -58,23 +58,23 @@ survey_failed bytes Write begins is = tt
 survey_failed bytes (Short at size) begins is = tt
 survey_failed bytes OutOfMemory begins is = tt
 
-pub survey_found : (bytes : List ℕ) (found : Law × Unpacked) → unpacked bytes ≡ unpacked_records (records_in (drop 8 bytes)) → Ok found ≡ survey_of (drop 8 bytes) → Found (λ s. whole_codes s (drop 8 bytes)) found (unpacked bytes)
+pub survey_found : (bytes : List ℕ) (found : Companding × Unpacked) → unpacked bytes ≡ unpacked_records (records_in (drop 8 bytes)) → Ok found ≡ survey_of (drop 8 bytes) → Found (λ s. whole_codes s (drop 8 bytes)) found (unpacked bytes)
 survey_found bytes found begins is =
     subst (Found (λ s. whole_codes s (drop 8 bytes)) found) (sym begins)
-    (subst (λ (s : Result (Law × Unpacked) RtpFault). Agrees (λ s. whole_codes s (drop 8 bytes)) s (unpacked_records (records_in (drop 8 bytes)))) (sym is) (survey_agrees (drop 8 bytes)))
+    (subst (λ (s : Result (Companding × Unpacked) RtpFault). Agrees (λ s. whole_codes s (drop 8 bytes)) s (unpacked_records (records_in (drop 8 bytes)))) (sym is) (survey_agrees (drop 8 bytes)))
 
 -- the file of what was found
-pub wav_is : (bytes : List ℕ) (law : Law) (counts : Unpacked) → Found (λ s. whole_codes s (drop 8 bytes)) (law, counts) (unpacked bytes) → wav_of (unpacked bytes) ≡ written (format_of_law law) (whole_codes (silence_of law) (drop 8 bytes))
-wav_is bytes law counts found =
+pub wav_is : (bytes : List ℕ) (companding : Companding) (counts : Unpacked) → Found (λ s. whole_codes s (drop 8 bytes)) (companding, counts) (unpacked bytes) → wav_of (unpacked bytes) ≡ written (format_of_companding companding) (whole_codes (silence_of companding) (drop 8 bytes))
+wav_is bytes companding counts found =
     ap wav_of found.is
-    ∙ ap (λ (l : Law). written (format_of_law l) found.unpacking.codes) found.law
-    ∙ ap (written (format_of_law law)) found.codes_are
+    ∙ ap (λ (l : Companding). written (format_of_companding l) found.unpacking.codes) found.companding
+    ∙ ap (written (format_of_companding companding)) found.codes_are
 
-pub counts_found : (bytes : List ℕ) (law : Law) (counts : Unpacked) → Found (λ s. whole_codes s (drop 8 bytes)) (law, counts) (unpacked bytes) → Ok counts ≡ unpacked_counts (unpacked bytes)
-counts_found bytes law counts found = sym found.counts ∙ ap unpacked_counts (sym found.is)
+pub counts_found : (bytes : List ℕ) (companding : Companding) (counts : Unpacked) → Found (λ s. whole_codes s (drop 8 bytes)) (companding, counts) (unpacked bytes) → Ok counts ≡ unpacked_counts (unpacked bytes)
+counts_found bytes companding counts found = sym found.counts ∙ ap unpacked_counts (sym found.is)
 
-pub frames_found : (bytes : List ℕ) (law : Law) (counts : Unpacked) → Found (λ s. whole_codes s (drop 8 bytes)) (law, counts) (unpacked bytes) → counts.frames ≡ length (whole_codes (silence_of law) (drop 8 bytes))
-frames_found bytes law counts found = found.frames ∙ ap length found.codes_are
+pub frames_found : (bytes : List ℕ) (companding : Companding) (counts : Unpacked) → Found (λ s. whole_codes s (drop 8 bytes)) (companding, counts) (unpacked bytes) → counts.frames ≡ length (whole_codes (silence_of companding) (drop 8 bytes))
+frames_found bytes companding counts found = found.frames ∙ ap length found.codes_are
 
 unequal : (xs ys : List ℕ) → (xs ≡ ys → ⊥) → bytes_eq xs ys ≡ false
 unequal xs ys other =
@@ -86,9 +86,6 @@ unequal xs ys other =
 pub too_few : (bytes : List ℕ) → length bytes < 8 → bytes_eq (take 8 bytes) magic ≡ false
 too_few bytes few =
     unequal (take 8 bytes) magic (λ is. let long : length (take 8 bytes) ≡ 8 = ap length is in absurd (omega (arith, few, long, length-take 8 bytes)))
-
-pub other_begins : (bytes : List ℕ) → (take 8 bytes ≡ magic → ⊥) → bytes_eq (take 8 bytes) magic ≡ false
-other_begins bytes other = unequal (take 8 bytes) magic other
 
 pub begins_so : (bytes : List ℕ) → take 8 bytes ≡ magic → bytes_eq (take 8 bytes) magic ≡ true
 begins_so bytes is = (bytes_eq-Decides (take 8 bytes) magic).1 is
@@ -123,13 +120,13 @@ ends_later size size1 ends ends1 read mid now write write_now fault same_size sa
     ends_by size ends read mid now write write_now fault same unwritten
     (subst (λ (e : Option ℕ). EndsUnpacking size e mid now 0 0 fault) same_ends (subst (λ (s : ℕ). EndsUnpacking s ends1 mid now 0 0 fault) same_size stop))
 
-found_ends : (size : ℕ) (ends : Option ℕ) (read now : ℕ) (r : Result (Law × Unpacked) RtpFault) (long : Bool) (found : Law × Unpacked) → r ≡ (if long then Err TooLong else Ok found) → now ≡ read → IfErr r (EndsUnpacking size ends read now 0 0)
-found_ends size ends read now r true found is same = subst (λ (s : Result (Law × Unpacked) RtpFault). IfErr s (EndsUnpacking size ends read now 0 0)) (sym is) same
-found_ends size ends read now r false found is same = subst (λ (s : Result (Law × Unpacked) RtpFault). IfErr s (EndsUnpacking size ends read now 0 0)) (sym is) tt
+found_ends : (size : ℕ) (ends : Option ℕ) (read now : ℕ) (r : Result (Companding × Unpacked) RtpFault) (long : Bool) (found : Companding × Unpacked) → r ≡ (if long then Err TooLong else Ok found) → now ≡ read → IfErr r (EndsUnpacking size ends read now 0 0)
+found_ends size ends read now r true found is same = subst (λ (s : Result (Companding × Unpacked) RtpFault). IfErr s (EndsUnpacking size ends read now 0 0)) (sym is) same
+found_ends size ends read now r false found is same = subst (λ (s : Result (Companding × Unpacked) RtpFault). IfErr s (EndsUnpacking size ends read now 0 0)) (sym is) tt
 
 -- what is found in a whole list is at fault only by its bytes
-pub survey_ends : (size : ℕ) (ends : Option ℕ) (read now : ℕ) (stream : Option Stream) (counts : Counts) (frames : ℕ) (r : Result (Law × Unpacked) RtpFault) → r ≡ survey_by stream counts frames → now ≡ read → IfErr r (EndsUnpacking size ends read now 0 0)
-survey_ends size ends read now None counts frames r is same = subst (λ (s : Result (Law × Unpacked) RtpFault). IfErr s (EndsUnpacking size ends read now 0 0)) (sym is) same
+pub survey_ends : (size : ℕ) (ends : Option ℕ) (read now : ℕ) (stream : Option Stream) (counts : Counts) (frames : ℕ) (r : Result (Companding × Unpacked) RtpFault) → r ≡ survey_by stream counts frames → now ≡ read → IfErr r (EndsUnpacking size ends read now 0 0)
+survey_ends size ends read now None counts frames r is same = subst (λ (s : Result (Companding × Unpacked) RtpFault). IfErr s (EndsUnpacking size ends read now 0 0)) (sym is) same
 survey_ends size ends read now (Some stream) counts frames r is same = found_ends size ends read now r (nat_lt most_codes frames) _ is same
 
 moving_by : (size : ℕ) (ends : Option ℕ) (read mid now write write_now : ℕ) (fault : RtpFault) → mid ≡ read → StopsMoving size ends mid now write write_now fault → EndsUnpacking size ends read now write write_now fault
@@ -186,27 +183,27 @@ pub begun : (bytes : List ℕ) → (take 8 bytes ≡ magic) × (length bytes ≤
 begun bytes (begins, small) = unpacked_is bytes small (begins_so bytes begins)
 
 -- what was found in such a list, from the place where it begins
-pub found_at : (bytes : List ℕ) (found : Law × Unpacked) (place : ℕ) → (take 8 bytes ≡ magic) × (length bytes ≤ most_bytes) → place ≡ 8 → Ok found ≡ survey_of (drop place bytes) → Found (λ s. whole_codes s (drop 8 bytes)) found (unpacked bytes)
+pub found_at : (bytes : List ℕ) (found : Companding × Unpacked) (place : ℕ) → (take 8 bytes ≡ magic) × (length bytes ≤ most_bytes) → place ≡ 8 → Ok found ≡ survey_of (drop place bytes) → Found (λ s. whole_codes s (drop 8 bytes)) found (unpacked bytes)
 found_at bytes found place begins at is =
-    survey_found bytes found (begun bytes begins) (subst (λ (n : ℕ). ◌≡◌ {A = Result (Law × Unpacked) RtpFault} (Ok found) (survey_of (drop n bytes))) at is)
+    survey_found bytes found (begun bytes begins) (subst (λ (n : ℕ). ◌≡◌ {A = Result (Companding × Unpacked) RtpFault} (Ok found) (survey_of (drop n bytes))) at is)
 
-pub failed_at : (bytes : List ℕ) (fault : RtpFault) (place : ℕ) → (take 8 bytes ≡ magic) × (length bytes ≤ most_bytes) → place ≡ 8 → UnlessStopped {A = Law × Unpacked} (Err fault) (λ r. r ≡ survey_of (drop place bytes)) → UnlessStopped {A = Unpacked} (Err fault) (λ r. r ≡ unpacked_counts (unpacked bytes))
+pub failed_at : (bytes : List ℕ) (fault : RtpFault) (place : ℕ) → (take 8 bytes ≡ magic) × (length bytes ≤ most_bytes) → place ≡ 8 → UnlessStopped {A = Companding × Unpacked} (Err fault) (λ r. r ≡ survey_of (drop place bytes)) → UnlessStopped {A = Unpacked} (Err fault) (λ r. r ≡ unpacked_counts (unpacked bytes))
 failed_at bytes fault place begins at is =
-    survey_failed bytes fault (begun bytes begins) (subst (λ (n : ℕ). UnlessStopped {A = Law × Unpacked} (Err fault) (λ r. r ≡ survey_of (drop n bytes))) at is)
+    survey_failed bytes fault (begun bytes begins) (subst (λ (n : ℕ). UnlessStopped {A = Companding × Unpacked} (Err fault) (λ r. r ≡ survey_of (drop n bytes))) at is)
 
 pub front-none : (known : Option (List ℕ)) (whole : List ℕ) → AppendsFront known known whole
 front-none known whole = (0, omega arith, sym (append_known-nil known))
 
 -- what was written is the file of what was found
-pub wav_sent : (bytes : List ℕ) (law : Law) (counts : Unpacked) (place : ℕ) (known new : Option (List ℕ)) → Found (λ s. whole_codes s (drop 8 bytes)) (law, counts) (unpacked bytes) → place ≡ 8 → (counts.frames ≡ length (whole_codes (silence_of law) (drop place bytes)) → new ≡ append_known known (written (format_of_law law) (whole_codes (silence_of law) (drop place bytes)))) → new ≡ append_known known (wav_of (unpacked bytes))
-wav_sent bytes law counts place known new found at sent =
-    let same : whole_codes (silence_of law) (drop place bytes) ≡ whole_codes (silence_of law) (drop 8 bytes) = ap (λ (n : ℕ). whole_codes (silence_of law) (drop n bytes)) at in
-    sent (frames_found bytes law counts found ∙ ap length (sym same))
-    ∙ ap (λ (codes : List ℕ). append_known known (written (format_of_law law) codes)) same
-    ∙ ap (append_known known) (sym (wav_is bytes law counts found))
+pub wav_sent : (bytes : List ℕ) (companding : Companding) (counts : Unpacked) (place : ℕ) (known new : Option (List ℕ)) → Found (λ s. whole_codes s (drop 8 bytes)) (companding, counts) (unpacked bytes) → place ≡ 8 → (counts.frames ≡ length (whole_codes (silence_of companding) (drop place bytes)) → new ≡ append_known known (written (format_of_companding companding) (whole_codes (silence_of companding) (drop place bytes)))) → new ≡ append_known known (wav_of (unpacked bytes))
+wav_sent bytes companding counts place known new found at sent =
+    let same : whole_codes (silence_of companding) (drop place bytes) ≡ whole_codes (silence_of companding) (drop 8 bytes) = ap (λ (n : ℕ). whole_codes (silence_of companding) (drop n bytes)) at in
+    sent (frames_found bytes companding counts found ∙ ap length (sym same))
+    ∙ ap (λ (codes : List ℕ). append_known known (written (format_of_companding companding) codes)) same
+    ∙ ap (append_known known) (sym (wav_is bytes companding counts found))
 
-pub wav_front : (bytes : List ℕ) (law : Law) (counts : Unpacked) (place : ℕ) (known new : Option (List ℕ)) → Found (λ s. whole_codes s (drop 8 bytes)) (law, counts) (unpacked bytes) → place ≡ 8 → (counts.frames ≡ length (whole_codes (silence_of law) (drop place bytes)) → AppendsFront known new (written (format_of_law law) (whole_codes (silence_of law) (drop place bytes)))) → AppendsFront known new (wav_of (unpacked bytes))
-wav_front bytes law counts place known new found at sent =
-    let same : whole_codes (silence_of law) (drop place bytes) ≡ whole_codes (silence_of law) (drop 8 bytes) = ap (λ (n : ℕ). whole_codes (silence_of law) (drop n bytes)) at in
-    subst (AppendsFront known new) (ap (written (format_of_law law)) same ∙ sym (wav_is bytes law counts found))
-    (sent (frames_found bytes law counts found ∙ ap length (sym same)))
+pub wav_front : (bytes : List ℕ) (companding : Companding) (counts : Unpacked) (place : ℕ) (known new : Option (List ℕ)) → Found (λ s. whole_codes s (drop 8 bytes)) (companding, counts) (unpacked bytes) → place ≡ 8 → (counts.frames ≡ length (whole_codes (silence_of companding) (drop place bytes)) → AppendsFront known new (written (format_of_companding companding) (whole_codes (silence_of companding) (drop place bytes)))) → AppendsFront known new (wav_of (unpacked bytes))
+wav_front bytes companding counts place known new found at sent =
+    let same : whole_codes (silence_of companding) (drop place bytes) ≡ whole_codes (silence_of companding) (drop 8 bytes) = ap (λ (n : ℕ). whole_codes (silence_of companding) (drop n bytes)) at in
+    subst (AppendsFront known new) (ap (written (format_of_companding companding)) same ∙ sym (wav_is bytes companding counts found))
+    (sent (frames_found bytes companding counts found ∙ ap length (sym same)))

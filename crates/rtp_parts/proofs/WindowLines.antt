@@ -1,12 +1,10 @@
 -- The line of a window, by the list that the window holds.
-use Rattle.std.proofs.Common.{◌≡◌, ℕ, suc, ◌+◌, ◌<◌, ◌≤◌, nat_le, max, ◌==◌, ◌||◌, if◌then◌else◌, true, false, Bool, List, [], ◌∷◌, ◌++◌, length, take, drop, map, refl, sym, ap, ◌∙◌, arith, get_or, append_assoc}
+use Rattle.std.proofs.Common.{◌≡◌, ℕ, suc, ◌+◌, ◌<◌, ◌≤◌, nat_le, max, ◌==◌, ◌||◌, if◌then◌else◌, true, false, Bool, List, [], ◌∷◌, ◌++◌, take, drop, map, refl, sym, ap, ◌∙◌, arith}
 use Rattle.std.specs.List.{All, list_any, insert}
-use Rattle.std.proofs.Math.Seq.{drop-cons, take-suc}
-use Rattle.std.proofs.Math.ListN.{drop_of_length-le}
 use Rattle.rtp_parts.specs.declared.window.Held.{Held}
 use Rattle.rtp_parts.specs.Sorting.{Numbered, has_number, placed, nearest}
 use Rattle.rtp_parts.specs.Steps.{numbered_of, Line, line_kept, line_judged, line_step}
-use Rattle.rtp_parts.proofs.SortedNumbers.{placed-first, placed-later}
+use Rattle.rtp_parts.proofs.SortedNumbers.{placed-later}
 
 pub has-map : (n : ℕ) (xs : List Held) → has_number n (map numbered_of xs) ≡ list_any (λ (h : Held). h.number == n) xs
 has-map n [] = refl
@@ -36,44 +34,11 @@ pub map-append : (xs ys : List Held) → map numbered_of (xs ++ ys) ≡ map numb
 map-append [] ys = refl
 map-append (x ∷ xs) ys = ap (λ (r : List Numbered). numbered_of x ∷ r) (map-append xs ys)
 
--- a number is placed behind the lesser ones that were passed
-pub passed-more : (a : Numbered) (xs : List Held) (i : ℕ) (d : Held) → i < length xs → (get_or xs i d).number < a.number → placed a (map numbered_of xs) ≡ map numbered_of (take i xs) ++ placed a (map numbered_of (drop i xs)) → placed a (map numbered_of xs) ≡ map numbered_of (take (i + 1) xs) ++ placed a (map numbered_of (drop (i + 1) xs))
-passed-more a xs i d within less passed =
-    let x = get_or xs i d in
-    passed
-    ∙ ap (λ (r : List Held). map numbered_of (take i xs) ++ placed a (map numbered_of r)) (drop-cons xs i d within)
-    ∙ ap (λ (r : List Numbered). map numbered_of (take i xs) ++ r) (placed-later a (numbered_of x) (map numbered_of (drop (suc i) xs)) less)
-    ∙ sym (append_assoc (map numbered_of (take i xs)) (numbered_of x ∷ []) (placed a (map numbered_of (drop (suc i) xs))))
-    ∙ ap (λ (r : List Numbered). r ++ placed a (map numbered_of (drop (suc i) xs))) (sym (map-append (take i xs) (x ∷ [])))
-    ∙ ap (λ (r : List Held). map numbered_of r ++ placed a (map numbered_of (drop (suc i) xs))) (sym (take-suc xs i d within))
-    ∙ ap (λ (n : ℕ). map numbered_of (take n xs) ++ placed a (map numbered_of (drop n xs))) (let e : suc i ≡ i + 1 = omega arith in e)
-
-pub passed-all : (a : Numbered) (xs : List Held) (i : ℕ) → length xs ≤ i → placed a (map numbered_of xs) ≡ map numbered_of (take i xs) ++ placed a (map numbered_of (drop i xs)) → placed a (map numbered_of xs) ≡ map numbered_of (take i xs) ++ a ∷ map numbered_of (drop i xs)
-passed-all a xs i end passed =
-    passed ∙ ap (λ (r : List Held). map numbered_of (take i xs) ++ placed a (map numbered_of r)) (drop_of_length-le xs end)
-    ∙ ap (λ (r : List Held). map numbered_of (take i xs) ++ a ∷ map numbered_of r) (sym (drop_of_length-le xs end))
-
-pub passed-here : (a : Numbered) (xs : List Held) (i : ℕ) (d : Held) → i < length xs → a.number ≤ (get_or xs i d).number → placed a (map numbered_of xs) ≡ map numbered_of (take i xs) ++ placed a (map numbered_of (drop i xs)) → placed a (map numbered_of xs) ≡ map numbered_of (take i xs) ++ a ∷ map numbered_of (drop i xs)
-passed-here a xs i d within le passed =
-    let x = get_or xs i d in
-    passed
-    ∙ ap (λ (r : List Held). map numbered_of (take i xs) ++ placed a (map numbered_of r)) (drop-cons xs i d within)
-    ∙ ap (λ (r : List Numbered). map numbered_of (take i xs) ++ r) (placed-first a (numbered_of x) (map numbered_of (drop (suc i) xs)) le)
-    ∙ ap (λ (r : List Held). map numbered_of (take i xs) ++ a ∷ map numbered_of r) (sym (drop-cons xs i d within))
-
 pub insert-placed : (h : Held) (xs : List Held) (i : ℕ) → placed (numbered_of h) (map numbered_of xs) ≡ map numbered_of (take i xs) ++ numbered_of h ∷ map numbered_of (drop i xs) → map numbered_of (insert xs i h) ≡ placed (numbered_of h) (map numbered_of xs)
 insert-placed h xs i is = map-append (take i xs) (h ∷ drop i xs) ∙ sym is
 
 pub push-placed : (h : Held) (greatest : ℕ) (xs : List Held) → All (λ (x : Held). x.number ≤ greatest) xs → greatest < h.number → map numbered_of (xs ++ h ∷ []) ≡ placed (numbered_of h) (map numbered_of xs)
 push-placed h greatest xs all above = map-append xs (h ∷ []) ∙ sym (placed-last (numbered_of h) greatest xs all above)
-
--- an arrival that is late, one that is repeated, and one that is kept
-pub judged-late : (line : Line) (number timestamp : ℕ) (payload : List ℕ) → number + 64 ≤ line.greatest → line_judged line number timestamp payload ≡ record line { late = line.late + 1 }
-judged-late line number timestamp payload le =
-    let test : nat_le (number + 64) line.greatest ≡ true = grind (arith, le) in
-    let same : max line.greatest number ≡ line.greatest = omega arith in
-    ap (λ (b : Bool). if b then record line { greatest = max line.greatest number; late = line.late + 1 } else (if has_number number line.line then record line { greatest = max line.greatest number; repeated = line.repeated + 1 } else line_kept line number timestamp payload)) test
-    ∙ ap (λ (n : ℕ). record line { greatest = n; late = line.late + 1 }) same
 
 pub judged-repeated : (line : Line) (number timestamp : ℕ) (payload : List ℕ) → line.greatest < number + 64 → number ≤ line.greatest → has_number number line.line ≡ true → line_judged line number timestamp payload ≡ record line { repeated = line.repeated + 1 }
 judged-repeated line number timestamp payload lt le has =

@@ -10,12 +10,12 @@ use Rattle.omx_types.specs.declared.fault.WavFault.TheVariants.{TooLarge, NotRif
 use Rattle.outside_io.specs.Causes.{Rose}
 use Rattle.outside_io.specs.declared.moving.ReadStop.{ReadStop}
 use Rattle.outside_io.specs.declared.moving.ReadStop.TheVariants.{Failed, Short as Stopped}
-use Rattle.rtp_parts.specs.declared.law.Law.{Law}
+use Rattle.g711_law.specs.declared.companding.Companding.{Companding}
 use Rattle.rtp_parts.specs.declared.fault.RtpFault.{RtpFault}
 use Rattle.rtp_parts.specs.declared.fault.RtpFault.TheVariants.{Head, Read, Write, Short, WrongFormat, NotPackets, NoPackets, TooLong, OutOfMemory}
 use Rattle.rtp_parts.specs.declared.packing.Packed.{Packed}
 use Rattle.rtp_parts.specs.declared.unpacking.Unpacked.{Unpacked}
-use Rattle.rtp_parts.specs.Packets.{law_of_format}
+use Rattle.rtp_parts.specs.Packets.{companding_of_format}
 use Rattle.rtp_parts.specs.Packing.{packed, packet_count}
 use Rattle.rtp_parts.specs.Unpacking.{Unpacking, wav_of}
 
@@ -42,17 +42,17 @@ abbrev pub samples_of : List ℕ → WavHead → List ℕ
 samples_of bytes head = take head.frames (drop head.start bytes)
 
 pub record Packing : Type 0 where
-  pub law : Law
+  pub companding : Companding
   pub samples : List ℕ
 
-abbrev pub packing_under : List ℕ → WavHead → Option Law → Result Packing RtpFault
+abbrev pub packing_under : List ℕ → WavHead → Option Companding → Result Packing RtpFault
 packing_under bytes head None = Err WrongFormat
-packing_under bytes head (Some law) = Ok (record { law = law; samples = samples_of bytes head })
+packing_under bytes head (Some companding) = Ok (record { companding = companding; samples = samples_of bytes head })
 
 -- what is packed of a file whose head reads as this
 abbrev pub packing_of : List ℕ → Result WavHead WavFault → Result Packing RtpFault
 packing_of bytes (Err fault) = Err (Head fault)
-packing_of bytes (Ok head) = packing_under bytes head (law_of_format head.format)
+packing_of bytes (Ok head) = packing_under bytes head (companding_of_format head.format)
 
 abbrev pub counts_of : Result Packing RtpFault → Result Packed RtpFault
 counts_of (Err fault) = Err fault
@@ -61,14 +61,14 @@ counts_of (Ok packing) = Ok (record { packets = packet_count (length packing.sam
 -- the file of packets; none where there is a fault
 abbrev pub packets_file : Result Packing RtpFault → List ℕ
 packets_file (Err fault) = []
-packets_file (Ok packing) = packed packing.law packing.samples
+packets_file (Ok packing) = packed packing.companding packing.samples
 
 -- Where a source of this size gave nothing while its samples were packed: in its head, which ends where its samples begin; or, where their
 -- format is one of RTP, from its samples on where it ends.
 abbrev pub StoppedPacking : (size : ℕ) (told : Option (List ℕ)) (ends : Option ℕ) (at told_size : ℕ) → Type 0
 StoppedPacking size told ends at told_size =
     (StoppedShort size told ends at told_size × WhereTold told (λ bytes. (head : WavHead) → Reads bytes (Ok head) → at < head.start))
-    ⊎ ((head : WavHead) × (law : Law) × WhereTold told (λ bytes. Reads bytes (Ok head)) × (law_of_format head.format ≡ Some law) × (head.start ≤ at) × GaveNothing size ends 0 at told_size)
+    ⊎ ((head : WavHead) × (companding : Companding) × WhereTold told (λ bytes. Reads bytes (Ok head)) × (companding_of_format head.format ≡ Some companding) × (head.start ≤ at) × GaveNothing size ends 0 at told_size)
 
 -- the fault of a head that was not read
 abbrev pub fault_of_head : WavFault → RtpFault

@@ -2,8 +2,8 @@
 use Rattle.std.specs.Prelude.{ℕ, zero, suc, ◌+◌, Bool, ◌==◌, nat_lt, ◌&&◌, if◌then◌else◌, List, [], ◌∷◌, ◌++◌, length, take, drop, filter, Option, Some, None}
 use Rattle.std.specs.Option.{option_to_list}
 use Rattle.byteorder.specs.Endian.{big_from}
-use Rattle.rtp_parts.specs.declared.law.Law.{Law}
-use Rattle.rtp_parts.specs.Packets.{Packet, packet_in, same_law}
+use Rattle.g711_law.specs.declared.companding.Companding.{Companding}
+use Rattle.rtp_parts.specs.Packets.{Packet, packet_in, same_companding}
 
 -- the bytes of a packet and of the length before it
 abbrev pub record_len : List ℕ → ℕ
@@ -30,14 +30,14 @@ abbrev pub well_formed : List (Option (List ℕ)) → List Packet
 well_formed [] = []
 well_formed (bytes ∷ records) = option_to_list (packet_of_record bytes) ++ well_formed records
 
--- a stream has one source and one law
-abbrev pub is_of_stream : Law → ℕ → Packet → Bool
-is_of_stream law source packet = (packet.source == source) && same_law packet.law law
+-- a stream has one source and one companding
+abbrev pub is_of_stream : Companding → ℕ → Packet → Bool
+is_of_stream companding source packet = (packet.source == source) && same_companding packet.companding companding
 
 -- the first well-formed packet fixes the stream, and what differs from it is left out
 abbrev pub of_first_stream : List Packet → List Packet
 of_first_stream [] = []
-of_first_stream (first ∷ packets) = first ∷ filter (is_of_stream first.law first.source) packets
+of_first_stream (first ∷ packets) = first ∷ filter (is_of_stream first.companding first.source) packets
 
 abbrev pub arrivals : List (Option (List ℕ)) → List Packet
 arrivals records = of_first_stream (well_formed records)

@@ -1,6 +1,6 @@
 -- Deliveries of packets: which arrive, and in which order.
 use Rattle.std.specs.Prelude.{◌≤◌, ◌≡◌, ℕ, ◌+◌, ◌<◌, List, length, drop, slice_index, map, Ok}
-use Rattle.rtp_parts.specs.declared.law.Law.{Law}
+use Rattle.g711_law.specs.declared.companding.Companding.{Companding}
 use Rattle.wav_form.specs.Reading.{most_bytes}
 use Rattle.rtp_parts.specs.Packing.{packet_at, file_of}
 use Rattle.rtp_parts.specs.Arrivals.{records_in}
@@ -14,11 +14,11 @@ pub record AreDeliveries (count : ℕ) (places : List ℕ) : Type 0 where
   -- none after one whose place is 64 or more greater
   pub near : (i j : ℕ) → i < j → j < length places → slice_index places i < slice_index places j + 64
 
-abbrev pub delivered : Law → List ℕ → List ℕ → List (List ℕ)
-delivered law samples places = map (packet_at law samples) places
+abbrev pub delivered : Companding → List ℕ → List ℕ → List (List ℕ)
+delivered companding samples places = map (packet_at companding samples) places
 
 -- these packets are unpacked to these samples, and so is their file, unless it is longer than files may be
-pub record Unpacks (packets : List (List ℕ)) (law : Law) (samples : List ℕ) : Type 0 where
-  pub same_law : (unpacking_of (records_in (drop 8 (file_of packets)))).law ≡ law
+pub record Unpacks (packets : List (List ℕ)) (companding : Companding) (samples : List ℕ) : Type 0 where
+  pub same_companding : (unpacking_of (records_in (drop 8 (file_of packets)))).companding ≡ companding
   pub codes : (unpacking_of (records_in (drop 8 (file_of packets)))).codes ≡ samples
   pub answer : length (file_of packets) ≤ most_bytes → unpacked (file_of packets) ≡ Ok (unpacking_of (records_in (drop 8 (file_of packets))))

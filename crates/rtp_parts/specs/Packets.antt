@@ -5,44 +5,44 @@ use Rattle.omx_types.specs.declared.format.Format.{Format}
 use Rattle.omx_types.specs.declared.format.Format.TheVariants.{Pcm, Alaw as AlawAt, Mulaw as MulawAt, Auto}
 use Rattle.g711_law.specs.Alaw.{alaw_code}
 use Rattle.g711_law.specs.Mulaw.{mulaw_code}
-use Rattle.rtp_parts.specs.declared.law.Law.{Law}
-use Rattle.rtp_parts.specs.declared.law.Law.TheVariants.{Mulaw, Alaw}
+use Rattle.g711_law.specs.declared.companding.Companding.{Companding}
+use Rattle.g711_law.specs.declared.companding.Companding.TheVariants.{MuLaw, ALaw}
 
-abbrev pub type_of_law : Law → ℕ
-type_of_law Mulaw = 0
-type_of_law Alaw = 8
+abbrev pub type_of_companding : Companding → ℕ
+type_of_companding MuLaw = 0
+type_of_companding ALaw = 8
 
-abbrev pub law_of_type : ℕ → Option Law
-law_of_type number = if number == 0 then Some Mulaw else (if number == 8 then Some Alaw else None)
+abbrev pub companding_of_type : ℕ → Option Companding
+companding_of_type number = if number == 0 then Some MuLaw else (if number == 8 then Some ALaw else None)
 
 -- 8,000 frames a second of one channel
-abbrev pub format_of_law : Law → Format
-format_of_law Mulaw = MulawAt 8000 1
-format_of_law Alaw = AlawAt 8000 1
+abbrev pub format_of_companding : Companding → Format
+format_of_companding MuLaw = MulawAt 8000 1
+format_of_companding ALaw = AlawAt 8000 1
 
--- the law of a format of one channel and 8,000 frames a second
-abbrev pub law_of_format : Format → Option Law
-law_of_format (Pcm rate channels) = None
-law_of_format (AlawAt rate channels) = if (rate == 8000) && (channels == 1) then Some Alaw else None
-law_of_format (MulawAt rate channels) = if (rate == 8000) && (channels == 1) then Some Mulaw else None
-law_of_format Auto = None
+-- the companding of a format of one channel and 8,000 frames a second
+abbrev pub companding_of_format : Format → Option Companding
+companding_of_format (Pcm rate channels) = None
+companding_of_format (AlawAt rate channels) = if (rate == 8000) && (channels == 1) then Some ALaw else None
+companding_of_format (MulawAt rate channels) = if (rate == 8000) && (channels == 1) then Some MuLaw else None
+companding_of_format Auto = None
 
-abbrev pub same_law : Law → Law → Bool
-same_law Mulaw Mulaw = true
-same_law Mulaw Alaw = false
-same_law Alaw Mulaw = false
-same_law Alaw Alaw = true
+abbrev pub same_companding : Companding → Companding → Bool
+same_companding MuLaw MuLaw = true
+same_companding MuLaw ALaw = false
+same_companding ALaw MuLaw = false
+same_companding ALaw ALaw = true
 
 -- the code of silence
-abbrev pub silence_of : Law → ℕ
-silence_of Mulaw = mulaw_code (pos 0)
-silence_of Alaw = alaw_code (pos 0)
+abbrev pub silence_of : Companding → ℕ
+silence_of MuLaw = mulaw_code (pos 0)
+silence_of ALaw = alaw_code (pos 0)
 
 -- The fixed header: version 2 with no padding, no extension and no contributing source; no marker and the payload type;
 -- sequence number; timestamp; synchronization source.
-abbrev pub header : Law → (sequence timestamp source : ℕ) → List ℕ
-header law sequence timestamp source =
-    (128 ∷ type_of_law law ∷ []) ++ big_bytes 2 sequence ++ big_bytes 4 timestamp ++ big_bytes 4 source
+abbrev pub header : Companding → (sequence timestamp source : ℕ) → List ℕ
+header companding sequence timestamp source =
+    (128 ∷ type_of_companding companding ∷ []) ++ big_bytes 2 sequence ++ big_bytes 4 timestamp ++ big_bytes 4 source
 
 -- What is read of a packet's bytes
 
@@ -78,7 +78,7 @@ abbrev pub payload_len : List ℕ → ℕ
 payload_len bytes = length bytes - head_end bytes - padding bytes
 
 pub record Packet : Type 0 where
-  pub law : Law
+  pub companding : Companding
   pub source : ℕ
   pub sequence : ℕ
   pub timestamp : ℕ
@@ -91,10 +91,10 @@ is_well_formed bytes =
     nat_le 12 (length bytes) && (version bytes == 2) && nat_le (head_end bytes) (length bytes)
     && (not (has_padding bytes) || nat_le 1 (padding bytes)) && nat_le 1 (payload_len bytes) && nat_le (payload_len bytes) 4096
 
-abbrev pub packet_under : Option Law → List ℕ → Option Packet
+abbrev pub packet_under : Option Companding → List ℕ → Option Packet
 packet_under None bytes = None
-packet_under (Some law) bytes = Some (record {
-  law = law;
+packet_under (Some companding) bytes = Some (record {
+  companding = companding;
   source = big_from 8 4 bytes;
   sequence = big_from 2 2 bytes;
   timestamp = big_from 4 4 bytes;
@@ -103,4 +103,4 @@ packet_under (Some law) bytes = Some (record {
 
 -- the packet of these bytes, where they are one that is well formed, of payload type 0 or 8
 abbrev pub packet_in : List ℕ → Option Packet
-packet_in bytes = if is_well_formed bytes then packet_under (law_of_type (payload_type bytes)) bytes else None
+packet_in bytes = if is_well_formed bytes then packet_under (companding_of_type (payload_type bytes)) bytes else None

@@ -2,7 +2,7 @@
 use Rattle.std.specs.Prelude.{ℕ, ◌+◌, ◌*◌, ◌/◌, ◌%◌, List, [], ◌∷◌, ◌++◌, length, take, drop, map, codes}
 use Rattle.std.specs.List.{range_with_len}
 use Rattle.byteorder.specs.Endian.{big_bytes}
-use Rattle.rtp_parts.specs.declared.law.Law.{Law}
+use Rattle.g711_law.specs.declared.companding.Companding.{Companding}
 use Rattle.rtp_parts.specs.Packets.{header}
 
 -- what each file of packets begins with: `omxrtp1` and a line feed
@@ -18,21 +18,21 @@ abbrev pub file_of : List (List ℕ) → List ℕ
 file_of packets = magic ++ records_text packets
 
 -- packet k, from 0, has 160 frames, or as many as are left
-abbrev pub packet_at : Law → List ℕ → ℕ → List ℕ
-packet_at law samples k = header law (k % 65536) (160 * k) 1 ++ take 160 (drop (160 * k) samples)
+abbrev pub packet_at : Companding → List ℕ → ℕ → List ℕ
+packet_at companding samples k = header companding (k % 65536) (160 * k) 1 ++ take 160 (drop (160 * k) samples)
 
 -- so many packets from a number on, each behind its length
-abbrev pub texts_of : Law → List ℕ → (first count : ℕ) → List ℕ
-texts_of law samples first count = records_text (map (packet_at law samples) (range_with_len first count))
+abbrev pub texts_of : Companding → List ℕ → (first count : ℕ) → List ℕ
+texts_of companding samples first count = records_text (map (packet_at companding samples) (range_with_len first count))
 
 -- how many packets there are of so many frames
 abbrev pub packet_count : ℕ → ℕ
 packet_count frames = (frames + 159) / 160
 
 -- the packets of these samples, from packet 0 on
-abbrev pub packets_of : Law → List ℕ → List (List ℕ)
-packets_of law samples = map (packet_at law samples) (range_with_len 0 (packet_count (length samples)))
+abbrev pub packets_of : Companding → List ℕ → List (List ℕ)
+packets_of companding samples = map (packet_at companding samples) (range_with_len 0 (packet_count (length samples)))
 
 -- the file of packets of these samples
-unfoldable pub packed : Law → List ℕ → List ℕ
-packed law samples = file_of (packets_of law samples)
+unfoldable pub packed : Companding → List ℕ → List ℕ
+packed companding samples = file_of (packets_of companding samples)

@@ -4,7 +4,7 @@ use Rattle.std.specs.Prelude.{◌≡◌, ℕ, ◌+◌, ◌*◌, ◌-◌, ◌%◌
 use Rattle.std.specs.VecDeque.{deque_len}
 use Rattle.outside_io.specs.Causes.{Rose}
 use Rattle.outside_io.specs.Stops.{GaveNothing}
-use Rattle.rtp_parts.specs.declared.law.Law.{Law}
+use Rattle.g711_law.specs.declared.companding.Companding.{Companding}
 use Rattle.rtp_parts.specs.declared.fault.RtpFault.{RtpFault}
 use Rattle.rtp_parts.specs.declared.fault.RtpFault.TheVariants.{Read, Write, Short, NoPackets, TooLong, OutOfMemory}
 use Rattle.rtp_parts.specs.declared.packet.Fields.{Fields}
@@ -24,7 +24,7 @@ use Rattle.rtp_parts.specs.Unpacking.{most_codes}
 abbrev pub packet_read : List ℕ → Option Fields → Option Packet
 packet_read bytes None = None
 packet_read bytes (Some fields) = Some (record {
-  law = fields.law;
+  companding = fields.companding;
   source = fields.source;
   sequence = fields.sequence;
   timestamp = fields.timestamp;
@@ -73,7 +73,7 @@ with_first a line = record line { line = a ∷ line.line }
 
 -- the stream of a packet
 abbrev pub stream_of : Packet → Stream
-stream_of packet = record { law = packet.law; source = packet.source }
+stream_of packet = record { companding = packet.companding; source = packet.source }
 
 -- how far a list is unpacked
 pub record Course : Type 0 where
@@ -88,7 +88,7 @@ course_under None course packet = record course {
   line = line_step (record course.line { greatest = 65536 + packet.sequence }) packet.sequence packet.timestamp packet.payload;
 }
 course_under (Some first) course packet =
-    if is_of_stream first.law first.source packet then record course { line = line_step course.line packet.sequence packet.timestamp packet.payload }
+    if is_of_stream first.companding first.source packet then record course { line = line_step course.line packet.sequence packet.timestamp packet.payload }
     else course
 
 abbrev pub with_packet : Option Packet → Course → Course
@@ -169,13 +169,13 @@ whole_course bytes = with_records (record { stream = None; line = start_line; pa
 abbrev pub whole_codes : ℕ → List ℕ → List ℕ
 whole_codes silence bytes = codes_from silence None (whole_course bytes).line.line
 
--- the law and the counts of a list that has so many codes
-abbrev pub survey_by : Option Stream → Counts → ℕ → Result (Law × Unpacked) RtpFault
+-- the companding and the counts of a list that has so many codes
+abbrev pub survey_by : Option Stream → Counts → ℕ → Result (Companding × Unpacked) RtpFault
 survey_by None counts frames = Err NoPackets
 survey_by (Some stream) counts frames =
     if nat_lt most_codes frames then Err TooLong
     else Ok (
-      stream.law,
+      stream.companding,
       record {
         frames = frames;
         bytes = 58 + frames + frames % 2;
@@ -187,10 +187,10 @@ survey_by (Some stream) counts frames =
       },
     )
 
-abbrev pub survey_course : Course → Result (Law × Unpacked) RtpFault
+abbrev pub survey_course : Course → Result (Companding × Unpacked) RtpFault
 survey_course course = survey_by course.stream (counts_in course) (length (codes_from 0 None course.line.line))
 
-abbrev pub survey_of : List ℕ → Result (Law × Unpacked) RtpFault
+abbrev pub survey_of : List ℕ → Result (Companding × Unpacked) RtpFault
 survey_of bytes = survey_course (whole_course bytes)
 
 -- what ends the writing of what a list is unpacked to

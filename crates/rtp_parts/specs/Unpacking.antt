@@ -3,17 +3,17 @@ use Rattle.std.specs.Prelude.{ℕ, ◌-◌, not, nat_lt, if◌then◌else◌, Li
 use Rattle.omx_types.specs.declared.fault.WavFault.TheVariants.{TooLarge}
 use Rattle.wav_form.specs.Reading.{most_bytes}
 use Rattle.part_forms.specs.Writing.{written}
-use Rattle.rtp_parts.specs.declared.law.Law.{Law}
-use Rattle.rtp_parts.specs.declared.law.Law.TheVariants.{Mulaw}
+use Rattle.g711_law.specs.declared.companding.Companding.{Companding}
+use Rattle.g711_law.specs.declared.companding.Companding.TheVariants.{MuLaw}
 use Rattle.rtp_parts.specs.declared.fault.RtpFault.{RtpFault}
 use Rattle.rtp_parts.specs.declared.fault.RtpFault.TheVariants.{Head, NotPackets, NoPackets, TooLong}
-use Rattle.rtp_parts.specs.Packets.{Packet, silence_of, format_of_law}
+use Rattle.rtp_parts.specs.Packets.{Packet, silence_of, format_of_companding}
 use Rattle.rtp_parts.specs.Packing.{magic}
 use Rattle.rtp_parts.specs.Arrivals.{records_in, arrivals}
 use Rattle.rtp_parts.specs.Sorting.{Taken, taken_of, sorted, codes_from}
 
 pub record Unpacking : Type 0 where
-  pub law : Law
+  pub companding : Companding
   pub codes : List ℕ
   -- the packets of the list, those that are skipped among them
   pub packets : ℕ
@@ -22,15 +22,15 @@ pub record Unpacking : Type 0 where
   pub repeated : ℕ
   pub skipped : ℕ
 
-abbrev pub law_of_first : List Packet → Law
-law_of_first [] = Mulaw
-law_of_first (first ∷ packets) = first.law
+abbrev pub companding_of_first : List Packet → Companding
+companding_of_first [] = MuLaw
+companding_of_first (first ∷ packets) = first.companding
 
 -- the whole list is sorted
-abbrev pub unpacking_by : Law → (packets arrived : ℕ) → Taken → Unpacking
-unpacking_by law packets arrived taken = record {
-  law = law;
-  codes = codes_from (silence_of law) None (sorted taken.accepted);
+abbrev pub unpacking_by : Companding → (packets arrived : ℕ) → Taken → Unpacking
+unpacking_by companding packets arrived taken = record {
+  companding = companding;
+  codes = codes_from (silence_of companding) None (sorted taken.accepted);
   packets = packets;
   accepted = length taken.accepted;
   late = taken.late;
@@ -40,7 +40,7 @@ unpacking_by law packets arrived taken = record {
 
 unfoldable pub unpacking_of : List (Option (List ℕ)) → Unpacking
 unpacking_of records =
-    unpacking_by (law_of_first (arrivals records)) (length records) (length (arrivals records)) (taken_of (arrivals records))
+    unpacking_by (companding_of_first (arrivals records)) (length records) (length (arrivals records)) (taken_of (arrivals records))
 
 -- the most codes that are written
 abbrev pub most_codes : ℕ
@@ -63,4 +63,4 @@ unpacked bytes =
 -- the WAV file of what was unpacked; none where there is a fault
 abbrev pub wav_of : Result Unpacking RtpFault → List ℕ
 wav_of (Err fault) = []
-wav_of (Ok unpacking) = written (format_of_law unpacking.law) unpacking.codes
+wav_of (Ok unpacking) = written (format_of_companding unpacking.companding) unpacking.codes

@@ -2,8 +2,8 @@
 //! came late, twice or out of order gives the samples again.
 #![tactic(auto)]
 
+mod companding;
 mod fault;
-mod law;
 mod laws;
 mod packet;
 mod packing;
@@ -15,7 +15,6 @@ mod unpacking;
 mod window;
 
 pub use fault::RtpFault;
-pub use law::Law;
 pub use laws::{deliveries_again, nearest_number};
 pub use packing::{Packed, pack};
 pub use unpacking::{Unpacked, unpack};

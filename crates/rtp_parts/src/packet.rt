@@ -4,8 +4,9 @@ ghost use Rattle.std.specs.Prelude.{◌≡◌, ◌+◌, ◌*◌, ◌≤◌, ◌<
 ghost use Rattle.rtp_parts.specs.Packets.{packet_in, is_well_formed, head_end, has_padding, padding};
 ghost use Rattle.rtp_parts.specs.Steps.{packet_read};
 
-use crate::Law;
+use crate::companding::companding_of_type;
 use byteorder::{BigEndian, ByteOrder};
+use g711_law::Companding;
 
 /// The bytes of the fixed header of RFC 3550.
 const FIXED_HEADER: usize = 12;
@@ -16,7 +17,7 @@ const MOST_PAYLOAD: usize = 4096;
 /// What is read of a well-formed packet, and where its payload begins and ends.
 #[derive(Clone, Copy, Debug, PartialEq, Eq)]
 pub(crate) struct Fields {
-    pub(crate) law: Law,
+    pub(crate) companding: Companding,
     pub(crate) source: u32,
     pub(crate) sequence: u16,
     pub(crate) timestamp: u32,
@@ -34,10 +35,10 @@ pub(crate) fn read_packet(bytes: &[u8]) -> Option<Fields>
     if !is_well_formed(bytes) {
         return None;
     }
-    match Law::of_payload_type(bytes[1] % 128) {
+    match companding_of_type(bytes[1] % 128) {
         None => None,
-        Some(law) => Some(Fields {
-            law,
+        Some(companding) => Some(Fields {
+            companding,
             source: BigEndian::read_u32(&bytes[8..]),
             sequence: BigEndian::read_u16(&bytes[2..]),
             timestamp: BigEndian::read_u32(&bytes[4..]),

@@ -3,6 +3,7 @@
 ghost use Rattle.std.specs.Prelude.{◌≡◌, ◌≢◌, ℕ, ◌+◌, ◌*◌, ◌≤◌, ◌<◌, ◌^◌, List, length, take, drop, max, IfErr, OnOk, Err, Result};
 ghost use Rattle.std.specs.Io.KnownBytes.{append_known};
 ghost use Rattle.outside_io.specs.Causes.{Rose};
+ghost use Rattle.outside_io.specs.Keeping.{KeepsSink, KeepsSource};
 ghost use Rattle.outside_io.specs.Moves.{AppendsFront, WhereTold};
 ghost use Rattle.wav_form.specs.declared.heads.WavHead.{WavHead};
 ghost use Rattle.omx_types.specs.declared.fault.WavFault.{WavFault};
@@ -11,8 +12,10 @@ ghost use Rattle.wav_form.specs.Reading.{Reads, most_bytes};
 ghost use Rattle.rtp_parts.specs.Packing.{packet_count, texts_of};
 ghost use Rattle.rtp_parts.specs.Answers.{IfShort, UnlessStopped, packing_of, counts_of, packets_file, StoppedPacking, IsStop};
 
+use crate::RtpFault;
+use crate::companding::companding_of;
 use crate::records::put_records;
-use crate::{Law, RtpFault};
+use g711_law::Companding;
 use outside_io::{Sink, Source, read_exact, write_all};
 use wav_form::read_head;
 
@@ -48,12 +51,8 @@ pub fn pack<S: Source, K: Sink>(src: &mut S, snk: &mut K) -> Result<Packed, RtpF
     ensures write { result ≡ Err RtpFault.Write → Rose (K.faults snk.old) (K.faults snk.new) }
     ensures short { IfErr result (λ fault. IfShort fault (StoppedPacking (S.size src.old) (S.told src.old) (S.ends src.old))) }
     ensures no_memory { ¬ (result ≡ Err RtpFault.OutOfMemory) }
-    ensures told { S.told src.new ≡ S.told src.old }
-    ensures ends { S.ends src.new ≡ S.ends src.old }
-    ensures size { S.size src.new ≡ S.size src.old }
-    ensures name { K.name snk.new ≡ K.name snk.old }
-    ensures read_later { S.faults src.old ≤ S.faults src.new }
-    ensures write_later { K.faults snk.old ≤ K.faults snk.new }
+    ensures keeps_source { KeepsSource S.Source src.old src.new }
+    ensures keeps_sink { KeepsSink K.Sink snk.old snk.new }
     ensures read_stands { result ≢ Err RtpFault.Read → S.faults src.new ≡ S.faults src.old }
     ensures write_alone { result ≡ Err RtpFault.Write → S.faults src.new ≡ S.faults src.old }
     ensures short_alone { IfErr result (λ fault. IfShort fault (λ _ _. (S.faults src.new ≡ S.faults src.old) × (K.faults snk.new ≡ K.faults snk.old))) }
@@ -63,7 +62,7 @@ pub fn pack<S: Source, K: Sink>(src: &mut S, snk: &mut K) -> Result<Packed, RtpF
         Ok(head) => head,
         Err(fault) => return Err(RtpFault::of_head(fault)),
     };
-    let Some(law) = Law::of_format(head.format) else {
+    let Some(companding) = companding_of(head.format) else {
         return Err(RtpFault::WrongFormat);
     };
     let size = src.size();
@@ -72,7 +71,7 @@ pub fn pack<S: Source, K: Sink>(src: &mut S, snk: &mut K) -> Result<Packed, RtpF
         Ok(()) => {}
         Err(_) => return Err(RtpFault::Write),
     }
-    match pack_samples(src, snk, law, head.frames) {
+    match pack_samples(src, snk, companding, head.frames) {
         Ok(()) => Ok(Packed {
             packets: head.frames.div_ceil(PACKET_FRAMES),
             frames: head.frames,
@@ -85,23 +84,19 @@ pub fn pack<S: Source, K: Sink>(src: &mut S, snk: &mut K) -> Result<Packed, RtpF
 fn pack_samples<S: Source, K: Sink>(
     src: &mut S,
     snk: &mut K,
-    law: Law,
+    companding: Companding,
     frames: u64,
 ) -> Result<(), RtpFault>
     requires within { S.offset src.old + frames ≤ S.size src.old }
     requires few { frames ≤ 67108864 }
     ensures whole { WhereTold (S.told src.old) (λ bytes. OnOk result (
-        K.told snk.new ≡ append_known (K.told snk.old) (texts_of law (take frames (drop (S.offset src.old) bytes)) 0 (packet_count frames)))) }
+        K.told snk.new ≡ append_known (K.told snk.old) (texts_of companding (take frames (drop (S.offset src.old) bytes)) 0 (packet_count frames)))) }
     ensures front { WhereTold (S.told src.old) (λ bytes.
-        AppendsFront (K.told snk.old) (K.told snk.new) (texts_of law (take frames (drop (S.offset src.old) bytes)) 0 (packet_count frames))) }
+        AppendsFront (K.told snk.old) (K.told snk.new) (texts_of companding (take frames (drop (S.offset src.old) bytes)) 0 (packet_count frames))) }
     ensures stop { IfErr result (IsStop (S.size src.old) (S.ends src.old) (S.offset src.old)
         (S.faults src.old) (S.faults src.new) (K.faults snk.old) (K.faults snk.new)) }
-    ensures told { S.told src.new ≡ S.told src.old }
-    ensures ends { S.ends src.new ≡ S.ends src.old }
-    ensures size { S.size src.new ≡ S.size src.old }
-    ensures name { K.name snk.new ≡ K.name snk.old }
-    ensures read_later { S.faults src.old ≤ S.faults src.new }
-    ensures write_later { K.faults snk.old ≤ K.faults snk.new }
+    ensures keeps_source { KeepsSource S.Source src.old src.new }
+    ensures keeps_sink { KeepsSink K.Sink snk.old snk.new }
     ensures stand { OnOk result ((S.faults src.new ≡ S.faults src.old) × (K.faults snk.new ≡ K.faults snk.old)) }
 {
     let mut samples = [0u8; SAMPLES];
@@ -113,7 +108,7 @@ fn pack_samples<S: Source, K: Sink>(
         match pack_piece(
             src,
             snk,
-            law,
+            companding,
             first,
             &mut samples[..count as usize],
             &mut records,
@@ -129,7 +124,7 @@ fn pack_samples<S: Source, K: Sink>(
 fn pack_piece<S: Source, K: Sink>(
     src: &mut S,
     snk: &mut K,
-    law: Law,
+    companding: Companding,
     first: u64,
     samples: &mut [u8],
     records: &mut [u8],
@@ -140,27 +135,23 @@ fn pack_piece<S: Source, K: Sink>(
     requires room { length records.old ≡ 22272 }
     ensures whole { WhereTold (S.told src.old) (λ bytes. (all : List ℕ) →
         take (length samples.old) (drop (S.offset src.old) bytes) ≡ take (160 * packet_count (length samples.old)) (drop (160 * first) all) →
-        OnOk result (K.told snk.new ≡ append_known (K.told snk.old) (texts_of law all first (packet_count (length samples.old))))) }
+        OnOk result (K.told snk.new ≡ append_known (K.told snk.old) (texts_of companding all first (packet_count (length samples.old))))) }
     ensures front { WhereTold (S.told src.old) (λ bytes. (all : List ℕ) →
         take (length samples.old) (drop (S.offset src.old) bytes) ≡ take (160 * packet_count (length samples.old)) (drop (160 * first) all) →
-        AppendsFront (K.told snk.old) (K.told snk.new) (texts_of law all first (packet_count (length samples.old)))) }
+        AppendsFront (K.told snk.old) (K.told snk.new) (texts_of companding all first (packet_count (length samples.old)))) }
     ensures offset { OnOk result (S.offset src.new ≡ S.offset src.old + length samples.old) }
     ensures reached { WhereTold (S.ends src.old) (λ end. OnOk result (S.offset src.new ≤ max end (S.offset src.old))) }
     ensures stop { IfErr result (IsStop (S.size src.old) (S.ends src.old) (S.offset src.old)
         (S.faults src.old) (S.faults src.new) (K.faults snk.old) (K.faults snk.new)) }
-    ensures told { S.told src.new ≡ S.told src.old }
-    ensures ends { S.ends src.new ≡ S.ends src.old }
-    ensures size { S.size src.new ≡ S.size src.old }
-    ensures name { K.name snk.new ≡ K.name snk.old }
-    ensures read_later { S.faults src.old ≤ S.faults src.new }
-    ensures write_later { K.faults snk.old ≤ K.faults snk.new }
+    ensures keeps_source { KeepsSource S.Source src.old src.new }
+    ensures keeps_sink { KeepsSink K.Sink snk.old snk.new }
     ensures stand { OnOk result ((S.faults src.new ≡ S.faults src.old) × (K.faults snk.new ≡ K.faults snk.old)) }
 {
     match read_exact(src, samples) {
         Ok(()) => {}
         Err(stop) => return Err(RtpFault::of_read(stop)),
     }
-    let len = put_records(records, law, first, samples);
+    let len = put_records(records, companding, first, samples);
     match write_all(snk, &records[..len]) {
         Ok(()) => Ok(()),
         Err(_) => Err(RtpFault::Write),

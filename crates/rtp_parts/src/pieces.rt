@@ -3,39 +3,45 @@
 ghost use Rattle.std.specs.Prelude.{◌≡◌, ◌≤◌, ◌++◌, length, replicate, OnOk};
 ghost use Rattle.std.specs.Io.KnownBytes.{append_known};
 ghost use Rattle.outside_io.specs.Causes.{HasCause};
+ghost use Rattle.outside_io.specs.Keeping.{KeepsSink};
 ghost use Rattle.outside_io.specs.Moves.{AppendsFront};
 ghost use Rattle.rtp_parts.specs.Packets.{silence_of};
 
-use crate::Law;
+use crate::companding::silence_of;
 use crate::unpacker::Piece;
+use g711_law::Companding;
 use outside_io::{Failed, Sink, write_all};
 
 /// The codes of silence that are written at once, at most.
 const CODES: usize = 4096;
 
 /// Writes the frames of a piece.
-pub(crate) fn write_piece<K: Sink>(snk: &mut K, law: Law, piece: &Piece) -> Result<(), Failed>
+pub(crate) fn write_piece<K: Sink>(
+    snk: &mut K,
+    companding: Companding,
+    piece: &Piece,
+) -> Result<(), Failed>
     requires { piece.now.silence ≤ 80000 }
-    ensures whole { OnOk result (K.told snk.new ≡ append_known (K.told snk.old) (replicate piece.now.silence (silence_of law) ++ piece.now.payload.items)) }
-    ensures front { AppendsFront (K.told snk.old) (K.told snk.new) (replicate piece.now.silence (silence_of law) ++ piece.now.payload.items) }
-    ensures name { K.name snk.new ≡ K.name snk.old }
+    ensures whole { OnOk result (K.told snk.new ≡ append_known (K.told snk.old) (replicate piece.now.silence (silence_of companding) ++ piece.now.payload.items)) }
+    ensures front { AppendsFront (K.told snk.old) (K.told snk.new) (replicate piece.now.silence (silence_of companding) ++ piece.now.payload.items) }
+    ensures keeps_sink { KeepsSink K.Sink snk.old snk.new }
     ensures cause { HasCause (K.faults snk.old) (K.faults snk.new) result }
 {
     if piece.silence > 0 {
-        write_silence(snk, law, piece.silence as usize)?;
+        write_silence(snk, companding, piece.silence as usize)?;
     }
     write_all(snk, &piece.payload)
 }
 
 /// Writes so many codes of silence.
-fn write_silence<K: Sink>(snk: &mut K, law: Law, count: usize) -> Result<(), Failed>
+fn write_silence<K: Sink>(snk: &mut K, companding: Companding, count: usize) -> Result<(), Failed>
     requires { count ≤ 80000 }
-    ensures whole { OnOk result (K.told snk.new ≡ append_known (K.told snk.old) (replicate count (silence_of law))) }
-    ensures front { AppendsFront (K.told snk.old) (K.told snk.new) (replicate count (silence_of law)) }
-    ensures name { K.name snk.new ≡ K.name snk.old }
+    ensures whole { OnOk result (K.told snk.new ≡ append_known (K.told snk.old) (replicate count (silence_of companding))) }
+    ensures front { AppendsFront (K.told snk.old) (K.told snk.new) (replicate count (silence_of companding)) }
+    ensures keeps_sink { KeepsSink K.Sink snk.old snk.new }
     ensures cause { HasCause (K.faults snk.old) (K.faults snk.new) result }
 {
-    let code = law.silence();
+    let code = silence_of(companding);
     let codes = [code; CODES];
     write_repeated(snk, code, &codes, count)
 }
@@ -47,7 +53,7 @@ fn write_repeated<K: Sink>(snk: &mut K, code: u8, codes: &[u8], count: usize) ->
     requires few { count ≤ 80000 }
     ensures whole { OnOk result (K.told snk.new ≡ append_known (K.told snk.old) (replicate count code)) }
     ensures front { AppendsFront (K.told snk.old) (K.told snk.new) (replicate count code) }
-    ensures name { K.name snk.new ≡ K.name snk.old }
+    ensures keeps_sink { KeepsSink K.Sink snk.old snk.new }
     ensures cause { HasCause (K.faults snk.old) (K.faults snk.new) result }
 {
     let mut done = 0;

@@ -1,6 +1,7 @@
 //! Reading a list of packets by records: a whole packet behind its length, one that is cut, or the end.
 
 ghost use Rattle.std.specs.Prelude.{◌≡◌, ◌-◌, ◌≤◌, length, drop, IfErr, IfOk, OnOk};
+ghost use Rattle.outside_io.specs.Keeping.{KeepsSource};
 ghost use Rattle.outside_io.specs.Moves.{WhereTold};
 ghost use Rattle.rtp_parts.specs.Steps.{RecordAt, RecordTakes, StopsReading};
 
@@ -26,10 +27,7 @@ pub(crate) fn read_record<S: Source>(src: &mut S, buffer: &mut [u8]) -> Result<R
     ensures takes { IfOk result (RecordTakes (S.size src.old - S.offset src.old) (S.size src.old - S.offset src.new)) }
     ensures stop { IfErr result (StopsReading (S.size src.old) (S.ends src.old) (S.faults src.old) (S.faults src.new)) }
     ensures reached { WhereTold (S.ends src.old) (λ end. OnOk result (S.offset src.new ≤ end)) }
-    ensures told { S.told src.new ≡ S.told src.old }
-    ensures ends { S.ends src.new ≡ S.ends src.old }
-    ensures size { S.size src.new ≡ S.size src.old }
-    ensures later { S.faults src.old ≤ S.faults src.new }
+    ensures keeps_source { KeepsSource S.Source src.old src.new }
     ensures stands { OnOk result (S.faults src.new ≡ S.faults src.old) }
 {
     let left = src.size() - src.offset();

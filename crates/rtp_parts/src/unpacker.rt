@@ -1,24 +1,27 @@
 //! One pass over a list of packets: the stream that it has, and its frames in order, with silence in gaps.
 
 ghost use Rattle.std.specs.Prelude.{◌≡◌, ℕ, ◌+◌, ◌-◌, ◌≤◌, ◌<◌, ◌^◌, ◌++◌, [], length, drop, replicate, vec_len, None, true, false, IfErr, IfOk, IfSome, IfNone, OnOk};
+ghost use Rattle.outside_io.specs.Keeping.{KeepsSource};
 ghost use Rattle.std.specs.VecDeque.{deque_len};
 ghost use Rattle.outside_io.specs.Moves.{WhereTold};
 ghost use Rattle.rtp_parts.specs.Sorting.{gap_before};
 
+use crate::RtpFault;
+use crate::companding::is_same;
 use crate::packet::read_packet;
 use crate::reading::{Record, read_record};
 use crate::window::{Held, Window};
-use crate::{Law, RtpFault};
+use g711_law::Companding;
 use outside_io::{OutOfMemory, Source};
 use std::alloc::Global;
 
 /// The frames of silence that a gap has at most; before a packet that is further there are none.
 const MOST_SILENCE: u32 = 80_000;
 
-/// The packets of one source that are coded by one law.
+/// The packets of one source that are coded by one companding.
 #[derive(Clone, Copy, Debug, PartialEq, Eq)]
 pub(crate) struct Stream {
-    pub(crate) law: Law,
+    pub(crate) companding: Companding,
     pub(crate) source: u32,
 }
 
@@ -89,10 +92,7 @@ impl Unpacker {
         ensures few { OnOk result (self.new.packets + room_left self.new (S.size src.old - S.offset src.new) ≤ 2 ^ 27) }
         ensures stop { IfErr result (StopsReading (S.size src.old) (S.ends src.old) (S.faults src.old) (S.faults src.new)) }
         ensures reached { WhereTold (S.ends src.old) (λ end. OnOk result (S.offset src.new ≤ end)) }
-        ensures told { S.told src.new ≡ S.told src.old }
-        ensures ends { S.ends src.new ≡ S.ends src.old }
-        ensures size { S.size src.new ≡ S.size src.old }
-        ensures later { S.faults src.old ≤ S.faults src.new }
+        ensures keeps_source { KeepsSource S.Source src.old src.new }
         ensures stands { OnOk result (S.faults src.new ≡ S.faults src.old) }
     {
         loop {
@@ -150,10 +150,7 @@ impl Unpacker {
         ensures stop { IfErr result (StopsReading (S.size src.old) (S.ends src.old) (S.faults src.old) (S.faults src.new)) }
         ensures reached { WhereTold (S.ends src.old) (λ end. OnOk result (S.offset src.new ≤ end)) }
         ensures end { self.new.end ≡ self.old.end }
-        ensures told { S.told src.new ≡ S.told src.old }
-        ensures ends { S.ends src.new ≡ S.ends src.old }
-        ensures size { S.size src.new ≡ S.size src.old }
-        ensures later { S.faults src.old ≤ S.faults src.new }
+        ensures keeps_source { KeepsSource S.Source src.old src.new }
         ensures stands { OnOk result (S.faults src.new ≡ S.faults src.old) }
     {
         match read_record(src, buffer) {
@@ -194,7 +191,7 @@ impl Unpacker {
         match self.stream {
             None => {
                 self.stream = Some(Stream {
-                    law: fields.law,
+                    companding: fields.companding,
                     source: fields.source,
                 });
                 self.window.start(fields.sequence);
@@ -202,7 +199,7 @@ impl Unpacker {
                     .arrive(alloc, fields.sequence, fields.timestamp, payload)
             }
             Some(first) => {
-                if fields.source == first.source && fields.law.is(first.law) {
+                if fields.source == first.source && is_same(fields.companding, first.companding) {
                     self.window
                         .arrive(alloc, fields.sequence, fields.timestamp, payload)
                 } else {

@@ -1,20 +1,23 @@
 //! Unpacking: a list of RTP packets is written as a WAV file, and how many of them were late, repeated or skipped.
 
 ghost use Rattle.std.specs.Prelude.{◌≡◌, ◌≢◌, ℕ, ◌+◌, ◌≤◌, ◌<◌, ◌++◌, length, take, drop, IfErr, IfOk, OnOk};
+ghost use Rattle.outside_io.specs.Keeping.{KeepsSink, KeepsSource};
 ghost use Rattle.std.specs.Io.KnownBytes.{append_known};
 ghost use Rattle.outside_io.specs.Moves.{AppendsFront, WhereTold};
 ghost use Rattle.wav_form.specs.Reading.{most_bytes};
 ghost use Rattle.part_forms.specs.Writing.{written};
-ghost use Rattle.rtp_parts.specs.Packets.{silence_of, format_of_law};
+ghost use Rattle.rtp_parts.specs.Packets.{silence_of, format_of_companding};
 ghost use Rattle.rtp_parts.specs.Packing.{magic};
 ghost use Rattle.rtp_parts.specs.Unpacking.{most_codes, unpacked, wav_of};
 ghost use Rattle.rtp_parts.specs.Answers.{IfShort, UnlessStopped, unpacked_counts};
 ghost use Rattle.rtp_parts.specs.Ends.{EndsUnpacking};
 ghost use Rattle.rtp_parts.specs.Steps.{course_of, counts_in, whole_course, whole_codes, survey_by, survey_of, StopsMoving};
 
+use crate::RtpFault;
+use crate::companding::format_of;
 use crate::pieces::write_piece;
 use crate::unpacker::Unpacker;
-use crate::{Law, RtpFault};
+use g711_law::Companding;
 use omx_types::WavFault;
 use outside_io::{Sink, Source, read_exact, write_all};
 use std::alloc::Global;
@@ -64,12 +67,8 @@ pub fn unpack<S: Source, K: Sink>(
     // Over every source and sink
     ensures too_large { most_bytes < S.size src.old → result ≡ Err (RtpFault.Head (WavFault.TooLarge (S.size src.old))) }
     ensures cause { IfErr result (EndsUnpacking (S.size src.old) (S.ends src.old) (S.faults src.old) (S.faults src.new) (K.faults snk.old) (K.faults snk.new)) }
-    ensures told { S.told src.new ≡ S.told src.old }
-    ensures ends { S.ends src.new ≡ S.ends src.old }
-    ensures size { S.size src.new ≡ S.size src.old }
-    ensures name { K.name snk.new ≡ K.name snk.old }
-    ensures read_later { S.faults src.old ≤ S.faults src.new }
-    ensures write_later { K.faults snk.old ≤ K.faults snk.new }
+    ensures keeps_source { KeepsSource S.Source src.old src.new }
+    ensures keeps_sink { KeepsSink K.Sink snk.old snk.new }
     ensures stand { OnOk result ((S.faults src.new ≡ S.faults src.old) × (K.faults snk.new ≡ K.faults snk.old)) }
 {
     match check_magic(src) {
@@ -79,7 +78,7 @@ pub fn unpack<S: Source, K: Sink>(
     let Ok(mut buffer) = vec![in alloc; 0u8; MOST_PACKET] else {
         return Err(RtpFault::OutOfMemory);
     };
-    let (law, counts) = match survey(alloc, src, &mut buffer) {
+    let (companding, counts) = match survey(alloc, src, &mut buffer) {
         Ok(found) => found,
         Err(fault) => return Err(fault),
     };
@@ -87,7 +86,7 @@ pub fn unpack<S: Source, K: Sink>(
         Ok(()) => {}
         Err(_) => return Err(RtpFault::Read),
     }
-    match write_wav(alloc, src, snk, law, counts.frames, &mut buffer) {
+    match write_wav(alloc, src, snk, companding, counts.frames, &mut buffer) {
         Ok(()) => Ok(counts),
         Err(fault) => Err(fault),
     }
@@ -104,10 +103,7 @@ fn check_magic<S: Source>(src: &mut S) -> Result<(), RtpFault>
     ensures reached { WhereTold (S.ends src.old) (λ end. OnOk result (8 ≤ end)) }
     ensures too_large { most_bytes < S.size src.old → result ≡ Err (RtpFault.Head (WavFault.TooLarge (S.size src.old))) }
     ensures cause { IfErr result (EndsUnpacking (S.size src.old) (S.ends src.old) (S.faults src.old) (S.faults src.new) 0 0) }
-    ensures told { S.told src.new ≡ S.told src.old }
-    ensures ends { S.ends src.new ≡ S.ends src.old }
-    ensures size { S.size src.new ≡ S.size src.old }
-    ensures later { S.faults src.old ≤ S.faults src.new }
+    ensures keeps_source { KeepsSource S.Source src.old src.new }
     ensures stands { OnOk result (S.faults src.new ≡ S.faults src.old) }
 {
     let size = src.size();
@@ -134,22 +130,19 @@ fn check_magic<S: Source>(src: &mut S) -> Result<(), RtpFault>
     }
 }
 
-/// Goes over a list once: its law, and how much it is unpacked to.
+/// Goes over a list once: its companding, and how much it is unpacked to.
 fn survey<S: Source>(
     alloc: Global,
     src: &mut S,
     buffer: &mut [u8],
-) -> Result<(Law, Unpacked), RtpFault>
+) -> Result<(Companding, Unpacked), RtpFault>
     requires room { length buffer.old ≡ 65535 }
     requires few { S.size src.old ≤ most_bytes }
     requires reached { WhereTold (S.ends src.old) (λ end. S.offset src.old ≤ end) }
     ensures answer { WhereTold (S.told src.old) (λ bytes. UnlessStopped result (λ r. r ≡ survey_of (drop (S.offset src.old) bytes))) }
     ensures few { IfOk result (λ found. found.1.frames ≤ most_codes) }
     ensures cause { IfErr result (EndsUnpacking (S.size src.old) (S.ends src.old) (S.faults src.old) (S.faults src.new) 0 0) }
-    ensures told { S.told src.new ≡ S.told src.old }
-    ensures ends { S.ends src.new ≡ S.ends src.old }
-    ensures size { S.size src.new ≡ S.size src.old }
-    ensures later { S.faults src.old ≤ S.faults src.new }
+    ensures keeps_source { KeepsSource S.Source src.old src.new }
     ensures stands { OnOk result (S.faults src.new ≡ S.faults src.old) }
 {
     let mut unpacker = Unpacker::new(alloc);
@@ -169,7 +162,7 @@ fn survey<S: Source>(
 }
 
 /// What was found in a list that an unpacker went over to its end.
-fn found(unpacker: &Unpacker, frames: u64) -> Result<(Law, Unpacked), RtpFault>
+fn found(unpacker: &Unpacker, frames: u64) -> Result<(Companding, Unpacked), RtpFault>
     requires { frames ≤ most_codes }
     ensures { result ≡ survey_by unpacker.now.stream (counts_in (course_of unpacker.now)) frames }
 {
@@ -186,7 +179,7 @@ fn found(unpacker: &Unpacker, frames: u64) -> Result<(Law, Unpacked), RtpFault>
         repeated: window.repeated,
         skipped: unpacker.packets - (window.accepted + window.late + window.repeated),
     };
-    Ok((stream.law, counts))
+    Ok((stream.companding, counts))
 }
 
 /// Writes the WAV file of a list that is unpacked to so many frames.
@@ -194,7 +187,7 @@ fn write_wav<S: Source, K: Sink>(
     alloc: Global,
     src: &mut S,
     snk: &mut K,
-    law: Law,
+    companding: Companding,
     frames: u64,
     buffer: &mut [u8],
 ) -> Result<(), RtpFault>
@@ -202,26 +195,22 @@ fn write_wav<S: Source, K: Sink>(
     requires few { S.size src.old ≤ most_bytes }
     requires short { frames ≤ most_codes }
     requires reached { WhereTold (S.ends src.old) (λ end. S.offset src.old ≤ end) }
-    ensures file { WhereTold (S.told src.old) (λ bytes. frames ≡ length (whole_codes (silence_of law) (drop (S.offset src.old) bytes)) →
-        OnOk result (K.told snk.new ≡ append_known (K.told snk.old) (written (format_of_law law) (whole_codes (silence_of law) (drop (S.offset src.old) bytes))))) }
-    ensures front { WhereTold (S.told src.old) (λ bytes. frames ≡ length (whole_codes (silence_of law) (drop (S.offset src.old) bytes)) →
-        AppendsFront (K.told snk.old) (K.told snk.new) (written (format_of_law law) (whole_codes (silence_of law) (drop (S.offset src.old) bytes)))) }
+    ensures file { WhereTold (S.told src.old) (λ bytes. frames ≡ length (whole_codes (silence_of companding) (drop (S.offset src.old) bytes)) →
+        OnOk result (K.told snk.new ≡ append_known (K.told snk.old) (written (format_of_companding companding) (whole_codes (silence_of companding) (drop (S.offset src.old) bytes))))) }
+    ensures front { WhereTold (S.told src.old) (λ bytes. frames ≡ length (whole_codes (silence_of companding) (drop (S.offset src.old) bytes)) →
+        AppendsFront (K.told snk.old) (K.told snk.new) (written (format_of_companding companding) (whole_codes (silence_of companding) (drop (S.offset src.old) bytes)))) }
     ensures stop { IfErr result (StopsMoving (S.size src.old) (S.ends src.old) (S.faults src.old) (S.faults src.new) (K.faults snk.old) (K.faults snk.new)) }
-    ensures told { S.told src.new ≡ S.told src.old }
-    ensures ends { S.ends src.new ≡ S.ends src.old }
-    ensures size { S.size src.new ≡ S.size src.old }
-    ensures name { K.name snk.new ≡ K.name snk.old }
-    ensures read_later { S.faults src.old ≤ S.faults src.new }
-    ensures write_later { K.faults snk.old ≤ K.faults snk.new }
+    ensures keeps_source { KeepsSource S.Source src.old src.new }
+    ensures keeps_sink { KeepsSink K.Sink snk.old snk.new }
     ensures stand { OnOk result ((S.faults src.new ≡ S.faults src.old) × (K.faults snk.new ≡ K.faults snk.old)) }
 {
     let mut head = [0u8; 58];
-    let len = head_bytes(law.format(), frames, &mut head);
+    let len = head_bytes(format_of(companding), frames, &mut head);
     match write_all(snk, &head[..len]) {
         Ok(()) => {}
         Err(_) => return Err(RtpFault::Write),
     }
-    match write_codes(alloc, src, snk, law, buffer) {
+    match write_codes(alloc, src, snk, companding, buffer) {
         Ok(()) => {}
         Err(fault) => return Err(fault),
     }
@@ -240,30 +229,26 @@ fn write_codes<S: Source, K: Sink>(
     alloc: Global,
     src: &mut S,
     snk: &mut K,
-    law: Law,
+    companding: Companding,
     buffer: &mut [u8],
 ) -> Result<(), RtpFault>
     requires room { length buffer.old ≡ 65535 }
     requires few { S.size src.old ≤ most_bytes }
     requires reached { WhereTold (S.ends src.old) (λ end. S.offset src.old ≤ end) }
     ensures whole { WhereTold (S.told src.old) (λ bytes.
-        OnOk result (K.told snk.new ≡ append_known (K.told snk.old) (whole_codes (silence_of law) (drop (S.offset src.old) bytes)))) }
+        OnOk result (K.told snk.new ≡ append_known (K.told snk.old) (whole_codes (silence_of companding) (drop (S.offset src.old) bytes)))) }
     ensures front { WhereTold (S.told src.old) (λ bytes.
-        AppendsFront (K.told snk.old) (K.told snk.new) (whole_codes (silence_of law) (drop (S.offset src.old) bytes))) }
+        AppendsFront (K.told snk.old) (K.told snk.new) (whole_codes (silence_of companding) (drop (S.offset src.old) bytes))) }
     ensures stop { IfErr result (StopsMoving (S.size src.old) (S.ends src.old) (S.faults src.old) (S.faults src.new) (K.faults snk.old) (K.faults snk.new)) }
-    ensures told { S.told src.new ≡ S.told src.old }
-    ensures ends { S.ends src.new ≡ S.ends src.old }
-    ensures size { S.size src.new ≡ S.size src.old }
-    ensures name { K.name snk.new ≡ K.name snk.old }
-    ensures read_later { S.faults src.old ≤ S.faults src.new }
-    ensures write_later { K.faults snk.old ≤ K.faults snk.new }
+    ensures keeps_source { KeepsSource S.Source src.old src.new }
+    ensures keeps_sink { KeepsSink K.Sink snk.old snk.new }
     ensures stand { OnOk result ((S.faults src.new ≡ S.faults src.old) × (K.faults snk.new ≡ K.faults snk.old)) }
 {
     let mut unpacker = Unpacker::new(alloc);
     'pieces: loop {
         match unpacker.next(alloc, src, buffer) {
             Ok(Some(piece)) => {
-                match write_piece(snk, law, &piece) {
+                match write_piece(snk, companding, &piece) {
                     Ok(()) => {}
                     Err(_) => return Err(RtpFault::Write),
                 }

@@ -22,13 +22,6 @@ bytes-more digits (high ∷ low ∷ rest) behind xs ys byte so long is behind_is
     shift None = refl
     shift (Some bytes) = ap Some (sym (append_assoc xs (byte ∷ []) bytes))
 
--- two bytes that are no digits
-pub bytes-none : (digits rest xs : List ℕ) → pairs_of digits ≡ option_map (λ bytes. xs ++ bytes) (pairs_of rest) → 2 ≤ length rest → None ≡ byte_with (get_or rest 0 0) (get_or rest 1 0) → None ≡ pairs_of digits
-bytes-none digits [] xs so long is = absurd (omega arith)
-bytes-none digits (high ∷ []) xs so long is = absurd (omega arith)
-bytes-none digits (high ∷ low ∷ rest) xs so long is =
-    sym (so ∙ ap (λ (b : Option ℕ). option_map (λ bytes. xs ++ bytes) (with_rest b (pairs_of rest))) (sym is))
-
 value-again : (digit : ℕ) → is_hex digit ≡ true → (digit ≡ hex_digit (hex_value digit)) × (hex_value digit < 16)
 value-again digit is = (Prim.grind (arith, common_steps), Prim.grind (arith, common_steps))
 

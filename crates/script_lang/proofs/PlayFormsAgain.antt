@@ -1,16 +1,15 @@
 -- The words of a form of a play are of that form.
-use Rattle.std.proofs.Common.{◌≡◌, ℕ, suc, ◌+◌, ◌^◌, ◌<◌, ◌≤◌, Bool, true, false, ◌&&◌, if◌then◌else◌, nat_le, nat_lt, nat_eq, List, [], ◌∷◌, ◌++◌, length, get_or, drop, map, refl, sym, ap, ◌∙◌, subst, arith, Option, Some, None, option_map, IfSome, IfNone, IfOk, Result, Ok, Err, codes}
+use Rattle.std.proofs.Common.{◌≡◌, ℕ, ◌^◌, ◌<◌, ◌≤◌, Bool, true, false, ◌&&◌, if◌then◌else◌, nat_le, nat_lt, nat_eq, List, [], ◌∷◌, length, get_or, map, refl, sym, ap, ◌∙◌, subst, arith, Option, Some, None, IfSome, IfNone, IfOk, Result, Ok, Err, codes}
 use Rattle.std.specs.Borrow.{Bor}
 use Rattle.std.specs.Str.{bytes_eq}
 use Rattle.std.specs.Str.Parse.{digits_value}
-use Rattle.std.proofs.Math.Seq.{drop-cons}
 use Rattle.std.proofs.lemmas.Slice.Eq.{bytes_eq-Decides}
 use Rattle.line_text.specs.Lists.{texts}
 use Rattle.line_text.specs.ReadNumbers.{small_number, number_below}
 use Rattle.std.specs.Fmt.{decimal}
 use Rattle.std.specs.List.{AllByRecursion}
 use Rattle.std.proofs.lemmas.Grind.{common_steps}
-use Rattle.std.proofs.lemmas.List.{length-map, append_assoc, append-nil, drop_all}
+use Rattle.std.proofs.lemmas.List.{length-map}
 use Rattle.act_text.specs.Reading.{name_of}
 use Rattle.act_text.proofs.ActsAgain.{small-again}
 use Rattle.act_text.proofs.Dots.{name_of-name, port_of-port}
@@ -109,18 +108,6 @@ play-none words found none of form is =
     let file = has-file form found is.is (subst (λ (ws : List (List ℕ)). IsFileOf (get_or ws 2 []) found) is.spelled of) in
     none-some form (play_form_of found words) none (ap (play_form_of found) is.spelled ∙ play-again found form is.is file)
 
-pub play-short : (form : PlayForm) → IsPlayForm form → length (play_words form) ≤ 11
-play-short (Part name (Source file)) is = omega arith
-play-short (Part name (Late file)) is = omega arith
-play-short (Part name (Sink file)) is = omega arith
-play-short (Part name Decoder) is = omega arith
-play-short (Part name Alaw) is = omega arith
-play-short (Part name Mulaw) is = omega arith
-play-short (Part name (Gain gain)) is = omega arith
-play-short (Part name (Splitter outputs)) is = omega arith
-play-short (Part name (Mixer weights)) is = let same = length-map weights decimal in omega (arith, is.1.0.1, same)
-play-short (Link output input count size) is = omega arith
-
 -- a name without a part is no form
 pub part-none : (name : Option (List ℕ)) → part_with name None ≡ None
 part-none (Some name) = refl
@@ -185,36 +172,6 @@ found-weights words (Err e) is = tt
 found-weights words (Ok None) is = tt
 found-weights words (Ok (Some weights)) is = weights-some words weights (sym is)
 
--- one word more
-pub weights-more : (whole : Option (List ℕ)) (words : List (Bor (List ℕ))) (i : ℕ) (word : Bor (List ℕ)) (xs : List ℕ) (weight : ℕ) → i < length words
-    → whole ≡ option_map (λ ws. xs ++ ws) (weights_of (texts (drop i words))) → Some weight ≡ number_within 0 65535 (get_or words i word).now
-    → whole ≡ option_map (λ ws. (xs ++ (weight ∷ [])) ++ ws) (weights_of (texts (drop (i + 1) words)))
-weights-more whole words i word xs weight below so is =
-    let next : suc i ≡ i + 1 = omega arith in
-    so
-    ∙ ap (λ (rest : List (Bor (List ℕ))). option_map (λ ws. xs ++ ws) (weights_of (texts rest))) (drop-cons words i word below)
-    ∙ ap (λ (o : Option ℕ). option_map (λ ws. xs ++ ws) (with_first o (weights_of (texts (drop (suc i) words))))) (sym is)
-    ∙ shift (weights_of (texts (drop (suc i) words)))
-    ∙ ap (λ (k : ℕ). option_map (λ ws. (xs ++ (weight ∷ [])) ++ ws) (weights_of (texts (drop k words)))) next
-  where
-    shift : (o : Option (List ℕ)) → option_map (λ ws. xs ++ ws) (with_first (Some weight) o) ≡ option_map (λ ws. (xs ++ (weight ∷ [])) ++ ws) o
-    shift None = refl
-    shift (Some ws) = ap Some (sym (append_assoc xs (weight ∷ []) ws))
-
--- a word that is no weight
-pub weights-stop : (whole : Option (List ℕ)) (words : List (Bor (List ℕ))) (i : ℕ) (word : Bor (List ℕ)) (xs : List ℕ) → i < length words
-    → whole ≡ option_map (λ ws. xs ++ ws) (weights_of (texts (drop i words))) → None ≡ number_within 0 65535 (get_or words i word).now → None ≡ whole
-weights-stop whole words i word xs below so is =
-    sym (so
-    ∙ ap (λ (rest : List (Bor (List ℕ))). option_map (λ ws. xs ++ ws) (weights_of (texts rest))) (drop-cons words i word below)
-    ∙ ap (λ (o : Option ℕ). option_map (λ ws. xs ++ ws) (with_first o (weights_of (texts (drop (suc i) words))))) (sym is))
-
--- behind the last word
-pub weights-all : (whole : Option (List ℕ)) (words : List (Bor (List ℕ))) (i : ℕ) (xs : List ℕ) → length words ≤ i
-    → whole ≡ option_map (λ ws. xs ++ ws) (weights_of (texts (drop i words))) → Some xs ≡ whole
-weights-all whole words i xs past so =
-    sym (so ∙ ap (λ (rest : List (Bor (List ℕ))). option_map (λ ws. xs ++ ws) (weights_of (texts rest))) (drop_all i words past) ∙ ap Some (append-nil xs))
-
 -- ---- the file that a word names
 
 pub filed : {E : Type 0} (r : Result (Option PartForm) E) (verb word : List ℕ) → IsFileName word → IfOk r (λ found. found ≡ word_part_of verb word (Some word))
@@ -242,11 +199,6 @@ three-none verb one two (a ∷ rest) r len is = absurd (omega arith)
 three-none verb one two [] (Err error) len is = tt
 three-none verb one two [] (Ok (Some form)) len is = tt
 three-none verb one two [] (Ok None) len (file, of, is) = λ form. play-none (verb ∷ one ∷ two ∷ []) file (sym is) of form
-
-pub three-some : {E : Type 0} (verb one two : List ℕ) (rest : List (Bor (List ℕ))) (r : Result (Option PlayForm) E) → length rest ≡ 0
-    → IfOk r (λ found. IfSome found (IsPlayFormOf (verb ∷ one ∷ two ∷ []))) → IfOk r (λ found. IfSome found (IsPlayFormOf (verb ∷ one ∷ two ∷ texts rest)))
-three-some verb one two (a ∷ rest) r len is = absurd (omega arith)
-three-some verb one two [] r len is = is
 
 -- a long line has no file, and the third word stands for any
 not-file : (verb one two three : List ℕ) (rest : List (List ℕ)) (form : PlayForm) → IsPlayFormOf (verb ∷ one ∷ two ∷ three ∷ rest) form → HasFile form None

@@ -1,32 +1,19 @@
 -- What a line of a play says, and what it comes to.
-use Rattle.std.proofs.Common.{◌≡◌, ℕ, ◌<◌, ◌≤◌, List, ◌∷◌, length, refl, ap, ◌∙◌, arith, inl, inr, IsTrue, Option, Some, None, IfNone, Ok, Err}
+use Rattle.std.proofs.Common.{◌≡◌, ℕ, List, ◌∷◌, refl, ap, ◌∙◌, inl, inr, IsTrue, Option, Some, None, IfNone, Ok, Err}
 use Rattle.omx_types.specs.declared.fault.ScriptWhy.{ScriptWhy}
 use Rattle.omx_types.specs.declared.fault.ScriptWhy.TheVariants as whys
 use Rattle.script_lang.specs.PlayKnown.{has_place}
 use Rattle.script_lang.specs.LineByLine.{ComeTo, GoesOn, fault_at}
 use Rattle.script_lang.specs.Scripts.{units_of}
-use Rattle.script_lang.specs.PlayScripts.{PlayBefore, PlaySays, PlayComes, IsPlayUnits, AreNoPlayForm, with_play_units, with_form}
+use Rattle.script_lang.specs.PlayScripts.{PlayBefore, PlaySays, PlayComes, IsPlayUnits, with_play_units, with_form}
 use Rattle.script_lang.specs.declared.play_form.PlayForm.{PlayForm}
 use Rattle.script_lang.specs.declared.play_saying.PlaySaid.TheVariants.{Nothing, Units, Form, Fault}
 use Rattle.script_lang.proofs.FormsAgain.{units-again}
-use Rattle.script_lang.proofs.PlayFormsAgain.{play-short}
 use Rattle.script_lang.proofs.Sayings.{none-some}
 
 pub play_units-none : (before : PlayBefore) (words : List (List ℕ)) (r : Option ℕ) → r ≡ units_of words → IfNone r ((n : ℕ) → IsPlayUnits before words n → ⊥)
 play_units-none before words (Some n) is = tt
 play_units-none before words None is = λ n units. none-some n (is ∙ ap units_of units.spelled ∙ units-again n units.few)
-
-pub long-no-play : (before : PlayBefore) (words : List (List ℕ)) → 16 < length words → AreNoPlayForm before words
-long-no-play before words long = record {
-  units = λ n is. two long (ap length is.spelled);
-  form = λ form is. eleven long (ap length is.spelled) (play-short form is.is);
-}
-  where
-    two : 16 < length words → length words ≡ 2 → ⊥
-    two long is = omega arith
-
-    eleven : {n : ℕ} → 16 < length words → length words ≡ n → n ≤ 11 → ⊥
-    eleven long is short = omega arith
 
 pub play-nothing : (script log : List ℕ) (before : PlayBefore) (number : ℕ) (line : List ℕ) → PlaySays script log before line Nothing → GoesOn (PlayComes script log) before number line before
 play-nothing script log before number line says = λ lines outcome come. (Ok before, (Nothing, says, refl), come)

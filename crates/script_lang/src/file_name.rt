@@ -10,7 +10,7 @@ use std::marker::Model;
 use std::str;
 
 /// The most bytes of a file's name.
-const MOST_BYTES: usize = 1_024;
+pub const FILE_NAME_BYTES: usize = 1_024;
 
 /// The name of a file, as a play names it.
 #[derive(Debug, Drop)]
@@ -27,6 +27,7 @@ impl Model for FileName {
 }
 
 impl FileName {
+    /// The name as a value of its own. Whether the words may be a name, `file_text` tells.
     pub fn of(alloc: Global, text: &str) -> Result<FileName, OutOfMemory>
         ensures { IfOk result (λ name. name ≡ text.now) }
     {
@@ -34,22 +35,18 @@ impl FileName {
         Ok(FileName { text })
     }
 
+    /// The bytes of the name.
     pub fn as_bytes(&self) -> &[u8]
         ensures { result.now ≡ self.now }
     {
         self.text.as_bytes()
     }
 
+    /// The name, to be read.
     pub fn as_str(&self) -> &str
         ensures { result.now ≡ self.now }
     {
         self.text.as_str()
-    }
-
-    pub fn into_string(self) -> String
-        ensures { string_bytes result ≡ self }
-    {
-        self.text
     }
 }
 
@@ -58,7 +55,7 @@ pub fn file_text(word: &[u8]) -> Option<&str>
     ensures some { IfSome result (λ text. (text.now ≡ word.now) × IsFileName word.now) }
     ensures none { IfNone result (IsFileName word.now → ⊥) }
 {
-    if word.is_empty() || word.len() > MOST_BYTES || !are_visible(word) {
+    if word.is_empty() || word.len() > FILE_NAME_BYTES || !are_visible(word) {
         return None;
     }
     match str::from_utf8(word) {

@@ -64,21 +64,17 @@ impl Model for TraceLines {
 }
 
 impl TraceLines {
+    /// The lines of a trace, in their order.
     pub fn from_vec(lines: Vec<TraceLine>) -> TraceLines
         ensures { result ≡ lines.items }
     {
         TraceLines { lines }
     }
 
+    /// The lines, to be read.
     pub fn as_slice(&self) -> &[TraceLine]
         ensures { result.now ≡ self.now }
     {
         self.lines.as_slice()
-    }
-
-    pub fn into_vec(self) -> Vec<TraceLine>
-        ensures { result.items ≡ self }
-    {
-        self.lines
     }
 }

@@ -20,7 +20,7 @@ mod saying;
 mod script;
 mod text;
 
-pub use file_name::FileName;
+pub use file_name::{FILE_NAME_BYTES, FileName};
 pub use form::{TraceForm, TraceLine, TraceLines};
 pub use laws::{one_outcome, one_play};
 pub use play_line::{LinkLine, LinkLines, PartForm, PartLine, PartLines, Weights};

@@ -24,6 +24,7 @@ impl Model for Names {
 }
 
 impl Names {
+    /// No names yet.
     pub fn new(alloc: Global) -> Names
         ensures { result ≡ record { components = []; headers = [] } }
     {
@@ -33,6 +34,7 @@ impl Names {
         }
     }
 
+    /// Whether a line before introduced a component of this name.
     pub fn has_component(&self, name: &Name) -> bool
         ensures { result ≡ has_name self.now.components name.now }
     {
@@ -41,6 +43,7 @@ impl Names {
             .any(|component| component.as_bytes() == name.as_bytes())
     }
 
+    /// Whether a line before introduced a header of this name.
     pub fn has_header(&self, name: &Name) -> bool
         ensures { result ≡ has_name self.now.headers name.now }
     {

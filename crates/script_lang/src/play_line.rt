@@ -42,6 +42,7 @@ impl Model for Weights {
 }
 
 impl Weights {
+    /// The weights of a mixer, one for each input.
     pub fn from_vec(weights: Vec<u32>) -> Weights
         requires { (2 ≤ length weights.items) × (length weights.items ≤ 8) }
         ensures { result ≡ weights.items }
@@ -49,18 +50,13 @@ impl Weights {
         Weights { weights }
     }
 
+    /// The weights, by the numbers of the inputs.
     pub fn as_slice(&self) -> &[u32]
         ensures weights { result.now ≡ self.now }
         ensures some { 2 ≤ length result.now }
         ensures few { length result.now ≤ 8 }
     {
         self.weights.as_slice()
-    }
-
-    pub fn into_vec(self) -> Vec<u32>
-        ensures { result.items ≡ self }
-    {
-        self.weights
     }
 }
 
@@ -103,6 +99,7 @@ impl Model for PartLines {
 }
 
 impl PartLines {
+    /// The lines of the components, in their order.
     pub fn from_vec(lines: Vec<PartLine>) -> PartLines
         requires { length lines.items ≤ 32 }
         ensures { result ≡ lines.items }
@@ -110,17 +107,12 @@ impl PartLines {
         PartLines { lines }
     }
 
+    /// The lines of the components, to be read.
     pub fn as_slice(&self) -> &[PartLine]
         ensures lines { result.now ≡ self.now }
         ensures few { length result.now ≤ 32 }
     {
         self.lines.as_slice()
-    }
-
-    pub fn into_vec(self) -> Vec<PartLine>
-        ensures { result.items ≡ self }
-    {
-        self.lines
     }
 }
 
@@ -140,21 +132,17 @@ impl Model for LinkLines {
 }
 
 impl LinkLines {
+    /// The lines of the links, in their order.
     pub fn from_vec(lines: Vec<LinkLine>) -> LinkLines
         ensures { result ≡ lines.items }
     {
         LinkLines { lines }
     }
 
+    /// The lines of the links, to be read.
     pub fn as_slice(&self) -> &[LinkLine]
         ensures { result.now ≡ self.now }
     {
         self.lines.as_slice()
-    }
-
-    pub fn into_vec(self) -> Vec<LinkLine>
-        ensures { result.items ≡ self }
-    {
-        self.lines
     }
 }

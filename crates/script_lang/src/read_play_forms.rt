@@ -16,6 +16,7 @@ use crate::play_form::PlayForm;
 use crate::{FileName, OutOfMemory, PartForm, Weights};
 use act_text::{name_in, port_in};
 use line_text::small_number_in;
+use omx_types::BLOCK_BYTES;
 use std::alloc::Global;
 
 /// The form of a play's line that words are.
@@ -214,7 +215,7 @@ fn link_of(one: &[u8], two: &[u8], count: &[u8], size: &[u8]) -> Option<PlayForm
     let Some(count) = number_within(count, 1, 32) else {
         return None;
     };
-    let Some(size) = number_within(size, 1, 4_096) else {
+    let Some(size) = number_within(size, 1, BLOCK_BYTES) else {
         return None;
     };
     Some(PlayForm::Link {

@@ -109,6 +109,7 @@ fn read_play(alloc: Global, bytes: &[u8], taken: Taken<'_>) -> Result<Script, Sc
     })
 }
 
+/// The error of a faulty line.
 pub fn fault(line: u32, why: ScriptWhy) -> ScriptError
     ensures { result ≡ Errors.Fault (fault_at line why) }
 {

@@ -21,6 +21,7 @@ impl Model for Text {
 }
 
 impl Text {
+    /// The text that has a copy of these bytes.
     pub fn of(alloc: Global, bytes: &[u8]) -> Result<Text, OutOfMemory>
         ensures { IfOk result (λ text. text ≡ bytes.now) }
     {
@@ -35,15 +36,10 @@ impl Text {
         Text { bytes }
     }
 
+    /// The bytes of the text, to be read.
     pub fn as_bytes(&self) -> &[u8]
         ensures { result.now ≡ self.now }
     {
         self.bytes.as_slice()
-    }
-
-    pub fn into_vec(self) -> Vec<u8>
-        ensures { result.items ≡ self }
-    {
-        self.bytes
     }
 }

@@ -70,6 +70,7 @@ pub fn is_up(state: State) -> bool
     matches!(state, State::Idle | State::Executing | State::Pause)
 }
 
+/// Executing alone.
 pub fn is_executing(state: State) -> bool
     ensures { result ≡ is_executing state }
 {

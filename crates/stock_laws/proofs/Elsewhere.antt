@@ -1,11 +1,11 @@
 -- A change at one header leaves the others as they are.
-use Rattle.std.proofs.Common.{◌≡◌, ◌≢◌, ℕ, false, List, [], ◌∷◌, ◌++◌, Some, None, refl, ◌∙◌, arith}
+use Rattle.std.proofs.Common.{◌≡◌, ◌≢◌, ℕ, false, List, [], ◌∷◌, Some, None, refl, ◌∙◌, arith}
 use Rattle.std.proofs.lemmas.Bool.Decides.{nat_tests}
 use Rattle.il_machine.specs.declared.port.PortKey.{PortKey}
 use Rattle.il_machine.specs.declared.header.Spot.{Spot}
 use Rattle.il_machine.specs.World.{HeaderRecord}
 use Rattle.il_machine.specs.Headers.{find_header, has_number, without, changed, put, put_found, put_at, at_spot, Once}
-use Rattle.stock_laws.proofs.Flat.{find-append, find_number, find-without_other, find-without_same}
+use Rattle.stock_laws.proofs.Flat.{find_number, find-without_other, find-without_same}
 use Rattle.stock_laws.proofs.Seeing.{find-at_spot}
 use Rattle.stock_laws.proofs.Stocking.{Elsewhere}
 
@@ -33,9 +33,3 @@ pub changed_elsewhere : (n : ℕ) (change : HeaderRecord → HeaderRecord) (hs :
 unfolding KeepsNumber
 changed_elsewhere n change [] k m d = refl
 changed_elsewhere n change (x ∷ hs) k m d = let i = changed_elsewhere n change hs k m d in grind (arith, nat_tests, k x)
-
-pub without_elsewhere : (n : ℕ) (hs : List HeaderRecord) → Elsewhere n hs (without n hs)
-without_elsewhere n hs m d = find-without_other m n hs d
-
-pub append_elsewhere : (r : HeaderRecord) (hs : List HeaderRecord) → find_header r.state.number hs ≡ None → Elsewhere r.state.number hs (hs ++ r ∷ [])
-append_elsewhere r hs e m d = let q : has_number m r ≡ false = other_number m r.state.number r refl d in find-append m hs r e ∙ rw q refl

@@ -7,12 +7,6 @@ use Rattle.stock_laws.specs.Bare.{StandsBare, StepsBare}
 abbrev pub Then : (World → World → Type 0) → (World → World → Type 0) → World → World → Type 0
 Then F G w v = (mid : World) × F w mid × G mid v
 
-pub follow : (a b c : Kept) (F G : World → World → Type 0) → StepsBare a b F → StepsBare b c G → StepsBare a c (Then F G)
-follow a b c F G f g w S =
-    let x = f w S in
-    let y = g x.0 x.1 in
-    (y.0, y.1, (x.0, x.2, y.2))
-
 -- the change is seen as another, in each world that was stood for
 pub as_change : (a b : Kept) (F G : World → World → Type 0) → StepsBare a b F → ((w v : World) → StandsBare a w → F w v → G w v) → StepsBare a b G
 as_change a b F G f h w S =

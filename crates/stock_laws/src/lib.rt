@@ -29,129 +29,129 @@ pub fn law_of_start()
 
 /// Which ports there are doesn't matter to the headers.
 pub fn law_of_ports()
-    ensures added { (s : Stocked) (hs : List HeaderRecord) (component count : ℕ) →
-        StandsFor s hs → StandsFor (added component count s) hs }
-    ensures removed { (s : Stocked) (hs : List HeaderRecord) (component : ℕ) →
-        StandsFor s hs → StandsFor (removed component s) hs }
+    ensures added { (stocked : Stocked) (hs : List HeaderRecord) (component count : ℕ) →
+        StandsFor stocked hs → StandsFor (added component count stocked) hs }
+    ensures removed { (stocked : Stocked) (hs : List HeaderRecord) (component : ℕ) →
+        StandsFor stocked hs → StandsFor (removed component stocked) hs }
 {}
 
 /// A header that is in no list is put at a spot of a port, with what it carries.
 pub fn law_of_push()
-    ensures { (s : Stocked) (hs : List HeaderRecord) (key : PortKey) (spot : Spot) (n : ℕ) (load : Load) (h : HeaderState) →
-        StandsFor s hs → s.headers.header n ≡ Some h → h.queue ≡ Out →
-        StandsFor (pushed key spot n load s) (put key spot n (loaded load) hs) }
+    ensures { (stocked : Stocked) (hs : List HeaderRecord) (key : PortKey) (spot : Spot) (number : ℕ) (load : Load) (header_state : HeaderState) →
+        StandsFor stocked hs → stocked.headers.header number ≡ Some header_state → header_state.queue ≡ Out →
+        StandsFor (pushed key spot number load stocked) (put key spot number (loaded load) hs) }
 {}
 
 /// The front of a list of a port leaves it where it stands.
 pub fn law_of_leaving()
-    ensures todo { (s : Stocked) (hs : List HeaderRecord) (key : PortKey) →
-        StandsFor s hs → StandsFor (todo_pulled key s) (front_out (s.headers.todo key) hs) }
-    ensures done { (s : Stocked) (hs : List HeaderRecord) (key : PortKey) →
-        StandsFor s hs → StandsFor (done_pulled key s) (front_out (s.headers.done key) hs) }
+    ensures todo { (stocked : Stocked) (hs : List HeaderRecord) (key : PortKey) →
+        StandsFor stocked hs → StandsFor (todo_pulled key stocked) (front_out (stocked.headers.todo key) hs) }
+    ensures done { (stocked : Stocked) (hs : List HeaderRecord) (key : PortKey) →
+        StandsFor stocked hs → StandsFor (done_pulled key stocked) (front_out (stocked.headers.done key) hs) }
 {}
 
 /// A header that is in no list gets an owner, and may get something else to carry where nothing is kept of that; it is made, or
 /// unmade.
 pub fn law_of_owners()
-    ensures given { (s : Stocked) (hs : List HeaderRecord) (n : ℕ) (owner : Owner) (h : HeaderState) →
-        StandsFor s hs → s.headers.header n ≡ Some h → h.queue ≡ Out →
-        StandsFor (header_given n owner s) (changed n (given_to owner) hs) }
-    ensures given_loaded { (s : Stocked) (hs : List HeaderRecord) (n : ℕ) (owner : Owner) (load : Load) (h : HeaderState) →
-        StandsFor s hs → s.headers.header n ≡ Some h → h.queue ≡ Out → s.loads n ≡ None →
-        StandsFor (header_given n owner s) (changed n (λ r. given_to owner (loaded load r)) hs) }
-    ensures made { (s : Stocked) (hs : List HeaderRecord) (state : HeaderState) (load : Load) →
-        StandsFor s hs → s.headers.header s.next ≡ None → state.number ≡ s.next → state.queue ≡ Out →
-        StandsFor (header_made state s) (hs ++ record { state = state; load = load } ∷ []) }
-    ensures unmade { (s : Stocked) (hs : List HeaderRecord) (n : ℕ) (h : HeaderState) →
-        StandsFor s hs → s.headers.header n ≡ Some h → h.queue ≡ Out →
-        StandsFor (header_unmade n s) (without n hs) }
+    ensures given { (stocked : Stocked) (hs : List HeaderRecord) (number : ℕ) (owner : Owner) (header_state : HeaderState) →
+        StandsFor stocked hs → stocked.headers.header number ≡ Some header_state → header_state.queue ≡ Out →
+        StandsFor (header_given number owner stocked) (changed number (given_to owner) hs) }
+    ensures given_loaded { (stocked : Stocked) (hs : List HeaderRecord) (number : ℕ) (owner : Owner) (load : Load) (header_state : HeaderState) →
+        StandsFor stocked hs → stocked.headers.header number ≡ Some header_state → header_state.queue ≡ Out → stocked.loads number ≡ None →
+        StandsFor (header_given number owner stocked) (changed number (λ r. given_to owner (loaded load r)) hs) }
+    ensures made { (stocked : Stocked) (hs : List HeaderRecord) (state : HeaderState) (load : Load) →
+        StandsFor stocked hs → stocked.headers.header stocked.next ≡ None → state.number ≡ stocked.next → state.queue ≡ Out →
+        StandsFor (header_made state stocked) (hs ++ record { state = state; load = load } ∷ []) }
+    ensures unmade { (stocked : Stocked) (hs : List HeaderRecord) (number : ℕ) (header_state : HeaderState) →
+        StandsFor stocked hs → stocked.headers.header number ≡ Some header_state → header_state.queue ≡ Out →
+        StandsFor (header_unmade number stocked) (without number hs) }
 {}
 
 /// The front of `todo` leaves it, and is put at a spot, given to an owner, cleared or as it is, or unmade.
 pub fn law_of_todo()
-    ensures put { (s : Stocked) (hs : List HeaderRecord) (key peer : PortKey) (spot : Spot) (n : ℕ) (ns : List ℕ) (load : Load) →
-        StandsFor s hs → s.headers.todo key ≡ n ∷ ns →
-        StandsFor (pushed peer spot n load (todo_pulled key s)) (put peer spot n (loaded load) hs) }
-    ensures unchanged { (s : Stocked) (hs : List HeaderRecord) (key peer : PortKey) (spot : Spot) (n : ℕ) (ns : List ℕ) (load : Load) →
-        StandsFor s hs → s.headers.todo key ≡ n ∷ ns → s.loads n ≡ Some load →
-        StandsFor (pushed peer spot n load (todo_pulled key s)) (put peer spot n unchanged hs) }
-    ensures cleared { (s : Stocked) (hs : List HeaderRecord) (key peer : PortKey) (spot : Spot) (n : ℕ) (ns : List ℕ) (load : Load) →
-        StandsFor s hs → s.headers.todo key ≡ n ∷ ns → s.loads n ≡ Some load →
-        StandsFor (pushed peer spot n (unloaded load) (todo_pulled key s)) (put peer spot n cleared hs) }
-    ensures given { (s : Stocked) (hs : List HeaderRecord) (key : PortKey) (owner : Owner) (n : ℕ) (ns : List ℕ) →
-        StandsFor s hs → s.headers.todo key ≡ n ∷ ns →
-        StandsFor (header_given n owner (todo_pulled key s)) (changed n (λ r. given_to owner (cleared r)) hs) }
-    ensures given_on { (s : Stocked) (hs : List HeaderRecord) (key : PortKey) (owner : Owner) (n : ℕ) (ns : List ℕ) →
-        StandsFor s hs → s.headers.todo key ≡ n ∷ ns →
-        StandsFor (header_given n owner (todo_pulled key s)) (changed n (given_to owner) hs) }
-    ensures unmade { (s : Stocked) (hs : List HeaderRecord) (key : PortKey) (n : ℕ) (ns : List ℕ) →
-        StandsFor s hs → s.headers.todo key ≡ n ∷ ns →
-        StandsFor (header_unmade n (todo_pulled key s)) (without n hs) }
+    ensures put { (stocked : Stocked) (hs : List HeaderRecord) (key peer : PortKey) (spot : Spot) (number : ℕ) (ns : List ℕ) (load : Load) →
+        StandsFor stocked hs → stocked.headers.todo key ≡ number ∷ ns →
+        StandsFor (pushed peer spot number load (todo_pulled key stocked)) (put peer spot number (loaded load) hs) }
+    ensures unchanged { (stocked : Stocked) (hs : List HeaderRecord) (key peer : PortKey) (spot : Spot) (number : ℕ) (ns : List ℕ) (load : Load) →
+        StandsFor stocked hs → stocked.headers.todo key ≡ number ∷ ns → stocked.loads number ≡ Some load →
+        StandsFor (pushed peer spot number load (todo_pulled key stocked)) (put peer spot number unchanged hs) }
+    ensures cleared { (stocked : Stocked) (hs : List HeaderRecord) (key peer : PortKey) (spot : Spot) (number : ℕ) (ns : List ℕ) (load : Load) →
+        StandsFor stocked hs → stocked.headers.todo key ≡ number ∷ ns → stocked.loads number ≡ Some load →
+        StandsFor (pushed peer spot number (unloaded load) (todo_pulled key stocked)) (put peer spot number cleared hs) }
+    ensures given { (stocked : Stocked) (hs : List HeaderRecord) (key : PortKey) (owner : Owner) (number : ℕ) (ns : List ℕ) →
+        StandsFor stocked hs → stocked.headers.todo key ≡ number ∷ ns →
+        StandsFor (header_given number owner (todo_pulled key stocked)) (changed number (λ r. given_to owner (cleared r)) hs) }
+    ensures given_on { (stocked : Stocked) (hs : List HeaderRecord) (key : PortKey) (owner : Owner) (number : ℕ) (ns : List ℕ) →
+        StandsFor stocked hs → stocked.headers.todo key ≡ number ∷ ns →
+        StandsFor (header_given number owner (todo_pulled key stocked)) (changed number (given_to owner) hs) }
+    ensures unmade { (stocked : Stocked) (hs : List HeaderRecord) (key : PortKey) (number : ℕ) (ns : List ℕ) →
+        StandsFor stocked hs → stocked.headers.todo key ≡ number ∷ ns →
+        StandsFor (header_unmade number (todo_pulled key stocked)) (without number hs) }
 {}
 
 /// The front of `done` leaves it, and is put at a spot, given to an owner, or unmade.
 pub fn law_of_done()
-    ensures put { (s : Stocked) (hs : List HeaderRecord) (key peer : PortKey) (spot : Spot) (n : ℕ) (ns : List ℕ) (load : Load) →
-        StandsFor s hs → s.headers.done key ≡ n ∷ ns →
-        StandsFor (pushed peer spot n load (done_pulled key s)) (put peer spot n (loaded load) hs) }
-    ensures unchanged { (s : Stocked) (hs : List HeaderRecord) (key peer : PortKey) (spot : Spot) (n : ℕ) (ns : List ℕ) (load : Load) →
-        StandsFor s hs → s.headers.done key ≡ n ∷ ns → s.loads n ≡ Some load →
-        StandsFor (pushed peer spot n load (done_pulled key s)) (put peer spot n unchanged hs) }
-    ensures cleared { (s : Stocked) (hs : List HeaderRecord) (key peer : PortKey) (spot : Spot) (n : ℕ) (ns : List ℕ) (load : Load) →
-        StandsFor s hs → s.headers.done key ≡ n ∷ ns → s.loads n ≡ Some load →
-        StandsFor (pushed peer spot n (unloaded load) (done_pulled key s)) (put peer spot n cleared hs) }
-    ensures given { (s : Stocked) (hs : List HeaderRecord) (key : PortKey) (owner : Owner) (n : ℕ) (ns : List ℕ) →
-        StandsFor s hs → s.headers.done key ≡ n ∷ ns →
-        StandsFor (header_given n owner (done_pulled key s)) (changed n (λ r. given_to owner (cleared r)) hs) }
-    ensures unmade { (s : Stocked) (hs : List HeaderRecord) (key : PortKey) (n : ℕ) (ns : List ℕ) →
-        StandsFor s hs → s.headers.done key ≡ n ∷ ns →
-        StandsFor (header_unmade n (done_pulled key s)) (without n hs) }
+    ensures put { (stocked : Stocked) (hs : List HeaderRecord) (key peer : PortKey) (spot : Spot) (number : ℕ) (ns : List ℕ) (load : Load) →
+        StandsFor stocked hs → stocked.headers.done key ≡ number ∷ ns →
+        StandsFor (pushed peer spot number load (done_pulled key stocked)) (put peer spot number (loaded load) hs) }
+    ensures unchanged { (stocked : Stocked) (hs : List HeaderRecord) (key peer : PortKey) (spot : Spot) (number : ℕ) (ns : List ℕ) (load : Load) →
+        StandsFor stocked hs → stocked.headers.done key ≡ number ∷ ns → stocked.loads number ≡ Some load →
+        StandsFor (pushed peer spot number load (done_pulled key stocked)) (put peer spot number unchanged hs) }
+    ensures cleared { (stocked : Stocked) (hs : List HeaderRecord) (key peer : PortKey) (spot : Spot) (number : ℕ) (ns : List ℕ) (load : Load) →
+        StandsFor stocked hs → stocked.headers.done key ≡ number ∷ ns → stocked.loads number ≡ Some load →
+        StandsFor (pushed peer spot number (unloaded load) (done_pulled key stocked)) (put peer spot number cleared hs) }
+    ensures given { (stocked : Stocked) (hs : List HeaderRecord) (key : PortKey) (owner : Owner) (number : ℕ) (ns : List ℕ) →
+        StandsFor stocked hs → stocked.headers.done key ≡ number ∷ ns →
+        StandsFor (header_given number owner (done_pulled key stocked)) (changed number (λ r. given_to owner (cleared r)) hs) }
+    ensures unmade { (stocked : Stocked) (hs : List HeaderRecord) (key : PortKey) (number : ℕ) (ns : List ℕ) →
+        StandsFor stocked hs → stocked.headers.done key ≡ number ∷ ns →
+        StandsFor (header_unmade number (done_pulled key stocked)) (without number hs) }
 {}
 
 /// A header is made and put at a spot.
 pub fn law_of_supply()
-    ensures { (s : Stocked) (hs : List HeaderRecord) (state : HeaderState) (key : PortKey) (spot : Spot) (load : Load) →
-        StandsFor s hs → s.headers.header s.next ≡ None → state.number ≡ s.next → state.queue ≡ Out →
-        StandsFor (pushed key spot s.next load (header_made state s))
+    ensures { (stocked : Stocked) (hs : List HeaderRecord) (state : HeaderState) (key : PortKey) (spot : Spot) (load : Load) →
+        StandsFor stocked hs → stocked.headers.header stocked.next ≡ None → state.number ≡ stocked.next → state.queue ≡ Out →
+        StandsFor (pushed key spot stocked.next load (header_made state stocked))
         (at_spot spot (put_at key spot (record { state = state; load = load })) hs) }
 {}
 
 /// The headers of a list of a port are cleared where they stand.
 pub fn law_of_clearing()
-    ensures todo { (s : Stocked) (hs : List HeaderRecord) (key : PortKey) →
-        StandsFor s hs → StandsFor (todo_cleared key s) (cleared_all (s.headers.todo key) hs) }
-    ensures done { (s : Stocked) (hs : List HeaderRecord) (key : PortKey) →
-        StandsFor s hs → StandsFor (done_cleared key s) (cleared_all (s.headers.done key) hs) }
+    ensures todo { (stocked : Stocked) (hs : List HeaderRecord) (key : PortKey) →
+        StandsFor stocked hs → StandsFor (todo_cleared key stocked) (cleared_all (stocked.headers.todo key) hs) }
+    ensures done { (stocked : Stocked) (hs : List HeaderRecord) (key : PortKey) →
+        StandsFor stocked hs → StandsFor (done_cleared key stocked) (cleared_all (stocked.headers.done key) hs) }
 {}
 
 /// The first header of `todo` without a mark gets one.
 pub fn law_of_marks()
-    ensures { (s : Stocked) (hs : List HeaderRecord) (key : PortKey) (mark : Mark) →
-        StandsFor s hs → StandsFor (marked_first key mark s) (first_marked (s.headers.unmarked key) (Some mark) hs) }
+    ensures { (stocked : Stocked) (hs : List HeaderRecord) (key : PortKey) (mark : Mark) →
+        StandsFor stocked hs → StandsFor (marked_first key mark stocked) (first_marked (stocked.headers.unmarked key) (Some mark) hs) }
 {}
 
 /// A number in front of a list of a port has its header there.
 pub fn law_of_fronts()
-    ensures todo { (s : Stocked) (hs : List HeaderRecord) (key : PortKey) (n : ℕ) (ns : List ℕ) →
-        StandsFor s hs → s.headers.todo key ≡ n ∷ ns → Shows s n (in_todo key) }
-    ensures done { (s : Stocked) (hs : List HeaderRecord) (key : PortKey) (n : ℕ) (ns : List ℕ) →
-        StandsFor s hs → s.headers.done key ≡ n ∷ ns → Shows s n (in_done key) }
+    ensures todo { (stocked : Stocked) (hs : List HeaderRecord) (key : PortKey) (number : ℕ) (ns : List ℕ) →
+        StandsFor stocked hs → stocked.headers.todo key ≡ number ∷ ns → Shows stocked number (in_todo key) }
+    ensures done { (stocked : Stocked) (hs : List HeaderRecord) (key : PortKey) (number : ℕ) (ns : List ℕ) →
+        StandsFor stocked hs → stocked.headers.done key ≡ number ∷ ns → Shows stocked number (in_done key) }
 {}
 
 /// What counts of headers tell: a header that is there is counted, a test that implies another has the smaller count,
 /// and the lists of a port are as long as their counts.
 pub fn law_of_counts()
-    ensures counted { (s : Stocked) (hs : List HeaderRecord) (test : HeaderState → Bool) (n : ℕ) (h : HeaderState) →
-        StandsFor s hs → s.headers.header n ≡ Some h → weight (test h) ≤ s.headers.count test }
-    ensures none { (s : Stocked) (hs : List HeaderRecord) (test : HeaderState → Bool) (n : ℕ) (h : HeaderState) →
-        StandsFor s hs → s.headers.count test ≡ 0 → s.headers.header n ≡ Some h → test h ≡ false }
-    ensures implied { (s : Stocked) (hs : List HeaderRecord) (p q : HeaderState → Bool) →
-        StandsFor s hs → Implies s.headers p q → s.headers.count p ≤ s.headers.count q }
-    ensures fewer { (s : Stocked) (hs : List HeaderRecord) (p q : HeaderState → Bool) (n : ℕ) (h : HeaderState) →
-        StandsFor s hs → Implies s.headers p q → s.headers.header n ≡ Some h → p h ≡ false → q h ≡ true →
-        s.headers.count p < s.headers.count q }
-    ensures todo { (s : Stocked) (hs : List HeaderRecord) (key : PortKey) →
-        StandsFor s hs → length (s.headers.todo key) ≡ s.headers.count (in_todo key) }
-    ensures done { (s : Stocked) (hs : List HeaderRecord) (key : PortKey) →
-        StandsFor s hs → length (s.headers.done key) ≡ s.headers.count (in_done key) }
+    ensures counted { (stocked : Stocked) (hs : List HeaderRecord) (test : HeaderState → Bool) (number : ℕ) (header_state : HeaderState) →
+        StandsFor stocked hs → stocked.headers.header number ≡ Some header_state → weight (test header_state) ≤ stocked.headers.count test }
+    ensures none { (stocked : Stocked) (hs : List HeaderRecord) (test : HeaderState → Bool) (number : ℕ) (header_state : HeaderState) →
+        StandsFor stocked hs → stocked.headers.count test ≡ 0 → stocked.headers.header number ≡ Some header_state → test header_state ≡ false }
+    ensures implied { (stocked : Stocked) (hs : List HeaderRecord) (p q : HeaderState → Bool) →
+        StandsFor stocked hs → Implies stocked.headers p q → stocked.headers.count p ≤ stocked.headers.count q }
+    ensures fewer { (stocked : Stocked) (hs : List HeaderRecord) (p q : HeaderState → Bool) (number : ℕ) (header_state : HeaderState) →
+        StandsFor stocked hs → Implies stocked.headers p q → stocked.headers.header number ≡ Some header_state → p header_state ≡ false → q header_state ≡ true →
+        stocked.headers.count p < stocked.headers.count q }
+    ensures todo { (stocked : Stocked) (hs : List HeaderRecord) (key : PortKey) →
+        StandsFor stocked hs → length (stocked.headers.todo key) ≡ stocked.headers.count (in_todo key) }
+    ensures done { (stocked : Stocked) (hs : List HeaderRecord) (key : PortKey) →
+        StandsFor stocked hs → length (stocked.headers.done key) ≡ stocked.headers.count (in_done key) }
 {}

@@ -13,27 +13,27 @@ ghost use Rattle.stock_laws.specs.Parts.{IsAlone};
 
 /// Where what is kept stands for one sound world, each world that it stands for is sound.
 pub fn law_of_sound_worlds()
-    ensures { (kept : Kept) (u w : World) → Stands kept u → Sound u → Stands kept w → Sound w }
+    ensures { (kept : Kept) (world after : World) → Stands kept world → Sound world → Stands kept after → Sound after }
 {}
 
 /// The parts that are kept are the world's after a file came to one, after one went out with its work, which then is out in the
 /// world with that part, and after it came back, from a step or from an announcement.
 pub fn law_of_parts()
-    ensures attached { (parts : List (Option PartSeen)) (w : World) (i : ℕ) (c : Component) (file : Offered) (q : Option PartSeen) (p : PartSeen)
-        → slice_get w.components i ≡ Some c → IsAlone i c w.components → slice_get parts i ≡ Some q
-        → ((s : Stream) → stream_of (number_of c) w ≡ Some s → HasDone (terms_of (record c { file = Some (attached file) })) c.part.failed (stream_with file s) p)
-        → HasParts parts w → HasParts (slice_set parts i (Some p)) (with_file i c file w) }
-    ensures claimed { (parts : List (Option PartSeen)) (w : World) (i : ℕ) (c : Component) (work : Work)
-        → slice_get w.components i ≡ Some c → HasParts parts w → HasParts (slice_set parts i None) (with_work i c work w) }
-    ensures out { (w : World) (i : ℕ) (c : Component) (work : Work) (s : Stream) (p : PartSeen)
-        → component_numbered (number_of c) (with_work i c work w) ≡ Some (record c { work = Some work }) → stream_of (number_of c) w ≡ Some s
-        → HasDone (terms_of c) c.part.failed s p → IsOut (with_work i c work w) (seen_work c work w.headers) p }
-    ensures landed { (parts : List (Option PartSeen)) (w : World) (i : ℕ) (c : Component) (done : WorkDone) (s : Stream) (q : Option PartSeen) (p : PartSeen)
-        → slice_get w.components i ≡ Some c → IsAlone i c w.components → slice_get parts i ≡ Some q → stream_of (number_of c) w ≡ Some s
-        → HasDone (terms_of c) (is_some done.fault) (gone_through done s) p
-        → HasParts parts w → HasParts (slice_set parts i (Some p)) (with_landed i c done s w) }
-    ensures told { (parts : List (Option PartSeen)) (w : World) (i : ℕ) (c : Component) (s : Stream) (q : Option PartSeen) (p : PartSeen)
-        → slice_get w.components i ≡ Some c → IsAlone i c w.components → slice_get parts i ≡ Some q → stream_of (number_of c) w ≡ Some s
-        → HasDone (terms_of c) c.part.failed s p
-        → HasParts parts w → HasParts (slice_set parts i (Some p)) (with_component i (announced c) w) }
+    ensures attached { (parts : List (Option PartSeen)) (world : World) (index : ℕ) (component : Component) (file : Offered) (part_seen : Option PartSeen) (other_part_seen : PartSeen)
+        → slice_get world.components index ≡ Some component → IsAlone index component world.components → slice_get parts index ≡ Some part_seen
+        → ((stream : Stream) → stream_of (number_of component) world ≡ Some stream → HasDone (terms_of (record component { file = Some (attached file) })) component.part.failed (stream_with file stream) other_part_seen)
+        → HasParts parts world → HasParts (slice_set parts index (Some other_part_seen)) (with_file index component file world) }
+    ensures claimed { (parts : List (Option PartSeen)) (world : World) (index : ℕ) (component : Component) (work : Work)
+        → slice_get world.components index ≡ Some component → HasParts parts world → HasParts (slice_set parts index None) (with_work index component work world) }
+    ensures out { (world : World) (index : ℕ) (component : Component) (work : Work) (stream : Stream) (part_seen : PartSeen)
+        → component_numbered (number_of component) (with_work index component work world) ≡ Some (record component { work = Some work }) → stream_of (number_of component) world ≡ Some stream
+        → HasDone (terms_of component) component.part.failed stream part_seen → IsOut (with_work index component work world) (seen_work component work world.headers) part_seen }
+    ensures landed { (parts : List (Option PartSeen)) (world : World) (index : ℕ) (component : Component) (done : WorkDone) (stream : Stream) (part_seen : Option PartSeen) (other_part_seen : PartSeen)
+        → slice_get world.components index ≡ Some component → IsAlone index component world.components → slice_get parts index ≡ Some part_seen → stream_of (number_of component) world ≡ Some stream
+        → HasDone (terms_of component) (is_some done.fault) (gone_through done stream) other_part_seen
+        → HasParts parts world → HasParts (slice_set parts index (Some other_part_seen)) (with_landed index component done stream world) }
+    ensures told { (parts : List (Option PartSeen)) (world : World) (index : ℕ) (component : Component) (stream : Stream) (part_seen : Option PartSeen) (other_part_seen : PartSeen)
+        → slice_get world.components index ≡ Some component → IsAlone index component world.components → slice_get parts index ≡ Some part_seen → stream_of (number_of component) world ≡ Some stream
+        → HasDone (terms_of component) component.part.failed stream other_part_seen
+        → HasParts parts world → HasParts (slice_set parts index (Some other_part_seen)) (with_component index (announced component) world) }
 {}

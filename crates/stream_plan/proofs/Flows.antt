@@ -48,16 +48,6 @@ into_at none (other ∷ joints) (old ∷ values) zero place input joint value e 
     let j : other ≡ joint = cc in let v : old ≡ value = cc in rw (j, v) refl
 into_at none (other ∷ joints) (old ∷ values) (suc k) place input joint value e f = into_at none joints values k place input joint value e f
 
-pub given_at_front : {A : Type 0} (given : ℕ → A) (joints : List Joint) (values : List A) (k place : ℕ) (joint : Joint) (value : A)
-    → slice_get joints k ≡ Some joint → slice_get values k ≡ Some value
-    → with_given given (drop k joints) (drop k values) place
-    ≡ cond (joint.giver == place) (given joint.output) value ∷ with_given given (drop (suc k) joints) (drop (suc k) values) place
-given_at_front given [] values k place joint value e f = absurd cc
-given_at_front given (other ∷ joints) [] k place joint value e f = absurd cc
-given_at_front given (other ∷ joints) (old ∷ values) zero place joint value e f =
-    let j : other ≡ joint = cc in let v : old ≡ value = cc in rw (j, v) refl
-given_at_front given (other ∷ joints) (old ∷ values) (suc k) place joint value e f = given_at_front given joints values k place joint value e f
-
 misses : (joint : Joint) (place input : ℕ) → (joint.taker ≡ place → joint.input ≡ input → ⊥) → (joint.taker == place && joint.input == input) ≡ false
 misses joint place input apart =
     either (joint.taker == place && joint.input == input)

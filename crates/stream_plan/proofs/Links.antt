@@ -1,18 +1,13 @@
 -- One link more, the first that can't be, and the ports of one component more.
-use Rattle.std.proofs.Common.{◌≡◌, inl, inr, ℕ, ◌+◌, ◌<◌, ◌==◌, true, false, List, [], ◌∷◌, ◌++◌, length, take, Some, refl, sym, ◌∙◌, ap, subst, arith}
+use Rattle.std.proofs.Common.{◌≡◌, inl, inr, ℕ, ◌+◌, ◌<◌, true, false, List, [], ◌∷◌, ◌++◌, length, take, Some, refl, sym, ◌∙◌, ap, subst, arith}
 use Rattle.std.specs.Prelude.{slice_get}
 use Rattle.std.proofs.Math.Seq.{take-append_seam}
-use Rattle.std.proofs.lemmas.Bool.{eqb-true, eq-eqb}
 use Rattle.std.proofs.lemmas.List.{take-append-le, take-map}
 use Rattle.script_lang.specs.declared.play_line.PartLine.{PartLine}
 use Rattle.script_lang.specs.declared.play_line.LinkLine.{LinkLine}
 use Rattle.play_forms.specs.declared.joint.Joint.{Joint}
-use Rattle.play_forms.specs.Joints.{AllJoin, AllLinked, IsLinked, IsTwice, can_join, joint_of, joints_of}
-use Rattle.play_forms.proofs.Places.{Some_same, both, either}
-use Rattle.stream_plan.proofs.Lists.{map_take_more, slice_get_front, slice_get_more, slice_get_mapped, slice_get_take}
-
-pub none_join : (parts : List PartLine) → AllJoin parts []
-none_join parts k joint e = absurd cc
+use Rattle.play_forms.specs.Joints.{AllJoin, IsTwice, can_join, joint_of, joints_of}
+use Rattle.stream_plan.proofs.Lists.{map_take_more, slice_get_more, slice_get_mapped}
 
 pub joined_more : (parts : List PartLine) (joints : List Joint) (joint : Joint) → AllJoin parts joints → can_join parts joints joint ≡ true → AllJoin parts (joints ++ (joint ∷ []))
 joined_more parts joints joint all can k other e =
@@ -37,21 +32,6 @@ twice_there parts links k link joints there these all clash =
       clashes = subst (λ front. can_join parts front (joint_of parts link) ≡ false) (sym front) clash;
       first = subst (AllJoin parts) (sym front) all;
     }
-
-pub linked_more : (parts : List PartLine) (joints : List Joint) (n : ℕ) (part : PartLine) → slice_get parts n ≡ Some part
-    → AllLinked (take n parts) joints → IsLinked joints n part → AllLinked (take (n + 1) parts) joints
-linked_more parts joints n part there before here place other e =
-    let h = slice_get_take parts (n + 1) place other e in
-    let within : place < n + 1 = h.0 in
-    either (place == n)
-    (λ same.
-    let at : place ≡ n = eqb-true place n same in
-    let found : slice_get parts n ≡ Some other = subst (λ i. slice_get parts i ≡ Some other) at h.1 in
-    let is : part ≡ other = Some_same part other (sym there ∙ found) in
-    subst (λ i. IsLinked joints i other) (sym at) (subst (IsLinked joints n) is here))
-    (λ apart.
-    let ne : place ≡ n → ⊥ = λ at. both (place == n) (eq-eqb place n at) apart in
-    before place other (slice_get_front parts n place other (omega arith) h.1))
 
 pub joints_more : (parts : List PartLine) (links : List LinkLine) (k : ℕ) (link : LinkLine) (joints : List Joint) → slice_get links k ≡ Some link
     → joints ≡ joints_of parts (take k links) → joints ++ (joint_of parts link ∷ []) ≡ joints_of parts (take (k + 1) links)

@@ -6,11 +6,12 @@ ghost use Rattle.play_forms.specs.Parts.{units_needed};
 ghost use Rattle.stream_plan.specs.Faults.{ForTooMany};
 
 use crate::kinds::{kind_of, units};
+use omx_types::BLOCKS;
 use play_forms::{Joint, PlanFault};
 use script_lang::PartLine;
 
 /// The most headers of a play.
-const MOST_HEADERS: u64 = 1_024;
+const MOST_HEADERS: u64 = BLOCKS as u64;
 
 /// Refuses the first link up to which there are too many headers.
 pub fn check_headers(joints: &[Joint]) -> Result<(), PlanFault>

@@ -35,24 +35,28 @@ pub fn ports(kind: Kind) -> u64
     u64::from(inputs(kind)) + u64::from(outputs(kind))
 }
 
+/// Whether the port of this number is an input of the kind.
 pub fn has_input(port: u32, kind: Kind) -> bool
     ensures { result ≡ has_input port kind }
 {
     port < inputs(kind)
 }
 
+/// Whether the port of this number is an output of the kind.
 pub fn has_output(port: u32, kind: Kind) -> bool
     ensures { result ≡ has_output port kind }
 {
     inputs(kind) <= port && u64::from(port) < ports(kind)
 }
 
+/// Whether the kind reads a file.
 pub fn is_source(kind: Kind) -> bool
     ensures { result ≡ is_source kind }
 {
     matches!(kind, Kind::Source | Kind::Late)
 }
 
+/// The units that a component of the kind holds while it is up.
 pub fn units(kind: Kind) -> u32
     ensures units { result ≡ units_of kind }
     ensures few { result ≤ 3 }

@@ -88,6 +88,7 @@ impl Plan {
         }
     }
 
+    /// The units of all components together.
     pub fn units(&self) -> u32
         ensures { result ≡ self.now.units }
     {

@@ -15,7 +15,7 @@ use Rattle.trace_run.specs.Naming.{Moment, Names, NamedHeader, handle_in, handle
 use Rattle.trace_run.specs.Asking.{asked}
 use Rattle.trace_run.specs.Replying.{LineReply, Plain, printed}
 use Rattle.trace_run.specs.Lines.{ActLine, Takes, Answered}
-use Rattle.trace_run.specs.Standing.{Parts, as_header, moment_of, AskReplied, IsPlain, Stood, Leads, LeadsTo, TakeLeads}
+use Rattle.trace_run.specs.Standing.{Parts, as_header, moment_of, AskReplied, IsPlain, IsMoment, Leads, LeadsTo, TakeLeads}
 use Rattle.trace_run.proofs.Made.{made_by}
 use Rattle.history_laws.proofs.Cores.{NoneGot, NoneTaken}
 use Rattle.trace_run.proofs.Standing.{stood_after, run_of_one}
@@ -89,10 +89,10 @@ act_line at lines.Preempt r reply P e = (r, record { one = refl; says = e }, ref
 module _ (old : Parts) (graph : Kept) (act : TextAct) (reply : TextReply) (P : IsPlain act)
     (h : (headers : List NamedHeader) → Steps old.graph graph (AskReplied old.components headers act reply)) where
   -- the same moment, with its names spelled out
-  spelled : (at : Moment) → Stood old at → at ≡ moment_of at.world old.components (map as_header old.slots)
+  spelled : (at : Moment) → IsMoment old at → at ≡ moment_of at.world old.components (map as_header old.slots)
   spelled at S = let e = S.names in λ i. record { world = at.world; names = e i }
 
-  from_moment : (at : Moment) → at ≡ moment_of at.world old.components (map as_header old.slots) → Stood old at → (next : Moment) × Stood (record old { graph = graph }) next × Answered at (act_form act) (Plain reply) next
+  from_moment : (at : Moment) → at ≡ moment_of at.world old.components (map as_header old.slots) → IsMoment old at → (next : Moment) × IsMoment (record old { graph = graph }) next × Answered at (act_form act) (Plain reply) next
   from_moment at e S =
       let headers = map as_header old.slots in
       let x = h headers at.world S.world in

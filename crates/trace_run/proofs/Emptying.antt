@@ -32,8 +32,8 @@ use Rattle.trace_run.specs.declared.slots.Slot.{Slot}
 use Rattle.trace_run.specs.Naming.{Names, header_name}
 use Rattle.trace_run.specs.Replying.{LineReply, Plain, Emptied, Filled, printed}
 use Rattle.trace_run.specs.Lines.{taking}
-use Rattle.trace_run.specs.Standing.{IsSeated, HasStood, Means, TakeLeads}
-use Rattle.trace_run.specs.Closing.{StayStood, StayEnded, is_event, is_note, notes_left}
+use Rattle.trace_run.specs.Standing.{IsSeated, HasNamesFor, Means, TakeLeads}
+use Rattle.trace_run.specs.Closing.{KeepMoments, StayEnded, is_event, is_note, notes_left}
 use Rattle.trace_run.proofs.Standing.{world_rests}
 use Rattle.trace_run.proofs.Taken.{WasTaken, was_taken, named_before, named_then}
 use Rattle.trace_run.proofs.Ends.{seated_there}
@@ -192,7 +192,7 @@ pub record TookSo (old new : Look) (h : Handle) (noted : Bool) : Type 0 where
   pub none : noted ≡ false → notes_left h new ≡ 0
   pub stay : StayEnded old new
 
-module _ (old new : Kept) (slots news : List Slot) (h : Handle) (answer : LineAnswer) (has : HasStood old slots)
+module _ (old new : Kept) (slots news : List Slot) (h : Handle) (answer : LineAnswer) (has : HasNamesFor old slots)
     (f : (components : List NamedComponent) → TakeLeads (record { graph = old; components = components; slots = slots }) (record { graph = new; components = components; slots = news }) h answer) where
   pub took_so : TookSo old.looks new.looks h (is_note answer)
   took_so =
@@ -219,16 +219,16 @@ module _ (old new : Kept) (slots news : List Slot) (h : Handle) (answer : LineAn
         };
       }
 
-  pub took_stood : StayStood old slots new news
+  pub took_stood : KeepMoments old slots new news
   took_stood components S = let y = (f components).2 S.at S.stood in record { at = y.0; stood = y.1 }
 
 -- ---- one after the other
 
-pub stood_on : (a b c : Kept) (r s t : List Slot) → StayStood a r b s → StayStood b s c t → StayStood a r c t
+pub stood_on : (a b c : Kept) (r s t : List Slot) → KeepMoments a r b s → KeepMoments b s c t → KeepMoments a r c t
 stood_on a b c r s t A B components S = B components (A components S)
 
 pub stay_on : (l m n : Look) → StayEnded l m → StayEnded m n → StayEnded l n
 stay_on l m n A B = record { ended = λ h e. B.ended h (A.ended h e); works = λ w. B.works (A.works w) }
 
-pub has_then : (a b : Kept) (r s : List Slot) → StayStood a r b s → HasStood a r → HasStood b s
+pub has_then : (a b : Kept) (r s : List Slot) → KeepMoments a r b s → HasNamesFor a r → HasNamesFor b s
 has_then a b r s A (components, S) = (components, A components S)

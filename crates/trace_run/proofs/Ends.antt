@@ -28,7 +28,7 @@ use Rattle.history_laws.proofs.Steps.{step_comes}
 use Rattle.header_core.specs.BufferHeader.{BufferHeader}
 use Rattle.trace_run.specs.declared.names.NamedComponent.{NamedComponent}
 use Rattle.trace_run.specs.declared.slots.Slot.{Slot}
-use Rattle.trace_run.specs.Standing.{Parts, holding, Hands, IsNamed, IsSeated, AreApart, IsOfPort, AreOfPorts, CanEnd}
+use Rattle.trace_run.specs.Standing.{Parts, holding, Hands, IsNamed, IsSeated, HaveOwnNumbers, IsOfPort, AreOfPorts, CanEnd}
 use Rattle.trace_run.proofs.Made.{made_by}
 use Rattle.trace_run.proofs.Numbered.{numbered_step}
 use Rattle.trace_run.proofs.SlotLists.{rising_below, rising_apart}
@@ -79,7 +79,7 @@ seated_new components entry kind w v C A =
       | inr new ↦ subst (IsSeated more) (sym new) ((refl, (_, last)), λ x. refl)
     ]))
 
-pub apart_push : (components : List NamedComponent) (entry : NamedComponent) (numbered : ℕ) → entry.handle.generation ≡ numbered → AreApart components numbered → AreApart (components ++ entry ∷ []) (numbered + 1)
+pub apart_push : (components : List NamedComponent) (entry : NamedComponent) (numbered : ℕ) → entry.handle.generation ≡ numbered → HaveOwnNumbers components numbered → HaveOwnNumbers (components ++ entry ∷ []) (numbered + 1)
 apart_push components entry numbered g A = record {
   below = λ i e at. elim (at_push components i entry e at) [
     | inl old ↦ let l = A.below i e old in omega (arith, l)
@@ -213,9 +213,9 @@ seated_there components k w S A = subst (All (IsSeated components)) (sym (ap (λ
 pub seated_here : (components : List NamedComponent) (k : Kept) (w : World) → Stands k w → All (IsSeated components) w.components → All (IsSeated components) (k.looks).components
 seated_here components k w S A = subst (All (IsSeated components)) (ap (λ (l : Look). l.components) S.looks) A
 
-pub apart_here : (components : List NamedComponent) (k m : Kept) (w v : World) → Stands k w → Stands m v → v.numbered ≡ w.numbered → AreApart components (k.looks).numbered → AreApart components (m.looks).numbered
+pub apart_here : (components : List NamedComponent) (k m : Kept) (w v : World) → Stands k w → Stands m v → v.numbered ≡ w.numbered → HaveOwnNumbers components (k.looks).numbered → HaveOwnNumbers components (m.looks).numbered
 apart_here components k m w v A B n P =
-    subst (AreApart components) (sym (ap (λ (l : Look). l.numbered) A.looks) ∙ (sym n ∙ ap (λ (l : Look). l.numbered) B.looks)) P
+    subst (HaveOwnNumbers components) (sym (ap (λ (l : Look). l.numbered) A.looks) ∙ (sym n ∙ ap (λ (l : Look). l.numbered) B.looks)) P
 
 module _ (old : Parts) (graph : Kept) (w : World) (a : Act) (r : Reply) (v : World) (A : Stands old.graph w) (B : Stands graph v) (S : Sound w) (M : Meets w a) (h : Step w a r v) (n : NoneGot a r) (t : NoneTaken a r) (E : CanEnd old) where
   -- with other slots

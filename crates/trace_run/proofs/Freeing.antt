@@ -43,7 +43,7 @@ use Rattle.il_graph.specs.NoFiles.{NoFile}
 use Rattle.il_graph.specs.Shown.{HaveTheirFiles, file_at, look_of}
 use Rattle.trace_run.specs.declared.names.NamedComponent.{NamedComponent}
 use Rattle.trace_run.specs.declared.slots.Slot.{Slot}
-use Rattle.trace_run.specs.Standing.{GraphShown, Parts, slot_numbered, AreRising, Hands, IsNamed, IsSeated, IsOfPort, IsStood}
+use Rattle.trace_run.specs.Standing.{GraphShown, Parts, slot_numbered, AreRising, Hands, IsNamed, IsSeated, IsOfPort, HasMoment}
 use Rattle.trace_run.specs.Closing.{HaveNoWork, IsEnded, StayEnded, IsFreeable, IsFreed, IsInHand, CanFree, IsOver}
 use Rattle.trace_run.proofs.Ends.{and_some, some_and, none_comes, taken_away, port_kept, seated_there, ends_with}
 use Rattle.trace_run.proofs.Handed.{when_some}
@@ -268,7 +268,7 @@ some_there : {A : Type 0} (o : Option A) → IsSome o → (x : A) × (o ≡ Some
 some_there None h = absurd cc
 some_there (Some x) h = (x, refl)
 
-module _ (kept : Parts) (S : IsStood kept) (E : (i : ℕ) (entry : NamedComponent) → slice_get kept.components i ≡ Some entry → IsEnded entry.handle (kept.graph).looks) (N : HaveNoWork (kept.graph).looks) where
+module _ (kept : Parts) (S : HasMoment kept) (E : (i : ℕ) (entry : NamedComponent) → slice_get kept.components i ≡ Some entry → IsEnded entry.handle (kept.graph).looks) (N : HaveNoWork (kept.graph).looks) where
   abbrev at_world : World
   at_world = S.at.world
 

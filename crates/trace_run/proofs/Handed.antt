@@ -23,7 +23,7 @@ use Rattle.trace_run.specs.Naming.{Moment, Names, NamedHeader, hand_of, in_hand,
 use Rattle.trace_run.specs.Replying.{LineReply, Plain}
 use Rattle.trace_run.specs.Lines.{InHand, Line}
 use Rattle.trace_run.specs.InHand.{IsTakenOut, HasNone}
-use Rattle.trace_run.specs.Standing.{Parts, held_as, holding, names_in, slot_named, HasEmptyHand, Rehanded, Hands, Stood, IsStood, Leads}
+use Rattle.trace_run.specs.Standing.{Parts, held_as, holding, names_in, slot_named, HasEmptyHand, Rehanded, Hands, IsMoment, HasMoment, Leads}
 use Rattle.trace_run.proofs.Ends.{none_out, ports_emptied, ports_holding, ends_with}
 use Rattle.trace_run.proofs.Made.{made_by}
 use Rattle.history_laws.proofs.Cores.{NoneGot, NoneTaken}
@@ -98,11 +98,11 @@ none_named slots name p = ap (option_and_then hand_of) (none_passes (is_named na
 
 -- ---- lines that make no act
 
-pub stays : (old : Parts) (slots : List Slot) (form : TraceForm) (reply : LineReply) → slots ≡ old.slots → ((at : Moment) → Stood old at → Line at form [] reply at.names) → Leads old (record old { slots = slots }) form reply
+pub stays : (old : Parts) (slots : List Slot) (form : TraceForm) (reply : LineReply) → slots ≡ old.slots → ((at : Moment) → IsMoment old at → Line at form [] reply at.names) → Leads old (record old { slots = slots }) form reply
 stays old slots form reply e l =
     subst (λ (ss : List Slot). Leads old (record old { slots = ss }) form reply) (sym e) (λ at S. (at, S, record { entries = []; says = l at S; run = refl }))
 
-in_hand_now : (old : Parts) (name : List ℕ) (hand : Option Held) → in_hand (names_in [] old.slots) name ≡ hand → (at : Moment) → Stood old at → in_hand at.names name ≡ hand
+in_hand_now : (old : Parts) (name : List ℕ) (hand : Option Held) → in_hand (names_in [] old.slots) name ≡ hand → (at : Moment) → IsMoment old at → in_hand at.names name ≡ hand
 in_hand_now old name hand h at S = ap (λ (names : Names). in_hand names name) S.names ∙ h
 
 none_held : (at : Moment) (name : List ℕ) (Then : Held → Type 0) → in_hand at.names name ≡ None → InHand at name [] (Plain texts.NotHeld) at.names Then
@@ -121,13 +121,13 @@ not_filled old name port slots e n = stays old slots (forms.Ftb name port) (Plai
 -- ---- the header in hand
 
 module _ (old : Parts) (name : List ℕ) (place : ℕ) (header : BufferHeader) (without : List Slot) (T : IsTakenOut old.slots name place (Some header) without) where
-  pub in_hand_of : (at : Moment) → Stood old at → in_hand at.names name ≡ Some header.held
+  pub in_hand_of : (at : Moment) → IsMoment old at → in_hand at.names name ≡ Some header.held
   in_hand_of at S = in_hand_now old name (Some header.held) (hand_named old.slots name place (Some header) without T) at S
 
   pub is_hand : Hands old.slots (old.graph).looks → (header.held.number ≡ (T.slot).number) × IsHandedIn header (old.graph).looks
   is_hand H = if_some (T.slot).hand (λ h. (h.held.number ≡ (T.slot).number) × IsHandedIn h (old.graph).looks) header T.hand_is (H.each place T.slot T.there)
 
-  pub may_be_handed : IsStood old → IsHandedIn header (old.graph).looks
+  pub may_be_handed : HasMoment old → IsHandedIn header (old.graph).looks
   may_be_handed S = (is_hand (S.stood).hands).1
 
   -- the header, as it is handed in, is the same one
@@ -135,18 +135,18 @@ module _ (old : Parts) (name : List ℕ) (place : ℕ) (header : BufferHeader) (
     pub number : given.held.number ≡ header.held.number
     pub handed : IsHandedIn given (old.graph).looks
 
-  module _ (graph : Kept) (form : TraceForm) (a : Act) (r : Reply) (reply : LineReply) (given : BufferHeader) (G : (at : Moment) → Stood old at → IsSameHeader given) (M : (w : World) → Stands old.graph w → Meets w a) (n : NoneGot a r) (m : made_by a r ≡ None) (q : NoneTaken a r)
+  module _ (graph : Kept) (form : TraceForm) (a : Act) (r : Reply) (reply : LineReply) (given : BufferHeader) (G : (at : Moment) → IsMoment old at → IsSameHeader given) (M : (w : World) → Stands old.graph w → Meets w a) (n : NoneGot a r) (m : made_by a r ≡ None) (q : NoneTaken a r)
       (steps : Steps old.graph graph (λ w v. Step w a r v)) where
-    numbered : (at : Moment) → Stood old at → given.held.number ≡ (T.slot).number
+    numbered : (at : Moment) → IsMoment old at → given.held.number ≡ (T.slot).number
     numbered at S = (G at S).number ∙ (is_hand S.hands).0
 
-    names_now : (at : Moment) (hand : Option BufferHeader) → Stood old at → with_hand (is_named name) (option_map held_as hand) at.names ≡ names_in old.components (set old.slots place (holding hand T.slot))
+    names_now : (at : Moment) (hand : Option BufferHeader) → IsMoment old at → with_hand (is_named name) (option_map held_as hand) at.names ≡ names_in old.components (set old.slots place (holding hand T.slot))
     names_now at hand S =
         ap (with_hand (is_named name) (option_map held_as hand)) S.names
         ∙ ap (λ (hs : List NamedHeader). record { components = old.components; headers = hs }) (sym (first_changes (is_named name) hand old.slots place T.slot T.first T.there))
 
     -- the act took it in
-    pub went_in : taken_in a r ≡ Some given.held.number → ((at : Moment) → Stood old at → Line at form ((a, r) ∷ []) reply (with_hand (is_named name) None at.names))
+    pub went_in : taken_in a r ≡ Some given.held.number → ((at : Moment) → IsMoment old at → Line at form ((a, r) ∷ []) reply (with_hand (is_named name) None at.names))
         → Leads old (record { graph = graph; components = old.components; slots = set old.slots place (holding None T.slot) }) form reply
     went_in t l at S =
         let w = at.world in
@@ -169,7 +169,7 @@ module _ (old : Parts) (name : List ℕ) (place : ℕ) (header : BufferHeader) (
         )
 
     -- it was refused
-    pub came_back : taken_in a r ≡ None → ((at : Moment) → Stood old at → Line at form ((a, r) ∷ []) reply (with_hand (is_named name) (Some given.held) at.names))
+    pub came_back : taken_in a r ≡ None → ((at : Moment) → IsMoment old at → Line at form ((a, r) ∷ []) reply (with_hand (is_named name) (Some given.held) at.names))
         → Leads old (record { graph = graph; components = old.components; slots = set old.slots place (holding (Some given) T.slot) }) form reply
     came_back t l at S =
         let w = at.world in

@@ -25,7 +25,7 @@ use Rattle.trace_run.specs.Naming.{Moment, Names, handle_in, handle_of, port_in}
 use Rattle.trace_run.specs.Replying.{LineReply, Plain}
 use Rattle.trace_run.specs.Lines.{Entry, EtbLine, is_too_long, line_flags}
 use Rattle.trace_run.specs.InHand.{IsTakenOut}
-use Rattle.trace_run.specs.Standing.{Parts, holding, Rehanded, Stood, IsStood, Leads}
+use Rattle.trace_run.specs.Standing.{Parts, holding, Rehanded, IsMoment, HasMoment, Leads}
 use Rattle.trace_run.proofs.Handed.{IsSameHeader, in_hand_of, may_be_handed, put_back, stays, went_in, came_back, when_some}
 use Rattle.trace_run.proofs.HandedOut.{by_names, with_slots}
 
@@ -75,9 +75,9 @@ fits_in bytes size n = either (nat_lt size (length bytes)) (λ t. absurd (n (ltb
 etb_by : (b c : Bool) (at : Moment) (name : List ℕ) (port : PortName) (header : Held) (entries : List Entry) (reply : LineReply) (next : Names) → b ≡ c → EtbLine c at name port header entries reply next → EtbLine b at name port header entries reply next
 etb_by b c at name port header entries reply next e h = subst (λ (x : Bool). EtbLine x at name port header entries reply next) (sym e) h
 
-module _ (old : Parts) (graph : Kept) (name : List ℕ) (place : ℕ) (header : BufferHeader) (without : List Slot) (T : IsTakenOut old.slots name place (Some header) without) (S : IsStood old)
+module _ (old : Parts) (graph : Kept) (name : List ℕ) (place : ℕ) (header : BufferHeader) (without : List Slot) (T : IsTakenOut old.slots name place (Some header) without) (S : HasMoment old)
     (port : PortName) (id : PortId) (is : id ≡ port_in old.components port) where
-  same : (at : Moment) → Stood old at → IsSameHeader old name place header without T header
+  same : (at : Moment) → IsMoment old at → IsSameHeader old name place header without T header
   same at s = record { number = refl; handed = may_be_handed old name place header without T S }
 
   handed : IsHandedIn header (old.graph).looks
@@ -143,7 +143,7 @@ module _ (old : Parts) (graph : Kept) (name : List ℕ) (place : ℕ) (header : 
       pub given_handed : IsHandedIn given (old.graph).looks
       given_handed = subst (λ (g : BufferHeader). IsHandedIn g (old.graph).looks) (sym by) full_handed
 
-      same_full : (at : Moment) → Stood old at → IsSameHeader old name place header without T full
+      same_full : (at : Moment) → IsMoment old at → IsSameHeader old name place header without T full
       same_full at s = record { number = refl; handed = full_handed }
 
       pub emptied : Steps old.graph graph (λ w v. EmptyThisBuffer w id.handle id.index given.held (Ok tt) v)

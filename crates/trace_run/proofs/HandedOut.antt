@@ -42,7 +42,7 @@ use Rattle.trace_run.specs.declared.slots.Slot.{Slot}
 use Rattle.trace_run.specs.Naming.{Moment, Names, NamedHeader, handle_in, handle_of, port_in, with_component, with_header}
 use Rattle.trace_run.specs.Replying.{LineReply, Plain}
 use Rattle.trace_run.specs.Lines.{Entry, Line, Answered}
-use Rattle.trace_run.specs.Standing.{Parts, as_header, names_in, AreNamed, IsNamed, IsSeated, AreApart, Stood, Leads}
+use Rattle.trace_run.specs.Standing.{Parts, as_header, names_in, AreNamed, IsNamed, IsSeated, HaveOwnNumbers, IsMoment, Leads}
 use Rattle.trace_run.proofs.Seats.{handle_is}
 use Rattle.trace_run.proofs.Ends.{seated_there, seated_here, seated_new, apart_push, ports_kept, ports_named, ports_push, ends_with}
 use Rattle.trace_run.proofs.Made.{made_by}
@@ -54,10 +54,10 @@ use Rattle.trace_run.proofs.Standing.{keeps_all, known_kept, known_push, looks_g
 -- ---- an act that makes nothing and takes nothing in
 
 abbrev pub LeadsOn : Moment → Parts → TraceForm → LineReply → Type 0
-LeadsOn at new form reply = (next : Moment) × Stood new next × Answered at form reply next
+LeadsOn at new form reply = (next : Moment) × IsMoment new next × Answered at form reply next
 
 pub answered_so : (old : Parts) (graph : Kept) (form : TraceForm) (a : Act) (r : Reply) (reply : LineReply) → ((w : World) → Stands old.graph w → Meets w a) → NoneGot a r → made_by a r ≡ None → taken_in a r ≡ None → NoneTaken a r
-    → ((at : Moment) → Stood old at → Line at form ((a, r) ∷ []) reply at.names) → Steps old.graph graph (λ w v. Step w a r v) → Leads old (record old { graph = graph }) form reply
+    → ((at : Moment) → IsMoment old at → Line at form ((a, r) ∷ []) reply at.names) → Steps old.graph graph (λ w v. Step w a r v) → Leads old (record old { graph = graph }) form reply
 answered_so old graph form a r reply M n m t q l h at S =
     let x = h at.world S.world in
     let meets = M at.world S.world in (
@@ -107,8 +107,8 @@ got_named old graph name kind h steps at S =
         hands = hands_kept old.slots (old.graph).looks graph.looks (keeps_all old.graph graph w a r v S.world x.1 S.sound tt x.2 refl) (looks_grow old.graph graph w a r v S.world x.1 S.sound tt x.2) S.hands;
         ends = record {
           seated = seated_here (old.components ++ entry ∷ []) graph v x.1 (seated_new old.components entry N.kind w v N.closes (seated_there old.components old.graph w S.world S.ends.seated));
-          apart = subst (AreApart (old.components ++ entry ∷ [])) (sym N.next ∙ ap (λ (l : Look). l.numbered) x.1.looks)
-              (apart_push old.components entry w.numbered N.number (subst (AreApart old.components) (sym (ap (λ (l : Look). l.numbered) S.world.looks)) S.ends.apart));
+          apart = subst (HaveOwnNumbers (old.components ++ entry ∷ [])) (sym N.next ∙ ap (λ (l : Look). l.numbered) x.1.looks)
+              (apart_push old.components entry w.numbered N.number (subst (HaveOwnNumbers old.components) (sym (ap (λ (l : Look). l.numbered) S.world.looks)) S.ends.apart));
           slots = ports_named old.components entry graph.looks old.slots (ports_kept old.graph graph w a r v S.world x.1 S.sound tt x.2 old.components old.slots S.hands S.ends.slots refl);
         };
       },
@@ -205,7 +205,7 @@ headers_push (x ∷ xs) s = ap (λ (hs : List NamedHeader). as_header x ∷ hs) 
 -- the act made the header, which is in the hand of a new slot
 module _ (old : Parts) (graph : Kept) (form : TraceForm) (a : Act) (r : Reply) (name : List ℕ) (port : PortId) (header : BufferHeader) where
   made_so : IsHandedIn header graph.looks → ((w : World) → Meets w a) → NoneGot a r → made_by a r ≡ Some header.held.number → taken_in a r ≡ None → NoneTaken a r → number_out a r ≡ Some header.held.number
-      → ((w v : World) → Sound w → Sound v → Step w a r v → IsNext w port.handle port.index header.held v) → ((at : Moment) → Stood old at → Line at form ((a, r) ∷ []) (Plain texts.Done) (with_header {E = OmxError} name (Ok header.held) at.names))
+      → ((w v : World) → Sound w → Sound v → Step w a r v → IsNext w port.handle port.index header.held v) → ((at : Moment) → IsMoment old at → Line at form ((a, r) ∷ []) (Plain texts.Done) (with_header {E = OmxError} name (Ok header.held) at.names))
       → Steps old.graph graph (λ w v. Step w a r v) → Leads old (record { graph = graph; components = old.components; slots = old.slots ++ slot_of name port header ∷ [] }) form (Plain texts.Done)
   made_so handed M n m t q out number l steps at S =
       let w = at.world in
@@ -243,7 +243,7 @@ module _ (old : Parts) (graph : Kept) (form : TraceForm) (a : Act) (r : Reply) (
       )
 
 -- what is said of the names of the moment, by the names that are kept
-pub by_names : (old : Parts) (at : Moment) (entries : Names → List Entry) → Stood old at → entries (names_in old.components old.slots) ≡ entries at.names
+pub by_names : (old : Parts) (at : Moment) (entries : Names → List Entry) → IsMoment old at → entries (names_in old.components old.slots) ≡ entries at.names
 by_names old at entries S = ap entries (sym S.names)
 
 -- more slots, by what they are

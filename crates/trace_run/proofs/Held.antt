@@ -33,7 +33,7 @@ use Rattle.trace_run.specs.Lines.{Entry}
 use Rattle.trace_run.specs.Standing.{IsNamed}
 use Rattle.trace_run.proofs.Ends.{and_some, some_and}
 use Rattle.trace_run.proofs.Seats.{place_named}
-use Rattle.trace_run.specs.Works.{HeldWork, seen_of, AreOfWorld, IsHeld, IsAmong, AreApart, AreHeld, HasItsOwn, TakesWork, BackSo}
+use Rattle.trace_run.specs.Works.{HeldWork, seen_of, AreOfWorld, IsHeld, IsAmong, AreOfOwnComponents, AreHeld, HasItsOwn, TakesWork, BackSo}
 
 -- ---- one work
 
@@ -78,7 +78,7 @@ in_push number [] x (suc place, h) = absurd h
 in_push number (y ∷ works) x (zero, h) = inl (0, h)
 in_push number (y ∷ works) x (suc place, h) = elim (in_push number works x (place, h)) [ inl a ↦ inl (among_tail number y works a) | inr e ↦ inr e ]
 
-apart_push : (works : List HeldWork) (x : HeldWork) → AreApart works → (IsAmong x.handle.generation works → ⊥) → AreApart (works ++ x ∷ [])
+apart_push : (works : List HeldWork) (x : HeldWork) → AreOfOwnComponents works → (IsAmong x.handle.generation works → ⊥) → AreOfOwnComponents (works ++ x ∷ [])
 apart_push [] x A n = ((λ a. n a), tt)
 apart_push (y ∷ works) x A n = (
   λ a. elim (in_push y.handle.generation works x a) [ inl b ↦ A.0 b | inr e ↦ n (0, sym e) ],
@@ -92,14 +92,14 @@ in_removed number (y ∷ works) zero a = among_tail number y works a
 in_removed number (y ∷ works) (suc place) (zero, h) = (0, h)
 in_removed number (y ∷ works) (suc place) (suc k, h) = among_tail number y works (in_removed number works place (k, h))
 
-apart_removed : (works : List HeldWork) (place : ℕ) → AreApart works → AreApart (remove works place)
+apart_removed : (works : List HeldWork) (place : ℕ) → AreOfOwnComponents works → AreOfOwnComponents (remove works place)
 apart_removed [] zero A = A
 apart_removed [] (suc place) A = A
 apart_removed (y ∷ works) zero A = A.1
 apart_removed (y ∷ works) (suc place) A = ((λ a. A.0 (in_removed y.handle.generation works place a)), apart_removed works place A.1)
 
 -- the one that was removed is of no other's component
-none_removed : (works : List HeldWork) (place : ℕ) (x : HeldWork) → AreApart works → slice_get works place ≡ Some x → IsAmong x.handle.generation (remove works place) → ⊥
+none_removed : (works : List HeldWork) (place : ℕ) (x : HeldWork) → AreOfOwnComponents works → slice_get works place ≡ Some x → IsAmong x.handle.generation (remove works place) → ⊥
 none_removed [] place x A e a = cc
 none_removed (y ∷ works) zero x A e a = let s : y ≡ x = cc in A.0 (subst (λ (z : HeldWork). IsAmong z.handle.generation works) (sym s) a)
 none_removed (y ∷ works) (suc place) x A e (zero, h) = A.0 (among_at works place x y.handle.generation e (sym h))

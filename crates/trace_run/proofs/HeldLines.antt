@@ -37,8 +37,8 @@ use Rattle.trace_run.specs.Closing.{HaveNoWork}
 use Rattle.trace_run.specs.Naming.{Moment, Names, after_handing, handle_in, handle_of, in_hand, with_component}
 use Rattle.trace_run.specs.Replying.{LineReply, Plain}
 use Rattle.trace_run.specs.Lines.{Entry, IsAct, IsNoAct, ActLine, EtbLine, Line, Answered, is_too_long, line_flags, taking, work_out}
-use Rattle.trace_run.specs.Standing.{Parts, IsNamed, IsSeated, IsStood, Leads, LeadsTo, Stood}
-use Rattle.trace_run.specs.Works.{HeldWork, IsHeld, AreHeld, OnDesk, StoodAll, IsStoodAll, LeadsAll, LeadsAllTo, ClaimedSo, is_held_by, IsOutSomewhere, IsBroughtBack, FinishedSo}
+use Rattle.trace_run.specs.Standing.{Parts, IsNamed, IsSeated, HasMoment, Leads, LeadsTo, IsMoment}
+use Rattle.trace_run.specs.Works.{HeldWork, IsHeld, AreHeld, OnDesk, IsDeskMoment, HasDeskMoment, LeadsAll, LeadsAllTo, ClaimedSo, is_held_by, IsOutSomewhere, IsBroughtBack, FinishedSo}
 use Rattle.trace_run.proofs.Ends.{and_some, named_more, seated_there}
 use Rattle.trace_run.proofs.Held.{AreWorkless, IsWorkless, all_claimed, all_finished, all_named, all_run}
 use Rattle.trace_run.proofs.Handed.{when_some}
@@ -117,7 +117,7 @@ line_workless at (forms.Ftb header port) entries reply next I L =
 
 -- whoever was given a handle has it still
 abbrev pub KeepsNamed : Parts → Parts → TraceForm → Type 0
-KeepsNamed old new form = (reply : LineReply) (at next : Moment) → Stood old at → Stood new next → Answered at form reply next → (h : Handle) → IsNamed old.components h → IsNamed new.components h
+KeepsNamed old new form = (reply : LineReply) (at next : Moment) → IsMoment old at → IsMoment new next → Answered at form reply next → (h : Handle) → IsNamed old.components h → IsNamed new.components h
 
 pub keeps_named : (old new : Parts) (form : TraceForm) → new.components ≡ old.components → KeepsNamed old new form
 keeps_named old new form e reply at next S T A h n = subst (λ (cs : List NamedComponent). IsNamed cs h) (sym e) n
@@ -149,7 +149,7 @@ still_to old new works form answer I N (reply, means, leads) = (reply, means, le
 
 -- ---- the component of a handle
 
-module _ (kept : Parts) (at : Moment) (S : Stood kept at) where
+module _ (kept : Parts) (at : Moment) (S : IsMoment kept at) where
   abbrev w : World
   w = at.world
 
@@ -190,7 +190,7 @@ module _ (kept : Parts) (at : Moment) (S : Stood kept at) where
 
 -- ---- a claim
 
-claimed_named : (old : Parts) (at : Moment) (S : Stood old at) (h : Handle) (v : World) (work : WorkSeen) → Step at.world (acts.Claim h) (acts.Claimed (Ok (ClaimedWork work))) v → IsNamed old.components h
+claimed_named : (old : Parts) (at : Moment) (S : IsMoment old at) (h : Handle) (v : World) (work : WorkSeen) → Step at.world (acts.Claim h) (acts.Claimed (Ok (ClaimedWork work))) v → IsNamed old.components h
 claimed_named old at S h v work step =
     let w = at.world in
     let y = resolved plain w v h (ClaimedWork work) _ step in
@@ -230,10 +230,10 @@ module _ (old : Parts) (works : List HeldWork) (h : Handle) (component : List �
   abbrev before : OnDesk
   before = record { parts = old; works = works }
 
-  named_so : (at : Moment) → Stood old at → handle_of at.names component ≡ h
+  named_so : (at : Moment) → IsMoment old at → handle_of at.names component ≡ h
   named_so at T = ap (λ (n : Names). handle_of n component) T.names ∙ sym is
 
-  none_out : (at : Moment) → StoodAll before at → position (is_held_by h) works ≡ None → work_out at component ≡ None
+  none_out : (at : Moment) → IsDeskMoment before at → position (is_held_by h) works ≡ None → work_out at component ≡ None
   none_out at S p =
       let w = at.world in
       let n = named_so at S.stood in
@@ -323,7 +323,7 @@ finished_some old new h works news place x frames p there n back = rw p (rw ther
 
 -- ---- the work at a place is out in some world
 
-pub out_somewhere : (kept : OnDesk) (place : ℕ) (x : HeldWork) → IsStoodAll kept → slice_get kept.works place ≡ Some x → IsOutSomewhere (kept.parts).graph x
+pub out_somewhere : (kept : OnDesk) (place : ℕ) (x : HeldWork) → HasDeskMoment kept → slice_get kept.works place ≡ Some x → IsOutSomewhere (kept.parts).graph x
 out_somewhere kept place x S there =
     let T = S.stood in
     let w = S.at.world in
@@ -337,7 +337,7 @@ remove_last : (works : List HeldWork) (x : HeldWork) → remove (works ++ x ∷ 
 remove_last [] x = refl
 remove_last (y ∷ works) x = ap (λ (ws : List HeldWork). y ∷ ws) (remove_last works x)
 
-pub last_back : (old : Parts) (graph : Kept) (front : List HeldWork) (x : HeldWork) (frames : ℕ) → IsBroughtBack old.graph graph x frames → IsStoodAll (record { parts = old; works = front ++ x ∷ [] }) → IsStoodAll (record { parts = record old { graph = graph }; works = front })
+pub last_back : (old : Parts) (graph : Kept) (front : List HeldWork) (x : HeldWork) (frames : ℕ) → IsBroughtBack old.graph graph x frames → HasDeskMoment (record { parts = old; works = front ++ x ∷ [] }) → HasDeskMoment (record { parts = record old { graph = graph }; works = front })
 last_back old graph front x frames back S =
     let w = S.at.world in
     let T = S.stood.stood in
@@ -359,15 +359,15 @@ last_back old graph front x frames back S =
 pub end_to : (kept : OnDesk) (component : List ℕ) → LeadsAllTo kept kept (forms.Act (lines.End component)) (answers.Plain texts.NotOut)
 end_to kept component = (Plain texts.NotOut, refl, λ at S. (at, S, record { entries = []; says = record { none = refl; says = refl; same = refl }; run = refl }))
 
-pub stood_led : (old new : OnDesk) (form : TraceForm) (answer : LineAnswer) → LeadsAllTo old new form answer → IsStoodAll old → IsStoodAll new
+pub stood_led : (old new : OnDesk) (form : TraceForm) (answer : LineAnswer) → LeadsAllTo old new form answer → HasDeskMoment old → HasDeskMoment new
 stood_led old new form answer (reply, means, leads) S = let x = leads S.at S.stood in record { at = x.0; stood = x.1 }
 
-pub stood_of : (kept : OnDesk) → IsStoodAll kept → IsStood kept.parts
+pub stood_of : (kept : OnDesk) → HasDeskMoment kept → HasMoment kept.parts
 stood_of kept S = record { at = S.at; stood = (S.stood).stood }
 
 -- ---- no work is held
 
-pub none_held : (parts : Parts) → IsStoodAll (record { parts = parts; works = [] }) → HaveNoWork (parts.graph).looks
+pub none_held : (parts : Parts) → HasDeskMoment (record { parts = parts; works = [] }) → HaveNoWork (parts.graph).looks
 none_held parts S =
     let w = S.at.world in
     let T = S.stood.stood in

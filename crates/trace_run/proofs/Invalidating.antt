@@ -33,8 +33,8 @@ use Rattle.history_laws.proofs.Calm.{Fit}
 use Rattle.history_laws.proofs.Cores.{core}
 use Rattle.trace_run.specs.declared.names.NamedComponent.{NamedComponent}
 use Rattle.trace_run.specs.declared.slots.Slot.{Slot}
-use Rattle.trace_run.specs.Standing.{Parts, IsSeated, HasStood, IsStood}
-use Rattle.trace_run.specs.Closing.{StayStood, StayEnded, IsEnded, IsMadeInvalid, notes_left}
+use Rattle.trace_run.specs.Standing.{Parts, IsSeated, HasNamesFor, HasMoment}
+use Rattle.trace_run.specs.Closing.{KeepMoments, StayEnded, IsEnded, IsMadeInvalid, notes_left}
 use Rattle.trace_run.proofs.Ends.{seated_there}
 use Rattle.trace_run.proofs.Lasting.{Any, AreEnding, ending_of, ended_of, ending_step, ending_closes, none_step, none_there, none_here}
 use Rattle.trace_run.proofs.Seats.{found, named_found}
@@ -205,9 +205,9 @@ module _ (components : List NamedComponent) (h : Handle) (w v : World) (S : Soun
 -- ---- what the act leaves
 
 module _ (old new : Kept) (slots : List Slot) (h : Handle) (M : IsMadeInvalid h old new) where
-  pub made_stood : StayStood old slots new slots
+  pub made_stood : KeepMoments old slots new slots
   made_stood components S = elim M [
-    | inl m ↦ subst (λ (k : Kept). IsStood (record { graph = k; components = components; slots = slots })) (sym m.0) S
+    | inl m ↦ subst (λ (k : Kept). HasMoment (record { graph = k; components = components; slots = slots })) (sym m.0) S
     | inr steps ↦
         let kept : Parts = record { graph = old; components = components; slots = slots } in
         let x = steps S.at.world S.stood.world in
@@ -217,7 +217,7 @@ module _ (old new : Kept) (slots : List Slot) (h : Handle) (M : IsMadeInvalid h 
         }
   ]
 
-  module _ (has : HasStood old slots) where
+  module _ (has : HasNamesFor old slots) where
     pub made_stay : StayEnded old.looks new.looks
     made_stay = elim M [
       | inl m ↦ subst (λ (x : Kept). StayEnded old.looks x.looks) (sym m.0) (record { ended = λ k E. E; works = λ A. A })

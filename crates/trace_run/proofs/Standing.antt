@@ -22,7 +22,7 @@ use Rattle.header_core.specs.BufferHeader.{BufferHeader}
 use Rattle.trace_run.specs.declared.names.NamedComponent.{NamedComponent}
 use Rattle.trace_run.specs.declared.slots.Slot.{Slot}
 use Rattle.trace_run.specs.Naming.{Moment, has_number}
-use Rattle.trace_run.specs.Standing.{Parts, names_in, slot_numbered, holding, Hands, AreNamed, HaveSlots, IsAtRest, CanEnd, Stood}
+use Rattle.trace_run.specs.Standing.{Parts, names_in, slot_numbered, holding, Hands, AreNamed, HaveSlots, IsAtRest, CanEnd, IsMoment}
 use Rattle.history_laws.proofs.MadeFor.{made_grows}
 use Rattle.trace_run.proofs.Made.{IsHome, made_by, made_step}
 use Rattle.history_laws.proofs.Cores.{NoneGot, NoneTaken}
@@ -154,10 +154,10 @@ pub record Between (kept : Parts) (at : Moment) : Type 0 where
   pub known : HaveSlots kept.slots (look at.world)
   pub hands : Hands kept.slots kept.graph.looks
 
-pub between_of : (kept : Parts) (at : Moment) → Stood kept at → Between kept at
+pub between_of : (kept : Parts) (at : Moment) → IsMoment kept at → Between kept at
 between_of kept at S = record { world = S.world; rests = S.rests; names = S.names; sound = S.sound; named = S.named; known = S.known; hands = S.hands }
 
-pub stood_with : (kept : Parts) (at : Moment) → Between kept at → CanEnd kept → Stood kept at
+pub stood_with : (kept : Parts) (at : Moment) → Between kept at → CanEnd kept → IsMoment kept at
 stood_with kept at S E = record { world = S.world; rests = S.rests; names = S.names; sound = S.sound; named = S.named; known = S.known; hands = S.hands; ends = E }
 
 -- the names stay, and nothing was made or taken in
@@ -176,8 +176,8 @@ between_after old at graph a r v S M h B n m t =
     }
 
 -- nor was a note taken
-pub stood_after : (old : Parts) (at : Moment) (graph : Kept) (a : Act) (r : Reply) (v : World) → Stood old at → Meets at.world a → Step at.world a r v → Stands graph v → NoneGot a r → made_by a r ≡ None → taken_in a r ≡ None → NoneTaken a r
-    → Stood (record old { graph = graph }) (record at { world = v })
+pub stood_after : (old : Parts) (at : Moment) (graph : Kept) (a : Act) (r : Reply) (v : World) → IsMoment old at → Meets at.world a → Step at.world a r v → Stands graph v → NoneGot a r → made_by a r ≡ None → taken_in a r ≡ None → NoneTaken a r
+    → IsMoment (record old { graph = graph }) (record at { world = v })
 stood_after old at graph a r v S M h B n m t q =
     stood_with (record old { graph = graph }) (record at { world = v }) (between_after old at graph a r v (between_of old at S) M h B n m t)
     (ends_kept old graph at.world a r v S.world B S.sound M h n q S.ends m S.hands)

@@ -38,7 +38,7 @@ use Rattle.trace_run.specs.declared.slots.Slot.{Slot}
 use Rattle.trace_run.specs.Naming.{Moment, Names, NamedHeader, is_numbered, name_of, header_name, with_hand, with_taken, after_taking}
 use Rattle.trace_run.specs.Replying.{LineReply, Plain, Emptied, Filled, printed, filled_reply}
 use Rattle.trace_run.specs.Lines.{taking}
-use Rattle.trace_run.specs.Standing.{Parts, names_in, slot_numbered, holding, machine_note, KeptSo, HasEmptySlot, HasSlotFor, HaveSlots, Hands, AreOfPorts, CanEnd, HasStood, Stood, TakenSo, TakeLeads}
+use Rattle.trace_run.specs.Standing.{Parts, names_in, slot_numbered, holding, machine_note, KeptSo, HasEmptySlot, HasSlotFor, HaveSlots, Hands, AreOfPorts, CanEnd, HasNamesFor, IsMoment, TakenSo, TakeLeads}
 use Rattle.trace_run.proofs.SlotLists.{first_passes, first_changes, hands_with}
 use Rattle.trace_run.proofs.Standing.{Between, between_of, between_after, stood_with, stood_after, known_set, known_home}
 use Rattle.trace_run.proofs.Taken.{note_of, AtHeaderIn, WasTaken, was_taken, named_before, IsOutNow, out_now, progress_now, taken_home}
@@ -100,7 +100,7 @@ module _ (components : List NamedComponent) (slots : List Slot) (old mid new : K
       pub knows : WasTold h now_told world
       pub between : Between (record before { graph = mid }) (record at { world = world })
 
-    pub middle : (at : Moment) → Stood before at → IsMiddle at
+    pub middle : (at : Moment) → IsMoment before at → IsMiddle at
     middle at S =
         let w = at.world in
         let x = step w S.world in
@@ -125,7 +125,7 @@ module _ (components : List NamedComponent) (slots : List Slot) (old mid new : K
       abbrev with_note : Moment → Moment
       with_note at = record at { names = with_taken (taken_of taken) at.names }
 
-      module _ (at : Moment) (S0 : Stood before at) (M : IsMiddle at) (P : AreOfPorts components mid.looks news) where
+      module _ (at : Moment) (S0 : IsMoment before at) (M : IsMiddle at) (P : AreOfPorts components mid.looks news) where
         ends_so : (u : World) → Stands new u → EndNote M.world h u → Between (record { graph = mid; components = components; slots = news }) (with_note (record at { world = M.world })) → CanEnd after
         ends_so u B e S =
             let w = at.world in
@@ -138,7 +138,7 @@ module _ (components : List NamedComponent) (slots : List Slot) (old mid new : K
             }
 
         finish : Between (record { graph = mid; components = components; slots = news }) (with_note (record at { world = M.world })) → printed at.names (acts.Took taken_result) ≡ Some reply
-            → (next : Moment) × Stood after next × TakenSo at h reply next
+            → (next : Moment) × IsMoment after next × TakenSo at h reply next
         finish S says =
             let y = ended M.world M.stands M.knows in
             let u = y.0 in (
@@ -267,7 +267,7 @@ slot_for slots w l m (notes.Told event) K H S O = tt
 slot_for slots w l m (notes.EmptyDone header) K H S O = empty_slot slots l m header S O (known_home slots w header.held.number K H)
 slot_for slots w l m (notes.FillDone header) K H S O = empty_slot slots l m header S O (known_home slots w header.held.number K H)
 
-module _ (slots : List Slot) (old mid : Kept) (h : Handle) (taken : Taken) (has : HasStood old slots) (step : Steps old mid (λ w v. TakeNote w h (Ok (TookNote (taken_of taken))) v)) where
+module _ (slots : List Slot) (old mid : Kept) (h : Handle) (taken : Taken) (has : HasNamesFor old slots) (step : Steps old mid (λ w v. TakeNote w h (Ok (TookNote (taken_of taken))) v)) where
   abbrev here : World
   here = (has.1).at.world
 

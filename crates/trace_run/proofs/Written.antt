@@ -14,7 +14,7 @@ use Rattle.script_lang.specs.declared.script.Script.TheVariants.{Trace}
 use Rattle.trace_run.specs.Naming.{Moment}
 use Rattle.trace_run.specs.Replying.{LineReply}
 use Rattle.trace_run.specs.Lines.{Answered}
-use Rattle.trace_run.specs.Works.{OnDesk, StoodAll}
+use Rattle.trace_run.specs.Works.{OnDesk, IsDeskMoment}
 use Rattle.trace_run.specs.Traced.{line_text, Lead, beginning, GotTrace, GotFront, GotLines, IsStopped}
 use Rattle.trace_run.specs.Writing.{PrintsLine, GotBody, IsBroken, FromEach}
 
@@ -45,7 +45,7 @@ lead_then number at (first ∷ lines) text last line reply next (said, then, res
 
 -- From each moment that was stood for the lines lead to one that is stood for now, and their text was written.
 abbrev pub Carries : OnDesk → OnDesk → List TraceLine → Option (List ℕ) → Option (List ℕ) → Type 0
-Carries from now lines old new = (at : Moment) → StoodAll from at → (text : List ℕ) × (last : Moment) × StoodAll now last × Lead 1 at lines text last × (new ≡ append_known old text)
+Carries from now lines old new = (at : Moment) → IsDeskMoment from at → (text : List ℕ) × (last : Moment) × IsDeskMoment now last × Lead 1 at lines text last × (new ≡ append_known old text)
 
 pub carries_none : (from : OnDesk) (lines : List TraceLine) (old : Option (List ℕ)) → Carries from from (take 0 lines) old old
 carries_none from [] old at S = ([], at, S, (refl, refl), sym (append_known-nil old))
@@ -54,10 +54,10 @@ carries_none from (line ∷ lines) old at S = ([], at, S, (refl, refl), sym (app
 -- a line's text behind those of the lines before
 pub record Prints (now next : OnDesk) (lines : List TraceLine) (line : TraceLine) (piece : List ℕ) (at : Moment) (text : List ℕ) : Type 0 where
   pub last : Moment
-  pub stood : StoodAll next last
+  pub stood : IsDeskMoment next last
   pub lead : Lead 1 at (lines ++ line ∷ []) (text ++ piece) last
 
-prints_more : (now next : OnDesk) (lines : List TraceLine) (number : ℕ) (line : TraceLine) (before piece : List ℕ) (at : Moment) (text : List ℕ) (last : Moment) → StoodAll now last → Lead 1 at lines text last
+prints_more : (now next : OnDesk) (lines : List TraceLine) (number : ℕ) (line : TraceLine) (before piece : List ℕ) (at : Moment) (text : List ℕ) (last : Moment) → IsDeskMoment now last → Lead 1 at lines text last
     → number ≡ length lines + 1 → before ≡ [] → PrintsLine now next number line before piece → Prints now next lines line piece at text
 prints_more now next lines number line before piece at text last S lead count empty (reply, leads, is) =
     let x = leads last S in

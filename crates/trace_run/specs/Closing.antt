@@ -17,11 +17,11 @@ use Rattle.trace_run.specs.declared.names.NamedComponent.{NamedComponent}
 use Rattle.trace_run.specs.declared.reply.LineAnswer.{LineAnswer}
 use Rattle.trace_run.specs.declared.reply.LineAnswer.TheVariants as answers
 use Rattle.trace_run.specs.declared.slots.Slot.{Slot}
-use Rattle.trace_run.specs.Standing.{Hands, CanEnd, IsStood}
+use Rattle.trace_run.specs.Standing.{Hands, CanEnd, HasMoment}
 
 -- whatever names the components have, a moment is stood for still
-abbrev pub StayStood : Kept → List Slot → Kept → List Slot → Type 0
-StayStood old slots new news = (components : List NamedComponent) → IsStood (record { graph = old; components = components; slots = slots }) → IsStood (record { graph = new; components = components; slots = news })
+abbrev pub KeepMoments : Kept → List Slot → Kept → List Slot → Type 0
+KeepMoments old slots new news = (components : List NamedComponent) → HasMoment (record { graph = old; components = components; slots = slots }) → HasMoment (record { graph = new; components = components; slots = news })
 
 -- ---- notes
 

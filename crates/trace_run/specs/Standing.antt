@@ -129,7 +129,7 @@ abbrev pub IsSeated : List NamedComponent → Component → Type 0
 IsSeated components c = ((c.client_out ≡ false) × IsNamed components c.handle) × (c.state ≡ states.Invalid → c.pending ≡ None)
 
 -- the handles that lines were given have numbers of their own, below the next one
-pub record AreApart (components : List NamedComponent) (numbered : ℕ) : Type 0 where
+pub record HaveOwnNumbers (components : List NamedComponent) (numbered : ℕ) : Type 0 where
   pub below : (place : ℕ) (entry : NamedComponent) → slice_get components place ≡ Some entry → entry.handle.generation < numbered
   pub one : (i j : ℕ) (a b : NamedComponent) → slice_get components i ≡ Some a → slice_get components j ≡ Some b → a.handle.generation ≡ b.handle.generation → a.handle ≡ b.handle
 
@@ -145,10 +145,11 @@ AreOfPorts components l slots = (place : ℕ) (slot : Slot) → slice_get slots 
 -- each component is seated, and each slot's header was made for its port
 pub record CanEnd (kept : Parts) : Type 0 where
   pub seated : All (IsSeated kept.components) kept.graph.looks.components
-  pub apart : AreApart kept.components kept.graph.looks.numbered
+  pub apart : HaveOwnNumbers kept.components kept.graph.looks.numbered
   pub slots : AreOfPorts kept.components kept.graph.looks kept.slots
 
-pub record Stood (kept : Parts) (at : Moment) : Type 0 where
+-- what is kept stands for this moment
+pub record IsMoment (kept : Parts) (at : Moment) : Type 0 where
   pub world : Stands kept.graph at.world
   pub rests : IsAtRest kept.graph
   pub names : at.names ≡ names_in kept.components kept.slots
@@ -158,14 +159,14 @@ pub record Stood (kept : Parts) (at : Moment) : Type 0 where
   pub hands : Hands kept.slots kept.graph.looks
   pub ends : CanEnd kept
 
--- some moment is stood for
-pub record IsStood (kept : Parts) : Type 0 where
+-- it stands for some moment
+pub record HasMoment (kept : Parts) : Type 0 where
   pub at : Moment
-  pub stood : Stood kept at
+  pub stood : IsMoment kept at
 
 -- From each moment that was stood for, the line leads to one that is stood for now.
 abbrev pub Leads : Parts → Parts → TraceForm → LineReply → Type 0
-Leads old new form reply = (at : Moment) → Stood old at → (next : Moment) × Stood new next × Answered at form reply next
+Leads old new form reply = (at : Moment) → IsMoment old at → (next : Moment) × IsMoment new next × Answered at form reply next
 
 -- what an answer means, with what the slots have after the line's acts
 abbrev pub Means : List Slot → LineAnswer → LineReply → Type 0
@@ -191,7 +192,7 @@ pub record TakenSo (at : Moment) (h : Handle) (reply : LineReply) (next : Moment
 
 abbrev pub TakeLeads : Parts → Parts → Handle → LineAnswer → Type 0
 TakeLeads old new h answer = (reply : LineReply) × Means new.slots answer reply
-    × ((at : Moment) → Stood old at → (next : Moment) × Stood new next × TakenSo at h reply next)
+    × ((at : Moment) → IsMoment old at → (next : Moment) × IsMoment new next × TakenSo at h reply next)
 
 -- the note as the machine queued it
 abbrev pub machine_note : Taken → Note
@@ -219,9 +220,9 @@ KeptSo (notes.Told event) old new answer = (new ≡ old) × (answer ≡ answers.
 KeptSo (notes.EmptyDone header) old new answer = (place : ℕ) × KeptAt header place old new × (answer ≡ answers.Emptied place)
 KeptSo (notes.FillDone header) old new answer = (place : ℕ) × KeptAt header place old new × (answer ≡ answers.Filled place)
 
--- some moment is stood for, with some names of components
-abbrev pub HasStood : Kept → List Slot → Type 0
-HasStood graph slots = (components : List NamedComponent) × IsStood (record { graph = graph; components = components; slots = slots })
+-- with some names of components it stands for a moment
+abbrev pub HasNamesFor : Kept → List Slot → Type 0
+HasNamesFor graph slots = (components : List NamedComponent) × HasMoment (record { graph = graph; components = components; slots = slots })
 
 abbrev pub NamesHeader : TraceForm → Type 0
 NamesHeader (forms.Act act) = ⊥

@@ -26,7 +26,7 @@ use Rattle.trace_run.specs.declared.slots.Slot.{Slot}
 use Rattle.trace_run.specs.Naming.{Moment, Names}
 use Rattle.trace_run.specs.Replying.{LineReply, Plain, printed}
 use Rattle.trace_run.specs.Lines.{Answered}
-use Rattle.trace_run.specs.Standing.{IsNamed, Means, Parts, Stood}
+use Rattle.trace_run.specs.Standing.{IsNamed, Means, Parts, IsMoment}
 
 -- a work that was claimed, what its part shows, and its headers by the numbers of their ports
 pub record HeldWork : Type 0 where
@@ -63,15 +63,15 @@ abbrev pub IsAmong : ℕ → List HeldWork → Type 0
 IsAmong number works = (place : ℕ) × IsSomeAnd (slice_get works place) (λ x. x.handle.generation ≡ number)
 
 -- no two are of one component
-abbrev pub AreApart : List HeldWork → Type 0
-AreApart [] = Unit {0}
-AreApart (x ∷ works) = (IsAmong x.handle.generation works → ⊥) × AreApart works
+abbrev pub AreOfOwnComponents : List HeldWork → Type 0
+AreOfOwnComponents [] = Unit {0}
+AreOfOwnComponents (x ∷ works) = (IsAmong x.handle.generation works → ⊥) × AreOfOwnComponents works
 
 -- each is out, a line was given its handle, no two are of one component, and each that is out is among them
 pub record AreHeld (components : List NamedComponent) (works : List HeldWork) (w : World) : Type 0 where
   pub each : All (IsHeld w) works
   pub named : All (λ x. IsNamed components x.handle) works
-  pub apart : AreApart works
+  pub apart : AreOfOwnComponents works
   pub whole : (number : ℕ) → has_work_out number w ≡ true → IsAmong number works
 
 -- ---- a moment, with the works that are held in it
@@ -80,17 +80,19 @@ pub record OnDesk : Type 0 where
   pub parts : Parts
   pub works : List HeldWork
 
-pub record StoodAll (kept : OnDesk) (at : Moment) : Type 0 where
-  pub stood : Stood kept.parts at
+-- what is kept stands for this moment, and the works are those that are out in it
+pub record IsDeskMoment (kept : OnDesk) (at : Moment) : Type 0 where
+  pub stood : IsMoment kept.parts at
   pub held : AreHeld (kept.parts).components kept.works at.world
 
-pub record IsStoodAll (kept : OnDesk) : Type 0 where
+-- there is such a moment
+pub record HasDeskMoment (kept : OnDesk) : Type 0 where
   pub at : Moment
-  pub stood : StoodAll kept at
+  pub stood : IsDeskMoment kept at
 
 -- from each moment that was stood for, the line leads to one that is stood for now
 abbrev pub LeadsAll : OnDesk → OnDesk → TraceForm → LineReply → Type 0
-LeadsAll old new form reply = (at : Moment) → StoodAll old at → (next : Moment) × StoodAll new next × Answered at form reply next
+LeadsAll old new form reply = (at : Moment) → IsDeskMoment old at → (next : Moment) × IsDeskMoment new next × Answered at form reply next
 
 abbrev pub LeadsAllTo : OnDesk → OnDesk → TraceForm → LineAnswer → Type 0
 LeadsAllTo old new form answer = (reply : LineReply) × Means (new.parts).slots answer reply × LeadsAll old new form reply
@@ -163,10 +165,10 @@ FinishedSo old new h works news reply = MatchOption (position (is_held_by h) wor
 abbrev pub kept_with : Kept → List NamedComponent → List Slot → List HeldWork → OnDesk
 kept_with graph components slots works = record { parts = record { graph = graph; components = components; slots = slots }; works = works }
 
--- some moment is stood for, with some names and headers
-abbrev pub HasStoodAll : Kept → List HeldWork → Type 0
-HasStoodAll graph works = (components : List NamedComponent) × (slots : List Slot) × IsStoodAll (kept_with graph components slots works)
+-- with some names and headers there is such a moment
+abbrev pub HasDeskFor : Kept → List HeldWork → Type 0
+HasDeskFor graph works = (components : List NamedComponent) × (slots : List Slot) × HasDeskMoment (kept_with graph components slots works)
 
--- whatever names and headers there are, a moment is stood for still, with these works in place of those
+-- whatever names and headers there are, there is such a moment still, with these works in place of those
 abbrev pub BringAllBack : Kept → List HeldWork → Kept → List HeldWork → Type 0
-BringAllBack old works new news = (components : List NamedComponent) (slots : List Slot) → IsStoodAll (kept_with old components slots works) → IsStoodAll (kept_with new components slots news)
+BringAllBack old works new news = (components : List NamedComponent) (slots : List Slot) → HasDeskMoment (kept_with old components slots works) → HasDeskMoment (kept_with new components slots news)

@@ -9,7 +9,7 @@ use Rattle.script_lang.specs.declared.form.TraceLine.{TraceLine}
 use Rattle.trace_run.specs.Naming.{Moment}
 use Rattle.trace_run.specs.Replying.{LineReply}
 use Rattle.trace_run.specs.Traced.{line_text, Lead}
-use Rattle.trace_run.specs.Works.{OnDesk, StoodAll, LeadsAll}
+use Rattle.trace_run.specs.Works.{OnDesk, IsDeskMoment, LeadsAll}
 
 -- the line is answered, and its text was appended
 abbrev pub PrintsLine : OnDesk → OnDesk → ℕ → TraceLine → List ℕ → List ℕ → Type 0
@@ -28,4 +28,4 @@ IsBroken at lines old new before now other = ⊥
 
 -- what holds of each moment that is stood for
 abbrev pub FromEach : OnDesk → (Moment → Type 0) → Type 0
-FromEach kept P = (at : Moment) → StoodAll kept at → P at
+FromEach kept P = (at : Moment) → IsDeskMoment kept at → P at

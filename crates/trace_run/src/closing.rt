@@ -3,10 +3,10 @@
 ghost use Rattle.std.specs.Prelude.{◌≡◌, ◌<◌, [], IsTrue, IsFalse};
 ghost use Rattle.il_machine.specs.States.{is_invalid};
 ghost use Rattle.il_graph.specs.Shown.{look_of};
-ghost use Rattle.trace_run.specs.Standing.{graph_kept, HasStood};
+ghost use Rattle.trace_run.specs.Standing.{graph_kept, HasNamesFor};
 ghost use Rattle.trace_run.specs.Desks.{on_desk};
-ghost use Rattle.trace_run.specs.Works.{HasStoodAll, BringAllBack, IsStoodAll};
-ghost use Rattle.trace_run.specs.Closing.{StayStood, StayEnded, IsEnded, IsMadeInvalid, IsFreeable, IsFreed, CanFree, IsOver, is_note, notes_left};
+ghost use Rattle.trace_run.specs.Works.{HasDeskFor, BringAllBack, HasDeskMoment};
+ghost use Rattle.trace_run.specs.Closing.{KeepMoments, StayEnded, IsEnded, IsMadeInvalid, IsFreeable, IsFreed, CanFree, IsOver, is_note, notes_left};
 
 use crate::client::TraceGraph;
 use crate::desk::Desk;
@@ -22,7 +22,7 @@ impl Desk {
     /// Brings each work back, takes the notes, makes each component Invalid, takes the notes again, frees the headers, and gives the
     /// graph back. None of these acts is refused.
     pub fn give_back(self) -> TraceGraph
-        requires { IsStoodAll (on_desk self) }
+        requires { HasDeskMoment (on_desk self) }
         ensures { IsOver (look_of result) }
     {
         let Desk {
@@ -42,7 +42,7 @@ impl Desk {
 
 /// Runs and brings back each work that is held.
 fn bring_all_back(graph: &mut TraceGraph, works: Vec<TraceWork>)
-    requires { HasStoodAll (graph_kept graph.old) works.items }
+    requires { HasDeskFor (graph_kept graph.old) works.items }
     ensures { BringAllBack (graph_kept graph.old) works.items (graph_kept graph.new) [] }
 {
     let mut rest = works;
@@ -54,8 +54,8 @@ fn bring_all_back(graph: &mut TraceGraph, works: Vec<TraceWork>)
 
 /// Takes the notes, makes the component Invalid, and takes the notes again.
 fn end_component(graph: &mut TraceGraph, slots: &mut Vec<Slot>, h: Handle)
-    requires { HasStood (graph_kept graph.old) slots.old.items }
-    ensures stood { StayStood (graph_kept graph.old) slots.old.items (graph_kept graph.new) slots.new.items }
+    requires { HasNamesFor (graph_kept graph.old) slots.old.items }
+    ensures stood { KeepMoments (graph_kept graph.old) slots.old.items (graph_kept graph.new) slots.new.items }
     ensures stay { StayEnded (look_of graph.old) (look_of graph.new) }
     ensures ended { IsEnded h (look_of graph.new) }
 {
@@ -65,8 +65,8 @@ fn end_component(graph: &mut TraceGraph, slots: &mut Vec<Slot>, h: Handle)
 }
 
 fn take_notes(graph: &mut TraceGraph, slots: &mut Vec<Slot>, h: Handle)
-    requires { HasStood (graph_kept graph.old) slots.old.items }
-    ensures stood { StayStood (graph_kept graph.old) slots.old.items (graph_kept graph.new) slots.new.items }
+    requires { HasNamesFor (graph_kept graph.old) slots.old.items }
+    ensures stood { KeepMoments (graph_kept graph.old) slots.old.items (graph_kept graph.new) slots.new.items }
     ensures stay { StayEnded (look_of graph.old) (look_of graph.new) }
     ensures none { notes_left h (look_of graph.new) ≡ 0 }
 {
@@ -75,8 +75,8 @@ fn take_notes(graph: &mut TraceGraph, slots: &mut Vec<Slot>, h: Handle)
 
 /// Takes the oldest note, and answers whether there was one.
 fn take_next(graph: &mut TraceGraph, slots: &mut Vec<Slot>, h: Handle) -> bool
-    requires { HasStood (graph_kept graph.old) slots.old.items }
-    ensures stood { StayStood (graph_kept graph.old) slots.old.items (graph_kept graph.new) slots.new.items }
+    requires { HasNamesFor (graph_kept graph.old) slots.old.items }
+    ensures stood { KeepMoments (graph_kept graph.old) slots.old.items (graph_kept graph.new) slots.new.items }
     ensures stay { StayEnded (look_of graph.old) (look_of graph.new) }
     ensures fewer { IsTrue result → notes_left h (look_of graph.new) < notes_left h (look_of graph.old) }
     ensures none { IsFalse result → notes_left h (look_of graph.new) ≡ 0 }

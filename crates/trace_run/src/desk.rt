@@ -4,7 +4,7 @@ ghost use Rattle.std.specs.Prelude.{◌≡◌, IfOk};
 ghost use Rattle.il_graph.specs.Shown.{look_of};
 ghost use Rattle.trace_run.specs.Traced.{beginning};
 ghost use Rattle.trace_run.specs.Desks.{on_desk};
-ghost use Rattle.trace_run.specs.Works.{StoodAll};
+ghost use Rattle.trace_run.specs.Works.{IsDeskMoment};
 
 use crate::OutOfMemory;
 use crate::client::TraceGraph;
@@ -24,7 +24,7 @@ pub struct Desk {
 impl Desk {
     /// A graph of so many units, in which nothing is made.
     pub fn new(alloc: Global, units: u32) -> Result<Desk, OutOfMemory>
-        ensures { IfOk result (λ desk. StoodAll (on_desk desk) (beginning (look_of desk.graph).key units)) }
+        ensures { IfOk result (λ desk. IsDeskMoment (on_desk desk) (beginning (look_of desk.graph).key units)) }
     {
         Ok(Desk {
             graph: TraceGraph::new(alloc, units)?,

@@ -7,13 +7,14 @@ ghost use Rattle.il_machine.specs.Components.{GetHandle};
 ghost use Rattle.script_lang.specs.declared.form.TraceForm.TheVariants as forms;
 ghost use Rattle.trace_run.specs.declared.slots.Slot.{Slot as HeaderSlot};
 ghost use Rattle.trace_run.specs.Replying.{Plain};
-ghost use Rattle.trace_run.specs.Standing.{parts, IsStood, Leads};
+ghost use Rattle.trace_run.specs.Standing.{parts, HasMoment, Leads};
 
 use crate::OutOfMemory;
-use crate::client::{TraceClient, TraceGraph};
+use crate::client::TraceGraph;
 use crate::names::{NamedComponent, port_id};
 use crate::slots::{Slot, new_slot, put_hand, take_named};
 use act_text::{Name, PortName, TextReply};
+use note_queues::HolderClient;
 use omx_types::{CallError, OmxError};
 use std::alloc::{AllocError, Global};
 use std::str;
@@ -30,6 +31,7 @@ fn no_such_kind(kind: &[u8]) -> OmxError
     }
 }
 
+/// Makes a component under the name.
 pub fn get(
     graph: &mut TraceGraph,
     components: &mut Vec<NamedComponent>,
@@ -44,7 +46,7 @@ pub fn get(
     let Ok(kind_name) = str::from_utf8(kind) else {
         return Ok(TextReply::Error(no_such_kind(kind)));
     };
-    match graph.get_handle(alloc, kind_name, TraceClient::new()) {
+    match graph.get_handle(alloc, kind_name, HolderClient::new()) {
         Ok(handle) => {
             components.push_reserved(NamedComponent {
                 name: *name,
@@ -57,6 +59,7 @@ pub fn get(
     }
 }
 
+/// Makes a header of the port, and keeps it under the name.
 pub fn allocate(
     graph: &mut TraceGraph,
     components: &[NamedComponent],
@@ -104,6 +107,7 @@ pub fn use_bytes(
     }
 }
 
+/// Unmakes the header of that name at the port.
 pub fn free(
     graph: &mut TraceGraph,
     components: &[NamedComponent],
@@ -111,7 +115,7 @@ pub fn free(
     name: &Name,
     port: &PortName,
 ) -> TextReply
-    requires { IsStood (parts graph.old components.now slots.old.items) }
+    requires { HasMoment (parts graph.old components.now slots.old.items) }
     ensures { Leads (parts graph.old components.now slots.old.items) (parts graph.new components.now slots.new.items) (forms.FreeBuf name.now port.now) (Plain result) }
 {
     let port = port_id(components, port);
@@ -137,7 +141,7 @@ pub fn empty(
     bytes: &[u8],
     eos: bool,
 ) -> TextReply
-    requires { IsStood (parts graph.old components.now slots.old.items) }
+    requires { HasMoment (parts graph.old components.now slots.old.items) }
     ensures { Leads (parts graph.old components.now slots.old.items) (parts graph.new components.now slots.new.items) (forms.Etb name.now port.now bytes.now eos) (Plain result) }
 {
     let port = port_id(components, port);
@@ -165,7 +169,7 @@ pub fn fill(
     name: &Name,
     port: &PortName,
 ) -> TextReply
-    requires { IsStood (parts graph.old components.now slots.old.items) }
+    requires { HasMoment (parts graph.old components.now slots.old.items) }
     ensures { Leads (parts graph.old components.now slots.old.items) (parts graph.new components.now slots.new.items) (forms.Ftb name.now port.now) (Plain result) }
 {
     let port = port_id(components, port);

@@ -2,9 +2,9 @@
 
 ghost use Rattle.std.specs.Prelude.{◌≡◌, IfOk, OnOk, OnErr};
 ghost use Rattle.script_lang.specs.declared.form.TraceForm.TheVariants as forms;
-ghost use Rattle.trace_run.specs.Standing.{parts, IsStood, Leads, LeadsTo, NamesHeader, TakesHeader};
+ghost use Rattle.trace_run.specs.Standing.{parts, HasMoment, Leads, LeadsTo, NamesHeader, TakesHeader};
 ghost use Rattle.trace_run.specs.Desks.{on_desk, desk_of};
-ghost use Rattle.trace_run.specs.Works.{IsStoodAll, LeadsAllTo};
+ghost use Rattle.trace_run.specs.Works.{HasDeskMoment, LeadsAllTo};
 ghost use Rattle.trace_run.specs.Replying.{Plain};
 ghost use Rattle.trace_run.specs.Writing.{PrintsLine};
 
@@ -31,12 +31,12 @@ pub fn put_line(
     line: &TraceLine,
     text: &mut Vec<u8>,
 ) -> Result<(), OutOfMemory>
-    requires { IsStoodAll (on_desk desk.old) }
+    requires { HasDeskMoment (on_desk desk.old) }
     ensures prints { OnOk result (PrintsLine
         (on_desk desk.old)
         (on_desk desk.new)
         number line.now text.old.items text.new.items) }
-    ensures stood { IsStoodAll (on_desk desk.new) }
+    ensures stood { HasDeskMoment (on_desk desk.new) }
 {
     put_head(number, line.text.as_bytes(), text)?;
     match answer(desk, alloc, &line.form) {
@@ -47,7 +47,7 @@ pub fn put_line(
 
 /// Makes the acts of a line.
 fn answer(desk: &mut Desk, alloc: Global, form: &TraceForm) -> Result<LineAnswer, OutOfMemory>
-    requires { IsStoodAll (on_desk desk.old) }
+    requires { HasDeskMoment (on_desk desk.old) }
     ensures leads { IfOk result (LeadsAllTo (on_desk desk.old) (on_desk desk.new) form.now) }
     ensures unchanged { OnErr result (on_desk desk.new ≡ on_desk desk.old) }
 {
@@ -84,7 +84,7 @@ fn act_answer(
     works: &mut Vec<TraceWork>,
     act: &TextAct,
 ) -> Result<LineAnswer, OutOfMemory>
-    requires { IsStoodAll (desk_of graph.old components.now slots.old.items works.old.items) }
+    requires { HasDeskMoment (desk_of graph.old components.now slots.old.items works.old.items) }
     ensures leads { IfOk result (LeadsAllTo (desk_of graph.old components.now slots.old.items works.old.items) (desk_of graph.new components.now slots.new.items works.new.items) (forms.Act act.now)) }
     ensures unchanged { OnErr result (desk_of graph.new components.now slots.new.items works.new.items ≡ desk_of graph.old components.now slots.old.items works.old.items) }
 {
@@ -112,7 +112,7 @@ fn header_answer(
     form: &TraceForm,
 ) -> Result<LineAnswer, OutOfMemory>
     requires form { NamesHeader form.now }
-    requires stood { IsStood (parts graph.old components.now slots.old.items) }
+    requires stood { HasMoment (parts graph.old components.now slots.old.items) }
     ensures leads { IfOk result (LeadsTo (parts graph.old components.now slots.old.items) (parts graph.new components.now slots.new.items) form.now) }
     ensures unchanged { OnErr result (parts graph.new components.now slots.new.items ≡ parts graph.old components.now slots.old.items) }
 {
@@ -145,7 +145,7 @@ fn hand_reply(
     form: &TraceForm,
 ) -> TextReply
     requires form { TakesHeader form.now }
-    requires stood { IsStood (parts graph.old components.now slots.old.items) }
+    requires stood { HasMoment (parts graph.old components.now slots.old.items) }
     ensures { Leads (parts graph.old components.now slots.old.items) (parts graph.new components.now slots.new.items) form.now (Plain result) }
 {
     match form {

@@ -36,6 +36,7 @@ pub fn handle_of(components: &[NamedComponent], name: &Name) -> Handle
     }
 }
 
+/// The port by its component's handle.
 pub fn port_id(components: &[NamedComponent], port: &PortName) -> PortId
     ensures { result ≡ port_in components.now port.now }
 {
@@ -58,6 +59,7 @@ pub fn component_name(components: &[NamedComponent], number: u64) -> Option<Name
     }
 }
 
+/// The port by its component's name, where the trace has one for it.
 pub fn port_name(components: &[NamedComponent], port: PortId) -> Option<PortName>
     ensures { result ≡ port_name components.now port }
 {

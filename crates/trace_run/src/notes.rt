@@ -7,19 +7,19 @@ ghost use Rattle.il_machine.specs.Whole.{StepsWhere};
 ghost use Rattle.il_graph.specs.Shown.{look_of};
 ghost use Rattle.graph_core.specs.Clients.{IsOut, IsPortDone, WasTold};
 ghost use Rattle.trace_run.specs.declared.names.NamedComponent.{NamedComponent as Named};
-ghost use Rattle.trace_run.specs.Standing.{parts, graph_kept, slot_numbered, machine_note, Rehanded, HasEmptySlot, HasSlotFor, KeptSo, HasStood, TakeLeads};
+ghost use Rattle.trace_run.specs.Standing.{parts, graph_kept, slot_numbered, machine_note, Rehanded, HasEmptySlot, HasSlotFor, KeptSo, HasNamesFor, TakeLeads};
 
-use crate::client::{TraceClient, TraceGraph};
+use crate::client::TraceGraph;
 use crate::reply::LineAnswer;
 use crate::slots::{Slot, place_numbered, put_hand};
 use act_text::TextReply;
 use header_core::Header;
-use note_queues::{Call, Client, Taken, Took};
+use note_queues::{Call, Client, HolderClient, Taken, Took};
 use omx_types::Handle;
 
 /// Takes the oldest note.
 pub fn take(graph: &mut TraceGraph, slots: &mut Vec<Slot>, h: Handle) -> LineAnswer
-    requires { HasStood (graph_kept graph.old) slots.old.items }
+    requires { HasNamesFor (graph_kept graph.old) slots.old.items }
     ensures { (components : List Named) → TakeLeads (parts graph.old components slots.old.items) (parts graph.new components slots.new.items) h result }
 {
     graph.law_of_worlds();
@@ -36,7 +36,7 @@ fn end(
     graph: &mut TraceGraph,
     slots: &mut Vec<Slot>,
     h: Handle,
-    call: Call<TraceClient>,
+    call: Call<HolderClient>,
 ) -> LineAnswer
     requires out { IsOut h (look_of graph.old) }
     requires slot { HasSlotFor slots.old.items call.taken }
@@ -59,7 +59,7 @@ fn end(
 }
 
 /// The client object, told the event of the note, if it is one.
-fn told_of(client: TraceClient, taken: &Taken) -> TraceClient
+fn told_of(client: HolderClient, taken: &Taken) -> HolderClient
     ensures { result ≡ noted_by (machine_note taken.now) client }
 {
     let mut told = client;

@@ -1,15 +1,16 @@
 //! A trace from its first line to `end`: each line is written with its answer, and the graph is closed.
 
-ghost use Rattle.std.specs.Prelude.{◌≡◌, ◌≢◌, ◌≤◌, ◌<◌, ◌^◌, length, false, Err, OnOk, IfErr};
+ghost use Rattle.std.specs.Prelude.{◌≡◌, ◌≢◌, ◌<◌, ◌^◌, length, false, Err, OnOk, IfErr};
 ghost use Rattle.std.specs.Io.KnownBytes.{append_known};
 ghost use Rattle.omx_types.specs.declared.fault.Fault.TheVariants.{WriteFault};
 ghost use Rattle.outside_io.specs.Causes.{Rose};
+ghost use Rattle.outside_io.specs.Keeping.{KeepsSink};
 ghost use Rattle.outside_io.specs.Moves.{AppendsFront};
 ghost use Rattle.script_lang.specs.Scripts.{IsOfCommand};
 ghost use Rattle.script_lang.specs.declared.script.Script.TheVariants.{Trace};
 ghost use Rattle.trace_run.specs.Traced.{GotTrace, IsStopped};
 ghost use Rattle.trace_run.specs.Desks.{on_desk};
-ghost use Rattle.trace_run.specs.Works.{IsStoodAll};
+ghost use Rattle.trace_run.specs.Works.{HasDeskMoment};
 ghost use Rattle.trace_run.specs.Writing.{GotBody, IsBroken, FromEach};
 
 use crate::desk::Desk;
@@ -25,9 +26,8 @@ pub fn trace<O: Sink>(alloc: Global, script: &Script, out: &mut O) -> Result<(),
     requires { IsOfCommand false script.now }
     ensures traced { OnOk result (GotTrace script.now (O.told out.old) (O.told out.new)) }
     ensures stopped { IfErr result (IsStopped script.now (O.told out.old) (O.told out.new) (O.faults out.old) (O.faults out.new)) }
-    ensures later { O.faults out.old ≤ O.faults out.new }
     ensures stands { result ≢ Err WriteFault → O.faults out.new ≡ O.faults out.old }
-    ensures name { O.name out.new ≡ O.name out.old }
+    ensures keeps_sink { KeepsSink O.Sink out.old out.new }
 {
     match script {
         Script::Trace { units, lines } => trace_lines(alloc, *units, lines.as_slice(), out),
@@ -47,9 +47,8 @@ fn trace_lines<O: Sink>(
 ) -> Result<(), Fault>
     ensures traced { OnOk result (GotTrace (Trace units lines.now) (O.told out.old) (O.told out.new)) }
     ensures stopped { IfErr result (IsStopped (Trace units lines.now) (O.told out.old) (O.told out.new) (O.faults out.old) (O.faults out.new)) }
-    ensures later { O.faults out.old ≤ O.faults out.new }
     ensures stands { result ≢ Err WriteFault → O.faults out.new ≡ O.faults out.old }
-    ensures name { O.name out.new ≡ O.name out.old }
+    ensures keeps_sink { KeepsSink O.Sink out.old out.new }
 {
     let Ok(mut desk) = Desk::new(alloc, units) else {
         return Err(Fault::OutOfMemory);
@@ -69,9 +68,8 @@ fn write<O: Sink>(out: &mut O, text: &[u8]) -> Result<(), Fault>
     ensures whole { OnOk result (O.told out.new ≡ append_known (O.told out.old) text.now) }
     ensures front { AppendsFront (O.told out.old) (O.told out.new) text.now }
     ensures fault { IfErr result (λ fault. (fault ≡ WriteFault) × Rose (O.faults out.old) (O.faults out.new)) }
-    ensures later { O.faults out.old ≤ O.faults out.new }
     ensures stands { OnOk result (O.faults out.new ≡ O.faults out.old) }
-    ensures name { O.name out.new ≡ O.name out.old }
+    ensures keeps_sink { KeepsSink O.Sink out.old out.new }
 {
     match write_all(out, text) {
         Ok(()) => Ok(()),
@@ -86,15 +84,14 @@ fn write_lines<O: Sink>(
     lines: &[TraceLine],
     out: &mut O,
 ) -> Result<(), Fault>
-    requires { IsStoodAll (on_desk desk.old) }
+    requires { HasDeskMoment (on_desk desk.old) }
     ensures whole { OnOk result (FromEach (on_desk desk.old) (λ at.
         GotBody at lines.now (O.told out.old) (O.told out.new))) }
     ensures broken { IfErr result (λ fault. FromEach (on_desk desk.old) (λ at.
         IsBroken at lines.now (O.told out.old) (O.told out.new) (O.faults out.old) (O.faults out.new) fault)) }
-    ensures stood { IsStoodAll (on_desk desk.new) }
-    ensures later { O.faults out.old ≤ O.faults out.new }
+    ensures stood { HasDeskMoment (on_desk desk.new) }
     ensures stands { result ≢ Err WriteFault → O.faults out.new ≡ O.faults out.old }
-    ensures name { O.name out.new ≡ O.name out.old }
+    ensures keeps_sink { KeepsSink O.Sink out.old out.new }
 {
     let mut text = Vec::new(alloc);
     for (place, line) in lines.iter().enumerate() {

@@ -1,6 +1,7 @@
 -- Lists of views and of entries.
-use Rattle.std.proofs.Common.{◌≡◌, ℕ, zero, suc, ◌+◌, ◌<◌, ◌≤◌, ◌≢◌, ◌==◌, ltb, cond, List, [], ◌∷◌, ◌++◌, length, set, Bool, true, false, Option, Some, None, sym, refl, ap, ◌∙◌, subst, arith, append_assoc, append-nil, eq-eqb, ne_eqb, length-append}
+use Rattle.std.proofs.Common.{◌≡◌, ℕ, zero, suc, ◌+◌, ◌*◌, ◌<◌, ◌≤◌, ◌≢◌, ◌==◌, ltb, cond, List, [], ◌∷◌, ◌++◌, length, set, Bool, true, false, Option, Some, None, sym, refl, ap, ◌∙◌, subst, arith, append_assoc, append-nil, eq-eqb, ne_eqb, length-append}
 use Rattle.std.proofs.lemmas.Bool.{le-ltb, lt-ltb}
+use Rattle.std.proofs.lemmas.Option.{none-some}
 use mathlib.Core.Option.{some, some-injective, some-ne-none}
 use mathlib.Core.Logic.{dite}
 use native.Mathlib.Decide.{dec_le}
@@ -11,7 +12,7 @@ use Rattle.turnstile.specs.declared.view.Stage.{Stage}
 use Rattle.turnstile.specs.declared.view.Stage.TheVariants.{Empty, Open, Ready}
 use Rattle.turnstile.specs.Entries.{Begins, entry, kept, own, Met, none, next}
 use Rattle.turnstile.specs.Passes.{TicketIs}
-use Rattle.turnstile.specs.Turns.{total, late, placed, HavePlaces}
+use Rattle.turnstile.specs.Turns.{total, IsAmong, HasTicket, one_less, ticket_after, late, placed, HavePlaces}
 
 pub some_is : {X : Type 0} (a b : X) → Some a ≡ Some b → a ≡ b
 some_is {X} a b e = let or_a : Option X → X = elim [ None ↦ a | Some x ↦ x ] in ap or_a e
@@ -66,32 +67,60 @@ module _ {V A R : Type 0} where
   total_snoc f [] w = omega arith
   total_snoc f (x ∷ xs) w = let p = total_snoc f xs w in omega arith
 
+  pub total_most : (f : View V A R → ℕ) → ((v : View V A R) → f v ≤ 65536) → (l : List (View V A R)) → total f l ≤ 65536 * length l
+  total_most f h [] = omega arith
+  total_most f h (x ∷ xs) = let p = total_most f h xs in let q = h x in omega arith
+
   pub total_le : (f : View V A R → ℕ) → ((v : View V A R) → f v ≤ 1) → (l : List (View V A R)) → total f l ≤ length l
   total_le f h [] = omega arith
   total_le f h (x ∷ xs) = let p = total_le f h xs in let q = h x in omega arith
 
-pub late_le : (o : Option ℕ) → late o ≤ 1
-late_le None = omega arith
-late_le (Some t) = by_bool (ltb t 1125899906842624) (λ e. rw e (omega arith)) (λ e. rw e (omega arith))
+pub less_is : (n : ℕ) → 0 < n → n ≡ one_less n + 1
+less_is zero h = absurd (omega arith)
+less_is (suc n) h = omega arith
 
-pub ended_le : (b : Bool) (o : Option ℕ) → cond b 1 (late o) ≤ 1
-ended_le true o = omega arith
-ended_le false o = late_le o
+pub late_le : (o : Option ℕ) (m : ℕ) → late o m ≤ 65536
+late_le None m = omega arith
+late_le (Some t) m = by_bool (ltb (t + m) 1125899906842624) (λ e. rw e (omega arith)) (λ e. rw e (omega arith))
 
--- a ticket that is too late is counted
-pub late_counts : (n x : ℕ) → n ≤ 1125899906842624 + x → n + 1 ≤ 1125899906842624 + (x + late (Some n))
-late_counts n x h = dite (dec_le 1125899906842624 n) (λ le. rw (le-ltb n 1125899906842624 le) (omega arith)) (λ n_le. omega arith)
+pub ended_le : (b : Bool) (o : Option ℕ) (m : ℕ) → cond b 65536 (late o m) ≤ 65536
+ended_le true o m = omega arith
+ended_le false o m = late_le o m
 
--- one more ticket is drawn, with a place or without
-pub draws_waiting : (n t t' l : ℕ) → t' ≡ t + placed (Some n) → HavePlaces n (t + l) → HavePlaces (n + 1) (t' + l)
-draws_waiting n t t' l e h = dite (dec_le 1125899906842624 n)
-    (λ le. let p : placed (Some n) ≡ 0 = ap (λ b. cond b 1 0) (le-ltb n 1125899906842624 le) in ((λ small. absurd (omega arith)), λ big. let x = h.1 le in omega arith))
-    (λ n_le. let lt : n < 1125899906842624 = omega arith in let p : placed (Some n) ≡ 1 = ap (λ b. cond b 1 0) (lt-ltb n 1125899906842624 lt) in let x = h.0 (omega arith) in ((λ small. omega arith), (λ big. omega arith)))
+-- tickets that are too late are counted
+pub late_counts : (n m x : ℕ) → m < 65536 → n ≤ 1125899906842624 + x → n + (m + 1) ≤ 1125899906842624 + (x + late (Some n) m)
+late_counts n m x few h = dite (dec_le 1125899906842624 (n + m)) (λ le. rw (le-ltb (n + m) 1125899906842624 le) (omega arith)) (λ n_le. omega arith)
+
+-- tickets are drawn, with places or without
+pub draws_waiting : (n m t t' l : ℕ) → t' ≡ t + placed (Some n) m → HavePlaces n (t + l) → HavePlaces (n + (m + 1)) (t' + l)
+draws_waiting n m t t' l e h = dite (dec_le 1125899906842624 n)
+    (λ le. let x = h.1 le in ((λ small. absurd (omega arith)), λ big. omega arith))
+    (λ n_le. let x = h.0 (omega arith) in ((λ small. omega arith), (λ big. omega arith)))
 
 -- no place waits for a pass that was refused, or that has no ticket
-pub none_waits : (b : Bool) (o : Option ℕ) → TicketIs b o → placed o ≡ 0
-none_waits true o x = ap placed x.1 ∙ ap (λ b. cond b 1 0) (le-ltb x.0 1125899906842624 x.2)
-none_waits false o x = ap placed x
+pub none_waits : (b : Bool) (o : Option ℕ) (m : ℕ) → TicketIs b o → placed o m ≡ 0
+none_waits true o m x = ap (λ (k : Option ℕ). placed k m) x.1 ∙ (let late = x.2 in omega arith)
+none_waits false o m x = ap (λ (k : Option ℕ). placed k m) x
+
+-- the first of the tickets is used
+pub after_among : (o : Option ℕ) (m n t : ℕ) → o ≡ Some n → IsAmong (ticket_after o m) (one_less m) t → IsAmong o m t × (n < t)
+after_among None m n t e h = absurd (none-some n e)
+after_among (Some a) zero n t e h = absurd (none-some h.0 h.1)
+after_among (Some a) (suc m) n t e h = let is = some_is a n e in let next = some_is (a + 1) h.0 h.1 in let low = h.2 in let high = h.3 in ((a, refl, omega arith, omega arith), omega arith)
+
+pub after_placed : (o : Option ℕ) (m n : ℕ) → o ≡ Some n → n < 1125899906842624 → placed o m ≡ placed (ticket_after o m) (one_less m) + 1
+after_placed None m n e h = absurd (none-some n e)
+after_placed (Some a) zero n e h = let is = some_is a n e in omega arith
+after_placed (Some a) (suc m) n e h = let is = some_is a n e in omega arith
+
+pub after_late : (o : Option ℕ) (m n : ℕ) → o ≡ Some n → n < 1125899906842624 → late (ticket_after o m) (one_less m) ≡ late o m
+after_late None m n e h = absurd (none-some n e)
+after_late (Some a) zero n e h = let is = some_is a n e in sym (ap (λ b. cond b 0 65536) (lt-ltb (a + 0) 1125899906842624 (omega arith)))
+after_late (Some a) (suc m) n e h = ap (λ k. cond (ltb k 1125899906842624) 0 65536) (omega arith)
+
+module _ {V A R : Type 0} where
+  pub has_first : (v : View V A R) (t : ℕ) → v.ticket ≡ Some t → HasTicket v t
+  has_first v t e = (t, e, omega arith, omega arith)
 
 module _ {X : Type 0} where
   abbrev all_but : List X → List X
@@ -112,7 +141,7 @@ module _ {X : Type 0} where
   last_snoc d [] x = refl
   last_snoc d (y ∷ ys) x = last_snoc y ys x
 
-  no_snoc : (xs : List X) (x : X) → [] ≡ xs ++ x ∷ [] → ⊥
+  pub no_snoc : (xs : List X) (x : X) → [] ≡ xs ++ x ∷ [] → ⊥
   no_snoc xs x e = let l = ap length e in let k = length-append xs (x ∷ []) in omega arith
 
   -- the two lists and their last elements are the same

@@ -15,7 +15,7 @@ use Rattle.turnstile.specs.declared.view.Stage.TheVariants.{Empty, Open, Ready}
 use Rattle.turnstile.specs.Entries.{Begins, entry, own, Met}
 use Rattle.turnstile.specs.Entries as entries
 use Rattle.turnstile.specs.Turns as turns
-use Rattle.turnstile.specs.Turns.{newborn, opened, filled, parent, child, merged, gone, late, placed, waits, HavePlaces, ended, is_spent, total, Opens, Fills}
+use Rattle.turnstile.specs.Turns.{newborn, opened, filled, parent, child, merged, gone, late, placed, HasTicket, waits, HavePlaces, ended, is_spent, total, Opens, Fills}
 use Rattle.turnstile.proofs.Basics.{by_bool, is_ready, at_below, only_one, total_set, total_snoc, total_le, ended_le}
 use Rattle.turnstile.proofs.Keeps as k
 
@@ -121,7 +121,7 @@ module _ {V A R : Type 0} (legal : V → List (Entry A R) → Type 0) (stands : 
         is_legal = lg;
         met = entries.none;
         fits = λ j u e. let is = only_one new u j e in let j0 = first_of_one new u j e in subst (λ (y : ℕ × W). Fits [] (some (Some key) ∷ []) 0 [] y.0 y.1) (λ i. (sym j0 i, is i)) record {
-          live = λ _. record { stage = refl; number = refl; opening = refl; seen = ([], refl); also = ([], refl); mine = refl; ticket = λ t h. absurd (none-some t h); inside = λ i. absurd (true≢false (sym i)) };
+          live = λ _. record { stage = refl; number = refl; opening = refl; seen = ([], refl); also = ([], refl); mine = refl; ticket = λ t h. absurd (none-some h.0 h.1); inside = λ i. absurd (true≢false (sym i)) };
           gone = λ sp. absurd (true≢false (sym sp));
         };
         later = λ j le. refl;
@@ -153,19 +153,23 @@ module _ {V A R : Type 0} (legal : V → List (Entry A R) → Type 0) (stands : 
   -- u is o but for what it has split and joined
   record Like (log : List E) (homes : Homes) (nx j : ℕ) (o u : W) : Type 0 where
     ticket : u.ticket ≡ o.ticket
+    more : u.more ≡ o.more
     inside : u.inside ≡ o.inside
     spent : u.spent ≡ o.spent
     number : u.number ≡ o.number
     live : Live log homes nx j o → Live log homes nx j u
 
   like_self : (log : List E) (homes : Homes) (nx j : ℕ) (o : W) → Like log homes nx j o o
-  like_self log homes nx j o = record { ticket = refl; inside = refl; spent = refl; number = refl; live = λ l. l }
+  like_self log homes nx j o = record { ticket = refl; more = refl; inside = refl; spent = refl; number = refl; live = λ l. l }
 
   like_parent : (log : List E) (homes : Homes) (nx j : ℕ) (o : W) → Like log homes nx j o (parent o)
-  like_parent log homes nx j o = record { ticket = refl; inside = refl; spent = refl; number = refl; live = λ l. record { stage = l.stage; number = l.number; opening = l.opening; seen = l.seen; also = l.also; mine = l.mine; ticket = l.ticket; inside = l.inside } }
+  like_parent log homes nx j o = record { ticket = refl; more = refl; inside = refl; spent = refl; number = refl; live = λ l. record { stage = l.stage; number = l.number; opening = l.opening; seen = l.seen; also = l.also; mine = l.mine; ticket = l.ticket; inside = l.inside } }
 
   like_merged : (log : List E) (homes : Homes) (nx j : ℕ) (o w : W) → Begins w.seen log → Like log homes nx j o (merged o w)
-  like_merged log homes nx j o w begins_too = record { ticket = refl; inside = refl; spent = refl; number = refl; live = λ l. record { stage = l.stage; number = l.number; opening = l.opening; seen = l.seen; also = begins_too; mine = l.mine; ticket = l.ticket; inside = l.inside } }
+  like_merged log homes nx j o w begins_too = record { ticket = refl; more = refl; inside = refl; spent = refl; number = refl; live = λ l. record { stage = l.stage; number = l.number; opening = l.opening; seen = l.seen; also = begins_too; mine = l.mine; ticket = l.ticket; inside = l.inside } }
+
+  like_has : (log : List E) (homes : Homes) (nx j : ℕ) (o u : W) (t : ℕ) → Like log homes nx j o u → HasTicket u t → HasTicket o t
+  like_has log homes nx j o u t k h = (h.0, sym k.ticket ∙ h.1, h.2, subst (λ m. t ≤ h.0 + m) k.more h.3)
 
   module _ (s : St) (g : Going s) (id : ℕ) (v : W) (at : get_elem? s.views id ≡ some v) (alive : v.spent ≡ false) (first : v.number ≡ 0) where
     own_view : Live g.log s.homes g.next id v
@@ -206,7 +210,7 @@ module _ {V A R : Type 0} (legal : V → List (Entry A R) → Type 0) (stands : 
       seen = l.seen;
       also = (g.log, refl);
       mine = g.later (length s.views) (omega arith);
-      ticket = λ t h. absurd (none-some t h);
+      ticket = λ t h. absurd (none-some h.0 h.1);
       inside = λ i. absurd (true≢false (sym i));
     }
 
@@ -227,8 +231,8 @@ module _ {V A R : Type 0} (legal : V → List (Entry A R) → Type 0) (stands : 
               (split_was j u e);
           later = λ j le. g.later j (omega arith);
           apart = λ i j a b t ei ej ta tb. ⊎_elim
-              (λ x. absurd (none-some t (ap (λ (z : W). z.ticket) x.1 ∙ ta)))
-              (λ x. ⊎_elim (λ y. absurd (none-some t (ap (λ (z : W). z.ticket) y.1 ∙ tb))) (λ y. g.apart i j x.0 y.0 t x.1 y.1 (sym x.2.ticket ∙ ta) (sym y.2.ticket ∙ tb)) (split_was j b ej)) (split_was i a ei);
+              (λ x. absurd (none-some ta.0 (ap (λ (z : W). z.ticket) x.1 ∙ ta.1)))
+              (λ x. ⊎_elim (λ y. absurd (none-some tb.0 (ap (λ (z : W). z.ticket) y.1 ∙ tb.1))) (λ y. g.apart i j x.0 y.0 t x.1 y.1 (like_has g.log s.homes g.next i x.0 a t x.2 ta) (like_has g.log s.homes g.next j y.0 b t y.2 tb)) (split_was j b ej)) (split_was i a ei);
           slot = ⊎_elim (λ x. inl x)
               (λ x. dite (ℕ_discrete x.0 id)
               (λ same. inr (
@@ -253,7 +257,7 @@ module _ {V A R : Type 0} (legal : V → List (Entry A R) → Type 0) (stands : 
   pub splits : (id : ℕ) (v : W) → v.stage ≡ Ready → v.spent ≡ false → v.number ≡ 0 → v.splits < 4294967296 → Splits Kept id v (parent v) (child v)
   splits id v ready alive first more s kept at = let g = k.not_building legal stands may clear key s id v ready at kept in inr (splits_at s g id v at alive first more)
 
-  module _ (s : St) (g : Going s) (id : ℕ) (v : W) (at : get_elem? s.views id ≡ some v) (alive : v.spent ≡ false) (first : v.number ≡ 0) (oid : ℕ) (w : W) (apart : oid ≢ id) (oat : get_elem? s.views oid ≡ some w) (oalive : w.spent ≡ false) (out : w.inside ≡ false) (idle : placed w.ticket ≡ 0) (rid : clear w.mine) where
+  module _ (s : St) (g : Going s) (id : ℕ) (v : W) (at : get_elem? s.views id ≡ some v) (alive : v.spent ≡ false) (first : v.number ≡ 0) (oid : ℕ) (w : W) (apart : oid ≢ id) (oat : get_elem? s.views oid ≡ some w) (oalive : w.spent ≡ false) (out : w.inside ≡ false) (idle : placed w.ticket w.more ≡ 0) (rid : clear w.mine) where
     theirs : Live g.log s.homes g.next oid w
     theirs = (g.fits oid w oat).live oalive
 
@@ -301,8 +305,8 @@ module _ {V A R : Type 0} (legal : V → List (Entry A R) → Type 0) (stands : 
               }) (join_was j u e);
           later = λ j le. g.later j (omega arith);
           apart = λ i j a b t ei ej ta tb. ⊎_elim
-              (λ x. absurd (none-some t (ap (λ (z : W). z.ticket) x.1 ∙ ta)))
-              (λ x. ⊎_elim (λ y. absurd (none-some t (ap (λ (z : W). z.ticket) y.1 ∙ tb))) (λ y. g.apart i j x.1.0 y.1.0 t x.1.1 y.1.1 (sym x.1.2.ticket ∙ ta) (sym y.1.2.ticket ∙ tb)) (join_was j b ej)) (join_was i a ei);
+              (λ x. absurd (none-some ta.0 (ap (λ (z : W). z.ticket) x.1 ∙ ta.1)))
+              (λ x. ⊎_elim (λ y. absurd (none-some tb.0 (ap (λ (z : W). z.ticket) y.1 ∙ tb.1))) (λ y. g.apart i j x.1.0 y.1.0 t x.1.1 y.1.1 (like_has g.log s.homes g.next i x.1.0 a t x.1.2 ta) (like_has g.log s.homes g.next j y.1.0 b t y.1.2 tb)) (join_was j b ej)) (join_was i a ei);
           slot = ⊎_elim (λ x. inl x)
               (λ x. let ne : x.0 ≢ oid = λ q. true≢false (sym x.3 ∙ (ap (λ (z : W). z.inside) (some-injective x.1 w (sym x.2 ∙ subst (λ (n : ℕ). get_elem? s.views n ≡ some w) (sym q) oat)) ∙ out)) in
               dite (ℕ_discrete x.0 id)
@@ -314,7 +318,7 @@ module _ {V A R : Type 0} (legal : V → List (Entry A R) → Type 0) (stands : 
               ))
               (λ other. inr (x.0, x.1, set_else both_views oid x.0 gone ne ∙ (set_else s.views id x.0 (merged v w) other ∙ x.2), x.3))) g.slot;
           waiting = let t = total_set waits both_views oid w gone both_at in let u = total_set waits s.views id v (merged v w) at in let h = g.waiting in subst (HavePlaces g.next) (omega arith) h;
-          few = let t = total_set ended both_views oid w gone both_at in let u = total_set ended s.views id v (merged v w) at in let f = g.few in let l = ended_le w.spent w.ticket in omega arith;
+          few = let t = total_set ended both_views oid w gone both_at in let u = total_set ended s.views id v (merged v w) at in let f = g.few in let l = ended_le w.spent w.ticket w.more in omega arith;
           count = long ∙ c;
           room = g.room;
           root = λ u e. let is : merged v w ≡ u = some-injective (merged v w) u (sym (subst (λ (n : ℕ). get_elem? join_views n ≡ some (merged v w)) zero_is (set_else both_views oid id gone (λ q. apart (sym q)) ∙ all_at)) ∙ e) in
@@ -331,7 +335,7 @@ module _ {V A R : Type 0} (legal : V → List (Entry A R) → Type 0) (stands : 
               )) (snoc_cases g.joined (w.number, w.mine) x i e);
         }
 
-  pub joins : (id : ℕ) (v : W) (oid : ℕ) (w : W) → v.stage ≡ Ready → v.spent ≡ false → v.number ≡ 0 → w.spent ≡ false → w.inside ≡ false → placed w.ticket ≡ 0 → clear w.mine → Joins Kept id v oid w (merged v w) gone
+  pub joins : (id : ℕ) (v : W) (oid : ℕ) (w : W) → v.stage ≡ Ready → v.spent ≡ false → v.number ≡ 0 → w.spent ≡ false → w.inside ≡ false → placed w.ticket w.more ≡ 0 → clear w.mine → Joins Kept id v oid w (merged v w) gone
   joins id v oid w ready alive first oalive out idle rid s kept at apart oat = let g = k.not_building legal stands may clear key s id v ready at kept in
       inr (joins_at s g id v at alive first oid w apart (sym (set_else s.views id oid (merged v w) apart) ∙ oat) oalive out idle rid)
 

@@ -1,6 +1,5 @@
 -- Each step of a turn keeps the rule.
 use Rattle.std.proofs.Common.{◌≡◌, ℕ, ◌+◌, ◌%◌, ◌<◌, ◌≤◌, ◌≢◌, cond, List, [], ◌∷◌, ◌++◌, length, get_or, set, true, false, Option, Some, None, sym, refl, ap, ap₂, ◌∙◌, subst, inl, inr, ⊎_elim, arith, append-nil, length-append, length-set, true≢false, mod-eq_of_lt}
-use Rattle.std.proofs.lemmas.Bool.{lt-ltb}
 use Rattle.std.proofs.lemmas.Option.{none-some}
 use mathlib.Core.Option.{some, none, some-injective, some-ne-none}
 use mathlib.Core.Option as maybe
@@ -14,8 +13,8 @@ use Rattle.turnstile.specs.declared.view.View.{View}
 use Rattle.turnstile.specs.declared.view.Stage.TheVariants.{Ready}
 use Rattle.turnstile.specs.Entries.{entry, own, Met, next}
 use Rattle.turnstile.specs.Turns as turns
-use Rattle.turnstile.specs.Turns.{newborn, opened, filled, drawn, entered, left, learned, parent, child, merged, gone, late, placed, waits, HavePlaces, ended, is_spent, total, Draws, Looks, Leaves, Learns}
-use Rattle.turnstile.proofs.Basics.{some_is, by_bool, is_ready, at_below, only_one, begins_more, begins_self, own_mine, own_other, total_set, total_le, ended_le, late_counts, draws_waiting}
+use Rattle.turnstile.specs.Turns.{newborn, opened, filled, drawn, entered, left, learned, parent, child, merged, gone, late, placed, one_less, HasTicket, waits, HavePlaces, ended, is_spent, total, Draws, Looks, Leaves, Learns}
+use Rattle.turnstile.proofs.Basics.{some_is, by_bool, is_ready, at_below, only_one, begins_more, begins_self, own_mine, own_other, total_set, total_most, less_is, ended_le, late_counts, draws_waiting, after_among, after_placed, after_late, has_first}
 
 module _ {V A R : Type 0} (legal : V → List (Entry A R) → Type 0) (stands : V → List (Entry A R) → V → Type 0) (may : V → List (Entry A R) → A → Type 0) (clear : List (Entry A R) → Type 0) (key : V) where
   abbrev W : Type 0
@@ -58,8 +57,8 @@ module _ {V A R : Type 0} (legal : V → List (Entry A R) → Type 0) (stands : 
     mine = (g.fits id v at).live alive
 
     -- a pass with a ticket is not joined
-    pub drew : (j : ℕ) (u : W) (t : ℕ) → get_elem? s.views j ≡ some u → u.ticket ≡ Some t → Live g.log s.homes g.next j u
-    drew j u t e has = let f = g.fits j u e in by_bool u.spent (λ sp. absurd (none-some t (sym (f.gone sp).ticket ∙ has))) (λ a. f.live a)
+    pub drew : (j : ℕ) (u : W) (t : ℕ) → get_elem? s.views j ≡ some u → HasTicket u t → Live g.log s.homes g.next j u
+    drew j u t e has = let f = g.fits j u e in by_bool u.spent (λ sp. absurd (none-some has.0 (sym (f.gone sp).ticket ∙ has.1))) (λ a. f.live a)
 
     pub went_in : (j : ℕ) (u : W) → get_elem? s.views j ≡ some u → u.inside ≡ true → Live g.log s.homes g.next j u
     went_in j u e in_ = let f = g.fits j u e in by_bool u.spent (λ sp. absurd (true≢false (sym in_ ∙ (f.gone sp).inside))) (λ a. f.live a)
@@ -71,7 +70,7 @@ module _ {V A R : Type 0} (legal : V → List (Entry A R) → Type 0) (stands : 
         → ((j : ℕ) → j ≢ id → own j log ≡ own j g.log)
         → Live log homes nx id w
         → ((j : ℕ) (u : W) → j ≢ id → get_elem? s.views j ≡ some u → Live g.log s.homes g.next j u → Live log homes nx j u)
-        → ((j : ℕ) (u : W) (t : ℕ) → j ≢ id → get_elem? s.views j ≡ some u → w.ticket ≡ Some t → u.ticket ≡ Some t → ⊥)
+        → ((j : ℕ) (u : W) (t : ℕ) → j ≢ id → get_elem? s.views j ≡ some u → HasTicket w t → HasTicket u t → ⊥)
         → Slot log homes (set s.views id w)
         → HavePlaces nx (total waits (set s.views id w) + length log)
         → nx ≤ 1125899906842624 + total ended (set s.views id w)
@@ -94,8 +93,8 @@ module _ {V A R : Type 0} (legal : V → List (Entry A R) → Type 0) (stands : 
               }) (at_set s.views id j w u e);
           later = λ j le. let le' : length s.views ≤ j = subst (λ (n : ℕ). n ≤ j) (length-set s.views id w) le in own_same j (λ e. omega arith) ∙ g.later j le';
           apart = λ i j a b t ei ej ta tb. ⊎_elim
-              (λ x. ⊎_elim (λ y. x.0 ∙ sym y.0) (λ y. absurd (alone j b t y.0 y.1 (ap (λ (z : W). z.ticket) x.1 ∙ ta) tb)) (at_set s.views id j w b ej))
-              (λ x. ⊎_elim (λ y. absurd (alone i a t x.0 x.1 (ap (λ (z : W). z.ticket) y.1 ∙ tb) ta)) (λ y. g.apart i j a b t x.1 y.1 ta tb) (at_set s.views id j w b ej)) (at_set s.views id i w a ei);
+              (λ x. ⊎_elim (λ y. x.0 ∙ sym y.0) (λ y. absurd (alone j b t y.0 y.1 (subst (λ (z : W). HasTicket z t) (sym x.1) ta) tb)) (at_set s.views id j w b ej))
+              (λ x. ⊎_elim (λ y. absurd (alone i a t x.0 x.1 (subst (λ (z : W). HasTicket z t) (sym y.1) tb) ta)) (λ y. g.apart i j a b t x.1 y.1 ta tb) (at_set s.views id j w b ej)) (at_set s.views id i w a ei);
           slot = slot;
           waiting = waiting;
           few = few;
@@ -124,36 +123,39 @@ module _ {V A R : Type 0} (legal : V → List (Entry A R) → Type 0) (stands : 
         inr (j, u, set_else s.views id j w apart ∙ x.2, x.3)) g.slot
 
     -- as many wait where this pass keeps its ticket
-    pub waiting_stays : (w : W) → w.ticket ≡ v.ticket → HavePlaces g.next (total waits (set s.views id w) + length g.log)
-    waiting_stays w same = let t = total_set waits s.views id v w at in let e : waits w ≡ waits v = ap placed same in let h = g.waiting in subst (HavePlaces g.next) (omega arith) h
+    pub waiting_stays : (w : W) → waits w ≡ waits v → HavePlaces g.next (total waits (set s.views id w) + length g.log)
+    waiting_stays w same = let t = total_set waits s.views id v w at in let h = g.waiting in subst (HavePlaces g.next) (omega arith) h
 
     -- the counts stay where neither view draws no more
     pub few_stays : (w : W) → ended w ≡ ended v → g.next ≤ 1125899906842624 + total ended (set s.views id w)
     few_stays w same = let t = total_set ended s.views id v w at in let f = g.few in omega arith
 
-    pub below : g.next + 1 < 18446744073709551616
-    below = let f = g.few in let c = g.count in let r = g.room in let t = total_le ended (λ u. ended_le u.spent u.ticket) s.views in omega arith
+    pub below : g.next + 65536 < 18446744073709551616
+    below = let f = g.few in let c = g.count in let r = g.room in let t = total_most ended (λ u. ended_le u.spent u.ticket u.more) s.views in omega arith
 
   pub live_up : (log : List E) (homes : Homes) (nx nx' id : ℕ) (v : W) → nx ≤ nx' → Live log homes nx id v → Live log homes nx' id v
   live_up log homes nx nx' id v le l = record { stage = l.stage; number = l.number; opening = l.opening; seen = l.seen; also = l.also; mine = l.mine; ticket = λ t h. let k = l.ticket t h in (k.0, (let a = k.1 in omega arith)); inside = l.inside }
 
-  pub draws : (slots id : ℕ) (me : Me (Option V) W) → me.0.stage ≡ Ready → me.0.spent ≡ false → me.0.ticket ≡ None → me.0.inside ≡ false
-      → Allows Kept slots id me 0 (λ n. (n + 1) % 18446744073709551616) (Draws (step slots 0 1 0 none) me)
-  draws slots id me ready alive without out s kept wide at _ =
-      let v : W = me.0 in let g = not_building s id v ready at kept in let n : ℕ = get_or s.words 0 0 in let w : W = drawn v n in
-      let is : n ≡ g.next = ap (λ ws. get_or ws 0 0) g.words in let l = mine s g id v at alive in let b : g.next + 1 < 18446744073709551616 = below s g id v at alive in
-      let e0 : ended v ≡ 0 = ap₂ (λ b o. cond b 1 (late o)) alive without in let e1 : ended w ≡ late (Some n) = ap (λ b. cond b 1 (late (Some n))) alive in
-      let t = total_set ended s.views id v w at in let c = late_counts n (total ended s.views) (let f = g.few in omega arith) in (
+  pub draws : (slots id : ℕ) (me : Me (Option V) W) (count : ℕ) → me.0.stage ≡ Ready → me.0.spent ≡ false → me.0.ticket ≡ None → me.0.inside ≡ false → 0 < count → count ≤ 65536
+      → Allows Kept slots id me 0 (λ n. (n + count) % 18446744073709551616) (Draws (step slots 0 count 0 none) me)
+  draws slots id me count ready alive without out some_ few s kept wide at _ =
+      let v : W = me.0 in let g = not_building s id v ready at kept in let n : ℕ = get_or s.words 0 0 in let w : W = drawn v n count in let m : ℕ = one_less count in
+      let is : n ≡ g.next = ap (λ ws. get_or ws 0 0) g.words in let l = mine s g id v at alive in let more : count ≡ m + 1 = less_is count some_ in
+      let b : g.next + 65536 < 18446744073709551616 = below s g id v at alive in
+      let e0 : ended v ≡ 0 = ap (λ b. cond b 65536 (late v.ticket v.more)) alive ∙ ap (λ (o : Option ℕ). late o v.more) without in let e1 : ended w ≡ late (Some n) m = ap (λ b. cond b 65536 (late (Some n) m)) alive in
+      let t = total_set ended s.views id v w at in let c = late_counts n m (total ended s.views) (omega arith) (let f = g.few in omega arith) in
+      let e : waits v ≡ 0 = ap (λ (o : Option ℕ). placed o v.more) without in let q = total_set waits s.views id v w at in
+      let waiting : HavePlaces (n + (m + 1)) (total waits (set s.views id w) + length g.log) = draws_waiting n m (total waits s.views) (total waits (set s.views id w)) (length g.log) (omega arith) (subst (λ k. HavePlaces k (total waits s.views + length g.log)) (sym is) g.waiting) in (
         w,
         keeps,
         tt,
-        inr (moved s g id v at alive w alive refl refl (g.next + 1) g.log (set s.words 0 ((n + 1) % 18446744073709551616)) s.homes
-            (ap (λ ws. set ws 0 ((get_or ws 0 0 + 1) % 18446744073709551616)) g.words ∙ ap (λ k. k ∷ length g.log ∷ []) (mod-eq_of_lt b))
+        inr (moved s g id v at alive w alive refl refl (g.next + count) g.log (set s.words 0 ((n + count) % 18446744073709551616)) s.homes
+            (ap (λ ws. set ws 0 ((get_or ws 0 0 + count) % 18446744073709551616)) g.words ∙ ap (λ k. k ∷ length g.log ∷ []) (mod-eq_of_lt (omega arith)))
             (let x = g.served in omega arith) g.is_legal g.met (λ j _. refl)
-            record { stage = l.stage; number = l.number; opening = l.opening; seen = l.seen; also = l.also; mine = l.mine; ticket = λ t' h. let e = some_is n t' h in let x = g.served in (omega arith, omega arith); inside = λ i. absurd (true≢false (sym i ∙ out)) }
-            (λ j u _ _ x. live_up g.log s.homes g.next (g.next + 1) j u (omega arith) x)
-            (λ j u t' _ e mine' theirs. let k = ((drew s g id v at alive j u t' e theirs).ticket t' theirs).1 in let e' = some_is n t' mine' in omega arith)
-            (slot_stays s g id v at alive w out) (draws_waiting g.next (total waits s.views) (total waits (set s.views id w)) (length g.log) (let e : waits v ≡ 0 = ap placed without in let i : waits w ≡ placed (Some g.next) = ap (λ k. placed (Some k)) is in let q = total_set waits s.views id v w at in omega arith) g.waiting) (omega arith)),
+            record { stage = l.stage; number = l.number; opening = l.opening; seen = l.seen; also = l.also; mine = l.mine; ticket = λ t' h. let e' = some_is n h.0 h.1 in let low = h.2 in let high = h.3 in let x = g.served in (omega arith, omega arith); inside = λ i. absurd (true≢false (sym i ∙ out)) }
+            (λ j u _ _ x. live_up g.log s.homes g.next (g.next + count) j u (omega arith) x)
+            (λ j u t' _ e' mine' theirs. let k = ((drew s g id v at alive j u t' e' theirs).ticket t' theirs).1 in let i = some_is n mine'.0 mine'.1 in let low = mine'.2 in omega arith)
+            (slot_stays s g id v at alive w out) (subst (λ k. HavePlaces k (total waits (set s.views id w) + length g.log)) (omega arith) waiting) (omega arith)),
         refl,
       )
 
@@ -208,7 +210,7 @@ module _ {V A R : Type 0} (legal : V → List (Entry A R) → Type 0) (stands : 
             (λ j u t ne e a b. ne (g.apart j id u v t e at b a))
             (inr (id, w, set_here s.views id w (at_below s.views id v at), refl)) (waiting_stays s g id v at alive w refl) (few_stays s g id v at alive w refl),
       ))
-      (λ x. let j : ℕ = x.0 in let u : W = x.1 in let k = went_in s g id v at alive j u x.2 x.3 in let same : j ≡ id = g.apart j id u v (length g.log) x.2 at (k.inside x.3).0 ticket in
+      (λ x. let j : ℕ = x.0 in let u : W = x.1 in let k = went_in s g id v at alive j u x.2 x.3 in let same : j ≡ id = g.apart j id u v (length g.log) x.2 at (has_first u (length g.log) (k.inside x.3).0) (has_first v (length g.log) ticket) in
       let is : u ≡ v = some-injective u v (sym x.2 ∙ subst (λ (n : ℕ). get_elem? s.views n ≡ some v) (sym same) at) in absurd (true≢false (sym x.3 ∙ (ap (λ (z : W). z.inside) is ∙ out)))) g.slot
 
   pub looks : (slots id : ℕ) (me : Me (Option V) W) (t : ℕ) (told : Option A) → me.0.stage ≡ Ready → me.0.spent ≡ false → me.0.inside ≡ false → me.0.ticket ≡ Some t → t < 1125899906842624
@@ -246,12 +248,12 @@ module _ {V A R : Type 0} (legal : V → List (Entry A R) → Type 0) (stands : 
       let lg' : legal key log = subst (λ (x : V × List E). legal x.0 x.1) (λ i. (first_is i, seen i)) lg in
       let st' : stands key log y = subst (λ (x : V × List E). stands x.0 x.1 y) (λ i. (first_is i, seen i)) st in
       let n : ℕ = get_or s.words 1 0 in let is : n ≡ length g.log = ap (λ ws. get_or ws 1 0) g.words in
-      let early : length g.log < 1125899906842624 = in'.1 in let due = (l.ticket (length g.log) in'.0).1 in
+      let early : length g.log < 1125899906842624 = in'.1 in let due = (l.ticket (length g.log) (has_first v (length g.log) in'.0)).1 in
       let fits : length g.log + 1 < 18446744073709551616 = omega arith in
       let homes : put_back s.homes me.1 ≡ some (Some y) ∷ [] = ap₂ put_back in'.3 holds in
       let own_e : own e.pass g.log ≡ v.mine = ap (λ (k : ℕ). own k g.log) l.number ∙ l.mine in
-      let e0 : ended v ≡ 0 = ap₂ (λ b o. cond b 1 (late o)) alive in'.0 ∙ ap (λ b. cond b 0 1) (lt-ltb (length g.log) 1125899906842624 early) in
-      let e1 : ended w ≡ 0 = ap (λ b. cond b 1 0) alive in (
+      let has : HasTicket v (length g.log) = has_first v (length g.log) in'.0 in
+      let after : (t : ℕ) → HasTicket w t → HasTicket v t × (length g.log < t) = λ t h. after_among v.ticket v.more (length g.log) t in'.0 h in (
         w,
         gives,
         tt,
@@ -266,7 +268,7 @@ module _ {V A R : Type 0} (legal : V → List (Entry A R) → Type 0) (stands : 
               seen = ([], append-nil (v.seen ++ e ∷ []) ∙ seen);
               also = (log, refl);
               mine = ap (λ (k : ℕ). own k log) (sym l.number) ∙ own_mine v.number a r g.log ∙ ap (λ (x : List E). x ++ e ∷ []) own_e;
-              ticket = λ t h. absurd (none-some t h);
+              ticket = λ t h. let x = after t h in let behind = x.1 in let old = l.ticket t x.0 in ((rw long (omega arith)), old.1);
               inside = λ i. absurd (true≢false (sym i));
             }
             (λ j u ne e' k. record {
@@ -276,10 +278,11 @@ module _ {V A R : Type 0} (legal : V → List (Entry A R) → Type 0) (stands : 
               seen = begins_more u.seen g.log (e ∷ []) k.seen;
               also = begins_more u.also g.log (e ∷ []) k.also;
               mine = own_other v.number j a r g.log (λ q. ne (sym (sym l.number ∙ q))) ∙ k.mine;
-              ticket = λ t h. let old = k.ticket t h in let o : length g.log ≤ t = old.0 in let apart : length g.log ≢ t = λ q. ne (g.apart j id u v t e' at h (in'.0 ∙ ap Some q)) in ((rw long (omega arith)), old.1);
-              inside = λ i. absurd (ne (g.apart j id u v (length g.log) e' at (k.inside i).0 in'.0));
+              ticket = λ t h. let old = k.ticket t h in let o : length g.log ≤ t = old.0 in let apart : length g.log ≢ t = λ q. ne (g.apart j id u v t e' at h (subst (λ k. HasTicket v k) q has)) in ((rw long (omega arith)), old.1);
+              inside = λ i. absurd (ne (g.apart j id u v (length g.log) e' at (has_first u (length g.log) (k.inside i).0) has));
             })
-            (λ j u t ne e' mine' _. none-some t mine')
-            (inl (y, homes, st')) (let q = total_set waits s.views id v w at in let one : waits v ≡ 1 = ap placed in'.0 ∙ ap (λ b. cond b 1 0) (lt-ltb (length g.log) 1125899906842624 early) in let h = g.waiting in subst (HavePlaces g.next) (omega arith) h) (few_stays s g id v at alive w (e1 ∙ sym e0))),
+            (λ j u t ne e' mine' theirs. ne (g.apart j id u v t e' at theirs (after t mine').0))
+            (inl (y, homes, st')) (let q = total_set waits s.views id v w at in let one : waits v ≡ waits w + 1 = after_placed v.ticket v.more (length g.log) in'.0 early in let h = g.waiting in subst (HavePlaces g.next) (omega arith) h)
+            (few_stays s g id v at alive w (ap (λ k. cond v.spent 65536 k) (after_late v.ticket v.more (length g.log) in'.0 early)))),
         λ a' r' q q'. λ i. (left v (entry v.number (some_is a a' (sym asked ∙ q) i) (some_is r r' (sym says ∙ q') i)), ap rest holds i),
       )

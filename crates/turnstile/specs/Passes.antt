@@ -8,13 +8,13 @@ use Rattle.turnstile.specs.declared.turnstile.Turnstile.{Turnstile}
 use mathlib.Core.Option.{some}
 use lib.ListN.{get_elem?}
 use Rattle.turnstile.specs.Entries.{Begins, entry, own, Met, Due}
-use Rattle.turnstile.specs.Turns.{History, entered}
+use Rattle.turnstile.specs.Turns.{History, entered, left}
 
 -- a ticket past the last place: all 2^50 places were given
 abbrev pub IsPastPlaces : Option ℕ → Type 0
 IsPastPlaces o = (t : ℕ) × (o ≡ Some t) × (2 ^ 50 ≤ t)
 
--- a pass that was refused keeps the ticket for which there was no place
+-- a pass that was refused keeps the tickets for which there was no place
 abbrev pub TicketIs : Bool → Option ℕ → Type 0
 TicketIs true o = IsPastPlaces o
 TicketIs false o = o ≡ None
@@ -90,3 +90,13 @@ module _ {V A R : Type 0} (legal : V → List (Entry A R) → Type 0) (may : V �
     pub holds : m'.1 ≡ (0, Some value) ∷ []
     pub is_legal : legal first (m.0.seen ++ entry m.0.number act reply ∷ [])
     pub stood : stands first (m.0.seen ++ entry m.0.number act reply ∷ []) value
+
+  -- the seat has had its turn at the place: it has seen the history so far, and its call behind that
+  pub record HadTurn (first : V) (v : View V A R) (act : A) (place : ℕ) (reply : R) (w : View V A R) : Type 0 where
+    pub before : List (Entry A R)
+    pub is_left : w ≡ left (entered v before (Some act)) (entry v.number act reply)
+    pub at_place : place ≡ length before
+    pub earlier : Begins v.seen before
+    pub is_legal : legal first (before ++ entry v.number act reply ∷ [])
+    pub met : Met (may first) (before ++ entry v.number act reply ∷ [])
+    pub mine : own v.number (before ++ entry v.number act reply ∷ []) ≡ v.mine ++ entry v.number act reply ∷ []

@@ -1,6 +1,6 @@
 -- The rule of a turnstile's table, and what each of its steps tells.
 -- Word 0 is the next ticket, and word 1 the ticket that is served, which is the length of the history. The slot has the value, unless a pass is inside.
-use Rattle.std.specs.Prelude.{◌≡◌, ◌≢◌, ℕ, ◌+◌, ◌<◌, ◌^◌, ◌≤◌, ltb, cond, ◌⊎◌, List, [], ◌∷◌, ◌++◌, length, true, false, Option, Some, None}
+use Rattle.std.specs.Prelude.{◌≡◌, ◌≢◌, ℕ, zero, suc, ◌+◌, ◌-◌, ◌<◌, ◌^◌, ◌≤◌, min, ltb, cond, ◌⊎◌, List, [], ◌∷◌, ◌++◌, length, true, false, Option, Some, None}
 use mathlib.Core.Option.{some, none}
 use mathlib.Core.Option as maybe
 use lib.ListN.{get_elem?}
@@ -10,14 +10,29 @@ use Rattle.turnstile.specs.declared.view.View.{View}
 use Rattle.turnstile.specs.declared.view.Stage.TheVariants.{Empty, Open, Ready}
 use Rattle.turnstile.specs.Entries.{Begins, entry, own, Met}
 
-abbrev pub late : Option ℕ → ℕ
-late None = 0
-late (Some t) = cond (ltb t (2 ^ 50)) 0 1
+-- the ticket is one of those that begin with this one and are so many more
+abbrev pub IsAmong : Option ℕ → ℕ → ℕ → Type 0
+IsAmong first more t = (n : ℕ) × (first ≡ Some n) × (n ≤ t) × (t ≤ n + more)
 
--- 1 of a ticket that has a place
-abbrev pub placed : Option ℕ → ℕ
-placed None = 0
-placed (Some t) = cond (ltb t (2 ^ 50)) 1 0
+abbrev pub one_less : ℕ → ℕ
+one_less zero = 0
+one_less (suc n) = n
+
+-- the first of the tickets, once that which was the first is used
+abbrev pub ticket_after : Option ℕ → ℕ → Option ℕ
+ticket_after None more = None
+ticket_after (Some t) zero = None
+ticket_after (Some t) (suc more) = Some (t + 1)
+
+-- the most that one step draws, where the last of the tickets has no place
+abbrev pub late : Option ℕ → ℕ → ℕ
+late None more = 0
+late (Some t) more = cond (ltb (t + more) (2 ^ 50)) 0 (2 ^ 16)
+
+-- how many of the tickets have a place
+abbrev pub placed : Option ℕ → ℕ → ℕ
+placed None more = 0
+placed (Some t) more = min (more + 1) (2 ^ 50 - t)
 
 -- k of n tickets have a place
 abbrev pub HavePlaces : ℕ → ℕ → Type 0
@@ -26,7 +41,7 @@ HavePlaces n k = (n ≤ 2 ^ 50 → k ≡ n) × (2 ^ 50 ≤ n → k ≡ 2 ^ 50)
 module _ {V A R : Type 0} where
   -- the first pass, before the value is in its slot
   abbrev pub newborn : V → View V A R
-  newborn o = record { stage = Empty; opening = Some o; number = 0; seen = []; also = []; mine = []; ticket = None; inside = false; asked = None; splits = 0; joined = []; spent = false }
+  newborn o = record { stage = Empty; opening = Some o; number = 0; seen = []; also = []; mine = []; ticket = None; more = 0; inside = false; asked = None; splits = 0; joined = []; spent = false }
 
   abbrev pub opened : View V A R → View V A R
   opened v = record v { stage = Open }
@@ -38,14 +53,19 @@ module _ {V A R : Type 0} where
   abbrev pub rooted : V → View V A R
   rooted o = filled (opened (newborn o))
 
-  abbrev pub drawn : View V A R → ℕ → View V A R
-  drawn v n = record v { ticket = Some n }
+  -- it draws so many tickets in a row
+  abbrev pub drawn : View V A R → ℕ → ℕ → View V A R
+  drawn v n count = record v { ticket = Some n; more = one_less count }
+
+  -- it has drawn the ticket and has not used it
+  abbrev pub HasTicket : View V A R → ℕ → Type 0
+  HasTicket v t = IsAmong v.ticket v.more t
 
   abbrev pub entered : View V A R → List (Entry A R) → Option A → View V A R
   entered v log a = record v { seen = log; also = []; inside = true; asked = a }
 
   abbrev pub left : View V A R → Entry A R → View V A R
-  left v e = record v { seen = v.seen ++ e ∷ []; also = []; mine = v.mine ++ e ∷ []; ticket = None; inside = false; asked = None }
+  left v e = record v { seen = v.seen ++ e ∷ []; also = []; mine = v.mine ++ e ∷ []; ticket = ticket_after v.ticket v.more; more = one_less v.more; inside = false; asked = None }
 
   abbrev pub learned : View V A R → List (Entry A R) → View V A R
   learned v log = record v { seen = log; also = [] }
@@ -54,21 +74,21 @@ module _ {V A R : Type 0} where
   parent v = record v { splits = v.splits + 1 }
 
   abbrev pub child : View V A R → View V A R
-  child v = record { stage = Ready; opening = v.opening; number = v.splits + 1; seen = v.seen; also = []; mine = []; ticket = None; inside = false; asked = None; splits = 0; joined = []; spent = false }
+  child v = record { stage = Ready; opening = v.opening; number = v.splits + 1; seen = v.seen; also = []; mine = []; ticket = None; more = 0; inside = false; asked = None; splits = 0; joined = []; spent = false }
 
   abbrev pub merged : View V A R → View V A R → View V A R
   merged v w = record v { also = w.seen; joined = v.joined ++ (w.number, w.mine) ∷ [] }
 
   abbrev pub gone : View V A R
-  gone = record { stage = Ready; opening = None; number = 0; seen = []; also = []; mine = []; ticket = None; inside = false; asked = None; splits = 0; joined = []; spent = true }
+  gone = record { stage = Ready; opening = None; number = 0; seen = []; also = []; mine = []; ticket = None; more = 0; inside = false; asked = None; splits = 0; joined = []; spent = true }
 
-  -- 1 of a pass that draws no more tickets
+  -- the most tickets without a place that a pass has drawn, which then draws no more
   abbrev pub ended : View V A R → ℕ
-  ended v = cond v.spent 1 (late v.ticket)
+  ended v = cond v.spent (2 ^ 16) (late v.ticket v.more)
 
-  -- 1 of a pass that waits for its turn or has it
+  -- how many turns a pass waits for, with the one that it has
   abbrev pub waits : View V A R → ℕ
-  waits v = placed v.ticket
+  waits v = placed v.ticket v.more
 
   abbrev pub is_spent : View V A R → ℕ
   is_spent v = cond v.spent 1 0
@@ -84,7 +104,7 @@ module _ {V A R : Type 0} where
   Fills s m n m' = m' ≡ (filled m.0, [])
 
   abbrev pub Draws : Step (Option V) → Me (Option V) (View V A R) → ℕ → Me (Option V) (View V A R) → Type 0
-  Draws s m n m' = m' ≡ (drawn m.0 n, m.1)
+  Draws s m n m' = m' ≡ (drawn m.0 n s.first, m.1)
 
 module _ {V A R : Type 0} (legal : V → List (Entry A R) → Type 0) (may : V → List (Entry A R) → A → Type 0) where
   -- the history so far is legal, and begins with what the pass had seen
@@ -118,7 +138,7 @@ module _ {V A R : Type 0} (legal : V → List (Entry A R) → Type 0) (stands : 
     pub seen : Begins v.seen log
     pub also : Begins v.also log
     pub mine : own id log ≡ v.mine
-    pub ticket : (t : ℕ) → v.ticket ≡ Some t → (length log ≤ t) × (t < next)
+    pub ticket : (t : ℕ) → HasTicket v t → (length log ≤ t) × (t < next)
     pub inside : v.inside ≡ true → (v.ticket ≡ Some (length log)) × (length log < 2 ^ 50) × (v.seen ≡ log) × (homes ≡ none ∷ [])
 
   -- and of one that is
@@ -147,7 +167,7 @@ module _ {V A R : Type 0} (legal : V → List (Entry A R) → Type 0) (stands : 
     pub met : Met (may key) log
     pub fits : (id : ℕ) (v : View V A R) → get_elem? s.views id ≡ some v → Fits log s.homes next joined id v
     pub later : (id : ℕ) → length s.views ≤ id → own id log ≡ []
-    pub apart : (i j : ℕ) (v w : View V A R) (t : ℕ) → get_elem? s.views i ≡ some v → get_elem? s.views j ≡ some w → v.ticket ≡ Some t → w.ticket ≡ Some t → i ≡ j
+    pub apart : (i j : ℕ) (v w : View V A R) (t : ℕ) → get_elem? s.views i ≡ some v → get_elem? s.views j ≡ some w → HasTicket v t → HasTicket w t → i ≡ j
     pub slot : Slot log s.homes s.views
     pub waiting : HavePlaces next (total waits s.views + length log)
     pub few : next ≤ 2 ^ 50 + total ended s.views

@@ -6,6 +6,7 @@ mod entry;
 mod serve;
 mod steps;
 mod threads;
+mod turns;
 mod turnstile;
 mod view;
 

@@ -157,17 +157,6 @@ passed_from-known None chunk end content fields =
       | inr other ↦ rw other content
     ]
 
--- a read within a chunk stopped before its end
-pub IfShort-inside : (size : ℕ) (ends : Option ℕ) (start stop end : ℕ) (fault : WavFault) → IsReadStop size ends start stop fault → stop ≤ end → IfShort fault (λ at _. at < end)
-IfShort-inside size ends start stop end (TooLarge n) stopped le = tt
-IfShort-inside size ends start stop end NotRiff stopped le = tt
-IfShort-inside size ends start stop end NoFormat stopped le = tt
-IfShort-inside size ends start stop end BadFormat stopped le = tt
-IfShort-inside size ends start stop end NoSamples stopped le = tt
-IfShort-inside size ends start stop end (UnsupportedTag tag) stopped le = tt
-IfShort-inside size ends start stop end Read stopped le = tt
-IfShort-inside size ends start stop end (Short at told_size) (gave, before) le = omega arith
-
 before_start : (answer : Result WavHead WavFault) (at end : ℕ) → at < end → StartsFrom (end + 8) answer → IfOk answer (λ head. at < head.start)
 before_start (Ok head) at end before from = omega arith
 before_start (Err fault) at end before from = tt

@@ -1,6 +1,6 @@
 -- Bytes that are put one after the other.
-use Rattle.std.proofs.Common.{◌≡◌, ℕ, ◌+◌, ◌-◌, ◌*◌, ◌≤◌, List, [], ◌++◌, length, take, drop, refl, sym, ap, ◌∙◌, subst, codes, true, false, arith, length-append}
-use Rattle.std.proofs.lemmas.List.{append_assoc, append-nil, drop-drop}
+use Rattle.std.proofs.Common.{◌≡◌, ℕ, ◌+◌, ◌-◌, ◌*◌, ◌≤◌, List, ◌++◌, length, take, drop, refl, sym, ap, ◌∙◌, subst, codes, true, false, arith, length-append}
+use Rattle.std.proofs.lemmas.List.{append_assoc, drop-drop}
 use Rattle.std.proofs.lemmas.Slice.{take-put_mid, drop-put_mid}
 use borrow.Rule.Slice.PartMut.{put_mid}
 use Rattle.byteorder.specs.Endian.{little_bytes}
@@ -18,9 +18,6 @@ Puts-piece old piece bytes at room is =
       front = take-put_mid at (at + length bytes - at) old piece (at + length bytes) (omega arith) (omega arith) ∙ ap (λ (p : List ℕ). take at old ++ p) is;
       rest = drop-put_mid at (at + length bytes - at) old piece (at + length bytes) (omega arith) (omega arith) (omega arith);
     }
-
-pub Puts-nothing : (buf : List ℕ) (at : ℕ) → Puts buf buf at at []
-Puts-nothing buf at = record { stops = omega arith; front = sym (append-nil (take at buf)); rest = refl }
 
 infixl 20 ◌then◌
 pub ◌then◌ : {a b c xs ys : List ℕ} {at mid stop : ℕ} → Puts a b at mid xs → Puts b c mid stop ys → Puts a c at stop (xs ++ ys)

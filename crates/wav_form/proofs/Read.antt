@@ -12,10 +12,6 @@ use Rattle.wav_form.specs.Stops.{UnlessStopped, IfShort, StoppedShort, IsRiffFau
 use Rattle.wav_form.proofs.Answer.{answer_after-is, chunks_from, same_chunks}
 use Rattle.wav_form.proofs.ChunkSearch.{start_behind, IfShort-reached}
 
--- each list of chunks gives this result
-abbrev Searched : List ℕ → (Result WavHead WavFault → Type 0) → Type 0
-Searched bytes P = (chunks : List Chunk) → AreChunks bytes 12 chunks → P (answer_after bytes None chunks)
-
 pub Reads-searched : (bytes : List ℕ) (answer : Result WavHead WavFault) → length bytes ≤ most_bytes → IsRiff bytes → ((chunks : List Chunk) → AreChunks bytes 12 chunks → answer ≡ answer_after bytes None chunks) → Reads bytes answer
 Reads-searched bytes answer small riff is = record {
   too_large = λ large. absurd (omega arith);

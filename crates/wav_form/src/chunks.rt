@@ -4,6 +4,7 @@ ghost use Rattle.std.specs.Prelude.{◌≡◌, ◌≢◌, ◌+◌, ◌<◌, ◌�
 ghost use Rattle.byteorder.specs.Endian.{little_from};
 ghost use Rattle.outside_io.specs.Asking.{AsksWithin};
 ghost use Rattle.outside_io.specs.Causes.{Rose};
+ghost use Rattle.outside_io.specs.Keeping.{KeepsSource};
 ghost use Rattle.outside_io.specs.Moves.{WhereTold};
 ghost use Rattle.wav_form.specs.Chunks.{chunk_at, end_of};
 ghost use Rattle.wav_form.specs.Search.{view};
@@ -33,20 +34,15 @@ pub(crate) fn read_chunk<S: Source>(src: &mut S, offset: u64) -> Result<ChunkHea
     ensures reached { WhereTold (S.ends src.old) (λ end. OnOk result (offset + 8 ≤ end)) }
     ensures content { IfOk result (λ chunk. chunk.content ≡ offset + 8) }
     ensures offset { OnOk result (S.offset src.new ≡ offset + 8) }
-    ensures told { S.told src.new ≡ S.told src.old }
-    ensures ends { S.ends src.new ≡ S.ends src.old }
-    ensures size { S.size src.new ≡ S.size src.old }
-    ensures later { S.faults src.old ≤ S.faults src.new }
+    ensures keeps_source { KeepsSource S.Source src.old src.new }
     ensures read { result ≡ Err WavFault.Read → Rose (S.faults src.old) (S.faults src.new) }
     ensures stands { result ≢ Err WavFault.Read → S.faults src.new ≡ S.faults src.old }
     ensures asks { AsksWithin (S.asked src.old) (S.asked src.new) (offset + 8) }
     ensures stop { IfErr result (IsReadStop (S.size src.old) (S.ends src.old) offset (offset + 8)) }
 {
     let mut head = [0u8; 8];
-    match fill_from(src, offset, &mut head) {
-        Ok(()) => Ok(chunk_from(&head, offset)),
-        Err(fault) => Err(fault),
-    }
+    fill_from(src, offset, &mut head)?;
+    Ok(chunk_from(&head, offset))
 }
 
 /// A chunk by the 8 bytes of its head at `offset`.

@@ -3,6 +3,7 @@
 ghost use Rattle.std.specs.Prelude.{◌≡◌, ◌≢◌, ◌+◌, ◌<◌, ◌≤◌, length, take, drop, IfErr, OnOk, OnErr, Err};
 ghost use Rattle.outside_io.specs.Asking.{AsksWithin};
 ghost use Rattle.outside_io.specs.Causes.{Rose};
+ghost use Rattle.outside_io.specs.Keeping.{KeepsSource};
 ghost use Rattle.outside_io.specs.Moves.{WhereTold};
 ghost use Rattle.wav_form.specs.Stops.{IsReadStop};
 
@@ -16,19 +17,13 @@ pub(crate) fn fill_from<S: Source>(src: &mut S, offset: u64, buf: &mut [u8]) -> 
         buf.new ≡ take (length buf.old) (drop offset bytes))) }
     ensures reached { WhereTold (S.ends src.old) (λ end. OnOk result (0 < length buf.old → offset + length buf.old ≤ end)) }
     ensures offset { OnOk result (S.offset src.new ≡ offset + length buf.old) }
-    ensures told { S.told src.new ≡ S.told src.old }
-    ensures ends { S.ends src.new ≡ S.ends src.old }
-    ensures size { S.size src.new ≡ S.size src.old }
-    ensures later { S.faults src.old ≤ S.faults src.new }
+    ensures keeps_source { KeepsSource S.Source src.old src.new }
     ensures read { result ≡ Err WavFault.Read → Rose (S.faults src.old) (S.faults src.new) }
     ensures stands { result ≢ Err WavFault.Read → S.faults src.new ≡ S.faults src.old }
     ensures asks { AsksWithin (S.asked src.old) (S.asked src.new) (offset + length buf.old) }
     ensures stop { IfErr result (IsReadStop (S.size src.old) (S.ends src.old) offset (offset + length buf.old)) }
 {
-    match go_to(src, offset) {
-        Ok(()) => {}
-        Err(fault) => return Err(fault),
-    }
+    go_to(src, offset)?;
     match read_exact(src, buf) {
         Ok(()) => Ok(()),
         Err(ReadStop::Failed) => Err(WavFault::Read),
@@ -40,10 +35,7 @@ pub(crate) fn fill_from<S: Source>(src: &mut S, offset: u64, buf: &mut [u8]) -> 
 fn go_to<S: Source>(src: &mut S, offset: u64) -> Result<(), WavFault>
     requires { offset ≤ S.size src.old }
     ensures reached { OnOk result (S.offset src.new ≡ offset) }
-    ensures told { S.told src.new ≡ S.told src.old }
-    ensures ends { S.ends src.new ≡ S.ends src.old }
-    ensures size { S.size src.new ≡ S.size src.old }
-    ensures later { S.faults src.old ≤ S.faults src.new }
+    ensures keeps_source { KeepsSource S.Source src.old src.new }
     ensures read { OnErr result (Rose (S.faults src.old) (S.faults src.new)) }
     ensures stands { OnOk result (S.faults src.new ≡ S.faults src.old) }
     ensures asked { S.asked src.new ≡ S.asked src.old }

@@ -5,6 +5,7 @@ ghost use Rattle.omx_types.specs.Formats.{IsWithinLimits, rate_of, channels_of};
 ghost use Rattle.byteorder.specs.Endian.{little_from};
 ghost use Rattle.outside_io.specs.Asking.{AsksWithin};
 ghost use Rattle.outside_io.specs.Causes.{Rose};
+ghost use Rattle.outside_io.specs.Keeping.{KeepsSource};
 ghost use Rattle.outside_io.specs.Moves.{WhereTold};
 ghost use Rattle.outside_io.specs.Stops.{GaveNothing};
 ghost use Rattle.wav_form.specs.Chunks.{end_of};
@@ -37,10 +38,7 @@ pub(crate) fn known_format<S: Source>(
     ensures reached { WhereTold (S.ends src.old) (λ end. OnOk result (known ≡ None → is_format (view chunk.now) ≡ true →
         chunk.now.content + 16 ≤ end)) }
     ensures known { IfOk result (λ format. is_some format ≡ (is_some known || is_format (view chunk.now))) }
-    ensures told { S.told src.new ≡ S.told src.old }
-    ensures ends { S.ends src.new ≡ S.ends src.old }
-    ensures size { S.size src.new ≡ S.size src.old }
-    ensures later { S.faults src.old ≤ S.faults src.new }
+    ensures keeps_source { KeepsSource S.Source src.old src.new }
     ensures read { result ≡ Err WavFault.Read → Rose (S.faults src.old) (S.faults src.new) }
     ensures stands { result ≢ Err WavFault.Read → S.faults src.new ≡ S.faults src.old }
     ensures asks { AsksWithin (S.asked src.old) (S.asked src.new) (end_of (view chunk.now)) }
@@ -64,10 +62,7 @@ fn read_format<S: Source>(src: &mut S, chunk: &ChunkHead) -> Result<Format, WavF
         UnlessStopped result (λ r. r ≡ format_in bytes (view chunk.now))) }
     ensures within { IfOk result IsWithinLimits }
     ensures reached { WhereTold (S.ends src.old) (λ end. OnOk result (chunk.now.content + 16 ≤ end)) }
-    ensures told { S.told src.new ≡ S.told src.old }
-    ensures ends { S.ends src.new ≡ S.ends src.old }
-    ensures size { S.size src.new ≡ S.size src.old }
-    ensures later { S.faults src.old ≤ S.faults src.new }
+    ensures keeps_source { KeepsSource S.Source src.old src.new }
     ensures read { result ≡ Err WavFault.Read → Rose (S.faults src.old) (S.faults src.new) }
     ensures stands { result ≢ Err WavFault.Read → S.faults src.new ≡ S.faults src.old }
     ensures asks { AsksWithin (S.asked src.old) (S.asked src.new) (end_of (view chunk.now)) }

@@ -4,6 +4,7 @@ ghost use Rattle.std.specs.Prelude.{◌≡◌, ◌≢◌, ℕ, ◌+◌, ◌<◌,
 ghost use Rattle.omx_types.specs.Formats.{IsWithinLimits};
 ghost use Rattle.outside_io.specs.Asking.{AsksWithin};
 ghost use Rattle.outside_io.specs.Causes.{Rose};
+ghost use Rattle.outside_io.specs.Keeping.{KeepsSource};
 ghost use Rattle.outside_io.specs.Moves.{WhereTold};
 ghost use Rattle.wav_form.specs.Chunks.{Chunk, AreChunks};
 ghost use Rattle.wav_form.specs.Passing.{AsksNoSamples};
@@ -54,10 +55,7 @@ pub fn read_head<S: Source>(src: &mut S) -> Result<WavHead, WavFault>
     ensures fits { IfOk result (λ head. FitsFile head (S.size src.old)) }
     ensures too_large { most_bytes < S.size src.old → result ≡ Err (WavFault.TooLarge (S.size src.old)) }
     ensures offset { IfOk result (λ head. S.offset src.new ≡ head.start) }
-    ensures told { S.told src.new ≡ S.told src.old }
-    ensures ends { S.ends src.new ≡ S.ends src.old }
-    ensures size { S.size src.new ≡ S.size src.old }
-    ensures later { S.faults src.old ≤ S.faults src.new }
+    ensures keeps_source { KeepsSource S.Source src.old src.new }
 {
     let size = src.size();
     if size > MOST_BYTES {
@@ -78,10 +76,7 @@ fn check_riff<S: Source>(src: &mut S, size: u64) -> Result<(), WavFault>
     ensures long { OnOk result (12 ≤ size) }
     ensures reached { WhereTold (S.ends src.old) (λ end. OnOk result (12 ≤ end)) }
     ensures fault { IfErr result (IsRiffFault (S.size src.old) (S.ends src.old)) }
-    ensures told { S.told src.new ≡ S.told src.old }
-    ensures ends { S.ends src.new ≡ S.ends src.old }
-    ensures size { S.size src.new ≡ S.size src.old }
-    ensures later { S.faults src.old ≤ S.faults src.new }
+    ensures keeps_source { KeepsSource S.Source src.old src.new }
     ensures read { result ≡ Err WavFault.Read → Rose (S.faults src.old) (S.faults src.new) }
     ensures stands { result ≢ Err WavFault.Read → S.faults src.new ≡ S.faults src.old }
     ensures asks { AsksWithin (S.asked src.old) (S.asked src.new) 12 }
@@ -118,10 +113,7 @@ fn search<S: Source>(src: &mut S, size: u64) -> Result<WavHead, WavFault>
         AnswersAs result (answer_after bytes None chunks)) }
     ensures fits { IfOk result (λ head. FitsFile head size) }
     ensures offset { IfOk result (λ head. S.offset src.new ≡ head.start) }
-    ensures told { S.told src.new ≡ S.told src.old }
-    ensures ends { S.ends src.new ≡ S.ends src.old }
-    ensures size { S.size src.new ≡ S.size src.old }
-    ensures later { S.faults src.old ≤ S.faults src.new }
+    ensures keeps_source { KeepsSource S.Source src.old src.new }
     ensures read { result ≡ Err WavFault.Read → Rose (S.faults src.old) (S.faults src.new) }
     ensures short { IfErr result (λ fault. IfShort fault (StoppedShort (S.size src.old) (S.told src.old) (S.ends src.old))) }
     ensures stands { result ≢ Err WavFault.Read → S.faults src.new ≡ S.faults src.old }

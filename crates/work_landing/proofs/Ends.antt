@@ -1,29 +1,23 @@
 -- What ends with a step, by the ports' ways, is what ends in the machine.
-use Rattle.std.proofs.Common.{◌≡◌, ℕ, zero, suc, ◌+◌, ◌-◌, ◌/◌, ◌<◌, ◌≤◌, Bool, true, false, not, ◌&&◌, ◌||◌, nat_eq, nat_lt, if◌then◌else◌, List, [], ◌∷◌, ◌++◌, length, set, take, refl, ap, sym, ◌∙◌, append_assoc, append-nil, arith}
+use Rattle.std.proofs.Common.{◌≡◌, ℕ, zero, suc, ◌+◌, ◌-◌, ◌<◌, ◌≤◌, Bool, true, false, ◌&&◌, ◌||◌, nat_eq, nat_lt, if◌then◌else◌, List, [], ◌∷◌, ◌++◌, length, set, take, refl, ap, sym, ◌∙◌, append_assoc, append-nil, arith}
 use Rattle.std.specs.Prelude.{Option, Some, None, is_none, is_some}
 use Rattle.std.specs.List.{list_all, list_any}
 use Rattle.std.proofs.lemmas.Bool.Decides.{nat_tests}
 use Rattle.std.proofs.lemmas.List.{take_all, take_more_set}
-use Rattle.omx_types.specs.Formats.{frame_bytes_of}
-use Rattle.omx_types.specs.declared.handle.Handle.{Handle}
 use Rattle.omx_types.specs.declared.fault.PartFault.{PartFault}
-use Rattle.omx_types.specs.declared.kind.Kind.{Kind}
 use Rattle.part_api.specs.Terms.{Terms}
-use Rattle.il_machine.specs.declared.port.Mark.{Mark}
 use Rattle.il_machine.specs.Kinds.{is_sink, is_source}
-use Rattle.il_machine.specs.Parts.{frames_of, frames_left, terms_of}
-use Rattle.il_machine.specs.World.{Component, PartState, Stream}
-use Rattle.il_machine.specs.Components.{has_eos}
+use Rattle.il_machine.specs.Parts.{frames_of, terms_of}
+use Rattle.il_machine.specs.World.{Component, Stream}
 use Rattle.il_machine.specs.Due.{with_part}
-use Rattle.il_machine.specs.Finishing.{ends_by as machine_ends, gone_through, part_after, part_by as machine_part, tells_end}
-use Rattle.il_machine.specs.Stepping.{WorkDone, ended_from, format_at, has_ended_by, inputs_ended, is_last, is_over}
+use Rattle.il_machine.specs.Finishing.{ends_by as machine_ends, part_after, part_by as machine_part, tells_end}
+use Rattle.il_machine.specs.Stepping.{WorkDone, ended_from, has_ended_by, inputs_ended, is_last, is_over}
 use Rattle.header_core.specs.BufferHeader.{BufferHeader}
-use Rattle.work_landing.specs.declared.back.Known.{Known}
 use Rattle.work_landing.specs.declared.back.Way.{Way}
 use Rattle.work_landing.specs.declared.step.Step.{Step}
 use Rattle.work_landing.specs.Landed.{AreWays, IsLeft, IsWay, done_by}
 use Rattle.work_landing.specs.Places.{carried, carried_from}
-use Rattle.work_landing.specs.Returning.{ended_by, ends_by, has_last, is_last_at, known_by, last_at, last_by, mark_from, over_by, part_by}
+use Rattle.work_landing.specs.Returning.{ended_by, ends_by, has_last, known_by, last_at, last_by, over_by, part_by}
 use Rattle.work_landing.proofs.Backs.{Covers, known_in, mark_is, none_carried}
 
 -- ---- the last header of an input
@@ -108,13 +102,6 @@ ended_is c ways places ws l m = ended_rest c 0 (length (terms_of c).inputs) ways
 
 ends_more : (es : List Bool) (i : ℕ) (b : Bool) (rest : List Bool) → i < length es → take (i + 1) (set es i b) ++ rest ≡ take i es ++ b ∷ rest
 ends_more es i b rest l = ap (λ (xs : List Bool). xs ++ rest) (take_more_set es i b l) ∙ append_assoc (take i es) (b ∷ []) rest
-
-pub ends_then : (c m d : Component) (i : ℕ) (b : Bool) (rest : List Bool) → m ≡ with_part (record c.part { ended_inputs = set c.part.ended_inputs i b }) c
-    → d ≡ with_part (record m.part { ended_inputs = take (i + 1) m.part.ended_inputs ++ rest }) m → i < length c.part.ended_inputs
-    → d ≡ with_part (record c.part { ended_inputs = take i c.part.ended_inputs ++ b ∷ rest }) c
-ends_then c m d i b rest p q l =
-    q ∙ (ap (λ (x : Component). with_part (record x.part { ended_inputs = take (i + 1) x.part.ended_inputs ++ rest }) x) p
-    ∙ ap (λ (es : List Bool). with_part (record c.part { ended_inputs = es }) c) (ends_more c.part.ended_inputs i b rest l))
 
 pub ends_none : (c : Component) (i : ℕ) → length c.part.ended_inputs ≡ i + 0 → c ≡ with_part (record c.part { ended_inputs = take i c.part.ended_inputs ++ [] }) c
 ends_none c i e = ap (λ (es : List Bool). with_part (record c.part { ended_inputs = es }) c)

@@ -1,5 +1,5 @@
 -- There is a place for all that is told of a work that comes back, and each header can land.
-use Rattle.std.proofs.Common.{◌≡◌, ℕ, ◌+◌, ◌*◌, ◌-◌, ◌<◌, ◌≤◌, Bool, true, false, List, [], ◌∷◌, ◌++◌, length, refl, ap, sym, subst, arith, append_assoc, length-append}
+use Rattle.std.proofs.Common.{◌≡◌, ℕ, ◌+◌, ◌-◌, ◌≤◌, Bool, true, false, List, [], ◌∷◌, ◌++◌, length, refl, arith, length-append}
 use Rattle.std.specs.Prelude.{Option, Some, None}
 use Rattle.std.proofs.lemmas.List.Sums.{sum_by-append}
 use Rattle.omx_types.specs.declared.command.Note.{Note}
@@ -9,7 +9,6 @@ use Rattle.il_machine.specs.declared.port.PortKey.{PortKey}
 use Rattle.il_machine.specs.Census.{note_numbers}
 use Rattle.il_machine.specs.Flow.{done_note}
 use Rattle.il_machine.specs.Finishing.{Landing, Again, Onward, Noted}
-use Rattle.il_machine.specs.Kinds.{ports_in}
 use Rattle.il_machine.specs.Room.{events_in, room}
 use Rattle.il_machine.specs.Stock.{Stocked}
 use Rattle.il_machine.specs.World.{Component}
@@ -52,12 +51,6 @@ one_event component mark b h =
     let noted = noted_events (landing_by b) b.input (settled component mark b h) in
     let both = events_both (told_by component b h.held.mark) (noted_by (landing_by b) b.input (settled component mark b h)) in
     omega (arith, told, noted, both)
-
--- a mark is no header
-pub told_headers : (component : Handle) (b : Back) (mark : Option Mark) (tells : Bool) → tells_by component b mark ≡ tells → note_numbers (told_by component b mark) ≡ []
-told_headers component b mark false e = rw e refl
-told_headers component b None true e = rw e refl
-told_headers component b (Some mark) true e = rw e refl
 
 -- ---- how places are taken
 

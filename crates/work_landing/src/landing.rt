@@ -19,7 +19,7 @@ use port_stock::Stock;
 pub(crate) fn is_own(component: Handle, mark: Mark) -> bool
     ensures { result ≡ is_own_of component mark }
 {
-    mark.target.slot == component.slot && mark.target.generation == component.generation
+    mark.target == component
 }
 
 fn mark_after(component: Handle, own: Option<Mark>, mark: Option<Mark>) -> Option<Mark>

@@ -10,7 +10,7 @@ ghost use Rattle.work_landing.specs.Landed.{AreHomeless, AreUnkept, all_landed};
 
 /// What the stock of a work's headers comes to stands for the flat list as the machine leaves it.
 pub fn law_of_landing()
-    ensures { (c : Component) (s : Stream) (done : WorkDone) (places : List (Option BufferHeader)) (k : Stocked) (headers : List HeaderRecord)
-        → StandsFor k headers → AreHomeless (number_of c) 0 places k → AreUnkept places k → AreApart places
-        → StandsFor (all_landed c s done (carried_from 0 places) k) (machine.all_landed c s done (carried_from 0 places) headers) }
+    ensures { (component : Component) (stream : Stream) (done : WorkDone) (places : List (Option BufferHeader)) (stocked : Stocked) (headers : List HeaderRecord)
+        → StandsFor stocked headers → AreHomeless (number_of component) 0 places stocked → AreUnkept places stocked → AreApart places
+        → StandsFor (all_landed component stream done (carried_from 0 places) stocked) (machine.all_landed component stream done (carried_from 0 places) headers) }
 {}

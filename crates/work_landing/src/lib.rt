@@ -6,12 +6,11 @@ mod back;
 mod ending;
 mod landing;
 mod laws;
+mod places;
 mod returning;
 mod step;
 
 pub use back::Way;
 pub use laws::law_of_landing;
+pub use places::{Places, leave_all};
 pub use step::{Step, come_back};
-
-/// A header for each port of a component that gave one.
-pub type Places = [Option<header_core::Header>; 9];

@@ -1,5 +1,5 @@
 //! The work of a component comes back.
-ghost use Rattle.std.specs.Prelude.{◌≡◌, ◌+◌, ◌*◌, ◌<◌, ◌≤◌, ◌++◌, ◌||◌, ℕ, List, [], length, take, IsSomeAnd, None, true, is_none, is_some};
+ghost use Rattle.std.specs.Prelude.{◌≡◌, ◌+◌, ◌*◌, ◌<◌, ◌≤◌, ◌++◌, ◌||◌, ℕ, List, [], length, take, IsSomeAnd, true, is_none, is_some};
 ghost use Rattle.omx_types.specs.declared.command.Note.{Note};
 ghost use Rattle.il_machine.specs.Census.{note_numbers};
 ghost use Rattle.il_machine.specs.Due.{with_part};
@@ -10,13 +10,13 @@ ghost use Rattle.il_machine.specs.Room.{room};
 ghost use Rattle.il_machine.specs.World.{Stream};
 ghost use Rattle.port_stock.specs.Kept.{stocked};
 ghost use Rattle.il_component.specs.Entries.{component_of, held_in, KeepsNotices};
-ghost use Rattle.work_landing.specs.Places.{AreApart, AreFree, carried_from};
+ghost use Rattle.work_landing.specs.Places.{AreApart, carried_from};
 ghost use Rattle.work_landing.specs.Returning.{GetsNotes, ended_by, ends_by, known_by, over_by, part_by};
 ghost use Rattle.work_landing.specs.Landed.{AreHomeless, AreWays, AreWithin, IsLeft, all_landed, all_notices, done_by};
 
-use crate::Places;
 use crate::back::{Known, Way};
 use crate::ending::{all_end, ends, has_last};
+use crate::places::{Places, leave_all};
 use crate::returning::{bring_places, mark_from};
 use header_core::Header;
 use il_component::Component;
@@ -144,32 +144,6 @@ fn tell_end<C>(component: &mut Component<C>, ends: bool, fault: Option<PartFault
         None if ends => component.tell(Event::BufferFlag { port: 0, flags: 1 }),
         None => {}
     }
-}
-
-/// Ends a place that has no header.
-fn leave(place: Option<Header>)
-    requires { place ≡ None }
-{
-    match place {
-        None => {}
-        Some(_header) => unreachable!(),
-    }
-}
-
-/// Ends places that have no header.
-fn leave_all(places: Places)
-    requires { AreFree places }
-{
-    let [a, b, c, d, e, f, g, h, i] = places;
-    leave(a);
-    leave(b);
-    leave(c);
-    leave(d);
-    leave(e);
-    leave(f);
-    leave(g);
-    leave(h);
-    leave(i);
 }
 
 /// The work of the component comes back from a step: its headers land by rising port, each told of its own mark before, and behind them

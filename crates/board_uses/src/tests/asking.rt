@@ -22,7 +22,7 @@ fn ask<S: Source, K: Sink, C: Client, R: Wait + Abort>(
     act: Act<S, K, C>,
 ) -> (u64, Reply<S, K, C>)
     requires pass { IsOf board.now pass.old }
-    requires may { May (sight_of C.progress S.offset S.size S.told K.told) C.HEADERS (own_calls pass.old) act }
+    requires may { May (sight_of C.Client S.Source K.Sink) C.HEADERS (own_calls pass.old) act }
     ensures pass { GoesOn board.now pass.old pass.new }
     ensures reply { IsReplyTo act result.1 }
     ensures headers { headers pass.new ≡ headers_after act result.1 (headers pass.old) }
@@ -35,6 +35,7 @@ fn ask<S: Source, K: Sink, C: Client, R: Wait + Abort>(
     }
 }
 
+/// Sends the command, and answers the place of the call.
 pub fn send<S: Source, K: Sink, C: Client, R: Wait + Abort>(
     rt: &R,
     board: &Board<S, K, C>,
@@ -52,6 +53,7 @@ pub fn send<S: Source, K: Sink, C: Client, R: Wait + Abort>(
     }
 }
 
+/// Runs the first command, and answers the place of the call.
 pub fn run<S: Source, K: Sink, C: Client, R: Wait + Abort>(
     rt: &R,
     board: &Board<S, K, C>,

@@ -1,6 +1,6 @@
 //! What the machine's laws say of the worlds that a graph stands for.
 
-ghost use Rattle.std.specs.Prelude.{◌≡◌, Some, None};
+ghost use Rattle.std.specs.Prelude.{◌≡◌, ◌≤◌, length, Some, None};
 ghost use Rattle.omx_types.specs.declared.handle.Handle.{Handle};
 ghost use Rattle.il_machine.specs.Whole.{Always};
 ghost use Rattle.il_machine.specs.Sound.{Sound};
@@ -18,20 +18,21 @@ use note_queues::Client;
 use outside_io::{Sink, Source};
 
 impl<S: Source, K: Sink, C: Client> Graph<S, K, C> {
-    /// There is a world that the graph stands for. Each is sound, has its census and its room, and has nothing due; and each client object that is
-    /// in has the progress of all events that were given for its component. A component whose work isn't out has its file object, and a sink's
-    /// tells what was written to it.
+    /// There is a world that the graph stands for. Each is sound, has its census and its room, at most 32 components, and nothing due; and each
+    /// client object that is in has the progress of all events that were given for its component. A component whose work isn't out has its
+    /// file object, and a sink's tells what was written to it.
     pub fn law_of_worlds(&self)
         ensures one { SoundWhole (kept C.progress self.now) }
         ensures sound { Always (kept C.progress self.now) Sound }
         ensures census { Always (kept C.progress self.now) Census }
         ensures room { Always (kept C.progress self.now) HasRoom }
+        ensures few { Always (kept C.progress self.now) (λ w. length w.components ≤ 32) }
         ensures closed { Always (kept C.progress self.now) IsClosed }
         ensures rests { Always (kept C.progress self.now) NothingDue }
         ensures told { Always (kept C.progress self.now) (AreTold C.progress self.now.core) }
         ensures files { HaveTheirFiles self.now }
         ensures written { Always (kept C.progress self.now) (TellWritten K.told self.now) }
-        ensures out { (h : Handle) → client_named h self.now.core ≡ Some None → IsOut h (look_of self.now.core) }
+        ensures out { (handle : Handle) → client_named handle self.now.core ≡ Some None → IsOut handle (look_of self.now.core) }
     {
         self.core.law_of_worlds();
     }

@@ -2,7 +2,7 @@ use Rattle.std.proofs.Common.{◌∙◌, Bool, sym, subst}
 use Rattle.play_model.specs.Play.{Layout}
 use Rattle.play_model.specs.Reached.{IsOver}
 use Rattle.play_loop.specs.Turns.{IsRound, RoundsOf}
-use Rattle.flow_model.proofs.Queues.{both}
+use Rattle.play_model.proofs.Queues.{both}
 use Rattle.play_loop.proofs.Rounds.{round_acts, way_begins, way_more}
 use Rattle.play_loop.proofs.play_on.Goals as goal
 

@@ -12,12 +12,14 @@ use crate::names::NamedComponent;
 use act_text::TextReply;
 use omx_types::{Command, Handle};
 
+/// Queues the command.
 pub fn send(graph: &mut TraceGraph, h: Handle, command: Command) -> TextReply
     ensures { (components : List Named) → Steps (graph_kept graph.old) (graph_kept graph.new) (λ w v. Replied components (acts.SendCommand h command) result w v) }
 {
     plain_reply(graph.send_command(h, command))
 }
 
+/// Carries out the first command of the queue.
 pub fn run(graph: &mut TraceGraph, components: &[NamedComponent], h: Handle) -> TextReply
     requires { IsNamedGraph (graph_kept graph.old) components.now }
     ensures { Steps (graph_kept graph.old) (graph_kept graph.new) (λ w v. Replied components.now (acts.RunCommand h) result w v) }

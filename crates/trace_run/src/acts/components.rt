@@ -10,6 +10,7 @@ use crate::client::TraceGraph;
 use act_text::TextReply;
 use omx_types::Handle;
 
+/// Frees the component. Its file is none, and its client object goes.
 pub fn free(graph: &mut TraceGraph, h: Handle) -> TextReply
     ensures { (components : List Named) → Steps (graph_kept graph.old) (graph_kept graph.new) (λ w v. Replied components (acts.FreeHandle h) result w v) }
 {
@@ -19,6 +20,7 @@ pub fn free(graph: &mut TraceGraph, h: Handle) -> TextReply
     }
 }
 
+/// The state of the component.
 pub fn state(graph: &TraceGraph, h: Handle) -> TextReply
     requires { IsAtRest (graph_kept graph.now) }
     ensures { (components : List Named) → Steps (graph_kept graph.now) (graph_kept graph.now) (λ w v. Replied components (acts.GetState h) result w v) }
@@ -29,6 +31,7 @@ pub fn state(graph: &TraceGraph, h: Handle) -> TextReply
     }
 }
 
+/// What is seen of the port.
 pub fn port(graph: &TraceGraph, h: Handle, index: u32) -> TextReply
     requires { IsAtRest (graph_kept graph.now) }
     ensures { (components : List Named) → Steps (graph_kept graph.now) (graph_kept graph.now) (λ w v. Replied components (acts.PortView h index) result w v) }

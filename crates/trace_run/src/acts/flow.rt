@@ -10,6 +10,7 @@ use crate::names::NamedComponent;
 use act_text::TextReply;
 use omx_types::{CallError, PortId};
 
+/// Makes a header of the port's tunnel.
 pub fn supply(graph: &mut TraceGraph, components: &[NamedComponent], at: PortId) -> TextReply
     requires { IsNamedGraph (graph_kept graph.old) components.now }
     ensures { Steps (graph_kept graph.old) (graph_kept graph.new) (λ w v. Replied components.now (acts.Supply at.handle at.index) result w v) }
@@ -21,6 +22,7 @@ pub fn supply(graph: &mut TraceGraph, components: &[NamedComponent], at: PortId)
     }
 }
 
+/// Unmakes a header of the port's tunnel.
 pub fn release(graph: &mut TraceGraph, components: &[NamedComponent], at: PortId) -> TextReply
     requires { IsNamedGraph (graph_kept graph.old) components.now }
     ensures { Steps (graph_kept graph.old) (graph_kept graph.new) (λ w v. Replied components.now (acts.Release at.handle at.index) result w v) }
@@ -28,6 +30,7 @@ pub fn release(graph: &mut TraceGraph, components: &[NamedComponent], at: PortId
     answer_reply(components, graph.release(at.handle, at.index))
 }
 
+/// Hands a header over to the other end of the tunnel.
 pub fn over(graph: &mut TraceGraph, components: &[NamedComponent], at: PortId) -> TextReply
     requires { IsNamedGraph (graph_kept graph.old) components.now }
     ensures { Steps (graph_kept graph.old) (graph_kept graph.new) (λ w v. Replied components.now (acts.HandOver at.handle at.index) result w v) }
@@ -35,6 +38,7 @@ pub fn over(graph: &mut TraceGraph, components: &[NamedComponent], at: PortId) -
     answer_reply(components, graph.hand_over(at.handle, at.index))
 }
 
+/// Hands a header back: to the other end of the tunnel, or to the client.
 pub fn back(graph: &mut TraceGraph, components: &[NamedComponent], at: PortId) -> TextReply
     requires { IsNamedGraph (graph_kept graph.old) components.now }
     ensures { Steps (graph_kept graph.old) (graph_kept graph.new) (λ w v. Replied components.now (acts.HandBack at.handle at.index) result w v) }

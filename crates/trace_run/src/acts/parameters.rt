@@ -55,6 +55,7 @@ pub fn set_definition(
     set_parameter(graph, at.handle, 1, at.index, Param::Port(definition))
 }
 
+/// Sets the parameter of that index.
 pub fn set_parameter(
     graph: &mut TraceGraph,
     h: Handle,
@@ -67,6 +68,7 @@ pub fn set_parameter(
     plain_reply(graph.set_parameter(h, key(index, port), value))
 }
 
+/// Sets the config of that index.
 pub fn set_config(
     graph: &mut TraceGraph,
     h: Handle,

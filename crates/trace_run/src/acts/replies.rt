@@ -21,6 +21,7 @@ pub fn plain_reply(done: Result<(), OmxError>) -> TextReply
     }
 }
 
+/// The reply of a component's act, with its ports by name.
 pub fn acted_reply(components: &[NamedComponent], acted: Acted) -> TextReply
     requires { IsNamedAnswer components.now acted }
     ensures { acted_reply components.now acted ≡ Some (Plain result) }

@@ -22,6 +22,7 @@ fn is_input_end(supplier: Supplier) -> bool
     }
 }
 
+/// Sets the tunnel up, and answers which end supplies it.
 pub fn tunnel(graph: &mut TraceGraph, output: PortId, input: PortId) -> TextReply
     ensures { (components : List Named) → Steps (graph_kept graph.old) (graph_kept graph.new) (λ w v. Replied components (acts.SetupTunnel output input) result w v) }
 {
@@ -33,6 +34,7 @@ pub fn tunnel(graph: &mut TraceGraph, output: PortId, input: PortId) -> TextRepl
     }
 }
 
+/// Drops the tunnel of the two ports.
 pub fn drop_tunnel(graph: &mut TraceGraph, output: PortId, input: PortId) -> TextReply
     ensures { (components : List Named) → Steps (graph_kept graph.old) (graph_kept graph.new) (λ w v. Replied components (acts.DropTunnel output input) result w v) }
 {

@@ -10,6 +10,7 @@ use crate::client::TraceGraph;
 use crate::names::NamedComponent;
 use act_text::TextReply;
 
+/// Gives the first waiter its units.
 pub fn grant(graph: &mut TraceGraph, components: &[NamedComponent]) -> TextReply
     requires { IsNamedGraph (graph_kept graph.old) components.now }
     ensures { Steps (graph_kept graph.old) (graph_kept graph.new) (λ w v. Replied components.now acts.Grant result w v) }
@@ -17,6 +18,7 @@ pub fn grant(graph: &mut TraceGraph, components: &[NamedComponent]) -> TextReply
     granted_reply(components, graph.grant())
 }
 
+/// Takes the units of the weakest holder for the first waiter.
 pub fn preempt(graph: &mut TraceGraph, components: &[NamedComponent]) -> TextReply
     requires { IsNamedGraph (graph_kept graph.old) components.now }
     ensures { Steps (graph_kept graph.old) (graph_kept graph.new) (λ w v. Replied components.now acts.Preempt result w v) }

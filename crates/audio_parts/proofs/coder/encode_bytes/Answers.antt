@@ -4,4 +4,4 @@ use Rattle.audio_parts.proofs.coder.encode_bytes.Goals as goal
 
 pub returns : goal.returns
 unfolding encoded
-returns c = c.encode.ensures ∙ ap (map (code_of c.args.law)) c.samples_of.ensures
+returns c = c.encode.ensures ∙ ap (map (code_of c.args.companding)) c.samples_of.ensures

@@ -9,7 +9,7 @@ use Rattle.board_uses.proofs.delivery.deliver.Goals as goal
 
 pub returns-in-Ok-default-TakeNote-Ok-Call-clause-calls : goal.returns-in-Ok-default-TakeNote-Ok-Call-clause-calls
 returns-in-Ok-default-TakeNote-Ok-Call-clause-calls g c =
-    let see = sight_of g.C.Client.progress g.S.Source.offset g.S.Source.size g.S.Source.told g.K.Sink.told in
+    let see = sight_of g.C.Client g.S.Source g.K.Sink in
     let arm = c.in-Ok-default-TakeNote-Ok-Call in
     let took = rw (arm.field-0-1-is, arm.field-0-1-0-is, arm.field-0-1-0-0-is) at arm.ensures.ok in
     record {

@@ -9,7 +9,7 @@ use Rattle.board_uses.proofs.working.work_once.Goals as goal
 
 pub returns-in-Ok-default-Claim-Ok-Work-clause-calls : goal.returns-in-Ok-default-Claim-Ok-Work-clause-calls
 returns-in-Ok-default-Claim-Ok-Work-clause-calls g c =
-    let see = sight_of g.C.Client.progress g.S.Source.offset g.S.Source.size g.S.Source.told g.K.Sink.told in
+    let see = sight_of g.C.Client g.S.Source g.K.Sink in
     let arm = c.in-Ok-default-Claim-Ok-Work in
     let lent = rw (arm.field-0-1-is, arm.field-0-1-0-is, arm.field-0-1-0-0-is) at arm.ensures.ok in
     record {

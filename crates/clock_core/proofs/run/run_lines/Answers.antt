@@ -10,9 +10,9 @@ loop-line-preserved g c = record {
   sent = Sent-line (g.O.Sink.told c.args.out.now) (g.O.Sink.told c.loop-line.out) (g.O.Sink.told c.run_line.new.out) c.loop-line.number c.in-Ok.next c.loop-line.clock c.run_line.new.clock
       c.loop-line.rest.now c.in-Some.line.now c.in-Some.behind.now _ c.in-Some.ensures.some c.in-Ok.ensures.ran c.loop-line.invariant.sent;
   small = omega (arith, c.loop-line.invariant.small, c.in-Ok.ensures.close, c.in-Some.ensures.shorter);
-  later = omega (arith, c.loop-line.invariant.later, c.run_line.ensures.later);
+  later = omega (arith, c.loop-line.invariant.later, c.run_line.ensures.keeps_sink.later);
   stands = c.in-Ok.ensures.stands ∙ c.loop-line.invariant.stands;
-  name = c.run_line.ensures.name ∙ c.loop-line.invariant.name;
+  name = c.run_line.ensures.keeps_sink.name ∙ c.loop-line.invariant.name;
 }
 
 pub returns-in-Err-clause-failed : goal.returns-in-Err-clause-failed

@@ -2,7 +2,7 @@ use Rattle.std.proofs.Common.{◌<◌, map, ap, ◌∙◌, sym, subst}
 use lib.Lanes.{Each1}
 use Rattle.std.proofs.lemmas.Simd.{Each1-weaker}
 use Rattle.g711_law.specs.Alaw.{alaw_magnitude}
-use Rattle.g711_law.proofs.Maps.{map_itself}
+use Rattle.pcm_ops.proofs.Maps.{map_itself}
 use Rattle.g711_law.proofs.SignedLanes.{folded_is, folded_small, cast_asks, cast_is}
 use Rattle.g711_law.proofs.alaw.alaw_magnitudes.Goals as goal
 

@@ -7,7 +7,7 @@ use lib.Lanes.{zip2, Each1}
 use Rattle.g711_law.specs.Mulaw.{mulaw_middle}
 use Rattle.g711_law.specs.Lines.{expanded}
 use Rattle.g711_law.proofs.MulawLaws.{middle_is, middle_le, level_is}
-use Rattle.g711_law.proofs.Maps.{map_again, map_where, each_map, zip_splat, zip_maps}
+use Rattle.pcm_ops.proofs.Maps.{map_again, map_where, each_map, zip_splat, zip_maps}
 use Rattle.g711_law.proofs.CurveLanes.{plus, less}
 use Rattle.g711_law.proofs.mulaw.mulaw_middles.Goals as goal
 

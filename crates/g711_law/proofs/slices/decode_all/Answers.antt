@@ -1,7 +1,7 @@
 use Rattle.std.proofs.Common.{map, FitsSigned, Fits, to_z, of_z, sym, ◌∙◌, refl, arith, w8, w16, length-set}
 use Rattle.std.proofs.lemmas.Simd.{length-chunk, length-put_chunk}
 use Rattle.std.proofs.lemmas.Int.{to_z-of_z}
-use Rattle.g711_law.proofs.Pieces.{vector_step, item_step, all_written, each_in_chunk}
+use Rattle.pcm_ops.proofs.Pieces.{vector_step, item_step, all_written, each_in_chunk}
 use Rattle.g711_law.proofs.SignedLanes.{passed}
 use Rattle.g711_law.proofs.slices.decode_all.Goals as goal
 
@@ -21,7 +21,7 @@ loop-i-preserved g c =
     record {
       within = omega arith;
       same_length = c.loop-i.invariant.same_length ∙ sym (length-put_chunk i c.loop-i.to (map (to_z w16) (map (of_z w16) c.decode_lanes.result)));
-      written = vector_step g.L.Law.value c.args.from.now c.loop-i.to (map (to_z w16) (map (of_z w16) c.decode_lanes.result)) i 16 (omega arith) c.loop-i.invariant.same_length c.loop-i.invariant.written (stored ∙ c.decode_lanes.ensures.value);
+      written = vector_step g.L.Compander.value c.args.from.now c.loop-i.to (map (to_z w16) (map (of_z w16) c.decode_lanes.result)) i 16 (omega arith) c.loop-i.invariant.same_length c.loop-i.invariant.written (stored ∙ c.decode_lanes.ensures.value);
     }
 
 pub loop-i-2-preserved : goal.loop-i-2-preserved
@@ -32,8 +32,8 @@ loop-i-2-preserved g c =
     record {
       within = omega arith;
       same_length = c.loop-i-2.invariant.same_length ∙ sym (length-set c.loop-i-2.to i (to_z w16 (of_z w16 c.decode.result)));
-      written = item_step g.L.Law.value c.args.from.now c.loop-i-2.to i 0 (to_z w16 (of_z w16 c.decode.result)) (omega arith) c.loop-i-2.invariant.same_length c.loop-i-2.invariant.written (stored ∙ c.decode.ensures);
+      written = item_step g.L.Compander.value c.args.from.now c.loop-i-2.to i 0 (to_z w16 (of_z w16 c.decode.result)) (omega arith) c.loop-i-2.invariant.same_length c.loop-i-2.invariant.written (stored ∙ c.decode.ensures);
     }
 
 pub returns : goal.returns
-returns g c = all_written g.L.Law.value c.args.from.now _ c.loop-i-2.i (omega arith) c.loop-i-2.invariant.same_length c.loop-i-2.invariant.written
+returns g c = all_written g.L.Compander.value c.args.from.now _ c.loop-i-2.i (omega arith) c.loop-i-2.invariant.same_length c.loop-i-2.invariant.written

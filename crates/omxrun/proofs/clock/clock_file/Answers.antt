@@ -20,4 +20,4 @@ returns-in-Err-clause-clocked g c =
     (unread-clock c.args.name.now old new c.in-Err.unread c.in-Err.ensures.reason c.in-Err.ensures.there
     (λ other. c.in-Err.ensures.read_stands (λ same. other (cc))) c.read_whole.ensures.write_faults) in
     let told = script-told old new c.in-Err.unread c.unread_fault.result c.unread_fault.ensures (λ other. c.in-Err.ensures.absences_stand (λ same. other (cc))) in
-    (Err c.unread_fault.result, fault_line c.unread_fault.result, record { kept = c.read_whole.ensures.files; unabsent = told; is = (reason, refl); stand = tt }, c.tell.ensures.told)
+    (Err c.unread_fault.result, fault_line c.unread_fault.result, record { kept = c.read_whole.ensures.files; unabsent = told; is = (reason, refl); stand = tt }, c.report.ensures.reported)

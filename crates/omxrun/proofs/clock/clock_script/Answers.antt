@@ -9,7 +9,7 @@ pub returns-then-faults-before-clause-clocked : goal.returns-then-faults-before-
 returns-then-faults-before-clause-clocked g c =
     clock-risen c.args.bytes.now (g.O.Sink.told c.args.out.now) (g.O.Sink.told c.run_clock-outcome.new.out) (g.O.Sink.faults c.args.out.now) (g.O.Sink.faults c.run_clock-outcome.new.out) c.run_clock-outcome.result
     c.run_clock-outcome.ensures.script c.run_clock-outcome.ensures.whole c.run_clock-outcome.ensures.stopped
-    (risen (g.O.Sink.faults c.args.out.now) (g.O.Sink.faults c.run_clock-outcome.new.out) c.run_clock-outcome.ensures.later (λ same. c.if-faults-before.true (c.faults.ensures ∙ same ∙ sym c.faults-before.ensures)))
+    (risen (g.O.Sink.faults c.args.out.now) (g.O.Sink.faults c.run_clock-outcome.new.out) c.run_clock-outcome.ensures.keeps_sink.later (λ same. c.if-faults-before.true (c.faults.ensures ∙ same ∙ sym c.faults-before.ensures)))
 
 pub returns-in-Ok-clause-clocked : goal.returns-in-Ok-clause-clocked
 returns-in-Ok-clause-clocked g c =
@@ -23,5 +23,5 @@ returns-in-WriteFault-clause-clocked g c =
 
 pub returns-in_default-clause-clocked : goal.returns-in_default-clause-clocked
 returns-in_default-clause-clocked g c =
-    clock-told c.args.bytes.now (g.O.Sink.told c.args.out.now) (g.O.Sink.told c.run_clock-outcome.new.out) (g.O.Sink.told c.tell.new.out) (g.O.Sink.faults c.args.out.now) (g.O.Sink.faults c.run_clock-outcome.new.out) (g.O.Sink.faults c.tell.new.out) c.in-Err.fault c.tell.result
-    c.in_default.not-WriteFault c.in-Err.ensures.stopped (sym c.faults.ensures ∙ c.if-faults-before.false ∙ c.faults-before.ensures) c.tell.ensures.told
+    clock-told c.args.bytes.now (g.O.Sink.told c.args.out.now) (g.O.Sink.told c.run_clock-outcome.new.out) (g.O.Sink.told c.report.new.out) (g.O.Sink.faults c.args.out.now) (g.O.Sink.faults c.run_clock-outcome.new.out) (g.O.Sink.faults c.report.new.out) c.in-Err.fault c.report.result
+    c.in_default.not-WriteFault c.in-Err.ensures.stopped (sym c.faults.ensures ∙ c.if-faults-before.false ∙ c.faults-before.ensures) c.report.ensures.reported

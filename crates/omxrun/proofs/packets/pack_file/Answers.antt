@@ -53,5 +53,5 @@ returns-in-Ok-clause-outcome g c =
     } in
     turned-outcome PacksTo StoppedPacking c.args.input.now c.args.output.now old new c.packed_outcome.result c.close_both.result told
     (closed-of PacksTo StoppedPacking (g.M.Snk.Sink.name c.pack-packed.new.snk) c.args.input.now c.args.output.now old mid new c.packed_outcome.result c.close_both.result told c.open_both.ensures.files c.open_both.ensures.goes_on c.in-Ok.ensures.unabsent c.close_both.ensures.absences
-    (λ tells. c.pack-packed.ensures.name ∙ c.in-Ok.ensures.name tells) shut moved stopped (shut-alone old mid new c.packed_outcome.result c.close_both.result (g.M.Src.Source.faults c.pack-packed.new.src) (g.M.Snk.Sink.faults c.pack-packed.new.snk) c.in-Ok.ensures.stand alone shut_alone)
+    (λ tells. c.pack-packed.ensures.keeps_sink.name ∙ c.in-Ok.ensures.name tells) shut moved stopped (shut-alone old mid new c.packed_outcome.result c.close_both.result (g.M.Src.Source.faults c.pack-packed.new.src) (g.M.Snk.Sink.faults c.pack-packed.new.snk) c.in-Ok.ensures.stand alone shut_alone)
     (shut-stand (g.M.Snk.Sink.name c.pack-packed.new.snk) old mid new c.packed_outcome.result c.close_both.result told (g.M.Src.Source.faults c.pack-packed.new.src) (g.M.Snk.Sink.faults c.pack-packed.new.snk) c.in-Ok.ensures.stand alone shut shut_alone))

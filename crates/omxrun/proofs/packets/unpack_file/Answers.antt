@@ -51,5 +51,5 @@ returns-in-Ok-clause-outcome g c =
     } in
     turned-outcome UnpacksTo StoppedUnpacking c.args.input.now c.args.output.now old new c.unpacked_outcome.result c.close_both.result told
     (closed-of UnpacksTo StoppedUnpacking (g.M.Snk.Sink.name c.unpack-unpacked.new.snk) c.args.input.now c.args.output.now old mid new c.unpacked_outcome.result c.close_both.result told c.open_both.ensures.files c.open_both.ensures.goes_on c.in-Ok.ensures.unabsent c.close_both.ensures.absences
-    (λ tells. c.unpack-unpacked.ensures.name ∙ c.in-Ok.ensures.name tells) shut moved stopped (shut-alone old mid new c.unpacked_outcome.result c.close_both.result (g.M.Src.Source.faults c.unpack-unpacked.new.src) (g.M.Snk.Sink.faults c.unpack-unpacked.new.snk) c.in-Ok.ensures.stand alone shut_alone)
+    (λ tells. c.unpack-unpacked.ensures.keeps_sink.name ∙ c.in-Ok.ensures.name tells) shut moved stopped (shut-alone old mid new c.unpacked_outcome.result c.close_both.result (g.M.Src.Source.faults c.unpack-unpacked.new.src) (g.M.Snk.Sink.faults c.unpack-unpacked.new.snk) c.in-Ok.ensures.stand alone shut_alone)
     (shut-stand (g.M.Snk.Sink.name c.unpack-unpacked.new.snk) old mid new c.unpacked_outcome.result c.close_both.result told (g.M.Src.Source.faults c.unpack-unpacked.new.src) (g.M.Snk.Sink.faults c.unpack-unpacked.new.snk) c.in-Ok.ensures.stand alone shut shut_alone))

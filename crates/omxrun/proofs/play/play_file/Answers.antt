@@ -9,4 +9,4 @@ returns-in-Ok-clause-played g c =
 
 pub returns-in-Err-clause-played : goal.returns-in-Err-clause-played
 returns-in-Err-clause-played g c =
-    (Err c.in-Err.fault, unread-outcome c.args.name.now c.args.log.now (g.M.Media.outside c.args.media.now) (g.M.Media.outside c.script_of.new.media) c.in-Err.fault c.script_of.ensures.kept c.in-Err.ensures.reason c.in-Err.ensures.unabsent, c.tell.ensures.told)
+    (Err c.in-Err.fault, unread-outcome c.args.name.now c.args.log.now (g.M.Media.outside c.args.media.now) (g.M.Media.outside c.script_of.new.media) c.in-Err.fault c.script_of.ensures.kept c.in-Err.ensures.reason c.in-Err.ensures.unabsent, c.report.ensures.reported)

@@ -2,10 +2,10 @@ use Rattle.std.proofs.Common.{ℕ, List, length, map, Ok, Err, refl, ◌∙◌, 
 use Rattle.std.proofs.lemmas.List.{length-map}
 use Rattle.omx_types.specs.declared.fault.Status.TheVariants as Statuses
 use Rattle.script_lang.specs.declared.play_line.PartLine.{PartLine}
-use Rattle.play_results.specs.Summaries.{summary_text}
+use Rattle.play_result_laws.specs.Summaries.{summary_text}
 use Rattle.play_course.specs.Settling.{parts_of}
 use Rattle.play_course.specs.Sums.{line_value}
-use Rattle.omxrun.specs.Told.{IsPrinted}
+use Rattle.omxrun.specs.Reports.{IsPrinted}
 use Rattle.omxrun.proofs.Absences.{undone-told}
 use Rattle.omxrun.proofs.Outcomes.{sinks-few}
 use Rattle.omxrun.proofs.play.play_read.Goals as goal
@@ -31,4 +31,4 @@ returns-in-Ok-clause-played g c =
 pub returns-in-Err-clause-played : goal.returns-in-Err-clause-played
 returns-in-Err-clause-played g c =
     let told = undone-told c.args.script.now c.args.log.now (g.M.Media.outside c.args.media.now) (g.M.Media.outside c.play_script.new.media) c.in-Err.undone c.in-Err.ensures.undone in
-    (Err c.in-Err.undone, record { done = tt; unabsent = told; stand = tt; undone = c.in-Err.ensures.undone }, c.tell.ensures.told)
+    (Err c.in-Err.undone, record { done = tt; unabsent = told; stand = tt; undone = c.in-Err.ensures.undone }, c.report.ensures.reported)

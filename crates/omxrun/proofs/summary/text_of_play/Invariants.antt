@@ -1,5 +1,5 @@
 use Rattle.std.proofs.Common.{◌≡◌, ◌≤◌, ◌*◌, ◌++◌, drop, length, map}
-use Rattle.play_results.specs.Summaries.{summary_text}
+use Rattle.play_result_laws.specs.Summaries.{summary_text}
 use Rattle.play_course.specs.Sums.{line_value}
 use Rattle.omxrun.proofs.summary.text_of_play.Given as goal
 

@@ -7,7 +7,7 @@ use Rattle.omxrun.proofs.trace.trace_file.Goals as goal
 
 pub returns-in-Err-clause-traced : goal.returns-in-Err-clause-traced
 returns-in-Err-clause-traced g c =
-    (Err c.in-Err.fault, fault_line c.in-Err.fault, record { kept = c.script_in.ensures.kept; unabsent = c.in-Err.ensures.unabsent; is = inr (c.in-Err.fault, c.in-Err.ensures.reason, refl, refl); stand = tt }, c.tell.ensures.told)
+    (Err c.in-Err.fault, fault_line c.in-Err.fault, record { kept = c.script_in.ensures.kept; unabsent = c.in-Err.ensures.unabsent; is = inr (c.in-Err.fault, c.in-Err.ensures.reason, refl, refl); stand = tt }, c.report.ensures.reported)
 
 pub returns-in-Ok-clause-traced : goal.returns-in-Ok-clause-traced
 returns-in-Ok-clause-traced g c =

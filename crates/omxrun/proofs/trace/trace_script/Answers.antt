@@ -9,16 +9,16 @@ pub returns-then-faults-before-clause-traced : goal.returns-then-faults-before-c
 returns-then-faults-before-clause-traced g c =
     told-risen c.args.script.now (g.O.Sink.told c.args.out.now) (g.O.Sink.told c.trace-outcome.new.out) (g.O.Sink.faults c.args.out.now) (g.O.Sink.faults c.trace-outcome.new.out) c.trace-outcome.result
     c.trace-outcome.ensures.traced c.trace-outcome.ensures.stopped
-    (risen (g.O.Sink.faults c.args.out.now) (g.O.Sink.faults c.trace-outcome.new.out) c.trace-outcome.ensures.later (λ same. c.if-faults-before.true (c.faults.ensures ∙ same ∙ sym c.faults-before.ensures)))
+    (risen (g.O.Sink.faults c.args.out.now) (g.O.Sink.faults c.trace-outcome.new.out) c.trace-outcome.ensures.keeps_sink.later (λ same. c.if-faults-before.true (c.faults.ensures ∙ same ∙ sym c.faults-before.ensures)))
 
 pub returns-in-OutOfMemory-clause-traced : goal.returns-in-OutOfMemory-clause-traced
 returns-in-OutOfMemory-clause-traced g c =
-    told-memory c.args.script.now (g.O.Sink.told c.args.out.now) (g.O.Sink.told c.trace-outcome.new.out) (g.O.Sink.told c.tell.new.out) (g.O.Sink.faults c.args.out.now) (g.O.Sink.faults c.trace-outcome.new.out) (g.O.Sink.faults c.tell.new.out) c.tell.result
+    told-memory c.args.script.now (g.O.Sink.told c.args.out.now) (g.O.Sink.told c.trace-outcome.new.out) (g.O.Sink.told c.report.new.out) (g.O.Sink.faults c.args.out.now) (g.O.Sink.faults c.trace-outcome.new.out) (g.O.Sink.faults c.report.new.out) c.report.result
     (subst (λ (fault : Fault). IsStopped c.args.script.now (g.O.Sink.told c.args.out.now) (g.O.Sink.told c.trace-outcome.new.out) (g.O.Sink.faults c.args.out.now) (g.O.Sink.faults c.trace-outcome.new.out) fault) c.in-OutOfMemory.is c.in-Err.ensures.stopped)
-    (sym c.faults.ensures ∙ c.if-faults-before.false ∙ c.faults-before.ensures) c.tell.ensures.told
+    (sym c.faults.ensures ∙ c.if-faults-before.false ∙ c.faults-before.ensures) c.report.ensures.reported
 
 pub returns-in_default : goal.returns-in_default
 returns-in_default g c = record {
-  later = c.trace-outcome.ensures.later;
+  later = c.trace-outcome.ensures.keeps_sink.later;
   traced = told-stopped c.args.script.now (g.O.Sink.told c.args.out.now) (g.O.Sink.told c.trace-outcome.new.out) (g.O.Sink.faults c.args.out.now) (g.O.Sink.faults c.trace-outcome.new.out) c.in-Err.fault c.in_default.not-OutOfMemory c.in-Err.ensures.stopped;
 }

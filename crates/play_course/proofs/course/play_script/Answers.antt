@@ -7,7 +7,7 @@ use Rattle.script_lang.specs.declared.script.Script.{Script}
 use Rattle.script_lang.specs.declared.script.Script.TheVariants.{Play, Trace}
 use Rattle.play_forms.specs.Plans.{IsPlanOfScript, PlanValue}
 use Rattle.play_files.specs.Names.{HaveOwnFiles}
-use Rattle.play_files.specs.Seen.{file_seen, files_seen, sink_seen, source_seen}
+use Rattle.play_files.specs.Seen.{file_seen, files_seen}
 use Rattle.play_files.proofs.OwnFiles.{own_files}
 use Rattle.play_course.specs.Courses.{HasEnded}
 use Rattle.play_course.specs.Outcomes.{IsUndone}
@@ -24,7 +24,7 @@ its_names name log text script planned parts S P e = subst (HaveOwnFiles name lo
 
 pub returns-in-Err-run_and_close-clause-undone : goal.returns-in-Err-run_and_close-clause-undone
 returns-in-Err-run_and_close-clause-undone g c =
-    let seen = file_seen (source_seen g.M.Src.Source.offset g.M.Src.Source.size g.M.Src.Source.told g.M.Src.Source.ends g.M.Src.Source.faults) (sink_seen g.M.Snk.Sink.told g.M.Snk.Sink.name g.M.Snk.Sink.faults) in
+    let seen = file_seen g.M.Src.Source g.M.Snk.Sink in
     let script = c.args.script.now in
     let log = c.args.log.now in
     let old = g.M.Media.outside c.args.media.now in
@@ -40,7 +40,7 @@ returns-in-Err-run_and_close-clause-undone g c =
 
 pub returns-in-Ok-write_whole-clause-done : goal.returns-in-Ok-write_whole-clause-done
 returns-in-Ok-write_whole-clause-done g c =
-    let seen = file_seen (source_seen g.M.Src.Source.offset g.M.Src.Source.size g.M.Src.Source.told g.M.Src.Source.ends g.M.Src.Source.faults) (sink_seen g.M.Snk.Sink.told g.M.Snk.Sink.name g.M.Snk.Sink.faults) in
+    let seen = file_seen g.M.Src.Source g.M.Snk.Sink in
     let script = c.args.script.now in
     let log = c.args.log.now in
     let old = g.M.Media.outside c.args.media.now in
@@ -58,7 +58,7 @@ returns-in-Ok-write_whole-clause-done g c =
 
 pub returns-in-Ok-write_whole-clause-stand : goal.returns-in-Ok-write_whole-clause-stand
 returns-in-Ok-write_whole-clause-stand g c =
-    let seen = file_seen (source_seen g.M.Src.Source.offset g.M.Src.Source.size g.M.Src.Source.told g.M.Src.Source.ends g.M.Src.Source.faults) (sink_seen g.M.Snk.Sink.told g.M.Snk.Sink.name g.M.Snk.Sink.faults) in
+    let seen = file_seen g.M.Src.Source g.M.Snk.Sink in
     let script = c.args.script.now in
     let log = c.args.log.now in
     let old = g.M.Media.outside c.args.media.now in
@@ -75,7 +75,7 @@ returns-in-Ok-write_whole-clause-stand g c =
 
 pub returns-in-Ok-write_whole-clause-absences : goal.returns-in-Ok-write_whole-clause-absences
 returns-in-Ok-write_whole-clause-absences g c =
-    let seen = file_seen (source_seen g.M.Src.Source.offset g.M.Src.Source.size g.M.Src.Source.told g.M.Src.Source.ends g.M.Src.Source.faults) (sink_seen g.M.Snk.Sink.told g.M.Snk.Sink.name g.M.Snk.Sink.faults) in
+    let seen = file_seen g.M.Src.Source g.M.Snk.Sink in
     let script = c.args.script.now in
     let log = c.args.log.now in
     let old = g.M.Media.outside c.args.media.now in
@@ -91,7 +91,7 @@ returns-in-Ok-write_whole-clause-absences g c =
 
 pub returns-clause-undone : goal.returns-clause-undone
 returns-clause-undone g c =
-    let seen = file_seen (source_seen g.M.Src.Source.offset g.M.Src.Source.size g.M.Src.Source.told g.M.Src.Source.ends g.M.Src.Source.faults) (sink_seen g.M.Snk.Sink.told g.M.Snk.Sink.name g.M.Snk.Sink.faults) in
+    let seen = file_seen g.M.Src.Source g.M.Snk.Sink in
     let script = c.args.script.now in
     let log = c.args.log.now in
     let old = g.M.Media.outside c.args.media.now in

@@ -3,13 +3,13 @@ use Rattle.std.specs.Vec.{vec_len, with_items}
 use Rattle.std.proofs.lemmas.List.{with_items_is}
 use Rattle.audio_parts.specs.declared.part_file.PartFile.{PartFile}
 use Rattle.play_files.specs.Closing.{AreClosed}
-use Rattle.play_files.specs.Seen.{file_seen, files_seen, sink_seen, source_seen}
+use Rattle.play_files.specs.Seen.{file_seen, files_seen}
 use Rattle.play_course.specs.Courses.{HasRun}
 use Rattle.play_course.proofs.course.run_and_close.Goals as goal
 
 pub returns : goal.returns
 returns g c =
-    let seen = file_seen (source_seen g.M.Src.Source.offset g.M.Src.Source.size g.M.Src.Source.told g.M.Src.Source.ends g.M.Src.Source.faults) (sink_seen g.M.Snk.Sink.told g.M.Snk.Sink.name g.M.Snk.Sink.faults) in
+    let seen = file_seen g.M.Src.Source g.M.Snk.Sink in
     let size : length c.run-ran.new.files ≡ vec_len c.args.opened.files = c.run-ran.auto.files ∙ c.as_mut_slice.ensures.len in
     let kept : (with_items c.args.opened.files c.run-ran.new.files).items ≡ c.run-ran.new.files = with_items_is c.args.opened.files c.run-ran.new.files size in
     record {

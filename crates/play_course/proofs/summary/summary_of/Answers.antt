@@ -2,7 +2,7 @@ use Rattle.std.proofs.Common.{◌≡◌, ℕ, length, arith, List, Option, Some,
 use Rattle.std.specs.Option.{is_some}
 use Rattle.std.proofs.lemmas.Option.{slice_get_read}
 use Rattle.script_lang.specs.declared.play_line.PartLine.{PartLine}
-use Rattle.play_results.specs.Files.{written_by}
+use Rattle.play_result_laws.specs.Files.{written_by}
 use Rattle.play_course.proofs.summary.summary_of.Goals as goal
 
 some_of : (o : Option (List ℕ)) → is_some o ≡ true → (name : List ℕ) × (o ≡ Some name)

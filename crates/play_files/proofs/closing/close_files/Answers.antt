@@ -2,7 +2,7 @@ use Rattle.std.proofs.Common.{◌≡◌, ℕ, ◌-◌, [], ◌∷◌, ◌++◌, 
 use Rattle.std.proofs.lemmas.List.{append-nil}
 use Rattle.std.specs.Vec.{vec_len}
 use Rattle.play_files.specs.Closing.{AreClosed}
-use Rattle.play_files.specs.Seen.{file_seen, files_seen, sink_seen, source_seen}
+use Rattle.play_files.specs.Seen.{file_seen, files_seen}
 use Rattle.std.specs.Option.{option_to_list}
 use Rattle.audio_parts.specs.declared.part_file.PartFile.{PartFile}
 use Rattle.play_files.proofs.Closings.{closed_more, nothing_closed}
@@ -29,5 +29,5 @@ returns g c =
     let items : c.loop-file.files.items ≡ [] =
     c.pop.ensures.items ∙ (ap (λ (o : Option (Option (PartFile _ _))). c.pop.new.self.items ++ option_to_list o) c.in_default.is ∙ ap (λ (fs : List (Option (PartFile _ _))). fs ++ []) rest) in
     let all : c.args.files.items ≡ i.0 = i.1 ∙ ap (λ (fs : List (Option (PartFile _ _))). fs ++ i.0) items in
-    subst (λ (fs : List (Option (PartFile _ _))). AreClosed (files_seen (file_seen (source_seen g.M.Src.Source.offset g.M.Src.Source.size g.M.Src.Source.told g.M.Src.Source.ends g.M.Src.Source.faults) (sink_seen g.M.Snk.Sink.told g.M.Snk.Sink.name g.M.Snk.Sink.faults)) fs)
+    subst (λ (fs : List (Option (PartFile _ _))). AreClosed (files_seen (file_seen g.M.Src.Source g.M.Snk.Sink) fs)
     (g.M.Media.outside c.args.media.now) (g.M.Media.outside c.loop-file.media) c.loop-file.closed) (sym all) i.2

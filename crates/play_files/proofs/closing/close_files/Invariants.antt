@@ -2,13 +2,13 @@ use Rattle.std.proofs.Common.{◌≡◌, ◌++◌, List, Option}
 use Rattle.std.specs.Vec.{vec_len}
 use Rattle.audio_parts.specs.declared.part_file.PartFile.{PartFile}
 use Rattle.play_files.specs.Closing.{AreClosed}
-use Rattle.play_files.specs.Seen.{file_seen, files_seen, sink_seen, source_seen}
+use Rattle.play_files.specs.Seen.{file_seen, files_seen}
 use Rattle.play_files.proofs.closing.close_files.Given as goal
 
 abbrev pub invariant-loop-file : goal.invariant-loop-file
 invariant-loop-file g l =
     (done : List (Option (PartFile _ _))) × (l.fn.files.items ≡ l.files.items ++ done)
-    × AreClosed (files_seen (file_seen (source_seen g.M.Src.Source.offset g.M.Src.Source.size g.M.Src.Source.told g.M.Src.Source.ends g.M.Src.Source.faults) (sink_seen g.M.Snk.Sink.told g.M.Snk.Sink.name g.M.Snk.Sink.faults)) done)
+    × AreClosed (files_seen (file_seen g.M.Src.Source g.M.Snk.Sink) done)
     (g.M.Media.outside l.fn.media) (g.M.Media.outside l.media) l.closed
 
 abbrev pub decreases-loop-file : goal.decreases-loop-file

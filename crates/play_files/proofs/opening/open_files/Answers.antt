@@ -6,10 +6,10 @@ use Rattle.play_forms.specs.Plans.{IsFaultOfScript, IsPlanOfScript, PlanValue}
 use Rattle.script_lang.specs.declared.script.Script.TheVariants.{Play, Trace}
 use Rattle.omx_types.specs.declared.fault.Fault.TheVariants as Faults
 use Rattle.outside_io.specs.Files.{Outside}
-use Rattle.play_plans.proofs.Scripts.{scripted}
+use Rattle.play_plan_laws.proofs.Scripts.{scripted}
 use Rattle.play_files.specs.Left.{IsUnopened}
 use Rattle.play_files.specs.Names.{HaveOwnFiles}
-use Rattle.play_files.specs.Seen.{file_seen, sink_seen, source_seen}
+use Rattle.play_files.specs.Seen.{file_seen}
 use Rattle.play_files.proofs.Closings.{then}
 use Rattle.play_files.proofs.Fronts.{still, still_then}
 use Rattle.play_files.proofs.OwnFiles.{own_files}
@@ -33,7 +33,7 @@ returns-in_default-with_capacity-clause-unopened g c = unplanned c.args.script.n
 
 pub returns-in-Ok-open_planned-clause-opened : goal.returns-in-Ok-open_planned-clause-opened
 returns-in-Ok-open_planned-clause-opened g c =
-    let seen = file_seen (source_seen g.M.Src.Source.offset g.M.Src.Source.size g.M.Src.Source.told g.M.Src.Source.ends g.M.Src.Source.faults) (sink_seen g.M.Snk.Sink.told g.M.Snk.Sink.name g.M.Snk.Sink.faults) in
+    let seen = file_seen g.M.Src.Source g.M.Snk.Sink in
     let old = g.M.Media.outside c.args.media.now in
     let new = g.M.Media.outside c.open_planned.new.media in
     let planned = c.in-Ok.plan in
@@ -58,7 +58,7 @@ returns-in-Ok-open_planned-clause-opened g c =
 
 pub returns-in-Err-open_planned-clause-unopened : goal.returns-in-Err-open_planned-clause-unopened
 returns-in-Err-open_planned-clause-unopened g c =
-    let seen = file_seen (source_seen g.M.Src.Source.offset g.M.Src.Source.size g.M.Src.Source.told g.M.Src.Source.ends g.M.Src.Source.faults) (sink_seen g.M.Snk.Sink.told g.M.Snk.Sink.name g.M.Snk.Sink.faults) in
+    let seen = file_seen g.M.Src.Source g.M.Snk.Sink in
     let old = g.M.Media.outside c.args.media.now in
     let mid = g.M.Media.outside c.open_planned.new.media in
     let new = g.M.Media.outside c.close_files.new.media in

@@ -6,7 +6,7 @@ use Rattle.script_lang.specs.declared.play_line.PartLine.{PartLine}
 use Rattle.wav_form.specs.declared.heads.WavHead.{WavHead}
 use Rattle.play_forms.specs.Plans.{IsFitted}
 use Rattle.play_files.specs.Opening.{AreOpen, AreRead, HaveSinks, IsSinkMet, IsSourceMet}
-use Rattle.play_files.specs.Seen.{file_seen, sink_seen, source_seen}
+use Rattle.play_files.specs.Seen.{file_seen}
 use Rattle.play_files.proofs.Fronts.{sink_refused_sooner, still_then}
 use Rattle.play_files.proofs.Openings.{open_of, sinks_free}
 use Rattle.play_files.proofs.Results.{err_then, ok_both}
@@ -14,7 +14,7 @@ use Rattle.play_files.proofs.opening.open_planned.Goals as goal
 
 pub returns-in-Err-clause-stopped : goal.returns-in-Err-clause-stopped
 returns-in-Err-clause-stopped g c =
-    let seen = file_seen (source_seen g.M.Src.Source.offset g.M.Src.Source.size g.M.Src.Source.told g.M.Src.Source.ends g.M.Src.Source.faults) (sink_seen g.M.Snk.Sink.told g.M.Snk.Sink.name g.M.Snk.Sink.faults) in
+    let seen = file_seen g.M.Src.Source g.M.Snk.Sink in
     let old = g.M.Media.outside c.args.media.now in
     let met = c.in-Err.ensures.met in
     inl (record {
@@ -25,7 +25,7 @@ returns-in-Err-clause-stopped g c =
 
 pub returns-in-Err-fit-clause-stopped : goal.returns-in-Err-fit-clause-stopped
 returns-in-Err-fit-clause-stopped g c =
-    let seen = file_seen (source_seen g.M.Src.Source.offset g.M.Src.Source.size g.M.Src.Source.told g.M.Src.Source.ends g.M.Src.Source.faults) (sink_seen g.M.Snk.Sink.told g.M.Snk.Sink.name g.M.Snk.Sink.faults) in
+    let seen = file_seen g.M.Src.Source g.M.Snk.Sink in
     let old = g.M.Media.outside c.args.media.now in
     inr (inl (record {
       fitted = subst (λ (hs : List WavHead). IsFitted c.args.plan.now hs c.fit.new.self) c.as_slice.ensures.value c.fit.ensures.fitted;
@@ -38,7 +38,7 @@ returns-in-Err-fit-clause-stopped g c =
 
 pub open_sinks-requires-clause-free : goal.open_sinks-requires-clause-free
 open_sinks-requires-clause-free g c =
-    let seen = file_seen (source_seen g.M.Src.Source.offset g.M.Src.Source.size g.M.Src.Source.told g.M.Src.Source.ends g.M.Src.Source.faults) (sink_seen g.M.Snk.Sink.told g.M.Snk.Sink.name g.M.Snk.Sink.faults) in
+    let seen = file_seen g.M.Src.Source g.M.Snk.Sink in
     let old = g.M.Media.outside c.args.media.now in
     let same : c.parts.result.now ≡ c.parts-2.result.now = c.parts.ensures ∙ (sym c.fit.ensures.fitted.parts ∙ sym c.parts-2.ensures) in
     let read = subst (λ (ps : List PartLine). AreRead seen old ps (length ps) c.open_sources.new.heads.items c.open_sources.new.files.items) same c.in-Ok.ensures.read in
@@ -46,7 +46,7 @@ open_sinks-requires-clause-free g c =
 
 pub returns-clause-whole : goal.returns-clause-whole
 returns-clause-whole g c =
-    let seen = file_seen (source_seen g.M.Src.Source.offset g.M.Src.Source.size g.M.Src.Source.told g.M.Src.Source.ends g.M.Src.Source.faults) (sink_seen g.M.Snk.Sink.told g.M.Snk.Sink.name g.M.Snk.Sink.faults) in
+    let seen = file_seen g.M.Src.Source g.M.Snk.Sink in
     let old = g.M.Media.outside c.args.media.now in
     let mid = g.M.Media.outside c.open_sources.new.media in
     let new = g.M.Media.outside c.open_sinks.new.media in
@@ -71,7 +71,7 @@ returns-clause-whole g c =
 
 pub returns-clause-stopped : goal.returns-clause-stopped
 returns-clause-stopped g c =
-    let seen = file_seen (source_seen g.M.Src.Source.offset g.M.Src.Source.size g.M.Src.Source.told g.M.Src.Source.ends g.M.Src.Source.faults) (sink_seen g.M.Snk.Sink.told g.M.Snk.Sink.name g.M.Snk.Sink.faults) in
+    let seen = file_seen g.M.Src.Source g.M.Snk.Sink in
     let old = g.M.Media.outside c.args.media.now in
     let mid = g.M.Media.outside c.open_sources.new.media in
     let new = g.M.Media.outside c.open_sinks.new.media in

@@ -1,7 +1,7 @@
 use Rattle.std.proofs.Common.{◌≡◌, ℕ, ◌<◌, Some, length, slice_get, refl, subst, arith}
 use Rattle.std.proofs.lemmas.Option.{slice_get_read}
 use Rattle.play_files.specs.Opening.{HaveSinks}
-use Rattle.play_files.specs.Seen.{file_seen, sink_seen, source_seen}
+use Rattle.play_files.specs.Seen.{file_seen}
 use Rattle.play_files.proofs.Fronts.{sink_sooner, still_then}
 use Rattle.play_files.proofs.Writing.{other_more, sink_more}
 use Rattle.play_files.proofs.sinks.open_sinks.Goals as goal
@@ -10,7 +10,7 @@ use Rattle.play_files.proofs.sinks.open_sinks.Goals.{in-Some+in-Ok, in_default}
 pub loop-place-preserved : goal.loop-place-preserved
 loop-place-preserved g c =
     let i = c.loop-place.invariant in
-    let seen = file_seen (source_seen g.M.Src.Source.offset g.M.Src.Source.size g.M.Src.Source.told g.M.Src.Source.ends g.M.Src.Source.faults) (sink_seen g.M.Snk.Sink.told g.M.Snk.Sink.name g.M.Snk.Sink.faults) in
+    let seen = file_seen g.M.Src.Source g.M.Snk.Sink in
     let old = g.M.Media.outside c.args.media.now in
     let mid = g.M.Media.outside c.loop-place.media in
     let parts = c.args.parts.now in
@@ -33,5 +33,5 @@ loop-place-preserved g c =
 pub returns-clause-opened : goal.returns-clause-opened
 returns-clause-opened g c =
     let ends : c.loop-place.place ≡ length c.args.parts.now = (let a = c.loop-place-test.false in let b = c.loop-place.auto.place-end in omega arith) in
-    subst (λ (n : ℕ). HaveSinks (file_seen (source_seen g.M.Src.Source.offset g.M.Src.Source.size g.M.Src.Source.told g.M.Src.Source.ends g.M.Src.Source.faults) (sink_seen g.M.Snk.Sink.told g.M.Snk.Sink.name g.M.Snk.Sink.faults))
+    subst (λ (n : ℕ). HaveSinks (file_seen g.M.Src.Source g.M.Snk.Sink)
     (g.M.Media.outside c.args.media.now) c.args.parts.now c.args.planned.now n c.args.files.now c.loop-place.files) ends c.loop-place.invariant.have

@@ -1,6 +1,6 @@
 use Rattle.std.proofs.Common.{◌≡◌, Some, slice_get, refl, arith}
 use Rattle.std.proofs.lemmas.Option.{slice_get_read}
-use Rattle.play_files.specs.Seen.{file_seen, sink_seen, source_seen}
+use Rattle.play_files.specs.Seen.{file_seen}
 use Rattle.play_files.proofs.Fronts.{source_sooner, still_then}
 use Rattle.play_files.proofs.Reading.{file_more, none_more}
 use Rattle.play_files.proofs.sources.open_sources.Goals as goal
@@ -9,7 +9,7 @@ use Rattle.play_files.proofs.sources.open_sources.Goals.{in-None, in-Some+in-Ok}
 pub loop-part-preserved : goal.loop-part-preserved
 loop-part-preserved g c =
     let i = c.loop-part.invariant in
-    let seen = file_seen (source_seen g.M.Src.Source.offset g.M.Src.Source.size g.M.Src.Source.told g.M.Src.Source.ends g.M.Src.Source.faults) (sink_seen g.M.Snk.Sink.told g.M.Snk.Sink.name g.M.Snk.Sink.faults) in
+    let seen = file_seen g.M.Src.Source g.M.Snk.Sink in
     let old = g.M.Media.outside c.args.media.now in
     let parts = c.args.parts.now in
     let count = c.loop-part.part-index in

@@ -1,7 +1,7 @@
 use Rattle.std.proofs.Common.{◌≤◌, length}
 use Rattle.std.specs.Vec.{vec_capacity, vec_len}
 use Rattle.play_files.specs.Opening.{AreRead, IsStill}
-use Rattle.play_files.specs.Seen.{file_seen, sink_seen, source_seen}
+use Rattle.play_files.specs.Seen.{file_seen}
 use Rattle.play_files.proofs.sources.open_sources.Given as goal
 
 abbrev pub invariant-loop-part : goal.invariant-loop-part
@@ -11,5 +11,5 @@ invariant-loop-part g l = record {
   heads_few : vec_len l.heads ≤ l.part-index;
   files_few : vec_len l.files ≤ l.part-index;
   still : IsStill (g.M.Media.outside l.fn.media) (g.M.Media.outside l.media);
-  read : AreRead (file_seen (source_seen g.M.Src.Source.offset g.M.Src.Source.size g.M.Src.Source.told g.M.Src.Source.ends g.M.Src.Source.faults) (sink_seen g.M.Snk.Sink.told g.M.Snk.Sink.name g.M.Snk.Sink.faults)) (g.M.Media.outside l.fn.media) l.parts l.part-index l.heads.items l.files.items;
+  read : AreRead (file_seen g.M.Src.Source g.M.Snk.Sink) (g.M.Media.outside l.fn.media) l.parts l.part-index l.heads.items l.files.items;
 }

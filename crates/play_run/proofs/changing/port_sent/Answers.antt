@@ -1,7 +1,7 @@
 use Rattle.std.proofs.Common.{Bool, Ok, sym, subst}
 use Rattle.il_machine.specs.Acts as acts
-use Rattle.late_acts.specs.Conducting.{port_command}
-use Rattle.log_texts.specs.Said.{SaysOf}
+use Rattle.play_change_laws.specs.Conducting.{port_command}
+use Rattle.play_log.specs.Said.{SaysOf}
 use Rattle.play_run.proofs.changing.port_sent.Goals as goal
 
 pub returns-then-disables : goal.returns-then-disables

@@ -13,32 +13,32 @@ returns-in-Err-clause-short g c =
 
 pub returns-in_default-clause-answer : goal.returns-in_default-clause-answer
 returns-in_default-clause-answer g c = λ bytes is head read.
-    wrong_format bytes c.in-Ok.head head (c.in-Ok.ensures.reads bytes is) read (sym c.of_format.ensures ∙ c.in_default.is)
+    wrong_format bytes c.in-Ok.head head (c.in-Ok.ensures.reads bytes is) read (sym c.companding_of.ensures ∙ c.in_default.is)
 
 pub returns-in-Err-write_all-clause-front : goal.returns-in-Err-write_all-clause-front
 returns-in-Err-write_all-clause-front g c = λ bytes is head read.
-    packed-front_magic _ _ bytes c.in-Ok.head head c.in-Some.law c.size-size.result (c.in-Ok.ensures.reads bytes is) read (sym c.of_format.ensures ∙ c.in-Some.is) (omega (arith, c.if-prove.false)) (c.size-size.ensures.value ∙ c.size-size.ensures.told bytes (c.in-Ok.ensures.told ∙ is)) c.write_all.ensures.front
+    packed-front_magic _ _ bytes c.in-Ok.head head c.in-Some.companding c.size-size.result (c.in-Ok.ensures.reads bytes is) read (sym c.companding_of.ensures ∙ c.in-Some.is) (omega (arith, c.if-prove.false)) (c.size-size.ensures.value ∙ c.size-size.ensures.told bytes (c.in-Ok.ensures.keeps_source.told ∙ is)) c.write_all.ensures.front
 
 pub returns-in-Ok-pack_samples-clause-answer : goal.returns-in-Ok-pack_samples-clause-answer
 returns-in-Ok-pack_samples-clause-answer g c = λ bytes is head read.
     let count : c.div_ceil.result ≡ packet_count c.in-Ok.head.frames = omega (arith, c.div_ceil.ensures) in
-    counts_are bytes c.in-Ok.head head c.in-Some.law c.size-size.result _ (c.in-Ok.ensures.reads bytes is) read (sym c.of_format.ensures ∙ c.in-Some.is) (omega (arith, c.if-prove.false)) (c.size-size.ensures.value ∙ c.size-size.ensures.told bytes (c.in-Ok.ensures.told ∙ is)) count
+    counts_are bytes c.in-Ok.head head c.in-Some.companding c.size-size.result _ (c.in-Ok.ensures.reads bytes is) read (sym c.companding_of.ensures ∙ c.in-Some.is) (omega (arith, c.if-prove.false)) (c.size-size.ensures.value ∙ c.size-size.ensures.told bytes (c.in-Ok.ensures.keeps_source.told ∙ is)) count
 
 pub returns-in-Ok-pack_samples-clause-file : goal.returns-in-Ok-pack_samples-clause-file
 returns-in-Ok-pack_samples-clause-file g c = λ bytes is head read.
-    packed-whole _ _ _ bytes c.in-Ok.head head c.in-Some.law c.size-size.result _ (c.in-Ok.ensures.reads bytes is) read (sym c.of_format.ensures ∙ c.in-Some.is) (omega (arith, c.if-prove.false)) (c.size-size.ensures.value ∙ c.size-size.ensures.told bytes (c.in-Ok.ensures.told ∙ is)) c.in-Ok.ensures.offset c.in-Ok-write_all.ensures.whole (c.in-Ok-pack_samples.ensures.whole bytes (c.in-Ok.ensures.told ∙ is))
+    packed-whole _ _ _ bytes c.in-Ok.head head c.in-Some.companding c.size-size.result _ (c.in-Ok.ensures.reads bytes is) read (sym c.companding_of.ensures ∙ c.in-Some.is) (omega (arith, c.if-prove.false)) (c.size-size.ensures.value ∙ c.size-size.ensures.told bytes (c.in-Ok.ensures.keeps_source.told ∙ is)) c.in-Ok.ensures.offset c.in-Ok-write_all.ensures.whole (c.in-Ok-pack_samples.ensures.whole bytes (c.in-Ok.ensures.keeps_source.told ∙ is))
 
 pub returns-in-Ok-pack_samples-clause-front : goal.returns-in-Ok-pack_samples-clause-front
 returns-in-Ok-pack_samples-clause-front g c = λ bytes is head read.
-    packed-front _ _ _ bytes c.in-Ok.head head c.in-Some.law c.size-size.result _ (c.in-Ok.ensures.reads bytes is) read (sym c.of_format.ensures ∙ c.in-Some.is) (omega (arith, c.if-prove.false)) (c.size-size.ensures.value ∙ c.size-size.ensures.told bytes (c.in-Ok.ensures.told ∙ is)) c.in-Ok.ensures.offset c.in-Ok-write_all.ensures.whole (c.in-Ok-pack_samples.ensures.front bytes (c.in-Ok.ensures.told ∙ is))
+    packed-front _ _ _ bytes c.in-Ok.head head c.in-Some.companding c.size-size.result _ (c.in-Ok.ensures.reads bytes is) read (sym c.companding_of.ensures ∙ c.in-Some.is) (omega (arith, c.if-prove.false)) (c.size-size.ensures.value ∙ c.size-size.ensures.told bytes (c.in-Ok.ensures.keeps_source.told ∙ is)) c.in-Ok.ensures.offset c.in-Ok-write_all.ensures.whole (c.in-Ok-pack_samples.ensures.front bytes (c.in-Ok.ensures.keeps_source.told ∙ is))
 
 pub returns-in-Err-pack_samples-clause-front : goal.returns-in-Err-pack_samples-clause-front
 returns-in-Err-pack_samples-clause-front g c = λ bytes is head read.
-    packed-front _ _ _ bytes c.in-Ok.head head c.in-Some.law c.size-size.result _ (c.in-Ok.ensures.reads bytes is) read (sym c.of_format.ensures ∙ c.in-Some.is) (omega (arith, c.if-prove.false)) (c.size-size.ensures.value ∙ c.size-size.ensures.told bytes (c.in-Ok.ensures.told ∙ is)) c.in-Ok.ensures.offset c.in-Ok-write_all.ensures.whole (c.in-Err-pack_samples.ensures.front bytes (c.in-Ok.ensures.told ∙ is))
+    packed-front _ _ _ bytes c.in-Ok.head head c.in-Some.companding c.size-size.result _ (c.in-Ok.ensures.reads bytes is) read (sym c.companding_of.ensures ∙ c.in-Some.is) (omega (arith, c.if-prove.false)) (c.size-size.ensures.value ∙ c.size-size.ensures.told bytes (c.in-Ok.ensures.keeps_source.told ∙ is)) c.in-Ok.ensures.offset c.in-Ok-write_all.ensures.whole (c.in-Err-pack_samples.ensures.front bytes (c.in-Ok.ensures.keeps_source.told ∙ is))
 
 pub returns-in-Err-pack_samples-clause-short : goal.returns-in-Err-pack_samples-clause-short
 returns-in-Err-pack_samples-clause-short g c =
-    short_samples _ _ _ _ _ c.in-Ok.head c.in-Some.law _ _ _ _ _ c.in-Err-pack_samples.fault (sym c.of_format.ensures ∙ c.in-Some.is) c.in-Ok.ensures.size c.in-Ok.ensures.ends c.in-Ok.ensures.offset c.in-Ok.ensures.start c.in-Ok.ensures.reads c.in-Err-pack_samples.ensures.stop
+    short_samples _ _ _ _ _ c.in-Ok.head c.in-Some.companding _ _ _ _ _ c.in-Err-pack_samples.fault (sym c.companding_of.ensures ∙ c.in-Some.is) c.in-Ok.ensures.keeps_source.size c.in-Ok.ensures.keeps_source.ends c.in-Ok.ensures.offset c.in-Ok.ensures.start c.in-Ok.ensures.reads c.in-Err-pack_samples.ensures.stop
 
 pub returns-in-Err-clause-read_stands : goal.returns-in-Err-clause-read_stands
 returns-in-Err-clause-read_stands g c = λ other.

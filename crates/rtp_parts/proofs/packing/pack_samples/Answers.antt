@@ -31,9 +31,9 @@ loop-done-preserved g c =
       sent = λ bytes is.
           let all = take c.args.frames (drop (g.S.Source.offset c.args.src.now) bytes) in
           let piece = part_read bytes (g.S.Source.offset c.args.src.now) c.args.frames c.loop-done.done count _ _ whole c.loop-done-test.true c.min-count.ensures c.loop-done.invariant.offset long in
-          sent_more c.args.law all _ _ _ c.loop-done.done count whole (c.loop-done.invariant.sent bytes is)
+          sent_more c.args.companding all _ _ _ c.loop-done.done count whole (c.loop-done.invariant.sent bytes is)
           (c.in-Ok.ensures.whole bytes (c.loop-done.invariant.told ∙ is) all piece
-          ∙ ap (λ (n : ℕ). append_known (g.K.Sink.told c.loop-done.snk) (texts_of c.args.law all (c.loop-done.done / 160) (packet_count n))) long);
+          ∙ ap (λ (n : ℕ). append_known (g.K.Sink.told c.loop-done.snk) (texts_of c.args.companding all (c.loop-done.done / 160) (packet_count n))) long);
     }
 
 pub returns-in-Err-clause-front : goal.returns-in-Err-clause-front
@@ -44,15 +44,15 @@ returns-in-Err-clause-front g c = λ bytes is.
     let all = take c.args.frames (drop (g.S.Source.offset c.args.src.now) bytes) in
     let piece = part_read bytes (g.S.Source.offset c.args.src.now) c.args.frames c.loop-done.done count _ _ whole c.loop-done-test.true c.min-count.ensures c.loop-done.invariant.offset long in
     let within : c.loop-done.done + count ≤ c.args.frames = omega (arith, c.min-count.ensures, c.loop-done-test.true) in
-    sent_front c.args.law all _ _ _ c.args.frames c.loop-done.done count whole within (c.loop-done.invariant.sent bytes is)
-    (subst (λ (n : ℕ). AppendsFront (g.K.Sink.told c.loop-done.snk) (g.K.Sink.told c.pack_piece.new.snk) (texts_of c.args.law all (c.loop-done.done / 160) (packet_count n))) long
+    sent_front c.args.companding all _ _ _ c.args.frames c.loop-done.done count whole within (c.loop-done.invariant.sent bytes is)
+    (subst (λ (n : ℕ). AppendsFront (g.K.Sink.told c.loop-done.snk) (g.K.Sink.told c.pack_piece.new.snk) (texts_of c.args.companding all (c.loop-done.done / 160) (packet_count n))) long
     (c.in-Err.ensures.front bytes (c.loop-done.invariant.told ∙ is) all piece))
 
 pub returns-clause-front : goal.returns-clause-front
 returns-clause-front g c = λ bytes is.
     let all : c.loop-done.done ≡ c.args.frames = omega (arith, c.loop-done-test.false, c.loop-done.invariant.within) in
     front-whole _ _ _ (c.loop-done.invariant.sent bytes is
-    ∙ ap (λ (n : ℕ). append_known (g.K.Sink.told c.args.snk.now) (texts_of c.args.law (take c.args.frames (drop (g.S.Source.offset c.args.src.now) bytes)) 0 (packet_count n))) all)
+    ∙ ap (λ (n : ℕ). append_known (g.K.Sink.told c.args.snk.now) (texts_of c.args.companding (take c.args.frames (drop (g.S.Source.offset c.args.src.now) bytes)) 0 (packet_count n))) all)
 
 pub returns-in-Err-clause-stop : goal.returns-in-Err-clause-stop
 returns-in-Err-clause-stop g c =

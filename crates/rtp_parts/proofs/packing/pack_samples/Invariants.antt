@@ -19,7 +19,7 @@ invariant-loop-done g l = record {
   name : g.K.Sink.name l.snk ≡ g.K.Sink.name l.initial.snk;
   write : g.K.Sink.faults l.snk ≡ g.K.Sink.faults l.initial.snk;
   sent : WhereTold (g.S.Source.told l.initial.src) (λ bytes. g.K.Sink.told l.snk ≡ append_known (g.K.Sink.told l.initial.snk)
-      (texts_of l.law (take l.frames (drop (g.S.Source.offset l.initial.src) bytes)) 0 (packet_count l.done)));
+      (texts_of l.companding (take l.frames (drop (g.S.Source.offset l.initial.src) bytes)) 0 (packet_count l.done)));
 }
 
 abbrev pub decreases-loop-done : goal.decreases-loop-done

@@ -9,7 +9,7 @@ use Rattle.rtp_parts.proofs.pieces.write_piece.Goals.{then-piece-gt0+in_ok-write
 
 pub returns-clause-front : goal.returns-clause-front
 returns-clause-front g c =
-    let code = silence_of c.args.law in
+    let code = silence_of c.args.companding in
     let count = c.args.piece.now.silence in
     let before = g.K.Sink.told c.args.snk.now in
     let sent : g.K.Sink.told c.if-piece-gt0.snk ≡ append_known before (replicate count code) =

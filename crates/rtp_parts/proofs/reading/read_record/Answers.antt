@@ -26,14 +26,14 @@ returns-in-Ok-read_exact-clause-record g c = λ x is.
     let long : length (take c.from-len.result c.args.buffer.now) ≡ c.from-len.result = omega (arith, length-take c.from-len.result c.args.buffer.now, c.requires.room, c.from-len.ensures, c.read_u16-len.type_inv) in
     whole_read x c.read_exact.new.buf c.read_exact-2.new.buf (drop c.from-len.result c.args.buffer.now) (g.S.Source.offset c.args.src.now) (g.S.Source.offset c.read_exact.new.source) (g.S.Source.offset c.read_exact-2.new.source) c.read_u16-len.result c.from-len.result (length (take c.from-len.result c.args.buffer.now))
     (omega (arith, left, c.if-left-eq0.false, c.if-left-eq1.false)) (c.in-Ok.ensures.bytes x is) c.read_u16-len.ensures c.from-len.ensures long
-    (omega (arith, left, c.if-left-from.false, c.from.ensures, c.from-len.ensures)) c.in-Ok.ensures.offset c.in-Ok-read_exact.ensures.offset (c.in-Ok-read_exact.ensures.bytes x (c.in-Ok.ensures.told ∙ is))
+    (omega (arith, left, c.if-left-from.false, c.from.ensures, c.from-len.ensures)) c.in-Ok.ensures.offset c.in-Ok-read_exact.ensures.offset (c.in-Ok-read_exact.ensures.bytes x (c.in-Ok.ensures.keeps_source.told ∙ is))
 
 pub returns-in-Ok-read_exact-clause-reached : goal.returns-in-Ok-read_exact-clause-reached
 returns-in-Ok-read_exact-clause-reached g c = λ end is.
-    omega (arith, c.in-Ok.ensures.reached end is, c.requires.reached end is, c.in-Ok-read_exact.ensures.reached end (c.in-Ok.ensures.ends ∙ is))
+    omega (arith, c.in-Ok.ensures.reached end is, c.requires.reached end is, c.in-Ok-read_exact.ensures.reached end (c.in-Ok.ensures.keeps_source.ends ∙ is))
 
 pub returns-in-Err-read_exact-clause-stop : goal.returns-in-Err-read_exact-clause-stop
 returns-in-Err-read_exact-clause-stop g c =
-    stop_read _ _ _ _ (g.S.Source.offset c.read_exact.new.source) _ _ _ c.in-Err-read_exact.stop _ c.of_read-in-Err-read_exact.ensures c.in-Ok.ensures.size c.in-Ok.ensures.ends (c.in-Ok.ensures.stands (λ e. cc))
+    stop_read _ _ _ _ (g.S.Source.offset c.read_exact.new.source) _ _ _ c.in-Err-read_exact.stop _ c.of_read-in-Err-read_exact.ensures c.in-Ok.ensures.keeps_source.size c.in-Ok.ensures.keeps_source.ends (c.in-Ok.ensures.stands (λ e. cc))
     (λ e. c.in-Err-read_exact.ensures.failed (ap Err e)) (λ other. c.in-Err-read_exact.ensures.stands (λ e. other cc)) c.in-Err-read_exact.ensures.short
     (λ end is. omega (arith, c.in-Ok.ensures.reached end is, c.requires.reached end is))

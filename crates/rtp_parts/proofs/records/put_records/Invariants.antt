@@ -5,5 +5,5 @@ use Rattle.rtp_parts.proofs.records.put_records.Given as goal
 abbrev pub invariant-loop-k : goal.invariant-loop-k
 invariant-loop-k l = record {
   room : l.at ≤ 174 * l.k;
-  texts : (all : List ℕ) → l.samples ≡ take (160 * packet_count (length l.samples)) (drop (160 * l.first) all) → take l.at l.out ≡ texts_of l.law all l.first l.k;
+  texts : (all : List ℕ) → l.samples ≡ take (160 * packet_count (length l.samples)) (drop (160 * l.first) all) → take l.at l.out ≡ texts_of l.companding all l.first l.k;
 }

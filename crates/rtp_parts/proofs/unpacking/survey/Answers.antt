@@ -35,9 +35,9 @@ pieces-preserved g c =
       few = subst (λ (n : ℕ). c.next.new.self.packets + room_left c.next.new.self (n - g.S.Source.offset c.next.new.src) ≤ 2 ^ 27) c.pieces.invariant.size c.in-Ok-Some.ensures.few;
       room = search rules;
       reached = λ end is. c.in-Ok-Some.ensures.reached end (c.pieces.invariant.ends ∙ is);
-      told = c.in-Ok-Some.ensures.told ∙ c.pieces.invariant.told;
-      ends = c.in-Ok-Some.ensures.ends ∙ c.pieces.invariant.ends;
-      size = c.in-Ok-Some.ensures.size ∙ c.pieces.invariant.size;
+      told = c.in-Ok-Some.ensures.keeps_source.told ∙ c.pieces.invariant.told;
+      ends = c.in-Ok-Some.ensures.keeps_source.ends ∙ c.pieces.invariant.ends;
+      size = c.in-Ok-Some.ensures.keeps_source.size ∙ c.pieces.invariant.size;
       stands = c.in-Ok-Some.ensures.stands ∙ c.pieces.invariant.stands;
     }
 

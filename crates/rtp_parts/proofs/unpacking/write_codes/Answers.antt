@@ -11,7 +11,7 @@ pieces-init g c =
     let u = c.new-unpacker.result in
     let made = c.new-unpacker.ensures in
     record {
-      sent = λ bytes is. ([], sym (start-codes (silence_of c.args.law) u (drop (g.S.Source.offset c.args.src.now) bytes) made.course made.going made.first), sym (append_known-nil (g.K.Sink.told c.args.snk.now)));
+      sent = λ bytes is. ([], sym (start-codes (silence_of c.args.companding) u (drop (g.S.Source.offset c.args.src.now) bytes) made.course made.going made.first), sym (append_known-nil (g.K.Sink.told c.args.snk.now)));
       few = search rules;
       room = search rules;
       reached = c.requires.reached;
@@ -26,7 +26,7 @@ pieces-init g c =
 pub pieces-preserved : goal.pieces-preserved
 pieces-preserved g c =
     let piece = c.in-Ok-Some.piece in
-    let silence = silence_of c.args.law in
+    let silence = silence_of c.args.companding in
     record {
       sent = λ bytes is.
           let before = c.pieces.invariant.sent bytes is in
@@ -36,9 +36,9 @@ pieces-preserved g c =
       few = subst (λ (n : ℕ). c.next.new.self.packets + room_left c.next.new.self (n - g.S.Source.offset c.next.new.src) ≤ 2 ^ 27) c.pieces.invariant.size c.in-Ok-Some.ensures.few;
       room = search rules;
       reached = λ end is. c.in-Ok-Some.ensures.reached end (c.pieces.invariant.ends ∙ is);
-      told = c.in-Ok-Some.ensures.told ∙ c.pieces.invariant.told;
-      ends = c.in-Ok-Some.ensures.ends ∙ c.pieces.invariant.ends;
-      size = c.in-Ok-Some.ensures.size ∙ c.pieces.invariant.size;
+      told = c.in-Ok-Some.ensures.keeps_source.told ∙ c.pieces.invariant.told;
+      ends = c.in-Ok-Some.ensures.keeps_source.ends ∙ c.pieces.invariant.ends;
+      size = c.in-Ok-Some.ensures.keeps_source.size ∙ c.pieces.invariant.size;
       read = c.in-Ok-Some.ensures.stands ∙ c.pieces.invariant.read;
       name = search rules;
       write = search rules;
@@ -47,7 +47,7 @@ pieces-preserved g c =
 pub returns-in-Err-write_piece-clause-front : goal.returns-in-Err-write_piece-clause-front
 returns-in-Err-write_piece-clause-front g c = λ bytes is.
     let piece = c.in-Ok-Some.piece in
-    let silence = silence_of c.args.law in
+    let silence = silence_of c.args.companding in
     let before = c.pieces.invariant.sent bytes is in
     sent_piece _ _ _ _ before.0 _ (replicate piece.silence silence ++ piece.payload.items) _ (before.1, before.2)
     (given_some _ piece _ c.in-Ok-Some.field-0-is (c.in-Ok-Some.ensures.given bytes (c.pieces.invariant.told ∙ is)) silence) c.write_piece.ensures.front
@@ -56,7 +56,7 @@ pub returns-in-Ok-None-clause-whole : goal.returns-in-Ok-None-clause-whole
 returns-in-Ok-None-clause-whole g c = λ bytes is.
     let before = c.pieces.invariant.sent bytes is in
     sent_all _ _ _ before.0 _ (before.1, before.2)
-    (given_none _ _ c.in-Ok-None.field-0-is (c.in-Ok-None.ensures.none bytes (c.pieces.invariant.told ∙ is)) (silence_of c.args.law))
+    (given_none _ _ c.in-Ok-None.field-0-is (c.in-Ok-None.ensures.none bytes (c.pieces.invariant.told ∙ is)) (silence_of c.args.companding))
 
 pub returns-in-Ok-None-clause-front : goal.returns-in-Ok-None-clause-front
 returns-in-Ok-None-clause-front g c = λ bytes is.

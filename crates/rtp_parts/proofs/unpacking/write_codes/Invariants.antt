@@ -8,7 +8,7 @@ use Rattle.rtp_parts.proofs.unpacking.write_codes.Given as goal
 abbrev pub invariant-pieces : goal.invariant-pieces
 invariant-pieces g l = record {
   sent : WhereTold (g.S.Source.told l.initial.src) (λ bytes. (done : List ℕ)
-      × (whole_codes (silence_of l.law) (drop (g.S.Source.offset l.initial.src) bytes) ≡ done ++ codes_left (silence_of l.law) l.unpacker (drop (g.S.Source.offset l.src) bytes))
+      × (whole_codes (silence_of l.companding) (drop (g.S.Source.offset l.initial.src) bytes) ≡ done ++ codes_left (silence_of l.companding) l.unpacker (drop (g.S.Source.offset l.src) bytes))
       × (g.K.Sink.told l.snk ≡ append_known (g.K.Sink.told l.initial.snk) done));
   few : l.unpacker.packets + room_left l.unpacker (g.S.Source.size l.initial.src - g.S.Source.offset l.src) ≤ 2 ^ 27;
   room : length l.buffer ≡ 65535;

@@ -27,7 +27,7 @@ returns-in-Ok-written-clause-stopped g c =
     let after = g.O.Sink.faults c.write.new.out in
     let body = c.in-Ok-written.ensures.whole (beginning (look_of c.in-Ok.desk.graph).key c.args.units) c.in-Ok.ensures in
     err_then (λ (f : Fault). (f ≡ WriteFault) × Rose between after) (IsStopped (Trace c.args.units c.args.lines.now) old new before after) c.write.result c.write.ensures.fault
-    (λ f is. end_broken (look_of c.in-Ok.desk.graph).key c.args.units c.args.lines.now old mid new before between after f body c.write.ensures.front c.write_lines-written.ensures.later is.1 is.0)
+    (λ f is. end_broken (look_of c.in-Ok.desk.graph).key c.args.units c.args.lines.now old mid new before between after f body c.write.ensures.front c.write_lines-written.ensures.keeps_sink.later is.1 is.0)
 
 pub returns-in-Err-clause-stopped : goal.returns-in-Err-clause-stopped
 returns-in-Err-clause-stopped g c =

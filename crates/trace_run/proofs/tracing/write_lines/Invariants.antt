@@ -1,6 +1,6 @@
 use Rattle.std.proofs.Common.{◌≡◌, ◌≤◌, take}
 use Rattle.trace_run.specs.Desks.{on_desk}
-use Rattle.trace_run.specs.Works.{IsStoodAll}
+use Rattle.trace_run.specs.Works.{HasDeskMoment}
 use Rattle.trace_run.proofs.Written.{Carries}
 use Rattle.trace_run.proofs.tracing.write_lines.Given as goal
 
@@ -9,7 +9,7 @@ invariant-loop-place g l =
     let from = on_desk l.initial.desk in
     let now = on_desk l.desk in
     record {
-      stood : IsStoodAll now;
+      stood : HasDeskMoment now;
       carries : Carries from now (take l.place l.lines) (g.O.Sink.told l.initial.out) (g.O.Sink.told l.out);
       later : g.O.Sink.faults l.initial.out ≤ g.O.Sink.faults l.out;
       stands : g.O.Sink.faults l.out ≡ g.O.Sink.faults l.initial.out;

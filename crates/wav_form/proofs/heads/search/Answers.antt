@@ -30,8 +30,8 @@ pub returns-in-Err-known_format-clause-short : goal.returns-in-Err-known_format-
 returns-in-Err-known_format-clause-short g c =
     let f = c.in-Err-known_format.fault in
     let content = c.in-Ok.chunk.content in
-    let size = c.in-Ok.ensures.size ∙ c.loop-offset.invariant.size in
-    let ends = c.in-Ok.ensures.ends ∙ c.loop-offset.invariant.ends in
+    let size = c.in-Ok.ensures.keeps_source.size ∙ c.loop-offset.invariant.size in
+    let ends = c.in-Ok.ensures.keeps_source.ends ∙ c.loop-offset.invariant.ends in
     let reached : Reached (g.S.Source.told c.args.src.now) (g.S.Source.ends c.args.src.now) content =
     λ end is bytes _ chunks _. inl (omega (arith, c.in-Ok.ensures.content, c.in-Ok.ensures.reached end (c.loop-offset.invariant.ends ∙ is))) in
     IfShort-reached _ _ _ content f reached
@@ -54,7 +54,7 @@ returns-in-Err-known_format-clause-answer g c = λ x is chunks are.
     let room : c.loop-offset.offset + 8 ≤ length x = omega (arith, c.requires.whole x is) in
     let chunk = c.in-Ok.ensures.chunk x (c.loop-offset.invariant.told ∙ is) in
     subst (AnswersAs (Err c.in-Err-known_format.fault)) (sym same)
-    (answer_after-faults x c.loop-offset.known c.loop-offset.offset (view c.in-Ok.chunk) rest c.in-Err-known_format.fault left room chunk (sym c.is_samples.ensures ∙ c.if-is_samples.false) (c.in-Err-known_format.ensures.answer x (c.in-Ok.ensures.told ∙ c.loop-offset.invariant.told ∙ is)) c.in-Err-known_format.ensures.inside)
+    (answer_after-faults x c.loop-offset.known c.loop-offset.offset (view c.in-Ok.chunk) rest c.in-Err-known_format.fault left room chunk (sym c.is_samples.ensures ∙ c.if-is_samples.false) (c.in-Err-known_format.ensures.answer x (c.in-Ok.ensures.keeps_source.told ∙ c.loop-offset.invariant.told ∙ is)) c.in-Err-known_format.ensures.inside)
 
 pub loop-offset-preserved : goal.loop-offset-preserved
 loop-offset-preserved g c = record {
@@ -72,7 +72,7 @@ loop-offset-preserved g c = record {
       let (rest, left, same, passes, samples_are) = c.loop-offset.invariant.rest x is chunks are in
       let room : c.loop-offset.offset + 8 ≤ length x = omega (arith, c.requires.whole x is) in
       let chunk = c.in-Ok.ensures.chunk x (c.loop-offset.invariant.told ∙ is) in
-      let next = answer_after-goes_on x c.loop-offset.known c.in-Ok-known_format.format c.loop-offset.offset (view c.in-Ok.chunk) rest left room chunk (sym c.is_samples.ensures ∙ c.if-is_samples.false) (c.in-Ok-known_format.ensures.answer x (c.in-Ok.ensures.told ∙ c.loop-offset.invariant.told ∙ is)) in (
+      let next = answer_after-goes_on x c.loop-offset.known c.in-Ok-known_format.format c.loop-offset.offset (view c.in-Ok.chunk) rest left room chunk (sym c.is_samples.ensures ∙ c.if-is_samples.false) (c.in-Ok-known_format.ensures.answer x (c.in-Ok.ensures.keeps_source.told ∙ c.loop-offset.invariant.told ∙ is)) in (
         next.0,
         subst (λ (n : ℕ). AreChunks x n next.0) (sym c.end-offset.ensures.value) next.1,
         same ∙ next.2,
@@ -84,7 +84,7 @@ loop-offset-preserved g c = record {
       let room : c.loop-offset.offset + 8 ≤ length x = omega (arith, c.requires.whole x is) in
       let chunk = c.in-Ok.ensures.chunk x (c.loop-offset.invariant.told ∙ is) in
       let content : c.in-Ok.chunk.content ≤ end = omega (arith, c.in-Ok.ensures.content, c.in-Ok.ensures.reached end (c.loop-offset.invariant.ends ∙ ends)) in
-      let fields = c.in-Ok-known_format.ensures.reached end (c.in-Ok.ensures.ends ∙ c.loop-offset.invariant.ends ∙ ends) in
+      let fields = c.in-Ok-known_format.ensures.reached end (c.in-Ok.ensures.keeps_source.ends ∙ c.loop-offset.invariant.ends ∙ ends) in
       subst (λ (n : ℕ). (n ≤ end) ⊎ IsPassedOver false chunks end n) (sym c.end-offset.ensures.value)
       (Reached-behind x c.loop-offset.known c.loop-offset.offset end (view c.in-Ok.chunk) chunks rest left room chunk (sym c.is_samples.ensures ∙ c.if-is_samples.false) passes
       (passed_from-known c.loop-offset.known (view c.in-Ok.chunk) end content fields));

@@ -11,7 +11,7 @@ use Rattle.board.proofs.boards.Board.close.Goals as goal
 
 pub returns-clause-whole : goal.returns-clause-whole
 returns-clause-whole g c =
-    let see = sight_of g.C.Client.progress g.S.Source.offset g.S.Source.size g.S.Source.told g.K.Sink.told in
+    let see = sight_of g.C.Client g.S.Source g.K.Sink in
     let e = c.close-watched.ensures in
     let one = e.is_legal.one in
     let A = e.stood.worlds one.world one.stands in
@@ -25,7 +25,7 @@ returns-clause-all_in g c = λ first files. let W = returns-clause-whole g c fir
 
 pub returns-clause-closed : goal.returns-clause-closed
 returns-clause-closed g c =
-    let see = sight_of g.C.Client.progress g.S.Source.offset g.S.Source.size g.S.Source.told g.K.Sink.told in
+    let see = sight_of g.C.Client g.S.Source g.K.Sink in
     let e = c.close-watched.ensures in
     let first = first_of c.args.self in
     let is = sym c.into_graph-graph.ensures in

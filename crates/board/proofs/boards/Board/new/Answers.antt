@@ -10,7 +10,7 @@ use Rattle.board.proofs.boards.Board.new.Goals as goal
 
 pub new-requires : goal.new-requires
 new-requires g c =
-    let see = sight_of g.C.Client.progress g.S.Source.offset g.S.Source.size g.S.Source.told g.K.Sink.told in
+    let see = sight_of g.C.Client g.S.Source g.K.Sink in
     let L = c.in-Ok.ensures.looks in
     subst (λ v. Legal see v [] × StandsAfter see v [] v) (sym c.over-watched.ensures.value)
     (opens_so see _ c.in-Ok.looks.states.items c.law_of_worlds.ensures.one L.shown refl L.few L.stated L.shower)

@@ -7,7 +7,7 @@ use Rattle.board.proofs.serving.WatchedServe.serve.Goals as goal
 
 pub returns : goal.returns
 returns g c = λ first log pass due.
-    let see = sight_of g.C.Client.progress g.S.Source.offset g.S.Source.size g.S.Source.told g.K.Sink.told in
+    let see = sight_of g.C.Client g.S.Source g.K.Sink in
     let l = c.law_of_worlds.ensures in
     let n = c.law_of_worlds-2.ensures in
     let t = c.tell.ensures in

@@ -5,4 +5,4 @@ use Rattle.graph_acts.proofs.Acts.{quiet_moved}
 use Rattle.graph_acts.proofs.served.Served.attach.Goals as goal
 
 pub returns : goal.returns
-returns g c = quiet_moved (sight_of g.C.Client.progress g.S.Source.offset g.S.Source.size g.S.Source.told g.K.Sink.told) (asks.Attach c.args.h c.args.file) _ c.args.self.now.graph c.attach.new.self (λ u. c.attach.ensures.step) c.attach.ensures.held c.attach.ensures.clients (record { taken = refl; given = refl; back = refl; gone = refl; done = refl; work = refl; works = λ n u. (refl, refl); replied = c.attach.ensures.handed_back; sized = tt; leaves = λ n u. (refl, refl) })
+returns g c = quiet_moved (sight_of g.C.Client g.S.Source g.K.Sink) (asks.Attach c.args.h c.args.file) _ c.args.self.now.graph c.attach.new.self (λ u. c.attach.ensures.step) c.attach.ensures.held c.attach.ensures.clients (record { taken = refl; given = refl; back = refl; gone = refl; done = refl; work = refl; works = λ n u. (refl, refl); replied = c.attach.ensures.handed_back; sized = tt; leaves = λ n u. (refl, refl) })

@@ -19,7 +19,7 @@ returns g c =
       clients = ended_clients c.args.h c.args.client old new e.client e.clients;
       leaves = λ k gone w s u. (refl, refl);
       told = λ u. tt;
-      works = works_alone (sight_of g.C.Client.progress g.S.Source.offset g.S.Source.size g.S.Source.told g.K.Sink.told) (asks.EndNote c.args.h c.args.client) replies.EndNote old new (λ n u. (refl, refl));
+      works = works_alone (sight_of g.C.Client g.S.Source g.K.Sink) (asks.EndNote c.args.h c.args.client) replies.EndNote old new (λ n u. (refl, refl));
     }
 
 pub end_note-requires : goal.end_note-requires

@@ -17,7 +17,7 @@ pub finish-requires-clause-comes : goal.finish-requires-clause-comes
 finish-requires-clause-comes g c =
     let part = c.law_of_parts.ensures in
     let done = c.into_done.result in
-    let see = sight_of g.C.Client.progress g.S.Source.offset g.S.Source.size g.S.Source.told g.K.Sink.told in
+    let see = sight_of g.C.Client g.S.Source g.K.Sink in
     let f = shown_by g.S.Source.told g.K.Sink.told g.K.Sink.name in
     let seen = seen_as (f done.part) _ _ _ _ (sym (part.left done.part)) (sym (part.rest done.part)) (sym (part.kept done.part)) (sym (part.writing done.part)) in
     let can : CanFinish see c.args.self.now.graph (shown_done f done) = subst (CanFinish see c.args.self.now.graph) c.into_done.ensures c.requires in
@@ -26,7 +26,7 @@ finish-requires-clause-comes g c =
 pub finish-requires-clause-its : goal.finish-requires-clause-its
 finish-requires-clause-its g c =
     let done = c.into_done.result in
-    let see = sight_of g.C.Client.progress g.S.Source.offset g.S.Source.size g.S.Source.told g.K.Sink.told in
+    let see = sight_of g.C.Client g.S.Source g.K.Sink in
     let f = shown_by g.S.Source.told g.K.Sink.told g.K.Sink.name in
     let can : CanFinish see c.args.self.now.graph (shown_done f done) = subst (CanFinish see c.args.self.now.graph) c.into_done.ensures c.requires in
     rw (c.law_of_parts.ensures.terms done.part, c.law_of_parts.ensures.failed done.part) can.its
@@ -34,7 +34,7 @@ finish-requires-clause-its g c =
 pub finish-requires-clause-handed : goal.finish-requires-clause-handed
 finish-requires-clause-handed g c =
     let done = c.into_done.result in
-    let see = sight_of g.C.Client.progress g.S.Source.offset g.S.Source.size g.S.Source.told g.K.Sink.told in
+    let see = sight_of g.C.Client g.S.Source g.K.Sink in
     let f = shown_by g.S.Source.told g.K.Sink.told g.K.Sink.name in
     let can : CanFinish see c.args.self.now.graph (shown_done f done) = subst (CanFinish see c.args.self.now.graph) c.into_done.ensures c.requires in
     can.handed
@@ -46,7 +46,7 @@ returns g c =
     let done = c.into_done.result in
     let old = c.args.self.now.graph in
     let new = c.finish.new.self in
-    let see = sight_of g.C.Client.progress g.S.Source.offset g.S.Source.size g.S.Source.told g.K.Sink.told in
+    let see = sight_of g.C.Client g.S.Source g.K.Sink in
     let f = shown_by g.S.Source.told g.K.Sink.told g.K.Sink.name in
     let seen = seen_as (f done.part) _ _ _ _ (sym (part.left done.part)) (sym (part.rest done.part)) (sym (part.kept done.part)) (sym (part.writing done.part)) in
     let moved : Moved see (asks.Finish (shown_done f done)) replies.Finish old new = record {

@@ -19,5 +19,5 @@ returns g c =
       clients = freed_clients c.args.h c.free_handle.result old new e.client e.gone e.clients e.unchanged;
       leaves = λ k gone w s u. freed_leaves g.C.Client.progress c.args.h c.free_handle.result old k w s (l.sound w s) (l.told w s) l.out e.client gone;
       told = λ u. tt;
-      works = works_alone (sight_of g.C.Client.progress g.S.Source.offset g.S.Source.size g.S.Source.told g.K.Sink.told) (asks.FreeHandle c.args.h) (replies.FreeHandle c.free_handle.result) old new (λ n u. (refl, refl));
+      works = works_alone (sight_of g.C.Client g.S.Source g.K.Sink) (asks.FreeHandle c.args.h) (replies.FreeHandle c.free_handle.result) old new (λ n u. (refl, refl));
     }

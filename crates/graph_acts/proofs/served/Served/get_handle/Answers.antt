@@ -19,5 +19,5 @@ returns g c =
       clients = got_clients c.get_handle-reply.result c.args.client old new (got_fresh g.C.Client.progress old new c.as_str.result.now c.get_handle-reply.result l.one l.out e.step) e.client e.clients e.clients_unchanged;
       leaves = λ k gone w s u. (refl, refl);
       told = λ u. tt;
-      works = works_alone (sight_of g.C.Client.progress g.S.Source.offset g.S.Source.size g.S.Source.told g.K.Sink.told) (asks.GetHandle c.args.name c.args.client) (replies.GetHandle c.get_handle-reply.result) old new (λ n u. (refl, refl));
+      works = works_alone (sight_of g.C.Client g.S.Source g.K.Sink) (asks.GetHandle c.args.name c.args.client) (replies.GetHandle c.get_handle-reply.result) old new (λ n u. (refl, refl));
     }

@@ -6,4 +6,4 @@ use Rattle.graph_acts.proofs.Worlds.{looks_here}
 use Rattle.graph_acts.proofs.served.Served.get_parameter.Goals as goal
 
 pub returns : goal.returns
-returns g c = looked_moved (sight_of g.C.Client.progress g.S.Source.offset g.S.Source.size g.S.Source.told g.K.Sink.told) (asks.GetParameter c.args.h c.args.key) _ c.args.self.now.graph (λ u w s. looks_here _ _ w (c.law_of_worlds.ensures.closed w s) (c.get_parameter.ensures w s)) (record { taken = refl; given = refl; back = refl; gone = refl; done = refl; work = refl; works = λ n u. (refl, refl); replied = tt; sized = tt; leaves = λ n u. (refl, refl) })
+returns g c = looked_moved (sight_of g.C.Client g.S.Source g.K.Sink) (asks.GetParameter c.args.h c.args.key) _ c.args.self.now.graph (λ u w s. looks_here _ _ w (c.law_of_worlds.ensures.closed w s) (c.get_parameter.ensures w s)) (record { taken = refl; given = refl; back = refl; gone = refl; done = refl; work = refl; works = λ n u. (refl, refl); replied = tt; sized = tt; leaves = λ n u. (refl, refl) })

@@ -5,4 +5,4 @@ use Rattle.graph_acts.proofs.Acts.{quiet_moved}
 use Rattle.graph_acts.proofs.served.Served.hand_back.Goals as goal
 
 pub returns : goal.returns
-returns g c = quiet_moved (sight_of g.C.Client.progress g.S.Source.offset g.S.Source.size g.S.Source.told g.K.Sink.told) (asks.HandBack c.args.h c.args.port) _ c.args.self.now.graph c.hand_back.new.self (λ u. c.hand_back.ensures.step) c.hand_back.ensures.held c.hand_back.ensures.clients (record { taken = refl; given = refl; back = refl; gone = refl; done = refl; work = refl; works = λ n u. (refl, refl); replied = tt; sized = tt; leaves = λ n u. (refl, refl) })
+returns g c = quiet_moved (sight_of g.C.Client g.S.Source g.K.Sink) (asks.HandBack c.args.h c.args.port) _ c.args.self.now.graph c.hand_back.new.self (λ u. c.hand_back.ensures.step) c.hand_back.ensures.held c.hand_back.ensures.clients (record { taken = refl; given = refl; back = refl; gone = refl; done = refl; work = refl; works = λ n u. (refl, refl); replied = tt; sized = tt; leaves = λ n u. (refl, refl) })

@@ -6,4 +6,4 @@ use Rattle.graph_acts.proofs.Worlds.{looks_here}
 use Rattle.graph_acts.proofs.served.Served.port_view.Goals as goal
 
 pub returns : goal.returns
-returns g c = looked_moved (sight_of g.C.Client.progress g.S.Source.offset g.S.Source.size g.S.Source.told g.K.Sink.told) (asks.PortView c.args.h c.args.port) _ c.args.self.now.graph (λ u w s. looks_here _ _ w (c.law_of_worlds.ensures.closed w s) (c.port_view.ensures w s)) (record { taken = refl; given = refl; back = refl; gone = refl; done = refl; work = refl; works = λ n u. (refl, refl); replied = tt; sized = tt; leaves = λ n u. (refl, refl) })
+returns g c = looked_moved (sight_of g.C.Client g.S.Source g.K.Sink) (asks.PortView c.args.h c.args.port) _ c.args.self.now.graph (λ u w s. looks_here _ _ w (c.law_of_worlds.ensures.closed w s) (c.port_view.ensures w s)) (record { taken = refl; given = refl; back = refl; gone = refl; done = refl; work = refl; works = λ n u. (refl, refl); replied = tt; sized = tt; leaves = λ n u. (refl, refl) })

@@ -5,4 +5,4 @@ use Rattle.graph_acts.proofs.Acts.{quiet_moved}
 use Rattle.graph_acts.proofs.served.Served.set_parameter.Goals as goal
 
 pub returns : goal.returns
-returns g c = quiet_moved (sight_of g.C.Client.progress g.S.Source.offset g.S.Source.size g.S.Source.told g.K.Sink.told) (asks.SetParameter c.args.h c.args.key c.args.value) _ c.args.self.now.graph c.set_parameter.new.self (λ u. c.set_parameter.ensures.step) c.set_parameter.ensures.held c.set_parameter.ensures.clients (record { taken = refl; given = refl; back = refl; gone = refl; done = refl; work = refl; works = λ n u. (refl, refl); replied = tt; sized = tt; leaves = λ n u. (refl, refl) })
+returns g c = quiet_moved (sight_of g.C.Client g.S.Source g.K.Sink) (asks.SetParameter c.args.h c.args.key c.args.value) _ c.args.self.now.graph c.set_parameter.new.self (λ u. c.set_parameter.ensures.step) c.set_parameter.ensures.held c.set_parameter.ensures.clients (record { taken = refl; given = refl; back = refl; gone = refl; done = refl; work = refl; works = λ n u. (refl, refl); replied = tt; sized = tt; leaves = λ n u. (refl, refl) })

@@ -5,4 +5,4 @@ use Rattle.graph_acts.proofs.Acts.{quiet_moved}
 use Rattle.graph_acts.proofs.served.Served.supply.Goals as goal
 
 pub returns : goal.returns
-returns g c = quiet_moved (sight_of g.C.Client.progress g.S.Source.offset g.S.Source.size g.S.Source.told g.K.Sink.told) (asks.Supply c.args.h c.args.port) _ c.args.self.now.graph c.supply.new.self (λ u. c.supply.ensures.step) c.supply.ensures.held c.supply.ensures.clients (record { taken = refl; given = refl; back = refl; gone = refl; done = refl; work = refl; works = λ n u. (refl, refl); replied = tt; sized = tt; leaves = λ n u. (refl, refl) })
+returns g c = quiet_moved (sight_of g.C.Client g.S.Source g.K.Sink) (asks.Supply c.args.h c.args.port) _ c.args.self.now.graph c.supply.new.self (λ u. c.supply.ensures.step) c.supply.ensures.held c.supply.ensures.clients (record { taken = refl; given = refl; back = refl; gone = refl; done = refl; work = refl; works = λ n u. (refl, refl); replied = tt; sized = tt; leaves = λ n u. (refl, refl) })

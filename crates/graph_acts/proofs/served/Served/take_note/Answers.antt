@@ -22,5 +22,5 @@ returns g c =
       clients = took_clients p c.args.h took old new e.client e.done e.clients e.unchanged;
       leaves = λ k gone w s u. took_leaves p c.args.h took old new k w s (l.sound w s) (l.told w s) l.out e.client gone;
       told = λ u. took_told p c.args.h took old new l.sound l.told n.out e.client;
-      works = works_alone (sight_of g.C.Client.progress g.S.Source.offset g.S.Source.size g.S.Source.told g.K.Sink.told) (asks.TakeNote c.args.h) (replies.TakeNote took) old new (λ n u. (refl, refl));
+      works = works_alone (sight_of g.C.Client g.S.Source g.K.Sink) (asks.TakeNote c.args.h) (replies.TakeNote took) old new (λ n u. (refl, refl));
     }

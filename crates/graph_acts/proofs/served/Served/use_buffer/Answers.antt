@@ -15,5 +15,5 @@ returns g c = record {
   clients = clients_stay c.args.self.now.graph c.use_buffer.new.self c.use_buffer.ensures.clients;
   leaves = λ h x w s u. (refl, refl);
   told = λ u. tt;
-  works = works_alone (sight_of g.C.Client.progress g.S.Source.offset g.S.Source.size g.S.Source.told g.K.Sink.told) (asks.UseBuffer c.args.h c.args.port c.args.bytes) (replies.UseBuffer c.use_buffer.result) c.args.self.now.graph c.use_buffer.new.self (λ n u. (refl, refl));
+  works = works_alone (sight_of g.C.Client g.S.Source g.K.Sink) (asks.UseBuffer c.args.h c.args.port c.args.bytes) (replies.UseBuffer c.use_buffer.result) c.args.self.now.graph c.use_buffer.new.self (λ n u. (refl, refl));
 }

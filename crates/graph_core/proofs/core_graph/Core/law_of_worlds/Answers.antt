@@ -15,5 +15,6 @@ returns g c =
       census = λ w S. (sound_census w (sound w S)).0;
       room = λ w S. (sound_census w (sound w S)).1;
       told = all_told p G;
+      few = c.self.invariant.0.few;
       out = out_there p G;
     })

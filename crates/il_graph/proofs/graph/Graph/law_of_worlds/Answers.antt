@@ -3,6 +3,7 @@ use Rattle.audio_parts.specs.AnyParts.{attached_of}
 use Rattle.audio_parts.specs.Shown.{ShownPart, shown_by}
 use Rattle.il_machine.specs.Due.{first_due}
 use Rattle.machine_laws.proofs.Closing.{closed_rests}
+use Rattle.il_graph.proofs.Looking.{few_of}
 use Rattle.il_graph.proofs.Whole.{bare}
 use Rattle.il_graph.proofs.Written.{shown_kept, tell_written}
 use Rattle.il_graph.proofs.graph.Graph.law_of_worlds.Goals as goal
@@ -16,6 +17,7 @@ returns g c =
       sound = λ w S. laws.sound w (bare p _ w S);
       census = λ w S. laws.census w (bare p _ w S);
       room = λ w S. laws.room w (bare p _ w S);
+      few = λ w S. few_of p c.self.inside.core w (bare p _ w S) laws.few;
       closed = λ w S. ap first_due S.looks ∙ c.self.invariant.1.closed;
       rests = λ w S. closed_rests w (ap first_due S.looks ∙ c.self.invariant.1.closed);
       told = λ w S. laws.told w (bare p _ w S);

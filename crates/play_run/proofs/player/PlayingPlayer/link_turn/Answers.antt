@@ -3,7 +3,7 @@ use Rattle.play_model.specs.Acts.{Act}
 use Rattle.play_loop.specs.Turns.{IsOfLink}
 use Rattle.audio_parts.specs.ObjectLaws.{object_itself}
 use Rattle.audio_parts.specs.Objects.{ObjectStays}
-use Rattle.late_turns.specs.Turns.{IsAct}
+use Rattle.play_turn_laws.specs.Turns.{IsAct}
 use Rattle.play_run.proofs.Answering.{files_stay, leads_of, turned_of}
 use Rattle.play_run.proofs.Rounding.{some_next, whole_turn}
 use Rattle.play_run.proofs.player.PlayingPlayer.link_turn.Goals as goal

@@ -1,7 +1,7 @@
 use Rattle.std.proofs.Common.{subst, arith}
 use Rattle.il_machine.specs.Due.{IsClosed}
 use Rattle.il_machine.specs.Whole.{Always}
-use Rattle.play_graphs.specs.Graphs.{kept_of}
+use Rattle.play_graph.specs.Graphs.{kept_of}
 use Rattle.play_run.specs.Playing.{PlayingValue}
 use Rattle.play_run.proofs.Answering.{has_parts}
 use Rattle.play_run.proofs.Conducting.{change_answer, may_change, may_send, no_failure, over_answer, send_answer, told_many, wait_answer}

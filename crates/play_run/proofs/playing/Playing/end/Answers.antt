@@ -1,11 +1,11 @@
 use Rattle.std.proofs.Common.{◌≤◌, length, sym, ap, subst}
 use Rattle.il_machine.specs.Whole.{Always}
 use Rattle.il_graph.specs.Shown.{TellWritten}
-use Rattle.dismantling.specs.Dismantling.{AreLinks}
-use Rattle.play_openings.specs.Endings.{HasEnded, ends_of}
-use Rattle.play_graphs.specs.Ending.{AreBack, AreFilesOf, StandsFor}
-use Rattle.play_graphs.specs.Graphs.{kept_of}
-use Rattle.play_graphs.specs.Making.{AreGone}
+use Rattle.play_build_laws.specs.Dismantling.{AreLinks}
+use Rattle.play_plan_laws.specs.Endings.{HasEnded, ends_of}
+use Rattle.play_graph.specs.Ending.{AreBack, AreFilesOf, StandsFor}
+use Rattle.play_graph.specs.Graphs.{kept_of}
+use Rattle.play_graph.specs.Making.{AreGone}
 use Rattle.play_run.specs.Playing.{PlayingValue}
 use Rattle.play_run.proofs.Closing.{keeps_log, play_links, played_out, stands_ended}
 use Rattle.play_run.proofs.Rounding.{few_links}

@@ -1,12 +1,12 @@
 use Rattle.std.proofs.Common.{false, true, ℕ, Ok, refl, sym, ◌∙◌, ap, subst}
 use Rattle.il_machine.specs.declared.answer.Acted.TheVariants.{Did}
 use Rattle.il_machine.specs.Acts as acts
-use Rattle.log_texts.specs.Said.{SaysOf}
+use Rattle.play_log.specs.Said.{SaysOf}
 use Rattle.il_graph.specs.Shown.{file_of}
 use Rattle.play_run.specs.Playing.{PlayingValue}
-use Rattle.play_openings.specs.Assemblies.{late_cast_of}
+use Rattle.play_plan_laws.specs.Assemblies.{play_cast_of}
 use Rattle.play_run.proofs.Answering.{has_parts}
-use Rattle.play_graphs.proofs.Standing.{givers_there}
+use Rattle.play_graph.proofs.Standing.{givers_there}
 use Rattle.play_run.proofs.Recording.{still_there}
 use Rattle.play_run.proofs.Linking.{back_turns}
 use Rattle.play_run.proofs.playing.Playing.hand_back.Goals as goal
@@ -25,7 +25,7 @@ pub returns-then-not-did-clause-turned : goal.returns-then-not-did-clause-turned
 returns-then-not-did-clause-turned g c =
     let call = c.hand_back.ensures in
     back_turns _ c.args.self.now c.self.view_is c.hand_back.new.self _ c.args.link c.joint-joint.result c.handle-h.result c.hand_back.result false c.requires.there c.joint-joint.ensures c.handle-h.ensures
-    call.clients (λ recent p w v W b N s k later q H V e. c.law_of_link_streams.ensures.handed_back (late_cast_of c.self.inside.plan) k recent later p q w v c.args.link c.handle-h.result c.hand_back.result W H V e b N s) call.step call.unchanged call.idle (sym c.if-not-did.true ∙ c.did.ensures) (λ f. refl) (λ t. absurd cc)
+    call.clients (λ recent p w v W b N s k later q H V e. c.law_of_link_streams.ensures.handed_back (play_cast_of c.self.inside.plan) k recent later p q w v c.args.link c.handle-h.result c.hand_back.result W H V e b N s) call.step call.unchanged call.idle (sym c.if-not-did.true ∙ c.did.ensures) (λ f. refl) (λ t. absurd cc)
 
 pub returns-clause-turned : goal.returns-clause-turned
 returns-clause-turned g c =
@@ -33,7 +33,7 @@ returns-clause-turned g c =
     let port = c.port_at-port in
     let says = subst (λ (i : ℕ). SaysOf port.result.component c.handed_back.result (λ k. acts.HandBack k i) (acts.Acted (Ok Did))) port.ensures.index c.handed_back.ensures in
     back_turns _ c.args.self.now c.self.view_is c.hand_back.new.self c.tell.new.log c.args.link c.joint-joint.result c.handle-h.result c.hand_back.result true c.requires.there c.joint-joint.ensures c.handle-h.ensures
-    call.clients (λ recent p w v W b N s k later q H V e. c.law_of_link_streams.ensures.handed_back (late_cast_of c.self.inside.plan) k recent later p q w v c.args.link c.handle-h.result c.hand_back.result W H V e b N s) call.step call.unchanged call.idle (sym c.if-not-did.false ∙ c.did.ensures) (λ f. absurd cc)
+    call.clients (λ recent p w v W b N s k later q H V e. c.law_of_link_streams.ensures.handed_back (play_cast_of c.self.inside.plan) k recent later p q w v c.args.link c.handle-h.result c.hand_back.result W H V e b N s) call.step call.unchanged call.idle (sym c.if-not-did.false ∙ c.did.ensures) (λ f. absurd cc)
     (λ t. record { name = port.result.component; said = c.handed_back.result; named = port.ensures.component; says = says; told = c.tell.ensures })
 
 pub returns-clause-files : goal.returns-clause-files

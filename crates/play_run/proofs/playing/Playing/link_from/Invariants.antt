@@ -1,5 +1,5 @@
 use Rattle.std.proofs.Common.{◌≢◌, ◌<◌, ℕ}
-use Rattle.play_plans.specs.Casting.{joint_of}
+use Rattle.play_plan_laws.specs.Casting.{joint_of}
 use Rattle.play_run.proofs.playing.Playing.link_from.Given as goal
 
 abbrev pub invariant-loop-link : goal.invariant-loop-link

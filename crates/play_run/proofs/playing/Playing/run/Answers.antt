@@ -1,5 +1,5 @@
 use Rattle.std.proofs.Common.{false, true, refl, sym, ◌∙◌}
-use Rattle.play_openings.specs.Assemblies.{late_cast_of}
+use Rattle.play_plan_laws.specs.Assemblies.{play_cast_of}
 use Rattle.play_run.proofs.Answering.{has_parts}
 use Rattle.play_run.proofs.Recording.{still_there}
 use Rattle.play_run.proofs.Commanding.{place_there, run_turns, turn_there}
@@ -22,11 +22,11 @@ pub returns-then-not-did-clause-turned : goal.returns-then-not-did-clause-turned
 returns-then-not-did-clause-turned g c =
     let call = c.run_command.ensures in
     run_turns _ c.args.self.now c.self.view_is c.run_command.new.self _ c.args.component c.place-place.result c.handle-h.result c.run_command.result false c.requires.there c.place-place.ensures c.handle-h.ensures
-    call.clients (λ recent p w v W b N s k later q H V e. c.law_of_component_streams.ensures.ran (late_cast_of c.self.inside.plan) k recent later p q w v c.args.component c.handle-h.result c.run_command.result W H V e b N s) call.step call.unchanged call.idle (sym c.if-not-did.true ∙ c.did.ensures) (λ f. refl) (λ t. absurd cc)
+    call.clients (λ recent p w v W b N s k later q H V e. c.law_of_component_streams.ensures.ran (play_cast_of c.self.inside.plan) k recent later p q w v c.args.component c.handle-h.result c.run_command.result W H V e b N s) call.step call.unchanged call.idle (sym c.if-not-did.true ∙ c.did.ensures) (λ f. refl) (λ t. absurd cc)
 
 pub returns-clause-turned : goal.returns-clause-turned
 returns-clause-turned g c =
     let call = c.run_command.ensures in
     run_turns _ c.args.self.now c.self.view_is c.run_command.new.self c.tell.new.log c.args.component c.place-place.result c.handle-h.result c.run_command.result true c.requires.there c.place-place.ensures c.handle-h.ensures
-    call.clients (λ recent p w v W b N s k later q H V e. c.law_of_component_streams.ensures.ran (late_cast_of c.self.inside.plan) k recent later p q w v c.args.component c.handle-h.result c.run_command.result W H V e b N s) call.step call.unchanged call.idle (sym c.if-not-did.false ∙ c.did.ensures) (λ f. absurd cc)
+    call.clients (λ recent p w v W b N s k later q H V e. c.law_of_component_streams.ensures.ran (play_cast_of c.self.inside.plan) k recent later p q w v c.args.component c.handle-h.result c.run_command.result W H V e b N s) call.step call.unchanged call.idle (sym c.if-not-did.false ∙ c.did.ensures) (λ f. absurd cc)
     (λ t. record { name = c.name_at.result; said = c.ran.result; named = c.name_at.ensures; says = c.ran.ensures; told = c.tell.ensures })

@@ -8,9 +8,9 @@ use Rattle.audio_parts.specs.ObjectLaws.{object_itself}
 use Rattle.audio_parts.specs.Objects.{ObjectShows, ObjectStays}
 use Rattle.il_graph.specs.Shown.{KeepsFiles, Shown, file_of, look_of}
 use Rattle.il_graph.proofs.Returning.{are_terms_at, handed_back, terms_at}
-use Rattle.play_graphs.specs.Graphs.{kept_of}
+use Rattle.play_graph.specs.Graphs.{kept_of}
 use Rattle.play_run.specs.Playing.{PlayingValue, unfailed}
-use Rattle.play_openings.specs.Assemblies.{late_cast_of}
+use Rattle.play_plan_laws.specs.Assemblies.{play_cast_of}
 use Rattle.play_run.proofs.Answering.{files_same, has_parts}
 use Rattle.play_run.proofs.Commanding.{place_there, turn_there}
 use Rattle.play_run.proofs.Recording.{still_there}
@@ -89,9 +89,9 @@ returns-in-None-fault-clause-turned g c =
     } in
     step_turns _ c.args.self.now c.self.view_is c.claim.new.self c.finish.new.self c.args.component c.place-place.result h c.requires.there c.place-place.ensures c.handle-h.ensures
     c.law_of_worlds.ensures.closed c.claim.ensures.clients c.finish.ensures.clients
-    (λ r recent p w v W b N s k later q H V e. c.law_of_component_streams.ensures.claimed (late_cast_of c.self.inside.plan) k recent later p q w v c.args.component h r W H V e b N s)
+    (λ r recent p w v W b N s k later q H V e. c.law_of_component_streams.ensures.claimed (play_cast_of c.self.inside.plan) k recent later p q w v c.args.component h r W H V e b N s)
     c.tell-in-None-fault.new.log c.frames-frames.result
-    (λ recent p w v W b B k later q H V e. c.law_of_stepped_streams.ensures (late_cast_of c.self.inside.plan) k recent later p q w v c.args.component B.component B.work B.done W H V e b B.there B.out B.its B.does B.faults B.comes) lines done
+    (λ recent p w v W b B k later q H V e. c.law_of_stepped_streams.ensures (play_cast_of c.self.inside.plan) k recent later p q w v c.args.component B.component B.work B.done W H V e b B.there B.out B.its B.does B.faults B.comes) lines done
 
 pub returns-in-Some-fault-clause-failed : goal.returns-in-Some-fault-clause-failed
 returns-in-Some-fault-clause-failed g c =
@@ -121,9 +121,9 @@ returns-in-Some-fault-clause-failed g c =
     (subst (λ (o : Option PartFault). IfSome o (λ fault. (ObjectShows g.S.Source.size g.S.Source.ends g.S.Source.offset g.S.Source.faults g.K.Sink.faults) fault before after)) (sym c.fault-fault.ensures ∙ c.in-Some-fault.is) run.shows)) in
     step_fails _ c.args.self.now c.self.view_is c.claim.new.self c.finish.new.self c.args.component c.place-place.result h c.requires.there c.place-place.ensures c.handle-h.ensures
     c.law_of_worlds.ensures.closed c.claim.ensures.clients c.finish.ensures.clients
-    (λ r recent p w v W b N s k later q H V e. c.law_of_component_streams.ensures.claimed (late_cast_of c.self.inside.plan) k recent later p q w v c.args.component h r W H V e b N s)
+    (λ r recent p w v W b N s k later q H V e. c.law_of_component_streams.ensures.claimed (play_cast_of c.self.inside.plan) k recent later p q w v c.args.component h r W H V e b N s)
     c.tell.new.log c.frames-frames.result c.in-Some-fault.fault
-    (λ recent p w v W b B k H stream Q. c.law_of_written_streams.ensures.failed (late_cast_of c.self.inside.plan) k recent p w v c.args.component B.component B.work B.done c.in-Some-fault.fault stream W H Q b B.there B.out B.its B.does B.faults B.comes) done objects shows
+    (λ recent p w v W b B k H stream Q. c.law_of_written_streams.ensures.failed (play_cast_of c.self.inside.plan) k recent p w v c.args.component B.component B.work B.done c.in-Some-fault.fault stream W H Q b B.there B.out B.its B.does B.faults B.comes) done objects shows
 
 pub returns-in-Err-clause-objects : goal.returns-in-Err-clause-objects
 returns-in-Err-clause-objects g c = files_same (ObjectStays g.S.Source.size g.S.Source.told g.S.Source.ends g.S.Source.offset g.S.Source.faults g.K.Sink.name g.K.Sink.faults) (object_itself g.S.Source.size g.S.Source.told g.S.Source.ends g.S.Source.offset g.S.Source.faults g.K.Sink.name g.K.Sink.faults) _ c.args.self.now c.self.view_is c.claim.new.self c.self.inside.log c.in-Err.ensures.unchanged

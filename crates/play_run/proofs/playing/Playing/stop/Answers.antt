@@ -2,12 +2,12 @@ use Rattle.std.proofs.Common.{◌≤◌, length, sym, subst}
 use Rattle.il_machine.specs.Sound.{Sound}
 use Rattle.il_machine.specs.Whole.{Always}
 use Rattle.il_graph.specs.Shown.{TellWritten}
-use Rattle.dismantling.specs.Dismantling.{AreLinks}
-use Rattle.play_openings.specs.Endings.{ends_of}
-use Rattle.play_graphs.specs.Ending.{AreBack, AreFilesOf, StandsFor}
-use Rattle.play_graphs.specs.Graphs.{kept_of}
-use Rattle.play_graphs.specs.Making.{AreGone}
-use Rattle.play_stopping.specs.Stops.{HasStopped}
+use Rattle.play_build_laws.specs.Dismantling.{AreLinks}
+use Rattle.play_plan_laws.specs.Endings.{ends_of}
+use Rattle.play_graph.specs.Ending.{AreBack, AreFilesOf, StandsFor}
+use Rattle.play_graph.specs.Graphs.{kept_of}
+use Rattle.play_graph.specs.Making.{AreGone}
+use Rattle.play_graph.specs.Stops.{HasStopped}
 use Rattle.play_run.specs.Playing.{PlayingValue}
 use Rattle.play_run.proofs.Halting.{few_stopped, gives_stopped, links_stopped, most_stopped, stands_stopped}
 use Rattle.play_run.proofs.playing.Playing.stop.Goals as goal

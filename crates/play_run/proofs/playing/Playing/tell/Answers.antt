@@ -6,8 +6,8 @@ use Rattle.note_queues.specs.declared.taken.Took.{Took}
 use Rattle.note_queues.specs.Queues.{took_of}
 use Rattle.graph_core.specs.Changes.{OnNoNote}
 use Rattle.graph_core.specs.Clients.{TakesClient}
-use Rattle.play_graphs.specs.Graphs.{kept_of}
-use Rattle.play_openings.specs.Assemblies.{late_cast_of}
+use Rattle.play_graph.specs.Graphs.{kept_of}
+use Rattle.play_plan_laws.specs.Assemblies.{play_cast_of}
 use Rattle.play_run.proofs.Answering.{has_parts}
 use Rattle.play_run.proofs.Commanding.{place_there, turn_there}
 use Rattle.play_run.proofs.Recording.{still_there}
@@ -49,8 +49,8 @@ returns-in-Ok-Call-clause-turned g c =
     } in
     tell_turns _ c.args.self.now c.self.view_is c.take_note.new.self c.end_note.new.self c.tell-in-Ok-Call.new.log c.args.component c.place-place.result c.handle-h.result c.in-Ok-Call.call.taken c.event_of-event.result c.in-Ok-Call.call.client c.told_of.result
     c.requires.there c.place-place.ensures c.handle-h.ensures step c.law_of_worlds.ensures.closed c.event_of-event.ensures c.told_of.ensures lines c.law_of_worlds.ensures.told client.0 c.take_note.ensures.clients c.end_note.ensures.clients c.end_note.ensures.client
-    (λ recent p w v W b N s k later q H V e. c.law_of_component_streams.ensures.told (late_cast_of c.self.inside.plan) k recent later p q w v c.args.component c.handle-h.result _ W H V e b N s)
-    (λ recent p w v W b N s k later q H V e. c.law_of_component_streams.ensures.heard (late_cast_of c.self.inside.plan) k recent later p q w v c.args.component c.handle-h.result W H V e b N s) c.end_note.ensures.step
+    (λ recent p w v W b N s k later q H V e. c.law_of_component_streams.ensures.told (play_cast_of c.self.inside.plan) k recent later p q w v c.args.component c.handle-h.result _ W H V e b N s)
+    (λ recent p w v W b N s k later q H V e. c.law_of_component_streams.ensures.heard (play_cast_of c.self.inside.plan) k recent later p q w v c.args.component c.handle-h.result W H V e b N s) c.end_note.ensures.step
 
 pub returns-in-Ok-None-clause-turned : goal.returns-in-Ok-None-clause-turned
 returns-in-Ok-None-clause-turned g c =

@@ -50,8 +50,8 @@ loop-held-preserved g c =
       steps = omega (arith, steps, c.loop-held.invariant.steps, c.in-None.ensures.held);
       room = search rules;
       reached = λ end is. c.in-Ok.ensures.reached end (c.loop-held.invariant.ends ∙ is);
-      told = c.in-Ok.ensures.told ∙ c.loop-held.invariant.told;
-      ends = c.in-Ok.ensures.ends ∙ c.loop-held.invariant.ends;
-      size = c.in-Ok.ensures.size ∙ c.loop-held.invariant.size;
+      told = c.in-Ok.ensures.keeps_source.told ∙ c.loop-held.invariant.told;
+      ends = c.in-Ok.ensures.keeps_source.ends ∙ c.loop-held.invariant.ends;
+      size = c.in-Ok.ensures.keeps_source.size ∙ c.loop-held.invariant.size;
       stands = c.in-Ok.ensures.stands ∙ c.loop-held.invariant.stands;
     }

@@ -1,7 +1,7 @@
 use Rattle.std.proofs.Common.{List, [], sym, subst, arith}
 use Rattle.il_graph.specs.Shown.{look_of}
 use Rattle.trace_run.specs.declared.names.NamedComponent.{NamedComponent}
-use Rattle.trace_run.specs.Standing.{parts, graph_kept, IsStood}
+use Rattle.trace_run.specs.Standing.{parts, graph_kept, HasMoment}
 use Rattle.trace_run.specs.Works.{kept_with}
 use Rattle.trace_run.proofs.Freeing.{can_free, ended_more, ended_all}
 use Rattle.trace_run.proofs.HeldLines.{none_held, stood_of}
@@ -12,7 +12,7 @@ loop-entry-init c =
     let slots = c.args.self.slots.items in
     let S = c.bring_all_back.ensures c.args.self.components.items slots c.requires in
     record {
-      stood = subst (λ (cs : List NamedComponent). IsStood (parts c.bring_all_back.new.graph cs slots)) (sym c.deref-entry-items.ensures.value) (stood_of (kept_with (graph_kept c.bring_all_back.new.graph) c.args.self.components.items slots []) S);
+      stood = subst (λ (cs : List NamedComponent). HasMoment (parts c.bring_all_back.new.graph cs slots)) (sym c.deref-entry-items.ensures.value) (stood_of (kept_with (graph_kept c.bring_all_back.new.graph) c.args.self.components.items slots []) S);
       ended = λ i entry below at. absurd (omega (arith, below));
       works = none_held (parts c.bring_all_back.new.graph c.args.self.components.items slots) S;
     }

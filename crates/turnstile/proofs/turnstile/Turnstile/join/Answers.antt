@@ -11,7 +11,7 @@ join_seat-requires g c = let r = c.requires.root in let p = c.requires.pass in l
   ap (λ s. s.table_id) is ∙ p.0.0,
   ap (λ s. s.me.1) is ∙ p.0.1,
   rw w (omega arith),
-  joins _ _ _ _ _ _ _ _ _ r.0.2.0 r.0.2.1 r.1 (ap (λ s. s.me.0.spent) is ∙ p.0.2.1) (ap (λ s. s.me.0.inside) is ∙ p.0.2.2) (ap (λ s. placed s.me.0.ticket) is ∙ none_waits _ _ p.0.4) (subst (λ s. g.V.Serve.clear s.me.0.mine) (sym is) p.1),
+  joins _ _ _ _ _ _ _ _ _ r.0.2.0 r.0.2.1 r.1 (ap (λ s. s.me.0.spent) is ∙ p.0.2.1) (ap (λ s. s.me.0.inside) is ∙ p.0.2.2) (ap (λ s. placed s.me.0.ticket s.me.0.more) is ∙ none_waits _ _ _ p.0.4) (subst (λ s. g.V.Serve.clear s.me.0.mine) (sym is) p.1),
 )
 
 pub load-requires : goal.load-requires

@@ -1,5 +1,0 @@
-use Rattle.history_laws.proofs.DeterminedLaw.{steps_alike}
-use Rattle.history_laws.proofs.law_of_steps_determined.Goals as goal
-
-pub returns : goal.returns
-returns c = steps_alike

@@ -1,5 +1,0 @@
-use Rattle.late_acts.proofs.Running.{run_port_can, run_port_leads}
-use Rattle.late_acts.proofs.law_of_port_runs.Goals as goal
-
-pub returns : goal.returns
-returns c = record { done = run_port_leads; can = run_port_can }

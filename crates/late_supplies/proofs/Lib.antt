@@ -1,4 +1,0 @@
-pub mod Accepting
-pub mod Counting
-pub mod Making
-pub mod Supplying

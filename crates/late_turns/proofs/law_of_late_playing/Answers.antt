@@ -1,5 +1,0 @@
-use Rattle.late_turns.proofs.Playing.{change_plays, change_stands, playing_begins, playing_hears, playing_waits, turn_plays, turn_stands}
-use Rattle.late_turns.proofs.law_of_late_playing.Goals as goal
-
-pub returns : goal.returns
-returns c = record { hears = playing_hears; waits = playing_waits; begins = playing_begins; stands = turn_stands; plays = turn_plays; changes = change_stands; changed = change_plays }

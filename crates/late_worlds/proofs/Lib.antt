@@ -1,4 +1,0 @@
-pub mod Early
-pub mod Opened
-pub mod Begins
-pub mod Ports

@@ -1,3 +1,0 @@
-pub mod Terms
-pub mod Contents
-pub mod Texts

@@ -1,0 +1,5 @@
+pub mod Assembly
+pub mod Stages
+pub mod Building
+pub mod Dismantling
+pub mod Halting

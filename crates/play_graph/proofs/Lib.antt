@@ -1,0 +1,12 @@
+pub mod Standing
+pub mod Building
+pub mod Going
+pub mod Offering
+pub mod Naming
+pub mod Apart
+pub mod Filed
+pub mod Joining
+pub mod Noted
+pub mod Stopped
+pub mod Cleared
+pub mod Plays

@@ -1,0 +1,12 @@
+pub mod Linking
+pub mod Sides
+pub mod Passing
+pub mod Resting
+pub mod Backs
+pub mod Overs
+pub mod Releases
+pub mod Unuseds
+pub mod Accepting
+pub mod Counting
+pub mod Making
+pub mod Supplying

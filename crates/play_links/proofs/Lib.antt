@@ -1,9 +1,0 @@
-pub mod Same
-pub mod Hands
-pub mod Unused
-pub mod Made
-pub mod Resets
-pub mod Counted
-pub mod Counts
-pub mod Away
-pub mod Works

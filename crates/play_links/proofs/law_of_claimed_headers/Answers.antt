@@ -1,5 +1,0 @@
-use Rattle.play_links.proofs.Works.{claim_output, claim_input, claim_beside}
-use Rattle.play_links.proofs.law_of_claimed_headers.Goals as goal
-
-pub returns : goal.returns
-returns c = record { output = claim_output; input = claim_input; beside = claim_beside }

@@ -1,5 +1,0 @@
-use Rattle.play_links.proofs.Made.{made_ready, made_spent, made_beside}
-use Rattle.play_links.proofs.law_of_made.Goals as goal
-
-pub returns : goal.returns
-returns c = record { ready = made_ready; spent = made_spent; beside = made_beside }

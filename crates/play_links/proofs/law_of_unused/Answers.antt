@@ -1,5 +1,0 @@
-use Rattle.play_links.proofs.Unused.{from_input, from_output, input_beside, output_beside}
-use Rattle.play_links.proofs.law_of_unused.Goals as goal
-
-pub returns : goal.returns
-returns c = record { input = from_input; output = from_output; input_beside = input_beside; output_beside = output_beside }

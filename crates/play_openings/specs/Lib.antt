@@ -1,2 +1,0 @@
-pub mod Assemblies
-pub mod Endings

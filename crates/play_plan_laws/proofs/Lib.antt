@@ -1,0 +1,9 @@
+pub mod Links
+pub mod Casting
+pub mod Limits
+pub mod Scripts
+pub mod Casts
+pub mod Conducting
+pub mod Turns
+pub mod Lawful
+pub mod Opened

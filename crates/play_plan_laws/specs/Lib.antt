@@ -1,0 +1,5 @@
+pub mod Casting
+pub mod Limits
+pub mod Conducting
+pub mod Assemblies
+pub mod Endings

@@ -1,6 +1,0 @@
-use Rattle.play_plans.proofs.Casting.{plan_casts}
-use Rattle.play_plans.proofs.Casts.{plan_has_cast}
-use Rattle.play_plans.proofs.law_of_casts.Goals as goal
-
-pub returns : goal.returns
-returns c = record { some = plan_has_cast; cast = plan_casts }

@@ -1,3 +1,0 @@
-pub mod Casting
-pub mod Limits
-pub mod Conducting

@@ -1,0 +1,13 @@
+pub mod NoActs
+pub mod OwnNames
+pub mod OneLog
+pub mod Finding
+pub mod Ports
+pub mod Turns
+pub mod Files
+pub mod Links
+pub mod Contents
+pub mod Plainly
+pub mod Opened
+pub mod Ends
+pub mod Texts

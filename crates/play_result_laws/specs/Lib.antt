@@ -1,0 +1,9 @@
+pub mod Files
+pub mod Worlds
+pub mod Asked
+pub mod Summaries
+pub mod Results
+pub mod Leaving
+pub mod Terms
+pub mod Contents
+pub mod Texts

@@ -1,3 +1,0 @@
-pub mod NoActs
-pub mod OwnNames
-pub mod OneLog

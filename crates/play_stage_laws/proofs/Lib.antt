@@ -1,0 +1,15 @@
+pub mod Calm
+pub mod Sends
+pub mod Runs
+pub mod Notes
+pub mod Tellings
+pub mod Endings
+pub mod ToldActs
+pub mod Waiting
+pub mod CalmHappenings
+pub mod Due
+pub mod Arriving
+pub mod Settling
+pub mod Resting
+pub mod Happening
+pub mod Closing

@@ -1,0 +1,17 @@
+pub mod Poised
+pub mod Wanted
+pub mod Claimable
+pub mod Picks
+pub mod Worked
+pub mod Numbers
+pub mod Lengths
+pub mod Pieces
+pub mod Landings
+pub mod Outgoing
+pub mod Steps
+pub mod Told
+pub mod Poising
+pub mod Claims
+pub mod Claiming
+pub mod Finishing
+pub mod Sizes

@@ -1,4 +1,0 @@
-pub mod Flowing
-pub mod Contents
-pub mod Streams
-pub mod Fronts

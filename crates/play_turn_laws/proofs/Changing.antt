@@ -1,0 +1,415 @@
+-- The steps of a change that a conductor answers, by the model's acts of it.
+use Rattle.std.proofs.Common.{◌≡◌, ◌≢◌, inl, inr, ℕ, zero, suc, ◌+◌, ◌<◌, ◌≤◌, true, false, ◌&&◌, nat_le, slice_get, Some, refl, sym, ◌∙◌, ap, subst, leb-true, arith}
+use Rattle.std.proofs.lemmas.Bool.{cases_eq}
+use Rattle.std.specs.Prelude.{slice_set}
+use Rattle.il_machine.specs.World.{World}
+use Rattle.machine_laws.proofs.Accepting.{both_of}
+use Rattle.machine_laws.proofs.Every.{at_set, none_passes, set_else, set_there}
+use Rattle.machine_laws.proofs.Finding.{either}
+use Rattle.conductor.specs.declared.phase.ChangeStep.{ChangeStep}
+use Rattle.conductor.specs.declared.phase.ChangeStep.TheVariants.{Disable, Retune, Enable}
+use Rattle.conductor.specs.declared.phase.LateLink.{LateLink}
+use Rattle.conductor.specs.declared.phase.Phase.TheVariants as phases
+use Rattle.conductor.specs.Hearing.{ConductorValue}
+use Rattle.conductor.specs.Phases.{Conducts, IsChangeDue, IsStep, NoneBefore, is_changed, is_disabled, is_half, is_ready, may_change, one_step_more}
+use Rattle.play_model.specs.Acts.{Act, CanAct}
+use Rattle.play_model.specs.Changes.{Change, IsHalfChanged, IsInOrder}
+use Rattle.play_model.specs.Play.{Play}
+use Rattle.play_model.specs.Reached.{IsOver}
+use Rattle.play_world_laws.specs.Cast.{components_of, giver_of, links_of, script_place}
+use Rattle.play_world_laws.specs.Standing.{target}
+use Rattle.play_plan_laws.proofs.Links.{two_ways}
+use Rattle.play_world_laws.specs.PlayWorlds.{IsPlayWorld, PlayCast}
+use Rattle.play_turn_laws.specs.Conducting.{AreCarriedOut, AreLates, IsCarriedOut, IsChangeOf, IsFirstTold, IsLateAt, IsPlayConductor, IsLateOf, IsUnderWay, step_from, step_to}
+use Rattle.play_turn_laws.proofs.Hearing.{of_same, one_link}
+use Rattle.play_turn_laws.proofs.Keeping.{one_entry, same_source}
+use Rattle.play_turn_laws.proofs.Sending.{can_begin, is_over_so}
+use Rattle.play_turn_laws.proofs.Standing.{acts_one, acts_two, answered, begun_half, changed_is, FirstOf, first_of, flags, half_begun, is_changed_so, is_ready_so, may_where, none_answered, none_half_so, not_failed, ordered, ready_is, unbroken, unchanged_so, where_may}
+
+-- ---- the steps
+
+-- before a step, and with it answered
+pub way_from : (step : ChangeStep) (steps acts : ℕ) → IsCarriedOut steps acts → acts ≡ step_from step → IsUnderWay (steps + 1) acts
+way_from Disable zero acts C e = (omega arith, omega arith)
+way_from Retune zero acts C e = absurd (omega arith)
+way_from Enable zero acts C e = absurd (omega arith)
+way_from Disable (suc zero) acts C e = absurd (omega arith)
+way_from Retune (suc zero) acts C e = (omega arith, omega arith)
+way_from Enable (suc zero) acts C e = absurd (omega arith)
+way_from Disable (suc (suc zero)) acts C e = absurd (omega arith)
+way_from Retune (suc (suc zero)) acts C e = absurd (omega arith)
+way_from Enable (suc (suc zero)) acts C e = (omega arith, omega arith)
+way_from Disable (suc (suc (suc zero))) acts C e = absurd (omega arith)
+way_from Retune (suc (suc (suc zero))) acts C e = absurd (omega arith)
+way_from Enable (suc (suc (suc zero))) acts C e = absurd (omega arith)
+way_from step (suc (suc (suc (suc n)))) acts C e = absurd C
+
+-- and until it is carried out
+pub way_on : (step : ChangeStep) (steps was : ℕ) → IsCarriedOut steps was → was ≡ step_from step → (acts : ℕ) → step_from step ≤ acts → acts ≤ step_to step → IsUnderWay (steps + 1) acts
+way_on Disable zero was C e acts l m = (omega arith, omega arith)
+way_on Disable (suc zero) was C e acts l m = absurd (omega arith)
+way_on Disable (suc (suc zero)) was C e acts l m = absurd (omega arith)
+way_on Disable (suc (suc (suc zero))) was C e acts l m = absurd (omega arith)
+way_on Retune zero was C e acts l m = absurd (omega arith)
+way_on Retune (suc zero) was C e acts l m = (omega arith, omega arith)
+way_on Retune (suc (suc zero)) was C e acts l m = absurd (omega arith)
+way_on Retune (suc (suc (suc zero))) was C e acts l m = absurd (omega arith)
+way_on Enable zero was C e acts l m = absurd (omega arith)
+way_on Enable (suc zero) was C e acts l m = absurd (omega arith)
+way_on Enable (suc (suc zero)) was C e acts l m = (omega arith, omega arith)
+way_on Enable (suc (suc (suc zero))) was C e acts l m = absurd (omega arith)
+way_on step (suc (suc (suc (suc n)))) was C e acts l m = absurd C
+
+-- and once it is
+pub out_to : (step : ChangeStep) (steps was acts : ℕ) → IsCarriedOut steps was → was ≡ step_from step → acts ≡ step_to step → IsCarriedOut (steps + 1) acts
+out_to Disable zero was acts C e f = f
+out_to Retune zero was acts C e f = absurd (omega arith)
+out_to Enable zero was acts C e f = absurd (omega arith)
+out_to Disable (suc zero) was acts C e f = absurd (omega arith)
+out_to Retune (suc zero) was acts C e f = f
+out_to Enable (suc zero) was acts C e f = absurd (omega arith)
+out_to Disable (suc (suc zero)) was acts C e f = absurd (omega arith)
+out_to Retune (suc (suc zero)) was acts C e f = absurd (omega arith)
+out_to Enable (suc (suc zero)) was acts C e f = f
+out_to Disable (suc (suc (suc zero))) was acts C e f = absurd (omega arith)
+out_to Retune (suc (suc (suc zero))) was acts C e f = absurd (omega arith)
+out_to Enable (suc (suc (suc zero))) was acts C e f = absurd (omega arith)
+out_to step (suc (suc (suc (suc n)))) was acts C e f = absurd C
+
+module _ (x : PlayCast) (recent : ℕ) (p : Play) (w : World) (W : IsPlayWorld x recent p w) (value : ConductorValue) (V : IsPlayConductor x.cast recent p value) where
+  abbrev L : AreLates x.cast recent p value.lates
+  L = (V.conducting).lates
+
+  -- ---- a step that is answered
+
+  module _ (number : ℕ) (late : LateLink) (step : ChangeStep) (D : IsChangeDue value number late step) where
+    abbrev l : ℕ
+    l = (L.each number late D.there).0
+
+    K : IsLateAt x.cast recent p l late
+    K = (L.each number late D.there).1
+
+    O : IsLateOf x.cast l late
+    O = K.of_link
+
+    running : (p.phase ≡ 2) × ((c : ℕ) → c < components_of x.cast → p.stage c ≡ 4)
+    running = where_may x recent p w W value V D.now
+
+    out : IsCarriedOut late.steps (p.change l).step
+    out = answered x recent p w W value V number l late D.there O
+
+    order : IsInOrder (p.change l)
+    order = ordered x recent p w W value V number l late D.there O
+
+    abbrev next : ConductorValue
+    next = record value { lates = slice_set value.lates number (one_step_more late) }
+
+    -- the others that aren't known to be changed: none, or this one
+    others : (j k : ℕ) (other : LateLink) → slice_get value.lates j ≡ Some other → IsLateAt x.cast recent p k other → 1 ≤ other.steps → is_changed other ≡ false → k ≡ l
+    others j k other f M m u = by_step step D.due
+      where
+        by_step : (step : ChangeStep) → IsStep value.told value.lates number late step → k ≡ l
+        by_step Disable S = let h = none_passes is_half value.lates j other S.0 f in let g = begun_half other m u in absurd cc
+        by_step Retune S = let b = half_begun late S.0 in M.latest m u ∙ sym (K.latest b.0 b.1)
+        by_step Enable S = let b = half_begun late S.0 in M.latest m u ∙ sym (K.latest b.0 b.1)
+
+    from : (p.change l).step ≡ step_from step
+    from = by_step step D.due
+      where
+        by_step : (step : ChangeStep) → IsStep value.told value.lates number late step → (p.change l).step ≡ step_from step
+        by_step Disable S =
+            let r = ready_is x recent p w W value V number l late D.there O S.1 in
+            let m = r.0 in
+            elim (unbroken x recent p w W value V S.0 l O.below O.late) [
+              | inl n ↦ omega arith
+              | inr C ↦ let t = is_changed_so x recent p w W value V number l late D.there O C in let f = r.1 in absurd cc
+            ]
+        by_step Retune S = acts_one late.steps (p.change l).step out S.2
+        by_step Enable S = acts_two late.steps (p.change l).step out S.2
+
+    -- of those that are ready it is the first
+    first : NoneBefore (is_ready value.told) value.lates number → (k : ℕ) → k < links_of x.cast → ((x.cast).layout).is_late k ≡ true → (p.change k).step ≡ 2 → script_place x.cast (giver_of x.cast l) ≤ script_place x.cast (giver_of x.cast k)
+    first N k b t two =
+        let r = L.some k b t in
+        let M = (r.3).of_link in
+        let ready = is_ready_so x recent p w W value V r.0 k r.1 r.2 M (omega arith) (unchanged_so x recent p w W value V r.0 k r.1 r.2 M (omega arith)) in
+        let mine = O.source in
+        let its = M.source in
+        elim (two_ways r.0 number) [
+          | inl h ↦ let f = N r.0 r.1 h r.2 in absurd cc
+          | inr h ↦ elim h [
+            | inl e ↦
+                let s : Some r.1 ≡ Some late = sym r.2 ∙ (ap (slice_get value.lates) e ∙ D.there) in
+                let same : r.1 ≡ late = cc in
+                let m : (r.1).source ≡ late.source = ap (λ (y : LateLink). y.source) same in
+                omega arith
+            | inr g ↦ let m = L.rising number r.0 late r.1 g D.there r.2 in omega arith
+          ]
+        ]
+
+    first_told : IsFirstTold x.cast p l
+    first_told two = by_step step D.due from
+      where
+        by_step : (step : ChangeStep) → IsStep value.told value.lates number late step → (p.change l).step ≡ step_from step
+            → (k : ℕ) → k < links_of x.cast → ((x.cast).layout).is_late k ≡ true → (p.change k).step ≡ 2 → script_place x.cast (giver_of x.cast l) ≤ script_place x.cast (giver_of x.cast k)
+        by_step Disable S e = first S.2
+        by_step Retune S e = absurd (omega (arith, e, two))
+        by_step Enable S e = absurd (omega (arith, e, two))
+
+    can : CanAct (x.cast).layout p (Act.Conduct l)
+    can = by_step step D.due from
+      where
+        by_step : (step : ChangeStep) → IsStep value.told value.lates number late step → (p.change l).step ≡ step_from step → CanAct (x.cast).layout p (Act.Conduct l)
+        by_step Disable S e = record {
+          below = O.below;
+          late = O.late;
+          told = omega arith;
+          more = omega arith;
+          next = λ two. record { phase = running.0; all = running.1; unbroken = unbroken x recent p w W value V S.0 };
+          disabled = λ four. absurd (omega arith);
+        }
+        by_step Retune S e =
+            let F = flags x recent p w W value V number l late D.there O in
+            let b = both_of late.output_disabled late.input_disabled S.3 in
+            let o = leb-true 4 _ (sym F.output_disabled ∙ b.0) in
+            let i = leb-true 4 _ (sym F.input_disabled ∙ b.1) in
+            let m = order.output_waits (omega arith) in
+            let n = order.input_waits (omega arith) in
+            record {
+              below = O.below;
+              late = O.late;
+              told = omega arith;
+              more = omega arith;
+              next = λ two. absurd (omega arith);
+              disabled = λ four. (omega arith, omega arith);
+            }
+        by_step Enable S e = record {
+          below = O.below;
+          late = O.late;
+          told = omega arith;
+          more = omega arith;
+          next = λ two. absurd (omega arith);
+          disabled = λ four. absurd (omega arith);
+        }
+
+    -- ---- what is known then
+
+    disabled_more : 2 ≤ late.steps + 1 → is_disabled late ≡ true
+    disabled_more m = by_step step D.due from
+      where
+        by_step : (step : ChangeStep) → IsStep value.told value.lates number late step → (p.change l).step ≡ step_from step → is_disabled late ≡ true
+        by_step Disable S e = let z = none_answered late.steps (p.change l).step out (omega arith) in absurd (omega arith)
+        by_step Retune S e = S.3
+        by_step Enable S e = let z = S.2 in K.disabled (omega arith)
+
+    here : IsLateAt x.cast l p l (one_step_more late)
+    here = record {
+      of_link = of_same x.cast l late (one_step_more late) refl refl refl O;
+      way = way_from step late.steps (p.change l).step out from;
+      told = record { output_disabled = (K.told).output_disabled; input_disabled = (K.told).input_disabled; output_enabled = (K.told).output_enabled; input_enabled = (K.told).input_enabled };
+      disabled = disabled_more;
+      latest = λ m f. refl;
+    }
+
+    there : (j k : ℕ) (other : LateLink) → slice_get value.lates j ≡ Some other → IsLateAt x.cast recent p k other → IsLateAt x.cast l p k other
+    there j k other f M = record { of_link = M.of_link; way = M.way; told = M.told; disabled = M.disabled; latest = others j k other f M }
+
+    -- each source is the same
+    source_at : (i : ℕ) (a : LateLink) → slice_get next.lates i ≡ Some a → (b : LateLink) × (slice_get value.lates i ≡ Some b) × (b.source ≡ a.source)
+    source_at i a e = elim (at_set value.lates number i (one_step_more late) a e) [
+      | inl h ↦ (late, ap (slice_get value.lates) h.0 ∙ D.there, ap (λ (y : LateLink). y.source) (sym h.1))
+      | inr h ↦ (a, h.1, refl)
+    ]
+
+    lates_next : AreLates x.cast l p next.lates
+    lates_next = record {
+      each = λ i other e. elim (at_set value.lates number i (one_step_more late) other e) [
+        | inl h ↦ (l, subst (λ (y : LateLink). IsLateAt x.cast l p l y) (sym h.1) here)
+        | inr h ↦ let r = L.each i other h.1 in (r.0, there i r.0 other h.1 r.1)
+      ];
+      some = λ k b t.
+          let r = L.some k b t in
+          elim (cases_eq r.0 number) [
+            | inl e ↦
+                let s : Some r.1 ≡ Some late = sym r.2 ∙ (ap (slice_get value.lates) e ∙ D.there) in
+                let same : r.1 ≡ late = cc in
+                let is : k ≡ l = one_link x.cast k l r.1 late W.cast_is (r.3).of_link O (ap (λ (y : LateLink). y.source) same) in
+                (number, one_step_more late, set_there value.lates number late (one_step_more late) D.there, subst (λ (m : ℕ). IsLateAt x.cast l p m (one_step_more late)) (sym is) here)
+            | inr n ↦ (r.0, r.1, set_else value.lates number r.0 (one_step_more late) n ∙ r.2, there r.0 k r.1 r.2 r.3)
+          ];
+      rising = λ i j a b h e f.
+          let c = source_at i a e in
+          let d = source_at j b f in
+          let r = L.rising i j c.0 d.0 h c.1 d.1 in
+          let m = c.2 in
+          let n = d.2 in
+          omega arith;
+    }
+
+    carried_next : (q : Play) → (q.change l).step ≡ step_to step → ((k : ℕ) → k ≢ l → (q.change k).step ≡ (p.change k).step) → AreCarriedOut x.cast q next.lates
+    carried_next q to same i k other e N = elim (at_set value.lates number i (one_step_more late) other e) [
+      | inl h ↦
+          let is : k ≡ l = one_link x.cast k l other late W.cast_is N O (ap (λ (y : LateLink). y.source) h.1) in
+          let now : IsCarriedOut (late.steps + 1) (q.change k).step = out_to step late.steps (p.change l).step (q.change k).step out from (ap (λ (m : ℕ). (q.change m).step) is ∙ to) in
+          subst (λ (y : LateLink). IsCarriedOut y.steps (q.change k).step) (sym h.1) now
+      | inr h ↦
+          let apart : k ≢ l = λ s. h.0 (one_entry x.cast recent p value.lates L i number other late h.1 D.there (same_source x.cast k l other late N O s)).0 in
+          subst (λ (m : ℕ). IsCarriedOut other.steps m) (sym (same k apart)) (V.carried i k other h.1 N)
+    ]
+
+    pub change_of : (component : ℕ) → component ≡ late.source → IsChangeOf x.cast p component step next l
+    change_of component s = record {
+      can = can;
+      its_source = s ∙ O.source;
+      from = from;
+      conducting = record { sinks = record { many = ((V.conducting).sinks).many; each = ((V.conducting).sinks).each }; many = (V.conducting).many; lates = lates_next; sends = (V.conducting).sends };
+      number = number;
+      known = one_step_more late;
+      there = set_there value.lates number late (one_step_more late) D.there;
+      of_link = here.of_link;
+      way = way_on step late.steps (p.change l).step out from;
+      carried = carried_next;
+    }
+
+  pub conductor_changes : (next : ConductorValue) (component : ℕ) (step : ChangeStep) → Conducts value (phases.Change component step) next → (l : ℕ) × IsChangeOf x.cast p component step next l × IsFirstTold x.cast p l
+  conductor_changes next component step C =
+      let K = C.1 in
+      let l = (L.each K.number K.late (K.due).there).0 in
+      (l, subst (λ (y : ConductorValue). IsChangeOf x.cast p component step y l) (sym K.goes_on) (change_of K.number K.late step K.due component K.its_source), first_told K.number K.late step K.due)
+
+  -- ---- an act that can be made
+
+  module _ (l : ℕ) (C : CanAct (x.cast).layout p (Act.Conduct l)) where
+    abbrev number : ℕ
+    number = (L.some l C.below C.late).0
+
+    abbrev late : LateLink
+    late = (L.some l C.below C.late).1
+
+    entry : slice_get value.lates number ≡ Some late
+    entry = (L.some l C.below C.late).2
+
+    M : IsLateAt x.cast recent p l late
+    M = (L.some l C.below C.late).3
+
+    abbrev k : Change
+    k = p.change l
+
+    inorder : IsInOrder k
+    inorder = ordered x recent p w W value V number l late entry M.of_link
+
+    known : IsCarriedOut late.steps k.step
+    known = answered x recent p w W value V number l late entry M.of_link
+
+    -- no other link is half changed, so none before it
+    none_before : 1 ≤ late.steps → is_changed late ≡ false → NoneBefore is_half value.lates number
+    none_before m f j other h e = either (is_half other)
+        (λ t.
+        let r = L.each j other e in
+        let b = half_begun other t in
+        let same : r.0 ≡ l = (r.1).latest b.0 b.1 ∙ sym (M.latest m f) in
+        let g = (one_entry x.cast recent p value.lates L j number other late e entry (same_source x.cast r.0 l other late (r.1).of_link M.of_link same)).0 in
+        absurd (omega arith))
+        (λ u. u)
+
+    unchanged : k.step < 10 → is_changed late ≡ false
+    unchanged m = either (is_changed late) (λ t. let c = changed_is x recent p w W value V number l late entry M.of_link t in let z = c.0 in absurd (omega arith)) (λ u. u)
+
+    may_half : IsHalfChanged k → may_change value ≡ true
+    may_half h = let r = ((W.reached).changes l C.below).half h in may_where x recent p w W value V r.0 r.1
+
+    ready : k.step ≡ 2 → is_ready value.told late ≡ true
+    ready two = is_ready_so x recent p w W value V number l late entry M.of_link (omega arith) (unchanged (omega arith))
+
+    first_ready : k.step ≡ 2 → FirstOf (is_ready value.told) value.lates
+    first_ready two = first_of (is_ready value.told) value.lates number late entry (ready two)
+
+    begins : (two : k.step ≡ 2) → IsChangeDue value (first_ready two).at (first_ready two).entry Disable
+    begins two =
+        let N = C.next two in
+        let F = first_ready two in
+        record {
+          there = F.there;
+          now = may_where x recent p w W value V N.phase N.all;
+          due = (none_half_so x recent p w W value V N.unbroken, F.passes, F.none_before);
+        }
+
+    -- where none that has told comes before it, it is this one
+    begins_here : (two : k.step ≡ 2) → IsFirstTold x.cast p l → (L.each (first_ready two).at (first_ready two).entry (begins two).there).0 ≡ l
+    begins_here two H =
+        let F = first_ready two in
+        let r = L.each F.at F.entry (begins two).there in
+        let O = (r.1).of_link in
+        let its = O.source in
+        let mine = (M.of_link).source in
+        let e = from F.at F.entry Disable (begins two) in
+        let most = H two r.0 O.below O.late e in
+        elim (two_ways F.at number) [
+          | inl h ↦ let low = L.rising F.at number F.entry late h F.there entry in absurd (omega arith)
+          | inr h ↦ elim h [
+            | inl same ↦
+                let s : Some F.entry ≡ Some late = sym F.there ∙ (ap (slice_get value.lates) same ∙ entry) in
+                let is : F.entry ≡ late = cc in
+                one_link x.cast r.0 l F.entry late W.cast_is O M.of_link (ap (λ (y : LateLink). y.source) is)
+            | inr g ↦ let n = F.none_before number late g entry in let t = ready two in absurd cc
+          ]
+        ]
+
+    goes_here : (there : slice_get value.lates number ≡ Some late) → (L.each number late there).0 ≡ l
+    goes_here there = let r = L.each number late there in one_link x.cast r.0 l late late W.cast_is (r.1).of_link M.of_link refl
+
+    retunes : k.step ≡ 4 → late.steps ≡ 1 → IsChangeDue value number late Retune
+    retunes four one =
+        let F = flags x recent p w W value V number l late entry M.of_link in
+        let D = C.disabled four in
+        let o : late.output_disabled ≡ true = F.output_disabled ∙ ap (nat_le 4) D.0 in
+        let i : late.input_disabled ≡ true = F.input_disabled ∙ ap (nat_le 4) D.1 in
+        let u = unchanged (omega arith) in
+        let d = D.0 in
+        record {
+          there = entry;
+          now = may_half (omega arith, inl (omega arith));
+          due = (begun_half late (omega arith) u, none_before (omega arith) u, one, (λ j. o j && i j));
+        }
+
+    enables : k.step ≡ 8 → late.steps ≡ 2 → IsChangeDue value number late Enable
+    enables eight two =
+        let u = unchanged (omega arith) in
+        let n = inorder.output_waits (omega arith) in
+        record {
+          there = entry;
+          now = may_half (omega arith, inl (omega arith));
+          due = (begun_half late (omega arith) u, none_before (omega arith) u, two);
+        }
+
+    pub due_change : (i : ℕ) × (other : LateLink) × (step : ChangeStep) × (D : IsChangeDue value i other step) × (IsFirstTold x.cast p l → (L.each i other D.there).0 ≡ l)
+    due_change = by_steps late.steps refl known
+      where
+        by_steps : (n : ℕ) → late.steps ≡ n → IsCarriedOut n k.step → (i : ℕ) × (other : LateLink) × (step : ChangeStep) × (D : IsChangeDue value i other step) × (IsFirstTold x.cast p l → (L.each i other D.there).0 ≡ l)
+        by_steps zero e D = let m = C.told in let two : k.step ≡ 2 = omega arith in ((first_ready two).at, (first_ready two).entry, Disable, begins two, begins_here two)
+        by_steps (suc zero) e D = (number, late, Retune, retunes D e, (λ H. goes_here (retunes D e).there))
+        by_steps (suc (suc zero)) e D = (number, late, Enable, enables D e, (λ H. goes_here (enables D e).there))
+        by_steps (suc (suc (suc zero))) e D = let m = C.more in absurd (omega arith)
+        by_steps (suc (suc (suc (suc n)))) e D = absurd D
+
+    pub conductor_goes_on : (k : ℕ) × (IsFirstTold x.cast p l → k ≡ l) × (step : ChangeStep) × (next : ConductorValue) × ((p.change k).step ≡ step_from step) × Conducts value (phases.Change (script_place x.cast (giver_of x.cast k)) step) next
+    conductor_goes_on =
+        let d = due_change in
+        let r = L.each d.0 d.1 (d.3).there in
+        let next : ConductorValue = record value { lates = slice_set value.lates d.0 (one_step_more d.1) } in (
+          r.0,
+          d.4,
+          d.2,
+          next,
+          from d.0 d.1 d.2 d.3,
+          (not_failed x recent p w W value V, record { number = d.0; late = d.1; due = d.3; its_source = sym ((r.1).of_link).source; goes_on = refl }),
+        )
+
+  pub conductor_waits : (next : ConductorValue) → Conducts value phases.Wait next
+      → (CanAct (x.cast).layout p Act.Begin → ⊥) × ((l : ℕ) → CanAct (x.cast).layout p (Act.Conduct l) → ⊥) × (IsOver (x.cast).layout p → ⊥) × (next ≡ value)
+  conductor_waits next C = (
+    (λ B. (C.1).no_send (target (p.phase + 1)) (can_begin x recent p w W value V B)),
+    (λ l A. let d = due_change l A in (C.1).no_change d.0 d.1 d.2 d.3),
+    (λ O. let f = (C.1).not_over in let t = is_over_so x recent p w W value V O in cc),
+    C.2,
+  )

@@ -1,0 +1,12 @@
+pub mod Hearing
+pub mod Keeping
+pub mod Standing
+pub mod Sending
+pub mod Changing
+pub mod Casting
+pub mod Turning
+pub mod Coming
+pub mod Playing
+pub mod Beginning
+pub mod Ending
+pub mod Planned

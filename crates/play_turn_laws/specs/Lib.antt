@@ -1,0 +1,4 @@
+pub mod Conducting
+pub mod Turns
+pub mod Playing
+pub mod Sides

@@ -1,0 +1,10 @@
+pub mod View
+pub mod Tunnel
+pub mod Cast
+pub mod Openings
+pub mod Standing
+pub mod Telling
+pub mod Wiring
+pub mod Worlds
+pub mod Changing
+pub mod PlayWorlds

@@ -1,5 +1,0 @@
-use Rattle.run_laws.proofs.Objects.{out_busy, out_stays}
-use Rattle.run_laws.proofs.law_of_objects.Goals as goal
-
-pub returns : goal.returns
-returns c = record { busy = out_busy; stays = out_stays }
