@@ -1,0 +1,5 @@
+pub mod Pieces
+pub mod Spelled
+pub mod WordLengths
+pub mod Short
+pub mod Cut

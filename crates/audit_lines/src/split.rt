@@ -1,0 +1,36 @@
+//! A text is cut into lines. Unlike a script's line, a log's keeps a carriage return, with which it isn't canonical.
+
+ghost use Rattle.std.specs.Prelude.{◌≡◌, ◌∷◌, ◌<◌, ◌≤◌, ◌+◌, ℕ, [], length, slice_index, IfNone, IfSome};
+ghost use Rattle.audit_lines.specs.Lines.{pieces_of};
+
+/// The first line of a text, without its line feed, which the last one may lack; and what follows.
+pub fn next_line(text: &[u8]) -> Option<(&[u8], &[u8])>
+    ensures none { IfNone result (pieces_of text.now ≡ []) }
+    ensures some { IfSome result (λ parts. pieces_of text.now ≡ parts.0.now ∷ pieces_of parts.1.now) }
+    ensures shorter { IfSome result (λ parts. length parts.1.now < length text.now) }
+{
+    if text.is_empty() {
+        return None;
+    }
+    let feed = feed_in(text);
+    let (line, none) = text.split_at(feed);
+    if feed == text.len() {
+        return Some((line, none));
+    }
+    let (_, rest) = text.split_at(feed + 1);
+    Some((line, rest))
+}
+
+/// The place of the first line feed, or the length.
+fn feed_in(text: &[u8]) -> usize
+    ensures within { result ≤ length text.now }
+    ensures before { (k : ℕ) → k < result → slice_index text.now k ≡ 10 → ⊥ }
+    ensures feed { result < length text.now → slice_index text.now result ≡ 10 }
+{
+    for (place, byte) in text.iter().enumerate() {
+        if *byte == b'\n' {
+            return place;
+        }
+    }
+    text.len()
+}

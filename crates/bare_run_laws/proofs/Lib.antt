@@ -1,0 +1,9 @@
+pub mod Closings
+pub mod Finishing
+pub mod Meeting
+pub mod More
+pub mod Runs
+pub mod Telling
+pub mod Places
+pub mod Acts
+pub mod Returning

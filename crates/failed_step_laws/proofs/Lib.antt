@@ -1,0 +1,3 @@
+pub mod Landing
+pub mod Flowing
+pub mod Undoing

@@ -1,0 +1,10 @@
+pub mod Held
+pub mod Staying
+pub mod Keeping
+pub mod Asking
+pub mod Failing
+pub mod Faulty
+pub mod Whole
+pub mod Fronts
+pub mod Opening
+pub mod Telling

@@ -1,0 +1,17 @@
+use Rattle.fault_history_laws.proofs.Faulty.{all_faulty, one_faulty}
+use Rattle.fault_history_laws.proofs.Fronts.{all_fronts, all_written, over_so}
+use Rattle.fault_history_laws.proofs.Opening.{begins_faulty, begins_flow}
+use Rattle.fault_history_laws.proofs.Whole.{all_whole}
+use Rattle.fault_history_laws.proofs.law_of_fault_histories.Goals as goal
+
+pub returns : goal.returns
+returns c = record {
+  begins = begins_faulty;
+  flows = begins_flow;
+  one = one_faulty;
+  comes = all_faulty;
+  over = over_so;
+  whole = all_whole;
+  written = λ x contents k recent p ss w stream D H Q. all_written x contents k recent p ss w stream D H Q;
+  fronts = λ x contents k recent p ss w stream D H Q. all_fronts x contents k recent p ss w stream D H Q;
+}

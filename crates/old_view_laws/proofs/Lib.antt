@@ -1,0 +1,5 @@
+pub mod Behind
+pub mod Hearing
+pub mod Standing
+pub mod Changing
+pub mod Keeping

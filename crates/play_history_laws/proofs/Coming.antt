@@ -1,0 +1,13 @@
+-- What an act leaves, where a note counts as told once its client object is back.
+use Rattle.std.proofs.Common.{ℕ}
+use Rattle.il_machine.specs.World.{World}
+use Rattle.play_model.specs.Play.{Play}
+use Rattle.play_world_laws.specs.PlayWorlds.{PlayCast}
+use Rattle.play_history_laws.specs.Following.{IsPlayed, StreamsLead}
+use Rattle.play_history_laws.specs.Order.{Cursor}
+
+pub record HasCome (x : PlayCast) (k : Cursor) (p : Play) (w v : World) : Type 0 where
+  pub recent : ℕ
+  pub now : Play
+  pub played : IsPlayed x k recent now v
+  pub streams : StreamsLead x p w now v

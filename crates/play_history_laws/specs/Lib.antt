@@ -1,0 +1,3 @@
+pub mod Order
+pub mod Histories
+pub mod Following

@@ -1,0 +1,9 @@
+pub mod Reading
+pub mod Closing
+pub mod Calls
+pub mod Passing
+pub mod Landing
+pub mod Noting
+pub mod Steps
+pub mod Inside
+pub mod Mended
