@@ -22,8 +22,7 @@ fn index_of(handles: &[Handle], h: Handle) -> Option<usize>
     ensures { MatchOption result ((i : ℕ) → slice_get handles.now i ≢ Some h) (λ i. slice_get handles.now i ≡ Some h) }
 {
     for i in 0..handles.len() {
-        let k = handles[i];
-        if k.slot == h.slot && k.generation == h.generation {
+        if handles[i] == h {
             return Some(i);
         }
     }
