@@ -26,6 +26,7 @@ use Rattle.stock_laws.proofs.Lists.{get_set_same, get_set_other, map_set}
 use Rattle.registry.specs.Handles.{Handles}
 use Rattle.port_stock.specs.Kept.{StockKept, stocked}
 use Rattle.il_component.specs.Entries.{Entry, component_of, KeepsNotices}
+use Rattle.graph_core.specs.Booked.{row_for}
 use Rattle.graph_core.specs.Entries.{Entries, changed_at, component_at, kept}
 use Rattle.graph_core.specs.Standing.{IsGraph}
 use Rattle.graph_core.proofs.Registering.{set_sound}
@@ -34,6 +35,14 @@ use Rattle.graph_core.proofs.Stepping.{at_world}
 use Rattle.graph_core.proofs.Waiters.{few_alike, waiters_set}
 
 -- ---- the component
+
+-- its row stays
+row_told : (o : Option Port) (c : Component) → row_for (announced_at o c) ≡ row_for c
+row_told None c = refl
+row_told (Some p) c = either (same_format p.setting.definition.format (file_format c.file)) (λ t. rw t refl) (λ f. rw f refl)
+
+pub announced_row : (c : Component) → row_for (announced c) ≡ row_for c
+announced_row c = row_told (port_of c 0) (record c { work = None })
 
 -- nothing but its work, its notes and its held port changes
 record IsTold (c d : Component) : Type 0 where

@@ -34,6 +34,7 @@ use Rattle.header_core.specs.BufferHeader.{BufferHeader}
 use Rattle.il_component.specs.Entries.{Entry, component_of, KeepsNotices}
 use Rattle.port_stock.specs.Kept.{StockKept, stocked}
 use Rattle.port_stock.specs.Conditions.{HasBlockFor, IsOutside, IsHeaderOf, made_in}
+use Rattle.graph_core.specs.Booked.{row_for}
 use Rattle.graph_core.specs.Standing.{SoundWorld}
 use Rattle.graph_core.specs.Changes.{IsHandedIn, IsMakable}
 use Rattle.graph_core.specs.Entries.{Entries, look_of, kept, changed_at, component_at}
@@ -51,6 +52,9 @@ unpopulated_ports p c = elim (is_unpopulating c p) as (λ b. is_unpopulating c p
 
 pub unpopulated_pending : (p : Port) (c : Component) → (unpopulated p c).pending ≡ c.pending
 unpopulated_pending p c = elim (is_unpopulating c p) as (λ b. is_unpopulating c p ≡ b → (unpopulated p c).pending ≡ c.pending) [ true ↦ λ q. rw q refl | false ↦ λ q. rw q refl ] refl
+
+pub unpopulated_row : (p : Port) (c : Component) → row_for (unpopulated p c) ≡ row_for c
+unpopulated_row p c = elim (is_unpopulating c p) as (λ b. is_unpopulating c p ≡ b → row_for (unpopulated p c) ≡ row_for c) [ true ↦ λ q. rw q refl | false ↦ λ q. rw q refl ] refl
 
 owned_by : (s : HeaderState) (owner : Owner) → s.owner ≡ owner → IsOwnedSo s s.owner → IsOwnedSo s owner
 owned_by s owner q O = subst (IsOwnedSo s) q O

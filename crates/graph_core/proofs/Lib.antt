@@ -44,4 +44,8 @@ pub mod Announced
 pub mod Unmaking
 pub mod Marking
 pub mod Calming
-pub mod Asking
+pub mod Booked
+pub mod RowsPut
+pub mod BookKept
+pub mod Entering
+pub mod Gathered

@@ -1,11 +1,11 @@
 -- The registry gives each live handle's place: as components are added and changed.
-use Rattle.std.proofs.Common.{◌≡◌, ℕ, ◌+◌, ◌<◌, true, false, List, [], ◌∷◌, ◌++◌, length, set, slice_get, Option, Some, None, IfSome, IsSomeAnd, cond, refl, sym, ◌∙◌, ap, subst, arith, length-append, length-set}
+use Rattle.std.proofs.Common.{◌≡◌, ℕ, ◌+◌, ◌<◌, true, false, List, [], ◌∷◌, ◌++◌, length, set, slice_get, Option, Some, None, IfSome, IsSomeAnd, option_and_then, cond, refl, sym, ◌∙◌, ap, subst, arith, length-append, length-set}
 use Rattle.std.proofs.lemmas.Bool.Decides.{nat_tests}
 use Rattle.std.proofs.lemmas.Option.{slice_get_within}
 use Rattle.omx_types.specs.declared.handle.Handle.{Handle}
 use Rattle.il_machine.specs.World.{same_handle}
 use Rattle.il_machine.specs.Places.{first_place}
-use Rattle.il_machine.proofs.Places.{is_first_place, push_Some, push_None, once_push, place_set, once_set, passes_at}
+use Rattle.il_machine.proofs.Places.{is_first_place, push_Some, push_None, once_push, place_at, place_set, once_set, passes_at}
 use Rattle.registry.specs.Handles.{Handles, resolved, live, AllGiven, Gives, is_full, entry_at}
 use Rattle.il_component.specs.Entries.{Entry}
 use Rattle.graph_core.specs.Entries.{is_entry_at, entry_place}
@@ -29,6 +29,10 @@ module _ {C : Type 0} where
       let f : first_place (is_entry_at h) es ≡ Some i = sym (is_first_place (is_entry_at h) es) ∙ e in
       let p = passes_at (is_entry_at h) es i f in
       slice_get_within es i p.0 p.1
+
+  -- the component that has the handle is the one that it names
+  pub stands_named : (es : List (Entry C)) (r : Handles ℕ) (h : Handle) (i : ℕ) (e : Entry C) → Registered es r → slice_get es i ≡ Some e → same_handle e.handle h ≡ true → option_and_then (slice_get es) (entry_place h es) ≡ Some e
+  stands_named es r h i e S at m = rw (is_first_place (is_entry_at h) es, place_at (is_entry_at h) es i e (S.once h) at m) at
 
   -- ---- a component is added
 

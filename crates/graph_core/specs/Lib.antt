@@ -10,6 +10,6 @@ pub mod Moving
 pub mod Supplying
 pub mod Closing
 pub mod Marking
-pub mod Units
+pub mod Booked
 pub mod Claiming
 pub mod Finishing

@@ -13,6 +13,7 @@ ghost use Rattle.graph_core.specs.Closing.{IsDueAt};
 ghost use Rattle.graph_core.specs.Marking.{AreMarked};
 
 use crate::core_graph::Core;
+use crate::units::enter;
 use bit_set::BitSet;
 use il_component::Component;
 use note_queues::Client;
@@ -67,8 +68,9 @@ impl<C: Client> Core<C> {
         ensures clients { KeepsAllClients self.old self.new }
     {
         let component = &mut self.components[place];
-        let waits = happen_in(&mut self.stock, component, due, self.waits);
-        self.waits = waits;
+        let waits = happen_in(&mut self.stock, component, due, self.book.numbered());
+        self.book.count_waits(waits);
+        enter(&mut self.book, component);
     }
 
     /// While something is due, the first due thing happens.

@@ -1,8 +1,6 @@
 //! Commands of a component are queued and carried out.
 
-ghost use Rattle.std.specs.Prelude.{◌≡◌, ◌<◌, None, true, length, MatchOption, IsSomeAnd};
-ghost use Rattle.il_machine.specs.States.{is_loaded};
-ghost use Rattle.il_machine.specs.Units.{free_units};
+ghost use Rattle.std.specs.Prelude.{◌≡◌, ◌<◌, None, length, MatchOption, IsSomeAnd};
 ghost use Rattle.il_machine.specs.World.{with_component};
 ghost use Rattle.il_machine.specs.Look.{look};
 ghost use Rattle.il_machine.specs.Commands.{send_refusal, lacks_target, sent, run_idle, run_front};
@@ -12,9 +10,10 @@ ghost use Rattle.graph_core.specs.Entries.{kept, look_of, component_at};
 ghost use Rattle.graph_core.specs.Clients.{KeepsAllClients};
 
 use crate::core_graph::Core;
+use crate::units::enter;
 use il_machine::Why;
 use note_queues::Client;
-use omx_types::{Command, OmxError, State};
+use omx_types::{Command, OmxError};
 
 impl<C: Client> Core<C> {
     /// Why the component at the place can't be sent the command, if it can't.
@@ -54,6 +53,7 @@ impl<C: Client> Core<C> {
     {
         let component = &mut self.components[place];
         component.send(command);
+        enter(&mut self.book, component);
     }
 
     /// Why the component at the place carries out no command, if it doesn't.
@@ -65,19 +65,6 @@ impl<C: Client> Core<C> {
         component.run_idle()
     }
 
-    /// The free units, as far as the component at the place needs to know: they are counted where it is Loaded.
-    fn units_for(&self, place: usize) -> u32
-        requires { place < length self.now.entries }
-        ensures { MatchOption (component_at place self.now) ⊥ (λ c. is_loaded c.state ≡ true → result ≡ free_units (look_of self.now)) }
-    {
-        let component = &self.components[place];
-        if matches!(component.state(), State::Loaded) {
-            self.free_units()
-        } else {
-            0
-        }
-    }
-
     /// The component at the place carries out its first command. Nothing is due before: then none waits for its number.
     pub fn run_command(&mut self, place: usize)
         requires closed { first_due (look_of self.old) ≡ None }
@@ -85,9 +72,10 @@ impl<C: Client> Core<C> {
         ensures change { MatchOption (component_at place self.old) ⊥ (λ c. StepsBare (kept C.progress self.old) (kept C.progress self.new) (λ w v. v ≡ with_component place (run_front (look w) c.commands c) w)) }
         ensures clients { KeepsAllClients self.old self.new }
     {
-        let free = self.units_for(place);
+        let free = self.book.free();
         let component = &mut self.components[place];
-        component.run(free, self.waits);
+        component.run(free, self.book.numbered());
+        enter(&mut self.book, component);
         self.marked.insert(place);
     }
 }

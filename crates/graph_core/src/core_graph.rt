@@ -12,6 +12,7 @@ use note_queues::Client;
 use omx_types::Handle;
 use port_stock::Stock;
 use registry::Registry;
+use resource_book::Book;
 use std::alloc::{AllocError, Global};
 use std::marker::Model;
 
@@ -20,9 +21,8 @@ pub struct Core<C: Client> {
     pub(crate) registry: Registry<usize>,
     pub(crate) components: Vec<Component<C>>,
     pub(crate) stock: Stock,
-    pub(crate) units: u32,
-    /// How many waits were numbered.
-    pub(crate) waits: u64,
+    /// The units, the components that hold some, and those that wait.
+    pub(crate) book: Book,
     /// The places of the components at which something may be pending.
     pub(crate) marked: BitSet,
 }
@@ -30,14 +30,16 @@ pub struct Core<C: Client> {
 impl<C: Client> Model for Core<C> {
     ghost use Rattle.graph_core.specs.Entries.{Entries};
     ghost use Rattle.graph_core.specs.Standing.{IsGraph};
+    ghost use Rattle.graph_core.specs.Booked.{booked};
+    ghost use Rattle.graph_core.specs.Entries.{components_of};
     ghost use Rattle.graph_core.specs.Marking.{AreMarked};
-    ghost use Rattle.std.specs.Prelude.{vec_capacity};
+    ghost use Rattle.std.specs.Prelude.{◌≡◌, vec_capacity};
 
     ghost Value = { Entries C };
 
-    ghost view = { λ g. record { entries = g.components.items; stock = g.stock; units = g.units; waits = g.waits; numbered = g.registry.given } };
+    ghost view = { λ g. record { entries = g.components.items; stock = g.stock; units = g.book.units; waits = g.book.numbered; numbered = g.registry.given } };
 
-    ghost invariant = { λ g. IsGraph C.progress g.components.items g.registry g.stock g.units g.waits (vec_capacity g.components) × AreMarked g.components.items g.marked };
+    ghost invariant = { λ g. IsGraph C.progress g.components.items g.registry g.stock g.book.units g.book.numbered (vec_capacity g.components) × AreMarked g.components.items g.marked × (g.book.rows ≡ booked (components_of g.components.items)) };
 }
 
 impl<C: Client> Core<C> {
@@ -57,8 +59,7 @@ impl<C: Client> Core<C> {
             registry: Registry::new(alloc),
             components,
             stock,
-            units,
-            waits: 0,
+            book: Book::new(units),
             marked: BitSet::empty(),
         })
     }
@@ -77,6 +78,16 @@ impl<C: Client> Core<C> {
     {
         let place = self.place_of(h)?;
         self.components.get(place)
+    }
+
+    /// The component that the handle names, which is looked for at the place first.
+    pub fn find_near(&self, h: Handle, place: usize) -> Option<&Component<C>>
+        ensures { option_copied result ≡ entry_named h self.now }
+    {
+        match self.components.get(place) {
+            Some(component) if component.handle() == h => Some(component),
+            _ => self.find(h),
+        }
     }
 
     /// The component at the place, in the order of their numbers.

@@ -103,8 +103,7 @@ impl<C: Client + Drop> Core<C> {
             registry: _,
             components,
             stock,
-            units: _,
-            waits: _,
+            book: _,
             marked: _,
         } = self;
         end_all(stock, components).close();

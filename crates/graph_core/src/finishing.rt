@@ -11,17 +11,17 @@ ghost use Rattle.il_machine.specs.World.{World, number_of, ports_of};
 ghost use Rattle.stock_laws.specs.Bare.{StandsBare, StepsBare, StepsBareWhere};
 ghost use Rattle.il_component.specs.Entries.{component_of};
 ghost use Rattle.work_landing.specs.Landed.{AreWays, done_by};
+ghost use Rattle.graph_core.specs.Claiming.{AreFree};
 ghost use Rattle.graph_core.specs.Entries.{kept, look_of, component_at};
 ghost use Rattle.graph_core.specs.Clients.{KeepsAllClients};
 ghost use Rattle.graph_core.specs.Finishing.{AreHandedBack, ComesBack};
 
 use crate::core_graph::Core;
-use crate::picking::WorkHeaders;
 use il_component::Component;
 use il_machine::Port;
 use note_queues::Client;
 use port_rules::is_returning;
-use work_landing::{Step, Way, come_back};
+use work_landing::{Places, Step, Way, come_back};
 
 /// How the port takes a header back.
 fn way_of<C>(component: &Component<C>, port: Port) -> Way
@@ -62,11 +62,13 @@ fn ways_of<C>(component: &Component<C>) -> [Way; 9]
 }
 
 impl<C: Client> Core<C> {
-    /// The work of the component at the place comes back from a step: its headers land, marks and what ended are told, and the part goes on.
-    pub fn finish(&mut self, place: usize, headers: WorkHeaders, step: Step)
-        requires comes { IsSomeAnd (component_at place self.old) (λ c. (w : World) × (took : List ℕ) × (StandsBare (kept C.progress self.old) w × ComesBack w c headers step took)) }
-        requires handed { AreHandedBack headers (look_of self.old) }
-        ensures change { (took : List ℕ) → MatchOption (component_at place self.old) ⊥ (λ c. StepsBareWhere (kept C.progress self.old) (kept C.progress self.new) (λ w. ComesBack w c headers step took) (λ w v. v ≡ finished place c (done_by (number_of c) headers step took) w)) }
+    /// The work of the component at the place comes back from a step: its headers land, each leaving its place free, marks and what ended are
+    /// told, and the part goes on.
+    pub fn finish(&mut self, place: usize, headers: &mut Places, step: Step)
+        requires comes { IsSomeAnd (component_at place self.old) (λ c. (w : World) × (took : List ℕ) × (StandsBare (kept C.progress self.old) w × ComesBack w c headers.old step took)) }
+        requires handed { AreHandedBack headers.old (look_of self.old) }
+        ensures change { (took : List ℕ) → MatchOption (component_at place self.old) ⊥ (λ c. StepsBareWhere (kept C.progress self.old) (kept C.progress self.new) (λ w. ComesBack w c headers.old step took) (λ w v. v ≡ finished place c (done_by (number_of c) headers.old step took) w)) }
+        ensures free { AreFree headers.new }
         ensures clients { KeepsAllClients self.old self.new }
     {
         let component = &mut self.components[place];

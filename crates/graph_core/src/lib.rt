@@ -22,4 +22,3 @@ mod tunnels;
 mod units;
 
 pub use core_graph::Core;
-pub use picking::WorkHeaders;

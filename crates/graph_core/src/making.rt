@@ -20,12 +20,14 @@ ghost use Rattle.graph_core.specs.Making.{value_refusal};
 ghost use Rattle.graph_core.specs.Clients.{KeepsClients, KeepsAllClients};
 
 use crate::core_graph::Core;
+use crate::units::enter;
 use il_component::Component;
 use note_queues::Client;
 use omx_types::{Handle, Kind, OmxError, Param, ParamKey};
 use port_rules::{free_refusal, set_parameter_refusal};
 use port_stock::Stock;
 use registry::Registry;
+use resource_book::Row;
 use std::alloc::Global;
 
 /// How many ports a component of the kind has: inputs and outputs.
@@ -161,6 +163,7 @@ impl<C: Client> Core<C> {
         self.marked.move_down(place);
         renumber(&mut self.registry, &self.components, place);
         self.stock.remove_ports(h.generation);
+        self.book.put(Row::blank(h.generation));
         component.close()
     }
 
@@ -195,5 +198,6 @@ impl<C: Client> Core<C> {
     {
         let component = &mut self.components[place];
         component.set_value(key, config, value);
+        enter(&mut self.book, component);
     }
 }

@@ -37,7 +37,7 @@ fn halved_place<C>(components: &[Component<C>], number: u64) -> Option<usize>
 }
 
 /// The place of the component of the number.
-fn place_numbered<C>(components: &[Component<C>], number: u64) -> Option<usize>
+pub fn place_numbered<C>(components: &[Component<C>], number: u64) -> Option<usize>
     requires { NumbersDiffer components.now }
     ensures place { result ≡ position (λ e. nat_eq e.handle.generation number) components.now }
     ensures within { IfSome result (λ i. i < length components.now) }

@@ -14,9 +14,7 @@ use il_machine::{Owner, Port, PortKey};
 use port_rules::gives_header;
 use port_stock::Stock;
 use std::mem::replace;
-
-/// A header for each port of a component that gives one.
-pub type WorkHeaders = [Option<Header>; 9];
+use work_landing::Places;
 
 /// Moves the front of a port's `todo`, where there is one, to a free place.
 fn pick_front(stock: &mut Stock, port: PortKey, place: &mut Option<Header>)
@@ -71,13 +69,6 @@ fn pick_ports(
     }
 }
 
-fn no_headers() -> WorkHeaders
-    ensures free { AreFree result }
-    ensures places { length result ≡ 9 }
-{
-    [None, None, None, None, None, None, None, None, None]
-}
-
 /// Whether the port gives a header to the work, which an announcement has none of.
 fn gives_to<C>(component: &Component<C>, port: Port, announces: bool) -> bool
     ensures { result ≡ gives_to announces (component_of component.now) port }
@@ -100,26 +91,26 @@ fn giving<C>(stock: &Stock, component: &Component<C>, announces: bool) -> [bool;
     gives
 }
 
-/// The headers of the component's work go out.
+/// The headers of the component's work go out, to places that are free.
 pub(crate) fn pick_up<C>(
     stock: &mut Stock,
     component: &Component<C>,
     announces: bool,
-) -> WorkHeaders
-    requires { HasAllPorts (component_of component.now) (stocked stock.old) }
-    ensures fronts { AreFronts component.now.handle.generation 0 (map (gives_to announces (component_of component.now)) (ports_of (component_of component.now))) result (stocked stock.old) }
+    headers: &mut Places,
+)
+    requires free { AreFree headers.old }
+    requires ports { HasAllPorts (component_of component.now) (stocked stock.old) }
+    ensures fronts { AreFronts component.now.handle.generation 0 (map (gives_to announces (component_of component.now)) (ports_of (component_of component.now))) headers.new (stocked stock.old) }
     ensures stock { stocked stock.new ≡ all_out component.now.handle.generation 0 (map (gives_to announces (component_of component.now)) (ports_of (component_of component.now))) (stocked stock.old) }
 {
     let gives = giving(stock, component, announces);
-    let mut headers = no_headers();
     pick_ports(
         stock,
         component.handle().generation,
         &gives[..component.ports() as usize],
-        &mut headers,
+        headers,
         0,
     );
-    headers
 }
 
 /// The numbers of the headers.
@@ -137,7 +128,7 @@ fn note_numbers(places: &[Option<Header>], numbers: &mut [Option<u64>])
 }
 
 /// The numbers of the headers, by their ports.
-pub(crate) fn numbers_of(places: &WorkHeaders) -> [Option<u64>; 9]
+pub(crate) fn numbers_of(places: &Places) -> [Option<u64>; 9]
     ensures { result ≡ map (option_map number_of) places.now }
 {
     let mut numbers = [None; 9];

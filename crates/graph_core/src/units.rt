@@ -1,103 +1,69 @@
-//! Units are granted to the first that waits for them, and taken from the weakest that holds some.
+//! Units are granted to the first that waits for them, and taken from the weakest that holds some. A book has who holds and who waits.
 
-ghost use Rattle.std.specs.Prelude.{◌≡◌, ◌<◌, ◌≤◌, length, slice_get, Some, None, MatchOption, option_and_then, IfSome, [], ◌∷◌};
-ghost use Rattle.il_machine.specs.Units.{units_held, free_units, coming_units, is_before, gives_first, first_waiter, weakest, victim, grant_idle, preempt_idle, granted_units, preempted_units, with_changed, lacks_event_room};
+ghost use Rattle.std.specs.Prelude.{◌≡◌, ◌<◌, ◌≤◌, length, slice_get, Some, None, true, MatchOption, option_and_then, IfSome, [], ◌∷◌};
+ghost use Rattle.il_machine.specs.Units.{first_waiter, victim, grant_idle, preempt_idle, granted_units, preempted_units, with_changed, lacks_event_room};
 ghost use Rattle.il_machine.specs.Lists.{first_of_these};
 ghost use Rattle.il_component.specs.Entries.{component_of};
+ghost use Rattle.resource_book.specs.Book.{has_room};
+ghost use Rattle.resource_book.specs.Rows.{units_held, with_row};
 ghost use Rattle.stock_laws.specs.Bare.{StepsBare};
-ghost use Rattle.graph_core.specs.Entries.{kept, components_of, look_of, component_at};
-ghost use Rattle.graph_core.specs.Units.{units_returning, stays_before};
+ghost use Rattle.graph_core.specs.Booked.{held_for, row_for, wait_for};
+ghost use Rattle.graph_core.specs.Entries.{kept, components_of, look_of};
 ghost use Rattle.graph_core.specs.Clients.{KeepsAllClients};
 
 use crate::core_graph::Core;
+use crate::other_end::place_numbered;
 use il_component::Component;
 use il_machine::Why;
 use note_queues::Client;
 use omx_types::Handle;
+use resource_book::{Book, Held, Row, Wait};
 
-/// The units that are held.
-fn units_held<C>(components: &[Component<C>]) -> u32
-    requires { length components.now ≤ 32 }
-    ensures count { result ≡ units_held (components_of components.now) }
-    ensures few { result ≤ 96 }
+/// The units that the component holds, if it holds them.
+fn held_for<C>(component: &Component<C>) -> Option<Held>
+    ensures { result ≡ held_for (component_of component.now) }
 {
-    let mut units = 0;
-    for component in components {
-        if component.holds_units() {
-            units += component.need();
-        }
+    if !component.holds_units() {
+        return None;
     }
-    units
+    Some(Held {
+        units: component.need(),
+        returning: component.is_giving_back(),
+    })
 }
 
-/// The units that are on their way back.
-fn units_returning<C>(components: &[Component<C>]) -> u32
-    requires { length components.now ≤ 32 }
-    ensures count { result ≡ units_returning (components_of components.now) }
-    ensures few { result ≤ 96 }
+/// The component's wait for units, if it waits.
+fn wait_for<C>(component: &Component<C>) -> Option<Wait>
+    ensures { result ≡ wait_for (component_of component.now) }
 {
-    let mut units = 0;
-    for component in components {
-        if component.is_giving_back() {
-            units += component.need();
-        }
+    if !component.is_waiter() {
+        return None;
     }
-    units
+    Some(Wait {
+        need: component.need(),
+        number: component.waiting().unwrap_or(0),
+    })
 }
 
-/// Whether the component at the place gets its units before the other.
-fn waits_before<C>(components: &[Component<C>], place: usize, other: Option<usize>) -> bool
-    requires there { place < length components.now }
-    requires within { IfSome other (λ i. i < length components.now) }
-    ensures { result ≡ stays_before is_before (components_of components.now) place other }
+/// What the book has of the component.
+fn row_for<C>(component: &Component<C>) -> Row
+    ensures { result ≡ row_for (component_of component.now) }
 {
-    match other {
-        Some(other) => !components[other].goes_before(&components[place]),
-        None => true,
+    Row {
+        component: component.handle().generation,
+        priority: component.priority(),
+        held: held_for(component),
+        wait: wait_for(component),
     }
 }
 
-/// Whether the component at the place gives its units before the other, which stands behind it.
-fn gives_before<C>(components: &[Component<C>], place: usize, other: Option<usize>) -> bool
-    requires there { place < length components.now }
-    requires within { IfSome other (λ i. i < length components.now) }
-    ensures { result ≡ stays_before gives_first (components_of components.now) place other }
+/// The book has what the component holds and waits for by now.
+pub fn enter<C>(book: &mut Book, component: &Component<C>)
+    requires room { has_room component.now.handle.generation book.old ≡ true }
+    requires covered { units_held (with_row (row_for (component_of component.now)) book.old.rows) ≤ book.old.units }
+    ensures { book.new ≡ record book.old { rows = with_row (row_for (component_of component.now)) book.old.rows } }
 {
-    match other {
-        Some(other) => !components[other].gives_first(&components[place]),
-        None => true,
-    }
-}
-
-/// The place of the first that waits for units.
-fn first_waiter<C>(components: &[Component<C>]) -> Option<usize>
-    ensures waiter { option_and_then (slice_get (components_of components.now)) result ≡ first_waiter (components_of components.now) }
-    ensures within { IfSome result (λ i. i < length components.now) }
-{
-    let mut first = None;
-    for place in (0..components.len()).rev() {
-        if components[place].is_waiter() && waits_before(components, place, first) {
-            first = Some(place);
-        }
-    }
-    first
-}
-
-/// The place of the one that gives its units to the waiter at the place.
-fn weakest<C>(components: &[Component<C>], waiter: usize) -> Option<usize>
-    requires { waiter < length components.now }
-    ensures weakest { MatchOption (slice_get (components_of components.now) waiter) ⊥ (λ c. option_and_then (slice_get (components_of components.now)) result ≡ weakest c (components_of components.now)) }
-    ensures within { IfSome result (λ i. i < length components.now) }
-{
-    let mut weak = None;
-    for place in (0..components.len()).rev() {
-        if components[place].is_weaker(&components[waiter])
-            && gives_before(components, place, weak)
-        {
-            weak = Some(place);
-        }
-    }
-    weak
+    book.put(row_for(component));
 }
 
 /// Whether the component has no room for two events.
@@ -112,31 +78,24 @@ fn lacks_event_room<C>(component: &Component<C>) -> Option<Why>
 }
 
 impl<C: Client> Core<C> {
-    /// The units that nobody holds.
-    pub(crate) fn free_units(&self) -> u32
-        ensures { result ≡ free_units (look_of self.now) }
+    /// The place of the first that waits for units.
+    fn first_waiter(&self) -> Option<usize>
+        ensures waiter { option_and_then (slice_get (components_of self.now.entries)) result ≡ first_waiter (components_of self.now.entries) }
+        ensures within { IfSome result (λ i. i < length self.now.entries) }
     {
-        self.units - units_held(&self.components)
-    }
-
-    /// The free units, and those on their way back.
-    fn coming_units(&self) -> u32
-        ensures { result ≡ coming_units (look_of self.now) }
-    {
-        // The proof learns from it that the sum fits: no more than the graph's units come.
-        let _total = self.units;
-        self.free_units() + units_returning(&self.components)
+        let number = self.book.first_waiter()?;
+        place_numbered(&self.components, number)
     }
 
     /// Why no units are granted, if none are.
     pub fn grant_idle(&self) -> Option<Why>
         ensures { result ≡ grant_idle (look_of self.now) }
     {
-        let Some(place) = first_waiter(&self.components) else {
+        let Some(place) = self.first_waiter() else {
             return Some(Why::NoWaiter);
         };
         let waiter = &self.components[place];
-        let (have, need) = (self.free_units(), waiter.need());
+        let (have, need) = (self.book.free(), waiter.need());
         if have < need {
             return Some(Why::Short { have, need });
         }
@@ -149,11 +108,12 @@ impl<C: Client> Core<C> {
         ensures change { MatchOption (first_waiter (components_of self.old.entries)) ⊥ (λ c. (result ≡ c.handle) × StepsBare (kept C.progress self.old) (kept C.progress self.new) (λ w v. v ≡ with_changed granted_units c w)) }
         ensures clients { KeepsAllClients self.old self.new }
     {
-        let Some(place) = first_waiter(&self.components) else {
+        let Some(place) = self.first_waiter() else {
             unreachable!()
         };
         let component = &mut self.components[place];
         component.grant();
+        enter(&mut self.book, component);
         self.marked.insert(place);
         component.handle()
     }
@@ -163,22 +123,22 @@ impl<C: Client> Core<C> {
         ensures victim { option_and_then (slice_get (components_of self.now.entries)) result ≡ victim (components_of self.now.entries) }
         ensures within { IfSome result (λ i. i < length self.now.entries) }
     {
-        let waiter = first_waiter(&self.components)?;
-        weakest(&self.components, waiter)
+        let number = self.book.victim()?;
+        place_numbered(&self.components, number)
     }
 
     /// Why no units are taken, if none are.
     pub fn preempt_idle(&self) -> Option<Why>
         ensures { result ≡ preempt_idle (look_of self.now) }
     {
-        let Some(waiter) = first_waiter(&self.components) else {
+        let Some(waiter) = self.first_waiter() else {
             return Some(Why::NoWaiter);
         };
-        let (have, need) = (self.coming_units(), self.components[waiter].need());
+        let (have, need) = (self.book.coming(), self.components[waiter].need());
         if need <= have {
             return Some(Why::Enough { have, need });
         }
-        match weakest(&self.components, waiter) {
+        match self.victim() {
             Some(place) => lacks_event_room(&self.components[place]),
             None => Some(Why::NoVictim),
         }
@@ -195,6 +155,7 @@ impl<C: Client> Core<C> {
         };
         let component = &mut self.components[place];
         component.preempt();
+        enter(&mut self.book, component);
         self.marked.insert(place);
         component.handle()
     }

@@ -3,7 +3,7 @@
 ghost use Rattle.std.specs.Prelude.{◌≡◌, ◌≤◌};
 ghost use Rattle.il_machine.specs.Room.{used};
 ghost use Rattle.il_machine.specs.Due.{lost};
-ghost use Rattle.il_machine.specs.Units.{units_of, need_of, is_giving_back, is_waiter, is_before, is_weaker, gives_first, granted_units, preempted_units};
+ghost use Rattle.il_machine.specs.Units.{units_of, need_of, is_giving_back, is_waiter, granted_units, preempted_units};
 ghost use Rattle.il_component.specs.Entries.{component_of, KeepsNotices};
 
 use crate::component::Component;
@@ -61,32 +61,18 @@ impl<C> Component<C> {
         matches!(self.state, State::WaitForResources) && self.pending.is_none()
     }
 
-    fn priority(&self) -> u32
+    /// Its priority number: the lesser goes first.
+    pub fn priority(&self) -> u32
         ensures { result ≡ self.now.settings.priority }
     {
         self.params.priority()
     }
 
-    /// Whether it gets its units before the other.
-    pub fn goes_before(&self, other: &Component<C>) -> bool
-        ensures { result ≡ is_before (component_of self.now) (component_of other.now) }
+    /// The number of its wait, which it has from where it reaches WaitForResources until it leaves it.
+    pub fn waiting(&self) -> Option<u64>
+        ensures { result ≡ self.now.waiting }
     {
-        let (a, b) = (self.priority(), other.priority());
-        a < b || (a == b && self.waiting.unwrap_or(0) < other.waiting.unwrap_or(0))
-    }
-
-    /// Whether its priority number isn't less than that of one before it.
-    pub fn gives_first(&self, earlier: &Component<C>) -> bool
-        ensures { result ≡ gives_first (component_of self.now) (component_of earlier.now) }
-    {
-        earlier.priority() <= self.priority()
-    }
-
-    /// Whether it holds units that the waiter may have instead.
-    pub fn is_weaker(&self, waiter: &Component<C>) -> bool
-        ensures { result ≡ is_weaker (component_of waiter.now) (component_of self.now) }
-    {
-        self.holds && !self.is_giving_back() && waiter.priority() < self.priority()
+        self.waiting
     }
 
     /// It waits no more, and has its units.

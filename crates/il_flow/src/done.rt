@@ -2,17 +2,17 @@
 
 ghost use Rattle.std.specs.Prelude.{◌≡◌, true, false, Some, None};
 ghost use Rattle.audio_parts.specs.Shapes.{IsLawful};
+ghost use Rattle.work_landing.specs.Places.{AreFree};
 
+use crate::seat::Desk;
 use omx_types::Handle;
 use part_api::{Part, PartFault};
 use std::marker::Model;
-use work_landing::{Places, leave_all};
 
 /// A work whose step was done. It is spent by `into_parts`.
 pub struct Done<P: Part> {
     pub(crate) component: Handle,
-    pub(crate) part: P,
-    pub(crate) headers: Places,
+    pub(crate) desk: Box<Desk<P>>,
     pub(crate) frames: u32,
     pub(crate) fault: Option<PartFault>,
     pub(crate) announces: bool,
@@ -24,14 +24,14 @@ impl<P: Part> Model for Done<P> {
 
     ghost Value = { DoneOf P };
 
-    ghost view = { λ d. record { component = d.component; part = d.part; headers = d.headers; frames = d.frames; fault = d.fault; announces = d.announces } };
+    ghost view = { λ d. record { component = d.component; part = d.desk.value.part; headers = d.desk.value.headers; frames = d.frames; fault = d.fault; announces = d.announces } };
 
-    ghost invariant = { λ d. IsReturned (P.terms d.part) d.headers d.announces };
+    ghost invariant = { λ d. IsReturned (P.terms d.desk.value.part) d.desk.value.headers d.announces };
 }
 
-/// What a step brings back: the headers by the numbers of their ports, its frames, and the fault by which it failed.
+/// What a step came to: its frames, and the fault by which it failed.
+#[derive(Clone, Copy, Debug)]
 pub struct Brought {
-    pub headers: Places,
     pub frames: u32,
     pub fault: Option<PartFault>,
 }
@@ -58,32 +58,25 @@ impl<P: Part> Done<P> {
         self.fault
     }
 
-    /// The part, and what the step brings back; an announcement brings nothing.
-    pub fn into_parts(self) -> (P, Option<Brought>)
-        ensures part { result.0 ≡ self.part }
+    /// The part with the headers, and what the step came to; an announcement has no header and did no step.
+    pub fn into_parts(self) -> (Box<Desk<P>>, Option<Brought>)
+        ensures part { result.0.value.part ≡ self.part }
+        ensures headers { result.0.value.headers ≡ self.headers }
         ensures lawful { IsLawful (P.terms self.part) }
         ensures announced { self.announces ≡ true → result.1 ≡ None }
-        ensures brought { self.announces ≡ false → result.1 ≡ Some (record { headers = self.headers; frames = self.frames; fault = self.fault }) }
+        ensures free { self.announces ≡ true → AreFree self.headers }
+        ensures brought { self.announces ≡ false → result.1 ≡ Some (record { frames = self.frames; fault = self.fault }) }
     {
         let Done {
             component: _,
-            part,
-            headers,
+            desk,
             frames,
             fault,
             announces,
         } = self;
         if announces {
-            leave_all(headers);
-            return (part, None);
+            return (desk, None);
         }
-        (
-            part,
-            Some(Brought {
-                headers,
-                frames,
-                fault,
-            }),
-        )
+        (desk, Some(Brought { frames, fault }))
     }
 }

@@ -8,8 +8,10 @@ mod layout;
 mod making;
 mod parts;
 mod running;
+mod seat;
 mod work;
 
 pub use done::{Brought, Done};
 pub use laws::law_of_sameness;
+pub use seat::{Desk, Seat};
 pub use work::Work;

@@ -2,17 +2,16 @@
 
 use crate::done::Done;
 use crate::running::{Stepped, do_step};
+use crate::seat::Desk;
 use audio_parts::KindPart;
 use omx_types::Handle;
 use part_api::Part;
 use std::marker::Model;
-use work_landing::Places;
 
 /// What one step of a component's part is given. It is spent by `run`.
 pub struct Work<P: Part> {
     pub(crate) component: Handle,
-    pub(crate) part: P,
-    pub(crate) headers: Places,
+    pub(crate) desk: Box<Desk<P>>,
     pub(crate) announces: bool,
 }
 
@@ -22,9 +21,9 @@ impl<P: Part> Model for Work<P> {
 
     ghost Value = { WorkOf P };
 
-    ghost view = { λ w. record { component = w.component; part = w.part; headers = w.headers; announces = w.announces } };
+    ghost view = { λ w. record { component = w.component; part = w.desk.value.part; headers = w.desk.value.headers; announces = w.announces } };
 
-    ghost invariant = { λ w. IsSound (P.terms w.part) (P.is_ready w.part) w.headers w.announces };
+    ghost invariant = { λ w. IsSound (P.terms w.desk.value.part) (P.is_ready w.desk.value.part) w.desk.value.headers w.announces };
 }
 
 impl<P: KindPart> Work<P> {
@@ -58,25 +57,23 @@ impl<P: KindPart> Work<P> {
     {
         let Work {
             component,
-            mut part,
-            mut headers,
+            mut desk,
             announces,
         } = self;
         if announces {
             return Done {
                 component,
-                part,
-                headers,
+                desk,
                 frames: 0,
                 fault: None,
                 announces,
             };
         }
-        let Stepped { frames, fault } = do_step(&mut part, &mut headers);
+        let at = &mut *desk;
+        let Stepped { frames, fault } = do_step(&mut at.part, &mut at.headers);
         Done {
             component,
-            part,
-            headers,
+            desk,
             frames,
             fault,
             announces,

@@ -26,6 +26,7 @@ ghost use Rattle.il_graph.specs.Shown.{kept};
 
 use audio_parts::AnyPart;
 use graph_core::Core;
+use il_flow::Seat;
 use il_machine::{PortView, Progress};
 use note_queues::Client;
 use omx_types::{Handle, OmxError, State};
@@ -37,8 +38,8 @@ use std::marker::Model;
 /// the type `K`. It is ended by `close`.
 pub struct Graph<S: Source, K: Sink, C: Client> {
     pub(crate) core: Core<C>,
-    /// The part of each component, in the order of their numbers, where that isn't out.
-    pub(crate) parts: Vec<Option<AnyPart<S, K>>>,
+    /// The seat of each component's part, in the order of their numbers, where that isn't out.
+    pub(crate) parts: Vec<Option<Seat<AnyPart<S, K>>>>,
 }
 
 impl<S: Source, K: Sink, C: Client> Model for Graph<S, K, C> {
@@ -54,14 +55,14 @@ impl<S: Source, K: Sink, C: Client> Model for Graph<S, K, C> {
 }
 
 /// Ends parts that have no file.
-fn end_parts<S: Source, K: Sink>(mut parts: Vec<Option<AnyPart<S, K>>>)
+fn end_parts<S: Source, K: Sink>(mut parts: Vec<Option<Seat<AnyPart<S, K>>>>)
     requires { All (λ p. option_and_then (λ part. part_file part) p ≡ None) parts.items }
 {
     while let Some(part) = parts.pop() {
         let Some(part) = part else {
             continue;
         };
-        match part.into_file() {
+        match part.into_part().into_file() {
             None => {}
             Some(_) => unreachable!(),
         }
@@ -92,6 +93,17 @@ impl<S: Source, K: Sink, C: Client> Graph<S, K, C> {
         ensures { Always (kept C.progress self.now) (λ w. result ≡ state_answer h (look w)) }
     {
         let Some(component) = self.core.find(h) else {
+            return Err(OmxError::InvalidComponent);
+        };
+        Ok(component.state())
+    }
+
+    /// What `get_state` answers. The component is looked for at the place first, in the order of their numbers from 0, so that its handle isn't
+    /// resolved where it stands there.
+    pub fn state_near(&self, h: Handle, place: usize) -> Result<State, OmxError>
+        ensures { Always (kept C.progress self.now) (λ w. result ≡ state_answer h (look w)) }
+    {
+        let Some(component) = self.core.find_near(h, place) else {
             return Err(OmxError::InvalidComponent);
         };
         Ok(component.state())

@@ -160,7 +160,8 @@ impl Book {
         }
     }
 
-    fn free(&self) -> u32
+    /// How many units nobody holds.
+    pub fn free(&self) -> u32
         ensures count { result ≡ free_units self.now }
         ensures covered { units_held self.now.rows ≤ self.now.units }
         ensures small { self.now.units < 2 ^ 32 }
@@ -175,8 +176,22 @@ impl Book {
         row_at(self.rows.as_slice(), component)
     }
 
-    /// Puts the row in place of its component's.
-    fn put(&mut self, row: Row)
+    /// How many waits were numbered.
+    pub fn numbered(&self) -> u64
+        ensures { result ≡ self.now.numbered }
+    {
+        self.numbered
+    }
+
+    /// So many waits were numbered by now: an owner that numbers waits itself tells it.
+    pub fn count_waits(&mut self, numbered: u64)
+        ensures { self.new ≡ record self.old { numbered = numbered } }
+    {
+        self.numbered = numbered;
+    }
+
+    /// Puts the row in place of its component's. One of a component that holds no units and doesn't wait is taken out.
+    pub fn put(&mut self, row: Row)
         requires room { is_kept row ≡ true → has_room row.component self.old ≡ true }
         requires covered { units_held (with_row row self.old.rows) ≤ self.old.units }
         ensures { self.new ≡ record self.old { rows = with_row row self.old.rows } }

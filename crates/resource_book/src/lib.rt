@@ -5,3 +5,4 @@ mod book;
 mod row;
 
 pub use book::{Ask, Book};
+pub use row::{Held, Row, Wait};

@@ -10,13 +10,13 @@ ghost use Rattle.il_machine.specs.Room.{room};
 ghost use Rattle.il_machine.specs.World.{Stream};
 ghost use Rattle.port_stock.specs.Kept.{stocked};
 ghost use Rattle.il_component.specs.Entries.{component_of, held_in, KeepsNotices};
-ghost use Rattle.work_landing.specs.Places.{AreApart, carried_from};
+ghost use Rattle.work_landing.specs.Places.{AreApart, AreFree, carried_from};
 ghost use Rattle.work_landing.specs.Returning.{GetsNotes, ended_by, ends_by, known_by, over_by, part_by};
 ghost use Rattle.work_landing.specs.Landed.{AreHomeless, AreWays, AreWithin, IsLeft, all_landed, all_notices, done_by};
 
 use crate::back::{Known, Way};
 use crate::ending::{all_end, ends, has_last};
-use crate::places::{Places, leave_all};
+use crate::places::Places;
 use crate::returning::{bring_places, mark_from};
 use header_core::Header;
 use il_component::Component;
@@ -151,35 +151,35 @@ fn tell_end<C>(component: &mut Component<C>, ends: bool, fault: Option<PartFault
 pub fn come_back<C>(
     stock: &mut Stock,
     component: &mut Component<C>,
-    mut places: Places,
+    places: &mut Places,
     ways: &[Way],
     step: Step,
 )
-    requires work { IsSomeAnd component.old.work (λ work. length work.headers ≡ length (carried_from 0 places)) }
+    requires work { IsSomeAnd component.old.work (λ work. length work.headers ≡ length (carried_from 0 places.old)) }
     requires ways { AreWays (component_of component.old) 0 ways.now }
     requires few { length ways.now ≤ 9 }
     requires inputs { length (terms_of (component_of component.old)).inputs ≤ length ways.now }
     requires count { length component.old.part.ended_inputs ≡ length (terms_of (component_of component.old)).inputs }
-    requires within { AreWithin (length ways.now) 0 places }
-    requires homeless { AreHomeless component.old.handle.generation 0 places (stocked stock.old) }
-    requires apart { AreApart places }
-    requires notes { (s : Stream) × (took : List ℕ) × (IsLeft (component_of component.old) s (done_by component.old.handle.generation places step took) step
-        × (length (note_numbers ((component_of component.old).notes ++ notes_after (component_of component.old) s (done_by component.old.handle.generation places step took))) ≤ 32 * ports_in component.old.settings.kind)) }
-    ensures component { (s : Stream) (took : List ℕ) → IsLeft (component_of component.old) s (done_by component.old.handle.generation places step took) step
-        → component_of component.new ≡ stepped_back (component_of component.old) s (done_by component.old.handle.generation places step took) }
+    requires within { AreWithin (length ways.now) 0 places.old }
+    requires homeless { AreHomeless component.old.handle.generation 0 places.old (stocked stock.old) }
+    requires apart { AreApart places.old }
+    requires notes { (s : Stream) × (took : List ℕ) × (IsLeft (component_of component.old) s (done_by component.old.handle.generation places.old step took) step
+        × (length (note_numbers ((component_of component.old).notes ++ notes_after (component_of component.old) s (done_by component.old.handle.generation places.old step took))) ≤ 32 * ports_in component.old.settings.kind)) }
+    ensures component { (s : Stream) (took : List ℕ) → IsLeft (component_of component.old) s (done_by component.old.handle.generation places.old step took) step
+        → component_of component.new ≡ stepped_back (component_of component.old) s (done_by component.old.handle.generation places.old step took) }
     ensures client { component.new.queues.client ≡ component.old.queues.client }
-    ensures notices { (s : Stream) (took : List ℕ) → IsLeft (component_of component.old) s (done_by component.old.handle.generation places step took) step
-        → held_in component.new.queues.notes ≡ held_in component.old.queues.notes ++ all_notices (component_of component.old) s (done_by component.old.handle.generation places step took) 0 places }
-    ensures stock { (s : Stream) (took : List ℕ) → IsLeft (component_of component.old) s (done_by component.old.handle.generation places step took) step
-        → stocked stock.new ≡ all_landed (component_of component.old) s (done_by component.old.handle.generation places step took) (carried_from 0 places) (stocked stock.old) }
+    ensures notices { (s : Stream) (took : List ℕ) → IsLeft (component_of component.old) s (done_by component.old.handle.generation places.old step took) step
+        → held_in component.new.queues.notes ≡ held_in component.old.queues.notes ++ all_notices (component_of component.old) s (done_by component.old.handle.generation places.old step took) 0 places.old }
+    ensures stock { (s : Stream) (took : List ℕ) → IsLeft (component_of component.old) s (done_by component.old.handle.generation places.old step took) step
+        → stocked stock.new ≡ all_landed (component_of component.old) s (done_by component.old.handle.generation places.old step took) (carried_from 0 places.old) (stocked stock.old) }
+    ensures free { AreFree places.new }
 {
     let kind = component.kind();
-    let over = is_over(kind, ways, &places, step);
-    let ends = ends_stream(kind, ways, &places, step);
-    let known = known_of(component.handle(), ways, &places, step, over);
+    let over = is_over(kind, ways, places, step);
+    let ends = ends_stream(kind, ways, places, step);
+    let known = known_of(component.handle(), ways, places, step, over);
     component.take_work();
-    keep_ends(component, ways, &places, step, over);
-    bring_places(stock, component, &mut places, ways, known, 0);
+    keep_ends(component, ways, places, step, over);
+    bring_places(stock, component, places, ways, known, 0);
     tell_end(component, ends, step.fault);
-    leave_all(places);
 }

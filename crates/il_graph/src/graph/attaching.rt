@@ -88,7 +88,7 @@ impl<S: Source, K: Sink, C: Client> Graph<S, K, C> {
         }
         self.core.attach(place, attached);
         match &mut self.parts[place] {
-            Some(part) => give_file(part, file),
+            Some(seat) => give_file(&mut seat.desk.part, file),
             None => unreachable!(),
         }
         self.core.close_out();

@@ -16,7 +16,7 @@ ghost use Rattle.il_graph.specs.Shown.{kept, look_of, file_of, KeepsFiles};
 
 use crate::claimed::{Claimed, without_work};
 use crate::graph::Graph;
-use crate::graph::preparing::{make_work, prepare};
+use crate::graph::preparing::{make_work, open};
 use audio_parts::{AnyPart, law_of_shown, lawful_terms};
 use note_queues::Client;
 use omx_types::{Handle, OmxError};
@@ -48,7 +48,7 @@ impl<S: Source, K: Sink, C: Client> Graph<S, K, C> {
         if let Some(idle) = self.core.claim_idle(place) {
             return Ok(without_work(idle));
         }
-        let Some(mut part) = self.parts[place].take() else {
+        let Some(seat) = self.parts[place].take() else {
             unreachable!()
         };
         let Some(component) = self.core.at(place) else {
@@ -56,10 +56,10 @@ impl<S: Source, K: Sink, C: Client> Graph<S, K, C> {
         };
         let announces = self.core.must_announce(place);
         lawful_terms();
-        prepare(&mut part, component, announces);
-        law_of_shown(&part);
-        let headers = self.core.claim(place);
+        let mut desk = open(seat, component, announces);
+        law_of_shown(&desk.part);
+        self.core.claim(place, &mut desk.headers);
         self.core.close_out();
-        Ok(Claimed::Work(make_work(h, part, headers, announces)))
+        Ok(Claimed::Work(make_work(h, desk, announces)))
     }
 }

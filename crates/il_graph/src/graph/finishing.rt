@@ -17,7 +17,7 @@ ghost use Rattle.il_graph.specs.Shown.{kept, look_of, file_of, KeepsFiles};
 use crate::claimed::Done;
 use crate::graph::Graph;
 use audio_parts::{AnyPart, KindPart, law_of_shown};
-use il_flow::Brought;
+use il_flow::{Brought, Seat};
 use note_queues::Client;
 use outside_io::{Sink, Source};
 use part_api::Part;
@@ -25,13 +25,13 @@ use std::mem::replace;
 use work_landing::Step;
 
 /// Ends a part that has no file.
-fn end_part<S: Source, K: Sink>(part: Option<AnyPart<S, K>>)
+fn end_part<S: Source, K: Sink>(part: Option<Seat<AnyPart<S, K>>>)
     requires { option_and_then (λ part. part_file part) part ≡ None }
 {
     let Some(part) = part else {
         return;
     };
-    match part.into_file() {
+    match part.into_part().into_file() {
         None => {}
         Some(_) => unreachable!(),
     }
@@ -54,30 +54,26 @@ impl<S: Source, K: Sink, C: Client> Graph<S, K, C> {
         let Some(place) = self.core.place_of(done.component()) else {
             unreachable!()
         };
-        let (part, brought) = done.into_parts();
-        law_of_shown(&part);
+        let (mut desk, brought) = done.into_parts();
+        law_of_shown(&desk.part);
         let Some(brought) = brought else {
             self.core.finish_announcement(place);
-            end_part(replace(&mut self.parts[place], Some(part)));
+            end_part(replace(&mut self.parts[place], Some(Seat { desk })));
             self.core.close_out();
             return;
         };
-        let Brought {
-            headers,
-            frames,
-            fault,
-        } = brought;
-        let left = part.frames_left().unwrap_or(0);
+        let Brought { frames, fault } = brought;
+        let left = desk.part.frames_left().unwrap_or(0);
         self.core.finish(
             place,
-            headers,
+            &mut desk.headers,
             Step {
                 frames,
                 fault,
                 left,
             },
         );
-        end_part(replace(&mut self.parts[place], Some(part)));
+        end_part(replace(&mut self.parts[place], Some(Seat { desk })));
         self.core.close_out();
     }
 }

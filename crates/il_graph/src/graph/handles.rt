@@ -17,21 +17,11 @@ use crate::OutOfMemory;
 use crate::freed::Freed;
 use crate::graph::Graph;
 use audio_parts::{AnyPart, law_of_shown, lawful_terms};
+use il_flow::Seat;
 use note_queues::Client;
 use omx_types::{CallError, Handle, Kind, OmxError};
 use outside_io::{Sink, Source};
-use std::alloc::Global;
-
-/// A new part of the kind.
-fn new_part<S: Source, K: Sink>(alloc: Global, kind: Kind) -> Result<AnyPart<S, K>, OutOfMemory>
-    requires { IsSized kind }
-    ensures { IfOk result (λ part. IsNew kind (shown_by S.told K.told K.name part)) }
-{
-    let part = AnyPart::new(alloc, kind)?;
-    lawful_terms();
-    law_of_shown(&part);
-    Ok(part)
-}
+use std::alloc::{AllocError, Global};
 
 /// Ends a part that has no file.
 fn end_part<S: Source, K: Sink>(part: AnyPart<S, K>)
@@ -41,6 +31,33 @@ fn end_part<S: Source, K: Sink>(part: AnyPart<S, K>)
         None => {}
         Some(_) => unreachable!(),
     }
+}
+
+/// A new part of the kind, at a seat.
+fn new_part<S: Source, K: Sink>(
+    alloc: Global,
+    kind: Kind,
+) -> Result<Seat<AnyPart<S, K>>, OutOfMemory>
+    requires { IsSized kind }
+    ensures { IfOk result (λ part. IsNew kind (shown_by S.told K.told K.name part)) }
+{
+    let part = AnyPart::new(alloc, kind)?;
+    lawful_terms();
+    law_of_shown(&part);
+    match Seat::new(alloc, part) {
+        Ok(seat) => Ok(seat),
+        Err(part) => {
+            end_part(part);
+            Err(AllocError)
+        }
+    }
+}
+
+/// Ends a part that has no file, with its seat.
+fn end_seat<S: Source, K: Sink>(seat: Seat<AnyPart<S, K>>)
+    requires { part_file seat ≡ None }
+{
+    end_part(seat.into_part());
 }
 
 /// Puts a part behind all others, where there is room.
@@ -90,7 +107,7 @@ impl<S: Source, K: Sink, C: Client> Graph<S, K, C> {
         let h = match self.core.add(alloc, kind, client) {
             Ok(h) => h,
             Err(client) => {
-                end_part(part);
+                end_seat(part);
                 return Err((CallError::OutOfMemory, client));
             }
         };
@@ -124,7 +141,7 @@ impl<S: Source, K: Sink, C: Client> Graph<S, K, C> {
         self.core.close_out();
         Ok(Freed {
             client,
-            file: part.into_file(),
+            file: part.into_part().into_file(),
         })
     }
 }

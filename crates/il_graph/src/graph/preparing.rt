@@ -9,13 +9,14 @@ ghost use Rattle.audio_parts.specs.Shown.{shown_by, terms_by};
 ghost use Rattle.il_flow.specs.Layouts.{ports_of};
 ghost use Rattle.il_flow.specs.Places.{AreWithin, carried_from};
 ghost use Rattle.il_flow.specs.Sound.{HaveOutputs};
+ghost use Rattle.work_landing.specs.Places.{AreFree};
 ghost use Rattle.il_component.specs.Entries.{component_of};
 ghost use Rattle.il_graph.specs.Preparing.{MayHaveAll, MaySet, prepared, prepared_where, with_factors, with_formats, with_input_factor, with_port_format};
 
 use crate::claimed::Work;
 use audio_parts::{AnyPart, law_of_shown};
-use graph_core::WorkHeaders;
 use il_component::Component;
+use il_flow::{Desk, Seat};
 use il_machine::PortSetting;
 use omx_types::{Format, Handle, Kind};
 use outside_io::{Sink, Source};
@@ -81,7 +82,7 @@ fn set_all<S: Source, K: Sink, C>(part: &mut AnyPart<S, K>, component: &Componen
 }
 
 /// Sets them for a step. An announcement does none: the formats of its component may not be known yet.
-pub(crate) fn prepare<S: Source, K: Sink, C>(
+fn prepare<S: Source, K: Sink, C>(
     part: &mut AnyPart<S, K>,
     component: &Component<C>,
     announces: bool,
@@ -94,23 +95,37 @@ pub(crate) fn prepare<S: Source, K: Sink, C>(
     }
 }
 
-/// The work of the component, with these headers.
+/// The part leaves its seat for a work, with what is set of the component.
+pub(crate) fn open<S: Source, K: Sink, C>(
+    seat: Seat<AnyPart<S, K>>,
+    component: &Component<C>,
+    announces: bool,
+) -> Box<Desk<AnyPart<S, K>>>
+    requires { announces ≡ false → MaySet (component_of component.now) (terms_by seat) }
+    ensures part { shown_by S.told K.told K.name result.value.part ≡ prepared_where announces (component_of component.now) (shown_by S.told K.told K.name seat) }
+    ensures free { AreFree result.value.headers }
+{
+    let Seat { mut desk } = seat;
+    prepare(&mut desk.part, component, announces);
+    desk
+}
+
+/// The work of the component, with the headers on its desk.
 pub(crate) fn make_work<S: Source, K: Sink>(
     component: Handle,
-    part: AnyPart<S, K>,
-    headers: WorkHeaders,
+    desk: Box<Desk<AnyPart<S, K>>>,
     announces: bool,
 ) -> Work<S, K>
-    requires lawful { IsLawful (terms_by part) }
-    requires within { AreWithin (ports_of (terms_by part)) 0 headers }
-    requires fits { announces ≡ false → IsReady (terms_by part) (has_failed part) }
-    requires outputs { announces ≡ false → HaveOutputs (terms_by part) headers }
-    requires none { announces ≡ true → carried_from 0 headers ≡ [] }
+    requires lawful { IsLawful (terms_by desk.value.part) }
+    requires within { AreWithin (ports_of (terms_by desk.value.part)) 0 desk.value.headers }
+    requires fits { announces ≡ false → IsReady (terms_by desk.value.part) (has_failed desk.value.part) }
+    requires outputs { announces ≡ false → HaveOutputs (terms_by desk.value.part) desk.value.headers }
+    requires none { announces ≡ true → carried_from 0 desk.value.headers ≡ [] }
     ensures component { result.component ≡ component }
-    ensures part { result.part ≡ part }
-    ensures headers { result.headers ≡ headers }
+    ensures part { result.part ≡ desk.value.part }
+    ensures headers { result.headers ≡ desk.value.headers }
     ensures announces { result.announces ≡ announces }
 {
-    law_of_shown(&part);
-    Work::new(component, part, headers, announces)
+    law_of_shown(&desk.part);
+    Work::new(component, desk, announces)
 }

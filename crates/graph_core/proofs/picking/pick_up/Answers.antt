@@ -9,5 +9,5 @@ use Rattle.graph_core.proofs.picking.pick_up.Goals as goal
 pub pick_ports-requires-clause-there : goal.pick_ports-requires-clause-there
 pick_ports-requires-clause-there g c =
     let k = component_of c.args.component.now in
-    let n : c.ports.result ≡ length (ports_of k) = c.ports.ensures.count ∙ sym c.requires.many in
-    rw (c.handle.ensures, n, c.giving-gives.ensures) (ports_there (number_of k) 0 (gives_to c.args.announces k) k.settings.ports k.ports (stocked c.args.stock.now) (λ port a b. c.requires.ports port (omega arith)))
+    let n : c.ports.result ≡ length (ports_of k) = c.ports.ensures.count ∙ sym c.requires.ports.many in
+    rw (c.handle.ensures, n, c.giving-gives.ensures) (ports_there (number_of k) 0 (gives_to c.args.announces k) k.settings.ports k.ports (stocked c.args.stock.now) (λ port a b. c.requires.ports.ports port (omega arith)))

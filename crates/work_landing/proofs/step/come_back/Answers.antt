@@ -17,7 +17,7 @@ pub keep_ends-requires-clause-count : goal.keep_ends-requires-clause-count
 keep_ends-requires-clause-count g c =
     let k0 = component_of c.args.component.now in
     let ways = c.args.ways.now in
-    let places = c.args.places in
+    let places = c.args.places.now in
     let step = c.args.step in
     let nine : length places ≡ 9 = omega arith in
     let inputs : length (terms_of k0).inputs ≤ length ways = c.requires.inputs in
@@ -28,7 +28,7 @@ pub bring_places-requires-clause-can : goal.bring_places-requires-clause-can
 bring_places-requires-clause-can g c =
     let k0 = component_of c.args.component.now in
     let ways = c.args.ways.now in
-    let places = c.args.places in
+    let places = c.args.places.now in
     let step = c.args.step in
     let nine : length places ≡ 9 = omega arith in
     let inputs : length (terms_of k0).inputs ≤ length ways = c.requires.inputs in
@@ -51,7 +51,7 @@ pub tell_end-requires-clause-room : goal.tell_end-requires-clause-room
 tell_end-requires-clause-room g c =
     let k0 = component_of c.args.component.now in
     let ways = c.args.ways.now in
-    let places = c.args.places in
+    let places = c.args.places.now in
     let step = c.args.step in
     let nine : length places ≡ 9 = omega arith in
     let inputs : length (terms_of k0).inputs ≤ length ways = c.requires.inputs in
@@ -72,7 +72,7 @@ pub returns-clause-component : goal.returns-clause-component
 returns-clause-component g c =
     let k0 = component_of c.args.component.now in
     let ways = c.args.ways.now in
-    let places = c.args.places in
+    let places = c.args.places.now in
     let step = c.args.step in
     let nine : length places ≡ 9 = omega arith in
     let inputs : length (terms_of k0).inputs ≤ length ways = c.requires.inputs in
@@ -96,7 +96,7 @@ pub returns-clause-notices : goal.returns-clause-notices
 returns-clause-notices g c =
     let k0 = component_of c.args.component.now in
     let ways = c.args.ways.now in
-    let places = c.args.places in
+    let places = c.args.places.now in
     let step = c.args.step in
     let nine : length places ≡ 9 = omega arith in
     let inputs : length (terms_of k0).inputs ≤ length ways = c.requires.inputs in
@@ -117,7 +117,7 @@ pub returns-clause-stock : goal.returns-clause-stock
 returns-clause-stock g c =
     let k0 = component_of c.args.component.now in
     let ways = c.args.ways.now in
-    let places = c.args.places in
+    let places = c.args.places.now in
     let step = c.args.step in
     let nine : length places ≡ 9 = omega arith in
     let inputs : length (terms_of k0).inputs ≤ length ways = c.requires.inputs in

@@ -13,6 +13,10 @@ use Rattle.graph_core.proofs.Waiters.{waiters_added}
 use Rattle.graph_core.proofs.Adding.{IsNew, without_ports, unnumbered_unmade, restored, graph_restocked, steps_added, worlds_added, ports_added, vacant_slot, numbers_below}
 use Rattle.graph_core.proofs.Marking.{marked_push}
 use Rattle.graph_core.proofs.Calming.{calm_made}
+use Rattle.graph_core.proofs.Gathered.{gathered}
+use Rattle.graph_core.proofs.BookKept.{pushed_rows}
+use Rattle.graph_core.specs.Booked.{row_for}
+use Rattle.resource_book.specs.Rows.{is_kept}
 use Rattle.graph_core.proofs.core_graph.Core.add.Goals as goal
 
 pub make-requires-clause-without : goal.make-requires-clause-without
@@ -23,8 +27,9 @@ make-requires-clause-without g c =
 pub invariant_of-self : goal.invariant_of-self
 invariant_of-self g c =
     let i = c.self.inside in (
-      graph_restocked g.C.Client.progress i.components.items i.registry i.stock c.make.new.stock i.units i.waits i.components.cap c.in-Err.ensures.unchanged c.self.invariant.0,
+      graph_restocked g.C.Client.progress i.components.items i.registry i.stock c.make.new.stock i.book.units i.book.numbered i.components.cap c.in-Err.ensures.unchanged c.self.invariant.0,
       c.self.invariant.1,
+      c.self.invariant.2,
     )
 
 pub put_last-requires : goal.put_last-requires
@@ -63,16 +68,17 @@ invariant_of-self-in-Ok-insert g c =
         roomy = omega arith;
         few = omega arith;
         ports = rw G.given (ports_added p h c.args.kind e N es (stocked i.stock) (stocked c.make.new.stock) n st G.generation c.self.invariant.0.ports);
-        numbers = waiters_added es e i.waits (ap (λ (x : Component). x.pending) q) c.self.invariant.0.numbers;
-        worlds = rw G.given (worlds_added p h c.args.kind e N es i.stock c.make.new.stock i.units i.waits n (ports_in c.args.kind) c.requires.sized st G.generation c.self.invariant.0.worlds);
+        numbers = waiters_added es e i.book.numbered (ap (λ (x : Component). x.pending) q) c.self.invariant.0.numbers;
+        worlds = rw G.given (worlds_added p h c.args.kind e N es i.stock c.make.new.stock i.book.units i.book.numbered n (ports_in c.args.kind) c.requires.sized st G.generation c.self.invariant.0.worlds);
       }),
       rw (c.put_last.ensures.items) (marked_push es i.marked e c.self.invariant.1 (calm_made h c.args.kind (component_of e) q)),
+      rw (c.put_last.ensures.items) (pushed_rows i.book es e c.self.invariant.2 (ap (λ (x : Component). is_kept (row_for x)) q)),
     )
 
 pub remove_ports-requires : goal.remove_ports-requires
 remove_ports-requires g c =
     let i = c.self.inside in
-    let G : Entries (g.row.C.Denot) = record { entries = i.components.items; stock = i.stock; units = i.units; waits = i.waits; numbered = i.registry.given } in
+    let G : Entries (g.row.C.Denot) = gathered i.components.items i.stock i.book i.registry.given in
     unnumbered_unmade g.C.Client.progress G c.given-number.result (stocked c.make.new.stock) c.self.invariant.0.worlds c.given-number.ensures (ap (λ (x : Stocked). x.headers) c.in-Ok.ensures.ports)
 
 pub invariant_of-self-in-Err-insert : goal.invariant_of-self-in-Err-insert
@@ -82,9 +88,10 @@ invariant_of-self-in-Err-insert g c =
     let st : stocked c.make.new.stock ≡ added n (ports_in c.args.kind) (stocked i.stock) = subst (λ (k : ℕ). stocked c.make.new.stock ≡ added k (ports_in c.args.kind) (stocked i.stock)) c.given-number.ensures c.in-Ok.ensures.ports in
     let rm : stocked c.remove_ports.new.self ≡ removed n (stocked c.make.new.stock) = subst (λ (k : ℕ). stocked c.remove_ports.new.self ≡ removed k (stocked c.make.new.stock)) c.given-number.ensures c.remove_ports.ensures in
     let back : stocked c.remove_ports.new.self ≡ stocked i.stock = rm ∙ (ap (removed n) st ∙ restored (stocked i.stock) n (ports_in c.args.kind) c.self.invariant.0.ports.below) in (
-      subst (λ (r : Handles ℕ). IsGraph g.C.Client.progress i.components.items r c.remove_ports.new.self i.units i.waits i.components.cap) (sym c.in-Err-insert.ensures.unchanged)
-          (graph_restocked g.C.Client.progress i.components.items i.registry i.stock c.remove_ports.new.self i.units i.waits i.components.cap back c.self.invariant.0),
+      subst (λ (r : Handles ℕ). IsGraph g.C.Client.progress i.components.items r c.remove_ports.new.self i.book.units i.book.numbered i.components.cap) (sym c.in-Err-insert.ensures.unchanged)
+          (graph_restocked g.C.Client.progress i.components.items i.registry i.stock c.remove_ports.new.self i.book.units i.book.numbered i.components.cap back c.self.invariant.0),
       c.self.invariant.1,
+      c.self.invariant.2,
     )
 
 pub returns-in-Ok-insert-clause-made : goal.returns-in-Ok-insert-clause-made
@@ -104,7 +111,7 @@ returns-in-Ok-insert-clause-made g c =
     let N : IsNew p h c.args.kind e = record { component = q; told = rw (cl, c.requires.new) refl } in
     let st : stocked c.make.new.stock ≡ added n (ports_in c.args.kind) (stocked i.stock) = subst (λ (k : ℕ). stocked c.make.new.stock ≡ added k (ports_in c.args.kind) (stocked i.stock)) c.given-number.ensures c.in-Ok.ensures.ports in
     let m : e.handle ≡ h = ap (λ (x : Component). x.handle) q in
-    rw (← c.self.view_is, c.put_last.ensures.items, G.given) (steps_added p h c.args.kind e N es i.stock c.make.new.stock i.units i.waits n (ports_in c.args.kind) st G.generation (numbers_below p (record { entries = es; stock = i.stock; units = i.units; waits = i.waits; numbered = n }) c.self.invariant.0.worlds))
+    rw (← c.self.view_is, c.put_last.ensures.items, G.given) (steps_added p h c.args.kind e N es i.stock c.make.new.stock i.book.units i.book.numbered n (ports_in c.args.kind) st G.generation (numbers_below p (gathered es i.stock i.book n) c.self.invariant.0.worlds))
 
 pub returns-in-Ok-insert-clause-vacant : goal.returns-in-Ok-insert-clause-vacant
 returns-in-Ok-insert-clause-vacant g c =

@@ -10,6 +10,9 @@ use Rattle.graph_core.proofs.Replacing.{there, within}
 use Rattle.graph_core.proofs.Filing.{attached_is, filed, steps_filed, graph_filed}
 use Rattle.graph_core.proofs.Marking.{marked_set}
 use Rattle.graph_core.proofs.Calming.{calm_same}
+use Rattle.graph_core.proofs.Gathered.{gathered}
+use Rattle.graph_core.proofs.BookKept.{kept_rows}
+use Rattle.graph_core.specs.Booked.{row_for}
 use Rattle.graph_core.proofs.core_graph.Core.attach.Goals as goal
 
 pub invariant_of-self : goal.invariant_of-self
@@ -17,14 +20,15 @@ invariant_of-self g c =
     let i = c.self.inside in
     let p = g.C.Client.progress in
     let e = c.index_mut-component.result.now in
-    let G : Entries (g.row.C.Denot) = record { entries = i.components.items; stock = i.stock; units = i.units; waits = i.waits; numbered = i.registry.given } in
+    let G : Entries (g.row.C.Denot) = gathered i.components.items i.stock i.book i.registry.given in
     let asked = rw (← c.self.view_is) at c.requires in
     let b : c.args.place < length i.components.items = within p G c.args.place _ asked.1 in
     let at : slice_get i.components.items c.args.place ≡ Some e = slice_get-get_or i.components.items c.args.place e b ∙ ap Some (sym c.index_mut-component.ensures.value) in
     let r = rw (there p G c.args.place e at) at asked.1 in
     let q : component_of c.attach.new.self ≡ filed (attached (offered c.args.file asked.0 None)) (component_of e) = rw (attached_is c.args.file asked.0 None) c.attach.ensures.component in (
-      graph_filed p i.components.items i.registry i.stock i.units i.waits i.components.cap c.args.place e c.attach.new.self (offered c.args.file asked.0 None) c.self.invariant.0 at c.attach.ensures.kept q r,
+      graph_filed p i.components.items i.registry i.stock i.book.units i.book.numbered i.components.cap c.args.place e c.attach.new.self (offered c.args.file asked.0 None) c.self.invariant.0 at c.attach.ensures.kept q r,
       marked_set i.components.items i.marked c.args.place e c.attach.new.self c.self.invariant.1 at (calm_same (component_of e) (component_of c.attach.new.self) (ap (λ (x : Component). x.ports) q) (ap (λ (x : Component). x.pending) q)),
+      kept_rows i.book i.components.items c.args.place e c.attach.new.self c.self.invariant.2 at (ap row_for q),
     )
 
 pub returns-clause-change : goal.returns-clause-change
@@ -32,7 +36,7 @@ returns-clause-change g c =
     let i = c.self.inside in
     let p = g.C.Client.progress in
     let e = c.index_mut-component.result.now in
-    let G : Entries (g.row.C.Denot) = record { entries = i.components.items; stock = i.stock; units = i.units; waits = i.waits; numbered = i.registry.given } in
+    let G : Entries (g.row.C.Denot) = gathered i.components.items i.stock i.book i.registry.given in
     let asked = rw (← c.self.view_is) at c.requires in
     let b : c.args.place < length i.components.items = within p G c.args.place _ asked.1 in
     let at : slice_get i.components.items c.args.place ≡ Some e = slice_get-get_or i.components.items c.args.place e b ∙ ap Some (sym c.index_mut-component.ensures.value) in
@@ -45,7 +49,7 @@ returns-clause-clients g c =
     let i = c.self.inside in
     let p = g.C.Client.progress in
     let e = c.index_mut-component.result.now in
-    let G : Entries (g.row.C.Denot) = record { entries = i.components.items; stock = i.stock; units = i.units; waits = i.waits; numbered = i.registry.given } in
+    let G : Entries (g.row.C.Denot) = gathered i.components.items i.stock i.book i.registry.given in
     let asked = rw (← c.self.view_is) at c.requires in
     let b : c.args.place < length i.components.items = within p G c.args.place _ asked.1 in
     let at : slice_get i.components.items c.args.place ≡ Some e = slice_get-get_or i.components.items c.args.place e b ∙ ap Some (sym c.index_mut-component.ensures.value) in

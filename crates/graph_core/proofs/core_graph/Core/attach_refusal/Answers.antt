@@ -2,6 +2,7 @@ use Rattle.std.proofs.Common.{◌≡◌, ◌<◌, length, slice_get, Some, sym, 
 use Rattle.std.proofs.lemmas.Option.{slice_get-get_or}
 use Rattle.graph_core.specs.Entries.{Entries}
 use Rattle.graph_core.proofs.Replacing.{there}
+use Rattle.graph_core.proofs.Gathered.{gathered}
 use Rattle.graph_core.proofs.core_graph.Core.attach_refusal.Goals as goal
 
 pub returns : goal.returns
@@ -9,7 +10,7 @@ returns g c =
     let i = c.self.inside in
     let p = g.C.Client.progress in
     let e = c.index-component.result.now in
-    let G : Entries (g.row.C.Denot) = record { entries = i.components.items; stock = i.stock; units = i.units; waits = i.waits; numbered = i.registry.given } in
+    let G : Entries (g.row.C.Denot) = gathered i.components.items i.stock i.book i.registry.given in
     let b : c.args.place < length i.components.items = rw (← c.self.view_is) at c.requires in
     let at : slice_get i.components.items c.args.place ≡ Some e = slice_get-get_or i.components.items c.args.place e b ∙ ap Some (sym c.index-component.ensures) in
     λ known. rw (← c.self.view_is, there p G c.args.place e at) (c.attach_refusal.ensures known)

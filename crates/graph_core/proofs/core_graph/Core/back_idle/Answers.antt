@@ -7,6 +7,7 @@ use Rattle.il_component.specs.Entries.{component_of}
 use Rattle.graph_core.specs.Entries.{Entries, component_at, look_of}
 use Rattle.graph_core.proofs.Replacing.{there, within}
 use Rattle.graph_core.proofs.Stepping.{port_kept}
+use Rattle.graph_core.proofs.Gathered.{gathered}
 use Rattle.graph_core.proofs.core_graph.Core.back_idle.Goals as goal
 
 pub back_idle-requires : goal.back_idle-requires
@@ -14,7 +15,7 @@ back_idle-requires g c =
     let i = c.self.inside in
     let e = c.index-component.result.now in
     let p = c.in-Some.port in
-    let G : Entries (g.row.C.Denot) = record { entries = i.components.items; stock = i.stock; units = i.units; waits = i.waits; numbered = i.registry.given } in
+    let G : Entries (g.row.C.Denot) = gathered i.components.items i.stock i.book i.registry.given in
     let asked = rw (← c.self.view_is) at c.requires in
     let b : c.args.place < length i.components.items = within g.C.Client.progress G c.args.place _ asked in
     let at : slice_get i.components.items c.args.place ≡ Some e = slice_get-get_or i.components.items c.args.place e b ∙ ap Some (sym c.index-component.ensures) in
@@ -26,7 +27,7 @@ returns g c =
     let i = c.self.inside in
     let e = c.index-component.result.now in
     let p = c.in-Some.port in
-    let G : Entries (g.row.C.Denot) = record { entries = i.components.items; stock = i.stock; units = i.units; waits = i.waits; numbered = i.registry.given } in
+    let G : Entries (g.row.C.Denot) = gathered i.components.items i.stock i.book i.registry.given in
     let asked = rw (← c.self.view_is) at c.requires in
     let b : c.args.place < length i.components.items = within g.C.Client.progress G c.args.place _ asked in
     let at : slice_get i.components.items c.args.place ≡ Some e = slice_get-get_or i.components.items c.args.place e b ∙ ap Some (sym c.index-component.ensures) in

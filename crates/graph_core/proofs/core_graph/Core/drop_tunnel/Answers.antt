@@ -15,6 +15,9 @@ use Rattle.graph_core.proofs.Setting.{all_ports}
 use Rattle.graph_core.proofs.Joining.{AreEnds, AreReplaced, part_ends, port_below, unlinked_is, graph_both, both_changed}
 use Rattle.graph_core.proofs.Marking.{marked_set}
 use Rattle.graph_core.proofs.Calming.{calm_as, calm_parted}
+use Rattle.graph_core.proofs.Gathered.{gathered}
+use Rattle.graph_core.proofs.BookKept.{kept_rows}
+use Rattle.graph_core.specs.Booked.{row_for}
 use Rattle.graph_core.proofs.core_graph.Core.drop_tunnel.Goals as goal
 
 pub part-requires : goal.part-requires
@@ -22,7 +25,7 @@ part-requires g c =
     let i = c.self.inside in
     let p = g.C.Client.progress in
     let es = i.components.items in
-    let G : Entries (g.row.C.Denot) = record { entries = es; stock = i.stock; units = i.units; waits = i.waits; numbered = i.registry.given } in
+    let G : Entries (g.row.C.Denot) = gathered es i.stock i.book i.registry.given in
     let e = c.index_mut.result.now in
     let asked = rw (← c.self.view_is) at c.requires in
     let b : c.args.giver < length es = within p G c.args.giver _ asked in
@@ -33,14 +36,14 @@ part-requires g c =
     let at-f : slice_get es c.args.taker ≡ Some f = slice_get-get_or es c.args.taker e b-2 in
     let ok : drop_refusal (look_of G).headers (port_of (component_of e) c.args.output) (port_of (component_of f) c.args.input) ≡ None = rw (there p G c.args.taker f at-f) at asked-2 in
     let E : AreEnds c.args.giver c.args.output c.args.taker c.args.input e f = part_ends p G c.args.giver c.args.output c.args.taker c.args.input e f c.self.invariant.0.worlds at at-f ok in
-    port_below (component_of e) (stocked i.stock) c.args.output E.first (all_ports p es i.registry i.stock i.units i.waits i.components.cap c.args.giver e c.self.invariant.0 at) E.out
+    port_below (component_of e) (stocked i.stock) c.args.output E.first (all_ports p es i.registry i.stock i.book.units i.book.numbered i.components.cap c.args.giver e c.self.invariant.0 at) E.out
 
 pub index_mut-requires-2 : goal.index_mut-requires-2
 index_mut-requires-2 g c =
     let i = c.self.inside in
     let p = g.C.Client.progress in
     let es = i.components.items in
-    let G : Entries (g.row.C.Denot) = record { entries = es; stock = i.stock; units = i.units; waits = i.waits; numbered = i.registry.given } in
+    let G : Entries (g.row.C.Denot) = gathered es i.stock i.book i.registry.given in
     let e = c.index_mut.result.now in
     let asked = rw (← c.self.view_is) at c.requires in
     let b : c.args.giver < length es = within p G c.args.giver _ asked in
@@ -59,7 +62,7 @@ part-requires-2 g c =
     let i = c.self.inside in
     let p = g.C.Client.progress in
     let es = i.components.items in
-    let G : Entries (g.row.C.Denot) = record { entries = es; stock = i.stock; units = i.units; waits = i.waits; numbered = i.registry.given } in
+    let G : Entries (g.row.C.Denot) = gathered es i.stock i.book i.registry.given in
     let e = c.index_mut.result.now in
     let asked = rw (← c.self.view_is) at c.requires in
     let b : c.args.giver < length es = within p G c.args.giver _ asked in
@@ -77,14 +80,14 @@ part-requires-2 g c =
     let d-f : Some d ≡ Some f = sym at-d ∙ at-f in
     let one : d ≡ f = cc in
     let inp : port_of (component_of d) c.args.input ≡ Some E.second = ap (λ (x : Entry (g.row.C.Denot)). port_of (component_of x) c.args.input) one ∙ E.inp in
-    port_below (component_of d) (stocked i.stock) c.args.input E.second (all_ports p es i.registry i.stock i.units i.waits i.components.cap c.args.taker d c.self.invariant.0 at-d) inp
+    port_below (component_of d) (stocked i.stock) c.args.input E.second (all_ports p es i.registry i.stock i.book.units i.book.numbered i.components.cap c.args.taker d c.self.invariant.0 at-d) inp
 
 pub invariant_of-self : goal.invariant_of-self
 invariant_of-self g c =
     let i = c.self.inside in
     let p = g.C.Client.progress in
     let es = i.components.items in
-    let G : Entries (g.row.C.Denot) = record { entries = es; stock = i.stock; units = i.units; waits = i.waits; numbered = i.registry.given } in
+    let G : Entries (g.row.C.Denot) = gathered es i.stock i.book i.registry.given in
     let e = c.index_mut.result.now in
     let asked = rw (← c.self.view_is) at c.requires in
     let b : c.args.giver < length es = within p G c.args.giver _ asked in
@@ -115,13 +118,14 @@ invariant_of-self g c =
       second_alike = record { handle = ap (λ (x : Component). x.handle) q-d; ports = ap (λ (x : Component). length x.ports) q-d ∙ length-set d.ports (E.second).key.port _; pending = ap (λ (v : Component). v.pending) q-d; part = part_as (component_of d) (component_of d') _ q-d (record { number = refl; kind = refl; file = refl; failed = refl; work = refl }) };
     } in
     let ok-d : drop_refusal (look_of G).headers (port_of (component_of e) c.args.output) (port_of (component_of d) c.args.input) ≡ None = subst (λ (x : Entry (g.row.C.Denot)). drop_refusal (look_of G).headers (port_of (component_of e) c.args.output) (port_of (component_of x) c.args.input) ≡ None) (sym one) ok in (
-      graph_both p c.args.giver c.args.taker e d e' d' es i.registry i.stock i.units i.waits i.components.cap c.self.invariant.0 R
+      graph_both p c.args.giver c.args.taker e d e' d' es i.registry i.stock i.book.units i.book.numbered i.components.cap c.self.invariant.0 R
           (λ w l S.
           let t : slice_get w.components c.args.giver ≡ Some (component_of e) = ap (λ (x : Look). slice_get x.components c.args.giver) l ∙ there p G c.args.giver e at in
           let u : slice_get w.components c.args.taker ≡ Some (component_of d) = ap (λ (x : Look). slice_get x.components c.args.taker) l ∙ there p G c.args.taker d at-d in
           let r : drop_refusal (look w).headers (port_of (component_of e) c.args.output) (port_of (component_of d) c.args.input) ≡ None = subst (λ (x : Look). drop_refusal x.headers (port_of (component_of e) c.args.output) (port_of (component_of d) c.args.input) ≡ None) (sym l) ok-d in
           rw (q-e, q-d) (sound_parted w c.args.giver (component_of e) c.args.output E.first c.args.taker (component_of d) c.args.input E.second S t E.out u inp r)),
       marked_set (set es c.args.giver e') i.marked c.args.taker d d' (marked_set es i.marked c.args.giver e e' c.self.invariant.1 at (calm_as (component_of e) (component_of e') (parted E.first (component_of e)) q-e (calm_parted (component_of e) c.args.output E.first E.out))) (get_set_other es c.args.giver c.args.taker e' (λ q. E.apart (sym q)) ∙ at-d) (calm_as (component_of d) (component_of d') (parted E.second (component_of d)) q-d (calm_parted (component_of d) c.args.input E.second inp)),
+      kept_rows i.book (set es c.args.giver e') c.args.taker d d' (kept_rows i.book es c.args.giver e e' c.self.invariant.2 at (ap row_for q-e)) (get_set_other es c.args.giver c.args.taker e' (λ q. E.apart (sym q)) ∙ at-d) (ap row_for q-d),
     )
 
 pub returns-clause-change : goal.returns-clause-change
@@ -129,7 +133,7 @@ returns-clause-change g c =
     let i = c.self.inside in
     let p = g.C.Client.progress in
     let es = i.components.items in
-    let G : Entries (g.row.C.Denot) = record { entries = es; stock = i.stock; units = i.units; waits = i.waits; numbered = i.registry.given } in
+    let G : Entries (g.row.C.Denot) = gathered es i.stock i.book i.registry.given in
     let e = c.index_mut.result.now in
     let asked = rw (← c.self.view_is) at c.requires in
     let b : c.args.giver < length es = within p G c.args.giver _ asked in
@@ -166,7 +170,7 @@ returns-clause-clients g c =
     let i = c.self.inside in
     let p = g.C.Client.progress in
     let es = i.components.items in
-    let G : Entries (g.row.C.Denot) = record { entries = es; stock = i.stock; units = i.units; waits = i.waits; numbered = i.registry.given } in
+    let G : Entries (g.row.C.Denot) = gathered es i.stock i.book i.registry.given in
     let e = c.index_mut.result.now in
     let asked = rw (← c.self.view_is) at c.requires in
     let b : c.args.giver < length es = within p G c.args.giver _ asked in

@@ -3,12 +3,15 @@ use Rattle.std.proofs.lemmas.Option.{slice_get-get_or}
 use Rattle.il_machine.specs.World.{Component}
 use Rattle.il_component.specs.Entries.{component_of}
 use Rattle.graph_core.specs.Entries.{Entries}
-use Rattle.graph_core.proofs.Announced.{announcing_by, graph_told, told_handle, told_returns, there_announcing}
+use Rattle.graph_core.proofs.Announced.{announcing_by, graph_told, told_handle, told_returns, there_announcing, announced_row}
 use Rattle.graph_core.proofs.Clients.{clients_set}
 use Rattle.graph_core.proofs.Replacing.{there, within}
 use Rattle.graph_core.proofs.Marking.{marked_set}
 use Rattle.graph_core.proofs.Calming.{calm_as, calm_announced}
 use Rattle.il_machine.specs.Finishing.{announced}
+use Rattle.graph_core.proofs.Gathered.{gathered}
+use Rattle.graph_core.proofs.BookKept.{kept_rows}
+use Rattle.graph_core.specs.Booked.{row_for}
 use Rattle.graph_core.proofs.core_graph.Core.finish_announcement.Goals as goal
 
 pub announce-requires : goal.announce-requires
@@ -16,7 +19,7 @@ announce-requires g c =
     let i = c.self.inside in
     let p = g.C.Client.progress in
     let e = c.index_mut-component.result.now in
-    let G : Entries (g.row.C.Denot) = record { entries = i.components.items; stock = i.stock; units = i.units; waits = i.waits; numbered = i.registry.given } in
+    let G : Entries (g.row.C.Denot) = gathered i.components.items i.stock i.book i.registry.given in
     let asked = rw (← c.self.view_is) at c.requires in
     let b : c.args.place < length i.components.items = within p G c.args.place _ asked in
     let at : slice_get i.components.items c.args.place ≡ Some e = slice_get-get_or i.components.items c.args.place e b ∙ ap Some (sym c.index_mut-component.ensures.value) in
@@ -28,13 +31,14 @@ invariant_of-self g c =
     let i = c.self.inside in
     let p = g.C.Client.progress in
     let e = c.index_mut-component.result.now in
-    let G : Entries (g.row.C.Denot) = record { entries = i.components.items; stock = i.stock; units = i.units; waits = i.waits; numbered = i.registry.given } in
+    let G : Entries (g.row.C.Denot) = gathered i.components.items i.stock i.book i.registry.given in
     let asked = rw (← c.self.view_is) at c.requires in
     let b : c.args.place < length i.components.items = within p G c.args.place _ asked in
     let at : slice_get i.components.items c.args.place ≡ Some e = slice_get-get_or i.components.items c.args.place e b ∙ ap Some (sym c.index_mut-component.ensures.value) in
     let A = announcing_by (component_of e) e.work refl (subst (λ (o : Option Component). IsSomeAnd o (λ x. IsSomeAnd x.work (λ work. work.announces ≡ true))) (there p G c.args.place e at) asked) in (
-      graph_told p i.components.items i.registry i.stock i.units i.waits i.components.cap c.args.place e c.announce.new.self c.self.invariant.0 at A c.announce.ensures.component c.announce.ensures.kept,
+      graph_told p i.components.items i.registry i.stock i.book.units i.book.numbered i.components.cap c.args.place e c.announce.new.self c.self.invariant.0 at A c.announce.ensures.component c.announce.ensures.kept,
       marked_set i.components.items i.marked c.args.place e c.announce.new.self c.self.invariant.1 at (calm_as (component_of e) (component_of c.announce.new.self) (announced (component_of e)) c.announce.ensures.component (calm_announced (component_of e))),
+      kept_rows i.book i.components.items c.args.place e c.announce.new.self c.self.invariant.2 at (ap row_for c.announce.ensures.component ∙ announced_row (component_of e)),
     )
 
 pub returns-clause-change : goal.returns-clause-change
@@ -42,7 +46,7 @@ returns-clause-change g c =
     let i = c.self.inside in
     let p = g.C.Client.progress in
     let e = c.index_mut-component.result.now in
-    let G : Entries (g.row.C.Denot) = record { entries = i.components.items; stock = i.stock; units = i.units; waits = i.waits; numbered = i.registry.given } in
+    let G : Entries (g.row.C.Denot) = gathered i.components.items i.stock i.book i.registry.given in
     let asked = rw (← c.self.view_is) at c.requires in
     let b : c.args.place < length i.components.items = within p G c.args.place _ asked in
     let at : slice_get i.components.items c.args.place ≡ Some e = slice_get-get_or i.components.items c.args.place e b ∙ ap Some (sym c.index_mut-component.ensures.value) in
@@ -54,7 +58,7 @@ returns-clause-clients g c =
     let i = c.self.inside in
     let p = g.C.Client.progress in
     let e = c.index_mut-component.result.now in
-    let G : Entries (g.row.C.Denot) = record { entries = i.components.items; stock = i.stock; units = i.units; waits = i.waits; numbered = i.registry.given } in
+    let G : Entries (g.row.C.Denot) = gathered i.components.items i.stock i.book i.registry.given in
     let asked = rw (← c.self.view_is) at c.requires in
     let b : c.args.place < length i.components.items = within p G c.args.place _ asked in
     let at : slice_get i.components.items c.args.place ≡ Some e = slice_get-get_or i.components.items c.args.place e b ∙ ap Some (sym c.index_mut-component.ensures.value) in

@@ -8,9 +8,12 @@ use Rattle.graph_core.specs.Entries.{Entries, look_of}
 use Rattle.graph_core.proofs.Clients.{clients_set}
 use Rattle.graph_core.proofs.Replacing.{there, within}
 use Rattle.graph_core.proofs.Stepping.{graph_with}
-use Rattle.graph_core.proofs.Handing.{outside, port_needed, allowed_at, room_there, unpopulated_handle, unpopulated_ports, unpopulated_pending, freed_returns, freed_worlds}
+use Rattle.graph_core.proofs.Handing.{outside, port_needed, allowed_at, room_there, unpopulated_handle, unpopulated_ports, unpopulated_pending, freed_returns, freed_worlds, unpopulated_row}
 use Rattle.graph_core.proofs.Marking.{marked_set}
 use Rattle.graph_core.proofs.Calming.{calm_same}
+use Rattle.graph_core.proofs.Gathered.{gathered}
+use Rattle.graph_core.proofs.BookKept.{kept_rows}
+use Rattle.graph_core.specs.Booked.{row_for}
 use Rattle.graph_core.proofs.core_graph.Core.free_buffer.Goals as goal
 
 pub unpopulate-requires : goal.unpopulate-requires
@@ -18,7 +21,7 @@ unpopulate-requires g c =
     let i = c.self.inside in
     let e = c.index_mut-component.result.now in
     let p = c.in-Some.port in
-    let G : Entries (g.row.C.Denot) = record { entries = i.components.items; stock = i.stock; units = i.units; waits = i.waits; numbered = i.registry.given } in
+    let G : Entries (g.row.C.Denot) = gathered i.components.items i.stock i.book i.registry.given in
     let asked = rw (← c.self.view_is) at c.requires.free in
     let b : c.args.place < length i.components.items = within g.C.Client.progress G c.args.place _ asked in
     let at : slice_get i.components.items c.args.place ≡ Some e = slice_get-get_or i.components.items c.args.place e b ∙ ap Some (sym c.index_mut-component.ensures.value) in
@@ -32,7 +35,7 @@ unmake_header-requires g c =
     let i = c.self.inside in
     let e = c.index_mut-component.result.now in
     let p = c.in-Some.port in
-    let G : Entries (g.row.C.Denot) = record { entries = i.components.items; stock = i.stock; units = i.units; waits = i.waits; numbered = i.registry.given } in
+    let G : Entries (g.row.C.Denot) = gathered i.components.items i.stock i.book i.registry.given in
     let asked = rw (← c.self.view_is) at c.requires.free in
     let b : c.args.place < length i.components.items = within g.C.Client.progress G c.args.place _ asked in
     let at : slice_get i.components.items c.args.place ≡ Some e = slice_get-get_or i.components.items c.args.place e b ∙ ap Some (sym c.index_mut-component.ensures.value) in
@@ -45,7 +48,7 @@ invariant_of-self g c =
     let i = c.self.inside in
     let e = c.index_mut-component.result.now in
     let p = c.in-Some.port in
-    let G : Entries (g.row.C.Denot) = record { entries = i.components.items; stock = i.stock; units = i.units; waits = i.waits; numbered = i.registry.given } in
+    let G : Entries (g.row.C.Denot) = gathered i.components.items i.stock i.book i.registry.given in
     let asked = rw (← c.self.view_is) at c.requires.free in
     let b : c.args.place < length i.components.items = within g.C.Client.progress G c.args.place _ asked in
     let at : slice_get i.components.items c.args.place ≡ Some e = slice_get-get_or i.components.items c.args.place e b ∙ ap Some (sym c.index_mut-component.ensures.value) in
@@ -53,10 +56,11 @@ invariant_of-self g c =
     let handed : IsHandedIn c.args.header (look_of G) = rw (← c.self.view_is) at c.requires.handed in
     let allowed = allowed_at g.C.Client.progress G c.args.place e c.args.index p c.self.invariant.0.worlds at here c.args.header handed (Some p) (rw (there g.C.Client.progress G c.args.place e at, here) at asked) in
     let d = c.unpopulate.new.component in (
-      graph_with g.C.Client.progress i.components.items i.registry i.stock c.unmake_header.new.self i.units i.waits i.components.cap c.args.place e d c.self.invariant.0 at
+      graph_with g.C.Client.progress i.components.items i.registry i.stock c.unmake_header.new.self i.book.units i.book.numbered i.components.cap c.args.place e d c.self.invariant.0 at
           (ap (λ x. x.handle) c.unpopulate.ensures.component ∙ unpopulated_handle p (component_of e)) (ap (λ x. x.ports) c.unpopulate.ensures.component ∙ unpopulated_ports p (component_of e)) (ap (λ x. x.pending) c.unpopulate.ensures.component ∙ unpopulated_pending p (component_of e)) (ap (λ (s : Stocked). s.ports) c.unmake_header.ensures.stock)
           (freed_worlds g.C.Client.progress G c.args.place e c.args.index p c.self.invariant.0.worlds at here c.args.header handed allowed d c.unpopulate.ensures.component c.unpopulate.ensures.kept c.unmake_header.new.self c.unmake_header.ensures.stock),
       marked_set i.components.items i.marked c.args.place e d c.self.invariant.1 at (calm_same (component_of e) (component_of d) (ap (λ (x : Component). x.ports) c.unpopulate.ensures.component ∙ unpopulated_ports p (component_of e)) (ap (λ (x : Component). x.pending) c.unpopulate.ensures.component ∙ unpopulated_pending p (component_of e))),
+      kept_rows i.book i.components.items c.args.place e d c.self.invariant.2 at (ap row_for c.unpopulate.ensures.component ∙ unpopulated_row p (component_of e)),
     )
 
 pub returns-clause-change : goal.returns-clause-change
@@ -64,7 +68,7 @@ returns-clause-change g c =
     let i = c.self.inside in
     let e = c.index_mut-component.result.now in
     let p = c.in-Some.port in
-    let G : Entries (g.row.C.Denot) = record { entries = i.components.items; stock = i.stock; units = i.units; waits = i.waits; numbered = i.registry.given } in
+    let G : Entries (g.row.C.Denot) = gathered i.components.items i.stock i.book i.registry.given in
     let asked = rw (← c.self.view_is) at c.requires.free in
     let b : c.args.place < length i.components.items = within g.C.Client.progress G c.args.place _ asked in
     let at : slice_get i.components.items c.args.place ≡ Some e = slice_get-get_or i.components.items c.args.place e b ∙ ap Some (sym c.index_mut-component.ensures.value) in
@@ -78,7 +82,7 @@ pub unreachable-requires : goal.unreachable-requires
 unreachable-requires g c =
     let i = c.self.inside in
     let e = c.index_mut-component.result.now in
-    let G : Entries (g.row.C.Denot) = record { entries = i.components.items; stock = i.stock; units = i.units; waits = i.waits; numbered = i.registry.given } in
+    let G : Entries (g.row.C.Denot) = gathered i.components.items i.stock i.book i.registry.given in
     let asked = rw (← c.self.view_is) at c.requires.free in
     let b : c.args.place < length i.components.items = within g.C.Client.progress G c.args.place _ asked in
     let at : slice_get i.components.items c.args.place ≡ Some e = slice_get-get_or i.components.items c.args.place e b ∙ ap Some (sym c.index_mut-component.ensures.value) in
@@ -90,7 +94,7 @@ pub returns-clause-clients : goal.returns-clause-clients
 returns-clause-clients g c =
     let i = c.self.inside in
     let e = c.index_mut-component.result.now in
-    let G : Entries (g.row.C.Denot) = record { entries = i.components.items; stock = i.stock; units = i.units; waits = i.waits; numbered = i.registry.given } in
+    let G : Entries (g.row.C.Denot) = gathered i.components.items i.stock i.book i.registry.given in
     let asked = rw (← c.self.view_is) at c.requires.free in
     let b : c.args.place < length i.components.items = within g.C.Client.progress G c.args.place _ asked in
     let at : slice_get i.components.items c.args.place ≡ Some e = slice_get-get_or i.components.items c.args.place e b ∙ ap Some (sym c.index_mut-component.ensures.value) in

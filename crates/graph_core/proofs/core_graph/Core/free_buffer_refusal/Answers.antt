@@ -3,13 +3,14 @@ use Rattle.std.proofs.lemmas.Option.{slice_get-get_or}
 use Rattle.port_stock.specs.Kept.{stocked}
 use Rattle.graph_core.specs.Entries.{Entries}
 use Rattle.graph_core.proofs.Replacing.{there}
+use Rattle.graph_core.proofs.Gathered.{gathered}
 use Rattle.graph_core.proofs.core_graph.Core.free_buffer_refusal.Goals as goal
 
 pub returns : goal.returns
 returns g c =
     let i = c.self.inside in
     let p = g.C.Client.progress in
-    let G : Entries (g.row.C.Denot) = record { entries = i.components.items; stock = i.stock; units = i.units; waits = i.waits; numbered = i.registry.given } in
+    let G : Entries (g.row.C.Denot) = gathered i.components.items i.stock i.book i.registry.given in
     let e = c.index-component.result.now in
     let b : c.args.place < length i.components.items = rw (← c.self.view_is) at c.requires.place in
     let at : slice_get i.components.items c.args.place ≡ Some e = slice_get-get_or i.components.items c.args.place e b ∙ ap Some (sym c.index-component.ensures) in

@@ -17,6 +17,9 @@ use Rattle.graph_core.proofs.Stepping.{graph_with, graph_stocked, port_kept, wit
 use Rattle.graph_core.proofs.Noticing.{Clause, nothing_returns, nothing_worlds, fewer_notes, given_returns, given_worlds, pulled_ports}
 use Rattle.graph_core.proofs.Marking.{marked_set}
 use Rattle.graph_core.proofs.Calming.{calm_same}
+use Rattle.graph_core.proofs.Gathered.{gathered}
+use Rattle.graph_core.proofs.BookKept.{kept_rows}
+use Rattle.graph_core.specs.Booked.{row_for}
 use Rattle.graph_core.proofs.core_graph.Core.give_notice.Goals as goal
 
 pub pull_todo-requires : goal.pull_todo-requires
@@ -24,7 +27,7 @@ pull_todo-requires g c =
     let i = c.self.inside in
     let e = c.index_mut-component.result.now in
     let p = c.in-Some.port in
-    let G : Entries (g.row.C.Denot) = record { entries = i.components.items; stock = i.stock; units = i.units; waits = i.waits; numbered = i.registry.given } in
+    let G : Entries (g.row.C.Denot) = gathered i.components.items i.stock i.book i.registry.given in
     let asked = rw (← c.self.view_is) at c.requires in
     let b : c.args.place < length i.components.items = within g.C.Client.progress G c.args.place _ asked in
     let at : slice_get i.components.items c.args.place ≡ Some e = slice_get-get_or i.components.items c.args.place e b ∙ ap Some (sym c.index_mut-component.ensures.value) in
@@ -36,7 +39,7 @@ invariant_of-self g c =
     let i = c.self.inside in
     let e = c.index_mut-component.result.now in
     let p = c.in-Some.port in
-    let G : Entries (g.row.C.Denot) = record { entries = i.components.items; stock = i.stock; units = i.units; waits = i.waits; numbered = i.registry.given } in
+    let G : Entries (g.row.C.Denot) = gathered i.components.items i.stock i.book i.registry.given in
     let asked = rw (← c.self.view_is) at c.requires in
     let b : c.args.place < length i.components.items = within g.C.Client.progress G c.args.place _ asked in
     let at : slice_get i.components.items c.args.place ≡ Some e = slice_get-get_or i.components.items c.args.place e b ∙ ap Some (sym c.index_mut-component.ensures.value) in
@@ -44,10 +47,11 @@ invariant_of-self g c =
     let r = rw (there g.C.Client.progress G c.args.place e at) at asked in
     let client : p.state.link ≡ None = rw here at r in
     let none : None ≡ slice_get ((stocked i.stock).headers.todo p.key) 0 = sym (ap (option_map number_of) c.in_default-pull_todo.is) ∙ c.pull_todo.ensures.front in (
-      rw (set_same i.components.items c.args.place e at) (graph_stocked g.C.Client.progress i.components.items i.registry i.stock c.pull_todo.new.self i.units i.waits i.components.cap c.self.invariant.0
+      rw (set_same i.components.items c.args.place e at) (graph_stocked g.C.Client.progress i.components.items i.registry i.stock c.pull_todo.new.self i.book.units i.book.numbered i.components.cap c.self.invariant.0
           (ap (λ (s : Stocked). s.ports) c.pull_todo.ensures.stock ∙ pulled_ports p.key ((stocked i.stock).headers.todo p.key) (stocked i.stock))
           (nothing_worlds g.C.Client.progress G c.args.place e c.args.index p c.self.invariant.0.worlds at here client c.pull_todo.new.self c.pull_todo.ensures.stock none)),
       marked_set i.components.items i.marked c.args.place e e c.self.invariant.1 at (λ rests. rests),
+      kept_rows i.book i.components.items c.args.place e e c.self.invariant.2 at refl,
     )
 
 pub returns-in_default-pull_todo-clause-change : goal.returns-in_default-pull_todo-clause-change
@@ -55,7 +59,7 @@ returns-in_default-pull_todo-clause-change g c =
     let i = c.self.inside in
     let e = c.index_mut-component.result.now in
     let p = c.in-Some.port in
-    let G : Entries (g.row.C.Denot) = record { entries = i.components.items; stock = i.stock; units = i.units; waits = i.waits; numbered = i.registry.given } in
+    let G : Entries (g.row.C.Denot) = gathered i.components.items i.stock i.book i.registry.given in
     let asked = rw (← c.self.view_is) at c.requires in
     let b : c.args.place < length i.components.items = within g.C.Client.progress G c.args.place _ asked in
     let at : slice_get i.components.items c.args.place ≡ Some e = slice_get-get_or i.components.items c.args.place e b ∙ ap Some (sym c.index_mut-component.ensures.value) in
@@ -73,7 +77,7 @@ put_header-requires g c =
     let i = c.self.inside in
     let e = c.index_mut-component.result.now in
     let p = c.in-Some.port in
-    let G : Entries (g.row.C.Denot) = record { entries = i.components.items; stock = i.stock; units = i.units; waits = i.waits; numbered = i.registry.given } in
+    let G : Entries (g.row.C.Denot) = gathered i.components.items i.stock i.book i.registry.given in
     let asked = rw (← c.self.view_is) at c.requires in
     let b : c.args.place < length i.components.items = within g.C.Client.progress G c.args.place _ asked in
     let at : slice_get i.components.items c.args.place ≡ Some e = slice_get-get_or i.components.items c.args.place e b ∙ ap Some (sym c.index_mut-component.ensures.value) in
@@ -92,7 +96,7 @@ invariant_of-self-2 g c =
     let i = c.self.inside in
     let e = c.index_mut-component.result.now in
     let p = c.in-Some.port in
-    let G : Entries (g.row.C.Denot) = record { entries = i.components.items; stock = i.stock; units = i.units; waits = i.waits; numbered = i.registry.given } in
+    let G : Entries (g.row.C.Denot) = gathered i.components.items i.stock i.book i.registry.given in
     let asked = rw (← c.self.view_is) at c.requires in
     let b : c.args.place < length i.components.items = within g.C.Client.progress G c.args.place _ asked in
     let at : slice_get i.components.items c.args.place ≡ Some e = slice_get-get_or i.components.items c.args.place e b ∙ ap Some (sym c.index_mut-component.ensures.value) in
@@ -109,11 +113,12 @@ invariant_of-self-2 g c =
     c.give_header.ensures ∙ (ap (λ (n : ℕ). header_given n (owners.Notice p.key.component) (stocked c.pull_todo.new.self)) id ∙ ap (λ (s : Stocked). header_given h.held.number (owners.Notice p.key.component) s) c.pull_todo.ensures.stock) in
     let left : c.put_header.new.self ≡ record e { queues = noted (header_note p.setting.definition.input (cleared h)) e.queues } =
     c.put_header.ensures ∙ ap (λ (x : BufferHeader). record e { queues = noted (header_note p.setting.definition.input x) e.queues }) c.clear.ensures in (
-      graph_with g.C.Client.progress i.components.items i.registry i.stock c.give_header.new.self i.units i.waits i.components.cap c.args.place e c.put_header.new.self c.self.invariant.0 at
+      graph_with g.C.Client.progress i.components.items i.registry i.stock c.give_header.new.self i.book.units i.book.numbered i.components.cap c.args.place e c.put_header.new.self c.self.invariant.0 at
           (ap (λ (x : Entry (g.row.C.Denot)). x.handle) left) (ap (λ (x : Entry (g.row.C.Denot)). x.ports) left) (ap (λ (x : Entry (g.row.C.Denot)). x.pending) left)
           (ap (λ (s : Stocked). s.ports) now ∙ pulled_ports p.key ((stocked i.stock).headers.todo p.key) (stocked i.stock))
           (given_worlds g.C.Client.progress G c.args.place e c.args.index p c.self.invariant.0.worlds at here client h front was outside c.put_header.new.self c.give_header.new.self left now),
       marked_set i.components.items i.marked c.args.place e c.put_header.new.self c.self.invariant.1 at (calm_same (component_of e) (component_of c.put_header.new.self) (ap (λ (x : Entry (g.row.C.Denot)). x.ports) left) (ap (λ (x : Entry (g.row.C.Denot)). x.pending) left)),
+      kept_rows i.book i.components.items c.args.place e c.put_header.new.self c.self.invariant.2 at (ap (λ (x : Entry (g.row.C.Denot)). row_for (component_of x)) left),
     )
 
 pub returns-clause-change : goal.returns-clause-change
@@ -121,7 +126,7 @@ returns-clause-change g c =
     let i = c.self.inside in
     let e = c.index_mut-component.result.now in
     let p = c.in-Some.port in
-    let G : Entries (g.row.C.Denot) = record { entries = i.components.items; stock = i.stock; units = i.units; waits = i.waits; numbered = i.registry.given } in
+    let G : Entries (g.row.C.Denot) = gathered i.components.items i.stock i.book i.registry.given in
     let asked = rw (← c.self.view_is) at c.requires in
     let b : c.args.place < length i.components.items = within g.C.Client.progress G c.args.place _ asked in
     let at : slice_get i.components.items c.args.place ≡ Some e = slice_get-get_or i.components.items c.args.place e b ∙ ap Some (sym c.index_mut-component.ensures.value) in
@@ -144,7 +149,7 @@ pub returns-in_default-pull_todo-clause-clients : goal.returns-in_default-pull_t
 returns-in_default-pull_todo-clause-clients g c =
     let i = c.self.inside in
     let e = c.index_mut-component.result.now in
-    let G : Entries (g.row.C.Denot) = record { entries = i.components.items; stock = i.stock; units = i.units; waits = i.waits; numbered = i.registry.given } in
+    let G : Entries (g.row.C.Denot) = gathered i.components.items i.stock i.book i.registry.given in
     let asked = rw (← c.self.view_is) at c.requires in
     let b : c.args.place < length i.components.items = within g.C.Client.progress G c.args.place _ asked in
     let at : slice_get i.components.items c.args.place ≡ Some e = slice_get-get_or i.components.items c.args.place e b ∙ ap Some (sym c.index_mut-component.ensures.value) in
@@ -154,7 +159,7 @@ pub returns-clause-clients : goal.returns-clause-clients
 returns-clause-clients g c =
     let i = c.self.inside in
     let e = c.index_mut-component.result.now in
-    let G : Entries (g.row.C.Denot) = record { entries = i.components.items; stock = i.stock; units = i.units; waits = i.waits; numbered = i.registry.given } in
+    let G : Entries (g.row.C.Denot) = gathered i.components.items i.stock i.book i.registry.given in
     let asked = rw (← c.self.view_is) at c.requires in
     let b : c.args.place < length i.components.items = within g.C.Client.progress G c.args.place _ asked in
     let at : slice_get i.components.items c.args.place ≡ Some e = slice_get-get_or i.components.items c.args.place e b ∙ ap Some (sym c.index_mut-component.ensures.value) in

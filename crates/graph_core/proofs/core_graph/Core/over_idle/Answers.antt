@@ -9,6 +9,7 @@ use Rattle.graph_core.specs.OtherEnd.{NumbersDiffer}
 use Rattle.graph_core.proofs.Numbers.{graph_differs}
 use Rattle.graph_core.proofs.Replacing.{there, within}
 use Rattle.graph_core.proofs.Stepping.{port_kept}
+use Rattle.graph_core.proofs.Gathered.{gathered}
 use Rattle.graph_core.proofs.core_graph.Core.over_idle.Goals as goal
 
 pub over_idle-requires-clause-port : goal.over_idle-requires-clause-port
@@ -16,7 +17,7 @@ over_idle-requires-clause-port g c =
     let i = c.self.inside in
     let e = c.index-component.result.now in
     let p = c.in-Some.port in
-    let G : Entries (g.row.C.Denot) = record { entries = i.components.items; stock = i.stock; units = i.units; waits = i.waits; numbered = i.registry.given } in
+    let G : Entries (g.row.C.Denot) = gathered i.components.items i.stock i.book i.registry.given in
     let asked = rw (← c.self.view_is) at c.requires in
     let b : c.args.place < length i.components.items = within g.C.Client.progress G c.args.place _ asked in
     let at : slice_get i.components.items c.args.place ≡ Some e = slice_get-get_or i.components.items c.args.place e b ∙ ap Some (sym c.index-component.ensures) in
@@ -26,7 +27,7 @@ over_idle-requires-clause-port g c =
 pub over_idle-requires-clause-differ : goal.over_idle-requires-clause-differ
 over_idle-requires-clause-differ g c =
     let i = c.self.inside in
-    let G : Entries (g.row.C.Denot) = record { entries = i.components.items; stock = i.stock; units = i.units; waits = i.waits; numbered = i.registry.given } in
+    let G : Entries (g.row.C.Denot) = gathered i.components.items i.stock i.book i.registry.given in
     subst (λ (es : List (Entry (g.row.C.Denot))). NumbersDiffer es) (sym c.deref.ensures.value) (graph_differs g.C.Client.progress G c.self.invariant.0.worlds)
 
 pub returns : goal.returns
@@ -34,7 +35,7 @@ returns g c =
     let i = c.self.inside in
     let e = c.index-component.result.now in
     let p = c.in-Some.port in
-    let G : Entries (g.row.C.Denot) = record { entries = i.components.items; stock = i.stock; units = i.units; waits = i.waits; numbered = i.registry.given } in
+    let G : Entries (g.row.C.Denot) = gathered i.components.items i.stock i.book i.registry.given in
     let asked = rw (← c.self.view_is) at c.requires in
     let b : c.args.place < length i.components.items = within g.C.Client.progress G c.args.place _ asked in
     let at : slice_get i.components.items c.args.place ≡ Some e = slice_get-get_or i.components.items c.args.place e b ∙ ap Some (sym c.index-component.ensures) in

@@ -9,13 +9,16 @@ use Rattle.graph_core.proofs.Stepping.{graph_with}
 use Rattle.graph_core.proofs.Returning.{back_worlds, back_returns}
 use Rattle.graph_core.proofs.Marking.{marked_set}
 use Rattle.graph_core.proofs.Calming.{calm_same}
+use Rattle.graph_core.proofs.Gathered.{gathered}
+use Rattle.graph_core.proofs.BookKept.{kept_rows}
+use Rattle.graph_core.specs.Booked.{row_for}
 use Rattle.graph_core.proofs.core_graph.Core.put_client.Goals as goal
 
 pub put_client-requires : goal.put_client-requires
 put_client-requires g c =
     let i = c.self.inside in
     let e = c.index_mut-component.result.now in
-    let G : Entries (g.row.C.Denot) = record { entries = i.components.items; stock = i.stock; units = i.units; waits = i.waits; numbered = i.registry.given } in
+    let G : Entries (g.row.C.Denot) = gathered i.components.items i.stock i.book i.registry.given in
     let asked = rw (← c.self.view_is) at c.requires.out in
     let b : c.args.place < length i.components.items = within g.C.Client.progress G c.args.place _ asked in
     let at : slice_get i.components.items c.args.place ≡ Some e = slice_get-get_or i.components.items c.args.place e b ∙ ap Some (sym c.index_mut-component.ensures.value) in
@@ -25,23 +28,24 @@ pub invariant_of-self : goal.invariant_of-self
 invariant_of-self g c =
     let i = c.self.inside in
     let e = c.index_mut-component.result.now in
-    let G : Entries (g.row.C.Denot) = record { entries = i.components.items; stock = i.stock; units = i.units; waits = i.waits; numbered = i.registry.given } in
+    let G : Entries (g.row.C.Denot) = gathered i.components.items i.stock i.book i.registry.given in
     let asked = rw (← c.self.view_is) at c.requires.out in
     let b : c.args.place < length i.components.items = within g.C.Client.progress G c.args.place _ asked in
     let at : slice_get i.components.items c.args.place ≡ Some e = slice_get-get_or i.components.items c.args.place e b ∙ ap Some (sym c.index_mut-component.ensures.value) in
     let d = c.put_client.new.self in
     let out : is_none e.queues.client ≡ true = rw (there g.C.Client.progress G c.args.place e at) at asked in (
-      graph_with g.C.Client.progress i.components.items i.registry i.stock i.stock i.units i.waits i.components.cap c.args.place e d c.self.invariant.0 at
+      graph_with g.C.Client.progress i.components.items i.registry i.stock i.stock i.book.units i.book.numbered i.components.cap c.args.place e d c.self.invariant.0 at
           (ap (λ (x : Entry (g.row.C.Denot)). x.handle) c.put_client.ensures) (ap (λ (x : Entry (g.row.C.Denot)). x.ports) c.put_client.ensures) (ap (λ (x : Entry (g.row.C.Denot)). x.pending) c.put_client.ensures) refl
           (back_worlds g.C.Client.progress G c.args.place e c.args.client c.self.invariant.0.worlds at d c.put_client.ensures c.requires.told out),
       marked_set i.components.items i.marked c.args.place e d c.self.invariant.1 at (calm_same (component_of e) (component_of d) (ap (λ (x : Entry (g.row.C.Denot)). x.ports) c.put_client.ensures) (ap (λ (x : Entry (g.row.C.Denot)). x.pending) c.put_client.ensures)),
+      kept_rows i.book i.components.items c.args.place e d c.self.invariant.2 at (ap (λ (x : Entry (g.row.C.Denot)). row_for (component_of x)) c.put_client.ensures),
     )
 
 pub returns-clause-change : goal.returns-clause-change
 returns-clause-change g c =
     let i = c.self.inside in
     let e = c.index_mut-component.result.now in
-    let G : Entries (g.row.C.Denot) = record { entries = i.components.items; stock = i.stock; units = i.units; waits = i.waits; numbered = i.registry.given } in
+    let G : Entries (g.row.C.Denot) = gathered i.components.items i.stock i.book i.registry.given in
     let asked = rw (← c.self.view_is) at c.requires.out in
     let b : c.args.place < length i.components.items = within g.C.Client.progress G c.args.place _ asked in
     let at : slice_get i.components.items c.args.place ≡ Some e = slice_get-get_or i.components.items c.args.place e b ∙ ap Some (sym c.index_mut-component.ensures.value) in
@@ -51,7 +55,7 @@ pub returns-clause-client : goal.returns-clause-client
 returns-clause-client g c =
     let i = c.self.inside in
     let e = c.index_mut-component.result.now in
-    let G : Entries (g.row.C.Denot) = record { entries = i.components.items; stock = i.stock; units = i.units; waits = i.waits; numbered = i.registry.given } in
+    let G : Entries (g.row.C.Denot) = gathered i.components.items i.stock i.book i.registry.given in
     let asked = rw (← c.self.view_is) at c.requires.out in
     let b : c.args.place < length i.components.items = within g.C.Client.progress G c.args.place _ asked in
     let at : slice_get i.components.items c.args.place ≡ Some e = slice_get-get_or i.components.items c.args.place e b ∙ ap Some (sym c.index_mut-component.ensures.value) in
@@ -64,7 +68,7 @@ pub returns-clause-clients : goal.returns-clause-clients
 returns-clause-clients g c =
     let i = c.self.inside in
     let e = c.index_mut-component.result.now in
-    let G : Entries (g.row.C.Denot) = record { entries = i.components.items; stock = i.stock; units = i.units; waits = i.waits; numbered = i.registry.given } in
+    let G : Entries (g.row.C.Denot) = gathered i.components.items i.stock i.book i.registry.given in
     let asked = rw (← c.self.view_is) at c.requires.out in
     let b : c.args.place < length i.components.items = within g.C.Client.progress G c.args.place _ asked in
     let at : slice_get i.components.items c.args.place ≡ Some e = slice_get-get_or i.components.items c.args.place e b ∙ ap Some (sym c.index_mut-component.ensures.value) in

@@ -11,6 +11,7 @@ use Rattle.graph_core.specs.Entries.{Entries, look_of}
 use Rattle.graph_core.proofs.Replacing.{there, within}
 use Rattle.graph_core.proofs.Stepping.{graph_stocked, port_kept}
 use Rattle.graph_core.proofs.Released.{front_left_ports, released_some, released_returns, released_worlds}
+use Rattle.graph_core.proofs.Gathered.{gathered}
 use Rattle.graph_core.proofs.core_graph.Core.release.Goals as goal
 
 pub take_front-requires : goal.take_front-requires
@@ -18,7 +19,7 @@ take_front-requires g c =
     let i = c.self.inside in
     let e = c.index-component.result.now in
     let p = c.in-Some.port in
-    let G : Entries (g.row.C.Denot) = record { entries = i.components.items; stock = i.stock; units = i.units; waits = i.waits; numbered = i.registry.given } in
+    let G : Entries (g.row.C.Denot) = gathered i.components.items i.stock i.book i.registry.given in
     let asked = rw (← c.self.view_is) at c.requires in
     let b : c.args.place < length i.components.items = within g.C.Client.progress G c.args.place _ asked in
     let at : slice_get i.components.items c.args.place ≡ Some e = slice_get-get_or i.components.items c.args.place e b ∙ ap Some (sym c.index-component.ensures) in
@@ -30,7 +31,7 @@ unreachable-requires-in_default-take_front g c =
     let i = c.self.inside in
     let e = c.index-component.result.now in
     let p = c.in-Some.port in
-    let G : Entries (g.row.C.Denot) = record { entries = i.components.items; stock = i.stock; units = i.units; waits = i.waits; numbered = i.registry.given } in
+    let G : Entries (g.row.C.Denot) = gathered i.components.items i.stock i.book i.registry.given in
     let asked = rw (← c.self.view_is) at c.requires in
     let b : c.args.place < length i.components.items = within g.C.Client.progress G c.args.place _ asked in
     let at : slice_get i.components.items c.args.place ≡ Some e = slice_get-get_or i.components.items c.args.place e b ∙ ap Some (sym c.index-component.ensures) in
@@ -44,7 +45,7 @@ invariant_of-self g c =
     let i = c.self.inside in
     let e = c.index-component.result.now in
     let p = c.in-Some.port in
-    let G : Entries (g.row.C.Denot) = record { entries = i.components.items; stock = i.stock; units = i.units; waits = i.waits; numbered = i.registry.given } in
+    let G : Entries (g.row.C.Denot) = gathered i.components.items i.stock i.book i.registry.given in
     let asked = rw (← c.self.view_is) at c.requires in
     let b : c.args.place < length i.components.items = within g.C.Client.progress G c.args.place _ asked in
     let at : slice_get i.components.items c.args.place ≡ Some e = slice_get-get_or i.components.items c.args.place e b ∙ ap Some (sym c.index-component.ensures) in
@@ -53,9 +54,10 @@ invariant_of-self g c =
     let n = header.held.number in
     let front : Some n ≡ slice_get (in_port (stocked i.stock).headers p) 0 = sym (ap (option_map number_of) c.in-Some-take_front.is) ∙ c.take_front.ensures.front in
     let now : stocked c.unmake_header-memory.new.self ≡ header_unmade n (front_left p.key (stocked i.stock)) = c.unmake_header-memory.ensures.stock ∙ ap (header_unmade n) c.take_front.ensures.stock in (
-      graph_stocked g.C.Client.progress i.components.items i.registry i.stock c.unmake_header-memory.new.self i.units i.waits i.components.cap c.self.invariant.0 (ap (λ (s : Stocked). s.ports) now ∙ front_left_ports p.key (stocked i.stock))
+      graph_stocked g.C.Client.progress i.components.items i.registry i.stock c.unmake_header-memory.new.self i.book.units i.book.numbered i.components.cap c.self.invariant.0 (ap (λ (s : Stocked). s.ports) now ∙ front_left_ports p.key (stocked i.stock))
           (released_worlds g.C.Client.progress G c.args.place e c.args.index p n c.self.invariant.0.worlds at here front c.unmake_header-memory.new.self now),
       c.self.invariant.1,
+      c.self.invariant.2,
     )
 
 pub returns-clause-change : goal.returns-clause-change
@@ -63,7 +65,7 @@ returns-clause-change g c =
     let i = c.self.inside in
     let e = c.index-component.result.now in
     let p = c.in-Some.port in
-    let G : Entries (g.row.C.Denot) = record { entries = i.components.items; stock = i.stock; units = i.units; waits = i.waits; numbered = i.registry.given } in
+    let G : Entries (g.row.C.Denot) = gathered i.components.items i.stock i.book i.registry.given in
     let asked = rw (← c.self.view_is) at c.requires in
     let b : c.args.place < length i.components.items = within g.C.Client.progress G c.args.place _ asked in
     let at : slice_get i.components.items c.args.place ≡ Some e = slice_get-get_or i.components.items c.args.place e b ∙ ap Some (sym c.index-component.ensures) in

@@ -17,6 +17,9 @@ use Rattle.graph_core.proofs.Setting.{all_ports}
 use Rattle.graph_core.proofs.Joining.{AreEnds, AreReplaced, join_ends, port_below, linked_is, graph_both, both_changed}
 use Rattle.graph_core.proofs.Marking.{marked_set}
 use Rattle.graph_core.proofs.Calming.{calm_as, calm_joined}
+use Rattle.graph_core.proofs.Gathered.{gathered}
+use Rattle.graph_core.proofs.BookKept.{kept_rows}
+use Rattle.graph_core.specs.Booked.{row_for}
 use Rattle.graph_core.proofs.core_graph.Core.setup_tunnel.Goals as goal
 
 pub unreachable-requires : goal.unreachable-requires
@@ -24,7 +27,7 @@ unreachable-requires g c =
     let i = c.self.inside in
     let p = g.C.Client.progress in
     let es = i.components.items in
-    let G : Entries (g.row.C.Denot) = record { entries = es; stock = i.stock; units = i.units; waits = i.waits; numbered = i.registry.given } in
+    let G : Entries (g.row.C.Denot) = gathered es i.stock i.book i.registry.given in
     let e = c.index.result.now in
     let asked = rw (← c.self.view_is) at c.requires in
     let b : c.args.giver < length es = within p G c.args.giver _ asked in
@@ -43,7 +46,7 @@ index-requires-2 g c =
     let i = c.self.inside in
     let p = g.C.Client.progress in
     let es = i.components.items in
-    let G : Entries (g.row.C.Denot) = record { entries = es; stock = i.stock; units = i.units; waits = i.waits; numbered = i.registry.given } in
+    let G : Entries (g.row.C.Denot) = gathered es i.stock i.book i.registry.given in
     let e = c.index.result.now in
     let asked = rw (← c.self.view_is) at c.requires in
     let b : c.args.giver < length es = within p G c.args.giver _ asked in
@@ -62,7 +65,7 @@ unreachable-requires-in_default-port g c =
     let i = c.self.inside in
     let p = g.C.Client.progress in
     let es = i.components.items in
-    let G : Entries (g.row.C.Denot) = record { entries = es; stock = i.stock; units = i.units; waits = i.waits; numbered = i.registry.given } in
+    let G : Entries (g.row.C.Denot) = gathered es i.stock i.book i.registry.given in
     let e = c.index.result.now in
     let asked = rw (← c.self.view_is) at c.requires in
     let b : c.args.giver < length es = within p G c.args.giver _ asked in
@@ -85,7 +88,7 @@ index_mut-requires g c =
     let i = c.self.inside in
     let p = g.C.Client.progress in
     let es = i.components.items in
-    let G : Entries (g.row.C.Denot) = record { entries = es; stock = i.stock; units = i.units; waits = i.waits; numbered = i.registry.given } in
+    let G : Entries (g.row.C.Denot) = gathered es i.stock i.book i.registry.given in
     let e = c.index.result.now in
     let asked = rw (← c.self.view_is) at c.requires in
     let b : c.args.giver < length es = within p G c.args.giver _ asked in
@@ -104,7 +107,7 @@ join-requires g c =
     let i = c.self.inside in
     let p = g.C.Client.progress in
     let es = i.components.items in
-    let G : Entries (g.row.C.Denot) = record { entries = es; stock = i.stock; units = i.units; waits = i.waits; numbered = i.registry.given } in
+    let G : Entries (g.row.C.Denot) = gathered es i.stock i.book i.registry.given in
     let e = c.index_mut.result.now in
     let asked = rw (← c.self.view_is) at c.requires in
     let b : c.args.giver < length es = within p G c.args.giver _ asked in
@@ -115,14 +118,14 @@ join-requires g c =
     let at-f : slice_get es c.args.taker ≡ Some f = slice_get-get_or es c.args.taker e b-2 in
     let ok : setup_refusal (look_of G).headers (component_of e) (component_of f) (port_of (component_of e) c.args.output) (port_of (component_of f) c.args.input) ≡ None = rw (there p G c.args.taker f at-f) at asked-2 in
     let E : AreEnds c.args.giver c.args.output c.args.taker c.args.input e f = join_ends es (look_of G).headers c.args.giver c.args.output c.args.taker c.args.input e f at at-f ok in
-    port_below (component_of e) (stocked i.stock) c.args.output E.first (all_ports p es i.registry i.stock i.units i.waits i.components.cap c.args.giver e c.self.invariant.0 at) E.out
+    port_below (component_of e) (stocked i.stock) c.args.output E.first (all_ports p es i.registry i.stock i.book.units i.book.numbered i.components.cap c.args.giver e c.self.invariant.0 at) E.out
 
 pub index_mut-requires-2 : goal.index_mut-requires-2
 index_mut-requires-2 g c =
     let i = c.self.inside in
     let p = g.C.Client.progress in
     let es = i.components.items in
-    let G : Entries (g.row.C.Denot) = record { entries = es; stock = i.stock; units = i.units; waits = i.waits; numbered = i.registry.given } in
+    let G : Entries (g.row.C.Denot) = gathered es i.stock i.book i.registry.given in
     let e = c.index_mut.result.now in
     let asked = rw (← c.self.view_is) at c.requires in
     let b : c.args.giver < length es = within p G c.args.giver _ asked in
@@ -141,7 +144,7 @@ join-requires-2 g c =
     let i = c.self.inside in
     let p = g.C.Client.progress in
     let es = i.components.items in
-    let G : Entries (g.row.C.Denot) = record { entries = es; stock = i.stock; units = i.units; waits = i.waits; numbered = i.registry.given } in
+    let G : Entries (g.row.C.Denot) = gathered es i.stock i.book i.registry.given in
     let e = c.index_mut.result.now in
     let asked = rw (← c.self.view_is) at c.requires in
     let b : c.args.giver < length es = within p G c.args.giver _ asked in
@@ -171,14 +174,14 @@ join-requires-2 g c =
     let d-f : Some d ≡ Some f = sym at-d ∙ at-f in
     let one : d ≡ f = cc in
     let inp : port_of (component_of d) c.args.input ≡ Some y = ap (λ (v : Entry (g.row.C.Denot)). port_of (component_of v) c.args.input) one ∙ inp-f in
-    port_below (component_of d) (stocked i.stock) c.args.input y (all_ports p es i.registry i.stock i.units i.waits i.components.cap c.args.taker d c.self.invariant.0 at-d) inp
+    port_below (component_of d) (stocked i.stock) c.args.input y (all_ports p es i.registry i.stock i.book.units i.book.numbered i.components.cap c.args.taker d c.self.invariant.0 at-d) inp
 
 pub invariant_of-self : goal.invariant_of-self
 invariant_of-self g c =
     let i = c.self.inside in
     let p = g.C.Client.progress in
     let es = i.components.items in
-    let G : Entries (g.row.C.Denot) = record { entries = es; stock = i.stock; units = i.units; waits = i.waits; numbered = i.registry.given } in
+    let G : Entries (g.row.C.Denot) = gathered es i.stock i.book i.registry.given in
     let e = c.index_mut.result.now in
     let asked = rw (← c.self.view_is) at c.requires in
     let b : c.args.giver < length es = within p G c.args.giver _ asked in
@@ -225,13 +228,14 @@ invariant_of-self g c =
     } in
     let agreed : supplier ≡ agreed_of x y = c.agree_supplier-supplier.ensures in
     let ok-d : setup_refusal (look_of G).headers (component_of e) (component_of d) (port_of (component_of e) c.args.output) (port_of (component_of d) c.args.input) ≡ None = subst (λ (v : Entry (g.row.C.Denot)). setup_refusal (look_of G).headers (component_of e) (component_of v) (port_of (component_of e) c.args.output) (port_of (component_of v) c.args.input) ≡ None) (sym one) ok in (
-      graph_both p c.args.giver c.args.taker e d e' d' es i.registry i.stock i.units i.waits i.components.cap c.self.invariant.0 R
+      graph_both p c.args.giver c.args.taker e d e' d' es i.registry i.stock i.book.units i.book.numbered i.components.cap c.self.invariant.0 R
           (λ w l S.
           let t : slice_get w.components c.args.giver ≡ Some (component_of e) = ap (λ (v : Look). slice_get v.components c.args.giver) l ∙ there p G c.args.giver e at in
           let u : slice_get w.components c.args.taker ≡ Some (component_of d) = ap (λ (v : Look). slice_get v.components c.args.taker) l ∙ there p G c.args.taker d at-d in
           let r : setup_refusal (look w).headers (component_of e) (component_of d) (port_of (component_of e) c.args.output) (port_of (component_of d) c.args.input) ≡ None = subst (λ (v : Look). setup_refusal v.headers (component_of e) (component_of d) (port_of (component_of e) c.args.output) (port_of (component_of d) c.args.input) ≡ None) (sym l) ok-d in
           rw (q-e, q-d, agreed) (sound_joined w c.args.giver (component_of e) c.args.output x c.args.taker (component_of d) c.args.input y S t out u inp r)),
       marked_set (set es c.args.giver e') i.marked c.args.taker d d' (marked_set es i.marked c.args.giver e e' c.self.invariant.1 at (calm_as (component_of e) (component_of e') (joined_to y supplier x (component_of e)) q-e (calm_joined (component_of e) c.args.output x y supplier out))) (get_set_other es c.args.giver c.args.taker e' (λ q. E.apart (sym q)) ∙ at-d) (calm_as (component_of d) (component_of d') (joined_to x supplier y (component_of d)) q-d (calm_joined (component_of d) c.args.input y x supplier inp)),
+      kept_rows i.book (set es c.args.giver e') c.args.taker d d' (kept_rows i.book es c.args.giver e e' c.self.invariant.2 at (ap row_for q-e)) (get_set_other es c.args.giver c.args.taker e' (λ q. E.apart (sym q)) ∙ at-d) (ap row_for q-d),
     )
 
 pub returns-clause-change : goal.returns-clause-change
@@ -239,7 +243,7 @@ returns-clause-change g c =
     let i = c.self.inside in
     let p = g.C.Client.progress in
     let es = i.components.items in
-    let G : Entries (g.row.C.Denot) = record { entries = es; stock = i.stock; units = i.units; waits = i.waits; numbered = i.registry.given } in
+    let G : Entries (g.row.C.Denot) = gathered es i.stock i.book i.registry.given in
     let e = c.index_mut.result.now in
     let asked = rw (← c.self.view_is) at c.requires in
     let b : c.args.giver < length es = within p G c.args.giver _ asked in
@@ -292,7 +296,7 @@ returns-clause-clients g c =
     let i = c.self.inside in
     let p = g.C.Client.progress in
     let es = i.components.items in
-    let G : Entries (g.row.C.Denot) = record { entries = es; stock = i.stock; units = i.units; waits = i.waits; numbered = i.registry.given } in
+    let G : Entries (g.row.C.Denot) = gathered es i.stock i.book i.registry.given in
     let e = c.index_mut.result.now in
     let asked = rw (← c.self.view_is) at c.requires in
     let b : c.args.giver < length es = within p G c.args.giver _ asked in

@@ -11,6 +11,7 @@ use Rattle.graph_core.proofs.Replacing.{within}
 use Rattle.graph_core.proofs.Stepping.{port_kept}
 use Rattle.graph_core.proofs.Setting.{all_ports}
 use Rattle.graph_core.proofs.SupplyTests.{closed_here, closed_there, Says, said, short}
+use Rattle.graph_core.proofs.Gathered.{gathered}
 use Rattle.graph_core.proofs.core_graph.Core.supply_idle.Goals as goal
 
 pub closed_port-closed_here-requires : goal.closed_port-closed_here-requires
@@ -18,7 +19,7 @@ closed_port-closed_here-requires g c =
     let i = c.self.inside in
     let e = c.index-component.result.now in
     let p = c.in-Some.port in
-    let G : Entries (g.row.C.Denot) = record { entries = i.components.items; stock = i.stock; units = i.units; waits = i.waits; numbered = i.registry.given } in
+    let G : Entries (g.row.C.Denot) = gathered i.components.items i.stock i.book i.registry.given in
     let asked = rw (← c.self.view_is) at c.requires in
     let b : c.args.place < length i.components.items = within g.C.Client.progress G c.args.place _ asked in
     let at : slice_get i.components.items c.args.place ≡ Some e = slice_get-get_or i.components.items c.args.place e b ∙ ap Some (sym c.index-component.ensures) in
@@ -30,7 +31,7 @@ returns-then-is_some g c =
     let i = c.self.inside in
     let e = c.index-component.result.now in
     let p = c.in-Some.port in
-    let G : Entries (g.row.C.Denot) = record { entries = i.components.items; stock = i.stock; units = i.units; waits = i.waits; numbered = i.registry.given } in
+    let G : Entries (g.row.C.Denot) = gathered i.components.items i.stock i.book i.registry.given in
     let asked = rw (← c.self.view_is) at c.requires in
     let b : c.args.place < length i.components.items = within g.C.Client.progress G c.args.place _ asked in
     let at : slice_get i.components.items c.args.place ≡ Some e = slice_get-get_or i.components.items c.args.place e b ∙ ap Some (sym c.index-component.ensures) in
@@ -42,12 +43,12 @@ pub closed_peer-closed_there-requires-clause-kept : goal.closed_peer-closed_ther
 closed_peer-closed_there-requires-clause-kept g c = λ k e at.
     let i = c.self.inside in
     let there : slice_get i.components.items k ≡ Some e = subst (λ (es : List (Entry (g.row.C.Denot))). slice_get es k ≡ Some e) c.deref.ensures.value at in
-    all_ports g.C.Client.progress i.components.items i.registry i.stock i.units i.waits i.components.cap k e c.self.invariant.0 there
+    all_ports g.C.Client.progress i.components.items i.registry i.stock i.book.units i.book.numbered i.components.cap k e c.self.invariant.0 there
 
 pub closed_peer-closed_there-requires-clause-differ : goal.closed_peer-closed_there-requires-clause-differ
 closed_peer-closed_there-requires-clause-differ g c =
     let i = c.self.inside in
-    let G : Entries (g.row.C.Denot) = record { entries = i.components.items; stock = i.stock; units = i.units; waits = i.waits; numbered = i.registry.given } in
+    let G : Entries (g.row.C.Denot) = gathered i.components.items i.stock i.book i.registry.given in
     subst (λ (es : List (Entry (g.row.C.Denot))). NumbersDiffer es) (sym c.deref.ensures.value) (graph_differs g.C.Client.progress G c.self.invariant.0.worlds)
 
 pub returns-then-is_some-2 : goal.returns-then-is_some-2
@@ -55,7 +56,7 @@ returns-then-is_some-2 g c =
     let i = c.self.inside in
     let e = c.index-component.result.now in
     let p = c.in-Some.port in
-    let G : Entries (g.row.C.Denot) = record { entries = i.components.items; stock = i.stock; units = i.units; waits = i.waits; numbered = i.registry.given } in
+    let G : Entries (g.row.C.Denot) = gathered i.components.items i.stock i.book i.registry.given in
     let asked = rw (← c.self.view_is) at c.requires in
     let b : c.args.place < length i.components.items = within g.C.Client.progress G c.args.place _ asked in
     let at : slice_get i.components.items c.args.place ≡ Some e = slice_get-get_or i.components.items c.args.place e b ∙ ap Some (sym c.index-component.ensures) in
@@ -68,7 +69,7 @@ returns g c =
     let i = c.self.inside in
     let e = c.index-component.result.now in
     let p = c.in-Some.port in
-    let G : Entries (g.row.C.Denot) = record { entries = i.components.items; stock = i.stock; units = i.units; waits = i.waits; numbered = i.registry.given } in
+    let G : Entries (g.row.C.Denot) = gathered i.components.items i.stock i.book i.registry.given in
     let asked = rw (← c.self.view_is) at c.requires in
     let b : c.args.place < length i.components.items = within g.C.Client.progress G c.args.place _ asked in
     let at : slice_get i.components.items c.args.place ≡ Some e = slice_get-get_or i.components.items c.args.place e b ∙ ap Some (sym c.index-component.ensures) in

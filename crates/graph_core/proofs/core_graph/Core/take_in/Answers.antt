@@ -9,6 +9,7 @@ use Rattle.graph_core.specs.Entries.{Entries, look_of}
 use Rattle.graph_core.proofs.Replacing.{there, within}
 use Rattle.graph_core.proofs.Stepping.{graph_stocked, port_kept}
 use Rattle.graph_core.proofs.Handing.{outside, for_this_port, in_returns, in_worlds}
+use Rattle.graph_core.proofs.Gathered.{gathered}
 use Rattle.graph_core.proofs.core_graph.Core.take_in.Goals as goal
 
 pub push_header-requires-clause-port : goal.push_header-requires-clause-port
@@ -16,7 +17,7 @@ push_header-requires-clause-port g c =
     let i = c.self.inside in
     let e = c.index-component.result.now in
     let p = c.in-Some.port in
-    let G : Entries (g.row.C.Denot) = record { entries = i.components.items; stock = i.stock; units = i.units; waits = i.waits; numbered = i.registry.given } in
+    let G : Entries (g.row.C.Denot) = gathered i.components.items i.stock i.book i.registry.given in
     let asked = rw (← c.self.view_is) at c.requires.made_for in
     let b : c.args.place < length i.components.items = within g.C.Client.progress G c.args.place _ asked in
     let at : slice_get i.components.items c.args.place ≡ Some e = slice_get-get_or i.components.items c.args.place e b ∙ ap Some (sym c.index-component.ensures) in
@@ -28,7 +29,7 @@ push_header-requires-clause-outside g c =
     let i = c.self.inside in
     let e = c.index-component.result.now in
     let p = c.in-Some.port in
-    let G : Entries (g.row.C.Denot) = record { entries = i.components.items; stock = i.stock; units = i.units; waits = i.waits; numbered = i.registry.given } in
+    let G : Entries (g.row.C.Denot) = gathered i.components.items i.stock i.book i.registry.given in
     let asked = rw (← c.self.view_is) at c.requires.made_for in
     let b : c.args.place < length i.components.items = within g.C.Client.progress G c.args.place _ asked in
     let at : slice_get i.components.items c.args.place ≡ Some e = slice_get-get_or i.components.items c.args.place e b ∙ ap Some (sym c.index-component.ensures) in
@@ -41,7 +42,7 @@ push_header-requires-clause-made_for g c =
     let i = c.self.inside in
     let e = c.index-component.result.now in
     let p = c.in-Some.port in
-    let G : Entries (g.row.C.Denot) = record { entries = i.components.items; stock = i.stock; units = i.units; waits = i.waits; numbered = i.registry.given } in
+    let G : Entries (g.row.C.Denot) = gathered i.components.items i.stock i.book i.registry.given in
     let asked = rw (← c.self.view_is) at c.requires.made_for in
     let b : c.args.place < length i.components.items = within g.C.Client.progress G c.args.place _ asked in
     let at : slice_get i.components.items c.args.place ≡ Some e = slice_get-get_or i.components.items c.args.place e b ∙ ap Some (sym c.index-component.ensures) in
@@ -55,16 +56,17 @@ invariant_of-self g c =
     let i = c.self.inside in
     let e = c.index-component.result.now in
     let p = c.in-Some.port in
-    let G : Entries (g.row.C.Denot) = record { entries = i.components.items; stock = i.stock; units = i.units; waits = i.waits; numbered = i.registry.given } in
+    let G : Entries (g.row.C.Denot) = gathered i.components.items i.stock i.book i.registry.given in
     let asked = rw (← c.self.view_is) at c.requires.made_for in
     let b : c.args.place < length i.components.items = within g.C.Client.progress G c.args.place _ asked in
     let at : slice_get i.components.items c.args.place ≡ Some e = slice_get-get_or i.components.items c.args.place e b ∙ ap Some (sym c.index-component.ensures) in
     let here : port_of (component_of e) c.args.index ≡ Some p = sym c.port.ensures ∙ c.in-Some.is in
     let handed : IsHandedIn c.args.header (look_of G) = rw (← c.self.view_is) at c.requires.handed in
     let own = rw (there g.C.Client.progress G c.args.place e at, here) at asked in (
-      graph_stocked g.C.Client.progress i.components.items i.registry i.stock c.push_header.new.self i.units i.waits i.components.cap c.self.invariant.0 (ap (λ (s : Stocked). s.ports) c.push_header.ensures)
+      graph_stocked g.C.Client.progress i.components.items i.registry i.stock c.push_header.new.self i.book.units i.book.numbered i.components.cap c.self.invariant.0 (ap (λ (s : Stocked). s.ports) c.push_header.ensures)
           (in_worlds g.C.Client.progress G c.args.place e c.args.index p c.self.invariant.0.worlds at here c.args.header handed own c.push_header.new.self c.push_header.ensures),
       c.self.invariant.1,
+      c.self.invariant.2,
     )
 
 pub returns-clause-change : goal.returns-clause-change
@@ -72,7 +74,7 @@ returns-clause-change g c =
     let i = c.self.inside in
     let e = c.index-component.result.now in
     let p = c.in-Some.port in
-    let G : Entries (g.row.C.Denot) = record { entries = i.components.items; stock = i.stock; units = i.units; waits = i.waits; numbered = i.registry.given } in
+    let G : Entries (g.row.C.Denot) = gathered i.components.items i.stock i.book i.registry.given in
     let asked = rw (← c.self.view_is) at c.requires.made_for in
     let b : c.args.place < length i.components.items = within g.C.Client.progress G c.args.place _ asked in
     let at : slice_get i.components.items c.args.place ≡ Some e = slice_get-get_or i.components.items c.args.place e b ∙ ap Some (sym c.index-component.ensures) in

@@ -95,10 +95,10 @@ give_file-requires-clause-free g c =
     let free : F.component.work ≡ None = settled_work p _ I i F.component F.at M.settable in
     let b : i < length items = items_within f items i (part_within p _ I i F.component F.at) in
     let here : slice_get items i ≡ Some c.index_mut.result.now = slice_get-get_or items i c.index_mut.result.now b ∙ ap Some (sym c.index_mut.ensures.value) in
-    let part = c.in-Some-index_mut.part in
+    let part = c.in-Some-index_mut.seat in
     let there : slice_get items i ≡ Some (Some part) = here ∙ ap Some c.in-Some-index_mut.is in
     let T : IsPartOf F.component (f part) = holds_it p _ I i F.component F.at f items refl free part there in
-    T.attached ∙ M.without
+    rw (c.deref_mut.ensures.value, c.seat.view_is) (T.attached ∙ M.without)
 
 pub give_file-requires-clause-may : goal.give_file-requires-clause-may
 give_file-requires-clause-may g c =
@@ -118,11 +118,11 @@ give_file-requires-clause-may g c =
     let free : F.component.work ≡ None = settled_work p _ I i F.component F.at M.settable in
     let b : i < length items = items_within f items i (part_within p _ I i F.component F.at) in
     let here : slice_get items i ≡ Some c.index_mut.result.now = slice_get-get_or items i c.index_mut.result.now b ∙ ap Some (sym c.index_mut.ensures.value) in
-    let part = c.in-Some-index_mut.part in
+    let part = c.in-Some-index_mut.seat in
     let there : slice_get items i ≡ Some (Some part) = here ∙ ap Some c.in-Some-index_mut.is in
     let T : IsPartOf F.component (f part) = holds_it p _ I i F.component F.at f items refl free part there in
-    subst (λ (k : Kind). MayAttach g.S.Source.offset g.S.Source.size k c.args.file) (sym T.kind)
-    (may_attach g.S.Source.offset g.S.Source.size g.S.Source.told g.K.Sink.told F.component.settings.kind (file_port_format F.component) c.args.file c.there.ensures.within M.for_kind M.good)
+    rw (c.deref_mut.ensures.value, c.seat.view_is) (subst (λ (k : Kind). MayAttach g.S.Source.offset g.S.Source.size k c.args.file) (sym T.kind)
+    (may_attach g.S.Source.offset g.S.Source.size g.S.Source.told g.K.Sink.told F.component.settings.kind (file_port_format F.component) c.args.file c.there.ensures.within M.for_kind M.good))
 
 pub unreachable-requires : goal.unreachable-requires
 unreachable-requires g c =
@@ -164,11 +164,11 @@ invariant_of-self g c =
     let free : F.component.work ≡ None = settled_work p _ I i F.component F.at M.settable in
     let b : i < length items = items_within f items i (part_within p _ I i F.component F.at) in
     let here : slice_get items i ≡ Some c.index_mut.result.now = slice_get-get_or items i c.index_mut.result.now b ∙ ap Some (sym c.index_mut.ensures.value) in
-    let part = c.in-Some-index_mut.part in
+    let part = c.in-Some-index_mut.seat in
     let there : slice_get items i ≡ Some (Some part) = here ∙ ap Some c.in-Some-index_mut.is in
     let T : IsPartOf F.component (f part) = holds_it p _ I i F.component F.at f items refl free part there in
     let q = f c.give_file.new.part in
-    let R = c.give_file.ensures in
+    let R = (rw (c.deref_mut.ensures.value, c.seat.view_is) at c.give_file.ensures) in
     let file : attached O ≡ attached_of c.args.file = attached_same g.S.Source.offset g.S.Source.size g.S.Source.told g.K.Sink.told c.args.file in
     let D = λ (s : Stream). R.done (terms_of (record F.component { file = Some (attached O) })) F.component.part.failed s (sym T.kind) (ap (λ (a : Attached). Some a) file) in
     let tied : IsPartOf (record F.component { file = Some (attached O) }) q = filed_tied F.component O c.args.file (f part) q file T R in
@@ -197,11 +197,11 @@ returns-clause-step g c =
     let free : F.component.work ≡ None = settled_work p _ I i F.component F.at M.settable in
     let b : i < length items = items_within f items i (part_within p _ I i F.component F.at) in
     let here : slice_get items i ≡ Some c.index_mut.result.now = slice_get-get_or items i c.index_mut.result.now b ∙ ap Some (sym c.index_mut.ensures.value) in
-    let part = c.in-Some-index_mut.part in
+    let part = c.in-Some-index_mut.seat in
     let there : slice_get items i ≡ Some (Some part) = here ∙ ap Some c.in-Some-index_mut.is in
     let T : IsPartOf F.component (f part) = holds_it p _ I i F.component F.at f items refl free part there in
     let q = f c.give_file.new.part in
-    let R = c.give_file.ensures in
+    let R = (rw (c.deref_mut.ensures.value, c.seat.view_is) at c.give_file.ensures) in
     let file : attached O ≡ attached_of c.args.file = attached_same g.S.Source.offset g.S.Source.size g.S.Source.told g.K.Sink.told c.args.file in
     let D = λ (s : Stream). R.done (terms_of (record F.component { file = Some (attached O) })) F.component.part.failed s (sym T.kind) (ap (λ (a : Attached). Some a) file) in
     let tied : IsPartOf (record F.component { file = Some (attached O) }) q = filed_tied F.component O c.args.file (f part) q file T R in
@@ -230,11 +230,11 @@ returns-clause-file g c =
     let free : F.component.work ≡ None = settled_work p _ I i F.component F.at M.settable in
     let b : i < length items = items_within f items i (part_within p _ I i F.component F.at) in
     let here : slice_get items i ≡ Some c.index_mut.result.now = slice_get-get_or items i c.index_mut.result.now b ∙ ap Some (sym c.index_mut.ensures.value) in
-    let part = c.in-Some-index_mut.part in
+    let part = c.in-Some-index_mut.seat in
     let there : slice_get items i ≡ Some (Some part) = here ∙ ap Some c.in-Some-index_mut.is in
     let T : IsPartOf F.component (f part) = holds_it p _ I i F.component F.at f items refl free part there in
     let q = f c.give_file.new.part in
-    let R = c.give_file.ensures in
+    let R = (rw (c.deref_mut.ensures.value, c.seat.view_is) at c.give_file.ensures) in
     let file : attached O ≡ attached_of c.args.file = attached_same g.S.Source.offset g.S.Source.size g.S.Source.told g.K.Sink.told c.args.file in
     let D = λ (s : Stream). R.done (terms_of (record F.component { file = Some (attached O) })) F.component.part.failed s (sym T.kind) (ap (λ (a : Attached). Some a) file) in
     let tied : IsPartOf (record F.component { file = Some (attached O) }) q = filed_tied F.component O c.args.file (f part) q file T R in
@@ -263,11 +263,11 @@ returns-clause-files g c =
     let free : F.component.work ≡ None = settled_work p _ I i F.component F.at M.settable in
     let b : i < length items = items_within f items i (part_within p _ I i F.component F.at) in
     let here : slice_get items i ≡ Some c.index_mut.result.now = slice_get-get_or items i c.index_mut.result.now b ∙ ap Some (sym c.index_mut.ensures.value) in
-    let part = c.in-Some-index_mut.part in
+    let part = c.in-Some-index_mut.seat in
     let there : slice_get items i ≡ Some (Some part) = here ∙ ap Some c.in-Some-index_mut.is in
     let T : IsPartOf F.component (f part) = holds_it p _ I i F.component F.at f items refl free part there in
     let q = f c.give_file.new.part in
-    let R = c.give_file.ensures in
+    let R = (rw (c.deref_mut.ensures.value, c.seat.view_is) at c.give_file.ensures) in
     let file : attached O ≡ attached_of c.args.file = attached_same g.S.Source.offset g.S.Source.size g.S.Source.told g.K.Sink.told c.args.file in
     let D = λ (s : Stream). R.done (terms_of (record F.component { file = Some (attached O) })) F.component.part.failed s (sym T.kind) (ap (λ (a : Attached). Some a) file) in
     let tied : IsPartOf (record F.component { file = Some (attached O) }) q = filed_tied F.component O c.args.file (f part) q file T R in
@@ -296,11 +296,11 @@ returns-clause-held g c =
     let free : F.component.work ≡ None = settled_work p _ I i F.component F.at M.settable in
     let b : i < length items = items_within f items i (part_within p _ I i F.component F.at) in
     let here : slice_get items i ≡ Some c.index_mut.result.now = slice_get-get_or items i c.index_mut.result.now b ∙ ap Some (sym c.index_mut.ensures.value) in
-    let part = c.in-Some-index_mut.part in
+    let part = c.in-Some-index_mut.seat in
     let there : slice_get items i ≡ Some (Some part) = here ∙ ap Some c.in-Some-index_mut.is in
     let T : IsPartOf F.component (f part) = holds_it p _ I i F.component F.at f items refl free part there in
     let q = f c.give_file.new.part in
-    let R = c.give_file.ensures in
+    let R = (rw (c.deref_mut.ensures.value, c.seat.view_is) at c.give_file.ensures) in
     let file : attached O ≡ attached_of c.args.file = attached_same g.S.Source.offset g.S.Source.size g.S.Source.told g.K.Sink.told c.args.file in
     let D = λ (s : Stream). R.done (terms_of (record F.component { file = Some (attached O) })) F.component.part.failed s (sym T.kind) (ap (λ (a : Attached). Some a) file) in
     let tied : IsPartOf (record F.component { file = Some (attached O) }) q = filed_tied F.component O c.args.file (f part) q file T R in

@@ -108,15 +108,15 @@ unreachable-requires-in_default-at g c =
     let S = is_sound p _ I i F.component F.at in
     let b : i < length items = items_within f items i (part_within p _ I i F.component F.at) in
     let here : slice_get items i ≡ Some c.index_mut.result.now = slice_get-get_or items i c.index_mut.result.now b ∙ ap Some (sym c.index_mut.ensures.value) in
-    let part = c.in-Some-take.part in
+    let part = c.in-Some-take.seat in
     let there : slice_get items i ≡ Some (Some part) = here ∙ ap Some (sym c.take.ensures.value ∙ c.in-Some-take.is) in
     let T : IsPartOf F.component (f part) = holds_it p _ I i F.component F.at f items refl M.free part there in
     let z : option_copied c.at.result ≡ Some F.entry = c.at.ensures ∙ F.entry_at in
     let y : None ≡ Some F.entry = rw c.in_default-at.is at z in
     absurd cc
 
-pub prepare-requires : goal.prepare-requires
-prepare-requires g c =
+pub open-desk-requires : goal.open-desk-requires
+open-desk-requires g c =
     let p = g.C.Client.progress in
     let G = c.self.inside.core in
     let items = c.self.inside.parts.items in
@@ -129,7 +129,7 @@ prepare-requires g c =
     let S = is_sound p _ I i F.component F.at in
     let b : i < length items = items_within f items i (part_within p _ I i F.component F.at) in
     let here : slice_get items i ≡ Some c.index_mut.result.now = slice_get-get_or items i c.index_mut.result.now b ∙ ap Some (sym c.index_mut.ensures.value) in
-    let part = c.in-Some-take.part in
+    let part = c.in-Some-take.seat in
     let there : slice_get items i ≡ Some (Some part) = here ∙ ap Some (sym c.take.ensures.value ∙ c.in-Some-take.is) in
     let T : IsPartOf F.component (f part) = holds_it p _ I i F.component F.at f items refl M.free part there in
     let same : F.component ≡ component_of c.in-Some-at.component.now = component_is p G c.args.h i F c.in-Some-at.component.now (rw c.in-Some-at.is at c.at.ensures) in
@@ -151,17 +151,17 @@ make_work-requires-clause-lawful g c =
     let S = is_sound p _ I i F.component F.at in
     let b : i < length items = items_within f items i (part_within p _ I i F.component F.at) in
     let here : slice_get items i ≡ Some c.index_mut.result.now = slice_get-get_or items i c.index_mut.result.now b ∙ ap Some (sym c.index_mut.ensures.value) in
-    let part = c.in-Some-take.part in
+    let part = c.in-Some-take.seat in
     let there : slice_get items i ≡ Some (Some part) = here ∙ ap Some (sym c.take.ensures.value ∙ c.in-Some-take.is) in
     let T : IsPartOf F.component (f part) = holds_it p _ I i F.component F.at f items refl M.free part there in
     let same : F.component ≡ component_of c.in-Some-at.component.now = component_is p G c.args.h i F c.in-Some-at.component.now (rw c.in-Some-at.is at c.at.ensures) in
     let announces = c.must_announce-announces.result in
     let tells : announces ≡ must_announce F.component = at_some (λ k. announces ≡ must_announce k) (component_at i G) F.component F.at c.must_announce-announces.ensures in
-    let places = c.claim-headers.result in
-    let fronts : HasFronts F.component places (stocked G.stock) = at_some (λ k. HasFronts k places (stocked G.stock)) (component_at i G) F.component F.at c.claim-headers.ensures.headers in
-    let q = f c.prepare.new.part in
-    let is : q ≡ prepared_where announces F.component (f part) = c.prepare.ensures ∙ ap (λ (k : Component). prepared_where announces k (f part)) (sym same) in
-    given_lawful (look_of G) F.component S ok places (stocked G.stock) refl fronts (f part) T c.lawful_terms.ensures.format c.lawful_terms.ensures.factor announces tells q is
+    let places = c.claim.new.headers in
+    let fronts : HasFronts F.component places (stocked G.stock) = at_some (λ k. HasFronts k places (stocked G.stock)) (component_at i G) F.component F.at c.claim.ensures.headers in
+    let q = f c.open-desk.result.value.part in
+    let is : q ≡ prepared_where announces F.component (f part) = c.open-desk.ensures.part ∙ ap (λ (k : Component). prepared_where announces k (f part)) (sym same) in
+    rw c.deref_mut.ensures.value (given_lawful (look_of G) F.component S ok places (stocked G.stock) refl fronts (f part) T c.lawful_terms.ensures.format c.lawful_terms.ensures.factor announces tells q is)
 
 pub make_work-requires-clause-within : goal.make_work-requires-clause-within
 make_work-requires-clause-within g c =
@@ -177,17 +177,17 @@ make_work-requires-clause-within g c =
     let S = is_sound p _ I i F.component F.at in
     let b : i < length items = items_within f items i (part_within p _ I i F.component F.at) in
     let here : slice_get items i ≡ Some c.index_mut.result.now = slice_get-get_or items i c.index_mut.result.now b ∙ ap Some (sym c.index_mut.ensures.value) in
-    let part = c.in-Some-take.part in
+    let part = c.in-Some-take.seat in
     let there : slice_get items i ≡ Some (Some part) = here ∙ ap Some (sym c.take.ensures.value ∙ c.in-Some-take.is) in
     let T : IsPartOf F.component (f part) = holds_it p _ I i F.component F.at f items refl M.free part there in
     let same : F.component ≡ component_of c.in-Some-at.component.now = component_is p G c.args.h i F c.in-Some-at.component.now (rw c.in-Some-at.is at c.at.ensures) in
     let announces = c.must_announce-announces.result in
     let tells : announces ≡ must_announce F.component = at_some (λ k. announces ≡ must_announce k) (component_at i G) F.component F.at c.must_announce-announces.ensures in
-    let places = c.claim-headers.result in
-    let fronts : HasFronts F.component places (stocked G.stock) = at_some (λ k. HasFronts k places (stocked G.stock)) (component_at i G) F.component F.at c.claim-headers.ensures.headers in
-    let q = f c.prepare.new.part in
-    let is : q ≡ prepared_where announces F.component (f part) = c.prepare.ensures ∙ ap (λ (k : Component). prepared_where announces k (f part)) (sym same) in
-    given_within (look_of G) F.component S ok places (stocked G.stock) refl fronts (f part) T c.lawful_terms.ensures.format c.lawful_terms.ensures.factor announces tells q is
+    let places = c.claim.new.headers in
+    let fronts : HasFronts F.component places (stocked G.stock) = at_some (λ k. HasFronts k places (stocked G.stock)) (component_at i G) F.component F.at c.claim.ensures.headers in
+    let q = f c.open-desk.result.value.part in
+    let is : q ≡ prepared_where announces F.component (f part) = c.open-desk.ensures.part ∙ ap (λ (k : Component). prepared_where announces k (f part)) (sym same) in
+    rw c.deref_mut.ensures.value (given_within (look_of G) F.component S ok places (stocked G.stock) refl fronts (f part) T c.lawful_terms.ensures.format c.lawful_terms.ensures.factor announces tells q is)
 
 pub make_work-requires-clause-fits : goal.make_work-requires-clause-fits
 make_work-requires-clause-fits g c =
@@ -203,17 +203,17 @@ make_work-requires-clause-fits g c =
     let S = is_sound p _ I i F.component F.at in
     let b : i < length items = items_within f items i (part_within p _ I i F.component F.at) in
     let here : slice_get items i ≡ Some c.index_mut.result.now = slice_get-get_or items i c.index_mut.result.now b ∙ ap Some (sym c.index_mut.ensures.value) in
-    let part = c.in-Some-take.part in
+    let part = c.in-Some-take.seat in
     let there : slice_get items i ≡ Some (Some part) = here ∙ ap Some (sym c.take.ensures.value ∙ c.in-Some-take.is) in
     let T : IsPartOf F.component (f part) = holds_it p _ I i F.component F.at f items refl M.free part there in
     let same : F.component ≡ component_of c.in-Some-at.component.now = component_is p G c.args.h i F c.in-Some-at.component.now (rw c.in-Some-at.is at c.at.ensures) in
     let announces = c.must_announce-announces.result in
     let tells : announces ≡ must_announce F.component = at_some (λ k. announces ≡ must_announce k) (component_at i G) F.component F.at c.must_announce-announces.ensures in
-    let places = c.claim-headers.result in
-    let fronts : HasFronts F.component places (stocked G.stock) = at_some (λ k. HasFronts k places (stocked G.stock)) (component_at i G) F.component F.at c.claim-headers.ensures.headers in
-    let q = f c.prepare.new.part in
-    let is : q ≡ prepared_where announces F.component (f part) = c.prepare.ensures ∙ ap (λ (k : Component). prepared_where announces k (f part)) (sym same) in
-    given_ready (look_of G) F.component S ok places (stocked G.stock) refl fronts (f part) T c.lawful_terms.ensures.format c.lawful_terms.ensures.factor announces tells q is
+    let places = c.claim.new.headers in
+    let fronts : HasFronts F.component places (stocked G.stock) = at_some (λ k. HasFronts k places (stocked G.stock)) (component_at i G) F.component F.at c.claim.ensures.headers in
+    let q = f c.open-desk.result.value.part in
+    let is : q ≡ prepared_where announces F.component (f part) = c.open-desk.ensures.part ∙ ap (λ (k : Component). prepared_where announces k (f part)) (sym same) in
+    rw c.deref_mut.ensures.value (given_ready (look_of G) F.component S ok places (stocked G.stock) refl fronts (f part) T c.lawful_terms.ensures.format c.lawful_terms.ensures.factor announces tells q is)
 
 pub make_work-requires-clause-outputs : goal.make_work-requires-clause-outputs
 make_work-requires-clause-outputs g c =
@@ -229,17 +229,17 @@ make_work-requires-clause-outputs g c =
     let S = is_sound p _ I i F.component F.at in
     let b : i < length items = items_within f items i (part_within p _ I i F.component F.at) in
     let here : slice_get items i ≡ Some c.index_mut.result.now = slice_get-get_or items i c.index_mut.result.now b ∙ ap Some (sym c.index_mut.ensures.value) in
-    let part = c.in-Some-take.part in
+    let part = c.in-Some-take.seat in
     let there : slice_get items i ≡ Some (Some part) = here ∙ ap Some (sym c.take.ensures.value ∙ c.in-Some-take.is) in
     let T : IsPartOf F.component (f part) = holds_it p _ I i F.component F.at f items refl M.free part there in
     let same : F.component ≡ component_of c.in-Some-at.component.now = component_is p G c.args.h i F c.in-Some-at.component.now (rw c.in-Some-at.is at c.at.ensures) in
     let announces = c.must_announce-announces.result in
     let tells : announces ≡ must_announce F.component = at_some (λ k. announces ≡ must_announce k) (component_at i G) F.component F.at c.must_announce-announces.ensures in
-    let places = c.claim-headers.result in
-    let fronts : HasFronts F.component places (stocked G.stock) = at_some (λ k. HasFronts k places (stocked G.stock)) (component_at i G) F.component F.at c.claim-headers.ensures.headers in
-    let q = f c.prepare.new.part in
-    let is : q ≡ prepared_where announces F.component (f part) = c.prepare.ensures ∙ ap (λ (k : Component). prepared_where announces k (f part)) (sym same) in
-    given_outputs (look_of G) F.component S ok places (stocked G.stock) refl fronts (f part) T c.lawful_terms.ensures.format c.lawful_terms.ensures.factor announces tells q is
+    let places = c.claim.new.headers in
+    let fronts : HasFronts F.component places (stocked G.stock) = at_some (λ k. HasFronts k places (stocked G.stock)) (component_at i G) F.component F.at c.claim.ensures.headers in
+    let q = f c.open-desk.result.value.part in
+    let is : q ≡ prepared_where announces F.component (f part) = c.open-desk.ensures.part ∙ ap (λ (k : Component). prepared_where announces k (f part)) (sym same) in
+    rw c.deref_mut.ensures.value (given_outputs (look_of G) F.component S ok places (stocked G.stock) refl fronts (f part) T c.lawful_terms.ensures.format c.lawful_terms.ensures.factor announces tells q is)
 
 pub make_work-requires-clause-none : goal.make_work-requires-clause-none
 make_work-requires-clause-none g c =
@@ -255,16 +255,16 @@ make_work-requires-clause-none g c =
     let S = is_sound p _ I i F.component F.at in
     let b : i < length items = items_within f items i (part_within p _ I i F.component F.at) in
     let here : slice_get items i ≡ Some c.index_mut.result.now = slice_get-get_or items i c.index_mut.result.now b ∙ ap Some (sym c.index_mut.ensures.value) in
-    let part = c.in-Some-take.part in
+    let part = c.in-Some-take.seat in
     let there : slice_get items i ≡ Some (Some part) = here ∙ ap Some (sym c.take.ensures.value ∙ c.in-Some-take.is) in
     let T : IsPartOf F.component (f part) = holds_it p _ I i F.component F.at f items refl M.free part there in
     let same : F.component ≡ component_of c.in-Some-at.component.now = component_is p G c.args.h i F c.in-Some-at.component.now (rw c.in-Some-at.is at c.at.ensures) in
     let announces = c.must_announce-announces.result in
     let tells : announces ≡ must_announce F.component = at_some (λ k. announces ≡ must_announce k) (component_at i G) F.component F.at c.must_announce-announces.ensures in
-    let places = c.claim-headers.result in
-    let fronts : HasFronts F.component places (stocked G.stock) = at_some (λ k. HasFronts k places (stocked G.stock)) (component_at i G) F.component F.at c.claim-headers.ensures.headers in
-    let q = f c.prepare.new.part in
-    let is : q ≡ prepared_where announces F.component (f part) = c.prepare.ensures ∙ ap (λ (k : Component). prepared_where announces k (f part)) (sym same) in
+    let places = c.claim.new.headers in
+    let fronts : HasFronts F.component places (stocked G.stock) = at_some (λ k. HasFronts k places (stocked G.stock)) (component_at i G) F.component F.at c.claim.ensures.headers in
+    let q = f c.open-desk.result.value.part in
+    let is : q ≡ prepared_where announces F.component (f part) = c.open-desk.ensures.part ∙ ap (λ (k : Component). prepared_where announces k (f part)) (sym same) in
     given_none (look_of G) F.component S ok places (stocked G.stock) refl fronts (f part) T c.lawful_terms.ensures.format c.lawful_terms.ensures.factor announces tells q is
 
 pub invariant_of-self : goal.invariant_of-self
@@ -281,17 +281,17 @@ invariant_of-self g c =
     let S = is_sound p _ I i F.component F.at in
     let b : i < length items = items_within f items i (part_within p _ I i F.component F.at) in
     let here : slice_get items i ≡ Some c.index_mut.result.now = slice_get-get_or items i c.index_mut.result.now b ∙ ap Some (sym c.index_mut.ensures.value) in
-    let part = c.in-Some-take.part in
+    let part = c.in-Some-take.seat in
     let there : slice_get items i ≡ Some (Some part) = here ∙ ap Some (sym c.take.ensures.value ∙ c.in-Some-take.is) in
     let T : IsPartOf F.component (f part) = holds_it p _ I i F.component F.at f items refl M.free part there in
     let same : F.component ≡ component_of c.in-Some-at.component.now = component_is p G c.args.h i F c.in-Some-at.component.now (rw c.in-Some-at.is at c.at.ensures) in
     let announces = c.must_announce-announces.result in
     let tells : announces ≡ must_announce F.component = at_some (λ k. announces ≡ must_announce k) (component_at i G) F.component F.at c.must_announce-announces.ensures in
-    let places = c.claim-headers.result in
-    let fronts : HasFronts F.component places (stocked G.stock) = at_some (λ k. HasFronts k places (stocked G.stock)) (component_at i G) F.component F.at c.claim-headers.ensures.headers in
-    let q = f c.prepare.new.part in
-    let is : q ≡ prepared_where announces F.component (f part) = c.prepare.ensures ∙ ap (λ (k : Component). prepared_where announces k (f part)) (sym same) in
-    let X = claimed_at p G c.args.h i F c.claim-headers.new.self c.close_out.new.self places c.in_default-claim_idle.ensures c.claim-headers.ensures.change c.claim-headers.ensures.carried c.close_out.ensures.closes in
+    let places = c.claim.new.headers in
+    let fronts : HasFronts F.component places (stocked G.stock) = at_some (λ k. HasFronts k places (stocked G.stock)) (component_at i G) F.component F.at c.claim.ensures.headers in
+    let q = f c.open-desk.result.value.part in
+    let is : q ≡ prepared_where announces F.component (f part) = c.open-desk.ensures.part ∙ ap (λ (k : Component). prepared_where announces k (f part)) (sym same) in
+    let X = claimed_at p G c.args.h i F c.claim.new.self c.close_out.new.self places c.in_default-claim_idle.ensures c.claim.ensures.change c.claim.ensures.carried c.close_out.ensures.closes in
     let mine : number_of F.component ≡ c.args.h.generation = ap (λ (k : Handle). k.generation) (own p G G G c.args.h i F (λ k. refl)) in
     let after : map (option_map f) (set items i c.take.new.self) ≡ set (map (option_map f) items) i None = map_set (option_map f) items i c.take.new.self ∙ ap (λ (o : Option (AnyPart (g.row.S.Denot) (g.row.K.Denot) g.S.Source g.K.Sink)). set (map (option_map f) items) i (option_map f o)) c.take.ensures.after in
     let held : slice_get (map (option_map f) items) i ≡ Some (Some (f part)) = slice_get-map (option_map f) items i ∙ ap (option_map (option_map f)) there in
@@ -311,22 +311,22 @@ returns-clause-step g c =
     let S = is_sound p _ I i F.component F.at in
     let b : i < length items = items_within f items i (part_within p _ I i F.component F.at) in
     let here : slice_get items i ≡ Some c.index_mut.result.now = slice_get-get_or items i c.index_mut.result.now b ∙ ap Some (sym c.index_mut.ensures.value) in
-    let part = c.in-Some-take.part in
+    let part = c.in-Some-take.seat in
     let there : slice_get items i ≡ Some (Some part) = here ∙ ap Some (sym c.take.ensures.value ∙ c.in-Some-take.is) in
     let T : IsPartOf F.component (f part) = holds_it p _ I i F.component F.at f items refl M.free part there in
     let same : F.component ≡ component_of c.in-Some-at.component.now = component_is p G c.args.h i F c.in-Some-at.component.now (rw c.in-Some-at.is at c.at.ensures) in
     let announces = c.must_announce-announces.result in
     let tells : announces ≡ must_announce F.component = at_some (λ k. announces ≡ must_announce k) (component_at i G) F.component F.at c.must_announce-announces.ensures in
-    let places = c.claim-headers.result in
-    let fronts : HasFronts F.component places (stocked G.stock) = at_some (λ k. HasFronts k places (stocked G.stock)) (component_at i G) F.component F.at c.claim-headers.ensures.headers in
-    let q = f c.prepare.new.part in
-    let is : q ≡ prepared_where announces F.component (f part) = c.prepare.ensures ∙ ap (λ (k : Component). prepared_where announces k (f part)) (sym same) in
-    let X = claimed_at p G c.args.h i F c.claim-headers.new.self c.close_out.new.self places c.in_default-claim_idle.ensures c.claim-headers.ensures.change c.claim-headers.ensures.carried c.close_out.ensures.closes in
+    let places = c.claim.new.headers in
+    let fronts : HasFronts F.component places (stocked G.stock) = at_some (λ k. HasFronts k places (stocked G.stock)) (component_at i G) F.component F.at c.claim.ensures.headers in
+    let q = f c.open-desk.result.value.part in
+    let is : q ≡ prepared_where announces F.component (f part) = c.open-desk.ensures.part ∙ ap (λ (k : Component). prepared_where announces k (f part)) (sym same) in
+    let X = claimed_at p G c.args.h i F c.claim.new.self c.close_out.new.self places c.in_default-claim_idle.ensures c.claim.ensures.change c.claim.ensures.carried c.close_out.ensures.closes in
     let mine : number_of F.component ≡ c.args.h.generation = ap (λ (k : Handle). k.generation) (own p G G G c.args.h i F (λ k. refl)) in
     let after : map (option_map f) (set items i c.take.new.self) ≡ set (map (option_map f) items) i None = map_set (option_map f) items i c.take.new.self ∙ ap (λ (o : Option (AnyPart (g.row.S.Denot) (g.row.K.Denot) g.S.Source g.K.Sink)). set (map (option_map f) items) i (option_map f o)) c.take.ensures.after in
     let held : slice_get (map (option_map f) items) i ≡ Some (Some (f part)) = slice_get-map (option_map f) items i ∙ ap (option_map (option_map f)) there in
     let seen = seen_of q in
-    let law = c.law_of_shown.ensures in
+    let law = (rw c.deref.ensures at c.law_of_shown.ensures) in
     let failed : F.component.part.failed ≡ false = (either_of F.component.part.ended F.component.part.failed M.goes).1 in
     rw (← c.self.view_is, after) (λ t A w s.
     let is_terms : t ≡ terms_of F.component = terms_named c.args.h (look_of G) F.component i t F.place F.at A in
@@ -338,7 +338,7 @@ returns-clause-step g c =
       y.1,
       (
         subst (λ (z : WorkSeen). Claim w c.args.h (Ok (ClaimedWork z)) y.0) (sym e) y.2.0,
-        λ x st. rw c.make_work.ensures.part (shown_done t false x q _ _ _ _ law.left law.rest law.kept law.writing (y.2.1 x (ap (λ (n : ℕ). stream_of n y.0) (sym comp) ∙ st))),
+        λ x st. rw (c.make_work.ensures.part, c.deref_mut.ensures.value) (shown_done t false x q _ _ _ _ law.left law.rest law.kept law.writing (y.2.1 x (ap (λ (n : ℕ). stream_of n y.0) (sym comp) ∙ st))),
       ),
     ))
 
@@ -356,23 +356,23 @@ returns-clause-terms g c =
     let S = is_sound p _ I i F.component F.at in
     let b : i < length items = items_within f items i (part_within p _ I i F.component F.at) in
     let here : slice_get items i ≡ Some c.index_mut.result.now = slice_get-get_or items i c.index_mut.result.now b ∙ ap Some (sym c.index_mut.ensures.value) in
-    let part = c.in-Some-take.part in
+    let part = c.in-Some-take.seat in
     let there : slice_get items i ≡ Some (Some part) = here ∙ ap Some (sym c.take.ensures.value ∙ c.in-Some-take.is) in
     let T : IsPartOf F.component (f part) = holds_it p _ I i F.component F.at f items refl M.free part there in
     let same : F.component ≡ component_of c.in-Some-at.component.now = component_is p G c.args.h i F c.in-Some-at.component.now (rw c.in-Some-at.is at c.at.ensures) in
     let announces = c.must_announce-announces.result in
     let tells : announces ≡ must_announce F.component = at_some (λ k. announces ≡ must_announce k) (component_at i G) F.component F.at c.must_announce-announces.ensures in
-    let places = c.claim-headers.result in
-    let fronts : HasFronts F.component places (stocked G.stock) = at_some (λ k. HasFronts k places (stocked G.stock)) (component_at i G) F.component F.at c.claim-headers.ensures.headers in
-    let q = f c.prepare.new.part in
-    let is : q ≡ prepared_where announces F.component (f part) = c.prepare.ensures ∙ ap (λ (k : Component). prepared_where announces k (f part)) (sym same) in
-    let X = claimed_at p G c.args.h i F c.claim-headers.new.self c.close_out.new.self places c.in_default-claim_idle.ensures c.claim-headers.ensures.change c.claim-headers.ensures.carried c.close_out.ensures.closes in
+    let places = c.claim.new.headers in
+    let fronts : HasFronts F.component places (stocked G.stock) = at_some (λ k. HasFronts k places (stocked G.stock)) (component_at i G) F.component F.at c.claim.ensures.headers in
+    let q = f c.open-desk.result.value.part in
+    let is : q ≡ prepared_where announces F.component (f part) = c.open-desk.ensures.part ∙ ap (λ (k : Component). prepared_where announces k (f part)) (sym same) in
+    let X = claimed_at p G c.args.h i F c.claim.new.self c.close_out.new.self places c.in_default-claim_idle.ensures c.claim.ensures.change c.claim.ensures.carried c.close_out.ensures.closes in
     let mine : number_of F.component ≡ c.args.h.generation = ap (λ (k : Handle). k.generation) (own p G G G c.args.h i F (λ k. refl)) in
     let after : map (option_map f) (set items i c.take.new.self) ≡ set (map (option_map f) items) i None = map_set (option_map f) items i c.take.new.self ∙ ap (λ (o : Option (AnyPart (g.row.S.Denot) (g.row.K.Denot) g.S.Source g.K.Sink)). set (map (option_map f) items) i (option_map f o)) c.take.ensures.after in
     let held : slice_get (map (option_map f) items) i ≡ Some (Some (f part)) = slice_get-map (option_map f) items i ∙ ap (option_map (option_map f)) there in
     rw (← c.self.view_is, c.make_work.ensures.part) (λ t A e.
     let is_terms : t ≡ terms_of F.component = terms_named c.args.h (look_of G) F.component i t F.place F.at A in
-    sym c.law_of_shown.ensures.terms ∙ (given_terms (look_of G) F.component S ok places (stocked G.stock) refl fronts (f part) T c.lawful_terms.ensures.format c.lawful_terms.ensures.factor announces tells q is (sym c.make_work.ensures.announces ∙ e) ∙ sym is_terms))
+    rw c.deref_mut.ensures.value (sym (rw c.deref.ensures at c.law_of_shown.ensures).terms ∙ (given_terms (look_of G) F.component S ok places (stocked G.stock) refl fronts (f part) T c.lawful_terms.ensures.format c.lawful_terms.ensures.factor announces tells q is (sym c.make_work.ensures.announces ∙ e) ∙ sym is_terms)))
 
 pub returns-clause-its : goal.returns-clause-its
 returns-clause-its g c =
@@ -388,20 +388,20 @@ returns-clause-its g c =
     let S = is_sound p _ I i F.component F.at in
     let b : i < length items = items_within f items i (part_within p _ I i F.component F.at) in
     let here : slice_get items i ≡ Some c.index_mut.result.now = slice_get-get_or items i c.index_mut.result.now b ∙ ap Some (sym c.index_mut.ensures.value) in
-    let part = c.in-Some-take.part in
+    let part = c.in-Some-take.seat in
     let there : slice_get items i ≡ Some (Some part) = here ∙ ap Some (sym c.take.ensures.value ∙ c.in-Some-take.is) in
     let T : IsPartOf F.component (f part) = holds_it p _ I i F.component F.at f items refl M.free part there in
     let same : F.component ≡ component_of c.in-Some-at.component.now = component_is p G c.args.h i F c.in-Some-at.component.now (rw c.in-Some-at.is at c.at.ensures) in
     let announces = c.must_announce-announces.result in
     let tells : announces ≡ must_announce F.component = at_some (λ k. announces ≡ must_announce k) (component_at i G) F.component F.at c.must_announce-announces.ensures in
-    let places = c.claim-headers.result in
-    let fronts : HasFronts F.component places (stocked G.stock) = at_some (λ k. HasFronts k places (stocked G.stock)) (component_at i G) F.component F.at c.claim-headers.ensures.headers in
-    let q = f c.prepare.new.part in
-    let is : q ≡ prepared_where announces F.component (f part) = c.prepare.ensures ∙ ap (λ (k : Component). prepared_where announces k (f part)) (sym same) in
-    let X = claimed_at p G c.args.h i F c.claim-headers.new.self c.close_out.new.self places c.in_default-claim_idle.ensures c.claim-headers.ensures.change c.claim-headers.ensures.carried c.close_out.ensures.closes in
-    let D = gone_named p _ c.close_out.new.self c.args.h i F.component (lent_work F.component places) I F.place F.at X (λ n. c.close_out.ensures.clients n ∙ c.claim-headers.ensures.clients n) in
-    let law = c.law_of_shown.ensures in
-    rw (c.make_work.ensures.part, c.make_work.ensures.announces) (and_some _ (component_named c.args.h (components_of c.close_out.new.self.entries)) D.0 D.1 (own_as D.0 announces None q.terms _ q.failed _ law.terms law.failed
+    let places = c.claim.new.headers in
+    let fronts : HasFronts F.component places (stocked G.stock) = at_some (λ k. HasFronts k places (stocked G.stock)) (component_at i G) F.component F.at c.claim.ensures.headers in
+    let q = f c.open-desk.result.value.part in
+    let is : q ≡ prepared_where announces F.component (f part) = c.open-desk.ensures.part ∙ ap (λ (k : Component). prepared_where announces k (f part)) (sym same) in
+    let X = claimed_at p G c.args.h i F c.claim.new.self c.close_out.new.self places c.in_default-claim_idle.ensures c.claim.ensures.change c.claim.ensures.carried c.close_out.ensures.closes in
+    let D = gone_named p _ c.close_out.new.self c.args.h i F.component (lent_work F.component places) I F.place F.at X (λ n. c.close_out.ensures.clients n ∙ c.claim.ensures.clients n) in
+    let law = (rw c.deref.ensures at c.law_of_shown.ensures) in
+    rw (c.make_work.ensures.part, c.make_work.ensures.announces, c.deref_mut.ensures.value) (and_some _ (component_named c.args.h (components_of c.close_out.new.self.entries)) D.0 D.1 (own_as D.0 announces None q.terms _ q.failed _ law.terms law.failed
     (given_own (look_of G) F.component S ok places (stocked G.stock) refl fronts (f part) T c.lawful_terms.ensures.format c.lawful_terms.ensures.factor announces tells q is D.0 (work_of (look_of G).headers F.component) D.2 (sym tells))))
 
 pub returns-clause-whole : goal.returns-clause-whole
@@ -418,18 +418,18 @@ returns-clause-whole g c =
     let S = is_sound p _ I i F.component F.at in
     let b : i < length items = items_within f items i (part_within p _ I i F.component F.at) in
     let here : slice_get items i ≡ Some c.index_mut.result.now = slice_get-get_or items i c.index_mut.result.now b ∙ ap Some (sym c.index_mut.ensures.value) in
-    let part = c.in-Some-take.part in
+    let part = c.in-Some-take.seat in
     let there : slice_get items i ≡ Some (Some part) = here ∙ ap Some (sym c.take.ensures.value ∙ c.in-Some-take.is) in
     let T : IsPartOf F.component (f part) = holds_it p _ I i F.component F.at f items refl M.free part there in
     let same : F.component ≡ component_of c.in-Some-at.component.now = component_is p G c.args.h i F c.in-Some-at.component.now (rw c.in-Some-at.is at c.at.ensures) in
     let announces = c.must_announce-announces.result in
     let tells : announces ≡ must_announce F.component = at_some (λ k. announces ≡ must_announce k) (component_at i G) F.component F.at c.must_announce-announces.ensures in
-    let places = c.claim-headers.result in
-    let fronts : HasFronts F.component places (stocked G.stock) = at_some (λ k. HasFronts k places (stocked G.stock)) (component_at i G) F.component F.at c.claim-headers.ensures.headers in
-    let q = f c.prepare.new.part in
-    let is : q ≡ prepared_where announces F.component (f part) = c.prepare.ensures ∙ ap (λ (k : Component). prepared_where announces k (f part)) (sym same) in
+    let places = c.claim.new.headers in
+    let fronts : HasFronts F.component places (stocked G.stock) = at_some (λ k. HasFronts k places (stocked G.stock)) (component_at i G) F.component F.at c.claim.ensures.headers in
+    let q = f c.open-desk.result.value.part in
+    let is : q ≡ prepared_where announces F.component (f part) = c.open-desk.ensures.part ∙ ap (λ (k : Component). prepared_where announces k (f part)) (sym same) in
     let failed : F.component.part.failed ≡ false = (either_of F.component.part.ended F.component.part.failed M.goes).1 in
-    rw c.make_work.ensures.part (sym c.law_of_shown.ensures.failed ∙ (given_failed (look_of G) F.component S ok places (stocked G.stock) refl fronts (f part) T c.lawful_terms.ensures.format c.lawful_terms.ensures.factor announces tells q is ∙ failed))
+    rw (c.make_work.ensures.part, c.deref_mut.ensures.value) (sym (rw c.deref.ensures at c.law_of_shown.ensures).failed ∙ (given_failed (look_of G) F.component S ok places (stocked G.stock) refl fronts (f part) T c.lawful_terms.ensures.format c.lawful_terms.ensures.factor announces tells q is ∙ failed))
 
 pub returns-clause-lent : goal.returns-clause-lent
 returns-clause-lent g c =
@@ -445,23 +445,23 @@ returns-clause-lent g c =
     let S = is_sound p _ I i F.component F.at in
     let b : i < length items = items_within f items i (part_within p _ I i F.component F.at) in
     let here : slice_get items i ≡ Some c.index_mut.result.now = slice_get-get_or items i c.index_mut.result.now b ∙ ap Some (sym c.index_mut.ensures.value) in
-    let part = c.in-Some-take.part in
+    let part = c.in-Some-take.seat in
     let there : slice_get items i ≡ Some (Some part) = here ∙ ap Some (sym c.take.ensures.value ∙ c.in-Some-take.is) in
     let T : IsPartOf F.component (f part) = holds_it p _ I i F.component F.at f items refl M.free part there in
     let same : F.component ≡ component_of c.in-Some-at.component.now = component_is p G c.args.h i F c.in-Some-at.component.now (rw c.in-Some-at.is at c.at.ensures) in
     let announces = c.must_announce-announces.result in
     let tells : announces ≡ must_announce F.component = at_some (λ k. announces ≡ must_announce k) (component_at i G) F.component F.at c.must_announce-announces.ensures in
-    let places = c.claim-headers.result in
-    let fronts : HasFronts F.component places (stocked G.stock) = at_some (λ k. HasFronts k places (stocked G.stock)) (component_at i G) F.component F.at c.claim-headers.ensures.headers in
-    let q = f c.prepare.new.part in
-    let is : q ≡ prepared_where announces F.component (f part) = c.prepare.ensures ∙ ap (λ (k : Component). prepared_where announces k (f part)) (sym same) in
-    let X = claimed_at p G c.args.h i F c.claim-headers.new.self c.close_out.new.self places c.in_default-claim_idle.ensures c.claim-headers.ensures.change c.claim-headers.ensures.carried c.close_out.ensures.closes in
+    let places = c.claim.new.headers in
+    let fronts : HasFronts F.component places (stocked G.stock) = at_some (λ k. HasFronts k places (stocked G.stock)) (component_at i G) F.component F.at c.claim.ensures.headers in
+    let q = f c.open-desk.result.value.part in
+    let is : q ≡ prepared_where announces F.component (f part) = c.open-desk.ensures.part ∙ ap (λ (k : Component). prepared_where announces k (f part)) (sym same) in
+    let X = claimed_at p G c.args.h i F c.claim.new.self c.close_out.new.self places c.in_default-claim_idle.ensures c.claim.ensures.change c.claim.ensures.carried c.close_out.ensures.closes in
     let mine : number_of F.component ≡ c.args.h.generation = ap (λ (k : Handle). k.generation) (own p G G G c.args.h i F (λ k. refl)) in
     let after : map (option_map f) (set items i c.take.new.self) ≡ set (map (option_map f) items) i None = map_set (option_map f) items i c.take.new.self ∙ ap (λ (o : Option (AnyPart (g.row.S.Denot) (g.row.K.Denot) g.S.Source g.K.Sink)). set (map (option_map f) items) i (option_map f o)) c.take.ensures.after in
     let held : slice_get (map (option_map f) items) i ≡ Some (Some (f part)) = slice_get-map (option_map f) items i ∙ ap (option_map (option_map f)) there in
-    let L = at_some (λ k. AreLent (number_of k) places (look_of c.claim-headers.new.self)) (component_at i G) F.component F.at c.claim-headers.ensures.lent in
-    let u = at_some (λ k. StepsBare (core_kept p G) (core_kept p c.claim-headers.new.self) (λ w v. v ≡ with_work i k (work_of (seen w.headers) k) w)) (component_at i G) F.component F.at c.claim-headers.ensures.change I.worlds.world (bare p _ I.worlds.world I.worlds.stands) in
-    rw (c.make_work.ensures.headers, ← mine) (lent_over p c.claim-headers.new.self c.close_out.new.self u.0 u.1 c.close_out.ensures.closes (number_of F.component) places L)
+    let L = at_some (λ k. AreLent (number_of k) places (look_of c.claim.new.self)) (component_at i G) F.component F.at c.claim.ensures.lent in
+    let u = at_some (λ k. StepsBare (core_kept p G) (core_kept p c.claim.new.self) (λ w v. v ≡ with_work i k (work_of (seen w.headers) k) w)) (component_at i G) F.component F.at c.claim.ensures.change I.worlds.world (bare p _ I.worlds.world I.worlds.stands) in
+    rw (c.make_work.ensures.headers, ← mine) (lent_over p c.claim.new.self c.close_out.new.self u.0 u.1 c.close_out.ensures.closes (number_of F.component) places L)
 
 pub returns-clause-file : goal.returns-clause-file
 returns-clause-file g c =
@@ -477,21 +477,21 @@ returns-clause-file g c =
     let S = is_sound p _ I i F.component F.at in
     let b : i < length items = items_within f items i (part_within p _ I i F.component F.at) in
     let here : slice_get items i ≡ Some c.index_mut.result.now = slice_get-get_or items i c.index_mut.result.now b ∙ ap Some (sym c.index_mut.ensures.value) in
-    let part = c.in-Some-take.part in
+    let part = c.in-Some-take.seat in
     let there : slice_get items i ≡ Some (Some part) = here ∙ ap Some (sym c.take.ensures.value ∙ c.in-Some-take.is) in
     let T : IsPartOf F.component (f part) = holds_it p _ I i F.component F.at f items refl M.free part there in
     let same : F.component ≡ component_of c.in-Some-at.component.now = component_is p G c.args.h i F c.in-Some-at.component.now (rw c.in-Some-at.is at c.at.ensures) in
     let announces = c.must_announce-announces.result in
     let tells : announces ≡ must_announce F.component = at_some (λ k. announces ≡ must_announce k) (component_at i G) F.component F.at c.must_announce-announces.ensures in
-    let places = c.claim-headers.result in
-    let fronts : HasFronts F.component places (stocked G.stock) = at_some (λ k. HasFronts k places (stocked G.stock)) (component_at i G) F.component F.at c.claim-headers.ensures.headers in
-    let q = f c.prepare.new.part in
-    let is : q ≡ prepared_where announces F.component (f part) = c.prepare.ensures ∙ ap (λ (k : Component). prepared_where announces k (f part)) (sym same) in
-    let X = claimed_at p G c.args.h i F c.claim-headers.new.self c.close_out.new.self places c.in_default-claim_idle.ensures c.claim-headers.ensures.change c.claim-headers.ensures.carried c.close_out.ensures.closes in
+    let places = c.claim.new.headers in
+    let fronts : HasFronts F.component places (stocked G.stock) = at_some (λ k. HasFronts k places (stocked G.stock)) (component_at i G) F.component F.at c.claim.ensures.headers in
+    let q = f c.open-desk.result.value.part in
+    let is : q ≡ prepared_where announces F.component (f part) = c.open-desk.ensures.part ∙ ap (λ (k : Component). prepared_where announces k (f part)) (sym same) in
+    let X = claimed_at p G c.args.h i F c.claim.new.self c.close_out.new.self places c.in_default-claim_idle.ensures c.claim.ensures.change c.claim.ensures.carried c.close_out.ensures.closes in
     let mine : number_of F.component ≡ c.args.h.generation = ap (λ (k : Handle). k.generation) (own p G G G c.args.h i F (λ k. refl)) in
     let after : map (option_map f) (set items i c.take.new.self) ≡ set (map (option_map f) items) i None = map_set (option_map f) items i c.take.new.self ∙ ap (λ (o : Option (AnyPart (g.row.S.Denot) (g.row.K.Denot) g.S.Source g.K.Sink)). set (map (option_map f) items) i (option_map f o)) c.take.ensures.after in
     let held : slice_get (map (option_map f) items) i ≡ Some (Some (f part)) = slice_get-map (option_map f) items i ∙ ap (option_map (option_map f)) there in
-    rw (← c.self.view_is, c.make_work.ensures.part) (given_file (look_of G) F.component S ok places (stocked G.stock) refl fronts (f part) T c.lawful_terms.ensures.format c.lawful_terms.ensures.factor announces tells q is ∙ sym (gone_file p _ c.close_out.new.self c.args.h i F.component (lent_work F.component places) I F.place F.at X mine (f part) held))
+    rw (← c.self.view_is, c.make_work.ensures.part, c.deref_mut.ensures.value) (given_file (look_of G) F.component S ok places (stocked G.stock) refl fronts (f part) T c.lawful_terms.ensures.format c.lawful_terms.ensures.factor announces tells q is ∙ sym (gone_file p _ c.close_out.new.self c.args.h i F.component (lent_work F.component places) I F.place F.at X mine (f part) held))
 
 pub returns-clause-gone : goal.returns-clause-gone
 returns-clause-gone g c =
@@ -507,17 +507,17 @@ returns-clause-gone g c =
     let S = is_sound p _ I i F.component F.at in
     let b : i < length items = items_within f items i (part_within p _ I i F.component F.at) in
     let here : slice_get items i ≡ Some c.index_mut.result.now = slice_get-get_or items i c.index_mut.result.now b ∙ ap Some (sym c.index_mut.ensures.value) in
-    let part = c.in-Some-take.part in
+    let part = c.in-Some-take.seat in
     let there : slice_get items i ≡ Some (Some part) = here ∙ ap Some (sym c.take.ensures.value ∙ c.in-Some-take.is) in
     let T : IsPartOf F.component (f part) = holds_it p _ I i F.component F.at f items refl M.free part there in
     let same : F.component ≡ component_of c.in-Some-at.component.now = component_is p G c.args.h i F c.in-Some-at.component.now (rw c.in-Some-at.is at c.at.ensures) in
     let announces = c.must_announce-announces.result in
     let tells : announces ≡ must_announce F.component = at_some (λ k. announces ≡ must_announce k) (component_at i G) F.component F.at c.must_announce-announces.ensures in
-    let places = c.claim-headers.result in
-    let fronts : HasFronts F.component places (stocked G.stock) = at_some (λ k. HasFronts k places (stocked G.stock)) (component_at i G) F.component F.at c.claim-headers.ensures.headers in
-    let q = f c.prepare.new.part in
-    let is : q ≡ prepared_where announces F.component (f part) = c.prepare.ensures ∙ ap (λ (k : Component). prepared_where announces k (f part)) (sym same) in
-    let X = claimed_at p G c.args.h i F c.claim-headers.new.self c.close_out.new.self places c.in_default-claim_idle.ensures c.claim-headers.ensures.change c.claim-headers.ensures.carried c.close_out.ensures.closes in
+    let places = c.claim.new.headers in
+    let fronts : HasFronts F.component places (stocked G.stock) = at_some (λ k. HasFronts k places (stocked G.stock)) (component_at i G) F.component F.at c.claim.ensures.headers in
+    let q = f c.open-desk.result.value.part in
+    let is : q ≡ prepared_where announces F.component (f part) = c.open-desk.ensures.part ∙ ap (λ (k : Component). prepared_where announces k (f part)) (sym same) in
+    let X = claimed_at p G c.args.h i F c.claim.new.self c.close_out.new.self places c.in_default-claim_idle.ensures c.claim.ensures.change c.claim.ensures.carried c.close_out.ensures.closes in
     let mine : number_of F.component ≡ c.args.h.generation = ap (λ (k : Handle). k.generation) (own p G G G c.args.h i F (λ k. refl)) in
     let after : map (option_map f) (set items i c.take.new.self) ≡ set (map (option_map f) items) i None = map_set (option_map f) items i c.take.new.self ∙ ap (λ (o : Option (AnyPart (g.row.S.Denot) (g.row.K.Denot) g.S.Source g.K.Sink)). set (map (option_map f) items) i (option_map f o)) c.take.ensures.after in
     let held : slice_get (map (option_map f) items) i ≡ Some (Some (f part)) = slice_get-map (option_map f) items i ∙ ap (option_map (option_map f)) there in
@@ -537,17 +537,17 @@ returns-clause-files g c =
     let S = is_sound p _ I i F.component F.at in
     let b : i < length items = items_within f items i (part_within p _ I i F.component F.at) in
     let here : slice_get items i ≡ Some c.index_mut.result.now = slice_get-get_or items i c.index_mut.result.now b ∙ ap Some (sym c.index_mut.ensures.value) in
-    let part = c.in-Some-take.part in
+    let part = c.in-Some-take.seat in
     let there : slice_get items i ≡ Some (Some part) = here ∙ ap Some (sym c.take.ensures.value ∙ c.in-Some-take.is) in
     let T : IsPartOf F.component (f part) = holds_it p _ I i F.component F.at f items refl M.free part there in
     let same : F.component ≡ component_of c.in-Some-at.component.now = component_is p G c.args.h i F c.in-Some-at.component.now (rw c.in-Some-at.is at c.at.ensures) in
     let announces = c.must_announce-announces.result in
     let tells : announces ≡ must_announce F.component = at_some (λ k. announces ≡ must_announce k) (component_at i G) F.component F.at c.must_announce-announces.ensures in
-    let places = c.claim-headers.result in
-    let fronts : HasFronts F.component places (stocked G.stock) = at_some (λ k. HasFronts k places (stocked G.stock)) (component_at i G) F.component F.at c.claim-headers.ensures.headers in
-    let q = f c.prepare.new.part in
-    let is : q ≡ prepared_where announces F.component (f part) = c.prepare.ensures ∙ ap (λ (k : Component). prepared_where announces k (f part)) (sym same) in
-    let X = claimed_at p G c.args.h i F c.claim-headers.new.self c.close_out.new.self places c.in_default-claim_idle.ensures c.claim-headers.ensures.change c.claim-headers.ensures.carried c.close_out.ensures.closes in
+    let places = c.claim.new.headers in
+    let fronts : HasFronts F.component places (stocked G.stock) = at_some (λ k. HasFronts k places (stocked G.stock)) (component_at i G) F.component F.at c.claim.ensures.headers in
+    let q = f c.open-desk.result.value.part in
+    let is : q ≡ prepared_where announces F.component (f part) = c.open-desk.ensures.part ∙ ap (λ (k : Component). prepared_where announces k (f part)) (sym same) in
+    let X = claimed_at p G c.args.h i F c.claim.new.self c.close_out.new.self places c.in_default-claim_idle.ensures c.claim.ensures.change c.claim.ensures.carried c.close_out.ensures.closes in
     let mine : number_of F.component ≡ c.args.h.generation = ap (λ (k : Handle). k.generation) (own p G G G c.args.h i F (λ k. refl)) in
     let after : map (option_map f) (set items i c.take.new.self) ≡ set (map (option_map f) items) i None = map_set (option_map f) items i c.take.new.self ∙ ap (λ (o : Option (AnyPart (g.row.S.Denot) (g.row.K.Denot) g.S.Source g.K.Sink)). set (map (option_map f) items) i (option_map f o)) c.take.ensures.after in
     let held : slice_get (map (option_map f) items) i ≡ Some (Some (f part)) = slice_get-map (option_map f) items i ∙ ap (option_map (option_map f)) there in
@@ -567,17 +567,17 @@ returns-clause-held g c =
     let S = is_sound p _ I i F.component F.at in
     let b : i < length items = items_within f items i (part_within p _ I i F.component F.at) in
     let here : slice_get items i ≡ Some c.index_mut.result.now = slice_get-get_or items i c.index_mut.result.now b ∙ ap Some (sym c.index_mut.ensures.value) in
-    let part = c.in-Some-take.part in
+    let part = c.in-Some-take.seat in
     let there : slice_get items i ≡ Some (Some part) = here ∙ ap Some (sym c.take.ensures.value ∙ c.in-Some-take.is) in
     let T : IsPartOf F.component (f part) = holds_it p _ I i F.component F.at f items refl M.free part there in
     let same : F.component ≡ component_of c.in-Some-at.component.now = component_is p G c.args.h i F c.in-Some-at.component.now (rw c.in-Some-at.is at c.at.ensures) in
     let announces = c.must_announce-announces.result in
     let tells : announces ≡ must_announce F.component = at_some (λ k. announces ≡ must_announce k) (component_at i G) F.component F.at c.must_announce-announces.ensures in
-    let places = c.claim-headers.result in
-    let fronts : HasFronts F.component places (stocked G.stock) = at_some (λ k. HasFronts k places (stocked G.stock)) (component_at i G) F.component F.at c.claim-headers.ensures.headers in
-    let q = f c.prepare.new.part in
-    let is : q ≡ prepared_where announces F.component (f part) = c.prepare.ensures ∙ ap (λ (k : Component). prepared_where announces k (f part)) (sym same) in
-    let X = claimed_at p G c.args.h i F c.claim-headers.new.self c.close_out.new.self places c.in_default-claim_idle.ensures c.claim-headers.ensures.change c.claim-headers.ensures.carried c.close_out.ensures.closes in
+    let places = c.claim.new.headers in
+    let fronts : HasFronts F.component places (stocked G.stock) = at_some (λ k. HasFronts k places (stocked G.stock)) (component_at i G) F.component F.at c.claim.ensures.headers in
+    let q = f c.open-desk.result.value.part in
+    let is : q ≡ prepared_where announces F.component (f part) = c.open-desk.ensures.part ∙ ap (λ (k : Component). prepared_where announces k (f part)) (sym same) in
+    let X = claimed_at p G c.args.h i F c.claim.new.self c.close_out.new.self places c.in_default-claim_idle.ensures c.claim.ensures.change c.claim.ensures.carried c.close_out.ensures.closes in
     let mine : number_of F.component ≡ c.args.h.generation = ap (λ (k : Handle). k.generation) (own p G G G c.args.h i F (λ k. refl)) in
     let after : map (option_map f) (set items i c.take.new.self) ≡ set (map (option_map f) items) i None = map_set (option_map f) items i c.take.new.self ∙ ap (λ (o : Option (AnyPart (g.row.S.Denot) (g.row.K.Denot) g.S.Source g.K.Sink)). set (map (option_map f) items) i (option_map f o)) c.take.ensures.after in
     let held : slice_get (map (option_map f) items) i ≡ Some (Some (f part)) = slice_get-map (option_map f) items i ∙ ap (option_map (option_map f)) there in
@@ -585,4 +585,4 @@ returns-clause-held g c =
 
 pub returns-clause-clients : goal.returns-clause-clients
 returns-clause-clients g c =
-    rw (← c.self.view_is) (λ k. c.close_out.ensures.clients k ∙ c.claim-headers.ensures.clients k)
+    rw (← c.self.view_is) (λ k. c.close_out.ensures.clients k ∙ c.claim.ensures.clients k)

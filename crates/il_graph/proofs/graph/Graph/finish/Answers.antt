@@ -45,7 +45,7 @@ finish_announcement-requires g c =
     let I = c.self.invariant.1 in
     let n : number_of k0 ≡ d.component.generation = number_named h (components_of G.entries) i k0 F.place F.at ∙ ap (λ (x : Handle). x.generation) c.component.ensures in
     let O = own_is h d.component (components_of G.entries) i k0 c.component.ensures F.place F.at (rw (← c.self.view_is) at c.requires.its) in
-    let a : d.announces ≡ true = is_told d.announces c.into_parts-part.result.1 _ c.into_parts-part.ensures.brought c.in_default-brought.is in
+    let a : d.announces ≡ true = is_told d.announces c.into_parts-desk.result.1 _ c.into_parts-desk.ensures.brought c.in_default-brought.is in
     and_some (λ (x : Component). IsSomeAnd x.work (λ work. work.announces ≡ true)) (component_at i G) k0 F.at (works_so k0 d.announces true a O.work)
 
 pub finish-requires-clause-comes : goal.finish-requires-clause-comes
@@ -63,22 +63,22 @@ finish-requires-clause-comes g c =
     let n : number_of k0 ≡ d.component.generation = number_named h (components_of G.entries) i k0 F.place F.at ∙ ap (λ (x : Handle). x.generation) c.component.ensures in
     let O = own_is h d.component (components_of G.entries) i k0 c.component.ensures F.place F.at (rw (← c.self.view_is) at c.requires.its) in
     let q = f d.part in
-    let L = rw c.into_parts-part.ensures.part at c.law_of_shown.ensures.left in
-    let seen = seen_as q _ _ _ _ L (rw c.into_parts-part.ensures.part at c.law_of_shown.ensures.rest) (rw c.into_parts-part.ensures.part at c.law_of_shown.ensures.kept) (rw c.into_parts-part.ensures.part at c.law_of_shown.ensures.writing) in
+    let L = rw (c.deref.ensures, c.into_parts-desk.ensures.part) at c.law_of_shown.ensures.left in
+    let seen = seen_as q _ _ _ _ L (rw (c.deref.ensures, c.into_parts-desk.ensures.part) at c.law_of_shown.ensures.rest) (rw (c.deref.ensures, c.into_parts-desk.ensures.part) at c.law_of_shown.ensures.kept) (rw (c.deref.ensures, c.into_parts-desk.ensures.part) at c.law_of_shown.ensures.writing) in
     let b = c.in-Some-brought.brought in
-    let a : d.announces ≡ false = is_brought d.announces c.into_parts-part.result.1 b c.into_parts-part.ensures.announced c.in-Some-brought.is in
-    let e = brought_is c.into_parts-part.result.1 b (record { headers = d.headers; frames = d.frames; fault = d.fault }) c.in-Some-brought.is (c.into_parts-part.ensures.brought a) in
+    let a : d.announces ≡ false = is_brought d.announces c.into_parts-desk.result.1 b c.into_parts-desk.ensures.announced c.in-Some-brought.is in
+    let e = brought_is c.into_parts-desk.result.1 b (record { frames = d.frames; fault = d.fault }) c.in-Some-brought.is (c.into_parts-desk.ensures.brought a) in
     let step : Stepped = record { frames = b.frames; fault = b.fault; left = c.unwrap_or-left.result } in
-    let is : (took : List ℕ) → done_by (number_of k0) b.headers step took ≡ seen_done took d = λ took. brought_done d (number_of k0) b.headers b.frames b.fault step.left took n (ap (λ x. x.headers) e) (ap (λ x. x.frames) e) (ap (λ x. x.fault) e) in
-    let left : step.left ≡ unwrap_or q.left 0 = c.unwrap_or-left.ensures ∙ ap (λ (o : Option ℕ). unwrap_or o 0) (rw c.into_parts-part.ensures.part at c.frames_left.ensures.value ∙ sym L) in
+    let is : (took : List ℕ) → done_by (number_of k0) c.into_parts-desk.result.0.value.headers step took ≡ seen_done took d = λ took. brought_done d (number_of k0) c.into_parts-desk.result.0.value.headers b.frames b.fault step.left took n c.into_parts-desk.ensures.headers (ap (λ x. x.frames) e) (ap (λ x. x.fault) e) in
+    let left : step.left ≡ unwrap_or q.left 0 = c.unwrap_or-left.ensures ∙ ap (λ (o : Option ℕ). unwrap_or o 0) (rw (c.deref-2.ensures, c.into_parts-desk.ensures.part) at c.frames_left.ensures.value ∙ sym L) in
     let sound : (w : World) → StandsBare (core.kept p G) w → Sound w = λ w s. sound_in p _ I w s in
     let comes = rw (← c.self.view_is) at c.requires.comes in
     let R = subst (λ (x : PartSeen). Returns comes.0 (seen_done comes.1 d) x) seen comes.2.1 in
     let w = comes.0 in
     let s = bare p _ w comes.2.0 in
     let K = return_of w i k0 (seen_done comes.1 d) (seen_of q) (sound w s) (ap (λ (l : Look). slice_get l.components i) s.looks ∙ F.at) (sym n) R in
-    and_some (λ (x : Component). (w : World) × (took : List ℕ) × (StandsBare (core.kept p G) w × ComesBack w x b.headers step took)) (component_at i G) k0 F.at
-    (w, comes.1, (s, comes_back w k0 b.headers step comes.1 (seen_of q) (works_so k0 d.announces false a O.work) left (subst (λ (x : WorkDone). IsReturn w k0 x (seen_of q)) (sym (is comes.1)) K)))
+    rw c.deref_mut.ensures.value (and_some (λ (x : Component). (w : World) × (took : List ℕ) × (StandsBare (core.kept p G) w × ComesBack w x c.into_parts-desk.result.0.value.headers step took)) (component_at i G) k0 F.at
+    (w, comes.1, (s, comes_back w k0 c.into_parts-desk.result.0.value.headers step comes.1 (seen_of q) (works_so k0 d.announces false a O.work) left (subst (λ (x : WorkDone). IsReturn w k0 x (seen_of q)) (sym (is comes.1)) K))))
 
 pub finish-requires-clause-handed : goal.finish-requires-clause-handed
 finish-requires-clause-handed g c =
@@ -95,9 +95,9 @@ finish-requires-clause-handed g c =
     let n : number_of k0 ≡ d.component.generation = number_named h (components_of G.entries) i k0 F.place F.at ∙ ap (λ (x : Handle). x.generation) c.component.ensures in
     let O = own_is h d.component (components_of G.entries) i k0 c.component.ensures F.place F.at (rw (← c.self.view_is) at c.requires.its) in
     let b = c.in-Some-brought.brought in
-    let a : d.announces ≡ false = is_brought d.announces c.into_parts-part.result.1 b c.into_parts-part.ensures.announced c.in-Some-brought.is in
-    let e = brought_is c.into_parts-part.result.1 b (record { headers = d.headers; frames = d.frames; fault = d.fault }) c.in-Some-brought.is (c.into_parts-part.ensures.brought a) in
-    rw (ap (λ x. x.headers) e) (rw (← c.self.view_is) at c.requires.handed)
+    let a : d.announces ≡ false = is_brought d.announces c.into_parts-desk.result.1 b c.into_parts-desk.ensures.announced c.in-Some-brought.is in
+    let e = brought_is c.into_parts-desk.result.1 b (record { frames = d.frames; fault = d.fault }) c.in-Some-brought.is (c.into_parts-desk.ensures.brought a) in
+    rw (c.deref_mut.ensures.value, c.into_parts-desk.ensures.headers) (rw (← c.self.view_is) at c.requires.handed)
 
 pub end_part-requires : goal.end_part-requires
 end_part-requires g c =
@@ -134,14 +134,14 @@ invariant_of-self g c =
     let n : number_of k0 ≡ d.component.generation = number_named h (components_of G.entries) i k0 F.place F.at ∙ ap (λ (x : Handle). x.generation) c.component.ensures in
     let O = own_is h d.component (components_of G.entries) i k0 c.component.ensures F.place F.at (rw (← c.self.view_is) at c.requires.its) in
     let q = f d.part in
-    let L = rw c.into_parts-part.ensures.part at c.law_of_shown.ensures.left in
-    let seen = seen_as q _ _ _ _ L (rw c.into_parts-part.ensures.part at c.law_of_shown.ensures.rest) (rw c.into_parts-part.ensures.part at c.law_of_shown.ensures.kept) (rw c.into_parts-part.ensures.part at c.law_of_shown.ensures.writing) in
-    let a : d.announces ≡ true = is_told d.announces c.into_parts-part.result.1 _ c.into_parts-part.ensures.brought c.in_default-brought.is in
+    let L = rw (c.deref.ensures, c.into_parts-desk.ensures.part) at c.law_of_shown.ensures.left in
+    let seen = seen_as q _ _ _ _ L (rw (c.deref.ensures, c.into_parts-desk.ensures.part) at c.law_of_shown.ensures.rest) (rw (c.deref.ensures, c.into_parts-desk.ensures.part) at c.law_of_shown.ensures.kept) (rw (c.deref.ensures, c.into_parts-desk.ensures.part) at c.law_of_shown.ensures.writing) in
+    let a : d.announces ≡ true = is_told d.announces c.into_parts-desk.result.1 _ c.into_parts-desk.ensures.brought c.in_default-brought.is in
     let within : i < length items = items_within (option_map f) component_of items G.entries i I.count c.in-Some.ensures.within in
     let here : slice_get items i ≡ Some c.index_mut.result.now = slice_get-get_or items i c.index_mut.result.now within ∙ ap Some (sym c.index_mut.ensures.value) in
     let there : slice_get (map (option_map f) items) i ≡ Some (option_map f c.index_mut.result.now) = slice_get-map (option_map f) items i ∙ ap (option_map (option_map f)) here in
-    let tied = own_part g.S.Source.told g.K.Sink.told g.K.Sink.name d.part k0 d.announces d.fault _ _ (rw c.into_parts-part.ensures.part at c.law_of_shown.ensures.terms) (rw c.into_parts-part.ensures.part at c.law_of_shown.ensures.failed) c.into_parts-part.ensures.lawful O in
-    let same = map_back f items i c.replace.new.dest d.part (c.replace.ensures.after ∙ ap Some c.into_parts-part.ensures.part) in
+    let tied = own_part g.S.Source.told g.K.Sink.told g.K.Sink.name d.part k0 d.announces d.fault _ _ (rw (c.deref.ensures, c.into_parts-desk.ensures.part) at c.law_of_shown.ensures.terms) (rw (c.deref.ensures, c.into_parts-desk.ensures.part) at c.law_of_shown.ensures.failed) c.into_parts-desk.ensures.lawful O in
+    let same = map_back f items i c.replace.new.dest d.part (c.replace.ensures.after ∙ ap Some c.into_parts-desk.ensures.part) in
     let comes = rw (← c.self.view_is) at c.requires.comes in
     let R = subst (λ (x : PartSeen). Returns comes.0 (seen_done comes.1 d) x) seen comes.2.1 in
     let sound : (w : World) → StandsBare (core.kept p G) w → Sound w = λ w s. sound_in p _ I w s in
@@ -166,14 +166,14 @@ returns-in_default-brought-clause-step g c =
     let n : number_of k0 ≡ d.component.generation = number_named h (components_of G.entries) i k0 F.place F.at ∙ ap (λ (x : Handle). x.generation) c.component.ensures in
     let O = own_is h d.component (components_of G.entries) i k0 c.component.ensures F.place F.at (rw (← c.self.view_is) at c.requires.its) in
     let q = f d.part in
-    let L = rw c.into_parts-part.ensures.part at c.law_of_shown.ensures.left in
-    let seen = seen_as q _ _ _ _ L (rw c.into_parts-part.ensures.part at c.law_of_shown.ensures.rest) (rw c.into_parts-part.ensures.part at c.law_of_shown.ensures.kept) (rw c.into_parts-part.ensures.part at c.law_of_shown.ensures.writing) in
-    let a : d.announces ≡ true = is_told d.announces c.into_parts-part.result.1 _ c.into_parts-part.ensures.brought c.in_default-brought.is in
+    let L = rw (c.deref.ensures, c.into_parts-desk.ensures.part) at c.law_of_shown.ensures.left in
+    let seen = seen_as q _ _ _ _ L (rw (c.deref.ensures, c.into_parts-desk.ensures.part) at c.law_of_shown.ensures.rest) (rw (c.deref.ensures, c.into_parts-desk.ensures.part) at c.law_of_shown.ensures.kept) (rw (c.deref.ensures, c.into_parts-desk.ensures.part) at c.law_of_shown.ensures.writing) in
+    let a : d.announces ≡ true = is_told d.announces c.into_parts-desk.result.1 _ c.into_parts-desk.ensures.brought c.in_default-brought.is in
     let within : i < length items = items_within (option_map f) component_of items G.entries i I.count c.in-Some.ensures.within in
     let here : slice_get items i ≡ Some c.index_mut.result.now = slice_get-get_or items i c.index_mut.result.now within ∙ ap Some (sym c.index_mut.ensures.value) in
     let there : slice_get (map (option_map f) items) i ≡ Some (option_map f c.index_mut.result.now) = slice_get-map (option_map f) items i ∙ ap (option_map (option_map f)) here in
-    let tied = own_part g.S.Source.told g.K.Sink.told g.K.Sink.name d.part k0 d.announces d.fault _ _ (rw c.into_parts-part.ensures.part at c.law_of_shown.ensures.terms) (rw c.into_parts-part.ensures.part at c.law_of_shown.ensures.failed) c.into_parts-part.ensures.lawful O in
-    let same = map_back f items i c.replace.new.dest d.part (c.replace.ensures.after ∙ ap Some c.into_parts-part.ensures.part) in
+    let tied = own_part g.S.Source.told g.K.Sink.told g.K.Sink.name d.part k0 d.announces d.fault _ _ (rw (c.deref.ensures, c.into_parts-desk.ensures.part) at c.law_of_shown.ensures.terms) (rw (c.deref.ensures, c.into_parts-desk.ensures.part) at c.law_of_shown.ensures.failed) c.into_parts-desk.ensures.lawful O in
+    let same = map_back f items i c.replace.new.dest d.part (c.replace.ensures.after ∙ ap Some c.into_parts-desk.ensures.part) in
     let comes = rw (← c.self.view_is) at c.requires.comes in
     let R = subst (λ (x : PartSeen). Returns comes.0 (seen_done comes.1 d) x) seen comes.2.1 in
     let sound : (w : World) → StandsBare (core.kept p G) w → Sound w = λ w s. sound_in p _ I w s in
@@ -198,14 +198,14 @@ returns-in_default-brought-clause-file g c =
     let n : number_of k0 ≡ d.component.generation = number_named h (components_of G.entries) i k0 F.place F.at ∙ ap (λ (x : Handle). x.generation) c.component.ensures in
     let O = own_is h d.component (components_of G.entries) i k0 c.component.ensures F.place F.at (rw (← c.self.view_is) at c.requires.its) in
     let q = f d.part in
-    let L = rw c.into_parts-part.ensures.part at c.law_of_shown.ensures.left in
-    let seen = seen_as q _ _ _ _ L (rw c.into_parts-part.ensures.part at c.law_of_shown.ensures.rest) (rw c.into_parts-part.ensures.part at c.law_of_shown.ensures.kept) (rw c.into_parts-part.ensures.part at c.law_of_shown.ensures.writing) in
-    let a : d.announces ≡ true = is_told d.announces c.into_parts-part.result.1 _ c.into_parts-part.ensures.brought c.in_default-brought.is in
+    let L = rw (c.deref.ensures, c.into_parts-desk.ensures.part) at c.law_of_shown.ensures.left in
+    let seen = seen_as q _ _ _ _ L (rw (c.deref.ensures, c.into_parts-desk.ensures.part) at c.law_of_shown.ensures.rest) (rw (c.deref.ensures, c.into_parts-desk.ensures.part) at c.law_of_shown.ensures.kept) (rw (c.deref.ensures, c.into_parts-desk.ensures.part) at c.law_of_shown.ensures.writing) in
+    let a : d.announces ≡ true = is_told d.announces c.into_parts-desk.result.1 _ c.into_parts-desk.ensures.brought c.in_default-brought.is in
     let within : i < length items = items_within (option_map f) component_of items G.entries i I.count c.in-Some.ensures.within in
     let here : slice_get items i ≡ Some c.index_mut.result.now = slice_get-get_or items i c.index_mut.result.now within ∙ ap Some (sym c.index_mut.ensures.value) in
     let there : slice_get (map (option_map f) items) i ≡ Some (option_map f c.index_mut.result.now) = slice_get-map (option_map f) items i ∙ ap (option_map (option_map f)) here in
-    let tied = own_part g.S.Source.told g.K.Sink.told g.K.Sink.name d.part k0 d.announces d.fault _ _ (rw c.into_parts-part.ensures.part at c.law_of_shown.ensures.terms) (rw c.into_parts-part.ensures.part at c.law_of_shown.ensures.failed) c.into_parts-part.ensures.lawful O in
-    let same = map_back f items i c.replace.new.dest d.part (c.replace.ensures.after ∙ ap Some c.into_parts-part.ensures.part) in
+    let tied = own_part g.S.Source.told g.K.Sink.told g.K.Sink.name d.part k0 d.announces d.fault _ _ (rw (c.deref.ensures, c.into_parts-desk.ensures.part) at c.law_of_shown.ensures.terms) (rw (c.deref.ensures, c.into_parts-desk.ensures.part) at c.law_of_shown.ensures.failed) c.into_parts-desk.ensures.lawful O in
+    let same = map_back f items i c.replace.new.dest d.part (c.replace.ensures.after ∙ ap Some c.into_parts-desk.ensures.part) in
     let comes = rw (← c.self.view_is) at c.requires.comes in
     let R = subst (λ (x : PartSeen). Returns comes.0 (seen_done comes.1 d) x) seen comes.2.1 in
     let sound : (w : World) → StandsBare (core.kept p G) w → Sound w = λ w s. sound_in p _ I w s in
@@ -230,14 +230,14 @@ returns-in_default-brought-clause-files g c =
     let n : number_of k0 ≡ d.component.generation = number_named h (components_of G.entries) i k0 F.place F.at ∙ ap (λ (x : Handle). x.generation) c.component.ensures in
     let O = own_is h d.component (components_of G.entries) i k0 c.component.ensures F.place F.at (rw (← c.self.view_is) at c.requires.its) in
     let q = f d.part in
-    let L = rw c.into_parts-part.ensures.part at c.law_of_shown.ensures.left in
-    let seen = seen_as q _ _ _ _ L (rw c.into_parts-part.ensures.part at c.law_of_shown.ensures.rest) (rw c.into_parts-part.ensures.part at c.law_of_shown.ensures.kept) (rw c.into_parts-part.ensures.part at c.law_of_shown.ensures.writing) in
-    let a : d.announces ≡ true = is_told d.announces c.into_parts-part.result.1 _ c.into_parts-part.ensures.brought c.in_default-brought.is in
+    let L = rw (c.deref.ensures, c.into_parts-desk.ensures.part) at c.law_of_shown.ensures.left in
+    let seen = seen_as q _ _ _ _ L (rw (c.deref.ensures, c.into_parts-desk.ensures.part) at c.law_of_shown.ensures.rest) (rw (c.deref.ensures, c.into_parts-desk.ensures.part) at c.law_of_shown.ensures.kept) (rw (c.deref.ensures, c.into_parts-desk.ensures.part) at c.law_of_shown.ensures.writing) in
+    let a : d.announces ≡ true = is_told d.announces c.into_parts-desk.result.1 _ c.into_parts-desk.ensures.brought c.in_default-brought.is in
     let within : i < length items = items_within (option_map f) component_of items G.entries i I.count c.in-Some.ensures.within in
     let here : slice_get items i ≡ Some c.index_mut.result.now = slice_get-get_or items i c.index_mut.result.now within ∙ ap Some (sym c.index_mut.ensures.value) in
     let there : slice_get (map (option_map f) items) i ≡ Some (option_map f c.index_mut.result.now) = slice_get-map (option_map f) items i ∙ ap (option_map (option_map f)) here in
-    let tied = own_part g.S.Source.told g.K.Sink.told g.K.Sink.name d.part k0 d.announces d.fault _ _ (rw c.into_parts-part.ensures.part at c.law_of_shown.ensures.terms) (rw c.into_parts-part.ensures.part at c.law_of_shown.ensures.failed) c.into_parts-part.ensures.lawful O in
-    let same = map_back f items i c.replace.new.dest d.part (c.replace.ensures.after ∙ ap Some c.into_parts-part.ensures.part) in
+    let tied = own_part g.S.Source.told g.K.Sink.told g.K.Sink.name d.part k0 d.announces d.fault _ _ (rw (c.deref.ensures, c.into_parts-desk.ensures.part) at c.law_of_shown.ensures.terms) (rw (c.deref.ensures, c.into_parts-desk.ensures.part) at c.law_of_shown.ensures.failed) c.into_parts-desk.ensures.lawful O in
+    let same = map_back f items i c.replace.new.dest d.part (c.replace.ensures.after ∙ ap Some c.into_parts-desk.ensures.part) in
     let comes = rw (← c.self.view_is) at c.requires.comes in
     let R = subst (λ (x : PartSeen). Returns comes.0 (seen_done comes.1 d) x) seen comes.2.1 in
     let sound : (w : World) → StandsBare (core.kept p G) w → Sound w = λ w s. sound_in p _ I w s in
@@ -262,14 +262,14 @@ returns-in_default-brought-clause-held g c =
     let n : number_of k0 ≡ d.component.generation = number_named h (components_of G.entries) i k0 F.place F.at ∙ ap (λ (x : Handle). x.generation) c.component.ensures in
     let O = own_is h d.component (components_of G.entries) i k0 c.component.ensures F.place F.at (rw (← c.self.view_is) at c.requires.its) in
     let q = f d.part in
-    let L = rw c.into_parts-part.ensures.part at c.law_of_shown.ensures.left in
-    let seen = seen_as q _ _ _ _ L (rw c.into_parts-part.ensures.part at c.law_of_shown.ensures.rest) (rw c.into_parts-part.ensures.part at c.law_of_shown.ensures.kept) (rw c.into_parts-part.ensures.part at c.law_of_shown.ensures.writing) in
-    let a : d.announces ≡ true = is_told d.announces c.into_parts-part.result.1 _ c.into_parts-part.ensures.brought c.in_default-brought.is in
+    let L = rw (c.deref.ensures, c.into_parts-desk.ensures.part) at c.law_of_shown.ensures.left in
+    let seen = seen_as q _ _ _ _ L (rw (c.deref.ensures, c.into_parts-desk.ensures.part) at c.law_of_shown.ensures.rest) (rw (c.deref.ensures, c.into_parts-desk.ensures.part) at c.law_of_shown.ensures.kept) (rw (c.deref.ensures, c.into_parts-desk.ensures.part) at c.law_of_shown.ensures.writing) in
+    let a : d.announces ≡ true = is_told d.announces c.into_parts-desk.result.1 _ c.into_parts-desk.ensures.brought c.in_default-brought.is in
     let within : i < length items = items_within (option_map f) component_of items G.entries i I.count c.in-Some.ensures.within in
     let here : slice_get items i ≡ Some c.index_mut.result.now = slice_get-get_or items i c.index_mut.result.now within ∙ ap Some (sym c.index_mut.ensures.value) in
     let there : slice_get (map (option_map f) items) i ≡ Some (option_map f c.index_mut.result.now) = slice_get-map (option_map f) items i ∙ ap (option_map (option_map f)) here in
-    let tied = own_part g.S.Source.told g.K.Sink.told g.K.Sink.name d.part k0 d.announces d.fault _ _ (rw c.into_parts-part.ensures.part at c.law_of_shown.ensures.terms) (rw c.into_parts-part.ensures.part at c.law_of_shown.ensures.failed) c.into_parts-part.ensures.lawful O in
-    let same = map_back f items i c.replace.new.dest d.part (c.replace.ensures.after ∙ ap Some c.into_parts-part.ensures.part) in
+    let tied = own_part g.S.Source.told g.K.Sink.told g.K.Sink.name d.part k0 d.announces d.fault _ _ (rw (c.deref.ensures, c.into_parts-desk.ensures.part) at c.law_of_shown.ensures.terms) (rw (c.deref.ensures, c.into_parts-desk.ensures.part) at c.law_of_shown.ensures.failed) c.into_parts-desk.ensures.lawful O in
+    let same = map_back f items i c.replace.new.dest d.part (c.replace.ensures.after ∙ ap Some c.into_parts-desk.ensures.part) in
     let comes = rw (← c.self.view_is) at c.requires.comes in
     let R = subst (λ (x : PartSeen). Returns comes.0 (seen_done comes.1 d) x) seen comes.2.1 in
     let sound : (w : World) → StandsBare (core.kept p G) w → Sound w = λ w s. sound_in p _ I w s in
@@ -314,27 +314,27 @@ invariant_of-self-2 g c =
     let n : number_of k0 ≡ d.component.generation = number_named h (components_of G.entries) i k0 F.place F.at ∙ ap (λ (x : Handle). x.generation) c.component.ensures in
     let O = own_is h d.component (components_of G.entries) i k0 c.component.ensures F.place F.at (rw (← c.self.view_is) at c.requires.its) in
     let q = f d.part in
-    let L = rw c.into_parts-part.ensures.part at c.law_of_shown.ensures.left in
-    let seen = seen_as q _ _ _ _ L (rw c.into_parts-part.ensures.part at c.law_of_shown.ensures.rest) (rw c.into_parts-part.ensures.part at c.law_of_shown.ensures.kept) (rw c.into_parts-part.ensures.part at c.law_of_shown.ensures.writing) in
+    let L = rw (c.deref.ensures, c.into_parts-desk.ensures.part) at c.law_of_shown.ensures.left in
+    let seen = seen_as q _ _ _ _ L (rw (c.deref.ensures, c.into_parts-desk.ensures.part) at c.law_of_shown.ensures.rest) (rw (c.deref.ensures, c.into_parts-desk.ensures.part) at c.law_of_shown.ensures.kept) (rw (c.deref.ensures, c.into_parts-desk.ensures.part) at c.law_of_shown.ensures.writing) in
     let b = c.in-Some-brought.brought in
-    let a : d.announces ≡ false = is_brought d.announces c.into_parts-part.result.1 b c.into_parts-part.ensures.announced c.in-Some-brought.is in
-    let e = brought_is c.into_parts-part.result.1 b (record { headers = d.headers; frames = d.frames; fault = d.fault }) c.in-Some-brought.is (c.into_parts-part.ensures.brought a) in
+    let a : d.announces ≡ false = is_brought d.announces c.into_parts-desk.result.1 b c.into_parts-desk.ensures.announced c.in-Some-brought.is in
+    let e = brought_is c.into_parts-desk.result.1 b (record { frames = d.frames; fault = d.fault }) c.in-Some-brought.is (c.into_parts-desk.ensures.brought a) in
     let step : Stepped = record { frames = b.frames; fault = b.fault; left = c.unwrap_or-left.result } in
-    let is : (took : List ℕ) → done_by (number_of k0) b.headers step took ≡ seen_done took d = λ took. brought_done d (number_of k0) b.headers b.frames b.fault step.left took n (ap (λ x. x.headers) e) (ap (λ x. x.frames) e) (ap (λ x. x.fault) e) in
-    let left : step.left ≡ unwrap_or q.left 0 = c.unwrap_or-left.ensures ∙ ap (λ (o : Option ℕ). unwrap_or o 0) (rw c.into_parts-part.ensures.part at c.frames_left.ensures.value ∙ sym L) in
+    let is : (took : List ℕ) → done_by (number_of k0) c.into_parts-desk.result.0.value.headers step took ≡ seen_done took d = λ took. brought_done d (number_of k0) c.into_parts-desk.result.0.value.headers b.frames b.fault step.left took n c.into_parts-desk.ensures.headers (ap (λ x. x.frames) e) (ap (λ x. x.fault) e) in
+    let left : step.left ≡ unwrap_or q.left 0 = c.unwrap_or-left.ensures ∙ ap (λ (o : Option ℕ). unwrap_or o 0) (rw (c.deref-2.ensures, c.into_parts-desk.ensures.part) at c.frames_left.ensures.value ∙ sym L) in
     let sound : (w : World) → StandsBare (core.kept p G) w → Sound w = λ w s. sound_in p _ I w s in
     let within : i < length items = items_within (option_map f) component_of items G.entries i I.count c.in-Some.ensures.within in
     let here : slice_get items i ≡ Some c.index_mut-2.result.now = slice_get-get_or items i c.index_mut-2.result.now within ∙ ap Some (sym c.index_mut-2.ensures.value) in
     let there : slice_get (map (option_map f) items) i ≡ Some (option_map f c.index_mut-2.result.now) = slice_get-map (option_map f) items i ∙ ap (option_map (option_map f)) here in
-    let tied = own_part g.S.Source.told g.K.Sink.told g.K.Sink.name d.part k0 d.announces d.fault _ _ (rw c.into_parts-part.ensures.part at c.law_of_shown.ensures.terms) (rw c.into_parts-part.ensures.part at c.law_of_shown.ensures.failed) c.into_parts-part.ensures.lawful O in
-    let same = map_back f items i c.replace-2.new.dest d.part (c.replace-2.ensures.after ∙ ap Some c.into_parts-part.ensures.part) in
+    let tied = own_part g.S.Source.told g.K.Sink.told g.K.Sink.name d.part k0 d.announces d.fault _ _ (rw (c.deref.ensures, c.into_parts-desk.ensures.part) at c.law_of_shown.ensures.terms) (rw (c.deref.ensures, c.into_parts-desk.ensures.part) at c.law_of_shown.ensures.failed) c.into_parts-desk.ensures.lawful O in
+    let same = map_back f items i c.replace-2.new.dest d.part (rw (c.deref_mut.ensures.value, c.into_parts-desk.ensures.part) at c.replace-2.ensures.after) in
     let comes = rw (← c.self.view_is) at c.requires.comes in
     let R = subst (λ (x : PartSeen). Returns comes.0 (seen_done comes.1 d) x) seen comes.2.1 in
     let m = c.finish.new.self in
     let k = c.close_out-2.new.self in
     let T : (took : List ℕ) → StepsBareWhere (core.kept p G) (core.kept p k) (λ w. Returns w (seen_done took d) (seen_of q)) (λ w v. Finish w (seen_done took d) v) = λ took.
     subst (λ (x : WorkDone). StepsBareWhere (core.kept p G) (core.kept p k) (λ w. Returns w x (seen_of q)) (λ w v. Finish w x v)) (is took)
-    (step_returns p G m k i k0 F.at sound c.close_out-2.ensures.closes b.headers step (seen_of q) (works_so k0 d.announces false a O.work) left c.finish.ensures.change took) in
+    (step_returns p G m k i k0 F.at sound c.close_out-2.ensures.closes c.into_parts-desk.result.0.value.headers step (seen_of q) (works_so k0 d.announces false a O.work) left (rw c.deref_mut.ensures.value at c.finish.ensures.change) took) in
     (c.self.invariant.0, rw same (is_whole p _ k i k0 (λ took. seen_done took d) q I F.at (λ took. sym n) (option_map f c.index_mut-2.result.now) there (λ took. tied) T comes.1 comes.0 comes.2.0 R c.close_out-2.ensures.settled))
 
 pub returns-clause-step : goal.returns-clause-step
@@ -352,27 +352,27 @@ returns-clause-step g c =
     let n : number_of k0 ≡ d.component.generation = number_named h (components_of G.entries) i k0 F.place F.at ∙ ap (λ (x : Handle). x.generation) c.component.ensures in
     let O = own_is h d.component (components_of G.entries) i k0 c.component.ensures F.place F.at (rw (← c.self.view_is) at c.requires.its) in
     let q = f d.part in
-    let L = rw c.into_parts-part.ensures.part at c.law_of_shown.ensures.left in
-    let seen = seen_as q _ _ _ _ L (rw c.into_parts-part.ensures.part at c.law_of_shown.ensures.rest) (rw c.into_parts-part.ensures.part at c.law_of_shown.ensures.kept) (rw c.into_parts-part.ensures.part at c.law_of_shown.ensures.writing) in
+    let L = rw (c.deref.ensures, c.into_parts-desk.ensures.part) at c.law_of_shown.ensures.left in
+    let seen = seen_as q _ _ _ _ L (rw (c.deref.ensures, c.into_parts-desk.ensures.part) at c.law_of_shown.ensures.rest) (rw (c.deref.ensures, c.into_parts-desk.ensures.part) at c.law_of_shown.ensures.kept) (rw (c.deref.ensures, c.into_parts-desk.ensures.part) at c.law_of_shown.ensures.writing) in
     let b = c.in-Some-brought.brought in
-    let a : d.announces ≡ false = is_brought d.announces c.into_parts-part.result.1 b c.into_parts-part.ensures.announced c.in-Some-brought.is in
-    let e = brought_is c.into_parts-part.result.1 b (record { headers = d.headers; frames = d.frames; fault = d.fault }) c.in-Some-brought.is (c.into_parts-part.ensures.brought a) in
+    let a : d.announces ≡ false = is_brought d.announces c.into_parts-desk.result.1 b c.into_parts-desk.ensures.announced c.in-Some-brought.is in
+    let e = brought_is c.into_parts-desk.result.1 b (record { frames = d.frames; fault = d.fault }) c.in-Some-brought.is (c.into_parts-desk.ensures.brought a) in
     let step : Stepped = record { frames = b.frames; fault = b.fault; left = c.unwrap_or-left.result } in
-    let is : (took : List ℕ) → done_by (number_of k0) b.headers step took ≡ seen_done took d = λ took. brought_done d (number_of k0) b.headers b.frames b.fault step.left took n (ap (λ x. x.headers) e) (ap (λ x. x.frames) e) (ap (λ x. x.fault) e) in
-    let left : step.left ≡ unwrap_or q.left 0 = c.unwrap_or-left.ensures ∙ ap (λ (o : Option ℕ). unwrap_or o 0) (rw c.into_parts-part.ensures.part at c.frames_left.ensures.value ∙ sym L) in
+    let is : (took : List ℕ) → done_by (number_of k0) c.into_parts-desk.result.0.value.headers step took ≡ seen_done took d = λ took. brought_done d (number_of k0) c.into_parts-desk.result.0.value.headers b.frames b.fault step.left took n c.into_parts-desk.ensures.headers (ap (λ x. x.frames) e) (ap (λ x. x.fault) e) in
+    let left : step.left ≡ unwrap_or q.left 0 = c.unwrap_or-left.ensures ∙ ap (λ (o : Option ℕ). unwrap_or o 0) (rw (c.deref-2.ensures, c.into_parts-desk.ensures.part) at c.frames_left.ensures.value ∙ sym L) in
     let sound : (w : World) → StandsBare (core.kept p G) w → Sound w = λ w s. sound_in p _ I w s in
     let within : i < length items = items_within (option_map f) component_of items G.entries i I.count c.in-Some.ensures.within in
     let here : slice_get items i ≡ Some c.index_mut-2.result.now = slice_get-get_or items i c.index_mut-2.result.now within ∙ ap Some (sym c.index_mut-2.ensures.value) in
     let there : slice_get (map (option_map f) items) i ≡ Some (option_map f c.index_mut-2.result.now) = slice_get-map (option_map f) items i ∙ ap (option_map (option_map f)) here in
-    let tied = own_part g.S.Source.told g.K.Sink.told g.K.Sink.name d.part k0 d.announces d.fault _ _ (rw c.into_parts-part.ensures.part at c.law_of_shown.ensures.terms) (rw c.into_parts-part.ensures.part at c.law_of_shown.ensures.failed) c.into_parts-part.ensures.lawful O in
-    let same = map_back f items i c.replace-2.new.dest d.part (c.replace-2.ensures.after ∙ ap Some c.into_parts-part.ensures.part) in
+    let tied = own_part g.S.Source.told g.K.Sink.told g.K.Sink.name d.part k0 d.announces d.fault _ _ (rw (c.deref.ensures, c.into_parts-desk.ensures.part) at c.law_of_shown.ensures.terms) (rw (c.deref.ensures, c.into_parts-desk.ensures.part) at c.law_of_shown.ensures.failed) c.into_parts-desk.ensures.lawful O in
+    let same = map_back f items i c.replace-2.new.dest d.part (rw (c.deref_mut.ensures.value, c.into_parts-desk.ensures.part) at c.replace-2.ensures.after) in
     let comes = rw (← c.self.view_is) at c.requires.comes in
     let R = subst (λ (x : PartSeen). Returns comes.0 (seen_done comes.1 d) x) seen comes.2.1 in
     let m = c.finish.new.self in
     let k = c.close_out-2.new.self in
     let T : (took : List ℕ) → StepsBareWhere (core.kept p G) (core.kept p k) (λ w. Returns w (seen_done took d) (seen_of q)) (λ w v. Finish w (seen_done took d) v) = λ took.
     subst (λ (x : WorkDone). StepsBareWhere (core.kept p G) (core.kept p k) (λ w. Returns w x (seen_of q)) (λ w v. Finish w x v)) (is took)
-    (step_returns p G m k i k0 F.at sound c.close_out-2.ensures.closes b.headers step (seen_of q) (works_so k0 d.announces false a O.work) left c.finish.ensures.change took) in
+    (step_returns p G m k i k0 F.at sound c.close_out-2.ensures.closes c.into_parts-desk.result.0.value.headers step (seen_of q) (works_so k0 d.announces false a O.work) left (rw c.deref_mut.ensures.value at c.finish.ensures.change) took) in
     rw (← c.self.view_is, seen, same) (back_whole p _ k i k0 (λ took. seen_done took d) q I F.at (λ took. sym n) (option_map f c.index_mut-2.result.now) there (λ took. tied) T)
 
 pub returns-clause-file : goal.returns-clause-file
@@ -390,27 +390,27 @@ returns-clause-file g c =
     let n : number_of k0 ≡ d.component.generation = number_named h (components_of G.entries) i k0 F.place F.at ∙ ap (λ (x : Handle). x.generation) c.component.ensures in
     let O = own_is h d.component (components_of G.entries) i k0 c.component.ensures F.place F.at (rw (← c.self.view_is) at c.requires.its) in
     let q = f d.part in
-    let L = rw c.into_parts-part.ensures.part at c.law_of_shown.ensures.left in
-    let seen = seen_as q _ _ _ _ L (rw c.into_parts-part.ensures.part at c.law_of_shown.ensures.rest) (rw c.into_parts-part.ensures.part at c.law_of_shown.ensures.kept) (rw c.into_parts-part.ensures.part at c.law_of_shown.ensures.writing) in
+    let L = rw (c.deref.ensures, c.into_parts-desk.ensures.part) at c.law_of_shown.ensures.left in
+    let seen = seen_as q _ _ _ _ L (rw (c.deref.ensures, c.into_parts-desk.ensures.part) at c.law_of_shown.ensures.rest) (rw (c.deref.ensures, c.into_parts-desk.ensures.part) at c.law_of_shown.ensures.kept) (rw (c.deref.ensures, c.into_parts-desk.ensures.part) at c.law_of_shown.ensures.writing) in
     let b = c.in-Some-brought.brought in
-    let a : d.announces ≡ false = is_brought d.announces c.into_parts-part.result.1 b c.into_parts-part.ensures.announced c.in-Some-brought.is in
-    let e = brought_is c.into_parts-part.result.1 b (record { headers = d.headers; frames = d.frames; fault = d.fault }) c.in-Some-brought.is (c.into_parts-part.ensures.brought a) in
+    let a : d.announces ≡ false = is_brought d.announces c.into_parts-desk.result.1 b c.into_parts-desk.ensures.announced c.in-Some-brought.is in
+    let e = brought_is c.into_parts-desk.result.1 b (record { frames = d.frames; fault = d.fault }) c.in-Some-brought.is (c.into_parts-desk.ensures.brought a) in
     let step : Stepped = record { frames = b.frames; fault = b.fault; left = c.unwrap_or-left.result } in
-    let is : (took : List ℕ) → done_by (number_of k0) b.headers step took ≡ seen_done took d = λ took. brought_done d (number_of k0) b.headers b.frames b.fault step.left took n (ap (λ x. x.headers) e) (ap (λ x. x.frames) e) (ap (λ x. x.fault) e) in
-    let left : step.left ≡ unwrap_or q.left 0 = c.unwrap_or-left.ensures ∙ ap (λ (o : Option ℕ). unwrap_or o 0) (rw c.into_parts-part.ensures.part at c.frames_left.ensures.value ∙ sym L) in
+    let is : (took : List ℕ) → done_by (number_of k0) c.into_parts-desk.result.0.value.headers step took ≡ seen_done took d = λ took. brought_done d (number_of k0) c.into_parts-desk.result.0.value.headers b.frames b.fault step.left took n c.into_parts-desk.ensures.headers (ap (λ x. x.frames) e) (ap (λ x. x.fault) e) in
+    let left : step.left ≡ unwrap_or q.left 0 = c.unwrap_or-left.ensures ∙ ap (λ (o : Option ℕ). unwrap_or o 0) (rw (c.deref-2.ensures, c.into_parts-desk.ensures.part) at c.frames_left.ensures.value ∙ sym L) in
     let sound : (w : World) → StandsBare (core.kept p G) w → Sound w = λ w s. sound_in p _ I w s in
     let within : i < length items = items_within (option_map f) component_of items G.entries i I.count c.in-Some.ensures.within in
     let here : slice_get items i ≡ Some c.index_mut-2.result.now = slice_get-get_or items i c.index_mut-2.result.now within ∙ ap Some (sym c.index_mut-2.ensures.value) in
     let there : slice_get (map (option_map f) items) i ≡ Some (option_map f c.index_mut-2.result.now) = slice_get-map (option_map f) items i ∙ ap (option_map (option_map f)) here in
-    let tied = own_part g.S.Source.told g.K.Sink.told g.K.Sink.name d.part k0 d.announces d.fault _ _ (rw c.into_parts-part.ensures.part at c.law_of_shown.ensures.terms) (rw c.into_parts-part.ensures.part at c.law_of_shown.ensures.failed) c.into_parts-part.ensures.lawful O in
-    let same = map_back f items i c.replace-2.new.dest d.part (c.replace-2.ensures.after ∙ ap Some c.into_parts-part.ensures.part) in
+    let tied = own_part g.S.Source.told g.K.Sink.told g.K.Sink.name d.part k0 d.announces d.fault _ _ (rw (c.deref.ensures, c.into_parts-desk.ensures.part) at c.law_of_shown.ensures.terms) (rw (c.deref.ensures, c.into_parts-desk.ensures.part) at c.law_of_shown.ensures.failed) c.into_parts-desk.ensures.lawful O in
+    let same = map_back f items i c.replace-2.new.dest d.part (rw (c.deref_mut.ensures.value, c.into_parts-desk.ensures.part) at c.replace-2.ensures.after) in
     let comes = rw (← c.self.view_is) at c.requires.comes in
     let R = subst (λ (x : PartSeen). Returns comes.0 (seen_done comes.1 d) x) seen comes.2.1 in
     let m = c.finish.new.self in
     let k = c.close_out-2.new.self in
     let T : (took : List ℕ) → StepsBareWhere (core.kept p G) (core.kept p k) (λ w. Returns w (seen_done took d) (seen_of q)) (λ w v. Finish w (seen_done took d) v) = λ took.
     subst (λ (x : WorkDone). StepsBareWhere (core.kept p G) (core.kept p k) (λ w. Returns w x (seen_of q)) (λ w v. Finish w x v)) (is took)
-    (step_returns p G m k i k0 F.at sound c.close_out-2.ensures.closes b.headers step (seen_of q) (works_so k0 d.announces false a O.work) left c.finish.ensures.change took) in
+    (step_returns p G m k i k0 F.at sound c.close_out-2.ensures.closes c.into_parts-desk.result.0.value.headers step (seen_of q) (works_so k0 d.announces false a O.work) left (rw c.deref_mut.ensures.value at c.finish.ensures.change) took) in
     rw same (file_back p _ k i k0 (λ took. seen_done took d) q I F.at (λ took. sym n) (option_map f c.index_mut-2.result.now) there (λ took. tied) T comes.1 comes.0 comes.2.0 R d.component.generation (sym n))
 
 pub returns-clause-files : goal.returns-clause-files
@@ -428,27 +428,27 @@ returns-clause-files g c =
     let n : number_of k0 ≡ d.component.generation = number_named h (components_of G.entries) i k0 F.place F.at ∙ ap (λ (x : Handle). x.generation) c.component.ensures in
     let O = own_is h d.component (components_of G.entries) i k0 c.component.ensures F.place F.at (rw (← c.self.view_is) at c.requires.its) in
     let q = f d.part in
-    let L = rw c.into_parts-part.ensures.part at c.law_of_shown.ensures.left in
-    let seen = seen_as q _ _ _ _ L (rw c.into_parts-part.ensures.part at c.law_of_shown.ensures.rest) (rw c.into_parts-part.ensures.part at c.law_of_shown.ensures.kept) (rw c.into_parts-part.ensures.part at c.law_of_shown.ensures.writing) in
+    let L = rw (c.deref.ensures, c.into_parts-desk.ensures.part) at c.law_of_shown.ensures.left in
+    let seen = seen_as q _ _ _ _ L (rw (c.deref.ensures, c.into_parts-desk.ensures.part) at c.law_of_shown.ensures.rest) (rw (c.deref.ensures, c.into_parts-desk.ensures.part) at c.law_of_shown.ensures.kept) (rw (c.deref.ensures, c.into_parts-desk.ensures.part) at c.law_of_shown.ensures.writing) in
     let b = c.in-Some-brought.brought in
-    let a : d.announces ≡ false = is_brought d.announces c.into_parts-part.result.1 b c.into_parts-part.ensures.announced c.in-Some-brought.is in
-    let e = brought_is c.into_parts-part.result.1 b (record { headers = d.headers; frames = d.frames; fault = d.fault }) c.in-Some-brought.is (c.into_parts-part.ensures.brought a) in
+    let a : d.announces ≡ false = is_brought d.announces c.into_parts-desk.result.1 b c.into_parts-desk.ensures.announced c.in-Some-brought.is in
+    let e = brought_is c.into_parts-desk.result.1 b (record { frames = d.frames; fault = d.fault }) c.in-Some-brought.is (c.into_parts-desk.ensures.brought a) in
     let step : Stepped = record { frames = b.frames; fault = b.fault; left = c.unwrap_or-left.result } in
-    let is : (took : List ℕ) → done_by (number_of k0) b.headers step took ≡ seen_done took d = λ took. brought_done d (number_of k0) b.headers b.frames b.fault step.left took n (ap (λ x. x.headers) e) (ap (λ x. x.frames) e) (ap (λ x. x.fault) e) in
-    let left : step.left ≡ unwrap_or q.left 0 = c.unwrap_or-left.ensures ∙ ap (λ (o : Option ℕ). unwrap_or o 0) (rw c.into_parts-part.ensures.part at c.frames_left.ensures.value ∙ sym L) in
+    let is : (took : List ℕ) → done_by (number_of k0) c.into_parts-desk.result.0.value.headers step took ≡ seen_done took d = λ took. brought_done d (number_of k0) c.into_parts-desk.result.0.value.headers b.frames b.fault step.left took n c.into_parts-desk.ensures.headers (ap (λ x. x.frames) e) (ap (λ x. x.fault) e) in
+    let left : step.left ≡ unwrap_or q.left 0 = c.unwrap_or-left.ensures ∙ ap (λ (o : Option ℕ). unwrap_or o 0) (rw (c.deref-2.ensures, c.into_parts-desk.ensures.part) at c.frames_left.ensures.value ∙ sym L) in
     let sound : (w : World) → StandsBare (core.kept p G) w → Sound w = λ w s. sound_in p _ I w s in
     let within : i < length items = items_within (option_map f) component_of items G.entries i I.count c.in-Some.ensures.within in
     let here : slice_get items i ≡ Some c.index_mut-2.result.now = slice_get-get_or items i c.index_mut-2.result.now within ∙ ap Some (sym c.index_mut-2.ensures.value) in
     let there : slice_get (map (option_map f) items) i ≡ Some (option_map f c.index_mut-2.result.now) = slice_get-map (option_map f) items i ∙ ap (option_map (option_map f)) here in
-    let tied = own_part g.S.Source.told g.K.Sink.told g.K.Sink.name d.part k0 d.announces d.fault _ _ (rw c.into_parts-part.ensures.part at c.law_of_shown.ensures.terms) (rw c.into_parts-part.ensures.part at c.law_of_shown.ensures.failed) c.into_parts-part.ensures.lawful O in
-    let same = map_back f items i c.replace-2.new.dest d.part (c.replace-2.ensures.after ∙ ap Some c.into_parts-part.ensures.part) in
+    let tied = own_part g.S.Source.told g.K.Sink.told g.K.Sink.name d.part k0 d.announces d.fault _ _ (rw (c.deref.ensures, c.into_parts-desk.ensures.part) at c.law_of_shown.ensures.terms) (rw (c.deref.ensures, c.into_parts-desk.ensures.part) at c.law_of_shown.ensures.failed) c.into_parts-desk.ensures.lawful O in
+    let same = map_back f items i c.replace-2.new.dest d.part (rw (c.deref_mut.ensures.value, c.into_parts-desk.ensures.part) at c.replace-2.ensures.after) in
     let comes = rw (← c.self.view_is) at c.requires.comes in
     let R = subst (λ (x : PartSeen). Returns comes.0 (seen_done comes.1 d) x) seen comes.2.1 in
     let m = c.finish.new.self in
     let k = c.close_out-2.new.self in
     let T : (took : List ℕ) → StepsBareWhere (core.kept p G) (core.kept p k) (λ w. Returns w (seen_done took d) (seen_of q)) (λ w v. Finish w (seen_done took d) v) = λ took.
     subst (λ (x : WorkDone). StepsBareWhere (core.kept p G) (core.kept p k) (λ w. Returns w x (seen_of q)) (λ w v. Finish w x v)) (is took)
-    (step_returns p G m k i k0 F.at sound c.close_out-2.ensures.closes b.headers step (seen_of q) (works_so k0 d.announces false a O.work) left c.finish.ensures.change took) in
+    (step_returns p G m k i k0 F.at sound c.close_out-2.ensures.closes c.into_parts-desk.result.0.value.headers step (seen_of q) (works_so k0 d.announces false a O.work) left (rw c.deref_mut.ensures.value at c.finish.ensures.change) took) in
     rw (← c.self.view_is, same) (files_stay p _ k i k0 (λ took. seen_done took d) q I F.at (λ took. sym n) (option_map f c.index_mut-2.result.now) there (λ took. tied) T comes.1 comes.0 comes.2.0 R d.component.generation (sym n))
 
 pub returns-clause-held : goal.returns-clause-held
@@ -466,27 +466,27 @@ returns-clause-held g c =
     let n : number_of k0 ≡ d.component.generation = number_named h (components_of G.entries) i k0 F.place F.at ∙ ap (λ (x : Handle). x.generation) c.component.ensures in
     let O = own_is h d.component (components_of G.entries) i k0 c.component.ensures F.place F.at (rw (← c.self.view_is) at c.requires.its) in
     let q = f d.part in
-    let L = rw c.into_parts-part.ensures.part at c.law_of_shown.ensures.left in
-    let seen = seen_as q _ _ _ _ L (rw c.into_parts-part.ensures.part at c.law_of_shown.ensures.rest) (rw c.into_parts-part.ensures.part at c.law_of_shown.ensures.kept) (rw c.into_parts-part.ensures.part at c.law_of_shown.ensures.writing) in
+    let L = rw (c.deref.ensures, c.into_parts-desk.ensures.part) at c.law_of_shown.ensures.left in
+    let seen = seen_as q _ _ _ _ L (rw (c.deref.ensures, c.into_parts-desk.ensures.part) at c.law_of_shown.ensures.rest) (rw (c.deref.ensures, c.into_parts-desk.ensures.part) at c.law_of_shown.ensures.kept) (rw (c.deref.ensures, c.into_parts-desk.ensures.part) at c.law_of_shown.ensures.writing) in
     let b = c.in-Some-brought.brought in
-    let a : d.announces ≡ false = is_brought d.announces c.into_parts-part.result.1 b c.into_parts-part.ensures.announced c.in-Some-brought.is in
-    let e = brought_is c.into_parts-part.result.1 b (record { headers = d.headers; frames = d.frames; fault = d.fault }) c.in-Some-brought.is (c.into_parts-part.ensures.brought a) in
+    let a : d.announces ≡ false = is_brought d.announces c.into_parts-desk.result.1 b c.into_parts-desk.ensures.announced c.in-Some-brought.is in
+    let e = brought_is c.into_parts-desk.result.1 b (record { frames = d.frames; fault = d.fault }) c.in-Some-brought.is (c.into_parts-desk.ensures.brought a) in
     let step : Stepped = record { frames = b.frames; fault = b.fault; left = c.unwrap_or-left.result } in
-    let is : (took : List ℕ) → done_by (number_of k0) b.headers step took ≡ seen_done took d = λ took. brought_done d (number_of k0) b.headers b.frames b.fault step.left took n (ap (λ x. x.headers) e) (ap (λ x. x.frames) e) (ap (λ x. x.fault) e) in
-    let left : step.left ≡ unwrap_or q.left 0 = c.unwrap_or-left.ensures ∙ ap (λ (o : Option ℕ). unwrap_or o 0) (rw c.into_parts-part.ensures.part at c.frames_left.ensures.value ∙ sym L) in
+    let is : (took : List ℕ) → done_by (number_of k0) c.into_parts-desk.result.0.value.headers step took ≡ seen_done took d = λ took. brought_done d (number_of k0) c.into_parts-desk.result.0.value.headers b.frames b.fault step.left took n c.into_parts-desk.ensures.headers (ap (λ x. x.frames) e) (ap (λ x. x.fault) e) in
+    let left : step.left ≡ unwrap_or q.left 0 = c.unwrap_or-left.ensures ∙ ap (λ (o : Option ℕ). unwrap_or o 0) (rw (c.deref-2.ensures, c.into_parts-desk.ensures.part) at c.frames_left.ensures.value ∙ sym L) in
     let sound : (w : World) → StandsBare (core.kept p G) w → Sound w = λ w s. sound_in p _ I w s in
     let within : i < length items = items_within (option_map f) component_of items G.entries i I.count c.in-Some.ensures.within in
     let here : slice_get items i ≡ Some c.index_mut-2.result.now = slice_get-get_or items i c.index_mut-2.result.now within ∙ ap Some (sym c.index_mut-2.ensures.value) in
     let there : slice_get (map (option_map f) items) i ≡ Some (option_map f c.index_mut-2.result.now) = slice_get-map (option_map f) items i ∙ ap (option_map (option_map f)) here in
-    let tied = own_part g.S.Source.told g.K.Sink.told g.K.Sink.name d.part k0 d.announces d.fault _ _ (rw c.into_parts-part.ensures.part at c.law_of_shown.ensures.terms) (rw c.into_parts-part.ensures.part at c.law_of_shown.ensures.failed) c.into_parts-part.ensures.lawful O in
-    let same = map_back f items i c.replace-2.new.dest d.part (c.replace-2.ensures.after ∙ ap Some c.into_parts-part.ensures.part) in
+    let tied = own_part g.S.Source.told g.K.Sink.told g.K.Sink.name d.part k0 d.announces d.fault _ _ (rw (c.deref.ensures, c.into_parts-desk.ensures.part) at c.law_of_shown.ensures.terms) (rw (c.deref.ensures, c.into_parts-desk.ensures.part) at c.law_of_shown.ensures.failed) c.into_parts-desk.ensures.lawful O in
+    let same = map_back f items i c.replace-2.new.dest d.part (rw (c.deref_mut.ensures.value, c.into_parts-desk.ensures.part) at c.replace-2.ensures.after) in
     let comes = rw (← c.self.view_is) at c.requires.comes in
     let R = subst (λ (x : PartSeen). Returns comes.0 (seen_done comes.1 d) x) seen comes.2.1 in
     let m = c.finish.new.self in
     let k = c.close_out-2.new.self in
     let T : (took : List ℕ) → StepsBareWhere (core.kept p G) (core.kept p k) (λ w. Returns w (seen_done took d) (seen_of q)) (λ w v. Finish w (seen_done took d) v) = λ took.
     subst (λ (x : WorkDone). StepsBareWhere (core.kept p G) (core.kept p k) (λ w. Returns w x (seen_of q)) (λ w v. Finish w x v)) (is took)
-    (step_returns p G m k i k0 F.at sound c.close_out-2.ensures.closes b.headers step (seen_of q) (works_so k0 d.announces false a O.work) left c.finish.ensures.change took) in
+    (step_returns p G m k i k0 F.at sound c.close_out-2.ensures.closes c.into_parts-desk.result.0.value.headers step (seen_of q) (works_so k0 d.announces false a O.work) left (rw c.deref_mut.ensures.value at c.finish.ensures.change) took) in
     rw (← c.self.view_is) (held_back p _ k i k0 (λ took. seen_done took d) q I F.at (λ took. sym n) (option_map f c.index_mut-2.result.now) there (λ took. tied) T comes.1 comes.0 comes.2.0 R)
 
 pub returns-in_default-brought-clause-clients : goal.returns-in_default-brought-clause-clients
