@@ -37,10 +37,11 @@ use Rattle.board.specs.declared.watched.Watched.{Watched}
 use Rattle.board.specs.Asking.{ArePlain, bare_log}
 use Rattle.board.specs.Busy.{IsBusyWhereOut}
 use Rattle.board.specs.Watching.{next, SeenIn}
-use Rattle.board.specs.Histories.{HeadersAreHeld, ClientsAreHeld, WorksAreHeld, Reaches}
+use Rattle.board.specs.Histories.{HeadersAreHeld, ClientsAreHeld, PartsAreHeld, WorksAreHeld, Reaches}
 use Rattle.board.specs.Serving.{can_ask}
 use Rattle.board.proofs.Bare.{bare_snoc, told_last, plain_more}
 use Rattle.board.proofs.Busying.{busy_so}
+use Rattle.board.proofs.Giving.{parts_go}
 use Rattle.board.proofs.Owning.{tells_numbers, tells_handles, own_headers, own_clients, own_works}
 
 abbrev pub IsToldOut : OutClient → World → Type 0
@@ -136,3 +137,13 @@ module _ {S K C : Type 0} (see : Sight S K C) (headers : Bool) (first : Watched 
       let q = unsaid see headers opening now (bare_log log) pass a.act R.world stands M.sized can (λ x h. R.objects pass x h) (λ x h. R.works.out pass x h) m in
       let t = M.step R.world stands q.0 q.1 q.2 in
       busy_so see (bare_log log) R.world t.0 q.0 a.act r.reply M.replied (λ p x h. (R.objects p x h).0) t.2
+
+  -- each work that a pass holds is the one of its component that was claimed last
+  pub parts_here : (opening : graphs.Shown S K C) → IsLawful see.progress now → HeadersAreHeld opening (bare_log log) now → ClientsAreHeld see opening (bare_log log) now → PartsAreHeld (bare_log log)
+      → May see headers (own pass (bare_log log)) a.act → Moved see a.act r.reply now new → (w : World) (R : Reaches see first w log) → Stands (graphs.kept see.progress now) R.world → PartsAreHeld (bare_log log ++ entry pass a.act r.reply ∷ [])
+  parts_here opening L H O P m M w R stands =
+      let sound = L.sound R.world stands in
+      let can = can_ask see headers opening now (bare_log log) pass a.act H O (λ done h. can_finish see R.world h.0 done (R.works.out pass h.0 h.1) h.2 now sound stands) m in
+      let q = unsaid see headers opening now (bare_log log) pass a.act R.world stands M.sized can (λ x h. R.objects pass x h) (λ x h. R.works.out pass x h) m in
+      let t = M.step R.world stands q.0 q.1 q.2 in
+      parts_go see headers (bare_log log) pass w R.world t.0 a.act r.reply R.works m M.replied (M.works R.world t.0 sound stands t.1 q.0 q.1 q.2 t.2) P

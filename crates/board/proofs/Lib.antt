@@ -1,6 +1,10 @@
 pub mod Bare
 pub mod Owning
+pub mod Chain
+pub mod Listing
+pub mod Fronts
 pub mod Busying
+pub mod Giving
 pub mod Going
 pub mod Serves
 pub mod LastCall
@@ -10,3 +14,4 @@ pub mod Openings
 pub mod Ending
 pub mod Calling
 pub mod OneRun
+pub mod Chaining

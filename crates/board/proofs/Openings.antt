@@ -38,11 +38,13 @@ module _ {S K C : Type 0} (see : Sight S K C) where
         objects = λ p x h. absurd h;
         works = record { out = λ p x h. absurd h; apart = λ p q x y h. absurd h; all = λ n is. inl is };
       } in (
-        record { one = W; replies = tt; worlds = λ w s. R w; busy = none; apart = λ p q x y h. absurd h; reader = tt },
+        record { one = W; replies = tt; worlds = λ w s. R w; busy = none; apart = λ p q x y h. absurd h; objects = tt; reader = tt },
         record {
           worlds = λ w s. record { reaches = R w; stands = s; states = refl };
           headers = record { out = λ p x h. absurd h; apart = λ p q x y h. absurd h; all = λ k is. inl is };
           clients = record { out = λ p x h. absurd h; apart = λ p q x y h. absurd h; all = λ k is. inl is };
+          objects = record { clients = λ h. refl; files = λ n. refl };
+          parts = λ p x h. absurd h;
           words = refl;
           handles = refl;
           tidy = T;

@@ -23,12 +23,14 @@ use Rattle.board.specs.declared.watched.Watched.{Watched}
 use Rattle.board.specs.Asking.{bare_log}
 use Rattle.board.specs.Busy.{AreBusyWhereOut, next}
 use Rattle.board.specs.Watching.{SeenIn}
-use Rattle.board.specs.Histories.{HasVersions, IsTidy, HeadersAreHeld, ClientsAreHeld, Arrives, Legal, StandsAfter, MayAsk, graph_of, known_of, words_of}
+use Rattle.board.specs.Histories.{HasVersions, IsTidy, HeadersAreHeld, ClientsAreHeld, PartsAreHeld, Arrives, Legal, StandsAfter, MayAsk, graph_of, known_of, words_of}
 use Rattle.board.specs.Serving.{own_bare}
 use Rattle.board.specs.Showing.{ShowsChanges}
 use Rattle.board.proofs.Bare.{bare_snoc, told_last}
 use Rattle.board.proofs.Owning.{replies_more}
-use Rattle.board.proofs.Going.{headers_go, clients_go, reach, busy_here}
+use Rattle.graph_acts.specs.Objects.{AreGivenFrom, HasObjects}
+use Rattle.board.proofs.Giving.{brings, gives_more, has_more}
+use Rattle.board.proofs.Going.{headers_go, clients_go, reach, busy_here, parts_here}
 
 module _ {S K C : Type 0} (see : Sight S K C) (headers : Bool) (first old new : Watched S K C) (log : List (Entry (Asked S K C) (Told S K C))) (pass : ℕ) (a : Asked S K C) (r : Told S K C) (place : ℕ) where
   -- the value after the act and after each changed state was shown
@@ -62,12 +64,16 @@ module _ {S K C : Type 0} (see : Sight S K C) (headers : Bool) (first old new : 
           busy = subst (AreBusyWhereOut see) (sym e) (next (bare_log log) (entry pass a.act r.reply) due.is_legal.busy
               (busy_here see headers first (graph_of old) (graph_of new) log pass a r (graph_of first) L U.headers U.clients m M one.world A.reaches A.stands));
           apart = λ p q x y h g k. O.apart p q x y h g k;
+          objects = subst (AreGivenFrom see (graph_of first)) (sym e) (gives_more see (graph_of first) (graph_of old) (graph_of new) (bare_log log) pass a.act r.reply due.is_legal.objects U.objects M.objects
+              (brings see headers (bare_log log) pass A.reaches.world a.act m (λ x h. A.reaches.works.out pass x h) U.parts));
           reader = subst (λ (o : Option Reader). MatchOption o (Unit {0}) (IsReaderOf (words_of first))) (sym (told_last None log (entry pass a r))) (subst (λ (t : StateWords). IsReaderOf t r.reader) U.words of);
         },
         record {
           worlds = W;
           headers = H;
           clients = O;
+          objects = subst (λ l. HasObjects (graph_of first) l (graph_of new)) (sym e) (has_more (graph_of first) (graph_of old) (graph_of new) (bare_log log) pass a.act r.reply U.objects M.objects);
+          parts = subst PartsAreHeld (sym e) (parts_here see headers first (graph_of old) (graph_of new) log pass a r (graph_of first) L U.headers U.clients U.parts m M one.world A.reaches A.stands);
           words = words ∙ U.words;
           handles = handles ∙ U.handles;
           tidy = tidy;

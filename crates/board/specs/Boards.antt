@@ -21,6 +21,7 @@ use Rattle.state_words.specs.declared.words.Reader.{Reader}
 use Rattle.held_things.specs.Held.{after}
 use Rattle.graph_acts.specs.declared.act.Act.{Act}
 use Rattle.graph_acts.specs.declared.act.Reply.{Reply}
+use Rattle.graph_acts.specs.Objects.{HasObjects}
 use Rattle.graph_acts.specs.Plain.{Sight}
 use Rattle.graph_acts.specs.Holding.{OutClient, headers_held, clients_held, works_held, header_number, client_handle, taken_in, header_given, client_gone, client_out, work_gone, work_come}
 use Rattle.graph_acts.specs.Working.{OutWork, work_number}
@@ -102,6 +103,8 @@ module _ {S K C : Type 0} where
     pub is_legal : Legal see first log
     pub met : Met (MayAsk see headers first) log
     pub stood : (w : World) → Stands (graphs.kept see.progress (graph_of first)) w → (u : World) × (xs : List (acts.Act × acts.Reply)) × ArePlain see (bare_log log) xs × Run w xs u × Stands (graphs.kept see.progress g) u
+    -- its client objects and its files are those that were put in last
+    pub objects : HasObjects (graph_of first) (bare_log log) g
     pub seen : Begins v.seen log
     pub mine : own 0 log ≡ v.mine
     pub joined : (i : ℕ) (x : ℕ × List (Entry (Asked S K C) (Told S K C))) → get_elem? v.joined i ≡ some x → own x.0 log ≡ x.1

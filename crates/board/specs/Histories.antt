@@ -21,9 +21,11 @@ use Rattle.history_laws.specs.Objects.{IsObjectOut}
 use Rattle.graph_acts.specs.declared.act.Act.{Act}
 use Rattle.graph_acts.specs.declared.act.Reply.{Reply}
 use Rattle.graph_acts.specs.Plain.{Sight}
+use Rattle.audio_parts.specs.Shown.{held_in}
+use Rattle.graph_acts.specs.Objects.{AreGivenFrom, HasObjects, none_seen, parts_by}
 use Rattle.graph_acts.specs.Replying.{AreReplies}
 use Rattle.graph_acts.specs.Holding.{OutClient, header_number, client_handle, headers_held, clients_held, works_held, IsGone, IsGoneSo, May, Clear, Can}
-use Rattle.graph_acts.specs.Working.{IsWorkIn, work_number}
+use Rattle.graph_acts.specs.Working.{IsWorkIn, OutWork, work_number}
 use Rattle.board.specs.declared.asked.Asked.{Asked}
 use Rattle.board.specs.declared.asked.Told.{Told}
 use Rattle.board.specs.declared.watched.Watched.{Watched}
@@ -63,6 +65,10 @@ module _ {S K C : Type 0} where
   abbrev pub WorksAreHeld : World → List (Entry (Act S K C) (Reply S K C)) → World → Type 0
   WorksAreHeld first log now = AreHeld work_number (λ p. works_held (own p log)) (IsWorkIn now) (λ n. has_work_out n now ≡ true) (λ n. has_work_out n first ≡ true)
 
+  -- of each work that a pass holds the part was last seen so
+  abbrev pub PartsAreHeld : List (Entry (Act S K C) (Reply S K C)) → Type 0
+  PartsAreHeld log = (p : ℕ) (x : OutWork S K) → Has (works_held (own p log)) x → held_in x.part ≡ parts_by none_seen log (work_number x)
+
   -- Where the history leads from w: the states of each component on the way, all of which the reader knows that came back last. There each
   -- client object that a pass holds is out, and was told all that was given for its component; and the works that are out are with passes.
   pub record Reaches (see : Sight S K C) (first : Watched S K C) (w : World) (log : List (Entry (Asked S K C) (Told S K C))) : Type 0 where
@@ -85,6 +91,9 @@ module _ {S K C : Type 0} where
     pub busy : AreBusyWhereOut see (bare_log log)
     -- a client object that is out is with one pass
     pub apart : (p q : ℕ) (x y : OutClient) → Has (clients_held see.progress (own p (bare_log log))) x → Has (clients_held see.progress (own q (bare_log log))) y → x.handle ≡ y.handle → p ≡ q
+    -- Each client object and each file that a reply gives is the one that was put in last. A work comes back with the file with which it was
+    -- claimed, read or written further, and a fault shows in that.
+    pub objects : AreGivenFrom see (graph_of first) (bare_log log)
     -- the reader that came back last is one of the words
     pub reader : MatchOption (last_told None log) (Unit {0}) (IsReaderOf (words_of first))
 
@@ -98,6 +107,8 @@ module _ {S K C : Type 0} where
     pub worlds : (w : World) → Stands (graphs.kept see.progress (graph_of first)) w → Arrives see first w log v
     pub headers : HeadersAreHeld (graph_of first) (bare_log log) (graph_of v)
     pub clients : ClientsAreHeld see (graph_of first) (bare_log log) (graph_of v)
+    pub objects : HasObjects (graph_of first) (bare_log log) (graph_of v)
+    pub parts : PartsAreHeld (bare_log log)
     pub words : words_of v ≡ words_of first
     pub handles : v.handles.items ≡ first.handles.items
     pub tidy : IsTidy v

@@ -1,5 +1,6 @@
 pub mod Asking
 pub mod Watching
+pub mod Rows
 pub mod Busy
 pub mod Histories
 pub mod Serving
@@ -7,3 +8,4 @@ pub mod Showing
 pub mod Boards
 pub mod Together
 pub mod Opening
+pub mod Files

@@ -57,7 +57,7 @@ module _ {S K C : Type 0} (see : Sight S K C) (headers : Bool) (first now : Show
   handed header H h = handed_same h.0 header (look_of now.core) h.2 (H.out pass h.0 h.1)
 
   pub can_ask : (a : Act S K C) → HeadersAreHeld first log now → ClientsAreHeld see first log now
-      → ((done : DoneOf (ShownPart S K)) → HoldsWork (own pass log) done → CanFinish see now done) → May see headers (own pass log) a → Can see now a
+      → ((done : DoneOf (ShownPart S K)) → HoldsWork see (own pass log) done → CanFinish see now done) → May see headers (own pass log) a → Can see now a
   can_ask (asks.GetHandle name client) H O W m = m
   can_ask (asks.FreeBuffer h port header) H O W m = handed header H m
   can_ask (asks.EmptyThisBuffer h port header) H O W m = handed header H m
@@ -77,7 +77,7 @@ module _ {S K C : Type 0} where
 
   -- a work that the pass holds is out in the world that the history leads to
   works_finish : (see : Sight S K C) (first value : Watched S K C) (log : List (Entry (Asked S K C) (Told S K C))) (pass : ℕ) → Legal see first log → StandsAfter see first log value
-      → (done : DoneOf (ShownPart S K)) → HoldsWork (own pass (bare_log log)) done → CanFinish see (graph_of value) done
+      → (done : DoneOf (ShownPart S K)) → HoldsWork see (own pass (bare_log log)) done → CanFinish see (graph_of value) done
   works_finish see first value log pass L U done h =
       let A = U.worlds L.one.world L.one.stands in
       let R = A.reaches in

@@ -11,6 +11,7 @@ ghost use Rattle.board.specs.declared.asked.Asked.{Asked};
 ghost use Rattle.board.specs.declared.asked.Told.{Told};
 ghost use Rattle.board.specs.declared.watched.Watched.{Watched};
 ghost use Rattle.board.specs.Asking.{ArePlain, bare_log};
+ghost use Rattle.board.specs.Files.{HaveTheirFiles};
 ghost use Rattle.board.specs.Histories.{Legal, graph_of};
 ghost use Rattle.board.specs.Together.{AreOneRun};
 
@@ -23,4 +24,10 @@ pub fn law_of_histories<S: Source, K: Sink, C: Client>()
     ensures { (key units : ℕ) (xs : List (MachineAct × MachineReply)) (w : World) (first : Watched S K C) (log : List (Entry (Asked S K C) (Told S K C)))
         → Run (no_world key units) xs w → Stands (kept C.progress (graph_of first)) w → Legal (sight_of C.Client S.Source K.Sink) first log
         → (ys : List (MachineAct × MachineReply)) × ArePlain (sight_of C.Client S.Source K.Sink) (bare_log log) ys × AreOneRun key units xs ys }
+{}
+
+/// After a legal history in which no file comes to a component, its file in the graph is the object that it had at first, read or written
+/// further; and where a step of it answered a fault, that shows in the object.
+pub fn law_of_files<S: Source, K: Sink, C: Client>()
+    ensures { (first : Watched S K C) (log : List (Entry (Asked S K C) (Told S K C))) → Legal (sight_of C.Client S.Source K.Sink) first log → HaveTheirFiles (sight_of C.Client S.Source K.Sink) (graph_of first) (bare_log log) }
 {}

@@ -29,7 +29,7 @@ impl<S: Source, K: Sink, C: Client> Watched<S, K, C> {
         ensures { ShowsAt C.progress i self.old self.new }
     {
         let h = self.handles[i];
-        match self.served.graph.get_state(h) {
+        match self.served.graph.state_near(h, i) {
             Ok(state) => {
                 if state.number() != self.states[i].number() {
                     self.show_new(i, state);

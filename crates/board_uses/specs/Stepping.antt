@@ -1,6 +1,8 @@
 -- What the step of a work leaves with its pass.
 use Rattle.std.specs.Prelude.{◌≡◌, ℕ, Option, Some, None, Ok, Err}
 use Rattle.omx_types.specs.declared.handle.Handle.{Handle}
+use Rattle.outside_io.specs.declared.sink.Sink.{Ghosts as SinkGhosts}
+use Rattle.outside_io.specs.declared.source.Source.{Ghosts as SourceGhosts}
 use Rattle.audio_parts.specs.Shown.{ShownPart}
 use Rattle.il_flow.specs.Works.{DoneOf, WorkOf}
 use Rattle.graph_acts.specs.declared.act.Act.TheVariants as asks
@@ -18,12 +20,12 @@ abbrev pub IsNoWork : {S K : Type 0} → Claimed S K → Type 0
 IsNoWork (claimed.Work work) = ⊥
 IsNoWork _ = Unit {0}
 
-module _ {S K C : Type 0} (h : Handle) where
+module _ {S K C : Type 0} (reads : SourceGhosts S) (writes : SinkGhosts K) (h : Handle) where
   -- the component's work went out, its step was done, and it came back so
   pub record IsStepped (frames claimed_at finished_at : ℕ) (old new : BoardPass S K C) : Type 0 where
     pub work : WorkOf (ShownPart S K)
     pub done : DoneOf (ShownPart S K)
-    pub run : IsRunOf (out_of work) done
+    pub run : IsRunOf reads writes (out_of work) done
     pub many : done.frames ≡ frames
     pub calls : MadeTwo old new claimed_at (asks.Claim h) (replies.Claim (Ok (claimed.Work work))) finished_at (asks.Finish done) replies.Finish
 

@@ -34,7 +34,7 @@ fn bring_back<S: Source, K: Sink, C: Client, R: Wait>(
     done: DoneWork<S, K>,
 ) -> u64
     requires pass { IsOf board.now pass.old }
-    requires holds { (got : OutWork S K) × (works pass.old ≡ got ∷ []) × IsRunOf got done }
+    requires holds { (got : OutWork S K) × (works pass.old ≡ got ∷ []) × IsRunOf S.Source K.Sink got done }
     ensures pass { IsOf board.now pass.new × IsSamePass (pass_view pass.old) (pass_view pass.new) }
     ensures call { IsCalled (sight_of C.Client S.Source K.Sink) C.HEADERS (first_of board.now) (pass_view pass.old) (asks.Finish done) result replies.Finish (pass_view pass.new) }
     ensures works { works pass.new ≡ [] }
@@ -63,7 +63,7 @@ pub fn work_once<S: Source, K: Sink, C: Client, R: Wait>(
     requires pass { IsOf board.now pass.old }
     requires holds { works pass.old ≡ [] }
     ensures pass { IsOf board.now pass.new × IsSamePass (pass_view pass.old) (pass_view pass.new) }
-    ensures calls { DoesStep h result pass.old pass.new }
+    ensures calls { DoesStep S.Source K.Sink h result pass.old pass.new }
     ensures works { works pass.new ≡ [] }
     ensures clients { clients C.progress pass.new ≡ clients C.progress pass.old }
     ensures headers { headers pass.new ≡ headers pass.old }

@@ -15,6 +15,7 @@ use Rattle.il_graph.specs.HandedIn.{KeepsHandedIn}
 use Rattle.graph_acts.specs.declared.act.Act.{Act}
 use Rattle.graph_acts.specs.declared.act.Reply.{Reply}
 use Rattle.graph_acts.specs.Replying.{IsReplyTo}
+use Rattle.graph_acts.specs.Objects.{MovesObjects}
 use Rattle.graph_acts.specs.Plain.{Sight, Unsaid, plain_act, plain_reply}
 use Rattle.graph_acts.specs.Working.{MovesWorks, OutWork, work_back, work_given}
 use Rattle.graph_acts.specs.Holding.{OutClient, taken_in, given_out, client_in, client_out}
@@ -62,13 +63,14 @@ module _ {S K C : Type 0} where
 
   pub quiet_moved : (see : Sight S K C) (act : Act S K C) (reply : Reply S K C) (old new : Shown S K C)
       → ((u : Unsaid) (w : World) → Stands (kept see.progress old) w → (v : World) × Stands (kept see.progress new) v × Step w (plain_act see u act) (plain_reply u reply) v)
-      → KeepsHandedIn (look_of old.core) (look_of new.core) → KeepsAllClients old.core new.core → IsQuiet see act reply → Moved see act reply old new
-  quiet_moved see act reply old new T H A Q = record {
+      → KeepsHandedIn (look_of old.core) (look_of new.core) → KeepsAllClients old.core new.core → MovesObjects act reply old new → IsQuiet see act reply → Moved see act reply old new
+  quiet_moved see act reply old new T H A O Q = record {
     step = λ w s u k m. T u w s;
     replied = Q.replied;
     sized = Q.sized;
     headers = subst (λ (z : Option ℕ × Option BufferHeader). MovesHeaders z.0 z.1 old new) (λ i. (sym Q.taken i, sym Q.given i)) (headers_stay old new H);
     clients = subst (λ (z : Option Handle × Option OutClient). MovesClients z.0 z.1 old new) (λ i. (sym Q.back i, sym Q.gone i)) (clients_stay old new A);
+    objects = O;
     leaves = λ h g w s u. Q.leaves h.generation u;
     told = λ u. if_none (client_out see.progress act reply) _ Q.gone;
     works = λ w v D o n u so m step. subst (λ (z : Option ℕ × Option (OutWork S K)). MovesWorks z.0 z.1 w v) (λ i. (sym Q.done i, sym Q.work i)) (works_alone see act reply old new Q.works w v D o n u so m step);
@@ -76,5 +78,5 @@ module _ {S K C : Type 0} where
 
   -- the act only looks
   pub looked_moved : (see : Sight S K C) (act : Act S K C) (reply : Reply S K C) (g : Shown S K C)
-      → ((u : Unsaid) (w : World) → Stands (kept see.progress g) w → Step w (plain_act see u act) (plain_reply u reply) w) → IsQuiet see act reply → Moved see act reply g g
-  looked_moved see act reply g T Q = quiet_moved see act reply g g (λ u w s. (w, s, T u w s)) (record { stay = λ x h. h; come = λ n h. h }) (λ k. refl) Q
+      → ((u : Unsaid) (w : World) → Stands (kept see.progress g) w → Step w (plain_act see u act) (plain_reply u reply) w) → MovesObjects act reply g g → IsQuiet see act reply → Moved see act reply g g
+  looked_moved see act reply g T O Q = quiet_moved see act reply g g (λ u w s. (w, s, T u w s)) (record { stay = λ x h. h; come = λ n h. h }) (λ k. refl) O Q

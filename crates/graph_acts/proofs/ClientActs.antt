@@ -149,7 +149,7 @@ module _ {S K C : Type 0} where
   took_headers (Ok tooks.Busy) old new S H e = headers_stay old new (record { stay = S; come = H })
   took_headers (Err x) old new S H e = same_headers old new e
 
-  all_clients : (h : Handle) (old new : Shown S K C) → KeepsClients h old.core new.core → client_named h new.core ≡ client_named h old.core → KeepsAllClients old.core new.core
+  pub all_clients : (h : Handle) (old new : Shown S K C) → KeepsClients h old.core new.core → client_named h new.core ≡ client_named h old.core → KeepsAllClients old.core new.core
   all_clients h old new K e k = either (same_handle k h) (λ t. subst (λ j. client_named j new.core ≡ client_named j old.core) (sym (handle_is k h t)) e) (λ f. K k f)
 
   pub took_clients : {E : Type 0} (progress : C → Reached) (h : Handle) (result : Result (Took C) E) (old new : Shown S K C) → IfOk result (λ took. TakesClient h old.core took new.core) → IfOk result (λ took. IsTookDone progress took) → KeepsClients h old.core new.core

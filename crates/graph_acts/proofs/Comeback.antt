@@ -11,6 +11,8 @@ use Rattle.il_machine.specs.Whole.{HasDone, PartSeen, Stands}
 use Rattle.il_machine.specs.World.{Component, World, number_of}
 use Rattle.machine_laws.proofs.Finding.{either}
 use Rattle.graph_core.specs.Finishing.{AreHandedBack}
+use Rattle.outside_io.specs.declared.sink.Sink.{Ghosts as SinkGhosts}
+use Rattle.outside_io.specs.declared.source.Source.{Ghosts as SourceGhosts}
 use Rattle.audio_parts.specs.Shown.{ShownPart}
 use Rattle.il_flow.specs.Places.{carried_from}
 use Rattle.il_flow.specs.Works.{ComesBack, DoneOf, seen_done}
@@ -28,7 +30,7 @@ use Rattle.graph_acts.proofs.Lasting.{some_there}
 abbrev pub nothing_unsaid : Unsaid
 nothing_unsaid = record { took = []; terms = record { kind = kinds.Gain; inputs = []; outputs = []; factors = []; file = None } }
 
-module _ {S K : Type 0} (w : World) (got : OutWork S K) (done : DoneOf (ShownPart S K)) (H : IsWorkIn w got) (R : IsRunOf got done) where
+module _ {S K : Type 0} {reads : SourceGhosts S} {writes : SinkGhosts K} (w : World) (got : OutWork S K) (done : DoneOf (ShownPart S K)) (H : IsWorkIn w got) (R : IsRunOf reads writes got done) where
   abbrev x : WorkSeen
   x = work_by H.terms got
 
@@ -46,12 +48,13 @@ module _ {S K : Type 0} (w : World) (got : OutWork S K) (done : DoneOf (ShownPar
       let y = subst (λ (t : Terms). ComesBack t (carried_from 0 got.headers) (seen_of got.part) done.component.generation done.frames done.fault (carried_from 0 done.headers) now) (H.set_so n) (R.step n) H.stream H.gone in
       (y.0, returns_stepped w x H.stream H.out (seen_done y.0 done) now own n y.1 y.2))
 
-  failed_so : (done.part).failed ≡ is_some done.fault
+  -- the part has failed where the step answered a fault
+  pub failed_so : (done.part).failed ≡ is_some done.fault
   failed_so = either got.announces
       (λ a. ap (λ p. p.failed) (R.unstepped a) ∙ (H.whole ∙ sym (ap is_some (R.announced a).1)))
       (λ n. R.failed n)
 
-module _ {S K C : Type 0} (see : Sight S K C) (w : World) (got : OutWork S K) (done : DoneOf (ShownPart S K)) (H : IsWorkIn w got) (R : IsRunOf got done) where
+module _ {S K C : Type 0} (see : Sight S K C) (w : World) (got : OutWork S K) (done : DoneOf (ShownPart S K)) (H : IsWorkIn w got) (R : IsRunOf see.reads see.writes got done) where
   pub can_finish : (g : Shown S K C) → Sound w → Stands (kept see.progress g) w → CanFinish see g done
   can_finish g D S =
       let c = some_there (component_named got.handle w.components) (λ (c : Component). number_of c ≡ got.handle.generation) H.named in

@@ -180,8 +180,8 @@ module _ {S K C : Type 0} where
   abbrev pub HoldsClient : (C → Reached) → List (Entry (Act S K C) (Reply S K C)) → Handle → Reached → Type 0
   HoldsClient progress own h told = Has (clients_held progress own) (record { handle = h; progress = told })
 
-  abbrev pub HoldsWork : List (Entry (Act S K C) (Reply S K C)) → DoneOf (ShownPart S K) → Type 0
-  HoldsWork own done = (got : OutWork S K) × Has (works_held own) got × IsRunOf got done
+  abbrev pub HoldsWork : Sight S K C → List (Entry (Act S K C) (Reply S K C)) → DoneOf (ShownPart S K) → Type 0
+  HoldsWork see own done = (got : OutWork S K) × Has (works_held own) got × IsRunOf see.reads see.writes got done
 
   -- A pass with these entries of its own may ask it. `headers` says whether client objects of this type are given headers.
   abbrev pub May : Sight S K C → Bool → List (Entry (Act S K C) (Reply S K C)) → Act S K C → Type 0
@@ -192,7 +192,7 @@ module _ {S K C : Type 0} where
   May see headers own (asks.EmptyThisBuffer h port header) = HoldsHeader own header
   May see headers own (asks.FillThisBuffer h port header) = HoldsHeader own header
   May see headers own (asks.EndNote h client) = HoldsClient see.progress own h (see.progress client)
-  May see headers own (asks.Finish done) = HoldsWork own done
+  May see headers own (asks.Finish done) = HoldsWork see own done
   May see headers own _ = Unit {0}
 
   -- it holds nothing

@@ -18,6 +18,7 @@ use Rattle.graph_core.specs.Clients.{IsOut, WasTold}
 use Rattle.graph_acts.specs.declared.act.Act.{Act}
 use Rattle.graph_acts.specs.declared.act.Act.TheVariants as asks
 use Rattle.graph_acts.specs.declared.act.Reply.{Reply}
+use Rattle.graph_acts.specs.Objects.{MovesObjects}
 use Rattle.graph_acts.specs.Replying.{IsReplyTo}
 use Rattle.graph_acts.specs.Plain.{Sight, Unsaid, plain_act, plain_reply}
 use Rattle.graph_acts.specs.Working.{MovesWorks, work_back, work_given}
@@ -51,6 +52,8 @@ module _ {S K C : Type 0} where
     pub sized : HasSize act
     pub headers : MovesHeaders (taken_in act reply) (given_out reply) old new
     pub clients : MovesClients (client_in act) (client_out see.progress act reply) old new
+    -- what goes in stands in the graph then, and what comes out is what stood in it
+    pub objects : MovesObjects act reply old new
     -- the notes that were given for a component stay while its client object is out
     pub leaves : (h : Handle) → IsGone old h → (w : World) → Stands (kept see.progress old) w → (u : Unsaid) → LeavesNotes h.generation (plain_act see u act) (plain_reply u reply)
     -- a client object that goes out has then the progress of all that was given

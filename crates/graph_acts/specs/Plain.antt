@@ -18,10 +18,13 @@ use Rattle.graph_acts.specs.declared.act.Reply.{Reply}
 use Rattle.graph_acts.specs.declared.act.Reply.TheVariants as replies
 use Rattle.graph_acts.specs.Lending.{claimed_as}
 
--- What the machine knows of what moves: the progress of a client object, and a file by its place, its size and what it tells.
-pub record Sight (S K C : Type 0) : Type 0 where
+-- What the machine knows of what moves: the progress of a client object, and a file by its place, its size and what it tells. And all that is
+-- known of files.
+pub record Sight (S K C : Type 0) : Type 1 where
   pub progress : C → Reached
   pub offer : PartFile S K → Offered
+  pub reads : SourceGhosts S
+  pub writes : SinkGhosts K
 
 -- What a value doesn't tell: the bytes that a part's file took in the step of a work, and what is set of the component whose work goes out.
 pub record Unsaid : Type 0 where
@@ -29,7 +32,7 @@ pub record Unsaid : Type 0 where
   pub terms : Terms
 
 abbrev pub sight_of : {S K C : Type 0} → ClientGhosts C → SourceGhosts S → SinkGhosts K → Sight S K C
-sight_of client reads writes = record { progress = client.progress; offer = offered reads.offset reads.size reads.told writes.told }
+sight_of client reads writes = record { progress = client.progress; offer = offered reads.offset reads.size reads.told writes.told; reads = reads; writes = writes }
 
 module _ {S K C : Type 0} where
   abbrev pub plain_act : Sight S K C → Unsaid → Act S K C → acts.Act

@@ -1,5 +1,8 @@
--- Each act is answered by a reply of its own kind, and what a refused act was to move in comes back as it was.
-use Rattle.std.specs.Prelude.{◌≡◌, List, [], ◌∷◌, Result, IfErr}
+-- Each act is answered by a reply of its own kind, and what a refused act was to move in comes back as it was. So does the memory of a header
+-- that is freed.
+use Rattle.std.specs.Prelude.{◌≡◌, ℕ, List, [], ◌∷◌, Option, option_map, Result, IfErr, IfOk, Vec}
+use Rattle.std.specs.declared.alloc.Global.{Global}
+use Rattle.header_core.specs.BufferHeader.{BufferHeader}
 use Rattle.turnstile.specs.declared.entry.Entry.{Entry}
 use Rattle.graph_acts.specs.declared.act.Act.{Act}
 use Rattle.graph_acts.specs.declared.act.Act.TheVariants as asks
@@ -9,6 +12,10 @@ use Rattle.graph_acts.specs.declared.act.Reply.TheVariants as replies
 -- a refusal hands it back
 abbrev pub HandsBack : {A T E : Type 0} → A → Result T (E × A) → Type 0
 HandsBack it result = IfErr result (λ refused. refused.1 ≡ it)
+
+-- the client's own memory that the header held comes back, if it held such
+abbrev pub GivesMemory : {E : Type 0} → BufferHeader → Result (Option (Vec ℕ Global)) E → Type 0
+GivesMemory header result = IfOk result (λ memory. option_map (λ bytes. bytes.items) memory ≡ header.held.memory)
 
 module _ {S K C : Type 0} where
   abbrev pub IsReplyTo : Act S K C → Reply S K C → Type 0
@@ -28,7 +35,7 @@ module _ {S K C : Type 0} where
   IsReplyTo (asks.RunCommand a) (replies.RunCommand result) = Unit {0}
   IsReplyTo (asks.AllocateBuffer a b) (replies.AllocateBuffer result) = Unit {0}
   IsReplyTo (asks.UseBuffer h port bytes) (replies.UseBuffer result) = HandsBack bytes result
-  IsReplyTo (asks.FreeBuffer h port header) (replies.FreeBuffer result) = HandsBack header result
+  IsReplyTo (asks.FreeBuffer h port header) (replies.FreeBuffer result) = HandsBack header result × GivesMemory header result
   IsReplyTo (asks.EmptyThisBuffer h port header) (replies.EmptyThisBuffer result) = HandsBack header result
   IsReplyTo (asks.FillThisBuffer h port header) (replies.FillThisBuffer result) = HandsBack header result
   IsReplyTo (asks.TakeNote a) (replies.TakeNote result) = Unit {0}

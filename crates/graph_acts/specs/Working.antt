@@ -1,5 +1,5 @@
 -- Works that went out, as their holders see them.
-use Rattle.std.specs.Prelude.{◌≡◌, ℕ, Bool, true, false, List, [], Option, Some, None, IsSomeAnd, Result, Ok, Err, is_some}
+use Rattle.std.specs.Prelude.{◌≡◌, ℕ, Bool, true, false, List, [], Option, Some, None, IfSome, IsSomeAnd, Result, Ok, Err, is_some}
 use Rattle.omx_types.specs.declared.handle.Handle.{Handle}
 use Rattle.part_api.specs.Terms.{Terms}
 use Rattle.il_machine.specs.Answers.{component_named}
@@ -10,7 +10,11 @@ use Rattle.il_machine.specs.Whole.{HasDone}
 use Rattle.il_machine.specs.World.{Stream, World, number_of}
 use Rattle.history_laws.specs.Works.{IsHeldOut, has_work_out}
 use Rattle.header_core.specs.BufferHeader.{BufferHeader}
-use Rattle.audio_parts.specs.Shown.{ShownPart}
+use Rattle.outside_io.specs.declared.sink.Sink.{Ghosts as SinkGhosts}
+use Rattle.outside_io.specs.declared.source.Source.{Ghosts as SourceGhosts}
+use Rattle.omx_types.specs.declared.fault.PartFault.{PartFault}
+use Rattle.audio_parts.specs.Objects.{Held, ObjectShows, ObjectStays}
+use Rattle.audio_parts.specs.Shown.{ShownPart, held_in}
 use Rattle.graph_core.specs.Finishing.{AreHandedBack}
 use Rattle.il_flow.specs.Places.{AreSame, carried_from}
 use Rattle.il_flow.specs.Works.{ComesBack, DoneOf, WorkOf, seen_done}
@@ -76,7 +80,15 @@ module _ {S K C : Type 0} where
   work_back (asks.Finish done) = Some done.component.generation
   work_back _ = None
 
-module _ {S K : Type 0} where
+module _ {S K : Type 0} (reads : SourceGhosts S) (writes : SinkGhosts K) where
+  -- the object of a part's file is the same, read or written further
+  abbrev pub IsFurther : Held S K → Held S K → Type 0
+  IsFurther before now = ObjectStays reads.size reads.told reads.ends reads.offset reads.faults writes.name writes.faults before now
+
+  -- it shows since then that a step answered the fault
+  abbrev pub IsFaulted : PartFault → Held S K → Held S K → Type 0
+  IsFaulted fault before now = ObjectShows reads.size reads.ends reads.offset reads.faults writes.faults fault before now
+
   -- The work comes back as `LentWork::run` leaves it.
   pub record IsRunOf (got : OutWork S K) (done : DoneOf (ShownPart S K)) : Type 0 where
     pub component : done.component ≡ got.handle
@@ -87,3 +99,5 @@ module _ {S K : Type 0} where
     pub failed : got.announces ≡ false → (done.part).failed ≡ is_some done.fault
     pub announced : got.announces ≡ true → IsAnnounced (seen_done [] done)
     pub unstepped : got.announces ≡ true → done.part ≡ got.part
+    pub object : IsFurther (held_in got.part) (held_in done.part)
+    pub shows : IfSome done.fault (λ fault. IsFaulted fault (held_in got.part) (held_in done.part))

@@ -22,7 +22,7 @@ use outside_io::{Sink, Source};
 impl<S: Source, K: Sink> LentWork<S, K> {
     /// Does the step of the work, away from its graph. The pass that got the work may then bring it back.
     pub fn run(self) -> DoneWork<S, K>
-        ensures { IsRunOf (out_of self) result }
+        ensures { IsRunOf S.Source K.Sink (out_of self) result }
     {
         law_of_parts::<S, K>();
         let LentWork { work } = self;

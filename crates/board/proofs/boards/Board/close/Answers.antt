@@ -1,9 +1,10 @@
 use Rattle.std.proofs.Common.{sym, subst}
 use Rattle.il_machine.specs.Whole.{Stands}
 use Rattle.il_graph.specs.Shown.{kept}
+use Rattle.graph_acts.specs.Objects.{HasObjects}
 use Rattle.graph_acts.specs.Plain.{sight_of}
 use Rattle.board.specs.Asking.{bare_log}
-use Rattle.board.specs.Histories.{known_of, HeadersAreHeld, ClientsAreHeld}
+use Rattle.board.specs.Histories.{graph_of, known_of, HeadersAreHeld, ClientsAreHeld}
 use Rattle.board.specs.Boards.{first_of, first_graph}
 use Rattle.board.proofs.Ending.{whole}
 use Rattle.board.proofs.OneRun.{run_of_shown}
@@ -40,6 +41,7 @@ returns-clause-closed g c =
         run_of_shown first.handles.items w (known_of first) A.reaches.acts A.reaches.world A.reaches.all A.reaches.shown,
         subst (λ x. Stands (kept see.progress x) A.reaches.world) is A.stands,
       );
+      objects = subst (λ x. HasObjects (graph_of first) (bare_log e.log) x) is e.stood.objects;
       seen = e.seen;
       mine = e.mine;
       joined = e.joined;

@@ -27,7 +27,7 @@ returns g c =
     let done = c.run.result in
     let old = seen_as (f work.part) _ _ _ _ (sym (part.left work.part)) (sym (part.rest work.part)) (sym (part.kept work.part)) (sym (part.writing work.part)) in
     let new = seen_as (f done.part) _ _ _ _ (sym (part.left done.part)) (sym (part.rest done.part)) (sym (part.kept done.part)) (sym (part.writing done.part)) in
-    let is : IsRunOf (out_of (shown_work f work)) (shown_done f done) = record {
+    let is : IsRunOf g.S.Source g.K.Sink (out_of (shown_work f work)) (shown_done f done) = record {
       component = run.component;
       announces = run.announces;
       terms = sym (part.terms done.part) ∙ (run.terms ∙ part.terms work.part);
@@ -36,5 +36,7 @@ returns g c =
       failed = λ a. sym (part.failed done.part) ∙ run.failed a;
       announced = run.announced;
       unstepped = λ a. ap f (run.unstepped a);
+      object = run.kept;
+      shows = run.shows;
     } in
-    subst (λ w. IsRunOf (out_of w) (shown_done f done)) c.self.view_is is
+    subst (λ w. IsRunOf g.S.Source g.K.Sink (out_of w) (shown_done f done)) c.self.view_is is

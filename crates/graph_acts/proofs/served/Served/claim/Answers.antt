@@ -1,4 +1,4 @@
-use Rattle.std.proofs.Common.{◌≡◌, ◌∙◌, sym, ap, subst, refl, Result}
+use Rattle.std.proofs.Common.{◌≡◌, ◌∙◌, sym, ap, subst, refl, false, Result}
 use Rattle.omx_types.specs.declared.error.OmxError.{OmxError}
 use Rattle.il_machine.specs.Claims as machine
 use Rattle.il_machine.specs.Claims.{Claim}
@@ -6,9 +6,13 @@ use Rattle.il_graph.specs.Claiming.{IsSoFar}
 use Rattle.il_graph.proofs.Back.{seen_as}
 use Rattle.audio_parts.specs.Shown.{shown_by}
 use Rattle.graph_acts.specs.Lending.{OnLent, claimed_as, lent_as}
+use Rattle.graph_acts.specs.declared.act.Act.TheVariants as asks
+use Rattle.graph_acts.specs.declared.act.Reply.TheVariants as replies
+use Rattle.graph_acts.specs.Objects.{MovesObjects}
 use Rattle.graph_acts.specs.Plain.{sight_of}
 use Rattle.graph_acts.proofs.Acts.{headers_stay, clients_stay}
 use Rattle.graph_acts.proofs.WorkActs.{WasClaimed, at_work, claim_works, lent_told, on_lent}
+use Rattle.graph_acts.proofs.ObjectActs.{claimed_objects, on_work}
 use Rattle.graph_acts.proofs.served.Served.claim.Goals as goal
 
 pub returns : goal.returns
@@ -33,6 +37,7 @@ returns g c =
       sized = tt;
       headers = headers_stay old new e.held;
       clients = clients_stay old new e.clients;
+      objects = subst (λ r. MovesObjects (asks.Claim h) (replies.Claim r) old new) (sym is) (claimed_objects f (λ it. refl) h answer old new e.component e.file (on_work answer _ (λ work. (f work.part).failed ≡ false) (λ work h. sym (part.failed work.part) ∙ h) e.whole) e.gone e.files e.clients e.unchanged);
       leaves = λ x gone w s u. (refl, refl);
       told = λ u. tt;
       works = λ w v S o n u so m step. claim_works see h old new u result

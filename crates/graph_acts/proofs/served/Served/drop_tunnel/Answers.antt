@@ -2,7 +2,8 @@ use Rattle.std.proofs.Common.{refl}
 use Rattle.graph_acts.specs.declared.act.Act.TheVariants as asks
 use Rattle.graph_acts.specs.Plain.{sight_of}
 use Rattle.graph_acts.proofs.Acts.{quiet_moved}
+use Rattle.graph_acts.proofs.ObjectActs.{objects_stay}
 use Rattle.graph_acts.proofs.served.Served.drop_tunnel.Goals as goal
 
 pub returns : goal.returns
-returns g c = quiet_moved (sight_of g.C.Client g.S.Source g.K.Sink) (asks.DropTunnel c.args.output c.args.input) _ c.args.self.now.graph c.drop_tunnel.new.self (λ u. c.drop_tunnel.ensures.step) c.drop_tunnel.ensures.held c.drop_tunnel.ensures.clients (record { taken = refl; given = refl; back = refl; gone = refl; done = refl; work = refl; works = λ n u. (refl, refl); replied = tt; sized = tt; leaves = λ n u. (refl, refl) })
+returns g c = quiet_moved (sight_of g.C.Client g.S.Source g.K.Sink) (asks.DropTunnel c.args.output c.args.input) _ c.args.self.now.graph c.drop_tunnel.new.self (λ u. c.drop_tunnel.ensures.step) c.drop_tunnel.ensures.held c.drop_tunnel.ensures.clients (objects_stay (asks.DropTunnel c.args.output c.args.input) _ c.args.self.now.graph c.drop_tunnel.new.self c.drop_tunnel.ensures.clients c.drop_tunnel.ensures.files (record { client = refl; file = refl; given = λ clients files. tt })) (record { taken = refl; given = refl; back = refl; gone = refl; done = refl; work = refl; works = λ n u. (refl, refl); replied = tt; sized = tt; leaves = λ n u. (refl, refl) })

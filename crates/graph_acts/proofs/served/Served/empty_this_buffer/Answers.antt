@@ -4,6 +4,7 @@ use Rattle.graph_acts.specs.declared.act.Reply.TheVariants as replies
 use Rattle.graph_acts.specs.Plain.{sight_of}
 use Rattle.graph_acts.proofs.Acts.{clients_stay, works_alone}
 use Rattle.graph_acts.proofs.HeaderActs.{headers_taken}
+use Rattle.graph_acts.proofs.ObjectActs.{objects_stay}
 use Rattle.graph_acts.proofs.served.Served.empty_this_buffer.Goals as goal
 
 pub returns : goal.returns
@@ -13,6 +14,7 @@ returns g c = record {
   sized = c.size-sized.ensures.sized;
   headers = headers_taken c.empty_this_buffer.result c.args.header c.args.self.now.graph c.empty_this_buffer.new.self c.empty_this_buffer.ensures.held c.empty_this_buffer.ensures.taken c.empty_this_buffer.ensures.unchanged;
   clients = clients_stay c.args.self.now.graph c.empty_this_buffer.new.self c.empty_this_buffer.ensures.clients;
+  objects = objects_stay (asks.EmptyThisBuffer c.args.h c.args.port c.args.header) (replies.EmptyThisBuffer c.empty_this_buffer.result) c.args.self.now.graph c.empty_this_buffer.new.self c.empty_this_buffer.ensures.clients c.empty_this_buffer.ensures.files (record { client = refl; file = refl; given = λ clients files. tt });
   leaves = λ h x w s u. (refl, refl);
   told = λ u. tt;
   works = works_alone (sight_of g.C.Client g.S.Source g.K.Sink) (asks.EmptyThisBuffer c.args.h c.args.port c.args.header) (replies.EmptyThisBuffer c.empty_this_buffer.result) c.args.self.now.graph c.empty_this_buffer.new.self (λ n u. (refl, refl));

@@ -5,6 +5,7 @@ use Rattle.graph_acts.specs.Plain.{sight_of}
 use Rattle.graph_acts.proofs.Worlds.{meets_told}
 use Rattle.graph_acts.proofs.Acts.{headers_stay, works_alone}
 use Rattle.graph_acts.proofs.ClientActs.{ended_clients}
+use Rattle.graph_acts.proofs.ObjectActs.{ended_objects}
 use Rattle.graph_acts.proofs.served.Served.end_note.Goals as goal
 
 pub returns : goal.returns
@@ -17,6 +18,7 @@ returns g c =
       sized = tt;
       headers = headers_stay old new e.held;
       clients = ended_clients c.args.h c.args.client old new e.client e.clients;
+      objects = ended_objects c.args.h c.args.client replies.EndNote old new e.client e.clients e.files;
       leaves = λ k gone w s u. (refl, refl);
       told = λ u. tt;
       works = works_alone (sight_of g.C.Client g.S.Source g.K.Sink) (asks.EndNote c.args.h c.args.client) replies.EndNote old new (λ n u. (refl, refl));

@@ -11,6 +11,7 @@ use Rattle.graph_acts.specs.Moving.{Moved}
 use Rattle.graph_acts.specs.Plain.{sight_of}
 use Rattle.graph_acts.proofs.Acts.{headers_stay, clients_stay}
 use Rattle.graph_acts.proofs.Lasting.{works_back}
+use Rattle.graph_acts.proofs.ObjectActs.{finished_objects}
 use Rattle.graph_acts.proofs.served.Served.finish.Goals as goal
 
 pub finish-requires-clause-comes : goal.finish-requires-clause-comes
@@ -55,6 +56,7 @@ returns g c =
       sized = tt;
       headers = headers_stay old new e.held;
       clients = clients_stay old new e.clients;
+      objects = finished_objects f (λ it. refl) done replies.Finish old new e.file e.files e.clients;
       leaves = λ x gone w s u. (refl, refl);
       told = λ u. tt;
       works = λ w v S o n u so m k. works_back w v (seen_done u.took (shown_done f done)) S m k;

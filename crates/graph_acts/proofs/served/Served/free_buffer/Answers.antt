@@ -4,15 +4,17 @@ use Rattle.graph_acts.specs.declared.act.Reply.TheVariants as replies
 use Rattle.graph_acts.specs.Plain.{sight_of}
 use Rattle.graph_acts.proofs.Acts.{clients_stay, works_alone}
 use Rattle.graph_acts.proofs.HeaderActs.{headers_taken}
+use Rattle.graph_acts.proofs.ObjectActs.{objects_stay}
 use Rattle.graph_acts.proofs.served.Served.free_buffer.Goals as goal
 
 pub returns : goal.returns
 returns g c = record {
   step = λ w s u k m. c.free_buffer.ensures.step w s;
-  replied = c.free_buffer.ensures.handed_back;
+  replied = (c.free_buffer.ensures.handed_back, c.free_buffer.ensures.memory);
   sized = tt;
   headers = headers_taken c.free_buffer.result c.args.header c.args.self.now.graph c.free_buffer.new.self c.free_buffer.ensures.held c.free_buffer.ensures.taken c.free_buffer.ensures.unchanged;
   clients = clients_stay c.args.self.now.graph c.free_buffer.new.self c.free_buffer.ensures.clients;
+  objects = objects_stay (asks.FreeBuffer c.args.h c.args.port c.args.header) (replies.FreeBuffer c.free_buffer.result) c.args.self.now.graph c.free_buffer.new.self c.free_buffer.ensures.clients c.free_buffer.ensures.files (record { client = refl; file = refl; given = λ clients files. tt });
   leaves = λ h x w s u. (refl, refl);
   told = λ u. tt;
   works = works_alone (sight_of g.C.Client g.S.Source g.K.Sink) (asks.FreeBuffer c.args.h c.args.port c.args.header) (replies.FreeBuffer c.free_buffer.result) c.args.self.now.graph c.free_buffer.new.self (λ n u. (refl, refl));

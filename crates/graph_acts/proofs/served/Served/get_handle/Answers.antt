@@ -4,6 +4,7 @@ use Rattle.graph_acts.specs.declared.act.Reply.TheVariants as replies
 use Rattle.graph_acts.specs.Plain.{sight_of}
 use Rattle.graph_acts.proofs.Acts.{headers_stay, works_alone}
 use Rattle.graph_acts.proofs.ClientActs.{got_clients, got_fresh, got_step}
+use Rattle.graph_acts.proofs.ObjectActs.{got_objects}
 use Rattle.graph_acts.proofs.served.Served.get_handle.Goals as goal
 
 pub returns : goal.returns
@@ -17,6 +18,7 @@ returns g c =
       sized = tt;
       headers = headers_stay old new e.held;
       clients = got_clients c.get_handle-reply.result c.args.client old new (got_fresh g.C.Client.progress old new c.as_str.result.now c.get_handle-reply.result l.one l.out e.step) e.client e.clients e.clients_unchanged;
+      objects = got_objects c.args.name c.args.client c.get_handle-reply.result old new e.client e.clients e.clients_unchanged e.file e.files e.files_unchanged;
       leaves = λ k gone w s u. (refl, refl);
       told = λ u. tt;
       works = works_alone (sight_of g.C.Client g.S.Source g.K.Sink) (asks.GetHandle c.args.name c.args.client) (replies.GetHandle c.get_handle-reply.result) old new (λ n u. (refl, refl));

@@ -2,7 +2,8 @@ use Rattle.std.proofs.Common.{refl}
 use Rattle.graph_acts.specs.declared.act.Act.TheVariants as asks
 use Rattle.graph_acts.specs.Plain.{sight_of}
 use Rattle.graph_acts.proofs.Acts.{quiet_moved}
+use Rattle.graph_acts.proofs.ObjectActs.{objects_stay}
 use Rattle.graph_acts.proofs.served.Served.supply.Goals as goal
 
 pub returns : goal.returns
-returns g c = quiet_moved (sight_of g.C.Client g.S.Source g.K.Sink) (asks.Supply c.args.h c.args.port) _ c.args.self.now.graph c.supply.new.self (λ u. c.supply.ensures.step) c.supply.ensures.held c.supply.ensures.clients (record { taken = refl; given = refl; back = refl; gone = refl; done = refl; work = refl; works = λ n u. (refl, refl); replied = tt; sized = tt; leaves = λ n u. (refl, refl) })
+returns g c = quiet_moved (sight_of g.C.Client g.S.Source g.K.Sink) (asks.Supply c.args.h c.args.port) _ c.args.self.now.graph c.supply.new.self (λ u. c.supply.ensures.step) c.supply.ensures.held c.supply.ensures.clients (objects_stay (asks.Supply c.args.h c.args.port) _ c.args.self.now.graph c.supply.new.self c.supply.ensures.clients c.supply.ensures.files (record { client = refl; file = refl; given = λ clients files. tt })) (record { taken = refl; given = refl; back = refl; gone = refl; done = refl; work = refl; works = λ n u. (refl, refl); replied = tt; sized = tt; leaves = λ n u. (refl, refl) })
