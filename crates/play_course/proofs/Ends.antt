@@ -1,12 +1,15 @@
 -- What a play comes to, whose files were open.
-use Rattle.std.proofs.Common.{◌≡◌, ◌≢◌, ℕ, ◌<◌, ◌≤◌, ◌^◌, List, Bool, true, false, length, slice_get, Option, Some, Result, Ok, Err, IsTrue, IsFalse, OnOk, IfOk, IfErr, inl, inr, refl, sym, ◌∙◌, ap, subst, arith}
+use Rattle.std.proofs.Common.{◌≡◌, ◌≢◌, ℕ, ◌<◌, ◌≤◌, ◌^◌, List, Bool, true, false, [], length, slice_get, Option, Some, Result, Ok, Err, IsTrue, IsFalse, OnOk, IfOk, IfErr, inl, inr, refl, sym, ◌∙◌, ap, subst, arith}
+use Rattle.std.specs.Prelude.{◌⊎◌}
 use Rattle.std.specs.List.{sum_by}
 use Rattle.std.proofs.lemmas.List.{take_all}
 use Rattle.omx_types.specs.declared.fault.Fault.{Fault}
 use Rattle.omx_types.specs.declared.fault.Fault.TheVariants as Faults
+use Rattle.omx_types.specs.declared.fault.PartFault.{PartFault}
+use Rattle.omx_types.specs.declared.fault.PartFault.TheVariants as kinds
 use Rattle.omx_types.specs.declared.fault.Which.TheVariants.{Line, Log}
 use Rattle.outside_io.specs.Causes.{Rose, sum_of_counts}
-use Rattle.outside_io.specs.Files.{AbsencesStand, CountsStand, GoesOn, Outside, SameBut, TellsAbsence}
+use Rattle.outside_io.specs.Files.{AbsencesStand, CountsStand, GoesOn, IsFrontOf as FrontOf, Outside, SameBut, TellsAbsence}
 use Rattle.outside_io.specs.Whole.{HasWriteReason, IsKeptOrFrontOf, IsShort}
 use Rattle.outside_io.specs.declared.media.Refused.{Refused}
 use Rattle.outside_io.specs.declared.media.Refused.TheVariants as Refusals
@@ -18,6 +21,9 @@ use Rattle.script_lang.specs.declared.play_line.PartLine.{PartLine}
 use Rattle.script_lang.specs.declared.script.Script.{Script}
 use Rattle.play_forms.specs.Plain.{sink_text}
 use Rattle.play_forms.specs.Plans.{PlanValue}
+use Rattle.play_log.specs.Entries.{steps_of}
+use Rattle.play_log.specs.Scenes.{scene_of}
+use Rattle.play_log.proofs.Names.{naming_runs}
 use Rattle.play_plan_laws.specs.Assemblies.{IsReady, PlayFiles}
 use Rattle.play_result_laws.specs.Files.{AreFiles, AreSamples, IsNoSink, IsWriter, read_by}
 use Rattle.play_result_laws.specs.Results.{HoldSinks, IsLogOf, OthersAreKept}
@@ -34,13 +40,16 @@ use Rattle.play_course.specs.declared.player.RunFault.{RunFault}
 use Rattle.play_course.specs.declared.player.RunFault.TheVariants as Runs
 use Rattle.play_course.specs.declared.settling.Ran.{Ran}
 use Rattle.play_course.specs.Courses.{HasEnded, HasRun}
-use Rattle.play_course.specs.Outcomes.{IsBroken, IsDone, IsLogFault, IsRunFault, IsUnlogged}
+use Rattle.play_course.specs.Outcomes.{HasLeft, HasNotBegun, IsBroken, IsClosedWhole, IsDone, IsLogFault, IsRunFault, IsUnlogged, ShowsOutside}
+use Rattle.play_course.specs.Failing.{ShowsAt}
 use Rattle.play_course.specs.Players.{AreFilesOf, IsPlayedWhole}
 use Rattle.play_course.specs.Running.{HasTaken, IsRunCause}
 use Rattle.play_course.specs.Settling.{fault_of_log, line_in, settled}
 use Rattle.play_course.specs.Sums.{planned_summary}
+use Rattle.play_course.proofs.Failing.{itself_front, least_told, least_whole, named_unfailed, never_short, take_none}
+use Rattle.play_course.proofs.Running.{nothing_taken, sink_there}
 use Rattle.play_course.proofs.Told.{summary_is}
-use Rattle.play_course.proofs.Ways.{are_files_of, counted, front, held, others, samples_of, was_opened}
+use Rattle.play_course.proofs.Ways.{are_files_of, can_play, counted, front, held, others, samples_of, was_opened}
 
 -- ---- by its counts
 
@@ -164,6 +173,73 @@ module _ {F : Type 0} (seen : F → FileSeen) (script : Script) (name log : List
     pub absent_none : AbsencesStand old new
     absent_none = (H.closes).absences ∙ (O.still).absences
 
+    -- a step that failed shows outside
+    shows_outside : (after : List (Option FileSeen)) (place : ℕ) (why : PartFault) → AreClosed after mid new H.closed → ShowsAt (files_seen seen entries) after place why → ShowsOutside plan.parts old new place why
+    shows_outside after place kinds.Read C (a, b, was, (format, frames, at), rose) =
+        let le : b.faults ≤ sum_by failed_reads after = counted failed_reads after place _ at in
+        let one : 1 ≤ b.faults = omega (arith, rose) in
+        read_rose after old mid new H.closed b.faults O.still H.few C le one
+    shows_outside after place kinds.Write C (a, b, was, (frames, at), rose) =
+        let le : b.faults ≤ sum_by failed_writes after = counted failed_writes after place _ at in
+        let one : 1 ≤ b.faults = omega (arith, rose) in
+        write_rose after old mid new H.closed b.faults O.still C le one
+    shows_outside after place (kinds.Short at size) C (source, there, G) =
+        let t = short_told place at size after (source, there, G) in
+        record { part = t.0; name = t.1; there = t.2; reads = t.3; short = t.4; behind = t.5 }
+
+    -- a sink's name holds a front of what it took
+    taken_front : IsTrue old.tells → (place : ℕ) (its bytes : List ℕ) → IsWriter plan.parts place its → HasTaken (files_seen seen entries) H.after place bytes → FrontOf (new.file its) bytes
+    taken_front tells place its bytes w T = front seen script name log old mid plan entries O own H.after (H.has_run).same tells new H.closed H.closes place its bytes bytes w T (itself_front bytes)
+
+    -- no sink took anything
+    untaken : H.after ≡ files_seen seen entries → IsTrue old.tells → (place : ℕ) (its : List ℕ) → IsWriter plan.parts place its → new.file its ≡ Some []
+    untaken same tells place its w =
+        let given = play_files seen O.heads entries in
+        let many = (can_play seen script name log old mid plan entries O own).many in
+        let s = sink_there plan given (files_seen seen entries) place its many (are_files_of seen script name log old mid plan entries O own) w in
+        let T : HasTaken (files_seen seen entries) H.after place [] = record {
+          first = s.0;
+          last = s.0;
+          planned = s.1;
+          count = s.1;
+          was = s.2;
+          is = ap (λ (files : List (Option FileSeen)). slice_get files place) same ∙ s.2;
+          took = nothing_taken (s.0).told;
+        } in
+        let f = taken_front tells place its [] w T in
+        f.1 ∙ ap Some (take_none f.0)
+
+    -- the world that the run left
+    world : (ran : Result Ran RunFault) → HasRun plan (files_seen seen entries) H.after ran → (fault : Fault) → settled plan.parts ran H.closed H.reads H.writes ≡ Err fault → HasNotBegun plan old new fault ⊎ HasLeft plan (play_files seen O.heads entries) old new fault
+    world (Ok it) R fault e =
+        let W = R.whole (play_files seen O.heads entries) O.ready (are_files_of seen script name log old mid plan entries O own) in
+        let L = W.log in
+        let s = scene_of plan.parts L.opening in
+        inr (record {
+          steps = steps_of L.entries;
+          left = W.ending;
+          leads = record { opening = L.opening; opens = L.opens; runs = naming_runs s L.opening W.ending it.text L.entries L.names };
+          least = least_whole plan.parts (steps_of L.entries) it H.closed H.reads H.writes fault e;
+          shows = λ place why failed. absurd (named_unfailed s L.opening (L.names).lines L.entries W.ending (L.names).name place why failed);
+          sinks = λ tells place its w. (let t = W.took place its w in (t.0, t.2, taken_front tells place its t.0 w t.1));
+        })
+    world (Err why) R fault e = elim (R.left (play_files seen O.heads entries) O.ready (are_files_of seen script name log old mid plan entries O own)) [
+      | inl b ↦ inl (record {
+        other = λ which at size is.
+            never_short plan.parts H.closed H.reads H.writes which at size
+            (subst (λ (f : RunFault). settled {A = Ran} plan.parts (Err f) H.closed H.reads H.writes ≡ Err (Faults.Short which at size)) b.0 (e ∙ ap Err is));
+        sinks = untaken b.1;
+      })
+      | inr L ↦ inr (record {
+        steps = L.steps;
+        left = L.left;
+        leads = L.leads;
+        least = least_told plan.parts L.steps why H.closed H.reads H.writes fault L.first (λ place at size failed. (let t = shows_outside H.after place (kinds.Short at size) H.closes (L.shows place (kinds.Short at size) failed) in (t.part, t.there))) e;
+        shows = λ place part failed. shows_outside H.after place part H.closes (L.shows place part failed);
+        sinks = λ tells place its w. (let t = L.took place its w in (t.0, t.2, taken_front tells place its t.0 w t.1));
+      })
+    ]
+
     pub broken : (fault : Fault) → result ≡ Err fault → IsBroken script old new fault
     broken fault e = record {
       plan = plan;
@@ -171,6 +247,7 @@ module _ {F : Type 0} (seen : F → FileSeen) (script : Script) (name log : List
       absences = absent_none;
       opened = was_opened seen script name log old mid plan entries O own;
       why = why plan.parts (files_seen seen entries) H.after old mid new H.few O.still (λ place at size c. short_told place at size H.after c) H.reads H.writes H.ran H.closed H.read H.unread H.wrote H.unwritten H.closes (H.has_run).cause fault (sym H.is ∙ e);
+      world = world H.ran H.has_run fault (sym H.is ∙ e);
       left = λ tells.
           (let f = O.files_are tells in
           record {
@@ -193,9 +270,9 @@ module _ {F : Type 0} (seen : F → FileSeen) (script : Script) (name log : List
       pub told : it.summary ≡ planned_summary plan
       told = subst (λ (r : Result Ran RunFault). IfOk r (λ x. x.summary ≡ planned_summary plan)) calm_is.ran_is (H.has_run).told
 
-      whole : IsPlayedWhole plan (play_files seen O.heads entries) (files_seen seen entries) H.after it.text.items
+      whole : IsPlayedWhole plan (play_files seen O.heads entries) (files_seen seen entries) H.after it.text
       whole =
-          let all = subst (λ (r : Result Ran RunFault). IfOk r (λ x. (given : PlayFiles) → IsReady plan given → AreFilesOf plan given (files_seen seen entries) → IsPlayedWhole plan given (files_seen seen entries) H.after x.text.items)) calm_is.ran_is (H.has_run).whole in
+          let all = subst (λ (r : Result Ran RunFault). IfOk r (λ x. (given : PlayFiles) → IsReady plan given → AreFilesOf plan given (files_seen seen entries) → IsPlayedWhole plan given (files_seen seen entries) H.after x.text)) calm_is.ran_is (H.has_run).whole in
           all (play_files seen O.heads entries) O.ready (are_files_of seen script name log old mid plan entries O own)
 
       -- the sinks' names hold what was written
@@ -210,7 +287,7 @@ module _ {F : Type 0} (seen : F → FileSeen) (script : Script) (name log : List
         keeps : (place : ℕ) (its : List ℕ) → IsWriter plan.parts place its → final.file its ≡ new.file its
         keeps place its w = same its (own.log_other place its w)
 
-        pub log_of : IsLogOf plan (play_files seen O.heads entries) final it.text.items
+        pub log_of : IsLogOf plan (play_files seen O.heads entries) final it.text
         log_of = record {
           ending = whole.ending;
           log = whole.log;
@@ -235,7 +312,7 @@ module _ {F : Type 0} (seen : F → FileSeen) (script : Script) (name log : List
         pub log_before : new.file log ≡ old.file log
         log_before = others seen script name log old mid plan entries O own H.after (H.has_run).same tells new H.closed H.closes log no_log
 
-      pub done : (final : Outside) → (IsTrue old.tells → SameBut log new final) → (IsTrue old.tells → final.file log ≡ Some it.text.items) → IsDone script log old final it.summary
+      pub done : (final : Outside) → (IsTrue old.tells → SameBut log new final) → (IsTrue old.tells → final.file log ≡ Some it.text) → IsDone script log old final it.summary
       done final same held_log = record {
         plan = plan;
         files = play_files seen O.heads entries;
@@ -248,28 +325,43 @@ module _ {F : Type 0} (seen : F → FileSeen) (script : Script) (name log : List
               files_are = f.1;
               told = told ∙ summary_is plan (play_files seen O.heads entries) f.0 (was_opened seen script name log old mid plan entries O own).ready (samples_of old plan (play_files seen O.heads entries) f.0 f.1);
               sinks = hold_sinks final tells (same tells) f.0 f.1;
-              text = it.text.items;
+              text = it.text;
               logged = held_log tells;
               log_is = log_of final tells (same tells);
               others = others_kept final tells (same tells);
             });
       }
 
-      pub unlogged : (final : Outside) (fault : Fault) → (IsTrue old.tells → SameBut log new final) → (IsTrue old.tells → IsKeptOrFrontOf (new.file log) (final.file log) it.text.items) → IsLogFault log old final fault
+      closed_whole : IsClosedWhole log plan (play_files seen O.heads entries) old new
+      closed_whole = record {
+        goes_on = goes;
+        stand = stand;
+        absences = absent_none;
+        sinks = λ tells samples A. hold_sinks new tells (λ other n. refl) samples A;
+        kept = λ tells. log_before new tells (λ other n. refl);
+      }
+
+      pub unlogged : (final : Outside) (fault : Fault) → GoesOn new final → IsLogFault log new final fault → (fault ≢ Faults.WriteFault → CountsStand old final) → (IsTrue old.tells → SameBut log new final) → (IsTrue old.tells → IsKeptOrFrontOf (new.file log) (final.file log) it.text) → IsLogFault log old final fault
           → (fault ≢ Faults.WriteFault → final.file log ≡ new.file log) → TellsAbsence Faults.Absent old final fault → IsUnlogged script log old final fault
-      unlogged final fault same front why kept unabsent = record {
+      unlogged final fault on since calm same front why kept unabsent = record {
         plan = plan;
         files = play_files seen O.heads entries;
         unabsent = unabsent;
         opened = was_opened seen script name log old mid plan entries O own;
         why = why;
+        closed = new;
+        whole = closed_whole;
+        goes_on = on;
+        since = since;
+        others = same;
+        stand = calm;
         left = λ tells.
             (let f = O.files_are tells in
             record {
               samples = f.0;
               files_are = f.1;
               sinks = hold_sinks final tells (same tells) f.0 f.1;
-              text = it.text.items;
+              text = it.text;
               log_is = log_of final tells (same tells);
               front = elim (front tells) [ inl k ↦ inl (k ∙ log_before final tells (same tells)) | inr k ↦ inr k ];
               others = others_kept final tells (same tells);
@@ -289,6 +381,13 @@ log_why log text old new final Refusals.Absent on S R read stands =
     )
 log_why log text old new final Refusals.Failed on S R read stands = (later old.write_faults new.write_faults final.write_faults on.write_faults R, read ∙ S.reads)
 log_why log text old new final Refusals.OutOfMemory on S R read stands = tt
+
+-- unless it is a failed write, no count rose
+pub log_calm : (old new final : Outside) (refused : Refused) → CountsStand old new → final.read_faults ≡ new.read_faults → (refused ≢ Refusals.Failed → final.write_faults ≡ new.write_faults) → fault_of_log refused ≢ Faults.WriteFault → CountsStand old final
+log_calm old new final refused S read stands n = record { reads = read ∙ S.reads; writes = stands (λ same. n (ap fault_of_log same)) ∙ S.writes }
+
+pub stays : (now : Outside) → GoesOn now now
+stays now = record { tells = refl; ends = refl; may_refuse = refl; read_faults = omega arith; write_faults = omega arith; absences = omega arith }
 
 -- a log that is absent is told so
 pub log_told : (old new final : Outside) (refused : Refused) → AbsencesStand old new → (refused ≢ Refusals.Absent → final.absences ≡ new.absences) → TellsAbsence Faults.Absent old final (fault_of_log refused)

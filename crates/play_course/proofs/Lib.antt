@@ -2,4 +2,5 @@ pub mod Sinks
 pub mod Running
 pub mod Ways
 pub mod Told
+pub mod Failing
 pub mod Ends

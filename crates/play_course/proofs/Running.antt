@@ -1,5 +1,5 @@
 -- A run that didn't begin, and files that are the same.
-use Rattle.std.proofs.Common.{◌≡◌, ℕ, ◌-◌, List, [], drop, length, slice_get, Option, Some, None, option_map, Err, refl, sym, ◌∙◌, ap, subst, arith}
+use Rattle.std.proofs.Common.{◌≡◌, ℕ, ◌-◌, List, [], drop, length, slice_get, Option, Some, None, option_map, Err, inl, refl, sym, ◌∙◌, ap, subst, arith}
 use Rattle.std.specs.List.{slice_index_or}
 use Rattle.std.specs.Io.KnownBytes.{append_known}
 use Rattle.std.proofs.lemmas.List.{append-nil}
@@ -63,7 +63,7 @@ sink_there plan given entries place name many A (part, e, w) =
     let s = sink_offered f.0 frames (given.known place) (A place f.0 f.1 ∙ asked) in
     (s.0, s.1, f.1 ∙ ap Some s.2)
 
-nothing_taken : (told : Option (List ℕ)) → told ≡ append_known told []
+pub nothing_taken : (told : Option (List ℕ)) → told ≡ append_known told []
 nothing_taken None = refl
 nothing_taken (Some bytes) = ap Some (sym (append-nil bytes))
 
@@ -77,4 +77,5 @@ not_begun plan entries C = record {
       (let s = sink_there plan given entries place name C.many A w in
       ([], record { first = s.0; last = s.0; planned = s.1; count = s.1; was = s.2; is = s.2; took = nothing_taken (s.0).told }, (0, omega arith, refl)));
   cause = tt;
+  left = λ given R A. inl (refl, refl);
 }

@@ -11,6 +11,7 @@ use Rattle.play_files.specs.Closing.{AreClosed}
 use Rattle.play_files.specs.Seen.{FileSeen}
 use Rattle.play_course.specs.declared.player.RunFault.{RunFault}
 use Rattle.play_course.specs.declared.settling.Ran.{Ran}
+use Rattle.play_course.specs.Failing.{LeavesBehind}
 use Rattle.play_course.specs.Players.{AreFilesOf, IsFailed, IsPlayedWhole}
 use Rattle.play_course.specs.Running.{AreSameFiles, IsRunCause}
 use Rattle.play_course.specs.Settling.{settled}
@@ -20,9 +21,10 @@ use Rattle.play_course.specs.Sums.{planned_summary}
 pub record HasRun (plan : PlanValue) (before after : List (Option FileSeen)) (ran : Result Ran RunFault) : Type 0 where
   pub same : AreSameFiles before after
   pub told : IfOk ran (λ it. it.summary ≡ planned_summary plan)
-  pub whole : IfOk ran (λ it. (given : PlayFiles) → IsReady plan given → AreFilesOf plan given before → IsPlayedWhole plan given before after it.text.items)
+  pub whole : IfOk ran (λ it. (given : PlayFiles) → IsReady plan given → AreFilesOf plan given before → IsPlayedWhole plan given before after it.text)
   pub failed : OnErr ran ((given : PlayFiles) → IsReady plan given → AreFilesOf plan given before → IsFailed plan given before after)
   pub cause : IfErr ran (IsRunCause before after)
+  pub left : IfErr ran (λ fault. (given : PlayFiles) → IsReady plan given → AreFilesOf plan given before → LeavesBehind plan given before after fault)
 
 -- Then its files were closed, and the counts were looked at.
 pub record HasEnded (plan : PlanValue) (parts : List PartLine) (before : List (Option FileSeen)) (old new : Outside) (result : Result Ran Fault) : Type 0 where

@@ -1,5 +1,6 @@
 pub mod Running
 pub mod Players
+pub mod Failing
 pub mod Sums
 pub mod Settling
 pub mod Outcomes

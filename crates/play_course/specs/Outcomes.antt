@@ -1,12 +1,17 @@
 -- What a play comes to.
-use Rattle.std.specs.Prelude.{◌≡◌, ◌≢◌, ◌⊎◌, ℕ, ◌≤◌, List, slice_get, Some, IsTrue}
+use Rattle.std.specs.Prelude.{◌≡◌, ◌≢◌, ◌⊎◌, ℕ, ◌≤◌, List, [], slice_get, Some, IsTrue}
 use Rattle.omx_types.specs.declared.fault.Fault.{Fault}
 use Rattle.omx_types.specs.declared.fault.Fault.TheVariants as Faults
+use Rattle.omx_types.specs.declared.fault.PartFault.{PartFault}
+use Rattle.omx_types.specs.declared.fault.PartFault.TheVariants as parts
+use Rattle.omx_types.specs.declared.fault.Which.{Which}
 use Rattle.omx_types.specs.declared.fault.Which.TheVariants.{Line, Log}
 use Rattle.outside_io.specs.Causes.{Rose}
-use Rattle.outside_io.specs.Files.{AbsencesStand, CountsStand, IsFrontOf, Outside, TellsAbsence}
+use Rattle.outside_io.specs.Files.{AbsencesStand, CountsStand, GoesOn, IsFrontOf, Outside, SameBut, TellsAbsence}
 use Rattle.outside_io.specs.Whole.{IsShort}
 use Rattle.wav_form.specs.declared.heads.WavHead.{WavHead}
+use Rattle.il_machine.specs.Acts.{Act, Reply}
+use Rattle.il_machine.specs.World.{World}
 use Rattle.script_lang.specs.declared.play_line.PartLine.{PartLine}
 use Rattle.script_lang.specs.declared.script.Script.{Script}
 use Rattle.play_forms.specs.Plain.{sink_text}
@@ -15,8 +20,10 @@ use Rattle.play_plan_laws.specs.Assemblies.{IsReady, PlayFiles}
 use Rattle.play_result_laws.specs.Files.{AreFiles, IsNoSink, IsWriter, read_by}
 use Rattle.play_result_laws.specs.Results.{HoldSinks, IsLogOf, OthersAreKept}
 use Rattle.play_result_laws.specs.Summaries.{SinkLine, summary_of}
+use Rattle.play_result_laws.specs.Worlds.{HasWritten}
 use Rattle.play_files.specs.Left.{IsUnopened}
 use Rattle.play_files.specs.Opening.{HasHead}
+use Rattle.play_course.specs.Failing.{HasFailure, IsShortBehind, LeadsTo}
 use Rattle.play_course.specs.Sums.{planned_summary}
 
 -- the plan of the script, fitted to its files, which all were opened
@@ -67,12 +74,50 @@ pub record AreFronts (plan : PlanValue) (files : PlayFiles) (old new : Outside) 
   pub sinks : (place : ℕ) (name : List ℕ) → IsWriter plan.parts place name → IsFrontOf (new.file name) (sink_text plan samples place)
   pub others : (name : List ℕ) → IsNoSink plan.parts name → new.file name ≡ old.file name
 
+-- the source of the component at the place gave nothing there, behind its head
+pub record IsShortAt (components : List PartLine) (old : Outside) (place at size : ℕ) : Type 0 where
+  pub part : PartLine
+  pub name : List ℕ
+  pub there : slice_get components place ≡ Some part
+  pub reads : read_by part.form ≡ Some name
+  pub short : IsShort name old at size
+  pub behind : (head : WavHead) → HasHead old name head → head.start ≤ at
+
+-- a step that failed shows outside: a count rose, or a source gave nothing
+abbrev pub ShowsOutside : List PartLine → Outside → Outside → ℕ → PartFault → Type 0
+ShowsOutside components old new place parts.Read = Rose old.read_faults new.read_faults
+ShowsOutside components old new place parts.Write = Rose old.write_faults new.write_faults
+ShowsOutside components old new place (parts.Short at size) = IsShortAt components old place at size
+
+-- a short source that is told is the first in the script of those that failed short, and no step failed otherwise
+abbrev pub TellsLeast : List PartLine → List (Act × Reply) → Fault → Type 0
+TellsLeast components steps (Faults.Short which at size) =
+    (place : ℕ) × (part : PartLine) × (slice_get components place ≡ Some part) × (which ≡ Line part.line) × HasFailure steps place (parts.Short at size)
+    × ((other : ℕ) (why : PartFault) → HasFailure steps other why → IsShortBehind place other why)
+TellsLeast components steps other = Unit {0}
+
+-- The world that the run left: from where the play begins its acts lead there, and each of their steps that failed shows. Each sink's name
+-- holds a front of what was written into its file.
+pub record HasLeft (plan : PlanValue) (files : PlayFiles) (old new : Outside) (fault : Fault) : Type 0 where
+  pub steps : List (Act × Reply)
+  pub left : World
+  pub leads : LeadsTo plan files steps left
+  pub least : TellsLeast plan.parts steps fault
+  pub shows : (place : ℕ) (why : PartFault) → HasFailure steps place why → ShowsOutside plan.parts old new place why
+  pub sinks : IsTrue old.tells → (place : ℕ) (name : List ℕ) → IsWriter plan.parts place name → (bytes : List ℕ) × HasWritten left place bytes × IsFrontOf (new.file name) bytes
+
+-- memory was wanted before the run began
+pub record HasNotBegun (plan : PlanValue) (old new : Outside) (fault : Fault) : Type 0 where
+  pub other : (which : Which) (at size : ℕ) → fault ≢ Faults.Short which at size
+  pub sinks : IsTrue old.tells → (place : ℕ) (name : List ℕ) → IsWriter plan.parts place name → new.file name ≡ Some []
+
 pub record IsBroken (script : Script) (old new : Outside) (fault : Fault) : Type 0 where
   pub plan : PlanValue
   pub files : PlayFiles
   pub absences : AbsencesStand old new
   pub opened : WasOpened script old plan files
   pub why : IsRunFault plan.parts old new fault
+  pub world : HasNotBegun plan old new fault ⊎ HasLeft plan files old new fault
   pub left : IsTrue old.tells → AreFronts plan files old new
 
 -- ---- a log that wasn't written
@@ -93,12 +138,27 @@ pub record IsLogLeft (log : List ℕ) (plan : PlanValue) (files : PlayFiles) (ol
   pub front : (new.file log ≡ old.file log) ⊎ IsFrontOf (new.file log) text
   pub others : OthersAreKept plan.parts log old new
 
+-- all files were closed, and none of the closings failed; only then was the log to be written, which changed no other name
+pub record IsClosedWhole (log : List ℕ) (plan : PlanValue) (files : PlayFiles) (old closed : Outside) : Type 0 where
+  pub goes_on : GoesOn old closed
+  pub stand : CountsStand old closed
+  pub absences : AbsencesStand old closed
+  pub sinks : IsTrue old.tells → (samples : List (List ℕ)) → AreFiles old plan.parts files samples → HoldSinks plan samples closed
+  pub kept : IsTrue old.tells → closed.file log ≡ old.file log
+
 pub record IsUnlogged (script : Script) (log : List ℕ) (old new : Outside) (fault : Fault) : Type 0 where
   pub plan : PlanValue
   pub files : PlayFiles
   pub unabsent : TellsAbsence Faults.Absent old new fault
   pub opened : WasOpened script old plan files
   pub why : IsLogFault log old new fault
+  -- once all files were closed
+  pub closed : Outside
+  pub whole : IsClosedWhole log plan files old closed
+  pub goes_on : GoesOn closed new
+  pub since : IsLogFault log closed new fault
+  pub others : IsTrue old.tells → SameBut log closed new
+  pub stand : fault ≢ Faults.WriteFault → CountsStand old new
   pub left : IsTrue old.tells → IsLogLeft log plan files old new
   pub unmade : IsTrue old.tells → fault ≢ Faults.WriteFault → new.file log ≡ old.file log
 

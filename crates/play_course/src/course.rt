@@ -13,8 +13,9 @@ use crate::settling::{Ran, has_risen, log_fault, parts_of, settle};
 use crate::summary::{Summary, summary_of};
 use audio_parts::PartFile;
 use omx_types::Fault;
-use outside_io::{Media, Sink, Source, write_whole};
+use outside_io::{Media, Sink, Source};
 use play_files::{Opened, close_files, open_files};
+use play_log::write_log;
 use script_lang::{PartLine, Script};
 use std::alloc::Global;
 use stream_plan::Plan;
@@ -91,7 +92,7 @@ pub fn play_script<M: Media, P: Player<M::Src, M::Snk>>(
         Ok(ran) => ran,
         Err(fault) => return Err(fault),
     };
-    match write_whole(alloc, media, log, text.as_slice()) {
+    match write_log(alloc, media, log, &text) {
         Ok(()) => Ok(summary),
         Err(refused) => Err(log_fault(refused)),
     }

@@ -2,17 +2,17 @@
 
 use audio_parts::PartFile;
 use outside_io::{Sink, Source};
+use play_log::LogText;
 use std::alloc::Global;
 use stream_plan::Plan;
 
-/// Why the run of a play failed. Where parts failed for several causes, a failed read comes before a failed write, and that before a
-/// short source; of several of these the first in the script is told, by the place of its component.
+/// Why the run of a play failed.
 #[derive(Clone, Copy, Debug, PartialEq, Eq)]
 pub enum RunFault {
     OutOfMemory,
     Read,
     Write,
-    /// The source gave nothing at `at`, below its `size`.
+    /// The source of the component at that place gave nothing at `at`, below its `size`.
     Short { place: u32, at: u64, size: u64 },
 }
 
@@ -21,27 +21,34 @@ pub trait Player<S: Source, K: Sink> {
     ghost use Rattle.std.specs.Prelude.{IfErr, IfOk, OnErr};
     ghost use Rattle.play_plan_laws.specs.Assemblies.{IsReady, PlayFiles};
     ghost use Rattle.play_files.specs.Seen.{file_seen, files_seen};
+    ghost use Rattle.play_course.specs.Failing.{LeavesBehind};
     ghost use Rattle.play_course.specs.Running.{AreSameFiles, IsRunCause};
     ghost use Rattle.play_course.specs.Players.{AreFilesOf, CanPlay, IsFailed, IsPlayedWhole};
 
-    /// Plays the plan with its files, and answers the text of its log.
+    /// Plays the plan with its files, and answers its log. On a fault there is a world that the run left; where several
+    /// steps failed, whoever made them and in whichever order, a failed read is told first, then a failed write, then a short source,
+    /// that of the component first in the script.
     fn run(
         &mut self,
         alloc: Global,
         plan: Plan,
         files: &mut [Option<PartFile<S, K>>],
-    ) -> Result<Vec<u8>, RunFault>
+    ) -> Result<LogText, RunFault>
         requires ready { CanPlay plan (files_seen (file_seen S.Source K.Sink) files.old) }
         ensures same { AreSameFiles (files_seen (file_seen S.Source K.Sink) files.old)
             (files_seen (file_seen S.Source K.Sink) files.new) }
         ensures whole { IfOk result (λ text. (given : PlayFiles) → IsReady plan given
             → AreFilesOf plan given (files_seen (file_seen S.Source K.Sink) files.old)
             → IsPlayedWhole plan given (files_seen (file_seen S.Source K.Sink) files.old)
-            (files_seen (file_seen S.Source K.Sink) files.new) text.items) }
+            (files_seen (file_seen S.Source K.Sink) files.new) text) }
         ensures failed { OnErr result ((given : PlayFiles) → IsReady plan given
             → AreFilesOf plan given (files_seen (file_seen S.Source K.Sink) files.old)
             → IsFailed plan given (files_seen (file_seen S.Source K.Sink) files.old)
             (files_seen (file_seen S.Source K.Sink) files.new)) }
         ensures cause { IfErr result (IsRunCause (files_seen (file_seen S.Source K.Sink) files.old)
-            (files_seen (file_seen S.Source K.Sink) files.new)) };
+            (files_seen (file_seen S.Source K.Sink) files.new)) }
+        ensures left { IfErr result (λ fault. (given : PlayFiles) → IsReady plan given
+            → AreFilesOf plan given (files_seen (file_seen S.Source K.Sink) files.old)
+            → LeavesBehind plan given (files_seen (file_seen S.Source K.Sink) files.old)
+            (files_seen (file_seen S.Source K.Sink) files.new) fault) };
 }

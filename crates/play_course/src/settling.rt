@@ -8,12 +8,13 @@ use crate::player::RunFault;
 use crate::summary::Summary;
 use omx_types::{Fault, Which};
 use outside_io::{Failed, Refused};
+use play_log::LogText;
 use script_lang::{PartLine, Script};
 
-/// A whole run: the text of its log, and what is told of its sinks.
+/// A whole run: its log, and what is told of its sinks.
 #[derive(Drop)]
 pub(crate) struct Ran {
-    pub(crate) text: Vec<u8>,
+    pub(crate) text: LogText,
     pub(crate) summary: Summary,
 }
 

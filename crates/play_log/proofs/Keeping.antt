@@ -12,6 +12,10 @@ use Rattle.play_log.specs.Saying.{Says}
 use Rattle.play_log.specs.Scenes.{Scene}
 use Rattle.play_log.proofs.Shown.{one_more}
 
+pub on_err : {T E P : Type 0} (result : Result T E) → P → OnErr result P
+on_err (Ok done) h = tt
+on_err (Err error) h = h
+
 pub keeps_none : (s : Scene) (log : LogValue) → IsKept [] log → Keeps s [] log
 keeps_none s log K whole = ([], K, record { canonical = All-nil IsLogLine; say = tt })
 
@@ -28,10 +32,10 @@ keeps_more pass act old new (Err error) small is line both broken s history entr
     absurd cc
 
 -- the text of a log that was ended
-pub keeps_text : {T E : Type 0} (items : T → List ℕ) (log : LogValue) (result : Result T E)
-    → ((lines : List LogLine) → IsKept lines log → IfOk result (λ text. items text ≡ log_text lines)) → OnOk result (log.broken ≡ false)
-    → (s : Scene) (history : List Entry) → Keeps s history log → IfOk result (λ text. IsLogged s history (items text))
-keeps_text items log (Ok text) texts whole s history K =
+pub keeps_text : {E : Type 0} (log : LogValue) (result : Result (List ℕ) E)
+    → ((lines : List LogLine) → IsKept lines log → IfOk result (λ text. text ≡ log_text lines)) → OnOk result (log.broken ≡ false)
+    → (s : Scene) (history : List Entry) → Keeps s history log → IfOk result (IsLogged s history)
+keeps_text log (Ok text) texts whole s history K =
     let k = K whole in
     record { lines = k.0; of_history = k.2; whole = texts k.0 k.1 }
-keeps_text items log (Err error) texts whole s history K = tt
+keeps_text log (Err error) texts whole s history K = tt

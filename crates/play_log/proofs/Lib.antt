@@ -8,3 +8,5 @@ pub mod Names
 pub mod Same
 pub mod Shown
 pub mod Keeping
+pub mod Gathering
+pub mod Spelling

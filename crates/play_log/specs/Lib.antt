@@ -1,4 +1,6 @@
 pub mod Lines
+pub mod Spelled
+pub mod Gathering
 pub mod Kept
 pub mod Entries
 pub mod Scenes

@@ -2,13 +2,21 @@
 #![tactic(auto)]
 
 mod entry;
+mod gathered;
 mod laws;
+mod line;
 mod log;
+mod log_text;
+mod pieces;
 pub mod texts;
+mod words;
 
 pub use entry::Entry;
 pub use laws::{law_of_lines, law_of_logs};
+pub use line::Line;
 pub use log::Log;
+pub use log_text::{LogText, write_log};
+pub use pieces::Pieces;
 
 /// Want of memory.
 pub type OutOfMemory = std::alloc::AllocError;

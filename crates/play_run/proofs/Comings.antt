@@ -19,6 +19,7 @@ use Rattle.play_result_laws.specs.Worlds.{IsOpening}
 use Rattle.play_files.specs.Seen.{FileSeen, sink_seen, source_seen}
 use Rattle.play_graph.specs.Ending.{AreFilesOf as AreGraphFiles}
 use Rattle.play_graph.specs.Making.{AreOffered}
+use Rattle.play_course.specs.Failing.{ShowsAt}
 use Rattle.play_course.specs.Running.{AreSameFiles, HasTaken, IsRunCause, IsSameFile}
 use Rattle.play_result_laws.proofs.Opened.{opening_known}
 use Rattle.play_run.specs.declared.failure.Failure.{Failure}
@@ -88,27 +89,36 @@ module _ {S K : Type 0} (reads : SourceGhosts S) (writes : SinkGhosts K) where
             took = written place t.1 c s t.0 named work found t.2 ∙ ap (λ (y : Option (List ℕ)). append_known y s.written) came;
           }
 
-    cause_of : (n : ℕ) (fault : PartFault) (f g : Option (PartFile S K)) (failed : Bool) → slice_get (seen entries) n ≡ Some (option_map seen_file f) → slice_get (seen now) n ≡ Some (option_map seen_file g)
-        → ObjectShows reads.size reads.ends reads.offset reads.faults writes.faults fault (unfailed f) (record { failed = failed; file = g }) → IsRunCause (seen entries) (seen now) (fault_at n fault)
-    cause_of n fault None g failed e h s = absurd s.1
-    cause_of n fault (Some f) None failed e h s = absurd s.1
-    cause_of n parts.Read (Some (files.From src format frames)) (Some (files.From src' format' frames')) failed e h s =
-        (n, source_seen reads src, source_seen reads src', (format, frames, e), (format', frames', h), s.1)
-    cause_of n parts.Write (Some (files.From src format frames)) (Some (files.From src' format' frames')) failed e h s = absurd s.1
-    cause_of n (parts.Short at whole) (Some (files.From src format frames)) (Some (files.From src' format' frames')) failed e h s =
+    shows_of : (n : ℕ) (fault : PartFault) (f g : Option (PartFile S K)) (failed : Bool) → slice_get (seen entries) n ≡ Some (option_map seen_file f) → slice_get (seen now) n ≡ Some (option_map seen_file g)
+        → ObjectShows reads.size reads.ends reads.offset reads.faults writes.faults fault (unfailed f) (record { failed = failed; file = g }) → ShowsAt (seen entries) (seen now) n fault
+    shows_of n fault None g failed e h s = absurd s.1
+    shows_of n fault (Some f) None failed e h s = absurd s.1
+    shows_of n parts.Read (Some (files.From src format frames)) (Some (files.From src' format' frames')) failed e h s =
+        (source_seen reads src, source_seen reads src', (format, frames, e), (format', frames', h), s.1)
+    shows_of n parts.Write (Some (files.From src format frames)) (Some (files.From src' format' frames')) failed e h s = absurd s.1
+    shows_of n (parts.Short at whole) (Some (files.From src format frames)) (Some (files.From src' format' frames')) failed e h s =
         (source_seen reads src, (format, frames, e), s.1)
-    cause_of n fault (Some (files.From src format frames)) (Some (files.To snk count)) failed e h s = absurd s.1
-    cause_of n fault (Some (files.To snk count)) (Some (files.From src format frames)) failed e h s = absurd s.1
-    cause_of n parts.Read (Some (files.To snk frames)) (Some (files.To snk' frames')) failed e h s = absurd s.1
-    cause_of n parts.Write (Some (files.To snk frames)) (Some (files.To snk' frames')) failed e h s =
-        (n, sink_seen writes snk, sink_seen writes snk', (frames, e), (frames', h), s.1)
-    cause_of n (parts.Short at whole) (Some (files.To snk frames)) (Some (files.To snk' frames')) failed e h s = absurd s.1
+    shows_of n fault (Some (files.From src format frames)) (Some (files.To snk count)) failed e h s = absurd s.1
+    shows_of n fault (Some (files.To snk count)) (Some (files.From src format frames)) failed e h s = absurd s.1
+    shows_of n parts.Read (Some (files.To snk frames)) (Some (files.To snk' frames')) failed e h s = absurd s.1
+    shows_of n parts.Write (Some (files.To snk frames)) (Some (files.To snk' frames')) failed e h s =
+        (sink_seen writes snk, sink_seen writes snk', (frames, e), (frames', h), s.1)
+    shows_of n (parts.Short at whole) (Some (files.To snk frames)) (Some (files.To snk' frames')) failed e h s = absurd s.1
 
-    -- why it failed
-    pub is_cause : (failure : Failure) → failure.component < length x.plan.parts → FileShows (ObjectShows reads.size reads.ends reads.offset reads.faults writes.faults) first x failure → IsRunCause (seen entries) (seen now) (fault_at failure.component failure.fault)
-    is_cause failure b (failed, shown) =
+    -- the file of the component that failed shows it
+    pub does_show : (failure : Failure) → failure.component < length x.plan.parts → FileShows (ObjectShows reads.size reads.ends reads.offset reads.faults writes.faults) first x failure → ShowsAt (seen entries) (seen now) failure.component failure.fault
+    does_show failure b (failed, shown) =
         let n = failure.component in
-        cause_of n failure.fault (file_of n first.graph) (file_of n x.graph) failed
+        shows_of n failure.fault (file_of n first.graph) (file_of n x.graph) failed
         (seen_at reads writes entries n (file_of n first.graph) (were n b))
         (seen_at reads writes now n (file_of n x.graph) (are n b))
         shown
+
+    cause_of : (n : ℕ) (fault : PartFault) → ShowsAt (seen entries) (seen now) n fault → IsRunCause (seen entries) (seen now) (fault_at n fault)
+    cause_of n parts.Read (source, last, was, is, rose) = (n, source, last, was, is, rose)
+    cause_of n parts.Write (sink, last, was, is, rose) = (n, sink, last, was, is, rose)
+    cause_of n (parts.Short at size) (source, was, gave) = (source, was, gave)
+
+    -- why it failed
+    pub is_cause : (failure : Failure) → failure.component < length x.plan.parts → FileShows (ObjectShows reads.size reads.ends reads.offset reads.faults writes.faults) first x failure → IsRunCause (seen entries) (seen now) (fault_at failure.component failure.fault)
+    is_cause failure b shows = cause_of failure.component failure.fault (does_show failure b shows)

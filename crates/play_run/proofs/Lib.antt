@@ -10,6 +10,7 @@ mod Conducting
 mod Counting
 mod Ending
 mod Ends
+mod Failures
 mod Files
 mod Heard
 mod Hearing

@@ -1,5 +1,5 @@
 -- What the calls of a play say of its files, by the plan and the files that it began with.
-use Rattle.std.proofs.Common.{◌≡◌, ℕ, List, [], length, Option, Some, None, option_map, Result, Ok, Err, IfOk, IfErr, OnErr, refl, sym, ◌∙◌, ap, subst, append-nil, arith}
+use Rattle.std.proofs.Common.{◌≡◌, ℕ, List, [], length, Option, Some, None, option_map, Result, Ok, Err, IfOk, IfErr, OnErr, inr, refl, sym, ◌∙◌, ap, subst, append-nil, arith}
 use Rattle.std.proofs.lemmas.List.{length-map}
 use Rattle.std.proofs.lemmas.Option.{slice_get_within}
 use Rattle.std.specs.Io.KnownBytes.{append_known}
@@ -24,6 +24,7 @@ use Rattle.play_graph.specs.Graphs.{kept_of}
 use Rattle.play_graph.specs.Making.{AreGone, AreOffered}
 use Rattle.play_course.specs.declared.player.RunFault.{RunFault}
 use Rattle.play_course.specs.declared.player.RunFault.TheVariants as runs
+use Rattle.play_course.specs.Failing.{LeavesBehind}
 use Rattle.play_course.specs.Players.{AreFilesOf, CanPlay, IsFailed, IsPlayedWhole}
 use Rattle.play_course.specs.Running.{AreSameFiles, IsRunCause}
 use Rattle.play_run.specs.declared.failure.Stop.{Stop}
@@ -32,10 +33,10 @@ use Rattle.play_run.specs.Closing.{HasPlayedWith, KeepsLog}
 use Rattle.play_run.specs.Logging.{IsKeptTo, IsNamedTo}
 use Rattle.play_run.specs.Playing.{PlayingValue}
 use Rattle.play_run.specs.Turning.{FilesStayed, HasBrokenOff, HasBrokenOffWith, StopShows}
-use Rattle.play_run.specs.Faults.{fault_of}
-use Rattle.play_run.proofs.Comings.{are_same, is_cause, seen, seen_file}
+use Rattle.play_run.specs.Faults.{fault_at, fault_of}
+use Rattle.play_run.proofs.Comings.{are_same, does_show, is_cause, seen, seen_file}
 use Rattle.play_run.proofs.ThreadFiles.{are_offered, seen_at}
-use Rattle.play_run.proofs.Runs.{is_broken_off, is_failed, is_front, is_whole}
+use Rattle.play_run.proofs.Runs.{failed_left, is_broken_off, is_failed, is_front, is_whole, standing_left}
 use Rattle.play_run.proofs.Sinks.{sink_entry, sink_offer}
 
 moved : (P : PlanValue → PlayFiles → Type 0) (a b : PlanValue) (f g : PlayFiles) → a ≡ b → f ≡ g → P a f → P b g
@@ -45,14 +46,18 @@ moved P a b f g s t h = subst (λ (y : PlayFiles). P b y) t (subst (λ (y : Plan
 abbrev pub LogsName : Type 0
 LogsName = (plan : PlanValue) (files : PlayFiles) (log : LogValue) (text : List ℕ) (ending : World) → IsKeptTo plan files log ending → ((s : Scene) (history : List Entry) → Keeps s history log → IsLogged s history text) → IsNamedTo plan files text ending
 
-pub when_ok : {A E : Type 0} (items : A → List ℕ) (log : LogValue) (r : Result A E) (Q : A → Type 0) → ((s : Scene) (history : List Entry) → Keeps s history log → IfOk r (λ text. IsLogged s history (items text)))
-    → ((text : A) → ((s : Scene) (history : List Entry) → Keeps s history log → IsLogged s history (items text)) → Q text) → IfOk r Q
-when_ok items log (Ok text) Q L h = h text L
-when_ok items log (Err e) Q L h = tt
+pub when_ok : {E : Type 0} (log : LogValue) (r : Result (List ℕ) E) (Q : List ℕ → Type 0) → ((s : Scene) (history : List Entry) → Keeps s history log → IfOk r (IsLogged s history))
+    → ((text : List ℕ) → ((s : Scene) (history : List Entry) → Keeps s history log → IsLogged s history text) → Q text) → IfOk r Q
+when_ok log (Ok text) Q L h = h text L
+when_ok log (Err e) Q L h = tt
 
 pub when_err : {A : Type 0} (before after : List (Option FileSeen)) (r : Result A RunFault) → IfErr r (λ fault. fault ≡ runs.OutOfMemory) → IfErr r (IsRunCause before after)
 when_err before after (Ok a) h = tt
 when_err before after (Err e) h = subst (IsRunCause before after) (sym h) tt
+
+pub when_want : {A : Type 0} (Q : RunFault → Type 0) (r : Result A RunFault) → IfErr r (λ fault. fault ≡ runs.OutOfMemory) → Q runs.OutOfMemory → IfErr r Q
+when_want Q (Ok a) h q = tt
+when_want Q (Err e) h q = subst Q (sym h) q
 
 pub on_err : {A E : Type 0} {P : Type 0} (r : Result A E) → P → OnErr r P
 on_err (Ok a) h = tt
@@ -138,3 +143,25 @@ module _ {S K : Type 0} (reads : SourceGhosts S) (writes : SinkGhosts K) (plan :
           (is_broken_off reads writes first x entries now many_first many_last were_there are stayed written p Y
           (moved IsReady plan x.plan given f (sym is_plan) (sym with) R)
           (moved (λ y z. AreOffered y z (offered reads.offset reads.size reads.told writes.told) entries) plan x.plan given f (sym is_plan) (sym with) offers))
+
+      pub over_left : HasPlayedWith x given → LeavesBehind plan given (seen reads writes entries) (seen reads writes now) runs.OutOfMemory
+      over_left (p, Y, over, with) =
+          let f = Y.standing.files in
+          moved (λ y z. LeavesBehind y z (seen reads writes entries) (seen reads writes now) runs.OutOfMemory) x.plan plan f given is_plan with
+          (inr (standing_left reads writes first x entries now many_first many_last were_there are stayed written p Y
+          (moved (λ y z. AreOffered y z (offered reads.offset reads.size reads.told writes.told) entries) plan x.plan given f (sym is_plan) (sym with) offers)))
+
+      pub stop_left : (stop : Stop) → HasBrokenOffWith x stop given → StopShows (ObjectShows reads.size reads.ends reads.offset reads.faults writes.faults) first x stop → Always (kept_of x.graph) Sound
+          → LeavesBehind plan given (seen reads writes entries) (seen reads writes now) (fault_of stop)
+      stop_left (stops.Failed failure) (F, with) shows sound =
+          let f = F.files in
+          moved (λ y z. LeavesBehind y z (seen reads writes entries) (seen reads writes now) (fault_at failure.component failure.fault)) x.plan plan f given is_plan with
+          (inr (failed_left reads writes first x entries now many_first many_last were_there are stayed written failure F sound
+          (moved IsReady plan x.plan given f (sym is_plan) (sym with) R)
+          (moved (λ y z. AreOffered y z (offered reads.offset reads.size reads.told writes.told) entries) plan x.plan given f (sym is_plan) (sym with) offers)
+          (does_show reads writes first x entries now many_first many_last were_there are failure F.there shows)))
+      stop_left stops.OutOfMemory (p, Y, with) shows sound =
+          let f = Y.standing.files in
+          moved (λ y z. LeavesBehind y z (seen reads writes entries) (seen reads writes now) runs.OutOfMemory) x.plan plan f given is_plan with
+          (inr (standing_left reads writes first x entries now many_first many_last were_there are stayed written p Y
+          (moved (λ y z. AreOffered y z (offered reads.offset reads.size reads.told writes.told) entries) plan x.plan given f (sym is_plan) (sym with) offers)))

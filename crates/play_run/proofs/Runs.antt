@@ -2,6 +2,7 @@
 use Rattle.std.proofs.Common.{◌≡◌, ℕ, false, List, length, Option, Some, None, MatchOption, refl, sym, ◌∙◌, subst, arith}
 use Rattle.std.proofs.lemmas.Option.{slice_get_within}
 use Rattle.std.proofs.Math.Seq.{take-length}
+use Rattle.omx_types.specs.declared.fault.PartFault.{PartFault}
 use Rattle.outside_io.specs.declared.sink.Sink.{Ghosts as SinkGhosts}
 use Rattle.outside_io.specs.declared.source.Source.{Ghosts as SourceGhosts}
 use Rattle.audio_parts.specs.Objects.{ObjectStays}
@@ -14,6 +15,7 @@ use Rattle.history_laws.proofs.Named.{is_named, named_there}
 use Rattle.machine_laws.proofs.Every.{at_place}
 use Rattle.machine_laws.proofs.Keys.{is_there, there_is}
 use Rattle.il_graph.specs.Shown.{TellWritten, offered}
+use Rattle.play_log.specs.Entries.{steps_of}
 use Rattle.play_forms.specs.Plain.{sink_text}
 use Rattle.play_model.specs.Play.{Play}
 use Rattle.play_model.specs.Reached.{IsOver}
@@ -27,6 +29,8 @@ use Rattle.play_files.specs.Seen.{FileSeen}
 use Rattle.play_graph.specs.Ending.{AreFilesOf as AreGraphFiles}
 use Rattle.play_graph.specs.Graphs.{kept_of}
 use Rattle.play_graph.specs.Making.{AreOffered}
+use Rattle.play_course.specs.declared.player.RunFault.TheVariants as runs
+use Rattle.play_course.specs.Failing.{LeavesWorld, ShowsAt}
 use Rattle.play_course.specs.Players.{IsFailed, IsPlayedWhole}
 use Rattle.play_course.specs.Running.{HasTaken}
 use Rattle.play_result_laws.specs.Contents.{contents_of, streams_of}
@@ -37,7 +41,9 @@ use Rattle.play_run.specs.declared.failure.Failure.{Failure}
 use Rattle.play_run.specs.Logging.{IsNamedTo}
 use Rattle.play_run.specs.Playing.{HaveNoWork, IsPlaying, PlayingValue, cast, layout_of}
 use Rattle.play_run.specs.Turning.{FilesStayed, HasFailed}
+use Rattle.play_run.specs.Faults.{fault_at}
 use Rattle.play_run.proofs.Comings.{has_taken, seen}
+use Rattle.play_run.proofs.Failures.{none_whole, tells_only}
 
 -- the component at the place with its stream
 record IsHere (w : World) (place : ℕ) : Type 0 where
@@ -84,6 +90,26 @@ module _ {S K : Type 0} (reads : SourceGhosts S) (writes : SinkGhosts K)
       let l = slice_get_within x.plan.parts place I.0 I.1 in
       let t = (W.cast_is).each place l in
       still_here (cast x.plan) Z.world t.0 place W.sound Z.works t.2 (still_there (play_cast_of x.plan) Z.recent p Z.world t.0 W t.1)
+
+  -- the run of whole steps that a play was in which is broken off or over
+  pub standing_left : (p : Play) (Y : IsPlaying x p) → AreOffered x.plan Y.standing.files (offered reads.offset reads.size reads.told writes.told) entries
+      → LeavesWorld x.plan Y.standing.files (seen reads writes entries) (seen reads writes now) runs.OutOfMemory
+  standing_left p Y offers =
+      let Z = Y.standing in
+      let R = Z.recorded in
+      record {
+        steps = steps_of R.history;
+        left = Z.world;
+        leads = record { opening = Z.opening; opens = Z.begins.opens; runs = R.runs };
+        first = tt;
+        shows = λ place why failed. absurd (none_whole R.history place why R.whole failed);
+        took = λ place sink I.
+            let H = here p Y place sink I in (
+              H.stream.written,
+              has_taken reads writes first x entries now many many_now were are stayed Z.files offers Z.opening Z.world Z.begins.opens Z.told (written Z.world Z.stands) place sink I H.component H.named H.work H.stream H.found,
+              is_there (stream_of place Z.world) (λ (s : Stream). s.written ≡ H.stream.written) H.stream H.found refl,
+            );
+      }
 
   -- in a component's turn each sink took a front of its text
   pub is_broken_off : (p : Play) (Y : IsPlaying x p) → IsReady x.plan Y.standing.files → AreOffered x.plan Y.standing.files (offered reads.offset reads.size reads.told writes.told) entries
@@ -153,3 +179,22 @@ module _ {S K : Type 0} (reads : SourceGhosts S) (writes : SinkGhosts K)
           of_stream F.world place (λ (s : Stream). IsFrontOf (sink_text x.plan samples place) s.written) H.stream H.found
               (texts_failed x.plan F.files samples ready A F.recent F.play F.before F.world F.done F.played F.finishes fronts place sink I),
         )
+
+    pub failed_left : ShowsAt (seen reads writes entries) (seen reads writes now) failure.component failure.fault
+        → LeavesWorld x.plan F.files (seen reads writes entries) (seen reads writes now) (fault_at failure.component failure.fault)
+    failed_left shows = record {
+      steps = F.steps;
+      left = F.world;
+      leads = record { opening = F.opening; opens = F.begins.opens; runs = F.runs };
+      first = tells_only F.steps failure.component failure.fault F.last F.alone;
+      shows = λ place why failed.
+          let a = F.alone place why failed in
+          subst (λ (n : ℕ). ShowsAt (seen reads writes entries) (seen reads writes now) n why) (sym a.0)
+          (subst (λ (y : PartFault). ShowsAt (seen reads writes entries) (seen reads writes now) failure.component y) (sym a.1) shows);
+      took = λ place sink I.
+          let H = there place sink I in (
+            H.stream.written,
+            has_taken reads writes first x entries now many many_now were are stayed F.files offers F.opening F.world F.begins.opens F.told (written F.world F.stands) place sink I H.component H.named H.work H.stream H.found,
+            is_there (stream_of place F.world) (λ (s : Stream). s.written ≡ H.stream.written) H.stream H.found refl,
+          );
+    }

@@ -68,6 +68,7 @@ use Rattle.play_model.specs.Content.{ArePlain}
 use Rattle.play_stream_laws.specs.Contents.{PlayContents, network_of}
 use Rattle.play_stream_laws.specs.Fronts.{AreFronts}
 use Rattle.play_stream_laws.specs.PlayStreams.{HasPlayStreams}
+use Rattle.play_run.proofs.Failures.{all_alone, all_last, all_run, all_steps}
 use Rattle.play_run.proofs.Streaming.{ClaimsOn, FailsWith, FinishesOn, IsBackFrom, StreamsGo, StreamsOn, streams_go}
 use Rattle.play_run.proofs.Files.{claim_stays, finish_told, told_on, told_same}
 use Rattle.play_run.proofs.Answering.{keeps_in, turn_goes, turn_stays, with_both}
@@ -291,7 +292,9 @@ module _ {S K : Type 0} where
               let V = (Z.conducted).waiting in
               let N = component_named_in y c place h J H p Z in
               let v = worked Z.world Z.stands in
-              let shut = closed Z.world Z.stands in (
+              let shut = closed Z.world Z.stands in
+              let R = Z.recorded in
+              let its : (v.2).done.component ≡ place = (v.2).its ∙ (number_is X Z.recent p Z.world c h W b N ∙ sym J) in (
                 record {
                   world = v.0;
                   stands = v.1;
@@ -305,13 +308,17 @@ module _ {S K : Type 0} where
                   tunnels = joined_between X Z.recent p (y.conductor).lates ((Z.conducted).conducting).lates Y.carried;
                   done = (v.2).done;
                   there = subst (λ (j : ℕ). j < length y.plan.parts) (sym J) ((W.cast_is).placed c b);
-                  its = (v.2).its ∙ (number_is X Z.recent p Z.world c h W b N ∙ sym J);
+                  its = its;
                   failed = (v.2).faults;
                   finishes = (v.2).comes;
                   files = Z.files;
                   opening = Z.opening;
                   begins = Z.begins;
                   told = told_on Z.opening Z.world v.0 Z.told (worked_told X Z.recent p Z.world c h W b N V Z.works shut (Some fault) frames v.0 v.2);
+                  steps = all_steps Z.opening Z.world (v.2).between v.0 R.history h (v.2).work (v.2).done place fault (v.2).goes (v.2).meets (v.2).comes R.runs R.whole its (v.2).faults;
+                  runs = all_run Z.opening Z.world (v.2).between v.0 R.history h (v.2).work (v.2).done place fault (v.2).goes (v.2).meets (v.2).comes R.runs R.whole its (v.2).faults;
+                  last = all_last Z.opening Z.world (v.2).between v.0 R.history h (v.2).work (v.2).done place fault (v.2).goes (v.2).meets (v.2).comes R.runs R.whole its (v.2).faults;
+                  alone = all_alone Z.opening Z.world (v.2).between v.0 R.history h (v.2).work (v.2).done place fault (v.2).goes (v.2).meets (v.2).comes R.runs R.whole its (v.2).faults;
                   fronts = λ k C E. failed_streams X Z.recent p Z.world c h W b N V Z.works shut (Some fault) frames v.0 v.2 claims fault refl fails k (Z.streams k C E);
                 },
                 refl,

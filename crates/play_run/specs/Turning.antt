@@ -4,6 +4,8 @@ use Rattle.play_run.specs.declared.failure.Failure.{Failure}
 use Rattle.play_run.specs.declared.failure.Stop.{Stop}
 use Rattle.play_run.specs.declared.failure.Stop.TheVariants as stops
 use Rattle.il_machine.specs.World.{World}
+use Rattle.il_machine.specs.Acts.{Act, Reply}
+use Rattle.il_machine.specs.Run.{Run}
 use Rattle.il_machine.specs.Stepping.{WorkDone}
 use Rattle.il_machine.specs.Finishing.{Finish}
 use Rattle.il_machine.specs.Whole.{Stands}
@@ -22,6 +24,7 @@ use Rattle.play_graph.specs.Stops.{HaveTunnels}
 use Rattle.omx_types.specs.declared.fault.PartFault.{PartFault}
 use Rattle.audio_parts.specs.Objects.{Held}
 use Rattle.il_graph.specs.Shown.{file_of}
+use Rattle.play_course.specs.Failing.{HasFailure}
 use Rattle.play_run.specs.Recording.{IsBeginning}
 use Rattle.play_run.specs.Closing.{HasBegun}
 use Rattle.play_run.specs.Playing.{AreClientsIn, HaveNoWork, IsPlaying, LeadsOn, PlayingValue, ToldAlike, unfailed}
@@ -54,6 +57,11 @@ module _ {S K : Type 0} where
     pub opening : World
     pub begins : IsBeginning x.plan files opening
     pub told : ToldAlike opening world
+    -- the acts since the opening, of which the last is that step, and no other failed
+    pub steps : List (Act × Reply)
+    pub runs : Run opening steps world
+    pub last : HasFailure steps failure.component failure.fault
+    pub alone : (place : ℕ) (why : PartFault) → HasFailure steps place why → (place ≡ failure.component) × (why ≡ failure.fault)
     -- what the sinks' files have taken are fronts of what they were to take
     pub fronts : HasFrontsFrom (play_cast_of x.plan) opening world
 

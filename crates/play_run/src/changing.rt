@@ -128,7 +128,7 @@ impl<S: Source, K: Sink> Playing<S, K> {
         let _ = self
             .graph
             .send_command(port.handle, port_command(disables, port.index));
-        tell(&mut self.log, &port_sent(disables, name));
+        tell(&mut self.log, None, &port_sent(disables, name));
     }
 
     /// The link's tunnel is dropped.
@@ -144,7 +144,7 @@ impl<S: Source, K: Sink> Playing<S, K> {
         let second = self.port_name(link, End::Input);
         law_of_changed_streams();
         let _ = self.graph.drop_tunnel(output, input);
-        tell(&mut self.log, &dropped(first, second));
+        tell(&mut self.log, None, &dropped(first, second));
     }
 
     /// The definition of the port at the link's end is set.
@@ -165,6 +165,7 @@ impl<S: Source, K: Sink> Playing<S, K> {
         );
         tell(
             &mut self.log,
+            None,
             &set_port(name, definition.format, definition.count, definition.size),
         );
     }
@@ -182,7 +183,7 @@ impl<S: Source, K: Sink> Playing<S, K> {
         let second = self.port_name(link, End::Input);
         law_of_changed_streams();
         let _ = self.graph.setup_tunnel(output, input);
-        tell(&mut self.log, &joined(first, second, Supplier::Input));
+        tell(&mut self.log, None, &joined(first, second, Supplier::Input));
     }
 
     /// Both ports are to be disabled.

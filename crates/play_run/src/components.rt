@@ -17,7 +17,7 @@ ghost use Rattle.play_run.specs.Playing.{FilesStay, IsPlaying, TurnsTo, layout_o
 ghost use Rattle.play_run.specs.Turning.{FailsOn};
 
 use crate::failure::Failure;
-use crate::lines::{name_at, tell};
+use crate::lines::{Slot, name_at, tell};
 use crate::links::did;
 use crate::playing::Playing;
 use conductor::PlayClient;
@@ -83,10 +83,10 @@ impl<S: Source, K: Sink> Playing<S, K> {
                 let Call { client, taken } = call;
                 let event = event_of(taken);
                 let name = name_at(&self.plan, place);
-                tell(&mut self.log, &took(name, event));
+                tell(&mut self.log, None, &took(name, event));
                 self.graph.law_of_worlds();
                 self.graph.end_note(h, told_of(client, event));
-                tell(&mut self.log, &ended(name));
+                tell(&mut self.log, None, &ended(name));
                 true
             }
             Ok(Took::None) => false,
@@ -109,7 +109,7 @@ impl<S: Source, K: Sink> Playing<S, K> {
         if !did(self.graph.run_command(h)) {
             return false;
         }
-        tell(&mut self.log, &ran(name_at(&self.plan, place)));
+        tell(&mut self.log, None, &ran(name_at(&self.plan, place)));
         true
     }
 
@@ -138,14 +138,18 @@ impl<S: Source, K: Sink> Playing<S, K> {
             None => return Ok(false),
         };
         let name = name_at(&self.plan, place);
-        tell(&mut self.log, &claimed(name));
+        tell(&mut self.log, Slot::Claimed(place).number(), &claimed(name));
         let done = work.run();
         let frames = done.frames();
         let fault = done.fault();
         self.graph.finish(done);
         match fault {
             None => {
-                tell(&mut self.log, &finished(name, frames));
+                tell(
+                    &mut self.log,
+                    Slot::Finished(place).number(),
+                    &finished(name, frames),
+                );
                 Ok(true)
             }
             Some(fault) => Err(Failure {

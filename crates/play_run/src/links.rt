@@ -7,7 +7,7 @@ ghost use Rattle.play_loop.specs.Turns.{SomePlay};
 ghost use Rattle.play_turn_laws.specs.Turns.{IsAct, IsBackOf, is_did};
 ghost use Rattle.play_run.specs.Playing.{IsPlaying, TurnsTo};
 
-use crate::lines::{port_at, tell};
+use crate::lines::{Slot, port_at, tell};
 use crate::playing::Playing;
 use il_graph::Acted;
 use outside_io::{Sink, Source};
@@ -41,7 +41,11 @@ impl<S: Source, K: Sink> Playing<S, K> {
             return false;
         }
         let port = port_at(&self.plan, joint.taker, joint.input);
-        tell(&mut self.log, &supplied(port));
+        tell(
+            &mut self.log,
+            Slot::Supplied(link).number(),
+            &supplied(port),
+        );
         true
     }
 
@@ -60,7 +64,11 @@ impl<S: Source, K: Sink> Playing<S, K> {
             return false;
         }
         let port = port_at(&self.plan, joint.taker, joint.input);
-        tell(&mut self.log, &released(port));
+        tell(
+            &mut self.log,
+            Slot::Released(link).number(),
+            &released(port),
+        );
         true
     }
 
@@ -79,7 +87,11 @@ impl<S: Source, K: Sink> Playing<S, K> {
             return false;
         }
         let port = port_at(&self.plan, joint.taker, joint.input);
-        tell(&mut self.log, &handed_over(port));
+        tell(
+            &mut self.log,
+            Slot::HandedOver(link).number(),
+            &handed_over(port),
+        );
         true
     }
 
@@ -98,7 +110,11 @@ impl<S: Source, K: Sink> Playing<S, K> {
             return false;
         }
         let port = port_at(&self.plan, joint.giver, joint.output);
-        tell(&mut self.log, &handed_back(port));
+        tell(
+            &mut self.log,
+            Slot::HandedBack(link).number(),
+            &handed_back(port),
+        );
         true
     }
 }

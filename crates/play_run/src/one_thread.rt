@@ -11,7 +11,7 @@ use audio_parts::PartFile;
 use omx_types::PartFault;
 use outside_io::{Sink, Source};
 use play_course::{Player, RunFault};
-use play_log::Log;
+use play_log::{Log, LogText};
 use std::alloc::Global;
 use stream_plan::Plan;
 
@@ -39,8 +39,8 @@ fn run_fault(stop: Stop) -> RunFault
 }
 
 /// The text of the log of a whole play.
-fn text_of(log: Log) -> Result<Vec<u8>, RunFault>
-    ensures logged { (s : Scene) (history : List Entry) → Keeps s history log → IfOk result (λ text. IsLogged s history text.items) }
+fn text_of(log: Log) -> Result<LogText, RunFault>
+    ensures logged { (s : Scene) (history : List Entry) → Keeps s history log → IfOk result (IsLogged s history) }
     ensures memory { IfErr result (λ fault. fault ≡ RunFault.OutOfMemory) }
 {
     match log.finish() {
@@ -55,7 +55,7 @@ impl<S: Source, K: Sink> Player<S, K> for OneThread {
         alloc: Global,
         plan: Plan,
         files: &mut [Option<PartFile<S, K>>],
-    ) -> Result<Vec<u8>, RunFault> {
+    ) -> Result<LogText, RunFault> {
         let mut playing = match Playing::new(alloc, plan, files) {
             Ok(playing) => playing,
             Err(_) => return Err(RunFault::OutOfMemory),

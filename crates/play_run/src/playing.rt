@@ -1,6 +1,7 @@
 //! What a play keeps.
 
 use crate::failure::Stop;
+use crate::lines::slots_of;
 use crate::words::law_of_words;
 use audio_parts::PartFile;
 use conductor::{Conductor, PlayClient};
@@ -62,6 +63,7 @@ impl<S: Source, K: Sink> Playing<S, K> {
     {
         law_of_begun_streams();
         let conductor = Conductor::new(alloc, &plan)?;
+        let log = Log::new(alloc, slots_of(&plan))?;
         let graph = make_graph(alloc, &plan, files)?;
         graph.law_of_worlds();
         law_of_words(plan.frames());
@@ -69,7 +71,7 @@ impl<S: Source, K: Sink> Playing<S, K> {
             graph,
             plan,
             conductor,
-            log: Log::new(alloc),
+            log,
         })
     }
 

@@ -61,7 +61,11 @@ impl<S: Source, K: Sink> Playing<S, K> {
         for place in 0..self.count() {
             let h = self.handle(place);
             let _ = self.graph.send_command(h, Command::StateSet(state));
-            tell(&mut self.log, &sent(name_at(&self.plan, place), state));
+            tell(
+                &mut self.log,
+                None,
+                &sent(name_at(&self.plan, place), state),
+            );
         }
     }
 

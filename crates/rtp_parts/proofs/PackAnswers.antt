@@ -1,5 +1,5 @@
 -- What `pack` answers, by what the head reads as.
-use Rattle.std.proofs.Common.{◌≡◌, ℕ, ◌+◌, ◌*◌, ◌<◌, ◌≤◌, max, List, ◌++◌, length, take, drop, Option, Some, None, Result, Ok, Err, inl, inr, refl, sym, ap, subst, ◌∙◌, arith, length-drop}
+use Rattle.std.proofs.Common.{◌≡◌, ℕ, ◌+◌, ◌*◌, ◌<◌, ◌≤◌, max, List, ◌++◌, length, take, drop, Option, Some, None, Result, Ok, Err, OnErr, inl, inr, refl, sym, ap, subst, ◌∙◌, arith, length-drop}
 use Rattle.std.proofs.lemmas.List.{length-take}
 use Rattle.std.specs.Io.KnownBytes.{append_known}
 use Rattle.outside_io.specs.Moves.{AppendsFront, WhereTold}
@@ -43,6 +43,18 @@ wrong_format bytes h head one other none =
 
 pub packing_is : (bytes : List ℕ) (h : WavHead) (head : Result WavHead WavFault) (companding : Companding) → Reads bytes (Ok h) → Reads bytes head → companding_of_format h.format ≡ Some companding → packing_of bytes head ≡ Ok (record { companding = companding; samples = samples_of bytes h })
 packing_is bytes h head companding one other some = ap (packing_of bytes) (same_answer bytes head (Ok h) other one) ∙ ap (packing_under bytes h) some
+
+-- what can be packed is no fault
+pub asks_packable : (P : Type 0) (bytes : List ℕ) (h : WavHead) (head : Result WavHead WavFault) (companding : Companding) → Reads bytes (Ok h) → Reads bytes head → companding_of_format h.format ≡ Some companding → OnErr (packing_of bytes head) P
+asks_packable P bytes h head companding one other some = subst (λ r. OnErr r P) (sym (packing_is bytes h head companding one other some)) tt
+
+-- nothing more was asked for, whatever is packed
+pub asks_none_more : {P : Type 0} (bytes : List ℕ) (head : Result WavHead WavFault) → P → OnErr (packing_of bytes head) P
+asks_none_more {P = P} bytes head asks = on_err (packing_of bytes head)
+  where
+    on_err : {A E : Type 0} (r : Result A E) → OnErr r P
+    on_err (Ok a) = tt
+    on_err (Err e) = asks
 
 pub head_fits : (h : WavHead) (companding : Companding) (size : ℕ) → companding_of_format h.format ≡ Some companding → FitsFile h size → (h.start + h.frames ≤ size) × (h.frames ≤ 67108864)
 head_fits h companding size some fits =

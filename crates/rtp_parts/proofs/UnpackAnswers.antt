@@ -1,12 +1,14 @@
 -- What `unpack` answers, by what its parts found.
-use Rattle.std.proofs.Common.{◌≡◌, ℕ, ◌<◌, ◌≤◌, nat_lt, not, if◌then◌else◌, true, false, Bool, List, length, take, drop, bytes_eq, Decides, Option, Some, None, Result, Ok, Err, IfErr, refl, sym, ap, subst, ◌∙◌, arith}
+use Rattle.std.proofs.Common.{◌≡◌, ℕ, ◌+◌, ◌<◌, ◌≤◌, nat_lt, not, if◌then◌else◌, true, false, Bool, List, length, take, drop, bytes_eq, Decides, Option, Some, None, Result, Ok, Err, IfErr, refl, sym, ap, subst, ◌∙◌, arith}
 use Rattle.std.proofs.lemmas.List.{length-take}
 use Rattle.std.proofs.lemmas.Slice.Eq.{bytes_eq-Decides}
 use Rattle.std.specs.Io.KnownBytes.{append_known}
+use Rattle.outside_io.specs.Asking.{AsksWithin}
 use Rattle.outside_io.specs.Moves.{AppendsFront}
 use Rattle.outside_io.specs.Stops.{StopsBefore}
 use Rattle.outside_io.specs.declared.moving.ReadStop.{ReadStop}
 use Rattle.outside_io.specs.declared.moving.ReadStop.TheVariants.{Failed, Short as Stopped}
+use Rattle.outside_io.proofs.Asked.{asks-none}
 use Rattle.outside_io.proofs.Known.{append_known-nil}
 use Rattle.omx_types.specs.declared.fault.WavFault.TheVariants.{TooLarge}
 use Rattle.wav_form.specs.Reading.{most_bytes}
@@ -24,6 +26,15 @@ use Rattle.rtp_parts.specs.Answers.{IfShort, UnlessStopped, fault_of_stop, unpac
 use Rattle.rtp_parts.specs.Ends.{EndsUnpacking}
 use Rattle.rtp_parts.specs.Steps.{Counts, whole_codes, survey_by, survey_of, StopsMoving}
 use Rattle.rtp_parts.proofs.Survey.{Agrees, Found, survey_agrees}
+
+-- a seek asks for nothing
+pub asks_sought : (old new : Option ℕ) → new ≡ old → AsksWithin old new 8
+asks_sought old new same = subst (λ (asked : Option ℕ). AsksWithin old asked 8) (sym same) (asks-none old 8)
+
+-- and then a read of the first 8 bytes
+pub asks_first : (old mid new : Option ℕ) (offset count : ℕ) → mid ≡ old → offset ≡ 0 → count ≡ 8 → AsksWithin mid new (offset + count) → AsksWithin old new 8
+asks_first old mid new offset count same start long within =
+    subst (λ (end : ℕ). AsksWithin old new end) (let e : offset + count ≡ 8 = omega arith in e) (subst (λ (asked : Option ℕ). AsksWithin asked new (offset + count)) same within)
 
 pub too_large_is : (bytes : List ℕ) → most_bytes < length bytes → unpacked bytes ≡ Err (Head (TooLarge (length bytes)))
 unfolding unpacked

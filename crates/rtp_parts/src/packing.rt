@@ -1,6 +1,6 @@
 //! Packing: a WAV file of G.711 is written as a list of RTP packets, and how many packets and frames it has.
 
-ghost use Rattle.std.specs.Prelude.{◌≡◌, ◌≢◌, ℕ, ◌+◌, ◌*◌, ◌≤◌, ◌<◌, ◌^◌, List, length, take, drop, max, IfErr, OnOk, Err, Result};
+ghost use Rattle.std.specs.Prelude.{◌≡◌, ◌≢◌, ℕ, ◌+◌, ◌*◌, ◌≤◌, ◌<◌, ◌^◌, List, length, take, drop, max, IfErr, OnErr, OnOk, Err, Result};
 ghost use Rattle.std.specs.Io.KnownBytes.{append_known};
 ghost use Rattle.outside_io.specs.Causes.{Rose};
 ghost use Rattle.outside_io.specs.Keeping.{KeepsSink, KeepsSource};
@@ -8,6 +8,7 @@ ghost use Rattle.outside_io.specs.Moves.{AppendsFront, WhereTold};
 ghost use Rattle.wav_form.specs.declared.heads.WavHead.{WavHead};
 ghost use Rattle.omx_types.specs.declared.fault.WavFault.{WavFault};
 ghost use Rattle.omx_types.specs.declared.fault.WavFault.TheVariants.{TooLarge};
+ghost use Rattle.wav_form.specs.Passing.{AsksNoSamples};
 ghost use Rattle.wav_form.specs.Reading.{Reads, most_bytes};
 ghost use Rattle.rtp_parts.specs.Packing.{packet_count, texts_of};
 ghost use Rattle.rtp_parts.specs.Answers.{IfShort, UnlessStopped, packing_of, counts_of, packets_file, StoppedPacking, IsStop};
@@ -44,6 +45,10 @@ pub fn pack<S: Source, K: Sink>(src: &mut S, snk: &mut K) -> Result<Packed, RtpF
         OnOk result (K.told snk.new ≡ append_known (K.told snk.old) (packets_file (packing_of bytes head)))) }
     ensures front { WhereTold (S.told src.old) (λ bytes. (head : Result WavHead WavFault) → Reads bytes head →
         AppendsFront (K.told snk.old) (K.told snk.new) (packets_file (packing_of bytes head))) }
+
+    // Of a file that can't be packed nothing behind its head is asked for, whatever the answer.
+    ensures asks_no_samples { WhereTold (S.told src.old) (λ bytes. (head : Result WavHead WavFault) → Reads bytes head →
+        OnErr (packing_of bytes head) (AsksNoSamples bytes (S.asked src.old) (S.asked src.new))) }
 
     // Over every source and sink
     ensures too_large { most_bytes < S.size src.old → result ≡ Err (RtpFault.Head (TooLarge (S.size src.old))) }

@@ -1,6 +1,7 @@
 //! Unpacking: a list of RTP packets is written as a WAV file, and how many of them were late, repeated or skipped.
 
 ghost use Rattle.std.specs.Prelude.{◌≡◌, ◌≢◌, ℕ, ◌+◌, ◌≤◌, ◌<◌, ◌++◌, length, take, drop, IfErr, IfOk, OnOk};
+ghost use Rattle.outside_io.specs.Asking.{AsksWithin};
 ghost use Rattle.outside_io.specs.Keeping.{KeepsSink, KeepsSource};
 ghost use Rattle.std.specs.Io.KnownBytes.{append_known};
 ghost use Rattle.outside_io.specs.Moves.{AppendsFront, WhereTold};
@@ -61,7 +62,8 @@ pub fn unpack<S: Source, K: Sink>(
     ensures file { WhereTold (S.told src.old) (λ bytes. OnOk result (K.told snk.new ≡ append_known (K.told snk.old) (wav_of (unpacked bytes)))) }
     ensures front { WhereTold (S.told src.old) (λ bytes. AppendsFront (K.told snk.old) (K.told snk.new) (wav_of (unpacked bytes))) }
 
-    // What is no file of packets is short only in its first 8 bytes.
+    // Of what is no file of packets only the first 8 bytes are asked for, and it is short only in these.
+    ensures asks_no_packets { WhereTold (S.told src.old) (λ bytes. take 8 bytes ≢ magic → AsksWithin (S.asked src.old) (S.asked src.new) 8) }
     ensures asks_no_further { WhereTold (S.told src.old) (λ bytes. take 8 bytes ≢ magic → IfErr result (λ fault. IfShort fault (λ at _. at < 8))) }
 
     // Over every source and sink
@@ -100,6 +102,7 @@ fn check_magic<S: Source>(src: &mut S) -> Result<(), RtpFault>
     ensures offset { OnOk result (S.offset src.new ≡ 8) }
     ensures within { OnOk result (8 ≤ S.size src.old) }
     ensures asks_no_further { IfErr result (λ fault. IfShort fault (λ at _. at < 8)) }
+    ensures asks { AsksWithin (S.asked src.old) (S.asked src.new) 8 }
     ensures reached { WhereTold (S.ends src.old) (λ end. OnOk result (8 ≤ end)) }
     ensures too_large { most_bytes < S.size src.old → result ≡ Err (RtpFault.Head (WavFault.TooLarge (S.size src.old))) }
     ensures cause { IfErr result (EndsUnpacking (S.size src.old) (S.ends src.old) (S.faults src.old) (S.faults src.new) 0 0) }

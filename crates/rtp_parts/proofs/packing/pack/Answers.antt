@@ -1,6 +1,6 @@
 use Rattle.std.proofs.Common.{◌≡◌, ◌∙◌, sym, arith}
 use Rattle.rtp_parts.specs.Packing.{packet_count}
-use Rattle.rtp_parts.proofs.PackAnswers.{head_fault, head_large, head_stands, wrong_format, counts_are, short_head, short_samples, stop_stands, packed-front_magic, packed-front, packed-whole}
+use Rattle.rtp_parts.proofs.PackAnswers.{asks_none_more, asks_packable, head_fault, head_large, head_stands, wrong_format, counts_are, short_head, short_samples, stop_stands, packed-front_magic, packed-front, packed-whole}
 use Rattle.rtp_parts.proofs.packing.pack.Goals as goal
 
 pub returns-in-Err-clause-answer : goal.returns-in-Err-clause-answer
@@ -53,3 +53,21 @@ returns-in-Err-clause-too_large g c = λ large.
     let read = c.in-Err.ensures.too_large large in
     let told = head_large (g.S.Source.size c.args.src.now) c.in-Err.fault c.of_head.result c.of_head.ensures (cc) in
     cc
+
+pub returns-in-Err-clause-asks_no_samples : goal.returns-in-Err-clause-asks_no_samples
+returns-in-Err-clause-asks_no_samples g c = λ bytes is head read. asks_none_more bytes head (c.in-Err.ensures.asks_no_samples bytes is)
+
+pub returns-in_default-clause-asks_no_samples : goal.returns-in_default-clause-asks_no_samples
+returns-in_default-clause-asks_no_samples g c = λ bytes is head read. asks_none_more bytes head (c.read_head.ensures.asks_no_samples bytes is)
+
+pub returns-in-Err-write_all-clause-asks_no_samples : goal.returns-in-Err-write_all-clause-asks_no_samples
+returns-in-Err-write_all-clause-asks_no_samples g c = λ bytes is head read.
+    asks_packable _ bytes c.in-Ok.head head c.in-Some.companding (c.in-Ok.ensures.reads bytes is) read (sym c.companding_of.ensures ∙ c.in-Some.is)
+
+pub returns-in-Ok-pack_samples-clause-asks_no_samples : goal.returns-in-Ok-pack_samples-clause-asks_no_samples
+returns-in-Ok-pack_samples-clause-asks_no_samples g c = λ bytes is head read.
+    asks_packable _ bytes c.in-Ok.head head c.in-Some.companding (c.in-Ok.ensures.reads bytes is) read (sym c.companding_of.ensures ∙ c.in-Some.is)
+
+pub returns-in-Err-pack_samples-clause-asks_no_samples : goal.returns-in-Err-pack_samples-clause-asks_no_samples
+returns-in-Err-pack_samples-clause-asks_no_samples g c = λ bytes is head read.
+    asks_packable _ bytes c.in-Ok.head head c.in-Some.companding (c.in-Ok.ensures.reads bytes is) read (sym c.companding_of.ensures ∙ c.in-Some.is)

@@ -1,8 +1,8 @@
-use Rattle.std.proofs.Common.{◌≡◌, ℕ, List, Err, bytes_eq, take, drop, length, sym, ap, ◌∙◌, arith}
+use Rattle.std.proofs.Common.{◌≡◌, ℕ, List, refl, Err, bytes_eq, take, drop, length, sym, ap, ◌∙◌, arith}
 use Rattle.omx_types.specs.declared.fault.WavFault.TheVariants.{TooLarge}
 use Rattle.rtp_parts.specs.declared.fault.RtpFault.TheVariants.{Head}
 use Rattle.rtp_parts.specs.Packing.{magic}
-use Rattle.rtp_parts.proofs.UnpackAnswers.{too_large_is, other_is, stopped_before, too_few}
+use Rattle.rtp_parts.proofs.UnpackAnswers.{asks_first, asks_sought, too_large_is, other_is, stopped_before, too_few}
 use Rattle.rtp_parts.proofs.unpacking.check_magic.Goals as goal
 
 pub returns-then-size-gt-MOST_BYTES-clause-other : goal.returns-then-size-gt-MOST_BYTES-clause-other
@@ -30,3 +30,21 @@ returns-else-eq-clause-other g c = λ bytes is.
 pub returns-in-Err-read_exact-clause-asks_no_further : goal.returns-in-Err-read_exact-clause-asks_no_further
 returns-in-Err-read_exact-clause-asks_no_further g c =
     stopped_before _ 8 c.in-Err-read_exact.stop c.of_read.result (omega (arith, c.in-Ok.ensures.reached)) c.of_read.ensures c.in-Err-read_exact.ensures.unfinished
+
+pub returns-then-size-gt-MOST_BYTES-clause-asks : goal.returns-then-size-gt-MOST_BYTES-clause-asks
+returns-then-size-gt-MOST_BYTES-clause-asks g c = asks_sought _ _ refl
+
+pub returns-then-size-lt-MAGIC-clause-asks : goal.returns-then-size-lt-MAGIC-clause-asks
+returns-then-size-lt-MAGIC-clause-asks g c = asks_sought _ _ refl
+
+pub returns-in-Err-clause-asks : goal.returns-in-Err-clause-asks
+returns-in-Err-clause-asks g c = asks_sought _ _ c.seek_to.ensures.asked
+
+pub returns-then-eq-clause-asks : goal.returns-then-eq-clause-asks
+returns-then-eq-clause-asks g c = asks_first _ _ _ _ _ c.seek_to.ensures.asked c.in-Ok.ensures.reached refl c.read_exact.ensures.asks
+
+pub returns-else-eq-clause-asks : goal.returns-else-eq-clause-asks
+returns-else-eq-clause-asks g c = asks_first _ _ _ _ _ c.seek_to.ensures.asked c.in-Ok.ensures.reached refl c.read_exact.ensures.asks
+
+pub returns-in-Err-read_exact-clause-asks : goal.returns-in-Err-read_exact-clause-asks
+returns-in-Err-read_exact-clause-asks g c = asks_first _ _ _ _ _ c.seek_to.ensures.asked c.in-Ok.ensures.reached refl c.read_exact.ensures.asks

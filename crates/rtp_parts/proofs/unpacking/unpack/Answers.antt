@@ -79,3 +79,21 @@ pub returns-clause-cause : goal.returns-clause-cause
 returns-clause-cause g c =
     moving_ends _ _ _ _ _ _ _ _ _ c.in-Err-write_wav.fault (c.in-Ok-seek_to.ensures.size ∙ c.in-Ok-survey.ensures.keeps_source.size ∙ c.in-Ok.ensures.keeps_source.size) (c.in-Ok-seek_to.ensures.ends ∙ c.in-Ok-survey.ensures.keeps_source.ends ∙ c.in-Ok.ensures.keeps_source.ends)
     (c.in-Ok-seek_to.ensures.cause.stands ∙ c.in-Ok-survey.ensures.stands ∙ c.in-Ok.ensures.stands) c.in-Err-write_wav.ensures.stop
+
+pub returns-in-Err-clause-asks_no_packets : goal.returns-in-Err-clause-asks_no_packets
+returns-in-Err-clause-asks_no_packets g c = λ bytes is other. c.check_magic.ensures.asks
+
+pub returns-in_default-clause-asks_no_packets : goal.returns-in_default-clause-asks_no_packets
+returns-in_default-clause-asks_no_packets g c = λ bytes is other. c.check_magic.ensures.asks
+
+pub returns-in-Err-survey-clause-asks_no_packets : goal.returns-in-Err-survey-clause-asks_no_packets
+returns-in-Err-survey-clause-asks_no_packets g c = λ bytes is other. absurd (other (c.in-Ok.ensures.begins bytes is).0)
+
+pub returns-in-Err-seek_to-clause-asks_no_packets : goal.returns-in-Err-seek_to-clause-asks_no_packets
+returns-in-Err-seek_to-clause-asks_no_packets g c = λ bytes is other. absurd (other (c.in-Ok.ensures.begins bytes is).0)
+
+pub returns-in-Ok-write_wav-clause-asks_no_packets : goal.returns-in-Ok-write_wav-clause-asks_no_packets
+returns-in-Ok-write_wav-clause-asks_no_packets g c = λ bytes is other. absurd (other (c.in-Ok.ensures.begins bytes is).0)
+
+pub returns-clause-asks_no_packets : goal.returns-clause-asks_no_packets
+returns-clause-asks_no_packets g c = λ bytes is other. absurd (other (c.in-Ok.ensures.begins bytes is).0)

@@ -1,10 +1,11 @@
-use Rattle.std.proofs.Common.{false, sym, ◌∙◌, subst}
+use Rattle.std.proofs.Common.{false, inl, refl, ap, sym, ◌∙◌, subst}
 use Rattle.play_plan_laws.specs.Assemblies.{IsReady, PlayFiles}
+use Rattle.play_course.specs.Failing.{LeavesBehind}
 use Rattle.play_course.specs.Players.{AreFilesOf, IsFailed, IsPlayedWhole}
 use Rattle.play_course.specs.Running.{IsRunCause}
 use Rattle.play_run.proofs.Comings.{seen}
 use Rattle.play_run.proofs.ThreadFiles.{are_offered, can_make}
-use Rattle.play_run.proofs.Played.{all_gone, fault_cause, files_same, on_err, run_failed, run_front, run_whole, untouched, when_err, when_ok}
+use Rattle.play_run.proofs.Played.{all_gone, fault_cause, files_same, on_err, over_left, run_failed, run_front, run_whole, stop_left, untouched, when_err, when_ok, when_want}
 use Rattle.play_run.proofs.one_thread.OneThreadPlayer.run.Goals as goal
 
 pub new-requires : goal.new-requires
@@ -32,12 +33,12 @@ returns-in-Ok-play-clause-same g c = files_same g.S.Source g.K.Sink c.args.plan 
 
 pub returns-in-Ok-play-clause-whole : goal.returns-in-Ok-play-clause-whole
 returns-in-Ok-play-clause-whole g c =
-    when_ok (λ text. text.items) c.end.result c.text_of.result
-    (λ text. (given : PlayFiles) → IsReady c.args.plan given → AreFilesOf c.args.plan given (seen g.S.Source g.K.Sink c.args.files.now) → IsPlayedWhole c.args.plan given (seen g.S.Source g.K.Sink c.args.files.now) (seen g.S.Source g.K.Sink c.end.new.files) text.items)
+    when_ok c.end.result c.text_of.result
+    (λ text. (given : PlayFiles) → IsReady c.args.plan given → AreFilesOf c.args.plan given (seen g.S.Source g.K.Sink c.args.files.now) → IsPlayedWhole c.args.plan given (seen g.S.Source g.K.Sink c.args.files.now) (seen g.S.Source g.K.Sink c.end.new.files) text)
     c.text_of.ensures.logged
     (λ text logged given R O.
     run_whole g.S.Source g.K.Sink c.args.plan c.args.files.now c.requires.ready c.in-Ok.playing c.play.new.self c.new.new.files c.end.new.files (c.in-Ok-play.ensures.plan ∙ c.in-Ok.ensures.plan) c.in-Ok.ensures.many c.end.ensures.many c.in-Ok.ensures.files c.end.ensures.files (λ n. (false, c.in-Ok-play.ensures.objects n)) c.end.ensures.written given R O (c.in-Ok-play.ensures.played given (c.in-Ok.ensures.begun given R (are_offered g.S.Source g.K.Sink c.args.plan given c.args.files.now O)))
-    c.law_of_play_logs.ensures.names c.end.result c.end.ensures.log text.items logged)
+    c.law_of_play_logs.ensures.names c.end.result c.end.ensures.log text logged)
 
 pub returns-in-Ok-play-clause-failed : goal.returns-in-Ok-play-clause-failed
 returns-in-Ok-play-clause-failed g c = on_err c.text_of.result (λ given R O.
@@ -57,3 +58,19 @@ pub returns-in-Err-play-clause-cause : goal.returns-in-Err-play-clause-cause
 returns-in-Err-play-clause-cause g c =
     subst (IsRunCause (seen g.S.Source g.K.Sink c.args.files.now) (seen g.S.Source g.K.Sink c.stop.new.files)) (sym c.run_fault.ensures)
     (fault_cause g.S.Source g.K.Sink c.args.plan c.args.files.now c.requires.ready c.in-Ok.playing c.play.new.self c.new.new.files c.stop.new.files (c.in-Err-play.ensures.plan ∙ c.in-Ok.ensures.plan) c.in-Ok.ensures.many c.stop.ensures.many c.in-Ok.ensures.files c.stop.ensures.files c.in-Err-play.ensures.objects_then c.in-Err-play.stop c.in-Err-play.ensures.broken_off c.in-Err-play.ensures.shows)
+
+pub returns-in-Err-clause-left : goal.returns-in-Err-clause-left
+returns-in-Err-clause-left g c = λ given R O. inl (refl, ap (seen g.S.Source g.K.Sink) c.in-Err.ensures.unmade)
+
+pub returns-in-Ok-play-clause-left : goal.returns-in-Ok-play-clause-left
+returns-in-Ok-play-clause-left g c =
+    when_want
+    (λ fault. (given : PlayFiles) → IsReady c.args.plan given → AreFilesOf c.args.plan given (seen g.S.Source g.K.Sink c.args.files.now) → LeavesBehind c.args.plan given (seen g.S.Source g.K.Sink c.args.files.now) (seen g.S.Source g.K.Sink c.end.new.files) fault)
+    c.text_of.result c.text_of.ensures.memory
+    (λ given R O.
+    over_left g.S.Source g.K.Sink c.args.plan c.args.files.now c.requires.ready c.in-Ok.playing c.play.new.self c.new.new.files c.end.new.files (c.in-Ok-play.ensures.plan ∙ c.in-Ok.ensures.plan) c.in-Ok.ensures.many c.end.ensures.many c.in-Ok.ensures.files c.end.ensures.files (λ n. (false, c.in-Ok-play.ensures.objects n)) c.end.ensures.written given R O (c.in-Ok-play.ensures.played given (c.in-Ok.ensures.begun given R (are_offered g.S.Source g.K.Sink c.args.plan given c.args.files.now O))))
+
+pub returns-in-Err-play-clause-left : goal.returns-in-Err-play-clause-left
+returns-in-Err-play-clause-left g c = λ given R O.
+    subst (LeavesBehind c.args.plan given (seen g.S.Source g.K.Sink c.args.files.now) (seen g.S.Source g.K.Sink c.stop.new.files)) (sym c.run_fault.ensures)
+    (stop_left g.S.Source g.K.Sink c.args.plan c.args.files.now c.requires.ready c.in-Ok.playing c.play.new.self c.new.new.files c.stop.new.files (c.in-Err-play.ensures.plan ∙ c.in-Ok.ensures.plan) c.in-Ok.ensures.many c.stop.ensures.many c.in-Ok.ensures.files c.stop.ensures.files c.in-Err-play.ensures.objects_then c.stop.ensures.written given R O c.in-Err-play.stop (c.in-Err-play.ensures.broken_off_with given (c.in-Ok.ensures.begun given R (are_offered g.S.Source g.K.Sink c.args.plan given c.args.files.now O))) c.in-Err-play.ensures.shows c.stop.ensures.sound)
