@@ -112,22 +112,22 @@ module _ (plan : PlanValue) (files : PlayFiles) (handles : List Handle) (w : Wor
   begun : IsFaulty (play_cast_of plan) (nothing_asked (play_cast_of plan).cast) 0 opening w.streams w
   begun = plan_faulty plan files handles w G.stage 0 G.ready
 
-  come : HasFaulted (play_cast_of plan) k opening w.streams w v
+  pub come : HasFaulted (play_cast_of plan) k opening w.streams w v
   come = all_faulty x steps (nothing_asked x.cast) 0 opening w.streams w k v begun G.goes
 
-  hears : (i : ℕ) (d : Component) → slice_get u.components i ≡ Some d → IsAlike (heard u d) (told_by i steps)
+  pub hears : (i : ℕ) (d : Component) → slice_get u.components i ≡ Some d → IsAlike (heard u d) (told_by i steps)
   hears i d e =
       let c = read_is v i d e in
       subst (λ (y : Component). IsAlike (heard u y) (told_by i steps)) c.2 (told_so x (nothing_asked x.cast) 0 opening w.streams w begun steps k v G.goes ((G.stage).built).given i c.0 c.1)
 
   -- its place
-  placed : (n : ℕ) → n < length plan.parts → script_place x.cast n < length plan.parts
+  pub placed : (n : ℕ) → n < length plan.parts → script_place x.cast n < length plan.parts
   placed n b =
       let V = (G.ready).valid in
       let t = (plan_has_cast plan (λ l. false) V).placed n b in
       ((V.placed).placed n (seat_of plan n) t).there
 
-  link_is : (l : ℕ) → l < length plan.joints → IsLinkCast plan x.cast l (joint_of plan l) (flow_of plan l)
+  pub link_is : (l : ℕ) → l < length plan.joints → IsLinkCast plan x.cast l (joint_of plan l) (flow_of plan l)
   link_is l b =
       let V = (G.ready).valid in
       let n = V.flows in
@@ -151,10 +151,10 @@ module _ (plan : PlanValue) (files : PlayFiles) (handles : List Handle) (w : Wor
 
   -- ---- what is asked
 
-  named : (i : ℕ) (h : Handle) → slice_get handles i ≡ Some h → place_of h u.components ≡ Some i
+  pub named : (i : ℕ) (h : Handle) → slice_get handles i ≡ Some h → place_of h u.components ≡ Some i
   named i h e = place_read h v ∙ all_named x steps (nothing_asked x.cast) 0 opening w.streams w k v begun G.goes h i (names (assembly_of plan files) (Joining (length plan.joints)) handles w i h G.stage e)
 
-  many : length handles ≡ length plan.parts
+  pub many : length handles ≡ length plan.parts
   many =
       let B = (G.stage).built in
       ap length (sym B.handles_are) ∙ (length-map w.components (λ (a : Component). a.handle) ∙ B.many)
@@ -187,7 +187,7 @@ module _ (plan : PlanValue) (files : PlayFiles) (handles : List Handle) (w : Wor
   sends_asked (suc (suc (suc (suc (suc n))))) i step l m e = absurd (omega arith)
 
   -- the handle at an end
-  end_named : (output : Bool) (l : ℕ) → l < length plan.joints → Names x.cast u (component_at (x.cast).layout output l) (handle_at s handles (not output) l)
+  pub end_named : (output : Bool) (l : ℕ) → l < length plan.joints → Names x.cast u (component_at (x.cast).layout output l) (handle_at s handles (not output) l)
   end_named true l b =
       let K = link_is l b in
       let p = placed (giver_of x.cast l) K.giver_below in

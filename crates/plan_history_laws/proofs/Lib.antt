@@ -1,3 +1,15 @@
 pub mod Opening
 pub mod Texts
 pub mod Askings
+pub mod Fronts
+pub mod Places
+pub mod Walking
+pub mod Requested
+pub mod Conducted
+pub mod InTime
+pub mod Answered
+pub mod Begun
+pub mod Requesting
+pub mod Ordered
+pub mod Files
+pub mod Own

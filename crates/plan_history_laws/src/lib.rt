@@ -2,12 +2,14 @@
 //! world to which they lead. Stated on functions that do nothing; plays by workers and checks of logs stand on them.
 #![tactic(auto)]
 
-ghost use Rattle.std.specs.Prelude.{List, Some, flat_map, is_some, length, slice_get, true, ◌<◌, ◌≡◌, ◌≤◌, ◌⊎◌, ℕ};
+ghost use Rattle.std.specs.Prelude.{Bool, List, Some, [], flat_map, is_some, length, slice_get, true, ◌++◌, ◌<◌, ◌≡◌, ◌≤◌, ◌⊎◌, ℕ};
 ghost use Rattle.omx_types.specs.declared.command.Completion.{Completion};
 ghost use Rattle.omx_types.specs.declared.handle.Handle.{Handle};
 ghost use Rattle.omx_types.specs.declared.state.State.{State};
 ghost use Rattle.il_machine.specs.Acts.{Act, Reply};
+ghost use Rattle.il_machine.specs.Run.{Run};
 ghost use Rattle.il_machine.specs.World.{Stream, World};
+ghost use Rattle.play_build_laws.specs.Assembly.{Assembly};
 ghost use Rattle.play_build_laws.specs.Stages.{IsStage, Joining};
 ghost use Rattle.play_forms.specs.Plain.{sink_text};
 ghost use Rattle.play_forms.specs.Plans.{PlanValue};
@@ -15,7 +17,7 @@ ghost use Rattle.play_model.specs.Play.{Play};
 ghost use Rattle.play_world_laws.specs.Cast.{giver_of};
 ghost use Rattle.play_world_laws.specs.Openings.{opening};
 ghost use Rattle.play_plan_laws.specs.Assemblies.{IsReady, PlayFiles, assembly_of, play_cast_of};
-ghost use Rattle.play_result_laws.specs.Asked.{AreAllAt, AreBothDone, BackToIdle, Disabling, HasCause, acts_of, change_of, is_unasked, tuned};
+ghost use Rattle.play_result_laws.specs.Asked.{AreAllAt, AreBothDone, BackToIdle, Disabling, HasCause, IsConducted, acts_of, change_of, is_unasked, tuned};
 ghost use Rattle.play_result_laws.specs.Files.{AreSamples, IsWriter};
 ghost use Rattle.play_result_laws.specs.Worlds.{HasWritten, IsOpening};
 ghost use Rattle.play_stream_laws.specs.PlayStreams.{HasPlayStreams};
@@ -28,6 +30,8 @@ ghost use Rattle.play_history_laws.specs.Histories.{IsUnasked};
 ghost use Rattle.play_history_laws.specs.Order.{BothHaveTold, Cursor, EachHasHeard, HasHeardOf, IsChangeAct, IsSending, nothing_asked};
 ghost use Rattle.fault_history_laws.specs.Faults.{HasFaultStreams, IsFailedStep, IsFaulty, NoneFailed};
 ghost use Rattle.plan_history_laws.specs.Askings.{IsPlanHistory, asking_of, read_of};
+ghost use Rattle.plan_history_laws.specs.Passes.{RequestAlone, own_steps, steps_of};
+ghost use Rattle.plan_history_laws.specs.Requests.{AreRequested, IsOrdered, requests};
 
 /// The graph of a plan that is ready, once it is assembled, is a world in which nothing of its play was asked and no step has failed. Nothing
 /// flowed yet.
@@ -98,4 +102,35 @@ pub fn law_of_plan_askings()
         → IsPlanHistory plan files handles world steps cursor after
         → (link number : ℕ) (step : Act × Reply) → link < length plan.joints → slice_get (flat_map (acts_of (tuned plan files) handles) (change_of link)) number ≡ Some step
         → IsChangeAct (play_cast_of plan) (read_of after) link number step.0 × (IsDeclined step.1 → ⊥) }
+{}
+
+/// A run from the assembled graph of a plan, in which what is requested is a front of all that is asked, in time, is a history of its play,
+/// whoever made its acts, and whichever of them were refused or idle; where all was requested the last StateSet was begun. Steps that are
+/// conducted are requested so, and so is each front of them. The other way round, what was asked in a history is such a front. Where
+/// one conducts, and the others request nothing, what is requested is what that one requests.
+pub fn law_of_requested_steps()
+    ensures goes { (plan : PlanValue) (files : PlayFiles) (handles : List Handle) (world : World)
+        → IsReady plan files → IsStage (assembly_of plan files) (Joining (length plan.joints)) handles world
+        → (links : List ℕ) (left steps : List (Act × Reply)) → AreRequested (tuned plan files) handles links left steps → (after : World) → Run world steps after
+        → (cursor : Cursor) × IsPlanHistory plan files handles world steps cursor after × (left ≡ [] → 1 ≤ length plan.parts → cursor.phase ≡ 4) }
+    ensures conducted { (s : Assembly) (handles : List Handle) (steps : List (Act × Reply)) → (conducted : IsConducted s handles steps)
+        → AreRequested s handles conducted.links [] steps }
+    ensures asks { (plan : PlanValue) (files : PlayFiles) (handles : List Handle) (world : World) (steps : List (Act × Reply)) (cursor : Cursor) (after : World)
+        → IsPlanHistory plan files handles world steps cursor after → IsOrdered plan files handles steps cursor }
+    ensures own { (own : ℕ → Bool) (entries : List (ℕ × (Act × Reply))) → RequestAlone own entries → requests (steps_of entries) ≡ requests (own_steps own entries) }
+    ensures fronts { (s : Assembly) (handles : List Handle) (links : List ℕ) (left front behind : List (Act × Reply))
+        → AreRequested s handles links left (front ++ behind) → AreRequested s handles links (requests behind ++ left) front }
+{}
+
+/// Behind such a run the file of each writer has taken a front of its text, and the whole where all was requested; then no step has failed.
+pub fn law_of_requested_files()
+    ensures whole { (plan : PlanValue) (files : PlayFiles) (samples : List (List ℕ)) → IsReady plan files → AreSamples plan files samples
+        → (handles : List Handle) (world : World) → IsStage (assembly_of plan files) (Joining (length plan.joints)) handles world
+        → (links : List ℕ) (left steps : List (Act × Reply)) → AreRequested (tuned plan files) handles links left steps → (after : World) → Run world steps after
+        → left ≡ [] → (place : ℕ) (name : List ℕ) → IsWriter plan.parts place name
+        → HasWritten after place (sink_text plan samples place) × NoneFailed after }
+    ensures fronts { (plan : PlanValue) (files : PlayFiles) (samples : List (List ℕ)) → IsReady plan files → AreSamples plan files samples
+        → (handles : List Handle) (world : World) → IsStage (assembly_of plan files) (Joining (length plan.joints)) handles world
+        → (links : List ℕ) (left steps : List (Act × Reply)) → AreRequested (tuned plan files) handles links left steps → (after : World) → Run world steps after
+        → (place : ℕ) (name : List ℕ) → IsWriter plan.parts place name → HasWrittenFront after place (sink_text plan samples place) }
 {}
