@@ -34,7 +34,10 @@ fn main(rt: HostRuntime) -> io::Result<ExitCode> {
     let status = match words_of(&rt) {
         Ok(words) => {
             let mut media = HostMedia::new(rt.alloc(), rt.clone()?);
-            run_words(&rt, rt.alloc(), &words, &mut media, &mut out)
+            match media.spare_output() {
+                Ok(()) => run_words(&rt, rt.alloc(), &words, &mut media, &mut out),
+                Err(_) => report(Err(Fault::OutOfMemory), &mut out),
+            }
         }
         Err(fault) => report(Err(fault), &mut out),
     };

@@ -1,5 +1,5 @@
 -- The files that a media has opened.
-use Rattle.std.specs.Prelude.{ℕ, ◌==◌, List, Bool, ◌&&◌, IsTrue}
+use Rattle.std.specs.Prelude.{◌==◌, List, Bool, ◌&&◌, IsTrue}
 use Rattle.std.specs.List.{list_any}
 use Rattle.outside_host.specs.declared.opened_files.FileId.{FileId}
 

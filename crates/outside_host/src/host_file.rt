@@ -9,20 +9,23 @@ ghost use Rattle.outside_io.specs.Causes.{HasCause};
 use crate::FileId;
 use crate::retry::{TRIES, write_some};
 use outside_io::{Failed, Sink};
-use std::io::{BufWriter, ErrorKind, Write};
+use std::io::{self, BufWriter, ErrorKind, Write};
 
 /// A file that is written. Bytes are kept back until there are enough of them, or the file is closed.
 #[derive(Drop)]
 pub struct HostFile<F: Write + Drop> {
     file: BufWriter<F>,
     id: FileId,
+    pub(crate) name: String,
     pub(crate) faults: u64,
+    /// Why the first call that failed did so.
+    pub(crate) why: Option<io::Error>,
 }
 
 impl<F: Write + Drop> HostFile<F> {
     ghost use Rattle.outside_host.specs.Adapters.{file_writer};
 
-    pub(crate) fn new(file: BufWriter<F>, id: FileId) -> HostFile<F>
+    pub(crate) fn new(file: BufWriter<F>, id: FileId, name: String) -> HostFile<F>
         ensures file { file_writer result ≡ file }
         ensures id { result.id ≡ id }
         ensures faults { result.faults ≡ 0 }
@@ -30,7 +33,9 @@ impl<F: Write + Drop> HostFile<F> {
         HostFile {
             file,
             id,
+            name,
             faults: 0,
+            why: None,
         }
     }
 
@@ -42,7 +47,7 @@ impl<F: Write + Drop> HostFile<F> {
     }
 
     /// Writes what was kept back, and again after each interruption.
-    pub(crate) fn finish(&mut self) -> Result<(), Failed>
+    pub(crate) fn finish(&mut self) -> io::Result<()>
         ensures kept { Keeps (writer_contents F.contents (file_writer self.old)) (writer_contents F.contents (file_writer self.new)) }
         ensures empty { OnOk result (writer_buffer (file_writer self.new) ≡ []) }
         ensures faults { self.new.faults ≡ self.old.faults }
@@ -52,12 +57,12 @@ impl<F: Write + Drop> HostFile<F> {
                 Ok(()) => return Ok(()),
                 Err(error) => {
                     if error.kind() != ErrorKind::Interrupted {
-                        return Err(Failed);
+                        return Err(error);
                     }
                 }
             }
         }
-        Err(Failed)
+        Err(ErrorKind::Interrupted.into())
     }
 }
 
@@ -86,9 +91,10 @@ impl<F: Write + Drop> Sink for HostFile<F> {
     {
         match write_some(&mut self.file, piece) {
             Ok(count) => Ok(count),
-            Err(failed) => {
+            Err(error) => {
                 self.faults = self.faults.saturating_add(1);
-                Err(failed)
+                self.why = Some(self.why.unwrap_or(error));
+                Err(Failed)
             }
         }
     }

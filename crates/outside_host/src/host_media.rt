@@ -8,17 +8,28 @@ ghost use Rattle.outside_host.specs.Opened.{has_file, StayOpened};
 
 use crate::opened_files::OpenedFiles;
 use crate::{FileId, HostFile, HostSource};
-use outside_io::{Failed, Media, Refused};
+use outside_io::{Failed, Media, OutOfMemory, Refused};
 use std::alloc::Global;
 use std::fs::{self, File, Metadata, OpenOptions};
-use std::io::{self, BufReader, BufWriter, ErrorKind};
+use std::io::{self, BufReader, BufWriter, Eprint, ErrorKind};
+use std::os::unix::fs::FileTypeExt;
 use std::rt::Files;
 
 /// How many bytes of a file are kept at once.
 const KEPT: usize = 65_536;
 
+/// Where the standard output is found by name.
+const OUTPUT: &str = "/proc/self/fd/1";
+
+const ABSENT: &str = "absent";
+
+const READ_FAULT: &str = "read fault";
+
+const WRITE_FAULT: &str = "write fault";
+
 /// The host's files by name. What isn't there, or has no folder to be made in, is absent; each other failure to open is a
-/// fault. A sink whose file it has opened before, under whatever name, is such a failure, and its bytes stay.
+/// fault. A sink whose file it has opened before, under whatever name, is such a failure, and its bytes stay. Each failure is a
+/// line on the standard error, with the file's name and the host's reason; a file's first alone.
 #[derive(Drop)]
 pub struct HostMedia<R> {
     files: R,
@@ -46,16 +57,70 @@ impl<R> HostMedia<R> {
     }
 }
 
-/// What the host's error is for one who opens.
-fn refusal(error: io::Error) -> Refused {
-    match error.kind() {
-        ErrorKind::NotFound => Refused::Absent,
-        _ => Refused::Failed,
+impl<R: Files<File = File>> HostMedia<R> {
+    ghost use Rattle.outside_host.specs.Adapters.{host_outside, opened_of};
+
+    /// Takes the file of the standard output as one that was opened, so that no sink is written over it. A device can't be
+    /// written over, and what has no name isn't found.
+    pub fn spare_output(&mut self) -> Result<(), OutOfMemory>
+        ensures outside { host_outside self.new ≡ host_outside self.old }
+        ensures stay { StayOpened (opened_of self.old) (opened_of self.new) }
+    {
+        match fs::metadata(&self.files, OUTPUT) {
+            Ok(data) => {
+                if is_device(&data) {
+                    Ok(())
+                } else {
+                    self.opened.add(FileId::of(&data))
+                }
+            }
+            Err(_error) => Ok(()),
+        }
     }
 }
 
+fn is_device(data: &Metadata) -> bool {
+    let kind = data.file_type();
+    kind.is_char_device() || kind.is_block_device()
+}
+
+/// A line on the standard error. Where it can't be printed it is left out.
+fn tell<R: Eprint>(files: &R, fault: &str, name: &str, why: io::Error) {
+    let _printed = eprintln!(files; "{fault}: {name}: {why}");
+}
+
+/// What the host's error is for one who opens, which is told.
+fn refusal<R: Eprint>(files: &R, fault: &str, name: &str, why: io::Error) -> Refused {
+    match why.kind() {
+        ErrorKind::NotFound => {
+            tell(files, ABSENT, name, why);
+            Refused::Absent
+        }
+        _ => {
+            tell(files, fault, name, why);
+            Refused::Failed
+        }
+    }
+}
+
+/// A file that is opened to be read, and what the host knows of it.
+fn found<R: Files<File = File>>(files: &R, name: &str) -> io::Result<(File, Metadata)> {
+    let file = fs::open(files, name)?;
+    let data = file.metadata()?;
+    Ok((file, data))
+}
+
+/// The same of a file that is opened to be written. It is made where it wasn't there, and keeps its bytes.
+fn made<R: Files<File = File>>(files: &R, name: &str) -> io::Result<(File, Metadata)> {
+    let mut how = OpenOptions::new();
+    how.write(true).create(true);
+    let file = how.open(files, name)?;
+    let data = file.metadata()?;
+    Ok((file, data))
+}
+
 /// Opens a file to be read, and remembers it.
-fn open_source<R: Files<File = File>>(
+fn open_source<R: Files<File = File> + Eprint>(
     alloc: Global,
     files: &R,
     opened: &mut OpenedFiles,
@@ -66,12 +131,17 @@ fn open_source<R: Files<File = File>>(
     ensures opened { IfOk result (λ src. IsTrue (has_file src.id opened.new.ids.items)) }
     ensures stay { StayOpened opened.old.ids.items opened.new.ids.items }
 {
-    let file = fs::open(files, name).map_err(refusal)?;
-    let data = file.metadata().map_err(refusal)?;
+    let (file, data) = match found(files, name) {
+        Ok(found) => found,
+        Err(why) => return Err(refusal(files, READ_FAULT, name, why)),
+    };
     let id = FileId::of(&data);
+    let Ok(name) = String::from_str(alloc, name) else {
+        return Err(Refused::OutOfMemory);
+    };
     match BufReader::with_capacity(alloc, KEPT, file) {
         Ok(file) => match opened.add(id) {
-            Ok(()) => Ok(HostSource::new(file, id, data.len())),
+            Ok(()) => Ok(HostSource::new(file, id, data.len(), name)),
             Err(_) => Err(Refused::OutOfMemory),
         },
         Err(_) => Err(Refused::OutOfMemory),
@@ -79,7 +149,7 @@ fn open_source<R: Files<File = File>>(
 }
 
 /// Opens a file to be written that wasn't opened before, remembers it, and only then empties it.
-fn open_sink<R: Files<File = File>>(
+fn open_sink<R: Files<File = File> + Eprint>(
     alloc: Global,
     files: &R,
     opened: &mut OpenedFiles,
@@ -90,31 +160,44 @@ fn open_sink<R: Files<File = File>>(
     ensures opened { IfOk result (λ snk. IsTrue (has_file snk.id opened.new.ids.items)) }
     ensures stay { StayOpened opened.old.ids.items opened.new.ids.items }
 {
-    let mut how = OpenOptions::new();
-    how.write(true).create(true);
-    let file = how.open(files, name).map_err(refusal)?;
-    let data = file.metadata().map_err(refusal)?;
+    let (file, data) = match made(files, name) {
+        Ok(made) => made,
+        Err(why) => return Err(refusal(files, WRITE_FAULT, name, why)),
+    };
     let id = FileId::of(&data);
-    match BufWriter::with_capacity(alloc, KEPT, file) {
-        Ok(file) => {
-            opened.add_other(id)?;
-            empty(file.get_ref(), &data)?;
-            Ok(HostFile::new(file, id))
+    let Ok(its_name) = String::from_str(alloc, name) else {
+        return Err(Refused::OutOfMemory);
+    };
+    let Ok(file) = BufWriter::with_capacity(alloc, KEPT, file) else {
+        return Err(Refused::OutOfMemory);
+    };
+    if let Err(refused) = opened.add_other(id) {
+        if let Refused::Failed = refused {
+            tell(
+                files,
+                WRITE_FAULT,
+                name,
+                io::Error::other("it is open already"),
+            );
         }
-        Err(_) => Err(Refused::OutOfMemory),
+        return Err(refused);
+    }
+    match empty(file.get_ref(), &data) {
+        Ok(()) => Ok(HostFile::new(file, id, its_name)),
+        Err(why) => Err(refusal(files, WRITE_FAULT, name, why)),
     }
 }
 
 /// Empties a file. A device or a pipe has no length to be cut.
-fn empty(file: &File, data: &Metadata) -> Result<(), Refused> {
+fn empty(file: &File, data: &Metadata) -> io::Result<()> {
     if data.is_file() {
-        file.set_len(0).map_err(refusal)
+        file.set_len(0)
     } else {
         Ok(())
     }
 }
 
-impl<R: Files<File = File>> Media for HostMedia<R> {
+impl<R: Files<File = File> + Eprint> Media for HostMedia<R> {
     ghost use Rattle.outside_host.specs.Adapters.{endless, host_outside, opened_of, unnamed, untold};
 
     type Src = HostSource<File>;
@@ -208,6 +291,9 @@ impl<R: Files<File = File>> Media for HostMedia<R> {
         ensures stay { opened_of self.new ≡ opened_of self.old }
     {
         self.read_faults = self.read_faults.saturating_add(src.faults);
+        if let Some(why) = src.why {
+            tell(&self.files, READ_FAULT, src.name.as_str(), why);
+        }
     }
 
     fn close_sink(&mut self, snk: HostFile<File>) -> Result<(), Failed>
@@ -225,10 +311,21 @@ impl<R: Files<File = File>> Media for HostMedia<R> {
         let mut snk = snk;
         self.write_faults = self.write_faults.saturating_add(snk.faults);
         match snk.finish() {
-            Ok(()) => Ok(()),
-            Err(failed) => {
+            Ok(()) => {
+                if let Some(why) = snk.why {
+                    tell(&self.files, WRITE_FAULT, snk.name.as_str(), why);
+                }
+                Ok(())
+            }
+            Err(why) => {
                 self.write_faults = self.write_faults.saturating_add(1);
-                Err(failed)
+                tell(
+                    &self.files,
+                    WRITE_FAULT,
+                    snk.name.as_str(),
+                    snk.why.unwrap_or(why),
+                );
+                Err(Failed)
             }
         }
     }

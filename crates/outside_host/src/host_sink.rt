@@ -7,7 +7,7 @@ ghost use Rattle.outside_io.specs.Causes.{HasCause};
 
 use crate::retry::{flush, write_some};
 use outside_io::{Failed, Sink};
-use std::io::Write;
+use std::io::{self, Write};
 
 /// A writer as standard output. It keeps nothing back between calls, so a failed print is told.
 #[derive(Drop)]
@@ -31,7 +31,7 @@ impl<W> HostSink<W> {
 impl<W: Write> HostSink<W> {
     ghost use Rattle.outside_host.specs.Adapters.{sink_writer};
 
-    fn print(&mut self, piece: &[u8]) -> Result<usize, Failed>
+    fn print(&mut self, piece: &[u8]) -> io::Result<usize>
         ensures some { IfOk result (λ count. 0 < count) }
         ensures bound { IfOk result (λ count. count ≤ length piece.now) }
         ensures faults { self.new.faults ≡ self.old.faults }
@@ -68,9 +68,9 @@ impl<W: Write> Sink for HostSink<W> {
     {
         match self.print(piece) {
             Ok(count) => Ok(count),
-            Err(failed) => {
+            Err(_error) => {
                 self.faults = self.faults.saturating_add(1);
-                Err(failed)
+                Err(Failed)
             }
         }
     }

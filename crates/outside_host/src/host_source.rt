@@ -12,7 +12,7 @@ ghost use Rattle.outside_io.specs.Moves.{WhereTold};
 use crate::FileId;
 use crate::retry::{read_some, seek};
 use outside_io::{Failed, Source};
-use std::io::{BufReader, Read, Seek};
+use std::io::{self, BufReader, Read, Seek};
 
 /// A file that is read. Its size is that of its opening.
 #[derive(Drop)]
@@ -21,7 +21,10 @@ pub struct HostSource<F> {
     id: FileId,
     size: u64,
     offset: u64,
+    pub(crate) name: String,
     pub(crate) faults: u64,
+    /// Why the first call that failed did so.
+    pub(crate) why: Option<io::Error>,
     ghost within: { offset ≤ size },
 }
 
@@ -29,7 +32,7 @@ impl<F> HostSource<F> {
     ghost use Rattle.outside_host.specs.Adapters.{source_reader};
 
     /// A file of this size that stands at its first byte.
-    pub(crate) fn new(file: BufReader<F>, id: FileId, size: u64) -> HostSource<F>
+    pub(crate) fn new(file: BufReader<F>, id: FileId, size: u64, name: String) -> HostSource<F>
         ensures file { source_reader result ≡ file }
         ensures id { result.id ≡ id }
         ensures size { result.size ≡ size }
@@ -41,7 +44,9 @@ impl<F> HostSource<F> {
             id,
             size,
             offset: 0,
+            name,
             faults: 0,
+            why: None,
         }
     }
 
@@ -57,7 +62,7 @@ impl<F: Read> HostSource<F> {
     ghost use Rattle.outside_host.specs.Adapters.{source_reader};
 
     /// Reads the next bytes of the file, and none behind its size.
-    fn next(&mut self, buf: &mut [u8]) -> Result<usize, Failed>
+    fn next(&mut self, buf: &mut [u8]) -> io::Result<usize>
         ensures bound { IfOk result (λ count. count ≤ length buf.new) }
         ensures within { IfOk result (λ count. self.old.offset + count ≤ self.old.size) }
         ensures size { self.new.size ≡ self.old.size }
@@ -133,9 +138,10 @@ impl<F: Read + Seek> Source for HostSource<F> {
                 self.offset += count as u64;
                 Ok(count)
             }
-            Err(failed) => {
+            Err(error) => {
                 self.faults = self.faults.saturating_add(1);
-                Err(failed)
+                self.why = Some(self.why.unwrap_or(error));
+                Err(Failed)
             }
         }
     }
@@ -157,9 +163,10 @@ impl<F: Read + Seek> Source for HostSource<F> {
                 self.offset = to;
                 Ok(())
             }
-            Err(failed) => {
+            Err(error) => {
                 self.faults = self.faults.saturating_add(1);
-                Err(failed)
+                self.why = Some(self.why.unwrap_or(error));
+                Err(Failed)
             }
         }
     }
