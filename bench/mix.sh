@@ -8,7 +8,7 @@ if [ -w /dev/shm ]; then export TMPDIR=/dev/shm; fi
 ours() { "$program" play w/mix.omx 0 log; }
 theirs() { cat w/a.wav w/b.wav >copy; }
 
-"$top/omxrun" >/dev/null || true
+"$top/omxrun" trace /dev/null >/dev/null || true
 mkdir w
 for frames in 480000 8000000; do
   "$program" make 1 "$frames" w >/dev/null

@@ -18,7 +18,7 @@ PY
 
 peak() { /usr/bin/time -f %M "$program" "$@" 2>&1 >/dev/null; }
 
-"$top/omxrun" >/dev/null || true
+"$top/omxrun" trace /dev/null >/dev/null || true
 mulaw_file 8000000 >in.wav
 mulaw_file 61600000 >long.wav
 "$program" pack in.wav packets >/dev/null

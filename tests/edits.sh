@@ -3,7 +3,7 @@
 # What `rt ci` proved on this machine isn't proved again. Usage: tests/edits.sh [CRATE ..]
 set -eu
 cd "$(dirname "$0")/.."
-[ $# -gt 0 ] || set -- $(ls tests/edits)
+[ $# -gt 0 ] || set -- $(cd tests/edits && ls -d */ | tr -d /)
 copy=$(mktemp -d)
 trap 'rm -rf "$copy"' EXIT
 tar -c --exclude='crates/*/out' --exclude='crates/*/must-fail' crates crates.txt HANDLES | tar -x -C "$copy"

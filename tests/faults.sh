@@ -1,12 +1,13 @@
 #!/usr/bin/env bash
 # Gives the built program files that can't be read or written, scripts and words that are refused, on real files, and compares
-# what it prints, its status and all files afterwards with what the rules say; then large plays, and made inputs. Nothing here
-# stands on permissions, since root has them all. Its last line is 'faults: N passed, M failed'.
+# what it prints, its status and all files afterwards with what the rules say; then a file that is cut at every byte, large plays,
+# and made inputs. A file that isn't there, or can't be read or written, is also a line on the standard error, with its name and
+# the host's reason. Nothing here stands on permissions, since root has them all. Its last line is 'faults: N passed, M failed'.
 . "$(dirname "${BASH_SOURCE[0]}")/program.sh"
-exec python3 - "$program" <<'PY'
-import os, struct, subprocess, sys, tempfile
+exec python3 - "$top" "$program" <<'PY'
+import bisect, os, re, struct, subprocess, sys, tempfile
 
-program = sys.argv[1]
+top, program = sys.argv[1:]
 
 
 def pcm(samples):
@@ -32,19 +33,38 @@ def fans(first):
 
 def made(x, frames):
     """What `make` writes from this number on."""
-    samples = b''
+    samples = bytearray()
     for _ in range(frames):
         x = (x * 6364136223846793005 + 1442695040888963407) % 2**64
         samples += struct.pack('<H', x >> 48)
-    return pcm(samples)
+    return pcm(bytes(samples))
+
+
+def a_law(codes):
+    """A WAV file of A-law, of one channel and 8,000 frames a second."""
+    form = struct.pack('<HHIIHHH', 6, 1, 8000, 8000, 1, 8, 0)
+    body = b'WAVE' + b'fmt ' + struct.pack('<I', 18) + form + b'fact' + struct.pack('<II', 4, len(codes))
+    body += b'data' + struct.pack('<I', len(codes)) + codes + bytes(len(codes) % 2)
+    return b'RIFF' + struct.pack('<I', len(body)) + body
+
+
+def mixed(one, other):
+    """What comes of the play that `make` writes: the first file at half gain and the second, together as A-law."""
+    limits = [16 * (n % 16) if n < 16 else (256 + 16 * (n % 16)) << (n // 16 - 1) for n in range(1, 128)]
+    codes = bytearray()
+    for (a,), (b,) in zip(struct.iter_unpack('<h', one[44:]), struct.iter_unpack('<h', other[44:])):
+        x = max(-32768, min(32767, (a >> 1) + b))
+        codes.append((bisect.bisect_right(limits, max(x, -x - 1)) + 128 * (x >= 0)) ^ 0x55)
+    return a_law(bytes(codes))
 
 
 short = pcm(struct.pack('<3h', 0, 1000, -1000))
 long = pcm(bytes(i % 251 for i in range(200000)))
 zeros = pcm(bytes(6))
 # a code of A-law, which is half of 27,735 and -15,191 together: the step from -1,344 to -1,280
-code = struct.pack('<4sI4s4sIHHIIHHH4sII4sI2s', b'RIFF', 52, b'WAVE', b'fmt ', 18, 6, 1, 8000, 8000, 1, 8, 0,
-                   b'fact', 4, 1, b'data', 1, b'\x61\0')
+code = a_law(b'\x61')
+minute = {'folder/a.wav': made(1, 480000), 'folder/b.wav': made(2, 480000)}
+minute_out = mixed(*minute.values())
 before = {
     'short.wav': short,
     'long.wav': long,
@@ -53,6 +73,7 @@ before = {
     'steps.omx': copy('long.wav', 'out.wav', 64),
     'from-folder.omx': copy('folder', 'out.wav'),
     'from-none.omx': copy('none', 'out.wav'),
+    'from-loop.omx': copy('loop', 'out.wav'),
     'to-folder.omx': copy('short.wav', 'folder'),
     'to-none.omx': copy('short.wav', 'none/out.wav'),
     'short-to-full.omx': copy('short.wav', '/dev/full'),
@@ -60,6 +81,8 @@ before = {
     'trace.omx': b'omx 1 trace\nget a OMX.lab.gain\nstate a\n',
     'no-text.omx': b'omx 1 trace\n\xff\n',
     'large.omx': copy('large.wav', 'out.wav'),
+    'cut.omx': copy('cut.wav', 'out.wav'),
+    'late.omx': copy('short.wav', 'out.wav').replace(b'source', b'late'),
     'zeros.wav': zeros,
     'all-blocks.omx': fans(8),
     'more-blocks.omx': fans(9),
@@ -90,15 +113,41 @@ def does_not_end(log):
     return not ends(log)
 
 
+def tells_settings_once(log):
+    return ends(log) and log.count(b' take a = event settings 0\n') == 1
+
+
 def is_front(sink):
     return 0 < len(sink) < len(long) and long.startswith(sink)
+
+
+def is_front_of_minute(sink):
+    return 0 < len(sink) < len(minute_out) and minute_out.startswith(sink)
+
+
+def cut(size):
+    """A play of the first bytes of a file of three samples, what is told of it, and the files afterwards."""
+    frames, changed = (size - 44) // 2, {'cut.wav': short[:size]}
+    if size < 44:
+        why = ('not a RIFF WAVE file' if size < 12 else 'no format chunk' if size < 20 else
+               'bad format chunk' if size < 36 else 'no data chunk')
+        told = f'line 2: {why}\n', 3
+    else:
+        told = f'sink b {frames} frames {44 + 2 * frames} bytes\nok\n', 0
+        changed |= {'out.wav': pcm(short[44:44 + 2 * frames]), 'log': ends}
+    return f'a file cut to {size} bytes', f'head -c {size} short.wav >cut.wav; omxrun play cut.omx 0 log', told, changed
 
 
 usage = ('usage: trace SCRIPT | play SCRIPT WORKERS LOG | make SEED FRAMES DIR | pack WAV PACKETS '
          '| unpack PACKETS WAV | clock SCRIPT\n', 2)
 unread, unwritten, silent = ('read fault\n', 4), ('write fault\n', 5), ('', 5)
-# a file may have so many KiB, and a write above it fails
-limit = 'trap "" XFSZ; ulimit -f'
+# a file may have so many KiB: a write above it fails under the wrapper, which ignores the signal, and ends the bare program
+limit = 'ulimit -c 0; ulimit -f'
+make_minute = 'omxrun make 1 480000 folder >made && rm made &&'
+# the sink is a pipe, which is opened once the source's size was looked at, and is full before the source is read up to the cut
+cut_while_played = '''mkfifo folder/out.wav
+{ omxrun play folder/mix.omx 0 log; s=$?; : >folder/out.wav; exit $s; } & exec 4<folder/out.wav
+truncate -s 500001 folder/a.wav; cat <&4 >got; wait $!; s=$?; rm folder/out.wav; exit $s'''
 # a pipe whose reader has ended
 unheard = 'exec 3> >(true); wait $!;'
 
@@ -110,17 +159,24 @@ cases = [
     ('no script', 'omxrun play none 0 log', ('absent: script\n', 6), {}),
     ('no trace', 'omxrun trace none', ('absent: script\n', 6), {}),
     ('no source', 'omxrun play from-none.omx 0 log', ('absent: line 2\n', 6), {}),
+    ('a source that leads to itself', 'ln -s loop loop; omxrun play from-loop.omx 0 log; s=$?; rm loop; exit $s', unread, {}),
     ('a sink in no folder', 'omxrun play to-none.omx 0 log', ('absent: line 3\n', 6), {}),
     ('a log in no folder', 'omxrun play short.omx 0 none/log', ('absent: log\n', 6), {'out.wav': short}),
     ('a sink that is a folder', 'omxrun play to-folder.omx 0 log', unwritten, {}),
     ('a sink on a full disk', 'omxrun play short-to-full.omx 0 log', unwritten, {}),
     ('a long sink on a full disk', 'omxrun play long-to-full.omx 0 log', unwritten, {}),
+    ('a sink that has no room when it is closed', f'{limit} 0; wrapped play short.omx 0 log', unwritten, {'out.wav': b''}),
+    ('a log that is a folder', 'omxrun play short.omx 0 folder', unwritten, {'out.wav': short}),
     ('a log on a full disk', 'omxrun play short.omx 0 /dev/full', unwritten, {'out.wav': short}),
-    ('a sink that grows too long', f'{limit} 64; omxrun play long.omx 0 log', unwritten, {'out.wav': is_front}),
-    ('a log that grows too long', f'{limit} 200; omxrun play steps.omx 0 log', unwritten,
+    ('a sink that grows too long', f'{limit} 64; wrapped play long.omx 0 log', unwritten, {'out.wav': is_front}),
+    ('a log that grows too long', f'{limit} 200; wrapped play steps.omx 0 log', unwritten,
      {'out.wav': long, 'log': does_not_end}),
     ('a play printed on a full disk', 'omxrun play short.omx 0 log >/dev/full', silent, {'out.wav': short, 'log': ends}),
     ('a trace printed on a full disk', 'omxrun trace trace.omx >/dev/full', silent, {}),
+    ('a fault printed on a full disk', 'omxrun trace no-text.omx >/dev/full', silent, {}),
+    ('made inputs printed on a full disk', 'omxrun make 1 1 folder >/dev/full', silent,
+     {'folder/a.wav': made(1, 1), 'folder/b.wav': made(2, 1), 'folder/mix.omx': mix}),
+    ('a play whose output is closed', 'omxrun play short.omx 0 log >&-', silent, {'out.wav': short, 'log': ends}),
     ('a play that nobody reads', f'{unheard} omxrun play short.omx 0 log >&3', silent, {'out.wav': short, 'log': ends}),
     ('a trace that nobody reads', f'{unheard} omxrun trace trace.omx >&3', silent, {}),
     ('no input', 'omxrun pack none out', ('absent: input\n', 6), {}),
@@ -146,6 +202,9 @@ cases = [
     ('a log that is the script', 'omxrun play short.omx 0 short.omx', usage, {}),
     ('too many frames', 'omxrun make 1 33000001 folder', usage, {}),
     ('a worker', 'omxrun play short.omx 1 log', ('not built: words\n', 10), {}),
+    ('a late source', 'omxrun play late.omx 0 log', ('sink b 3 frames 50 bytes\nok\n', 0),
+     {'out.wav': short, 'log': tells_settings_once}),
+    *[cut(size) for size in range(51)],
     ('a long play', 'omxrun play long.omx 0 log', ('sink b 100000 frames 200044 bytes\nok\n', 0),
      {'out.wav': long, 'log': ends}),
     ('all blocks', 'omxrun play all-blocks.omx 0 log', ('sink b 3 frames 50 bytes\nok\n', 0), {'out.wav': zeros, 'log': ends}),
@@ -156,20 +215,36 @@ cases = [
     ('a made play', 'omxrun make 1 1 folder && omxrun play folder/mix.omx 0 log',
      ('made 1 frames\nsink s 1 frames 60 bytes\nok\n', 0),
      {'folder/a.wav': made(1, 1), 'folder/b.wav': made(2, 1), 'folder/mix.omx': mix, 'folder/out.wav': code, 'log': ends}),
+    ('a made minute', f'{make_minute} omxrun play folder/mix.omx 0 log', ('sink s 480000 frames 480058 bytes\nok\n', 0),
+     minute | {'folder/mix.omx': mix, 'folder/out.wav': minute_out, 'log': ends}),
+    ('a made minute whose log is on a full disk', f'{make_minute} omxrun play folder/mix.omx 0 /dev/full', unwritten,
+     minute | {'folder/mix.omx': mix, 'folder/out.wav': minute_out}),
+    ('a made minute without its second file', f'{make_minute} rm folder/b.wav; omxrun play folder/mix.omx 0 log',
+     ('absent: line 3\n', 6), {'folder/a.wav': minute['folder/a.wav'], 'folder/mix.omx': mix}),
+    ('a made minute whose first file is cut while it is played', f'{make_minute} {cut_while_played}',
+     ('short: line 2 at 500001 of 960044\n', 8),
+     minute | {'folder/a.wav': minute['folder/a.wav'][:500001], 'folder/mix.omx': mix, 'got': is_front_of_minute}),
     ('inputs in no folder', 'omxrun make 1 1 none', ('absent: made 1\n', 6), {}),
 ]
 
 
 def run(work, command):
-    """What is told of the command, in a folder with all the files, and the files that are there afterwards."""
+    """What is told of the command, in a folder with all the files, the standard error, and the files that are there afterwards."""
     os.mkdir(os.path.join(work, 'folder'))
     for name, content in before.items():
         with open(os.path.join(work, name), 'wb') as file:
             file.write(content)
-    ran = subprocess.run(['bash', '-c', 'omxrun() { timeout 60 "$0" "$@"; }; ' + command, program], cwd=work,
-                         stdin=subprocess.DEVNULL, stdout=subprocess.PIPE)
+    runs = 'omxrun() { timeout 60 "$0" "$@"; }; wrapped() { timeout 60 "$wrapper" "$@"; }; '
+    ran = subprocess.run(['bash', '-c', runs + command, program], cwd=work, env={**os.environ, 'wrapper': f'{top}/omxrun'},
+                         stdin=subprocess.DEVNULL, stdout=subprocess.PIPE, stderr=subprocess.PIPE, timeout=120)
     paths = [os.path.join(folder, name) for folder, _, names in os.walk(work) for name in names]
-    return (ran.stdout.decode(), ran.returncode), {os.path.relpath(it, work): open(it, 'rb').read() for it in paths}
+    return (ran.stdout.decode(), ran.returncode), ran.stderr.decode(), {os.path.relpath(it, work): open(it, 'rb').read() for it in paths}
+
+
+def is_reason(told, error):
+    """Does the standard error say which file a fault is of, and why?"""
+    fault = re.match('read fault|write fault|absent', told[0])
+    return error == '' if fault is None else re.fullmatch(fault[0] + r': \S+: .+ \(os error \d+\)\n', error) is not None
 
 
 def is_as(want, content):
@@ -179,14 +254,14 @@ def is_as(want, content):
 good = bad = 0
 for name, command, told, changed in cases:
     with tempfile.TemporaryDirectory() as work:
-        got, there = run(work, command)
+        got, error, there = run(work, command)
     after = before | changed
     other = [it for it in sorted(after.keys() | there.keys()) if not is_as(after.get(it), there.get(it))]
-    if got == told and not other:
+    if got == told and not other and is_reason(told, error):
         good += 1
     else:
         bad += 1
-        print(f'{name}: wanted {told}, got {got}; other files: {" ".join(other) or "none"}')
+        print(f'{name}: wanted {told}, got {got}; other files: {" ".join(other) or "none"}; standard error {error!r}')
 print(f'faults: {good} passed, {bad} failed')
 sys.exit(bad > 0)
 PY

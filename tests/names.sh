@@ -1,6 +1,7 @@
 #!/usr/bin/env bash
-# Plays a file into a second name of itself, of the script or of the sink, on real files with the built program: each
-# such sink or log is a write fault, status 5, and no byte is lost. Its last line is 'names: N passed, M failed'.
+# Plays a file into a second name of itself, of the script, of the sink or of the standard output, on real files with the built
+# program: each such sink or log is a write fault, status 5, and no byte is lost. What is printed goes into the file `told`.
+# Its last line is 'names: N passed, M failed'.
 . "$(dirname "${BASH_SOURCE[0]}")/program.sh"
 exec python3 - "$top" "$program" <<'PY'
 import os, subprocess, sys, tempfile
@@ -21,6 +22,13 @@ cases = [
     ('a log that is the source', 'out.wav', 'hard.wav', refused),
     ('a log that is the new sink', 'out.wav', './out.wav', refused),
     ('a log that is the sink by a link', 'out.wav', 'out-link.wav', refused),
+    ('the standard output', 'told', 'log', refused),
+    ('the standard output by a dot', './told', 'log', refused),
+    ('the standard output by its device', '/dev/stdout', 'log', refused),
+    ('the standard output by its number', '/dev/fd/1', 'log', refused),
+    ('the standard output of the process', '/proc/self/fd/1', 'log', refused),
+    ('a log that is the standard output', 'out.wav', 'told', refused),
+    ('a log that is its device', 'out.wav', '/dev/stdout', refused),
     ('a sink that was there', 'old.wav', 'log', played),
     ('a sink that is new', 'out.wav', 'log', played),
     ('a sink that is no file', '/dev/null', 'log', played),
@@ -37,12 +45,14 @@ def run(work, sink, log):
     os.symlink('in.wav', os.path.join(work, 'soft.wav'))
     os.symlink('out.wav', os.path.join(work, 'out-link.wav'))
     os.link(os.path.join(work, 'in.wav'), os.path.join(work, 'hard.wav'))
-    ran = subprocess.run([program, 'play', 'play.omx', '0', log], cwd=work, stdin=subprocess.DEVNULL,
-                         stdout=subprocess.PIPE, timeout=60)
+    with open(os.path.join(work, 'told'), 'wb') as told:
+        ran = subprocess.run([program, 'play', 'play.omx', '0', log], cwd=work, stdin=subprocess.DEVNULL, stdout=told,
+                             stderr=subprocess.DEVNULL, timeout=60)
     whole = all(open(os.path.join(work, name), 'rb').read() == content for name, content in kept.items())
+    printed = open(os.path.join(work, 'told'), 'rb').read().decode(errors='replace')
     path = os.path.join(work, sink)
     written = open(path, 'rb').read() if os.path.isfile(path) else None
-    return (ran.stdout.decode(), ran.returncode), whole, written
+    return (printed, ran.returncode), whole, written
 
 
 good = bad = 0

@@ -2,7 +2,8 @@
 # Runs the plays of tests/plays with the built program. A play is a folder: `words`, one a line; the files of `before`, which
 # stand in an empty folder when the program starts; `out`, what is printed, with a line 'status N' at its end; and the files
 # of `after`, which are there at the end beside those of `before`. Of a log only its last line is looked at. An independent
-# model worked them out from the rules; `codes` has what G.711's formulas give. Its last line is 'plays: N passed, M failed'.
+# model worked the numbered ones out from the rules; `codes` has what G.711's formulas give, and the others were worked out by hand.
+# Its last line is 'plays: N passed, M failed'.
 . "$(dirname "${BASH_SOURCE[0]}")/program.sh"
 exec python3 - "$top" "$program" <<'PY'
 import os, subprocess, sys, tempfile
@@ -25,7 +26,7 @@ def played(words, files):
                 file.write(content)
         try:
             ran = subprocess.run([program, *words], cwd=room, stdin=subprocess.DEVNULL, stdout=subprocess.PIPE,
-                                 timeout=60)
+                                 stderr=subprocess.DEVNULL, timeout=60)
         except subprocess.TimeoutExpired:
             return b'no end in 60 seconds\n', files_in(room)
         return ran.stdout + b'status %d\n' % ran.returncode, files_in(room)
@@ -48,7 +49,7 @@ def difference(play):
 
 
 good = bad = 0
-for name in sorted(os.listdir(plays)):
+for name in sorted(it.name for it in os.scandir(plays) if it.is_dir()):
     wrong = difference(os.path.join(plays, name))
     good, bad = good + (wrong is None), bad + (wrong is not None)
     if wrong is not None:

@@ -2,4 +2,4 @@
 set -eu
 top=$(cd "$(dirname "${BASH_SOURCE[0]}")/.." && pwd)
 program=$top/crates/omxrun/out/omxrun
-"$top/omxrun" >/dev/null || true
+"$top/omxrun" trace /dev/null >/dev/null || true

@@ -1,7 +1,7 @@
 #!/usr/bin/env bash
 # Runs each trace script of tests/traces with the built program, and compares what it prints and its status with the
-# text beside it, whose last line is 'status N'. The texts were worked out from the rules by an independent model.
-# Its last line is 'traces: N passed, M failed'.
+# text beside it, whose last line is 'status N'. The texts were worked out from the rules by an independent model,
+# or by hand. Its last line is 'traces: N passed, M failed'.
 . "$(dirname "${BASH_SOURCE[0]}")/program.sh"
 exec python3 - "$top" "$program" <<'PY'
 import os, subprocess, sys

@@ -1,0 +1,100 @@
+#!/usr/bin/env bash
+# Plays three samples, and a made minute, with the built program over a host one of whose calls on one file fails, or whose file ends
+# before its size, and compares what is printed, the status, the sink and the log with what the rules say. The earlier log stays
+# where none is made. Needs a C compiler for the small library that fails. Its last line is 'host: N passed, M failed'.
+. "$(dirname "${BASH_SOURCE[0]}")/program.sh"
+if ! command -v cc >/dev/null; then
+  echo 'host: not run, there is no cc'
+  exit 0
+fi
+room=$(mktemp -d)
+trap 'rm -rf "$room"' EXIT
+cc -O1 -shared -fPIC -o "$room/fail.so" "$top/tests/host/fail.c" -ldl
+python3 - "$top" "$program" "$room" <<'PY'
+import os, shutil, subprocess, sys
+
+top, program, room = sys.argv[1:]
+earlier = b'an earlier log\n'
+unread, unwritten = (b'read fault\n', 4), (b'write fault\n', 5)
+empty, begun, whole = ['empty'], ['begun'], ['whole']
+# what couldn't be written is tried again when the file is let go, so any front may be there
+front = empty + begun + whole
+absent = ['absent']
+
+
+def short(place, size):
+    return b'short: line 2 at %d of %d\n' % (place, size), 8
+
+
+# the play; the kind of the call that fails, its number or the place of the end, and the file; what is told; and what the sink's
+# file may be afterwards
+cases = [
+    ('three', 'open', 1, 'in.wav', unread, absent),
+    ('three', 'read', 1, 'in.wav', unread, absent),
+    ('three', 'end', 20, 'in.wav', short(20, 50), absent),
+    ('three', 'end', 46, 'in.wav', short(46, 50), empty),
+    ('three', 'open', 1, 'out.wav', unwritten, absent),
+    ('three', 'write', 1, 'out.wav', unwritten, front),
+    ('three', 'open', 1, 'log', unwritten, whole),
+    ('minute', 'read', 5, 'w/a.wav', unread, begun),
+    ('minute', 'end', 1000, 'w/a.wav', short(1000, 960044), empty),
+    ('minute', 'end', 100000, 'w/a.wav', short(100000, 960044), begun),
+    ('minute', 'write', 3, 'w/out.wav', unwritten, front),
+    ('minute', 'write', 1, 'log', unwritten, whole),
+]
+
+
+def play(folder, script, fault=None):
+    """What the play in a folder prints and its status, and the log."""
+    with open(f'{folder}/log', 'wb') as log:
+        log.write(earlier)
+    failing = {} if fault is None else {'LD_PRELOAD': f'{room}/fail.so', 'FAIL_KIND': fault[0], 'FAIL_NUMBER': str(fault[1]),
+                                        'FAIL_NAME': fault[2]}
+    ran = subprocess.run([program, 'play', script, '0', 'log'], cwd=folder, env=os.environ | failing, stdin=subprocess.DEVNULL,
+                         stdout=subprocess.PIPE, stderr=subprocess.DEVNULL, timeout=60)
+    return (ran.stdout, ran.returncode), open(f'{folder}/log', 'rb').read()
+
+
+def extent(sink, all_of_it):
+    """How much of its bytes a sink has."""
+    if sink is None:
+        return 'absent'
+    return 'whole' if sink == all_of_it else 'empty' if not sink else 'begun' if all_of_it.startswith(sink) else 'other'
+
+
+def content(path):
+    return open(path, 'rb').read() if os.path.exists(path) else None
+
+
+scripts = {'three': ('play.omx', 'out.wav'), 'minute': ('w/mix.omx', 'w/out.wav')}
+os.makedirs(f'{room}/three')
+shutil.copy(f'{top}/examples/first/in.wav', f'{room}/three')
+open(f'{room}/three/play.omx', 'w').write('omx 1 play\nsource a in.wav\nsink b out.wav\nlink a.0 b.0 2 4096\n')
+os.makedirs(f'{room}/minute/w')
+subprocess.run([program, 'make', '1', '480000', 'w'], cwd=f'{room}/minute', stdout=subprocess.DEVNULL, check=True, timeout=60)
+
+good = bad = 0
+sinks, logs = {}, {}
+for name, (script, sink) in scripts.items():
+    (printed, status), log = play(f'{room}/{name}', script)
+    logs[name] = log
+    sinks[name] = content(f'{room}/{name}/{sink}')
+    if status != 0 or not log.endswith(b'\nend\n'):
+        bad += 1
+        print(f'{name}: {printed!r}, status {status}')
+for name, kind, number, file, told, left in cases:
+    script, sink = scripts[name]
+    if os.path.exists(f'{room}/{name}/{sink}'):
+        os.remove(f'{room}/{name}/{sink}')
+    got, log = play(f'{room}/{name}', script, (kind, number, file))
+    has = extent(content(f'{room}/{name}/{sink}'), sinks[name])
+    # a log that was opened has a front of its text
+    is_kept = logs[name].startswith(log) if (kind, file) == ('write', 'log') else log == earlier
+    if got == told and has in left and is_kept:
+        good += 1
+    else:
+        bad += 1
+        print(f'{name}, {kind} {number} of {file}: wanted {told}, {left}, got {got}, {has}, and the log {log[:20]!r}')
+print(f'host: {good} passed, {bad} failed')
+sys.exit(bad > 0)
+PY
