@@ -13,7 +13,7 @@ use Rattle.omx_types.specs.Formats.{frame_bytes_of, IsWithinLimits}
 use Rattle.part_forms.specs.Writing.{head_of, pad_of, written as file_of}
 use Rattle.part_api.specs.Terms.{Writing}
 use Rattle.part_forms.specs.Sinking.{head_due, pad_due, is_last_among, sink_text}
-use Rattle.audio_parts.specs.WholeFiles.{Piece, IsWhole, IsUnwritten, WroteAll, frames_in, bytes_in, planned_of, text_of}
+use Rattle.audio_parts.specs.WholeFiles.{Piece, IsOfWholeFrames, IsUnwritten, WroteAll, frames_in, bytes_in, planned_of, text_of}
 use Rattle.audio_parts.proofs.Sinking.{headed_due, fresh_due, not_last}
 
 -- what is still to be written of these pieces behind the head
@@ -105,7 +105,7 @@ abbrev next : Writing → ℕ → Writing
 next w frames = record { name = w.name; format = w.format; planned = w.planned; headed = true; left = w.left - frames; frames = frames; due = false }
 
 one_more : (w : Writing) (piece : Piece) (pieces : List Piece) (text first rest : List ℕ) → text ≡ first ++ rest → first ≡ sink_text w.headed w.format w.planned w.left piece.frames piece.bytes
-    → IsWhole w.format piece → rest ≡ body_in (next w piece.frames) pieces
+    → IsOfWholeFrames w.format piece → rest ≡ body_in (next w piece.frames) pieces
     → text ≡ head_due w.headed w.format w.planned ++ body_in w (piece ∷ pieces)
 one_more w piece pieces text first rest cut f whole r =
     let head = head_due w.headed w.format w.planned in
@@ -126,7 +126,7 @@ no_steps format planned left =
     ∙ no_pad left 0 format planned (none_among left (cases_lt 0 left))
 
 -- behind the head
-continued : (w : Writing) (pieces : List Piece) (text : List ℕ) (after : Option Writing) → w.headed ≡ true → AllByRecursion (IsWhole w.format) pieces → WroteAll (Some w) pieces text after
+continued : (w : Writing) (pieces : List Piece) (text : List ℕ) (after : Option Writing) → w.headed ≡ true → AllByRecursion (IsOfWholeFrames w.format) pieces → WroteAll (Some w) pieces text after
     → text ≡ body_in w pieces
 continued w [] text after e whole all = all.0 ∙ sym (no_steps w.format w.planned w.left)
 continued w (piece ∷ pieces) text after e whole (between, first, rest, cut, wrote, later) =
@@ -146,7 +146,7 @@ last_planned format zero frames = sym (no_odd format (nat_le 0 frames))
 last_planned format (suc n) frames =
     ap (λ b. if b && nat_le (suc n) frames then pad_of (suc n * frame_bytes_of format) else []) (le-leb 1 (suc n) (let some : 1 ≤ suc n = omega arith in some))
 
-from_first : (w : Writing) (piece : Piece) (pieces : List Piece) (text : List ℕ) (after : Option Writing) → IsUnwritten w → AllByRecursion (IsWhole w.format) (piece ∷ pieces)
+from_first : (w : Writing) (piece : Piece) (pieces : List Piece) (text : List ℕ) (after : Option Writing) → IsUnwritten w → AllByRecursion (IsOfWholeFrames w.format) (piece ∷ pieces)
     → WroteAll (Some w) (piece ∷ pieces) text after → text ≡ text_of w.format w.planned (piece ∷ pieces)
 from_first w piece pieces text after new whole (between, first, rest, cut, wrote, later) =
     let all = piece ∷ pieces in
@@ -156,7 +156,7 @@ from_first w piece pieces text after new whole (between, first, rest, cut, wrote
     ∙ ap (λ n. head_of w.format w.planned ++ body_of w.format w.planned n (frames_in all) (bytes_in all)) new.frames
     ∙ ap (λ l. head_of w.format w.planned ++ (take (w.planned * frame_bytes_of w.format) (bytes_in all) ++ l)) (last_planned w.format w.planned (frames_in all))
 
-pub texts_are : (w : Writing) (after : Option Writing) (pieces : List Piece) (text : List ℕ) → IsUnwritten w → AllByRecursion (IsWhole w.format) pieces
+pub texts_are : (w : Writing) (after : Option Writing) (pieces : List Piece) (text : List ℕ) → IsUnwritten w → AllByRecursion (IsOfWholeFrames w.format) pieces
     → WroteAll (Some w) pieces text after → text ≡ text_of w.format w.planned pieces
 texts_are w after [] text new whole all = all.0
 texts_are w after (piece ∷ pieces) text new whole all = from_first w piece pieces text after new whole all
@@ -169,7 +169,7 @@ some_bytes (Alaw rate channels) h = omega (arith, h.some_channel)
 some_bytes (Mulaw rate channels) h = omega (arith, h.some_channel)
 some_bytes Auto h = omega arith
 
-pub bytes_are : (format : Format) (pieces : List Piece) → AllByRecursion (IsWhole format) pieces → length (bytes_in pieces) ≡ frames_in pieces * frame_bytes_of format
+pub bytes_are : (format : Format) (pieces : List Piece) → AllByRecursion (IsOfWholeFrames format) pieces → length (bytes_in pieces) ≡ frames_in pieces * frame_bytes_of format
 bytes_are format [] h = omega arith
 bytes_are format (piece ∷ pieces) h =
     length-append piece.bytes (bytes_in pieces)
@@ -177,7 +177,7 @@ bytes_are format (piece ∷ pieces) h =
     ∙ ap (λ n. piece.frames * frame_bytes_of format + n) (bytes_are format pieces h.1)
     ∙ parts_are piece.frames (frames_in pieces) (frame_bytes_of format)
 
-file_is : (format : Format) (planned : ℕ) (pieces : List Piece) → IsWithinLimits format → AllByRecursion (IsWhole format) pieces → planned ≤ frames_in pieces
+file_is : (format : Format) (planned : ℕ) (pieces : List Piece) → IsWithinLimits format → AllByRecursion (IsOfWholeFrames format) pieces → planned ≤ frames_in pieces
     → head_of format planned ++ planned_of format planned pieces ≡ file_of format (take (planned * frame_bytes_of format) (bytes_in pieces))
 file_is format planned pieces limits whole enough =
     let fb = frame_bytes_of format in
@@ -189,7 +189,7 @@ file_is format planned pieces limits whole enough =
     ∙ ap (λ n. head_of format n ++ samples ++ pad_of (planned * fb)) (sym (ap (λ n. n / fb) long ∙ mul-div_cancel planned (some_bytes format limits)))
     ∙ ap (λ n. head_of format (length samples / fb) ++ samples ++ pad_of n) (sym long)
 
-pub whole_file : (w : Writing) (after : Option Writing) (pieces : List Piece) (text : List ℕ) → IsUnwritten w → AllByRecursion (IsWhole w.format) pieces
+pub whole_file : (w : Writing) (after : Option Writing) (pieces : List Piece) (text : List ℕ) → IsUnwritten w → AllByRecursion (IsOfWholeFrames w.format) pieces
     → WroteAll (Some w) pieces text after → IsWithinLimits w.format → 1 ≤ length pieces → w.planned ≤ frames_in pieces
     → text ≡ file_of w.format (take (w.planned * frame_bytes_of w.format) (bytes_in pieces))
 whole_file w after [] text new whole all limits some enough = absurd (omega (arith, some))

@@ -13,7 +13,7 @@ use Rattle.part_api.specs.Terms.{Writing, begun}
 use Rattle.part_forms.specs.Files.{rest_of}
 use Rattle.part_forms.specs.Sinking.{writes_of}
 use Rattle.part_forms.specs.Writing.{written as file_of}
-use Rattle.audio_parts.specs.WholeFiles.{IsUnwritten, IsWhole, KeptAll, Piece, WroteAll, bytes_in, frames_in}
+use Rattle.audio_parts.specs.WholeFiles.{IsUnwritten, IsOfWholeFrames, KeptAll, Piece, WroteAll, bytes_in, frames_in}
 use Rattle.audio_parts.specs.WholeReads.{ReadAll, Remaining, unread}
 use Rattle.audio_parts.proofs.WholeFiles.{bytes_are, whole_file}
 
@@ -39,7 +39,7 @@ nothing_long [] e = refl
 nothing_long (byte ∷ bytes) e = absurd (omega arith)
 
 -- a file that no frames are left of was read whole
-pub read_whole : (told : Option (List ℕ)) (offset frames : ℕ) (format : Format) (pieces : List Piece) (after : Remaining) → AllByRecursion (IsWhole format) pieces
+pub read_whole : (told : Option (List ℕ)) (offset frames : ℕ) (format : Format) (pieces : List Piece) (after : Remaining) → AllByRecursion (IsOfWholeFrames format) pieces
     → ReadAll (unread told offset format frames) pieces after → after.left ≡ 0 → WhereTold told (λ bytes. bytes_in pieces ≡ take (frames * frame_bytes_of format) (drop offset bytes))
 read_whole told offset frames format pieces after whole read over bytes is =
     let size = frames * frame_bytes_of format in
@@ -63,7 +63,7 @@ kept_texts before after old new (piece ∷ pieces) (between, middle, kept, wrote
       more.2 ∙ ap (λ (o : Option (List ℕ)). append_known o more.0) kept ∙ append_known-twice old text more.0,
     )
 
-pub kept_whole : (before : Writing) (after : Option Writing) (old new : Option (List ℕ)) (pieces : List Piece) → IsUnwritten before → AllByRecursion (IsWhole before.format) pieces
+pub kept_whole : (before : Writing) (after : Option Writing) (old new : Option (List ℕ)) (pieces : List Piece) → IsUnwritten before → AllByRecursion (IsOfWholeFrames before.format) pieces
     → KeptAll (Some before) old pieces after new → IsWithinLimits before.format → 1 ≤ length pieces → before.planned ≤ frames_in pieces
     → new ≡ append_known old (file_of before.format (take (before.planned * frame_bytes_of before.format) (bytes_in pieces)))
 kept_whole before after old new pieces fresh whole kept limits some enough =

@@ -13,8 +13,8 @@ pub record Piece : Type 0 where
   pub bytes : List ℕ
 
 -- they are whole frames of the format
-abbrev pub IsWhole : Format → Piece → Type 0
-IsWhole format piece = length piece.bytes ≡ piece.frames * frame_bytes_of format
+abbrev pub IsOfWholeFrames : Format → Piece → Type 0
+IsOfWholeFrames format piece = length piece.bytes ≡ piece.frames * frame_bytes_of format
 
 -- neither the head nor a frame is written
 pub record IsUnwritten (w : Writing) : Type 0 where

@@ -7,7 +7,7 @@ ghost use Rattle.omx_types.specs.Formats.{IsWithinLimits, frame_bytes_of};
 ghost use Rattle.outside_io.specs.Moves.{WhereTold};
 ghost use Rattle.part_api.specs.Terms.{Writing};
 ghost use Rattle.part_forms.specs.Writing.{written};
-ghost use Rattle.audio_parts.specs.WholeFiles.{IsUnwritten, IsWhole, KeptAll, Piece, bytes_in, frames_in};
+ghost use Rattle.audio_parts.specs.WholeFiles.{IsUnwritten, IsOfWholeFrames, KeptAll, Piece, bytes_in, frames_in};
 ghost use Rattle.audio_parts.specs.WholeReads.{ReadAll, Remaining, unread};
 
 /// However frames are cut into steps, what these read of a source's file is, joined, the front of what it gives; as soon as
@@ -16,7 +16,7 @@ pub fn law_of_reading()
     ensures joined { (before after : Remaining) (pieces : List Piece) → ReadAll before pieces after
         → WhereTold before.rest (λ all. (rest : List ℕ) × (after.rest ≡ Some rest) × (all ≡ bytes_in pieces ++ rest)) }
     ensures whole { (told : Option (List ℕ)) (offset frames : ℕ) (format : Format) (pieces : List Piece) (after : Remaining)
-        → AllByRecursion (IsWhole format) pieces → ReadAll (unread told offset format frames) pieces after → after.left ≡ 0
+        → AllByRecursion (IsOfWholeFrames format) pieces → ReadAll (unread told offset format frames) pieces after → after.left ≡ 0
         → WhereTold told (λ bytes. bytes_in pieces ≡ take (frames * frame_bytes_of format) (drop offset bytes)) }
 {}
 
@@ -24,7 +24,7 @@ pub fn law_of_reading()
 /// does nothing.
 pub fn law_of_keeping()
     ensures { (before : Writing) (after : Option Writing) (old new : Option (List ℕ)) (pieces : List Piece) → IsUnwritten before
-        → AllByRecursion (IsWhole before.format) pieces → KeptAll (Some before) old pieces after new
+        → AllByRecursion (IsOfWholeFrames before.format) pieces → KeptAll (Some before) old pieces after new
         → IsWithinLimits before.format → 1 ≤ length pieces → before.planned ≤ frames_in pieces
         → new ≡ append_known old (written before.format (take (before.planned * frame_bytes_of before.format) (bytes_in pieces))) }
 {}

@@ -17,7 +17,7 @@ ghost use Rattle.audio_parts.specs.Ready.{AreFitting};
 ghost use Rattle.audio_parts.specs.Shapes.{HasFramesOf, IsLawful};
 ghost use Rattle.part_forms.specs.Shapes.{shape_of};
 ghost use Rattle.part_forms.specs.Sinking.{fresh, writes_of};
-ghost use Rattle.audio_parts.specs.WholeFiles.{IsUnwritten, IsWhole, Piece, WroteAll, bytes_in, frames_in, text_of};
+ghost use Rattle.audio_parts.specs.WholeFiles.{IsUnwritten, IsOfWholeFrames, Piece, WroteAll, bytes_in, frames_in, text_of};
 
 use crate::any_part::AnyPart;
 use outside_io::{Sink, Source};
@@ -83,10 +83,10 @@ pub fn writes_by_writing<S: Source, K: Sink>(part: &AnyPart<S, K>)
 pub fn law_of_writing()
     ensures new { (name : List ℕ) (format : Format) (planned : ℕ) → IsUnwritten (fresh name format planned) }
     ensures text { (before : Writing) (after : Option Writing) (pieces : List Piece) (text : List ℕ) → IsUnwritten before
-        → AllByRecursion (IsWhole before.format) pieces → WroteAll (Some before) pieces text after
+        → AllByRecursion (IsOfWholeFrames before.format) pieces → WroteAll (Some before) pieces text after
         → text ≡ text_of before.format before.planned pieces }
     ensures whole { (before : Writing) (after : Option Writing) (pieces : List Piece) (text : List ℕ) → IsUnwritten before
-        → AllByRecursion (IsWhole before.format) pieces → WroteAll (Some before) pieces text after
+        → AllByRecursion (IsOfWholeFrames before.format) pieces → WroteAll (Some before) pieces text after
         → IsWithinLimits before.format → 1 ≤ length pieces → before.planned ≤ frames_in pieces
         → text ≡ written before.format (take (before.planned * frame_bytes_of before.format) (bytes_in pieces)) }
 {}

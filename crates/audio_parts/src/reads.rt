@@ -32,7 +32,7 @@ pub fn read_frames<S: Source>(
     requires room { count ≤ length buffer.old }
     requires there { from + count ≤ S.size source.old }
     ensures next { IfOk result (λ next. next ≡ from + count) }
-    ensures stands { IfOk result (λ next. S.offset source.new ≡ next) }
+    ensures placed { IfOk result (λ next. S.offset source.new ≡ next) }
     ensures bytes { WhereTold (S.told source.old) (λ bytes. OnOk result (
         take count buffer.new ≡ take count (drop from bytes))) }
     ensures stops { WhereTold (S.ends source.old) (λ end. IfOk result (λ next. next ≤ max end from)) }

@@ -66,7 +66,7 @@ impl<S: Source> SourceFile<S> {
             (rest_of (S.told self.new.source) self.new.next (self.new.left * frame_bytes_of self.old.format))) }
         ensures left { OnOk result (self.new.left ≡ self.old.left - frames) }
         ensures next { OnOk result (self.new.next ≡ self.old.next + count) }
-        ensures stands { OnOk result (self.new.next ≡ S.offset self.new.source) }
+        ensures placed { OnOk result (self.new.next ≡ S.offset self.new.source) }
         ensures stops { WhereTold (S.ends self.old.source) (λ end. OnOk result (self.new.next ≤ max end self.old.next)) }
         ensures kept { OnErr result ((self.new.left ≡ self.old.left) × (self.new.next ≡ self.old.next)) }
         ensures cause { IfErr result (HasReadCause (S.size self.old.source) (S.ends self.old.source) self.old.next

@@ -42,7 +42,7 @@ pub struct WavSource<S: Source> {
     ghost enough: { due ≡ true → frames ≤ none_left (option_map (λ it. it.left) file) },
     ghost unfailed: { due ≡ true → failed ≡ false },
     ghost agrees: { due ≡ true → ForSome file (λ it. it.format ≡ format) },
-    ghost stands: { failed ≡ false → ForSome file (λ it. it.next ≡ S.offset it.source) },
+    ghost placed: { failed ≡ false → ForSome file (λ it. it.next ≡ S.offset it.source) },
 }
 
 impl<S: Source> WavSource<S> {

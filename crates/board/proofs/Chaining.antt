@@ -15,8 +15,8 @@ use Rattle.graph_acts.specs.declared.act.Act.{Act}
 use Rattle.graph_acts.specs.declared.act.Act.TheVariants as asks
 use Rattle.graph_acts.specs.declared.act.Reply.{Reply}
 use Rattle.graph_acts.specs.declared.act.Reply.TheVariants as replies
-use Rattle.graph_acts.specs.declared.claimed.Claimed.{Claimed}
-use Rattle.graph_acts.specs.declared.claimed.Claimed.TheVariants as claimed
+use Rattle.graph_acts.specs.declared.claimed.LentClaim.{LentClaim}
+use Rattle.graph_acts.specs.declared.claimed.LentClaim.TheVariants as claimed
 use Rattle.graph_acts.specs.Objects.{BringsIts, GiveThem, GivesThem, clients_after, files_after, files_by, none_seen, on_done, on_made, parts_after, with_at}
 use Rattle.graph_acts.specs.Plain.{Sight}
 use Rattle.graph_acts.specs.Working.{IsFaulted, IsFurther}
@@ -105,7 +105,7 @@ module _ {S K C : Type 0} (see : Sight S K C) where
     attached_on (Ok done) n file files part f J = subst (λ (b : Bool). IsOn came fault (if b then Some file else files number) part) (sym f) J
     attached_on (Err e) n file files part f J = J
 
-    claimed_on : (h : Handle) (result : Result (Claimed S K) OmxError) (clients : Handle → Option C) (files : ℕ → Option (PartFile S K)) (parts : ℕ → Held S K) → GivesThem clients files (asks.Claim h) (replies.Claim result) → IsOn came fault (files number) (parts number)
+    claimed_on : (h : Handle) (result : Result (LentClaim S K) OmxError) (clients : Handle → Option C) (files : ℕ → Option (PartFile S K)) (parts : ℕ → Held S K) → GivesThem clients files (asks.Claim h) (replies.Claim result) → IsOn came fault (files number) (parts number)
         → IsOn came fault (files_after {C = C} (asks.Claim h) (replies.Claim result) files number) (parts_after {C = C} (asks.Claim h) (replies.Claim result) parts number)
     claimed_on h (Ok (claimed.Work work)) clients files parts G J =
         let n : work.component.generation ≡ h.generation = ap (λ (k : Handle). k.generation) G.0 in

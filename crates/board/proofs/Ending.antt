@@ -29,7 +29,7 @@ use Rattle.board.specs.declared.asked.Told.{Told}
 use Rattle.board.specs.Asking.{bare_log}
 use Rattle.board.specs.Histories.{HeadersAreHeld, ClientsAreHeld, WorksAreHeld, IsClear}
 use Rattle.board.specs.Serving.{own_bare}
-use Rattle.board.specs.Boards.{IsWhole}
+use Rattle.board.specs.Boards.{HasAllBack}
 
 module _ {X K : Type 0} (key : X → K) (held : ℕ → List X) (Out : X → Type 0) (Is Was : K → Type 0) where
   none_out : AreHeld key held Out Is Was → ((p : ℕ) → held p ≡ []) → (k : K) → Is k → Was k
@@ -97,7 +97,7 @@ module _ {S K C : Type 0} (see : Sight S K C) (first g : Shown S K C) (log : Lis
 
   pub whole : HeadersAreHeld first (bare_log log) g → ClientsAreHeld see first (bare_log log) g
       → (w v : World) → Stands (kept see.progress first) w → Stands (kept see.progress g) v → Sound v → WorksAreHeld w (bare_log log) v
-      → ((p : ℕ) → p ≤ splits → IsClear see (own p log)) → ((p : ℕ) → splits < p → own p log ≡ []) → IsWhole first → IsWhole g
+      → ((p : ℕ) → p ≤ splits → IsClear see (own p log)) → ((p : ℕ) → splits < p → own p log ≡ []) → HasAllBack first → HasAllBack g
   whole H O w v F T S L each others W =
       let clear = all_clear each others in record {
         headers = λ n is. W.headers n (none_out _ _ _ _ _ H (λ p. (clear p).0) n is);

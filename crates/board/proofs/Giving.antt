@@ -17,8 +17,8 @@ use Rattle.graph_acts.specs.declared.act.Act.{Act}
 use Rattle.graph_acts.specs.declared.act.Act.TheVariants as asks
 use Rattle.graph_acts.specs.declared.act.Reply.{Reply}
 use Rattle.graph_acts.specs.declared.act.Reply.TheVariants as replies
-use Rattle.graph_acts.specs.declared.claimed.Claimed.{Claimed}
-use Rattle.graph_acts.specs.declared.claimed.Claimed.TheVariants as claimed
+use Rattle.graph_acts.specs.declared.claimed.LentClaim.{LentClaim}
+use Rattle.graph_acts.specs.declared.claimed.LentClaim.TheVariants as claimed
 use Rattle.graph_acts.specs.Holding.{May, work_come, work_gone, works_held}
 use Rattle.graph_acts.specs.Objects.{BringsIts, GiveThem, GivesThem, HasObjects, MovesObjects, clients_after, client_moved, clients_by, clients_in, file_moved, files_after, files_by, files_in, none_seen, parts_after, parts_by, with_at}
 use Rattle.graph_acts.specs.Plain.{Sight}
@@ -71,7 +71,7 @@ module _ {S K C : Type 0} where
 -- ---- what the parts of works hold
 
 module _ {S K : Type 0} where
-  came_part : (C : Type 0) (h : Handle) (result : Result (Claimed S K) OmxError) (at : ℕ → Held S K) (x : OutWork S K) → work_given {C = C} (replies.Claim result) ≡ Some x → held_in x.part ≡ parts_after {C = C} (asks.Claim h) (replies.Claim result) at (work_number x)
+  came_part : (C : Type 0) (h : Handle) (result : Result (LentClaim S K) OmxError) (at : ℕ → Held S K) (x : OutWork S K) → work_given {C = C} (replies.Claim result) ≡ Some x → held_in x.part ≡ parts_after {C = C} (asks.Claim h) (replies.Claim result) at (work_number x)
   came_part C h (Ok (claimed.Work work)) at x e =
       let is : out_of work ≡ x = cc in
       let n = work.component.generation in
@@ -85,7 +85,7 @@ module _ {S K : Type 0} where
   came_part C h (Ok (claimed.Events room need)) at x e = absurd cc
   came_part C h (Err error) at x e = absurd cc
 
-  old_claim : (C : Type 0) (h : Handle) (result : Result (Claimed S K) OmxError) (at : ℕ → Held S K) (n : ℕ) → ((y : OutWork S K) → work_given {C = C} (replies.Claim result) ≡ Some y → n ≢ work_number y) → parts_after {C = C} (asks.Claim h) (replies.Claim result) at n ≡ at n
+  old_claim : (C : Type 0) (h : Handle) (result : Result (LentClaim S K) OmxError) (at : ℕ → Held S K) (n : ℕ) → ((y : OutWork S K) → work_given {C = C} (replies.Claim result) ≡ Some y → n ≢ work_number y) → parts_after {C = C} (asks.Claim h) (replies.Claim result) at n ≡ at n
   old_claim C h (Ok (claimed.Work work)) at n other = ap (λ (b : Bool). if b then held_in work.part else at n) (ne_eqb n work.component.generation (other (out_of work) refl))
   old_claim C h (Ok claimed.Busy) at n other = refl
   old_claim C h (Ok claimed.NotRunning) at n other = refl
@@ -97,7 +97,7 @@ module _ {S K : Type 0} where
   old_claim C h (Err error) at n other = refl
 
 module _ {S K C : Type 0} where
-  claim_part : (a : Act S K C) (result : Result (Claimed S K) OmxError) (at : ℕ → Held S K) (x : OutWork S K) → IsReplyTo a (replies.Claim result) → work_given {C = C} (replies.Claim result) ≡ Some x → held_in x.part ≡ parts_after a (replies.Claim result) at (work_number x)
+  claim_part : (a : Act S K C) (result : Result (LentClaim S K) OmxError) (at : ℕ → Held S K) (x : OutWork S K) → IsReplyTo a (replies.Claim result) → work_given {C = C} (replies.Claim result) ≡ Some x → held_in x.part ≡ parts_after a (replies.Claim result) at (work_number x)
   claim_part (asks.Claim h) result at x is e = came_part C h result at x e
   claim_part _ result at x is e = absurd is
 

@@ -35,7 +35,7 @@ use Rattle.board.specs.Histories.{Legal, Reaches, MayAsk, IsClear, graph_of, wor
 
 module _ {S K C : Type 0} where
   -- no header is with the client, and no client object and no work is out
-  pub record IsWhole (g : graphs.Shown S K C) : Type 0 where
+  pub record HasAllBack (g : graphs.Shown S K C) : Type 0 where
     pub headers : (number : ℕ) → ¬ (IsWithClient number (look_of g.core))
     pub clients : All (λ c. c.client_out ≡ false) (look_of g.core).components
     pub works : All (λ c. c.work ≡ None) (look_of g.core).components

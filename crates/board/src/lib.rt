@@ -18,7 +18,7 @@ mod watched;
 
 pub use asked::{Asked, Told};
 pub use boards::Board;
-pub use graph_acts::{Act, Claimed, DoneWork, LentWork, Reply};
+pub use graph_acts::{Act, DoneWork, LentClaim, LentWork, Reply};
 pub use laws::{law_of_files, law_of_histories};
 pub use making::OutOfMemory;
 pub use pass::BoardPass;

@@ -8,7 +8,7 @@ ghost use Rattle.state_words.specs.Shown.{Within};
 ghost use Rattle.graph_acts.specs.Plain.{sight_of};
 ghost use Rattle.graph_acts.specs.Holding.{Clear};
 ghost use Rattle.board.specs.Histories.{Legal, MayAsk, graph_of};
-ghost use Rattle.board.specs.Boards.{first_of, first_graph, pass_view, own_calls, seen_states, IsOf, IsWhole, HasNoFiles, Closed};
+ghost use Rattle.board.specs.Boards.{first_of, first_graph, pass_view, own_calls, seen_states, IsOf, HasAllBack, HasNoFiles, Closed};
 
 use crate::boards::Board;
 use crate::pass::BoardPass;
@@ -67,8 +67,8 @@ impl<S: Source, K: Sink, C: Client> Board<S, K, C> {
         requires root { IsOf self root × ((pass_view root).number ≡ 0) × Clear (sight_of C.Client S.Source K.Sink) (own_calls root) }
         requires joined { length (pass_view root).joined ≡ (pass_view root).splits }
         ensures closed { Closed (sight_of C.Client S.Source K.Sink) C.HEADERS (first_of self) (pass_view root) result }
-        ensures whole { IsWhole (first_graph self) → IsWhole result }
-        ensures all_in { IsWhole (first_graph self) → HasNoFiles result → IsAllIn (look_of result) }
+        ensures whole { HasAllBack (first_graph self) → HasAllBack result }
+        ensures all_in { HasAllBack (first_graph self) → HasNoFiles result → IsAllIn (look_of result) }
     {
         let Board {
             turns,

@@ -17,7 +17,7 @@ impl<S: Source, K: Sink, C: Client> Serve for Watched<S, K, C> {
 
     ghost legal = { Legal (sight_of C.Client S.Source K.Sink) };
 
-    ghost stands = { StandsAfter (sight_of C.Client S.Source K.Sink) };
+    ghost reaches = { StandsAfter (sight_of C.Client S.Source K.Sink) };
 
     ghost may = { MayAsk (sight_of C.Client S.Source K.Sink) C.HEADERS };
 
@@ -31,7 +31,7 @@ impl<S: Source, K: Sink, C: Client> Serve for Watched<S, K, C> {
         let reply = self.served.answer(act);
         self.served.graph.law_of_worlds();
         self.show_changes(place);
-        self.words.tell(&mut self.shower, &mut reader);
+        self.words.share(&mut self.shower, &mut reader);
         Told { reply, reader }
     }
 

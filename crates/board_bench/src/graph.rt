@@ -32,7 +32,7 @@ fn told_of(client: ProgressClient, taken: &Taken) -> ProgressClient
     match taken {
         Taken::Told(event) => {
             let mut next = client;
-            next.told(*event);
+            next.hear(*event);
             next
         }
         Taken::EmptyDone(_) | Taken::FillDone(_) => client,

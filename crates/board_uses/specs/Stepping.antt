@@ -7,8 +7,8 @@ use Rattle.audio_parts.specs.Shown.{ShownPart}
 use Rattle.il_flow.specs.Works.{DoneOf, WorkOf}
 use Rattle.graph_acts.specs.declared.act.Act.TheVariants as asks
 use Rattle.graph_acts.specs.declared.act.Reply.TheVariants as replies
-use Rattle.graph_acts.specs.declared.claimed.Claimed.{Claimed}
-use Rattle.graph_acts.specs.declared.claimed.Claimed.TheVariants as claimed
+use Rattle.graph_acts.specs.declared.claimed.LentClaim.{LentClaim}
+use Rattle.graph_acts.specs.declared.claimed.LentClaim.TheVariants as claimed
 use Rattle.graph_acts.specs.Working.{IsRunOf, out_of}
 use Rattle.board.specs.declared.pass.BoardPass.{BoardPass}
 use Rattle.board_uses.specs.declared.working.Worked.{Worked}
@@ -16,7 +16,7 @@ use Rattle.board_uses.specs.declared.working.Worked.TheVariants as workings
 use Rattle.board_uses.specs.Seeing.{MadeNone, MadeOne, MadeTwo}
 
 -- it says why there is no work
-abbrev pub IsNoWork : {S K : Type 0} → Claimed S K → Type 0
+abbrev pub IsNoWork : {S K : Type 0} → LentClaim S K → Type 0
 IsNoWork (claimed.Work work) = ⊥
 IsNoWork _ = Unit {0}
 
@@ -33,5 +33,5 @@ module _ {S K C : Type 0} (reads : SourceGhosts S) (writes : SinkGhosts K) (h : 
   abbrev pub DoesStep : Option Worked → BoardPass S K C → BoardPass S K C → Type 0
   DoesStep None old new = MadeNone old new
   DoesStep (Some (workings.Step frames claimed_at finished_at)) old new = IsStepped frames claimed_at finished_at old new
-  DoesStep (Some workings.None) old new = (answer : Claimed S K) × IsNoWork answer × MadeOne old new (asks.Claim h) (replies.Claim (Ok answer))
+  DoesStep (Some workings.None) old new = (answer : LentClaim S K) × IsNoWork answer × MadeOne old new (asks.Claim h) (replies.Claim (Ok answer))
   DoesStep (Some (workings.Refused error)) old new = MadeOne old new (asks.Claim h) (replies.Claim (Err error))

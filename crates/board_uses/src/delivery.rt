@@ -33,7 +33,7 @@ fn tell<C: Client>(client: &mut C, taken: &Taken)
     ensures { C.progress client.new ≡ noted_by (note_of taken.now) (C.progress client.old) }
 {
     match taken {
-        Taken::Told(event) => client.told(*event),
+        Taken::Told(event) => client.hear(*event),
         Taken::EmptyDone(_) => {}
         Taken::FillDone(_) => {}
     }

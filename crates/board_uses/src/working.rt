@@ -8,7 +8,7 @@ ghost use Rattle.graph_acts.specs.Working.{OutWork, IsRunOf};
 ghost use Rattle.board.specs.Boards.{first_of, pass_view, headers, clients, works, IsCalled, IsOf};
 ghost use Rattle.board_uses.specs.Stepping.{DoesStep};
 
-use board::{Act, Board, BoardPass, Claimed, DoneWork, Reply};
+use board::{Act, Board, BoardPass, DoneWork, LentClaim, Reply};
 use note_queues::Client;
 use omx_types::{Handle, OmxError};
 use outside_io::{Sink, Source};
@@ -69,7 +69,7 @@ pub fn work_once<S: Source, K: Sink, C: Client, R: Wait>(
     ensures headers { headers pass.new ≡ headers pass.old }
 {
     match board.call(rt, pass, Act::Claim(h)) {
-        Ok((claimed_at, Reply::Claim(Ok(Claimed::Work(work))))) => {
+        Ok((claimed_at, Reply::Claim(Ok(LentClaim::Work(work))))) => {
             let done = work.run();
             let frames = done.frames();
             let finished_at = bring_back(rt, board, pass, done);
@@ -79,13 +79,13 @@ pub fn work_once<S: Source, K: Sink, C: Client, R: Wait>(
                 finished_at,
             })
         }
-        Ok((_, Reply::Claim(Ok(Claimed::Busy)))) => Some(Worked::None),
-        Ok((_, Reply::Claim(Ok(Claimed::NotRunning)))) => Some(Worked::None),
-        Ok((_, Reply::Claim(Ok(Claimed::Ended)))) => Some(Worked::None),
-        Ok((_, Reply::Claim(Ok(Claimed::Held(_))))) => Some(Worked::None),
-        Ok((_, Reply::Claim(Ok(Claimed::NoData(_))))) => Some(Worked::None),
-        Ok((_, Reply::Claim(Ok(Claimed::NoRoom(_))))) => Some(Worked::None),
-        Ok((_, Reply::Claim(Ok(Claimed::Events { room: _, need: _ })))) => Some(Worked::None),
+        Ok((_, Reply::Claim(Ok(LentClaim::Busy)))) => Some(Worked::None),
+        Ok((_, Reply::Claim(Ok(LentClaim::NotRunning)))) => Some(Worked::None),
+        Ok((_, Reply::Claim(Ok(LentClaim::Ended)))) => Some(Worked::None),
+        Ok((_, Reply::Claim(Ok(LentClaim::Held(_))))) => Some(Worked::None),
+        Ok((_, Reply::Claim(Ok(LentClaim::NoData(_))))) => Some(Worked::None),
+        Ok((_, Reply::Claim(Ok(LentClaim::NoRoom(_))))) => Some(Worked::None),
+        Ok((_, Reply::Claim(Ok(LentClaim::Events { room: _, need: _ })))) => Some(Worked::None),
         Ok((_, Reply::Claim(Err(error)))) => Some(Worked::Refused(error)),
         Ok((_, _)) => unreachable!(),
         Err(Act::Claim(_)) => None,

@@ -5,7 +5,7 @@ use Rattle.std.specs.List.{list_any}
 use Rattle.std.proofs.lemmas.Grind.{common_steps}
 use Rattle.std.proofs.lemmas.List.{take-append-drop, drop-drop, length-map}
 use Rattle.std.proofs.Math.Nat.{mul-le-mul_left, div-le_of_le-mul}
-use Rattle.clock_core.specs.Clock.{State, acted, before_last_notes, fulfilled, has_id, is_due, least_of, motion_after, notes_now, notes_of, pace_of, passed, refusal_of, refusal_of_act, refusal_of_request, requests_after, rescaled, scale_after, state_after, told, HasMediaWithin}
+use Rattle.clock_core.specs.Clock.{State, acted, before_last_notes, fulfilled, has_id, is_due, least_of, motion_after, notes_now, notes_of, pace_of, passed, refusal_of, refusal_of_act, refusal_of_request, requests_after, rescaled, scale_after, state_after, answered, HasMediaWithin}
 use Rattle.clock_core.specs.Due.{AreInOrder, due_until, left_after, note_from, notes_until}
 use Rattle.clock_core.specs.Kept.{IsKept, IsReachable, IsWithin, HasRoomFor}
 use Rattle.clock_core.specs.Pace.{media_at}
@@ -123,10 +123,10 @@ pub least-within : (least : Option ℕ) (media : ℕ) → IsWithin least → med
 least-within None media h k = k
 least-within (Some other) media h k = omega (arith, h, k)
 
-pub told-reachable : (motion : Motion) (wall port media : ℕ) → IsReachable wall motion → media ≤ 2 ^ 53 → IsReachable wall (told wall port media motion)
-told-reachable Stopped wall port media reachable h = tt
-told-reachable (Running since from) wall port media reachable h = reachable
-told-reachable (Waiting ports least) wall port media reachable h =
+pub answered-reachable : (motion : Motion) (wall port media : ℕ) → IsReachable wall motion → media ≤ 2 ^ 53 → IsReachable wall (answered wall port media motion)
+answered-reachable Stopped wall port media reachable h = tt
+answered-reachable (Running since from) wall port media reachable h = reachable
+answered-reachable (Waiting ports least) wall port media reachable h =
     elim (ports - 2 ^ port == 0) as (λ last. IsReachable wall (if last then Running wall (least_of least media) else Waiting (ports - 2 ^ port) (Some (least_of least media)))) [
       | true ↦ (omega arith, omega (arith, least-within least media reachable h))
       | false ↦ least-within least media reachable h
@@ -142,7 +142,7 @@ act-reachable motion wall scale (Start media) slow within reachable = (omega ari
 act-reachable motion wall scale Stop slow within reachable = tt
 act-reachable motion wall scale (Scale next) slow within reachable = rescaled-reachable motion wall scale slow reachable
 act-reachable motion wall scale (Wait mask) slow within reachable = tt
-act-reachable motion wall scale (Port port media) slow within reachable = told-reachable motion wall port media reachable within
+act-reachable motion wall scale (Port port media) slow within reachable = answered-reachable motion wall port media reachable within
 act-reachable motion wall scale (Ask id media) slow within reachable = reachable
 act-reachable motion wall scale (Cancel id) slow within reachable = reachable
 act-reachable motion wall scale Pass slow within reachable = reachable

@@ -89,10 +89,10 @@ least_of None media = media
 least_of (Some least) media = min least media
 
 -- a port has told: it leaves the mask, and the last one lets the clock run from the least media time
-abbrev pub told : ℕ → ℕ → ℕ → Motion → Motion
-told wall port media (Waiting ports least) =
+abbrev pub answered : ℕ → ℕ → ℕ → Motion → Motion
+answered wall port media (Waiting ports least) =
     if ports - 2 ^ port == 0 then Running wall (least_of least media) else Waiting (ports - 2 ^ port) (Some (least_of least media))
-told wall port media other = other
+answered wall port media other = other
 
 abbrev pub scale_after : ClockAct → ℕ → ℕ
 scale_after (Scale scale) _ = scale
@@ -103,7 +103,7 @@ motion_after (Start media) wall scale motion = Running wall media
 motion_after Stop wall scale motion = Stopped
 motion_after (Scale _) wall scale motion = rescaled wall scale motion
 motion_after (Wait mask) wall scale motion = Waiting mask None
-motion_after (Port port media) wall scale motion = told wall port media motion
+motion_after (Port port media) wall scale motion = answered wall port media motion
 motion_after other wall scale motion = motion
 
 abbrev pub requests_after : ClockAct → List Request → List Request

@@ -2,7 +2,7 @@
 
 ghost use Rattle.std.specs.Prelude.{◌≡◌, ◌==◌, ◌-◌, ◌≤◌, ◌^◌, IsTrue};
 ghost use Rattle.std.specs.Int.{bit_at};
-ghost use Rattle.clock_core.specs.Clock.{least_of, motion_after, pace_of, rescaled, scale_after, told, waits_for};
+ghost use Rattle.clock_core.specs.Clock.{least_of, motion_after, pace_of, rescaled, scale_after, answered, waits_for};
 ghost use Rattle.clock_core.specs.Kept.{CanGoOn, IsWaitedFor};
 
 use crate::ClockAct;
@@ -67,9 +67,9 @@ fn least_of(least: Option<u64>, media: u64) -> u64
 }
 
 /// The motion after a port that was waited for told its media time.
-fn told(wall: u64, port: u32, media: u64, motion: Motion) -> Motion
+fn answered(wall: u64, port: u32, media: u64, motion: Motion) -> Motion
     requires { IsTrue (waits_for motion port) }
-    ensures { result ≡ told wall port media motion }
+    ensures { result ≡ answered wall port media motion }
 {
     match motion {
         Motion::Waiting { ports, least } => {
@@ -135,7 +135,7 @@ pub(crate) fn motion_after(act: ClockAct, wall: u64, scale: u32, motion: Motion)
         ClockAct::Stop => Motion::Stopped,
         ClockAct::Scale(_) => rescaled(wall, scale, motion),
         ClockAct::Wait(ports) => Motion::Waiting { ports, least: None },
-        ClockAct::Port { port, media } => told(wall, port, media, motion),
+        ClockAct::Port { port, media } => answered(wall, port, media, motion),
         _ => motion,
     }
 }

@@ -31,7 +31,7 @@ pub fn run_clock<O: Sink>(bytes: &[u8], out: &mut O) -> Result<(), Fault>
     ensures script { OnOk result (IsScript bytes.now) }
     ensures stopped { IfErr result (IsStopped bytes.now (O.told out.old) (O.told out.new) (O.faults out.old) (O.faults out.new)) }
     ensures faulty { (line : ℕ) (why : Why) → IsFaulty bytes.now line why → result ≡ Err (faults.Script line why) }
-    ensures stands { result ≢ Err faults.WriteFault → O.faults out.new ≡ O.faults out.old }
+    ensures stays { result ≢ Err faults.WriteFault → O.faults out.new ≡ O.faults out.old }
     ensures keeps_sink { KeepsSink O.Sink out.old out.new }
 {
     match lines_in(bytes) {
@@ -115,7 +115,7 @@ fn run_lines<O: Sink>(text: &[u8], out: &mut O) -> Result<(), Fault>
     requires { length text.now < 65536 }
     ensures whole { OnOk result (O.told out.new ≡ append_known (O.told out.old) (printed 1 opening (calls_in (lines_of text.now)))) }
     ensures failed { IfErr result (IsWriteFault (O.faults out.old) (O.faults out.new) (O.told out.old) (O.told out.new) (printed 1 opening (calls_in (lines_of text.now)))) }
-    ensures stands { OnOk result (O.faults out.new ≡ O.faults out.old) }
+    ensures stays { OnOk result (O.faults out.new ≡ O.faults out.old) }
     ensures keeps_sink { KeepsSink O.Sink out.old out.new }
 {
     let mut clock = Clock::new();
@@ -137,7 +137,7 @@ fn run_line<O: Sink>(clock: &mut Clock, number: u64, line: &[u8], out: &mut O) -
     ensures ran { IfOk result (λ next. IsRun number clock.old line.now next clock.new (O.told out.old) (O.told out.new)) }
     ensures close { IfOk result (λ next. next ≤ number + 1) }
     ensures failed { IfErr result (λ fault. (lines : List (List ℕ)) → IsWriteFault (O.faults out.old) (O.faults out.new) (O.told out.old) (O.told out.new) (printed number clock.old (calls_in (line.now ∷ lines))) fault) }
-    ensures stands { OnOk result (O.faults out.new ≡ O.faults out.old) }
+    ensures stays { OnOk result (O.faults out.new ≡ O.faults out.old) }
     ensures keeps_sink { KeepsSink O.Sink out.old out.new }
 {
     match asked_by(line) {
@@ -175,7 +175,7 @@ fn run_call<O: Sink>(
     ensures clock { clock.new ≡ after_call clock.old call.wall call.act }
     ensures whole { OnOk result (O.told out.new ≡ append_known (O.told out.old) (call_text number clock.old (call_words call) call)) }
     ensures failed { IfErr result (IsWriteFault (O.faults out.old) (O.faults out.new) (O.told out.old) (O.told out.new) (call_text number clock.old (call_words call) call)) }
-    ensures stands { OnOk result (O.faults out.new ≡ O.faults out.old) }
+    ensures stays { OnOk result (O.faults out.new ≡ O.faults out.old) }
     ensures keeps_sink { KeepsSink O.Sink out.old out.new }
 {
     let text = text_of(clock, number, call);
@@ -213,7 +213,7 @@ fn noted(notes: &[Fulfilled; 64], answer: Result<u32, ClockRefusal>) -> &[Fulfil
 fn write<O: Sink>(out: &mut O, text: &[u8]) -> Result<(), Fault>
     ensures whole { OnOk result (O.told out.new ≡ append_known (O.told out.old) text.now) }
     ensures failed { IfErr result (IsWriteFault (O.faults out.old) (O.faults out.new) (O.told out.old) (O.told out.new) text.now) }
-    ensures stands { OnOk result (O.faults out.new ≡ O.faults out.old) }
+    ensures stays { OnOk result (O.faults out.new ≡ O.faults out.old) }
     ensures keeps_sink { KeepsSink O.Sink out.old out.new }
 {
     match write_all(out, text) {

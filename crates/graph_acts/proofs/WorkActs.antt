@@ -34,8 +34,8 @@ use Rattle.il_graph.proofs.Back.{number_named}
 use Rattle.il_graph.proofs.Calling.{and_some}
 use Rattle.il_graph.proofs.Going.{placed_at}
 use Rattle.il_graph.proofs.Returning.{handed_back}
-use Rattle.graph_acts.specs.declared.claimed.Claimed.{Claimed}
-use Rattle.graph_acts.specs.declared.claimed.Claimed.TheVariants as claimed
+use Rattle.graph_acts.specs.declared.claimed.LentClaim.{LentClaim}
+use Rattle.graph_acts.specs.declared.claimed.LentClaim.TheVariants as claimed
 use Rattle.graph_acts.specs.Hiding.{shown_work}
 use Rattle.graph_acts.specs.Lending.{OnLent, claimed_as, lent_as}
 use Rattle.graph_acts.specs.Plain.{Sight, Unsaid}
@@ -120,7 +120,7 @@ module _ {S K C : Type 0} (see : Sight S K C) (h : Handle) (old new : Shown S K 
   no_work : (answer : Result machine.Claimed OmxError) → ((m : ℕ) → takes_work m (acts.Claim h) (acts.Claimed answer) ≡ false) → (w v : World) → Sound w → Step w (acts.Claim h) (acts.Claimed answer) v → MovesWorks {S = S} {K = K} None None w v
   no_work answer none w v S step = works_stay w v (acts.Claim h) (acts.Claimed answer) S tt step (λ m. (refl, none m))
 
-  pub claim_works : (result : Result (Claimed S K) OmxError) → (AreTermsOf h (look_of old) u.terms → OnLent result (λ work. WasClaimed work)) → (w v : World) → Sound w → Stands (kept see.progress old) w → Stands (kept see.progress new) v
+  pub claim_works : (result : Result (LentClaim S K) OmxError) → (AreTermsOf h (look_of old) u.terms → OnLent result (λ work. WasClaimed work)) → (w v : World) → Sound w → Stands (kept see.progress old) w → Stands (kept see.progress new) v
       → AreTermsOf h (look_of old) u.terms → Step w (acts.Claim h) (acts.Claimed (claimed_as u.terms result)) v → MovesWorks None (claimed_work result) w v
   claim_works (Ok (claimed.Work work)) W w v S o n t step = work_out work (W t) w v S o n step
   claim_works (Ok claimed.Busy) W w v S o n t step = no_work (Ok machine.ClaimedBusy) (λ m. refl) w v S step

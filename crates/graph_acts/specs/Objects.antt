@@ -15,8 +15,8 @@ use Rattle.graph_acts.specs.declared.act.Act.{Act}
 use Rattle.graph_acts.specs.declared.act.Act.TheVariants as asks
 use Rattle.graph_acts.specs.declared.act.Reply.{Reply}
 use Rattle.graph_acts.specs.declared.act.Reply.TheVariants as replies
-use Rattle.graph_acts.specs.declared.claimed.Claimed.{Claimed}
-use Rattle.graph_acts.specs.declared.claimed.Claimed.TheVariants as claimed
+use Rattle.graph_acts.specs.declared.claimed.LentClaim.{LentClaim}
+use Rattle.graph_acts.specs.declared.claimed.LentClaim.TheVariants as claimed
 use Rattle.graph_acts.specs.Lending.{OnLent}
 use Rattle.graph_acts.specs.Plain.{Sight}
 use Rattle.graph_acts.specs.Working.{IsFaulted, IsFurther}
@@ -46,12 +46,12 @@ module _ {X : Type 0} where
 
 module _ {S K : Type 0} where
   -- where a work goes out, and its file with it
-  abbrev pub file_gone : {E : Type 0} → Result (Claimed S K) E → ℕ → Option (ℕ × Option (PartFile S K))
+  abbrev pub file_gone : {E : Type 0} → Result (LentClaim S K) E → ℕ → Option (ℕ × Option (PartFile S K))
   file_gone (Ok (claimed.Work work)) number = Some (number, None)
   file_gone (Ok _) number = None
   file_gone (Err e) number = None
 
-  abbrev pub part_gone : {E : Type 0} → Result (Claimed S K) E → Option (ℕ × Held S K)
+  abbrev pub part_gone : {E : Type 0} → Result (LentClaim S K) E → Option (ℕ × Held S K)
   part_gone (Ok (claimed.Work work)) = Some (work.component.generation, held_in work.part)
   part_gone (Ok _) = None
   part_gone (Err e) = None

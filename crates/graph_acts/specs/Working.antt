@@ -18,8 +18,8 @@ use Rattle.audio_parts.specs.Shown.{ShownPart, held_in}
 use Rattle.graph_core.specs.Finishing.{AreHandedBack}
 use Rattle.il_flow.specs.Places.{AreSame, carried_from}
 use Rattle.il_flow.specs.Works.{ComesBack, DoneOf, WorkOf, seen_done}
-use Rattle.graph_acts.specs.declared.claimed.Claimed.{Claimed}
-use Rattle.graph_acts.specs.declared.claimed.Claimed.TheVariants as claimed
+use Rattle.graph_acts.specs.declared.claimed.LentClaim.{LentClaim}
+use Rattle.graph_acts.specs.declared.claimed.LentClaim.TheVariants as claimed
 use Rattle.il_graph.specs.Shown.{seen_of}
 use Rattle.held_things.specs.Held.{Moves}
 use Rattle.graph_acts.specs.declared.act.Act.{Act}
@@ -65,7 +65,7 @@ module _ {S K : Type 0} where
   abbrev pub out_of : WorkOf (ShownPart S K) → OutWork S K
   out_of work = record { handle = work.component; announces = work.announces; part = work.part; headers = work.headers }
 
-  abbrev pub claimed_work : {E : Type 0} → Result (Claimed S K) E → Option (OutWork S K)
+  abbrev pub claimed_work : {E : Type 0} → Result (LentClaim S K) E → Option (OutWork S K)
   claimed_work (Ok (claimed.Work work)) = Some (out_of work)
   claimed_work (Ok _) = None
   claimed_work (Err e) = None

@@ -1,6 +1,6 @@
 //! What is asked of a graph in a turn, and what it answers.
 
-use crate::claimed::Claimed;
+use crate::claimed::LentClaim;
 use crate::lent::DoneWork;
 use header_core::Header;
 use il_graph::{Freed, PartFile};
@@ -69,7 +69,7 @@ pub enum Reply<S: Source, K: Sink, C> {
     Release(Result<Acted, OmxError>),
     HandOver(Result<Acted, OmxError>),
     HandBack(Result<Acted, OmxError>),
-    Claim(Result<Claimed<S, K>, OmxError>),
+    Claim(Result<LentClaim<S, K>, OmxError>),
     Finish,
     Grant(Granted),
     Preempt(Preempted),

@@ -4,7 +4,7 @@ use crate::lent::LentWork;
 use outside_io::{Sink, Source};
 
 /// A component's work, or why there is none.
-pub enum Claimed<S: Source, K: Sink> {
+pub enum LentClaim<S: Source, K: Sink> {
     Work(LentWork<S, K>),
     Busy,
     NotRunning,

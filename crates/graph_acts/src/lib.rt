@@ -14,6 +14,6 @@ mod served;
 mod works;
 
 pub use act::{Act, Reply};
-pub use claimed::Claimed;
+pub use claimed::LentClaim;
 pub use lent::{DoneWork, LentWork};
 pub use served::Served;

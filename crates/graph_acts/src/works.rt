@@ -10,7 +10,7 @@ ghost use Rattle.graph_acts.specs.Plain.{sight_of};
 ghost use Rattle.graph_acts.specs.Working.{IsRunOf, out_of};
 
 use crate::act::Reply;
-use crate::claimed::Claimed;
+use crate::claimed::LentClaim;
 use crate::laws::law_of_parts;
 use crate::lent::{DoneWork, LentWork};
 use crate::served::Served;
@@ -49,18 +49,18 @@ impl<S: Source, K: Sink> DoneWork<S, K> {
 /// The graph's answer to a claim.
 fn lend<S: Source, K: Sink>(
     answer: Result<Answer<S, K>, OmxError>,
-) -> Result<Claimed<S, K>, OmxError>
+) -> Result<LentClaim<S, K>, OmxError>
     ensures { result ≡ lent_as (shown_by S.told K.told K.name) answer }
 {
     match answer {
-        Ok(Answer::Work(work)) => Ok(Claimed::Work(LentWork { work })),
-        Ok(Answer::Busy) => Ok(Claimed::Busy),
-        Ok(Answer::NotRunning) => Ok(Claimed::NotRunning),
-        Ok(Answer::Ended) => Ok(Claimed::Ended),
-        Ok(Answer::Held(port)) => Ok(Claimed::Held(port)),
-        Ok(Answer::NoData(port)) => Ok(Claimed::NoData(port)),
-        Ok(Answer::NoRoom(port)) => Ok(Claimed::NoRoom(port)),
-        Ok(Answer::Events { room, need }) => Ok(Claimed::Events { room, need }),
+        Ok(Answer::Work(work)) => Ok(LentClaim::Work(LentWork { work })),
+        Ok(Answer::Busy) => Ok(LentClaim::Busy),
+        Ok(Answer::NotRunning) => Ok(LentClaim::NotRunning),
+        Ok(Answer::Ended) => Ok(LentClaim::Ended),
+        Ok(Answer::Held(port)) => Ok(LentClaim::Held(port)),
+        Ok(Answer::NoData(port)) => Ok(LentClaim::NoData(port)),
+        Ok(Answer::NoRoom(port)) => Ok(LentClaim::NoRoom(port)),
+        Ok(Answer::Events { room, need }) => Ok(LentClaim::Events { room, need }),
         Err(error) => Err(error),
     }
 }

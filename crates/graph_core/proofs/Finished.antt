@@ -41,7 +41,7 @@ use Rattle.port_stock.specs.Conditions.{IsHeaderOf, IsOutside, IsPort}
 use Rattle.port_stock.specs.Kept.{StockKept, kept_load, stocked}
 use Rattle.work_landing.specs.declared.step.Step.{Step}
 use Rattle.work_landing.specs.Landed.{AreHomeless, AreWithin, IsLeft, all_landed, all_notices, done_by}
-use Rattle.work_landing.specs.Places.{AreApart, EachFrom, carried_from}
+use Rattle.work_landing.specs.Places.{HaveOwnHeaders, EachFrom, carried_from}
 use Rattle.work_landing.proofs.Standing.{landed_stays, stands_landed}
 use Rattle.graph_core.specs.Entries.{Entries, changed_at, component_at, components_of, held_by, kept, look_of, noticed_in, progress_at}
 use Rattle.graph_core.specs.Finishing.{AreHandedBack, ComesBack}
@@ -140,7 +140,7 @@ module _ {C : Type 0} (progress : C → Progress) (g : Entries C) (i : ℕ) (e :
     made : AreMade k w.headers these
     made = made_of w.headers k K.work.headers these are picked
 
-    pub apart : AreApart places
+    pub apart : HaveOwnHeaders places
     apart = apart_from 0 places (λ m.
         let n : map (λ p. p.number) K.work.headers ≡ map (λ x. x.header.number) these = numbers_of K.work.headers these are in
         let a : times m (map (λ p. p.number) K.work.headers) ≡ weight (worked_at k m w.headers) = rw K.is at (((parts_of w sound).works).claimed i c here m) in

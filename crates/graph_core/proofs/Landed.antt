@@ -14,7 +14,7 @@ use Rattle.il_machine.specs.Whole.{Noticed}
 use Rattle.machine_laws.proofs.Finding.{found_number}
 use Rattle.machine_laws.proofs.Replacing.{IsReplaced, replaced_changed, replaced_put}
 use Rattle.header_core.specs.BufferHeader.{BufferHeader, is_clients}
-use Rattle.work_landing.specs.Places.{AreApart, EachFrom, IsOther, carried, carried_from}
+use Rattle.work_landing.specs.Places.{HaveOwnHeaders, EachFrom, IsOther, carried, carried_from}
 use Rattle.work_landing.specs.Landed.{all_notices, noticed_as, noticed_if, with_load}
 
 -- ---- one header lands
@@ -78,7 +78,7 @@ module _ (c : Component) (s : Stream) (done : WorkDone) (key : ℕ) where
   lands port h hs o I = one_landed (landing c s done (carried port h)) c (carried port h) (load_after c s done (carried port h)) hs I.it o I.found
 
   -- each other header stays
-  pub landed_else : (port : ℕ) (places : List (Option BufferHeader)) (hs : List HeaderRecord) (m first_port : ℕ) → Once hs → AreOf key hs port places → AreApart places → EachFrom (λ port x. IsOther m x) first_port places
+  pub landed_else : (port : ℕ) (places : List (Option BufferHeader)) (hs : List HeaderRecord) (m first_port : ℕ) → Once hs → AreOf key hs port places → HaveOwnHeaders places → EachFrom (λ port x. IsOther m x) first_port places
       → find_header m (after port places hs) ≡ find_header m hs
   landed_else port [] hs m q o A P E = refl
   landed_else port (None ∷ places) hs m q o A P E = landed_else (port + 1) places hs m (q + 1) o A.1 P.1 E.1
@@ -104,7 +104,7 @@ module _ (c : Component) (s : Stream) (done : WorkDone) (key : ℕ) where
       All-cons (IsTold ks) (noticed_as (with_load load h)) [] (I.key_is, rw g ((λ j. record { number = m j; size = z j; content = load.content; flags = load.flags; mark = load.mark; memory = load.memory }), refl, I.memory)) (All-nil (IsTold ks))
 
   -- each of them is one of the list's, in a note
-  pub all_told : (port : ℕ) (places : List (Option BufferHeader)) (hs : List HeaderRecord) → Once hs → AreOf key hs port places → AreApart places → All (IsTold (after port places hs)) (all_notices c s done port places)
+  pub all_told : (port : ℕ) (places : List (Option BufferHeader)) (hs : List HeaderRecord) → Once hs → AreOf key hs port places → HaveOwnHeaders places → All (IsTold (after port places hs)) (all_notices c s done port places)
   all_told port [] hs o A P = All-nil (IsTold hs)
   all_told port (None ∷ places) hs o A P = all_told (port + 1) places hs o A.1 P.1
   all_told port (Some h ∷ places) hs o A P =

@@ -17,7 +17,7 @@ use Rattle.machine_laws.proofs.Works.{worked_at}
 use Rattle.header_core.specs.BufferHeader.{BufferHeader}
 use Rattle.port_stock.specs.Conditions.{IsHeaderOf, IsPort}
 use Rattle.work_landing.specs.Landed.{AreHomeless, AreWithin}
-use Rattle.work_landing.specs.Places.{AreApart, EachFrom, IsOther, carried_from}
+use Rattle.work_landing.specs.Places.{HaveOwnHeaders, EachFrom, IsOther, carried_from}
 use Rattle.graph_core.proofs.Landed.{AreOf as AreListed}
 
 -- ---- the places are those of the work
@@ -44,7 +44,7 @@ none_times m port first (Some h ∷ places) e =
       | inr a ↦ (ne_eqb h.held.number m a, none_times m (port + 1) (first + 1) places (omega arith))
     ]
 
-pub apart_from : (port : ℕ) (places : List (Option BufferHeader)) → ((m : ℕ) → times m (map (λ x. x.header.number) (carried_from port places)) ≤ 1) → AreApart places
+pub apart_from : (port : ℕ) (places : List (Option BufferHeader)) → ((m : ℕ) → times m (map (λ x. x.header.number) (carried_from port places)) ≤ 1) → HaveOwnHeaders places
 apart_from port [] h = tt
 apart_from port (None ∷ places) h = (tt, apart_from (port + 1) places h)
 apart_from port (Some x ∷ places) h =

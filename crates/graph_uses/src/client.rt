@@ -50,7 +50,7 @@ fn told(call: Call<ProgressClient>) -> (ProgressClient, Option<Header>)
     let Call { mut client, taken } = call;
     match taken {
         Taken::Told(event) => {
-            client.told(event);
+            client.hear(event);
             (client, None)
         }
         Taken::EmptyDone(header) | Taken::FillDone(header) => (client, Some(header)),

@@ -159,7 +159,7 @@ impl<C> Component<C> {
     {
         if is_at_once(command) {
             self.invalidate();
-            self.tell(Event::Error(OmxError::InvalidState));
+            self.queue_event(Event::Error(OmxError::InvalidState));
             return;
         }
         let cost = self.cost(command);
@@ -197,7 +197,7 @@ impl<C> Component<C> {
     {
         self.settle(target, None, self.loss_mark);
         if is_told {
-            self.tell(Event::CmdComplete(Completion::State(target)));
+            self.queue_event(Event::CmdComplete(Completion::State(target)));
         }
     }
 
@@ -213,9 +213,9 @@ impl<C> Component<C> {
         };
         self.settle(State::Idle, Some(loaded), false);
         if is_told {
-            self.tell(Event::CmdComplete(Completion::State(State::Idle)));
+            self.queue_event(Event::CmdComplete(Completion::State(State::Idle)));
         }
-        self.tell(Event::Error(OmxError::ResourcesLost));
+        self.queue_event(Event::Error(OmxError::ResourcesLost));
     }
 
     /// No input has ended; nor has the part, unless it is a source's or has failed.
@@ -306,7 +306,7 @@ impl<C> Component<C> {
         ensures kept { KeepsNotices self.old self.new }
     {
         self.set_port(index, port);
-        self.tell(Event::CmdComplete(completion));
+        self.queue_event(Event::CmdComplete(completion));
     }
 
     /// The port's flush has ended.

@@ -97,7 +97,7 @@ impl<C> Component<C> {
         ensures kept { KeepsNotices self.old self.new }
     {
         match self.state_fault(free, waits, target) {
-            Some(error) => self.tell(Event::Error(error)),
+            Some(error) => self.queue_event(Event::Error(error)),
             None => self.begin(Pending {
                 target,
                 cause: Cause::Client,

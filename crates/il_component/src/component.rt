@@ -313,7 +313,7 @@ impl<C> Component<C> {
     }
 
     /// Queues an event.
-    pub fn tell(&mut self, event: Event)
+    pub fn queue_event(&mut self, event: Event)
         requires { 0 < room (component_of self.old) }
         ensures told { component_of self.new ≡ told event (component_of self.old) }
         ensures kept { KeepsNotices self.old self.new }

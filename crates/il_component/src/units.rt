@@ -83,7 +83,7 @@ impl<C> Component<C> {
     {
         self.set_units(true, None);
         self.settle(self.state, Some(TO_IDLE), self.loss_mark);
-        self.tell(Event::ResourcesAcquired);
+        self.queue_event(Event::ResourcesAcquired);
     }
 
     /// Its units are lost, and it is on its way to Loaded.
@@ -97,7 +97,7 @@ impl<C> Component<C> {
             cause: Cause::Loss,
         };
         self.settle(self.state, Some(loaded), false);
-        self.tell(Event::Error(OmxError::ResourcesLost));
+        self.queue_event(Event::Error(OmxError::ResourcesLost));
     }
 
     /// Its units are taken, at once or once it is Idle.
@@ -125,6 +125,6 @@ impl<C> Component<C> {
             cause: Cause::Loss,
         };
         self.settle(self.state, Some(idle), self.loss_mark);
-        self.tell(Event::Error(OmxError::ResourcesPreempted));
+        self.queue_event(Event::Error(OmxError::ResourcesPreempted));
     }
 }

@@ -117,7 +117,7 @@ impl<C> Component<C> {
             return;
         }
         self.hold_port(0);
-        self.tell(Event::PortSettingsChanged(0));
+        self.queue_event(Event::PortSettingsChanged(0));
     }
 
     fn put_work(&mut self, work: Option<WorkOut>)

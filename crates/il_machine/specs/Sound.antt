@@ -173,8 +173,8 @@ pub record IsUnitSound (waits : ℕ) (c : Component) : Type 0 where
   pub inputs : length c.part.ended_inputs ≡ inputs_of c.settings.kind
 
 -- two that wait have different numbers
-abbrev pub AreApart : List Component → Type 0
-AreApart components = (i j n : ℕ) (c d : Component) → slice_get components i ≡ Some c → slice_get components j ≡ Some d
+abbrev pub WaitApart : List Component → Type 0
+WaitApart components = (i j n : ℕ) (c d : Component) → slice_get components i ≡ Some c → slice_get components j ≡ Some d
     → c.waiting ≡ Some n → d.waiting ≡ Some n → i ≡ j
 
 -- ---- tunnels
@@ -215,6 +215,6 @@ pub record Sound (w : World) : Type 0 where
   pub placed : All (λ r. IsPlaced w.components r.state) w.headers
   pub units : All (IsUnitSound w.waits) w.components
   pub enough : units_held w.components ≤ w.units
-  pub apart : AreApart w.components
+  pub apart : WaitApart w.components
   -- one for each component, in the same order
   pub streams : map (λ s. s.component) w.streams ≡ map number_of w.components

@@ -29,7 +29,7 @@ pub fn make<M: Media>(
     ensures goes_on { GoesOn (M.outside media.old) (M.outside media.new) }
     ensures reason { IfErr result (HasReason folder.now (M.outside media.old) (M.outside media.new)) }
     ensures read_faults { (M.outside media.new).read_faults ≡ (M.outside media.old).read_faults }
-    ensures write_stands { result ≢ Err Fault.WriteFault → (M.outside media.new).write_faults ≡ (M.outside media.old).write_faults }
+    ensures write_stays { result ≢ Err Fault.WriteFault → (M.outside media.new).write_faults ≡ (M.outside media.old).write_faults }
     ensures unabsent { TellsAbsences Fault.Absent (M.outside media.old) (M.outside media.new) result }
 {
     match make_wav(alloc, media, folder, "a.wav", seed, frames) {

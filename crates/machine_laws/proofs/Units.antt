@@ -7,7 +7,7 @@ use Rattle.il_machine.specs.declared.port.PortState.{PortState}
 use Rattle.il_machine.specs.Kinds.{is_late}
 use Rattle.il_machine.specs.World.{Component, Stream, Work, World, number_of, is_stream_of}
 use Rattle.il_machine.specs.Units.{need_of, is_holder, units_held, is_waiter}
-use Rattle.il_machine.specs.Sound.{Sound, IsUnitSound, AreApart, AreRising, may_work, needs_units}
+use Rattle.il_machine.specs.Sound.{Sound, IsUnitSound, WaitApart, AreRising, may_work, needs_units}
 use Rattle.machine_laws.proofs.Every.{at_place, from_places, at_set, at_push, at_remove}
 use Rattle.machine_laws.proofs.Finding.{either}
 use Rattle.machine_laws.proofs.Lookups.{rises_at, same_place, rising_remove}
@@ -18,7 +18,7 @@ use Rattle.machine_laws.proofs.Works.{KeepsWork, keeps_twice}
 pub record Resources (cs : List Component) (ss : List Stream) (waits units : ℕ) : Type 0 where
   pub each : (i : ℕ) (c : Component) → slice_get cs i ≡ Some c → IsUnitSound waits c
   pub enough : units_held cs ≤ units
-  pub apart : AreApart cs
+  pub apart : WaitApart cs
   pub streams : map (λ s. s.component) ss ≡ map number_of cs
 
 pub resources_of : (w : World) → Sound w → Resources w.components w.streams w.waits w.units
@@ -142,7 +142,7 @@ enough_set spare i units cs c d t f l =
 -- ---- all of them, after one component changed
 
 apart_set : (waits i : ℕ) (cs : List Component) (c d : Component) → slice_get cs i ≡ Some c → ((j : ℕ) (x : Component) → slice_get cs j ≡ Some x → IsUnitSound waits x)
-    → ((n : ℕ) → d.waiting ≡ Some n → (c.waiting ≡ Some n) ⊎ (n ≡ waits)) → AreApart cs → AreApart (set cs i d)
+    → ((n : ℕ) → d.waiting ≡ Some n → (c.waiting ≡ Some n) ⊎ (n ≡ waits)) → WaitApart cs → WaitApart (set cs i d)
 apart_set waits i cs c d t each h A = λ j k n x y e f p q. elim (at_set cs i j d x e) [
   | inl a ↦ elim (at_set cs i k d y f) [
     | inl b ↦ a.0 ∙ sym b.0

@@ -20,7 +20,7 @@ pub trait Client {
     ghost progress: { Self → Reached };
 
     /// Tells it an event, which moves its progress.
-    fn told(&mut self, event: Event)
+    fn hear(&mut self, event: Event)
         ensures { progress self.new ≡ moved_by event (progress self.old) };
 
     /// The last state that was reached, whether the end of a stream was told, and the first error.
@@ -98,7 +98,7 @@ impl Client for ProgressClient {
 
     ghost progress = { λ client. client };
 
-    fn told(&mut self, event: Event) {
+    fn hear(&mut self, event: Event) {
         self.progress = moved(self.progress, event);
     }
 
@@ -141,8 +141,8 @@ impl Client for HolderClient {
 
     ghost progress = { λ client. client };
 
-    fn told(&mut self, event: Event) {
-        self.told.told(event);
+    fn hear(&mut self, event: Event) {
+        self.told.hear(event);
     }
 
     fn progress(&self) -> Progress {

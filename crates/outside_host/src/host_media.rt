@@ -230,8 +230,8 @@ impl<R: Files<File = File> + Eprint> Media for HostMedia<R> {
         ensures absent_name { IsErrOf result Refused.Absent → (host_outside self.old).file name.now ≡ None }
         ensures absences { IsSome ((host_outside self.old).file name.now) → (host_outside self.new).absences ≡ (host_outside self.old).absences }
         ensures failed { IsErrOf result Refused.Failed → Rose (host_outside self.old).read_faults (host_outside self.new).read_faults }
-        ensures reads_stand { ¬ (IsErrOf result Refused.Failed) → (host_outside self.new).read_faults ≡ (host_outside self.old).read_faults }
-        ensures absences_stand { ¬ (IsErrOf result Refused.Absent) → (host_outside self.new).absences ≡ (host_outside self.old).absences }
+        ensures reads_stay { ¬ (IsErrOf result Refused.Failed) → (host_outside self.new).read_faults ≡ (host_outside self.old).read_faults }
+        ensures absences_stay { ¬ (IsErrOf result Refused.Absent) → (host_outside self.new).absences ≡ (host_outside self.old).absences }
         ensures unfailed { IfOk result (λ src. src.faults ≡ 0) }
         ensures write_faults { (host_outside self.new).write_faults ≡ (host_outside self.old).write_faults }
         ensures opened { IfOk result (λ src. IsTrue (has_file src.id (opened_of self.new))) }
@@ -261,7 +261,7 @@ impl<R: Files<File = File> + Eprint> Media for HostMedia<R> {
         ensures absences { IsFalse ((host_outside self.old).may_refuse name.now) → (host_outside self.new).absences ≡ (host_outside self.old).absences }
         ensures failed { IsErrOf result Refused.Failed → Rose (host_outside self.old).write_faults (host_outside self.new).write_faults }
         ensures writes_stand { ¬ (IsErrOf result Refused.Failed) → (host_outside self.new).write_faults ≡ (host_outside self.old).write_faults }
-        ensures absences_stand { ¬ (IsErrOf result Refused.Absent) → (host_outside self.new).absences ≡ (host_outside self.old).absences }
+        ensures absences_stay { ¬ (IsErrOf result Refused.Absent) → (host_outside self.new).absences ≡ (host_outside self.old).absences }
         ensures unfailed { IfOk result (λ snk. snk.faults ≡ 0) }
         ensures read_faults { (host_outside self.new).read_faults ≡ (host_outside self.old).read_faults }
         ensures other { IfOk result (λ snk. has_file snk.id (opened_of self.old) ≡ false) }

@@ -52,8 +52,8 @@ pub trait Media {
         ensures absent_name { IsErrOf result Refused.Absent → (outside self.old).file name.now ≡ None }
         ensures absences { IsSome ((outside self.old).file name.now) → (outside self.new).absences ≡ (outside self.old).absences }
         ensures failed { IsErrOf result Refused.Failed → Rose (outside self.old).read_faults (outside self.new).read_faults }
-        ensures reads_stand { ¬ (IsErrOf result Refused.Failed) → (outside self.new).read_faults ≡ (outside self.old).read_faults }
-        ensures absences_stand { ¬ (IsErrOf result Refused.Absent) → (outside self.new).absences ≡ (outside self.old).absences }
+        ensures reads_stay { ¬ (IsErrOf result Refused.Failed) → (outside self.new).read_faults ≡ (outside self.old).read_faults }
+        ensures absences_stay { ¬ (IsErrOf result Refused.Absent) → (outside self.new).absences ≡ (outside self.old).absences }
         ensures unfailed { IfOk result (λ src. Self.Src.faults src ≡ 0) }
         ensures write_faults { (outside self.new).write_faults ≡ (outside self.old).write_faults };
 
@@ -67,7 +67,7 @@ pub trait Media {
         ensures absences { IsFalse ((outside self.old).may_refuse name.now) → (outside self.new).absences ≡ (outside self.old).absences }
         ensures failed { IsErrOf result Refused.Failed → Rose (outside self.old).write_faults (outside self.new).write_faults }
         ensures writes_stand { ¬ (IsErrOf result Refused.Failed) → (outside self.new).write_faults ≡ (outside self.old).write_faults }
-        ensures absences_stand { ¬ (IsErrOf result Refused.Absent) → (outside self.new).absences ≡ (outside self.old).absences }
+        ensures absences_stay { ¬ (IsErrOf result Refused.Absent) → (outside self.new).absences ≡ (outside self.old).absences }
         ensures unfailed { IfOk result (λ snk. Self.Snk.faults snk ≡ 0) }
         ensures read_faults { (outside self.new).read_faults ≡ (outside self.old).read_faults };
 

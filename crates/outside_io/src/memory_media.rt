@@ -106,8 +106,8 @@ impl Media for MemoryMedia {
         ensures absent_name { IsErrOf result Refused.Absent → (memory_outside self.old).file name.now ≡ None }
         ensures absences { IsSome ((memory_outside self.old).file name.now) → (memory_outside self.new).absences ≡ (memory_outside self.old).absences }
         ensures failed { IsErrOf result Refused.Failed → Rose (memory_outside self.old).read_faults (memory_outside self.new).read_faults }
-        ensures reads_stand { ¬ (IsErrOf result Refused.Failed) → (memory_outside self.new).read_faults ≡ (memory_outside self.old).read_faults }
-        ensures absences_stand { ¬ (IsErrOf result Refused.Absent) → (memory_outside self.new).absences ≡ (memory_outside self.old).absences }
+        ensures reads_stay { ¬ (IsErrOf result Refused.Failed) → (memory_outside self.new).read_faults ≡ (memory_outside self.old).read_faults }
+        ensures absences_stay { ¬ (IsErrOf result Refused.Absent) → (memory_outside self.new).absences ≡ (memory_outside self.old).absences }
         ensures unfailed { IfOk result (λ src. source_faults src ≡ 0) }
         ensures write_faults { (memory_outside self.new).write_faults ≡ (memory_outside self.old).write_faults }
         ensures exactly { OpensSource name.now self.old self.new result }
@@ -136,7 +136,7 @@ impl Media for MemoryMedia {
         ensures absences { IsFalse ((memory_outside self.old).may_refuse name.now) → (memory_outside self.new).absences ≡ (memory_outside self.old).absences }
         ensures failed { IsErrOf result Refused.Failed → Rose (memory_outside self.old).write_faults (memory_outside self.new).write_faults }
         ensures writes_stand { ¬ (IsErrOf result Refused.Failed) → (memory_outside self.new).write_faults ≡ (memory_outside self.old).write_faults }
-        ensures absences_stand { ¬ (IsErrOf result Refused.Absent) → (memory_outside self.new).absences ≡ (memory_outside self.old).absences }
+        ensures absences_stay { ¬ (IsErrOf result Refused.Absent) → (memory_outside self.new).absences ≡ (memory_outside self.old).absences }
         ensures unfailed { IfOk result (λ snk. sink_faults snk ≡ 0) }
         ensures read_faults { (memory_outside self.new).read_faults ≡ (memory_outside self.old).read_faults }
         ensures exactly { OpensSink name.now self.old self.new result }

@@ -53,7 +53,7 @@ pub fn read_exact<S: Source>(source: &mut S, buf: &mut [u8]) -> Result<(), ReadS
     ensures offset { OnOk result (S.offset source.new ≡ S.offset source.old + length buf.old) }
     ensures keeps_source { KeepsSource S.Source source.old source.new }
     ensures failed { result ≡ Err ReadStop.Failed → Rose (S.faults source.old) (S.faults source.new) }
-    ensures stands { result ≢ Err ReadStop.Failed → S.faults source.new ≡ S.faults source.old }
+    ensures stays { result ≢ Err ReadStop.Failed → S.faults source.new ≡ S.faults source.old }
     ensures asks { AsksWithin (S.asked source.old) (S.asked source.new) (S.offset source.old + length buf.old) }
     ensures short { IfErr result (IsStopOf (S.size source.old) (S.ends source.old) (S.offset source.old)) }
     ensures reached { WhereTold (S.ends source.old) (λ end. OnOk result (
@@ -90,8 +90,8 @@ pub fn pump<S: Source, K: Sink>(source: &mut S, sink: &mut K) -> Result<(), Pump
     ensures keeps_sink { KeepsSink K.Sink sink.old sink.new }
     ensures read { result ≡ Err PumpFault.Read → Rose (S.faults source.old) (S.faults source.new) }
     ensures write { result ≡ Err PumpFault.Write → Rose (K.faults sink.old) (K.faults sink.new) }
-    ensures read_stands { result ≢ Err PumpFault.Read → S.faults source.new ≡ S.faults source.old }
-    ensures write_stands { result ≢ Err PumpFault.Write → K.faults sink.new ≡ K.faults sink.old }
+    ensures read_stays { result ≢ Err PumpFault.Read → S.faults source.new ≡ S.faults source.old }
+    ensures write_stays { result ≢ Err PumpFault.Write → K.faults sink.new ≡ K.faults sink.old }
     ensures short { IfErr result (IsShortOf (S.size source.old) (S.ends source.old) (S.offset source.old)) }
     ensures reached { IfErr result (IsShortAt (S.offset source.new)) }
 {

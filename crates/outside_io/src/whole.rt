@@ -36,8 +36,8 @@ pub fn read_whole<M: Media>(
     ensures reason { IfErr result (HasReadReason name.now most (M.outside media.old) (M.outside media.new)) }
     ensures there { IsTrue (M.outside media.old).tells → IfErr result (λ unread. WasOpened unread → IsSome ((M.outside media.old).file name.now)) }
     ensures absences { IsSome ((M.outside media.old).file name.now) → (M.outside media.new).absences ≡ (M.outside media.old).absences }
-    ensures read_stands { result ≢ Err Unread.Failed → (M.outside media.new).read_faults ≡ (M.outside media.old).read_faults }
-    ensures absences_stand { result ≢ Err Unread.Absent → (M.outside media.new).absences ≡ (M.outside media.old).absences }
+    ensures read_stays { result ≢ Err Unread.Failed → (M.outside media.new).read_faults ≡ (M.outside media.old).read_faults }
+    ensures absences_stay { result ≢ Err Unread.Absent → (M.outside media.new).absences ≡ (M.outside media.old).absences }
     ensures write_faults { (M.outside media.new).write_faults ≡ (M.outside media.old).write_faults }
 {
     let mut source = match media.source(alloc, name) {
@@ -57,7 +57,7 @@ fn read_rest<S: Source>(alloc: Global, source: &mut S, most: u64) -> Result<Vec<
     ensures bytes { IfOk result (λ bytes. WhereTold (S.told source.old) (λ told. bytes.items ≡ told)) }
     ensures fits { IfOk result (λ bytes. length bytes.items ≤ most) }
     ensures keeps_source { KeepsSource S.Source source.old source.new }
-    ensures stands { result ≢ Err Unread.Failed → S.faults source.new ≡ S.faults source.old }
+    ensures stays { result ≢ Err Unread.Failed → S.faults source.new ≡ S.faults source.old }
     ensures reason { IfErr result (HasRestReason (S.told source.old) (S.ends source.old) most (S.faults source.old) (S.faults source.new)) }
 {
     let size = source.size();
@@ -90,8 +90,8 @@ pub fn write_whole<M: Media>(
         OnErr result (IsKeptOrFrontOf ((M.outside media.old).file name.now) ((M.outside media.new).file name.now) bytes.now) }
     ensures reason { IfErr result (HasWriteReason name.now (M.outside media.old) (M.outside media.new)) }
     ensures absences { IsFalse ((M.outside media.old).may_refuse name.now) → (M.outside media.new).absences ≡ (M.outside media.old).absences }
-    ensures write_stands { result ≢ Err Refused.Failed → (M.outside media.new).write_faults ≡ (M.outside media.old).write_faults }
-    ensures absences_stand { result ≢ Err Refused.Absent → (M.outside media.new).absences ≡ (M.outside media.old).absences }
+    ensures write_stays { result ≢ Err Refused.Failed → (M.outside media.new).write_faults ≡ (M.outside media.old).write_faults }
+    ensures absences_stay { result ≢ Err Refused.Absent → (M.outside media.new).absences ≡ (M.outside media.old).absences }
     ensures read_faults { (M.outside media.new).read_faults ≡ (M.outside media.old).read_faults }
 {
     let mut sink = media.sink(alloc, name)?;

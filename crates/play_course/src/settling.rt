@@ -22,7 +22,7 @@ pub(crate) struct Ran {
 pub(crate) fn has_risen(before: u64, now: u64) -> bool
     requires { before ≤ now }
     ensures risen { IsTrue result → Rose before now }
-    ensures stands { IsFalse result → now ≡ before }
+    ensures stays { IsFalse result → now ≡ before }
 {
     now != before
 }

@@ -29,7 +29,7 @@ pub record IsTried (name : List ℕ) (old mid new : Outside) (fault : WavFault) 
   pub last_absences : new.absences ≡ mid.absences
   pub unfailed : before ≡ 0
   pub rose : fault ≡ WavFaults.Read → Rose before now
-  pub stands : fault ≢ WavFaults.Read → now ≡ before
+  pub stays : fault ≢ WavFaults.Read → now ≡ before
   pub added : new.read_faults ≡ sum_of_counts mid.read_faults now
   pub told_is : told ≡ old.file name
   pub ends_is : ends ≡ old.ends name
@@ -43,7 +43,7 @@ pub record IsTried (name : List ℕ) (old mid new : Outside) (fault : WavFault) 
 module _ (line : ℕ) (name : List ℕ) (old mid new : Outside) (fault : WavFault) (size : ℕ) (told : Option (List ℕ)) (ends : Option ℕ) (before now : ℕ) (T : IsTried name old mid new fault size told ends before now) where
   calm : fault ≢ WavFaults.Read → new.read_faults ≡ old.read_faults
   calm other =
-      let s = T.stands other in
+      let s = T.stays other in
       let z = T.unfailed in
       let a = T.added in
       let f = T.first_reads in

@@ -211,8 +211,8 @@ pub fn write_log<M: Media>(
         OnErr result (IsKeptOrFrontOf ((M.outside media.old).file name.now) ((M.outside media.new).file name.now) text.now) }
     ensures reason { IfErr result (HasWriteReason name.now (M.outside media.old) (M.outside media.new)) }
     ensures absences { IsFalse ((M.outside media.old).may_refuse name.now) → (M.outside media.new).absences ≡ (M.outside media.old).absences }
-    ensures write_stands { result ≢ Err Refused.Failed → (M.outside media.new).write_faults ≡ (M.outside media.old).write_faults }
-    ensures absences_stand { result ≢ Err Refused.Absent → (M.outside media.new).absences ≡ (M.outside media.old).absences }
+    ensures write_stays { result ≢ Err Refused.Failed → (M.outside media.new).write_faults ≡ (M.outside media.old).write_faults }
+    ensures absences_stay { result ≢ Err Refused.Absent → (M.outside media.new).absences ≡ (M.outside media.old).absences }
     ensures read_faults { (M.outside media.new).read_faults ≡ (M.outside media.old).read_faults }
 {
     let Ok(mut held) = Gathered::new(alloc) else {

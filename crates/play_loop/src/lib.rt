@@ -9,7 +9,7 @@ ghost use Rattle.play_model.specs.Reached.{IsOver};
 ghost use Rattle.play_loop.specs.Turns.{AreOver, CanPlay, EndsOf, IsOfComponent, IsOfLink, IsSend, RoundsOf, SomePlay, TurnsOf};
 
 /// What makes the acts of a play: a graph with its conductor. Each call that moves it answers whether an act was accepted.
-pub trait Player {
+pub trait TakeTurns {
     /// What a turn breaks a play off for: a step that failed, or a line of the log that wants memory.
     type Fault;
 
@@ -48,7 +48,7 @@ pub trait Player {
     /// A note is told, a command run, a work claimed, run and finished, as far as each can be.
     fn component_turn(&mut self, component: u32) -> Result<bool, Self::Fault>
         requires there { component < (layout self.old).network.components }
-        requires stands { SomePlay (Plays self.old) }
+        requires plays { SomePlay (Plays self.old) }
         ensures layout { layout self.new ≡ layout self.old }
         ensures turned { IfOk result (λ acted. TurnsOf (layout self.old) (Plays self.old) (Plays self.new) acted
             (IsOfComponent (layout self.old) component)) }
@@ -58,7 +58,7 @@ pub trait Player {
     /// A header is made, unmade, handed over, handed back, as far as each can be.
     fn link_turn(&mut self, link: u32) -> bool
         requires there { link < (layout self.old).network.links }
-        requires stands { SomePlay (Plays self.old) }
+        requires plays { SomePlay (Plays self.old) }
         ensures layout { layout self.new ≡ layout self.old }
         ensures turned { TurnsOf (layout self.old) (Plays self.old) (Plays self.new) result (IsOfLink link) }
         ensures leads { Leads self.old self.new };
@@ -71,7 +71,7 @@ pub trait Player {
 }
 
 /// One round over the conductor, the components and the links. Something was accepted, since something can be.
-fn round<P: Player>(player: &mut P) -> Result<bool, P::Fault>
+fn round<P: TakeTurns>(player: &mut P) -> Result<bool, P::Fault>
     requires { SomePlay (P.Plays player.old) }
     ensures layout { P.layout player.new ≡ P.layout player.old }
     ensures round { IfOk result (λ did. RoundsOf (P.layout player.old) (P.Plays player.old) (P.Plays player.new) did
@@ -94,7 +94,7 @@ fn round<P: Player>(player: &mut P) -> Result<bool, P::Fault>
 }
 
 /// Rounds until the play is over, or a turn has broken it off.
-pub fn play_on<P: Player>(player: &mut P) -> Result<(), P::Fault>
+pub fn play_on<P: TakeTurns>(player: &mut P) -> Result<(), P::Fault>
     requires { CanPlay (P.layout player.old) (P.Plays player.old) 340282366920938463463374607431768211455 }
     ensures layout { P.layout player.new ≡ P.layout player.old }
     ensures over { OnOk result (EndsOf (P.layout player.old) (P.Plays player.old) (P.Plays player.new)) }

@@ -2,7 +2,7 @@
 use Rattle.std.proofs.Common.{◌≡◌, ◌≢◌, ◌⊎◌, inl, inr, ℕ, ◌+◌, ◌<◌, ◌≤◌, Bool, true, false, ◌||◌, if◌then◌else◌, nat_eq, refl, sym, subst, eqb-true, arith}
 use Rattle.std.proofs.lemmas.Bool.{eqb-false}
 use Rattle.play_model.proofs.Queues.{either}
-use Rattle.play_model.specs.Changes.{Change, port_at, IsHalfChanged, HasCommand, IsPortDue, HasCompletion, told_on, conducted, port_on, IsInOrder, IsWhole, IsEmptied}
+use Rattle.play_model.specs.Changes.{Change, port_at, IsHalfChanged, HasCommand, IsPortDue, HasCompletion, told_on, conducted, port_on, IsInOrder, HasAllHeaders, IsEmptied}
 use Rattle.play_model.specs.Play.{Play}
 use Rattle.play_model.specs.Acts.{with_change}
 
@@ -64,7 +64,7 @@ conducted_in_order k j O C low high both = record {
 }
 
 -- what was sent to a port before it was sent the next, and a port that is disabled or Steady, are as before
-pub conducted_whole : (k j : Change) → IsInOrder k → Conducted k j → 2 ≤ k.step → (k.step ≡ 4 → (k.output ≡ 4) × (k.input ≡ 4)) → IsWhole j → IsWhole k
+pub conducted_whole : (k j : Change) → IsInOrder k → Conducted k j → 2 ≤ k.step → (k.step ≡ 4 → (k.output ≡ 4) × (k.input ≡ 4)) → HasAllHeaders j → HasAllHeaders k
 conducted_whole k j O C low both (inl h) = elim C.output [
   | inl a ↦ grind (arith, a, h, C.input, O.output_unsent, O.input_unsent, O.told, O.output_waits, low)
   | inr a ↦ grind (arith, a, h, C.input, O.output_unsent, O.input_unsent, O.told, O.output_disabled, O.input_waits, low)
@@ -146,7 +146,7 @@ port_emptied true k a b (inr h) = inr h
 port_emptied false k a b (inl h) = inl h
 port_emptied false k a b (inr h) = inr (grind (arith, h, a))
 
-pub port_whole : (out : Bool) (k : Change) → (port_at out k ≢ 0) → (port_at out k ≢ 6) → IsWhole (port_on out k) → IsWhole k
+pub port_whole : (out : Bool) (k : Change) → (port_at out k ≢ 0) → (port_at out k ≢ 6) → HasAllHeaders (port_on out k) → HasAllHeaders k
 port_whole true k a b (inl h) = absurd (a (let x = h.0 in omega arith))
 port_whole true k a b (inr (inl h)) = inr (inl (grind (arith, h, b)))
 port_whole true k a b (inr (inr h)) = inr (inr h)
@@ -164,7 +164,7 @@ pub disabling_step : (out : Bool) (k : Change) → IsInOrder k → port_at out k
 disabling_step true k O e = (grind (arith, e, O.output_unsent), grind (arith, e, O.told))
 disabling_step false k O e = (grind (arith, e, O.input_unsent), grind (arith, e, O.told))
 
-pub disabling_part : (out : Bool) (k : Change) → IsInOrder k → port_at out k ≡ 2 → IsWhole k → ⊥
+pub disabling_part : (out : Bool) (k : Change) → IsInOrder k → port_at out k ≡ 2 → HasAllHeaders k → ⊥
 disabling_part out k O e W =
     let s = disabling_step out k O e in
     let low = s.1 in

@@ -2,7 +2,7 @@
 use Rattle.std.proofs.Common.{◌≡◌, ◌≢◌, ◌⊎◌, inl, inr, ℕ, ◌<◌, ◌≤◌, true, false, [], arith}
 use Rattle.play_model.specs.Network.{Flow, headers_of, queue}
 use Rattle.play_model.proofs.Queues.{either}
-use Rattle.play_model.specs.Changes.{Change, IsHalfChanged, IsWhole, IsEmptied, IsSteadyPort}
+use Rattle.play_model.specs.Changes.{Change, IsHalfChanged, HasAllHeaders, IsEmptied, IsSteadyPort}
 use Rattle.play_model.specs.Play.{Layout, Play}
 use Rattle.play_model.specs.Acts.{with_stage}
 use Rattle.play_model.specs.Reached.{IsChanging}
@@ -26,7 +26,7 @@ later_emptied w p l k C late h = elim (later_ports w p l k C late) [
   | inr e ↦ grind (arith, e, h)
 ]
 
-pub later_whole : (w : Layout) (p : Play) (l : ℕ) (k : Change) → IsChanging w p l k → 3 ≤ p.phase → IsWhole k
+pub later_whole : (w : Layout) (p : Play) (l : ℕ) (k : Change) → IsChanging w p l k → 3 ≤ p.phase → HasAllHeaders k
 later_whole w p l k C late = elim (later_ports w p l k C late) [
   | inl e ↦ inr (inl (let a = e.0 in omega arith))
   | inr e ↦ inl (let a = e.1 in omega arith, let b = e.2 in omega arith)

@@ -2,7 +2,7 @@
 use Rattle.std.proofs.Common.{◌≡◌, ◌≢◌, inl, inr, ℕ, ◌<◌, ◌≤◌, Bool, true, false, nat_eq, nat_le, sym, ◌∙◌, eqb-true, arith}
 use Rattle.std.proofs.lemmas.Bool.{eqb-false, leb-true, leb-false}
 use Rattle.play_model.proofs.Queues.{either}
-use Rattle.play_model.specs.Changes.{Change, port_at, IsHalfChanged, HasCommand, HasCompletion, told_on, conducted, port_on, IsInOrder, IsWhole, IsEmptied}
+use Rattle.play_model.specs.Changes.{Change, port_at, IsHalfChanged, HasCommand, HasCompletion, told_on, conducted, port_on, IsInOrder, HasAllHeaders, IsEmptied}
 use Rattle.play_model.specs.Play.{Layout, Play, made}
 use Rattle.play_model.specs.Acts.{Act, CanAct, CanConduct, with_change, acted}
 use Rattle.play_model.specs.Reached.{IsChanging, IsReached}
@@ -11,7 +11,7 @@ use Rattle.play_model.proofs.Changes.{change_case, told_order, conducted_is, con
 -- a change goes on while all are Executing
 change_keeps : (w : Layout) (p : Play) (l : ℕ) (f : Change → Change) → IsReached w p → l < (w.network).links → p.phase ≡ 2 → w.is_late l ≡ true → IsInOrder (f (p.change l)) →
     (IsHalfChanged (f (p.change l)) → (c : ℕ) → c < (w.network).components → p.stage c ≡ 4) →
-    (IsEmptied (f (p.change l)) → made p l ≡ 0) → (IsWhole (f (p.change l)) → made p l ≡ (w.network).count l) → (p.change l).output ≤ (f (p.change l)).output →
+    (IsEmptied (f (p.change l)) → made p l ≡ 0) → (HasAllHeaders (f (p.change l)) → made p l ≡ (w.network).count l) → (p.change l).output ≤ (f (p.change l)).output →
     IsReached w (with_change l f p)
 change_keeps w p l f R below two late order half emptied whole up = record {
   layout = R.layout;
@@ -21,7 +21,7 @@ change_keeps w p l f R below two late order half emptied whole up = record {
   few = R.few;
   first = R.first;
   up = R.up;
-  full = λ x y k b. change_case (λ j c. IsWhole c → made p j ≡ (w.network).count j) l f p k (λ _. whole) (λ _. R.full x y k b);
+  full = λ x y k b. change_case (λ j c. HasAllHeaders c → made p j ≡ (w.network).count j) l f p k (λ _. whole) (λ _. R.full x y k b);
   opening = R.opening;
   sound = R.sound;
   ended = R.ended;
@@ -106,7 +106,7 @@ conduct_keeps w p l R C =
 -- ---- a port goes on
 
 port_keeps : (w : Layout) (p : Play) (l : ℕ) (out : Bool) → IsReached w p → l < (w.network).links → w.is_late l ≡ true → IsPortGoing (port_at out (p.change l)) →
-    (IsEmptied (port_on out (p.change l)) → made p l ≡ 0) → (IsWhole (port_on out (p.change l)) → made p l ≡ (w.network).count l) → IsReached w (with_change l (port_on out) p)
+    (IsEmptied (port_on out (p.change l)) → made p l ≡ 0) → (HasAllHeaders (port_on out (p.change l)) → made p l ≡ (w.network).count l) → IsReached w (with_change l (port_on out) p)
 port_keeps w p l out R below late going emptied whole =
     let k : Change = p.change l in
     let K : IsChanging w p l k = R.changes l below in
@@ -116,7 +116,7 @@ port_keeps w p l out R below late going emptied whole =
 same_emptied : (w : Layout) (p : Play) (l : ℕ) (out : Bool) → IsReached w p → l < (w.network).links → port_at out (p.change l) ≢ 2 → port_at out (p.change l) ≢ 4 → IsEmptied (port_on out (p.change l)) → made p l ≡ 0
 same_emptied w p l out R b x y h = (R.changes l b).emptied (port_emptied out (p.change l) x y h)
 
-same_whole : (w : Layout) (p : Play) (l : ℕ) (out : Bool) → IsReached w p → l < (w.network).links → IsPortGoing (port_at out (p.change l)) → port_at out (p.change l) ≢ 6 → IsWhole (port_on out (p.change l)) →
+same_whole : (w : Layout) (p : Play) (l : ℕ) (out : Bool) → IsReached w p → l < (w.network).links → IsPortGoing (port_at out (p.change l)) → port_at out (p.change l) ≢ 6 → HasAllHeaders (port_on out (p.change l)) →
     made p l ≡ (w.network).count l
 same_whole w p l out R b g y h =
     let half = ((R.changes l b).half (port_half out (p.change l) (R.changes l b).order g)).0 in

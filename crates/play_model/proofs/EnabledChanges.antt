@@ -5,7 +5,7 @@ use Rattle.play_model.specs.Network.{LinkState}
 use Rattle.play_model.specs.Progress.{IsLinkOf}
 use Rattle.play_model.proofs.Queues.{either, both}
 use Rattle.play_model.proofs.Stuck.{sought, and_true, not_true}
-use Rattle.play_model.specs.Changes.{Change, port_at, IsChanged, IsHalfChanged, IsSteadyPort, HasCommand, HasCompletion, IsInOrder, IsWhole}
+use Rattle.play_model.specs.Changes.{Change, port_at, IsChanged, IsHalfChanged, IsSteadyPort, HasCommand, HasCompletion, IsInOrder, HasAllHeaders}
 use Rattle.play_model.specs.Play.{Layout, Play, made, supplier, other_component, IsRunning, IsUnbroken}
 use Rattle.play_model.specs.Acts.{Act, CanAct, ArePorts}
 use Rattle.play_model.specs.Reached.{IsChanging, IsReached, IsAwaitedAt}
@@ -240,7 +240,7 @@ awaits w p l R A unbroken b t low =
 abbrev pub IsFree : Layout → Play → ℕ → Type 0
 IsFree w p l = (w.is_late l ≡ false) ⊎ IsChanged (p.change l)
 
-pub free_whole : (w : Layout) (p : Play) (l : ℕ) → IsChanging w p l (p.change l) → IsFree w p l → IsWhole (p.change l)
+pub free_whole : (w : Layout) (p : Play) (l : ℕ) → IsChanging w p l (p.change l) → IsFree w p l → HasAllHeaders (p.change l)
 free_whole w p l K (inl f) = let z = K.fixed f in let u = unsent w p l (p.change l) K (omega arith) in let a = u.0 in let b = u.1 in inl (omega arith, omega arith)
 free_whole w p l K (inr c) = inr (inl (let e = c.1 in omega arith))
 

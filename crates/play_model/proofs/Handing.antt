@@ -7,7 +7,7 @@ use Rattle.play_model.specs.Progress.{IsLinkOf}
 use Rattle.play_model.proofs.Queues.{either, both}
 use Rattle.play_model.proofs.Keeps.{Same, same_at, same_keeps, on_same, move_keeps, ended_other, took_closed, took_going}
 use Rattle.play_model.proofs.Full.{move_headers, opening_sound}
-use Rattle.play_model.specs.Changes.{IsDisabling, IsWhole, IsEmptied}
+use Rattle.play_model.specs.Changes.{IsDisabling, HasAllHeaders, IsEmptied}
 use Rattle.play_model.specs.Play.{Layout, Play, supplier, other_component, IsExecuting, IsRunning, IsSettled, HasDone, HasUnused}
 use Rattle.play_model.specs.Acts.{Act, CanAct, CanActs, back_held, given_unused, hand, other_port, acted, all_acted}
 use Rattle.play_model.specs.Reached.{IsChanging, IsReached, IsBegun}
@@ -133,7 +133,7 @@ unused_down w p l R below e unused =
       few = λ k b. at_case (λ j x. headers_of x ≤ (w.network).count j) l (given_unused out) s k (λ _. let f = R.few l below in omega arith) (λ _. R.few k b);
       first = R.first;
       up = λ q. absurd (omega arith);
-      full = λ x y k b W. at_case (λ j z. headers_of z ≡ (w.network).count j) l (given_unused out) s k (λ d. same ∙ R.full x y l below (subst (λ (j : ℕ). IsWhole (p.change j)) d W)) (λ _. R.full x y k b W);
+      full = λ x y k b W. at_case (λ j z. headers_of z ≡ (w.network).count j) l (given_unused out) s k (λ d. same ∙ R.full x y l below (subst (λ (j : ℕ). HasAllHeaders (p.change j)) d W)) (λ _. R.full x y k b W);
       opening = λ q. absurd (omega arith);
       sound = λ q. absurd (omega arith);
       ended = R.ended;
@@ -175,7 +175,7 @@ unused_change w p l R below e unused =
       few = λ k b. at_case (λ j x. headers_of x ≤ (w.network).count j) l (given_unused out) s k (λ _. let f = R.few l below in omega arith) (λ _. R.few k b);
       first = R.first;
       up = λ q. absurd (omega arith);
-      full = λ x y k b W. at_case (λ j z. headers_of z ≡ (w.network).count j) l (given_unused out) s k (λ d. headers ∙ R.full x y l below (subst (λ (j : ℕ). IsWhole (p.change j)) d W)) (λ _. R.full x y k b W);
+      full = λ x y k b W. at_case (λ j z. headers_of z ≡ (w.network).count j) l (given_unused out) s k (λ d. headers ∙ R.full x y l below (subst (λ (j : ℕ). HasAllHeaders (p.change j)) d W)) (λ _. R.full x y k b W);
       opening = λ q. absurd (omega arith);
       sound = λ q. same_keeps w.network s t.link same (R.sound q);
       ended = λ q. absurd (omega arith);

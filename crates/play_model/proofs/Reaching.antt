@@ -7,7 +7,7 @@ use Rattle.play_model.specs.Account.{IsSound, IsOpening}
 use Rattle.play_model.specs.Progress.{IsLinkOf, AllEnded}
 use Rattle.play_model.proofs.Queues.{either, both}
 use Rattle.play_model.proofs.Keeps.{Same, same_at, same_keeps}
-use Rattle.play_model.specs.Changes.{Change, port_at, IsChanged, IsHalfChanged, IsEnabledPort, IsDisabling, IsWhole, IsEmptied}
+use Rattle.play_model.specs.Changes.{Change, port_at, IsChanged, IsHalfChanged, IsEnabledPort, IsDisabling, HasAllHeaders, IsEmptied}
 use Rattle.play_model.specs.Play.{Layout, Play, made, supplier, IsSettled, IsLeaving, HasHome, IsDue}
 use Rattle.play_model.specs.Acts.{Act, CanBegin, CanAct, with_stage, reset_link, reset_all, supplied, less_sent, less_held, released, supplier_port, acted}
 use Rattle.play_model.specs.Reached.{IsChanging, IsReached}
@@ -270,7 +270,7 @@ supply_when w p l R C =
       | inr (inr (inr a)) ↦ let q = a.1 in let v = R.leaving a.0 l C.0 few in absurd (omega arith)
     ]
   where
-    enabling : (k : Change) → IsEnabledPort k.output × IsEnabledPort k.input → (IsWhole k → ⊥) → (6 ≤ k.output) ⊎ (6 ≤ k.input)
+    enabling : (k : Change) → IsEnabledPort k.output × IsEnabledPort k.input → (HasAllHeaders k → ⊥) → (6 ≤ k.output) ⊎ (6 ≤ k.input)
     enabling k (inl a, inl b) n = absurd (n (inl (a, b)))
     enabling k (inr a, b) n = inl a
     enabling k (inl a, inr b) n = inr b
@@ -297,7 +297,7 @@ supply_keeps w p l R C =
           (λ d. absurd (let less = C.3 in let f = R.up q c b h l (subst (λ (j : ℕ). IsLinkOf w.network c j) d I) in omega arith))
           (λ _. R.up q c b h k I);
       full = λ x y k b W. at_case (λ j z. headers_of z ≡ (w.network).count j) l (supplied out) s k
-          (λ d. absurd (let less = C.3 in let f = R.full x y l C.0 (subst (λ (j : ℕ). IsWhole (p.change j)) d W) in omega arith))
+          (λ d. absurd (let less = C.3 in let f = R.full x y l C.0 (subst (λ (j : ℕ). HasAllHeaders (p.change j)) d W) in omega arith))
           (λ _. R.full x y k b W);
       opening = λ q. same_opening w.network s t.link same (R.opening q);
       sound = λ q. same_keeps w.network s t.link same (R.sound q);
@@ -433,7 +433,7 @@ release_change w p l R below e home =
       first = R.first;
       up = λ q. absurd (omega arith);
       full = λ x y k b W. at_case (λ j z. headers_of z ≡ (w.network).count j) l (released out) s k
-          (λ d. absurd (disabling_part out (p.change l) (R.changes l below).order e (subst (λ (j : ℕ). IsWhole (p.change j)) d W)))
+          (λ d. absurd (disabling_part out (p.change l) (R.changes l below).order e (subst (λ (j : ℕ). HasAllHeaders (p.change j)) d W)))
           (λ _. R.full x y k b W);
       opening = λ q. absurd (omega arith);
       sound = λ q. same_keeps w.network s t.link same (R.sound q);

@@ -82,8 +82,8 @@ pub record IsInOrder (k : Change) : Type 0 where
   pub input_enabled : both_enables_sent ≤ k.step → enable_queued ≤ k.input
 
 -- no port is on its way, or one is Steady again: all headers of the link are made
-abbrev pub IsWhole : Change → Type 0
-IsWhole k = ((k.output ≤ disable_queued) × (k.input ≤ disable_queued)) ⊎ (enable_done ≤ k.output) ⊎ (enable_done ≤ k.input)
+abbrev pub HasAllHeaders : Change → Type 0
+HasAllHeaders k = ((k.output ≤ disable_queued) × (k.input ≤ disable_queued)) ⊎ (enable_done ≤ k.output) ⊎ (enable_done ≤ k.input)
 
 -- a port is disabled: no header of the link is made
 abbrev pub IsEmptied : Change → Type 0

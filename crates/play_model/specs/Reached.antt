@@ -4,7 +4,7 @@ use Rattle.play_model.specs.Network.{Network, LinkState, queue}
 use Rattle.play_model.specs.Account.{IsSound, IsOpening}
 use Rattle.play_model.specs.Progress.{IsLinkOf, AllEnded, sum_to, work_left, all_headers}
 use Rattle.play_model.specs.Numbers.{unbegun, to_idle, to_executing, back_to_idle, to_loaded, transition_pending, state_reached, state_told, not_announced, settings_told, both_disables_sent, both_enables_sent, untouched, disable_pending, enable_done, enable_told}
-use Rattle.play_model.specs.Changes.{Change, IsChanged, IsHalfChanged, IsInOrder, IsWhole, IsEmptied}
+use Rattle.play_model.specs.Changes.{Change, IsChanged, IsHalfChanged, IsInOrder, HasAllHeaders, IsEmptied}
 use Rattle.play_model.specs.Acts.{Act, other_port}
 use Rattle.play_model.specs.Play.{Layout, IsLayout, Play, made, supplier, other_component, IsSettled}
 
@@ -33,7 +33,7 @@ pub record IsReached (w : Layout) (p : Play) : Type 0 where
   pub up : p.phase ≡ to_idle → (c : ℕ) → c < (w.network).components → state_reached ≤ p.stage c → (l : ℕ) → IsLinkOf w.network c l →
       made p l ≡ (w.network).count l
   -- while they run each link has its headers, but for the time in which it is changed
-  pub full : to_executing ≤ p.phase → p.phase ≤ back_to_idle → (l : ℕ) → l < (w.network).links → IsWhole (p.change l) → made p l ≡ (w.network).count l
+  pub full : to_executing ≤ p.phase → p.phase ≤ back_to_idle → (l : ℕ) → l < (w.network).links → HasAllHeaders (p.change l) → made p l ≡ (w.network).count l
   -- nothing flows before Executing is begun; the account holds until the second Idle is begun, and then all have ended
   pub opening : p.phase ≤ to_idle → IsOpening w.network p.flow
   pub sound : p.phase ≤ to_executing → IsSound w.network p.flow

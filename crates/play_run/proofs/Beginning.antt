@@ -31,7 +31,7 @@ use Rattle.play_log.specs.Scenes.{Scene, scene_of}
 use Rattle.play_result_laws.specs.Asked.{tuned}
 use Rattle.play_run.specs.Asking.{Asks, IsAsking, answered, handles_of}
 use Rattle.play_run.specs.Closing.{HasBegun}
-use Rattle.play_run.specs.Recording.{FreesNone, IsByPlayer, IsPrinted, IsRecorded, IsWhole}
+use Rattle.play_run.specs.Recording.{FreesNone, IsByPlayer, IsPrinted, IsRecorded, HasNotFailed}
 use Rattle.play_graph.specs.Graphs.{kept_of}
 use Rattle.play_run.specs.Playing.{HaveNoWork, IsPlaying, PlayingValue, cast, layout_of}
 use Rattle.play_run.specs.Opening.{IsOpeningGraph}
@@ -98,7 +98,7 @@ module _ {S K : Type 0} (x : PlayingValue S K) (files : PlayFiles) (O : IsOpenin
   }
 
   nothing_recorded : IsRecorded x.plan.parts O.world O.world x.log (Asks x.plan files O.world 0 x.conductor [])
-  nothing_recorded = record { history = []; runs = refl; alone = All-nil IsByPlayer; whole = All-nil IsWhole; stay = All-nil FreesNone; printed = All-nil IsPrinted; asks = nothing_asked; keeps = empty (scene_of x.plan.parts O.world) }
+  nothing_recorded = record { history = []; runs = refl; alone = All-nil IsByPlayer; whole = All-nil HasNotFailed; stay = All-nil FreesNone; printed = All-nil IsPrinted; asks = nothing_asked; keeps = empty (scene_of x.plan.parts O.world) }
 
   begins_playing : (Y : IsPlaying x opening) × (Y.standing.files ≡ files) × (Y.standing.world ≡ O.world)
   begins_playing = (

@@ -16,32 +16,32 @@ use Rattle.play_log.specs.Entries.{Entry, steps_of}
 use Rattle.play_course.specs.Failing.{HasFailure, IsShortBehind, TellsFirst}
 use Rattle.play_course.proofs.Failing.{unfailed}
 use Rattle.play_run.specs.Faults.{fault_at}
-use Rattle.play_run.specs.Recording.{IsWhole}
+use Rattle.play_run.specs.Recording.{HasNotFailed}
 
 -- among whole entries none failed
-pub none_whole : (entries : List Entry) (place : ℕ) (why : PartFault) → All IsWhole entries → HasFailure (steps_of entries) place why → ⊥
+pub none_whole : (entries : List Entry) (place : ℕ) (why : PartFault) → All HasNotFailed entries → HasFailure (steps_of entries) place why → ⊥
 none_whole [] place why whole failed = absurd failed
 none_whole (entry ∷ entries) place why whole failed = elim failed [
-  | inl here ↦ unfailed entry.act place why (All-head IsWhole entry entries whole) here
-  | inr later ↦ none_whole entries place why (All-tail IsWhole entry entries whole) later
+  | inl here ↦ unfailed entry.act place why (All-head HasNotFailed entry entries whole) here
+  | inr later ↦ none_whole entries place why (All-tail HasNotFailed entry entries whole) later
 ]
 
 failed_later : (xs ys : List (Act × Reply)) (place : ℕ) (why : PartFault) → HasFailure ys place why → HasFailure (xs ++ ys) place why
 failed_later [] ys place why failed = failed
 failed_later (x ∷ xs) ys place why failed = inr (failed_later xs ys place why failed)
 
-failed_behind : (entries : List Entry) (ys : List (Act × Reply)) (place : ℕ) (why : PartFault) → All IsWhole entries → HasFailure (steps_of entries ++ ys) place why → HasFailure ys place why
+failed_behind : (entries : List Entry) (ys : List (Act × Reply)) (place : ℕ) (why : PartFault) → All HasNotFailed entries → HasFailure (steps_of entries ++ ys) place why → HasFailure ys place why
 failed_behind [] ys place why whole failed = failed
 failed_behind (entry ∷ entries) ys place why whole failed = elim failed [
-  | inl here ↦ absurd (unfailed entry.act place why (All-head IsWhole entry entries whole) here)
-  | inr later ↦ failed_behind entries ys place why (All-tail IsWhole entry entries whole) later
+  | inl here ↦ absurd (unfailed entry.act place why (All-head HasNotFailed entry entries whole) here)
+  | inr later ↦ failed_behind entries ys place why (All-tail HasNotFailed entry entries whole) later
 ]
 
 -- ---- a claim, and the end of its step, which failed
 
 module _ (opening w between v : World) (entries : List Entry) (h : Handle) (work : WorkSeen) (done : WorkDone) (place : ℕ) (fault : PartFault)
     (goes : Claim w h (Ok (ClaimedWork work)) between) (meets : Meets between (acts.Finish done)) (comes : Finish between done v)
-    (runs : Run opening (steps_of entries) w) (whole : All IsWhole entries) (its : done.component ≡ place) (failed : done.fault ≡ Some fault) where
+    (runs : Run opening (steps_of entries) w) (whole : All HasNotFailed entries) (its : done.component ≡ place) (failed : done.fault ≡ Some fault) where
   abbrev ending : List (Act × Reply)
   ending = (acts.Claim h, acts.Claimed (Ok (ClaimedWork work))) ∷ (acts.Finish done, acts.Finished) ∷ []
 

@@ -35,7 +35,7 @@ use Rattle.play_graph.proofs.Naming.{at_handle}
 use Rattle.play_result_laws.specs.Asked.{is_unasked, tuned}
 use Rattle.play_run.specs.Asking.{IsAsking, answered, handles_of}
 use Rattle.play_run.specs.Playing.{AsksIn, IsPlaying, IsStanding, PlayingValue}
-use Rattle.play_run.specs.Recording.{FreesNone, IsBeginning, IsByPlayer, IsNameAt, IsPrinted, IsRecorded, IsTold, IsToldOf, IsToldOfBoth, IsWhole}
+use Rattle.play_run.specs.Recording.{FreesNone, IsBeginning, IsByPlayer, IsNameAt, IsPrinted, IsRecorded, IsTold, IsToldOf, IsToldOfBoth, HasNotFailed}
 use Rattle.play_run.proofs.Timely.{asking_rests}
 
 -- ---- one entry more
@@ -49,7 +49,7 @@ module _ (parts : List PartLine) (opening w v : World) (old new : LogValue) (Ask
         history = R.history ++ entry ∷ [];
         runs = subst (λ (xs : List (Act × Reply)). Run opening xs v) (sym (map-append step_of R.history (entry ∷ []))) (run_snoc opening w v (steps_of R.history) a r R.runs met step);
         alone = All-push IsByPlayer R.history entry R.alone refl;
-        whole = All-push IsWhole R.history entry R.whole whole;
+        whole = All-push HasNotFailed R.history entry R.whole whole;
         stay = All-push FreesNone R.history entry R.stay stay;
         printed = All-push IsPrinted R.history entry R.printed printed;
         asks = subst Next (sym (map-append step_of R.history (entry ∷ []))) (next (steps_of R.history) R.asks);

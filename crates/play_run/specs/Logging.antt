@@ -16,7 +16,7 @@ use Rattle.play_result_laws.specs.Asked.{IsConducted, tuned}
 use Rattle.play_result_laws.specs.Files.{IsWriter}
 use Rattle.play_result_laws.specs.Worlds.{HasWritten, IsOpening}
 use Rattle.play_run.specs.Asking.{handles_of}
-use Rattle.play_run.specs.Recording.{IsBeginning, IsByPlayer, IsPrinted, IsWhole}
+use Rattle.play_run.specs.Recording.{IsBeginning, IsByPlayer, IsPrinted, HasNotFailed}
 
 -- Entries of the thread that plays lead from where the play begins to the ending, where it was done whole. The log keeps them.
 pub record IsKeptTo (plan : PlanValue) (files : PlayFiles) (log : LogValue) (ending : World) : Type 0 where
@@ -25,7 +25,7 @@ pub record IsKeptTo (plan : PlanValue) (files : PlayFiles) (log : LogValue) (end
   pub history : List Entry
   pub runs : Run opening (steps_of history) ending
   pub alone : All IsByPlayer history
-  pub whole : All IsWhole history
+  pub whole : All HasNotFailed history
   pub conducted : IsConducted (tuned plan files) (handles_of opening) (steps_of history)
   pub printed : All IsPrinted history
   pub keeps : Keeps (scene_of plan.parts opening) history log

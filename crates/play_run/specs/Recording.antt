@@ -30,8 +30,8 @@ abbrev pub IsByPlayer : Entry → Type 0
 IsByPlayer entry = entry.pass ≡ 0
 
 -- it is no step that failed
-abbrev pub IsWhole : Entry → Type 0
-IsWhole entry = IsUnbroken entry.act
+abbrev pub HasNotFailed : Entry → Type 0
+HasNotFailed entry = IsUnbroken entry.act
 
 -- it frees no component
 abbrev pub FreesNone : Entry → Type 0
@@ -46,7 +46,7 @@ pub record IsRecorded (parts : List PartLine) (opening w : World) (log : LogValu
   pub history : List Entry
   pub runs : Run opening (steps_of history) w
   pub alone : All IsByPlayer history
-  pub whole : All IsWhole history
+  pub whole : All HasNotFailed history
   pub stay : All FreesNone history
   pub printed : All IsPrinted history
   pub asks : Asks (steps_of history)

@@ -16,7 +16,7 @@ ghost use Rattle.play_run.specs.Playing.{HasParts};
 ghost use Rattle.play_run.specs.Recording.{IsNameAt};
 ghost use Rattle.play_run.specs.Changing.{CanChange, CanChangeFrom, ChangedFrom, ChangesTo, IsLinkFrom, sending, sent_as, set_as};
 
-use crate::lines::{port_at, tell};
+use crate::lines::{log_act, port_at};
 use crate::playing::Playing;
 use act_text::{ActText, PortName};
 use conductor::ChangeStep;
@@ -128,7 +128,7 @@ impl<S: Source, K: Sink> Playing<S, K> {
         let _ = self
             .graph
             .send_command(port.handle, port_command(disables, port.index));
-        tell(&mut self.log, None, &port_sent(disables, name));
+        log_act(&mut self.log, None, &port_sent(disables, name));
     }
 
     /// The link's tunnel is dropped.
@@ -144,7 +144,7 @@ impl<S: Source, K: Sink> Playing<S, K> {
         let second = self.port_name(link, End::Input);
         law_of_changed_streams();
         let _ = self.graph.drop_tunnel(output, input);
-        tell(&mut self.log, None, &dropped(first, second));
+        log_act(&mut self.log, None, &dropped(first, second));
     }
 
     /// The definition of the port at the link's end is set.
@@ -163,7 +163,7 @@ impl<S: Source, K: Sink> Playing<S, K> {
             definition_key(port.index),
             Param::Port(definition),
         );
-        tell(
+        log_act(
             &mut self.log,
             None,
             &set_port(name, definition.format, definition.count, definition.size),
@@ -183,7 +183,7 @@ impl<S: Source, K: Sink> Playing<S, K> {
         let second = self.port_name(link, End::Input);
         law_of_changed_streams();
         let _ = self.graph.setup_tunnel(output, input);
-        tell(&mut self.log, None, &joined(first, second, Supplier::Input));
+        log_act(&mut self.log, None, &joined(first, second, Supplier::Input));
     }
 
     /// Both ports are to be disabled.

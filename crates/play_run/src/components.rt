@@ -17,7 +17,7 @@ ghost use Rattle.play_run.specs.Playing.{FilesStay, IsPlaying, TurnsTo, layout_o
 ghost use Rattle.play_run.specs.Turning.{FailsOn};
 
 use crate::failure::Failure;
-use crate::lines::{Slot, name_at, tell};
+use crate::lines::{Slot, log_act, name_at};
 use crate::links::did;
 use crate::playing::Playing;
 use conductor::PlayClient;
@@ -44,7 +44,7 @@ fn event_of(taken: Taken) -> Event
 fn told_of(mut client: PlayClient, event: Event) -> PlayClient
     ensures { result ≡ moved_by event client }
 {
-    client.told(event);
+    client.hear(event);
     client
 }
 
@@ -69,7 +69,7 @@ impl<S: Source, K: Sink> Playing<S, K> {
     /// The component's oldest note is told to its client object.
     pub(crate) fn tell(&mut self, component: u32) -> bool
         requires there { component < length self.old.plan.parts }
-        requires stands { SomePlay (IsPlaying self.old) }
+        requires plays { SomePlay (IsPlaying self.old) }
         ensures plan { self.new.plan ≡ self.old.plan }
         ensures files { KeepsAllFiles self.old.graph self.new.graph }
         ensures turned { TurnsTo self.old self.new result (IsTellingOf (layout_of self.old.plan) component) }
@@ -83,10 +83,10 @@ impl<S: Source, K: Sink> Playing<S, K> {
                 let Call { client, taken } = call;
                 let event = event_of(taken);
                 let name = name_at(&self.plan, place);
-                tell(&mut self.log, None, &took(name, event));
+                log_act(&mut self.log, None, &took(name, event));
                 self.graph.law_of_worlds();
                 self.graph.end_note(h, told_of(client, event));
-                tell(&mut self.log, None, &ended(name));
+                log_act(&mut self.log, None, &ended(name));
                 true
             }
             Ok(Took::None) => false,
@@ -98,7 +98,7 @@ impl<S: Source, K: Sink> Playing<S, K> {
     /// The component's command is run.
     pub(crate) fn run(&mut self, component: u32) -> bool
         requires there { component < length self.old.plan.parts }
-        requires stands { SomePlay (IsPlaying self.old) }
+        requires plays { SomePlay (IsPlaying self.old) }
         ensures plan { self.new.plan ≡ self.old.plan }
         ensures files { KeepsAllFiles self.old.graph self.new.graph }
         ensures turned { TurnsTo self.old self.new result (IsRunOf (layout_of self.old.plan) component) }
@@ -109,14 +109,14 @@ impl<S: Source, K: Sink> Playing<S, K> {
         if !did(self.graph.run_command(h)) {
             return false;
         }
-        tell(&mut self.log, None, &ran(name_at(&self.plan, place)));
+        log_act(&mut self.log, None, &ran(name_at(&self.plan, place)));
         true
     }
 
     /// The component's part does a step.
     pub(crate) fn step(&mut self, component: u32) -> Result<bool, Failure>
         requires there { component < length self.old.plan.parts }
-        requires stands { SomePlay (IsPlaying self.old) }
+        requires plays { SomePlay (IsPlaying self.old) }
         ensures plan { self.new.plan ≡ self.old.plan }
         ensures objects { OnOk result (FilesStay (ObjectStays S.size S.told S.ends S.offset S.faults K.name K.faults) self.old self.new) }
         ensures turned { IfOk result (λ acted. TurnsTo self.old self.new acted (IsStepOf (layout_of self.old.plan) component)) }
@@ -138,14 +138,14 @@ impl<S: Source, K: Sink> Playing<S, K> {
             None => return Ok(false),
         };
         let name = name_at(&self.plan, place);
-        tell(&mut self.log, Slot::Claimed(place).number(), &claimed(name));
+        log_act(&mut self.log, Slot::Claimed(place).number(), &claimed(name));
         let done = work.run();
         let frames = done.frames();
         let fault = done.fault();
         self.graph.finish(done);
         match fault {
             None => {
-                tell(
+                log_act(
                     &mut self.log,
                     Slot::Finished(place).number(),
                     &finished(name, frames),

@@ -31,7 +31,7 @@ pub(crate) fn port_at(plan: &Plan, place: u32, index: u32) -> PortName
 
 /// The log gets the line of an act of this thread. At a slot the words are taken again that were told there before. Where memory is
 /// wanting the log says so, and the play stops before its next step.
-pub(crate) fn tell(log: &mut Log, slot: Option<usize>, said: &ActText)
+pub(crate) fn log_act(log: &mut Log, slot: Option<usize>, said: &ActText)
     ensures { IsTold log.old said.now log.new }
 {
     let _ = log.entry(0, slot, said);

@@ -7,7 +7,7 @@ ghost use Rattle.play_loop.specs.Turns.{SomePlay};
 ghost use Rattle.play_turn_laws.specs.Turns.{IsAct, IsBackOf, is_did};
 ghost use Rattle.play_run.specs.Playing.{IsPlaying, TurnsTo};
 
-use crate::lines::{Slot, port_at, tell};
+use crate::lines::{Slot, log_act, port_at};
 use crate::playing::Playing;
 use il_graph::Acted;
 use outside_io::{Sink, Source};
@@ -29,7 +29,7 @@ impl<S: Source, K: Sink> Playing<S, K> {
     /// The input makes a header.
     pub(crate) fn supply(&mut self, link: u32) -> bool
         requires there { link < length self.old.plan.joints }
-        requires stands { SomePlay (IsPlaying self.old) }
+        requires plays { SomePlay (IsPlaying self.old) }
         ensures plan { self.new.plan ≡ self.old.plan }
         ensures files { KeepsAllFiles self.old.graph self.new.graph }
         ensures turned { TurnsTo self.old self.new result (IsAct (Act.Supply link)) }
@@ -41,7 +41,7 @@ impl<S: Source, K: Sink> Playing<S, K> {
             return false;
         }
         let port = port_at(&self.plan, joint.taker, joint.input);
-        tell(
+        log_act(
             &mut self.log,
             Slot::Supplied(link).number(),
             &supplied(port),
@@ -52,7 +52,7 @@ impl<S: Source, K: Sink> Playing<S, K> {
     /// The input unmakes a header.
     pub(crate) fn release(&mut self, link: u32) -> bool
         requires there { link < length self.old.plan.joints }
-        requires stands { SomePlay (IsPlaying self.old) }
+        requires plays { SomePlay (IsPlaying self.old) }
         ensures plan { self.new.plan ≡ self.old.plan }
         ensures files { KeepsAllFiles self.old.graph self.new.graph }
         ensures turned { TurnsTo self.old self.new result (IsAct (Act.Release link)) }
@@ -64,7 +64,7 @@ impl<S: Source, K: Sink> Playing<S, K> {
             return false;
         }
         let port = port_at(&self.plan, joint.taker, joint.input);
-        tell(
+        log_act(
             &mut self.log,
             Slot::Released(link).number(),
             &released(port),
@@ -75,7 +75,7 @@ impl<S: Source, K: Sink> Playing<S, K> {
     /// The input hands an emptied header to the output.
     pub(crate) fn hand_over(&mut self, link: u32) -> bool
         requires there { link < length self.old.plan.joints }
-        requires stands { SomePlay (IsPlaying self.old) }
+        requires plays { SomePlay (IsPlaying self.old) }
         ensures plan { self.new.plan ≡ self.old.plan }
         ensures files { KeepsAllFiles self.old.graph self.new.graph }
         ensures turned { TurnsTo self.old self.new result (IsAct (Act.HandOver link)) }
@@ -87,7 +87,7 @@ impl<S: Source, K: Sink> Playing<S, K> {
             return false;
         }
         let port = port_at(&self.plan, joint.taker, joint.input);
-        tell(
+        log_act(
             &mut self.log,
             Slot::HandedOver(link).number(),
             &handed_over(port),
@@ -98,7 +98,7 @@ impl<S: Source, K: Sink> Playing<S, K> {
     /// The output hands a filled header to the input, or one that it didn't use.
     pub(crate) fn hand_back(&mut self, link: u32) -> bool
         requires there { link < length self.old.plan.joints }
-        requires stands { SomePlay (IsPlaying self.old) }
+        requires plays { SomePlay (IsPlaying self.old) }
         ensures plan { self.new.plan ≡ self.old.plan }
         ensures files { KeepsAllFiles self.old.graph self.new.graph }
         ensures turned { TurnsTo self.old self.new result (IsBackOf link) }
@@ -110,7 +110,7 @@ impl<S: Source, K: Sink> Playing<S, K> {
             return false;
         }
         let port = port_at(&self.plan, joint.giver, joint.output);
-        tell(
+        log_act(
             &mut self.log,
             Slot::HandedBack(link).number(),
             &handed_back(port),

@@ -3,9 +3,9 @@
 use crate::failure::Stop;
 use crate::playing::Playing;
 use outside_io::{Sink, Source};
-use play_loop::Player;
+use play_loop::TakeTurns;
 
-impl<S: Source, K: Sink> Player for Playing<S, K> {
+impl<S: Source, K: Sink> TakeTurns for Playing<S, K> {
     ghost use Rattle.audio_parts.specs.ObjectLaws.{object_further, object_itself, shows_earlier};
     ghost use Rattle.audio_parts.specs.Objects.{ObjectShows, ObjectStays};
     ghost use Rattle.play_run.specs.Playing.{IsPlaying, LeadsOn, layout_of};

@@ -11,7 +11,7 @@ ghost use Rattle.play_loop.specs.Turns.{IsSend, SomePlay};
 ghost use Rattle.play_run.specs.Playing.{HasParts, IsPlaying, TurnsTo, layout_of};
 ghost use Rattle.play_run.specs.Sending.{AreViews, CanSend, SentOf};
 
-use crate::lines::{name_at, tell};
+use crate::lines::{log_act, name_at};
 use crate::playing::Playing;
 use conductor::{Conductor, Phase};
 use il_graph::{Command, Progress, State};
@@ -61,7 +61,7 @@ impl<S: Source, K: Sink> Playing<S, K> {
         for place in 0..self.count() {
             let h = self.handle(place);
             let _ = self.graph.send_command(h, Command::StateSet(state));
-            tell(
+            log_act(
                 &mut self.log,
                 None,
                 &sent(name_at(&self.plan, place), state),

@@ -21,10 +21,10 @@ abbrev pub with_pads : ℕ → Incoming → Incoming
 with_pads size came = record { input = λ i. padded size (came.input i); file = came.file }
 
 -- an input of the part that has this size
-abbrev pub IsWhole : ℕ → ℕ → Incoming → Type 0
-IsWhole inputs size came = (i : ℕ) × (i < inputs) × (length (came.input i) ≡ size)
+abbrev pub HasFullInput : ℕ → ℕ → Incoming → Type 0
+HasFullInput inputs size came = (i : ℕ) × (i < inputs) × (length (came.input i) ≡ size)
 
-only_whole : (size : ℕ) (came : Incoming) → IsWhole 1 size came → (i : ℕ) → i < 1 → padded size (came.input i) ≡ came.input i
+only_whole : (size : ℕ) (came : Incoming) → HasFullInput 1 size came → (i : ℕ) → i < 1 → padded size (came.input i) ≡ came.input i
 only_whole size came one i l =
     let low = one.1 in
     let is : one.0 ≡ i = omega arith in
@@ -32,7 +32,7 @@ only_whole size came one i l =
 
 padded_by : (kind : Kind) (inputs outputs : List Format) (factors : List ℕ) (size : ℕ) (came : Incoming) (output : ℕ)
     → ((i : ℕ) → i < (shape_by kind inputs outputs factors).inputs → length (came.input i) ≤ size)
-    → (is_source kind ≡ false → IsWhole (shape_by kind inputs outputs factors).inputs size came)
+    → (is_source kind ≡ false → HasFullInput (shape_by kind inputs outputs factors).inputs size came)
     → (shape_by kind inputs outputs factors).plain (with_pads size came) output ≡ (shape_by kind inputs outputs factors).plain came output
 padded_by kinds.Source inputs outputs factors size came output low one = refl
 padded_by kinds.Late inputs outputs factors size came output low one = refl

@@ -94,7 +94,7 @@ pub fn unpopulate<C>(component: &mut Component<C>, port: Port)
     ensures kept { KeepsNotices component.old component.new }
 {
     if is_unpopulating(component, port) {
-        component.tell(Event::Error(OmxError::PortUnpopulated));
+        component.queue_event(Event::Error(OmxError::PortUnpopulated));
     }
 }
 

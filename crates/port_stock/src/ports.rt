@@ -41,7 +41,7 @@ impl Firsts {
         self.places[told_at(component)]
     }
 
-    fn tell(&mut self, component: u64, first: usize) {
+    fn set_first(&mut self, component: u64, first: usize) {
         self.places[told_at(component)] = first;
     }
 
@@ -106,7 +106,7 @@ pub fn add(
         ports.truncate(first);
         return Err(refused);
     }
-    firsts.tell(component, first);
+    firsts.set_first(component, first);
     Ok(())
 }
 

@@ -58,7 +58,7 @@ pub fn pack<S: Source, K: Sink>(src: &mut S, snk: &mut K) -> Result<Packed, RtpF
     ensures no_memory { ¬ (result ≡ Err RtpFault.OutOfMemory) }
     ensures keeps_source { KeepsSource S.Source src.old src.new }
     ensures keeps_sink { KeepsSink K.Sink snk.old snk.new }
-    ensures read_stands { result ≢ Err RtpFault.Read → S.faults src.new ≡ S.faults src.old }
+    ensures read_stays { result ≢ Err RtpFault.Read → S.faults src.new ≡ S.faults src.old }
     ensures write_alone { result ≡ Err RtpFault.Write → S.faults src.new ≡ S.faults src.old }
     ensures short_alone { IfErr result (λ fault. IfShort fault (λ _ _. (S.faults src.new ≡ S.faults src.old) × (K.faults snk.new ≡ K.faults snk.old))) }
     ensures stand { OnOk result ((S.faults src.new ≡ S.faults src.old) × (K.faults snk.new ≡ K.faults snk.old)) }

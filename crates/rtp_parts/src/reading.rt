@@ -28,7 +28,7 @@ pub(crate) fn read_record<S: Source>(src: &mut S, buffer: &mut [u8]) -> Result<R
     ensures stop { IfErr result (StopsReading (S.size src.old) (S.ends src.old) (S.faults src.old) (S.faults src.new)) }
     ensures reached { WhereTold (S.ends src.old) (λ end. OnOk result (S.offset src.new ≤ end)) }
     ensures keeps_source { KeepsSource S.Source src.old src.new }
-    ensures stands { OnOk result (S.faults src.new ≡ S.faults src.old) }
+    ensures stays { OnOk result (S.faults src.new ≡ S.faults src.old) }
 {
     let left = src.size() - src.offset();
     if left == 0 {

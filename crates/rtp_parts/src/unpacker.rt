@@ -93,7 +93,7 @@ impl Unpacker {
         ensures stop { IfErr result (StopsReading (S.size src.old) (S.ends src.old) (S.faults src.old) (S.faults src.new)) }
         ensures reached { WhereTold (S.ends src.old) (λ end. OnOk result (S.offset src.new ≤ end)) }
         ensures keeps_source { KeepsSource S.Source src.old src.new }
-        ensures stands { OnOk result (S.faults src.new ≡ S.faults src.old) }
+        ensures stays { OnOk result (S.faults src.new ≡ S.faults src.old) }
     {
         loop {
             match self.window.due(self.ended) {
@@ -151,7 +151,7 @@ impl Unpacker {
         ensures reached { WhereTold (S.ends src.old) (λ end. OnOk result (S.offset src.new ≤ end)) }
         ensures end { self.new.end ≡ self.old.end }
         ensures keeps_source { KeepsSource S.Source src.old src.new }
-        ensures stands { OnOk result (S.faults src.new ≡ S.faults src.old) }
+        ensures stays { OnOk result (S.faults src.new ≡ S.faults src.old) }
     {
         match read_record(src, buffer) {
             Ok(Record::End) => {

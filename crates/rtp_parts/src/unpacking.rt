@@ -107,7 +107,7 @@ fn check_magic<S: Source>(src: &mut S) -> Result<(), RtpFault>
     ensures too_large { most_bytes < S.size src.old → result ≡ Err (RtpFault.Head (WavFault.TooLarge (S.size src.old))) }
     ensures cause { IfErr result (EndsUnpacking (S.size src.old) (S.ends src.old) (S.faults src.old) (S.faults src.new) 0 0) }
     ensures keeps_source { KeepsSource S.Source src.old src.new }
-    ensures stands { OnOk result (S.faults src.new ≡ S.faults src.old) }
+    ensures stays { OnOk result (S.faults src.new ≡ S.faults src.old) }
 {
     let size = src.size();
     if size > MOST_BYTES {
@@ -146,7 +146,7 @@ fn survey<S: Source>(
     ensures few { IfOk result (λ found. found.1.frames ≤ most_codes) }
     ensures cause { IfErr result (EndsUnpacking (S.size src.old) (S.ends src.old) (S.faults src.old) (S.faults src.new) 0 0) }
     ensures keeps_source { KeepsSource S.Source src.old src.new }
-    ensures stands { OnOk result (S.faults src.new ≡ S.faults src.old) }
+    ensures stays { OnOk result (S.faults src.new ≡ S.faults src.old) }
 {
     let mut unpacker = Unpacker::new(alloc);
     let mut frames = 0;

@@ -38,9 +38,9 @@ impl Play<(), View> for Show {
     ghost then = { Shows };
 }
 
-pub struct Tell;
+pub struct Share;
 
-impl Split<View> for Tell {
+impl Split<View> for Share {
     ghost use Rattle.state_words.specs.Shown.{reader};
 
     ghost left = { λ v. v };
@@ -48,7 +48,7 @@ impl Split<View> for Tell {
     ghost right = { reader };
 }
 
-impl Join<View> for Tell {
+impl Join<View> for Share {
     ghost use Rattle.state_words.specs.Shown.{merged, nobody};
 
     ghost both = { merged };

@@ -4,7 +4,7 @@ ghost use Rattle.state_words.specs.Shown.{Within, LastIs, states_of, version_of,
 ghost use Rattle.state_words.specs.Tokens.{IsShowerOf, IsReaderOf, known, known_by, count};
 
 use crate::code::state_of;
-use crate::view::{Look, Show, Showing, Tell, View};
+use crate::view::{Look, Share, Show, Showing, View};
 use atomic_table::{Seat, Table};
 use omx_types::State;
 use std::alloc::{AllocError, Global};
@@ -40,7 +40,7 @@ impl StateWords {
         let opening = Vec::from_slice(alloc, states)?;
         let words = opening_words(alloc, states)?;
         let (table, mut seat) = Table::of_words(alloc, words.as_slice(), &opening)?;
-        let reader = table.shared.split_seat::<Tell>(&mut seat);
+        let reader = table.shared.split_seat::<Share>(&mut seat);
         Ok((
             StateWords { table },
             Shower { seat },
@@ -86,12 +86,12 @@ impl StateWords {
     }
 
     /// The reader then knows what the shower does.
-    pub fn tell(&self, from: &mut Shower, to: &mut Reader)
+    pub fn share(&self, from: &mut Shower, to: &mut Reader)
         requires { IsShowerOf self.now from.old × IsReaderOf self.now to.old }
         ensures tokens { IsShowerOf self.now from.new × IsReaderOf self.now to.new × (known_by from.new ≡ known_by from.old) }
         ensures known { Within (known_by from.old) (known to.new) × Within (known to.old) (known to.new) }
     {
-        let seat = self.table.shared.split_seat::<Tell>(&mut from.seat);
+        let seat = self.table.shared.split_seat::<Share>(&mut from.seat);
         self.learn(to, Reader { seat });
     }
 
@@ -101,7 +101,7 @@ impl StateWords {
         ensures { IsReaderOf self.now reader.new × IsReaderOf self.now result × (known reader.new ≡ known reader.old) × (known result ≡ known reader.old) }
     {
         Reader {
-            seat: self.table.shared.split_seat::<Tell>(&mut reader.seat),
+            seat: self.table.shared.split_seat::<Share>(&mut reader.seat),
         }
     }
 
@@ -112,7 +112,7 @@ impl StateWords {
         ensures known { Within (known to.old) (known to.new) × Within (known from) (known to.new) }
     {
         let seat = from.into_seat();
-        self.table.shared.join_seat::<Tell>(&mut to.seat, seat);
+        self.table.shared.join_seat::<Share>(&mut to.seat, seat);
         self.look(&mut to.seat, 0);
     }
 }

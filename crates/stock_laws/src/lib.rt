@@ -140,7 +140,7 @@ pub fn law_of_fronts()
 
 /// What counts of headers tell: a header that is there is counted, a test that implies another has the smaller count,
 /// and the lists of a port are as long as their counts.
-pub fn law_of_counts()
+pub fn law_of_kept_counts()
     ensures counted { (stocked : Stocked) (hs : List HeaderRecord) (test : HeaderState → Bool) (number : ℕ) (header_state : HeaderState) →
         StandsFor stocked hs → stocked.headers.header number ≡ Some header_state → weight (test header_state) ≤ stocked.headers.count test }
     ensures none { (stocked : Stocked) (hs : List HeaderRecord) (test : HeaderState → Bool) (number : ℕ) (header_state : HeaderState) →

@@ -64,7 +64,7 @@ fn told_of(client: HolderClient, taken: &Taken) -> HolderClient
 {
     let mut told = client;
     match taken {
-        Taken::Told(event) => told.told(*event),
+        Taken::Told(event) => told.hear(*event),
         Taken::EmptyDone(_) => {}
         Taken::FillDone(_) => {}
     }

@@ -26,7 +26,7 @@ pub fn trace<O: Sink>(alloc: Global, script: &Script, out: &mut O) -> Result<(),
     requires { IsOfCommand false script.now }
     ensures traced { OnOk result (GotTrace script.now (O.told out.old) (O.told out.new)) }
     ensures stopped { IfErr result (IsStopped script.now (O.told out.old) (O.told out.new) (O.faults out.old) (O.faults out.new)) }
-    ensures stands { result ≢ Err WriteFault → O.faults out.new ≡ O.faults out.old }
+    ensures stays { result ≢ Err WriteFault → O.faults out.new ≡ O.faults out.old }
     ensures keeps_sink { KeepsSink O.Sink out.old out.new }
 {
     match script {
@@ -47,7 +47,7 @@ fn trace_lines<O: Sink>(
 ) -> Result<(), Fault>
     ensures traced { OnOk result (GotTrace (Trace units lines.now) (O.told out.old) (O.told out.new)) }
     ensures stopped { IfErr result (IsStopped (Trace units lines.now) (O.told out.old) (O.told out.new) (O.faults out.old) (O.faults out.new)) }
-    ensures stands { result ≢ Err WriteFault → O.faults out.new ≡ O.faults out.old }
+    ensures stays { result ≢ Err WriteFault → O.faults out.new ≡ O.faults out.old }
     ensures keeps_sink { KeepsSink O.Sink out.old out.new }
 {
     let Ok(mut desk) = Desk::new(alloc, units) else {
@@ -68,7 +68,7 @@ fn write<O: Sink>(out: &mut O, text: &[u8]) -> Result<(), Fault>
     ensures whole { OnOk result (O.told out.new ≡ append_known (O.told out.old) text.now) }
     ensures front { AppendsFront (O.told out.old) (O.told out.new) text.now }
     ensures fault { IfErr result (λ fault. (fault ≡ WriteFault) × Rose (O.faults out.old) (O.faults out.new)) }
-    ensures stands { OnOk result (O.faults out.new ≡ O.faults out.old) }
+    ensures stays { OnOk result (O.faults out.new ≡ O.faults out.old) }
     ensures keeps_sink { KeepsSink O.Sink out.old out.new }
 {
     match write_all(out, text) {
@@ -90,7 +90,7 @@ fn write_lines<O: Sink>(
     ensures broken { IfErr result (λ fault. FromEach (on_desk desk.old) (λ at.
         IsBroken at lines.now (O.told out.old) (O.told out.new) (O.faults out.old) (O.faults out.new) fault)) }
     ensures stood { HasDeskMoment (on_desk desk.new) }
-    ensures stands { result ≢ Err WriteFault → O.faults out.new ≡ O.faults out.old }
+    ensures stays { result ≢ Err WriteFault → O.faults out.new ≡ O.faults out.old }
     ensures keeps_sink { KeepsSink O.Sink out.old out.new }
 {
     let mut text = Vec::new(alloc);

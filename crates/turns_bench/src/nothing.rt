@@ -15,7 +15,7 @@ impl Serve for Nothing {
 
     ghost legal = { λ first log. Unit {0} };
 
-    ghost stands = { λ first log value. Unit {0} };
+    ghost reaches = { λ first log value. Unit {0} };
 
     ghost may = { λ first own act. Unit {0} };
 

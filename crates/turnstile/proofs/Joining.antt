@@ -56,7 +56,7 @@ module _ {V A R : Type 0} where
   all_spent (x ∷ xs) v at alive e zero u at' pos = absurd (omega arith)
   all_spent (x ∷ xs) v at alive e (suc j) u at' pos = let z : is_spent x ≡ 0 = ap (λ (y : View V A R). is_spent y) (some-injective x v at) ∙ ap (λ b. cond b 1 0) alive in every_spent xs (omega arith) j u at'
 
-module _ {V A R : Type 0} (legal : V → List (Entry A R) → Type 0) (stands : V → List (Entry A R) → V → Type 0) (may : V → List (Entry A R) → A → Type 0) (clear : List (Entry A R) → Type 0) (key : V) where
+module _ {V A R : Type 0} (legal : V → List (Entry A R) → Type 0) (reaches : V → List (Entry A R) → V → Type 0) (may : V → List (Entry A R) → A → Type 0) (clear : List (Entry A R) → Type 0) (key : V) where
   abbrev W : Type 0
   W = View V A R
 
@@ -70,19 +70,19 @@ module _ {V A R : Type 0} (legal : V → List (Entry A R) → Type 0) (stands : 
   Homes = List (maybe.Option (Option V))
 
   abbrev Live : List E → Homes → ℕ → ℕ → W → Type 0
-  Live = turns.Live legal stands may clear key
+  Live = turns.Live legal reaches may clear key
 
   abbrev Gone : List E → List (ℕ × List E) → ℕ → W → Type 0
-  Gone = turns.Gone legal stands may clear key
+  Gone = turns.Gone legal reaches may clear key
 
   abbrev Fits : List E → Homes → ℕ → List (ℕ × List E) → ℕ → W → Type 0
-  Fits = turns.Fits legal stands may clear key
+  Fits = turns.Fits legal reaches may clear key
 
   abbrev Going : St → Type 0
-  Going = turns.Going legal stands may clear key
+  Going = turns.Going legal reaches may clear key
 
   abbrev Kept : St → Type 0
-  Kept = turns.Kept legal stands may clear key
+  Kept = turns.Kept legal reaches may clear key
 
   pub begins : Kept (opening (0 ∷ 0 ∷ []) (None ∷ []) (newborn key))
   begins = inl (refl, inl (refl, refl))
@@ -107,7 +107,7 @@ module _ {V A R : Type 0} (legal : V → List (Entry A R) → Type 0) (stands : 
       (λ x. let is : opened (newborn key) ≡ newborn key = only_one _ _ id (subst (λ (l : List W). get_elem? l id ≡ some (newborn key)) x.0 at') in absurd (true≢false (ap (λ (z : W). opens_stage z.stage) is))) b.1)
       (λ g. absurd (not_going s g id (newborn key) at' refl refl)) kept
 
-  pub fills : (slots id : ℕ) (me : Me (Option V) W) → me.0 ≡ opened (newborn key) → me.1 ≡ (0, Some key) ∷ [] → legal key [] → stands key [] key → Allows Kept slots id me 1 (λ n. n) (Fills (step slots 1 0 0 none) me)
+  pub fills : (slots id : ℕ) (me : Me (Option V) W) → me.0 ≡ opened (newborn key) → me.1 ≡ (0, Some key) ∷ [] → legal key [] → reaches key [] key → Allows Kept slots id me 1 (λ n. n) (Fills (step slots 1 0 0 none) me)
   fills slots id me fresh holds lg st s kept wide at _ =
       let v : W = me.0 in let new : W = filled (opened (newborn key)) in
       let at' : get_elem? s.views id ≡ some (opened (newborn key)) = at ∙ ap (λ (z : W). some z) fresh in
@@ -255,7 +255,7 @@ module _ {V A R : Type 0} (legal : V → List (Entry A R) → Type 0) (stands : 
         }
 
   pub splits : (id : ℕ) (v : W) → v.stage ≡ Ready → v.spent ≡ false → v.number ≡ 0 → v.splits < 4294967296 → Splits Kept id v (parent v) (child v)
-  splits id v ready alive first more s kept at = let g = k.not_building legal stands may clear key s id v ready at kept in inr (splits_at s g id v at alive first more)
+  splits id v ready alive first more s kept at = let g = k.not_building legal reaches may clear key s id v ready at kept in inr (splits_at s g id v at alive first more)
 
   module _ (s : St) (g : Going s) (id : ℕ) (v : W) (at : get_elem? s.views id ≡ some v) (alive : v.spent ≡ false) (first : v.number ≡ 0) (oid : ℕ) (w : W) (apart : oid ≢ id) (oat : get_elem? s.views oid ≡ some w) (oalive : w.spent ≡ false) (out : w.inside ≡ false) (idle : placed w.ticket w.more ≡ 0) (rid : clear w.mine) where
     theirs : Live g.log s.homes g.next oid w
@@ -336,12 +336,12 @@ module _ {V A R : Type 0} (legal : V → List (Entry A R) → Type 0) (stands : 
         }
 
   pub joins : (id : ℕ) (v : W) (oid : ℕ) (w : W) → v.stage ≡ Ready → v.spent ≡ false → v.number ≡ 0 → w.spent ≡ false → w.inside ≡ false → placed w.ticket w.more ≡ 0 → clear w.mine → Joins Kept id v oid w (merged v w) gone
-  joins id v oid w ready alive first oalive out idle rid s kept at apart oat = let g = k.not_building legal stands may clear key s id v ready at kept in
+  joins id v oid w ready alive first oalive out idle rid s kept at apart oat = let g = k.not_building legal reaches may clear key s id v ready at kept in
       inr (joins_at s g id v at alive first oid w apart (sym (set_else s.views id oid (merged v w) apart) ∙ oat) oalive out idle rid)
 
   -- the value at the end, once every other pass was joined
   closes_at : (s : St) (g : Going s) (v : W) → get_elem? s.views 0 ≡ some v → v.spent ≡ false → v.inside ≡ false → length v.joined ≡ v.splits → clear v.mine
-      → (y : V) × (s.homes ≡ some (Some y) ∷ []) × turns.Ended legal stands may clear v key y
+      → (y : V) × (s.homes ≡ some (Some y) ∷ []) × turns.Ended legal reaches may clear v key y
   closes_at s g v at alive out whole rid =
       let l = (g.fits 0 v at).live alive in let r = g.root v at in let c = g.count in let a = g.all in
       let same_splits : v.splits ≡ g.splits = r.1 in let same_joined : length v.joined ≡ length g.joined = ap length r.2 in
@@ -371,7 +371,7 @@ module _ {V A R : Type 0} (legal : V → List (Entry A R) → Type 0) (stands : 
 
   -- what the last slot has, where the table is closed with the first pass
   pub closes : (id : ℕ) (v : W) (ws : List ℕ) (xs : List (Option V)) → v.stage ≡ Ready → v.spent ≡ false → v.inside ≡ false → v.number ≡ 0 → length v.joined ≡ v.splits → clear v.mine
-      → Final (Seen Kept id v) ws xs → (y : V) × (get_elem? xs 0 ≡ some (Some y)) × turns.Ended legal stands may clear v key y
-  closes id v ws xs ready alive out first whole rid f = let s = f.0 in let kept = f.1.0 in let at = f.1.1 in let g = k.not_building legal stands may clear key s id v ready at kept in
+      → Final (Seen Kept id v) ws xs → (y : V) × (get_elem? xs 0 ≡ some (Some y)) × turns.Ended legal reaches may clear v key y
+  closes id v ws xs ready alive out first whole rid f = let s = f.0 in let kept = f.1.0 in let at = f.1.1 in let g = k.not_building legal reaches may clear key s id v ready at kept in
       let zero_is = is_first s g id v at alive first in let e = closes_at s g v (subst (λ (n : ℕ). get_elem? s.views n ≡ some v) zero_is at) alive out whole rid in
       (e.0, f.4 0 (Some e.0) (ap (λ (h : Homes). get_elem? h 0) e.1), e.2)

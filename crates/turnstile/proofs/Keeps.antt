@@ -16,7 +16,7 @@ use Rattle.turnstile.specs.Turns as turns
 use Rattle.turnstile.specs.Turns.{newborn, opened, filled, drawn, entered, left, learned, parent, child, merged, gone, late, placed, one_less, HasTicket, waits, HavePlaces, ended, is_spent, total, Draws, Looks, Leaves, Learns}
 use Rattle.turnstile.proofs.Basics.{some_is, by_bool, is_ready, at_below, only_one, begins_more, begins_self, own_mine, own_other, total_set, total_most, less_is, ended_le, late_counts, draws_waiting, after_among, after_placed, after_late, has_first}
 
-module _ {V A R : Type 0} (legal : V → List (Entry A R) → Type 0) (stands : V → List (Entry A R) → V → Type 0) (may : V → List (Entry A R) → A → Type 0) (clear : List (Entry A R) → Type 0) (key : V) where
+module _ {V A R : Type 0} (legal : V → List (Entry A R) → Type 0) (reaches : V → List (Entry A R) → V → Type 0) (may : V → List (Entry A R) → A → Type 0) (clear : List (Entry A R) → Type 0) (key : V) where
   abbrev W : Type 0
   W = View V A R
 
@@ -30,22 +30,22 @@ module _ {V A R : Type 0} (legal : V → List (Entry A R) → Type 0) (stands : 
   Homes = List (maybe.Option (Option V))
 
   abbrev Live : List E → Homes → ℕ → ℕ → W → Type 0
-  Live = turns.Live legal stands may clear key
+  Live = turns.Live legal reaches may clear key
 
   abbrev Gone : List E → List (ℕ × List E) → ℕ → W → Type 0
-  Gone = turns.Gone legal stands may clear key
+  Gone = turns.Gone legal reaches may clear key
 
   abbrev Fits : List E → Homes → ℕ → List (ℕ × List E) → ℕ → W → Type 0
-  Fits = turns.Fits legal stands may clear key
+  Fits = turns.Fits legal reaches may clear key
 
   abbrev Slot : List E → Homes → List W → Type 0
-  Slot = turns.Slot legal stands may clear key
+  Slot = turns.Slot legal reaches may clear key
 
   abbrev Going : St → Type 0
-  Going = turns.Going legal stands may clear key
+  Going = turns.Going legal reaches may clear key
 
   abbrev Kept : St → Type 0
-  Kept = turns.Kept legal stands may clear key
+  Kept = turns.Kept legal reaches may clear key
 
   pub not_building : (s : St) (id : ℕ) (v : W) → v.stage ≡ Ready → get_elem? s.views id ≡ some v → Kept s → Going s
   not_building s id v ready at k = ⊎_elim (λ b. ⊎_elim
@@ -198,7 +198,7 @@ module _ {V A R : Type 0} (legal : V → List (Entry A R) → Type 0) (stands : 
 
   -- the pass whose ticket is served takes the value
   enters : (s : St) (g : Going s) (id : ℕ) (v : W) (told : Option A) → get_elem? s.views id ≡ some v → v.spent ≡ false → v.inside ≡ false → v.ticket ≡ Some (length g.log) → length g.log < 1125899906842624
-      → (y : V) × (get_elem? s.homes 0 ≡ some (some (Some y))) × stands key g.log y × Going record { words = set s.words 1 (get_or s.words 1 0); homes = set s.homes 0 none; views = set s.views id (entered v g.log told) }
+      → (y : V) × (get_elem? s.homes 0 ≡ some (some (Some y))) × reaches key g.log y × Going record { words = set s.words 1 (get_or s.words 1 0); homes = set s.homes 0 none; views = set s.views id (entered v g.log told) }
   enters s g id v told at alive out ticket early = let l = mine s g id v at alive in let w : W = entered v g.log told in ⊎_elim
       (λ x. let homes : set s.homes 0 none ≡ none ∷ [] = ap (λ (h : Homes). set h 0 none) x.1 in (
         x.0,
@@ -214,7 +214,7 @@ module _ {V A R : Type 0} (legal : V → List (Entry A R) → Type 0) (stands : 
       let is : u ≡ v = some-injective u v (sym x.2 ∙ subst (λ (n : ℕ). get_elem? s.views n ≡ some v) (sym same) at) in absurd (true≢false (sym x.3 ∙ (ap (λ (z : W). z.inside) is ∙ out)))) g.slot
 
   pub looks : (slots id : ℕ) (me : Me (Option V) W) (t : ℕ) (told : Option A) → me.0.stage ≡ Ready → me.0.spent ≡ false → me.0.inside ≡ false → me.0.ticket ≡ Some t → t < 1125899906842624
-      → Allows Kept slots id me 1 (λ n. n) (Looks legal may stands told (step slots 1 0 0 none) me)
+      → Allows Kept slots id me 1 (λ n. n) (Looks legal may reaches told (step slots 1 0 0 none) me)
   unfolding tells
   looks slots id me t told ready alive out ticket early s kept wide at _ =
       let v : W = me.0 in let g = not_building s id v ready at kept in let n : ℕ = get_or s.words 1 0 in let is : n ≡ length g.log = ap (λ ws. get_or ws 1 0) g.words in
@@ -237,7 +237,7 @@ module _ {V A R : Type 0} (legal : V → List (Entry A R) → Type 0) (stands : 
   -- the pass that is inside gives the value back, and its call is the last of the history
   pub leaves : (slots id : ℕ) (me : Me (Option V) W) (first y : V) (a : A) (r : R) (told : Option R) → me.0.stage ≡ Ready → me.0.spent ≡ false → me.0.inside ≡ true → me.0.asked ≡ Some a → told ≡ Some r
       → me.0.opening ≡ Some first → me.1 ≡ (0, Some y) ∷ [] → may first me.0.mine a
-      → legal first (me.0.seen ++ entry me.0.number a r ∷ []) → stands first (me.0.seen ++ entry me.0.number a r ∷ []) y
+      → legal first (me.0.seen ++ entry me.0.number a r ∷ []) → reaches first (me.0.seen ++ entry me.0.number a r ∷ []) y
       → Allows Kept slots id me 1 (λ n. (n + 1) % 18446744073709551616) (Leaves legal may told (step slots 1 1 0 none) me)
   leaves slots id me first y a r told ready alive in_ asked says opening holds allowed lg st s kept wide at _ =
       let v : W = me.0 in let g = not_building s id v ready at kept in let l = mine s g id v at alive in let in' = l.inside in_ in
@@ -246,7 +246,7 @@ module _ {V A R : Type 0} (legal : V → List (Entry A R) → Type 0) (stands : 
       let first_is : first ≡ key = some_is first key (sym opening ∙ l.opening) in
       let long : length log ≡ length g.log + 1 = length-append g.log (e ∷ []) in
       let lg' : legal key log = subst (λ (x : V × List E). legal x.0 x.1) (λ i. (first_is i, seen i)) lg in
-      let st' : stands key log y = subst (λ (x : V × List E). stands x.0 x.1 y) (λ i. (first_is i, seen i)) st in
+      let st' : reaches key log y = subst (λ (x : V × List E). reaches x.0 x.1 y) (λ i. (first_is i, seen i)) st in
       let n : ℕ = get_or s.words 1 0 in let is : n ≡ length g.log = ap (λ ws. get_or ws 1 0) g.words in
       let early : length g.log < 1125899906842624 = in'.1 in let due = (l.ticket (length g.log) (has_first v (length g.log) in'.0)).1 in
       let fits : length g.log + 1 < 18446744073709551616 = omega arith in

@@ -8,7 +8,7 @@ use Rattle.turnstile.specs.Passes.{IsSamePass, Called, HadTurn}
 use Rattle.turnstile.specs.Rows.{HasSameCalls, HasTickets, at_rest, InRow, no_more, one_more, CalledFront}
 use Rattle.turnstile.proofs.Turning.{called}
 
-module _ {V A R : Type 0} (legal : V → List (Entry A R) → Type 0) (may : V → List (Entry A R) → A → Type 0) (stands : V → List (Entry A R) → V → Type 0) (first : V) where
+module _ {V A R : Type 0} (legal : V → List (Entry A R) → Type 0) (may : V → List (Entry A R) → A → Type 0) (reaches : V → List (Entry A R) → V → Type 0) (first : V) where
   abbrev W : Type 0
   W = View V A R
 
@@ -60,7 +60,7 @@ module _ {V A R : Type 0} (legal : V → List (Entry A R) → Type 0) (may : V �
         asked = f.asked ∙ sym (append_assoc f.made (act ∷ []) rest);
         told = ap (λ (l : List R). l ++ r ∷ []) f.told ∙ append_assoc rs f.given (r ∷ []);
         row = row_more place v v u w f.made f.given act r at none ((refl, refl, refl), refl, refl) f.row (omega arith)
-            (called legal may stands first (at_rest u) u w w act at r refl ((refl, refl, refl), refl, refl) t early refl refl) same;
+            (called legal may reaches first (at_rest u) u w w act at r refl ((refl, refl, refl), refl, refl) t early refl refl) same;
       }
 
   -- none so far

@@ -13,12 +13,12 @@ use Rattle.turnstile.proofs.Basics.{some_is, own_mine}
 pub by_equal : {P Q : Type 0} (n t : ℕ) → (n ≡ t → P) → (n ≢ t → Q) → MatchBool (nat_eq n t) P Q
 by_equal {P} {Q} n t f g = dite (ℕ_discrete n t) (λ e. subst (λ b. MatchBool b P Q) (sym (eq-eqb n t e)) (f e)) (λ ne. subst (λ b. MatchBool b P Q) (sym (ne_eqb n t ne)) (g ne))
 
-module _ {V A R : Type 0} (legal : V → List (Entry A R) → Type 0) (may : V → List (Entry A R) → A → Type 0) (stands : V → List (Entry A R) → V → Type 0) where
+module _ {V A R : Type 0} (legal : V → List (Entry A R) → Type 0) (may : V → List (Entry A R) → A → Type 0) (reaches : V → List (Entry A R) → V → Type 0) where
   abbrev M : Type 0
   M = View V A R × List (ℕ × Option V)
 
   -- the steps of a turn, one after another
-  pub had_turn : (first : V) (m m2 m3 m4 : M) (act : A) (place : ℕ) (r : R) → m.0.opening ≡ Some first → Entered legal may stands act place m m2 → Served legal may stands act r m2 m3
+  pub had_turn : (first : V) (m m2 m3 m4 : M) (act : A) (place : ℕ) (r : R) → m.0.opening ≡ Some first → Entered legal may reaches act place m m2 → Served legal may reaches act r m2 m3
       → ((a : A) → m3.0.asked ≡ Some a → m4 ≡ (left m3.0 (entry m3.0.number a r), [])) → may first m.0.mine act → HadTurn legal may first m.0 act place r m4.0
   had_turn first m m2 m3 m4 act place r opening e s leaves ok =
       let W : Type 0 = View V A R in let log : List (Entry A R) = e.0 in let x : Entry A R = entry m.0.number act r in let inside : W = entered m.0 log (Some act) in

@@ -24,11 +24,11 @@ pub data Met {A R : Type 0} (may : List (Entry A R) → A → Type 0) : List (En
   none : Met may []
   next : (log : List (Entry A R)) (e : Entry A R) → Met may log → may (own e.pass log) e.act → Met may (log ++ e ∷ [])
 
-module _ {V A R : Type 0} (legal : V → List (Entry A R) → Type 0) (stands : V → List (Entry A R) → V → Type 0) (may : V → List (Entry A R) → A → Type 0) where
+module _ {V A R : Type 0} (legal : V → List (Entry A R) → Type 0) (reaches : V → List (Entry A R) → V → Type 0) (may : V → List (Entry A R) → A → Type 0) where
   -- the act comes next, from this pass, which may ask it. The value stands for the state after the legal history so far
   pub record Due (first : V) (log : List (Entry A R)) (pass : ℕ) (value : V) (act : A) (place : ℕ) : Type 0 where
     pub is_legal : legal first log
-    pub stood : stands first log value
+    pub stood : reaches first log value
     pub met : Met (may first) log
     pub at_place : place ≡ length log
     pub in_time : place < 2 ^ 50

@@ -69,27 +69,27 @@ module _ {V A R : Type 0} (legal : V → List (Entry A R) → Type 0) (may : V �
 
   -- the seat has the value, and the whole history
   abbrev pub Entered : (V → List (Entry A R) → V → Type 0) → A → ℕ → View V A R × List (ℕ × Option V) → View V A R × List (ℕ × Option V) → Type 0
-  Entered stands act place m m' =
-      (log : List (Entry A R)) × (y : V) × (m' ≡ (entered m.0 log (Some act), (0, Some y) ∷ [])) × (length log ≡ place) × (h : History legal may m.0 log) × stands h.first log y
+  Entered reaches act place m m' =
+      (log : List (Entry A R)) × (y : V) × (m' ≡ (entered m.0 log (Some act), (0, Some y) ∷ [])) × (length log ≡ place) × (h : History legal may m.0 log) × reaches h.first log y
 
   -- the seat is in its turn: it has the value, and its act comes next
-  pub record InTurn (stands : V → List (Entry A R) → V → Type 0) (act : A) (place : ℕ) (m : View V A R × List (ℕ × Option V)) : Type 0 where
+  pub record InTurn (reaches : V → List (Entry A R) → V → Type 0) (act : A) (place : ℕ) (m : View V A R × List (ℕ × Option V)) : Type 0 where
     pub first : V
     pub value : V
     pub opening : m.0.opening ≡ Some first
     pub holds : m.1 ≡ (0, Some value) ∷ []
     pub mine : own m.0.number m.0.seen ≡ m.0.mine
-    pub due : Due legal stands may first m.0.seen m.0.number value act place
+    pub due : Due legal reaches may first m.0.seen m.0.number value act place
 
   -- the call was served
-  pub record Served (stands : V → List (Entry A R) → V → Type 0) (act : A) (reply : R) (m m' : View V A R × List (ℕ × Option V)) : Type 0 where
+  pub record Served (reaches : V → List (Entry A R) → V → Type 0) (act : A) (reply : R) (m m' : View V A R × List (ℕ × Option V)) : Type 0 where
     pub same : m'.0 ≡ m.0
     pub first : V
     pub value : V
     pub opening : m.0.opening ≡ Some first
     pub holds : m'.1 ≡ (0, Some value) ∷ []
     pub is_legal : legal first (m.0.seen ++ entry m.0.number act reply ∷ [])
-    pub stood : stands first (m.0.seen ++ entry m.0.number act reply ∷ []) value
+    pub stood : reaches first (m.0.seen ++ entry m.0.number act reply ∷ []) value
 
   -- the seat has had its turn at the place: it has seen the history so far, and its call behind that
   pub record HadTurn (first : V) (v : View V A R) (act : A) (place : ℕ) (reply : R) (w : View V A R) : Type 0 where

@@ -119,9 +119,9 @@ module _ {V A R : Type 0} (legal : V → List (Entry A R) → Type 0) (may : V �
     pub joined : (i : ℕ) (x : ℕ × List (Entry A R)) → get_elem? v.joined i ≡ some x → own x.0 log ≡ x.1
 
   abbrev pub Looks : (V → List (Entry A R) → V → Type 0) → Option A → Step (Option V) → Me (Option V) (View V A R) → ℕ → Me (Option V) (View V A R) → Type 0
-  Looks stands told s m n m' =
+  Looks reaches told s m n m' =
       (m.0.ticket ≢ Some n → m' ≡ m)
-      × (m.0.ticket ≡ Some n → (log : List (Entry A R)) × (y : V) × (m' ≡ (entered m.0 log told, (0, Some y) ∷ m.1)) × (length log ≡ n) × (h : History m.0 log) × stands h.first log y)
+      × (m.0.ticket ≡ Some n → (log : List (Entry A R)) × (y : V) × (m' ≡ (entered m.0 log told, (0, Some y) ∷ m.1)) × (length log ≡ n) × (h : History m.0 log) × reaches h.first log y)
 
   abbrev pub Leaves : Option R → Step (Option V) → Me (Option V) (View V A R) → ℕ → Me (Option V) (View V A R) → Type 0
   Leaves told s m n m' = (a : A) (r : R) → m.0.asked ≡ Some a → told ≡ Some r → m' ≡ (left m.0 (entry m.0.number a r), [])
@@ -129,7 +129,7 @@ module _ {V A R : Type 0} (legal : V → List (Entry A R) → Type 0) (may : V �
   abbrev pub Learns : Step (Option V) → Me (Option V) (View V A R) → ℕ → Me (Option V) (View V A R) → Type 0
   Learns s m n m' = (log : List (Entry A R)) × (m' ≡ (learned m.0 log, m.1)) × History m.0 log
 
-module _ {V A R : Type 0} (legal : V → List (Entry A R) → Type 0) (stands : V → List (Entry A R) → V → Type 0) (may : V → List (Entry A R) → A → Type 0) (clear : List (Entry A R) → Type 0) (key : V) where
+module _ {V A R : Type 0} (legal : V → List (Entry A R) → Type 0) (reaches : V → List (Entry A R) → V → Type 0) (may : V → List (Entry A R) → A → Type 0) (clear : List (Entry A R) → Type 0) (key : V) where
   -- what holds of a pass that is not joined
   pub record Live (log : List (Entry A R)) (homes : List (maybe.Option (Option V))) (next : ℕ) (id : ℕ) (v : View V A R) : Type 0 where
     pub stage : v.stage ≡ Ready
@@ -154,7 +154,7 @@ module _ {V A R : Type 0} (legal : V → List (Entry A R) → Type 0) (stands : 
 
   -- the value is in its slot, or a pass is inside
   abbrev pub Slot : List (Entry A R) → List (maybe.Option (Option V)) → List (View V A R) → Type 0
-  Slot log homes views = ((y : V) × (homes ≡ some (Some y) ∷ []) × stands key log y) ⊎ ((id : ℕ) × (v : View V A R) × (get_elem? views id ≡ some v) × (v.inside ≡ true))
+  Slot log homes views = ((y : V) × (homes ≡ some (Some y) ∷ []) × reaches key log y) ⊎ ((id : ℕ) × (v : View V A R) × (get_elem? views id ≡ some v) × (v.inside ≡ true))
 
   pub record Going (s : State (Option V) (View V A R)) : Type 0 where
     pub log : List (Entry A R)
@@ -185,13 +185,13 @@ module _ {V A R : Type 0} (legal : V → List (Entry A R) → Type 0) (stands : 
   abbrev pub Kept : State (Option V) (View V A R) → Type 0
   Kept s = Building s ⊎ Going s
 
-module _ {V A R : Type 0} (legal : V → List (Entry A R) → Type 0) (stands : V → List (Entry A R) → V → Type 0) (may : V → List (Entry A R) → A → Type 0) (clear : List (Entry A R) → Type 0) where
+module _ {V A R : Type 0} (legal : V → List (Entry A R) → Type 0) (reaches : V → List (Entry A R) → V → Type 0) (may : V → List (Entry A R) → A → Type 0) (clear : List (Entry A R) → Type 0) where
   -- the value stands for the state after a legal history, which begins with all that the first pass had seen and has the calls of every joined pass and of no other
   pub record Ended (v : View V A R) (first : V) (y : V) : Type 0 where
     pub log : List (Entry A R)
     pub is_legal : legal first log
     pub met : Met (may first) log
-    pub stood : stands first log y
+    pub stood : reaches first log y
     pub seen : Begins v.seen log
     pub mine : own 0 log ≡ v.mine
     pub joined : (i : ℕ) (x : ℕ × List (Entry A R)) → get_elem? v.joined i ≡ some x → own x.0 log ≡ x.1

@@ -17,7 +17,7 @@ const SERVING: usize = 1;
 impl<V: Serve> Turnstile<V> {
     /// A turnstile round the value, and its first pass.
     pub fn new(alloc: Global, value: V) -> Result<(Turnstile<V>, Pass<V>), (OutOfMemory, V)>
-        requires { V.legal value [] × V.stands value [] value }
+        requires { V.legal value [] × V.reaches value [] value }
         ensures ok { IfOk result (λ t. (opening_of t.0 ≡ value) × IsPassOf t.0 t.1 × (view t.1 ≡ rooted value)) }
         ensures err { IfErr result (λ e. e.1 ≡ value) }
     {
@@ -29,7 +29,7 @@ impl<V: Serve> Turnstile<V> {
 
     // The first pass takes the empty slot and gives it back with the value.
     fn filled(self, mut seat: Place<V>, value: V) -> (Turnstile<V>, Pass<V>)
-        requires { (seat.table_id ≡ self.table.shared.table_id) × (seat.me ≡ (newborn value, [])) × (opening_of self ≡ value) × V.legal value [] × V.stands value [] value }
+        requires { (seat.table_id ≡ self.table.shared.table_id) × (seat.me ≡ (newborn value, [])) × (opening_of self ≡ value) × V.legal value [] × V.reaches value [] value }
         ensures { (opening_of result.0 ≡ value) × IsPassOf result.0 result.1 × (view result.1 ≡ rooted value) }
     {
         self.table.shared.load::<Open>(&mut seat, SERVING);
@@ -76,7 +76,7 @@ impl<V: Serve> Turnstile<V> {
     pub fn close(self, root: Pass<V>) -> V
         requires root { IsPassOf self root × ((view root).number ≡ 0) × V.clear (own_calls root) }
         requires joined { length (view root).joined ≡ (view root).splits }
-        ensures { Ended V.legal V.stands V.may V.clear (view root) (opening_of self) result }
+        ensures { Ended V.legal V.reaches V.may V.clear (view root) (opening_of self) result }
     {
         let table = self.into_table();
         let seat = root.into_seat();

@@ -14,7 +14,7 @@ pub trait Serve {
     ghost legal: { Self → List (Entry Self.Act Self.Reply) → Type 0 };
 
     /// The second value stands for the state after a legal history from the first.
-    ghost stands: { Self → List (Entry Self.Act Self.Reply) → Self → Type 0 };
+    ghost reaches: { Self → List (Entry Self.Act Self.Reply) → Self → Type 0 };
 
     /// A pass with these entries of its own may ask this, where the history began at the value.
     ghost may: { Self → List (Entry Self.Act Self.Reply) → Self.Act → Type 0 };
@@ -28,8 +28,8 @@ pub trait Serve {
     /// Serves the act, whose place in the history is `place`.
     fn serve(&mut self, act: Self::Act, place: u64) -> Self::Reply
         requires { can_serve self.old act place }
-        ensures { (first : Self) (log : List (Entry Self.Act Self.Reply)) (pass : ℕ) → Due legal stands may first log pass self.old act place → legal first (log ++ entry pass act result ∷ []) × stands first (log ++ entry pass act result ∷ []) self.new };
+        ensures { (first : Self) (log : List (Entry Self.Act Self.Reply)) (pass : ℕ) → Due legal reaches may first log pass self.old act place → legal first (log ++ entry pass act result ∷ []) × reaches first (log ++ entry pass act result ∷ []) self.new };
 
     /// An act that comes next can be served.
-    ghost serves: { (first value : Self) (log : List (Entry Self.Act Self.Reply)) (pass : ℕ) (act : Self.Act) (place : ℕ) → Due legal stands may first log pass value act place → can_serve value act place };
+    ghost serves: { (first value : Self) (log : List (Entry Self.Act Self.Reply)) (pass : ℕ) (act : Self.Act) (place : ℕ) → Due legal reaches may first log pass value act place → can_serve value act place };
 }

@@ -34,7 +34,7 @@ impl<V: Serve> Turnstile<V> {
         requires told { J.told ≡ Some act.now }
         requires seat { (seat.old.table_id ≡ self.now.table.shared.table_id) × (seat.old.me.1 ≡ []) × IsIdle seat.old.me.0 × (seat.old.me.0.ticket ≡ Some ticket) × (ticket < 2 ^ 50) }
         ensures same { seat.new.table_id ≡ seat.old.table_id }
-        ensures turn { MatchBool result (Entered V.legal V.may V.stands act.now ticket seat.old.me seat.new.me) (seat.new.me ≡ seat.old.me) }
+        ensures turn { MatchBool result (Entered V.legal V.may V.reaches act.now ticket seat.old.me seat.new.me) (seat.new.me ≡ seat.old.me) }
     {
         self.table.shared.load::<Enter<J>>(seat, SERVING) == ticket
     }
@@ -42,7 +42,7 @@ impl<V: Serve> Turnstile<V> {
     pub(crate) fn leave<J: Told<V::Reply>>(&self, seat: &mut Place<V>, reply: &V::Reply)
         requires told { J.told ≡ Some reply.now }
         requires seat { (seat.old.table_id ≡ self.now.table.shared.table_id) × (seat.old.me.0.stage ≡ Ready) × (seat.old.me.0.spent ≡ false) × (seat.old.me.0.inside ≡ true) }
-        requires call { (first y : V) × (act : V.Act) × (seat.old.me.0.asked ≡ Some act) × (seat.old.me.0.opening ≡ Some first) × (seat.old.me.1 ≡ (0, Some y) ∷ []) × V.may first seat.old.me.0.mine act × V.legal first (seat.old.me.0.seen ++ entry seat.old.me.0.number act reply.now ∷ []) × V.stands first (seat.old.me.0.seen ++ entry seat.old.me.0.number act reply.now ∷ []) y }
+        requires call { (first y : V) × (act : V.Act) × (seat.old.me.0.asked ≡ Some act) × (seat.old.me.0.opening ≡ Some first) × (seat.old.me.1 ≡ (0, Some y) ∷ []) × V.may first seat.old.me.0.mine act × V.legal first (seat.old.me.0.seen ++ entry seat.old.me.0.number act reply.now ∷ []) × V.reaches first (seat.old.me.0.seen ++ entry seat.old.me.0.number act reply.now ∷ []) y }
         ensures same { seat.new.table_id ≡ seat.old.table_id }
         ensures left { (act : V.Act) → seat.old.me.0.asked ≡ Some act → seat.new.me ≡ (left seat.old.me.0 (entry seat.old.me.0.number act reply.now), []) }
     {
@@ -60,7 +60,7 @@ impl<V: Serve> Turnstile<V> {
         requires told { J.told ≡ Some act.now }
         requires seat { (seat.old.table_id ≡ self.now.table.shared.table_id) × (seat.old.me.1 ≡ []) × IsIdle seat.old.me.0 × (seat.old.me.0.ticket ≡ Some ticket) × (ticket < 2 ^ 50) }
         ensures same { seat.new.table_id ≡ seat.old.table_id }
-        ensures turn { Entered V.legal V.may V.stands act.now ticket seat.old.me seat.new.me }
+        ensures turn { Entered V.legal V.may V.reaches act.now ticket seat.old.me seat.new.me }
     {
         let mut looks = 0;
         for _ in rt.forever() {
@@ -79,9 +79,9 @@ impl<V: Serve> Turnstile<V> {
 
     pub(crate) fn serve(&self, seat: &mut Place<V>, act: V::Act, place: u64) -> V::Reply
         requires table { seat.old.table_id ≡ self.now.table.shared.table_id }
-        requires turn { InTurn V.legal V.may V.stands act place seat.old.me }
+        requires turn { InTurn V.legal V.may V.reaches act place seat.old.me }
         ensures same { seat.new.table_id ≡ seat.old.table_id }
-        ensures served { Served V.legal V.may V.stands act result seat.old.me seat.new.me }
+        ensures served { Served V.legal V.may V.reaches act result seat.old.me seat.new.me }
     {
         let slot = seat.slot_mut(&self.table.shared, 0);
         match slot {

@@ -19,7 +19,7 @@ impl Serve for Purse {
 
     ghost legal = { Legal };
 
-    ghost stands = { Stands };
+    ghost reaches = { Stands };
 
     ghost may = { λ first. May };
 

@@ -36,7 +36,7 @@ pub(crate) fn read_chunk<S: Source>(src: &mut S, offset: u64) -> Result<ChunkHea
     ensures offset { OnOk result (S.offset src.new ≡ offset + 8) }
     ensures keeps_source { KeepsSource S.Source src.old src.new }
     ensures read { result ≡ Err WavFault.Read → Rose (S.faults src.old) (S.faults src.new) }
-    ensures stands { result ≢ Err WavFault.Read → S.faults src.new ≡ S.faults src.old }
+    ensures stays { result ≢ Err WavFault.Read → S.faults src.new ≡ S.faults src.old }
     ensures asks { AsksWithin (S.asked src.old) (S.asked src.new) (offset + 8) }
     ensures stop { IfErr result (IsReadStop (S.size src.old) (S.ends src.old) offset (offset + 8)) }
 {

@@ -19,7 +19,7 @@ pub(crate) fn fill_from<S: Source>(src: &mut S, offset: u64, buf: &mut [u8]) -> 
     ensures offset { OnOk result (S.offset src.new ≡ offset + length buf.old) }
     ensures keeps_source { KeepsSource S.Source src.old src.new }
     ensures read { result ≡ Err WavFault.Read → Rose (S.faults src.old) (S.faults src.new) }
-    ensures stands { result ≢ Err WavFault.Read → S.faults src.new ≡ S.faults src.old }
+    ensures stays { result ≢ Err WavFault.Read → S.faults src.new ≡ S.faults src.old }
     ensures asks { AsksWithin (S.asked src.old) (S.asked src.new) (offset + length buf.old) }
     ensures stop { IfErr result (IsReadStop (S.size src.old) (S.ends src.old) offset (offset + length buf.old)) }
 {
@@ -37,7 +37,7 @@ fn go_to<S: Source>(src: &mut S, offset: u64) -> Result<(), WavFault>
     ensures reached { OnOk result (S.offset src.new ≡ offset) }
     ensures keeps_source { KeepsSource S.Source src.old src.new }
     ensures read { OnErr result (Rose (S.faults src.old) (S.faults src.new)) }
-    ensures stands { OnOk result (S.faults src.new ≡ S.faults src.old) }
+    ensures stays { OnOk result (S.faults src.new ≡ S.faults src.old) }
     ensures asked { S.asked src.new ≡ S.asked src.old }
     ensures only { IfErr result (λ fault. fault ≡ WavFault.Read) }
 {

@@ -40,7 +40,7 @@ pub(crate) fn known_format<S: Source>(
     ensures known { IfOk result (λ format. is_some format ≡ (is_some known || is_format (view chunk.now))) }
     ensures keeps_source { KeepsSource S.Source src.old src.new }
     ensures read { result ≡ Err WavFault.Read → Rose (S.faults src.old) (S.faults src.new) }
-    ensures stands { result ≢ Err WavFault.Read → S.faults src.new ≡ S.faults src.old }
+    ensures stays { result ≢ Err WavFault.Read → S.faults src.new ≡ S.faults src.old }
     ensures asks { AsksWithin (S.asked src.old) (S.asked src.new) (end_of (view chunk.now)) }
     ensures short { IfErr result (λ fault. IfShort fault (GaveNothing (S.size src.old) (S.ends src.old) chunk.now.content)) }
     ensures inside { IfErr result (λ fault. IfShort fault (λ at _. at < end_of (view chunk.now))) }
@@ -64,7 +64,7 @@ fn read_format<S: Source>(src: &mut S, chunk: &ChunkHead) -> Result<Format, WavF
     ensures reached { WhereTold (S.ends src.old) (λ end. OnOk result (chunk.now.content + 16 ≤ end)) }
     ensures keeps_source { KeepsSource S.Source src.old src.new }
     ensures read { result ≡ Err WavFault.Read → Rose (S.faults src.old) (S.faults src.new) }
-    ensures stands { result ≢ Err WavFault.Read → S.faults src.new ≡ S.faults src.old }
+    ensures stays { result ≢ Err WavFault.Read → S.faults src.new ≡ S.faults src.old }
     ensures asks { AsksWithin (S.asked src.old) (S.asked src.new) (end_of (view chunk.now)) }
     ensures short { IfErr result (λ fault. IfShort fault (GaveNothing (S.size src.old) (S.ends src.old) chunk.now.content)) }
     ensures inside { IfErr result (λ fault. IfShort fault (λ at _. at < end_of (view chunk.now))) }

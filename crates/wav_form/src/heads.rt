@@ -51,7 +51,7 @@ pub fn read_head<S: Source>(src: &mut S) -> Result<WavHead, WavFault>
     // Over every source
     ensures asks { IfOk result (λ head. AsksWithin (S.asked src.old) (S.asked src.new) head.start) }
     ensures start { WhereTold (S.ends src.old) (λ end. IfOk result (λ head. head.start ≤ end)) }
-    ensures stands { result ≢ Err WavFault.Read → S.faults src.new ≡ S.faults src.old }
+    ensures stays { result ≢ Err WavFault.Read → S.faults src.new ≡ S.faults src.old }
     ensures fits { IfOk result (λ head. FitsFile head (S.size src.old)) }
     ensures too_large { most_bytes < S.size src.old → result ≡ Err (WavFault.TooLarge (S.size src.old)) }
     ensures offset { IfOk result (λ head. S.offset src.new ≡ head.start) }
@@ -78,7 +78,7 @@ fn check_riff<S: Source>(src: &mut S, size: u64) -> Result<(), WavFault>
     ensures fault { IfErr result (IsRiffFault (S.size src.old) (S.ends src.old)) }
     ensures keeps_source { KeepsSource S.Source src.old src.new }
     ensures read { result ≡ Err WavFault.Read → Rose (S.faults src.old) (S.faults src.new) }
-    ensures stands { result ≢ Err WavFault.Read → S.faults src.new ≡ S.faults src.old }
+    ensures stays { result ≢ Err WavFault.Read → S.faults src.new ≡ S.faults src.old }
     ensures asks { AsksWithin (S.asked src.old) (S.asked src.new) 12 }
 {
     if size < RIFF_HEAD {
@@ -116,7 +116,7 @@ fn search<S: Source>(src: &mut S, size: u64) -> Result<WavHead, WavFault>
     ensures keeps_source { KeepsSource S.Source src.old src.new }
     ensures read { result ≡ Err WavFault.Read → Rose (S.faults src.old) (S.faults src.new) }
     ensures short { IfErr result (λ fault. IfShort fault (StoppedShort (S.size src.old) (S.told src.old) (S.ends src.old))) }
-    ensures stands { result ≢ Err WavFault.Read → S.faults src.new ≡ S.faults src.old }
+    ensures stays { result ≢ Err WavFault.Read → S.faults src.new ≡ S.faults src.old }
     ensures asks { IfOk result (λ head. AsksWithin (S.asked src.old) (S.asked src.new) head.start) }
     ensures asks_no_samples { WhereTold (S.told src.old) (λ bytes. AsksNoSamples bytes (S.asked src.old) (S.asked src.new)) }
     ensures behind { IfOk result (λ head. 20 ≤ head.start) }

@@ -20,7 +20,7 @@ use Rattle.work_landing.specs.declared.back.Known.{Known}
 use Rattle.work_landing.specs.declared.back.Way.{Way}
 use Rattle.work_landing.specs.declared.step.Step.{Step}
 use Rattle.work_landing.specs.Landed.{AreHomeless, AreWays, AreWithin, IsLeft, all_landed, all_notices, done_by}
-use Rattle.work_landing.specs.Places.{AreApart, carried_from}
+use Rattle.work_landing.specs.Places.{HaveOwnHeaders, carried_from}
 use Rattle.work_landing.specs.Returning.{AllCanLand, HasNotePlaces, all_noticed, all_notes, all_put, ended_by, ends_by, known_by, over_by, part_by, with_notes}
 use Rattle.work_landing.proofs.Backs.{Covers, all_notes_are, all_notices_are, all_put_is, covered, known_in}
 use Rattle.work_landing.proofs.Ends.{ended_is, ends_is, known_is, over_is, part_is}
@@ -114,7 +114,7 @@ module _ (c : Component) (ways : List Way) (places : List (Option BufferHeader))
         let d : length (note_numbers (all_notes k ways places)) ≡ length (note_numbers (notes_of_headers c s done (carried_from 0 places))) = ap (λ (ns : List Note). length (note_numbers ns)) code_notes in
         omega (arith, a, b, d, bound)
 
-    pub all_can : (part : PartState) (stock : Stocked) → AreHomeless c.handle.generation 0 places stock → AreApart places → length (carried_from 0 places) + 2 ≤ room (parted part c)
+    pub all_can : (part : PartState) (stock : Stocked) → AreHomeless c.handle.generation 0 places stock → HaveOwnHeaders places → length (carried_from 0 places) + 2 ≤ room (parted part c)
         → length (note_numbers (c.notes ++ notes_after c s done)) ≤ 32 * ports_in c.settings.kind → AllCanLand k 0 ways places stock (parted part c)
     all_can part stock homeless apart some bound =
         can_all k 0 ways places stock (parted part c) (subst (λ (x : Known). AreHomeless x.component.generation 0 places stock) (sym k_is) homeless) apart covers (omega (arith, some)) (note_places part bound)

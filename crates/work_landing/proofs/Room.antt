@@ -19,7 +19,7 @@ use Rattle.work_landing.specs.declared.back.Back.{Back}
 use Rattle.work_landing.specs.declared.back.Known.{Known}
 use Rattle.work_landing.specs.declared.back.Way.{Way}
 use Rattle.work_landing.specs.Landed.{AreHomeless, IsHomeless}
-use Rattle.work_landing.specs.Places.{AreApart, EachFrom, IsOther, carried_from}
+use Rattle.work_landing.specs.Places.{HaveOwnHeaders, EachFrom, IsOther, carried_from}
 use Rattle.work_landing.specs.Returning.{AllCanLand, HasNotePlaces, all_notes, back_at, landing_by, cleared_by, noted_by, notes_at, notes_by, port_of, put_at, put_by, settled, tells_by, told_by, with_notes}
 use Rattle.work_landing.proofs.Backs.{Covers}
 
@@ -95,7 +95,7 @@ number_stays component mark b h = number_by component mark b h (cleared_by b) b.
 
 -- ---- all of them
 
-pub can_all : (k : Known) (port : ℕ) (ways : List Way) (places : List (Option BufferHeader)) (s : Stocked) (c : Component) → AreHomeless k.component.generation port places s → AreApart places → Covers ways places
+pub can_all : (k : Known) (port : ℕ) (ways : List Way) (places : List (Option BufferHeader)) (s : Stocked) (c : Component) → AreHomeless k.component.generation port places s → HaveOwnHeaders places → Covers ways places
     → length (carried_from port places) ≤ room c → HasNotePlaces c (all_notes k ways places) → AllCanLand k port ways places s c
 can_all k port [] places s c homeless apart free few notes = free
 can_all k port (way ∷ ways) [] s c homeless apart covers few notes = tt

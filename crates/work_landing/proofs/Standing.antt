@@ -17,7 +17,7 @@ use Rattle.stock_laws.proofs.Standing.{push_stands}
 use Rattle.header_core.specs.BufferHeader.{BufferHeader}
 use Rattle.port_stock.specs.Conditions.{IsHeaderOf}
 use Rattle.work_landing.specs.Landed.{AreHomeless, AreUnkept, IsHomeless, all_landed, landed_at, landed_by}
-use Rattle.work_landing.specs.Places.{AreApart, EachFrom, IsOther, carried, carried_from}
+use Rattle.work_landing.specs.Places.{HaveOwnHeaders, EachFrom, IsOther, carried, carried_from}
 
 -- the header of the number is out
 pub record IsThere (k : Stocked) (n : ℕ) : Type 0 where
@@ -70,7 +70,7 @@ all_still_unkept number to key load k port first (Some x ∷ places) others are 
 
 -- ---- all of them
 
-stands_from : (c : Component) (s : Stream) (done : WorkDone) (port : ℕ) (places : List (Option BufferHeader)) (k : Stocked) (hs : List HeaderRecord) → StandsFor k hs → AreHomeless (number_of c) port places k → UnkeptFrom port places k → AreApart places
+stands_from : (c : Component) (s : Stream) (done : WorkDone) (port : ℕ) (places : List (Option BufferHeader)) (k : Stocked) (hs : List HeaderRecord) → StandsFor k hs → AreHomeless (number_of c) port places k → UnkeptFrom port places k → HaveOwnHeaders places
     → StandsFor (all_landed c s done (carried_from port places) k) (machine_landed c s done (carried_from port places) hs)
 stands_from c s done port [] k hs S H U A = S
 stands_from c s done port (None ∷ places) k hs S H U A = stands_from c s done (port + 1) places k hs S H.1 U.1 A.1
@@ -84,7 +84,7 @@ stands_from c s done port (Some h ∷ places) k hs S H U A =
     (all_still_out (number_of c) n to (key_at c x) load k (port + 1) 0 places A.0 H.1)
     (all_still_unkept n to (key_at c x) load k (port + 1) 0 places A.0 U.1) A.1
 
-pub stands_landed : (c : Component) (s : Stream) (done : WorkDone) (places : List (Option BufferHeader)) (k : Stocked) (hs : List HeaderRecord) → StandsFor k hs → AreHomeless (number_of c) 0 places k → AreUnkept places k → AreApart places
+pub stands_landed : (c : Component) (s : Stream) (done : WorkDone) (places : List (Option BufferHeader)) (k : Stocked) (hs : List HeaderRecord) → StandsFor k hs → AreHomeless (number_of c) 0 places k → AreUnkept places k → HaveOwnHeaders places
     → StandsFor (all_landed c s done (carried_from 0 places) k) (machine_landed c s done (carried_from 0 places) hs)
 stands_landed c s done places k hs S H U A = stands_from c s done 0 places k hs S H U A
 

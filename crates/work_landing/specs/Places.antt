@@ -37,6 +37,6 @@ IsApart None places = Unit {0}
 IsApart (Some h) places = EachFrom (λ port x. IsOther h.held.number x) 0 places
 
 -- no two headers have one number
-abbrev pub AreApart : List (Option BufferHeader) → Type 0
-AreApart [] = Unit {0}
-AreApart (place ∷ places) = IsApart place places × AreApart places
+abbrev pub HaveOwnHeaders : List (Option BufferHeader) → Type 0
+HaveOwnHeaders [] = Unit {0}
+HaveOwnHeaders (place ∷ places) = IsApart place places × HaveOwnHeaders places

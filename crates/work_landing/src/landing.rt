@@ -56,7 +56,7 @@ fn tell_mark<C>(component: &mut Component<C>, header: &Header, back: Back, handl
     let may_tell = back.finished && (back.input || !back.returning);
     if let Some(mark) = header.mark() {
         if may_tell && is_own(handle, mark) {
-            component.tell(Event::Mark(mark.value));
+            component.queue_event(Event::Mark(mark.value));
         }
     }
 }

@@ -10,7 +10,7 @@ ghost use Rattle.il_machine.specs.Room.{room};
 ghost use Rattle.il_machine.specs.World.{Stream};
 ghost use Rattle.port_stock.specs.Kept.{stocked};
 ghost use Rattle.il_component.specs.Entries.{component_of, held_in, KeepsNotices};
-ghost use Rattle.work_landing.specs.Places.{AreApart, AreFree, carried_from};
+ghost use Rattle.work_landing.specs.Places.{HaveOwnHeaders, AreFree, carried_from};
 ghost use Rattle.work_landing.specs.Returning.{GetsNotes, ended_by, ends_by, known_by, over_by, part_by};
 ghost use Rattle.work_landing.specs.Landed.{AreHomeless, AreWays, AreWithin, IsLeft, all_landed, all_notices, done_by};
 
@@ -140,8 +140,8 @@ fn tell_end<C>(component: &mut Component<C>, ends: bool, fault: Option<PartFault
     ensures { GetsNotes component.old component.new (end_note ends ++ fault_note fault) [] }
 {
     match fault {
-        Some(fault) => component.tell(Event::Error(error_of(fault))),
-        None if ends => component.tell(Event::BufferFlag { port: 0, flags: 1 }),
+        Some(fault) => component.queue_event(Event::Error(error_of(fault))),
+        None if ends => component.queue_event(Event::BufferFlag { port: 0, flags: 1 }),
         None => {}
     }
 }
@@ -162,7 +162,7 @@ pub fn come_back<C>(
     requires count { length component.old.part.ended_inputs ≡ length (terms_of (component_of component.old)).inputs }
     requires within { AreWithin (length ways.now) 0 places.old }
     requires homeless { AreHomeless component.old.handle.generation 0 places.old (stocked stock.old) }
-    requires apart { AreApart places.old }
+    requires apart { HaveOwnHeaders places.old }
     requires notes { (s : Stream) × (took : List ℕ) × (IsLeft (component_of component.old) s (done_by component.old.handle.generation places.old step took) step
         × (length (note_numbers ((component_of component.old).notes ++ notes_after (component_of component.old) s (done_by component.old.handle.generation places.old step took))) ≤ 32 * ports_in component.old.settings.kind)) }
     ensures component { (s : Stream) (took : List ℕ) → IsLeft (component_of component.old) s (done_by component.old.handle.generation places.old step took) step

@@ -39,7 +39,7 @@ impl<S: Source, K: Sink, C: Client> Graph<S, K, C> {
 
     /// What the machine's laws say of each run from the world without components to a world that the graph stands for, whatever
     /// calls it was made of. The graph stays as it is.
-    pub fn law_of_runs(&self)
+    pub fn law_of_machine_runs(&self)
         ensures trails { Always (kept C.progress self.now) HasLegalTrails }
         ensures due { Always (kept C.progress self.now) WereAllDue }
         ensures returned { Always (kept C.progress self.now) AreReturnedWhereSettled }

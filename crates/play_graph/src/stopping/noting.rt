@@ -22,7 +22,7 @@ fn told_of(call: Call<PlayClient>) -> PlayClient
     let Call { client, taken } = call;
     let mut told = client;
     match taken {
-        Taken::Told(event) => told.told(event),
+        Taken::Told(event) => told.hear(event),
         Taken::EmptyDone(_header) => unreachable!(),
         Taken::FillDone(_header) => unreachable!(),
     }

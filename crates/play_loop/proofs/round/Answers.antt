@@ -9,7 +9,7 @@ components-components-requires g c = let T = c.send-did.ensures.turned c.require
 
 pub loop-c-init : goal.loop-c-init
 loop-c-init g c =
-    let w : Layout = g.P.Player.layout c.args.player.now in
+    let w : Layout = g.P.TakeTurns.layout c.args.player.now in
     record {
       layout = c.send-did.ensures.layout;
       leads = c.send-did.ensures.leads;
@@ -19,11 +19,11 @@ loop-c-init g c =
 
 pub loop-c-preserved : goal.loop-c-preserved
 loop-c-preserved g c =
-    let w : Layout = g.P.Player.layout c.args.player.now in
-    let turns = subst (λ (s : Layout). TurnsOf s (g.P.Player.Plays c.loop-c.player) (g.P.Player.Plays c.component_turn.new.self) c.in_ok-acted.acted (IsOfComponent s c.loop-c.c)) c.loop-c.invariant.layout c.in_ok-acted.ensures.turned in
+    let w : Layout = g.P.TakeTurns.layout c.args.player.now in
+    let turns = subst (λ (s : Layout). TurnsOf s (g.P.TakeTurns.Plays c.loop-c.player) (g.P.TakeTurns.Plays c.component_turn.new.self) c.in_ok-acted.acted (IsOfComponent s c.loop-c.c)) c.loop-c.invariant.layout c.in_ok-acted.ensures.turned in
     record {
       layout = c.component_turn.ensures.layout ∙ c.loop-c.invariant.layout;
-      leads = g.met.P.Player.leads_on c.args.player.now c.loop-c.player c.component_turn.new.self c.loop-c.invariant.leads c.in_ok-acted.ensures.leads;
+      leads = g.met.P.TakeTurns.leads_on c.args.player.now c.loop-c.player c.component_turn.new.self c.loop-c.invariant.leads c.in_ok-acted.ensures.leads;
       round = λ p s G.
           let R = c.loop-c.invariant.round p s G in
           let T = turns R.0 R.1 in
@@ -33,11 +33,11 @@ loop-c-preserved g c =
 
 pub loop-l-preserved : goal.loop-l-preserved
 loop-l-preserved g c =
-    let w : Layout = g.P.Player.layout c.args.player.now in
-    let turns = subst (λ (s : Layout). TurnsOf s (g.P.Player.Plays c.loop-l.player) (g.P.Player.Plays c.link_turn-acted.new.self) c.link_turn-acted.result (IsOfLink c.loop-l.l)) c.loop-l.invariant.layout c.link_turn-acted.ensures.turned in
+    let w : Layout = g.P.TakeTurns.layout c.args.player.now in
+    let turns = subst (λ (s : Layout). TurnsOf s (g.P.TakeTurns.Plays c.loop-l.player) (g.P.TakeTurns.Plays c.link_turn-acted.new.self) c.link_turn-acted.result (IsOfLink c.loop-l.l)) c.loop-l.invariant.layout c.link_turn-acted.ensures.turned in
     record {
       layout = c.link_turn-acted.ensures.layout ∙ c.loop-l.invariant.layout;
-      leads = g.met.P.Player.leads_on c.args.player.now c.loop-l.player c.link_turn-acted.new.self c.loop-l.invariant.leads c.link_turn-acted.ensures.leads;
+      leads = g.met.P.TakeTurns.leads_on c.args.player.now c.loop-l.player c.link_turn-acted.new.self c.loop-l.invariant.leads c.link_turn-acted.ensures.leads;
       round = λ p s G.
           let R = c.loop-l.invariant.round p s G in
           let T = turns R.0 R.1 in

@@ -12,5 +12,5 @@ pub returns-in-Err-clause-faulty : goal.returns-in-Err-clause-faulty
 returns-in-Err-clause-faulty g c = λ line why faulty.
     ap (λ (fault : Fault). let answer : Result (Unit {0}) Fault = Err fault in answer) (fault-is c.in-Err.fault c.args.bytes.now line why c.in-Err.ensures.faulty faulty)
 
-pub returns-in-Ok-clause-stands : goal.returns-in-Ok-clause-stands
-returns-in-Ok-clause-stands g c = stands-unless c.run_lines.result _ _ _ _ _ c.run_lines.ensures.stands c.run_lines.ensures.failed
+pub returns-in-Ok-clause-stays : goal.returns-in-Ok-clause-stays
+returns-in-Ok-clause-stays g c = stands-unless c.run_lines.result _ _ _ _ _ c.run_lines.ensures.stays c.run_lines.ensures.failed

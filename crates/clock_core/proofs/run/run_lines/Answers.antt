@@ -11,7 +11,7 @@ loop-line-preserved g c = record {
       c.loop-line.rest.now c.in-Some.line.now c.in-Some.behind.now _ c.in-Some.ensures.some c.in-Ok.ensures.ran c.loop-line.invariant.sent;
   small = omega (arith, c.loop-line.invariant.small, c.in-Ok.ensures.close, c.in-Some.ensures.shorter);
   later = omega (arith, c.loop-line.invariant.later, c.run_line.ensures.keeps_sink.later);
-  stands = c.in-Ok.ensures.stands ∙ c.loop-line.invariant.stands;
+  stays = c.in-Ok.ensures.stays ∙ c.loop-line.invariant.stays;
   name = c.run_line.ensures.keeps_sink.name ∙ c.loop-line.invariant.name;
 }
 

@@ -10,7 +10,7 @@ invariant-loop-line g l = record {
   sent : Sent (g.O.Sink.told l.initial.out) (g.O.Sink.told l.out) (printed l.number l.clock (calls_in (lines_of l.rest))) (printed 1 opening (calls_in (lines_of l.text)));
   small : l.number + length l.rest ≤ 65538;
   later : g.O.Sink.faults l.initial.out ≤ g.O.Sink.faults l.out;
-  stands : g.O.Sink.faults l.out ≡ g.O.Sink.faults l.initial.out;
+  stays : g.O.Sink.faults l.out ≡ g.O.Sink.faults l.initial.out;
   name : g.O.Sink.name l.out ≡ g.O.Sink.name l.initial.out;
 }
 

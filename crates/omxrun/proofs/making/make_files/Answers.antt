@@ -9,9 +9,9 @@ returns-in-Ok-clause-outcome g c = record {
   others = c.in-Ok.ensures.others;
   unabsent = c.in-Ok.ensures.unabsent;
   reason = tt;
-  stand = record { reads = c.in-Ok.ensures.read_faults; writes = c.in-Ok.ensures.write_stands (λ same. cc) };
+  stand = record { reads = c.in-Ok.ensures.read_faults; writes = c.in-Ok.ensures.write_stays (λ same. cc) };
   reads = c.in-Ok.ensures.read_faults;
-  writes = λ other. c.in-Ok.ensures.write_stands (λ same. cc);
+  writes = λ other. c.in-Ok.ensures.write_stays (λ same. cc);
 }
 
 pub returns-in-Err-clause-outcome : goal.returns-in-Err-clause-outcome
@@ -24,5 +24,5 @@ returns-in-Err-clause-outcome g c = record {
   reason = c.in-Err.ensures.reason;
   stand = tt;
   reads = c.in-Err.ensures.read_faults;
-  writes = λ other. c.in-Err.ensures.write_stands (λ same. other (cc));
+  writes = λ other. c.in-Err.ensures.write_stays (λ same. other (cc));
 }

@@ -44,7 +44,7 @@ returns-in-Ok-clause-outcome g c =
       fault = c.close_both.ensures.fault;
     } in
     let alone : RanAlone c.packed_outcome.result (g.M.Src.Source.faults c.pack-packed.new.src) (g.M.Snk.Sink.faults c.pack-packed.new.snk) = subst (λ (r : Result Done Fault). RanAlone r (g.M.Src.Source.faults c.pack-packed.new.src) (g.M.Snk.Sink.faults c.pack-packed.new.snk)) (sym c.packed_outcome.ensures)
-    (pack-alone _ _ _ _ c.pack-packed.result c.in-Ok.ensures.unread c.in-Ok.ensures.unwritten c.pack-packed.ensures.stand c.pack-packed.ensures.write_alone c.pack-packed.ensures.read_stands c.pack-packed.ensures.short_alone) in
+    (pack-alone _ _ _ _ c.pack-packed.result c.in-Ok.ensures.unread c.in-Ok.ensures.unwritten c.pack-packed.ensures.stand c.pack-packed.ensures.write_alone c.pack-packed.ensures.read_stays c.pack-packed.ensures.short_alone) in
     let shut_alone : IsShutAlone mid new c.packed_outcome.result c.close_both.result (g.M.Src.Source.faults c.pack-packed.new.src) (g.M.Snk.Sink.faults c.pack-packed.new.snk) = record {
       closing = c.close_both.ensures.closing;
       unread = c.close_both.ensures.unread;

@@ -71,7 +71,7 @@ returns-in-Ok-write_log-clause-stand g c =
     let own : HaveOwnFiles R.0 log plan.parts = its_names R.0 log R.1 script O.planned plan.parts R.2 O.is_plan (O.fitted).parts in
     let H = subst (λ (ps : List PartLine). HasEnded plan ps (files_seen seen files) mid new c.run_and_close.result) (c.parts_of.ensures ∙ its_parts script O.planned plan.parts O.is_plan (O.fitted).parts) c.run_and_close.ensures in
     let S = stand seen script R.0 log old mid new plan files O own c.run_and_close.result H c.in-Ok-run_and_close.ran c.in-Ok-run_and_close.is in
-    record { reads = c.write_log.ensures.read_faults ∙ S.reads; writes = c.in-Ok-write_log.ensures.write_stands (λ e. cc) ∙ S.writes }
+    record { reads = c.write_log.ensures.read_faults ∙ S.reads; writes = c.in-Ok-write_log.ensures.write_stays (λ e. cc) ∙ S.writes }
 
 pub returns-in-Ok-write_log-clause-absences : goal.returns-in-Ok-write_log-clause-absences
 returns-in-Ok-write_log-clause-absences g c =
@@ -87,7 +87,7 @@ returns-in-Ok-write_log-clause-absences g c =
     let O = c.in-Ok.ensures.opened in
     let own : HaveOwnFiles R.0 log plan.parts = its_names R.0 log R.1 script O.planned plan.parts R.2 O.is_plan (O.fitted).parts in
     let H = subst (λ (ps : List PartLine). HasEnded plan ps (files_seen seen files) mid new c.run_and_close.result) (c.parts_of.ensures ∙ its_parts script O.planned plan.parts O.is_plan (O.fitted).parts) c.run_and_close.ensures in
-    c.in-Ok-write_log.ensures.absences_stand (λ e. cc) ∙ absent_none seen script R.0 log old mid new plan files O own c.run_and_close.result H
+    c.in-Ok-write_log.ensures.absences_stay (λ e. cc) ∙ absent_none seen script R.0 log old mid new plan files O own c.run_and_close.result H
 
 pub returns-clause-undone : goal.returns-clause-undone
 returns-clause-undone g c =
@@ -111,10 +111,10 @@ returns-clause-undone g c =
     subst (λ (fault : Fault). IsUndone script log old final fault) (sym c.log_fault.ensures)
     (inr (inr (unlogged seen script R.0 log old mid new plan files O own c.run_and_close.result H c.in-Ok-run_and_close.ran c.in-Ok-run_and_close.is final _
     c.write_log.ensures.goes_on
-    (log_why log c.in-Ok-run_and_close.ran.text new new final refused (stays new) (record { reads = refl; writes = refl }) e.reason e.read_faults (λ n. e.write_stands (λ same. n (cc))))
-    (log_calm old new final refused S e.read_faults (λ n. e.write_stands (λ same. n (cc))))
+    (log_why log c.in-Ok-run_and_close.ran.text new new final refused (stays new) (record { reads = refl; writes = refl }) e.reason e.read_faults (λ n. e.write_stays (λ same. n (cc))))
+    (log_calm old new final refused S e.read_faults (λ n. e.write_stays (λ same. n (cc))))
     (λ tells. c.write_log.ensures.others (on.tells ∙ tells))
     (λ tells. e.front (on.tells ∙ tells))
-    (log_why log c.in-Ok-run_and_close.ran.text old new final refused on S e.reason e.read_faults (λ n. e.write_stands (λ same. n (cc))))
+    (log_why log c.in-Ok-run_and_close.ran.text old new final refused on S e.reason e.read_faults (λ n. e.write_stays (λ same. n (cc))))
     (unmade_by log new final refused e.reason)
-    (log_told old new final refused (absent_none seen script R.0 log old mid new plan files O own c.run_and_close.result H) (λ n. e.absences_stand (λ same. n (cc)))))))
+    (log_told old new final refused (absent_none seen script R.0 log old mid new plan files O own c.run_and_close.result H) (λ n. e.absences_stay (λ same. n (cc)))))))

@@ -22,8 +22,8 @@ returns g c =
       closes = subst (λ (after : List (Option (PartFile _ _))). AreClosed (files_seen seen after) (g.M.Media.outside c.args.media.now) (g.M.Media.outside c.close_files-closed.new.media) c.close_files-closed.result) kept c.close_files-closed.ensures;
       few = omega (arith, c.read_faults-read_before.type_inv, c.read_faults-read_before.ensures);
       read = λ is. (let rose = c.has_risen-reads.ensures.risen is in omega (arith, rose, c.read_faults-read_before.ensures, c.read_faults.ensures));
-      unread = λ is. (let same = c.has_risen-reads.ensures.stands is in omega (arith, same, c.read_faults-read_before.ensures, c.read_faults.ensures));
+      unread = λ is. (let same = c.has_risen-reads.ensures.stays is in omega (arith, same, c.read_faults-read_before.ensures, c.read_faults.ensures));
       wrote = λ is. (let rose = c.has_risen-writes.ensures.risen is in omega (arith, rose, c.write_faults-write_before.ensures, c.write_faults.ensures));
-      unwritten = λ is. (let same = c.has_risen-writes.ensures.stands is in omega (arith, same, c.write_faults-write_before.ensures, c.write_faults.ensures));
+      unwritten = λ is. (let same = c.has_risen-writes.ensures.stays is in omega (arith, same, c.write_faults-write_before.ensures, c.write_faults.ensures));
       is = c.settle.ensures;
     }

@@ -12,4 +12,4 @@ returns-in-Err-clause-refused g c =
     subst (λ (fault : Fault). IsSinkRefused c.args.line c.args.name.now old new fault) (sym c.sink_fault.ensures)
     (sink_refused c.args.line c.args.name.now old new c.in-Err.refused c.sink.ensures.goes_on c.sink.ensures.files
     (λ is. e.absent (ap Err is)) (λ is. e.absent_name (ap Err is)) (λ is. e.failed (ap Err is)) c.sink.ensures.read_faults
-    (λ other. e.absences_stand (λ same. other (cc))))
+    (λ other. e.absences_stay (λ same. other (cc))))

@@ -13,7 +13,7 @@ returns-in-Err-clause-refused g c =
     subst (λ (fault : Fault). IsSourceRefused c.args.line c.args.name.now old new fault) (sym c.source_fault.ensures)
     (source_refused c.args.line c.args.name.now old new c.in-Err.refused c.source.ensures.goes_on c.source.ensures.files
     (λ is. e.absent (ap Err is)) (λ is. e.absent_name (ap Err is)) (λ is. e.failed (ap Err is))
-    (λ other. e.reads_stand (λ same. other (cc))) c.source.ensures.write_faults (λ other. e.absences_stand (λ same. other (cc))))
+    (λ other. e.reads_stay (λ same. other (cc))) c.source.ensures.write_faults (λ other. e.absences_stay (λ same. other (cc))))
 
 pub returns-in-Err-read_head-clause-refused : goal.returns-in-Err-read_head-clause-refused
 returns-in-Err-read_head-clause-refused g c =
@@ -28,14 +28,14 @@ returns-in-Err-read_head-clause-refused g c =
       last = c.close_source.ensures.goes_on;
       first_files = c.source.ensures.files;
       last_files = c.close_source.ensures.files;
-      first_reads = c.in-Ok.ensures.reads_stand (λ never. cc);
+      first_reads = c.in-Ok.ensures.reads_stay (λ never. cc);
       first_writes = c.source.ensures.write_faults;
       last_writes = c.close_source.ensures.write_faults;
-      first_absences = c.in-Ok.ensures.absences_stand (λ never. cc);
+      first_absences = c.in-Ok.ensures.absences_stay (λ never. cc);
       last_absences = c.close_source.ensures.absences;
       unfailed = c.in-Ok.ensures.unfailed;
       rose = λ is. e.read (ap Err is);
-      stands = λ other. e.stands (λ same. other (cc));
+      stays = λ other. e.stays (λ same. other (cc));
       added = c.close_source.ensures.added;
       told_is = c.in-Ok.ensures.told;
       ends_is = c.in-Ok.ensures.ends;

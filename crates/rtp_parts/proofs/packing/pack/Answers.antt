@@ -40,13 +40,13 @@ pub returns-in-Err-pack_samples-clause-short : goal.returns-in-Err-pack_samples-
 returns-in-Err-pack_samples-clause-short g c =
     short_samples _ _ _ _ _ c.in-Ok.head c.in-Some.companding _ _ _ _ _ c.in-Err-pack_samples.fault (sym c.companding_of.ensures ∙ c.in-Some.is) c.in-Ok.ensures.keeps_source.size c.in-Ok.ensures.keeps_source.ends c.in-Ok.ensures.offset c.in-Ok.ensures.start c.in-Ok.ensures.reads c.in-Err-pack_samples.ensures.stop
 
-pub returns-in-Err-clause-read_stands : goal.returns-in-Err-clause-read_stands
-returns-in-Err-clause-read_stands g c = λ other.
-    head_stands _ _ c.in-Err.fault c.of_head.result c.of_head.ensures (λ failed. c.in-Err.ensures.stands (λ same. failed (cc))) (λ same. other (cc))
+pub returns-in-Err-clause-read_stays : goal.returns-in-Err-clause-read_stays
+returns-in-Err-clause-read_stays g c = λ other.
+    head_stands _ _ c.in-Err.fault c.of_head.result c.of_head.ensures (λ failed. c.in-Err.ensures.stays (λ same. failed (cc))) (λ same. other (cc))
 
-pub returns-in-Err-pack_samples-clause-read_stands : goal.returns-in-Err-pack_samples-clause-read_stands
-returns-in-Err-pack_samples-clause-read_stands g c = λ other.
-    stop_stands _ _ _ _ _ _ _ c.in-Err-pack_samples.fault c.in-Err-pack_samples.ensures.stop (λ same. other (cc)) ∙ c.in-Ok.ensures.stands (λ same. cc)
+pub returns-in-Err-pack_samples-clause-read_stays : goal.returns-in-Err-pack_samples-clause-read_stays
+returns-in-Err-pack_samples-clause-read_stays g c = λ other.
+    stop_stands _ _ _ _ _ _ _ c.in-Err-pack_samples.fault c.in-Err-pack_samples.ensures.stop (λ same. other (cc)) ∙ c.in-Ok.ensures.stays (λ same. cc)
 
 pub returns-in-Err-clause-too_large : goal.returns-in-Err-clause-too_large
 returns-in-Err-clause-too_large g c = λ large.

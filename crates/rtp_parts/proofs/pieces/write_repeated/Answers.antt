@@ -13,7 +13,7 @@ loop-done-preserved g c =
       within = omega (arith, c.min-more.ensures, c.loop-done-test.true);
       told = repeated_more _ _ _ c.args.code c.loop-done.done more c.loop-done.invariant.told (c.in_ok-write_all.ensures.whole ∙ ap (append_known (g.K.Sink.told c.loop-done.snk)) slice);
       name = search rules;
-      stands = c.in_ok-write_all.ensures.cause.stands ∙ c.loop-done.invariant.stands;
+      stays = c.in_ok-write_all.ensures.cause.stays ∙ c.loop-done.invariant.stays;
     }
 
 pub returns-in_err-write_all-clause-front : goal.returns-in_err-write_all-clause-front

@@ -34,6 +34,6 @@ returns-in-Ok-read_exact-clause-reached g c = λ end is.
 
 pub returns-in-Err-read_exact-clause-stop : goal.returns-in-Err-read_exact-clause-stop
 returns-in-Err-read_exact-clause-stop g c =
-    stop_read _ _ _ _ (g.S.Source.offset c.read_exact.new.source) _ _ _ c.in-Err-read_exact.stop _ c.of_read-in-Err-read_exact.ensures c.in-Ok.ensures.keeps_source.size c.in-Ok.ensures.keeps_source.ends (c.in-Ok.ensures.stands (λ e. cc))
-    (λ e. c.in-Err-read_exact.ensures.failed (ap Err e)) (λ other. c.in-Err-read_exact.ensures.stands (λ e. other cc)) c.in-Err-read_exact.ensures.short
+    stop_read _ _ _ _ (g.S.Source.offset c.read_exact.new.source) _ _ _ c.in-Err-read_exact.stop _ c.of_read-in-Err-read_exact.ensures c.in-Ok.ensures.keeps_source.size c.in-Ok.ensures.keeps_source.ends (c.in-Ok.ensures.stays (λ e. cc))
+    (λ e. c.in-Err-read_exact.ensures.failed (ap Err e)) (λ other. c.in-Err-read_exact.ensures.stays (λ e. other cc)) c.in-Err-read_exact.ensures.short
     (λ end is. omega (arith, c.in-Ok.ensures.reached end is, c.requires.reached end is))

@@ -20,7 +20,7 @@ pieces-init g c =
       told = search rules;
       ends = search rules;
       size = search rules;
-      stands = search rules;
+      stays = search rules;
     }
 
 pub pieces-preserved : goal.pieces-preserved
@@ -38,7 +38,7 @@ pieces-preserved g c =
       told = c.in-Ok-Some.ensures.keeps_source.told ∙ c.pieces.invariant.told;
       ends = c.in-Ok-Some.ensures.keeps_source.ends ∙ c.pieces.invariant.ends;
       size = c.in-Ok-Some.ensures.keeps_source.size ∙ c.pieces.invariant.size;
-      stands = c.in-Ok-Some.ensures.stands ∙ c.pieces.invariant.stands;
+      stays = c.in-Ok-Some.ensures.stays ∙ c.pieces.invariant.stays;
     }
 
 pub returns-then-frames-gt-MOST_CODES-clause-answer : goal.returns-then-frames-gt-MOST_CODES-clause-answer
@@ -49,11 +49,11 @@ returns-then-frames-gt-MOST_CODES-clause-answer g c = λ bytes is.
     (omega (arith, c.pieces.invariant.codes bytes is 0, long, c.from.ensures, c.len.ensures, piece.payload.ok.0, c.if-frames-gt-MOST_CODES.true))
 
 pub returns-then-frames-gt-MOST_CODES-clause-cause : goal.returns-then-frames-gt-MOST_CODES-clause-cause
-returns-then-frames-gt-MOST_CODES-clause-cause g c = c.in-Ok-Some.ensures.stands ∙ c.pieces.invariant.stands
+returns-then-frames-gt-MOST_CODES-clause-cause g c = c.in-Ok-Some.ensures.stays ∙ c.pieces.invariant.stays
 
 pub returns-in-Ok-None-clause-cause : goal.returns-in-Ok-None-clause-cause
 returns-in-Ok-None-clause-cause g c =
-    survey_ends (g.S.Source.size c.args.src.now) (g.S.Source.ends c.args.src.now) (g.S.Source.faults c.args.src.now) (g.S.Source.faults c.next.new.src) c.next.new.self.stream (counts_in (course_of c.next.new.self)) c.pieces.frames c.found.result c.found.ensures (c.in-Ok-None.ensures.stands ∙ c.pieces.invariant.stands)
+    survey_ends (g.S.Source.size c.args.src.now) (g.S.Source.ends c.args.src.now) (g.S.Source.faults c.args.src.now) (g.S.Source.faults c.next.new.src) c.next.new.self.stream (counts_in (course_of c.next.new.self)) c.pieces.frames c.found.result c.found.ensures (c.in-Ok-None.ensures.stays ∙ c.pieces.invariant.stays)
 
 pub returns-in-Ok-None-clause-answer : goal.returns-in-Ok-None-clause-answer
 returns-in-Ok-None-clause-answer g c = λ bytes is.

@@ -17,7 +17,7 @@ invariant-pieces g l = record {
   told : g.S.Source.told l.src ≡ g.S.Source.told l.initial.src;
   ends : g.S.Source.ends l.src ≡ g.S.Source.ends l.initial.src;
   size : g.S.Source.size l.src ≡ g.S.Source.size l.initial.src;
-  stands : g.S.Source.faults l.src ≡ g.S.Source.faults l.initial.src;
+  stays : g.S.Source.faults l.src ≡ g.S.Source.faults l.initial.src;
 }
 
 abbrev pub decreases-pieces : goal.decreases-pieces

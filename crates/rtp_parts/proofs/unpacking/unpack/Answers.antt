@@ -31,7 +31,7 @@ returns-in-Err-survey-clause-asks_no_further g c = λ bytes is other. absurd (ot
 
 pub returns-in-Err-survey-clause-cause : goal.returns-in-Err-survey-clause-cause
 returns-in-Err-survey-clause-cause g c =
-    ends_later _ _ _ _ _ _ _ _ _ c.in-Err-survey.fault c.in-Ok.ensures.keeps_source.size c.in-Ok.ensures.keeps_source.ends c.in-Ok.ensures.stands refl c.in-Err-survey.ensures.cause
+    ends_later _ _ _ _ _ _ _ _ _ c.in-Err-survey.fault c.in-Ok.ensures.keeps_source.size c.in-Ok.ensures.keeps_source.ends c.in-Ok.ensures.stays refl c.in-Err-survey.ensures.cause
 
 pub returns-in-Err-seek_to-clause-front : goal.returns-in-Err-seek_to-clause-front
 returns-in-Err-seek_to-clause-front g c = λ bytes is. front-none _ _
@@ -78,7 +78,7 @@ returns-clause-asks_no_further g c = λ bytes is other. absurd (other (c.in-Ok.e
 pub returns-clause-cause : goal.returns-clause-cause
 returns-clause-cause g c =
     moving_ends _ _ _ _ _ _ _ _ _ c.in-Err-write_wav.fault (c.in-Ok-seek_to.ensures.size ∙ c.in-Ok-survey.ensures.keeps_source.size ∙ c.in-Ok.ensures.keeps_source.size) (c.in-Ok-seek_to.ensures.ends ∙ c.in-Ok-survey.ensures.keeps_source.ends ∙ c.in-Ok.ensures.keeps_source.ends)
-    (c.in-Ok-seek_to.ensures.cause.stands ∙ c.in-Ok-survey.ensures.stands ∙ c.in-Ok.ensures.stands) c.in-Err-write_wav.ensures.stop
+    (c.in-Ok-seek_to.ensures.cause.stays ∙ c.in-Ok-survey.ensures.stays ∙ c.in-Ok.ensures.stays) c.in-Err-write_wav.ensures.stop
 
 pub returns-in-Err-clause-asks_no_packets : goal.returns-in-Err-clause-asks_no_packets
 returns-in-Err-clause-asks_no_packets g c = λ bytes is other. c.check_magic.ensures.asks

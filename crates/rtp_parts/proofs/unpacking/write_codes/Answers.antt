@@ -39,7 +39,7 @@ pieces-preserved g c =
       told = c.in-Ok-Some.ensures.keeps_source.told ∙ c.pieces.invariant.told;
       ends = c.in-Ok-Some.ensures.keeps_source.ends ∙ c.pieces.invariant.ends;
       size = c.in-Ok-Some.ensures.keeps_source.size ∙ c.pieces.invariant.size;
-      read = c.in-Ok-Some.ensures.stands ∙ c.pieces.invariant.read;
+      read = c.in-Ok-Some.ensures.stays ∙ c.pieces.invariant.read;
       name = search rules;
       write = search rules;
     }

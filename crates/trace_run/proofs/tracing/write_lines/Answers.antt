@@ -60,7 +60,7 @@ loop-place-preserved g c =
       carries = subst (λ (l : List TraceLine). Carries from next l old new) (next_line lines k line below c.index-lines-place.is)
           (carries_more from now next (take k lines) (k + 1) line c.clear.new.self.items c.put_line.new.text.items old mid new c.loop-place.invariant.carries count c.clear.ensures.items prints whole);
       later = omega (arith, c.loop-place.invariant.later, c.in_ok-write.ensures.keeps_sink.later);
-      stands = c.in_ok-write.ensures.stands ∙ c.loop-place.invariant.stands;
+      stays = c.in_ok-write.ensures.stays ∙ c.loop-place.invariant.stays;
       name = c.in_ok-write.ensures.keeps_sink.name ∙ c.loop-place.invariant.name;
     }
 

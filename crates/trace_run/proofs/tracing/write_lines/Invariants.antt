@@ -12,6 +12,6 @@ invariant-loop-place g l =
       stood : HasDeskMoment now;
       carries : Carries from now (take l.place l.lines) (g.O.Sink.told l.initial.out) (g.O.Sink.told l.out);
       later : g.O.Sink.faults l.initial.out ≤ g.O.Sink.faults l.out;
-      stands : g.O.Sink.faults l.out ≡ g.O.Sink.faults l.initial.out;
+      stays : g.O.Sink.faults l.out ≡ g.O.Sink.faults l.initial.out;
       name : g.O.Sink.name l.out ≡ g.O.Sink.name l.initial.out;
     }

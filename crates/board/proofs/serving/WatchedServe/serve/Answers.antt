@@ -10,10 +10,10 @@ returns g c = λ first log pass due.
     let see = sight_of g.C.Client g.S.Source g.K.Sink in
     let l = c.law_of_worlds.ensures in
     let n = c.law_of_worlds-2.ensures in
-    let t = c.tell.ensures in
-    finish see g.C.Client.HEADERS first c.args.self.now log pass c.args.asked c.args.place c.answer-reply.new.self c.show_changes.new.self c.tell.new.from c.tell.new.to c.answer-reply.result due
+    let t = c.share.ensures in
+    finish see g.C.Client.HEADERS first c.args.self.now log pass c.args.asked c.args.place c.answer-reply.new.self c.show_changes.new.self c.share.new.from c.share.new.to c.answer-reply.result due
     (record { sound = l.sound; out = l.out }) (record { sound = n.sound; out = n.out }) c.answer-reply.ensures c.show_changes.ensures
-    (subst (λ (w : StateWords). IsShowerOf w c.tell.new.from) c.deref.ensures t.tokens.0)
-    (subst (λ (w : StateWords). IsReaderOf w c.tell.new.to) c.deref.ensures t.tokens.1)
+    (subst (λ (w : StateWords). IsShowerOf w c.share.new.from) c.deref.ensures t.tokens.0)
+    (subst (λ (w : StateWords). IsReaderOf w c.share.new.to) c.deref.ensures t.tokens.1)
     t.tokens.2
     t.known.0

@@ -11,8 +11,8 @@ use Rattle.il_component.proofs.Named.{held_state}
 use Rattle.il_component.proofs.Announcing.{announced_held, room_to_tell, work_some}
 use Rattle.il_component.proofs.component.Component.announce.Goals as goal
 
-pub tell-requires : goal.tell-requires
-tell-requires g c =
+pub queue_event-requires : goal.queue_event-requires
+queue_event-requires g c =
     let k = component_of c.take_work.new.self in
     let p = c.in-Some.port in
     let e : port_of k 0 ≡ Some p = sym c.in-Some.ensures in
@@ -30,4 +30,4 @@ returns-clause-component g c =
     let old : port_of c0 0 ≡ Some p = subst (λ (y : Component). port_of y 0 ≡ Some p) x e in
     let same : k.file ≡ c0.file = ap (λ (y : Component). y.file) x in
     let f : same_format p.setting.definition.format (file_format c0.file) ≡ false = ap (λ (a : Option Attached). same_format p.setting.definition.format (file_format a)) (sym same) ∙ (sym c.has_file_format.ensures ∙ c.if-has_file_format.false) in
-    c.tell.ensures.told ∙ (ap (told (PortSettingsChanged 0)) (m ∙ ap (with_port 0 (held_state p.state)) x) ∙ sym (announced_held c0 p old f))
+    c.queue_event.ensures.told ∙ (ap (told (PortSettingsChanged 0)) (m ∙ ap (with_port 0 (held_state p.state)) x) ∙ sym (announced_held c0 p old f))

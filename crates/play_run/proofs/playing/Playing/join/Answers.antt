@@ -21,7 +21,7 @@ returns-clause-changed g c =
     let input = c.port-input in
     let first = c.port_name-first in
     let second = c.port_name-second in
-    tunnel_joins _ c.args.self.now c.self.view_is c.setup_tunnel.new.self c.tell.new.log c.args.link c.setup_tunnel.ensures.clients output.result input.result first.result second.result c.joined.result
+    tunnel_joins _ c.args.self.now c.self.view_is c.setup_tunnel.new.self c.log_act.new.log c.args.link c.setup_tunnel.ensures.clients output.result input.result first.result second.result c.joined.result
     (record {
       giver = output.ensures.handle;
       taker = input.ensures.handle;
@@ -32,4 +32,4 @@ returns-clause-changed g c =
       first_port = first.ensures.index;
       second_port = second.ensures.index;
     })
-    c.tell.ensures c.setup_tunnel.result c.joined.ensures c.setup_tunnel.ensures.step c.law_of_changed_streams.ensures.joined
+    c.log_act.ensures c.setup_tunnel.result c.joined.ensures c.setup_tunnel.ensures.step c.law_of_changed_streams.ensures.joined

@@ -21,7 +21,7 @@ returns-clause-changed g c =
     let input = c.port-input in
     let first = c.port_name-first in
     let second = c.port_name-second in
-    tunnel_drops _ c.args.self.now c.self.view_is c.drop_tunnel.new.self c.tell.new.log c.args.link c.drop_tunnel.ensures.clients output.result input.result first.result second.result c.dropped.result
+    tunnel_drops _ c.args.self.now c.self.view_is c.drop_tunnel.new.self c.log_act.new.log c.args.link c.drop_tunnel.ensures.clients output.result input.result first.result second.result c.dropped.result
     (record {
       giver = output.ensures.handle;
       taker = input.ensures.handle;
@@ -32,4 +32,4 @@ returns-clause-changed g c =
       first_port = first.ensures.index;
       second_port = second.ensures.index;
     })
-    c.tell.ensures c.drop_tunnel.result c.dropped.ensures c.drop_tunnel.ensures.step c.law_of_changed_streams.ensures.dropped
+    c.log_act.ensures c.drop_tunnel.result c.dropped.ensures c.drop_tunnel.ensures.step c.law_of_changed_streams.ensures.dropped

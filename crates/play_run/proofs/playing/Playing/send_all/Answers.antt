@@ -18,8 +18,8 @@ loop-place-preserved g c =
     record {
       plan = ap (λ (z : PlayingValue _ _). z.plan) c.self.view_is ∙ c.loop-place.invariant.plan;
       files = λ number. c.send_command.ensures.files number ∙ (ap (λ (z : PlayingValue g.row.S.Denot g.row.K.Denot). file_of number z.graph) c.self.view_is ∙ c.loop-place.invariant.files number);
-      sent = sends_next _ c.loop-place.self c.args.self.now c.self.view_is c.send_command.new.self c.tell.new.log c.args.state c.loop-place.place c.handle-h.result c.send_command.result c.loop-place.invariant.plan below c.handle-h.ensures
-          (record { name = c.name_at.result; said = c.sent.result; named = c.name_at.ensures; says = c.sent.ensures; told = c.tell.ensures })
+      sent = sends_next _ c.loop-place.self c.args.self.now c.self.view_is c.send_command.new.self c.log_act.new.log c.args.state c.loop-place.place c.handle-h.result c.send_command.result c.loop-place.invariant.plan below c.handle-h.ensures
+          (record { name = c.name_at.result; said = c.sent.result; named = c.name_at.ensures; says = c.sent.ensures; told = c.log_act.ensures })
           c.send_command.ensures.clients c.send_command.ensures.step c.law_of_component_streams.ensures.sent c.loop-place.invariant.sent;
     }
 

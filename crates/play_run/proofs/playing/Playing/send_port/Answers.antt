@@ -19,5 +19,5 @@ pub returns-clause-changed : goal.returns-clause-changed
 returns-clause-changed g c =
     let port = c.port-port in
     let name = c.port_name-name in
-    port_sends _ c.args.self.now c.self.view_is c.send_command.new.self c.tell.new.log c.args.link c.send_command.ensures.clients c.args.end c.args.disables port.result.handle port.result.index c.port_command.result c.send_command.result name.result c.port_sent.result
-    port.ensures.handle port.ensures.index c.port_command.ensures name.ensures.component name.ensures.index c.port_sent.ensures c.tell.ensures c.send_command.ensures.step c.law_of_changed_streams.ensures.sent
+    port_sends _ c.args.self.now c.self.view_is c.send_command.new.self c.log_act.new.log c.args.link c.send_command.ensures.clients c.args.end c.args.disables port.result.handle port.result.index c.port_command.result c.send_command.result name.result c.port_sent.result
+    port.ensures.handle port.ensures.index c.port_command.ensures name.ensures.component name.ensures.index c.port_sent.ensures c.log_act.ensures c.send_command.ensures.step c.law_of_changed_streams.ensures.sent

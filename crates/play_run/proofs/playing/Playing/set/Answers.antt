@@ -20,5 +20,5 @@ pub returns-clause-changed : goal.returns-clause-changed
 returns-clause-changed g c =
     let port = c.port-port in
     let name = c.port_name-name in
-    port_sets _ c.args.self.now c.self.view_is c.set_parameter.new.self c.tell.new.log c.args.link c.set_parameter.ensures.clients c.args.end port.result.handle port.result.index c.definition_key.result c.definition-definition.result c.set_parameter.result name.result c.set_port.result
-    port.ensures.handle port.ensures.index c.definition_key.ensures c.definition-definition.ensures name.ensures.component name.ensures.index c.set_port.ensures c.tell.ensures c.set_parameter.ensures.step c.law_of_changed_streams.ensures.set
+    port_sets _ c.args.self.now c.self.view_is c.set_parameter.new.self c.log_act.new.log c.args.link c.set_parameter.ensures.clients c.args.end port.result.handle port.result.index c.definition_key.result c.definition-definition.result c.set_parameter.result name.result c.set_port.result
+    port.ensures.handle port.ensures.index c.definition_key.ensures c.definition-definition.ensures name.ensures.component name.ensures.index c.set_port.ensures c.log_act.ensures c.set_parameter.ensures.step c.law_of_changed_streams.ensures.set

@@ -18,13 +18,13 @@ use Rattle.play_run.proofs.Stepping.{HasLines, may_come, no_work_same, own_numbe
 use Rattle.play_run.proofs.playing.Playing.step.Goals as goal
 
 pub place-place-requires : goal.place-place-requires
-place-place-requires g c = turn_there c.args.self.now c.args.component c.requires.stands c.requires.there
+place-place-requires g c = turn_there c.args.self.now c.args.component c.requires.plays c.requires.there
 
 pub handle-h-requires-clause-there : goal.handle-h-requires-clause-there
-handle-h-requires-clause-there g c = place_there c.args.self.now c.args.component c.place-place.result c.requires.stands c.requires.there c.place-place.ensures
+handle-h-requires-clause-there g c = place_there c.args.self.now c.args.component c.place-place.result c.requires.plays c.requires.there c.place-place.ensures
 
 pub handle-h-requires-clause-parts : goal.handle-h-requires-clause-parts
-handle-h-requires-clause-parts g c = has_parts c.args.self.now c.requires.stands
+handle-h-requires-clause-parts g c = has_parts c.args.self.now c.requires.plays
 
 pub returns-in-Err-clause-turned : goal.returns-in-Err-clause-turned
 returns-in-Err-clause-turned g c =
@@ -62,7 +62,7 @@ finish-requires-clause-handed g c =
 
 pub name_at-name-requires : goal.name_at-name-requires
 name_at-name-requires g c =
-    still_there _ c.args.self.now c.self.view_is c.place-place.result (place_there c.args.self.now c.args.component c.place-place.result c.requires.stands c.requires.there c.place-place.ensures)
+    still_there _ c.args.self.now c.self.view_is c.place-place.result (place_there c.args.self.now c.args.component c.place-place.result c.requires.plays c.requires.there c.place-place.ensures)
 
 pub returns-in-None-fault-clause-turned : goal.returns-in-None-fault-clause-turned
 returns-in-None-fault-clause-turned g c =
@@ -76,21 +76,21 @@ returns-in-None-fault-clause-turned g c =
     let its = rw is at c.in-Ok.ensures.component in
     let run = c.run-done.ensures in
     let done = worked (kept_of c.self.inside.graph) (kept_of c.claim.new.self) (kept_of c.finish.new.self) h t _ work c.run-done.result _ _ c.law_of_worlds.ensures.sound steps run.component set_so run.step run.announced (λ a. rw (run.unstepped a) refl) its None c.frames-frames.result (sym c.fault-fault.ensures ∙ c.in-None-fault.is) (sym c.frames-frames.ensures) c.finish.ensures.step in
-    let lines : HasLines c.self.inside.plan.parts c.place-place.result c.frames-frames.result c.self.inside.log c.tell-in-None-fault.new.log = record {
+    let lines : HasLines c.self.inside.plan.parts c.place-place.result c.frames-frames.result c.self.inside.log c.log_act-in-None-fault.new.log = record {
       name = c.name_at-name.result;
       named = c.name_at-name.ensures;
       first = c.claimed.result;
       says_first = c.claimed.ensures;
-      between = c.tell.new.log;
-      told_first = c.tell.ensures;
+      between = c.log_act.new.log;
+      told_first = c.log_act.ensures;
       second = c.finished.result;
       says_second = c.finished.ensures;
-      told_second = c.tell-in-None-fault.ensures;
+      told_second = c.log_act-in-None-fault.ensures;
     } in
     step_turns _ c.args.self.now c.self.view_is c.claim.new.self c.finish.new.self c.args.component c.place-place.result h c.requires.there c.place-place.ensures c.handle-h.ensures
     c.law_of_worlds.ensures.closed c.claim.ensures.clients c.finish.ensures.clients
     (λ r recent p w v W b N s k later q H V e. c.law_of_component_streams.ensures.claimed (play_cast_of c.self.inside.plan) k recent later p q w v c.args.component h r W H V e b N s)
-    c.tell-in-None-fault.new.log c.frames-frames.result
+    c.log_act-in-None-fault.new.log c.frames-frames.result
     (λ recent p w v W b B k later q H V e. c.law_of_stepped_streams.ensures (play_cast_of c.self.inside.plan) k recent later p q w v c.args.component B.component B.work B.done W H V e b B.there B.out B.its B.does B.faults B.comes) lines done
 
 pub returns-in-Some-fault-clause-failed : goal.returns-in-Some-fault-clause-failed
@@ -105,7 +105,7 @@ returns-in-Some-fault-clause-failed g c =
     let its = rw is at c.in-Ok.ensures.component in
     let run = c.run-done.ensures in
     let done = worked (kept_of c.self.inside.graph) (kept_of c.claim.new.self) (kept_of c.finish.new.self) h t _ work c.run-done.result _ _ c.law_of_worlds.ensures.sound steps run.component set_so run.step run.announced (λ a. rw (run.unstepped a) refl) its (Some c.in-Some-fault.fault) c.frames-frames.result (sym c.fault-fault.ensures ∙ c.in-Some-fault.is) (sym c.frames-frames.ensures) c.finish.ensures.step in
-    let own = own_number c.args.self.now c.args.component c.place-place.result h c.requires.there c.place-place.ensures c.handle-h.ensures c.requires.stands in
+    let own = own_number c.args.self.now c.args.component c.place-place.result h c.requires.there c.place-place.ensures c.handle-h.ensures c.requires.plays in
     let whole = rw is at c.in-Ok.ensures.whole in
     let file = rw is at c.in-Ok.ensures.file in
     let same = run.component ∙ its in
@@ -122,7 +122,7 @@ returns-in-Some-fault-clause-failed g c =
     step_fails _ c.args.self.now c.self.view_is c.claim.new.self c.finish.new.self c.args.component c.place-place.result h c.requires.there c.place-place.ensures c.handle-h.ensures
     c.law_of_worlds.ensures.closed c.claim.ensures.clients c.finish.ensures.clients
     (λ r recent p w v W b N s k later q H V e. c.law_of_component_streams.ensures.claimed (play_cast_of c.self.inside.plan) k recent later p q w v c.args.component h r W H V e b N s)
-    c.tell.new.log c.frames-frames.result c.in-Some-fault.fault
+    c.log_act.new.log c.frames-frames.result c.in-Some-fault.fault
     (λ recent p w v W b B k H stream Q. c.law_of_written_streams.ensures.failed (play_cast_of c.self.inside.plan) k recent p w v c.args.component B.component B.work B.done c.in-Some-fault.fault stream W H Q b B.there B.out B.its B.does B.faults B.comes) done objects shows
 
 pub returns-in-Err-clause-objects : goal.returns-in-Err-clause-objects

@@ -53,5 +53,5 @@ loop-held-preserved g c =
       told = c.in-Ok.ensures.keeps_source.told ∙ c.loop-held.invariant.told;
       ends = c.in-Ok.ensures.keeps_source.ends ∙ c.loop-held.invariant.ends;
       size = c.in-Ok.ensures.keeps_source.size ∙ c.loop-held.invariant.size;
-      stands = c.in-Ok.ensures.stands ∙ c.loop-held.invariant.stands;
+      stays = c.in-Ok.ensures.stays ∙ c.loop-held.invariant.stays;
     }

@@ -15,7 +15,7 @@ invariant-loop-held g l = record {
   told : g.S.Source.told l.src ≡ g.S.Source.told l.initial.src;
   ends : g.S.Source.ends l.src ≡ g.S.Source.ends l.initial.src;
   size : g.S.Source.size l.src ≡ g.S.Source.size l.initial.src;
-  stands : g.S.Source.faults l.src ≡ g.S.Source.faults l.initial.src;
+  stays : g.S.Source.faults l.src ≡ g.S.Source.faults l.initial.src;
 }
 
 abbrev pub decreases-loop-held : goal.decreases-loop-held

@@ -13,7 +13,7 @@ loop-ticket-init g c = let r = c.requires.seat in record {
   may = c.requires.may;
   room = c.requires.room;
   capacities = (refl, refl);
-  row = front_none g.V.Serve.legal g.V.Serve.may g.V.Serve.stands (opening_of c.args.self.now) c.args.first (at_rest c.args.seat.now.me.0) c.args.seat.now.me.0 c.args.acts.now.items c.args.replies.now.items ((refl, refl, refl), refl, refl);
+  row = front_none g.V.Serve.legal g.V.Serve.may g.V.Serve.reaches (opening_of c.args.self.now) c.args.first (at_rest c.args.seat.now.me.0) c.args.seat.now.me.0 c.args.acts.now.items c.args.replies.now.items ((refl, refl, refl), refl, refl);
 }
 
 pub loop-ticket-preserved : goal.loop-ticket-preserved
@@ -33,5 +33,5 @@ loop-ticket-preserved g c =
       room = let popped = c.in-Some.ensures.len in let pushed = c.push_back_reserved.ensures.len in let same = c.push_back_reserved.ensures.capacity in omega arith;
       capacities = (c.in-Some.ensures.capacity ∙ i.capacities.0, c.push_back_reserved.ensures.capacity ∙ i.capacities.1);
       row = subst (λ l. CalledFront g.V.Serve.legal g.V.Serve.may first c.args.first (at_rest start) c.args.acts.now.items rest c.args.replies.now.items l w) (sym c.push_back_reserved.ensures.items)
-          (front_more g.V.Serve.legal g.V.Serve.may g.V.Serve.stands first c.args.first (at_rest start) v w c.args.acts.now.items rest c.args.replies.now.items c.loop-ticket.replies.items act reply c.loop-ticket.ticket refl front (omega arith) (omega arith) e.turn e.seat.3);
+          (front_more g.V.Serve.legal g.V.Serve.may g.V.Serve.reaches first c.args.first (at_rest start) v w c.args.acts.now.items rest c.args.replies.now.items c.loop-ticket.replies.items act reply c.loop-ticket.ticket refl front (omega arith) (omega arith) e.turn e.seat.3);
     }

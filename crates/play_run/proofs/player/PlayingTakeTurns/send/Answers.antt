@@ -2,7 +2,7 @@ use Rattle.play_loop.specs.Turns.{IsSend}
 use Rattle.audio_parts.specs.ObjectLaws.{object_itself}
 use Rattle.audio_parts.specs.Objects.{ObjectStays}
 use Rattle.play_run.proofs.Answering.{files_stay, leads_of, turned_of}
-use Rattle.play_run.proofs.player.PlayingPlayer.send.Goals as goal
+use Rattle.play_run.proofs.player.PlayingTakeTurns.send.Goals as goal
 
 pub returns-clause-turned : goal.returns-clause-turned
 returns-clause-turned g c = turned_of c.args.self.now c.conduct.new.self c.conduct.result IsSend c.conduct.ensures.turned

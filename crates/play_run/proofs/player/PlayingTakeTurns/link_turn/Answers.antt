@@ -6,19 +6,19 @@ use Rattle.audio_parts.specs.Objects.{ObjectStays}
 use Rattle.play_turn_laws.specs.Turns.{IsAct}
 use Rattle.play_run.proofs.Answering.{files_stay, leads_of, turned_of}
 use Rattle.play_run.proofs.Rounding.{some_next, whole_turn}
-use Rattle.play_run.proofs.player.PlayingPlayer.link_turn.Goals as goal
+use Rattle.play_run.proofs.player.PlayingTakeTurns.link_turn.Goals as goal
 
-pub release-released-requires-clause-stands : goal.release-released-requires-clause-stands
-release-released-requires-clause-stands g c = some_next c.args.self.now c.supply-supplied.new.self c.supply-supplied.result (IsAct (Act.Supply c.args.link)) c.supply-supplied.ensures.turned c.requires.stands
+pub release-released-requires-clause-plays : goal.release-released-requires-clause-plays
+release-released-requires-clause-plays g c = some_next c.args.self.now c.supply-supplied.new.self c.supply-supplied.result (IsAct (Act.Supply c.args.link)) c.supply-supplied.ensures.turned c.requires.plays
 
-pub hand_over-over-requires-clause-stands : goal.hand_over-over-requires-clause-stands
-hand_over-over-requires-clause-stands g c =
-    let some = some_next c.args.self.now c.supply-supplied.new.self c.supply-supplied.result (IsAct (Act.Supply c.args.link)) c.supply-supplied.ensures.turned c.requires.stands in
+pub hand_over-over-requires-clause-plays : goal.hand_over-over-requires-clause-plays
+hand_over-over-requires-clause-plays g c =
+    let some = some_next c.args.self.now c.supply-supplied.new.self c.supply-supplied.result (IsAct (Act.Supply c.args.link)) c.supply-supplied.ensures.turned c.requires.plays in
     some_next c.supply-supplied.new.self c.release-released.new.self c.release-released.result (IsAct (Act.Release c.args.link)) c.release-released.ensures.turned some
 
-pub hand_back-back-requires-clause-stands : goal.hand_back-back-requires-clause-stands
-hand_back-back-requires-clause-stands g c =
-    let some = some_next c.args.self.now c.supply-supplied.new.self c.supply-supplied.result (IsAct (Act.Supply c.args.link)) c.supply-supplied.ensures.turned c.requires.stands in
+pub hand_back-back-requires-clause-plays : goal.hand_back-back-requires-clause-plays
+hand_back-back-requires-clause-plays g c =
+    let some = some_next c.args.self.now c.supply-supplied.new.self c.supply-supplied.result (IsAct (Act.Supply c.args.link)) c.supply-supplied.ensures.turned c.requires.plays in
     let more = some_next c.supply-supplied.new.self c.release-released.new.self c.release-released.result (IsAct (Act.Release c.args.link)) c.release-released.ensures.turned some in
     some_next c.release-released.new.self c.hand_over-over.new.self c.hand_over-over.result (IsAct (Act.HandOver c.args.link)) c.hand_over-over.ensures.turned more
 

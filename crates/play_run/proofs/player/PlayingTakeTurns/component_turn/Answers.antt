@@ -9,14 +9,14 @@ use Rattle.play_run.specs.Playing.{FilesStay, layout_of, unfailed}
 use Rattle.play_run.specs.Leading.{fails_on, leads_on}
 use Rattle.play_run.proofs.Answering.{files_stay, leads_of, turned_of}
 use Rattle.play_run.proofs.Rounding.{actor_turn, some_next, wants_memory}
-use Rattle.play_run.proofs.player.PlayingPlayer.component_turn.Goals as goal
+use Rattle.play_run.proofs.player.PlayingTakeTurns.component_turn.Goals as goal
 
-pub run-ran-requires-clause-stands : goal.run-ran-requires-clause-stands
-run-ran-requires-clause-stands g c = some_next c.args.self.now c.tell-told.new.self c.tell-told.result (IsTellingOf (layout_of c.args.self.now.plan) c.args.component) c.tell-told.ensures.turned c.requires.stands
+pub run-ran-requires-clause-plays : goal.run-ran-requires-clause-plays
+run-ran-requires-clause-plays g c = some_next c.args.self.now c.tell-told.new.self c.tell-told.result (IsTellingOf (layout_of c.args.self.now.plan) c.args.component) c.tell-told.ensures.turned c.requires.plays
 
-pub step-requires-clause-stands : goal.step-requires-clause-stands
-step-requires-clause-stands g c =
-    let some = some_next c.args.self.now c.tell-told.new.self c.tell-told.result (IsTellingOf (layout_of c.args.self.now.plan) c.args.component) c.tell-told.ensures.turned c.requires.stands in
+pub step-requires-clause-plays : goal.step-requires-clause-plays
+step-requires-clause-plays g c =
+    let some = some_next c.args.self.now c.tell-told.new.self c.tell-told.result (IsTellingOf (layout_of c.args.self.now.plan) c.args.component) c.tell-told.ensures.turned c.requires.plays in
     some_next c.tell-told.new.self c.run-ran.new.self c.run-ran.result (IsRunOf (layout_of c.tell-told.new.self.plan) c.args.component) c.run-ran.ensures.turned some
 
 pub returns-then-not-is_logged-clause-failed : goal.returns-then-not-is_logged-clause-failed

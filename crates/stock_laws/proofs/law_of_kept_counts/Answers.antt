@@ -1,5 +1,5 @@
 use Rattle.stock_laws.proofs.Counts.{count_at, count_none, count_le, count_less, todo_counted, done_counted}
-use Rattle.stock_laws.proofs.law_of_counts.Goals as goal
+use Rattle.stock_laws.proofs.law_of_kept_counts.Goals as goal
 
 pub returns-clause-counted : goal.returns-clause-counted
 returns-clause-counted c = count_at

@@ -1,6 +1,6 @@
 use Rattle.std.proofs.Common.{refl, arith}
 use Rattle.il_component.proofs.Fit.{room-fit, held_in-told}
-use Rattle.il_component.proofs.component.Component.tell.Goals as goal
+use Rattle.il_component.proofs.component.Component.queue_event.Goals as goal
 
 pub push_event-requires : goal.push_event-requires
 push_event-requires g c = let asked = rw (← c.self.view_is) at c.requires in let room = room-fit _ c.self.invariant.0 in omega arith

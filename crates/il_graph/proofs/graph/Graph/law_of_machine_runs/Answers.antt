@@ -1,4 +1,4 @@
-use Rattle.il_graph.proofs.graph.Graph.law_of_runs.Goals as goal
+use Rattle.il_graph.proofs.graph.Graph.law_of_machine_runs.Goals as goal
 
 pub returns-clause-trails : goal.returns-clause-trails
 returns-clause-trails g c v stands key units xs ms = c.law_of_trails.ensures.runs key units xs ms v

@@ -1,7 +1,7 @@
 use Rattle.std.proofs.Common.{arith, ap, subst}
 use Rattle.state_words.specs.Shown.{Within}
 use Rattle.state_words.proofs.Showing.{splits}
-use Rattle.state_words.proofs.words.StateWords.tell.Goals as goal
+use Rattle.state_words.proofs.words.StateWords.share.Goals as goal
 
 pub split_seat-seat-requires : goal.split_seat-seat-requires
 split_seat-seat-requires c = let t = c.requires.0 in let n = t.5 in (t.0, omega arith, splits _ _)
