@@ -21,9 +21,9 @@ use outside_io::{Sink, Source};
 /// A legal history of turns, behind any acts that lead from a graph without components to a world that the board's first graph stood for, is
 /// one run of the machine with them.
 pub fn law_of_histories<S: Source, K: Sink, C: Client>()
-    ensures { (key units : ℕ) (xs : List (MachineAct × MachineReply)) (w : World) (first : Watched S K C) (log : List (Entry (Asked S K C) (Told S K C)))
-        → Run (no_world key units) xs w → Stands (kept C.progress (graph_of first)) w → Legal (sight_of C.Client S.Source K.Sink) first log
-        → (ys : List (MachineAct × MachineReply)) × ArePlain (sight_of C.Client S.Source K.Sink) (bare_log log) ys × AreOneRun key units xs ys }
+    ensures { (key units : ℕ) (earlier : List (MachineAct × MachineReply)) (world : World) (first : Watched S K C) (log : List (Entry (Asked S K C) (Told S K C)))
+        → Run (no_world key units) earlier world → Stands (kept C.progress (graph_of first)) world → Legal (sight_of C.Client S.Source K.Sink) first log
+        → (steps : List (MachineAct × MachineReply)) × ArePlain (sight_of C.Client S.Source K.Sink) (bare_log log) steps × AreOneRun key units earlier steps }
 {}
 
 /// After a legal history in which no file comes to a component, its file in the graph is the object that it had at first, read or written

@@ -123,8 +123,8 @@ pub fn law_of_closed_runs()
 
 /// One act in one world has one result, but for want of memory and the slot of a new handle.
 pub fn law_of_steps_determined()
-    ensures { (world : World) (act : Act) (reply : Reply) (after : World) (s : Reply) (middle : World)
-        → Step world act reply after → Step world act s middle → AreAlike world reply after s middle }
+    ensures { (world : World) (act : Act) (reply : Reply) (after : World) (other : Reply) (middle : World)
+        → Step world act reply after → Step world act other middle → AreAlike world reply after other middle }
 {}
 
 /// A header that is with the client stays so, as it is, unless an act takes it in, and then it isn't. A header that an
@@ -161,14 +161,14 @@ pub fn law_of_memory()
         → Sound world → ClosesTo world after → HasMemory world number memory → HasMemory after number memory }
     ensures runs { (world middle : World) (steps : List (Act × Reply)) (number : ℕ) (before after : Option (List ℕ))
         → Sound world → Run world steps middle → HasMemory world number before → HasMemory middle number after
-        → All (λ x. number_in x.0 x.1 ≢ Some number) steps → RunFills world steps middle number before after }
+        → All (λ step. number_in step.0 step.1 ≢ Some number) steps → RunFills world steps middle number before after }
     ensures kept { (world middle : World) (steps : List (Act × Reply)) (number : ℕ) (before after : Option (List ℕ))
-        → RunFills world steps middle number before after → All (λ x. brings number x.0 ≡ false) steps → after ≡ before }
+        → RunFills world steps middle number before after → All (λ step. brings number step.0 ≡ false) steps → after ≡ before }
     ensures back { (world : World) (act : Act) (reply : Reply) (after : World) (steps : List (Act × Reply))
-        (middle : World) (other_act : Act) (s : Reply) (z : World) (header back : Held)
+        (middle : World) (other_act : Act) (other_reply : Reply) (last : World) (header back : Held)
         → Sound world → Meets world act → Step world act reply after → handed_in act reply ≡ Some header
-        → Run after steps middle → All (λ x. number_in x.0 x.1 ≢ Some header.number) steps
-        → Meets middle other_act → Step middle other_act s z → given_out other_act s ≡ Some back → back.number ≡ header.number
+        → Run after steps middle → All (λ step. number_in step.0 step.1 ≢ Some header.number) steps
+        → Meets middle other_act → Step middle other_act other_reply last → given_out other_act other_reply ≡ Some back → back.number ≡ header.number
         → RunFills after steps middle header.number header.memory back.memory }
 {}
 

@@ -8,6 +8,6 @@ ghost use Rattle.note_queues.specs.OfComponent.{IsQueueOf};
 
 /// The room of a component's queues is the component's room.
 pub fn law_of_room<C>()
-    ensures room { (q : Queues C) (c : Component) → IsQueueOf q c → room q ≡ component_room c }
-    ensures commands { (q : Queues C) (c : Component) → IsQueueOf q c → commands_of q ≡ c.commands }
+    ensures room { (queues : Queues C) (component : Component) → IsQueueOf queues component → room queues ≡ component_room component }
+    ensures commands { (queues : Queues C) (component : Component) → IsQueueOf queues component → commands_of queues ≡ component.commands }
 {}

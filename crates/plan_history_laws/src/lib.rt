@@ -113,13 +113,13 @@ pub fn law_of_requested_steps()
         → IsReady plan files → IsStage (assembly_of plan files) (Joining (length plan.joints)) handles world
         → (links : List ℕ) (left steps : List (Act × Reply)) → AreRequested (tuned plan files) handles links left steps → (after : World) → Run world steps after
         → (cursor : Cursor) × IsPlanHistory plan files handles world steps cursor after × (left ≡ [] → 1 ≤ length plan.parts → cursor.phase ≡ 4) }
-    ensures conducted { (s : Assembly) (handles : List Handle) (steps : List (Act × Reply)) → (conducted : IsConducted s handles steps)
-        → AreRequested s handles conducted.links [] steps }
+    ensures conducted { (assembly : Assembly) (handles : List Handle) (steps : List (Act × Reply)) → (conducted : IsConducted assembly handles steps)
+        → AreRequested assembly handles conducted.links [] steps }
     ensures asks { (plan : PlanValue) (files : PlayFiles) (handles : List Handle) (world : World) (steps : List (Act × Reply)) (cursor : Cursor) (after : World)
         → IsPlanHistory plan files handles world steps cursor after → IsOrdered plan files handles steps cursor }
     ensures own { (own : ℕ → Bool) (entries : List (ℕ × (Act × Reply))) → RequestAlone own entries → requests (steps_of entries) ≡ requests (own_steps own entries) }
-    ensures fronts { (s : Assembly) (handles : List Handle) (links : List ℕ) (left front behind : List (Act × Reply))
-        → AreRequested s handles links left (front ++ behind) → AreRequested s handles links (requests behind ++ left) front }
+    ensures fronts { (assembly : Assembly) (handles : List Handle) (links : List ℕ) (left front behind : List (Act × Reply))
+        → AreRequested assembly handles links left (front ++ behind) → AreRequested assembly handles links (requests behind ++ left) front }
 {}
 
 /// Behind such a run the file of each writer has taken a front of its text, and the whole where all was requested; then no step has failed.

@@ -7,5 +7,5 @@ ghost use Rattle.registry.specs.Stale.{ChangesTimes, IsStale};
 
 /// A handle that was given and doesn't resolve never resolves again, whatever is given or taken back later.
 pub fn law_of_stale_handles<T>()
-    ensures { (n : ℕ) (old new : Handles T) (h : Named) → ChangesTimes n old new → IsStale old h → IsStale new h }
+    ensures { (times : ℕ) (old new : Handles T) (handle : Named) → ChangesTimes times old new → IsStale old handle → IsStale new handle }
 {}

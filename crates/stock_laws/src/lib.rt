@@ -145,11 +145,11 @@ pub fn law_of_kept_counts()
         StandsFor stocked hs → stocked.headers.header number ≡ Some header_state → weight (test header_state) ≤ stocked.headers.count test }
     ensures none { (stocked : Stocked) (hs : List HeaderRecord) (test : HeaderState → Bool) (number : ℕ) (header_state : HeaderState) →
         StandsFor stocked hs → stocked.headers.count test ≡ 0 → stocked.headers.header number ≡ Some header_state → test header_state ≡ false }
-    ensures implied { (stocked : Stocked) (hs : List HeaderRecord) (p q : HeaderState → Bool) →
-        StandsFor stocked hs → Implies stocked.headers p q → stocked.headers.count p ≤ stocked.headers.count q }
-    ensures fewer { (stocked : Stocked) (hs : List HeaderRecord) (p q : HeaderState → Bool) (number : ℕ) (header_state : HeaderState) →
-        StandsFor stocked hs → Implies stocked.headers p q → stocked.headers.header number ≡ Some header_state → p header_state ≡ false → q header_state ≡ true →
-        stocked.headers.count p < stocked.headers.count q }
+    ensures implied { (stocked : Stocked) (hs : List HeaderRecord) (test weaker : HeaderState → Bool) →
+        StandsFor stocked hs → Implies stocked.headers test weaker → stocked.headers.count test ≤ stocked.headers.count weaker }
+    ensures fewer { (stocked : Stocked) (hs : List HeaderRecord) (test weaker : HeaderState → Bool) (number : ℕ) (header_state : HeaderState) →
+        StandsFor stocked hs → Implies stocked.headers test weaker → stocked.headers.header number ≡ Some header_state → test header_state ≡ false →
+        weaker header_state ≡ true → stocked.headers.count test < stocked.headers.count weaker }
     ensures todo { (stocked : Stocked) (hs : List HeaderRecord) (key : PortKey) →
         StandsFor stocked hs → length (stocked.headers.todo key) ≡ stocked.headers.count (in_todo key) }
     ensures done { (stocked : Stocked) (hs : List HeaderRecord) (key : PortKey) →
