@@ -48,10 +48,7 @@ pub(crate) fn known_format<S: Source>(
     if known.is_some() || !chunk.is_format() {
         return Ok(known);
     }
-    match read_format(src, chunk) {
-        Ok(format) => Ok(Some(format)),
-        Err(fault) => Err(fault),
-    }
+    Ok(Some(read_format(src, chunk)?))
 }
 
 /// What a format chunk says.
@@ -74,10 +71,8 @@ fn read_format<S: Source>(src: &mut S, chunk: &ChunkHead) -> Result<Format, WavF
         return Err(WavFault::BadFormat);
     }
     let mut fields = [0u8; 16];
-    match fill_from(src, chunk.content, &mut fields) {
-        Ok(()) => format_of(&fields),
-        Err(fault) => Err(fault),
-    }
+    fill_from(src, chunk.content, &mut fields)?;
+    format_of(&fields)
 }
 
 /// The format of 16 bytes: tag, channels, rate, bytes per second, block size, bits.

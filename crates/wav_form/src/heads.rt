@@ -61,10 +61,8 @@ pub fn read_head<S: Source>(src: &mut S) -> Result<WavHead, WavFault>
     if size > MOST_BYTES {
         return Err(WavFault::TooLarge(size));
     }
-    match check_riff(src, size) {
-        Ok(()) => search(src, size),
-        Err(fault) => Err(fault),
-    }
+    check_riff(src, size)?;
+    search(src, size)
 }
 
 /// Whether the file begins as a RIFF file of waves.
@@ -85,15 +83,11 @@ fn check_riff<S: Source>(src: &mut S, size: u64) -> Result<(), WavFault>
         return Err(WavFault::NotRiff);
     }
     let mut head = [0u8; 12];
-    match fill_from(src, 0, &mut head) {
-        Ok(()) => {
-            if is_riff(&head) {
-                Ok(())
-            } else {
-                Err(WavFault::NotRiff)
-            }
-        }
-        Err(fault) => Err(fault),
+    fill_from(src, 0, &mut head)?;
+    if is_riff(&head) {
+        Ok(())
+    } else {
+        Err(WavFault::NotRiff)
     }
 }
 
@@ -125,17 +119,11 @@ fn search<S: Source>(src: &mut S, size: u64) -> Result<WavHead, WavFault>
     let mut known: Option<Format> = None;
     let mut offset = RIFF_HEAD;
     while offset + CHUNK_HEAD <= size {
-        let chunk = match read_chunk(src, offset) {
-            Ok(chunk) => chunk,
-            Err(fault) => return Err(fault),
-        };
+        let chunk = read_chunk(src, offset)?;
         if chunk.is_samples() {
             return head_of(known, &chunk, size);
         }
-        match known_format(src, known, &chunk) {
-            Ok(format) => known = format,
-            Err(fault) => return Err(fault),
-        }
+        known = known_format(src, known, &chunk)?;
         offset = chunk.end();
     }
     Err(fault_at_end(known))
