@@ -34,10 +34,7 @@ pub fn run_clock<O: Sink>(bytes: &[u8], out: &mut O) -> Result<(), Fault>
     ensures stays { result ≢ Err faults.WriteFault → O.faults out.new ≡ O.faults out.old }
     ensures keeps_sink { KeepsSink O.Sink out.old out.new }
 {
-    match lines_in(bytes) {
-        Ok(lines) => run_lines(lines, out),
-        Err(fault) => Err(fault),
-    }
+    run_lines(lines_in(bytes)?, out)
 }
 
 fn fault(line: u32, why: ScriptWhy) -> Fault
@@ -122,10 +119,7 @@ fn run_lines<O: Sink>(text: &[u8], out: &mut O) -> Result<(), Fault>
     let mut number: u64 = 1;
     let mut rest = text;
     while let Some((line, behind)) = next_line(rest) {
-        match run_line(&mut clock, number, line, out) {
-            Ok(next) => number = next,
-            Err(fault) => return Err(fault),
-        }
+        number = run_line(&mut clock, number, line, out)?;
         rest = behind;
     }
     write(out, b"end\n")
@@ -142,10 +136,8 @@ fn run_line<O: Sink>(clock: &mut Clock, number: u64, line: &[u8], out: &mut O) -
 {
     match asked_by(line) {
         Some(call) => {
-            match run_call(clock, number, call, out) {
-                Ok(()) => Ok(number + 1),
-                Err(fault) => Err(fault),
-            }
+            run_call(clock, number, call, out)?;
+            Ok(number + 1)
         }
         None => Ok(number),
     }
