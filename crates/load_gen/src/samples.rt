@@ -33,10 +33,8 @@ pub(crate) fn write_wav<K: Sink>(sink: &mut K, x: u64, frames: u64) -> Result<()
 {
     let mut head = [0u8; 58];
     let len = head_bytes(FORMAT, frames, &mut head);
-    match write_all(sink, &head[..len]) {
-        Ok(()) => write_samples(sink, x, frames),
-        Err(failed) => Err(failed),
-    }
+    write_all(sink, &head[..len])?;
+    write_samples(sink, x, frames)
 }
 
 /// Writes the samples of the number `x`, in pieces.
@@ -54,10 +52,8 @@ fn write_samples<K: Sink>(sink: &mut K, x: u64, frames: u64) -> Result<(), Faile
         let count = left.min(PIECE_FRAMES);
         let bytes = 2 * count as usize;
         number = fill(&mut piece[..bytes], number);
-        match write_all(sink, &piece[..bytes]) {
-            Ok(()) => left -= count,
-            Err(failed) => return Err(failed),
-        }
+        write_all(sink, &piece[..bytes])?;
+        left -= count;
     }
     Ok(())
 }

@@ -18,14 +18,14 @@ loop-left-preserved g c =
       room = piece_kept c.loop-left.piece c.fill-number.new.buf count c.loop-left.number c.loop-left.invariant.room few c.fill-number.ensures.samples;
       number = piece_after c.loop-left.piece count c.loop-left.number c.fill-number.result c.loop-left.invariant.room few c.fill-number.ensures.after
           ∙ ap (after count) c.loop-left.invariant.number ∙ sym (after-add done count c.args.x) ∙ ap (λ (n : ℕ). after n c.args.x) next;
-      told = written-more _ _ _ done count c.args.x c.loop-left.invariant.told (c.in-Ok.ensures.whole ∙ ap (append_known (g.K.Sink.told c.loop-left.sink)) piece)
+      told = written-more _ _ _ done count c.args.x c.loop-left.invariant.told (c.in_ok-write_all.ensures.whole ∙ ap (append_known (g.K.Sink.told c.loop-left.sink)) piece)
           ∙ ap (λ (n : ℕ). append_known (g.K.Sink.told c.args.sink.now) (samples n c.args.x)) next;
       name = search rules;
       faults = search rules;
     }
 
-pub returns-in-Err-clause-front : goal.returns-in-Err-clause-front
-returns-in-Err-clause-front g c =
+pub returns-in_err-write_all-clause-front : goal.returns-in_err-write_all-clause-front
+returns-in_err-write_all-clause-front g c =
     let done = c.args.frames - c.loop-left.left in
     let count = c.min-count.result in
     let few : count ≤ 4096 = omega (arith, c.min-count.ensures) in
