@@ -10,6 +10,7 @@ mod hearing;
 mod laws;
 mod phase;
 mod sending;
+mod threads;
 
 pub use conductor::Conductor;
 pub use laws::law_of_phases;

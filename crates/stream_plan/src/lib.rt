@@ -11,6 +11,7 @@ mod joining;
 mod kinds;
 mod placing;
 mod plan;
+mod threads;
 
 pub use kinds::kind_of;
 pub use plan::Plan;
