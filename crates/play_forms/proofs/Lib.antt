@@ -1,4 +1,5 @@
 pub mod OneFault
+pub mod OneFitted
 pub mod OneMisfit
 pub mod OnePlan
 pub mod Places

@@ -29,7 +29,7 @@ in_front [] (suc n) k x below e = absurd cc
 in_front (y ∷ xs) (suc n) zero x below e = e
 in_front (y ∷ xs) (suc n) (suc k) x below e = in_front xs n k x (omega arith) e
 
-has_element : {A : Type 0} (xs : List A) (k : ℕ) → k < length xs → (x : A) × (slice_get xs k ≡ Some x)
+pub has_element : {A : Type 0} (xs : List A) (k : ℕ) → k < length xs → (x : A) × (slice_get xs k ≡ Some x)
 has_element [] k below = absurd (omega arith)
 has_element (x ∷ xs) zero below = (x, refl)
 has_element (x ∷ xs) (suc k) below = has_element xs k (omega arith)
@@ -163,6 +163,20 @@ same_length : (joints : List Joint) (count : ℕ) (xs ys : List ℕ) → ArePlac
 same_length joints count xs ys are are' many =
     sym (whole_front xs) ∙ placed_alike joints count xs ys are are' (length xs) (omega arith) (omega arith) ∙ ap (λ n. take n ys) many ∙ whole_front ys
 
+-- an order has every component, so none is placed behind it
+order_ends : {P : Type 0} (joints : List Joint) (count : ℕ) (order placed : List ℕ) → IsOrder joints count order → ArePlaced joints count placed → length order < length placed → P
+order_ends joints count order placed is are longer =
+    let next = goes_further joints count order placed is.placed are longer in
+    let cans = and_both (not (has_place order next.0)) (is_fed joints order next.0) next.1.can in
+    both (has_place order next.0) (is.all next.0 next.1.there) (not_true (has_place order next.0) cans.0)
+
+pub one_order : (joints : List Joint) (count : ℕ) (xs ys : List ℕ) → IsOrder joints count xs → IsOrder joints count ys → xs ≡ ys
+one_order joints count xs ys one two =
+    elim (apart_or_one (length xs) (length ys)) [
+      | inl less ↦ order_ends joints count xs ys one two.placed less
+      | inr rest ↦ elim rest [ inl same ↦ same_length joints count xs ys one.placed two.placed same | inr more ↦ order_ends joints count ys xs two one.placed more ]
+    ]
+
 pub order_not_cycle : {P : Type 0} (parts : List PartLine) (joints : List Joint) (order : List ℕ) (line : ℕ) → IsOrder joints (length parts) order → IsCycle parts joints line → P
 order_not_cycle parts joints order line is cycle =
     elim (apart_or_one (length cycle.placed) (length order)) [
@@ -174,10 +188,7 @@ order_not_cycle parts joints order line is cycle =
             let alike : cycle.placed ≡ order = same_length joints (length parts) cycle.placed order cycle.are_placed is.placed same in
             let inside = slice_get_within parts cycle.place cycle.part cycle.there in
             both (has_place order cycle.place) (is.all cycle.place inside) (subst (λ placed. has_place placed cycle.place ≡ false) alike cycle.left)
-        | inr more ↦
-            let next = goes_further joints (length parts) order cycle.placed is.placed cycle.are_placed more in
-            let cans = and_both (not (has_place order next.0)) (is_fed joints order next.0) next.1.can in
-            both (has_place order next.0) (is.all next.0 next.1.there) (not_true (has_place order next.0) cans.0)
+        | inr more ↦ order_ends joints (length parts) order cycle.placed is cycle.are_placed more
       ]
     ]
 
