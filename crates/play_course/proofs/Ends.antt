@@ -35,18 +35,18 @@ use Rattle.play_files.specs.Seen.{FileSeen, SourceSeen, files_seen}
 use Rattle.play_files.specs.Whole.{AreAllOpen, play_files}
 use Rattle.play_files.proofs.Closings.{then}
 use Rattle.play_files.proofs.Fronts.{later}
-use Rattle.play_files.proofs.Stopped.{source_here}
+use Rattle.play_files.proofs.Stopped.{calm_reads, source_here}
 use Rattle.play_course.specs.declared.player.RunFault.{RunFault}
 use Rattle.play_course.specs.declared.player.RunFault.TheVariants as Runs
 use Rattle.play_course.specs.declared.settling.Ran.{Ran}
 use Rattle.play_course.specs.Courses.{HasEnded, HasRun}
-use Rattle.play_course.specs.Outcomes.{HasLeft, HasNotBegun, IsBroken, IsClosedWhole, IsDone, IsLogFault, IsRunFault, IsUnlogged, ShowsOutside}
+use Rattle.play_course.specs.Outcomes.{HasLeft, HasNotBegun, IsBroken, IsClosedWhole, IsDone, IsLogFault, IsRunFault, IsUnlogged, IsWantOfMemory, ShowsOutside}
 use Rattle.play_course.specs.Failing.{ShowsAt}
 use Rattle.play_course.specs.Players.{AreFilesOf, IsPlayedWhole}
 use Rattle.play_course.specs.Running.{HasTaken, IsRunCause}
 use Rattle.play_course.specs.Settling.{fault_of_log, line_in, settled}
 use Rattle.play_course.specs.Sums.{planned_summary}
-use Rattle.play_course.proofs.Failing.{itself_front, least_told, least_whole, named_unfailed, never_short, take_none}
+use Rattle.play_course.proofs.Failing.{itself_front, least_told, least_whole, named_unfailed, take_none}
 use Rattle.play_course.proofs.Running.{nothing_taken, sink_there}
 use Rattle.play_course.proofs.Told.{summary_is}
 use Rattle.play_course.proofs.Ways.{are_files_of, can_play, counted, front, held, others, samples_of, was_opened}
@@ -80,8 +80,8 @@ closing_rose old mid new sum same rose = omega arith
 
 why : (parts : List PartLine) (before after : List (Option FileSeen)) (old mid new : Outside) (few : mid.read_faults < 2 ^ 64) → IsStill old mid
     → ((place at size : ℕ) → IsRunCause before after (Runs.Short place at size) → IsTold parts old place at size)
-    → (reads writes : Bool) (ran : Result Ran RunFault) (closed : Result (Unit {0}) Failed) → (IsTrue reads → Rose mid.read_faults new.read_faults) → (IsFalse reads → new.read_faults ≡ mid.read_faults)
-    → (IsTrue writes → Rose mid.write_faults new.write_faults) → (IsFalse writes → new.write_faults ≡ mid.write_faults) → AreClosed after mid new closed → IfErr ran (IsRunCause before after)
+    → (reads writes : Bool) (ran : Result Ran RunFault) (closed : Result (Unit {0}) Failed) → (IsTrue reads → mid.read_faults < new.read_faults) → (IsFalse reads → new.read_faults ≡ mid.read_faults)
+    → (IsTrue writes → mid.write_faults < new.write_faults) → (IsFalse writes → new.write_faults ≡ mid.write_faults) → AreClosed after mid new closed → IfErr ran (IsRunCause before after)
     → (fault : Fault) → settled parts ran closed reads writes ≡ Err fault → IsRunFault parts old new fault
 why parts before after old mid new few S short true writes ran closed read unread wrote unwritten C cause fault e =
     let s : Faults.ReadFault ≡ fault = cc in
@@ -119,6 +119,21 @@ why parts before after old mid new few S short false false (Err (Runs.Short plac
 why parts before after old mid new few S short false false (Err (Runs.Short place at size)) (Err failed) read unread wrote unwritten C cause fault e =
     let s : Faults.WriteFault ≡ fault = cc in
     subst (IsRunFault parts old new) s (closing_rose old.write_faults mid.write_faults new.write_faults _ S.writes C.failed, unread refl ∙ S.reads)
+
+-- memory was wanted before the run, so no read failed
+want_told : (parts : List PartLine) (old mid new : Outside) → IsStill old mid → new.read_faults ≡ mid.read_faults → (reads writes : Bool) (closed : Result (Unit {0}) Failed)
+    → (IsTrue reads → mid.read_faults < new.read_faults) → (IsTrue writes → mid.write_faults < new.write_faults) → (IsFalse writes → new.write_faults ≡ mid.write_faults)
+    → (fault : Fault) → settled {A = Ran} parts (Err Runs.OutOfMemory) closed reads writes ≡ Err fault → IsWantOfMemory old new fault
+want_told parts old mid new S calm true writes closed read wrote unwritten fault e = let more = read refl in absurd (omega arith)
+want_told parts old mid new S calm false true closed read wrote unwritten fault e =
+    let s : Faults.WriteFault ≡ fault = cc in
+    let more = wrote refl in
+    let a = S.writes in
+    let rose : Rose old.write_faults new.write_faults = omega arith in
+    subst (IsWantOfMemory old new) s (rose, calm ∙ S.reads)
+want_told parts old mid new S calm false false closed read wrote unwritten fault e =
+    let s : Faults.OutOfMemory ≡ fault = cc in
+    subst (IsWantOfMemory old new) s (record { reads = calm ∙ S.reads; writes = unwritten refl ∙ S.writes })
 
 -- done whole: no count rose, and all was closed
 record IsCalm (reads writes : Bool) (ran : Result Ran RunFault) (closed : Result (Unit {0}) Failed) (it : Ran) : Type 0 where
@@ -209,6 +224,10 @@ module _ {F : Type 0} (seen : F → FileSeen) (script : Script) (name log : List
         let f = taken_front tells place its [] w T in
         f.1 ∙ ap Some (take_none f.0)
 
+    -- no read failed
+    unread : H.after ≡ files_seen seen entries → new.read_faults ≡ mid.read_faults
+    unread same = calm_reads seen entries old plan.parts plan.frames (length plan.parts) O.heads O.opened mid new H.closed (subst (λ (files : List (Option FileSeen)). AreClosed files mid new H.closed) same H.closes)
+
     -- the world that the run left
     world : (ran : Result Ran RunFault) → HasRun plan (files_seen seen entries) H.after ran → (fault : Fault) → settled plan.parts ran H.closed H.reads H.writes ≡ Err fault → HasNotBegun plan old new fault ⊎ HasLeft plan (play_files seen O.heads entries) old new fault
     world (Ok it) R fault e =
@@ -225,9 +244,8 @@ module _ {F : Type 0} (seen : F → FileSeen) (script : Script) (name log : List
         })
     world (Err why) R fault e = elim (R.left (play_files seen O.heads entries) O.ready (are_files_of seen script name log old mid plan entries O own)) [
       | inl b ↦ inl (record {
-        other = λ which at size is.
-            never_short plan.parts H.closed H.reads H.writes which at size
-            (subst (λ (f : RunFault). settled {A = Ran} plan.parts (Err f) H.closed H.reads H.writes ≡ Err (Faults.Short which at size)) b.0 (e ∙ ap Err is));
+        told = want_told plan.parts old mid new O.still (unread b.1) H.reads H.writes H.closed H.read H.wrote H.unwritten fault
+            (subst (λ (f : RunFault). settled {A = Ran} plan.parts (Err f) H.closed H.reads H.writes ≡ Err fault) b.0 e);
         sinks = untaken b.1;
       })
       | inr L ↦ inr (record {

@@ -5,7 +5,6 @@ use Rattle.omx_types.specs.declared.fault.Fault.{Fault}
 use Rattle.omx_types.specs.declared.fault.Fault.TheVariants as Faults
 use Rattle.omx_types.specs.declared.fault.PartFault.{PartFault}
 use Rattle.omx_types.specs.declared.fault.PartFault.TheVariants as kinds
-use Rattle.omx_types.specs.declared.fault.Which.{Which}
 use Rattle.omx_types.specs.declared.fault.Which.TheVariants.{Line}
 use Rattle.outside_io.specs.declared.source.Failed.{Failed}
 use Rattle.il_machine.specs.Acts.{Act, Reply}
@@ -60,12 +59,6 @@ least_told parts steps (runs.Short place at size) (Ok done) false false fault fi
     let t = there place at size first.0 in
     subst (TellsLeast parts steps) s (place, t.0, t.1, ap (λ (o : Option PartLine). Line (line_in o)) t.1, first.0, first.1)
 least_told parts steps (runs.Short place at size) (Err failed) false false fault first there e = let s : Faults.WriteFault ≡ fault = cc in subst (TellsLeast parts steps) s tt
-
--- before it began no source was short
-pub never_short : (parts : List PartLine) (closed : Result (Unit {0}) Failed) (reads writes : Bool) (which : Which) (at size : ℕ) → settled {A = Ran} parts (Err runs.OutOfMemory) closed reads writes ≡ Err (Faults.Short which at size) → ⊥
-never_short parts closed true writes which at size e = absurd cc
-never_short parts closed false true which at size e = absurd cc
-never_short parts closed false false which at size e = absurd cc
 
 -- ---- fronts
 

@@ -1,7 +1,6 @@
 -- How a play whose files are open came to its end.
 use Rattle.std.specs.Prelude.{◌≡◌, ◌<◌, ◌^◌, Bool, List, Option, Result, IfErr, IfOk, OnErr, IsTrue, IsFalse}
 use Rattle.omx_types.specs.declared.fault.Fault.{Fault}
-use Rattle.outside_io.specs.Causes.{Rose}
 use Rattle.outside_io.specs.Files.{Outside}
 use Rattle.outside_io.specs.declared.source.Failed.{Failed}
 use Rattle.script_lang.specs.declared.play_line.PartLine.{PartLine}
@@ -36,8 +35,8 @@ pub record HasEnded (plan : PlanValue) (parts : List PartLine) (before : List (O
   pub has_run : HasRun plan before after ran
   pub closes : AreClosed after old new closed
   pub few : old.read_faults < 2 ^ 64
-  pub read : IsTrue reads → Rose old.read_faults new.read_faults
+  pub read : IsTrue reads → old.read_faults < new.read_faults
   pub unread : IsFalse reads → new.read_faults ≡ old.read_faults
-  pub wrote : IsTrue writes → Rose old.write_faults new.write_faults
+  pub wrote : IsTrue writes → old.write_faults < new.write_faults
   pub unwritten : IsFalse writes → new.write_faults ≡ old.write_faults
   pub is : result ≡ settled parts ran closed reads writes

@@ -4,7 +4,6 @@ use Rattle.omx_types.specs.declared.fault.Fault.{Fault}
 use Rattle.omx_types.specs.declared.fault.Fault.TheVariants as Faults
 use Rattle.omx_types.specs.declared.fault.PartFault.{PartFault}
 use Rattle.omx_types.specs.declared.fault.PartFault.TheVariants as parts
-use Rattle.omx_types.specs.declared.fault.Which.{Which}
 use Rattle.omx_types.specs.declared.fault.Which.TheVariants.{Line, Log}
 use Rattle.outside_io.specs.Causes.{Rose}
 use Rattle.outside_io.specs.Files.{AbsencesStand, CountsStand, GoesOn, IsFrontOf, Outside, SameBut, TellsAbsence}
@@ -106,9 +105,15 @@ pub record HasLeft (plan : PlanValue) (files : PlayFiles) (old new : Outside) (f
   pub shows : (place : ℕ) (why : PartFault) → HasFailure steps place why → ShowsOutside plan.parts old new place why
   pub sinks : IsTrue old.tells → (place : ℕ) (name : List ℕ) → IsWriter plan.parts place name → (bytes : List ℕ) × HasWritten left place bytes × IsFrontOf (new.file name) bytes
 
+-- want of memory is told, unless a closing failed; no read did
+abbrev pub IsWantOfMemory : Outside → Outside → Fault → Type 0
+IsWantOfMemory old new Faults.OutOfMemory = CountsStand old new
+IsWantOfMemory old new Faults.WriteFault = Rose old.write_faults new.write_faults × (new.read_faults ≡ old.read_faults)
+IsWantOfMemory old new other = ⊥
+
 -- memory was wanted before the run began
 pub record HasNotBegun (plan : PlanValue) (old new : Outside) (fault : Fault) : Type 0 where
-  pub other : (which : Which) (at size : ℕ) → fault ≢ Faults.Short which at size
+  pub told : IsWantOfMemory old new fault
   pub sinks : IsTrue old.tells → (place : ℕ) (name : List ℕ) → IsWriter plan.parts place name → new.file name ≡ Some []
 
 pub record IsBroken (script : Script) (old new : Outside) (fault : Fault) : Type 0 where
