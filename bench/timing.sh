@@ -27,3 +27,16 @@ hundredths() {
   done
   echo $((ours_best * 100 / theirs_best))
 }
+
+# The middle of five numbers.
+median() { printf '%s\n' "$@" | sort -n | sed -n 3p; }
+
+# What the function `ours` takes in hundredths of the time of `theirs`: the medians of five times each, by turns.
+median_hundredths() {
+  local ours_times=() theirs_times=()
+  for _ in 1 2 3 4 5; do
+    ours_times+=("$(nanoseconds ours)")
+    theirs_times+=("$(nanoseconds theirs)")
+  done
+  echo $(($(median "${ours_times[@]}") * 100 / $(median "${theirs_times[@]}")))
+}
