@@ -76,13 +76,11 @@ pub fn pack<S: Source, K: Sink>(src: &mut S, snk: &mut K) -> Result<Packed, RtpF
         Ok(()) => {}
         Err(_) => return Err(RtpFault::Write),
     }
-    match pack_samples(src, snk, companding, head.frames) {
-        Ok(()) => Ok(Packed {
-            packets: head.frames.div_ceil(PACKET_FRAMES),
-            frames: head.frames,
-        }),
-        Err(fault) => Err(fault),
-    }
+    pack_samples(src, snk, companding, head.frames)?;
+    Ok(Packed {
+        packets: head.frames.div_ceil(PACKET_FRAMES),
+        frames: head.frames,
+    })
 }
 
 /// Packs the next frames of a source.
@@ -110,17 +108,15 @@ fn pack_samples<S: Source, K: Sink>(
     while done < frames {
         let count = (frames - done).min(SAMPLES as u64);
         let first = done / PACKET_FRAMES;
-        match pack_piece(
+        pack_piece(
             src,
             snk,
             companding,
             first,
             &mut samples[..count as usize],
             &mut records,
-        ) {
-            Ok(()) => done += count,
-            Err(fault) => return Err(fault),
-        }
+        )?;
+        done += count;
     }
     Ok(())
 }

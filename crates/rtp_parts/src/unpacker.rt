@@ -102,10 +102,7 @@ impl Unpacker {
                     if self.ended {
                         return Ok(None);
                     }
-                    match self.take_record(alloc, src, buffer) {
-                        Ok(()) => {}
-                        Err(fault) => return Err(fault),
-                    }
+                    self.take_record(alloc, src, buffer)?;
                 }
             }
         }
@@ -153,24 +150,23 @@ impl Unpacker {
         ensures keeps_source { KeepsSource S.Source src.old src.new }
         ensures stays { OnOk result (S.faults src.new ≡ S.faults src.old) }
     {
-        match read_record(src, buffer) {
-            Ok(Record::End) => {
+        match read_record(src, buffer)? {
+            Record::End => {
                 self.ended = true;
                 Ok(())
             }
-            Ok(Record::Cut) => {
+            Record::Cut => {
                 self.packets += 1;
                 self.ended = true;
                 Ok(())
             }
-            Ok(Record::Whole(len)) => {
+            Record::Whole(len) => {
                 self.packets += 1;
                 match self.take_packet(alloc, &buffer[..len]) {
                     Ok(()) => Ok(()),
                     Err(_) => Err(RtpFault::OutOfMemory),
                 }
             }
-            Err(fault) => Err(fault),
         }
     }
 

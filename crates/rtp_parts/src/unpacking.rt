@@ -73,25 +73,17 @@ pub fn unpack<S: Source, K: Sink>(
     ensures keeps_sink { KeepsSink K.Sink snk.old snk.new }
     ensures stand { OnOk result ((S.faults src.new ≡ S.faults src.old) × (K.faults snk.new ≡ K.faults snk.old)) }
 {
-    match check_magic(src) {
-        Ok(()) => {}
-        Err(fault) => return Err(fault),
-    }
+    check_magic(src)?;
     let Ok(mut buffer) = vec![in alloc; 0u8; MOST_PACKET] else {
         return Err(RtpFault::OutOfMemory);
     };
-    let (companding, counts) = match survey(alloc, src, &mut buffer) {
-        Ok(found) => found,
-        Err(fault) => return Err(fault),
-    };
+    let (companding, counts) = survey(alloc, src, &mut buffer)?;
     match src.seek_to(MAGIC) {
         Ok(()) => {}
         Err(_) => return Err(RtpFault::Read),
     }
-    match write_wav(alloc, src, snk, companding, counts.frames, &mut buffer) {
-        Ok(()) => Ok(counts),
-        Err(fault) => Err(fault),
-    }
+    write_wav(alloc, src, snk, companding, counts.frames, &mut buffer)?;
+    Ok(counts)
 }
 
 /// Reads what each file of packets begins with.
@@ -151,15 +143,14 @@ fn survey<S: Source>(
     let mut unpacker = Unpacker::new(alloc);
     let mut frames = 0;
     'pieces: loop {
-        match unpacker.next(alloc, src, buffer) {
-            Ok(Some(piece)) => {
+        match unpacker.next(alloc, src, buffer)? {
+            Some(piece) => {
                 frames += u64::from(piece.silence) + piece.payload.len() as u64;
                 if frames > MOST_CODES {
                     return Err(RtpFault::TooLong);
                 }
             }
-            Ok(None) => return found(&unpacker, frames),
-            Err(fault) => return Err(fault),
+            None => return found(&unpacker, frames),
         }
     }
 }
@@ -213,10 +204,7 @@ fn write_wav<S: Source, K: Sink>(
         Ok(()) => {}
         Err(_) => return Err(RtpFault::Write),
     }
-    match write_codes(alloc, src, snk, companding, buffer) {
-        Ok(()) => {}
-        Err(fault) => return Err(fault),
-    }
+    write_codes(alloc, src, snk, companding, buffer)?;
     if frames % 2 == 1 {
         match write_all(snk, &[0]) {
             Ok(()) => Ok(()),
@@ -249,15 +237,14 @@ fn write_codes<S: Source, K: Sink>(
 {
     let mut unpacker = Unpacker::new(alloc);
     'pieces: loop {
-        match unpacker.next(alloc, src, buffer) {
-            Ok(Some(piece)) => {
+        match unpacker.next(alloc, src, buffer)? {
+            Some(piece) => {
                 match write_piece(snk, companding, &piece) {
                     Ok(()) => {}
                     Err(_) => return Err(RtpFault::Write),
                 }
             }
-            Ok(None) => return Ok(()),
-            Err(fault) => return Err(fault),
+            None => return Ok(()),
         }
     }
 }

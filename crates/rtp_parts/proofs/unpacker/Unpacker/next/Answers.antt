@@ -40,18 +40,18 @@ loop-held-preserved g c =
     let v = c.take_record.new.self in
     let offset = g.S.Source.offset c.take_record.new.src in
     let few : v.packets + room_left v (g.S.Source.size c.args.src.now - offset) ≤ 2 ^ 27 =
-    subst (λ (n : ℕ). v.packets + room_left v (n - offset) ≤ 2 ^ 27) c.loop-held.invariant.size c.in-Ok.ensures.few in
-    let steps = subst (λ (n : ℕ). steps_left v (n - offset) < 2 * room_left c.loop-held.self (n - g.S.Source.offset c.loop-held.src) + c.due.new.self.held.len) c.loop-held.invariant.size c.in-Ok.ensures.steps in
+    subst (λ (n : ℕ). v.packets + room_left v (n - offset) ≤ 2 ^ 27) c.loop-held.invariant.size c.in_ok-take_record-in-None.ensures.few in
+    let steps = subst (λ (n : ℕ). steps_left v (n - offset) < 2 * room_left c.loop-held.self (n - g.S.Source.offset c.loop-held.src) + c.due.new.self.held.len) c.loop-held.invariant.size c.in_ok-take_record-in-None.ensures.steps in
     record {
-      left = λ x is. left-on c.args.self.now c.loop-held.self _ v _ _ _ (c.loop-held.invariant.left x is) (c.in-Ok.ensures.left x (c.loop-held.invariant.told ∙ is))
+      left = λ x is. left-on c.args.self.now c.loop-held.self _ v _ _ _ (c.loop-held.invariant.left x is) (c.in_ok-take_record-in-None.ensures.left x (c.loop-held.invariant.told ∙ is))
           (ap (λ (l : Line). record (course_of c.loop-held.self) { line = l }) (sym c.in-None.ensures.kept)) refl;
-      last = c.in-Ok.ensures.end ∙ c.loop-held.invariant.last;
+      last = c.in_ok-take_record-in-None.ensures.end ∙ c.loop-held.invariant.last;
       few = few;
       steps = omega (arith, steps, c.loop-held.invariant.steps, c.in-None.ensures.held);
       room = search rules;
-      reached = λ end is. c.in-Ok.ensures.reached end (c.loop-held.invariant.ends ∙ is);
-      told = c.in-Ok.ensures.keeps_source.told ∙ c.loop-held.invariant.told;
-      ends = c.in-Ok.ensures.keeps_source.ends ∙ c.loop-held.invariant.ends;
-      size = c.in-Ok.ensures.keeps_source.size ∙ c.loop-held.invariant.size;
-      stays = c.in-Ok.ensures.stays ∙ c.loop-held.invariant.stays;
+      reached = λ end is. c.in_ok-take_record-in-None.ensures.reached end (c.loop-held.invariant.ends ∙ is);
+      told = c.in_ok-take_record-in-None.ensures.keeps_source.told ∙ c.loop-held.invariant.told;
+      ends = c.in_ok-take_record-in-None.ensures.keeps_source.ends ∙ c.loop-held.invariant.ends;
+      size = c.in_ok-take_record-in-None.ensures.keeps_source.size ∙ c.loop-held.invariant.size;
+      stays = c.in_ok-take_record-in-None.ensures.stays ∙ c.loop-held.invariant.stays;
     }
