@@ -1,31 +1,29 @@
 -- What these types own and show names no thread.
-use Rattle.std.proofs.Common.{ℕ, zero, suc, ◌+◌, Bool, true, false, List, [], ◌∷◌, length}
+use Rattle.std.proofs.Common.{ℕ, zero, suc, ◌+◌, Bool, true, false, List, [], ◌∷◌}
 use base.Fraction.{full_share}
 use base.Fml.{GName}
 use base.Shift.{Keyless}
 use denote.Builtin.{u8}
-use denote.Array.{Array}
 use denote.RawPtr.{Ptr, block_ptr, null_ptr}
 use denote.RawPtr.Bytes.{bytes}
-use denote.Param.Send.{IsSend, IsSync, part_keyless, array_send, sendable, Frees, struct_send, owning_send}
+use denote.Param.Send.{IsSend, IsSync, part_keyless, sendable, Frees, struct_send, owning_send}
 use denote.RattleType.{RattleType}
 use denote.Struct.Declared as declared
 use Rattle.std.specs.declared.alloc.Allocator.{Ghosts}
-use Rattle.std.specs.Vec.{with_items}
 use Rattle.std_alloc.proofs.SendSync.{Vec-send}
 use Rattle.block_region.specs.contracts.memory.Sole as Sole
 use Rattle.block_region.specs.contracts.memory.Sole.TheInside as Inside
 use Rattle.block_region.specs.contracts.roster.Roster as Roster
 use Rattle.block_region.specs.contracts.roster.Ticket as Ticket
 use Rattle.block_region.specs.contracts.seal.Seal as Seal
-use Rattle.block_region.specs.Ownership.{run_owns, room_of, entry, entries, ticket}
+use Rattle.block_region.specs.Ownership.{room_owns, room_of, entry, entries, ticket}
 
 pub u8-send : IsSend u8
 u8-send = search sendable
 
-pub run_owns-keyless : (p : Ptr) (xs : List ℕ) → Keyless (run_owns p xs)
-run_owns-keyless (block_ptr b o) xs = part_keyless (Array u8 (length xs)) (array_send u8 (length xs) u8-send) full_share xs b o
-run_owns-keyless null_ptr xs = tt
+room_owns-keyless : (p : Ptr) (n : ℕ) → Keyless (room_owns p n)
+room_owns-keyless (block_ptr b o) n = tt
+room_owns-keyless null_ptr n = tt
 
 pub sole-send : (A : RattleType) (g : Ghosts A.Denot) → IsSend A → Frees g g.dealloc_token → IsSend (Sole.the_row A g)
 sole-send A g s f = record {
@@ -33,10 +31,7 @@ sole-send A g s f = record {
     (λ _. tt),
     λ v. (
       tt,
-      λ xs. (
-        (tt, run_owns-keyless e.ptr xs),
-        (struct_send (declared.shape (Inside.the_type A g)) (Vec-send u8 A g u8-send s f, tt)).owned (with_items v.vec xs, tt) vs,
-      ),
+      (room_owns-keyless e.ptr e.len, (struct_send (declared.shape (Inside.the_type A g)) (Vec-send u8 A g u8-send s f, tt)).owned (v.vec, tt) vs),
     ),
   );
   leaving = λ k x w. tt;
@@ -59,7 +54,7 @@ entry-keyless size γ false b o = tt
 entries-keyless : (size : ℕ) (gs : List GName) (hs : List Bool) (b o : ℕ) → Keyless (entries size gs hs b o)
 entries-keyless size [] [] b o = tt
 entries-keyless size [] (h ∷ hs) b o = tt
-entries-keyless size (γ ∷ gs) [] b o = tt
+entries-keyless size (γ ∷ gs) [] b o = ((tt, (tt, tt)), entries-keyless size gs [] b (o + size))
 entries-keyless size (γ ∷ gs) (h ∷ hs) b o = (entry-keyless size γ h b o, entries-keyless size gs hs b (o + size))
 
 ticket-keyless : (gs : List GName) (n : ℕ) (h : Bool) → Keyless (ticket gs n h)

@@ -21,6 +21,7 @@ use denote.Param.{param}
 use denote.Param.Laws.{Laws, of_field}
 use denote.Param.Shared.{copy_shared}
 use denote.RawPtr.{Ptr, block_ptr, lies_at, in_block, in_a_block}
+use denote.RawPtr.Bytes.{bytes_whole}
 use denote.Steps.{only, nothing, heard}
 use denote.Struct.Field.{u8-field}
 use denote.Struct.Laws.{u8-laws, u8-copy}
@@ -36,7 +37,7 @@ use Rattle.std_alloc.specs.contracts.vec.lodge as LG
 use Rattle.std_alloc.specs.contracts.vec.lodged.Vec+T+Lodged.dislodge as DL
 use Rattle.std_alloc.proofs.vec.Vec.TheLaws as vec_laws
 use Rattle.std_alloc.proofs.vec.lodged.Lodged.TheLaws as lodged-laws
-use Rattle.block_region.specs.Ownership.{run_owns}
+use Rattle.block_region.specs.Ownership.{run_owns, room_owns}
 
 abbrev pub byte_laws : Laws u8
 byte_laws = of_field u8-field u8-laws refl (copy_shared u8-field u8-copy)
@@ -59,15 +60,25 @@ module _ {M : Type 1} {𝓤 : Ura M} (𝓛 : Logic 𝓤) (at_mem : Memory → SP
   abbrev pub Dislodges : Contract 𝓤
   Dislodges = triple_of 𝓛 (DL.signature u8) (DL.spec u8 𝓛 at_mem run)
 
-  module _ (b o n : ℕ) (xs : List ℕ) where
+  module _ (b o n c : ℕ) (xs : List ℕ) where
     abbrev pub at_lodge : Lodges.Ghost
-    at_lodge = ((([], tt), (full_share, tt), tt, (block_ptr b o, (n, (n, tt))), (vptr b o ∷ [], (vint w64 n ∷ [], (vint w64 n ∷ [], tt)))), xs)
+    at_lodge = ((([], tt), (full_share, tt), tt, (block_ptr b o, (n, (c, tt))), (vptr b o ∷ [], (vint w64 n ∷ [], (vint w64 c ∷ [], tt)))), xs)
 
     abbrev pub IsLodged : Vec ℕ Lodged → Type 0
-    IsLodged r = (r.items ≡ xs) × (r.len ≡ n) × (r.cap ≡ n) × (r.ptr ≡ block_ptr b o)
+    IsLodged r = (r.items ≡ xs) × (r.len ≡ n) × (r.cap ≡ c) × (r.ptr ≡ block_ptr b o)
 
-    pub lodge_goes : length xs ≡ n → 0 < n → n < 2 ^ 63 → ent 𝓤 (sem 𝓛 (run_owns (block_ptr b o) xs)) (Lodges.pre at_lodge)
-    lodge_goes long filled small =
+    pub lodge_gives : (v : Val) → ent 𝓤 (Lodges.post at_lodge v) (H.⇛ (ex 𝓤 (λ (r : Vec ℕ Lodged). guard 𝓤 (IsLodged r) (sem 𝓛 (Housed.own_val r (v ∷ []))))))
+    lodge_gives v =
+        qed 𝓛 (raw (Lodges.post at_lodge v) ∷ []) ∵ updating ! $
+        use1 𝓛 (later (some (λ (r : Vec ℕ Lodged). ((‵ (flft [] full_share) ⊛ ‵ ftrue) ⊛ ‵ (Housed.own_val r (v ∷ [])))
+        ⊛ some (λ (ws : Unit {0} × (Unit {0} × (Unit {0} × Unit {0}))). ‵ (fsep ftrue (fsep ftrue (fsep ftrue ftrue))) ⊛ raw (fact 𝓤 (IsLodged r)))))) (id⊢ 𝓤 _) $ await ! tt $ pick ! (λ r.
+        split ! $ move ! (1 ∷ []) $ pick ! (λ ws. split ! $ drop ! $ heard ! (IsLodged r) (λ is. split ! $ drop ! $ now ! $
+        show ! (λ (z : Vec ℕ Lodged). guard 𝓤 (IsLodged z) (sem 𝓛 (Housed.own_val z (v ∷ [])))) r $ check ! is $ done !)))
+
+  module _ (b o n : ℕ) where
+    -- bytes that fill it
+    pub lodge_goes : (xs : List ℕ) → length xs ≡ n → 0 < n → n < 2 ^ 63 → ent 𝓤 (sem 𝓛 (run_owns (block_ptr b o) xs)) (Lodges.pre (at_lodge b o n n xs))
+    lodge_goes xs long filled small =
         let p = block_ptr b o in
         let Asked : Type 0 = (n ≡ length xs) × (n ≤ n) × (n < 2 ^ 63) in
         let none_spare : 0 ≡ n - n = omega arith in
@@ -81,13 +92,22 @@ module _ {M : Type 1} {𝓤 : Ura M} (𝓛 : Logic 𝓤) (at_mem : Memory → SP
         flt_i ! n (2 ^ 64) (omega arith) $ feq_i ! (List Val) (vint w64 n ∷ []) (vint w64 n ∷ []) refl $ fjoin ! $ fjoin ! $
         feq_i ! (List Val) (vptr b o ∷ []) (vptr b o ∷ []) refl $ fjoin ! $ nothing ! $ use0 𝓛 (‵ (flft [] full_share)) (𝓛.lfts.lft-nil full_share) $ join ! $ join ! $ done !
 
-    pub lodge_gives : (v : Val) → ent 𝓤 (Lodges.post at_lodge v) (H.⇛ (ex 𝓤 (λ (r : Vec ℕ Lodged). guard 𝓤 (IsLodged r) (sem 𝓛 (Housed.own_val r (v ∷ []))))))
-    lodge_gives v =
-        qed 𝓛 (raw (Lodges.post at_lodge v) ∷ []) ∵ updating ! $
-        use1 𝓛 (later (some (λ (r : Vec ℕ Lodged). ((‵ (flft [] full_share) ⊛ ‵ ftrue) ⊛ ‵ (Housed.own_val r (v ∷ [])))
-        ⊛ some (λ (ws : Unit {0} × (Unit {0} × (Unit {0} × Unit {0}))). ‵ (fsep ftrue (fsep ftrue (fsep ftrue ftrue))) ⊛ raw (fact 𝓤 (IsLodged r)))))) (id⊢ 𝓤 _) $ await ! tt $ pick ! (λ r.
-        split ! $ move ! (1 ∷ []) $ pick ! (λ ws. split ! $ drop ! $ heard ! (IsLodged r) (λ is. split ! $ drop ! $ now ! $
-        show ! (λ (z : Vec ℕ Lodged). guard 𝓤 (IsLodged z) (sem 𝓛 (Housed.own_val z (v ∷ [])))) r $ check ! is $ done !)))
+    -- room, and none of it written
+    pub lodge_room : 0 < n → n < 2 ^ 63 → ent 𝓤 (sem 𝓛 (room_owns (block_ptr b o) n)) (Lodges.pre (at_lodge b o 0 n []))
+    lodge_room filled small =
+        let p = block_ptr b o in
+        let Asked : Type 0 = (0 ≡ length {A = ℕ} []) × (0 ≤ n) × (n < 2 ^ 63) in
+        let spare : n ≡ n - 0 = omega arith in
+        let front : o ≡ o + 0 * 1 = omega arith in
+        qed 𝓛 (‵ (room_owns p n) ∷ []) ∵ rewrite ! 0 (λ k. ‵ (froom (ty_array (ty_int w8) k) b o)) spare refl $ rewrite ! 0 (λ k. ‵ (froom (ty_array (ty_int w8) (n - 0)) b k)) front refl $
+        nothing ! $ feq_i ! ℕ 0 0 refl $ fjoin ! $ use1 𝓛 (‵ (lies_at (Array u8 0) full_share p [])) (bytes_whole 𝓛 full_share 0 [] b o) $
+        nothing ! $ move ! (1 ∷ 2 ∷ 0 ∷ []) $ fjoin3 ! $
+        rewrite ! 0 (λ y. ‵ (owns_if y (block_with_items (λ _ _. ftrue) u8 p 0 n []))) (sym (live n filled)) refl $ flt_i ! (n * 1) (2 ^ 63) (omega arith) $ fjoin ! $
+        use0 𝓛 (raw (fact 𝓤 Asked)) (fact_i 𝓤 Asked (emp 𝓤) (refl, omega arith, small)) $ join ! $
+        use0 𝓛 (raw (fact 𝓤 ([] ⊑ []))) (fact_i 𝓤 ([] ⊑ []) (emp 𝓤) (⊑_refl [])) $ join ! $
+        nothing ! $ flt_i ! n (2 ^ 64) (omega arith) $ feq_i ! (List Val) (vint w64 n ∷ []) (vint w64 n ∷ []) refl $ fjoin ! $ fjoin ! $
+        flt_i ! 0 (2 ^ 64) (omega arith) $ feq_i ! (List Val) (vint w64 0 ∷ []) (vint w64 0 ∷ []) refl $ fjoin ! $ fjoin ! $
+        feq_i ! (List Val) (vptr b o ∷ []) (vptr b o ∷ []) refl $ fjoin ! $ nothing ! $ use0 𝓛 (‵ (flft [] full_share)) (𝓛.lfts.lft-nil full_share) $ join ! $ join ! $ done !
 
   module _ (d : Vec ℕ Lodged) (u : Val) where
     abbrev pub at_dislodge : Dislodges.Ghost

@@ -2,15 +2,16 @@
 -- home: one stays with the region, the other goes with the block.
 use Rattle.std.specs.Prelude.{refl, ℕ, zero, suc, ◌+◌, Bool, true, false, List, [], ◌∷◌, length}
 use Rattle.std.specs.Coded.{Coded, code_by, coded×, coded_list, coded_ℕ}
+use mir.Syntax.{Ty, w8, ty_int, ty_array}
 use base.Fraction.{full_share}
-use base.Fml.{GName, Fml, ftrue, ffalse, fsep, fex, feq, fobs, fauth}
+use base.Fml.{GName, Fml, ftrue, ffalse, fsep, fex, feq, fobs, fauth, froom}
 use denote.Builtin.{u8, bool}
 use denote.Array.{Array}
-use denote.RawPtr.{Ptr, coded_ptr, lies_at}
+use denote.RawPtr.{Ptr, coded_ptr, lies_at, room_for}
 use denote.RawPtr.Bytes.{bytes}
 use Rattle.block_region.specs.Regions.{RegionKey}
 
--- where a `Vec`'s bytes begin, and how many there are
+-- where a `Vec`'s memory begins, and for how many bytes it has room
 pub record Extent : Type 0 where
   pub ptr : Ptr
   pub len : ℕ
@@ -22,6 +23,18 @@ extent_code = code_by (Ptr × ℕ) (coded× coded_ptr coded_ℕ) (λ e. (e.ptr, 
 -- the bytes xs lie at p
 abbrev pub run_owns : Ptr → List ℕ → Fml
 run_owns p xs = lies_at (Array u8 (length xs)) full_share p xs
+
+-- n bytes
+abbrev space : ℕ → Ty
+space n = ty_array (ty_int w8) n
+
+-- room for n bytes at p, of which none need be written
+abbrev pub room_owns : Ptr → ℕ → Fml
+room_owns p n = room_for (space n) p
+
+-- the same at o in the object b
+abbrev pub unwritten : ℕ → ℕ → ℕ → Fml
+unwritten n b o = froom (space n) b o
 
 -- n bytes, whatever they are, lie at o in the object b
 abbrev pub room_of : ℕ → ℕ → ℕ → Fml
@@ -40,11 +53,15 @@ abbrev pub entry : ℕ → GName → Bool → ℕ → ℕ → Fml
 entry size γ true b o = fsep (stays γ true) (room_of size b o)
 entry size γ false b o = stays γ false
 
--- the blocks side by side
+-- a block that never was out: both halves of its name, and its room
+abbrev pub unused : ℕ → GName → ℕ → ℕ → Fml
+unused size γ b o = fsep (goes γ true) (fsep (stays γ true) (unwritten size b o))
+
+-- the blocks side by side; those behind the end of the list never were out
 abbrev pub entries : ℕ → List GName → List Bool → ℕ → ℕ → Fml
 entries size [] [] b o = ftrue
 entries size [] (h ∷ hs) b o = ffalse
-entries size (γ ∷ gs) [] b o = ffalse
+entries size (γ ∷ gs) [] b o = fsep (unused size γ b o) (entries size gs [] b (o + size))
 entries size (γ ∷ gs) (h ∷ hs) b o = fsep (entry size γ h b o) (entries size gs hs b (o + size))
 
 -- what a region owns of its blocks
@@ -56,11 +73,6 @@ abbrev pub ticket : List GName → ℕ → Bool → Fml
 ticket [] n home = ffalse
 ticket (γ ∷ gs) zero home = goes γ home
 ticket (γ ∷ gs) (suc n) home = ticket gs n home
-
--- the same of each of these blocks, all at home
-abbrev pub pile : List GName → Fml
-pile [] = ftrue
-pile (γ ∷ gs) = fsep (goes γ true) (pile gs)
 
 -- a key is stored as the tuple of its fields
 abbrev pub key_code : Coded RegionKey

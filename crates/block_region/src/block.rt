@@ -26,7 +26,7 @@ impl Model for Block {
 }
 
 impl Block {
-    /// Its bytes, as many as a block of the region has. A block that was just taken has what its last holder left.
+    /// Its bytes, as many as a block of the region has. A block that was just taken has what its last holder left, or zeros.
     pub fn bytes(&self) -> &[u8]
         ensures bytes { result.now ≡ self.now.bytes }
         ensures size { length result.now ≡ self.now.key.size }

@@ -1,9 +1,8 @@
-//! A `Vec` apart from its bytes, and the bytes apart from a `Vec`. No step here copies a byte or takes memory.
-ghost use Rattle.std.specs.Prelude.{◌≡◌, ℕ, ◌^◌, ◌<◌, List, length};
-ghost use Rattle.std.specs.Vec.{with_items};
-ghost use base.Fml.{ftrue, fex, fall, fwand, fsep, feq};
+//! A `Vec` apart from its memory, and the memory apart from a `Vec`. No step here copies a byte or takes memory.
+ghost use Rattle.std.specs.Prelude.{◌≡◌, ℕ, ◌^◌, ◌<◌, List, [], length, replicate};
+ghost use base.Fml.{ftrue, fex, fwand, fsep, feq};
 ghost use denote.RawPtr.{Ptr};
-ghost use Rattle.block_region.specs.Ownership.{Extent, extent_code, run_owns};
+ghost use Rattle.block_region.specs.Ownership.{Extent, extent_code, run_owns, room_owns};
 
 use std::alloc::Allocator;
 use std::marker::{Model, Move, Owns};
@@ -19,7 +18,17 @@ impl Model for Run {
     ghost also_owns = { λ r. run_owns r.ptr r.items };
 }
 
-/// A `Vec` whose bytes are out as a `Run`.
+/// Room at `ptr` for so many bytes, of which none is written, and which nothing else can reach.
+pub(crate) struct Room {
+    ghost ptr: { Ptr },
+    ghost len: { ℕ },
+}
+
+impl Model for Room {
+    ghost also_owns = { λ r. room_owns r.ptr r.len };
+}
+
+/// An empty `Vec` whose memory is out as a `Room`.
 pub(crate) struct Sole<A: Allocator> {
     vec: Vec<u8, A>,
 }
@@ -33,7 +42,7 @@ impl<A: Allocator> Owns for Sole<A> {
 }
 
 impl<A: Allocator> Move for Sole<A> {
-    ghost own_val = { λ e vs. fex Inside (λ v. fsep (feq ℕ v.vec.len e.len) (fall (List ℕ) (λ xs. fwand (fsep (feq ℕ (length xs) e.len) (run_owns e.ptr xs)) (Fields.own_val (record { vec = with_items v.vec xs }) vs)))) };
+    ghost own_val = { λ e vs. fex Inside (λ v. fsep (feq (List ℕ) v.vec.items []) (fwand (room_owns e.ptr e.len) (Fields.own_val v vs))) };
 }
 
 // A `&` to it shows nothing.
@@ -41,19 +50,19 @@ unsafe impl<A: Allocator + Send> Send for Sole<A> {}
 
 unsafe impl<A: Allocator> Sync for Sole<A> {}
 
-pub(crate) fn detach<A: Allocator>(vec: Vec<u8, A>) -> (Run, Sole<A>)
-    requires { 0 < vec.len }
-    ensures { (result.0.ptr ≡ vec.ptr) × (result.0.items ≡ vec.items) × (result.1.ptr ≡ vec.ptr)
-        × (result.1.len ≡ vec.len) }
+pub(crate) fn detach<A: Allocator>(vec: Vec<u8, A>) -> (Room, Sole<A>)
+    requires { (vec.items ≡ []) × (0 < vec.cap) }
+    ensures { (result.0.ptr ≡ vec.ptr) × (result.0.len ≡ vec.cap) × (result.1.ptr ≡ vec.ptr)
+        × (result.1.len ≡ vec.cap) }
 {
-    (Run {}, Sole { vec })
+    (Room {}, Sole { vec })
 }
 
-pub(crate) fn attach<A: Allocator>(run: Run, sole: Sole<A>) -> Vec<u8, A>
-    requires { (run.ptr ≡ sole.ptr) × (length run.items ≡ sole.len) }
-    ensures { result.items ≡ run.items }
+pub(crate) fn attach<A: Allocator>(room: Room, sole: Sole<A>) -> Vec<u8, A>
+    requires { (room.ptr ≡ sole.ptr) × (room.len ≡ sole.len) }
+    ensures { result.items ≡ [] }
 {
-    let Run {} = run;
+    let Room {} = room;
     let Sole { vec } = sole;
     vec
 }
@@ -66,6 +75,28 @@ pub(crate) fn house(ptr: *mut u8, len: usize, run: Run) -> Vec<u8, Lodged>
 {
     let Run {} = run;
     unsafe { lodge(ptr, len, len) }
+}
+
+/// An empty `Vec` over the room, which neither grows nor frees it.
+fn furnish(ptr: *mut u8, cap: usize, room: Room) -> Vec<u8, Lodged>
+    requires { (room.ptr ≡ ptr) × (room.len ≡ cap) × (0 < cap) × (cap < 2 ^ 63) }
+    ensures { (result.items ≡ []) × (result.len ≡ 0) × (result.cap ≡ cap) × (result.ptr ≡ ptr) }
+{
+    let Room {} = room;
+    unsafe { lodge(ptr, 0, cap) }
+}
+
+/// A `Vec` of zeros over the room, which neither grows nor frees it.
+pub(crate) fn house_zeros(ptr: *mut u8, len: usize, room: Room) -> Vec<u8, Lodged>
+    requires { (room.ptr ≡ ptr) × (room.len ≡ len) × (0 < len) × (len < 2 ^ 63) }
+    ensures { (result.items ≡ replicate len 0) × (result.len ≡ len) × (result.cap ≡ len)
+        × (result.ptr ≡ ptr) }
+{
+    let mut bytes = furnish(ptr, len, room);
+    for _ in 0..len {
+        bytes.push_reserved(0);
+    }
+    bytes
 }
 
 pub(crate) fn vacate(vec: Vec<u8, Lodged>) -> Run

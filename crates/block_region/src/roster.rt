@@ -1,15 +1,16 @@
 //! Which blocks are at home, and the bytes of those. All here but a block's number is ghost state: at run time it is nothing.
-ghost use Rattle.std.specs.Prelude.{◌≡◌, ℕ, ◌+◌, ◌*◌, ◌≤◌, Bool, true, false, List, length, replicate, drop};
+ghost use Rattle.std.specs.Prelude.{◌≡◌, ℕ, ◌+◌, ◌*◌, ◌≤◌, Bool, true, false, List, [], ◌∷◌, ◌++◌, length};
 ghost use denote.RawPtr.{block_ptr};
-ghost use Rattle.block_region.specs.Regions.{RegionKey, is_home, marked, homes, outs};
-ghost use Rattle.block_region.specs.Ownership.{key_code, at_home, ticket, pile};
+ghost use Rattle.block_region.specs.Regions.{RegionKey, is_home, marked, homes};
+ghost use Rattle.block_region.specs.Ownership.{key_code, at_home, ticket};
 
-use crate::memory::Run;
+use crate::memory::{Room, Run};
 use std::marker::Model;
 
-/// The bytes of the blocks at home, and what tells which these are.
+/// The memory of the blocks at home, and what tells which these are.
 pub(crate) struct Roster {
     ghost key: { RegionKey } by { key_code },
+    // of each block that ever was out, by its number, whether it is at home; the blocks behind those are
     ghost home: { List Bool },
 }
 
@@ -37,52 +38,41 @@ pub(crate) struct Place {
     ghost tied: { number ≡ ticket.number },
 }
 
-/// The tickets of the blocks from `next` on.
-#[derive(Drop)]
-pub(crate) struct Pile {
-    ghost key: { RegionKey } by { key_code },
-    ghost next: { ℕ },
-}
-
-impl Model for Pile {
-    ghost also_owns = { λ p. pile (drop p.next p.key.names) };
-}
-
 // Both are no more than ghost state, which any thread may hold.
 unsafe impl Send for Roster {}
 
 unsafe impl Send for Ticket {}
 
-impl Pile {
-    pub(crate) fn deal(self) -> (Pile, Ticket)
-        requires { self.next + 1 ≤ length self.key.names }
-        ensures { (result.0 ≡ record { key = self.key; next = self.next + 1 })
-            × (result.1 ≡ record { key = self.key; number = self.next; home = true }) }
-    {
-        let Pile {} = self;
-        (Pile {}, Ticket {})
-    }
-}
-
 impl Roster {
-    /// The run as blocks of one size, all at home.
-    pub(crate) fn open(run: Run, blocks: u32, size: u32) -> (Roster, Pile)
-        requires { length run.items ≡ blocks * size }
-        ensures { (result.0.key.size ≡ size) × (length result.0.key.names ≡ blocks)
-            × (run.ptr ≡ block_ptr result.0.key.object result.0.key.start) × (result.0.home ≡ replicate blocks true)
-            × (homes result.0.home ≡ blocks) × (outs result.0.home ≡ 0)
-            × (result.1 ≡ record { key = result.0.key; next = 0 }) }
+    /// The room as blocks of one size, of which none was ever out.
+    pub(crate) fn open(room: Room, blocks: u32, size: u32) -> Roster
+        requires { room.len ≡ blocks * size }
+        ensures { (result.key.size ≡ size) × (length result.key.names ≡ blocks)
+            × (room.ptr ≡ block_ptr result.key.object result.key.start) × (result.home ≡ []) }
     {
-        let Run {} = run;
-        (Roster {}, Pile {})
+        let Room {} = room;
+        Roster {}
+    }
+
+    /// The room of the first block that was never out.
+    pub(crate) fn begin(self, number: u32) -> (Roster, (Ticket, Room))
+        requires { (number ≡ length self.home) × (number + 1 ≤ length self.key.names) }
+        ensures { (result.0.key ≡ self.key) × (result.0.home ≡ self.home ++ false ∷ [])
+            × (result.1.0 ≡ record { key = self.key; number = number; home = false })
+            × (result.1.1.ptr ≡ block_ptr self.key.object (self.key.start + number * self.key.size))
+            × (result.1.1.len ≡ self.key.size) }
+    {
+        let Roster {} = self;
+        let _ = number;
+        (Roster {}, (Ticket {}, Room {}))
     }
 
     /// The bytes of a block that was at home.
     pub(crate) fn lend(self, ticket: Ticket) -> (Roster, (Ticket, Run))
-        requires { (ticket.key ≡ self.key) × (ticket.home ≡ true) }
+        requires { (ticket.key ≡ self.key) × (ticket.home ≡ true) × (ticket.number + 1 ≤ length self.home) }
         ensures { (result.0.key ≡ self.key) × (is_home self.home ticket.number ≡ true)
             × (result.0.home ≡ marked self.home ticket.number false) × (homes result.0.home + 1 ≡ homes self.home)
-            × (homes result.0.home + outs result.0.home ≡ homes self.home + outs self.home)
+            × (length result.0.home ≡ length self.home)
             × (result.1.0 ≡ record ticket { home = false })
             × (result.1.1.ptr ≡ block_ptr self.key.object (self.key.start + ticket.number * self.key.size))
             × (length result.1.1.items ≡ self.key.size) }
@@ -94,26 +84,24 @@ impl Roster {
 
     /// The bytes of a block that was out come home.
     pub(crate) fn put(self, block: (Ticket, Run)) -> (Roster, Ticket)
-        requires { (block.0.key ≡ self.key) × (block.0.home ≡ false) × (block.0.number + 1 ≤ length self.key.names)
+        requires { (block.0.key ≡ self.key) × (block.0.home ≡ false)
             × (block.1.ptr ≡ block_ptr self.key.object (self.key.start + block.0.number * self.key.size))
             × (length block.1.items ≡ self.key.size) }
         ensures { (result.0.key ≡ self.key) × (is_home self.home block.0.number ≡ false)
             × (result.0.home ≡ marked self.home block.0.number true) × (homes result.0.home ≡ homes self.home + 1)
-            × (homes result.0.home + outs result.0.home ≡ homes self.home + outs self.home)
-            × (homes result.0.home ≤ length self.key.names) × (result.1 ≡ record block.0 { home = true }) }
+            × (length result.0.home ≡ length self.home) × (block.0.number + 1 ≤ length self.home) × (result.1 ≡ record block.0 { home = true }) }
     {
         let (ticket, run) = block;
         self.join(ticket, run)
     }
 
     fn join(self, ticket: Ticket, run: Run) -> (Roster, Ticket)
-        requires { (ticket.key ≡ self.key) × (ticket.home ≡ false) × (ticket.number + 1 ≤ length self.key.names)
+        requires { (ticket.key ≡ self.key) × (ticket.home ≡ false)
             × (run.ptr ≡ block_ptr self.key.object (self.key.start + ticket.number * self.key.size))
             × (length run.items ≡ self.key.size) }
         ensures { (result.0.key ≡ self.key) × (is_home self.home ticket.number ≡ false)
             × (result.0.home ≡ marked self.home ticket.number true) × (homes result.0.home ≡ homes self.home + 1)
-            × (homes result.0.home + outs result.0.home ≡ homes self.home + outs self.home)
-            × (homes result.0.home ≤ length self.key.names) × (result.1 ≡ record ticket { home = true }) }
+            × (length result.0.home ≡ length self.home) × (ticket.number + 1 ≤ length self.home) × (result.1 ≡ record ticket { home = true }) }
     {
         let Roster {} = self;
         let Ticket {} = ticket;
@@ -121,13 +109,13 @@ impl Roster {
         (Roster {}, Ticket {})
     }
 
-    /// All bytes, where every block is at home.
-    pub(crate) fn whole(self) -> Run
-        requires { homes self.home ≡ length self.key.names }
+    /// The room of all blocks, where each that ever was out is at home.
+    pub(crate) fn whole(self) -> Room
+        requires { homes self.home ≡ length self.home }
         ensures { (result.ptr ≡ block_ptr self.key.object self.key.start)
-            × (length result.items ≡ length self.key.names * self.key.size) }
+            × (result.len ≡ length self.key.names * self.key.size) }
     {
         let Roster {} = self;
-        Run {}
+        Room {}
     }
 }

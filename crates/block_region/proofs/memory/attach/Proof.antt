@@ -1,11 +1,10 @@
--- `attach` hands the bytes to what waits for them. Assumes `Logic`.
-use Rattle.std.proofs.Common.{◌≡◌, ℕ, List, [], ◌∷◌, ◌++◌, length, refl, sym, ◌∙◌, subst}
+-- `attach` hands the room to what waits for it. Assumes `Logic`.
+use Rattle.std.proofs.Common.{◌≡◌, List, [], ◌∷◌, ◌++◌, refl, subst}
 use seplogic.Ra.Ura.{Ura}
 use mir.Syntax.{Fn, Args, Dict, a_type, dcons, dnil}
 use mir.Val.{Val}
 use mir.MapTy.{inst_fn}
-use base.Logic.{SProp, ent, all_e, apply∗}
-use base.Fml.{fsep, feq, fwand}
+use base.Logic.{SProp, ent, apply∗}
 use prog.Memory.{Memory}
 use prog.Routine.{Routine}
 use prog.Wp.{Calls, Loops, WpFn, Tables}
@@ -13,7 +12,7 @@ use contract.Monad.{Fun, fact}
 use contract.Running.{tables, tables_of}
 use sound.WpLaws.{WpFn-mono}
 use types.Logic.{Logic, sem}
-use types.Kit.{‵, raw, ◌⊛◌, prop, ◌$◌, ◌∵◌, !, qed, move, drop, use1, use2, split, fsplit, fjoin, fpick, feq_l, feq_i, regoal, rewrite, suffices, done}
+use types.Kit.{‵, raw, ◌⊛◌, prop, ◌$◌, ◌∵◌, !, qed, move, drop, use2, split, fsplit, fjoin, fpick, feq_l, regoal, rewrite, suffices, done}
 use types.Part.{sub, whole}
 use types.Run.{enter, returns, of_opd, fld, stop}
 use types.ByLocal.{alloc_all, pass_all, free_all, look_at, get, get_in, sets}
@@ -37,13 +36,11 @@ use contract.BorrowLft.{◌⊑◌}
 use denote.Struct.Laws.{u8-laws, u8-copy}
 use denote.Struct.Field.{u8-field}
 use denote.Param.Shared.{copy_shared}
-use Rattle.block_region.specs.contracts.memory.Run as Run
+use Rattle.block_region.specs.contracts.memory.Room as Room
 use Rattle.block_region.specs.contracts.memory.Sole as Sole
 use Rattle.std_alloc.specs.contracts.vec.Vec as Vec
 use Rattle.std_alloc.proofs.vec.Vec.TheLaws as vec_laws
-use Rattle.std.specs.Vec.{with_items}
-use Rattle.std.proofs.lemmas.List.{with_items_is}
-use Rattle.block_region.specs.Ownership.{run_owns}
+use Rattle.block_region.specs.Ownership.{room_owns}
 use Rattle.block_region.specs.contracts.memory.attach as F
 use Rattle.block_region.specs.contracts.memory.attach.Key.{name as #self}
 use Rattle.block_region.proofs.memory.attach.Statement as stated
@@ -66,7 +63,7 @@ module _ (A : RattleType) (L : Laws A) (g : Ghosts A.Denot) (d dd : Dict) where
   ended = F.ended A g d dd
 
   abbrev stayed : Stays ended.signature.params ended.kept
-  stayed = (stay_dropped (plain (λ _. Run.the_row)) yes, (stay_dropped (plain (λ _. Sole.the_row P g)) no, tt))
+  stayed = (stay_dropped (plain (λ _. Room.the_row)) yes, (stay_dropped (plain (λ _. Sole.the_row P g)) no, tt))
 
   module _ {M : Type 1} {𝓤 : Ura M} (𝓛 : Logic 𝓤) (at_mem : Memory → SProp 𝓤) (run : Routine → Fun 𝓤) where
     open 𝓛 use {H}
@@ -85,19 +82,17 @@ module _ (A : RattleType) (L : Laws A) (g : Ghosts A.Denot) (d dd : Dict) where
       walks =
           let a = z.0.3 in
           let vss = z.0.4 in
-          let xs = a.0.items in
           let e = a.1.0 in
           let V = Vec.the_row u8 P g in
-          let Asked = (a.0.ptr ≡ e.ptr) × (length xs ≡ e.len) in
+          let Asked = (a.0.ptr ≡ e.ptr) × (a.0.len ≡ e.len) in
           qed 𝓛 ((raw toks ⊛ ‵ (owns (types_at ended.signature.params z.0.0) a vss)) ∷ (raw (fact 𝓤 (z.0.0.0 ⊑ A.lives)) ⊛ raw (fact 𝓤 Asked)) ∷ []) ∵
           move ! (1 ∷ []) $ split ! $ drop ! $ heard ! Asked (λ asked. split ! $ move ! (1 ∷ []) $
-          fsplit ! $ fsplit ! $ none_had ! vss.0 (λ is₀. move ! (1 ∷ []) $ fsplit ! $ fsplit ! $ fpick ! (λ typed. drop ! $ fpick ! (λ v. fsplit ! $ feq_l ! (λ len.
-          let Given = λ (ys : List ℕ). fsep (feq ℕ (length ys) e.len) (run_owns e.ptr ys) in
-          let Whole = λ (ys : List ℕ). (plainly (V ∷ [])).own_val (with_items v.vec ys, tt) vss.1.0 in
-          -- [the way back; nothing; the bytes; the tokens]
-          use1 𝓛 (‵ (fwand (Given xs) (Whole xs))) (all_e 𝓤 (λ ys. sem 𝓛 (fwand (Given ys) (Whole ys))) xs) $ move ! (2 ∷ []) $
-          rewrite ! 0 (λ p. ‵ (run_owns p xs)) asked.0 refl $ feq_i ! ℕ (length xs) e.len asked.1 $ fjoin ! $
-          use2 𝓛 (‵ (Whole xs)) (apply∗ 𝓤 (sem 𝓛 (Given xs)) (sem 𝓛 (Whole xs))) $ one_had ! V (vec_laws.the_row_laws u8 P g (of_field u8-field u8-laws refl (copy_shared u8-field u8-copy)) LP) (with_items v.vec xs) vss.1.0 (λ u is₁ good.
+          fsplit ! $ fsplit ! $ none_had ! vss.0 (λ is₀. move ! (1 ∷ []) $ fsplit ! $ fsplit ! $ fpick ! (λ typed. drop ! $ fpick ! (λ v. fsplit ! $ feq_l ! (λ empty.
+          let Given = room_owns e.ptr e.len in
+          let Whole = (plainly (V ∷ [])).own_val (v.vec, tt) vss.1.0 in
+          -- [the way back; nothing; the room; the tokens]
+          move ! (2 ∷ []) $ rewrite ! 0 (λ p. ‵ (room_owns p a.0.len)) asked.0 refl $ rewrite ! 0 (λ n. ‵ (room_owns e.ptr n)) asked.1 refl $
+          use2 𝓛 (‵ Whole) (apply∗ 𝓤 (sem 𝓛 Given) (sem 𝓛 Whole)) $ one_had ! V (vec_laws.the_row_laws u8 P g (of_field u8-field u8-laws refl (copy_shared u8-field u8-copy)) LP) v.vec vss.1.0 (λ u is₁ good.
           move ! (1 ∷ []) $ drop ! $
           regoal ! (λ (us : List Val). prop (WpFn 𝓤 H C Λ function (us ++ (vss.1.0 ++ [])) Post)) is₀ refl $
           regoal ! (λ (us : List Val). prop (WpFn 𝓤 H C Λ function ((none ∷ []) ++ (us ++ [])) Post)) is₁ refl $
@@ -105,12 +100,12 @@ module _ (A : RattleType) (L : Laws A) (g : Ghosts A.Denot) (d dd : Dict) where
           sets ! (of_opd ! (get_in ! (fld ! refl (stop !)) (sub ! 0 refl (whole !)))) refl good $
           sets ! (of_opd ! (get ! refl)) refl good $
           returns ! (look_at ! 0 refl) $ free_all ! refl $
-          suffices ! _ (ends_at 𝓛 ended stayed held z u (with_items v.vec xs) (tt, (tt, tt)) (tt, (tt, tt))) $ says ! (with_items_is v.vec xs (asked.1 ∙ sym len)) $
+          suffices ! _ (ends_at 𝓛 ended stayed held z u v.vec (tt, (tt, tt)) (tt, (tt, tt))) $ says ! empty $
           nothing ! $ nothing ! $ fjoin ! $ nothing ! $ fjoin ! $ move ! (2 ∷ 0 ∷ 1 ∷ []) $ done !)))))))
 
     meets : (𝓣 : Tables 𝓤 H) → Meets 𝓛 ended.signature (WpFn 𝓤 H 𝓣.C 𝓣.Λ function) (closing 𝓛 ended held)
     meets 𝓣 =
-        walk_Meets 𝓛 ended stayed (Goes-blank 𝓛 1 (plain (λ _. Run.the_row)) yes (λ κs x f. tt), (Goes-blank 𝓛 1 (plain (λ _. Sole.the_row P g)) no (λ κs x f. tt), tt)) held
+        walk_Meets 𝓛 ended stayed (Goes-blank 𝓛 1 (plain (λ _. Room.the_row)) yes (λ κs x f. tt), (Goes-blank 𝓛 1 (plain (λ _. Sole.the_row P g)) no (λ κs x f. tt), tt)) held
         (WpFn 𝓤 H 𝓣.C 𝓣.Λ function) (WpFn-mono 𝓤 H 𝓛.laws 𝓣 function) (walks 𝓣.C 𝓣.Λ)
 
 pub attach_spec : {M : Type 1} → stated.statement M

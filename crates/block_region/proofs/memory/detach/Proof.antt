@@ -1,5 +1,5 @@
--- `detach` takes the bytes out, and leaves the way back. Assumes `Logic`.
-use Rattle.std.proofs.Common.{◌<◌, List, [], ◌∷◌, ◌++◌, refl}
+-- `detach` takes the room out, and leaves the way back. Assumes `Logic`.
+use Rattle.std.proofs.Common.{◌≡◌, ◌<◌, List, [], ◌∷◌, ◌++◌, refl}
 use seplogic.Ra.Ura.{Ura}
 use mir.Syntax.{Fn, Args, Dict, a_type, dcons, dnil}
 use mir.Val.{Val}
@@ -36,13 +36,13 @@ use contract.BorrowLft.{◌⊑◌}
 use denote.Struct.Laws.{u8-laws, u8-copy}
 use denote.Struct.Field.{u8-field}
 use denote.Param.Shared.{copy_shared}
-use Rattle.block_region.specs.contracts.memory.Run as Run
+use Rattle.block_region.specs.contracts.memory.Room as Room
 use Rattle.block_region.specs.contracts.memory.Sole as Sole
 use Rattle.std_alloc.specs.contracts.vec.Vec as Vec
 use Rattle.std_alloc.proofs.vec.Vec.TheLaws as vec_laws
 use denote.Laws.{Typed}
 use denote.Struct.Struct.{as_fields}
-use Rattle.block_region.specs.Ownership.{run_owns}
+use Rattle.block_region.specs.Ownership.{room_owns}
 use Rattle.block_region.proofs.Vecs.{carve}
 use Rattle.block_region.specs.contracts.memory.detach as F
 use Rattle.block_region.specs.contracts.memory.detach.Key.{name as #self}
@@ -88,22 +88,22 @@ module _ (A : RattleType) (L : Laws A) (g : Ghosts A.Denot) (d dd : Dict) where
           let v = a.0 in
           let V = Vec.the_row u8 P g in
           let S = Sole.the_row P g in
-          let Asked = 0 < v.len in
-          let e : S.Denot = record { ptr = v.ptr; len = v.len } in
-          let r : (Run.the_row).Denot = record { ptr = v.ptr; items = v.items } in
+          let Asked = (v.items ≡ []) × (0 < v.cap) in
+          let e : S.Denot = record { ptr = v.ptr; len = v.cap } in
+          let r : (Room.the_row).Denot = record { ptr = v.ptr; len = v.cap } in
           qed 𝓛 ((raw toks ⊛ ‵ (owns (types_at ended.signature.params z.0.0) a vss)) ∷ (raw (fact 𝓤 (z.0.0.0 ⊑ A.lives)) ⊛ raw (fact 𝓤 Asked)) ∷ []) ∵
           move ! (1 ∷ []) $ split ! $ drop ! $ heard ! Asked (λ asked. split ! $ move ! (1 ∷ []) $
           fsplit ! $ tells ! V (vec_laws.the_row_laws u8 P g (of_field u8-field u8-laws refl (copy_shared u8-field u8-copy)) LP) v vss.0 (λ u is good. move ! (1 ∷ []) $ drop ! $
           let inner = as_fields ((layout V) ∷ []) (u ∷ []) (good, tt) in
-          use1 𝓛 (‵ (run_owns v.ptr v.items) ⊛ ‵ (Sole.the_own P g e (one u ∷ []))) (carve P g 𝓛 v u asked) $ split ! $
+          use1 𝓛 (‵ (room_owns v.ptr v.cap) ⊛ ‵ (Sole.the_own P g e (one u ∷ []))) (carve P g 𝓛 v u asked.0 asked.1) $ split ! $
           none_made ! $ fjoin ! $ move ! (1 ∷ []) $ nothing ! $ fpack ! (Typed S.mir (one u ∷ [])) (λ _. ftrue) (inner, tt) $ fjoin ! $ move ! (1 ∷ 0 ∷ []) $
-          two_made ! Run.the_row S r e none (one u) $
+          two_made ! Room.the_row S r e none (one u) $
           regoal ! (λ (us : List Val). prop (WpFn 𝓤 H C Λ function (us ++ []) Post)) is refl $
           enter ! C Λ function (u ∷ []) Post $ alloc_all ! (λ l. pass_all ! refl (good, tt) $
           sets ! (agg ! (no_more !)) refl (tt, tt) $
           sets ! (of_opd ! (get ! refl)) refl good $
           sets ! (agg ! (and_then ! (get ! refl) (no_more !))) refl inner $
-          sets ! (agg ! (and_then ! (get ! refl) (and_then ! (get ! refl) (no_more !)))) refl (as_fields (layout Run.the_row ∷ layout S ∷ []) (none ∷ one u ∷ []) ((tt, tt), (inner, tt))) $
+          sets ! (agg ! (and_then ! (get ! refl) (and_then ! (get ! refl) (no_more !)))) refl (as_fields (layout Room.the_row ∷ layout S ∷ []) (none ∷ one u ∷ []) ((tt, tt), (inner, tt))) $
           returns ! (look_at ! 0 refl) $ free_all ! refl $
           suffices ! _ (ends_at 𝓛 ended stayed held z (two none (one u)) (r, e) ((tt, (tt, (tt, (tt, tt)))), tt) (tt, tt)) $ says ! (refl, refl, refl, refl) $
           nothing ! $ nothing ! $ fjoin ! $ move ! (2 ∷ 0 ∷ 1 ∷ []) $ done !)))

@@ -1,5 +1,5 @@
 -- `join` puts the bytes of one block back among the others. Assumes `Logic`.
-use Rattle.std.proofs.Common.{◌≡◌, ◌+◌, ◌*◌, ◌≤◌, true, false, List, [], ◌∷◌, ◌++◌, length, refl, sym}
+use Rattle.std.proofs.Common.{◌≡◌, ◌+◌, ◌*◌, true, false, List, [], ◌∷◌, ◌++◌, length, refl, sym, arith}
 use seplogic.Ra.Ura.{Ura}
 use mir.Syntax.{Fn}
 use mir.Val.{Val}
@@ -11,7 +11,7 @@ use contract.Monad.{Fun, fact}
 use contract.Running.{tables, tables_of}
 use sound.WpLaws.{WpFn-mono}
 use types.Logic.{Logic}
-use types.Kit.{‵, raw, ◌⊛◌, later, prop, ◌$◌, ◌∵◌, !, qed, move, drop, use1, use3, split, fsplit, fjoin, feq_l, regoal, rewrite, suffices, await, done}
+use types.Kit.{‵, raw, ◌⊛◌, later, prop, ◌$◌, ◌∵◌, !, qed, move, drop, use1, use3, split, fsplit, fjoin, feq_l, flt_l, regoal, rewrite, suffices, await, done}
 use types.Part.{agg}
 use types.Run.{enter, returns, and_then, no_more}
 use types.ByLocal.{alloc_all, pass_all, free_all, look_at, get, sets}
@@ -26,9 +26,9 @@ use denote.Triple.Spec.{Meets, triple_of}
 use denote.Triple.Table.{entered}
 use denote.Triple.Walked.{says, Stays, stay_dropped, walk_of, ends_at, walk_Meets}
 use Rattle.std.proofs.alloc.Calls.{Goes-blank}
-use Rattle.block_region.proofs.Walks.{none, two, none_made, two_made, none_had, learns}
-use Rattle.block_region.proofs.Entries.{marked-counts, bounded, paired, one_more, Back, put, as_room}
-use Rattle.block_region.specs.Regions.{RegionKey, marked, homes}
+use Rattle.block_region.proofs.Walks.{none, two, none_made, two_made, none_had}
+use Rattle.block_region.proofs.Entries.{length-marked, one_more, Back, put, as_room}
+use Rattle.block_region.specs.Regions.{RegionKey, marked}
 use Rattle.block_region.specs.Ownership.{run_owns, room_of, ticket}
 use Rattle.block_region.specs.contracts.memory.Run as Run
 use Rattle.block_region.specs.contracts.roster.Roster as Roster
@@ -74,7 +74,7 @@ module _ {M : Type 1} {𝓤 : Ura M} (𝓛 : Logic 𝓤) (at_mem : Memory → SP
         let p = o + i * k.size in
         let hs = a.0.home in
         let js = marked hs i true in
-        let Asked = (t.key ≡ k) × (t.home ≡ false) × (i + 1 ≤ length gs) × (r.ptr ≡ block_ptr b p) × (length r.items ≡ k.size) in
+        let Asked = (t.key ≡ k) × (t.home ≡ false) × (r.ptr ≡ block_ptr b p) × (length r.items ≡ k.size) in
         let back : (Ticket.the_row).Denot = record t { home = true } in
         qed 𝓛 ((raw toks ⊛ ‵ (owns (types_at ended.signature.params z.0.0) a vss)) ∷ raw (fact 𝓤 Asked) ∷ []) ∵
         move ! (1 ∷ []) $ heard ! Asked (λ asked. split ! $ move ! (1 ∷ []) $
@@ -87,17 +87,15 @@ module _ {M : Type 1} {𝓤 : Ura M} (𝓛 : Logic 𝓤) (at_mem : Memory → SP
         sets ! (agg ! (no_more !)) refl (tt, tt) $
         sets ! (agg ! (and_then ! (get ! refl) (and_then ! (get ! refl) (no_more !)))) refl (tt, (tt, (tt, tt))) $
         -- [the run; the ticket; the bytes at home; the tokens; ..]
-        rewrite ! 0 (λ q. ‵ (run_owns q r.items)) asked.3 refl $ use1 𝓛 (‵ (room_of k.size b p)) (as_room 𝓛 k.size r.items b p asked.4) $
+        rewrite ! 0 (λ q. ‵ (run_owns q r.items)) asked.2 refl $ use1 𝓛 (‵ (room_of k.size b p)) (as_room 𝓛 k.size r.items b p asked.3) $
         move ! (1 ∷ []) $ rewrite ! 0 (λ (j : RegionKey). ‵ (ticket j.names i t.home)) asked.0 refl $ rewrite ! 0 (λ h. ‵ (ticket gs i h)) asked.1 refl $
-        move ! (2 ∷ []) $ learns ! 1 (length hs ≡ length gs) (paired 𝓛 k.size b gs hs o) (λ same.
-        use3 𝓛 (later (‵ (Back 𝓛 k.size b gs hs i o))) (put 𝓛 k.size b gs hs i o p refl) $ await ! tt $ fsplit ! $ feq_l ! (λ was. fsplit ! $
-        learns ! 1 (homes js ≤ length gs) (bounded 𝓛 k.size b gs js o) (λ most.
+        move ! (2 ∷ []) $ use3 𝓛 (later (‵ (Back 𝓛 k.size b gs hs i o))) (put 𝓛 k.size b gs hs i o p refl) $ await ! tt $ fsplit ! $ flt_l ! (λ some. fsplit ! $ feq_l ! (λ was. fsplit ! $
         let whole : (Roster.the_row).Denot = record { key = k; home = js } in
         none_made ! $ fjoin ! $ move ! (1 ∷ []) $ rewrite ! 0 (λ (j : RegionKey). ‵ (ticket j.names i true)) (sym asked.0) refl $ none_made ! $ fjoin ! $ move ! (1 ∷ 0 ∷ []) $
         two_made ! Roster.the_row Ticket.the_row whole back none none $
         returns ! (look_at ! 0 refl) $ free_all ! refl $
-        suffices ! _ (ends_at 𝓛 ended stayed held z (two none none) (whole, back) (tt, (tt, (tt, tt))) (tt, (tt, (tt, tt)))) $ says ! (refl, was, refl, one_more gs hs i same asked.2 was, marked-counts hs i true, most, refl) $
-        nothing ! $ nothing ! $ fjoin ! $ nothing ! $ fjoin ! $ nothing ! $ fjoin ! $ move ! (2 ∷ 0 ∷ 1 ∷ []) $ done !))))))))
+        suffices ! _ (ends_at 𝓛 ended stayed held z (two none none) (whole, back) (tt, (tt, (tt, tt))) (tt, (tt, (tt, tt)))) $ says ! (refl, was, refl, one_more hs i (omega arith) was, length-marked hs i true, omega arith, refl) $
+        nothing ! $ nothing ! $ fjoin ! $ nothing ! $ fjoin ! $ nothing ! $ fjoin ! $ move ! (2 ∷ 0 ∷ 1 ∷ []) $ done !)))))))
 
   meets : (𝓣 : Tables 𝓤 H) → Meets 𝓛 ended.signature (WpFn 𝓤 H 𝓣.C 𝓣.Λ function) (closing 𝓛 ended held)
   meets 𝓣 =

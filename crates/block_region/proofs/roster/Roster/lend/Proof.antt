@@ -1,5 +1,5 @@
 -- `lend` parts the bytes of one block from the others. Assumes `Logic`.
-use Rattle.std.proofs.Common.{◌≡◌, ◌+◌, ◌*◌, true, false, List, [], ◌∷◌, ◌++◌, refl, sym}
+use Rattle.std.proofs.Common.{◌≡◌, ◌+◌, ◌*◌, ◌≤◌, true, false, List, [], ◌∷◌, ◌++◌, length, refl, sym}
 use seplogic.Ra.Ura.{Ura}
 use mir.Syntax.{Fn}
 use mir.Val.{Val}
@@ -28,7 +28,7 @@ use denote.Triple.Table.{entered}
 use denote.Triple.Walked.{says, Stays, stay_dropped, walk_of, ends_at, walk_Meets}
 use Rattle.std.proofs.alloc.Calls.{Goes-blank}
 use Rattle.block_region.proofs.Walks.{none, two, none_made, two_made, none_had}
-use Rattle.block_region.proofs.Entries.{marked-counts, one_less, Lent, lend, as_run}
+use Rattle.block_region.proofs.Entries.{length-marked, one_less, Lent, lend, as_run}
 use Rattle.block_region.specs.Regions.{RegionKey, marked}
 use Rattle.block_region.specs.Ownership.{run_owns, ticket}
 use Rattle.block_region.specs.contracts.memory.Run as Run
@@ -73,7 +73,7 @@ module _ {M : Type 1} {𝓤 : Ura M} (𝓛 : Logic 𝓤) (at_mem : Memory → SP
         let i = t.number in
         let p = o + i * k.size in
         let hs = a.0.home in
-        let Asked = (t.key ≡ k) × (t.home ≡ true) in
+        let Asked = (t.key ≡ k) × (t.home ≡ true) × (i + 1 ≤ length hs) in
         let off : (Ticket.the_row).Denot = record t { home = false } in
         qed 𝓛 ((raw toks ⊛ ‵ (owns (types_at ended.signature.params z.0.0) a vss)) ∷ raw (fact 𝓤 Asked) ∷ []) ∵
         move ! (1 ∷ []) $ heard ! Asked (λ asked. split ! $ move ! (1 ∷ []) $
@@ -88,7 +88,7 @@ module _ {M : Type 1} {𝓤 : Ura M} (𝓛 : Logic 𝓤) (at_mem : Memory → SP
         sets ! (agg ! (and_then ! (get ! refl) (and_then ! (get ! refl) (no_more !)))) refl (tt, (tt, ((tt, (tt, tt)), tt))) $
         -- [the ticket; the bytes at home; the tokens; ..]
         rewrite ! 0 (λ (j : RegionKey). ‵ (ticket j.names i t.home)) asked.0 refl $ rewrite ! 0 (λ h. ‵ (ticket gs i h)) asked.1 refl $
-        move ! (1 ∷ []) $ use2 𝓛 (later (‵ (Lent 𝓛 k.size b gs hs i o p))) (lend 𝓛 k.size b gs hs i o p refl) $ await ! tt $ fsplit ! $ feq_l ! (λ was. fsplit ! $
+        move ! (1 ∷ []) $ use2 𝓛 (later (‵ (Lent 𝓛 k.size b gs hs i o p))) (lend 𝓛 k.size b gs hs i o p refl asked.2) $ await ! tt $ fsplit ! $ feq_l ! (λ was. fsplit ! $
         let left : (Roster.the_row).Denot = record { key = k; home = marked hs i false } in
         none_made ! $ fjoin ! $ move ! (1 ∷ []) $ fsplit ! $ rewrite ! 0 (λ (j : RegionKey). ‵ (ticket j.names i false)) (sym asked.0) refl $ none_made ! $ fjoin ! $
         move ! (1 ∷ []) $ fpick ! (λ xs. fsplit ! $ feq_l ! (λ long.
@@ -98,7 +98,7 @@ module _ {M : Type 1} {𝓤 : Ura M} (𝓛 : Logic 𝓤) (at_mem : Memory → SP
         use1 𝓛 (‵ ((Tuple (Ticket.the_row ∷ Run.the_row ∷ [])).own_val (off, r) (two none none ∷ []))) (id⊢ 𝓤 _) $ move ! (1 ∷ 0 ∷ []) $
         two_made ! Roster.the_row (Tuple (Ticket.the_row ∷ Run.the_row ∷ [])) left (off, r) none (two none none) $
         returns ! (look_at ! 0 refl) $ free_all ! refl $
-        suffices ! _ (ends_at 𝓛 ended stayed held z (two none (two none none)) (left, (off, r)) (tt, (tt, tt)) (tt, (tt, tt))) $ says ! (refl, was, refl, one_less hs i was, marked-counts hs i false, refl, refl, long) $
+        suffices ! _ (ends_at 𝓛 ended stayed held z (two none (two none none)) (left, (off, r)) (tt, (tt, tt)) (tt, (tt, tt))) $ says ! (refl, was, refl, one_less hs i was, length-marked hs i false, refl, refl, long) $
         nothing ! $ nothing ! $ fjoin ! $ nothing ! $ fjoin ! $ move ! (2 ∷ 0 ∷ 1 ∷ []) $ done !)))))))
 
   meets : (𝓣 : Tables 𝓤 H) → Meets 𝓛 ended.signature (WpFn 𝓤 H 𝓣.C 𝓣.Λ function) (closing 𝓛 ended held)

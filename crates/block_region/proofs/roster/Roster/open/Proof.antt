@@ -1,9 +1,8 @@
--- `open` names each block of a run. Assumes `Logic`.
-use Rattle.std.proofs.Common.{◌≡◌, ◌*◌, true, List, [], ◌∷◌, ◌++◌, length, replicate, refl}
+-- `open` names each block of a room. Assumes `Logic`.
+use Rattle.std.proofs.Common.{◌≡◌, ◌*◌, List, [], ◌∷◌, ◌++◌, refl}
 use seplogic.Ra.Ura.{Ura}
 use mir.Syntax.{Fn, w32}
 use mir.Val.{Val, vint}
-use base.Fraction.{full_share}
 use base.Logic.{SProp, ent, id⊢, never}
 use prog.Memory.{Memory}
 use prog.Routine.{Routine}
@@ -12,15 +11,14 @@ use contract.Monad.{Fun, fact}
 use contract.Running.{tables, tables_of}
 use sound.WpLaws.{WpFn-mono}
 use types.Logic.{Logic}
-use types.Kit.{‵, raw, ◌⊛◌, later, prop, ◌$◌, ◌∵◌, !, qed, move, drop, use1, split, fsplit, fjoin, fpick, feq_l, flt_l, regoal, suffices, await, done}
+use types.Kit.{‵, raw, ◌⊛◌, later, prop, ◌$◌, ◌∵◌, !, qed, move, drop, use1, split, fsplit, fjoin, fpick, feq_l, flt_l, regoal, rewrite, suffices, await, done}
 use types.Part.{agg}
-use types.Run.{enter, returns, and_then, no_more}
-use types.ByLocal.{alloc_all, pass_all, free_all, look_at, get, sets}
+use types.Run.{enter, returns, no_more}
+use types.ByLocal.{alloc_all, pass_all, free_all, look_at, sets}
 use denote.Exit.{yes}
 use denote.RattleType.{owns}
 use denote.Builtin.{u32}
 use denote.RawPtr.{in_a_block}
-use denote.RawPtr.Bytes.{bytes}
 use denote.Signature.{plain, types_at}
 use denote.Steps.{nothing, heard}
 use denote.Triple.Clauses.{Clauses, Ended, closing}
@@ -29,13 +27,12 @@ use denote.Triple.Spec.{Meets, triple_of}
 use denote.Triple.Table.{entered}
 use denote.Triple.Walked.{says, Stays, stay_dropped, walk_of, ends_at, walk_Meets}
 use Rattle.std.proofs.alloc.Calls.{Goes-blank}
-use Rattle.block_region.proofs.Walks.{none, two, none_made, two_made, none_had}
-use Rattle.block_region.proofs.Entries.{outs-none, Opened, opens, homes-all, as_bytes}
+use Rattle.block_region.proofs.Walks.{none, none_made, none_had}
+use Rattle.block_region.proofs.Entries.{Opened, opens}
 use Rattle.block_region.specs.Regions.{RegionKey}
-use Rattle.block_region.specs.Ownership.{run_owns}
-use Rattle.block_region.specs.contracts.memory.Run as Run
+use Rattle.block_region.specs.Ownership.{room_owns, unwritten}
+use Rattle.block_region.specs.contracts.memory.Room as Room
 use Rattle.block_region.specs.contracts.roster.Roster as Roster
-use Rattle.block_region.specs.contracts.roster.Pile as Pile
 use Rattle.block_region.specs.contracts.roster.Roster.open as F
 use Rattle.block_region.specs.contracts.roster.Roster.open.Key.{name as #self}
 use Rattle.block_region.proofs.roster.Roster.open.Statement as stated
@@ -48,7 +45,7 @@ abbrev ended : Ended
 ended = F.ended
 
 abbrev stayed : Stays ended.signature.params ended.kept
-stayed = (stay_dropped (plain (λ _. Run.the_row)) yes, (stay_dropped (plain (λ _. u32)) yes, (stay_dropped (plain (λ _. u32)) yes, tt)))
+stayed = (stay_dropped (plain (λ _. Room.the_row)) yes, (stay_dropped (plain (λ _. u32)) yes, (stay_dropped (plain (λ _. u32)) yes, tt)))
 
 module _ {M : Type 1} {𝓤 : Ura M} (𝓛 : Logic 𝓤) (at_mem : Memory → SProp 𝓤) (run : Routine → Fun 𝓤) where
   open 𝓛 use {H}
@@ -67,35 +64,32 @@ module _ {M : Type 1} {𝓤 : Ura M} (𝓛 : Logic 𝓤) (at_mem : Memory → SP
     walks =
         let a = z.0.3 in
         let vss = z.0.4 in
-        let xs = a.0.items in
+        let m = a.0.len in
         let p = a.0.ptr in
         let n = a.1.0 in
         let s = a.1.1.0 in
-        let Asked = length xs ≡ n * s in
+        let Asked = m ≡ n * s in
         qed 𝓛 ((raw toks ⊛ ‵ (owns (types_at ended.signature.params z.0.0) a vss)) ∷ raw (fact 𝓤 Asked) ∷ []) ∵
         move ! (1 ∷ []) $ heard ! Asked (λ asked. split ! $ move ! (1 ∷ []) $
         fsplit ! $ fsplit ! $ none_had ! vss.0 (λ is₀. move ! (1 ∷ []) $ fsplit ! $ fsplit ! $ feq_l ! (λ is₁. flt_l ! (λ fits₁. fsplit ! $ fsplit ! $ feq_l ! (λ is₂. flt_l ! (λ fits₂. drop ! $
-        in_a_block ! p (λ q. run_owns q xs) (id⊢ 𝓤 (never 𝓤)) (λ b o at.
+        in_a_block ! p (λ q. room_owns q m) (id⊢ 𝓤 (never 𝓤)) (λ b o at.
         regoal ! (λ (us : List Val). prop (WpFn 𝓤 H C Λ function (us ++ (vss.1.0 ++ (vss.1.1.0 ++ []))) Post)) is₀ refl $
         regoal ! (λ (us : List Val). prop (WpFn 𝓤 H C Λ function ((none ∷ []) ++ (us ++ (vss.1.1.0 ++ []))) Post)) is₁ refl $
         regoal ! (λ (us : List Val). prop (WpFn 𝓤 H C Λ function ((none ∷ []) ++ ((vint w32 n ∷ []) ++ (us ++ []))) Post)) is₂ refl $
         enter ! C Λ function (none ∷ vint w32 n ∷ vint w32 s ∷ []) Post $ alloc_all ! (λ l. pass_all ! refl ((tt, tt), ((tt, record { fits = fits₁ }), ((tt, record { fits = fits₂ }), tt))) $
         sets ! (agg ! (no_more !)) refl (tt, tt) $
-        sets ! (agg ! (no_more !)) refl (tt, tt) $
-        sets ! (agg ! (and_then ! (get ! refl) (and_then ! (get ! refl) (no_more !)))) refl (tt, (tt, (tt, tt))) $
-        use1 𝓛 (‵ (bytes full_share xs b o)) (as_bytes 𝓛 xs b o) $
-        use1 𝓛 (later (‵ (Opened 𝓛 s b n o))) (opens 𝓛 s b n xs o asked) $ await ! tt $ fpick ! (λ gs. fsplit ! $ feq_l ! (λ count. fsplit ! $
+        rewrite ! 0 (λ k. ‵ (unwritten k b o)) asked refl $
+        use1 𝓛 (later (‵ (Opened 𝓛 s b n o))) (opens 𝓛 s b n o) $ await ! tt $ fpick ! (λ gs. fsplit ! $ feq_l ! (λ count.
         let k : RegionKey = record { object = b; start = o; size = s; names = gs } in
-        let all : (Roster.the_row).Denot = record { key = k; home = replicate n true } in
-        let tickets : (Pile.the_row).Denot = record { key = k; next = 0 } in
-        none_made ! $ fjoin ! $ move ! (1 ∷ []) $ none_made ! $ fjoin ! $ move ! (1 ∷ 0 ∷ []) $ two_made ! Roster.the_row Pile.the_row all tickets none none $
+        let all : (Roster.the_row).Denot = record { key = k; home = [] } in
+        none_made ! $ fjoin ! $
         returns ! (look_at ! 0 refl) $ free_all ! refl $
-        suffices ! _ (ends_at 𝓛 ended stayed held z (two none none) (all, tickets) (tt, (tt, (tt, tt))) (tt, (tt, (tt, tt)))) $ says ! (refl, count, at, refl, homes-all n, outs-none n, refl) $
+        suffices ! _ (ends_at 𝓛 ended stayed held z none all (tt, (tt, (tt, tt))) (tt, (tt, (tt, tt)))) $ says ! (refl, count, at, refl) $
         nothing ! $ nothing ! $ fjoin ! $ nothing ! $ fjoin ! $ nothing ! $ fjoin ! $ move ! (2 ∷ 0 ∷ 1 ∷ []) $ done !))))))))))
 
   meets : (𝓣 : Tables 𝓤 H) → Meets 𝓛 ended.signature (WpFn 𝓤 H 𝓣.C 𝓣.Λ function) (closing 𝓛 ended held)
   meets 𝓣 =
-      walk_Meets 𝓛 ended stayed (Goes-blank 𝓛 0 (plain (λ _. Run.the_row)) yes (λ κs x f. tt), (Goes-blank 𝓛 0 (plain (λ _. u32)) yes (λ κs x f. tt), (Goes-blank 𝓛 0 (plain (λ _. u32)) yes (λ κs x f. tt), tt))) held
+      walk_Meets 𝓛 ended stayed (Goes-blank 𝓛 0 (plain (λ _. Room.the_row)) yes (λ κs x f. tt), (Goes-blank 𝓛 0 (plain (λ _. u32)) yes (λ κs x f. tt), (Goes-blank 𝓛 0 (plain (λ _. u32)) yes (λ κs x f. tt), tt))) held
       (WpFn 𝓤 H 𝓣.C 𝓣.Λ function) (WpFn-mono 𝓤 H 𝓛.laws 𝓣 function) (walks 𝓣.C 𝓣.Λ)
 
 pub open_spec : {M : Type 1} → stated.statement M

@@ -1,4 +1,4 @@
--- `whole` joins the bytes of all blocks. Assumes `Logic`.
+-- `whole` joins the memory of all blocks. Assumes `Logic`.
 use Rattle.std.proofs.Common.{◌≡◌, ◌*◌, List, [], ◌∷◌, ◌++◌, length, refl}
 use seplogic.Ra.Ura.{Ura}
 use mir.Syntax.{Fn}
@@ -11,7 +11,7 @@ use contract.Monad.{Fun, fact}
 use contract.Running.{tables, tables_of}
 use sound.WpLaws.{WpFn-mono}
 use types.Logic.{Logic}
-use types.Kit.{‵, raw, ◌⊛◌, prop, ◌$◌, ◌∵◌, !, qed, move, drop, use1, split, fsplit, fjoin, fpick, feq_l, regoal, suffices, done}
+use types.Kit.{‵, raw, ◌⊛◌, prop, ◌$◌, ◌∵◌, !, qed, move, drop, use1, split, fsplit, fjoin, regoal, suffices, done}
 use types.Part.{agg}
 use types.Run.{enter, returns, no_more}
 use types.ByLocal.{alloc_all, pass_all, free_all, look_at, sets}
@@ -27,10 +27,10 @@ use denote.Triple.Table.{entered}
 use denote.Triple.Walked.{says, Stays, stay_dropped, walk_of, ends_at, walk_Meets}
 use Rattle.std.proofs.alloc.Calls.{Goes-blank}
 use Rattle.block_region.proofs.Walks.{none, none_made, none_had}
-use Rattle.block_region.proofs.Entries.{joined, as_run}
+use Rattle.block_region.proofs.Entries.{joined}
 use Rattle.block_region.specs.Regions.{homes}
-use Rattle.block_region.specs.Ownership.{run_owns, room_of}
-use Rattle.block_region.specs.contracts.memory.Run as Run
+use Rattle.block_region.specs.Ownership.{unwritten}
+use Rattle.block_region.specs.contracts.memory.Room as Room
 use Rattle.block_region.specs.contracts.roster.Roster as Roster
 use Rattle.block_region.specs.contracts.roster.Roster.whole as F
 use Rattle.block_region.specs.contracts.roster.Roster.whole.Key.{name as #self}
@@ -67,19 +67,18 @@ module _ {M : Type 1} {𝓤 : Ura M} (𝓛 : Logic 𝓤) (at_mem : Memory → SP
         let b = k.object in
         let o = k.start in
         let hs = a.0.home in
-        let Asked = homes hs ≡ length k.names in
+        let Asked = homes hs ≡ length hs in
         qed 𝓛 ((raw toks ⊛ ‵ (owns (types_at ended.signature.params z.0.0) a vss)) ∷ raw (fact 𝓤 Asked) ∷ []) ∵
         move ! (1 ∷ []) $ heard ! Asked (λ asked. split ! $ move ! (1 ∷ []) $
         fsplit ! $ fsplit ! $ none_had ! vss.0 (λ is₀. move ! (1 ∷ []) $ drop ! $
         regoal ! (λ (us : List Val). prop (WpFn 𝓤 H C Λ function (us ++ []) Post)) is₀ refl $
         enter ! C Λ function (none ∷ []) Post $ alloc_all ! (λ l. pass_all ! refl ((tt, tt), tt) $
         sets ! (agg ! (no_more !)) refl (tt, tt) $
-        use1 𝓛 (‵ (room_of (length k.names * k.size) b o)) (joined 𝓛 k.size b k.names hs o asked) $ fpick ! (λ xs. fsplit ! $ feq_l ! (λ long.
-        let r : (Run.the_row).Denot = record { ptr = block_ptr b o; items = xs } in
-        use1 𝓛 (‵ (run_owns (block_ptr b o) xs)) (as_run 𝓛 xs b o) $ none_made ! $ fjoin ! $
+        let r : (Room.the_row).Denot = record { ptr = block_ptr b o; len = length k.names * k.size } in
+        use1 𝓛 (‵ (unwritten (length k.names * k.size) b o)) (joined 𝓛 k.size b k.names hs o asked) $ none_made ! $ fjoin ! $
         returns ! (look_at ! 0 refl) $ free_all ! refl $
-        suffices ! _ (ends_at 𝓛 ended stayed held z none r (tt, tt) (tt, tt)) $ says ! (refl, long) $
-        nothing ! $ nothing ! $ fjoin ! $ move ! (2 ∷ 0 ∷ 1 ∷ []) $ done !)))))
+        suffices ! _ (ends_at 𝓛 ended stayed held z none r (tt, tt) (tt, tt)) $ says ! (refl, refl) $
+        nothing ! $ nothing ! $ fjoin ! $ move ! (2 ∷ 0 ∷ 1 ∷ []) $ done !)))
 
   meets : (𝓣 : Tables 𝓤 H) → Meets 𝓛 ended.signature (WpFn 𝓤 H 𝓣.C 𝓣.Λ function) (closing 𝓛 ended held)
   meets 𝓣 =
