@@ -14,7 +14,7 @@ loop-round-init g c = record {
 }
 
 pub is_over-requires : goal.is_over-requires
-is_over-requires g c = let W = c.loop-round.invariant.way c.requires.play c.requires.plays c.requires.going in (W.0, W.1)
+is_over-requires g c = let W = c.loop-round.invariant.way c.requires.play c.requires.stands c.requires.going in (W.0, W.1)
 
 pub returns-then-is_over : goal.returns-then-is_over
 returns-then-is_over g c =
@@ -30,13 +30,13 @@ returns-then-is_over g c =
     }
 
 pub round-requires : goal.round-requires
-round-requires g c = let W = c.loop-round.invariant.way c.requires.play c.requires.plays c.requires.going in (W.0, W.1)
+round-requires g c = let W = c.loop-round.invariant.way c.requires.play c.requires.stands c.requires.going in (W.0, W.1)
 
 pub unreachable-requires : goal.unreachable-requires
 unreachable-requires g c =
     let w : Layout = g.P.TakeTurns.layout c.args.player.now in
     let same = c.loop-round.invariant.layout in
-    let W = c.loop-round.invariant.way c.requires.play c.requires.plays c.requires.going in
+    let W = c.loop-round.invariant.way c.requires.play c.requires.stands c.requires.going in
     let rounds = subst (λ (s : Layout). RoundsOf s (g.P.TakeTurns.Plays c.loop-round.player) (g.P.TakeTurns.Plays c.round.new.player) c.in_ok-round.field-0 s.network.components s.network.links) same c.in_ok-round.ensures.round in
     let R = rounds W.0 W.1 (W.2).going in
     let going : IsOver w W.0 → ⊥ = λ over. c.is_over.ensures.nope c.if-is_over.false W.0 W.1 (subst (λ (s : Layout). IsOver s W.0) (sym same) over) in
