@@ -1,12 +1,14 @@
 //! The host's file system as a media: files are opened and closed, and faults and absences are counted.
 
-ghost use Rattle.std.specs.Prelude.{◌≡◌, ◌≤◌, None, true, false, [], length, IfOk, OnOk, OnErr, IsErrOf, IsTrue, IsFalse, IsSome, Some};
+ghost use Rattle.std.specs.Fs.{asks_append, asks_create, asks_create_new, asks_truncate, asks_write, metadata_len};
+ghost use Rattle.std.specs.IoError.{error_kind};
+ghost use Rattle.std.specs.Prelude.{◌≡◌, ◌≢◌, ◌↔◌, ◌≤◌, None, true, false, [], length, IfOk, OnOk, OnErr, IsErrOf, IsTrue, IsFalse, IsSome, Some};
 ghost use Rattle.outside_io.specs.Causes.{Rose, sum_of_counts};
 ghost use Rattle.outside_io.specs.Files.{GoesOn, SameBut, IsFrontOf};
 ghost use Rattle.outside_io.specs.Moves.{WhereTold};
 ghost use Rattle.outside_host.specs.Opened.{has_file, StayOpened};
 
-use crate::opened_files::OpenedFiles;
+use crate::opened_files::{OpenedFiles, OtherFile};
 use crate::{FileId, HostFile, HostSource};
 use outside_io::{Failed, Media, OutOfMemory, Refused};
 use std::alloc::Global;
@@ -90,7 +92,10 @@ fn tell<R: Eprint>(files: &R, fault: &str, name: &str, why: io::Error) {
 }
 
 /// What the host's error is for one who opens, which is told.
-fn refusal<R: Eprint>(files: &R, fault: &str, name: &str, why: io::Error) -> Refused {
+fn refusal<R: Eprint>(files: &R, fault: &str, name: &str, why: io::Error) -> Refused
+    ensures absent { (result ≡ Refused.Absent) ↔ (error_kind why ≡ ErrorKind.NotFound) }
+    ensures known { result ≢ Refused.OutOfMemory }
+{
     match why.kind() {
         ErrorKind::NotFound => {
             tell(files, ABSENT, name, why);
@@ -110,13 +115,51 @@ fn found<R: Files<File = File>>(files: &R, name: &str) -> io::Result<(File, Meta
     Ok((file, data))
 }
 
-/// The same of a file that is opened to be written. It is made where it wasn't there, and keeps its bytes.
-fn made<R: Files<File = File>>(files: &R, name: &str) -> io::Result<(File, Metadata)> {
+/// How a file is opened to be written: it is made where it wasn't there, and keeps its bytes.
+fn sink_options() -> OpenOptions
+    ensures writes { asks_write result ≡ true }
+    ensures made { asks_create result ≡ true }
+    ensures or_found { asks_create_new result ≡ false }
+    ensures kept { asks_truncate result ≡ false }
+    ensures from_start { asks_append result ≡ false }
+{
     let mut how = OpenOptions::new();
     how.write(true).create(true);
-    let file = how.open(files, name)?;
+    how
+}
+
+/// A file that is opened to be written, and what the host knows of it.
+fn made<R: Files<File = File>>(files: &R, name: &str) -> io::Result<(File, Metadata)> {
+    let file = sink_options().open(files, name)?;
     let data = file.metadata()?;
     Ok((file, data))
+}
+
+/// The source of an open file, which is remembered. It has the size that the host knows.
+fn source_of(
+    alloc: Global,
+    opened: &mut OpenedFiles,
+    file: File,
+    metadata: &Metadata,
+    name: &str,
+) -> Result<HostSource<File>, Refused>
+    ensures size { IfOk result (λ src. src.size ≡ metadata_len metadata.now) }
+    ensures offset { IfOk result (λ src. src.offset ≡ 0) }
+    ensures faults { IfOk result (λ src. src.faults ≡ 0) }
+    ensures opened { IfOk result (λ src. IsTrue (has_file src.id opened.new.ids.items)) }
+    ensures stay { StayOpened opened.old.ids.items opened.new.ids.items }
+{
+    let id = FileId::of(metadata);
+    let Ok(name) = String::from_str(alloc, name) else {
+        return Err(Refused::OutOfMemory);
+    };
+    match BufReader::with_capacity(alloc, KEPT, file) {
+        Ok(file) => match opened.add(id) {
+            Ok(()) => Ok(HostSource::new(file, id, metadata.len(), name)),
+            Err(_) => Err(Refused::OutOfMemory),
+        },
+        Err(_) => Err(Refused::OutOfMemory),
+    }
 }
 
 /// Opens a file to be read, and remembers it.
@@ -135,17 +178,7 @@ fn open_source<R: Files<File = File> + Eprint>(
         Ok(found) => found,
         Err(why) => return Err(refusal(files, READ_FAULT, name, why)),
     };
-    let id = FileId::of(&data);
-    let Ok(name) = String::from_str(alloc, name) else {
-        return Err(Refused::OutOfMemory);
-    };
-    match BufReader::with_capacity(alloc, KEPT, file) {
-        Ok(file) => match opened.add(id) {
-            Ok(()) => Ok(HostSource::new(file, id, data.len(), name)),
-            Err(_) => Err(Refused::OutOfMemory),
-        },
-        Err(_) => Err(Refused::OutOfMemory),
-    }
+    source_of(alloc, opened, file, &data, name)
 }
 
 /// Opens a file to be written that wasn't opened before, remembers it, and only then empties it.
@@ -171,26 +204,27 @@ fn open_sink<R: Files<File = File> + Eprint>(
     let Ok(file) = BufWriter::with_capacity(alloc, KEPT, file) else {
         return Err(Refused::OutOfMemory);
     };
-    if let Err(refused) = opened.add_other(id) {
-        if let Refused::Failed = refused {
-            tell(
-                files,
-                WRITE_FAULT,
-                name,
-                io::Error::other("it is open already"),
-            );
+    let other = match opened.add_other(id) {
+        Ok(other) => other,
+        Err(Refused::Failed) => {
+            let why = io::Error::other("it is open already");
+            tell(files, WRITE_FAULT, name, why);
+            return Err(Refused::Failed);
         }
-        return Err(refused);
-    }
-    match empty(file.get_ref(), &data) {
+        Err(refused) => return Err(refused),
+    };
+    match empty(file.get_ref(), id, &data, other) {
         Ok(()) => Ok(HostFile::new(file, id, its_name)),
         Err(why) => Err(refusal(files, WRITE_FAULT, name, why)),
     }
 }
 
-/// Empties a file. A device or a pipe has no length to be cut.
-fn empty(file: &File, data: &Metadata) -> io::Result<()> {
-    if data.is_file() {
+/// Empties a file that was compared with those opened before. A device or a pipe has no length to be cut.
+fn empty(file: &File, id: FileId, metadata: &Metadata, other: OtherFile) -> io::Result<()>
+    requires compared { other.id ≡ id }
+{
+    let _compared = other;
+    if metadata.is_file() {
         file.set_len(0)
     } else {
         Ok(())

@@ -1,6 +1,6 @@
 //! The identity of the host's files, and the set of those that were opened.
 
-ghost use Rattle.std.specs.Prelude.{◌≡◌, [], false, OnOk, OnErr, IsTrue, IsErrOf};
+ghost use Rattle.std.specs.Prelude.{◌≡◌, [], false, IfOk, OnOk, OnErr, IsTrue, IsErrOf};
 
 use outside_io::{OutOfMemory, Refused};
 use std::alloc::Global;
@@ -21,6 +21,12 @@ impl FileId {
             inode: data.ino(),
         }
     }
+}
+
+/// That this file is none that was opened before. `OpenedFiles::add_other` alone makes one, so whoever has it has compared.
+#[derive(Drop)]
+pub struct OtherFile {
+    id: FileId,
 }
 
 /// The files that were opened, each once. A file that was closed again stays among them.
@@ -60,7 +66,8 @@ impl OpenedFiles {
     }
 
     /// Remembers a file that is to be written. One that is remembered is refused as failed.
-    pub(crate) fn add_other(&mut self, id: FileId) -> Result<(), Refused>
+    pub(crate) fn add_other(&mut self, id: FileId) -> Result<OtherFile, Refused>
+        ensures id { IfOk result (λ other. other.id ≡ id) }
         ensures other { OnOk result (has_file id self.old.ids.items ≡ false) }
         ensures added { OnOk result (IsTrue (has_file id self.new.ids.items)) }
         ensures failed { IsErrOf result Refused.Failed → IsTrue (has_file id self.old.ids.items) }
@@ -72,7 +79,7 @@ impl OpenedFiles {
             return Err(Refused::Failed);
         }
         match self.ids.push(id) {
-            Ok(()) => Ok(()),
+            Ok(()) => Ok(OtherFile { id }),
             Err(_) => Err(Refused::OutOfMemory),
         }
     }
