@@ -1,3 +1,4 @@
-//! The tests of a graph's use: what a whole client's object was told in the end.
+//! The tests of a graph's use: what a whole client's object was told in the end, and calls that are refused.
 
 mod client;
+mod refusals;

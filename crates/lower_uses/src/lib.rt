@@ -8,3 +8,5 @@ mod generator;
 mod media;
 #[cfg(test)]
 mod prints;
+#[cfg(test)]
+mod region;

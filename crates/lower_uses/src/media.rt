@@ -1,7 +1,7 @@
 //! A file of a media in memory, and objects of memory.
 
 use outside_io::{
-    MemoryMedia, MemorySink, MemorySource, PumpFault, Sink, pump, read_whole, write_whole,
+    Failed, MemoryMedia, MemorySink, MemorySource, PumpFault, Sink, pump, read_whole, write_whole,
 };
 use std::test::Fail;
 
@@ -26,5 +26,8 @@ fn objects_of_memory(rt: HostRuntime) -> Result<(), Fail> {
     assert_eq!(rt; pump(&mut source, &mut sink), Err(PumpFault::Write));
     assert_eq!(rt; sink.faults(), 1);
     assert_eq!(rt; sink.into_bytes(), vec![in alloc; 3u8; 4]?);
+    let mut full = MemorySink::new(alloc, 0)?;
+    assert_eq!(rt; full.write(b"a"), Err(Failed));
+    assert_eq!(rt; full.faults(), 1);
     Ok(())
 }

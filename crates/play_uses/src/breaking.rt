@@ -1,4 +1,6 @@
-//! A source whose read fails, or which ends early, behind its head.
+//! A source whose read fails, or which ends early, behind its head; a sink without room.
+
+ghost use Rattle.std.specs.Prelude.{◌≤◌};
 
 use omx_types::{Fault, Which};
 use outside_io::{Fail, FailKind, MemoryMedia};
@@ -27,11 +29,12 @@ fn played(alloc: Global, media: &mut MemoryMedia, text: &str) -> Option<Result<(
     }
 }
 
-/// A media with a sound, of which this call fails.
-fn media_of(alloc: Global, kind: FailKind, nth: u64) -> Result<MemoryMedia, AllocError> {
+/// A media with a sound, and a room for each sink.
+fn media_of(alloc: Global, fails: Vec<Fail>, room: usize) -> Result<MemoryMedia, AllocError>
+    requires { room ≤ 4096 }
+{
     let files = vec![in alloc; (String::from_str(alloc, "in")?, THREE_SAMPLES.to_vec(alloc)?)]?;
-    let fails = vec![in alloc; Fail::new(String::from_str(alloc, "in")?, kind, nth)]?;
-    MemoryMedia::new(alloc, files, fails, 4096)
+    MemoryMedia::new(alloc, files, fails, room)
 }
 
 #[test]
@@ -46,10 +49,24 @@ fn source_breaks_off(rt: HostRuntime) -> Result<(), Failure> {
         (SCRIPT, FailKind::Read, 5, Fault::ReadFault),
         (LATE, FailKind::EndAt, 46, short),
     ] {
-        let mut media = media_of(alloc, kind, nth)?;
+        let fails = vec![in alloc; Fail::new(String::from_str(alloc, "in")?, kind, nth)]?;
+        let mut media = media_of(alloc, fails, 4096)?;
         assert_eq!(rt; played(alloc, &mut media, script), Some(Err(told)));
         assert_eq!(rt; media.file("out"), Some(b"".as_slice()));
         assert!(rt; media.file("log").is_none());
     }
+    Ok(())
+}
+
+#[test]
+fn sink_has_no_room(rt: HostRuntime) -> Result<(), Failure> {
+    let alloc = rt.alloc();
+    let mut media = media_of(alloc, Vec::new(alloc), 0)?;
+    assert_eq!(rt;
+        played(alloc, &mut media, SCRIPT),
+        Some(Err(Fault::WriteFault))
+    );
+    assert_eq!(rt; media.file("out"), Some(b"".as_slice()));
+    assert!(rt; media.file("log").is_none());
     Ok(())
 }

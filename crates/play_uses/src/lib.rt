@@ -1,4 +1,4 @@
-//! Plays whose source breaks off while it is played: what no clause says of them, and no file of the host can be made to do.
+//! Plays whose source or sink breaks off while they are played: what no clause says of them, and no file of the host can be made to do.
 #![tactic(auto)]
 
 #[cfg(test)]
