@@ -21,7 +21,7 @@ pub record IsElse (s : Assembly) (p q : Progress) (i : ℕ) : Type 0 where
 
 module _ (s : Assembly) (p q : Progress) where
   built_else : (c : ℕ) (a : Component) → ((j : ℕ) → q.factored c j ≡ true → p.factored c j ≡ true) → q.filed c ≡ p.filed c → IsBuiltAs s p c a → IsBuiltAs s q c a
-  built_else c a f e B = record { number = B.number; fresh_else = B.fresh_else; settings = B.settings; factors = λ j x d t. B.factors j x d (f j t); file = B.file ∙ ap (λ (b : Bool). option_map attached (file_by s b c)) (sym e); calm = B.calm }
+  built_else c a f e B = record { number = B.number; fresh_else = B.fresh_else; settings = B.settings; gain = B.gain; factors = λ j x d t. B.factors j x d (f j t); file = B.file ∙ ap (λ (b : Bool). option_map attached (file_by s b c)) (sym e); calm = B.calm }
 
   ends_else : (side : Bool) (l : ℕ) (a : Component) → q.set side l ≡ p.set side l → q.joined side l ≡ p.joined side l → HasEnd s p side l a → HasEnd s q side l a
   ends_else side l a e f E = record {
@@ -98,6 +98,7 @@ module _ (s : Assembly) (L : IsLawful s) (p q : Progress) (side : Bool) (l : ℕ
           number = B.number;
           fresh_else = ap (λ (y : Component). record y { settings = record a.settings { ports = set a.settings.ports k setting }; ports = set a.ports k state }) B.fresh_else;
           settings = ap (λ (y : Settings). record y { ports = set a.settings.ports k setting }) B.settings;
+          gain = B.gain;
           factors = λ j x d t. B.factors j x d (O.factored (component_at s side l) j t);
           file = B.file ∙ ap (λ (f : Bool). option_map attached (file_by s f (component_at s side l))) (sym (O.filed (component_at s side l)));
           calm = all_set IsCalmPort a.ports k state B.calm calm;

@@ -1,5 +1,5 @@
 -- A gain, or a weight of a mixer, is set.
-use Rattle.std.proofs.Common.{◌≡◌, ◌≢◌, ◌⊎◌, inl, inr, ℕ, zero, suc, ◌<◌, Bool, true, List, length, set, slice_get, Some, None, option_map, Result, Ok, refl, sym, ◌∙◌, ap, subst, arith}
+use Rattle.std.proofs.Common.{◌≡◌, ◌≢◌, ◌⊎◌, inl, inr, ℕ, zero, suc, ◌<◌, Bool, true, false, List, length, set, slice_get, Some, None, option_map, Result, Ok, refl, sym, ◌∙◌, ap, subst, arith}
 use Rattle.std.proofs.lemmas.Bool.{cases_eq}
 use Rattle.std.proofs.lemmas.Option.{slice_get_within}
 use Rattle.omx_types.specs.declared.handle.Handle.{Handle}
@@ -12,7 +12,7 @@ use Rattle.il_machine.specs.Due.{ClosesTo}
 use Rattle.il_machine.specs.Files.{attached}
 use Rattle.il_machine.specs.Parameters.{SetConfig, set_config_refusal, with_value}
 use Rattle.il_machine.specs.Parts.{factors_by}
-use Rattle.il_machine.specs.Settings.{Settings, default_settings, weights_in}
+use Rattle.il_machine.specs.Settings.{Settings, default_settings, is_gain, weights_in}
 use Rattle.il_machine.specs.Sound.{Sound}
 use Rattle.il_machine.specs.World.{Component, World, with_component}
 use Rattle.machine_laws.proofs.Every.{set_there, set_else}
@@ -45,6 +45,10 @@ else_as kind s = record (default_settings kind) { ports = s.ports; gain = s.gain
 rest_same : (kind other : Kind) (i factor : ℕ) (s : Settings) → s ≡ else_as other s → with_factor kind i factor s ≡ else_as other (with_factor kind i factor s)
 rest_same Gain other i factor s e = ap (λ (y : Settings). record y { gain = factor }) e
 rest_same _ other i factor s e = ap (λ (y : Settings). record y { weights = set s.weights i factor }) e
+
+gain_same : (kind : Kind) (i factor : ℕ) (s : Settings) → is_gain kind ≡ false → (with_factor kind i factor s).gain ≡ s.gain
+gain_same Gain i factor s n = absurd cc
+gain_same _ i factor s n = refl
 
 -- what is set of it so far, and this factor
 factors_after : (kind : Kind) (fs : List ℕ) (s : Settings) (i factor j other : ℕ) → i < factors_in kind → length s.weights ≡ weights_in kind → slice_get fs i ≡ Some factor → slice_get fs j ≡ Some other
@@ -90,6 +94,7 @@ factor_set s L p q handles c i factor b O w v h result S W e f r =
       number = B.number;
       fresh_else = ap (λ (y : Component). record y { settings = settings }) B.fresh_else;
       settings = rest_same kind kind i factor a.settings B.settings;
+      gain = λ n. gain_same kind i factor a.settings n ∙ B.gain n;
       factors = λ j x d t. factors_after kind (s.factors c) a.settings i factor j x below weights f d (elim (O.here j t) [ inl q ↦ inl q | inr q ↦ inr (B.factors j x d q) ]);
       file = B.file ∙ ap (λ (t : Bool). option_map attached (file_by s t c)) (sym (O.filed c));
       calm = B.calm;

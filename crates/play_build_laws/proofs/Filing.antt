@@ -92,6 +92,7 @@ file_set s L p q handles c b O w v h file result W e f r =
       number = B.number;
       fresh_else = ap (λ (y : Component). record y { file = Some (attached file) }) B.fresh_else;
       settings = B.settings;
+      gain = B.gain;
       factors = λ j x d t. B.factors j x d (O.factored c j t);
       file = sym (ap (λ (y : Option Offered). option_map attached y) own);
       calm = B.calm;

@@ -94,6 +94,7 @@ module _ (s : Assembly) (L : IsLawful s) (p q : Progress) (O : IsMadeOnce s p q)
     number = n;
     fresh_else = refl;
     settings = refl;
+    gain = λ n. refl;
     factors = λ i x d t. let z : false ≡ true = sym (O.factored c i) ∙ t in absurd cc;
     file = sym (ap (λ (t : Bool). option_map attached (file_by s t c)) (O.unfiled c));
     calm = new_calm (ports_in (s.kind c));
@@ -114,7 +115,7 @@ module _ (s : Assembly) (L : IsLawful s) (p q : Progress) (O : IsMadeOnce s p q)
     each = λ c a e. elim (pushed_at cs c (fresh h (s.kind (length cs))) a e) [
       | inl f ↦
           let B = A.each c a f in
-          record { number = B.number; fresh_else = B.fresh_else; settings = B.settings; factors = λ i x d t. let z : false ≡ true = sym (O.factored c i) ∙ t in absurd cc; file = B.file ∙ (ap (λ (t : Bool). option_map attached (file_by s t c)) (O.filed c ∙ sym (O.unfiled c))); calm = B.calm }
+          record { number = B.number; fresh_else = B.fresh_else; settings = B.settings; gain = B.gain; factors = λ i x d t. let z : false ≡ true = sym (O.factored c i) ∙ t in absurd cc; file = B.file ∙ (ap (λ (t : Bool). option_map attached (file_by s t c)) (O.filed c ∙ sym (O.unfiled c))); calm = B.calm }
       | inr f ↦ subst (λ (d : ℕ). IsBuiltAs s q d a) (sym f.0) (subst (IsBuiltAs s q (length cs)) (sym f.1) (new_built (length cs) n))
     ];
     ends = λ side l a b e. elim (pushed_at cs (component_at s side l) (fresh h (s.kind (length cs))) a e) [

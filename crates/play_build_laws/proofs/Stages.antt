@@ -169,6 +169,7 @@ retold s p q handles w R W = record {
           number = B.number;
           fresh_else = B.fresh_else;
           settings = B.settings;
+          gain = B.gain;
           factors = λ j x d t. B.factors j x d (R.factored c j x (omega arith) d t);
           file = B.file ∙ ap (λ (o : Option Offered). option_map attached o) (sym (R.filed c (omega arith)));
           calm = B.calm;

@@ -91,6 +91,8 @@ pub record IsBuiltAs (s : Assembly) (p : Progress) (c : ℕ) (a : Component) : T
   pub number : number_of a ≡ c
   pub fresh_else : a ≡ record (fresh a.handle (s.kind c)) { settings = a.settings; file = a.file; ports = a.ports }
   pub settings : a.settings ≡ record (default_settings (s.kind c)) { ports = a.settings.ports; gain = a.settings.gain; weights = a.settings.weights }
+  -- a component that is no gain keeps the default, which nothing uses
+  pub gain : is_gain (s.kind c) ≡ false → a.settings.gain ≡ (default_settings (s.kind c)).gain
   pub factors : (i factor : ℕ) → slice_get (s.factors c) i ≡ Some factor → p.factored c i ≡ true → slice_get (factors_by (s.kind c) a.settings.gain a.settings.weights) i ≡ Some factor
   pub file : a.file ≡ option_map attached (file_by s (p.filed c) c)
   pub calm : All IsCalmPort a.ports
