@@ -215,7 +215,7 @@ back_bare w h port v known R = port_same plain w v (Ok Did) h port
 
 -- ---- acts on a port that are refused: the port isn't there
 
-acts_never : (E : Type 0) (o : Option Why) (e : E) (w after v : World) → Acts {E = E} o (Err e) w after v → ⊥
+pub acts_never : (E : Type 0) (o : Option Why) (e : E) (w after v : World) → Acts {E = E} o (Err e) w after v → ⊥
 acts_never E (Some why) e w after v h = let a = h.0 in cc
 acts_never E None e w after v h = let a = h.0 in cc
 

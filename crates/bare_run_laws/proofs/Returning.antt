@@ -1,10 +1,13 @@
 -- What an act does in a bare world it does in the world: the way back.
-use Rattle.std.proofs.Common.{◌≡◌, ℕ, Bool, List, [], ◌∷◌, slice_get, Option, Some, None, option_map, refl, sym, ◌∙◌, subst}
+use Rattle.std.proofs.Common.{◌≡◌, ℕ, Bool, true, false, List, [], ◌∷◌, slice_get, Option, Some, None, option_map, refl, sym, ◌∙◌, subst}
 use Rattle.std.proofs.lemmas.Option.{slice_get-map}
 use Rattle.std.specs.Prelude.{MatchOption, Result, Ok, Err}
 use Rattle.omx_types.specs.declared.handle.Handle.{Handle}
 use Rattle.omx_types.specs.declared.handle.PortId.{PortId}
 use Rattle.omx_types.specs.declared.command.Command.{Command}
+use Rattle.omx_types.specs.declared.command.Event.{Event}
+use Rattle.omx_types.specs.declared.command.Note.{Note}
+use Rattle.omx_types.specs.declared.command.Note.TheVariants.{EmptyDone, FillDone, Told}
 use Rattle.omx_types.specs.declared.error.CallError.{CallError}
 use Rattle.omx_types.specs.declared.error.CallError.TheVariants.{Omx}
 use Rattle.omx_types.specs.declared.error.OmxError.{OmxError}
@@ -21,9 +24,10 @@ use Rattle.il_machine.specs.Commands.{RunCommand, SendCommand, run_front, run_id
 use Rattle.il_machine.specs.Due.{ClosesTo}
 use Rattle.il_machine.specs.Finishing.{Finish, finished}
 use Rattle.il_machine.specs.Flow.{End, HandBack, HandOver, OnPort, Release, Supply, back_idle, front_unmade, handed_back, handed_over, in_port, other_end, over_idle, release_idle, supply_idle, with_supplied}
-use Rattle.il_machine.specs.Headers.{seen}
+use Rattle.il_machine.specs.Headers.{find_header, seen}
 use Rattle.il_machine.specs.Lists.{first_of_these}
 use Rattle.il_machine.specs.Look.{look}
+use Rattle.il_machine.specs.Notes.{EndNote, TakeFrom, TakeNote, back_in, with_given}
 use Rattle.il_machine.specs.Parameters.{SetParameter, set_parameter_refusal, with_value}
 use Rattle.il_machine.specs.Stepping.{WorkDone}
 use Rattle.il_machine.specs.Tunnels.{BothPorts, DropTunnel, SetupTunnel, agreed_of, both_joined, both_parted, drop_refusal, setup_refusal}
@@ -31,11 +35,12 @@ use Rattle.il_machine.specs.World.{Component, World, place_numbered, place_of, p
 use Rattle.machine_laws.proofs.Closing.{closes_once}
 use Rattle.machine_laws.proofs.Ending.{closes_somewhere}
 use Rattle.bare_run_laws.specs.Bare.{IsApart, IsKnown, IsOwnCommand, IsUnmarked, Returns, bare, bare_component, bare_handle, bare_id}
-use Rattle.bare_run_laws.proofs.Acts.{SameTests, back_list, back_tests, handed_same, none_alike, over_list, over_put, over_tests, put_bare, refused_same, sent_same, supply_list, supply_tests, unmade_same, work_put}
+use Rattle.bare_run_laws.proofs.Acts.{SameTests, acts_never, back_list, back_tests, handed_same, none_alike, over_list, over_put, over_tests, put_bare, refused_same, sent_same, supply_list, supply_tests, unmade_same, work_put}
 use Rattle.bare_run_laws.proofs.Closings.{bare_closes}
 use Rattle.bare_run_laws.proofs.Finishing.{finished_same}
 use Rattle.bare_run_laws.proofs.More.{front_same, idle_same, joined_same, parted_same, setup_same, value_same}
 use Rattle.bare_run_laws.proofs.Places.{bare_end, numbered_same, other_same, place_same}
+use Rattle.bare_run_laws.proofs.Telling.{given_same, is_told, no_header}
 
 kept : (P Q : World → Type 0) (u : World) → ((v : World) → P v → Q v) → Returns P u → Returns Q u
 kept P Q u goes R = record { v = R.v; does = goes R.v R.does; is = R.is }
@@ -268,3 +273,61 @@ finish_back w done u unmarked F =
         → Returns (λ v. MatchOption o ⊥ (λ i. MatchOption (slice_get w.components i) ⊥ (λ c. ClosesTo (finished i c done w) v))) u
     go None h = absurd h
     go (Some i) h = at i (slice_get w.components i) (subst (λ (o : Option Component). MatchOption o ⊥ (λ c. ClosesTo (finished i c done (bare w)) u)) (slice_get-map bare_component w.components i) h)
+
+-- ---- a note is taken, and the client object handed back
+
+takes_back : (w : World) (i : ℕ) (c : Component) (event : Event) (u : World) (out : Bool) (o : Option Note) → TakeFrom (bare w) i (bare_component c) out o (is_told event) u
+    → Returns (λ v. TakeFrom w i c out o (is_told event) v) u
+takes_back w i c event u true o t = absurd (let e = t.0 in cc)
+takes_back w i c event u false None t = absurd (let e = t.0 in cc)
+takes_back w i c event u false (Some (Told e)) (is, closes) =
+    kept (ClosesTo (with_given i c (Told e) w)) (λ v. TakeFrom w i c false (Some (Told e)) (is_told event) v) u (λ v C. (is, C))
+    (closes_back (with_given i c (Told e) w) _ u (given_same i c (Told e) w) closes)
+takes_back w i c event u false (Some (EmptyDone n)) t = absurd (no_header (find_header n w.headers) _ (λ r a. let e = a.0 in cc) t)
+takes_back w i c event u false (Some (FillDone n)) t = absurd (no_header (find_header n w.headers) _ (λ r a. let e = a.0 in cc) t)
+
+pub take_back : (w : World) (h : Handle) (event : Event) (u : World) → IsKnown h w → TakeNote (bare w) (bare_handle h) (is_told event) u → Returns (λ v. TakeNote w h (is_told event) v) u
+take_back w h event u known R = resolving_back plain w u (is_told event) h
+    (λ v i c. TakeFrom w i c c.client_out (slice_get c.notes 0) (is_told event) v)
+    (λ i c. TakeFrom (bare w) i c c.client_out (slice_get c.notes 0) (is_told event) u)
+    known (λ i c at A. takes_back w i c event u c.client_out (slice_get c.notes 0) A) R
+
+pub end_back : (w : World) (h : Handle) (u : World) → IsKnown h w → EndNote (bare w) (bare_handle h) u → Returns (λ v. EndNote w h v) u
+end_back w h u known E =
+    go (place_of h w.components)
+    (subst (λ (o : Option ℕ). MatchOption o ⊥ (λ i. MatchOption (slice_get (bare w).components i) ⊥ (λ c. ClosesTo (with_component i (back_in c) (bare w)) u))) (place_same h w known) E)
+  where
+    at : (i : ℕ) (o : Option Component) → MatchOption (option_map bare_component o) ⊥ (λ c. ClosesTo (with_component i (back_in c) (bare w)) u) → Returns (λ v. MatchOption o ⊥ (λ c. ClosesTo (with_component i (back_in c) w) v)) u
+    at i None h = absurd h
+    at i (Some c) h = closes_back (with_component i (back_in c) w) _ u (put_bare i (back_in (bare_component c)) (back_in c) w refl) h
+
+    go : (o : Option ℕ) → MatchOption o ⊥ (λ i. MatchOption (slice_get (bare w).components i) ⊥ (λ c. ClosesTo (with_component i (back_in c) (bare w)) u))
+        → Returns (λ v. MatchOption o ⊥ (λ i. MatchOption (slice_get w.components i) ⊥ (λ c. ClosesTo (with_component i (back_in c) w) v))) u
+    go None h = absurd h
+    go (Some i) h = at i (slice_get w.components i) (subst (λ (o : Option Component). MatchOption o ⊥ (λ c. ClosesTo (with_component i (back_in c) (bare w)) u)) (slice_get-map bare_component w.components i) h)
+
+-- ---- acts on a port that are refused: the port isn't there
+
+pub supply_refused_back : (w : World) (h : Handle) (port : ℕ) (e : CallError) (u : World) → IsKnown h w → Supply (bare w) (bare_handle h) port (Err e) u → Returns (λ v. Supply w h port (Err e) v) u
+supply_refused_back w h port e u known R = port_back Omx w u (Err e) h port
+    (λ v i c p. Acts (supply_idle (look w) c p) (Err e) w (with_supplied p w) v)
+    (λ i c p. Acts (supply_idle (look (bare w)) c p) (Err e) (bare w) (with_supplied p (bare w)) u)
+    known (λ i c p A. absurd (acts_never CallError (supply_idle (look (bare w)) (bare_component c) p) e (bare w) (with_supplied p (bare w)) u A)) R
+
+pub release_refused_back : (w : World) (h : Handle) (port : ℕ) (e : OmxError) (u : World) → IsKnown h w → Release (bare w) (bare_handle h) port (Err e) u → Returns (λ v. Release w h port (Err e) v) u
+release_refused_back w h port e u known R = port_back plain w u (Err e) h port
+    (λ v i c p. Acts (release_idle (look w) c p) (Err e) w (front_unmade (in_port (seen w.headers) p) w) v)
+    (λ i c p. Acts (release_idle (look (bare w)) c p) (Err e) (bare w) (front_unmade (in_port (seen w.headers) p) (bare w)) u)
+    known (λ i c p A. absurd (acts_never OmxError (release_idle (look (bare w)) (bare_component c) p) e (bare w) (front_unmade (in_port (seen w.headers) p) (bare w)) u A)) R
+
+pub over_refused_back : (w : World) (h : Handle) (port : ℕ) (e : OmxError) (u : World) → IsKnown h w → HandOver (bare w) (bare_handle h) port (Err e) u → Returns (λ v. HandOver w h port (Err e) v) u
+over_refused_back w h port e u known R = port_back plain w u (Err e) h port
+    (λ v i c p. Acts (over_idle (look w) c p) (Err e) w (handed_over p w) v)
+    (λ i c p. Acts (over_idle (look (bare w)) c p) (Err e) (bare w) (handed_over p (bare w)) u)
+    known (λ i c p A. absurd (acts_never OmxError (over_idle (look (bare w)) (bare_component c) p) e (bare w) (handed_over p (bare w)) u A)) R
+
+pub back_refused_back : (w : World) (h : Handle) (port : ℕ) (e : OmxError) (u : World) → IsKnown h w → HandBack (bare w) (bare_handle h) port (Err e) u → Returns (λ v. HandBack w h port (Err e) v) u
+back_refused_back w h port e u known R = port_back plain w u (Err e) h port
+    (λ v i c p. Acts (back_idle (look w) c p) (Err e) w (handed_back i c p p.state.link w) v)
+    (λ i c p. Acts (back_idle (look (bare w)) c p) (Err e) (bare w) (handed_back i c p p.state.link (bare w)) u)
+    known (λ i c p A. absurd (acts_never OmxError (back_idle (look (bare w)) (bare_component c) p) e (bare w) (handed_back i (bare_component c) p p.state.link (bare w)) u A)) R

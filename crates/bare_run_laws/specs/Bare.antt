@@ -1,5 +1,5 @@
 -- A world without what no act of a play looks at.
-use Rattle.std.specs.Prelude.{◌≡◌, ℕ, false, List, [], ◌∷◌, map, slice_get, None, Some}
+use Rattle.std.specs.Prelude.{◌≡◌, ℕ, List, [], ◌∷◌, map, slice_get, None, Some}
 use Rattle.omx_types.specs.declared.handle.Handle.{Handle}
 use Rattle.omx_types.specs.declared.handle.PortId.{PortId}
 use Rattle.omx_types.specs.declared.command.Command.{Command}
@@ -14,7 +14,7 @@ abbrev pub bare_id : PortId → PortId
 bare_id p = record { handle = bare_handle p.handle; index = p.index }
 
 abbrev pub bare_component : Component → Component
-bare_component c = record c { handle = bare_handle c.handle; client_out = false }
+bare_component c = record c { handle = bare_handle c.handle }
 
 abbrev pub bare : World → World
 bare w = record w { key = 0; components = map bare_component w.components }

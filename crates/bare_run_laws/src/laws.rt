@@ -1,6 +1,6 @@
 //! What must hold of bare worlds, stated on functions that do nothing.
 
-ghost use Rattle.std.specs.Prelude.{◌≡◌, ℕ, List, Ok, Result};
+ghost use Rattle.std.specs.Prelude.{◌≡◌, ℕ, List, Ok, Result, map};
 ghost use Rattle.omx_types.specs.declared.command.Command.{Command};
 ghost use Rattle.omx_types.specs.declared.command.Event.{Event};
 ghost use Rattle.omx_types.specs.declared.error.OmxError.{OmxError};
@@ -9,24 +9,22 @@ ghost use Rattle.omx_types.specs.declared.handle.PortId.{PortId};
 ghost use Rattle.omx_types.specs.declared.param.Param.{Param};
 ghost use Rattle.omx_types.specs.declared.param.ParamKey.{ParamKey};
 ghost use Rattle.omx_types.specs.declared.param.Supplier.{Supplier};
-ghost use Rattle.il_machine.specs.Acts as acts;
 ghost use Rattle.il_machine.specs.Acts.{Act, Reply};
 ghost use Rattle.il_machine.specs.Claims.{Claim, Claimed};
 ghost use Rattle.il_machine.specs.Commands.{RunCommand, SendCommand};
-ghost use Rattle.il_machine.specs.Components.{progress_of};
-ghost use Rattle.il_machine.specs.Due.{ClosesTo, IsClosed};
+ghost use Rattle.il_machine.specs.Due.{ClosesTo};
 ghost use Rattle.il_machine.specs.Finishing.{Finish};
 ghost use Rattle.il_machine.specs.Flow.{HandBack, HandOver, Release, Supply};
 ghost use Rattle.il_machine.specs.Notes.{EndNote, TakeNote, TakenEvent, TookNote};
 ghost use Rattle.il_machine.specs.Parameters.{SetParameter};
-ghost use Rattle.il_machine.specs.Run.{Meets, Run};
+ghost use Rattle.il_machine.specs.Run.{Meets, Run, Step};
 ghost use Rattle.il_machine.specs.Sound.{Sound};
 ghost use Rattle.il_machine.specs.Stepping.{WorkDone};
 ghost use Rattle.il_machine.specs.Tunnels.{DropTunnel, SetupTunnel};
-ghost use Rattle.il_machine.specs.World.{Component, World};
+ghost use Rattle.il_machine.specs.World.{World};
 ghost use Rattle.il_machine.specs.declared.answer.Acted.TheVariants.{Did};
 ghost use Rattle.bare_run_laws.specs.Bare.{IsApart, IsKnown, IsOwnCommand, IsUnmarked, Returns, bare, bare_handle, bare_id};
-ghost use Rattle.bare_run_laws.specs.Runs.{AreBareOf, PlayRun};
+ghost use Rattle.bare_run_laws.specs.Runs.{CanFollow, IsPlayAct, PlayRun, bare_act, bare_step};
 
 /// Each act that a play's log may have goes the same way in the bare world, and so does the close-out. An act of a component that did nothing
 /// isn't one of these.
@@ -52,11 +50,10 @@ pub fn law_of_bare_acts()
     ensures claims { (world : World) (handle : Handle) (result : Result Claimed OmxError) (after : World) → IsKnown handle world → Claim world handle result after → Claim (bare world) (bare_handle handle) result (bare after) }
     ensures finishes { (world : World) (done : WorkDone) (after : World) → IsUnmarked done.headers → Finish world done after → Finish (bare world) done (bare after) }
 
-    // A note that is taken is taken and its client object handed back; where that is handed back nothing is done.
-    ensures tells { (world : World) (handle : Handle) (event : Event) (after : World) → IsKnown handle world → IsClosed world → TakeNote world handle (Ok (TookNote (TakenEvent event))) after
-        → (mid : World) × TakeNote (bare world) (bare_handle handle) (Ok (TookNote (TakenEvent event))) mid × EndNote mid (bare_handle handle) (bare after)
-        × ((component : Component) × Meets mid (acts.EndNote (bare_handle handle) (progress_of component mid))) }
-    ensures ends { (world : World) (handle : Handle) (after : World) → IsClosed world → EndNote world handle after → bare after ≡ bare world }
+    // A note is taken, and the client object handed back.
+    ensures takes { (world : World) (handle : Handle) (event : Event) (after : World) → IsKnown handle world → TakeNote world handle (Ok (TookNote (TakenEvent event))) after
+        → TakeNote (bare world) (bare_handle handle) (Ok (TookNote (TakenEvent event))) (bare after) }
+    ensures ends { (world : World) (handle : Handle) (after : World) → IsKnown handle world → EndNote world handle after → EndNote (bare world) (bare_handle handle) (bare after) }
 {}
 
 /// The other way round: what such an act does in the bare world it does in the world.
@@ -79,12 +76,17 @@ pub fn law_of_bare_returns()
     ensures backs { (world : World) (handle : Handle) (port : ℕ) (after : World) → IsKnown handle world → HandBack (bare world) (bare_handle handle) port (Ok Did) after → Returns (λ v. HandBack world handle port (Ok Did) v) after }
     ensures claims { (world : World) (handle : Handle) (result : Result Claimed OmxError) (after : World) → IsKnown handle world → Claim (bare world) (bare_handle handle) result after → Returns (λ v. Claim world handle result v) after }
     ensures finishes { (world : World) (done : WorkDone) (after : World) → IsUnmarked done.headers → Finish (bare world) done after → Returns (λ v. Finish world done v) after }
+    // A note is taken, and the client object handed back.
+    ensures takes { (world : World) (handle : Handle) (event : Event) (after : World) → IsKnown handle world → TakeNote (bare world) (bare_handle handle) (Ok (TookNote (TakenEvent event))) after
+        → Returns (λ v. TakeNote world handle (Ok (TookNote (TakenEvent event))) v) after }
+    ensures ends { (world : World) (handle : Handle) (after : World) → IsKnown handle world → EndNote (bare world) (bare_handle handle) after → Returns (λ v. EndNote world handle v) after }
 {}
 
-/// A run of a play's acts goes the same way in the bare worlds.
+/// A run of a play's acts goes the same way in the bare worlds, act by act; and so does each step in another world of the same bare form.
 pub fn law_of_bare_runs()
     ensures apart { (world : World) → Sound world → IsApart world }
-    ensures meets { (world : World) (done : WorkDone) → Meets world (acts.Finish done) → Meets (bare world) (acts.Finish done) }
-    ensures goes { (world : World) (steps : List (Act × Reply)) (after : World) → Sound world → IsClosed world → PlayRun world steps after
-        → (ys : List (Act × Reply)) × AreBareOf steps ys × Run (bare world) ys (bare after) }
+    ensures meets { (world : World) (act : Act) (reply : Reply) → IsPlayAct world act reply → (Meets world act → Meets (bare world) (bare_act act)) × (Meets (bare world) (bare_act act) → Meets world act) }
+    ensures goes { (world : World) (steps : List (Act × Reply)) (after : World) → Sound world → PlayRun world steps after → Run (bare world) (map bare_step steps) (bare after) }
+    ensures follows { (one other : World) (act : Act) (reply : Reply) (after : World) → bare one ≡ bare other → Sound one → Sound other
+        → Meets one act → Step one act reply after → IsPlayAct one act reply → CanFollow other act reply (bare after) }
 {}

@@ -1,4 +1,4 @@
-//! Runs of worlds without what no act of a play looks at: the key of headers, the slots of handles, and whether client objects are out.
+//! Runs of worlds without what no act of a play looks at: the key of headers and the slots of handles.
 #![tactic(auto)]
 
 mod laws;

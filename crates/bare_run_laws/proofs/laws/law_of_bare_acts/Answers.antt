@@ -2,7 +2,7 @@ use Rattle.bare_run_laws.proofs.Acts.{back_bare, claim_bare, over_bare, release_
 use Rattle.bare_run_laws.proofs.Closings.{bare_closes}
 use Rattle.bare_run_laws.proofs.Finishing.{finish_bare}
 use Rattle.bare_run_laws.proofs.More.{drop_bare, run_bare, set_bare, setup_bare}
-use Rattle.bare_run_laws.proofs.Telling.{end_bare, tell_bare}
+use Rattle.bare_run_laws.proofs.Telling.{end_bare, take_bare}
 use Rattle.bare_run_laws.proofs.laws.law_of_bare_acts.Goals as goal
 
 pub returns : goal.returns
@@ -19,6 +19,6 @@ returns c = record {
   backs = back_bare;
   claims = claim_bare;
   finishes = finish_bare;
-  tells = tell_bare;
+  takes = take_bare;
   ends = end_bare;
 }
