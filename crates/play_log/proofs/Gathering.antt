@@ -58,6 +58,10 @@ puts_failed a b held now p q whole first (Err error) bad P is = record {
   front = λ f text G. subst (λ (t : List ℕ). AppendsFront f b t) (append_assoc text p q ∙ ap (λ (t : List ℕ). text ++ t) is) (front_more f b (text ++ p) q (P.front f text G));
 }
 
+-- the piece itself failed
+pub puts_err : {T E U F : Type 0} (a b : Option (List ℕ)) (held now p : List ℕ) (first : Result T E) (failed : Result U F) → IsErr failed → Puts a b held now p first → Puts a b held now p failed
+puts_err a b held now p first failed bad P = puts_failed a b held now p [] p first failed bad P (append-nil p)
+
 -- nothing is put
 pub puts_none : {T E : Type 0} (a : Option (List ℕ)) (held : List ℕ) (done : T) → Puts {T = T} {E = E} a a held held [] (Ok done)
 puts_none a held done = record {

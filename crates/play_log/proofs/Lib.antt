@@ -10,3 +10,6 @@ pub mod Shown
 pub mod Keeping
 pub mod Gathering
 pub mod Spelling
+pub mod Piecing
+pub mod Merging
+pub mod Placing

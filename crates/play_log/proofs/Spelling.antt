@@ -16,6 +16,7 @@ use Rattle.line_text.specs.Lists.{after_spaces, spaced}
 use Rattle.play_log.proofs.Growing.{kept_more}
 use Rattle.play_log.specs.Kept.{IsKept, LogValue}
 use Rattle.play_log.specs.Lines.{LogLine, line_text}
+use Rattle.play_log.specs.Places.{rest_text}
 use Rattle.play_log.specs.Spelled.{AreMade, AreThere, Begins, line_spelled, number_in, rest_spelled, spelled_from}
 use Rattle.play_log.specs.declared.words.Made.{Made}
 use Rattle.play_log.specs.declared.line.Line.{Line}
@@ -46,7 +47,7 @@ index_first [] ys n d b = absurd (omega arith)
 index_first (a ∷ xs) ys zero d b = refl
 index_first (a ∷ xs) ys (suc n) d b = index_first xs ys n d (omega arith)
 
-rest_first : (words more : List (List ℕ)) (line : Line) → number_in line < length words → rest_spelled (words ++ more) line ≡ rest_spelled words line
+pub rest_first : (words more : List (List ℕ)) (line : Line) → number_in line < length words → rest_spelled (words ++ more) line ≡ rest_spelled words line
 rest_first words more (Said pass number) b = ap (λ (t : List ℕ). decimal pass ++ codes " " ++ t) (index_first words more number [] b)
 rest_first words more (Finished pass number frames) b = ap (λ (t : List ℕ). decimal pass ++ codes " " ++ t ++ codes " " ++ decimal frames) (index_first words more number [] b)
 
@@ -158,13 +159,17 @@ part_last words full last lines e A = part_there words full last [] (subst (AreT
 
 -- ---- a line says an act
 
-regrouped : (a b c d : List ℕ) → a ++ (b ++ c ++ d) ≡ a ++ b ++ c ++ d
+pub regrouped : (a b c d : List ℕ) → a ++ (b ++ c ++ d) ≡ a ++ b ++ c ++ d
 regrouped a b c d = sym (append_assoc a (b ++ c) d) ∙ ap (λ (t : List ℕ). t ++ d) (sym (append_assoc a b c))
 
-pub said_so : (words : List (List ℕ)) (number pass : ℕ) (act : ActText) → slice_get words number ≡ Some (act_text act) → (n : ℕ) → line_spelled words n (Said pass number) ≡ line_text n (record { pass = pass; said = act })
-said_so words number pass act e n =
-    ap (λ (t : List ℕ). decimal n ++ codes " " ++ (decimal pass ++ codes " " ++ t) ++ codes "\n") (get_or_from_slice_get words number (act_text act) [] e)
-    ∙ ap (λ (t : List ℕ). t ++ codes "\n") (regrouped (decimal n ++ codes " ") (decimal pass) (codes " ") (act_text act))
+-- the line of an act whose words stand behind its number
+pub line_rest : (words : List (List ℕ)) (line : Line) (said : LogLine) → rest_spelled words line ≡ rest_text said → (n : ℕ) → line_spelled words n line ≡ line_text n said
+line_rest words line said e n =
+    ap (λ (t : List ℕ). decimal n ++ codes " " ++ t ++ codes "\n") e
+    ∙ ap (λ (t : List ℕ). t ++ codes "\n") (regrouped (decimal n ++ codes " ") (decimal said.pass) (codes " ") (act_text said.said))
+
+pub said_so : (words : List (List ℕ)) (number pass : ℕ) (act : ActText) → slice_get words number ≡ Some (act_text act) → rest_spelled words (Said pass number) ≡ rest_text (record { pass = pass; said = act })
+said_so words number pass act e = ap (λ (t : List ℕ). decimal pass ++ codes " " ++ t) (get_or_from_slice_get words number (act_text act) [] e)
 
 drop_first : (xs ys : List ℕ) → 0 < length xs → drop 1 (xs ++ ys) ≡ drop 1 xs ++ ys
 drop_first [] ys b = absurd (omega arith)
@@ -188,17 +193,14 @@ finish_text act frames =
     ∙ (ap spaced words ∙ (ap (drop 1) parts ∙ (drop_first (after_spaces first) (32 ∷ decimal frames) some
     ∙ ((λ i. sym (text_is (record { act = act; reply = Did })) i ++ space_first (decimal frames) i)))))
 
-pub finished_so : (words : List (List ℕ)) (number pass frames : ℕ) (act : TextAct) → slice_get words number ≡ Some (act_text (record { act = act; reply = Did })) → (n : ℕ)
-    → line_spelled words n (Finished pass number frames) ≡ line_text n (record { pass = pass; said = record { act = act; reply = DidFrames frames } })
-finished_so words number pass frames act e n =
+pub finished_so : (words : List (List ℕ)) (number pass frames : ℕ) (act : TextAct) → slice_get words number ≡ Some (act_text (record { act = act; reply = Did }))
+    → rest_spelled words (Finished pass number frames) ≡ rest_text (record { pass = pass; said = record { act = act; reply = DidFrames frames } })
+finished_so words number pass frames act e =
     let front : List ℕ = decimal pass ++ codes " " in
     let did : List ℕ = act_text (record { act = act; reply = Did }) in
     let at : slice_index_or words number [] ≡ did = get_or_from_slice_get words number did [] e in
-    let rest : front ++ slice_index_or words number [] ++ codes " " ++ decimal frames ≡ front ++ act_text (record { act = act; reply = DidFrames frames }) =
     ap (λ (t : List ℕ). front ++ t ++ codes " " ++ decimal frames) at
-    ∙ (append_assoc (front ++ did) (codes " ") (decimal frames) ∙ (append_assoc front did (codes " " ++ decimal frames) ∙ ap (λ (t : List ℕ). front ++ t) (sym (finish_text act frames)))) in
-    ap (λ (t : List ℕ). decimal n ++ codes " " ++ t ++ codes "\n") rest
-    ∙ ap (λ (t : List ℕ). t ++ codes "\n") (regrouped (decimal n ++ codes " ") (decimal pass) (codes " ") (act_text (record { act = act; reply = DidFrames frames })))
+    ∙ (append_assoc (front ++ did) (codes " ") (decimal frames) ∙ (append_assoc front did (codes " " ++ decimal frames) ∙ ap (λ (t : List ℕ). front ++ t) (sym (finish_text act frames))))
 
 -- ---- the table's acts
 

@@ -1,5 +1,9 @@
 pub mod Lines
 pub mod Spelled
+pub mod Full
+pub mod Merged
+pub mod Places
+pub mod Forms
 pub mod Gathering
 pub mod Kept
 pub mod Entries

@@ -2,12 +2,17 @@
 #![tactic(auto)]
 
 mod entry;
+mod form;
 mod gathered;
 mod laws;
 mod line;
+mod listing;
 mod log;
 mod log_text;
+mod pages;
+mod pass_log;
 mod pieces;
+mod placed;
 pub mod texts;
 mod words;
 
@@ -16,7 +21,9 @@ pub use laws::{law_of_lines, law_of_logs};
 pub use line::Line;
 pub use log::Log;
 pub use log_text::{LogText, write_log};
+pub use pass_log::PassLog;
 pub use pieces::Pieces;
+pub use placed::Placed;
 
 /// Want of memory.
 pub type OutOfMemory = std::alloc::AllocError;

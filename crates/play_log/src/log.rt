@@ -135,7 +135,7 @@ impl Log {
 }
 
 /// Whether an act with such a reply has no line.
-fn is_left_out(reply: &TextReply) -> bool
+pub(crate) fn is_left_out(reply: &TextReply) -> bool
     ensures { result ≡ is_left_out reply.now }
 {
     match reply {

@@ -1,6 +1,6 @@
 //! The text of a whole log, which is made as it is written.
 
-ghost use Rattle.std.specs.Prelude.{◌≡◌, ◌≢◌, ◌++◌, ◌+◌, ◌<◌, ◌≤◌, ◌^◌, [], Err, Some, IfErr, IfOk, OnOk, OnErr, IsTrue, IsFalse, codes, length};
+ghost use Rattle.std.specs.Prelude.{◌≡◌, ◌≢◌, ◌++◌, ◌+◌, ◌<◌, ◌≤◌, ◌^◌, [], Err, Some, IfErr, IfOk, OnOk, OnErr, IsTrue, IsFalse, All, List, codes, false, length, map};
 ghost use Rattle.std.specs.Fmt.{decimal};
 ghost use Rattle.std.specs.List.{flat_map};
 ghost use Rattle.std.specs.Io.KnownBytes.{append_known};
@@ -10,10 +10,18 @@ ghost use Rattle.outside_io.specs.Keeping.{KeepsSink};
 ghost use Rattle.outside_io.specs.Moves.{AppendsFront};
 ghost use Rattle.outside_io.specs.Whole.{HasWriteReason, IsKeptOrFrontOf};
 ghost use Rattle.play_log.specs.Gathering.{Puts};
+ghost use Rattle.play_log.specs.Lines.{log_text};
+ghost use Rattle.play_log.specs.Merged.{merged_all};
+ghost use Rattle.play_log.specs.Places.{AreKeptAt, PlacedLine, line_place};
 ghost use Rattle.play_log.specs.Spelled.{AreThere, line_spelled, number_in, rest_spelled, spelled_from};
 
+use crate::OutOfMemory;
+use crate::form::Form;
 use crate::gathered::Gathered;
 use crate::line::Line;
+use crate::listing::Listing;
+use crate::pages::Pages;
+use crate::pass_log::PassLog;
 use crate::pieces::Pieces;
 use crate::words::Words;
 use outside_io::{Failed, Media, Refused, Sink};
@@ -23,20 +31,16 @@ use std::marker::Model;
 /// The text of a log, with `end` as its last line.
 #[derive(Drop)]
 pub struct LogText {
-    words: Words,
-    lines: Pieces<Line>,
-    count: u64,
+    form: Form,
 }
 
 impl Model for LogText {
-    ghost use Rattle.std.specs.Prelude.{ℕ, List, ◌≡◌, ◌++◌, codes, length};
-    ghost use Rattle.play_log.specs.Spelled.{AreThere, spelled_from};
+    ghost use Rattle.std.specs.Prelude.{ℕ, List};
+    ghost use Rattle.play_log.specs.Forms.{text_in};
 
     ghost Value = { List ℕ };
 
-    ghost view = { λ text. spelled_from text.words 1 text.lines ++ codes "end\n" };
-
-    ghost invariant = { λ text. (text.count ≡ length text.lines) × AreThere text.words text.lines };
+    ghost view = { λ text. text_in text.form };
 }
 
 impl LogText {
@@ -46,10 +50,20 @@ impl LogText {
         ensures { result ≡ spelled_from words 1 lines ++ codes "end\n" }
     {
         LogText {
-            words,
-            lines,
-            count,
+            form: Form::Listed(Listing::new(words, lines, count)),
         }
+    }
+
+    /// The text of the lines of at most nine passes, in the order of their places. There is none where memory was wanting for a line.
+    pub fn merged(pages: Vec<PassLog>) -> Result<LogText, OutOfMemory>
+        requires { length pages.items ≤ 9 }
+        ensures text { (lists : List (List PlacedLine)) → AreKeptAt lists pages.items
+            → IfOk result (λ text. text ≡ log_text (map (λ l. l.line) (merged_all line_place lists))) }
+        ensures whole { OnOk result (All (λ page. page.broken ≡ false) pages.items) }
+    {
+        Ok(LogText {
+            form: Form::Merged(Pages::new(pages)?),
+        })
     }
 
     /// Writes the text.
@@ -70,15 +84,15 @@ impl LogText {
         ensures keeps_sink { KeepsSink K.Sink sink.old sink.new }
         ensures cause { HasCause (K.faults sink.old) (K.faults sink.new) result }
     {
-        let (full, last) = self.lines.parts();
-        let before = put_pieces(&self.words, full, self.count, held, sink)?;
-        put_lines(&self.words, before, last, held, sink)?;
-        held.put(b"end\n", sink)
+        match &self.form {
+            Form::Listed(listing) => listing.put(held, sink),
+            Form::Merged(pages) => pages.put(held, sink),
+        }
     }
 }
 
 /// The lines of all pieces come behind what is gathered. Answers how many they are: at most `most`.
-fn put_pieces<K: Sink>(
+pub(crate) fn put_pieces<K: Sink>(
     words: &Words,
     pieces: &[Vec<Line>],
     most: u64,
@@ -101,7 +115,7 @@ fn put_pieces<K: Sink>(
 }
 
 /// The lines come behind what is gathered. Before them stand so many. Answers how many there are then.
-fn put_lines<K: Sink>(
+pub(crate) fn put_lines<K: Sink>(
     words: &Words,
     before: u64,
     lines: &[Line],
@@ -124,7 +138,7 @@ fn put_lines<K: Sink>(
 }
 
 /// The line comes behind what is gathered.
-fn put_line<K: Sink>(
+pub(crate) fn put_line<K: Sink>(
     words: &Words,
     number: u64,
     line: Line,

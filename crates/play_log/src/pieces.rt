@@ -1,7 +1,8 @@
 //! A list that grows by pieces of its own memory, so that nothing in it moves.
 
-ghost use Rattle.std.specs.Prelude.{◌≡◌, ◌∷◌, ◌++◌, [], OnErr, OnOk};
+ghost use Rattle.std.specs.Prelude.{◌≡◌, ◌<◌, ◌≤◌, ◌∷◌, ◌++◌, [], OnErr, OnOk, length, slice_get};
 ghost use Rattle.std.specs.List.{flat_map};
+ghost use Rattle.play_log.specs.Full.{AreFull, piece_room};
 
 use std::alloc::{AllocError, Global};
 use std::marker::Model;
@@ -20,12 +21,15 @@ pub struct Pieces<T: Copy> {
 }
 
 impl<T: Copy> Model for Pieces<T> {
-    ghost use Rattle.std.specs.Prelude.{List, ◌++◌};
+    ghost use Rattle.std.specs.Prelude.{List, ◌++◌, ◌≤◌, length};
     ghost use Rattle.std.specs.List.{flat_map};
+    ghost use Rattle.play_log.specs.Full.{AreFull, piece_room};
 
     ghost Value = { List T };
 
     ghost view = { λ list. flat_map (λ piece. piece.items) list.full.items ++ list.last.items };
+
+    ghost invariant = { λ list. AreFull list.full.items × (length list.last.items ≤ piece_room) };
 }
 
 impl<T: Copy> Pieces<T> {
@@ -45,7 +49,7 @@ impl<T: Copy> Pieces<T> {
         ensures added { OnOk result (self.new ≡ self.old ++ value ∷ []) }
         ensures kept { OnErr result (self.new ≡ self.old) }
     {
-        self.begin_piece()?;
+        begin_piece(self.alloc, &mut self.full, &mut self.last)?;
         self.last.push(value)?;
         Ok(())
     }
@@ -57,21 +61,51 @@ impl<T: Copy> Pieces<T> {
         (self.full.as_slice(), self.last.as_slice())
     }
 
-    /// Where the last piece is full another one begins.
-    fn begin_piece(&mut self) -> Result<(), AllocError>
-        ensures { self.new ≡ self.old }
+    /// The value at the index, if there is one.
+    pub fn get(&self, index: usize) -> Option<T>
+        ensures { result ≡ slice_get self.now index }
     {
-        if self.last.len() < PIECE {
-            return Ok(());
+        let piece = index / PIECE;
+        if piece < self.full.len() {
+            get_copied(self.full[piece].as_slice(), index % PIECE)
+        } else {
+            get_copied(self.last.as_slice(), index - self.full.len() * PIECE)
         }
-        let fresh = Vec::with_capacity(self.alloc, PIECE)?;
-        let done = replace(&mut self.last, fresh);
-        match self.full.push(done) {
-            Ok(()) => Ok(()),
-            Err(failed) => {
-                self.last = failed.value;
-                Err(AllocError)
-            }
+    }
+}
+
+/// Where the last piece is full another one begins.
+fn begin_piece<T: Copy>(
+    alloc: Global,
+    full: &mut Vec<Vec<T>>,
+    last: &mut Vec<T>,
+) -> Result<(), AllocError>
+    requires full { AreFull full.old.items }
+    requires last { length last.old.items ≤ piece_room }
+    ensures full { AreFull full.new.items }
+    ensures room { length last.new.items ≤ piece_room }
+    ensures begun { OnOk result (length last.new.items < piece_room) }
+    ensures same { flat_map (λ piece. piece.items) full.new.items ++ last.new.items ≡ flat_map (λ piece. piece.items) full.old.items ++ last.old.items }
+{
+    if last.len() < PIECE {
+        return Ok(());
+    }
+    let fresh = Vec::with_capacity(alloc, PIECE)?;
+    let done = replace(last, fresh);
+    match full.push(done) {
+        Ok(()) => Ok(()),
+        Err(failed) => {
+            *last = failed.value;
+            Err(AllocError)
         }
+    }
+}
+
+fn get_copied<T: Copy>(values: &[T], index: usize) -> Option<T>
+    ensures { result ≡ slice_get values.now index }
+{
+    match values.get(index) {
+        Some(value) => Some(*value),
+        None => None,
     }
 }

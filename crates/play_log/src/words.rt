@@ -1,9 +1,9 @@
 //! The words of acts, which a log makes once for all lines that say them.
 
-ghost use Rattle.std.specs.Prelude.{◌≡◌, ◌<◌, ℕ, true, [], IfOk, IfSome, length, slice_get, Some};
+ghost use Rattle.std.specs.Prelude.{◌≡◌, ◌<◌, true, [], IfOk, IfSome, length, slice_get, Some};
 ghost use Rattle.act_text.specs.Texts.{act_text};
-ghost use Rattle.play_log.specs.Lines.{line_text};
-ghost use Rattle.play_log.specs.Spelled.{Begins, number_in, line_spelled};
+ghost use Rattle.play_log.specs.Places.{rest_text};
+ghost use Rattle.play_log.specs.Spelled.{Begins, number_in, rest_spelled};
 
 use crate::OutOfMemory;
 use crate::line::Line;
@@ -101,7 +101,7 @@ impl Words {
         slot: Option<usize>,
         act: &ActText,
     ) -> Result<Line, OutOfMemory>
-        ensures said { IfOk result (λ line. (n : ℕ) → line_spelled self.new n line ≡ line_text n (record { pass = pass; said = act.now })) }
+        ensures said { IfOk result (λ line. rest_spelled self.new line ≡ rest_text (record { pass = pass; said = act.now })) }
         ensures there { IfOk result (λ line. number_in line < length self.new) }
         ensures stay { Begins self.old self.new }
     {

@@ -1,14 +1,14 @@
 use Rattle.std.proofs.Common.{◌∙◌, ap, sym}
 use Rattle.act_text.specs.declared.reply.TextReply.{TextReply}
-use Rattle.play_log.specs.Lines.{line_text}
+use Rattle.play_log.specs.Places.{rest_text}
 use Rattle.std.proofs.lemmas.Option.{slice_get_within}
 use Rattle.play_log.proofs.Spelling.{finished_so, said_so}
 use Rattle.play_log.proofs.words.Words.line.Goals as goal
 
 pub returns-in_ok-words-in-Finished-clause-said : goal.returns-in_ok-words-in-Finished-clause-said
-returns-in_ok-words-in-Finished-clause-said c n =
-    finished_so c.number_of.new.self c.in_ok-words-in-Finished.words c.args.pass c.in-Finished.frames c.args.act.now.act c.in_ok-words-in-Finished.ensures.there n
-    ∙ ap (λ (reply : TextReply). line_text n (record { pass = c.args.pass; said = record { act = c.args.act.now.act; reply = reply } })) (sym c.in-Finished.is)
+returns-in_ok-words-in-Finished-clause-said c =
+    finished_so c.number_of.new.self c.in_ok-words-in-Finished.words c.args.pass c.in-Finished.frames c.args.act.now.act c.in_ok-words-in-Finished.ensures.there
+    ∙ ap (λ (reply : TextReply). rest_text (record { pass = c.args.pass; said = record { act = c.args.act.now.act; reply = reply } })) (sym c.in-Finished.is)
 
 pub returns-in_ok-words-in-Finished-clause-there : goal.returns-in_ok-words-in-Finished-clause-there
 returns-in_ok-words-in-Finished-clause-there c = slice_get_within _ _ _ c.in_ok-words-in-Finished.ensures.there

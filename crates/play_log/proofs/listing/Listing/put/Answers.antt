@@ -6,7 +6,7 @@ use Rattle.play_log.specs.Spelled.{AreThere, spelled_from}
 use Rattle.play_log.specs.declared.line.Line.{Line}
 use Rattle.play_log.proofs.Gathering.{puts_failed, puts_then}
 use Rattle.play_log.proofs.Spelling.{last_lines, part_last, parts_spelled}
-use Rattle.play_log.proofs.log_text.LogText.put.Goals as goal
+use Rattle.play_log.proofs.listing.Listing.put.Goals as goal
 
 pub returns-in_err-before-clause-puts : goal.returns-in_err-before-clause-puts
 returns-in_err-before-clause-puts g c =
